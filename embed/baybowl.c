@@ -148,7 +148,13 @@ uint32_t baybowl_grants_read(const char *grants, size_t grants_len, const char *
     return status;
 }
 
-/* The call that the header has inline, for a program that can't take it from there. */
+/* The calls that the header has inline, for a program that can't take them from there. */
+extern inline int baybowl_is_sound(const struct baybowl_block *block, size_t block_len, const char *path, size_t path_len,
+                                   const uint32_t *groups, size_t groups_len, const void *question, const void *answer);
+extern inline int baybowl_is_told(uint32_t told, const struct baybowl_answer *denied, struct baybowl_answer *answer);
+extern inline uint32_t baybowl_verdict_mask(const struct baybowl_block *block, size_t block_len, const char *path, size_t path_len,
+                                            const uint32_t *groups, size_t groups_len, const struct baybowl_check *check,
+                                            struct baybowl_answer *answer, uint32_t *access);
 extern inline uint32_t baybowl_verdict_by(const struct baybowl_block *block, size_t block_len, const char *path, size_t path_len,
                                           const uint32_t *groups, size_t groups_len, const struct baybowl_question *question,
                                           struct baybowl_answer *answer);
@@ -174,6 +180,33 @@ uint32_t baybowl_whole_verdict_by(const struct baybowl_block *block, size_t bloc
     status = capffi_verdict_by(block, (const uint8_t *)(block + 1), block_len - sizeof *block, bytes(path, path_len), path_len,
                                groups_len == 0 ? no_groups : groups, groups_len, question, &said);
     *answer = said;
+    return status;
+}
+
+uint32_t baybowl_whole_verdict_mask(const struct baybowl_block *block, size_t block_len, const char *path, size_t path_len,
+                                    const uint32_t *groups, size_t groups_len, const struct baybowl_check *check,
+                                    struct baybowl_answer *answer, uint32_t *access) {
+    static const struct baybowl_answer none;
+    struct baybowl_answer said;
+    uint32_t asked;
+    uint32_t status = first_of(block_len > BAYBOWL_MAX_LEN ? BAYBOWL_LENGTH : BAYBOWL_OK, text_status(path, path_len),
+                               groups_status(groups, groups_len), BAYBOWL_OK);
+    if (status != BAYBOWL_OK) {
+        return status;
+    }
+    if (!ALIGNED(block, struct baybowl_block) || !ALIGNED(check, struct baybowl_check) ||
+        !ALIGNED(answer, struct baybowl_answer) || !ALIGNED(access, uint32_t)) {
+        return BAYBOWL_POINTER;
+    }
+    if (block_len < sizeof *block) {
+        *answer = none;
+        *access = 0;
+        return BAYBOWL_BLOCK;
+    }
+    status = capffi_verdict_mask(block, (const uint8_t *)(block + 1), block_len - sizeof *block, bytes(path, path_len), path_len,
+                                 groups_len == 0 ? no_groups : groups, groups_len, check, &said, &asked);
+    *answer = said;
+    *access = asked;
     return status;
 }
 

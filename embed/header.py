@@ -12,7 +12,7 @@ from pathlib import Path
 SIZES = {"u8": (1, "uint8_t"), "u32": (4, "uint32_t"), "u64": (8, "uint64_t")}
 # What baybowl.c answers by itself, with no call of the library.
 OF_THE_SHIM = {"BAYBOWL_POINTER", "BAYBOWL_LENGTH"}
-OF_THE_HEADER = {"BAYBOWL_MAX_LEN", "BAYBOWL_FORM_ROOM", "BAYBOWL_BLOCK_ROOM", "BAYBOWL_H"}
+OF_THE_HEADER = {"BAYBOWL_MAX_LEN", "BAYBOWL_FORM_ROOM", "BAYBOWL_BLOCK_ROOM", "BAYBOWL_MODE_BITS", "BAYBOWL_INLINE", "BAYBOWL_H"}
 STRUCT_FILES = ("passed", "block")
 
 
@@ -86,6 +86,8 @@ def numbers_of(root):
     ):
         arms = re.findall(rf"^ +(\d+) => Some\({kind}::(\w+)", source, re.M)
         found |= {f"BAYBOWL_{prefix}{words_of(name)}": int(number) for number, name in arms}
+    bits = re.findall(r"self\.ask\(\w+, (\d+), Access::(\w+)", read("capffi/src/by_mask.rt"))
+    found |= {f"BAYBOWL_MAY_{words_of(name)}": int(bit) for bit, name in bits}
     found |= {f"BAYBOWL_CAP_{name}": int(bit) for name, bit in re.findall(r"const (\w+) = (\d+);", read("capbits/src/bits.rt"))}
     for prefix, name, path in (("RULE_", "Rule", "capgrant/src/rule.rt"), ("FAULT_", "SpecFaultKind", "capspec/src/fault.rt")):
         variants = [it for it in variants_of(read(path), name) if it != "NoMemory"]
@@ -143,6 +145,12 @@ def differences(root):
     exports = set(re.findall(r"\b(capffi_\w+)\(", (root / "embed" / "exports.h").read_text(encoding="utf-8")))
     found += [f"{name}: on one side alone" for name in sorted(exports ^ set(declared(source_of(root, "capffi", "lib"))))]
     return found
+
+
+def calls(root):
+    """The names of the calls that the header declares."""
+    header = re.sub(r"/\*.*?\*/", "", (root / "include" / "baybowl.h").read_text(encoding="utf-8"), flags=re.S)
+    return sorted(set(re.findall(r"^(?:inline |BAYBOWL_INLINE )?\w[\w ]*[ *]((?:baybowl|capffi)_\w+)\(", header, re.M)))
 
 
 def source_of(root, crate, name):

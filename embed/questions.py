@@ -1,5 +1,6 @@
-"""Random questions, each asked of examples/c/explain, once by a block that is filled from the grants and once by their text, and of
-`capd explain`: all have to write the same, byte for byte, but for what `capd` says may help, behind the line of a fault."""
+"""Random questions, each asked of examples/c/explain, by a block that is filled from the grants, by their text and by the mask of a
+server, and of `capd explain`: all have to write the same, byte for byte, but for what `capd` says may help, behind the line of a
+fault."""
 
 import os
 import random
@@ -69,12 +70,23 @@ def some_question(pick):
         "mode": f"{pick.choice([0, 0o400, 0o640, 0o755, 0o777, 0o7777, pick.randint(0, 0o7777)]):o}",
         "access": access + (str(pick.choice(IDS)) if access.endswith(":") else ""),
     }
-    if pick.random() < 0.02:
-        values["mode"] = "10000"
-    if pick.random() < 0.5:
+    if pick.random() < 0.04:
+        values["mode"] = pick.choice(["10000", "00640", "0100640", "040755", "0140777", "030644", "0160000", "0648", ""])
+    while pick.random() < 0.03:
+        values[pick.choice(["uid", "gid", "owner", "group", "groups", "access"])] = pick.choice(["x", "-1", " 1", "4294967296", "01", "1,", ""])
+    if "groups" not in values and pick.random() < 0.5:
         count = pick.choice([1, 2, 3, 16]) if pick.random() < 0.98 else 17
         values["groups"] = ",".join(str(pick.choice(IDS)) for _ in range(count))
     return values
+
+
+def words_of(values, number):
+    """The options in their two forms, in turn. A value that begins with a dash stands behind a `=`."""
+    words = []
+    for name, value in values.items():
+        is_one = number % 2 or value.startswith("-")
+        words += [f"--{name}={value}"] if is_one else [f"--{name}", value]
+    return words
 
 
 def said_by(words):
@@ -85,15 +97,18 @@ def said_by(words):
 def compare(number, seed, explain, capd):
     """Asks question `number` of all. Gives the first word of the answer, and what was said where they differ."""
     values = some_question(random.Random(f"{seed}-{number}"))
-    asked = [explain, *[word for name, value in values.items() for word in (f"--{name}", value)]]
-    told = [said_by([*asked, "--by", kind]) for kind in ("block", "text")]
+    asked = [explain, *words_of(values, number)]
+    told = [said_by([*asked, "--by", kind]) for kind in ("block", "text", "mask")]
+    if values["access"] == "chmod" and told[0][0] == 0:
+        # No mask asks for it.
+        told[2] = told[0]
     wanted = said_by([capd, "explain", *[f"--{name}={value}" for name, value in values.items()]])
     status, out, err = wanted
     line, *more = err.splitlines(keepends=True) or [b""]
     assert all(it.startswith(b"hint: ") for it in more), err
     wanted = status, out, line.replace(b"capd: ", b"explain: ", 1)
     kind = out.split(b" ")[0].decode() or f"status {status}"
-    return kind, None if told == [wanted, wanted] else (values, told, wanted)
+    return kind, None if told == [wanted] * 3 else (values, told, wanted)
 
 
 def ask(count, seed, explain, capd):

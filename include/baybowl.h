@@ -25,7 +25,7 @@ extern "C" {
 #endif
 
 /* The version of this header. It changes whenever a call, a struct or a number of it does; baybowl_version tells the library's. */
-#define BAYBOWL_VERSION 2
+#define BAYBOWL_VERSION 3
 
 /* How long a text may be, in bytes, and how many groups may be passed: more is BAYBOWL_LENGTH. */
 #define BAYBOWL_MAX_LEN 0x1000000
@@ -36,6 +36,9 @@ extern "C" {
 /* A room that the block of a grant text of so many bytes fits into, in bytes. */
 #define BAYBOWL_BLOCK_ROOM(grants_len) (sizeof(struct baybowl_block) + 64 + (grants_len))
 
+/* The permission bits of a mode. `mode & BAYBOWL_MODE_BITS` drops the inode's kind, which stat(2) and a server have in front of them. */
+#define BAYBOWL_MODE_BITS 07777
+
 /* What a call answers. */
 enum baybowl_status {
     BAYBOWL_OK = 0,       /* there is an answer; a denial is one too */
@@ -44,7 +47,7 @@ enum baybowl_status {
     BAYBOWL_GROUPS = 3,   /* more than 16 groups */
     BAYBOWL_PATH = 4,     /* the path has more than 32 names, or one of more than 255 bytes */
     BAYBOWL_MODE = 5,     /* the mode is greater than 07777 */
-    BAYBOWL_ACCESS = 6,   /* the number of the access is none */
+    BAYBOWL_ACCESS = 6,   /* the number of the access is none, or the mask has another bit or asks for nothing */
     BAYBOWL_PART = 7,     /* the number of the part is none */
     BAYBOWL_STATE = 8,    /* the number of a state is none */
     BAYBOWL_HEAD = 9,     /* the number of what stands first in the queue is none */
@@ -65,6 +68,16 @@ enum baybowl_access {
     BAYBOWL_CHMOD = 4,
     BAYBOWL_CHOWN = 5, /* to give the inode to the owner `number` */
     BAYBOWL_CHGRP = 6  /* to give the inode to the group `number` */
+};
+
+/* The bits of a mask, each of which asks for an access, as the MDS of Ceph has them. */
+enum baybowl_may {
+    BAYBOWL_MAY_READ = 1,
+    BAYBOWL_MAY_WRITE = 2,
+    BAYBOWL_MAY_CHOWN = 16, /* to give the inode to the owner `new_uid` */
+    BAYBOWL_MAY_CHGRP = 32, /* to give the inode to the group `new_gid` */
+    BAYBOWL_MAY_SET_VXATTR = 64,
+    BAYBOWL_MAY_SNAPSHOT = 128
 };
 
 /* The rules that a grant can fail by, in the order in which they are tested. docs/GRANTS.md has each. */
@@ -145,9 +158,21 @@ struct baybowl_question {
     uint32_t gid;    /* the caller's gid */
     uint32_t owner;  /* the uid of the inode's owner */
     uint32_t group;  /* the gid of the inode's group */
-    uint32_t mode;   /* the inode's permission bits, at most 07777 */
+    uint32_t mode;   /* the inode's permission bits, at most 07777: see BAYBOWL_MODE_BITS */
     uint32_t access; /* enum baybowl_access */
     uint32_t number; /* the new owner or group of a chown or a chgrp, else without meaning */
+};
+
+/* The same, as a server has it. */
+struct baybowl_check {
+    uint32_t uid;     /* the caller's uid */
+    uint32_t gid;     /* the caller's gid */
+    uint32_t owner;   /* the uid of the inode's owner */
+    uint32_t group;   /* the gid of the inode's group */
+    uint32_t mode;    /* the inode's mode; what stands before its last twelve bits, as the inode's kind, has no part in the answer */
+    uint32_t mask;    /* a sum of enum baybowl_may */
+    uint32_t new_uid; /* the new owner of BAYBOWL_MAY_CHOWN, else without meaning */
+    uint32_t new_gid; /* the new group of BAYBOWL_MAY_CHGRP, else without meaning */
 };
 
 /* What the grants say. */
@@ -249,39 +274,94 @@ uint32_t baybowl_grants_write(const char *grants, size_t grants_len, char *room,
 uint32_t baybowl_grants_read(const char *grants, size_t grants_len, const char *fs, size_t fs_len, struct baybowl_block *block,
                              size_t block_len, uint64_t *needed, struct baybowl_fault *fault);
 
-/* What baybowl_verdict_by calls: the grant for every user that allows, where that is soon seen, or 0; and the whole verdict. No calls
- * for a program: the first takes what it is given as it is. */
-uint32_t capffi_allowing(const struct baybowl_block *block, const uint8_t *text, size_t text_len, const uint8_t *path, size_t path_len,
-                         const struct baybowl_question *question);
+/* What baybowl_verdict_by and baybowl_verdict_mask call: the answer where it is soon seen, of grants for everybody, and the whole
+ * verdict. No calls for a program: those that begin with capffi take what they are given as it is, and tell the number of the grant that
+ * allows, 17 with the answer of a denial, or 0. */
+uint32_t capffi_soon(const struct baybowl_block *block, const uint8_t *text, size_t text_len, const uint8_t *path, size_t path_len,
+                     const struct baybowl_question *question, struct baybowl_answer *answer);
 uint32_t baybowl_whole_verdict_by(const struct baybowl_block *block, size_t block_len, const char *path, size_t path_len,
                                   const uint32_t *groups, size_t groups_len, const struct baybowl_question *question,
                                   struct baybowl_answer *answer);
+uint32_t capffi_soon_mask(const struct baybowl_block *block, const uint8_t *text, size_t text_len, const uint8_t *path, size_t path_len,
+                          const struct baybowl_check *check, struct baybowl_answer *answer);
+uint32_t baybowl_whole_verdict_mask(const struct baybowl_block *block, size_t block_len, const char *path, size_t path_len,
+                                    const uint32_t *groups, size_t groups_len, const struct baybowl_check *check,
+                                    struct baybowl_answer *answer, uint32_t *access);
+
+/* gcc calls an inline call that takes nine values, unless it is told not to. That takes half as long as a verdict. */
+#ifdef __GNUC__
+#define BAYBOWL_INLINE inline __attribute__((always_inline))
+#else
+#define BAYBOWL_INLINE inline
+#endif
+
+/* Whether these are pointers and lengths that need no further test: `question` and `answer` are of structs of 32-bit numbers. */
+inline int baybowl_is_sound(const struct baybowl_block *block, size_t block_len, const char *path, size_t path_len,
+                            const uint32_t *groups, size_t groups_len, const void *question, const void *answer) {
+    return block != NULL && path != NULL && question != NULL && answer != NULL && (groups != NULL || groups_len == 0) &&
+           (uintptr_t)block % 8 == 0 && ((uintptr_t)groups | (uintptr_t)question | (uintptr_t)answer) % 4 == 0 &&
+           block_len >= sizeof *block && block_len <= BAYBOWL_MAX_LEN && path_len <= BAYBOWL_MAX_LEN && groups_len <= BAYBOWL_MAX_LEN;
+}
+
+/* Whether a number tells an answer: that of the grant of this number, or that of a denial. */
+inline int baybowl_is_told(uint32_t told, const struct baybowl_answer *denied, struct baybowl_answer *answer) {
+    if (told - 1 < 16) {
+        answer->grant = told;
+        answer->count = 0;
+        memset(answer->rules, 0, sizeof answer->rules);
+        return 1;
+    }
+    if (told != 0) {
+        *answer = *denied;
+        return 1;
+    }
+    return 0;
+}
 
 /* The verdict of the grants that a block says, on the file system that it says: as baybowl_verdict on the text and the name that
  * baybowl_grants_read was given. `block_len` is how long the room is, at least `needed`.
  * The values are tested in the order block, groups, path, mode, access, and the first bad one is told: BAYBOWL_BLOCK,
  * BAYBOWL_GROUPS, BAYBOWL_PATH, BAYBOWL_MODE, BAYBOWL_ACCESS. Else BAYBOWL_MEMORY, BAYBOWL_POINTER, BAYBOWL_LENGTH.
- * It takes memory only for a path that is not a '/' before each name and nothing else, or has 64 bytes or more. Any number of
- * threads may ask one block, as long as none writes it. A block that was overwritten gets BAYBOWL_BLOCK, or the verdict of the
+ * It takes memory only for a path that has two '/' side by side, or one behind its last name. One in front of the first name may be
+ * there or not. Any number of threads may ask one block, as long as none writes it. A block that was overwritten gets BAYBOWL_BLOCK, or the verdict of the
  * grants that it then says: what is read of it stays within `block_len`.
  * It is inline, since a server asks often: what a compiler sees of the pointers need not be tested. */
 inline uint32_t baybowl_verdict_by(const struct baybowl_block *block, size_t block_len, const char *path, size_t path_len,
                                    const uint32_t *groups, size_t groups_len, const struct baybowl_question *question,
                                    struct baybowl_answer *answer) {
-    const uintptr_t words = (uintptr_t)groups | (uintptr_t)question | (uintptr_t)answer;
-    if (block != NULL && path != NULL && question != NULL && answer != NULL && (groups != NULL || groups_len == 0) &&
-        (uintptr_t)block % 8 == 0 && words % 4 == 0 && block_len >= sizeof *block && block_len <= BAYBOWL_MAX_LEN &&
-        path_len <= BAYBOWL_MAX_LEN && groups_len <= 16) {
-        const uint32_t grant =
-            capffi_allowing(block, (const uint8_t *)(block + 1), block_len - sizeof *block, (const uint8_t *)path, path_len, question);
-        if (grant != 0) {
-            answer->grant = grant;
-            answer->count = 0;
-            memset(answer->rules, 0, sizeof answer->rules);
+    if (baybowl_is_sound(block, block_len, path, path_len, groups, groups_len, question, answer) && groups_len <= 16) {
+        struct baybowl_answer denied;
+        const uint32_t told = capffi_soon(block, (const uint8_t *)(block + 1), block_len - sizeof *block, (const uint8_t *)path, path_len,
+                                          question, &denied);
+        if (baybowl_is_told(told, &denied, answer)) {
             return BAYBOWL_OK;
         }
     }
     return baybowl_whole_verdict_by(block, block_len, path, path_len, groups, groups_len, question, answer);
+}
+
+/* The verdict of the grants that a block says on all that a mask asks for, by what a server has in hand: a path with or without a '/'
+ * in front, a mode with the inode's kind, and any number of groups. The accesses are judged from the lowest bit on, each as
+ * baybowl_verdict_by does it, until one is denied: `access`, of enum baybowl_access, is the one that the answer is to, the first that
+ * is denied, or else the last of them.
+ * The values are tested in the order block, path, mask, and the first bad one is told: BAYBOWL_BLOCK, BAYBOWL_PATH, BAYBOWL_ACCESS.
+ * Else BAYBOWL_MEMORY, BAYBOWL_POINTER, BAYBOWL_LENGTH. Memory, threads and blocks as with baybowl_verdict_by. */
+BAYBOWL_INLINE uint32_t baybowl_verdict_mask(const struct baybowl_block *block, size_t block_len, const char *path, size_t path_len,
+                                     const uint32_t *groups, size_t groups_len, const struct baybowl_check *check,
+                                     struct baybowl_answer *answer, uint32_t *access) {
+    if (baybowl_is_sound(block, block_len, path, path_len, groups, groups_len, check, answer) && access != NULL &&
+        (uintptr_t)access % 4 == 0) {
+        const uint32_t mask = check->mask;
+        struct baybowl_answer denied;
+        const uint32_t told = capffi_soon_mask(block, (const uint8_t *)(block + 1), block_len - sizeof *block, (const uint8_t *)path,
+                                               path_len, check, &denied);
+        if (baybowl_is_told(told, &denied, answer)) {
+            /* It answers masks of one bit, to read or to write. */
+            *access = mask == BAYBOWL_MAY_READ ? BAYBOWL_READ : BAYBOWL_WRITE;
+            return BAYBOWL_OK;
+        }
+    }
+    return baybowl_whole_verdict_mask(block, block_len, path, path_len, groups, groups_len, check, answer, access);
 }
 
 /* The caps of a part, as bits, that a client may hold while the part's lock is so: BAYBOWL_OK, else the first that is so of

@@ -111,6 +111,32 @@ static void pointers(void) {
     CHECK(baybowl_verdict_by(block, ROOM, NULL, 0, NULL, 0, &question, &answer) == BAYBOWL_OK);
 }
 
+static void pointers_of_masks(void) {
+    static uint64_t room[ROOM / 8];
+    static const struct baybowl_check check = {9, 50, 7, 50, 0100640, BAYBOWL_MAY_READ, 0, 0};
+    struct baybowl_block *block = (struct baybowl_block *)room;
+    struct baybowl_answer answer;
+    struct baybowl_fault fault;
+    uint64_t needed = 0;
+    uint32_t access = 99;
+    CHECK(baybowl_grants_read("allow r", 7, TEXT("cephfs"), block, ROOM, &needed, &fault) == BAYBOWL_OK);
+    CHECK(baybowl_verdict_mask(block, ROOM, "a", 1, NULL, 0, &check, &answer, &access) == BAYBOWL_OK && access == BAYBOWL_READ);
+    CHECK(baybowl_verdict_mask(block, ROOM, NULL, 0, NULL, 0, &check, &answer, &access) == BAYBOWL_OK);
+    CHECK(baybowl_verdict_mask(NULL, ROOM, "a", 1, NULL, 0, &check, &answer, &access) == BAYBOWL_POINTER);
+    CHECK(baybowl_verdict_mask(block, ROOM, NULL, 2, NULL, 0, &check, &answer, &access) == BAYBOWL_POINTER);
+    CHECK(baybowl_verdict_mask(block, ROOM, "a", 1, NULL, 3, &check, &answer, &access) == BAYBOWL_POINTER);
+    CHECK(baybowl_verdict_mask(block, ROOM, "a", 1, NULL, 0, NULL, &answer, &access) == BAYBOWL_POINTER);
+    CHECK(baybowl_verdict_mask(block, ROOM, "a", 1, NULL, 0, &check, NULL, &access) == BAYBOWL_POINTER);
+    CHECK(baybowl_verdict_mask(block, ROOM, "a", 1, NULL, 0, &check, &answer, NULL) == BAYBOWL_POINTER);
+    CHECK(baybowl_verdict_mask(block, ROOM, "a", 1, NULL, 0, &check, &answer, (uint32_t *)(void *)((char *)room + 1)) == BAYBOWL_POINTER);
+    CHECK(baybowl_verdict_mask(block, sizeof *block - 8, "a", 1, NULL, 0, &check, &answer, &access) == BAYBOWL_BLOCK && access == 0);
+    for (int at = 0; at < ABSURD; at++) {
+        CHECK(baybowl_verdict_mask(block, absurd[at], "a", 1, NULL, 0, &check, &answer, &access) == BAYBOWL_LENGTH);
+        CHECK(baybowl_verdict_mask(block, ROOM, "a", absurd[at], NULL, 0, &check, &answer, &access) == BAYBOWL_LENGTH);
+        CHECK(baybowl_verdict_mask(block, ROOM, "a", 1, NULL, absurd[at], &check, &answer, &access) == BAYBOWL_LENGTH);
+    }
+}
+
 static void lengths(void) {
     static uint64_t room[ROOM / 8];
     struct baybowl_block *block = (struct baybowl_block *)room;
@@ -277,6 +303,46 @@ static void same_verdicts(void) {
     CHECK(allowed > ROUNDS / 20 && denied > ROUNDS / 20 && none > ROUNDS / 50);
 }
 
+/* What a mask is told is what its accesses are, one after the other until one is denied, whatever the kind of the inode. */
+static void masks(void) {
+    static const uint32_t bits[] = {1, 2, 16, 32, 64, 128};
+    static const uint32_t accesses[] = {BAYBOWL_READ, BAYBOWL_WRITE, BAYBOWL_CHOWN, BAYBOWL_CHGRP, BAYBOWL_SET_VXATTR, BAYBOWL_SNAPSHOT};
+    static uint64_t room[ROOM / 8];
+    struct baybowl_block *block = (struct baybowl_block *)room;
+    static char grants[4096], path[8192];
+    const uint32_t groups[40] = {1, 2, 50};
+    unsigned long allowed = 0, denied = 0, none = 0;
+    for (int round = 0; round < ROUNDS; round++) {
+        struct baybowl_answer told, wanted;
+        struct baybowl_fault fault;
+        struct baybowl_check c = {below(3), below(3), below(3), below(4), below(0200000), below(256) & ~12u, below(3), below(3)};
+        uint32_t access = 99, last = 99;
+        uint64_t needed = 0;
+        size_t grants_len = make_grants(grants), path_len = make_path(path, 8, below(4) == 0 ? "//" : "/"), skip = path_len > 0 && below(2) == 0;
+        c.mask |= below(20) == 0 ? 1u << (2 + below(2) + 6 * below(2)) : 0;
+        CHECK(baybowl_grants_read(grants, grants_len, TEXT("cephfs"), block, sizeof room, &needed, &fault) == BAYBOWL_OK);
+        uint32_t status = baybowl_verdict_mask(block, (size_t)needed, path + skip, path_len - skip, groups, below(2) ? 16 : 40, &c, &told, &access);
+        memset(&wanted, 0, sizeof wanted);
+        if (c.mask == 0 || c.mask > 255 || (c.mask & 12) != 0) {
+            CHECK(status == BAYBOWL_ACCESS && access == 0 && memcmp(&told, &wanted, sizeof told) == 0);
+            none++;
+            continue;
+        }
+        for (int at = 0; at < 6 && (last == 99 || wanted.grant != 0); at++) {
+            if ((c.mask & bits[at]) != 0) {
+                const struct baybowl_question q = {c.uid, c.gid, c.owner, c.group, c.mode & BAYBOWL_MODE_BITS, accesses[at],
+                                                   bits[at] == BAYBOWL_MAY_CHOWN ? c.new_uid : c.new_gid};
+                CHECK(baybowl_verdict_by(block, (size_t)needed, path, path_len, groups, 16, &q, &wanted) == BAYBOWL_OK);
+                last = accesses[at];
+            }
+        }
+        CHECK(status == BAYBOWL_OK && access == last && memcmp(&told, &wanted, sizeof told) == 0);
+        allowed += told.grant != 0;
+        denied += told.count != 0;
+    }
+    CHECK(allowed > ROUNDS / 20 && denied > ROUNDS / 20 && none > ROUNDS / 100);
+}
+
 /* Two slashes side by side, at each place of paths of each length: what is asked of a block is answered as what is asked of its text. */
 static void slashes(void) {
     static const char *const grants = "allow rw path=/aaa/aaaa, allow rw path=/aaa, allow r path=/aaaa, allow r path=/aaaa/aaaaaaaaaaaaaaaa";
@@ -333,6 +399,7 @@ static void threads(void) {
 int main(void) {
     rooms();
     pointers();
+    pointers_of_masks();
     lengths();
     cut();
     changed(some_grants);
@@ -341,6 +408,7 @@ int main(void) {
     damaged(open_grants);
     slashes();
     same_verdicts();
+    masks();
     threads();
     return told();
 }

@@ -5,7 +5,7 @@ use std::fmt;
 use std::ptr;
 use std::thread;
 
-const VERSION: u32 = 2;
+const VERSION: u32 = 3;
 const READ: u32 = 0;
 const WRITE: u32 = 1;
 const OK: u32 = 0;

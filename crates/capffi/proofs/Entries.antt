@@ -1,19 +1,25 @@
 -- The grants of the entries of a block, one by one.
-use Rattle.std.proofs.Common.{◌≡◌, ℕ, ◌+◌, ◌<◌, ◌≤◌, suc, Bool, true, false, ltb, Some, None, List, [], ◌∷◌, ◌++◌, length, take, drop, get_or, refl, sym, ap, ◌∙◌, arith, inl, inr}
-use Rattle.std.specs.Prelude.{position}
+use Rattle.std.proofs.Common.{◌≡◌, ℕ, ◌+◌, ◌<◌, ◌≤◌, suc, Bool, true, false, ltb, Option, Some, None, List, [], ◌∷◌, ◌++◌, length, take, drop, get_or, refl, sym, ap, ◌∙◌, arith, inl, inr}
+use Rattle.std.specs.Prelude.{position, find, set, is_none, nat_eq}
 use Rattle.std.specs.List.{list_any, position_or_len}
 use Rattle.std.proofs.lemmas.Bool.{or_parts, lt-ltb}
 use Rattle.std.proofs.lemmas.Bool.Decides.{nat_tests}
 use Rattle.std.proofs.lemmas.List.{take_more, drop_more, append-nil, length-append, length-take-le, take-append-drop, take_all}
 use Rattle.std.proofs.lemmas.List.Elements.{filter_map-append}
 use Rattle.capspec.specs.declared.grant.Grant.{Grant}
-use Rattle.capgrant.specs.declared.rule.Rule.{Rule}
 use Rattle.capspec.proofs.Fronts.{which}
-use Rattle.capgrant.specs.Failing.{first_failing, fails_fsname, fails_uid, fails_gids, fails_path, fails_no_write, fails_root_squash, fails_no_p, fails_no_s, fails_not_owner, fails_not_own_group, fails_mode_bits}
+use Rattle.capgrant.specs.declared.rule.Rule.{Rule}
+use Rattle.capgrant.specs.declared.rule.Rule.TheVariants.{FsName, Uid, Gids, Path, NoWrite, RootSquash, NoP, NoS, NotOwner, NotOwnGroup, ModeBits}
+use Rattle.capgrant.specs.Failing.{first_failing, fails, fails_fsname, fails_uid, fails_gids, fails_path, fails_no_write, fails_root_squash, fails_no_p, fails_no_s, fails_not_owner, fails_not_own_group, fails_mode_bits}
 use Rattle.capgrant.specs.Question.{Question}
-use Rattle.capgrant.specs.Verdict.{allows, first_failures}
+use Rattle.capgrant.specs.Rule.{rule_number}
+use Rattle.capgrant.specs.declared.answer.Verdict.TheVariants.{Allowed}
+use Rattle.capgrant.proofs.Verdicts.{each_fails, allowed_at, allowed_nowhere}
+use Rattle.capgrant.specs.Verdict.{allows, first_failures, verdict_of}
 use Rattle.capffi.specs.declared.block.Entry.{Entry}
-use Rattle.capffi.specs.ByBlock.{with_groups}
+use Rattle.capffi.specs.declared.passed.Answer.{Answer}
+use Rattle.capffi.specs.Answering.{answer_of, rule_numbers}
+use Rattle.capffi.specs.ByBlock.{alone, with_groups, open_rules}
 use Rattle.capffi.specs.Blocks.{grant_of, path_in, fs_in, behind, grants_in}
 
 -- what stands behind the texts of entries
@@ -140,7 +146,17 @@ grant_for_all q g fsname uid gids path w squash p s =
     let all = no_uid q g uid in
     rw (fsname, all.0, no_gids q g gids, path, w, squash, p, s, all.1, all.2, all.3) refl
 
+-- the others of the rules are those that such a grant can fail by
+open_first : (q : Question) (g : Grant) → g.uid ≡ None → g.gids ≡ [] → find (λ r. fails r q g) open_rules ≡ first_failing q g
+unfolding first_failing
+open_first q g uid gids =
+    let all = no_uid q g uid in
+    rw (all.0, no_gids q g gids, all.1, all.2, all.3) refl
+
 -- the same for a caller with any groups
+pub openly : (q : Question) (g : Grant) (found : Option Rule) → found ≡ find (λ r. fails r q g) open_rules → g.uid ≡ None → g.gids ≡ [] → (groups : List ℕ) → first_failing (with_groups q groups) g ≡ found
+unfolding fails_fsname fails_path fails_no_write fails_root_squash fails_no_p fails_no_s
+openly q g found is uid gids groups = sym (open_first (with_groups q groups) g uid gids) ∙ sym is
 
 pub no_grant_beside_any : (q : Question) (g : Grant) → fails_path q g ≡ true → (groups : List ℕ) → allows (with_groups q groups) g ≡ false
 unfolding fails_path
@@ -149,3 +165,80 @@ no_grant_beside_any q g path groups = no_grant_beside (with_groups q groups) g p
 pub grant_for_any : (q : Question) (g : Grant) → fails_fsname q g ≡ false → g.uid ≡ None → g.gids ≡ [] → fails_path q g ≡ false → fails_no_write q g ≡ false → fails_root_squash q g ≡ false → fails_no_p q g ≡ false → fails_no_s q g ≡ false → (groups : List ℕ) → allows (with_groups q groups) g ≡ true
 unfolding fails_fsname fails_path fails_no_write fails_root_squash fails_no_p fails_no_s
 grant_for_any q g fsname uid gids path w squash p s groups = grant_for_all (with_groups q groups) g fsname uid gids path w squash p s
+
+-- ---- the numbers of the rules
+
+put_rule : (rules : List Rule) (place : ℕ) (rule : Rule) → length rules ≡ place → place < 16 → set (rule_numbers rules) place (rule_number rule) ≡ rule_numbers (rules ++ rule ∷ [])
+put_rule [] place rule is few = rw (sym is) refl
+put_rule (a ∷ []) place rule is few = rw (sym is) refl
+put_rule (a ∷ b ∷ []) place rule is few = rw (sym is) refl
+put_rule (a ∷ b ∷ c ∷ []) place rule is few = rw (sym is) refl
+put_rule (a ∷ b ∷ c ∷ d ∷ []) place rule is few = rw (sym is) refl
+put_rule (a ∷ b ∷ c ∷ d ∷ e ∷ []) place rule is few = rw (sym is) refl
+put_rule (a ∷ b ∷ c ∷ d ∷ e ∷ f ∷ []) place rule is few = rw (sym is) refl
+put_rule (a ∷ b ∷ c ∷ d ∷ e ∷ f ∷ g ∷ []) place rule is few = rw (sym is) refl
+put_rule (a ∷ b ∷ c ∷ d ∷ e ∷ f ∷ g ∷ h ∷ []) place rule is few = rw (sym is) refl
+put_rule (a ∷ b ∷ c ∷ d ∷ e ∷ f ∷ g ∷ h ∷ i ∷ []) place rule is few = rw (sym is) refl
+put_rule (a ∷ b ∷ c ∷ d ∷ e ∷ f ∷ g ∷ h ∷ i ∷ j ∷ []) place rule is few = rw (sym is) refl
+put_rule (a ∷ b ∷ c ∷ d ∷ e ∷ f ∷ g ∷ h ∷ i ∷ j ∷ k ∷ []) place rule is few = rw (sym is) refl
+put_rule (a ∷ b ∷ c ∷ d ∷ e ∷ f ∷ g ∷ h ∷ i ∷ j ∷ k ∷ l ∷ []) place rule is few = rw (sym is) refl
+put_rule (a ∷ b ∷ c ∷ d ∷ e ∷ f ∷ g ∷ h ∷ i ∷ j ∷ k ∷ l ∷ m ∷ []) place rule is few = rw (sym is) refl
+put_rule (a ∷ b ∷ c ∷ d ∷ e ∷ f ∷ g ∷ h ∷ i ∷ j ∷ k ∷ l ∷ m ∷ n ∷ []) place rule is few = rw (sym is) refl
+put_rule (a ∷ b ∷ c ∷ d ∷ e ∷ f ∷ g ∷ h ∷ i ∷ j ∷ k ∷ l ∷ m ∷ n ∷ o ∷ []) place rule is few = rw (sym is) refl
+put_rule (a ∷ b ∷ c ∷ d ∷ e ∷ f ∷ g ∷ h ∷ i ∷ j ∷ k ∷ l ∷ m ∷ n ∷ o ∷ p ∷ rules) place rule is few = absurd (omega (arith, is, few))
+
+-- how many rules there are of grants that all fail
+failures_count : (q : Question) (entries : List Entry) (text : List ℕ) → list_any (allows q) (grants_in entries text) ≡ false → length (first_failures q (grants_in entries text)) ≡ length entries
+failures_count q entries text none = each_fails q (grants_in entries text) (sym (found_none (allows q) (grants_in entries text) none)) ∙ length-grants entries text
+
+pub rules_more : (q : Question) (entries : List Entry) (i : ℕ) (d : Entry) (text rest : List ℕ) (g : Grant) (rule : Rule) (n : ℕ) (rules : List ℕ) → i < length entries → length entries ≤ 16 → rest ≡ rest_of (take i entries) text → g ≡ first_of (at entries i d) rest → list_any (allows q) (grants_in (take i entries) text) ≡ false → first_failing q g ≡ Some rule
+    → n ≡ rule_number rule → rules ≡ rule_numbers (first_failures q (grants_in (take i entries) text)) → set rules i n ≡ rule_numbers (first_failures q (grants_in (take (i + 1) entries) text))
+rules_more q entries i d text rest g rule n rules within few so grant none fails number are =
+    let count : length (first_failures q (grants_in (take i entries) text)) ≡ i = failures_count q (take i entries) text none ∙ length-take-le i entries (omega (arith, within)) in
+    ap (λ (ns : List ℕ). set ns i n) are
+    ∙ ap (set (rule_numbers (first_failures q (grants_in (take i entries) text))) i) number
+    ∙ put_rule (first_failures q (grants_in (take i entries) text)) i rule count (omega (arith, within, few))
+    ∙ ap rule_numbers (sym (one_more_fails q entries i d text rest g rule within so grant fails))
+
+-- the answer of a grant that allows, and of grants none of which does
+pub allowed_answer : (q : Question) (grants : List Grant) (i : ℕ) (answered : Answer) → answered ≡ answer_of (Allowed (i + 1)) → Some i ≡ position (allows q) grants → answered ≡ answer_of (verdict_of q grants)
+allowed_answer q grants i answered is found = is ∙ ap answer_of (allowed_at q grants i (sym found))
+
+pub denied_answer : (q : Question) (entries : List Entry) (i : ℕ) (text rules : List ℕ) → length entries ≤ i → list_any (allows q) (grants_in (take i entries) text) ≡ false → rules ≡ rule_numbers (first_failures q (grants_in (take i entries) text)) → record { grant = 0; count = length entries; rules = rules } ≡ answer_of (verdict_of q (grants_in entries text))
+denied_answer q entries i text rules past none are =
+    let all : take i entries ≡ entries = take_all i entries past in
+    let none_of : list_any (allows q) (grants_in entries text) ≡ false = ap (λ (es : List Entry). list_any (allows q) (grants_in es text)) (sym all) ∙ none in
+    let numbers : rules ≡ rule_numbers (first_failures q (grants_in entries text)) = are ∙ ap (λ (es : List Entry). rule_numbers (first_failures q (grants_in es text))) all in
+    let count : length entries ≡ length (first_failures q (grants_in entries text)) = sym (failures_count q entries text none_of) in
+    ap (λ (ns : List ℕ). record { grant = 0; count = length entries; rules = ns }) numbers
+    ∙ ap (λ (n : ℕ). record { grant = 0; count = n; rules = rule_numbers (first_failures q (grants_in entries text)) }) count
+    ∙ ap answer_of (allowed_nowhere q (grants_in entries text) (sym (found_none (allows q) (grants_in entries text) none_of)))
+
+-- ---- a grant that is alone
+
+number_some : (rule : Rule) → nat_eq (rule_number rule) 0 ≡ false
+number_some FsName = refl
+number_some Uid = refl
+number_some Gids = refl
+number_some Path = refl
+number_some NoWrite = refl
+number_some RootSquash = refl
+number_some NoP = refl
+number_some NoS = refl
+number_some NotOwner = refl
+number_some NotOwnGroup = refl
+number_some ModeBits = refl
+
+pub alone_allows : (q : Question) (entries : List Entry) (d : Entry) (text : List ℕ) → length entries ≡ 1 → first_failing q (first_of (at entries 0 d) text) ≡ None → alone 0 ≡ answer_of (verdict_of q (grants_in entries text))
+alone_allows q [] d text one passes = absurd (omega (arith, one))
+alone_allows q (e ∷ []) d text one passes = allowed_answer q (grants_in (e ∷ []) text) 0 (answer_of (Allowed 1)) refl (found (allows q) [] (first_of e text) [] refl (ap (λ (found : Option Rule). is_none found) passes))
+alone_allows q (e ∷ f ∷ entries) d text one passes = absurd (omega (arith, one))
+
+pub alone_fails : (q : Question) (entries : List Entry) (d : Entry) (text : List ℕ) (rule : Rule) (n : ℕ) → length entries ≡ 1 → first_failing q (first_of (at entries 0 d) text) ≡ Some rule → n ≡ rule_number rule → alone n ≡ answer_of (verdict_of q (grants_in entries text))
+alone_fails q [] d text rule n one fails number = absurd (omega (arith, one))
+alone_fails q (e ∷ []) d text rule n one fails number =
+    let none : list_any (allows q) (grants_in (e ∷ []) text) ≡ false = any_more (allows q) [] (first_of e text) refl (ap (λ (found : Option Rule). is_none found) fails) in
+    let are : rule_numbers (rule ∷ []) ≡ rule_numbers (first_failures q (grants_in (e ∷ []) text)) = rw fails refl in
+    let is : alone (rule_number rule) ≡ record { grant = 0; count = 1; rules = rule_numbers (rule ∷ []) } = rw (number_some rule) refl in
+    ap alone number ∙ is ∙ denied_answer q (e ∷ []) 1 text (rule_numbers (rule ∷ [])) (omega arith) none are
+alone_fails q (e ∷ f ∷ entries) d text rule n one fails number = absurd (omega (arith, one))

@@ -1,12 +1,11 @@
 -- What stands in a block that was filled.
-use Rattle.std.proofs.Common.{◌≡◌, ◌⊎◌, ℕ, ◌+◌, ◌<◌, ◌≤◌, suc, Bool, true, false, eqb, not, List, [], ◌∷◌, ◌++◌, length, take, drop, get_or, Option, Some, None, Result, Ok, Err, refl, sym, ap, subst, ◌∙◌, inl, inr, append_assoc, arith, All}
+use Rattle.std.proofs.Common.{◌≡◌, ◌⊎◌, ℕ, ◌+◌, ◌<◌, ◌≤◌, suc, false, eqb, not, List, [], ◌∷◌, ◌++◌, length, take, drop, get_or, Option, Some, None, Result, Ok, Err, refl, sym, ap, subst, ◌∙◌, inl, inr, append_assoc, arith, All}
 use Rattle.std.specs.Prelude.{filter_map, ◌==◌, IsTrue}
-use Rattle.std.specs.List.{AllByRecursion, list_all, slice_split, onto_first}
-use Rattle.std.proofs.lemmas.Bool.{and_parts, not-true, ne_eqb}
+use Rattle.std.specs.List.{AllByRecursion}
+use Rattle.std.proofs.lemmas.Bool.{ne_eqb}
 use Rattle.std.proofs.lemmas.List.{append-nil, take-append-drop, take_more, length-take}
 use Rattle.std.proofs.lemmas.List.Concat.{flat_map-append}
 use Rattle.std.proofs.lemmas.List.Elements.{All-cons, All-nil}
-use Rattle.std.proofs.lemmas.List.Splits.{slice_split-cons_yes, slice_split-cons_no}
 use Rattle.std.proofs.Math.Seq.{take-append_seam, drop-append_seam}
 use Rattle.capspec.specs.declared.grant.Grant.{Grant}
 use Rattle.capspec.specs.Bytes.{is_mark}
@@ -15,54 +14,20 @@ use Rattle.capspec.specs.Items.{Item, IsItem}
 use Rattle.capspec.specs.Items.Item.{FsName, Path, Uid, Gids, RootSquash}
 use Rattle.capwords.specs.Paths.{names_of, slashed, are_few_and_short}
 use Rattle.capspec.specs.Separated.{AreSeparated}
-use Rattle.capspec.proofs.Paths.{is_slash}
-use Rattle.capspec.proofs.Fronts.{which}
-use Rattle.capspec.proofs.Slashed.{all_in, all_filter}
 use Rattle.capgrant.specs.declared.answer.Verdict.{Verdict}
 use Rattle.capffi.specs.declared.block.Block.{Block}
 use Rattle.capffi.specs.declared.block.Entry.{Entry}
 use Rattle.capffi.specs.declared.filling.Ready.{Ready}
+use Rattle.capffi.specs.declared.passed.Answer.{Answer}
 use Rattle.capffi.specs.declared.passed.Question.{Question}
 use Rattle.capffi.specs.declared.trouble.Trouble.{Trouble}
 use Rattle.capffi.specs.declared.trouble.Trouble.TheVariants as troubles
-use Rattle.capffi.specs.Blocks.{path_names, flags_of, unless_zero, grant_of, grants_in, IsBlock}
-use Rattle.capffi.specs.ByBlock.{IsSaid, IsSaidOf, IsNumberTrouble, IsBlockTrouble}
+use Rattle.capffi.proofs.Bare.{names_back}
+use Rattle.capffi.specs.Blocks.{bare_names, path_names, flags_of, unless_zero, grant_of, grants_in, IsBlock}
+use Rattle.capffi.specs.ByBlock.{IsSaid, IsSaidOn, IsSaidOf, IsNumberTrouble, IsBlockTrouble}
+use Rattle.capffi.specs.Calls.{TellsVerdictBy}
 use Rattle.capffi.specs.Texts.{IsPut}
 use Rattle.capffi.specs.Filling.{fs_text, text_of, texts_of, block_text, IsNoneOrSome, CanBeSaid, IsEntryOf, AreEntriesOf, Says, IsPutInBlock}
-
--- ---- a path's text has its names
-
--- a byte of a name
-abbrev is_other : ℕ → Bool
-is_other b = not (is_slash b)
-
-onto_other : (b : ℕ) (parts : List (List ℕ)) → is_slash b ≡ false → all_in is_other parts ≡ true → all_in is_other (onto_first b parts) ≡ true
-onto_other b [] e all = rw e refl
-onto_other b (part ∷ parts) e all = rw e all
-
-no_slash : (path : List ℕ) → all_in is_other (slice_split is_slash path) ≡ true
-no_slash [] = refl
-no_slash (b ∷ bs) =
-    elim (which (is_slash b)) [
-      | inl e ↦ rw (slice_split-cons_yes is_slash b bs e) (no_slash bs)
-      | inr e ↦ rw (slice_split-cons_no is_slash b bs e) (onto_other b (slice_split is_slash bs) e (no_slash bs))
-    ]
-
-split_name : (name : List ℕ) (names : List (List ℕ)) → list_all is_other name ≡ true → slice_split is_slash (name ++ slashed names) ≡ name ∷ path_names (slashed names)
-split_name [] [] all = refl
-split_name [] (next ∷ names) all = slice_split-cons_yes is_slash 47 (next ++ slashed names) refl
-split_name (b ∷ name) names all =
-    let parts = and_parts (is_other b) (list_all is_other name) all in
-    rw (slice_split-cons_no is_slash b (name ++ slashed names) (not-true (is_slash b) parts.0), split_name name names parts.1) refl
-
-names_are : (names : List (List ℕ)) → all_in is_other names ≡ true → path_names (slashed names) ≡ names
-names_are [] all = refl
-names_are (name ∷ names) all =
-    let parts = and_parts (list_all is_other name) (all_in is_other names) all in
-    split_name name names parts.0 ∙ ap (λ (ns : List (List ℕ)). name ∷ ns) (names_are names parts.1)
-
-pub names_back : (path : List ℕ) → path_names (slashed (names_of path)) ≡ names_of path
-names_back path = names_are (names_of path) (all_filter is_other (slice_split is_slash path) ∙ no_slash path)
 
 -- ---- a block can say each grant of a text
 
@@ -226,7 +191,7 @@ filled ready old new before after fs grants len told few fs_len text are put = (
 
 -- ---- what is said of a path's names is said of its text
 
-number_trouble : (block : Block) (text path groups : List ℕ) (q : Question) (trouble : Trouble) → IsBlock block text → length groups ≤ 16 → IsTrue (are_few_and_short (names_of path)) → IsNumberTrouble q trouble → IsBlockTrouble block text path groups q trouble
+number_trouble : (block : Block) (text : List ℕ) (path : List (List ℕ)) (groups : List ℕ) (q : Question) (trouble : Trouble) → IsBlock block text → length groups ≤ 16 → IsTrue (are_few_and_short path) → IsNumberTrouble q trouble → IsBlockTrouble block text path groups q trouble
 number_trouble block text path groups q troubles.Block whole few fit is = absurd is
 number_trouble block text path groups q troubles.Groups whole few fit is = absurd is
 number_trouble block text path groups q troubles.Path whole few fit is = absurd is
@@ -240,10 +205,20 @@ number_trouble block text path groups q troubles.State whole few fit is = absurd
 number_trouble block text path groups q troubles.Head whole few fit is = absurd is
 number_trouble block text path groups q troubles.Caps whole few fit is = absurd is
 
-said_of_names : (block : Block) (text path groups : List ℕ) (q : Question) (told : Result Verdict Trouble) → IsBlock block text → length groups ≤ 16 → IsTrue (are_few_and_short (names_of path)) → IsSaidOf block text (names_of path) groups q told → IsSaid block text path groups q told
-said_of_names block text path groups q (Ok verdict) whole few fit is = (whole, few, fit, is)
-said_of_names block text path groups q (Err trouble) whole few fit is = number_trouble block text path groups q trouble whole few fit is
+said_on : (block : Block) (text : List ℕ) (path : List (List ℕ)) (groups : List ℕ) (q : Question) (told : Result Verdict Trouble) → IsBlock block text → length groups ≤ 16 → IsTrue (are_few_and_short path) → IsSaidOf block text path groups q told → IsSaidOn block text path groups q told
+said_on block text path groups q (Ok verdict) whole few fit is = (whole, few, fit, is)
+said_on block text path groups q (Err trouble) whole few fit is = number_trouble block text path groups q trouble whole few fit is
 
-pub said_of_text : (block : Block) (text path groups as_told : List ℕ) (q : Question) (told : Result Verdict Trouble) → IsBlock block text → length groups ≤ 16 → IsTrue (are_few_and_short (names_of path)) → as_told ≡ slashed (names_of path) → IsSaidOf block text (path_names as_told) groups q told → IsSaid block text path groups q told
-said_of_text block text path groups as_told q told whole few fit same is =
-    said_of_names block text path groups q told whole few fit (subst (λ (names : List (List ℕ)). IsSaidOf block text names groups q told) (ap path_names same ∙ names_back path) is)
+pub said_of_text : (block : Block) (text path groups bare : List ℕ) (q : Question) (told : Result Verdict Trouble) → IsBlock block text → length groups ≤ 16 → IsTrue (are_few_and_short (names_of path)) → bare_names bare ≡ names_of path → IsSaidOf block text (bare_names bare) groups q told → IsSaid block text path groups q told
+said_of_text block text path groups bare q told whole few fit same is =
+    said_on block text (names_of path) groups q told whole few fit (subst (λ (names : List (List ℕ)). IsSaidOf block text names groups q told) same is)
+
+-- what stands behind the first slash of a path that was read has its names
+pub names_of_read : (path bytes bare : List ℕ) (names : List (List ℕ)) → names ≡ names_of path → bytes ≡ slashed names → bare ≡ drop 1 bytes → bare_names bare ≡ names
+names_of_read path bytes bare names read is behind =
+    ap bare_names behind ∙ ap path_names is ∙ ap (λ (ns : List (List ℕ)). path_names (slashed ns)) read ∙ names_back path ∙ sym read
+
+-- what is told of a path is told of each text that has its names
+pub either_form : (block : Block) (text path other groups : List ℕ) (q : Question) (told : ℕ) (answered : Answer) → names_of other ≡ names_of path → TellsVerdictBy block text path groups q told answered → TellsVerdictBy block text other groups q told answered
+either_form block text path other groups q told answered same tells =
+    (tells.0, subst (λ (names : List (List ℕ)). IsSaidOn block text names groups q tells.0) (sym same) tells.1, tells.2, tells.3)

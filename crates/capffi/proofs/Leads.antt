@@ -1,14 +1,15 @@
 -- Paths as texts: where the names of one are the first of another's.
-use Rattle.std.proofs.Common.{◌≡◌, ℕ, ◌<◌, ◌≤◌, Bool, true, false, ◌&&◌, ◌≢◌, eqb, List, [], ◌∷◌, length, take, get_or, refl, sym, ap, ◌∙◌, inl, inr, arith}
-use Rattle.std.specs.Prelude.{◌↔◌, ◌==◌, IsTrue, bytes_eq}
+use Rattle.std.proofs.Common.{◌≡◌, ℕ, ◌<◌, ◌≤◌, Bool, true, false, ◌&&◌, ◌≢◌, eqb, List, [], ◌∷◌, length, take, drop, get_or, ◌+◌, ◌-◌, true≢false, refl, sym, ap, ◌∙◌, inl, inr, arith}
+use Rattle.std.specs.Prelude.{◌↔◌, IsTrue, bytes_eq}
 use Rattle.std.specs.List.{starts_with, slice_split, onto_first}
 use Rattle.std.proofs.lemmas.Bool.{eqb-true, ne_eqb}
 use Rattle.std.proofs.lemmas.Bool.Decides.{same_from_decides}
 use Rattle.std.proofs.lemmas.Slice.Eq.{bytes_eq-Decides}
+use Rattle.std.proofs.lemmas.List.{drop_more, drop_all, drop-drop}
 use Rattle.std.proofs.lemmas.List.Splits.{slice_split-cons_yes, slice_split-cons_no, length-slice_split}
 use Rattle.capspec.proofs.Fronts.{which}
 use Rattle.capspec.proofs.Paths.{is_slash}
-use Rattle.capffi.specs.Blocks.{path_names}
+use Rattle.capffi.specs.Blocks.{bare_names, path_names}
 
 -- the text `to` is `dir`, or goes on behind it with a slash
 abbrev leads : List ℕ → List ℕ → Bool
@@ -110,26 +111,32 @@ leads_other [] (c ∷ to) within other = sym (ne_eqb c 47 other)
 leads_other (b ∷ dir) [] within other = absurd (omega (arith, within))
 leads_other (b ∷ dir) (c ∷ to) within other = sym (and_false (eqb b c)) ∙ ap (λ (t : Bool). eqb b c && t) (leads_other dir to (omega (arith, within)) other)
 
--- ---- the same of the parts
-
-pub begin_past : (dir to : List ℕ) → length to ≤ length dir → bytes_eq dir to ≡ starts_with bytes_eq (slice_split (λ b. b == 47) to) (slice_split (λ b. b == 47) dir)
-begin_past dir to past = leads_past dir to past ∙ sym (begin_is dir to)
-
-pub begin_slash : (dir to : List ℕ) → length dir < length to → get_or to (length dir) 0 ≡ 47 → bytes_eq (take (length dir) to) dir ≡ starts_with bytes_eq (slice_split (λ b. b == 47) to) (slice_split (λ b. b == 47) dir)
-begin_slash dir to within is = leads_slash dir to within is ∙ sym (begin_is dir to)
-
-pub begin_other : (dir to : List ℕ) → length dir < length to → get_or to (length dir) 0 ≢ 47 → false ≡ starts_with bytes_eq (slice_split (λ b. b == 47) to) (slice_split (λ b. b == 47) dir)
-begin_other dir to within other = leads_other dir to within other ∙ sym (begin_is dir to)
+-- ---- the same of the names
 
 not_all : (parts : List (List ℕ)) → 0 < length parts → false ≡ begin [] parts
 not_all [] some = absurd (omega arith)
 not_all (part ∷ parts) some = refl
 
--- a root has no names, and a directory that is not the root has some
-pub root_below : (dir to : List ℕ) → 0 < length dir → length to ≡ 0 → false ≡ begin (path_names to) (path_names dir)
-root_below [] to some none = absurd (omega (arith, some))
-root_below (b ∷ dir) [] some none = not_all (slice_split is_slash dir) (some_part dir)
-root_below (b ∷ dir) (c ∷ to) some none = absurd (omega (arith, none))
+pub begin_past : (dir to : List ℕ) → 0 < length dir → length to ≤ length dir → bytes_eq dir to ≡ starts_with bytes_eq (bare_names to) (bare_names dir)
+begin_past [] to some past = absurd (omega (arith, some))
+begin_past (b ∷ dir) [] some past = not_all (slice_split is_slash (b ∷ dir)) (some_part (b ∷ dir))
+begin_past (b ∷ dir) (c ∷ to) some past = leads_past (b ∷ dir) (c ∷ to) past ∙ sym (begin_is (b ∷ dir) (c ∷ to))
+
+pub begin_slash : (dir to : List ℕ) → 0 < length dir → length dir < length to → get_or to (length dir) 0 ≡ 47 → bytes_eq (take (length dir) to) dir ≡ starts_with bytes_eq (bare_names to) (bare_names dir)
+begin_slash [] to some within is = absurd (omega (arith, some))
+begin_slash (b ∷ dir) [] some within is = absurd (omega (arith, within))
+begin_slash (b ∷ dir) (c ∷ to) some within is = leads_slash (b ∷ dir) (c ∷ to) within is ∙ sym (begin_is (b ∷ dir) (c ∷ to))
+
+pub begin_other : (dir to : List ℕ) → 0 < length dir → length dir < length to → get_or to (length dir) 0 ≢ 47 → false ≡ starts_with bytes_eq (bare_names to) (bare_names dir)
+begin_other [] to some within other = absurd (omega (arith, some))
+begin_other (b ∷ dir) [] some within other = absurd (omega (arith, within))
+begin_other (b ∷ dir) (c ∷ to) some within other = leads_other (b ∷ dir) (c ∷ to) within other ∙ sym (begin_is (b ∷ dir) (c ∷ to))
+
+-- the root lies above all
+pub root_above : (dir to : List ℕ) → length dir < 2 → true ≡ starts_with bytes_eq (bare_names to) (path_names dir)
+root_above [] to short = refl
+root_above (b ∷ []) to short = refl
+root_above (b ∷ c ∷ dir) to short = absurd (omega (arith, short))
 
 -- what tells whether two texts are the same is their comparison
 pub same_is : (r : Bool) (xs ys : List ℕ) → (IsTrue r ↔ (xs ≡ ys)) → r ≡ bytes_eq xs ys
@@ -140,3 +147,41 @@ other_length xs ys other = elim (which (bytes_eq xs ys)) [
   | inl e ↦ absurd (other (ap length ((bytes_eq-Decides xs ys).0 e)))
   | inr e ↦ sym e
 ]
+
+-- ---- piece by piece
+
+pub byte_more : (xs ys : List ℕ) (k : ℕ) → length xs ≡ length ys → k < length ys → bytes_eq (drop k xs) (drop k ys) ≡ (eqb (get_or xs k 0) (get_or ys k 0) && bytes_eq (drop (k + 1) xs) (drop (k + 1) ys))
+byte_more xs ys k same within = rw (drop_more xs k 0 (omega (arith, same, within)), drop_more ys k 0 within) refl
+
+-- where the ends of two texts are the same, so are those behind them
+further_same : (k m : ℕ) (xs ys : List ℕ) → k ≤ m → bytes_eq (drop k xs) (drop k ys) ≡ true → bytes_eq (drop m xs) (drop m ys) ≡ true
+further_same k m xs ys before same =
+    let place : k + (m - k) ≡ m = omega arith in
+    let rests : drop k xs ≡ drop k ys = (bytes_eq-Decides (drop k xs) (drop k ys)).0 same in
+    let later : drop m xs ≡ drop m ys = ap (λ (n : ℕ). drop n xs) (sym place) ∙ sym (drop-drop (m - k) k xs) ∙ ap (drop (m - k)) rests ∙ drop-drop (m - k) k ys ∙ ap (λ (n : ℕ). drop n ys) place in
+    (bytes_eq-Decides (drop m xs) (drop m ys)).1 later
+
+and_true : (b : Bool) → (b && true) ≡ b
+and_true true = refl
+and_true false = refl
+
+-- the last piece of two texts is the same where all behind its place is
+pub last_piece : (xs ys : List ℕ) (back : Bool) (k m : ℕ) → length xs ≡ length ys → length ys ≤ m → (back && bytes_eq (drop m xs) (drop m ys)) ≡ bytes_eq (drop k xs) (drop k ys) → back ≡ bytes_eq (drop k xs) (drop k ys)
+last_piece xs ys back k m same past told =
+    let end : bytes_eq (drop m xs) (drop m ys) ≡ true = rw (drop_all m xs (omega (arith, same, past)), drop_all m ys past) refl in
+    sym (and_true back) ∙ ap (λ (t : Bool). back && t) (sym end) ∙ told
+
+-- where it is the same, the first tells of the whole
+pub first_piece : (xs ys : List ℕ) (front : Bool) (k m : ℕ) → k ≤ m → bytes_eq (drop k xs) (drop k ys) ≡ true → (front && bytes_eq (drop m xs) (drop m ys)) ≡ bytes_eq xs ys → front ≡ bytes_eq xs ys
+first_piece xs ys front k m before same told = sym (and_true front) ∙ ap (λ (t : Bool). front && t) (sym (further_same k m xs ys before same)) ∙ told
+
+pub other_end : (xs ys : List ℕ) (k : ℕ) → bytes_eq (drop k xs) (drop k ys) ≡ false → false ≡ bytes_eq xs ys
+other_end xs ys k other = elim (which (bytes_eq xs ys)) [
+  | inl e ↦
+      let rests : drop k xs ≡ drop k ys = ap (drop k) ((bytes_eq-Decides xs ys).0 e) in
+      absurd (true≢false (sym ((bytes_eq-Decides (drop k xs) (drop k ys)).1 rests) ∙ other))
+  | inr e ↦ sym e
+]
+
+pub all_bytes : (xs ys : List ℕ) (r : Bool) → length xs ≡ length ys → (r && bytes_eq (drop (0 + length ys) xs) (drop (0 + length ys) ys)) ≡ bytes_eq (drop 0 xs) (drop 0 ys) → r ≡ bytes_eq xs ys
+all_bytes xs ys r same told = last_piece xs ys r 0 (0 + length ys) same (omega arith) told

@@ -1,4 +1,7 @@
+pub mod Bare
 pub mod Leads
 pub mod Entries
 pub mod Filled
 pub mod Slashes
+pub mod Masks
+pub mod Telling

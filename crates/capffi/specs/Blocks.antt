@@ -7,10 +7,14 @@ use Rattle.capspec.specs.declared.grant.Grant.{Grant}
 use Rattle.capffi.specs.declared.block.Block.{Block}
 use Rattle.capffi.specs.declared.block.Entry.{Entry}
 
--- the names of a path's text: what stands between its slashes, the first of which is in front
+-- the names of a path's text without a slash in front: what stands between its slashes; the root has no text
+abbrev pub bare_names : List ℕ → List (List ℕ)
+bare_names [] = []
+bare_names (b ∷ bytes) = slice_split (λ b. b == 47) (b ∷ bytes)
+
+-- the names of the path of an entry, whose text has a slash in front
 abbrev pub path_names : List ℕ → List (List ℕ)
-path_names [] = []
-path_names (slash ∷ names) = slice_split (λ b. b == 47) names
+path_names text = bare_names (drop 1 text)
 
 -- the flags by their number; what is none is the least
 unfoldable pub flags_of : ℕ → Flags4

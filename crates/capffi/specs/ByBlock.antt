@@ -1,14 +1,18 @@
 -- What the grants of a block say to a question.
-use Rattle.std.specs.Prelude.{◌≡◌, ◌<◌, ◌≤◌, ◌⊎◌, ℕ, List, length, IsTrue, IsFalse, Some, None, Result, Ok, MatchResult}
+use Rattle.std.specs.Prelude.{◌≡◌, ◌==◌, ◌<◌, ◌≤◌, ◌⊎◌, ℕ, List, [], ◌∷◌, length, IsTrue, IsFalse, Some, None, Result, Ok, MatchResult, if◌then◌else◌}
 use Rattle.capwords.specs.Paths.{names_of, are_few_and_short}
 use Rattle.capgrant.specs.declared.access.Access.{Access}
 use Rattle.capgrant.specs.declared.answer.Verdict.{Verdict}
 use Rattle.capgrant.specs.declared.answer.Verdict.TheVariants.{Allowed}
+use Rattle.capgrant.specs.declared.rule.Rule.{Rule}
+use Rattle.capgrant.specs.declared.rule.Rule.TheVariants.{FsName, Path, NoWrite, RootSquash, NoP, NoS}
 use Rattle.capgrant.specs.Question.{question}
 use Rattle.capgrant.specs.Question.{Question as Asked}
 use Rattle.capgrant.specs.Verdict.{verdict_of}
 use Rattle.capffi.specs.declared.block.Block.{Block}
+use Rattle.capffi.specs.declared.passed.Answer.{Answer}
 use Rattle.capffi.specs.declared.passed.Question.{Question}
+use Rattle.capffi.specs.Answering.{answer_of}
 use Rattle.capffi.specs.declared.trouble.Trouble.{Trouble}
 use Rattle.capffi.specs.declared.trouble.Trouble.TheVariants as troubles
 use Rattle.capffi.specs.Asking.{access_of}
@@ -34,28 +38,50 @@ abbrev pub IsSaidOf : Block → List ℕ → List (List ℕ) → List ℕ → Qu
 IsSaidOf block text path groups q said = MatchResult said (IsVerdictOf block text path groups q) (IsNumberTrouble q)
 
 -- the first of the values that means nothing is told: the block, the groups, the path, or one of the numbers
-abbrev pub IsBlockTrouble : Block → List ℕ → List ℕ → List ℕ → Question → Trouble → Type 0
+abbrev pub IsBlockTrouble : Block → List ℕ → List (List ℕ) → List ℕ → Question → Trouble → Type 0
 IsBlockTrouble block text path groups q troubles.Block = ¬ IsBlock block text
 IsBlockTrouble block text path groups q troubles.Groups = IsBlock block text × (16 < length groups)
-IsBlockTrouble block text path groups q troubles.Path = IsBlock block text × (length groups ≤ 16) × IsFalse (are_few_and_short (names_of path))
+IsBlockTrouble block text path groups q troubles.Path = IsBlock block text × (length groups ≤ 16) × IsFalse (are_few_and_short path)
 IsBlockTrouble block text path groups q troubles.Memory = Unit {0}
-IsBlockTrouble block text path groups q trouble = IsBlock block text × (length groups ≤ 16) × IsTrue (are_few_and_short (names_of path)) × IsNumberTrouble q trouble
+IsBlockTrouble block text path groups q trouble = IsBlock block text × (length groups ≤ 16) × IsTrue (are_few_and_short path) × IsNumberTrouble q trouble
 
--- what is said of the path of a text, or why there is no verdict
-abbrev pub IsSaid : Block → List ℕ → List ℕ → List ℕ → Question → Result Verdict Trouble → Type 0
-IsSaid block text path groups q said =
+-- what is said of the names of a path that may be too many or too long, or why there is no verdict
+abbrev pub IsSaidOn : Block → List ℕ → List (List ℕ) → List ℕ → Question → Result Verdict Trouble → Type 0
+IsSaidOn block text path groups q said =
     MatchResult said
-    (λ verdict. IsBlock block text × (length groups ≤ 16) × IsTrue (are_few_and_short (names_of path)) × IsVerdictOf block text (names_of path) groups q verdict)
+    (λ verdict. IsBlock block text × (length groups ≤ 16) × IsTrue (are_few_and_short path) × IsVerdictOf block text path groups q verdict)
     (IsBlockTrouble block text path groups q)
 
--- the verdict is that the grant allows, whatever the groups of the caller
-abbrev pub IsAllowedFor : Block → List ℕ → List ℕ → Question → ℕ → Type 0
-IsAllowedFor block text path q grant = (groups : List ℕ) → length groups ≤ 16 → IsSaid block text path groups q (Ok (Allowed grant))
+-- the same of a path's text, of which nothing but its names counts
+abbrev pub IsSaid : Block → List ℕ → List ℕ → List ℕ → Question → Result Verdict Trouble → Type 0
+IsSaid block text path groups q said = IsSaidOn block text (names_of path) groups q said
 
--- the number is that of such a grant, or 0, which says nothing
-abbrev pub IsAllowing : Block → List ℕ → List ℕ → Question → ℕ → Type 0
-IsAllowing block text path q told = (told ≡ 0) ⊎ IsAllowedFor block text path q told
+-- the numbers are those of the verdict, whatever the groups of the caller
+abbrev pub IsSoon : Block → List ℕ → List ℕ → Question → Answer → Type 0
+IsSoon block text path q answered = (groups : List ℕ) → length groups ≤ 16 → (verdict : Verdict) × IsSaid block text path groups q (Ok verdict) × (answered ≡ answer_of verdict)
+
+-- the same of the names of a path that are neither too many nor too long
+abbrev pub IsSoonOf : Block → List ℕ → List (List ℕ) → Question → Answer → Type 0
+IsSoonOf block text path q answered = (groups : List ℕ) → (verdict : Verdict) × IsVerdictOf block text path groups q verdict × (answered ≡ answer_of verdict)
+
+-- 17 says that the answer was written, a number from 1 to 16 that the grant of this number allows, and 0 nothing
+abbrev pub Tells : (Answer → Type 0) → Answer → Answer → ℕ → Type 0
+Tells Is before after told =
+    ((told ≡ 0) × (after ≡ before)) ⊎ ((told ≡ 17) × Is after) ⊎ ((1 ≤ told) × (told ≤ 16) × (after ≡ before) × Is (answer_of (Allowed told)))
+
+abbrev pub TellsSoon : Block → List ℕ → List ℕ → Question → Answer → Answer → ℕ → Type 0
+TellsSoon block text path q before after told = Tells (IsSoon block text path q) before after told
+
+-- the answer of a grant that is alone, by the number of the rule that it fails by, or 0 where it allows
+abbrev pub alone : ℕ → Answer
+alone rule =
+    if rule == 0 then answer_of (Allowed 1)
+    else record { grant = 0; count = 1; rules = rule ∷ 0 ∷ 0 ∷ 0 ∷ 0 ∷ 0 ∷ 0 ∷ 0 ∷ 0 ∷ 0 ∷ 0 ∷ 0 ∷ 0 ∷ 0 ∷ 0 ∷ 0 ∷ [] }
 
 -- the same question of a caller with other groups
 abbrev pub with_groups : Asked → List ℕ → Asked
 with_groups q groups = question q.fs (record { uid = q.caller.uid; gid = q.caller.gid; groups = groups }) q.path q.attr q.access
+
+-- the rules that a grant for everybody can fail by, in their order
+abbrev pub open_rules : List Rule
+open_rules = FsName ∷ Path ∷ NoWrite ∷ RootSquash ∷ NoP ∷ NoS ∷ []

@@ -7,3 +7,4 @@ pub mod Calls
 pub mod Blocks
 pub mod Filling
 pub mod ByBlock
+pub mod ByMask

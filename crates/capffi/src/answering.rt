@@ -2,6 +2,7 @@
 ghost use Rattle.std.specs.Prelude.{◌≡◌, ◌≤◌, length};
 ghost use Rattle.capgrant.specs.declared.answer.Verdict.TheVariants.{Allowed};
 ghost use Rattle.capffi.specs.Answering.{answer_of, no_answer, rule_at, rule_numbers};
+ghost use Rattle.capffi.specs.ByBlock.{Tells, alone};
 
 use crate::passed::Answer;
 use capgrant::{Rule, Verdict};
@@ -27,6 +28,23 @@ pub(crate) fn allowed(grant: u32) -> Answer
         count: 0,
         rules: [0; 16],
     }
+}
+
+/// Tells the answer of a grant that is alone, by the number of the rule that it fails by, or 0 where it allows: that the first grant
+/// allows by the number 1, and a denial, which is put into `answer`, by 17.
+#[inline(always)]
+pub(crate) fn tell_alone(rule: u8, answer: &mut Answer) -> u32
+    ensures { Tells (λ told. told ≡ alone rule) answer.old answer.new result }
+{
+    if rule == 0 {
+        return 1;
+    }
+    *answer = Answer {
+        grant: 0,
+        count: 1,
+        rules: [rule, 0, 0, 0, 0, 0, 0, 0, 0, 0, 0, 0, 0, 0, 0, 0],
+    };
+    17
 }
 
 // The grants fail, each by a rule.

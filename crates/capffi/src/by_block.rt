@@ -1,33 +1,59 @@
 //! The verdict of the grants of a block.
-ghost use Rattle.std.specs.Prelude.{◌≡◌, ◌≤◌, ◌↔◌, ℕ, List, length, take, drop, IsTrue, IfSome, MatchResult, Ok};
-ghost use Rattle.capwords.specs.Paths.{names_of, slashed, are_few_and_short};
-ghost use Rattle.capffi.specs.Blocks.{IsBlock, path_names};
-ghost use Rattle.capffi.specs.ByBlock.{IsSaid, IsSaidOf, IsVerdictOf, IsAllowedFor};
-ghost use Rattle.capgrant.specs.declared.answer.Verdict.TheVariants.{Allowed};
+ghost use Rattle.std.specs.Prelude.{◌≡◌, ◌≤◌, ◌↔◌, ℕ, List, length, IsTrue, IfSome};
+ghost use Rattle.capwords.specs.Paths.{names_of};
+ghost use Rattle.capffi.specs.Blocks.{IsBlock, bare_names};
+ghost use Rattle.capffi.specs.ByBlock.{IsSaid, IsSaidOf, IsSoonOf, TellsSoon, Tells, alone};
+ghost use Rattle.capgrant.specs.Question.{question as asked};
 
+use crate::answering::tell_alone;
 use crate::asking::{read_access, read_mode};
 use crate::block::{BLOCK_VERSION, Block};
 use crate::given::split_front;
 use crate::judging::{Case, verdict_of};
-use crate::passed::Question;
-use crate::plain::is_plain;
+use crate::passed::{Answer, Question};
+use crate::plain::{plain, soon_plain};
 use crate::trouble::Trouble;
-use capgrant::{Attr, Verdict};
+use capbits::Mode;
+use capgrant::{Access, Attr, Verdict};
 use capspec::TreePath;
 use std::alloc::{AllocError, Global};
 
-/// The number of the grant by which a block allows an access whatever the groups of the caller: where the first grant above the inode
-/// and those before it are for every user, and the inode is not the root. Else the whole verdict has to be asked for.
+/// Tells the answer of a block, whatever the groups of the caller, where that is soon seen: where the grants up to the first that
+/// allows, or all where none does, are for everybody. Else 0, and the whole verdict has to be asked for.
 #[inline(always)]
-#[tactic(auto, using(crate::proofs::Filled::said_of_text))]
-pub(crate) fn allowing(block: &Block, text: &[u8], path: &[u8], question: &Question) -> Option<u32>
-    ensures { IfSome result (λ grant. IsAllowedFor block.now text.now path.now question.now grant) }
+pub(crate) fn soon(
+    block: &Block,
+    text: &[u8],
+    path: &[u8],
+    question: &Question,
+    answer: &mut Answer,
+) -> u32
+    ensures { TellsSoon block.now text.now path.now question.now answer.old answer.new result }
 {
-    if path.len() < 2 || !is_plain(path) || !is_block(block, text) {
-        return None;
+    if !is_block(block, text) {
+        return 0;
     }
-    let grant = first_for_all(block, text, path, question)?;
-    Some(grant)
+    if is_first_for_one(block) {
+        return 0;
+    }
+    match soon_plain(path) {
+        Some(bare) => soon_of(block, text, bare, question, answer),
+        None => 0,
+    }
+}
+
+/// Whether the first grant is for one caller, so that it isn't seen soon what it allows.
+#[inline(always)]
+pub(crate) fn is_first_for_one(block: &Block) -> bool {
+    block.entries[0].has_uid != 0
+}
+
+/// Whether there is one grant alone, for every file system, as most clients have it.
+#[inline(always)]
+pub(crate) fn is_one_for_all_fs(block: &Block) -> bool
+    ensures { IsTrue result → block.now.count ≡ 1 }
+{
+    block.count == 1 && block.entries[0].fs_len == 0
 }
 
 /// What the grants of a block say to a question.
@@ -48,10 +74,10 @@ pub(crate) fn judge_by(
     if groups.len() > 16 {
         return Err(Trouble::Groups);
     }
-    if !is_plain(path) {
-        return judge_other(alloc, block, text, path, groups, question);
+    match plain(path) {
+        Some(bare) => judge_plain(block, text, bare, groups, question),
+        None => judge_other(alloc, block, text, path, groups, question),
     }
-    judge_plain(block, text, path, groups, question)
 }
 
 // The same for a path in any form.
@@ -70,36 +96,98 @@ fn judge_other(
     ensures { IsSaid block.now text.now path.now groups.now question.now result }
 {
     match TreePath::read(alloc, path) {
-        Ok(Some(path)) => judge_plain(block, text, path.as_bytes(), groups, question),
+        Ok(Some(path)) => judge_plain(block, text, bare_text(&path), groups, question),
         Ok(None) => Err(Trouble::Path),
         Err(AllocError) => Err(Trouble::Memory),
     }
 }
 
-// The number of the first grant above an inode, where it is for everybody and allows the access.
+/// The text of a path that was read, without the slash in front.
+#[tactic(auto, using(crate::proofs::Filled::names_of_read))]
+pub(crate) fn bare_text(path: &TreePath) -> &[u8]
+    ensures { (bytes : List ℕ) → path.now ≡ names_of bytes → bare_names result.now ≡ path.now }
+{
+    split_front(path.as_bytes(), 1).1
+}
+
+// The same for a path without a slash in front.
 #[inline(always)]
-#[tactic(auto, using(capgrant::proofs::Verdicts::allowed_at))]
-fn first_for_all(block: &Block, text: &[u8], path: &[u8], question: &Question) -> Option<u32>
+fn soon_of(block: &Block, text: &[u8], path: &[u8], question: &Question, answer: &mut Answer) -> u32
     requires { IsBlock block.now text.now }
-    ensures { IfSome result (λ grant. (groups : List ℕ) → IsVerdictOf block.now text.now (path_names path.now) groups question.now (Allowed grant)) }
+    ensures { Tells (IsSoonOf block.now text.now (bare_names path.now) question.now) answer.old answer.new result }
+{
+    if !is_one_for_all_fs(block) {
+        return soon_of_many(block, text, path, question, answer);
+    }
+    match soon_of_one(block, text, path, question) {
+        Some(rule) => tell_alone(rule, answer),
+        None => 0,
+    }
+}
+
+// The same of one grant: the number of the rule that it fails by, or 0 where it allows.
+#[inline(always)]
+fn soon_of_one(block: &Block, text: &[u8], path: &[u8], question: &Question) -> Option<u8>
+    requires whole { IsBlock block.now text.now }
+    requires one { block.now.count ≡ 1 }
+    ensures { IfSome result (λ rule. IsSoonOf block.now text.now (bare_names path.now) question.now (alone rule)) }
 {
     let mode = read_mode(question.mode)?;
     let access = read_access(question.access, question.number)?;
     let (fs, rest) = split_front(text, block.fs_len as usize);
-    let case = Case {
+    let case = case_of(fs, path, &[], question, mode, access);
+    let rule = case.soon_alone(&block.entries[..block.count as usize], rest)?;
+    Some(rule)
+}
+
+// The same of any number of grants, apart from that of one, which takes fewer registers.
+#[inline(never)]
+fn soon_of_many(
+    block: &Block,
+    text: &[u8],
+    path: &[u8],
+    question: &Question,
+    answer: &mut Answer,
+) -> u32
+    requires { IsBlock block.now text.now }
+    ensures { Tells (IsSoonOf block.now text.now (bare_names path.now) question.now) answer.old answer.new result }
+{
+    let Some(mode) = read_mode(question.mode) else {
+        return 0;
+    };
+    let Some(access) = read_access(question.access, question.number) else {
+        return 0;
+    };
+    let (fs, rest) = split_front(text, block.fs_len as usize);
+    let case = case_of(fs, path, &[], question, mode, access);
+    case.soon(&block.entries[..block.count as usize], rest, answer)
+}
+
+// What is asked of each grant.
+#[inline(always)]
+fn case_of<'a>(
+    fs: &'a [u8],
+    path: &'a [u8],
+    groups: &'a [u32],
+    question: &Question,
+    mode: Mode,
+    access: Access,
+) -> Case<'a>
+    ensures { result ≡ asked fs.now (record { uid = question.now.uid; gid = question.now.gid; groups = groups.now }) (bare_names path.now) (record { uid = question.now.owner; gid = question.now.group; mode = mode }) access }
+{
+    Case {
         fs,
         path,
-        groups: &[],
-        numbers: question,
+        groups,
+        uid: question.uid,
+        gid: question.gid,
         attr: Attr {
             uid: question.owner,
             gid: question.group,
             mode,
         },
         access,
-    };
-    let place = case.first_for_all(&block.entries[..block.count as usize], rest)?;
-    Some(place as u32 + 1)
+    }
 }
 
 // The same for the names of a path.
@@ -111,9 +199,8 @@ fn judge_plain(
     groups: &[u32],
     question: &Question,
 ) -> Result<Verdict, Trouble>
-    requires whole { IsBlock block.now text.now }
-    requires few { length groups.now ≤ 16 }
-    ensures { IsSaidOf block.now text.now (path_names path.now) groups.now question.now result }
+    requires { IsBlock block.now text.now }
+    ensures { IsSaidOf block.now text.now (bare_names path.now) groups.now question.now result }
 {
     let Some(mode) = read_mode(question.mode) else {
         return Err(Trouble::Mode);
@@ -122,24 +209,13 @@ fn judge_plain(
         return Err(Trouble::Access);
     };
     let (fs, rest) = split_front(text, block.fs_len as usize);
-    let case = Case {
-        fs,
-        path,
-        groups,
-        numbers: question,
-        attr: Attr {
-            uid: question.owner,
-            gid: question.group,
-            mode,
-        },
-        access,
-    };
+    let case = case_of(fs, path, groups, question, mode, access);
     Ok(verdict_of(&case, &block.entries[..block.count as usize], rest))
 }
 
-// Whether a block is one of this version, and its text is whole.
+/// Whether a block is one of this version, and its text is whole.
 #[inline(always)]
-fn is_block(block: &Block, text: &[u8]) -> bool
+pub(crate) fn is_block(block: &Block, text: &[u8]) -> bool
     ensures { IsTrue result ↔ IsBlock block.now text.now }
 {
     block.version == BLOCK_VERSION && block.count <= 16 && block.text_len as usize <= text.len()

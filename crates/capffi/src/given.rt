@@ -1,8 +1,8 @@
 //! A grant as it stands in a block.
-ghost use Rattle.std.specs.Prelude.{◌≡◌, ◌==◌, ◌↔◌, not, ◌+◌, ◌*◌, ◌<◌, ◌≤◌, IsTrue, length, slice_index, take, drop};
-ghost use Rattle.std.specs.List.{starts_with, slice_split};
+ghost use Rattle.std.specs.Prelude.{◌≡◌, ◌==◌, ◌↔◌, not, ◌&&◌, ◌+◌, ◌*◌, ◌<◌, ◌≤◌, IsTrue, length, slice_index, take, drop};
+ghost use Rattle.std.specs.List.{starts_with};
 ghost use Rattle.std.specs.Str.{bytes_eq};
-ghost use Rattle.capffi.specs.Blocks.{path_names, grant_of, path_in, fs_in, behind};
+ghost use Rattle.capffi.specs.Blocks.{bare_names, path_names, grant_of, path_in, fs_in, behind};
 
 use crate::block::Entry;
 use std::marker::Model;
@@ -49,7 +49,7 @@ impl Given<'_> {
     ghost use Rattle.std.specs.List.{starts_with};
     ghost use Rattle.capwords.specs.Flags.{has_w, has_p, has_s};
     ghost use Rattle.capgrant.specs.Failing.{is_some_and};
-    ghost use Rattle.capffi.specs.Blocks.{path_names};
+    ghost use Rattle.capffi.specs.Blocks.{bare_names};
 
     /// Whether it is for every caller, and lists no groups.
     pub(crate) fn is_for_all(&self) -> bool
@@ -89,10 +89,10 @@ impl Given<'_> {
         &gids[..(self.entry.gid_count as usize).min(gids.len())]
     }
 
-    /// Whether a path's text leads to its directory, or below it.
+    /// Whether a path, without a slash in front, leads to its directory, or below it.
     #[inline(always)]
     pub(crate) fn is_above(&self, path: &[u8]) -> bool
-        ensures { result ≡ starts_with bytes_eq (path_names path.now) self.now.path }
+        ensures { result ≡ starts_with bytes_eq (bare_names path.now) self.now.path }
     {
         leads(self.path, path)
     }
@@ -137,25 +137,24 @@ fn are_apart(one: &[u8], other: &[u8]) -> bool
     one != other
 }
 
-// Whether the directory of one text is that of the other, or lies above it. What stands in front of each is its first slash.
+// Whether a directory, whose text has a slash in front, is that of a path, whose text has none, or lies above it.
 #[inline(always)]
+#[tactic(auto, using(crate::proofs::Leads::root_above))]
 fn leads(dir: &[u8], path: &[u8]) -> bool
-    ensures { result ≡ starts_with bytes_eq (path_names path.now) (path_names dir.now) }
+    ensures { result ≡ starts_with bytes_eq (bare_names path.now) (path_names dir.now) }
 {
-    let Some((_, dir)) = dir.split_first() else {
+    if dir.len() < 2 {
         return true;
-    };
-    let Some((_, path)) = path.split_first() else {
-        return false;
-    };
-    is_front(dir, path)
+    }
+    is_front(&dir[1..], path)
 }
 
-// Whether the names of one text, with a slash between each two, are the first of another's.
+// Whether the names of one text, with a slash between each two, are the first of another's. The root has none.
 #[inline(always)]
 #[tactic(auto, using(crate::proofs::Leads::begin_past, crate::proofs::Leads::begin_slash, crate::proofs::Leads::begin_other))]
 fn is_front(dir: &[u8], path: &[u8]) -> bool
-    ensures { result ≡ starts_with bytes_eq (slice_split (λ b. b == 47) path.now) (slice_split (λ b. b == 47) dir.now) }
+    requires { 0 < length dir.now }
+    ensures { result ≡ starts_with bytes_eq (bare_names path.now) (bare_names dir.now) }
 {
     if path.len() <= dir.len() {
         return are_equal(dir, path);
@@ -187,31 +186,101 @@ fn are_equal(one: &[u8], other: &[u8]) -> bool
     is_same(one, other)
 }
 
-// Whether two texts of one length are the same. Their last bytes, by which paths mostly differ, are compared first.
+// Whether two texts of one length are the same: by two pieces, which may share bytes, or byte by byte where they are very short or
+// very long. No call is made, so that what is asked of most keeps all in registers.
 #[inline(always)]
-#[tactic(auto, using(crate::proofs::Leads::same_is))]
 fn is_same(one: &[u8], other: &[u8]) -> bool
     requires { length one.now ≡ length other.now }
+    ensures { result ≡ bytes_eq one.now other.now }
+{
+    let len = other.len();
+    if len <= 16 {
+        return is_same_of_few(one, other);
+    }
+    if len <= 32 {
+        return is_same_at_ends(one, other, 16);
+    }
+    if len <= 64 {
+        return is_same_at_ends(one, other, 32);
+    }
+    if len <= 128 {
+        return is_same_at_ends(one, other, 64);
+    }
+    is_same_bytewise(one, other)
+}
+
+// The same of at most 16 bytes.
+#[inline(always)]
+fn is_same_of_few(one: &[u8], other: &[u8]) -> bool
+    requires same { length one.now ≡ length other.now }
+    requires few { length other.now ≤ 16 }
+    ensures { result ≡ bytes_eq one.now other.now }
+{
+    match other.len() {
+        2..=4 => is_same_by_pairs(one, other),
+        5..=8 => is_same_at_ends(one, other, 4),
+        9..=16 => is_same_at_ends(one, other, 8),
+        _ => is_same_bytewise(one, other),
+    }
+}
+
+// The same byte by byte.
+#[inline(always)]
+#[tactic(auto, using(crate::proofs::Leads::all_bytes))]
+fn is_same_bytewise(one: &[u8], other: &[u8]) -> bool
+    requires { length one.now ≡ length other.now }
+    ensures { result ≡ bytes_eq one.now other.now }
+{
+    is_same_from(one, other, 0, other.len())
+}
+
+// The same by a piece at each end. The last bytes, by which paths mostly differ, are compared first.
+#[inline(always)]
+fn is_same_at_ends(one: &[u8], other: &[u8], piece: usize) -> bool
+    requires same { length one.now ≡ length other.now }
+    requires within { piece ≤ length other.now }
+    requires whole { length other.now ≤ piece + piece }
+    ensures { result ≡ bytes_eq one.now other.now }
+{
+    is_same_from(one, other, other.len() - piece, piece) && is_same_from(one, other, 0, piece)
+}
+
+// Whether a piece of two texts is the same. There is no way out of the loop, so that it is compiled into a few comparisons of many
+// bytes at once.
+#[inline(always)]
+fn is_same_from(one: &[u8], other: &[u8], start: usize, piece: usize) -> bool
+    requires same { length one.now ≡ length other.now }
+    requires within { start + piece ≤ length other.now }
+    ensures { (result && bytes_eq (drop (start + piece) one.now) (drop (start + piece) other.now)) ≡ bytes_eq (drop start one.now) (drop start other.now) }
+{
+    let mut is_same = true;
+    for step in 0..piece {
+        is_same &= one[start + step] == other[start + step];
+    }
+    is_same
+}
+
+// The same of two to four bytes, as two pairs, which may share bytes.
+#[inline(always)]
+#[tactic(auto, using(crate::proofs::Leads::same_is))]
+fn is_same_by_pairs(one: &[u8], other: &[u8]) -> bool
+    requires same { length one.now ≡ length other.now }
+    requires more { 2 ≤ length other.now }
+    requires few { length other.now ≤ 4 }
     ensures { result ≡ bytes_eq one.now other.now }
 {
     are_same(one, other)
 }
 
-// The same. Two to four bytes are compared as two pairs, which may share bytes.
 #[inline(always)]
 #[tactic(auto, using(capwords::proofs::Pairs::same_by_pairs))]
 fn are_same(one: &[u8], other: &[u8]) -> bool
-    requires { length one.now ≡ length other.now }
+    requires same { length one.now ≡ length other.now }
+    requires more { 2 ≤ length other.now }
+    requires few { length other.now ≤ 4 }
     ensures { IsTrue result ↔ (one.now ≡ other.now) }
 {
-    let len = other.len();
-    if len < 2 {
-        return one == other;
-    }
-    if len <= 4 {
-        return is_same_pair(one, other, 0) && is_same_pair(one, other, len - 2);
-    }
-    is_same_pair(one, other, len - 2) && one == other
+    is_same_pair(one, other, 0) && is_same_pair(one, other, other.len() - 2)
 }
 
 // Whether two bytes from a place on are the same.

@@ -9,11 +9,12 @@ ghost use Rattle.capgrant.specs.Question.{contains, listed_gids, is_owner, class
 ghost use Rattle.capgrant.specs.Rule.{attr_rules};
 ghost use Rattle.capgrant.specs.Verdict.{allows, first_failures, verdict_of};
 ghost use Rattle.capffi.specs.Blocks.{grants_in};
-ghost use Rattle.capffi.specs.ByBlock.{with_groups};
+ghost use Rattle.capffi.specs.Answering.{answer_of};
+ghost use Rattle.capffi.specs.ByBlock.{Tells, alone, open_rules, with_groups};
 
 use crate::block::{Entry, MAX_ENTRIES};
 use crate::given::{Given, split_grant};
-use crate::passed::Question;
+use crate::passed::Answer;
 use arrayvec::ArrayVec;
 use capgrant::{Access, Attr, Rule, Rules, Verdict};
 use std::marker::Model;
@@ -23,12 +24,13 @@ use std::marker::Model;
 pub(crate) struct Case<'a> {
     /// The name of the file system.
     pub(crate) fs: &'a [u8],
-    /// The path as a text, with a slash before each name.
+    /// The path as a text, with a slash between each two names.
     pub(crate) path: &'a [u8],
     /// The groups of the caller besides its first.
     pub(crate) groups: &'a [u32],
-    /// The numbers of the question.
-    pub(crate) numbers: &'a Question,
+    /// The uid and the first gid of the caller.
+    pub(crate) uid: u32,
+    pub(crate) gid: u32,
     /// The inode's owner, group and mode.
     pub(crate) attr: Attr,
     /// The access.
@@ -37,11 +39,11 @@ pub(crate) struct Case<'a> {
 
 impl<'a> Model for Case<'a> {
     ghost use Rattle.capgrant.specs.Question.{Question as Asked, question};
-    ghost use Rattle.capffi.specs.Blocks.{path_names};
+    ghost use Rattle.capffi.specs.Blocks.{bare_names};
 
     ghost Value = { Asked };
 
-    ghost view = { λ c. question c.fs.now (record { uid = c.numbers.now.uid; gid = c.numbers.now.gid; groups = c.groups.now }) (path_names c.path.now) c.attr c.access };
+    ghost view = { λ c. question c.fs.now (record { uid = c.uid; gid = c.gid; groups = c.groups.now }) (bare_names c.path.now) c.attr c.access };
 }
 
 /// The verdict of the grants of some entries.
@@ -71,54 +73,74 @@ fn denial(case: &Case, entries: &[Entry], text: &[u8]) -> Verdict
 }
 
 impl Case<'_> {
-    /// The place of the first grant above the inode, where it and those before it are for everybody, and it allows the access. The
-    /// caller's groups don't matter then.
+    /// Tells the answer, whatever the caller's groups, where that is soon seen: where the grants up to the first that allows, or all
+    /// where none does, are for everybody.
     #[inline(always)]
-    pub(crate) fn first_for_all(&self, entries: &[Entry], text: &[u8]) -> Option<usize>
-        ensures within { IfSome result (λ place. place < length entries.now) }
-        ensures exact { IfSome result (λ place. (groups : List ℕ) → Some place ≡ position (allows (with_groups self.now groups)) (grants_in entries.now text.now)) }
+    pub(crate) fn soon(&self, entries: &[Entry], text: &[u8], answer: &mut Answer) -> u32
+        requires { length entries.now ≤ 16 }
+        ensures { Tells (λ told. (groups : List ℕ) → told ≡ answer_of (verdict_of (with_groups self.now groups) (grants_in entries.now text.now))) answer.old answer.new result }
     {
+        let mut rules = [0; MAX_ENTRIES];
         let mut rest = text;
         for (place, entry) in entries.iter().enumerate() {
             let (grant, behind) = split_grant(entry, rest);
-            if grant.has_uid() {
-                return None;
+            if !grant.is_for_all() {
+                return 0;
             }
-            if self.may_allow(&grant) {
-                return if self.lets_all(&grant) {
-                    Some(place)
-                } else {
-                    None
-                };
-            }
+            let Some(rule) = self.first_failing_openly(&grant) else {
+                return place as u32 + 1;
+            };
+            rules[place] = rule.number();
             rest = behind;
         }
+        *answer = Answer {
+            grant: 0,
+            count: entries.len() as u32,
+            rules,
+        };
+        17
+    }
+
+    /// The same of a grant that is alone: the number of the rule that it fails by, or 0 where it allows.
+    #[inline(always)]
+    pub(crate) fn soon_alone(&self, entries: &[Entry], text: &[u8]) -> Option<u8>
+        requires { length entries.now ≡ 1 }
+        ensures { IfSome result (λ rule. (groups : List ℕ) → alone rule ≡ answer_of (verdict_of (with_groups self.now groups) (grants_in entries.now text.now))) }
+    {
+        let (grant, _) = split_grant(&entries[0], text);
+        if !grant.is_for_all() {
+            return None;
+        }
+        match self.first_failing_openly(&grant) {
+            Some(rule) => Some(rule.number()),
+            None => Some(0),
+        }
+    }
+
+    // The first rule by which a grant fails that is for everybody, if it does not allow the access.
+    #[inline(always)]
+    fn first_failing_openly(&self, grant: &Given) -> Option<Rule>
+        ensures { result ≡ find (λ r. fails r self.now grant.now) open_rules }
+    {
+        if self.fails_fsname(grant) {
+            return Some(Rule::FsName);
+        }
+        if !self.is_below(grant) {
+            return Some(Rule::Path);
+        }
+        if self.fails_no_write(grant) {
+            return Some(Rule::NoWrite);
+        }
+        if self.fails_root_squash(grant) {
+            return Some(Rule::RootSquash);
+        }
+        if self.fails_no_p(grant) {
+            return Some(Rule::NoP);
+        }
+        if self.fails_no_s(grant) {
+            return Some(Rule::NoS);
+        }
         None
-    }
-
-    // Whether the inode lies at or below the grant's path. A grant where it doesn't allows nothing.
-    #[inline(always)]
-    #[tactic(auto, using(crate::proofs::Entries::no_grant_beside_any))]
-    fn may_allow(&self, grant: &Given) -> bool
-        ensures below { result ≡ not (fails_path self.now grant.now) }
-        ensures beside { IsFalse result → (groups : List ℕ) → allows (with_groups self.now groups) grant.now ≡ false }
-    {
-        self.is_below(grant)
-    }
-
-    // Whether a grant above the inode is for everybody, and lets them make the access.
-    #[inline(always)]
-    #[tactic(auto, using(crate::proofs::Entries::grant_for_any))]
-    fn lets_all(&self, grant: &Given) -> bool
-        requires { fails_path self.now grant.now ≡ false }
-        ensures { IsTrue result → (groups : List ℕ) → allows (with_groups self.now groups) grant.now ≡ true }
-    {
-        grant.is_for_all()
-            && !self.fails_no_write(grant)
-            && !self.fails_root_squash(grant)
-            && !self.fails_no_p(grant)
-            && !self.fails_no_s(grant)
-            && !self.fails_fsname(grant)
     }
 
     /// The place of the first grant that allows the access.
@@ -223,7 +245,7 @@ impl Case<'_> {
     fn fails_uid(&self, grant: &Given) -> bool
         ensures { result ≡ fails_uid self.now grant.now }
     {
-        grant.is_for_other_uid(self.numbers.uid)
+        grant.is_for_other_uid(self.uid)
     }
 
     #[inline(never)]
@@ -232,8 +254,7 @@ impl Case<'_> {
         ensures { result ≡ fails_gids self.now grant.now }
     {
         let listed = grant.gids();
-        !listed.is_empty()
-            && !(listed.contains(&self.numbers.gid) || contains_any(listed, self.groups))
+        !listed.is_empty() && !(listed.contains(&self.gid) || contains_any(listed, self.groups))
     }
 
     // Whether the inode lies at or below the grant's path.
@@ -256,7 +277,7 @@ impl Case<'_> {
     fn fails_root_squash(&self, grant: &Given) -> bool
         ensures { result ≡ fails_root_squash self.now grant.now }
     {
-        !self.is_read() && grant.root_squash() && (self.numbers.uid == 0 || self.numbers.gid == 0)
+        !self.is_read() && grant.root_squash() && (self.uid == 0 || self.gid == 0)
     }
 
     #[tactic(auto, unfolding(capgrant::specs::Failing::fails_no_p))]
@@ -279,7 +300,7 @@ impl Case<'_> {
     {
         let is_refused = match self.access {
             Access::Chmod | Access::Chgrp(_) => !self.is_owner(),
-            Access::Chown(uid) => !self.is_owner() || uid != self.numbers.uid,
+            Access::Chown(uid) => !self.is_owner() || uid != self.uid,
             Access::Read | Access::Write | Access::SetVxattr | Access::Snapshot => false,
         };
         grant.has_uid() && is_refused
@@ -332,7 +353,7 @@ impl Case<'_> {
     fn is_owner(&self) -> bool
         ensures { result ≡ is_owner self.now }
     {
-        self.numbers.uid == self.attr.uid
+        self.uid == self.attr.uid
     }
 
     // Whether this is one of the caller's gids that the grant lists.
@@ -340,7 +361,7 @@ impl Case<'_> {
     fn is_listed_gid(&self, grant: &Given, gid: u32) -> bool
         ensures { result ≡ contains (listed_gids self.now.caller grant.now) gid }
     {
-        grant.gids().contains(&gid) && (self.numbers.gid == gid || self.groups.contains(&gid))
+        grant.gids().contains(&gid) && (self.gid == gid || self.groups.contains(&gid))
     }
 }
 

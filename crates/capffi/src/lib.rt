@@ -9,6 +9,7 @@ mod answering;
 mod asking;
 mod block;
 mod by_block;
+mod by_mask;
 mod filling;
 mod given;
 mod judging;
@@ -18,27 +19,30 @@ mod plain;
 mod texts;
 mod trouble;
 
-ghost use Rattle.std.specs.Prelude.{◌≡◌};
+ghost use Rattle.std.specs.Prelude.{◌≡◌, ℕ, List};
+ghost use Rattle.capwords.specs.Paths.{names_of};
 ghost use Rattle.capffi.specs.Calls.{TellsVerdict, TellsPermitted, TellsCheck, TellsForm, TellsTarget, TellsVerdictBy, TellsRead, status, caps_bits};
-ghost use Rattle.capffi.specs.ByBlock.{IsAllowing};
+ghost use Rattle.capffi.specs.ByBlock.{TellsSoon};
+ghost use Rattle.capffi.specs.ByMask.{TellsMask, TellsSoonToMask};
 ghost use Rattle.capffi.specs.Locks.{allowed_by};
 
 use crate::answering::{answer_of, no_answer};
 use crate::asking::{judge, permit, read_text};
-use crate::by_block::{allowing, judge_by};
+use crate::by_block::{judge_by, soon};
+use crate::by_mask::{access_number, judge_mask, soon_mask};
 use crate::filling::{prepare, put_block};
 use crate::locks::{allowed_by, numbers_of, target_of};
 use crate::texts::{form, put};
 use crate::trouble::no_fault;
 pub use block::{BLOCK_VERSION, Block, Entry};
-pub use passed::{Answer, Fault, Lock, Question, StableState, Wants};
+pub use passed::{Answer, Check, Fault, Lock, Question, StableState, Wants};
 use std::alloc::Global;
 pub use trouble::{
     ACCESS, BLOCK, CAPS, FS, GRANTS, GROUPS, HEAD, MEMORY, MODE, OK, PART, PATH, ROOM, STATE,
 };
 
 /// The version of these calls: each that changes what a call takes or answers has a greater one.
-pub const VERSION: u32 = 2;
+pub const VERSION: u32 = 3;
 
 /// The version of these calls.
 #[unsafe(no_mangle)]
@@ -132,22 +136,20 @@ pub extern "C" fn capffi_grants_read(
     }
 }
 
-/// The number of the grant of a block that lets a caller make an access to an inode on the block's file system, whatever the caller's
-/// groups, where that is soon seen; else 0, and `capffi_verdict_by` has to be asked. It is for a server that asks often: all that it
-/// takes is passed in registers.
+/// Whether the grants of a block let a caller make an access to an inode on the block's file system, whatever the caller's groups, where
+/// that is soon seen: the number of the grant that allows, or 17, with the answer of a denial; else 0, and `capffi_verdict_by` has to be
+/// asked. It is for a server that asks often: most of what it takes is passed in registers.
 #[unsafe(no_mangle)]
-pub extern "C" fn capffi_allowing(
+pub extern "C" fn capffi_soon(
     block: &Block,
     text: &[u8],
     path: &[u8],
     question: &Question,
+    answer: &mut Answer,
 ) -> u32
-    ensures { IsAllowing block.now text.now path.now question.now result }
+    ensures { TellsSoon block.now text.now path.now question.now answer.old answer.new result }
 {
-    match allowing(block, text, path, question) {
-        Some(grant) => grant,
-        None => 0,
-    }
+    soon(block, text, path, question, answer)
 }
 
 /// Whether the grants of a block let a caller make an access to an inode on the block's file system.
@@ -161,7 +163,10 @@ pub extern "C" fn capffi_verdict_by(
     question: &Question,
     answer: &mut Answer,
 ) -> u32
-    ensures { TellsVerdictBy block.now text.now path.now groups.now question.now result answer.new }
+    ensures told { TellsVerdictBy block.now text.now path.now groups.now question.now result answer.new }
+
+    // So the path may have a slash in front or none.
+    ensures either_form { (other : List ℕ) → names_of other ≡ names_of path.now → TellsVerdictBy block.now text.now other groups.now question.now result answer.new }
 {
     match judge_by(alloc, block, text, path, groups, question) {
         Ok(said) => {
@@ -170,6 +175,51 @@ pub extern "C" fn capffi_verdict_by(
         }
         Err(trouble) => {
             *answer = no_answer();
+            trouble.status()
+        }
+    }
+}
+
+/// Whether the grants of a block let a caller do what a mask asks for, whatever the caller's groups, where that is soon seen: told as
+/// `capffi_soon` does, or 0, and `capffi_verdict_mask` has to be asked.
+#[unsafe(no_mangle)]
+pub extern "C" fn capffi_soon_mask(
+    block: &Block,
+    text: &[u8],
+    path: &[u8],
+    check: &Check,
+    answer: &mut Answer,
+) -> u32
+    ensures { TellsSoonToMask block.now text.now path.now check.now answer.old answer.new result }
+{
+    soon_mask(block, text, path, check, answer)
+}
+
+/// Whether the grants of a block let a caller, who may have any number of groups, do all that a mask asks for. `access` is the number of
+/// the access that the answer is to: the first that is denied, or else the last.
+#[unsafe(no_mangle)]
+pub extern "C" fn capffi_verdict_mask(
+    alloc: Global,
+    block: &Block,
+    text: &[u8],
+    path: &[u8],
+    groups: &[u32],
+    check: &Check,
+    answer: &mut Answer,
+    access: &mut u32,
+) -> u32
+    ensures told { TellsMask block.now text.now path.now groups.now check.now result answer.new access.new }
+    ensures either_form { (other : List ℕ) → names_of other ≡ names_of path.now → TellsMask block.now text.now other groups.now check.now result answer.new access.new }
+{
+    match judge_mask(alloc, block, text, path, groups, check) {
+        Ok(told) => {
+            *answer = answer_of(&told.verdict);
+            *access = access_number(told.access);
+            OK
+        }
+        Err(trouble) => {
+            *answer = no_answer();
+            *access = 0;
             trouble.status()
         }
     }

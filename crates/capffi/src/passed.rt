@@ -21,6 +21,29 @@ pub struct Question {
     pub number: u32,
 }
 
+/// Who asks for what by the mask of a server, and whose the inode is. The texts and the groups are passed beside it.
+#[derive(Drop)]
+#[repr(C)]
+pub struct Check {
+    /// The caller's uid.
+    pub uid: u32,
+    /// The caller's gid.
+    pub gid: u32,
+    /// The uid of the inode's owner.
+    pub owner: u32,
+    /// The gid of the inode's group.
+    pub group: u32,
+    /// The inode's mode. Its last twelve bits are the permission bits; those in front, as the inode's kind, have no part in the answer.
+    pub mode: u32,
+    /// What is asked for, as a sum: 1 to read, 2 to write, 16 to change the owner, 32 to change the group, 64 to set a `ceph.`
+    /// attribute, 128 to make or remove a snapshot.
+    pub mask: u32,
+    /// The new owner of 16. Without meaning for others.
+    pub new_uid: u32,
+    /// The new group of 32. Without meaning for others.
+    pub new_gid: u32,
+}
+
 /// What the grants say to a question.
 #[derive(Drop)]
 #[repr(C)]

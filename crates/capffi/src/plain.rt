@@ -1,37 +1,126 @@
 //! Paths whose text needs no other form.
-ghost use Rattle.std.specs.Prelude.{◌≡◌, ◌<◌, ◌+◌, ◌-◌, ◌||◌, IsTrue, length, drop};
-ghost use Rattle.capwords.specs.Paths.{names_of, slashed, has_double_slash, are_few_and_short};
+ghost use Rattle.std.specs.Prelude.{◌≡◌, ◌≢◌, ◌==◌, ◌<◌, ◌≤◌, ◌+◌, ◌-◌, ◌||◌, false, count_by, IfSome, IsTrue, length, slice_index, drop};
+ghost use Rattle.capwords.specs.Paths.{names_of, has_double_slash, are_few_and_short};
+ghost use Rattle.capffi.specs.Blocks.{bare_names};
 
-// How many bytes of a path are looked at together.
-const PIECE: usize = 16;
+// How many bytes of a long path are looked at together.
+const LONG_PIECE: usize = 64;
 
-/// Whether a path's text is its names with a slash before each, and is too short for too many or too long ones. Another is read.
+// How many names a path may have, and how many bytes a name.
+const MAX_NAMES: usize = 32;
+
+const MAX_NAME: usize = 255;
+
+/// The text of a path without the slash in front, where its names stand between single slashes, and are neither too many nor too
+/// long. Another path has to be read.
 #[inline(always)]
-pub(crate) fn is_plain(path: &[u8]) -> bool
-    ensures slashed { IsTrue result → path.now ≡ slashed (names_of path.now) }
-    ensures fit { IsTrue result → IsTrue (are_few_and_short (names_of path.now)) }
+pub(crate) fn plain(path: &[u8]) -> Option<&[u8]>
+    ensures { IfSome result (λ bare. (bare_names bare.now ≡ names_of path.now) × IsTrue (are_few_and_short (names_of path.now))) }
 {
-    is_short(path) && is_slashed(path)
+    let bare = without_slash(path);
+    if is_plain(bare) { Some(bare) } else { None }
 }
 
-// Whether a path's text is its names with a slash before each.
+/// The same, but for those paths of which this is not soon seen: of 64 bytes, of more than 129, and of 31 names and more.
 #[inline(always)]
-#[tactic(auto, using(capspec::proofs::OneText::is_as_it_stands))]
-fn is_slashed(path: &[u8]) -> bool
-    ensures { IsTrue result → path.now ≡ slashed (names_of path.now) }
+pub(crate) fn soon_plain(path: &[u8]) -> Option<&[u8]>
+    ensures { IfSome result (λ bare. (bare_names bare.now ≡ names_of path.now) × IsTrue (are_few_and_short (names_of path.now))) }
 {
-    path.is_empty() || (path[0] == b'/' && path[path.len() - 1] != b'/' && !has_double_slash(path))
+    let bare = without_slash(path);
+    if is_soon_plain(bare) {
+        Some(bare)
+    } else {
+        None
+    }
+}
+
+// The text of a path without the slash in front. A second one there stays.
+#[inline(always)]
+#[tactic(auto, using(crate::proofs::Bare::names_behind))]
+fn without_slash(path: &[u8]) -> &[u8]
+    ensures { names_of result.now ≡ names_of path.now }
+{
+    if !path.is_empty() && path[0] == b'/' {
+        &path[1..]
+    } else {
+        path
+    }
+}
+
+// Whether the names of a path stand between its slashes, and are neither too many nor too long.
+#[inline(always)]
+fn is_plain(bare: &[u8]) -> bool
+    ensures names { IsTrue result → bare_names bare.now ≡ names_of bare.now }
+    ensures fit { IsTrue result → IsTrue (are_few_and_short (names_of bare.now)) }
+{
+    if bare.len() <= LONG_PIECE {
+        is_parted(bare) && has_few_names(bare)
+    } else {
+        is_long_plain(bare)
+    }
+}
+
+// The same, where it is soon seen.
+#[inline(always)]
+fn is_soon_plain(bare: &[u8]) -> bool
+    ensures names { IsTrue result → bare_names bare.now ≡ names_of bare.now }
+    ensures fit { IsTrue result → IsTrue (are_few_and_short (names_of bare.now)) }
+{
+    if is_short(bare) {
+        return is_parted(bare);
+    }
+    bare.len() > 64 && bare.len() <= 129 && is_plain_at_ends(bare)
+}
+
+// The same of a path that two pieces cover.
+#[inline(always)]
+#[tactic(auto, using(crate::proofs::Bare::parted, crate::proofs::Bare::few_parts))]
+fn is_plain_at_ends(bare: &[u8]) -> bool
+    requires more { 64 < length bare.now }
+    requires few { length bare.now ≤ 129 }
+    ensures names { IsTrue result → bare_names bare.now ≡ names_of bare.now }
+    ensures fit { IsTrue result → IsTrue (are_few_and_short (names_of bare.now)) }
+{
+    let (is_found, slashes) = look_at_ends(bare);
+    if is_found || bare[0] == b'/' || bare[bare.len() - 1] == b'/' {
+        return false;
+    }
+    slashes < 31
+}
+
+// Whether two slashes stand side by side, and how many there are at most, but for the last byte.
+#[inline(always)]
+fn look_at_ends(path: &[u8]) -> (bool, u8)
+    requires more { 64 < length path.now }
+    requires few { length path.now ≤ 129 }
+    ensures lone { result.0 ≡ has_double_slash path.now }
+    ensures count { count_by (λ b. b == 47) path.now ≤ result.1 + 1 }
+{
+    let (in_front, first) = look_from(path, 0);
+    let (at_back, last) = look_from(path, path.len() - 1 - LONG_PIECE);
+    (in_front | at_back, first + last)
+}
+
+// Whether the names of a path stand between its slashes.
+#[inline(always)]
+#[tactic(auto, using(crate::proofs::Bare::no_bytes, crate::proofs::Bare::parted))]
+fn is_parted(bare: &[u8]) -> bool
+    requires { length bare.now ≤ 64 }
+    ensures { IsTrue result → bare_names bare.now ≡ names_of bare.now }
+{
+    bare.is_empty() || (bare[0] != b'/' && bare[bare.len() - 1] != b'/' && !has_double_slash(bare))
 }
 
 // Whether two slashes stand side by side.
 #[inline(always)]
 fn has_double_slash(path: &[u8]) -> bool
+    requires { length path.now ≤ 64 }
     ensures { result ≡ has_double_slash path.now }
 {
-    if path.len() <= PIECE {
-        has_double_slash_in_few(path)
-    } else {
-        has_double_slash_in_many(path)
+    match path.len() {
+        0..=16 => has_double_slash_in_few(path),
+        17..=32 => has_double_slash_at_ends(path, 16),
+        _ => has_double_slash_at_ends(path, 32),
     }
 }
 
@@ -73,29 +162,26 @@ fn is_double_slash(path: &[u8], place: usize) -> bool
     path[place - 1] == b'/' && path[place] == b'/'
 }
 
-// The same, piece by piece. The last may have places in common with the one before it.
+// The same by a piece at each end. They may have places in common.
 #[inline(always)]
-fn has_double_slash_in_many(path: &[u8]) -> bool
-    requires { 16 < length path.now }
+fn has_double_slash_at_ends(path: &[u8], piece: usize) -> bool
+    requires within { piece < length path.now }
+    requires whole { length path.now ≤ piece + piece + 1 }
     ensures { result ≡ has_double_slash path.now }
 {
-    for piece in 0..(path.len() - 1) / PIECE {
-        if has_double_slash_from(path, PIECE * piece) {
-            return true;
-        }
-    }
-    has_double_slash_from(path, path.len() - 1 - PIECE)
+    let in_front = has_double_slash_from(path, 0, piece);
+    in_front | has_double_slash_from(path, path.len() - 1 - piece, piece)
 }
 
 // Whether one of the slashes of a piece stands before another. There is no way out of the loop, so that it is compiled into a few
 // comparisons of many bytes at once.
 #[inline(always)]
-fn has_double_slash_from(path: &[u8], start: usize) -> bool
-    requires { start + 16 < length path.now }
-    ensures { (result || has_double_slash (drop (start + 16) path.now)) ≡ has_double_slash (drop start path.now) }
+fn has_double_slash_from(path: &[u8], start: usize, piece: usize) -> bool
+    requires { start + piece < length path.now }
+    ensures { (result || has_double_slash (drop (start + piece) path.now)) ≡ has_double_slash (drop start path.now) }
 {
     let mut is_found = false;
-    for step in 0..PIECE {
+    for step in 0..piece {
         let (here, behind) = (path[start + step] == b'/', path[start + step + 1] == b'/');
         is_found |= here & behind;
     }
@@ -104,7 +190,135 @@ fn has_double_slash_from(path: &[u8], start: usize) -> bool
 
 // Whether a text is too short to have too many names, as each has a slash beside it, or too long a name.
 fn is_short(path: &[u8]) -> bool
-    ensures { IsTrue result → IsTrue (are_few_and_short (names_of path.now)) }
+    ensures fit { IsTrue result → IsTrue (are_few_and_short (names_of path.now)) }
+    ensures less { IsTrue result → length path.now ≤ 64 }
 {
     path.len() < 64
+}
+
+// Whether a text of one piece has neither too many nor too long names.
+#[inline(always)]
+#[tactic(auto, using(crate::proofs::Bare::few_parts))]
+fn has_few_names(bare: &[u8]) -> bool
+    requires { length bare.now ≤ 64 }
+    ensures { IsTrue result → IsTrue (are_few_and_short (names_of bare.now)) }
+{
+    if is_short(bare) {
+        return true;
+    }
+    if bare.is_empty() || bare[0] == b'/' {
+        return false;
+    }
+    usize::from(count_slashes(bare)) < MAX_NAMES
+}
+
+// The same as `is_plain`, of a path that is too long for its length to tell how many names it has.
+#[inline(always)]
+#[tactic(auto, using(crate::proofs::Bare::parted))]
+fn is_long_plain(bare: &[u8]) -> bool
+    requires { 64 < length bare.now }
+    ensures names { IsTrue result → bare_names bare.now ≡ names_of bare.now }
+    ensures fit { IsTrue result → IsTrue (are_few_and_short (names_of bare.now)) }
+{
+    if bare[0] == b'/' || bare[bare.len() - 1] == b'/' {
+        return false;
+    }
+    match count_lone_slashes(bare) {
+        Some(count) => is_in_few_parts(bare, count) || has_fit_names(bare),
+        None => false,
+    }
+}
+
+// Whether a text has no room for too long a name, and no slashes between too many. At most `count` and one more were seen, of which
+// some may have been counted twice.
+#[inline(always)]
+#[tactic(auto, using(crate::proofs::Bare::few_parts))]
+fn is_in_few_parts(bare: &[u8], count: usize) -> bool
+    requires first { slice_index bare.now 0 ≢ 47 }
+    requires count { count_by (λ b. b == 47) bare.now ≤ count + 1 }
+    ensures { IsTrue result → IsTrue (are_few_and_short (names_of bare.now)) }
+{
+    bare.len() <= MAX_NAME
+        && (count < MAX_NAMES - 1 || usize::from(count_slashes(bare)) < MAX_NAMES)
+}
+
+// How many slashes a text has. The count is a byte, so that many bytes at once are counted.
+#[inline(never)]
+fn count_slashes(text: &[u8]) -> u8
+    requires { length text.now ≤ 255 }
+    ensures { result ≡ count_by (λ b. b == 47) text.now }
+{
+    let mut slashes = 0;
+    for byte in text {
+        slashes += u8::from(*byte == b'/');
+    }
+    slashes
+}
+
+// How many slashes a long path has at most, but for its last byte, where no two stand side by side.
+#[inline(always)]
+fn count_lone_slashes(path: &[u8]) -> Option<usize>
+    requires { 64 < length path.now }
+    ensures { IfSome result (λ count. (has_double_slash path.now ≡ false) × (count_by (λ b. b == 47) path.now ≤ count + 1)) }
+{
+    let mut count = 0;
+    for piece in 0..(path.len() - 1) / LONG_PIECE {
+        let (is_found, slashes) = look_from(path, LONG_PIECE * piece);
+        if is_found {
+            return None;
+        }
+        count += usize::from(slashes);
+    }
+    let (is_found, slashes) = look_from(path, path.len() - 1 - LONG_PIECE);
+    if is_found {
+        return None;
+    }
+    Some(count + usize::from(slashes))
+}
+
+// Whether one of the slashes of a piece of a long path stands before another, and how many there are.
+#[inline(always)]
+#[tactic(auto, using(crate::proofs::Slashes::count_more))]
+fn look_from(path: &[u8], start: usize) -> (bool, u8)
+    requires { start + 64 < length path.now }
+    ensures lone { (result.0 || has_double_slash (drop (start + 64) path.now)) ≡ has_double_slash (drop start path.now) }
+    ensures count { result.1 + count_by (λ b. b == 47) (drop (start + 64) path.now) ≡ count_by (λ b. b == 47) (drop start path.now) }
+    ensures few { result.1 ≤ 64 }
+{
+    let (here, behind) = (
+        &path[start..start + LONG_PIECE],
+        &path[start + 1..start + 1 + LONG_PIECE],
+    );
+    let (mut is_found, mut slashes) = (false, 0);
+    for step in 0..LONG_PIECE {
+        let (one, next) = (here[step] == b'/', behind[step] == b'/');
+        is_found |= one & next;
+        slashes += u8::from(one);
+    }
+    (is_found, slashes)
+}
+
+// Whether a path has no more and no longer names than there may be, byte by byte.
+#[inline(never)]
+#[tactic(auto, using(crate::proofs::Bare::fit_path, crate::proofs::Bare::fits_slash, crate::proofs::Bare::fits_other))]
+fn has_fit_names(path: &[u8]) -> bool
+    ensures { IsTrue result → IsTrue (are_few_and_short (names_of path.now)) }
+{
+    // How many names may come behind this one, and how many more bytes of this one.
+    let (mut names, mut bytes) = (MAX_NAMES - 1, MAX_NAME);
+    for byte in path {
+        if *byte == b'/' {
+            if names == 0 {
+                return false;
+            }
+            names -= 1;
+            bytes = MAX_NAME;
+            continue;
+        }
+        if bytes == 0 {
+            return false;
+        }
+        bytes -= 1;
+    }
+    true
 }

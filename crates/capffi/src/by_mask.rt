@@ -1,0 +1,331 @@
+//! The verdict of the grants of a block on the mask of a server, which may ask for several accesses.
+ghost use Rattle.std.specs.Prelude.{◌≡◌, ◌<◌, ◌%◌, ℕ, List, [], ◌∷◌, IfSome, IsTrue, fold};
+ghost use Rattle.capgrant.specs.Question.{question};
+ghost use Rattle.capffi.specs.Blocks.{IsBlock, bare_names};
+ghost use Rattle.capffi.specs.ByBlock.{Tells, alone};
+ghost use Rattle.capffi.specs.ByMask.{is_known, asked_if, accesses_of, verdict_on, is_denied, told_next, told_of, IsSaidOfMask, IsSaidToMask, IsSoonOn, TellsSoonToMask, access_number};
+
+use crate::answering::tell_alone;
+use crate::block::Block;
+use crate::by_block::{bare_text, is_block, is_first_for_one, is_one_for_all_fs};
+use crate::given::split_front;
+use crate::judging::{Case, verdict_of};
+use crate::passed::{Answer, Check};
+use crate::plain::{plain, soon_plain};
+use crate::trouble::Trouble;
+use capbits::Mode;
+use capgrant::{Access, Attr, Verdict};
+use capspec::TreePath;
+use std::alloc::{AllocError, Global};
+
+/// An access, and the verdict on it.
+#[derive(Drop)]
+pub(crate) struct Told {
+    pub(crate) access: Access,
+    pub(crate) verdict: Verdict,
+}
+
+// What is asked of a block.
+#[derive(Drop)]
+struct Asker<'a> {
+    block: &'a Block,
+    text: &'a [u8],
+    // Without a slash in front.
+    path: &'a [u8],
+    groups: &'a [u32],
+    check: &'a Check,
+}
+
+/// Tells the answer of a block to a mask that is to read or to write, whatever the groups of the caller, where that is soon seen: where
+/// the grants up to the first that allows, or all where none does, are for everybody. Else 0, and the whole verdict has to be asked for.
+#[inline(always)]
+pub(crate) fn soon_mask(
+    block: &Block,
+    text: &[u8],
+    path: &[u8],
+    check: &Check,
+    answer: &mut Answer,
+) -> u32
+    ensures { TellsSoonToMask block.now text.now path.now check.now answer.old answer.new result }
+{
+    let Some(access) = frequent_access(check) else {
+        return 0;
+    };
+    if !is_block(block, text) {
+        return 0;
+    }
+    if is_first_for_one(block) {
+        return 0;
+    }
+    match soon_plain(path) {
+        Some(bare) => soon_of(block, text, bare, check, access, answer),
+        None => 0,
+    }
+}
+
+// The same for a path without a slash in front, and an access.
+#[inline(always)]
+fn soon_of(
+    block: &Block,
+    text: &[u8],
+    path: &[u8],
+    check: &Check,
+    access: Access,
+    answer: &mut Answer,
+) -> u32
+    requires { IsBlock block.now text.now }
+    ensures { Tells (IsSoonOn block.now text.now (bare_names path.now) check.now access) answer.old answer.new result }
+{
+    if !is_one_for_all_fs(block) {
+        return soon_of_many(block, text, path, check, access, answer);
+    }
+    match soon_of_one(block, text, path, check, access) {
+        Some(rule) => tell_alone(rule, answer),
+        None => 0,
+    }
+}
+
+// The same of one grant: the number of the rule that it fails by, or 0 where it allows.
+#[inline(always)]
+fn soon_of_one(block: &Block, text: &[u8], path: &[u8], check: &Check, access: Access) -> Option<u8>
+    requires whole { IsBlock block.now text.now }
+    requires one { block.now.count ≡ 1 }
+    ensures { IfSome result (λ rule. IsSoonOn block.now text.now (bare_names path.now) check.now access (alone rule)) }
+{
+    let (fs, rest) = split_front(text, block.fs_len as usize);
+    let case = case_of(fs, path, &[], check, access);
+    let rule = case.soon_alone(&block.entries[..block.count as usize], rest)?;
+    Some(rule)
+}
+
+// The same of any number of grants, apart from that of one, which takes fewer registers.
+#[inline(never)]
+fn soon_of_many(
+    block: &Block,
+    text: &[u8],
+    path: &[u8],
+    check: &Check,
+    access: Access,
+    answer: &mut Answer,
+) -> u32
+    requires { IsBlock block.now text.now }
+    ensures { Tells (IsSoonOn block.now text.now (bare_names path.now) check.now access) answer.old answer.new result }
+{
+    let (fs, rest) = split_front(text, block.fs_len as usize);
+    let case = case_of(fs, path, &[], check, access);
+    case.soon(&block.entries[..block.count as usize], rest, answer)
+}
+
+/// What the grants of a block say to a mask: the first of its accesses that is denied, or else the last.
+#[tactic(auto, using(crate::proofs::Masks::said_to_mask))]
+pub(crate) fn judge_mask(
+    alloc: Global,
+    block: &Block,
+    text: &[u8],
+    path: &[u8],
+    groups: &[u32],
+    check: &Check,
+) -> Result<Told, Trouble>
+    ensures { IsSaidToMask block.now text.now path.now groups.now check.now result }
+{
+    if !is_block(block, text) {
+        return Err(Trouble::Block);
+    }
+    match plain(path) {
+        Some(bare) => judge_bare(block, text, bare, groups, check),
+        None => judge_other(alloc, block, text, path, groups, check),
+    }
+}
+
+// The same for a path in any form.
+#[inline(never)]
+#[tactic(auto, using(crate::proofs::Masks::said_to_mask))]
+fn judge_other(
+    alloc: Global,
+    block: &Block,
+    text: &[u8],
+    path: &[u8],
+    groups: &[u32],
+    check: &Check,
+) -> Result<Told, Trouble>
+    requires { IsBlock block.now text.now }
+    ensures { IsSaidToMask block.now text.now path.now groups.now check.now result }
+{
+    match TreePath::read(alloc, path) {
+        Ok(Some(path)) => judge_bare(block, text, bare_text(&path), groups, check),
+        Ok(None) => Err(Trouble::Path),
+        Err(AllocError) => Err(Trouble::Memory),
+    }
+}
+
+// The same for a path without a slash in front.
+#[tactic(auto, using(crate::proofs::Masks::asks_nothing))]
+fn judge_bare(
+    block: &Block,
+    text: &[u8],
+    path: &[u8],
+    groups: &[u32],
+    check: &Check,
+) -> Result<Told, Trouble>
+    requires { IsBlock block.now text.now }
+    ensures { IsSaidOfMask block.now text.now (bare_names path.now) groups.now check.now result }
+{
+    if !is_known(check.mask) {
+        return Err(Trouble::Access);
+    }
+    let asker = Asker {
+        block,
+        text,
+        path,
+        groups,
+        check,
+    };
+    match asker.told() {
+        Some(told) => Ok(told),
+        None => Err(Trouble::Access),
+    }
+}
+
+impl Asker<'_> {
+    // What is told of the accesses of the mask. Of one alone it is the verdict.
+    #[tactic(auto, using(crate::proofs::Masks::one_told))]
+    fn told(&self) -> Option<Told>
+        requires { IsBlock self.now.block.now self.now.text.now }
+        ensures { result ≡ told_of (verdict_on self.now.block.now self.now.text.now (bare_names self.now.path.now) self.now.groups.now self.now.check.now) (accesses_of self.now.check.now) }
+    {
+        match frequent_access(self.check) {
+            Some(access) => Some(Told {
+                access,
+                verdict: self.verdict(access),
+            }),
+            None => self.ask_all(),
+        }
+    }
+
+    // The same, access by access.
+    fn ask_all(&self) -> Option<Told>
+        requires { IsBlock self.now.block.now self.now.text.now }
+        ensures { result ≡ told_of (verdict_on self.now.block.now self.now.text.now (bare_names self.now.path.now) self.now.groups.now self.now.check.now) (accesses_of self.now.check.now) }
+    {
+        let read = self.ask(None, 1, Access::Read);
+        let written = self.ask(read, 2, Access::Write);
+        let given = self.ask(written, 16, Access::Chown(self.check.new_uid));
+        let grouped = self.ask(given, 32, Access::Chgrp(self.check.new_gid));
+        let set = self.ask(grouped, 64, Access::SetVxattr);
+        self.ask(set, 128, Access::Snapshot)
+    }
+
+    // What is told with one access more, where the mask has its bit.
+    #[tactic(auto, using(crate::proofs::Masks::not_asked, crate::proofs::Masks::not_judged, crate::proofs::Masks::judged))]
+    fn ask(&self, told: Option<Told>, bit: u32, access: Access) -> Option<Told>
+        requires whole { IsBlock self.now.block.now self.now.text.now }
+        requires some { 0 < bit }
+        ensures { result ≡ fold (told_next (verdict_on self.now.block.now self.now.text.now (bare_names self.now.path.now) self.now.groups.now self.now.check.now)) told (asked_if self.now.check.now.mask bit access) }
+    {
+        if self.check.mask / bit % 2 != 1 {
+            return told;
+        }
+        if is_denied(&told) {
+            return told;
+        }
+        Some(Told {
+            access,
+            verdict: self.verdict(access),
+        })
+    }
+
+    // The verdict on an access.
+    fn verdict(&self, access: Access) -> Verdict
+        requires { IsBlock self.now.block.now self.now.text.now }
+        ensures { result ≡ verdict_on self.now.block.now self.now.text.now (bare_names self.now.path.now) self.now.groups.now self.now.check.now access }
+    {
+        let (fs, rest) = split_front(self.text, self.block.fs_len as usize);
+        let case = case_of(fs, self.path, self.groups, self.check, access);
+        verdict_of(
+            &case,
+            &self.block.entries[..self.block.count as usize],
+            rest,
+        )
+    }
+}
+
+// What is asked of each grant.
+#[inline(always)]
+fn case_of<'a>(
+    fs: &'a [u8],
+    path: &'a [u8],
+    groups: &'a [u32],
+    check: &Check,
+    access: Access,
+) -> Case<'a>
+    ensures { result ≡ question fs.now (record { uid = check.now.uid; gid = check.now.gid; groups = groups.now }) (bare_names path.now) (record { uid = check.now.owner; gid = check.now.group; mode = check.now.mode % 4096 }) access }
+{
+    Case {
+        fs,
+        path,
+        groups,
+        uid: check.uid,
+        gid: check.gid,
+        attr: Attr {
+            uid: check.owner,
+            gid: check.group,
+            mode: mode_of(check.mode),
+        },
+        access,
+    }
+}
+
+// The permission bits of a mode, which may have the inode's kind in front.
+#[inline(always)]
+fn mode_of(mode: u32) -> Mode
+    ensures { result ≡ mode % 4096 }
+{
+    Mode::new((mode % 4096) as u16).unwrap()
+}
+
+// Whether an access was denied.
+#[inline(always)]
+fn is_denied(told: &Option<Told>) -> bool
+    ensures { result ≡ is_denied told.now }
+{
+    match told {
+        Some(told) => matches!(&told.verdict, Verdict::Denied { .. }),
+        None => false,
+    }
+}
+
+// Whether a mask has no bits but those of accesses.
+#[inline(always)]
+fn is_known(mask: u32) -> bool
+    ensures { result ≡ is_known mask }
+{
+    mask < 256 && mask / 4 % 4 == 0
+}
+
+// The access of a mask that asks for one alone, which many requests do.
+#[inline(always)]
+#[tactic(auto, using(crate::proofs::Masks::to_read, crate::proofs::Masks::to_write))]
+fn frequent_access(check: &Check) -> Option<Access>
+    ensures { IfSome result (λ access. IsTrue (is_known check.now.mask) × (accesses_of check.now ≡ access ∷ [])) }
+{
+    match check.mask {
+        1 => Some(Access::Read),
+        2 => Some(Access::Write),
+        _ => None,
+    }
+}
+
+/// The number of an access.
+pub(crate) fn access_number(access: Access) -> u32
+    ensures { result ≡ access_number access }
+{
+    match access {
+        Access::Read => 0,
+        Access::Write => 1,
+        Access::SetVxattr => 2,
+        Access::Snapshot => 3,
+        Access::Chmod => 4,
+        Access::Chown(_) => 5,
+        Access::Chgrp(_) => 6,
+    }
+}
