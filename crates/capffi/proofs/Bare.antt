@@ -87,9 +87,6 @@ parted (b ∷ bytes) some first last lone =
 pub parted_ne : (bare : List ℕ) → 0 < length bare → get_or bare 0 0 ≢ 47 → get_or bare (length bare - 1) 0 ≢ 47 → has_double_slash bare ≡ false → bare_names bare ≡ names_of bare
 parted_ne bare some first last lone = parted bare some (ne_eqb _ _ first) (ne_eqb _ _ last) lone
 
-pub slashed_parted : (path : List ℕ) → 0 < length path → get_or path 0 0 ≡ 47 → is_slash (get_or path (length path - 1) 0) ≡ false → has_double_slash path ≡ false → bare_names (drop 1 path) ≡ names_of path
-slashed_parted path some first last lone = ap path_names (is_as_it_stands path 0 some first last lone) ∙ names_back path
-
 -- ---- few parts
 
 few_in_parts : (bare : List ℕ) → is_slash (get_or bare 0 0) ≡ false → length bare ≤ 255 → count_by is_slash bare < 32 → are_few_and_short (names_of bare) ≡ true

@@ -1,5 +1,5 @@
 -- The grants of the entries of a block, one by one.
-use Rattle.std.proofs.Common.{◌≡◌, ℕ, ◌+◌, ◌<◌, ◌≤◌, suc, Bool, true, false, ltb, Option, Some, None, List, [], ◌∷◌, ◌++◌, length, take, drop, get_or, refl, sym, ap, ◌∙◌, arith, inl, inr}
+use Rattle.std.proofs.Common.{◌≡◌, ℕ, ◌+◌, ◌<◌, ◌≤◌, suc, Bool, true, false, ltb, Option, Some, None, List, [], ◌∷◌, ◌++◌, length, take, drop, get_or, refl, sym, ap, ◌∙◌, arith}
 use Rattle.std.specs.Prelude.{position, find, set, is_none, nat_eq}
 use Rattle.std.specs.List.{list_any, position_or_len}
 use Rattle.std.proofs.lemmas.Bool.{or_parts, lt-ltb}
@@ -7,7 +7,6 @@ use Rattle.std.proofs.lemmas.Bool.Decides.{nat_tests}
 use Rattle.std.proofs.lemmas.List.{take_more, drop_more, append-nil, length-append, length-take-le, take-append-drop, take_all}
 use Rattle.std.proofs.lemmas.List.Elements.{filter_map-append}
 use Rattle.capspec.specs.declared.grant.Grant.{Grant}
-use Rattle.capspec.proofs.Fronts.{which}
 use Rattle.capgrant.specs.declared.rule.Rule.{Rule}
 use Rattle.capgrant.specs.declared.rule.Rule.TheVariants.{FsName, Uid, Gids, Path, NoWrite, RootSquash, NoP, NoS, NotOwner, NotOwnGroup, ModeBits}
 use Rattle.capgrant.specs.Failing.{first_failing, fails, fails_fsname, fails_uid, fails_gids, fails_path, fails_no_write, fails_root_squash, fails_no_p, fails_no_s, fails_not_owner, fails_not_own_group, fails_mode_bits}
@@ -119,19 +118,6 @@ found_nowhere q entries i text past none = found_none (allows q) (grants_in entr
 
 -- ---- grants for everybody
 
-pub no_grant_beside : (q : Question) (g : Grant) → fails_path q g ≡ true → allows q g ≡ false
-unfolding first_failing
-no_grant_beside q g path = elim (which (fails_fsname q g)) [
-  | inl e ↦ rw e refl
-  | inr e ↦ elim (which (fails_uid q g)) [
-    | inl f ↦ rw (e, f) refl
-    | inr f ↦ elim (which (fails_gids q g)) [
-      | inl h ↦ rw (e, f, h) refl
-      | inr h ↦ rw (e, f, h, path) refl
-    ]
-  ]
-]
-
 no_uid : (q : Question) (g : Grant) → g.uid ≡ None → (fails_uid q g ≡ false) × (fails_not_owner q g ≡ false) × (fails_not_own_group q g ≡ false) × (fails_mode_bits q g ≡ false)
 unfolding fails_uid fails_not_owner fails_not_own_group fails_mode_bits
 no_uid q g is = rw is (refl, refl, refl, refl)
@@ -139,12 +125,6 @@ no_uid q g is = rw is (refl, refl, refl, refl)
 no_gids : (q : Question) (g : Grant) → g.gids ≡ [] → fails_gids q g ≡ false
 unfolding fails_gids
 no_gids q g is = rw is refl
-
-pub grant_for_all : (q : Question) (g : Grant) → fails_fsname q g ≡ false → g.uid ≡ None → g.gids ≡ [] → fails_path q g ≡ false → fails_no_write q g ≡ false → fails_root_squash q g ≡ false → fails_no_p q g ≡ false → fails_no_s q g ≡ false → allows q g ≡ true
-unfolding first_failing
-grant_for_all q g fsname uid gids path w squash p s =
-    let all = no_uid q g uid in
-    rw (fsname, all.0, no_gids q g gids, path, w, squash, p, s, all.1, all.2, all.3) refl
 
 -- the others of the rules are those that such a grant can fail by
 open_first : (q : Question) (g : Grant) → g.uid ≡ None → g.gids ≡ [] → find (λ r. fails r q g) open_rules ≡ first_failing q g
@@ -157,14 +137,6 @@ open_first q g uid gids =
 pub openly : (q : Question) (g : Grant) (found : Option Rule) → found ≡ find (λ r. fails r q g) open_rules → g.uid ≡ None → g.gids ≡ [] → (groups : List ℕ) → first_failing (with_groups q groups) g ≡ found
 unfolding fails_fsname fails_path fails_no_write fails_root_squash fails_no_p fails_no_s
 openly q g found is uid gids groups = sym (open_first (with_groups q groups) g uid gids) ∙ sym is
-
-pub no_grant_beside_any : (q : Question) (g : Grant) → fails_path q g ≡ true → (groups : List ℕ) → allows (with_groups q groups) g ≡ false
-unfolding fails_path
-no_grant_beside_any q g path groups = no_grant_beside (with_groups q groups) g path
-
-pub grant_for_any : (q : Question) (g : Grant) → fails_fsname q g ≡ false → g.uid ≡ None → g.gids ≡ [] → fails_path q g ≡ false → fails_no_write q g ≡ false → fails_root_squash q g ≡ false → fails_no_p q g ≡ false → fails_no_s q g ≡ false → (groups : List ℕ) → allows (with_groups q groups) g ≡ true
-unfolding fails_fsname fails_path fails_no_write fails_root_squash fails_no_p fails_no_s
-grant_for_any q g fsname uid gids path w squash p s groups = grant_for_all (with_groups q groups) g fsname uid gids path w squash p s
 
 -- ---- the numbers of the rules
 
