@@ -16,4 +16,4 @@ returns-clause-rules c =
     c.args.access c.in-Some.session.now.grants c.in-Some.session.now.caller c.in-Some-Some.path.now c.in-Some-Some.node.now c.verdict.result
     (ap (option_map (λ (s : Session). s.grants)) (sym c.in-Some.ensures)) (ap (option_map (λ (s : Session). s.caller)) (sym c.in-Some.ensures)) path_is (sym c.in-Some-Some.ensures.node)
     (c.verdict.ensures.exact
-    ∙ (λ k. verdict_of (record { fs = c.args.fs.now; caller = c.in-Some.session.now.caller; path = c.as_slice.ensures k; attr = c.in-Some-Some.node.now.attr; access = c.args.access }) (c.grants.ensures k)))
+    ∙ (λ k. verdict_of (record { fs = c.args.fs.now; caller = c.in-Some.session.now.caller; path = c.as_slice.ensures k; attr = c.in-Some-Some.node.now.attr; access = c.args.access }) (c.grants-grants.ensures k)))
