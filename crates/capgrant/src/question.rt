@@ -72,20 +72,16 @@ impl Question<'_> {
     pub fn allows(&self, grant: &Grant) -> bool
         ensures { result ≡ allows self.now grant.now }
     {
-        self.allows_where(grant, self.may_allow(grant, None))
+        self.allows_where(grant, self.may_allow(grant, self.is_below(grant)))
     }
 
-    // Whether the grant fails by none of the rules that look at no access. What most grants fail by is their path, so it is tested
-    // first.
+    // Whether the grant fails by none of the rules that look at no access, where it is known whether the inode lies at or below its path.
     #[inline(always)]
-    fn may_allow(&self, grant: &Grant, begun: Option<Begun>) -> bool
-        requires { IfSome begun (λ begun. IsBegun self.now.path (slashed grant.now.path) begun) }
+    fn may_allow(&self, grant: &Grant, is_below: bool) -> bool
+        requires { is_below ≡ not (fails_path self.now grant.now) }
         ensures { result ≡ may_allow self.now grant.now }
     {
-        self.is_below_as_begun(grant, begun)
-            && !self.fails_fsname(grant)
-            && !self.fails_uid(grant)
-            && !self.fails_gids(grant)
+        is_below && !self.fails_fsname(grant) && !self.fails_uid(grant) && !self.fails_gids(grant)
     }
 
     // Whether the grant allows the access, where it is known whether it fails by a rule that looks at no access.
@@ -99,9 +95,26 @@ impl Question<'_> {
     }
 
     /// Whether some grant allows what is asked, and whether some grant allows the other access, to the same caller and of the same
-    /// inode. The rules that look at no access are tested once, up to the grant by which both are known. Of the first grants it may
-    /// be known how far their paths begin with that of the inode.
-    pub(crate) fn both_granted(
+    /// inode. The rules that look at no access are tested once, up to the grant by which both are known.
+    pub(crate) fn both_granted(&self, other: &Question<'_>, grants: &[Grant]) -> (bool, bool)
+        requires { other.now ≡ record self.now { access = other.now.access } }
+        ensures one { result.0 ≡ granted self.now grants.now }
+        ensures other { result.1 ≡ granted other.now grants.now }
+    {
+        let (mut one, mut two) = (false, false);
+        for grant in grants {
+            if one && two {
+                return (true, true);
+            }
+            let passed = self.may_allow(grant, self.is_below(grant));
+            one = one || self.allows_where(grant, passed);
+            two = two || other.allows_where(grant, passed);
+        }
+        (one, two)
+    }
+
+    /// The same, where it is known of the first grants how far their paths begin with that of the inode.
+    pub(crate) fn both_granted_begun(
         &self,
         other: &Question<'_>,
         grants: &[Grant],
@@ -117,7 +130,8 @@ impl Question<'_> {
             if one && two {
                 return (true, true);
             }
-            let passed = self.may_allow(grant, begun.get(place).copied());
+            let is_below = self.is_below_as_begun(grant, begun.get(place).copied());
+            let passed = self.may_allow(grant, is_below);
             one = one || self.allows_where(grant, passed);
             two = two || other.allows_where(grant, passed);
         }

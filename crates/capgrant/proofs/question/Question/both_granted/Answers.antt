@@ -8,7 +8,7 @@ use Rattle.capgrant.proofs.question.Question.both_granted.Goals as goal
 -- the rules that look at no access say the same to both
 pub allows_where-two-requires : goal.allows_where-two-requires
 unfolding fails_fsname fails_uid fails_gids fails_path
-allows_where-two-requires c = c.may_allow-passed.ensures ∙ ap (λ (q : Question). may_allow q c.index-grants-place.result) (sym c.requires.other)
+allows_where-two-requires c = c.may_allow-passed.ensures ∙ ap (λ (q : Question). may_allow q c.grant-item.result) (sym c.requires)
 
 -- what one of the first passes, one of all passes
 among_first : {T : Type 0} (p : T → Bool) (xs : List T) (n : ℕ) → list_any p (take n xs) ≡ true → list_any p xs ≡ true
@@ -22,7 +22,7 @@ among_first p (x ∷ xs) (suc n) e = by_test (p x) (among_first p xs n) e
     by_test false rest e = rest e
 
 pub returns-then-two-clause-one : goal.returns-then-two-clause-one
-returns-then-two-clause-one c = sym (among_first (allows c.args.self.now) c.args.grants.now c.loop-place.place (sym c.loop-place.invariant.one ∙ c.if-one.true))
+returns-then-two-clause-one c = sym (among_first (allows c.args.self.now) c.args.grants.now c.loop-grant.grant-index (sym c.loop-grant.invariant.one ∙ c.if-one.true))
 
 pub returns-then-two-clause-other : goal.returns-then-two-clause-other
-returns-then-two-clause-other c = sym (among_first (allows c.args.other.now) c.args.grants.now c.loop-place.place (sym c.loop-place.invariant.two ∙ c.if-two.true))
+returns-then-two-clause-other c = sym (among_first (allows c.args.other.now) c.args.grants.now c.loop-grant.grant-index (sym c.loop-grant.invariant.two ∙ c.if-two.true))
