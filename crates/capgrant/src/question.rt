@@ -72,7 +72,18 @@ impl Question<'_> {
     pub fn allows(&self, grant: &Grant) -> bool
         ensures { result ≡ allows self.now grant.now }
     {
-        self.allows_where(grant, self.may_allow(grant, self.is_below(grant)))
+        self.allows_where(grant, self.is_below(grant))
+    }
+
+    // The same, where it is known whether the inode lies at or below the grant's path. What most grants fail by is that, so it is looked
+    // at first.
+    #[inline(always)]
+    #[tactic(auto, unfolding(crate::specs::Failing::first_failing))]
+    fn allows_where(&self, grant: &Grant, is_below: bool) -> bool
+        requires { is_below ≡ not (fails_path self.now grant.now) }
+        ensures { result ≡ allows self.now grant.now }
+    {
+        is_below && self.first_failing(grant, is_below).is_none()
     }
 
     // Whether the grant fails by none of the rules that look at no access, where it is known whether the inode lies at or below its path.
@@ -87,7 +98,7 @@ impl Question<'_> {
     // Whether the grant allows the access, where it is known whether it fails by a rule that looks at no access.
     #[inline(always)]
     #[tactic(auto, using(crate::proofs::Parted::allows_parted))]
-    fn allows_where(&self, grant: &Grant, passed: bool) -> bool
+    fn allows_passed(&self, grant: &Grant, passed: bool) -> bool
         requires { passed ≡ may_allow self.now grant.now }
         ensures { result ≡ allows self.now grant.now }
     {
@@ -107,8 +118,8 @@ impl Question<'_> {
                 return (true, true);
             }
             let passed = self.may_allow(grant, self.is_below(grant));
-            one = one || self.allows_where(grant, passed);
-            two = two || other.allows_where(grant, passed);
+            one = one || self.allows_passed(grant, passed);
+            two = two || other.allows_passed(grant, passed);
         }
         (one, two)
     }
@@ -132,8 +143,8 @@ impl Question<'_> {
             }
             let is_below = self.is_below_as_begun(grant, begun.get(place).copied());
             let passed = self.may_allow(grant, is_below);
-            one = one || self.allows_where(grant, passed);
-            two = two || other.allows_where(grant, passed);
+            one = one || self.allows_passed(grant, passed);
+            two = two || other.allows_passed(grant, passed);
         }
         (one, two)
     }

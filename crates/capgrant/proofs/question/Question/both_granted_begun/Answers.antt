@@ -6,9 +6,9 @@ use Rattle.capgrant.specs.Verdict.{allows, may_allow}
 use Rattle.capgrant.proofs.question.Question.both_granted_begun.Goals as goal
 
 -- the rules that look at no access say the same to both
-pub allows_where-two-requires : goal.allows_where-two-requires
+pub allows_passed-two-requires : goal.allows_passed-two-requires
 unfolding fails_fsname fails_uid fails_gids fails_path
-allows_where-two-requires c = c.may_allow-passed.ensures ∙ ap (λ (q : Question). may_allow q c.index-grants-place.result) (sym c.requires.other)
+allows_passed-two-requires c = c.may_allow-passed.ensures ∙ ap (λ (q : Question). may_allow q c.index-grants-place.result) (sym c.requires.other)
 
 -- what one of the first passes, one of all passes
 among_first : {T : Type 0} (p : T → Bool) (xs : List T) (n : ℕ) → list_any p (take n xs) ≡ true → list_any p xs ≡ true
