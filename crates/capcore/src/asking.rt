@@ -1,6 +1,7 @@
 //! Steps of requests that wait for a lock of their inode.
 ghost use Rattle.std.specs.Prelude.{◌≡◌, Some, IfOk, OnErr};
-ghost use Rattle.captable.specs.Table.{holder};
+ghost use Rattle.inotree.specs.Tree.{IsTree};
+ghost use Rattle.captable.specs.Table.{IsTable, holder};
 ghost use Rattle.capsteps.specs.Capevents.declared.event.Event.{Event};
 ghost use Rattle.capsteps.specs.Answered.{IsAnswered};
 ghost use Rattle.capsteps.specs.Caprules.Noted.{view_of};
@@ -29,12 +30,12 @@ impl World {
         asked: Asked,
     ) -> Result<Said, AllocError>
         requires numbers { NumbersLeft self.old }
+        requires tree { IsTree self.old.scene.tree }
+        requires table { IsTable self.old.scene.table }
         ensures answered { IfOk result (λ said. (e : Event) → asks_for e ≡ Some (holder client ino, ask_of asked.entry) → IsAnswered self.old e said self.new) }
         ensures changes { IfOk result (λ said. AreChanges said.changes.items (view_of self.old) (view_of self.new)) }
         ensures err { OnErr result (self.new ≡ self.old) }
     {
-        // A look at the tree and at the entries, by which the proof knows what they keep.
-        let (_last, _oldest) = (self.tree.last(), self.table.oldest());
         let (tree, holder) = (&self.tree, Holder { client, ino });
         if let Some(stopped) = ask_stop(
             &self.fs,

@@ -1,6 +1,7 @@
 //! The step of a flush: a client that alone may change a part has changed it.
 ghost use Rattle.std.specs.Prelude.{◌≡◌, IfOk, OnErr};
-ghost use Rattle.captable.specs.Table.{holder};
+ghost use Rattle.inotree.specs.Tree.{IsTree};
+ghost use Rattle.captable.specs.Table.{IsTable, holder};
 ghost use Rattle.capsteps.specs.Capevents.declared.event.Event.TheVariants as event;
 ghost use Rattle.capsteps.specs.Answered.{IsAnswered};
 ghost use Rattle.capsteps.specs.Caprules.Noted.{view_of};
@@ -27,12 +28,12 @@ impl World {
         change: &Change,
     ) -> Result<Said, AllocError>
         requires numbers { NumbersLeft self.old }
+        requires tree { IsTree self.old.scene.tree }
+        requires table { IsTable self.old.scene.table }
         ensures answered { IfOk result (λ said. IsAnswered self.old (event.Flush client ino change.now) said self.new) }
         ensures changes { IfOk result (λ said. AreChanges said.changes.items (view_of self.old) (view_of self.new)) }
         ensures err { OnErr result (self.new ≡ self.old) }
     {
-        // A look at the entries, by which the proof knows what they keep.
-        let _oldest = self.table.oldest();
         let (fs, tree, holder) = (&self.fs, &self.tree, Holder { client, ino });
         if let Some(stopped) = flush_stop(fs, tree, &self.sessions, &self.table, holder, change) {
             return Ok(Said::alone(self.messages.alloc(), stopped.into_reply()));

@@ -1,6 +1,9 @@
 //! Steps by which a client's session ends, becomes stale, is open again or has other grants.
 ghost use Rattle.std.specs.Prelude.{◌≡◌, IfOk, OnErr};
+ghost use Rattle.inotree.specs.Tree.{IsTree};
+ghost use Rattle.captable.specs.Table.{IsTable};
 ghost use Rattle.capsteps.specs.Capview.Changes.{AreChanges};
+ghost use Rattle.capsteps.specs.Lockmachine.Locks.{IsLockMap};
 ghost use Rattle.capsteps.specs.Answered.{IsAnswered};
 ghost use Rattle.capsteps.specs.Caprules.Noted.{view_of};
 ghost use Rattle.capsteps.specs.Caprules.Sound.{NumbersLeft};
@@ -23,12 +26,13 @@ impl World {
     // there.
     pub(crate) fn turn(&mut self, client: ClientId, turn: Turn) -> Result<Said, AllocError>
         requires numbers { NumbersLeft self.old }
+        requires tree { IsTree self.old.scene.tree }
+        requires table { IsTable self.old.scene.table }
+        requires locks { IsLockMap self.old.scene.locks }
         ensures answered { IfOk result (λ said. IsAnswered self.old (turn_event client turn.entry) said self.new) }
         ensures changes { IfOk result (λ said. AreChanges said.changes.items (view_of self.old) (view_of self.new)) }
         ensures err { OnErr result (self.new ≡ self.old) }
     {
-        // A look at the entries and at the locks, by which the proof knows what they keep.
-        let (_oldest, _waiting) = (self.table.oldest(), self.locks.waiting());
         if let Some(refusal) = turn_refusal(&self.sessions, client, turn) {
             return Ok(Said::alone(self.messages.alloc(), Reply::Refused(refusal)));
         }

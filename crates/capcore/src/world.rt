@@ -1,6 +1,6 @@
 //! What an event does: all of the core but its history.
 ghost use Rattle.std.specs.Prelude.{List, ◌≡◌, ◌+◌, false, [], None, IfOk, OnOk, OnErr};
-ghost use Rattle.inotree.specs.Tree.{is_directory};
+ghost use Rattle.inotree.specs.Tree.{IsTree, is_directory};
 ghost use Rattle.inotree.specs.Calls.{with_new};
 ghost use Rattle.inotree.specs.Tests.{create_tests};
 ghost use Rattle.capsteps.specs.Caprules.State.{State};
@@ -25,7 +25,7 @@ ghost use Rattle.capsteps.specs.Capevents.declared.event.Event.TheVariants as ev
 
 use crate::asks::Asked;
 use crate::judging::{access_stop, asked_refusal, touch_stop};
-use capbits::{Caller, ClientId, Ino, Mode, Part, Refusal};
+use capbits::{Caller, ClientId, Ino, Mode, Refusal};
 use capgrant::{Access, Attr};
 use capspec::{FsName, Grants};
 use capsteps::ended::close;
@@ -140,8 +140,9 @@ impl World {
         ensures locks { OnOk result (IsLockMap self.old.scene.locks) }
         ensures err { OnErr result (self.new ≡ self.old) }
     {
-        // A look at the entries and at the locks, by which the proof knows what they keep.
-        let (_oldest, _lock) = (self.table.oldest(), self.locks.state(Ino(1), Part::A));
+        // The one look at the tree, the entries and the locks, by which the proof knows what they keep.
+        let (_last, _oldest) = (self.tree.last(), self.table.oldest());
+        let _waiting = self.locks.waiting();
         match event {
             Event::Open { client, ino, mode } => self.touch(*client, *ino, Touch::Open(*mode)),
             Event::Want { client, ino, caps } => self.touch(*client, *ino, Touch::Want(*caps)),
@@ -190,26 +191,27 @@ impl World {
         requires touches { touched_by event.now ≡ None }
         requires lists { is_listing event.now ≡ false }
         requires turns { turned_by event.now ≡ None }
+        requires tree { IsTree self.old.scene.tree }
+        requires table { IsTable self.old.scene.table }
         ensures answered { IfOk result (λ said. IsAnswered self.old event.now said self.new) }
         ensures changes { IfOk result (λ said. AreChanges said.changes.items (view_of self.old) (view_of self.new)) }
         ensures err { OnErr result (self.new ≡ self.old) }
     {
-        // A look at the tree and at the entries, by which the proof knows what they keep.
-        let (_last, _oldest) = (self.tree.last(), self.table.oldest());
+        let alloc = self.messages.alloc();
         let mut changes = self.take_list();
         let reply = self.act(event, &mut changes)?;
-        Ok(Said::with_changes(self.messages.alloc(), reply, changes))
+        Ok(Said::with_changes(alloc, reply, changes))
     }
 
     // A step that is about one entry: what is asked of it is done, the locks of what the step touches settle, and it ends there.
     fn touch(&mut self, client: ClientId, ino: Ino, touch: Touch) -> Result<Said, AllocError>
         requires numbers { NumbersLeft self.old }
+        requires tree { IsTree self.old.scene.tree }
+        requires table { IsTable self.old.scene.table }
         ensures answered { IfOk result (λ said. IsAnswered self.old (touch_event client ino touch) said self.new) }
         ensures changes { IfOk result (λ said. AreChanges said.changes.items (view_of self.old) (view_of self.new)) }
         ensures err { OnErr result (self.new ≡ self.old) }
     {
-        // A look at the tree and at the entries, by which the proof knows what they keep.
-        let (_last, _oldest) = (self.tree.last(), self.table.oldest());
         let holder = Holder { client, ino };
         let (fs, tree, sessions) = (&self.fs, &self.tree, &self.sessions);
         if let Some(stopped) = touch_stop(
@@ -244,12 +246,11 @@ impl World {
 
     // A step that gives a client the first messages that are due to it.
     fn poll(&mut self, client: ClientId, max: u32) -> Result<Said, AllocError>
+        requires table { IsTable self.old.scene.table }
         ensures answered { IfOk result (λ said. IsAnswered self.old (event.Poll client max) said self.new) }
         ensures changes { IfOk result (λ said. AreChanges said.changes.items (view_of self.old) (view_of self.new)) }
         ensures err { OnErr result (self.new ≡ self.old) }
     {
-        // A look at the entries, by which the proof knows what they keep.
-        let _oldest = self.table.oldest();
         if let Some(refusal) = self.sessions.session_refusal(client) {
             return Ok(Said::alone(self.messages.alloc(), Reply::Refused(refusal)));
         }

@@ -5,7 +5,7 @@ use Rattle.std.specs.FinSet as set
 use Rattle.capbits.specs.declared.ids.Ino.{Ino}
 use Rattle.capbits.specs.Caps.{Caps}
 use Rattle.capbits.specs.Sets.{IsSubset}
-use Rattle.inotree.specs.Tree.{Nodes}
+use Rattle.inotree.specs.Tree.{IsTree, Nodes}
 use Rattle.sessiontab.specs.Table.{SessionTable}
 use Rattle.captable.specs.declared.entry.EntryRow.{EntryRow}
 use Rattle.captable.specs.declared.entry.Holder.{Holder}
@@ -20,6 +20,7 @@ use Rattle.capacts.specs.Known.{KnownSets, OthersHaveAll}
 use Rattle.capacts.specs.Reach.{is_touched}
 use Rattle.capsteps.specs.Serves.{SettlesWith, EndsAt, EndsWith}
 use Rattle.capacts.specs.Caprules.Settle.{Made, Began, Gathered, Served, MakesAll, ended_in, sized_in}
+use Rattle.capsteps.proofs.Moved.{tree-moved}
 use Rattle.capsteps.proofs.SameOff.{off-wider}
 
 -- moves that end no request serve nobody: they change no size, and leave the tree
@@ -69,13 +70,13 @@ still-all_there sets fs tree after sessions table locks then k same_tree same_lo
 
 -- the locks settle and then the step ends
 pub settled-ends : (at from : ℕ → Bool) (was now : KnownSets) (first settled last : Scene) (ended : List Ended) (sized : List Ino)
-    → SettlesWith at from first settled ended sized → EndsAt at sized was now settled last → EndsWith from was now first last ended
-settled-ends at from was now first settled last ended sized settles ends = record {
+    → SettlesWith at from first settled ended sized → IsTree first.tree → EndsAt at sized was now settled last → EndsWith from was now first last ended
+settled-ends at from was now first settled last ended sized settles tree ends = record {
   at = at;
   settled = settled;
   sized = sized;
   settles = settles;
-  tree = ends.tree;
+  tree = (let there = settles.settles in let all = there.settles in tree-moved first settles.moves settled all.made tree);
   finished = ends.finished;
   kept = ends.kept;
 }

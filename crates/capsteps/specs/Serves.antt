@@ -32,7 +32,6 @@ pub record SettlesWith (at from : ℕ → Bool) (first settled : Scene) (ended :
 
 -- the locks have settled and the sizes of these inodes changed: the step ends at those that it touched
 pub record EndsAt (at : ℕ → Bool) (sized : List Ino) (was now : KnownSets) (settled last : Scene) : Type 0 where
-  pub tree : IsTree settled.tree
   pub finished : last ≡ finished_at at (known_in was) (sizes_owed sized settled)
   pub kept : KeptAnew (λ k. at k.ino.0) (told_then (sizes_owed sized settled)) (sizes_owed sized settled).table was now
 

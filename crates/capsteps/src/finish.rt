@@ -84,15 +84,10 @@ pub fn finish_alone(
         (scene fs.now tree.old sessions.now table.old locks.old) (scene fs.now tree.new sessions.now table.new locks.new) }
     ensures queue { locks.new.queue ≡ locks.old.queue }
     ensures lead { LeadOn changes.old.items changes.new.items tree.old tree.new }
-    ensures table { IsTable table.new }
 {
-    // A look at the tree, by which the proof knows what it keeps.
-    let _last = tree.last();
     let now = locks.of_ino(holder.ino);
     finish_holder(fs, tree, sessions, table, known, holder, &now);
     forget_unheld(tree, table, locks, holder.ino, changes);
-    // And one at the entries.
-    let _oldest = table.oldest();
 }
 
 // Issues what is due on each inode that was touched beside the one, and numbers what its clients are to know of. Each is gone

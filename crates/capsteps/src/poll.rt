@@ -1,5 +1,6 @@
 //! The messages that a client is given when it asks for them.
 ghost use Rattle.std.specs.Prelude.{◌≡◌, ◌≤◌, ◌-◌, ◌++◌, [], ◌∷◌, true, nat_lt, length, take, if◌then◌else◌, IfOk, OnOk};
+ghost use Rattle.captable.specs.Table.{IsTable};
 ghost use Rattle.captable.specs.Calls.{is_of_client, is_due};
 ghost use Rattle.captable.specs.Many.{changed_where};
 ghost use Rattle.capacts.specs.Lockmachine.Scene.{Scene, told_set};
@@ -153,6 +154,7 @@ fn add(list: &mut MessageList, max: u32, message: Message) -> Result<(), AllocEr
 
 /// The client is told of the changes and the sizes that these messages say, and asked no more where they ask.
 pub fn give(table: &mut CapTable, client: ClientId, given: &[Message])
+    requires { IsTable table.old }
     ensures { table.new ≡ changed_where (is_of_client client) (after_messages given.now) table.old }
 {
     for message in given {
@@ -162,10 +164,9 @@ pub fn give(table: &mut CapTable, client: ClientId, given: &[Message])
 
 // The same of one message.
 fn give_one(table: &mut CapTable, client: ClientId, message: &Message)
+    requires { IsTable table.old }
     ensures { table.new ≡ changed_where (is_of_client client) (after_messages (message.now ∷ [])) table.old }
 {
-    // A look at the entries, by which the proof knows what they keep.
-    let _oldest = table.oldest();
     match message {
         Message::Caps { ino, .. } => table.tell(client, *ino),
         Message::Size { ino, .. } => table.tell_size(client, *ino),

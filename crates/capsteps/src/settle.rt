@@ -3,12 +3,12 @@ ghost use Rattle.std.specs.Prelude.{◌≡◌, ◌==◌, ◌≤◌, ◌<◌, ◌
 ghost use Rattle.std.specs.FinMap as map;
 ghost use Rattle.std.specs.FinSet as set;
 ghost use Rattle.capbits.specs.declared.cap.Part.{Part};
-ghost use Rattle.inotree.specs.Tree.{Nodes};
+ghost use Rattle.inotree.specs.Tree.{IsTree, Nodes};
 ghost use Rattle.sessiontab.specs.Table.{SessionTable};
 ghost use Rattle.sessiontab.specs.Calls.{has_session};
-ghost use Rattle.captable.specs.Table.{Table, IsTable};
+ghost use Rattle.captable.specs.Table.{Table};
 ghost use Rattle.capacts.specs.Lockmachine.declared.request.Request.{Request};
-ghost use Rattle.capacts.specs.Lockmachine.Locks.{request_at};
+ghost use Rattle.capacts.specs.Lockmachine.Locks.{IsLockMap, request_at};
 ghost use Rattle.capacts.specs.Lockmachine.Scene.{scene};
 ghost use Rattle.capacts.specs.Lockmachine.Moves.{may_end_by, IsQuietOutside};
 ghost use Rattle.capacts.specs.Lockmachine.Turns.{WaitAt};
@@ -30,7 +30,7 @@ use capacts::reach::reach;
 use capacts::serving::{Served, serve};
 use capacts::sweep::{SweepPlace, advance};
 use capacts::{Ask, Change, ChangeList, InoSet, InodeLocks, Locks, Move, Outcome, Request};
-use capbits::{Ino, Part, Ticket};
+use capbits::{Ino, Ticket};
 use capspec::FsName;
 use captable::{CapTable, Holder};
 use inotree::{Setting, Tree};
@@ -48,6 +48,8 @@ pub fn end_at_one(
     endings: &mut Endings,
 )
     requires quiet { IsQuietOutside (λ other. other == ino.0) (scene fs.now tree.old sessions.now table.old locks.old) }
+    requires tree { IsTree tree.old }
+    requires order { IsLockMap locks.old }
     requires none { endings.old.told.items ≡ [] }
     requires no_sizes { endings.old.sized.items ≡ [] }
     requires told { HasRoom endings.old.told locks.old }
@@ -64,7 +66,6 @@ pub fn end_at_one(
     ensures lead { LeadOn endings.old.changes.items endings.new.changes.items tree.old tree.new }
     // As many waited as wait and have ended.
     ensures count { length endings.new.told.items + length locks.new.queue ≡ length locks.old.queue }
-    ensures table { IsTable table.new }
 {
     let others = InoSet::new(endings.alloc());
     end_at(
@@ -84,6 +85,8 @@ pub fn end_at_entry(
     endings: &mut Endings,
 )
     requires quiet { IsQuietOutside (λ other. other == holder.ino.0) (scene fs.now tree.old sessions.now table.old locks.old) }
+    requires tree { IsTree tree.old }
+    requires order { IsLockMap locks.old }
     // Each other entry on the inode has all, by the locks from before the settling.
     requires others { OthersHaveAll known.old.sets (scene fs.now tree.old sessions.now table.old locks.old) holder }
     requires none { endings.old.told.items ≡ [] }
@@ -103,7 +106,6 @@ pub fn end_at_entry(
     ensures lead { LeadOn endings.old.changes.items endings.new.changes.items tree.old tree.new }
     // As many waited as wait and have ended.
     ensures count { length endings.new.told.items + length locks.new.queue ≡ length locks.old.queue }
-    ensures table { IsTable table.new }
 {
     let before = locks.of_ino(holder.ino);
     let others = InoSet::new(endings.alloc());
@@ -164,6 +166,8 @@ pub fn end_at(
     endings: &mut Endings,
 )
     requires quiet { IsQuietOutside (is_touched ino.0 others) (scene fs.now tree.old sessions.now table.old locks.old) }
+    requires tree { IsTree tree.old }
+    requires order { IsLockMap locks.old }
     requires apart { set.contains others ino.0 ≡ false }
     requires none { endings.old.told.items ≡ [] }
     requires no_sizes { endings.old.sized.items ≡ [] }
@@ -181,7 +185,6 @@ pub fn end_at(
     ensures lead { LeadOn endings.old.changes.items endings.new.changes.items tree.old tree.new }
     // As many waited as wait and have ended.
     ensures count { length endings.new.told.items + length locks.new.queue ≡ length locks.old.queue }
-    ensures table { IsTable table.new }
 {
     let touched = settle(fs, tree, sessions, table, locks, ino, others, endings);
     end_settled(
@@ -220,16 +223,11 @@ fn end_settled(
         (scene fs.now tree.old sessions.now table.old locks.old) (scene fs.now tree.new sessions.now table.new locks.new) }
     ensures queue { locks.new.queue ≡ locks.old.queue }
     ensures lead { LeadOn changes.old.items changes.new.items tree.old tree.new }
-    ensures table { IsTable table.new }
 {
     owe_sizes(sessions, table, sized);
-    // A look at the tree, by which the proof knows what it keeps.
-    let _last = tree.last();
     finish(
         fs, tree, sessions, table, known, locks, ino, touched, changes,
     );
-    // And one at the entries.
-    let _oldest = table.oldest();
 }
 
 // Makes the moves, always the first that applies, until none does. Each request that is served ends, once for its client and
@@ -245,6 +243,8 @@ fn settle(
     endings: &mut Endings,
 ) -> InoSet
     requires quiet { IsQuietOutside (is_touched ino.0 others) (scene fs.now tree.old sessions.now table.now locks.old) }
+    requires tree { IsTree tree.old }
+    requires order { IsLockMap locks.old }
     requires apart { set.contains others ino.0 ≡ false }
     requires none { endings.old.told.items ≡ [] }
     requires no_sizes { endings.old.sized.items ≡ [] }
@@ -270,8 +270,6 @@ fn settle(
     'servings: while let Some(ticket) = sweep(
         fs, tree, sessions, table, locks, ino, &touched, &mut place,
     ) {
-        // A look at the locks and at the tree, by which the proof knows what they keep.
-        let (_lock, _last) = (locks.state(ino, Part::A), tree.last());
         let changed = serve_next(
             fs,
             tree,

@@ -42,7 +42,6 @@ returns-clause-ends c =
     (λ row mine. ap (λ (o : Option InodeLocks). told_at fs tree sessions o row) (here ∙ sym (ap (λ (h : Holder). map.get locks.states h.ino.0) (same-is row.holder k mine))))
     c.finish_holder.ensures.known in
     record {
-      tree = c.last-last.ensures.sound;
       finished =
           c.forget_unheld.ensures.left fs sessions
           ∙ sym (forget-one k.ino.0 (scene fs tree sessions c.finish_holder.new.table locks))

@@ -14,7 +14,7 @@ returns-clause-ends c =
     let last : Scene = scene c.args.fs.now c.end_settled.new.tree c.args.sessions.now c.end_settled.new.table c.end_settled.new.locks in
     settled-ends at (is_touched c.args.ino.0 c.args.others) c.args.known.now.sets c.end_settled.new.known.sets
     (scene c.args.fs.now c.args.tree.now c.args.sessions.now c.args.table.now c.args.locks.now) settled last
-    c.settle-touched.new.endings.told.items c.settle-touched.new.endings.sized.items c.settle-touched.ensures.settles
+    c.settle-touched.new.endings.told.items c.settle-touched.new.endings.sized.items c.settle-touched.ensures.settles c.requires.tree
     (subst (λ (sized : List Ino). EndsAt at sized c.args.known.now.sets c.end_settled.new.known.sets settled last) c.as_slice.ensures.value c.end_settled.ensures.ends)
 
 pub returns-clause-lead : goal.returns-clause-lead

@@ -57,7 +57,7 @@ returns-then-is_as_before-clause-ends c =
     settled-ends (λ other. other == ino) (λ other. other == ino) c.args.known.now.sets c.finish_alone.new.known.sets first settled last c.settle-touched.new.endings.told.items []
     (settles-alone ino (is_touched ino c.new-others.result) c.settle-touched.result first settled c.settle-touched.new.endings.told.items c.settle-touched.new.endings.sized.items
     c.settle-touched.ensures.settles calm.0 calm.1)
-    c.finish_alone.ensures.ends
+    c.requires.tree c.finish_alone.ensures.ends
 
 pub returns-then-is_as_before-clause-lead : goal.returns-then-is_as_before-clause-lead
 returns-then-is_as_before-clause-lead c =
@@ -75,7 +75,7 @@ returns-clause-ends c =
     let last : Scene = scene c.args.fs.now c.end_settled.new.tree c.args.sessions.now c.end_settled.new.table c.end_settled.new.locks in
     ends-one ino c.new-others.result c.args.known.now.sets c.end_settled.new.known.sets first last c.settle-touched.new.endings.told.items
     (settled-ends at (is_touched ino c.new-others.result) c.args.known.now.sets c.end_settled.new.known.sets first settled last
-    c.settle-touched.new.endings.told.items c.settle-touched.new.endings.sized.items c.settle-touched.ensures.settles
+    c.settle-touched.new.endings.told.items c.settle-touched.new.endings.sized.items c.settle-touched.ensures.settles c.requires.tree
     (subst (λ (sized : List Ino). EndsAt at sized c.args.known.now.sets c.end_settled.new.known.sets settled last) c.as_slice.ensures.value c.end_settled.ensures.ends))
 
 pub returns-clause-lead : goal.returns-clause-lead

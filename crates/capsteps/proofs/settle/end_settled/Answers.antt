@@ -33,7 +33,6 @@ returns-clause-ends c =
     let at = is_touched c.args.ino.0 c.args.touched.now in
     let after : Table → Scene = λ t. scene c.args.fs.now c.args.tree.now c.args.sessions.now t c.args.locks.now in
     record {
-      tree = c.last-last.ensures.sound;
       finished = c.finish.ensures.finished ∙ ap (λ (t : Table). finished_at at (known_in c.args.known.now.sets) (after t)) c.owe_sizes.ensures;
       kept = subst (λ (t : Table). KeptAnew (λ k. at k.ino.0) (told_then (after t)) t c.args.known.now.sets c.finish.new.known.sets) c.owe_sizes.ensures c.finish.ensures.known;
     }

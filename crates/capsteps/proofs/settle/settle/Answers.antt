@@ -2,9 +2,10 @@ use Rattle.std.proofs.Common.{◌≡◌, ◌<◌, ◌≤◌, ◌+◌, ◌++◌, 
 use Rattle.std.specs.List.{filter_map}
 use Rattle.std.proofs.lemmas.List.{length-append}
 use Rattle.capbits.specs.declared.ids.Ino.{Ino}
+use Rattle.inotree.specs.Tree.{IsTree}
 use Rattle.capacts.specs.Lockmachine.declared.request.Request.{Request}
 use Rattle.capacts.specs.Lockmachine.declared.moves.Move.TheVariants.{Serve}
-use Rattle.capacts.specs.Lockmachine.Locks.{lock_at, request_at}
+use Rattle.capacts.specs.Lockmachine.Locks.{IsLockMap, lock_at, request_at}
 use Rattle.capacts.specs.Lockmachine.Moves.{first_move}
 use Rattle.capacts.specs.Lockmachine.Scene.{Scene, scene}
 use Rattle.capacts.proofs.Lockmachine.Exact.{ends_not}
@@ -17,11 +18,12 @@ use Rattle.capsteps.specs.Serves.{Serves}
 use Rattle.capacts.specs.Caprules.Settle.{Served, sets_size, is_done, sized_in}
 use Rattle.capsteps.specs.Sweep.{GoesOn, GoesOnBehind, IsSwept, StandsAt}
 use Rattle.capacts.proofs.Capnotes.Noting.{leads-none, leads-then}
+use Rattle.capsteps.proofs.Moved.{moved-all, tree-moved}
 use Rattle.capsteps.proofs.SoFar.{IsSoFar, so-far-begins, so-far-served, so-far-settled, so-far-swept, stands-behind, stands-first, turn-of_least}
 use Rattle.capacts.proofs.Walked.{none-walked}
 use Rattle.capsteps.proofs.WalkedStill.{walked-served}
 use Rattle.capsteps.proofs.settle.settle.Goals as goal
-use Rattle.capsteps.proofs.settle.settle.Goals.{After-last-last, After-place_behind-place}
+use Rattle.capsteps.proofs.settle.settle.Goals.{In-Some, After-place_behind-place}
 
 pub end_gathers-requires : goal.end_gathers-requires
 end_gathers-requires c =
@@ -59,10 +61,10 @@ few-sized sized more q o is = elim (sets_size q.ask && is_done o) as (λ b. more
 ] is
 
 -- the inodes of the event
-abbrev from : After-last-last → ℕ → Bool
+abbrev from : In-Some → ℕ → Bool
 from c = is_touched c.args.ino.0 c.args.others
 
-module _ (c : After-last-last) where
+module _ (c : In-Some) where
   abbrev first : Scene
   first = scene c.args.fs.now c.args.tree.now c.args.sessions.now c.args.table.now c.args.locks.now
 
@@ -76,12 +78,19 @@ module _ (c : After-last-last) where
   swept : IsSoFar c.args.ino.0 (from c) c.servings.touched first mid c.servings.endings.told.items c.servings.endings.sized.items
   swept = so-far-swept c.args.ino.0 (is_touched c.args.ino.0 c.args.others) c.servings.touched first now c.servings.endings.told.items c.servings.endings.sized.items c.servings.invariant.so_far mid c.sweep.ensures.swept
 
+  -- the moves so far leave the requests in their order, and a tree
+  order : IsLockMap mid.locks
+  order = let so = swept in let moved = moved-all first so.moves mid so.made in moved.order c.requires.order
+
+  tree : IsTree mid.tree
+  tree = let so = swept in tree-moved first so.moves mid so.made c.requires.tree
+
   move : first_move mid ≡ Serve c.in-Some.ticket
   move = subst (GoesOn mid) c.in-Some.is c.sweep.ensures.next
 
   here : (r : Request) × (request_at c.sweep.new.locks c.in-Some.ticket.0 ≡ Some r) × Contains c.sweep.new.locks.queue r × (is_touched c.args.ino.0 c.servings.touched r.ino.0 ≡ true)
       × (r.ticket ≡ c.in-Some.ticket)
-  here = (let so = swept in served-at (is_touched c.args.ino.0 c.servings.touched) mid c.in-Some.ticket c.state-lock.ensures.sound so.waits move)
+  here = (let so = swept in served-at (is_touched c.args.ino.0 c.servings.touched) mid c.in-Some.ticket order so.waits move)
 
   -- somebody waits
   some_wait : 0 < length c.servings.locks.queue
@@ -93,22 +102,22 @@ module _ (c : After-last-last) where
       omega (arith, same, inside.1)
 
 pub serve_next-changed-requires-clause-waits : goal.serve_next-changed-requires-clause-waits
-serve_next-changed-requires-clause-waits c = (let found = here (goal.at.serve_next-changed-requires-clause-waits c).After-last-last in (found.0, found.1))
+serve_next-changed-requires-clause-waits c = (let found = here (goal.at.serve_next-changed-requires-clause-waits c).In-Some in (found.0, found.1))
 
 pub serve_next-changed-requires-clause-told : goal.serve_next-changed-requires-clause-told
-serve_next-changed-requires-clause-told c = let some = some_wait (goal.at.serve_next-changed-requires-clause-told c).After-last-last in omega (arith, some, c.servings.invariant.told)
+serve_next-changed-requires-clause-told c = let some = some_wait (goal.at.serve_next-changed-requires-clause-told c).In-Some in omega (arith, some, c.servings.invariant.told)
 
 pub serve_next-changed-requires-clause-kept : goal.serve_next-changed-requires-clause-kept
-serve_next-changed-requires-clause-kept c = let some = some_wait (goal.at.serve_next-changed-requires-clause-kept c).After-last-last in omega (arith, some, c.servings.invariant.kept)
+serve_next-changed-requires-clause-kept c = let some = some_wait (goal.at.serve_next-changed-requires-clause-kept c).In-Some in omega (arith, some, c.servings.invariant.kept)
 
 pub serve_next-changed-requires-clause-sized : goal.serve_next-changed-requires-clause-sized
-serve_next-changed-requires-clause-sized c = let some = some_wait (goal.at.serve_next-changed-requires-clause-sized c).After-last-last in omega (arith, some, c.servings.invariant.sized)
+serve_next-changed-requires-clause-sized c = let some = some_wait (goal.at.serve_next-changed-requires-clause-sized c).In-Some in omega (arith, some, c.servings.invariant.sized)
 
 pub serve_next-changed-requires-clause-place : goal.serve_next-changed-requires-clause-place
 serve_next-changed-requires-clause-place c = omega (arith, c.servings.invariant.places)
 
-abbrev before_serving : After-place_behind-place → After-last-last
-before_serving c = (goal.at.servings-preserved c).After-last-last
+abbrev before_serving : After-place_behind-place → In-Some
+before_serving c = (goal.at.servings-preserved c).In-Some
 
 module _ (c : After-place_behind-place) where
   abbrev ended : Ended
@@ -126,12 +135,12 @@ module _ (c : After-place_behind-place) where
   served : IsSoFar c.args.ino.0 (from (before_serving c)) c.serve_next-changed.new.touched (first (before_serving c)) new (c.servings.endings.told.items ++ ended ∷ []) (c.servings.endings.sized.items ++ sized_in (Served serves.request ended.outcome ∷ []))
   served =
       so-far-served c.args.ino.0 (from (before_serving c)) c.servings.touched (first (before_serving c)) (mid (before_serving c)) c.servings.endings.told.items c.servings.endings.sized.items (swept (before_serving c))
-      c.in-Some.ticket ended new c.serve_next-changed.new.touched c.state-lock.ensures.sound c.last-last.ensures.sound (move (before_serving c)) serves reaches
+      c.in-Some.ticket ended new c.serve_next-changed.new.touched (order (before_serving c)) (tree (before_serving c)) (move (before_serving c)) serves reaches
 
   stands : (next : SweepPlace) → GoesOnBehind c.sweep.new.place c.serve_next-changed.result c.args.ino.0 c.serve_next-changed.new.touched next → StandsAt (is_touched c.args.ino.0 c.serve_next-changed.new.touched) next new
   stands next =
       stands-behind c.args.ino.0 (from (before_serving c)) c.servings.touched (first (before_serving c)) (mid (before_serving c)) c.servings.endings.told.items c.servings.endings.sized.items (swept (before_serving c))
-      c.in-Some.ticket ended new c.serve_next-changed.new.touched c.state-lock.ensures.sound c.last-last.ensures.sound (move (before_serving c)) serves reaches
+      c.in-Some.ticket ended new c.serve_next-changed.new.touched (order (before_serving c)) (tree (before_serving c)) (move (before_serving c)) serves reaches
       c.sweep.new.place next c.serve_next-changed.result c.sweep.ensures.place (c.serve_next-changed.ensures.changed serves.request serves.waits)
 
   one_more : length (c.servings.endings.told.items ++ ended ∷ []) ≡ length c.servings.endings.told.items + 1

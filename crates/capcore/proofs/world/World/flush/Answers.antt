@@ -1,5 +1,6 @@
 use Rattle.std.proofs.Common.{is_some, ◌≡◌, ◌==◌, ◌+◌, ◌++◌, List, length, None, refl, sym, ap, subst, ◌∙◌, arith}
 use Rattle.std.proofs.lemmas.List.{length-append}
+use Rattle.inotree.specs.Tree.{IsTree}
 use Rattle.captable.specs.declared.entry.Holder.{Holder}
 use Rattle.captable.specs.Table.{IsTable, holder}
 use Rattle.capsteps.specs.Lockmachine.Scene.{Scene}
@@ -19,8 +20,8 @@ use Rattle.capsteps.specs.Caprules.Step.{earlier}
 use Rattle.capcore.proofs.Closing.{first-quiet, told-all, closed-known, closed}
 use Rattle.capsteps.proofs.Knowing.{HoldAlike, alike-less, still-there, still-room, still-knows}
 use Rattle.capcore.proofs.OfInode.{event-table}
-use Rattle.capcore.proofs.Flushed.{flush-calls, flush-direct}
-use Rattle.capcore.proofs.Stops.{judged-at, stopped-answered}
+use Rattle.capcore.proofs.Flushed.{flush-calls, flush-tree, flush-direct}
+use Rattle.capcore.proofs.Stops.{judged-at, HasTree, HasTable, stopped-answered}
 use Rattle.capsteps.specs.Capview.Changes.{AreChanges}
 use Rattle.capsteps.specs.Caprules.Noted.{view_of}
 use Rattle.capsteps.proofs.Capnotes.Noting.{changes-all, changes-still, leads-then}
@@ -32,8 +33,8 @@ use Rattle.capcore.proofs.world.World.flush.Goals.{After-touch, After-close}
 pub returns-in-Some-clause-answered : goal.returns-in-Some-clause-answered
 returns-in-Some-clause-answered c =
     let s = c.args.self.now in
-    let known : IsSound s × IsTable s.scene.table = subst (λ (w : State). IsSound w × IsTable w.scene.table) c.self.view_is (c.self.invariant.0, c.oldest-oldest.ensures.sound) in
-    stopped-answered s (event.Flush c.args.client c.args.ino c.args.change.now) c.in-Some.stopped c.alone.result known.0 known.1
+    let sound : IsSound s = subst IsSound c.self.view_is c.self.invariant.0 in
+    stopped-answered s (event.Flush c.args.client c.args.ino c.args.change.now) c.in-Some.stopped c.alone.result sound c.requires.table
     (judged-at _ s (event.Flush c.args.client c.args.ino c.args.change.now) c.flush_stop.result c.self.view_is (c.flush_stop.ensures c.self.inside.locks) ∙ c.in-Some.is)
     (c.alone.ensures.reply ∙ c.into_reply.ensures.reply) (c.alone.ensures.kept ∙ sym c.alone.ensures.reply) c.alone.ensures.ended
 
@@ -81,7 +82,7 @@ module _ (c : After-touch) where
   knows : Knows (known_in c.self.inside.known.sets) (old c).scene (first c).table
   knows =
       still-knows c.self.inside.known.sets c.self.inside.known.sets (old c).scene c.touch.new.self c.self.invariant.2 still
-      (subst (λ (s : Scene). IsTable s.table) (sym (is c)) (event-table (old c) (e c) (k c) c.oldest-oldest.ensures.sound refl (passed c)))
+      (subst (λ (s : Scene). IsTable s.table) (sym (is c)) (event-table (old c) (e c) (k c) (subst HasTable (sym c.self.view_is) c.requires.table) refl (passed c)))
       (alike-less c.self.inside.table c.touch.new.self alike)
 
 pub end_at_one-requires-clause-room : goal.end_at_one-requires-clause-room
@@ -92,7 +93,12 @@ end_at_one-requires-clause-room g =
 pub end_at_one-requires-clause-quiet : goal.end_at_one-requires-clause-quiet
 end_at_one-requires-clause-quiet g =
     let c = (goal.at.end_at_one-requires-clause-quiet g).After-touch in
-    first-quiet (old c) (e c) (k c) refl (passed c) c.self.invariant.0 c.oldest-oldest.ensures.sound (first c) (is c)
+    first-quiet (old c) (e c) (k c) refl (passed c) c.self.invariant.0 (subst HasTable (sym c.self.view_is) c.requires.table) (first c) (is c)
+
+pub end_at_one-requires-clause-tree : goal.end_at_one-requires-clause-tree
+end_at_one-requires-clause-tree g =
+    let c = (goal.at.end_at_one-requires-clause-tree g).After-touch in
+    subst IsTree (sym c.in_ok-alter.ensures.ok) (flush-tree (old c).scene (k c) c.args.change.now (passed c) (subst HasTree (sym c.self.view_is) c.requires.tree))
 
 -- ---- the end of the step
 
@@ -129,8 +135,8 @@ module _ (c : After-close) where
 
   whole : IsAnswered (old before) (e before) c.close.result new
   whole =
-      closed (old before) (e before) (k before) refl (passed before) c.self.invariant.0 c.oldest-oldest.ensures.sound (first before) (is before)
-      c.self.inside.known.sets c.end_at_one.new.known.sets c.waiting-waiting.ensures.sound (knows before) last told ends c.end_at_one.ensures.table c.close.result new
+      closed (old before) (e before) (k before) refl (passed before) c.self.invariant.0 (subst HasTable (sym c.self.view_is) c.requires.table) (first before) (is before)
+      c.self.inside.known.sets c.end_at_one.new.known.sets c.waiting-waiting.ensures.sound (knows before) last told ends c.close.result new
       (c.close.ensures.reply ∙ ap (reply_of closed_as told) answer)
       (c.close.ensures.kept ∙ sym c.close.ensures.reply) (c.close.ensures.ended ∙ c.end_at_one.ensures.kept ∙ sym all) new_is
 
@@ -142,7 +148,7 @@ invariant_of-self-2 c =
     let b = before c in (
       w.sound,
       omega (arith, items, c.close.ensures.room, c.end_at_one.ensures.count, c.self.invariant.1),
-      closed-known (old b) (e b) (k b) refl (passed b) c.self.invariant.0 c.oldest-oldest.ensures.sound (first b) (is b)
+      closed-known (old b) (e b) (k b) refl (passed b) c.self.invariant.0 (subst HasTable (sym c.self.view_is) c.requires.table) (first b) (is b)
           c.self.inside.known.sets c.end_at_one.new.known.sets c.waiting-waiting.ensures.sound (knows b) (last c) (told c) (ends c) c.self.inside.known.sets c.self.invariant.2 (still b),
     )
 

@@ -22,7 +22,7 @@ use Rattle.capsteps.specs.Touch.{touch_event, touch_tests, touch_answer}
 use Rattle.capcore.proofs.Closing.{first-quiet, first-numbers, first-clients, told-all, closed-known, closed}
 use Rattle.capsteps.proofs.Knowing.{held_at, HoldAlike, known-alike, still-room, still-knows, still-all}
 use Rattle.capcore.proofs.OfInode.{event-table}
-use Rattle.capcore.proofs.Stops.{judged-at, stopped-answered}
+use Rattle.capcore.proofs.Stops.{judged-at, HasTree, HasTable, stopped-answered}
 use Rattle.capsteps.proofs.TouchKept.{touch-less, others-have_all}
 use Rattle.capcore.proofs.TouchWhole.{first-is, touch-answered, touched-by, touch-reply, no_list-touch, tell-alike}
 use Rattle.capsteps.proofs.Touched.{touched-tests}
@@ -37,8 +37,8 @@ use Rattle.capcore.proofs.world.World.touch.Goals.{In_ok-touch_entry, After-clos
 pub returns-in-Some-clause-answered : goal.returns-in-Some-clause-answered
 returns-in-Some-clause-answered c =
     let s = c.args.self.now in
-    let known : IsSound s × IsTable s.scene.table = subst (λ (w : State). IsSound w × IsTable w.scene.table) c.self.view_is (c.self.invariant.0, c.oldest-oldest.ensures.sound) in
-    stopped-answered s (touch_event c.args.client c.args.ino c.args.touch) c.in-Some.stopped c.alone.result known.0 known.1
+    let sound : IsSound s = subst IsSound c.self.view_is c.self.invariant.0 in
+    stopped-answered s (touch_event c.args.client c.args.ino c.args.touch) c.in-Some.stopped c.alone.result sound c.requires.table
     (judged-at _ s (touch_event c.args.client c.args.ino c.args.touch) c.touch_stop.result c.self.view_is (c.touch_stop.ensures c.self.inside.locks c.self.invariant.2) ∙ c.in-Some.is)
     (c.alone.ensures.reply ∙ c.into_reply.ensures.reply) (c.alone.ensures.kept ∙ sym c.alone.ensures.reply) c.alone.ensures.ended
 
@@ -77,7 +77,7 @@ module _ (c : In_ok-touch_entry) where
 
   is : first ≡ (direct old e).state.scene
   is =
-      first-is old c.args.client c.args.ino c.args.touch passed c.self.invariant.0 c.oldest-oldest.ensures.sound c.touch_entry.new.table
+      first-is old c.args.client c.args.ino c.args.touch passed c.self.invariant.0 (subst HasTable (sym c.self.view_is) c.requires.table) c.touch_entry.new.table
       (c.in_ok-touch_entry.ensures.ok ∙ c.revoked_by-revoked.ensures.takes old.scene refl c.self.invariant.2)
 
 -- what is known then
@@ -85,7 +85,7 @@ module _ (c : In_ok-touch_entry) where
   first-table : IsTable c.touch_entry.new.table
   first-table =
       subst (λ (s : Scene). IsTable s.table) (sym (is c))
-      (event-table (old c) (e c) (k c) c.oldest-oldest.ensures.sound (touched-by c.args.client c.args.ino c.args.touch) (passed c))
+      (event-table (old c) (e c) (k c) (subst HasTable (sym c.self.view_is) c.requires.table) (touched-by c.args.client c.args.ino c.args.touch) (passed c))
 
   knows : Knows (known_in c.touch_entry.new.known.sets) (old c).scene (first c).table
   knows =
@@ -101,18 +101,21 @@ end_at_entry-requires-clause-room g =
 pub end_at_entry-requires-clause-quiet : goal.end_at_entry-requires-clause-quiet
 end_at_entry-requires-clause-quiet g =
     let c = (goal.at.end_at_entry-requires-clause-quiet g).In_ok-touch_entry in
-    first-quiet (old c) (e c) (k c) (touched-by c.args.client c.args.ino c.args.touch) (passed c) c.self.invariant.0 c.oldest-oldest.ensures.sound (first c) (is c)
+    first-quiet (old c) (e c) (k c) (touched-by c.args.client c.args.ino c.args.touch) (passed c) c.self.invariant.0 (subst HasTable (sym c.self.view_is) c.requires.table) (first c) (is c)
+
+pub end_at_entry-requires-clause-tree : goal.end_at_entry-requires-clause-tree
+end_at_entry-requires-clause-tree c = subst HasTree (sym c.self.view_is) c.requires.tree
 
 pub end_at_entry-requires-clause-numbers : goal.end_at_entry-requires-clause-numbers
 end_at_entry-requires-clause-numbers g =
     let c = (goal.at.end_at_entry-requires-clause-numbers g).In_ok-touch_entry in
-    first-numbers (old c) (e c) (k c) (touched-by c.args.client c.args.ino c.args.touch) (passed c) c.self.invariant.0 c.oldest-oldest.ensures.sound (first c) (is c)
+    first-numbers (old c) (e c) (k c) (touched-by c.args.client c.args.ino c.args.touch) (passed c) c.self.invariant.0 (subst HasTable (sym c.self.view_is) c.requires.table) (first c) (is c)
     (subst NumbersLeft (sym c.self.view_is) c.requires.numbers)
 
 pub end_at_entry-requires-clause-clients : goal.end_at_entry-requires-clause-clients
 end_at_entry-requires-clause-clients g =
     let c = (goal.at.end_at_entry-requires-clause-clients g).In_ok-touch_entry in
-    first-clients (old c) (e c) (k c) (touched-by c.args.client c.args.ino c.args.touch) (passed c) c.self.invariant.0 c.oldest-oldest.ensures.sound (first c) (is c)
+    first-clients (old c) (e c) (k c) (touched-by c.args.client c.args.ino c.args.touch) (passed c) c.self.invariant.0 (subst HasTable (sym c.self.view_is) c.requires.table) (first c) (is c)
 
 pub end_at_entry-requires-clause-others : goal.end_at_entry-requires-clause-others
 end_at_entry-requires-clause-others g =
@@ -130,7 +133,7 @@ close-requires-clause-list c =
       messages = [];
     } in
     let known : AreKnown c.end_at_entry.new.known.sets st.scene =
-    closed-known (old b) (e b) (k b) (touched-by c.args.client c.args.ino c.args.touch) (passed b) c.self.invariant.0 c.oldest-oldest.ensures.sound (first b) (is b)
+    closed-known (old b) (e b) (k b) (touched-by c.args.client c.args.ino c.args.touch) (passed b) c.self.invariant.0 (subst HasTable (sym c.self.view_is) c.requires.table) (first b) (is b)
     c.touch_entry.new.known.sets c.end_at_entry.new.known.sets c.waiting-waiting.ensures.sound (knows b) st.scene c.end_at_entry.new.endings.told.items c.end_at_entry.ensures.ends
     c.self.inside.known.sets c.self.invariant.2 c.touch_entry.ensures.known in
     ap has_list (c.tell-reply.ensures.reply st refl known) ∙ no_list-touch st (holder c.args.client c.args.ino) c.args.touch
@@ -153,7 +156,7 @@ module _ (c : After-close) where
 
   known-last : AreKnown c.end_at_entry.new.known.sets last
   known-last =
-      closed-known (old before) (e before) (k before) (touched-by c.args.client c.args.ino c.args.touch) (passed before) c.self.invariant.0 c.oldest-oldest.ensures.sound (first before) (is before)
+      closed-known (old before) (e before) (k before) (touched-by c.args.client c.args.ino c.args.touch) (passed before) c.self.invariant.0 (subst HasTable (sym c.self.view_is) c.requires.table) (first before) (is before)
       c.touch_entry.new.known.sets c.end_at_entry.new.known.sets c.waiting-waiting.ensures.sound (knows before) last told ends c.self.inside.known.sets c.self.invariant.2 c.touch_entry.ensures.known
 
   all : earlier c.self.inside.locks.last told ≡ told
@@ -166,7 +169,7 @@ module _ (c : After-close) where
   answer : touch_answer (holder c.args.client c.args.ino) c.args.touch ≡ (direct (old before) (e before)).answer
   answer =
       sym
-      (touch-answered (old before) c.args.client c.args.ino c.args.touch (passed before) c.self.invariant.0 c.oldest-oldest.ensures.sound c.touch_entry.new.table
+      (touch-answered (old before) c.args.client c.args.ino c.args.touch (passed before) c.self.invariant.0 (subst HasTable (sym c.self.view_is) c.requires.table) c.touch_entry.new.table
       (c.in_ok-touch_entry.ensures.ok ∙ c.revoked_by-revoked.ensures.takes (old before).scene refl c.self.invariant.2))
 
   new_is : new ≡ shown (direct (old before) (e before)).answer closed_as
@@ -177,8 +180,8 @@ module _ (c : After-close) where
 
   whole : IsAnswered (old before) (e before) c.close.result new
   whole =
-      closed (old before) (e before) (k before) (touched-by c.args.client c.args.ino c.args.touch) (passed before) c.self.invariant.0 c.oldest-oldest.ensures.sound (first before) (is before)
-      c.touch_entry.new.known.sets c.end_at_entry.new.known.sets c.waiting-waiting.ensures.sound (knows before) last told ends c.end_at_entry.ensures.table c.close.result new
+      closed (old before) (e before) (k before) (touched-by c.args.client c.args.ino c.args.touch) (passed before) c.self.invariant.0 (subst HasTable (sym c.self.view_is) c.requires.table) (first before) (is before)
+      c.touch_entry.new.known.sets c.end_at_entry.new.known.sets c.waiting-waiting.ensures.sound (knows before) last told ends c.close.result new
       (c.close.ensures.reply ∙ c.tell-reply.ensures.reply closed_as refl known-last ∙ touch-reply closed_as told (k before) c.args.touch ∙ ap (reply_of closed_as told) answer)
       (c.close.ensures.kept ∙ sym c.close.ensures.reply) (c.close.ensures.ended ∙ c.end_at_entry.ensures.kept ∙ sym all) new_is
 
