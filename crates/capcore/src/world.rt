@@ -316,20 +316,25 @@ impl World {
                 dir,
                 name,
                 mode,
-            } => self.make(Kind::File, *client, *dir, name.as_slice(), *mode, changes),
+            } => {
+                let holder = Holder {
+                    client: *client,
+                    ino: *dir,
+                };
+                self.make(Kind::File, holder, name.as_slice(), *mode, changes)
+            }
             Event::Mkdir {
                 client,
                 dir,
                 name,
                 mode,
-            } => self.make(
-                Kind::Directory,
-                *client,
-                *dir,
-                name.as_slice(),
-                *mode,
-                changes,
-            ),
+            } => {
+                let holder = Holder {
+                    client: *client,
+                    ino: *dir,
+                };
+                self.make(Kind::Directory, holder, name.as_slice(), *mode, changes)
+            }
             Event::MakeSnapshot { client, ino, name } => {
                 self.make_snapshot(*client, *ino, name.as_slice())
             }
@@ -409,31 +414,30 @@ impl World {
         Reply::Done
     }
 
-    // Makes a file or a directory, with its locks.
+    // Makes a file or a directory in the directory that the client names, with its locks.
     fn make(
         &mut self,
         kind: Kind,
-        client: ClientId,
-        dir: Ino,
+        holder: Holder,
         name: &[u8],
         mode: Mode,
         changes: &mut ChangeList,
     ) -> Result<Reply, AllocError>
         requires none { changes.old.items ≡ [] }
-        ensures direct { IfOk result (λ reply. IsDirect self.old (made_event kind client dir name.now mode) reply self.new) }
+        ensures direct { IfOk result (λ reply. IsDirect self.old (made_event kind holder.client holder.ino name.now mode) reply self.new) }
         ensures changes { OnOk result (AreChanges changes.new.items (view_of self.old) (view_of self.new)) }
         ensures err { OnErr result (self.new ≡ self.old) }
     {
-        let (fs, tree, holder) = (&self.fs, &self.tree, Holder { client, ino: dir });
+        let (fs, tree) = (&self.fs, &self.tree);
         if let Some(stopped) = access_stop(fs, tree, &self.sessions, holder, Access::Write) {
             return Ok(stopped.into_reply());
         }
-        if let Some(refusal) = self.tree.new_inode_refusal(dir, name) {
+        if let Some(refusal) = self.tree.new_inode_refusal(holder.ino, name) {
             return Ok(Reply::Refused(refusal));
         }
         changes.add_place()?;
-        let attr = owned_by(&self.sessions, client, mode);
-        let ino = self.add(kind, dir, name, attr)?;
+        let attr = owned_by(&self.sessions, holder.client, mode);
+        let ino = self.add(kind, holder.ino, name, attr)?;
         changes.note_birth(&self.tree, ino);
         Ok(Reply::Ino(ino))
     }

@@ -20,14 +20,14 @@ ghost use Rattle.capsteps.specs.Serves.{EndsAt};
 ghost use Rattle.capacts.specs.Capnotes.Noted.{LeadOn};
 
 use arrayvec::ArrayVec;
-use capacts::finishing::finish_row;
+use capacts::finishing::{Standing, finish_row};
 use capacts::known::Known;
 use capacts::reach::is_held;
-use capacts::{ChangeList, InoSet, InodeLocks, Locks, Reply, ViewChange};
+use capacts::{ChangeList, InoSet, InodeLocks, Locks, Policy, Reply, ViewChange};
 use capbits::{ClientId, Ino};
 use capspec::FsName;
 use captable::{CapTable, EntryRow, Holder};
-use inotree::{Names, Node, Place, Tree};
+use inotree::{Names, Place, Tree};
 use sessiontab::{MAX_SESSIONS, Sessions};
 
 // ---- at the touched inodes
@@ -57,9 +57,14 @@ pub fn finish(
     ensures queue { locks.new.queue ≡ locks.old.queue }
     ensures lead { LeadOn changes.old.items changes.new.items tree.old tree.new }
 {
-    finish_touched(fs, tree, sessions, table, known, locks, touched);
+    let policy = Policy {
+        fs,
+        tree: &*tree,
+        sessions,
+    };
+    finish_touched(&policy, table, known, locks, touched);
     let now = locks.of_ino(ino);
-    finish_entries(fs, tree, sessions, table, known, ino, &now);
+    finish_entries(&policy, table, known, ino, &now);
     forget_touched(tree, table, locks, touched, changes);
     forget_unheld(tree, table, locks, ino, changes);
 }
@@ -86,33 +91,36 @@ pub fn finish_alone(
     ensures lead { LeadOn changes.old.items changes.new.items tree.old tree.new }
 {
     let now = locks.of_ino(holder.ino);
-    finish_holder(fs, tree, sessions, table, known, holder, &now);
+    let policy = Policy {
+        fs,
+        tree: &*tree,
+        sessions,
+    };
+    finish_holder(&policy, table, known, holder, &now);
     forget_unheld(tree, table, locks, holder.ino, changes);
 }
 
 // Issues what is due on each inode that was touched beside the one, and numbers what its clients are to know of. Each is gone
 // through once, since an entry that was renumbered may have used up its number.
 fn finish_touched(
-    fs: &FsName,
-    tree: &Tree,
-    sessions: &Sessions,
+    policy: &Policy<'_>,
     table: &mut CapTable,
     known: &mut Known,
     locks: &Locks,
     touched: &InoSet,
 )
     requires numbers { All (λ row. row.entry.seq < 2 ^ 64 - 1) table.old.rows }
-    requires clients { All (λ row. IsTrue (has_session sessions.now row.holder.client.0)) table.old.rows }
+    requires clients { All (λ row. IsTrue (has_session policy.now.sessions.now row.holder.client.0)) table.old.rows }
     requires room { HaveRoom known.old.sets table.old }
     ensures table { table.new
-        ≡ changed_where (words.is_on touched.now) (words.entry_by (known_in known.old.sets) fs.now tree.now sessions.now locks.now.states) table.old }
-    ensures known { KeptAnew (λ k. set.contains touched.now k.ino.0) (words.told_by fs.now tree.now sessions.now locks.now.states)
+        ≡ changed_where (words.is_on touched.now) (words.entry_by (known_in known.old.sets) policy.now.fs.now policy.now.tree.now policy.now.sessions.now locks.now.states) table.old }
+    ensures known { KeptAnew (λ k. set.contains touched.now k.ino.0) (words.told_by policy.now.fs.now policy.now.tree.now policy.now.sessions.now locks.now.states)
         table.old known.old.sets known.new.sets }
 {
     for number in touched.numbers() {
         let ino = Ino(*number);
         let now = locks.of_ino(ino);
-        finish_entries(fs, tree, sessions, table, known, ino, &now);
+        finish_entries(policy, table, known, ino, &now);
     }
 }
 
@@ -141,38 +149,42 @@ fn forget_touched(
 
 // Issues what is due on the inode, which has these locks, numbers what its clients are to know of, and keeps that.
 fn finish_entries(
-    fs: &FsName,
-    tree: &Tree,
-    sessions: &Sessions,
+    policy: &Policy<'_>,
     table: &mut CapTable,
     known: &mut Known,
     ino: Ino,
     locks: &Option<InodeLocks>,
 )
     requires numbers { All (λ row. row.entry.seq < 2 ^ 64 - 1) (entries_on table.old ino) }
-    requires clients { All (λ row. IsTrue (has_session sessions.now row.holder.client.0)) table.old.rows }
+    requires clients { All (λ row. IsTrue (has_session policy.now.sessions.now row.holder.client.0)) table.old.rows }
     requires room { HaveRoom known.old.sets table.old }
     ensures table { table.new
-        ≡ changed_where (is_of_inode ino) (words.entry_under (known_in known.old.sets) fs.now tree.now sessions.now locks.now) table.old }
-    ensures known { KeptAnew (λ k. k.ino.0 == ino.0) (words.told_at fs.now tree.now sessions.now locks.now)
+        ≡ changed_where (is_of_inode ino) (words.entry_under (known_in known.old.sets) policy.now.fs.now policy.now.tree.now policy.now.sessions.now locks.now) table.old }
+    ensures known { KeptAnew (λ k. k.ino.0 == ino.0) (words.told_at policy.now.fs.now policy.now.tree.now policy.now.sessions.now locks.now)
         table.old known.old.sets known.new.sets }
 {
-    let clients = clients_on(sessions, table, ino);
+    let clients = clients_on(policy.sessions, table, ino);
     let numbers = clients.as_slice();
     if numbers.is_empty() {
         return;
     }
     // The names from the root are looked up once, and not for each entry.
     let mut names = Names::new();
-    let path = tree.read_path(ino, &mut names).then_some(&names);
-    let node = tree.node(ino);
+    let path = policy.tree.read_path(ino, &mut names).then_some(&names);
+    let node = policy.tree.node(ino);
+    let standing = Standing {
+        fs: policy.fs,
+        tree: policy.tree,
+        sessions: policy.sessions,
+        path,
+        node,
+        locks,
+    };
     let mut place = table.first_place(ino);
     for number in numbers {
         let client = ClientId(*number);
         let holder = Holder { client, ino };
-        finish_entry(
-            fs, tree, sessions, table, known, holder, place, path, node, locks,
-        );
+        finish_entry(&standing, table, known, holder, place);
         place = table.place_after(place);
     }
 }
@@ -226,9 +238,7 @@ fn forget_unheld(
 
 // Issues what is due to the holder, whose inode has these locks, numbers what its client is to know of, and keeps that.
 fn finish_holder(
-    fs: &FsName,
-    tree: &Tree,
-    sessions: &Sessions,
+    policy: &Policy<'_>,
     table: &mut CapTable,
     known: &mut Known,
     holder: Holder,
@@ -238,42 +248,48 @@ fn finish_holder(
     requires room { IsSome (entry_at table.old holder) → IsSome (kept_of known.old.sets holder) }
     ensures sound { IsTable table.old }
     ensures table { table.new
-        ≡ changed_by (words.entry_under (known_in known.old.sets) fs.now tree.now sessions.now locks.now) table.old holder }
-    ensures known { KeptAnew (λ k. same k holder) (words.told_at fs.now tree.now sessions.now locks.now) table.old known.old.sets known.new.sets }
+        ≡ changed_by (words.entry_under (known_in known.old.sets) policy.now.fs.now policy.now.tree.now policy.now.sessions.now locks.now) table.old holder }
+    ensures known { KeptAnew (λ k. same k holder) (words.told_at policy.now.fs.now policy.now.tree.now policy.now.sessions.now locks.now) table.old known.old.sets known.new.sets }
 {
     if let Some(entry) = table.find(holder.client, holder.ino) {
         let mut names = Names::new();
-        let path = tree.read_path(holder.ino, &mut names).then_some(&names);
-        let node = tree.node(holder.ino);
+        let path = policy
+            .tree
+            .read_path(holder.ino, &mut names)
+            .then_some(&names);
+        let node = policy.tree.node(holder.ino);
+        let standing = Standing {
+            fs: policy.fs,
+            tree: policy.tree,
+            sessions: policy.sessions,
+            path,
+            node,
+            locks,
+        };
         let row = EntryRow { holder, entry };
-        finish_row(fs, tree, sessions, table, known, row, path, node, locks);
+        finish_row(&standing, table, known, row);
     }
 }
 
-// The same, where the inode has this path and this node in the tree. The place is a guess at where the holder's entry stands.
+// The same, where the inode stands so. The place is a guess at where the holder's entry stands.
 fn finish_entry(
-    fs: &FsName,
-    tree: &Tree,
-    sessions: &Sessions,
+    standing: &Standing<'_, '_>,
     table: &mut CapTable,
     known: &mut Known,
     holder: Holder,
     place: usize,
-    path: Option<&Names<'_>>,
-    node: Option<&Node>,
-    locks: &Option<InodeLocks>,
 )
-    requires path { option_copied path ≡ path_of tree.now.nodes holder.ino.0 }
-    requires node { option_copied node ≡ map.get tree.now.nodes holder.ino.0 }
+    requires path { option_copied standing.now.path ≡ path_of standing.now.tree.now.nodes holder.ino.0 }
+    requires node { option_copied standing.now.node ≡ map.get standing.now.tree.now.nodes holder.ino.0 }
     requires number { IfSome (entry_at table.old holder) (λ entry. entry.seq < 2 ^ 64 - 1) }
     requires room { IsSome (entry_at table.old holder) → IsSome (kept_of known.old.sets holder) }
     ensures table { table.new
-        ≡ changed_by (words.entry_under (known_in known.old.sets) fs.now tree.now sessions.now locks.now) table.old holder }
-    ensures known { KeptAnew (λ k. same k holder) (words.told_at fs.now tree.now sessions.now locks.now) table.old known.old.sets known.new.sets }
+        ≡ changed_by (words.entry_in (known_in known.old.sets) standing.now) table.old holder }
+    ensures known { KeptAnew (λ k. same k holder) (words.told_in standing.now) table.old known.old.sets known.new.sets }
 {
     if let Some(entry) = table.find_near(holder.client, holder.ino, place) {
         let row = EntryRow { holder, entry };
-        finish_row(fs, tree, sessions, table, known, row, path, node, locks);
+        finish_row(standing, table, known, row);
     }
 }
 

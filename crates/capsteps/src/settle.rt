@@ -29,7 +29,9 @@ use capacts::known::Known;
 use capacts::reach::reach;
 use capacts::serving::{Served, serve};
 use capacts::sweep::{SweepPlace, advance};
-use capacts::{Ask, Change, ChangeList, InoSet, InodeLocks, Locks, Move, Outcome, Request};
+use capacts::{
+    Ask, Change, ChangeList, InoSet, InodeLocks, Locks, Move, Outcome, Policy, Request,
+};
 use capbits::{Ino, Ticket};
 use capspec::FsName;
 use captable::{CapTable, Holder};
@@ -352,8 +354,9 @@ fn sweep(
     ensures next { GoesOn (scene fs.now tree.now sessions.now table.now locks.new) result }
     ensures place { StandsAt (is_touched ino.0 touched.now) place.new (scene fs.now tree.now sessions.now table.now locks.new) }
 {
+    let policy = Policy { fs, tree, sessions };
     'inodes: loop {
-        if let Some(ticket) = advance(fs, tree, sessions, table, locks, *place) {
+        if let Some(ticket) = advance(&policy, table, locks, *place) {
             return Some(ticket);
         }
         match next_touched(touched, ino, place.at) {

@@ -7,6 +7,7 @@ mod bytes;
 mod laws;
 mod locks;
 mod moves;
+mod policy;
 mod request;
 mod states;
 mod waiters;
@@ -19,6 +20,7 @@ pub use laws::{
 };
 pub use locks::Locks;
 pub use moves::Move;
+pub use policy::Policy;
 pub use request::{Ask, Change, Request};
 pub use states::InodeLocks;
 pub use waiters::MAX_WAITING;
