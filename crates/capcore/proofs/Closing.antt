@@ -59,7 +59,13 @@ module _ (at from : ℕ → Bool) (first settled : Scene) (told : List Ended) (s
   told-but_own order last own next given =
       subst (λ (ms : List Ended). earlier last ms ≡ but_for own ms) (sym settles.ended_is) (earlier-but_own first settled settles.moves made order last own next given)
 
--- ---- the entries at the end: each has one row still
+-- ---- at the end the sessions are as they were, and each entry has one row still
+
+pub ends-sessions : (from : ℕ → Bool) (was now : KnownSets) (first last : Scene) (told : List Ended) → EndsWith from was now first last told → last.sessions ≡ first.sessions
+ends-sessions from was now first last told ends =
+    let settles = ends.settles in
+    let moved = moved-all first settles.moves ends.settled (made ends.at from first ends.settled told ends.sized settles) in
+    ap (λ (s : Scene). s.sessions) ends.finished ∙ moved.sessions
 
 pub ends-table : (from : ℕ → Bool) (was now : KnownSets) (first last : Scene) (told : List Ended) → EndsWith from was now first last told → IsTable first.table → IsTable last.table
 ends-table from was now first last told ends table =

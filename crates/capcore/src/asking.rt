@@ -36,35 +36,26 @@ impl World {
         ensures changes { IfOk result (λ said. AreChanges said.changes.items (view_of self.old) (view_of self.new)) }
         ensures err { OnErr result (self.new ≡ self.old) }
     {
-        let (tree, holder) = (&self.tree, Holder { client, ino });
+        let (tree, holder) = (&self.scene.tree, Holder { client, ino });
         if let Some(stopped) = ask_stop(
-            &self.fs,
+            &self.scene.fs,
             tree,
-            &self.sessions,
-            &self.locks,
+            &self.scene.sessions,
+            &self.scene.locks,
             holder,
             asked,
         ) {
             return Ok(Said::alone(self.messages.alloc(), stopped.into_reply()));
         }
-        let waiting = self.locks.waiting() + 1;
+        let waiting = self.scene.locks.waiting() + 1;
         self.endings.begin(waiting, waiting + 1)?;
         let ask = copy_of_ask(self.messages.alloc(), asked)?;
         if let Err(refused) = self.messages.reserve(waiting) {
             drop(ask);
             return Err(refused);
         }
-        let ticket = self.locks.enqueue_tested(client, ino, ask);
-        end_at_one(
-            &self.fs,
-            &mut self.tree,
-            &self.sessions,
-            &mut self.table,
-            &mut self.known,
-            &mut self.locks,
-            ino,
-            &mut self.endings,
-        );
+        let ticket = self.scene.locks.enqueue_tested(client, ino, ask);
+        end_at_one(&mut self.scene, &mut self.known, ino, &mut self.endings);
         Ok(close_with(&mut self.messages, ticket, &mut self.endings))
     }
 }

@@ -34,25 +34,16 @@ impl World {
         ensures changes { IfOk result (λ said. AreChanges said.changes.items (view_of self.old) (view_of self.new)) }
         ensures err { OnErr result (self.new ≡ self.old) }
     {
-        let (fs, tree, holder) = (&self.fs, &self.tree, Holder { client, ino });
-        if let Some(stopped) = flush_stop(fs, tree, &self.sessions, &self.table, holder, change) {
+        let (fs, tree, holder) = (&self.scene.fs, &self.scene.tree, Holder { client, ino });
+        if let Some(stopped) = flush_stop(fs, tree, &self.scene.sessions, &self.scene.table, holder, change) {
             return Ok(Said::alone(self.messages.alloc(), stopped.into_reply()));
         }
-        let waiting = self.locks.waiting();
+        let waiting = self.scene.locks.waiting();
         self.endings.begin(waiting, waiting + 2)?;
-        alter(&mut self.tree, ino, change)?;
-        self.endings.changes.note_change(&self.tree, ino, change);
-        self.table.touch(client, ino);
-        end_at_one(
-            &self.fs,
-            &mut self.tree,
-            &self.sessions,
-            &mut self.table,
-            &mut self.known,
-            &mut self.locks,
-            ino,
-            &mut self.endings,
-        );
+        alter(&mut self.scene.tree, ino, change)?;
+        self.endings.changes.note_change(&self.scene.tree, ino, change);
+        self.scene.table.touch(client, ino);
+        end_at_one(&mut self.scene, &mut self.known, ino, &mut self.endings);
         Ok(close(&mut self.messages, Reply::Done, &mut self.endings))
     }
 }

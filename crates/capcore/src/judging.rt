@@ -6,7 +6,7 @@ ghost use Rattle.captable.specs.Tests.{entry_test, release_tests};
 ghost use Rattle.inotree.specs.Tests.{inode_tests, known_test};
 ghost use Rattle.sessiontab.specs.Tests.{connected_test, session_tests};
 ghost use Rattle.capsteps.specs.Lockmachine.Locks.{LockMap};
-ghost use Rattle.capsteps.specs.Lockmachine.Scene.{Scene, scene};
+ghost use Rattle.capsteps.specs.Lockmachine.Scene.{Scene, scene as scene_of};
 ghost use Rattle.capsteps.specs.Capevents.declared.event.Event.TheVariants as event;
 ghost use Rattle.capsteps.specs.Caprules.Asks as words;
 ghost use Rattle.capsteps.specs.Caprules.Asks.{ask_after, ask_before, ask_needs};
@@ -26,7 +26,7 @@ use capsteps::serving::{
     ask_denial, before_refusal, change_access, change_refusal, places_refusal, rename_denial,
 };
 use capsteps::touch::{Touch, revoked_of};
-use capsteps::{Ask, Change, Locks, OpenMode, Stopped};
+use capsteps::{Ask, Change, Locks, OpenMode, Scene, Stopped};
 use captable::{CapTable, Holder};
 use inotree::Tree;
 use sessiontab::Sessions;
@@ -64,7 +64,7 @@ pub(crate) fn access_stop(
     holder: Holder,
     access: Access,
 ) -> Option<Stopped>
-    ensures { (table : Table) (locks : LockMap) → let s = scene fs.now tree.now sessions.now table locks in
+    ensures { (table : Table) (locks : LockMap) → let s = scene_of fs.now tree.now sessions.now table locks in
         result ≡ stop s (asked_tests s holder.client holder.ino.0) (need holder.client holder.ino.0 access ∷ []) [] }
 {
     match asked_refusal(sessions, tree, holder) {
@@ -77,17 +77,14 @@ pub(crate) fn access_stop(
 
 // What stops what is asked of an entry.
 pub(crate) fn touch_stop(
-    fs: &FsName,
-    tree: &Tree,
-    sessions: &Sessions,
-    table: &CapTable,
+    scene: &Scene,
     known: &Known,
     holder: Holder,
     touch: &Touch,
 ) -> Option<Stopped>
-    ensures { (locks : LockMap) → let s = scene fs.now tree.now sessions.now table.now locks in
-        AreKnown known.now.sets s → result ≡ judged s (touch_event holder.client holder.ino touch.now) }
+    ensures { AreKnown known.now.sets scene.now → result ≡ judged scene.now (touch_event holder.client holder.ino touch.now) }
 {
+    let (fs, tree, sessions, table) = (&scene.fs, &scene.tree, &scene.sessions, &scene.table);
     match touch {
         Touch::Open(mode) => open_stop(fs, tree, sessions, table, holder, *mode),
         Touch::Want(_) => by_test(want_refusal(sessions, tree, table, holder)),
@@ -106,7 +103,7 @@ fn open_stop(
     mode: OpenMode,
 ) -> Option<Stopped>
     ensures { (locks : LockMap) →
-        result ≡ judged (scene fs.now tree.now sessions.now table.now locks) (event.Open holder.client holder.ino mode) }
+        result ≡ judged (scene_of fs.now tree.now sessions.now table.now locks) (event.Open holder.client holder.ino mode) }
 {
     if let Some(refusal) = asked_refusal(sessions, tree, holder) {
         return Some(Stopped::ByTest(refusal));
@@ -125,7 +122,7 @@ fn opening_denial(
     holder: Holder,
     mode: OpenMode,
 ) -> Option<Stopped>
-    ensures { (table : Table) (locks : LockMap) → let s = scene fs.now tree.now sessions.now table locks in
+    ensures { (table : Table) (locks : LockMap) → let s = scene_of fs.now tree.now sessions.now table locks in
         result ≡ stop s [] (opening_needs holder.client holder.ino.0 mode) [] }
 {
     match mode {
@@ -188,7 +185,7 @@ fn ack_refusal(
     holder: Holder,
     seq: u64,
 ) -> Option<Refusal>
-    ensures { (fs : List ℕ) (locks : LockMap) → let s = scene fs tree.now sessions.now table.now locks in
+    ensures { (fs : List ℕ) (locks : LockMap) → let s = scene_of fs tree.now sessions.now table.now locks in
         AreKnown known.now.sets s → result ≡ first_failing (before s (event.Ack holder.client holder.ino seq)) }
 {
     match connected_refusal(sessions, tree, holder) {
@@ -227,7 +224,7 @@ pub(crate) fn ask_stop(
     holder: Holder,
     asked: Asked,
 ) -> Option<Stopped>
-    ensures { (table : Table) → let s = scene fs.now tree.now sessions.now table locks.now in let ask = ask_of asked.entry in
+    ensures { (table : Table) → let s = scene_of fs.now tree.now sessions.now table locks.now in let ask = ask_of asked.entry in
         result ≡ stop s (asking_tests s holder.client holder.ino.0 ask) (ask_needs s holder.client holder.ino.0 ask) (waiting_tests s holder.ino.0 ask) }
 {
     if let Some(refusal) = asking_refusal(sessions, tree, holder, asked) {
@@ -270,7 +267,7 @@ fn asking_denial(
     holder: Holder,
     asked: Asked,
 ) -> Option<Stopped>
-    ensures { (table : Table) (locks : LockMap) → let s = scene fs.now tree.now sessions.now table locks in
+    ensures { (table : Table) (locks : LockMap) → let s = scene_of fs.now tree.now sessions.now table locks in
         result ≡ stop s [] (ask_needs s holder.client holder.ino.0 (ask_of asked.entry)) [] }
 {
     match asked {
@@ -317,7 +314,7 @@ pub(crate) fn flush_stop(
     change: &Change,
 ) -> Option<Stopped>
     ensures { (locks : LockMap) →
-        result ≡ judged (scene fs.now tree.now sessions.now table.now locks) (event.Flush holder.client holder.ino change.now) }
+        result ≡ judged (scene_of fs.now tree.now sessions.now table.now locks) (event.Flush holder.client holder.ino change.now) }
 {
     let access = change_access(change);
     if let Some(stopped) = access_stop(fs, tree, sessions, holder, access) {

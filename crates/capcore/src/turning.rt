@@ -33,38 +33,20 @@ impl World {
         ensures changes { IfOk result (λ said. AreChanges said.changes.items (view_of self.old) (view_of self.new)) }
         ensures err { OnErr result (self.new ≡ self.old) }
     {
-        if let Some(refusal) = turn_refusal(&self.sessions, client, turn) {
+        if let Some(refusal) = turn_refusal(&self.scene.sessions, client, turn) {
             return Ok(Said::alone(self.messages.alloc(), Reply::Refused(refusal)));
         }
         let (alloc, endings) = (self.messages.alloc(), &mut self.endings);
-        let mut room = Room::new(alloc, &self.table, &self.locks, client, turn, endings)?;
-        if let Err(refused) = turn_session(&mut self.sessions, client, turn) {
+        let mut room = Room::new(alloc, &self.scene.table, &self.scene.locks, client, turn, endings)?;
+        if let Err(refused) = turn_session(&mut self.scene.sessions, client, turn) {
             drop(room);
             return Err(refused);
         }
-        let (table, locks, messages) = (&mut self.table, &mut self.locks, &mut self.messages);
-        let known = &mut self.known;
-        leave(
-            table,
-            known,
-            locks,
-            messages,
-            client,
-            turn,
-            &mut room.dropped,
-        );
+        let (scene, known, messages) = (&mut self.scene, &mut self.known, &mut self.messages);
+        leave(scene, known, messages, client, turn, &mut room.dropped);
         let Room { others, dropped } = room;
-        end_at(
-            &self.fs,
-            &mut self.tree,
-            &self.sessions,
-            &mut self.table,
-            &mut self.known,
-            &mut self.locks,
-            ROOT,
-            others,
-            &mut self.endings,
-        );
+        let (scene, known, endings) = (&mut self.scene, &mut self.known, &mut self.endings);
+        end_at(scene, known, ROOT, others, endings);
         Ok(close_dropped(&mut self.messages, dropped, &mut self.endings))
     }
 }

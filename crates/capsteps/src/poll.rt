@@ -9,7 +9,7 @@ ghost use Rattle.capacts.specs.Caprules.Messages.{after_messages, caps_messages,
 ghost use Rattle.capacts.specs.Caprules.State.{State};
 
 use capacts::known::Known;
-use capacts::{Ended, Message, MessageList, copy_of_outcome};
+use capacts::{Ended, Message, MessageList, Scene, copy_of_outcome};
 use capbits::ClientId;
 use captable::{CapTable, EntryRow};
 use inotree::Tree;
@@ -19,24 +19,23 @@ use std::alloc::{AllocError, Global};
 pub fn due_messages(
     alloc: Global,
     ended: &[Ended],
-    tree: &Tree,
-    table: &CapTable,
+    scene: &Scene,
     known: &Known,
     client: ClientId,
     max: u32,
 ) -> Result<MessageList, AllocError>
-    ensures { IfOk result (λ due. (s : State) → s.scene.tree ≡ tree.now → s.scene.table ≡ table.now → AreKnown known.now.sets s.scene
+    ensures { IfOk result (λ due. (s : State) → s.scene.tree ≡ scene.now.tree → s.scene.table ≡ scene.now.table → AreKnown known.now.sets s.scene
         → s.messages ≡ ended.now
         → due ≡ first_messages s client max) }
 {
     let mut due = ended_messages(alloc, ended, client, max)?;
-    let mut left = table.due_count(client);
+    let mut left = scene.table.due_count(client);
     if left == 0 {
         return Ok(due);
     }
-    let mut walk = table.due_of(client);
+    let mut walk = scene.table.due_of(client);
     'rows: while let Some(row) = walk.next() {
-        add_due(&mut due, max, tree, known, &row)?;
+        add_due(&mut due, max, &scene.tree, known, &row)?;
         left = left_behind(left, &row);
         // Behind the last that is due the walk would come to nothing.
         if left == 0 {

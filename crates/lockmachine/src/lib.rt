@@ -9,6 +9,7 @@ mod locks;
 mod moves;
 mod policy;
 mod request;
+mod scene;
 mod states;
 mod waiters;
 mod wants;
@@ -22,6 +23,7 @@ pub use locks::Locks;
 pub use moves::Move;
 pub use policy::Policy;
 pub use request::{Ask, Change, Request};
+pub use scene::Scene;
 pub use states::InodeLocks;
 pub use waiters::MAX_WAITING;
 pub use wants::{

@@ -18,15 +18,15 @@ use Rattle.capsteps.proofs.Strays.{forget-one}
 use Rattle.capsteps.proofs.finish.finish_alone.Goals as goal
 
 pub finish_holder-requires-clause-room : goal.finish_holder-requires-clause-room
-finish_holder-requires-clause-room c = room-of c.args.known.now.sets c.args.table.now c.args.holder c.requires.room
+finish_holder-requires-clause-room c = room-of c.args.known.now.sets c.args.scene.now.table c.args.holder c.requires.room
 
 pub returns-clause-ends : goal.returns-clause-ends
 returns-clause-ends c =
-    let fs = c.args.fs.now in
-    let tree = c.args.tree.now in
-    let sessions = c.args.sessions.now in
-    let locks = c.args.locks.now in
-    let t : Table = c.args.table.now in
+    let fs = c.args.scene.now.fs in
+    let tree = c.args.scene.now.tree in
+    let sessions = c.args.scene.now.sessions in
+    let locks = c.args.scene.now.locks in
+    let t : Table = c.args.scene.now.table in
     let k : Holder = c.args.holder in
     let was = c.args.known.now.sets in
     let settled : Scene = scene fs tree sessions t locks in
@@ -43,7 +43,7 @@ returns-clause-ends c =
     c.finish_holder.ensures.known in
     record {
       finished =
-          c.forget_unheld.ensures.left fs sessions
+          c.forget_unheld.ensures.left
           ∙ sym (forget-one k.ino.0 (scene fs tree sessions c.finish_holder.new.table locks))
           ∙ ap (λ (u : Table). forget_among (λ other. other == k.ino.0) (scene fs tree sessions u locks)) all
           ∙ ap (finished_at (λ other. other == k.ino.0) (known_in was)) (sym (none-sized settled));
