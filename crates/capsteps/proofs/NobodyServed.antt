@@ -72,9 +72,9 @@ module _ (ino : ℕ) (from : ℕ → Bool) (touched : InoSet) (first settled : S
       let there = settles.settles in
       let same = there.same in
       let tree = tree-stays ino from touched first settled ended sized settles nobody in
-      subst (λ (s : Scene). OthersHaveAll sets s k)
-      (λ i. record { fs = sym same.fs i; tree = sym tree i; sessions = sym same.sessions i; table = sym same.table i; locks = settled.locks })
-      (still-all_there sets first settled.locks k here others)
+      let whole : record first { locks = settled.locks } ≡ settled =
+      λ i. record { fs = sym same.fs i; tree = sym tree i; sessions = sym same.sessions i; table = sym same.table i; locks = settled.locks } in
+      subst (λ (s : Scene). OthersHaveAll sets s k) whole (still-all_there sets first settled.locks k here others)
 
 -- ---- the step
 
