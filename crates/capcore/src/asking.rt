@@ -36,15 +36,8 @@ impl World {
         ensures changes { IfOk result (λ said. AreChanges said.changes.items (view_of self.old) (view_of self.new)) }
         ensures err { OnErr result (self.new ≡ self.old) }
     {
-        let (tree, holder) = (&self.scene.tree, Holder { client, ino });
-        if let Some(stopped) = ask_stop(
-            &self.scene.fs,
-            tree,
-            &self.scene.sessions,
-            &self.scene.locks,
-            holder,
-            asked,
-        ) {
+        let holder = Holder { client, ino };
+        if let Some(stopped) = ask_stop(&self.scene, holder, asked) {
             return Ok(Said::alone(self.messages.alloc(), stopped.into_reply()));
         }
         let waiting = self.scene.locks.waiting() + 1;

@@ -34,14 +34,16 @@ impl World {
         ensures changes { IfOk result (λ said. AreChanges said.changes.items (view_of self.old) (view_of self.new)) }
         ensures err { OnErr result (self.new ≡ self.old) }
     {
-        let (fs, tree, holder) = (&self.scene.fs, &self.scene.tree, Holder { client, ino });
-        if let Some(stopped) = flush_stop(fs, tree, &self.scene.sessions, &self.scene.table, holder, change) {
+        let holder = Holder { client, ino };
+        if let Some(stopped) = flush_stop(&self.scene, holder, change) {
             return Ok(Said::alone(self.messages.alloc(), stopped.into_reply()));
         }
         let waiting = self.scene.locks.waiting();
         self.endings.begin(waiting, waiting + 2)?;
         alter(&mut self.scene.tree, ino, change)?;
-        self.endings.changes.note_change(&self.scene.tree, ino, change);
+        self.endings
+            .changes
+            .note_change(&self.scene.tree, ino, change);
         self.scene.table.touch(client, ino);
         end_at_one(&mut self.scene, &mut self.known, ino, &mut self.endings);
         Ok(close(&mut self.messages, Reply::Done, &mut self.endings))

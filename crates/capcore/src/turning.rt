@@ -37,7 +37,14 @@ impl World {
             return Ok(Said::alone(self.messages.alloc(), Reply::Refused(refusal)));
         }
         let (alloc, endings) = (self.messages.alloc(), &mut self.endings);
-        let mut room = Room::new(alloc, &self.scene.table, &self.scene.locks, client, turn, endings)?;
+        let mut room = Room::new(
+            alloc,
+            &self.scene.table,
+            &self.scene.locks,
+            client,
+            turn,
+            endings,
+        )?;
         if let Err(refused) = turn_session(&mut self.scene.sessions, client, turn) {
             drop(room);
             return Err(refused);

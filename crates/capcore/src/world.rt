@@ -369,7 +369,8 @@ impl World {
         ensures err { OnErr result (self.new ≡ self.old) }
     {
         let grants = grants.copy()?;
-        self.scene.sessions
+        self.scene
+            .sessions
             .open_session_tested(client, caller.copy(), grants)?;
         Ok(())
     }
@@ -399,8 +400,7 @@ impl World {
         ensures changes { OnOk result (AreChanges changes.new.items (view_of self.old) (view_of self.new)) }
         ensures err { OnErr result (self.new ≡ self.old) }
     {
-        let (fs, tree) = (&self.scene.fs, &self.scene.tree);
-        if let Some(stopped) = access_stop(fs, tree, &self.scene.sessions, holder, Access::Write) {
+        if let Some(stopped) = access_stop(&self.scene, holder, Access::Write) {
             return Ok(stopped.into_reply());
         }
         if let Some(refusal) = self.scene.tree.new_inode_refusal(holder.ino, name) {
@@ -442,8 +442,8 @@ impl World {
         ensures seen { OnOk result (Shows (view_of self.old) (view_of self.new)) }
         ensures err { OnErr result (self.new ≡ self.old) }
     {
-        let (fs, tree, holder) = (&self.scene.fs, &self.scene.tree, Holder { client, ino });
-        if let Some(stopped) = access_stop(fs, tree, &self.scene.sessions, holder, Access::Snapshot) {
+        let holder = Holder { client, ino };
+        if let Some(stopped) = access_stop(&self.scene, holder, Access::Snapshot) {
             return Ok(stopped.into_reply());
         }
         if let Some(refusal) = self.scene.tree.new_snapshot_refusal(ino, name) {
@@ -463,8 +463,8 @@ impl World {
         ensures seen { OnOk result (Shows (view_of self.old) (view_of self.new)) }
         ensures err { OnErr result (self.new ≡ self.old) }
     {
-        let (fs, tree, holder) = (&self.scene.fs, &self.scene.tree, Holder { client, ino });
-        if let Some(stopped) = access_stop(fs, tree, &self.scene.sessions, holder, Access::Snapshot) {
+        let holder = Holder { client, ino };
+        if let Some(stopped) = access_stop(&self.scene, holder, Access::Snapshot) {
             return Ok(stopped.into_reply());
         }
         if let Some(refusal) = self.scene.tree.old_snapshot_refusal(ino, name) {

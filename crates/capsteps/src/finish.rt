@@ -63,12 +63,7 @@ pub fn finish(
 
 /// The same at the holder's inode alone, where each other entry on it has all that the end of the step would give it: only the
 /// holder's is gone through.
-pub fn finish_alone(
-    scene: &mut Scene,
-    known: &mut Known,
-    holder: Holder,
-    changes: &mut ChangeList,
-)
+pub fn finish_alone(scene: &mut Scene, known: &mut Known, holder: Holder, changes: &mut ChangeList)
     requires others { OthersHaveAll known.old.sets scene.old holder }
     requires place { length changes.old.items < changes.old.room }
     requires number { IfSome (entry_at scene.old.table holder) (λ entry. entry.seq < 2 ^ 64 - 1) }

@@ -28,20 +28,13 @@ use capacts::known::Known;
 use capacts::reach::reach;
 use capacts::serving::{Served, serve};
 use capacts::sweep::{SweepPlace, advance};
-use capacts::{
-    Ask, Change, ChangeList, InoSet, InodeLocks, Locks, Move, Outcome, Request, Scene,
-};
+use capacts::{Ask, Change, ChangeList, InoSet, InodeLocks, Locks, Move, Outcome, Request, Scene};
 use capbits::{Ino, Ticket};
 use captable::{CapTable, Holder};
 use inotree::Setting;
 
 /// Lets the locks settle after an event about one inode, and ends the step. The locks of every other inode are quiet.
-pub fn end_at_one(
-    scene: &mut Scene,
-    known: &mut Known,
-    ino: Ino,
-    endings: &mut Endings,
-)
+pub fn end_at_one(scene: &mut Scene, known: &mut Known, ino: Ino, endings: &mut Endings)
     requires quiet { IsQuietOutside (λ other. other == ino.0) scene.old }
     requires tree { IsTree scene.old.tree }
     requires order { IsLockMap scene.old.locks }
@@ -66,12 +59,7 @@ pub fn end_at_one(
 }
 
 /// The same after an event that is about one entry, before which the state was sound.
-pub fn end_at_entry(
-    scene: &mut Scene,
-    known: &mut Known,
-    holder: Holder,
-    endings: &mut Endings,
-)
+pub fn end_at_entry(scene: &mut Scene, known: &mut Known, holder: Holder, endings: &mut Endings)
     requires quiet { IsQuietOutside (λ other. other == holder.ino.0) scene.old }
     requires tree { IsTree scene.old.tree }
     requires order { IsLockMap scene.old.locks }
@@ -133,13 +121,7 @@ fn is_as_before(
 
 /// Lets the locks settle after an event, and ends the step. The event was about one inode and the others; the locks of all
 /// besides are quiet.
-pub fn end_at(
-    scene: &mut Scene,
-    known: &mut Known,
-    ino: Ino,
-    others: InoSet,
-    endings: &mut Endings,
-)
+pub fn end_at(scene: &mut Scene, known: &mut Known, ino: Ino, others: InoSet, endings: &mut Endings)
     requires quiet { IsQuietOutside (is_touched ino.0 others) scene.old }
     requires tree { IsTree scene.old.tree }
     requires order { IsLockMap scene.old.locks }
@@ -196,12 +178,7 @@ fn end_settled(
 
 // Makes the moves, always the first that applies, until none does. Each request that is served ends, once for its client and
 // once for the history. It answers the other inodes of the event, and those that were moved with one of them.
-fn settle(
-    scene: &mut Scene,
-    ino: Ino,
-    others: InoSet,
-    endings: &mut Endings,
-) -> InoSet
+fn settle(scene: &mut Scene, ino: Ino, others: InoSet, endings: &mut Endings) -> InoSet
     requires quiet { IsQuietOutside (is_touched ino.0 others) scene.old }
     requires tree { IsTree scene.old.tree }
     requires order { IsLockMap scene.old.locks }
@@ -279,12 +256,7 @@ fn place_behind(place: SweepPlace, changed: Option<Ino>, touched: &InoSet, ino: 
 
 // Lets the locks of the touched inodes move, one inode after the other, from where the sweep has come to, until a request is to be
 // served, whose number it answers, or no move applies.
-fn sweep(
-    scene: &mut Scene,
-    ino: Ino,
-    touched: &InoSet,
-    place: &mut SweepPlace,
-) -> Option<Ticket>
+fn sweep(scene: &mut Scene, ino: Ino, touched: &InoSet, place: &mut SweepPlace) -> Option<Ticket>
     requires place { StandsAt (is_touched ino.0 touched.now) place.old scene.old }
     requires still { AreStill (is_touched ino.0 touched.now) scene.old }
     requires waits { WaitAt (is_touched ino.0 touched.now) scene.old }

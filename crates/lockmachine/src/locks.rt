@@ -467,7 +467,7 @@ impl Locks {
 
     // The first request for a lock, where it may be served.
     fn first_where_served(&self, ino: Ino, part: Part) -> Option<Ticket>
-        ensures number { result ≡ waiting.served_of self.now (requests.first_for self.now.queue ino.0 part) }
+        ensures number { result ≡ moves.served_of self.now (requests.first_for self.now.queue ino.0 part) }
         ensures sound { words.IsLockMap self.now }
     {
         let first = self.waiters.first_at(ino, part)?;

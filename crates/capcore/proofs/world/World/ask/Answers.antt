@@ -34,7 +34,7 @@ returns-in-Some-clause-answered c = λ e asked.
     let s = c.args.self.now in
     let sound : IsSound s = subst IsSound c.self.view_is c.self.invariant.0 in
     stopped-answered s e c.in-Some.stopped c.alone.result sound c.requires.table
-    (asking-stop e (holder c.args.client c.args.ino) (ask_of c.args.asked) s.scene asked ∙ asking-at _ s c.args.client c.args.ino.0 (ask_of c.args.asked) c.ask_stop.result c.self.view_is (c.ask_stop.ensures c.self.inside.scene.table) ∙ c.in-Some.is)
+    (asking-stop e (holder c.args.client c.args.ino) (ask_of c.args.asked) s.scene asked ∙ asking-at _ s c.args.client c.args.ino.0 (ask_of c.args.asked) c.ask_stop.result c.self.view_is c.ask_stop.ensures ∙ c.in-Some.is)
     (c.alone.ensures.reply ∙ c.into_reply.ensures.reply) (c.alone.ensures.kept ∙ sym c.alone.ensures.reply) c.alone.ensures.ended
 
 pub returns-in-Some-clause-changes : goal.returns-in-Some-clause-changes
@@ -53,7 +53,7 @@ module _ (c : After-waiting-waiting) where
   ask = ask_of c.args.asked
 
   free : stop old.scene (asking_tests old.scene c.args.client c.args.ino.0 ask) (ask_needs old.scene c.args.client c.args.ino.0 ask) (waiting_tests old.scene c.args.ino.0 ask) ≡ None
-  free = sym (c.ask_stop.ensures c.self.inside.scene.table) ∙ c.in_default.is
+  free = sym c.ask_stop.ensures ∙ c.in_default.is
 
 -- what waits is a copy of it
 module _ (c : After-enqueue_tested-ticket) where

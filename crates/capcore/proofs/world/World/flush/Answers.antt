@@ -37,14 +37,14 @@ returns-in-Some-clause-answered c =
     let s = c.args.self.now in
     let sound : IsSound s = subst IsSound c.self.view_is c.self.invariant.0 in
     stopped-answered s (event.Flush c.args.client c.args.ino c.args.change.now) c.in-Some.stopped c.alone.result sound c.requires.table
-    (judged-at _ s (event.Flush c.args.client c.args.ino c.args.change.now) c.flush_stop.result c.self.view_is (c.flush_stop.ensures c.self.inside.scene.locks) ∙ c.in-Some.is)
+    (judged-at _ s (event.Flush c.args.client c.args.ino c.args.change.now) c.flush_stop.result c.self.view_is c.flush_stop.ensures ∙ c.in-Some.is)
     (c.alone.ensures.reply ∙ c.into_reply.ensures.reply) (c.alone.ensures.kept ∙ sym c.alone.ensures.reply) c.alone.ensures.ended
 
 pub alter-requires : goal.alter-requires
 alter-requires c =
     let old : State = record { scene = c.self.inside.scene; messages = c.self.inside.messages.items } in
     let e : Event = event.Flush c.args.client c.args.ino c.args.change.now in
-    let passed : judged old.scene e ≡ None = sym (c.flush_stop.ensures c.self.inside.scene.locks) ∙ c.in_default.is in
+    let passed : judged old.scene e ≡ None = sym c.flush_stop.ensures ∙ c.in_default.is in
     record { passed = flush-calls old.scene (holder c.args.client c.args.ino) c.args.change.now passed }
 
 -- ---- one that nothing stops, by itself
@@ -63,7 +63,7 @@ module _ (c : After-touch) where
   first = record old.scene { tree = c.alter.new.tree; table = c.touch.new.self }
 
   passed : judged old.scene e ≡ None
-  passed = sym (c.flush_stop.ensures c.self.inside.scene.locks) ∙ c.in_default.is
+  passed = sym c.flush_stop.ensures ∙ c.in_default.is
 
   by_itself : direct old e ≡ says (with_flush old k c.args.change.now) reply.Done
   by_itself = flush-direct old k c.args.change.now passed
