@@ -11,7 +11,7 @@ use Rattle.captable.specs.Table.{IsTable}
 use Rattle.captable.specs.Calls.{is_of_inode, entries_on}
 use Rattle.capsteps.specs.Lockmachine.Locks.{IsLockMap, lock_at}
 use Rattle.capsteps.specs.Lockmachine.Requests.{first_for}
-use Rattle.capsteps.specs.Lockmachine.Scene.{Scene}
+use Rattle.capsteps.specs.Lockmachine.declared.scene.Scene.{Scene}
 use Rattle.capsteps.specs.Lockmachine.Moves.{IsQuietOutside}
 use Rattle.capsteps.proofs.Lockmachine.Finding.{filter-contains}
 use Rattle.capsteps.proofs.Lockmachine.SameOutside.{outside-one, rest-outside}

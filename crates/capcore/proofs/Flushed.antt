@@ -18,7 +18,7 @@ use Rattle.capsteps.specs.Lockmachine.declared.request.Change.{Change}
 use Rattle.capsteps.specs.Lockmachine.Elsewhere.{IsSameBut}
 use Rattle.capsteps.specs.Lockmachine.Moves.{IsQuiet}
 use Rattle.capsteps.specs.Lockmachine.Requests.{part_of_change}
-use Rattle.capsteps.specs.Lockmachine.Scene.{Scene}
+use Rattle.capsteps.specs.Lockmachine.declared.scene.Scene.{Scene}
 use Rattle.capsteps.proofs.Lockmachine.SameBut.{same-trans, same-tree, same-entries}
 use Rattle.capsteps.specs.Capevents.declared.event.Event.TheVariants as event
 use Rattle.capsteps.specs.Capevents.declared.reply.Reply.TheVariants as reply

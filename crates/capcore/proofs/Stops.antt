@@ -8,7 +8,7 @@ use Rattle.inotree.specs.Tests.{inode_tests}
 use Rattle.inotree.specs.Tree.{IsTree}
 use Rattle.sessiontab.specs.Tests.{session_tests}
 use Rattle.capsteps.specs.Lockmachine.Locks.{IsLockMap}
-use Rattle.capsteps.specs.Lockmachine.Scene.{Scene}
+use Rattle.capsteps.specs.Lockmachine.declared.scene.Scene.{Scene}
 use Rattle.capsteps.proofs.Judging.{no_test}
 use Rattle.captable.specs.declared.entry.Holder.{Holder}
 use Rattle.captable.specs.Table.{IsTable}

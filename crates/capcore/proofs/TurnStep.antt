@@ -20,7 +20,7 @@ use Rattle.capsteps.specs.Lockmachine.declared.request.Request.{Request}
 use Rattle.capsteps.specs.Lockmachine.Locks.{LockMap, IsLockMap}
 use Rattle.capsteps.specs.Lockmachine.Requests.{is_of_client}
 use Rattle.capsteps.specs.Lockmachine.Moves.{IsQuietOutside}
-use Rattle.capsteps.specs.Lockmachine.Scene.{Scene}
+use Rattle.capsteps.specs.Lockmachine.declared.scene.Scene.{Scene}
 use Rattle.capsteps.proofs.Lockmachine.Queue.{without_requests_of-kept}
 use Rattle.capsteps.proofs.Lockmachine.SameOutside.{rest-outside}
 use Rattle.capsteps.specs.Capnotes.InoSets.{InoSet}

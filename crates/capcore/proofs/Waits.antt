@@ -10,7 +10,7 @@ use Rattle.captable.specs.declared.entry.Holder.{Holder}
 use Rattle.capsteps.specs.Lockmachine.declared.request.Ask.{Ask}
 use Rattle.capsteps.specs.Lockmachine.declared.request.Ask.TheVariants.{Get, Alter, Unlink, Rmdir, Rename}
 use Rattle.capsteps.specs.Lockmachine.Locks.{LockMap, IsLockMap, queue_tests, with_request}
-use Rattle.capsteps.specs.Lockmachine.Scene.{Scene}
+use Rattle.capsteps.specs.Lockmachine.declared.scene.Scene.{Scene}
 use Rattle.capsteps.specs.Lockmachine.Moves.{IsQuietOutside}
 use Rattle.capsteps.proofs.Lockmachine.SameOutside.{rest-outside}
 use Rattle.captable.specs.Table.{IsTable}

@@ -20,7 +20,7 @@ use Rattle.capacts.specs.Lockmachine.declared.request.Request.{Request}
 use Rattle.capacts.specs.Lockmachine.Inodes.{lock_in}
 use Rattle.capacts.specs.Lockmachine.Requests.{is_numbered, first_for, is_for}
 use Rattle.capacts.specs.Lockmachine.Locks.{LockMap, IsLockMap, lock_at, with_lock}
-use Rattle.capacts.specs.Lockmachine.Scene.{Scene}
+use Rattle.capacts.specs.Lockmachine.declared.scene.Scene.{Scene}
 use Rattle.capacts.specs.Lockmachine.Moves.{LockPlace, present_state, coming_state, first_move, moved, with_moved}
 use Rattle.capacts.specs.Lockmachine.Runs.{Runs}
 use Rattle.capacts.specs.Lockmachine.Rows.{IsInRow}

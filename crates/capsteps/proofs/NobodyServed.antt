@@ -12,7 +12,7 @@ use Rattle.captable.specs.declared.entry.Holder.{Holder}
 use Rattle.captable.specs.Table.{Table}
 use Rattle.capacts.specs.Lockmachine.Locks.{LockMap}
 use Rattle.capacts.specs.Lockmachine.Policy.{permitted}
-use Rattle.capacts.specs.Lockmachine.Scene.{Scene}
+use Rattle.capacts.specs.Lockmachine.declared.scene.Scene.{Scene}
 use Rattle.capacts.specs.Capevents.declared.outcome.Ended.{Ended}
 use Rattle.capacts.specs.Finishing.{due_under, told_under}
 use Rattle.capacts.specs.Capnotes.InoSets.{InoSet, IsNext}

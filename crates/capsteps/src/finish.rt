@@ -9,7 +9,7 @@ ghost use Rattle.sessiontab.specs.Calls.{has_session};
 ghost use Rattle.captable.specs.Table.{IsTable, same, is_row_of, entry_at};
 ghost use Rattle.captable.specs.Calls.{told, changed, is_of_inode, entries_on};
 ghost use Rattle.captable.specs.Many.{changed_by, changed_where};
-ghost use Rattle.capacts.specs.Lockmachine.Scene.{Scene};
+ghost use Rattle.capacts.specs.Lockmachine.declared.scene.Scene.{Scene};
 ghost use Rattle.capacts.specs.Finishing as words;
 ghost use Rattle.capacts.specs.Caprules.Direct.{opened_as};
 ghost use Rattle.capacts.specs.Known.{AreKnown, HaveRoom, KeptAnew, OthersHaveAll, kept_of, known_in};

@@ -3,7 +3,8 @@ ghost use Rattle.std.specs.Prelude.{◌≡◌, ◌≤◌, ◌-◌, ◌++◌, [],
 ghost use Rattle.captable.specs.Table.{IsTable};
 ghost use Rattle.captable.specs.Calls.{is_of_client, is_due};
 ghost use Rattle.captable.specs.Many.{changed_where};
-ghost use Rattle.capacts.specs.Lockmachine.Scene.{Scene, told_set};
+ghost use Rattle.capacts.specs.Lockmachine.declared.scene.Scene.{Scene};
+ghost use Rattle.capacts.specs.Lockmachine.Scene.{told_set};
 ghost use Rattle.capacts.specs.Known.{AreKnown, known_in};
 ghost use Rattle.capacts.specs.Caprules.Messages.{after_messages, caps_messages, end_messages, first_messages, row_messages, size_messages};
 ghost use Rattle.capacts.specs.Caprules.State.{State};

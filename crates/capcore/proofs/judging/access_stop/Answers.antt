@@ -1,5 +1,5 @@
 use Rattle.std.proofs.Common.{[], ◌∷◌, None, sym, ap, ◌∙◌}
-use Rattle.capsteps.specs.Lockmachine.Scene.{Scene}
+use Rattle.capsteps.specs.Lockmachine.declared.scene.Scene.{Scene}
 use Rattle.capsteps.specs.Caprules.Judge.{asked_tests, first_denied, stop_by}
 use Rattle.capsteps.specs.Caprules.Needs.{need}
 use Rattle.capsteps.proofs.Capacts.Again.{denial-stop, stopped-before}

@@ -1,7 +1,7 @@
 use Rattle.std.proofs.Common.{◌≡◌, [], ◌∷◌, refl, sym, ap, ◌∙◌}
 use Rattle.std.specs.Option.{option_map}
 use Rattle.capgrant.specs.declared.access.Access.{Access}
-use Rattle.capsteps.specs.Lockmachine.Scene.{Scene}
+use Rattle.capsteps.specs.Lockmachine.declared.scene.Scene.{Scene}
 use Rattle.capsteps.specs.Capevents.declared.event.Event.{Event}
 use Rattle.capsteps.specs.Capevents.declared.event.Event.TheVariants.{Flush}
 use Rattle.capsteps.specs.Caprules.declared.stopped.Stopped.TheVariants.{ByTest}

@@ -2,7 +2,7 @@ use Rattle.std.proofs.Common.{◌≡◌, Option, Some, None, refl, sym, ap, ◌�
 use Rattle.std.specs.Option.{option_map}
 use Rattle.capbits.specs.Refusal.{first_failing}
 use Rattle.capbits.specs.declared.refusal.Refusal.{Refusal}
-use Rattle.capsteps.specs.Lockmachine.Scene.{Scene}
+use Rattle.capsteps.specs.Lockmachine.declared.scene.Scene.{Scene}
 use Rattle.capsteps.specs.Capevents.declared.event.Event.{Event}
 use Rattle.capsteps.specs.Capevents.declared.event.Event.TheVariants.{Ack}
 use Rattle.capsteps.specs.Caprules.declared.stopped.Stopped.TheVariants.{ByTest}

@@ -16,7 +16,8 @@ use Rattle.captable.specs.Table.{Table, is_row_of}
 use Rattle.captable.specs.Calls.{is_of_inode, entries_on}
 use Rattle.captable.specs.Many.{changed_where}
 use Rattle.capacts.specs.Lockmachine.declared.states.InodeLocks.{InodeLocks}
-use Rattle.capacts.specs.Lockmachine.Scene.{Scene, scene}
+use Rattle.capacts.specs.Lockmachine.declared.scene.Scene.{Scene}
+use Rattle.capacts.specs.Lockmachine.Scene.{scene}
 use Rattle.capacts.specs.Finishing.{told_at, told_by, entry_under, entry_by, is_on}
 use Rattle.capacts.specs.Capnotes.InoSets.{InoSet}
 use Rattle.capacts.specs.Known.{known_in, HaveRoom}

@@ -7,7 +7,8 @@ use Rattle.captable.specs.Table.{Table, IsTable, same}
 use Rattle.captable.proofs.Tables.{same-is}
 use Rattle.captable.specs.Many.{changed_by, changed_where}
 use Rattle.capacts.specs.Lockmachine.declared.states.InodeLocks.{InodeLocks}
-use Rattle.capacts.specs.Lockmachine.Scene.{Scene, scene}
+use Rattle.capacts.specs.Lockmachine.declared.scene.Scene.{Scene}
+use Rattle.capacts.specs.Lockmachine.Scene.{scene}
 use Rattle.capacts.specs.Finishing.{entry_under, told_at}
 use Rattle.capacts.specs.Known.{known_in, KeptAnew}
 use Rattle.capsteps.specs.Touching.{forget_among, finished_at, finished_entry, told_then}

@@ -2,7 +2,7 @@ use Rattle.std.proofs.Common.{◌≡◌, length, ℕ, List, [], ◌∷◌, refl,
 use Rattle.std.specs.List.{fold}
 use Rattle.std.specs.Map.Iter.{deref}
 use Rattle.std.proofs.lemmas.Map.Iter.{rest_more, rest_all}
-use Rattle.capacts.specs.Lockmachine.Scene.{Scene}
+use Rattle.capacts.specs.Lockmachine.declared.scene.Scene.{Scene}
 use Rattle.capacts.specs.Capnotes.InoSets.{IsListOf}
 use Rattle.capacts.proofs.Capnotes.Noting.{leads-none, leads-then}
 use Rattle.capsteps.proofs.Strays.{forget_on, forget-all_of}

@@ -2,7 +2,7 @@ use Rattle.std.proofs.Common.{◌<◌, subst, List}
 use Rattle.std.specs.Prelude.{All, IsTrue}
 use Rattle.capbits.specs.declared.ids.Ino.{Ino}
 use Rattle.sessiontab.specs.Calls.{has_session}
-use Rattle.capacts.specs.Lockmachine.Scene.{Scene}
+use Rattle.capacts.specs.Lockmachine.declared.scene.Scene.{Scene}
 use Rattle.capacts.specs.Known.{HaveRoom}
 use Rattle.capacts.specs.Reach.{is_touched}
 use Rattle.capsteps.specs.Serves.{EndsAt}

@@ -7,7 +7,7 @@ use Rattle.capbits.specs.declared.ids.Ino.{Ino}
 use Rattle.sessiontab.specs.Calls.{has_session}
 use Rattle.captable.specs.Table.{entry_at}
 use Rattle.captable.specs.Calls.{is_of_inode}
-use Rattle.capacts.specs.Lockmachine.Scene.{Scene}
+use Rattle.capacts.specs.Lockmachine.declared.scene.Scene.{Scene}
 use Rattle.capacts.specs.Capnotes.InoSets.{InoSet}
 use Rattle.capacts.specs.Known.{HaveRoom}
 use Rattle.capacts.specs.Reach.{is_touched}

@@ -2,7 +2,7 @@ use Rattle.std.proofs.Common.{◌<◌, sym, ap, subst, ◌∙◌}
 use Rattle.std.specs.Prelude.{All, IsTrue}
 use Rattle.sessiontab.specs.Calls.{has_session}
 use Rattle.captable.specs.Table.{Table}
-use Rattle.capacts.specs.Lockmachine.Scene.{Scene}
+use Rattle.capacts.specs.Lockmachine.declared.scene.Scene.{Scene}
 use Rattle.capacts.specs.Caprules.Finish.{is_sized, owed}
 use Rattle.capacts.specs.Reach.{is_touched}
 use Rattle.capacts.specs.Known.{known_in, HaveRoom, KeptAnew}

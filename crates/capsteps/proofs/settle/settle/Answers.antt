@@ -8,7 +8,7 @@ use Rattle.capacts.specs.Lockmachine.declared.request.Request.{Request}
 use Rattle.capacts.specs.Lockmachine.declared.moves.Move.TheVariants.{Serve}
 use Rattle.capacts.specs.Lockmachine.Locks.{IsLockMap, lock_at, request_at}
 use Rattle.capacts.specs.Lockmachine.Moves.{first_move}
-use Rattle.capacts.specs.Lockmachine.Scene.{Scene}
+use Rattle.capacts.specs.Lockmachine.declared.scene.Scene.{Scene}
 use Rattle.capacts.proofs.Lockmachine.Exact.{ends_not}
 use Rattle.capacts.proofs.Lockmachine.Waiting.{served-at}
 use Rattle.capacts.specs.Capevents.declared.outcome.Ended.{Ended}

@@ -1,5 +1,5 @@
 use Rattle.std.proofs.Common.{sym, subst}
-use Rattle.capacts.specs.Lockmachine.Scene.{Scene}
+use Rattle.capacts.specs.Lockmachine.declared.scene.Scene.{Scene}
 use Rattle.capacts.specs.Lockmachine.Runs.{MoveLittle}
 use Rattle.capacts.specs.Lockmachine.Turns.{IsDue}
 use Rattle.capacts.proofs.Lockmachine.Alone.{nobody-done, nobody-kept}

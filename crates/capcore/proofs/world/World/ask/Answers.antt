@@ -5,7 +5,7 @@ use Rattle.captable.specs.declared.entry.Holder.{Holder}
 use Rattle.captable.specs.Table.{holder}
 use Rattle.capsteps.specs.Lockmachine.declared.request.Ask.{Ask}
 use Rattle.capsteps.specs.Lockmachine.Locks.{LockMap, next_request, with_request}
-use Rattle.capsteps.specs.Lockmachine.Scene.{Scene}
+use Rattle.capsteps.specs.Lockmachine.declared.scene.Scene.{Scene}
 use Rattle.capsteps.specs.Capevents.declared.event.Event.{Event}
 use Rattle.capsteps.specs.Capevents.declared.outcome.Ended.{Ended}
 use Rattle.capsteps.specs.Caprules.State.{State}

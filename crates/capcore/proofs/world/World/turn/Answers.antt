@@ -7,7 +7,7 @@ use Rattle.sessiontab.specs.Table.{SessionTable}
 use Rattle.captable.specs.Table.{Table}
 use Rattle.capsteps.specs.Lockmachine.Locks.{IsLockMap}
 use Rattle.capsteps.specs.Lockmachine.Moves.{IsQuietOutside}
-use Rattle.capsteps.specs.Lockmachine.Scene.{Scene}
+use Rattle.capsteps.specs.Lockmachine.declared.scene.Scene.{Scene}
 use Rattle.capsteps.specs.Capevents.declared.event.Event.{Event}
 use Rattle.capsteps.specs.Capevents.declared.outcome.Ended.{Ended}
 use Rattle.capsteps.specs.Caprules.declared.stopped.Stopped.TheVariants.{ByTest}
