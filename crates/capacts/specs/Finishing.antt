@@ -73,10 +73,10 @@ entry_under known fs tree sessions locks row =
 
 -- both where the inode of the entry stands so
 abbrev pub told_in : Standing → EntryRow → Caps
-told_in standing row = told_at standing.fs.now standing.tree.now standing.sessions.now standing.locks.now row
+told_in standing row = told_at standing.fs.now standing.tree.now standing.sessions.now standing.locks row
 
 abbrev pub entry_in : (Holder → Caps) → Standing → EntryRow → Entry
-entry_in known standing row = entry_under known standing.fs.now standing.tree.now standing.sessions.now standing.locks.now row
+entry_in known standing row = entry_under known standing.fs.now standing.tree.now standing.sessions.now standing.locks row
 
 -- and by the locks of all inodes
 abbrev pub told_by : List ℕ → Nodes → SessionTable → StateMap → EntryRow → Caps

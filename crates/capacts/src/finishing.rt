@@ -23,13 +23,13 @@ use sessiontab::Sessions;
 /// How an inode stands at the end of a step, and by what the entries on it are judged: the parts of the policy, the path and the
 /// node that the inode has in the tree, and its locks.
 #[derive(Clone, Copy)]
-pub struct Standing<'a, 'n> {
-    pub fs: &'a FsName,
-    pub tree: &'a Tree,
-    pub sessions: &'a Sessions,
-    pub path: Option<&'a Names<'n>>,
-    pub node: Option<&'a Node>,
-    pub locks: &'a Option<InodeLocks>,
+pub struct Standing<'t, 'n> {
+    pub fs: &'t FsName,
+    pub tree: &'t Tree,
+    pub sessions: &'t Sessions,
+    pub path: Option<&'n Names<'t>>,
+    pub node: Option<&'t Node>,
+    pub locks: Option<InodeLocks>,
 }
 
 /// Issues what is due to the entry, which is there, numbers what its client is to know of, and keeps that. Its inode stands so.
@@ -56,8 +56,8 @@ pub fn finish_row(
         standing.path,
         standing.node,
     );
-    let due = wanted.meet(allowed_under(&row, standing.locks));
-    let told = told_under(&with_issued(&row, due), permitted, standing.locks);
+    let due = wanted.meet(allowed_under(&row, &standing.locks));
+    let told = told_under(&with_issued(&row, due), permitted, &standing.locks);
     let before = known.put(row.holder, told);
     issue(table, &row, due, before, told);
 }

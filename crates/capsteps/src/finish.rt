@@ -153,7 +153,7 @@ fn finish_entries(
         sessions: policy.sessions,
         path,
         node,
-        locks,
+        locks: *locks,
     };
     let mut place = table.first_place(ino);
     for number in numbers {
@@ -232,7 +232,7 @@ fn finish_holder(
             sessions: policy.sessions,
             path,
             node,
-            locks,
+            locks: *locks,
         };
         let row = EntryRow { holder, entry };
         finish_row(&standing, table, known, row);
