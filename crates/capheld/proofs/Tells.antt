@@ -107,7 +107,7 @@ laid_out (told.summary n) s = summary_apart (decimal n.inodes) (decimal n.entrie
 
 -- ---- kinds
 
-abbrev kind : Line → ℕ
+abbrev pub kind : Line → ℕ
 kind (told.held k p c n i x f) = 1
 kind (told.group c f n) = 2
 kind (told.conflict m p a b c) = 3

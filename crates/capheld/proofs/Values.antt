@@ -33,6 +33,7 @@ use Rattle.capheld.specs.Instead.{HasBytes, TellMore, value_of}
 use Rattle.capheld.specs.Objects.{access_value, caps_value, caps_or_null, path_value, session_value, why_value}
 use Rattle.capheld.specs.Told.{Line, IsOneInode, IsOneClient, TellTheSame, reasons}
 use Rattle.capheld.specs.Told as told
+use Rattle.capheld.proofs.Tells.{kind}
 use Rattle.capheld.proofs.Words.{is_letter, are_letters}
 
 -- ---- sets of caps
@@ -121,19 +122,6 @@ one_kind k l word =
 
 -- ---- kinds
 
-abbrev kind : Line → ℕ
-kind (told.held k p c n i x f) = 1
-kind (told.group c f n) = 2
-kind (told.conflict m p a b c) = 3
-kind (told.rivals a b c n) = 4
-kind (told.unnamed n) = 5
-kind (told.unlisted c) = 6
-kind (told.unread c f) = 7
-kind (told.strange k p c n) = 8
-kind (told.pathless k c n i) = 9
-kind told.nothing = 10
-kind (told.summary n) = 11
-
 abbrev by_word : List ℕ → List ℕ → ℕ
 by_word word each =
     if bytes_eq word (codes "held-beyond") then 1 else (if bytes_eq word (codes "group") then (if bytes_eq each (codes "conflict") then 4 else 2)
@@ -158,6 +146,9 @@ kind_is l = refl
 abbrev at_key : List ℕ → Option Data → Data
 at_key key value = value_at key (data_of value)
 
+abbrev number_at : List ℕ → Option Data → ℕ
+number_at key value = number_in (at_key key value)
+
 abbrev at_each : List ℕ → Option Data → Data
 at_each key value = value_at key (at_key (codes "each") value)
 
@@ -167,28 +158,28 @@ one_held k l p q c d m n i j x y f g fit fits same = (
   (
     one_spelling (path_text p) (path_text q) fit.0 fits.0 (ap (at_key (codes "path")) same),
     one_spelling c d fit.1 fits.1 (ap (at_key (codes "client")) same),
-    ap (λ (v : Option Data). number_in (at_key (codes "session") v)) same,
+    ap (number_at (codes "session")) same,
     one_set i j (ap (at_key (codes "holds")) same),
     one_set f.caps g.caps (ap (at_key (codes "may_not")) same),
     one_set_or_none (minus f.caps x) (minus g.caps y) (ap (at_key (codes "being_revoked")) same),
     one_why f.missing g.missing f.rules g.rules (ap (at_key (codes "rules")) same),
   ),
-  (ap (λ (v : Option Data). number_in (at_key (codes "inode") v)) same, one_missing f.missing g.missing fit.2 fits.2 (ap (at_key (codes "missing")) same)),
+  (ap (number_at (codes "inode")) same, one_missing f.missing g.missing fit.2 fits.2 (ap (at_key (codes "missing")) same)),
 )
 
 one_group : (c d : List ℕ) (f g : Finding) (m n : ℕ) → IsBytes c → IsBytes d → value_of (told.group c f m) ≡ value_of (told.group d g n) → TellTheSame (told.group c f m) (told.group d g n)
 one_group c d f g m n fit fits same = (
   one_why f.missing g.missing f.rules g.rules (ap (at_each (codes "rules")) same),
   one_spelling c d fit fits (ap (at_each (codes "client")) same),
-  ap (λ (v : Option Data). number_in (at_key (codes "count") v)) same,
+  ap (number_at (codes "count")) same,
 )
 
 one_conflict : (m n : ℕ) (p q : Option (List (List ℕ))) (a b x y : Option (List ℕ)) (c d : Conflict) → HasBytes (told.conflict m p a b c) → HasBytes (told.conflict n q x y d)
     → value_of (told.conflict m p a b c) ≡ value_of (told.conflict n q x y d) → TellTheSame (told.conflict m p a b c) (told.conflict n q x y d) × (m ≡ n)
 one_conflict m n p q a b x y c d fit fits same =
-    let number : m ≡ n = ap (λ (v : Option Data). number_in (at_key (codes "inode") v)) same in
-    let one_number : c.one.client ≡ d.one.client = ap (λ (v : Option Data). number_in (at_key (codes "session") v)) same in
-    let other_number : c.other.client ≡ d.other.client = ap (λ (v : Option Data). number_in (at_key (codes "other_session") v)) same in
+    let number : m ≡ n = ap (number_at (codes "inode")) same in
+    let one_number : c.one.client ≡ d.one.client = ap (number_at (codes "session")) same in
+    let other_number : c.other.client ≡ d.other.client = ap (number_at (codes "other_session")) same in
     let one_has : c.one.caps ≡ d.one.caps = one_set c.one.caps d.one.caps (ap (at_key (codes "caps")) same) in
     let other_has : c.other.caps ≡ d.other.caps = one_set c.other.caps d.other.caps (ap (at_key (codes "other_caps")) same) in
     let both : c ≡ d = λ i. record { one = record { client = one_number i; caps = one_has i }; other = record { client = other_number i; caps = other_has i } } in (
@@ -208,13 +199,13 @@ one_rivals a b x y c d m n fit fits same = (
   one_set c.one.caps d.one.caps (ap (at_each (codes "caps")) same),
   one_set c.other.caps d.other.caps (ap (at_each (codes "other_caps")) same),
   one_client c.other.client d.other.client b y fit.1 fits.1 (ap (at_each (codes "other_client")) same) (ap (at_each (codes "other_session")) same),
-  ap (λ (v : Option Data). number_in (at_key (codes "count") v)) same,
+  ap (number_at (codes "count")) same,
 )
 
 one_unread : (c d : List ℕ) (f g : SpecFault) → IsBytes c → IsBytes d → value_of (told.unread c f) ≡ value_of (told.unread d g) → TellTheSame (told.unread c f) (told.unread d g)
 one_unread c d f g fit fits same =
     let kind : f.kind ≡ g.kind = one_kind f.kind g.kind (ap (λ (v : Option Data). text_in (at_key (codes "fault") v)) same) in
-    let place : f.at ≡ g.at = ap (λ (v : Option Data). number_in (at_key (codes "at") v)) same in
+    let place : f.at ≡ g.at = ap (number_at (codes "at")) same in
     (one_spelling c d fit fits (ap (at_key (codes "client")) same), λ i. record { kind = kind i; at = place i })
 
 one_strange : (k l : ℕ) (p q : List (List ℕ)) (c d : List ℕ) (m n : ℕ) → HasBytes (told.strange k p c m) → HasBytes (told.strange l q d n) → value_of (told.strange k p c m) ≡ value_of (told.strange l q d n)
@@ -223,28 +214,28 @@ one_strange k l p q c d m n fit fits same = (
   (
     one_spelling (path_text p) (path_text q) fit.0 fits.0 (ap (at_key (codes "path")) same),
     one_spelling c d fit.1 fits.1 (ap (at_key (codes "client")) same),
-    ap (λ (v : Option Data). number_in (at_key (codes "session") v)) same,
+    ap (number_at (codes "session")) same,
   ),
-  ap (λ (v : Option Data). number_in (at_key (codes "inode") v)) same,
+  ap (number_at (codes "inode")) same,
 )
 
 one_pathless : (k l : ℕ) (c d : List ℕ) (m n : ℕ) (i j : List ℕ) → HasBytes (told.pathless k c m i) → HasBytes (told.pathless l d n j) → value_of (told.pathless k c m i) ≡ value_of (told.pathless l d n j)
     → TellTheSame (told.pathless k c m i) (told.pathless l d n j)
 one_pathless k l c d m n i j fit fits same = (
-  ap (λ (v : Option Data). number_in (at_key (codes "inode") v)) same,
+  ap (number_at (codes "inode")) same,
   one_spelling c d fit.0 fits.0 (ap (at_key (codes "client")) same),
-  ap (λ (v : Option Data). number_in (at_key (codes "session") v)) same,
+  ap (number_at (codes "session")) same,
   one_spelling i j fit.1 fits.1 (ap (at_key (codes "holds")) same),
 )
 
 one_summary : (m n : Counts) → value_of (told.summary m) ≡ value_of (told.summary n) → m ≡ n
 one_summary m n same =
-    let inodes : m.inodes ≡ n.inodes = ap (λ (v : Option Data). number_in (at_key (codes "inodes") v)) same in
-    let entries : m.entries ≡ n.entries = ap (λ (v : Option Data). number_in (at_key (codes "entries") v)) same in
-    let sessions : m.sessions ≡ n.sessions = ap (λ (v : Option Data). number_in (at_key (codes "sessions") v)) same in
-    let beyond : m.held_beyond ≡ n.held_beyond = ap (λ (v : Option Data). number_in (at_key (codes "held_beyond") v)) same in
-    let pairs : m.conflicts ≡ n.conflicts = ap (λ (v : Option Data). number_in (at_key (codes "conflicts") v)) same in
-    let others : m.not_judged ≡ n.not_judged = ap (λ (v : Option Data). number_in (at_key (codes "not_judged") v)) same in
+    let inodes : m.inodes ≡ n.inodes = ap (number_at (codes "inodes")) same in
+    let entries : m.entries ≡ n.entries = ap (number_at (codes "entries")) same in
+    let sessions : m.sessions ≡ n.sessions = ap (number_at (codes "sessions")) same in
+    let beyond : m.held_beyond ≡ n.held_beyond = ap (number_at (codes "held_beyond")) same in
+    let pairs : m.conflicts ≡ n.conflicts = ap (number_at (codes "conflicts")) same in
+    let others : m.not_judged ≡ n.not_judged = ap (number_at (codes "not_judged")) same in
     λ i. record { inodes = inodes i; entries = entries i; sessions = sessions i; held_beyond = beyond i; conflicts = pairs i; not_judged = others i }
 
 -- ---- two objects
@@ -254,7 +245,7 @@ of_kind (told.held k p c m i x f) (told.held l q d n j y g) e fit fits same = on
 of_kind (told.group c f m) (told.group d g n) e fit fits same = (one_group c d f g m n fit fits same, tt)
 of_kind (told.conflict m p a b c) (told.conflict n q x y d) e fit fits same = one_conflict m n p q a b x y c d fit fits same
 of_kind (told.rivals a b c m) (told.rivals x y d n) e fit fits same = (one_rivals a b x y c d m n fit fits same, tt)
-of_kind (told.unnamed m) (told.unnamed n) e fit fits same = (ap (λ (v : Option Data). number_in (at_key (codes "session") v)) same, tt)
+of_kind (told.unnamed m) (told.unnamed n) e fit fits same = (ap (number_at (codes "session")) same, tt)
 of_kind (told.unlisted c) (told.unlisted d) e fit fits same = (one_spelling c d fit fits (ap (at_key (codes "client")) same), tt)
 of_kind (told.unread c f) (told.unread d g) e fit fits same = (one_unread c d f g fit fits same, tt)
 of_kind (told.strange k p c m) (told.strange l q d n) e fit fits same = one_strange k l p q c d m n fit fits same

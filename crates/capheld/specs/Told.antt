@@ -17,12 +17,15 @@ use Rattle.capheld.specs.declared.summary.Counts.{Counts}
 use Rattle.capheld.specs.Lines.{held_line, group_text, clash_text, conflict_line, unnamed_line, unlisted_line, strange_line, pathless_line, counts_line}
 use Rattle.capheld.specs.Shaped.{counted_in}
 
--- a line of an audit, by what it is made of, in the order of `Lines.antt`; those of groups with how many they are, and that nothing is
--- found
+-- a line of an audit, by what its text is made of
 pub data Line : Type 0 where
+  -- of this inode, at this path, this client in this session was issued and is left to hold; and what of it nobody is permitted
   held : ℕ → List (List ℕ) → List ℕ → ℕ → Caps → Caps → Finding → Line
+  -- how many lines of a client are so
   group : List ℕ → Finding → ℕ → Line
+  -- of this inode, to which a path may lead, two sessions, each with the name that it may tell, hold what no two may hold
   conflict : ℕ → Option (List (List ℕ)) → Option (List ℕ) → Option (List ℕ) → Conflict → Line
+  -- how many of two clients do so
   rivals : Option (List ℕ) → Option (List ℕ) → Conflict → ℕ → Line
   unnamed : ℕ → Line
   unlisted : List ℕ → Line
