@@ -17,7 +17,7 @@ use Rattle.caprules.specs.Lockmachine.declared.request.Ask.{Ask}
 use Rattle.caprules.specs.Lockmachine.declared.request.Ask.TheVariants.{Get, Alter, Unlink, Rmdir, Rename}
 use Rattle.caprules.specs.Lockmachine.declared.request.Request.{Request}
 use Rattle.caprules.specs.Lockmachine.Policy.{failures}
-use Rattle.caprules.specs.Lockmachine.Scene.{Scene}
+use Rattle.caprules.specs.Lockmachine.declared.scene.Scene.{Scene}
 use Rattle.caprules.specs.Capevents.declared.outcome.Outcome.{Outcome}
 use Rattle.caprules.specs.Capevents.declared.outcome.Outcome.TheVariants as outcome
 use Rattle.caprules.specs.declared.stopped.Stopped.{Stopped}

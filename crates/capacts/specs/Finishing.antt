@@ -22,6 +22,7 @@ use Rattle.caprules.specs.Lockmachine.Policy.{permitted}
 use Rattle.caprules.specs.Lockmachine.Wants.{effective_want}
 use Rattle.caprules.specs.Finish.{allowed_by}
 use Rattle.caprules.specs.Capnotes.InoSets.{InoSet}
+use Rattle.capacts.specs.declared.finishing.Standing.{Standing}
 
 -- the clients of these entries
 abbrev pub clients_of : List EntryRow → List ℕ
@@ -70,7 +71,14 @@ abbrev pub entry_under : (Holder → Caps) → List ℕ → Nodes → SessionTab
 entry_under known fs tree sessions locks row =
     numbered_as (known row.holder) (told_at fs tree sessions locks row) (due_under fs tree sessions locks row) row
 
--- both by the locks of all inodes
+-- both where the inode of the entry stands so
+abbrev pub told_in : Standing → EntryRow → Caps
+told_in standing row = told_at standing.fs.now standing.tree.now standing.sessions.now standing.locks row
+
+abbrev pub entry_in : (Holder → Caps) → Standing → EntryRow → Entry
+entry_in known standing row = entry_under known standing.fs.now standing.tree.now standing.sessions.now standing.locks row
+
+-- and by the locks of all inodes
 abbrev pub told_by : List ℕ → Nodes → SessionTable → StateMap → EntryRow → Caps
 told_by fs tree sessions states row = told_at fs tree sessions (map.get states row.holder.ino.0) row
 

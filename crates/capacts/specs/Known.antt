@@ -12,7 +12,8 @@ use Rattle.captable.specs.declared.entry.Entry.{Entry}
 use Rattle.captable.specs.declared.entry.EntryRow.{EntryRow}
 use Rattle.captable.specs.declared.entry.Holder.{Holder}
 use Rattle.captable.specs.Table.{Table, same, is_row_of, entry_at}
-use Rattle.caprules.specs.Lockmachine.Scene.{Scene, told_set}
+use Rattle.caprules.specs.Lockmachine.declared.scene.Scene.{Scene}
+use Rattle.caprules.specs.Lockmachine.Scene.{told_set}
 use Rattle.caprules.specs.Finish.{due}
 use Rattle.capacts.specs.declared.on_inode.OnInode.{OnInode}
 

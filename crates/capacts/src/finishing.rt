@@ -20,32 +20,44 @@ use inotree::{Names, Node, Tree};
 use locktable::allowed;
 use sessiontab::Sessions;
 
-/// Issues what is due to the entry, which is there, numbers what its client is to know of, and keeps that. The inode has this path
-/// and this node in the tree, and these locks.
+/// How an inode stands at the end of a step, and by what the entries on it are judged: the parts of the policy, the path and the
+/// node that the inode has in the tree, and its locks.
+#[derive(Clone, Copy)]
+pub struct Standing<'t, 'n> {
+    pub fs: &'t FsName,
+    pub tree: &'t Tree,
+    pub sessions: &'t Sessions,
+    pub path: Option<&'n Names<'t>>,
+    pub node: Option<&'t Node>,
+    pub locks: Option<InodeLocks>,
+}
+
+/// Issues what is due to the entry, which is there, numbers what its client is to know of, and keeps that. Its inode stands so.
 pub fn finish_row(
-    fs: &FsName,
-    tree: &Tree,
-    sessions: &Sessions,
+    standing: &Standing<'_, '_>,
     table: &mut CapTable,
     known: &mut Known,
     row: EntryRow,
-    path: Option<&Names<'_>>,
-    node: Option<&Node>,
-    locks: &Option<InodeLocks>,
 )
     requires there { entry_at table.old row.holder ≡ Some row.entry }
-    requires path { option_copied path ≡ path_of tree.now.nodes row.holder.ino.0 }
-    requires node { option_copied node ≡ map.get tree.now.nodes row.holder.ino.0 }
+    requires path { option_copied standing.now.path ≡ path_of standing.now.tree.now.nodes row.holder.ino.0 }
+    requires node { option_copied standing.now.node ≡ map.get standing.now.tree.now.nodes row.holder.ino.0 }
     requires number { row.entry.seq < 2 ^ 64 - 1 }
     requires room { IsSome (kept_of known.old.sets row.holder) }
     ensures table { table.new
-        ≡ changed_by (words.entry_under (known_in known.old.sets) fs.now tree.now sessions.now locks.now) table.old row.holder }
-    ensures known { KeptAnew (λ k. same k row.holder) (words.told_at fs.now tree.now sessions.now locks.now)
+        ≡ changed_by (words.entry_in (known_in known.old.sets) standing.now) table.old row.holder }
+    ensures known { KeptAnew (λ k. same k row.holder) (words.told_in standing.now)
         table.old known.old.sets known.new.sets }
 {
-    let (permitted, wanted) = permitted_and_wanted(fs, sessions, row, path, node);
-    let due = wanted.meet(allowed_under(&row, locks));
-    let told = told_under(&with_issued(&row, due), permitted, locks);
+    let (permitted, wanted) = permitted_and_wanted(
+        standing.fs,
+        standing.sessions,
+        row,
+        standing.path,
+        standing.node,
+    );
+    let due = wanted.meet(allowed_under(&row, &standing.locks));
+    let told = told_under(&with_issued(&row, due), permitted, &standing.locks);
     let before = known.put(row.holder, told);
     issue(table, &row, due, before, told);
 }

@@ -11,9 +11,8 @@ ghost use Rattle.caprules.specs.Serving.{dropped_of};
 
 use crate::known::Known;
 use capbits::ClientId;
-use caprules::{Ended, Locks, Messages, Outcome};
+use caprules::{Ended, Locks, Messages, Outcome, Scene};
 use capspec::Grants;
-use captable::CapTable;
 
 /// What becomes of a client's session.
 #[derive(Clone, Copy)]
@@ -32,29 +31,29 @@ pub enum Turn<'a> {
 
 /// Where the session ends, takes out all that is the client's, and lists its requests as dropped.
 pub fn leave(
-    table: &mut CapTable,
+    scene: &mut Scene,
     known: &mut Known,
-    locks: &mut Locks,
     messages: &mut Messages,
     client: ClientId,
     turn: Turn,
     dropped: &mut Messages,
 )
-    requires room { length dropped.old.items + length locks.old.queue ≤ dropped.old.room }
-    ensures table { table.new ≡ words.table_left (is_end turn.entry) table.old client }
-    ensures known { (k : Holder) (e : Entry) → entry_at table.new k ≡ Some e → kept_of known.new.sets k ≡ kept_of known.old.sets k }
-    ensures locks { locks.new ≡ words.locks_left (is_end turn.entry) locks.old client }
+    requires room { length dropped.old.items + length scene.old.locks.queue ≤ dropped.old.room }
+    ensures table { scene.new.table ≡ words.table_left (is_end turn.entry) scene.old.table client }
+    ensures known { (k : Holder) (e : Entry) → entry_at scene.new.table k ≡ Some e → kept_of known.new.sets k ≡ kept_of known.old.sets k }
+    ensures locks { scene.new.locks ≡ words.locks_left (is_end turn.entry) scene.old.locks client }
+    ensures rest { scene.new ≡ record scene.old { table = scene.new.table; locks = scene.new.locks } }
     ensures messages { messages.new.items ≡ words.messages_left (is_end turn.entry) messages.old.items client }
     ensures left { messages.new.room ≡ messages.old.room }
-    ensures dropped { dropped.new.items ≡ dropped.old.items ++ words.dropped_by (is_end turn.entry) locks.old client }
-    ensures room { length dropped.new.items + length locks.new.queue ≤ dropped.new.room }
+    ensures dropped { dropped.new.items ≡ dropped.old.items ++ words.dropped_by (is_end turn.entry) scene.old.locks client }
+    ensures room { length dropped.new.items + length scene.new.locks.queue ≤ dropped.new.room }
 {
     match turn {
         Turn::Close | Turn::Evict => {
-            known.remove_client(table, client);
-            table.drop_client(client);
+            known.remove_client(&scene.table, client);
+            scene.table.drop_client(client);
             messages.remove_to(client);
-            drop_requests(locks, client, dropped);
+            drop_requests(&mut scene.locks, client, dropped);
         }
         Turn::Stale | Turn::Renew | Turn::Regrant(_) => {}
     }

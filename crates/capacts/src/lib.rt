@@ -18,7 +18,7 @@ pub mod told;
 
 pub use caprules::{
     Ask, Bytes, Change, ChangeList, Ended, EndedList, Event, InoSet, InodeLocks, Locks, Message,
-    MessageList, Messages, Move, OpenMode, Outcome, PartValues, Question, Reply, Request, Row,
-    Stopped, ToldNumbers, Unknown, View, ViewChange, Wants, copy_of_messages, copy_of_outcome,
-    copy_of_reply, wants_on,
+    MessageList, Messages, Move, OpenMode, Outcome, PartValues, Policy, Question, Reply, Request,
+    Row, Scene, Stopped, ToldNumbers, Unknown, View, ViewChange, Wants, copy_of_messages,
+    copy_of_outcome, copy_of_reply, wants_on,
 };

@@ -7,27 +7,24 @@ ghost use Rattle.capacts.specs.Served.{is_rename};
 ghost use Rattle.capacts.specs.Reach.{AreWalked, Covers, CoversBelow, Widens};
 
 use capbits::Ino;
-use caprules::{Ask, ChangeList, InoSet, Request};
+use caprules::{Ask, ChangeList, InoSet, Request, Scene};
 use captable::CapTable;
-use inotree::Tree;
-use std::alloc::{AllocError, Global};
+use std::alloc::AllocError;
 
 /// If the request moves its inode, adds every inode at or below it that somebody has an entry on, but for this one, with a place
 /// for the change of each. What renames of this step have walked over is touched, and stays so.
 pub fn reach(
-    alloc: Global,
-    tree: &Tree,
-    table: &CapTable,
+    scene: &Scene,
     request: &Request,
     ino: Ino,
     walked: &mut InoSet,
     touched: &mut InoSet,
     changes: &mut ChangeList,
 ) -> Result<(), AllocError>
-    requires walked { AreWalked walked.old ino.0 tree.now table.now touched.old }
-    ensures walked { AreWalked walked.new ino.0 tree.now table.now touched.new }
+    requires walked { AreWalked walked.old ino.0 scene.now.tree scene.now.table touched.old }
+    ensures walked { AreWalked walked.new ino.0 scene.now.tree scene.now.table touched.new }
     ensures widens { Widens ino.0 touched.old touched.new }
-    ensures covers { OnOk result (Covers request.now ino.0 tree.now table.now touched.new) }
+    ensures covers { OnOk result (Covers request.now ino.0 scene.now.tree scene.now.table touched.new) }
     ensures memory { OnErr result (is_rename request.now.ask ≡ true) }
     // There is a place more for each.
     ensures items { changes.new.items ≡ changes.old.items }
@@ -37,7 +34,7 @@ pub fn reach(
     match request.ask {
         Ask::Rename { .. } => {
             let above = request.ino;
-            walk(alloc, tree, table, above, ino, walked, touched, changes)
+            walk(scene, above, ino, walked, touched, changes)
         }
         Ask::Get(_) | Ask::Alter(_) | Ask::Unlink | Ask::Rmdir => Ok(()),
     }
@@ -46,19 +43,17 @@ pub fn reach(
 // Adds those at or below this inode, unless a rename of the step has walked from it before: what lies there now was touched then,
 // or when it was moved there.
 fn walk(
-    alloc: Global,
-    tree: &Tree,
-    table: &CapTable,
+    scene: &Scene,
     above: Ino,
     ino: Ino,
     walked: &mut InoSet,
     touched: &mut InoSet,
     changes: &mut ChangeList,
 ) -> Result<(), AllocError>
-    requires walked { AreWalked walked.old ino.0 tree.now table.now touched.old }
-    ensures walked { AreWalked walked.new ino.0 tree.now table.now touched.new }
+    requires walked { AreWalked walked.old ino.0 scene.now.tree scene.now.table touched.old }
+    ensures walked { AreWalked walked.new ino.0 scene.now.tree scene.now.table touched.new }
     ensures widens { Widens ino.0 touched.old touched.new }
-    ensures covers { OnOk result (CoversBelow above.0 ino.0 tree.now table.now touched.new) }
+    ensures covers { OnOk result (CoversBelow above.0 ino.0 scene.now.tree scene.now.table touched.new) }
     ensures items { changes.new.items ≡ changes.old.items }
     ensures places { changes.old.room + set.len touched.new ≤ changes.new.room + set.len touched.old }
     ensures room { changes.old.room ≤ changes.new.room }
@@ -66,8 +61,8 @@ fn walk(
     if walked.contains(above) {
         return Ok(());
     }
-    let inos = tree.within(alloc, above)?;
-    add_held(table, ino, inos.as_slice(), touched, changes)?;
+    let inos = scene.tree.within(changes.alloc(), above)?;
+    add_held(&scene.table, ino, inos.as_slice(), touched, changes)?;
     // Where this finds no memory, the next rename of the inode walks once more.
     let _walked = walked.insert(above);
     Ok(())

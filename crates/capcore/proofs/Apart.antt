@@ -22,7 +22,7 @@ use Rattle.captable.specs.declared.entry.Holder.{Holder}
 use Rattle.captable.specs.Table.{same, is_row_of}
 use Rattle.captable.proofs.Searches.{find_passes}
 use Rattle.capsteps.specs.Lockmachine.Locks.{lock_at}
-use Rattle.capsteps.specs.Lockmachine.Scene.{Scene}
+use Rattle.capsteps.specs.Lockmachine.declared.scene.Scene.{Scene}
 use Rattle.capsteps.specs.Lockmachine.Moves.{present_state}
 use Rattle.capsteps.specs.Caprules.State.{State}
 use Rattle.capsteps.specs.Caprules.Headline.{IsInPlace, AreInPlace, NoneConflict}

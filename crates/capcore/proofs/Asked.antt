@@ -23,7 +23,7 @@ use Rattle.capsteps.specs.Lockmachine.declared.request.Request.{Request}
 use Rattle.capsteps.specs.Lockmachine.declared.states.InodeLocks.{InodeLocks}
 use Rattle.capsteps.specs.Lockmachine.Inodes.{lock_in}
 use Rattle.capsteps.specs.Lockmachine.Locks.{IsLockMap, queue_tests, next_request, with_request}
-use Rattle.capsteps.specs.Lockmachine.Scene.{Scene}
+use Rattle.capsteps.specs.Lockmachine.declared.scene.Scene.{Scene}
 use Rattle.capsteps.proofs.Lockmachine.Queue.{with_request-kept}
 use Rattle.capsteps.proofs.Lockmachine.SameBut.{same-request}
 use Rattle.capsteps.specs.Capevents.declared.event.Event.{Event}

@@ -4,7 +4,7 @@ use Rattle.inotree.specs.Tree.{child}
 use Rattle.captable.specs.declared.entry.Holder.{Holder}
 use Rattle.capsteps.specs.Lockmachine.Locks.{IsLockMap}
 use Rattle.capsteps.specs.Lockmachine.Runs.{Runs}
-use Rattle.capsteps.specs.Lockmachine.Scene.{Scene}
+use Rattle.capsteps.specs.Lockmachine.declared.scene.Scene.{Scene}
 use Rattle.capsteps.proofs.Lockmachine.Ending.{few}
 use Rattle.capsteps.proofs.Lockmachine.Queue.{without_requests_of-kept}
 use Rattle.capsteps.specs.Capevents.declared.event.Event.{Event}

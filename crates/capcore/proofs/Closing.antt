@@ -11,7 +11,7 @@ use Rattle.captable.specs.Table.{IsTable}
 use Rattle.captable.specs.Calls.{is_of_inode, entries_on}
 use Rattle.capsteps.specs.Lockmachine.Locks.{IsLockMap, lock_at}
 use Rattle.capsteps.specs.Lockmachine.Requests.{first_for}
-use Rattle.capsteps.specs.Lockmachine.Scene.{Scene}
+use Rattle.capsteps.specs.Lockmachine.declared.scene.Scene.{Scene}
 use Rattle.capsteps.specs.Lockmachine.Moves.{IsQuietOutside}
 use Rattle.capsteps.proofs.Lockmachine.Finding.{filter-contains}
 use Rattle.capsteps.proofs.Lockmachine.SameOutside.{outside-one, rest-outside}
@@ -25,17 +25,19 @@ use Rattle.capsteps.specs.Answered.{IsAnswered}
 use Rattle.capsteps.specs.Caprules.Direct.{direct, reply_of, shown, with_scene}
 use Rattle.capsteps.specs.Caprules.Judge.{judged}
 use Rattle.capsteps.specs.Serves.{SettlesWith, EndsWith}
-use Rattle.capsteps.specs.Caprules.Finish.{sizes_owed}
+use Rattle.capsteps.specs.Caprules.Finish.{is_sized, owed, sizes_owed}
 use Rattle.capsteps.specs.Caprules.Settle.{MakesAll, ended_in, sized_in}
 use Rattle.capsteps.specs.Caprules.Sound.{IsSoundEntry, IsSound, NumbersLeft}
 use Rattle.capsteps.specs.Caprules.Step.{earlier, all_ended, state_at_end}
-use Rattle.capsteps.specs.Touching.{touched_by, IsTouchedEntry, Touches, TouchesOne, SettlesAt, Knows, finished_at}
+use Rattle.capsteps.specs.Touching.{touched_by, IsTouchedEntry, Touches, TouchesOne, SettlesAt, Knows, finished_at, finished_entry}
 use Rattle.capsteps.specs.Capacts.Known.{KnownSets, known_in, AreKnown, StillKept}
 use Rattle.capsteps.specs.Capnotes.Untold.{HaveOwnNumbers, but_for}
 use Rattle.capcore.proofs.Concluded.{IsConcluded, GivesOne, concluded}
 use Rattle.capcore.proofs.EndKnown.{ends-known}
 use Rattle.capcore.proofs.EndedIn.{earlier-all, earlier-but_own, own-numbers}
 use Rattle.capsteps.proofs.Forgotten.{all_rows}
+use Rattle.capsteps.proofs.ManyInodes.{table-where}
+use Rattle.capsteps.proofs.Moved.{moved-all}
 use Rattle.capcore.proofs.OfInode.{event-touches, event-table, event-below, event-keeps}
 use Rattle.capsteps.proofs.SameOff.{row_elsewhere}
 
@@ -56,6 +58,23 @@ module _ (at from : ℕ → Bool) (first settled : Scene) (told : List Ended) (s
   pub told-but_own : IsLockMap first.locks → (last : ℕ) (own : Ticket) → own.0 ≡ last + 1 → first.locks.last ≡ last + 1 → earlier last told ≡ but_for own told
   told-but_own order last own next given =
       subst (λ (ms : List Ended). earlier last ms ≡ but_for own ms) (sym settles.ended_is) (earlier-but_own first settled settles.moves made order last own next given)
+
+-- ---- at the end the sessions are as they were, and each entry has one row still
+
+pub ends-sessions : (from : ℕ → Bool) (was now : KnownSets) (first last : Scene) (told : List Ended) → EndsWith from was now first last told → last.sessions ≡ first.sessions
+ends-sessions from was now first last told ends =
+    let settles = ends.settles in
+    let moved = moved-all first settles.moves ends.settled (made ends.at from first ends.settled told ends.sized settles) in
+    ap (λ (s : Scene). s.sessions) ends.finished ∙ moved.sessions
+
+pub ends-table : (from : ℕ → Bool) (was now : KnownSets) (first last : Scene) (told : List Ended) → EndsWith from was now first last told → IsTable first.table → IsTable last.table
+ends-table from was now first last told ends table =
+    let settles = ends.settles in
+    let then = sizes_owed ends.sized ends.settled in
+    let moved = moved-all first settles.moves ends.settled (made ends.at from first ends.settled told ends.sized settles) in
+    subst (λ (s : Scene). IsTable s.table) (sym ends.finished)
+    (table-where (λ row. ends.at row.holder.ino.0) (finished_entry (known_in was) then) then.table
+    (table-where (is_sized ends.sized) owed ends.settled.table (subst IsTable (sym moved.table) table)))
 
 -- ---- the entries, when the event alone has been applied
 
@@ -153,14 +172,15 @@ module _ (old : State) (e : Event) (k : Holder) (about : touched_by e ≡ Some k
         ends-known before was now from old (with_scene old first) sound table (subst (λ (s : Scene). IsTable s.table) (sym is) (event-table old e k table about passed)) touches known still knows
         last told ends
 
-    pub closed : IsTable last.table → (said : Said) (new : State) → said.reply ≡ reply_of closed_state told (direct old e).answer → said.kept ≡ said.reply
+    pub closed : (said : Said) (new : State) → said.reply ≡ reply_of closed_state told (direct old e).answer → said.kept ≡ said.reply
         → said.ended ≡ earlier old.scene.locks.last told → new ≡ shown (direct old e).answer closed_state → IsAnswered old e said new
-    closed last_table said new replies kept ended new-is =
+    closed said new replies kept ended new-is =
+        let first_table = subst (λ (s : Scene). IsTable s.table) (sym is) (event-table old e k table about passed) in
         let c =
         concluded ends.at from (known_in was) old e settles.moves ends.settled sound (subst (Touches from old) left touches)
         (event-table old e k table about passed) (subst (λ (s : Scene). IsLockMap s.locks) is order) (subst (λ (s : Scene). Knows (known_in was) old.scene s.table) is knows)
         gives (subst (λ (s : Scene). SettlesAt ends.at from settles.moves s ends.settled) is settles.settles) ends.tree
-        (subst (λ (s : State). IsTable s.scene.table) same_state last_table) said.reply new
+        (subst (λ (s : State). IsTable s.scene.table) same_state (ends-table from was now first last told ends first_table)) said.reply new
         (replies ∙ (λ i. reply_of (same_state i) (settles.ended_is i) (direct old e).answer)) (new-is ∙ ap (shown (direct old e).answer) same_state) in
         let ends_so : all_ended old (direct old e) settles.moves ≡ said.ended =
         ap (λ dropped. dropped ++ earlier old.scene.locks.last (ended_in settles.moves)) (event-keeps old e k about).0

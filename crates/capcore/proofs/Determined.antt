@@ -19,7 +19,7 @@ use Rattle.capsteps.specs.Lockmachine.declared.request.Request.{Request}
 use Rattle.capsteps.specs.Lockmachine.Requests.{is_of_client}
 use Rattle.capsteps.specs.Lockmachine.Locks.{IsLockMap, next_request, request_at}
 use Rattle.capsteps.specs.Lockmachine.Moves.{first_move, with_moved}
-use Rattle.capsteps.specs.Lockmachine.Scene.{Scene}
+use Rattle.capsteps.specs.Lockmachine.declared.scene.Scene.{Scene}
 use Rattle.capsteps.proofs.Lockmachine.Finding.{contains-filter, filter-contains}
 use Rattle.capsteps.specs.Capevents.declared.event.Event.{Event}
 use Rattle.capsteps.specs.Capevents.declared.event.Event.TheVariants as event

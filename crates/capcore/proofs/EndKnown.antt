@@ -4,7 +4,8 @@ use Rattle.capbits.specs.declared.ids.Ino.{Ino}
 use Rattle.captable.specs.declared.entry.EntryRow.{EntryRow}
 use Rattle.captable.specs.Table.{IsTable, entry_of}
 use Rattle.captable.proofs.ByHolder.{row_found}
-use Rattle.capsteps.specs.Lockmachine.Scene.{Scene, told_set}
+use Rattle.capsteps.specs.Lockmachine.declared.scene.Scene.{Scene}
+use Rattle.capsteps.specs.Lockmachine.Scene.{told_set}
 use Rattle.capsteps.specs.Capevents.declared.outcome.Ended.{Ended}
 use Rattle.capsteps.specs.Caprules.State.{State}
 use Rattle.capsteps.specs.Caprules.Finish.{sizes_owed}

@@ -6,7 +6,7 @@ use Rattle.capbits.specs.Refusal.{first_failing}
 use Rattle.capbits.specs.Sets.{caps_in}
 use Rattle.capbits.proofs.Tests.{passed-both}
 use Rattle.inotree.specs.Tests.{inode_tests}
-use Rattle.inotree.specs.Tree.{Nodes, place}
+use Rattle.inotree.specs.Tree.{IsTree, Nodes, place}
 use Rattle.inotree.proofs.OneInode.{known-changed, place-other}
 use Rattle.sessiontab.specs.Tests.{session_tests}
 use Rattle.captable.specs.declared.entry.Holder.{Holder}
@@ -18,7 +18,7 @@ use Rattle.capsteps.specs.Lockmachine.declared.request.Change.{Change}
 use Rattle.capsteps.specs.Lockmachine.Elsewhere.{IsSameBut}
 use Rattle.capsteps.specs.Lockmachine.Moves.{IsQuiet}
 use Rattle.capsteps.specs.Lockmachine.Requests.{part_of_change}
-use Rattle.capsteps.specs.Lockmachine.Scene.{Scene}
+use Rattle.capsteps.specs.Lockmachine.declared.scene.Scene.{Scene}
 use Rattle.capsteps.proofs.Lockmachine.SameBut.{same-trans, same-tree, same-entries}
 use Rattle.capsteps.specs.Capevents.declared.event.Event.TheVariants as event
 use Rattle.capsteps.specs.Capevents.declared.reply.Reply.TheVariants as reply
@@ -31,7 +31,7 @@ use Rattle.capsteps.specs.Capacts.Served.{change_call_tests}
 use Rattle.capsteps.specs.Caprules.Sound.{IsSound, AreGiven}
 use Rattle.capsteps.specs.Touching.{IsTouchedEntry, TouchesOne}
 use Rattle.capsteps.proofs.Capacts.Again.{change-passed}
-use Rattle.capsteps.proofs.OneChange.{by_change, alike_change}
+use Rattle.capsteps.proofs.OneChange.{by_change, alike_change, sound_change}
 use Rattle.capsteps.proofs.NothingServed.{sound-pinned}
 use Rattle.capsteps.proofs.Touched.{all-left, before-passed, after-passed, AreBelow}
 
@@ -85,6 +85,10 @@ flush-calls s k change free =
     change-passed s k.ino.0 change
     (passed-both (session_tests s.sessions k.client.0) (inode_tests s.tree k.ino.0) (before-passed s (event.Flush k.client k.ino change) free)).1
     (flush_passed s k change free)
+
+-- it leaves a tree
+pub flush-tree : (s : Scene) (k : Holder) (change : Change) → judged s (event.Flush k.client k.ino change) ≡ None → IsTree s.tree → IsTree (tree_changed s.tree k.ino.0 change)
+flush-tree s k change free tree = sound_change s k.ino.0 change tree (flush_passed s k change free)
 
 -- the change is all that it comes to by itself
 pub flush-direct : (old : State) (k : Holder) (change : Change) → judged old.scene (event.Flush k.client k.ino change) ≡ None

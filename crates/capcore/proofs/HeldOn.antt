@@ -13,7 +13,7 @@ use Rattle.captable.specs.Table.{Table, holder, same, is_among, entry_at}
 use Rattle.captable.specs.Calls.{opened, changed, acked, given_back, released, recalled, with_asked, without_client}
 use Rattle.captable.proofs.ByHolder.{entry_at-changed, entry_at-changed_other, entry_at-without_client_other, entry_at-acked_other, entry_at-released, entry_at-released_other, entry_at-recalled, entry_at-recalled_other}
 use Rattle.captable.proofs.Tables.{same-is}
-use Rattle.capsteps.specs.Lockmachine.Scene.{Scene}
+use Rattle.capsteps.specs.Lockmachine.declared.scene.Scene.{Scene}
 use Rattle.capsteps.specs.Capevents.declared.event.Event.{Event}
 use Rattle.capsteps.specs.Capevents.declared.event.Event.TheVariants as event
 use Rattle.capsteps.specs.Capevents.declared.event.OpenMode.{OpenMode}

@@ -9,7 +9,7 @@ use Rattle.locktable.specs.declared.states.LockState.TheVariants.{Stable, Gather
 use Rattle.capsteps.specs.Lockmachine.Inodes.{lock_in}
 use Rattle.capsteps.specs.Lockmachine.Locks.{LockMap, lock_at, with_lock}
 use Rattle.capsteps.specs.Lockmachine.Moves.{LockPlace, present_state, coming_state}
-use Rattle.capsteps.specs.Lockmachine.Scene.{Scene}
+use Rattle.capsteps.specs.Lockmachine.declared.scene.Scene.{Scene}
 use Rattle.capsteps.proofs.Lockmachine.Moving.{is_at, with_lock-each}
 use Rattle.capsteps.specs.Capevents.declared.event.Event.{Event}
 use Rattle.capsteps.specs.Capevents.declared.outcome.Ended.{Ended}

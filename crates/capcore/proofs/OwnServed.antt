@@ -23,7 +23,8 @@ use Rattle.capsteps.specs.Lockmachine.declared.request.Ask.TheVariants.{Get, Alt
 use Rattle.capsteps.specs.Lockmachine.declared.request.Request.{Request}
 use Rattle.capsteps.specs.Lockmachine.Requests.{part_place, same_part, part_of_ask, head_of, is_for, first_for, is_numbered}
 use Rattle.capsteps.specs.Lockmachine.Locks.{LockMap, IsLockMap, lock_at, with_lock, next_request, with_request}
-use Rattle.capsteps.specs.Lockmachine.Scene.{Scene, wanted_in_all}
+use Rattle.capsteps.specs.Lockmachine.declared.scene.Scene.{Scene}
+use Rattle.capsteps.specs.Lockmachine.Scene.{wanted_in_all}
 use Rattle.locktable.specs.Targets as table_of_targets
 use Rattle.capsteps.specs.Lockmachine.Moves.{LockPlace, may_end, may_begin, may_serve, is_first, is_servable, present_state, coming_state, first_move, begun_locks, gathered_locks, IsQuiet, IsAtRest}
 use Rattle.capsteps.proofs.Lockmachine.Exact.{ends_not, begins_not, serves_not, settled}

@@ -15,7 +15,7 @@ use Rattle.inotree.specs.Tree.{child}
 use Rattle.capsteps.specs.Lockmachine.declared.request.Ask.{Ask}
 use Rattle.capsteps.specs.Lockmachine.declared.request.Ask.TheVariants.{Get, Alter, Unlink, Rmdir, Rename}
 use Rattle.capsteps.specs.Lockmachine.Locks.{IsLockMap}
-use Rattle.capsteps.specs.Lockmachine.Scene.{Scene}
+use Rattle.capsteps.specs.Lockmachine.declared.scene.Scene.{Scene}
 use Rattle.capsteps.specs.Lockmachine.Policy.{failures}
 use Rattle.capsteps.specs.Capevents.declared.event.Event.{Event}
 use Rattle.capsteps.specs.Capevents.declared.event.Event.TheVariants as event

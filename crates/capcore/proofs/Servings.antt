@@ -9,7 +9,7 @@ use Rattle.capsteps.specs.Lockmachine.declared.request.Ask.{Ask}
 use Rattle.capsteps.specs.Lockmachine.declared.request.Ask.TheVariants.{Get, Alter, Unlink, Rmdir, Rename}
 use Rattle.capsteps.specs.Lockmachine.declared.request.Request.{Request}
 use Rattle.capsteps.specs.Lockmachine.Policy.{failures}
-use Rattle.capsteps.specs.Lockmachine.Scene.{Scene}
+use Rattle.capsteps.specs.Lockmachine.declared.scene.Scene.{Scene}
 use Rattle.capsteps.specs.Capevents.declared.outcome.Outcome.{Outcome}
 use Rattle.capsteps.specs.Capevents.declared.outcome.Outcome.TheVariants as outcome
 use Rattle.capbits.specs.declared.refusal.Refusal.{Refusal}

@@ -19,7 +19,8 @@ use Rattle.captable.specs.Table.{Table, holder, is_row_of, entry_of, entry_at}
 use Rattle.captable.specs.Calls.{taken, changed, without}
 use Rattle.captable.specs.Tests.{last_revocation}
 use Rattle.captable.proofs.ByHolder.{entry_at-changed}
-use Rattle.capsteps.specs.Lockmachine.Scene.{Scene, against}
+use Rattle.capsteps.specs.Lockmachine.declared.scene.Scene.{Scene}
+use Rattle.capsteps.specs.Lockmachine.Scene.{against}
 use Rattle.capsteps.specs.Lockmachine.Told.{is_taken}
 use Rattle.capsteps.proofs.Lockmachine.Told.{has-against, has-told, pin-takes_all}
 use Rattle.capsteps.specs.Capevents.declared.event.Event.{Event}

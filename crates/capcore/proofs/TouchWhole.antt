@@ -7,7 +7,7 @@ use Rattle.captable.specs.declared.entry.EntryRow.{EntryRow}
 use Rattle.captable.specs.declared.entry.Holder.{Holder}
 use Rattle.captable.specs.Table.{Table, IsTable, holder, is_row_of}
 use Rattle.captable.specs.Calls.{told}
-use Rattle.capsteps.specs.Lockmachine.Scene.{Scene}
+use Rattle.capsteps.specs.Lockmachine.declared.scene.Scene.{Scene}
 use Rattle.capsteps.specs.declared.touch.Touch.{Touch}
 use Rattle.capsteps.specs.declared.touch.Touch.TheVariants.{Open, Want, Ack, Release}
 use Rattle.capsteps.specs.Capevents.declared.event.Event.{Event}

@@ -20,7 +20,7 @@ use Rattle.capsteps.specs.Lockmachine.declared.request.Request.{Request}
 use Rattle.capsteps.specs.Lockmachine.Locks.{LockMap, IsLockMap}
 use Rattle.capsteps.specs.Lockmachine.Requests.{is_of_client}
 use Rattle.capsteps.specs.Lockmachine.Moves.{IsQuietOutside}
-use Rattle.capsteps.specs.Lockmachine.Scene.{Scene}
+use Rattle.capsteps.specs.Lockmachine.declared.scene.Scene.{Scene}
 use Rattle.capsteps.proofs.Lockmachine.Queue.{without_requests_of-kept}
 use Rattle.capsteps.proofs.Lockmachine.SameOutside.{rest-outside}
 use Rattle.capsteps.specs.Capnotes.InoSets.{InoSet}
@@ -46,7 +46,7 @@ use Rattle.capsteps.specs.Touching.{Touches, SettlesAt, Knows, finished_at}
 use Rattle.capsteps.specs.Capacts.Known.{KnownSets, known_in, AreKnown, StillKept}
 use Rattle.capsteps.specs.Capacts.Left.{is_end, table_left, locks_left, messages_left, dropped_by}
 use Rattle.capsteps.specs.Turn.{ReachesClient, turn_event, turn_tests, turned}
-use Rattle.capcore.proofs.Closing.{told-all, touches-clients}
+use Rattle.capcore.proofs.Closing.{told-all, touches-clients, ends-table}
 use Rattle.capcore.proofs.EndKnown.{ends-known}
 use Rattle.capsteps.proofs.Knowing.{HoldAlike, alike-less, still-knows}
 use Rattle.capsteps.proofs.ShownSteps.{apart_client}
@@ -148,6 +148,9 @@ module _ (old : State) (client : ClientId) (turn : Turn) (passed : judged old.sc
   order-left false order = order
   order-left true order = without_requests_of-kept old.scene.locks client order
 
+  pub turn-order : IsLockMap old.scene.locks → IsLockMap touched.scene.locks
+  turn-order order = order-left (is_end turn) order
+
   -- ---- the end of the step
 
   table-left : IsTable touched.scene.table
@@ -172,7 +175,7 @@ module _ (old : State) (client : ClientId) (turn : Turn) (passed : judged old.sc
     all : earlier old.scene.locks.last told ≡ told
     all =
         subst (λ n. earlier n told ≡ told) (turned-last (is_end turn) old.scene.locks client)
-        (told-all ends.at from touched.scene ends.settled told ends.sized settles (order-left (is_end turn) order))
+        (told-all ends.at from touched.scene ends.settled told ends.sized settles (turn-order order))
 
     -- the state at the end
     abbrev pub turn_closed : State
@@ -187,16 +190,16 @@ module _ (old : State) (client : ClientId) (turn : Turn) (passed : judged old.sc
         ∙ ap (λ (sized : List Ino). state_at_end old touched settles.moves (finished_at ends.at (known_in was) (sizes_owed sized ends.settled))) settles.sized_is
         ∙ ap (λ (d : Direct). state_at_end old d.state settles.moves (finished_at ends.at (known_in was) (sizes_owed (sized_in settles.moves) ends.settled))) (sym by_itself)
 
-    pub turn-closed : IsTable last.table → (said : Said) → said.reply ≡ reply.Done → said.kept ≡ reply.Done → said.ended ≡ dropped_by (is_end turn) old.scene.locks client ++ told
+    pub turn-closed : (said : Said) → said.reply ≡ reply.Done → said.kept ≡ reply.Done → said.ended ≡ dropped_by (is_end turn) old.scene.locks client ++ told
         → IsAnswered old e said turn_closed
-    turn-closed last_table said replies kept ended =
+    turn-closed said replies kept ended =
         let c =
         concluded ends.at from (known_in was) old e settles.moves ends.settled sound (subst (λ (d : Direct). Touches from old d.state) (sym by_itself) touches)
         (subst (λ (d : Direct). IsTable d.state.scene.table) (sym by_itself) table-left)
-        (subst (λ (d : Direct). IsLockMap d.state.scene.locks) (sym by_itself) (order-left (is_end turn) order))
+        (subst (λ (d : Direct). IsLockMap d.state.scene.locks) (sym by_itself) (turn-order order))
         (subst (λ (d : Direct). Knows (known_in was) old.scene d.state.scene.table) (sym by_itself) knows) gives
         (subst (λ (d : Direct). SettlesAt ends.at from settles.moves d.state.scene ends.settled) (sym by_itself) settles.settles) ends.tree
-        (subst (λ (s : State). IsTable s.scene.table) same_state last_table) said.reply turn_closed
+        (subst (λ (s : State). IsTable s.scene.table) same_state (ends-table from was now touched.scene last told ends table-left)) said.reply turn_closed
         (replies ∙ sym (ap (λ (d : Direct). reply_of by_the_rules (ended_in settles.moves) d.answer) by_itself))
         (same_state ∙ sym (ap (λ (d : Direct). shown d.answer by_the_rules) by_itself)) in
         let ends_so : all_ended old (direct old e) settles.moves ≡ said.ended =

@@ -27,7 +27,7 @@ use Rattle.capsteps.specs.Lockmachine.Locks.{LockMap, lock_at}
 use Rattle.capsteps.specs.Lockmachine.Requests.{is_of_client as is_asked_by, first_for, is_for}
 use Rattle.capsteps.specs.Lockmachine.Elsewhere.{IsSameOutside}
 use Rattle.capsteps.specs.Lockmachine.Moves.{IsQuiet}
-use Rattle.capsteps.specs.Lockmachine.Scene.{Scene}
+use Rattle.capsteps.specs.Lockmachine.declared.scene.Scene.{Scene}
 use Rattle.capsteps.proofs.Lockmachine.PolicyElsewhere.{alike-itself}
 use Rattle.capsteps.proofs.Lockmachine.Finding.{contains-filter, fails_at, find_none}
 use Rattle.capsteps.proofs.Lockmachine.SameOutside.{outside-itself, outside-then, outside-dropped}

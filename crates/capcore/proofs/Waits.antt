@@ -10,7 +10,7 @@ use Rattle.captable.specs.declared.entry.Holder.{Holder}
 use Rattle.capsteps.specs.Lockmachine.declared.request.Ask.{Ask}
 use Rattle.capsteps.specs.Lockmachine.declared.request.Ask.TheVariants.{Get, Alter, Unlink, Rmdir, Rename}
 use Rattle.capsteps.specs.Lockmachine.Locks.{LockMap, IsLockMap, queue_tests, with_request}
-use Rattle.capsteps.specs.Lockmachine.Scene.{Scene}
+use Rattle.capsteps.specs.Lockmachine.declared.scene.Scene.{Scene}
 use Rattle.capsteps.specs.Lockmachine.Moves.{IsQuietOutside}
 use Rattle.capsteps.proofs.Lockmachine.SameOutside.{rest-outside}
 use Rattle.captable.specs.Table.{IsTable}
@@ -74,8 +74,8 @@ module _ (old : State) (k : Holder) (ask : Ask) (sound : IsSound old) (table : I
   pub wait-quiet : IsQuietOutside from first
   wait-quiet = let t = touches in rest-outside from old.scene first sound.at_rest t.same
 
-  order-then : IsLockMap locks
-  order-then = subst IsLockMap (sym queued) (order-of_ask old.scene k ask order free)
+  pub wait-order : IsLockMap locks
+  wait-order = subst IsLockMap (sym queued) (order-of_ask old.scene k ask order free)
 
   -- the entries are as they were
   wait-alike : HoldAlike old.scene.table first.table
@@ -94,12 +94,12 @@ module _ (old : State) (k : Holder) (ask : Ask) (sound : IsSound old) (table : I
     pub wait-differ : HaveOwnNumbers told
     wait-differ = told-own_numbers ends.at from first ends.settled told ends.sized ends.settles
 
-    module _ (last_table : IsTable last.table) (ticket : Ticket) (next : ticket.0 ≡ old.scene.locks.last + 1) (said : Said) (messages : List Ended)
+    module _ (ticket : Ticket) (next : ticket.0 ≡ old.scene.locks.last + 1) (said : Said) (messages : List Ended)
         (replies : said.reply ≡ awaited_as ticket (find (is_of_ticket ticket) told)) (kept : said.kept ≡ said.reply) (ended : said.ended ≡ but_for ticket told)
         (left : messages ≡ old.messages ++ but_for ticket told) where
       others : earlier old.scene.locks.last told ≡ but_for ticket told
       others =
-          told-but_own ends.at from first ends.settled told ends.sized ends.settles order-then old.scene.locks.last ticket next
+          told-but_own ends.at from first ends.settled told ends.sized ends.settles wait-order old.scene.locks.last ticket next
           (ap (λ (l : LockMap). l.last) queued)
 
       abbrev new : State
@@ -114,6 +114,6 @@ module _ (old : State) (k : Holder) (ask : Ask) (sound : IsSound old) (table : I
           let by_itself = asking-direct old e k ask asked passed in
           let is : first ≡ (direct old e).state.scene = (λ i. record old.scene { locks = queued i }) ∙ sym (ap (λ (d : Direct). d.state.scene) by_itself) in
           let awaits : Awaits ticket ≡ (direct old e).answer = ap (λ n. Awaits (record { 0 = n })) next ∙ sym (ap (λ (d : Direct). d.answer) by_itself) in
-          closed old e k (touched-asks e k ask asked) passed sound table first is was now order-then knows last told ends last_table said new
+          closed old e k (touched-asks e k ask asked) passed sound table first is was now wait-order knows last told ends said new
           (replies ∙ ap (reply_of closed_as told) awaits) kept (ended ∙ sym others)
           ((λ i. record { scene = last; messages = (left ∙ ap (λ ms. old.messages ++ ms) (sym others)) i }) ∙ ap (λ (a : Answer). shown a closed_as) awaits)

@@ -7,7 +7,7 @@ use Rattle.captable.specs.Table.{Table}
 use Rattle.captable.specs.Codes as entries
 use Rattle.capsteps.specs.Lockmachine.Locks.{LockMap}
 use Rattle.capsteps.specs.Lockmachine.Codes.{lock_map_code}
-use Rattle.capsteps.specs.Lockmachine.Scene.{Scene}
+use Rattle.capsteps.specs.Lockmachine.declared.scene.Scene.{Scene}
 use Rattle.capsteps.specs.Capevents.declared.outcome.Ended.{Ended}
 use Rattle.capsteps.specs.Capevents.declared.row.Row.{Row}
 use Rattle.capsteps.specs.Capview.declared.change.ViewChange.{ViewChange}

@@ -1,6 +1,7 @@
 //! Steps of requests that wait for a lock of their inode.
 ghost use Rattle.std.specs.Prelude.{◌≡◌, Some, IfOk, OnErr};
-ghost use Rattle.captable.specs.Table.{holder};
+ghost use Rattle.inotree.specs.Tree.{IsTree};
+ghost use Rattle.captable.specs.Table.{IsTable, holder};
 ghost use Rattle.capsteps.specs.Capevents.declared.event.Event.{Event};
 ghost use Rattle.capsteps.specs.Answered.{IsAnswered};
 ghost use Rattle.capsteps.specs.Caprules.Noted.{view_of};
@@ -29,41 +30,25 @@ impl World {
         asked: Asked,
     ) -> Result<Said, AllocError>
         requires numbers { NumbersLeft self.old }
+        requires tree { IsTree self.old.scene.tree }
+        requires table { IsTable self.old.scene.table }
         ensures answered { IfOk result (λ said. (e : Event) → asks_for e ≡ Some (holder client ino, ask_of asked.entry) → IsAnswered self.old e said self.new) }
         ensures changes { IfOk result (λ said. AreChanges said.changes.items (view_of self.old) (view_of self.new)) }
         ensures err { OnErr result (self.new ≡ self.old) }
     {
-        // A look at the tree and at the entries, by which the proof knows what they keep.
-        let (_last, _oldest) = (self.tree.last(), self.table.oldest());
-        let (tree, holder) = (&self.tree, Holder { client, ino });
-        if let Some(stopped) = ask_stop(
-            &self.fs,
-            tree,
-            &self.sessions,
-            &self.locks,
-            holder,
-            asked,
-        ) {
+        let holder = Holder { client, ino };
+        if let Some(stopped) = ask_stop(&self.scene, holder, asked) {
             return Ok(Said::alone(self.messages.alloc(), stopped.into_reply()));
         }
-        let waiting = self.locks.waiting() + 1;
+        let waiting = self.scene.locks.waiting() + 1;
         self.endings.begin(waiting, waiting + 1)?;
         let ask = copy_of_ask(self.messages.alloc(), asked)?;
         if let Err(refused) = self.messages.reserve(waiting) {
             drop(ask);
             return Err(refused);
         }
-        let ticket = self.locks.enqueue_tested(client, ino, ask);
-        end_at_one(
-            &self.fs,
-            &mut self.tree,
-            &self.sessions,
-            &mut self.table,
-            &mut self.known,
-            &mut self.locks,
-            ino,
-            &mut self.endings,
-        );
+        let ticket = self.scene.locks.enqueue_tested(client, ino, ask);
+        end_at_one(&mut self.scene, &mut self.known, ino, &mut self.endings);
         Ok(close_with(&mut self.messages, ticket, &mut self.endings))
     }
 }

@@ -3,7 +3,7 @@
 ghost use Rattle.std.specs.Prelude.{◌≡◌, ℕ};
 ghost use Rattle.captable.specs.Table.{IsTable};
 ghost use Rattle.captable.specs.Calls.{recalled};
-ghost use Rattle.capsteps.specs.Lockmachine.Scene.{Scene};
+ghost use Rattle.capsteps.specs.Lockmachine.declared.scene.Scene.{Scene};
 ghost use Rattle.capsteps.specs.Caprules.State.{State};
 ghost use Rattle.capsteps.specs.Caprules.Direct.{Answer, shown, with_table};
 ghost use Rattle.capsteps.specs.Caprules.Finish.{finished};

@@ -6,7 +6,8 @@ ghost use Rattle.captable.specs.Tests.{entry_test, release_tests};
 ghost use Rattle.inotree.specs.Tests.{inode_tests, known_test};
 ghost use Rattle.sessiontab.specs.Tests.{connected_test, session_tests};
 ghost use Rattle.capsteps.specs.Lockmachine.Locks.{LockMap};
-ghost use Rattle.capsteps.specs.Lockmachine.Scene.{Scene, scene};
+ghost use Rattle.capsteps.specs.Lockmachine.declared.scene.Scene.{Scene};
+ghost use Rattle.capsteps.specs.Lockmachine.Scene.{scene as scene_of};
 ghost use Rattle.capsteps.specs.Capevents.declared.event.Event.TheVariants as event;
 ghost use Rattle.capsteps.specs.Caprules.Asks as words;
 ghost use Rattle.capsteps.specs.Caprules.Asks.{ask_after, ask_before, ask_needs};
@@ -26,7 +27,7 @@ use capsteps::serving::{
     ask_denial, before_refusal, change_access, change_refusal, places_refusal, rename_denial,
 };
 use capsteps::touch::{Touch, revoked_of};
-use capsteps::{Ask, Change, Locks, OpenMode, Stopped};
+use capsteps::{Ask, Change, Locks, OpenMode, Scene, Stopped};
 use captable::{CapTable, Holder};
 use inotree::Tree;
 use sessiontab::Sessions;
@@ -57,19 +58,13 @@ fn connected_refusal(sessions: &Sessions, tree: &Tree, holder: Holder) -> Option
 // ---- one access
 
 // What stops a request that needs one access to an inode that it names, before any other test.
-pub(crate) fn access_stop(
-    fs: &FsName,
-    tree: &Tree,
-    sessions: &Sessions,
-    holder: Holder,
-    access: Access,
-) -> Option<Stopped>
-    ensures { (table : Table) (locks : LockMap) → let s = scene fs.now tree.now sessions.now table locks in
-        result ≡ stop s (asked_tests s holder.client holder.ino.0) (need holder.client holder.ino.0 access ∷ []) [] }
+pub(crate) fn access_stop(scene: &Scene, holder: Holder, access: Access) -> Option<Stopped>
+    ensures { result ≡ stop scene.now (asked_tests scene.now holder.client holder.ino.0) (need holder.client holder.ino.0 access ∷ []) [] }
 {
+    let (tree, sessions) = (&scene.tree, &scene.sessions);
     match asked_refusal(sessions, tree, holder) {
         Some(refusal) => Some(Stopped::ByTest(refusal)),
-        None => denial(fs, tree, sessions, holder, access),
+        None => denial(&scene.fs, tree, sessions, holder, access),
     }
 }
 
@@ -77,19 +72,16 @@ pub(crate) fn access_stop(
 
 // What stops what is asked of an entry.
 pub(crate) fn touch_stop(
-    fs: &FsName,
-    tree: &Tree,
-    sessions: &Sessions,
-    table: &CapTable,
+    scene: &Scene,
     known: &Known,
     holder: Holder,
     touch: &Touch,
 ) -> Option<Stopped>
-    ensures { (locks : LockMap) → let s = scene fs.now tree.now sessions.now table.now locks in
-        AreKnown known.now.sets s → result ≡ judged s (touch_event holder.client holder.ino touch.now) }
+    ensures { AreKnown known.now.sets scene.now → result ≡ judged scene.now (touch_event holder.client holder.ino touch.now) }
 {
+    let (tree, sessions, table) = (&scene.tree, &scene.sessions, &scene.table);
     match touch {
-        Touch::Open(mode) => open_stop(fs, tree, sessions, table, holder, *mode),
+        Touch::Open(mode) => open_stop(scene, holder, *mode),
         Touch::Want(_) => by_test(want_refusal(sessions, tree, table, holder)),
         Touch::Ack(seq) => by_test(ack_refusal(sessions, tree, table, known, holder, *seq)),
         Touch::Release(caps) => by_test(release_refusal(sessions, tree, table, holder, *caps)),
@@ -97,24 +89,17 @@ pub(crate) fn touch_stop(
 }
 
 // What stops an opening.
-fn open_stop(
-    fs: &FsName,
-    tree: &Tree,
-    sessions: &Sessions,
-    table: &CapTable,
-    holder: Holder,
-    mode: OpenMode,
-) -> Option<Stopped>
-    ensures { (locks : LockMap) →
-        result ≡ judged (scene fs.now tree.now sessions.now table.now locks) (event.Open holder.client holder.ino mode) }
+fn open_stop(scene: &Scene, holder: Holder, mode: OpenMode) -> Option<Stopped>
+    ensures { result ≡ judged scene.now (event.Open holder.client holder.ino mode) }
 {
+    let (tree, sessions) = (&scene.tree, &scene.sessions);
     if let Some(refusal) = asked_refusal(sessions, tree, holder) {
         return Some(Stopped::ByTest(refusal));
     }
-    if let Some(denied) = opening_denial(fs, tree, sessions, holder, mode) {
+    if let Some(denied) = opening_denial(&scene.fs, tree, sessions, holder, mode) {
         return Some(denied);
     }
-    by_test(opening_refusal(tree, table, holder, mode))
+    by_test(opening_refusal(tree, &scene.table, holder, mode))
 }
 
 // The denial of the first access that an opening needs and no grant of the client allows.
@@ -125,7 +110,7 @@ fn opening_denial(
     holder: Holder,
     mode: OpenMode,
 ) -> Option<Stopped>
-    ensures { (table : Table) (locks : LockMap) → let s = scene fs.now tree.now sessions.now table locks in
+    ensures { (table : Table) (locks : LockMap) → let s = scene_of fs.now tree.now sessions.now table locks in
         result ≡ stop s [] (opening_needs holder.client holder.ino.0 mode) [] }
 {
     match mode {
@@ -188,7 +173,7 @@ fn ack_refusal(
     holder: Holder,
     seq: u64,
 ) -> Option<Refusal>
-    ensures { (fs : List ℕ) (locks : LockMap) → let s = scene fs tree.now sessions.now table.now locks in
+    ensures { (fs : List ℕ) (locks : LockMap) → let s = scene_of fs tree.now sessions.now table.now locks in
         AreKnown known.now.sets s → result ≡ first_failing (before s (event.Ack holder.client holder.ino seq)) }
 {
     match connected_refusal(sessions, tree, holder) {
@@ -219,24 +204,18 @@ fn release_refusal(
 // ---- what may wait for a lock
 
 // What stops a request.
-pub(crate) fn ask_stop(
-    fs: &FsName,
-    tree: &Tree,
-    sessions: &Sessions,
-    locks: &Locks,
-    holder: Holder,
-    asked: Asked,
-) -> Option<Stopped>
-    ensures { (table : Table) → let s = scene fs.now tree.now sessions.now table locks.now in let ask = ask_of asked.entry in
+pub(crate) fn ask_stop(scene: &Scene, holder: Holder, asked: Asked) -> Option<Stopped>
+    ensures { let s = scene.now in let ask = ask_of asked.entry in
         result ≡ stop s (asking_tests s holder.client holder.ino.0 ask) (ask_needs s holder.client holder.ino.0 ask) (waiting_tests s holder.ino.0 ask) }
 {
+    let (tree, sessions) = (&scene.tree, &scene.sessions);
     if let Some(refusal) = asking_refusal(sessions, tree, holder, asked) {
         return Some(Stopped::ByTest(refusal));
     }
-    if let Some(denied) = asking_denial(fs, tree, sessions, holder, asked) {
+    if let Some(denied) = asking_denial(&scene.fs, tree, sessions, holder, asked) {
         return Some(denied);
     }
-    by_test(waiting_refusal(tree, locks, holder.ino, asked))
+    by_test(waiting_refusal(tree, &scene.locks, holder.ino, asked))
 }
 
 // The first test before policy that fails.
@@ -270,7 +249,7 @@ fn asking_denial(
     holder: Holder,
     asked: Asked,
 ) -> Option<Stopped>
-    ensures { (table : Table) (locks : LockMap) → let s = scene fs.now tree.now sessions.now table locks in
+    ensures { (table : Table) (locks : LockMap) → let s = scene_of fs.now tree.now sessions.now table locks in
         result ≡ stop s [] (ask_needs s holder.client holder.ino.0 (ask_of asked.entry)) [] }
 {
     match asked {
@@ -308,22 +287,14 @@ fn own_refusal(tree: &Tree, ino: Ino, asked: Asked) -> Option<Refusal>
 // ---- a flush
 
 // What stops a flush.
-pub(crate) fn flush_stop(
-    fs: &FsName,
-    tree: &Tree,
-    sessions: &Sessions,
-    table: &CapTable,
-    holder: Holder,
-    change: &Change,
-) -> Option<Stopped>
-    ensures { (locks : LockMap) →
-        result ≡ judged (scene fs.now tree.now sessions.now table.now locks) (event.Flush holder.client holder.ino change.now) }
+pub(crate) fn flush_stop(scene: &Scene, holder: Holder, change: &Change) -> Option<Stopped>
+    ensures { result ≡ judged scene.now (event.Flush holder.client holder.ino change.now) }
 {
     let access = change_access(change);
-    if let Some(stopped) = access_stop(fs, tree, sessions, holder, access) {
+    if let Some(stopped) = access_stop(scene, holder, access) {
         return Some(stopped);
     }
-    by_test(flush_refusal(tree, table, holder, change))
+    by_test(flush_refusal(&scene.tree, &scene.table, holder, change))
 }
 
 // The first test of a flush behind policy that fails.

@@ -15,7 +15,7 @@ ghost use Rattle.sessiontab.specs.Tests.{new_session_tests};
 ghost use Rattle.capsteps.specs.Lockmachine.Inodes.{StateMap};
 ghost use Rattle.captable.specs.Table.{IsTable};
 ghost use Rattle.capsteps.specs.Lockmachine.Locks.{IsLockMap, with_ino};
-ghost use Rattle.capsteps.specs.Lockmachine.Scene.{Scene};
+ghost use Rattle.capsteps.specs.Lockmachine.declared.scene.Scene.{Scene};
 ghost use Rattle.capsteps.specs.Capevents.declared.event.Event.{Event};
 ghost use Rattle.capsteps.specs.Capevents.declared.row.Row.{Row};
 ghost use Rattle.capsteps.specs.Capevents.declared.outcome.Ended.{Ended};

@@ -5,7 +5,7 @@ ghost use Rattle.capbits.specs.declared.ids.ClientId.{ClientId};
 ghost use Rattle.capbits.specs.declared.ids.Ino.{Ino};
 ghost use Rattle.capsteps.specs.Lockmachine.declared.request.Ask.{Ask};
 ghost use Rattle.capsteps.specs.Lockmachine.Locks.{IsLockMap, next_request, with_request};
-ghost use Rattle.capsteps.specs.Lockmachine.Scene.{Scene};
+ghost use Rattle.capsteps.specs.Lockmachine.declared.scene.Scene.{Scene};
 ghost use Rattle.capsteps.specs.Caprules.State.{State};
 ghost use Rattle.capsteps.specs.Caprules.Direct.{Awaits, reply_of};
 ghost use Rattle.capsteps.specs.Caprules.Headline.{is_stop};

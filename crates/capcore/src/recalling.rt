@@ -19,8 +19,8 @@ impl World {
     {
         let alloc = self.messages.alloc();
         // The list once for the history and once for the reply, both before an entry is marked.
-        let kept = self.table.first_to_recall(count)?;
-        let named = self.table.recall(count)?;
+        let kept = self.scene.table.first_to_recall(count)?;
+        let named = self.scene.table.recall(count)?;
         Ok(Said {
             reply: Reply::Recalled(named),
             kept: Reply::Recalled(kept),

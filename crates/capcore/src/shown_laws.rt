@@ -2,7 +2,7 @@
 
 ghost use Rattle.std.specs.Prelude.{◌++◌, [], ◌∷◌, List};
 ghost use Rattle.captable.specs.Table.{IsTable};
-ghost use Rattle.capsteps.specs.Lockmachine.Scene.{Scene};
+ghost use Rattle.capsteps.specs.Lockmachine.declared.scene.Scene.{Scene};
 ghost use Rattle.capsteps.specs.Capevents.declared.row.Row.{Row};
 ghost use Rattle.capsteps.specs.Caprules.State.{State};
 ghost use Rattle.capsteps.specs.Caprules.Direct.{direct};

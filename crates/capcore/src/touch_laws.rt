@@ -1,7 +1,7 @@
 //! How an event becomes a step. No program needs to call this law.
 
 ghost use Rattle.std.specs.Prelude.{◌≡◌, List};
-ghost use Rattle.capsteps.specs.Lockmachine.Scene.{Scene};
+ghost use Rattle.capsteps.specs.Lockmachine.declared.scene.Scene.{Scene};
 ghost use Rattle.capsteps.specs.Capevents.declared.event.Event.{Event};
 ghost use Rattle.capsteps.specs.Capevents.declared.reply.Reply.{Reply};
 ghost use Rattle.capsteps.specs.Caprules.State.{State};

@@ -1,6 +1,9 @@
 //! Steps by which a client's session ends, becomes stale, is open again or has other grants.
 ghost use Rattle.std.specs.Prelude.{◌≡◌, IfOk, OnErr};
+ghost use Rattle.inotree.specs.Tree.{IsTree};
+ghost use Rattle.captable.specs.Table.{IsTable};
 ghost use Rattle.capsteps.specs.Capview.Changes.{AreChanges};
+ghost use Rattle.capsteps.specs.Lockmachine.Locks.{IsLockMap};
 ghost use Rattle.capsteps.specs.Answered.{IsAnswered};
 ghost use Rattle.capsteps.specs.Caprules.Noted.{view_of};
 ghost use Rattle.capsteps.specs.Caprules.Sound.{NumbersLeft};
@@ -23,44 +26,34 @@ impl World {
     // there.
     pub(crate) fn turn(&mut self, client: ClientId, turn: Turn) -> Result<Said, AllocError>
         requires numbers { NumbersLeft self.old }
+        requires tree { IsTree self.old.scene.tree }
+        requires table { IsTable self.old.scene.table }
+        requires locks { IsLockMap self.old.scene.locks }
         ensures answered { IfOk result (λ said. IsAnswered self.old (turn_event client turn.entry) said self.new) }
         ensures changes { IfOk result (λ said. AreChanges said.changes.items (view_of self.old) (view_of self.new)) }
         ensures err { OnErr result (self.new ≡ self.old) }
     {
-        // A look at the entries and at the locks, by which the proof knows what they keep.
-        let (_oldest, _waiting) = (self.table.oldest(), self.locks.waiting());
-        if let Some(refusal) = turn_refusal(&self.sessions, client, turn) {
+        if let Some(refusal) = turn_refusal(&self.scene.sessions, client, turn) {
             return Ok(Said::alone(self.messages.alloc(), Reply::Refused(refusal)));
         }
         let (alloc, endings) = (self.messages.alloc(), &mut self.endings);
-        let mut room = Room::new(alloc, &self.table, &self.locks, client, turn, endings)?;
-        if let Err(refused) = turn_session(&mut self.sessions, client, turn) {
+        let mut room = Room::new(
+            alloc,
+            &self.scene.table,
+            &self.scene.locks,
+            client,
+            turn,
+            endings,
+        )?;
+        if let Err(refused) = turn_session(&mut self.scene.sessions, client, turn) {
             drop(room);
             return Err(refused);
         }
-        let (table, locks, messages) = (&mut self.table, &mut self.locks, &mut self.messages);
-        let known = &mut self.known;
-        leave(
-            table,
-            known,
-            locks,
-            messages,
-            client,
-            turn,
-            &mut room.dropped,
-        );
+        let (scene, known, messages) = (&mut self.scene, &mut self.known, &mut self.messages);
+        leave(scene, known, messages, client, turn, &mut room.dropped);
         let Room { others, dropped } = room;
-        end_at(
-            &self.fs,
-            &mut self.tree,
-            &self.sessions,
-            &mut self.table,
-            &mut self.known,
-            &mut self.locks,
-            ROOT,
-            others,
-            &mut self.endings,
-        );
+        let (scene, known, endings) = (&mut self.scene, &mut self.known, &mut self.endings);
+        end_at(scene, known, ROOT, others, endings);
         Ok(close_dropped(&mut self.messages, dropped, &mut self.endings))
     }
 }

@@ -1,6 +1,6 @@
 //! What an event does: all of the core but its history.
 ghost use Rattle.std.specs.Prelude.{List, ◌≡◌, ◌+◌, false, [], None, IfOk, OnOk, OnErr};
-ghost use Rattle.inotree.specs.Tree.{is_directory};
+ghost use Rattle.inotree.specs.Tree.{IsTree, is_directory};
 ghost use Rattle.inotree.specs.Calls.{with_new};
 ghost use Rattle.inotree.specs.Tests.{create_tests};
 ghost use Rattle.capsteps.specs.Caprules.State.{State};
@@ -25,7 +25,7 @@ ghost use Rattle.capsteps.specs.Capevents.declared.event.Event.TheVariants as ev
 
 use crate::asks::Asked;
 use crate::judging::{access_stop, asked_refusal, touch_stop};
-use capbits::{Caller, ClientId, Ino, Mode, Part, Refusal};
+use capbits::{Caller, ClientId, Ino, Mode, Refusal};
 use capgrant::{Access, Attr};
 use capspec::{FsName, Grants};
 use capsteps::ended::close;
@@ -39,7 +39,7 @@ use capsteps::settle::end_at_entry;
 use capsteps::start::first_locks;
 use capsteps::touch::{Touch, revoked_by, tell, touch_entry};
 use capsteps::{
-    ChangeList, EndedList, Event, Locks, Messages, Reply, ToldNumbers, ViewChange, copy_of_messages,
+    ChangeList, EndedList, Event, Messages, Reply, Scene, ToldNumbers, ViewChange, copy_of_messages,
 };
 use captable::{CapTable, Holder};
 use inotree::{Kind, Tree};
@@ -51,13 +51,9 @@ use std::mem::replace;
 // The state that events change: tree, sessions, entries, locks, and what clients are still to be told.
 #[derive(Debug)]
 pub(crate) struct World {
-    pub(crate) fs: FsName,
-    pub(crate) tree: Tree,
-    pub(crate) sessions: Sessions,
-    pub(crate) table: CapTable,
+    pub(crate) scene: Scene,
     // Of each entry what its client was to know of at the end of the last step.
     pub(crate) known: Known,
-    pub(crate) locks: Locks,
     // The requests that ended and that no client was told of.
     pub(crate) messages: Messages,
     // What a step lists, between steps of use for its room alone.
@@ -68,12 +64,8 @@ pub(crate) struct World {
 impl Drop for World {
     fn drop(self) {
         let World {
-            fs: _,
-            tree: _,
-            sessions: _,
-            table: _,
+            scene: _,
             known: _,
-            locks: _,
             messages: _,
             endings: _,
         } = self;
@@ -93,19 +85,13 @@ impl Model for World {
 
     ghost coded = { state_code };
 
-    ghost view = { λ w. record {
-      scene = record { fs = w.fs; tree = w.tree; sessions = w.sessions; table = w.table; locks = w.locks };
-      messages = w.messages.items;
-    } };
+    ghost view = { λ w. record { scene = w.scene; messages = w.messages.items } };
 
     // Sound; there is room for each message that is to come; and of each entry it is known what its client is to know of.
     ghost invariant = { λ w.
-        IsSound (record {
-          scene = record { fs = w.fs; tree = w.tree; sessions = w.sessions; table = w.table; locks = w.locks };
-          messages = w.messages.items;
-        })
-        × HasRoom w.messages w.locks
-        × AreKnown w.known.sets (record { fs = w.fs; tree = w.tree; sessions = w.sessions; table = w.table; locks = w.locks }) };
+        IsSound (record { scene = w.scene; messages = w.messages.items })
+        × HasRoom w.messages w.scene.locks
+        × AreKnown w.known.sets w.scene };
 }
 
 impl World {
@@ -118,13 +104,16 @@ impl World {
         let (Ok(sessions), Ok(table)) = (Sessions::new(alloc), CapTable::new(alloc)) else {
             return Err(AllocError);
         };
-        Ok(World {
+        let scene = Scene {
             fs,
             tree,
             sessions,
             table,
-            known: Known::new(alloc),
             locks,
+        };
+        Ok(World {
+            scene,
+            known: Known::new(alloc),
             messages: Messages::new(alloc),
             endings: Endings::new(alloc),
         })
@@ -140,8 +129,9 @@ impl World {
         ensures locks { OnOk result (IsLockMap self.old.scene.locks) }
         ensures err { OnErr result (self.new ≡ self.old) }
     {
-        // A look at the entries and at the locks, by which the proof knows what they keep.
-        let (_oldest, _lock) = (self.table.oldest(), self.locks.state(Ino(1), Part::A));
+        // The one look at the tree, the entries and the locks, by which the proof knows what they keep.
+        let (_last, _oldest) = (self.scene.tree.last(), self.scene.table.oldest());
+        let _waiting = self.scene.locks.waiting();
         match event {
             Event::Open { client, ino, mode } => self.touch(*client, *ino, Touch::Open(*mode)),
             Event::Want { client, ino, caps } => self.touch(*client, *ino, Touch::Want(*caps)),
@@ -190,78 +180,60 @@ impl World {
         requires touches { touched_by event.now ≡ None }
         requires lists { is_listing event.now ≡ false }
         requires turns { turned_by event.now ≡ None }
+        requires tree { IsTree self.old.scene.tree }
+        requires table { IsTable self.old.scene.table }
         ensures answered { IfOk result (λ said. IsAnswered self.old event.now said self.new) }
         ensures changes { IfOk result (λ said. AreChanges said.changes.items (view_of self.old) (view_of self.new)) }
         ensures err { OnErr result (self.new ≡ self.old) }
     {
-        // A look at the tree and at the entries, by which the proof knows what they keep.
-        let (_last, _oldest) = (self.tree.last(), self.table.oldest());
+        let alloc = self.messages.alloc();
         let mut changes = self.take_list();
         let reply = self.act(event, &mut changes)?;
-        Ok(Said::with_changes(self.messages.alloc(), reply, changes))
+        Ok(Said::with_changes(alloc, reply, changes))
     }
 
     // A step that is about one entry: what is asked of it is done, the locks of what the step touches settle, and it ends there.
     fn touch(&mut self, client: ClientId, ino: Ino, touch: Touch) -> Result<Said, AllocError>
         requires numbers { NumbersLeft self.old }
+        requires tree { IsTree self.old.scene.tree }
+        requires table { IsTable self.old.scene.table }
         ensures answered { IfOk result (λ said. IsAnswered self.old (touch_event client ino touch) said self.new) }
         ensures changes { IfOk result (λ said. AreChanges said.changes.items (view_of self.old) (view_of self.new)) }
         ensures err { OnErr result (self.new ≡ self.old) }
     {
-        // A look at the tree and at the entries, by which the proof knows what they keep.
-        let (_last, _oldest) = (self.tree.last(), self.table.oldest());
         let holder = Holder { client, ino };
-        let (fs, tree, sessions) = (&self.fs, &self.tree, &self.sessions);
-        if let Some(stopped) = touch_stop(
-            fs,
-            tree,
-            sessions,
-            &self.table,
-            &self.known,
-            holder,
-            &touch,
-        ) {
+        if let Some(stopped) = touch_stop(&self.scene, &self.known, holder, &touch) {
             return Ok(Said::alone(self.messages.alloc(), stopped.into_reply()));
         }
-        let revoked = revoked_by(&self.table, &self.known, holder, &touch);
-        let waiting = self.locks.waiting();
+        let revoked = revoked_by(&self.scene.table, &self.known, holder, &touch);
+        let waiting = self.scene.locks.waiting();
         self.endings.begin(waiting, waiting + 1)?;
-        let (table, known) = (&mut self.table, &mut self.known);
+        let (table, known) = (&mut self.scene.table, &mut self.known);
         touch_entry(table, known, holder, revoked, &touch)?;
-        end_at_entry(
-            &self.fs,
-            &mut self.tree,
-            &self.sessions,
-            &mut self.table,
-            &mut self.known,
-            &mut self.locks,
-            holder,
-            &mut self.endings,
-        );
-        let reply = tell(&mut self.table, &self.known, holder, &touch);
+        let (scene, endings) = (&mut self.scene, &mut self.endings);
+        end_at_entry(scene, &mut self.known, holder, endings);
+        let reply = tell(&mut self.scene.table, &self.known, holder, &touch);
         Ok(close(&mut self.messages, reply, &mut self.endings))
     }
 
     // A step that gives a client the first messages that are due to it.
     fn poll(&mut self, client: ClientId, max: u32) -> Result<Said, AllocError>
+        requires table { IsTable self.old.scene.table }
         ensures answered { IfOk result (λ said. IsAnswered self.old (event.Poll client max) said self.new) }
         ensures changes { IfOk result (λ said. AreChanges said.changes.items (view_of self.old) (view_of self.new)) }
         ensures err { OnErr result (self.new ≡ self.old) }
     {
-        // A look at the entries, by which the proof knows what they keep.
-        let _oldest = self.table.oldest();
-        if let Some(refusal) = self.sessions.session_refusal(client) {
+        if let Some(refusal) = self.scene.sessions.session_refusal(client) {
             return Ok(Said::alone(self.messages.alloc(), Reply::Refused(refusal)));
         }
         // The list once for the reply and once for the history, both before the client was told of anything.
         let alloc = self.messages.alloc();
         let ended = self.messages.as_slice();
-        let (tree, table, known) = (&self.tree, &self.table, &self.known);
-        let given = due_messages(alloc, ended, tree, table, known, client, max)?;
+        let given = due_messages(alloc, ended, &self.scene, &self.known, client, max)?;
         let kept = copy_of_messages(alloc, given.as_slice())?;
         let told = ToldNumbers::of(alloc, given.as_slice())?;
-        give(&mut self.table, client, given.as_slice());
-        self.table.skip_quiet(client);
+        give(&mut self.scene.table, client, given.as_slice());
+        self.scene.table.skip_quiet(client);
         self.messages.remove_given(client, &told);
         Ok(Said {
             reply: Reply::Messages(given),
@@ -307,7 +279,7 @@ impl World {
             } => self.open_session(*client, caller, grants, changes),
             Event::Unblock { client } => Ok(self.unblock(*client)),
             Event::Lookup { client, dir, name } => {
-                let (fs, tree, sessions) = (&self.fs, &self.tree, &self.sessions);
+                let (fs, tree, sessions) = (&self.scene.fs, &self.scene.tree, &self.scene.sessions);
                 Ok(lookup(fs, tree, sessions, *client, *dir, name.as_slice()))
             }
             Event::Create {
@@ -315,20 +287,25 @@ impl World {
                 dir,
                 name,
                 mode,
-            } => self.make(Kind::File, *client, *dir, name.as_slice(), *mode, changes),
+            } => {
+                let holder = Holder {
+                    client: *client,
+                    ino: *dir,
+                };
+                self.make(Kind::File, holder, name.as_slice(), *mode, changes)
+            }
             Event::Mkdir {
                 client,
                 dir,
                 name,
                 mode,
-            } => self.make(
-                Kind::Directory,
-                *client,
-                *dir,
-                name.as_slice(),
-                *mode,
-                changes,
-            ),
+            } => {
+                let holder = Holder {
+                    client: *client,
+                    ino: *dir,
+                };
+                self.make(Kind::Directory, holder, name.as_slice(), *mode, changes)
+            }
             Event::MakeSnapshot { client, ino, name } => {
                 self.make_snapshot(*client, *ino, name.as_slice())
             }
@@ -367,7 +344,7 @@ impl World {
         ensures changes { OnOk result (AreChanges changes.new.items (view_of self.old) (view_of self.new)) }
         ensures err { OnErr result (self.new ≡ self.old) }
     {
-        if let Some(refusal) = self.sessions.open_refusal(client) {
+        if let Some(refusal) = self.scene.sessions.open_refusal(client) {
             return Ok(Reply::Refused(refusal));
         }
         changes.add_place()?;
@@ -392,7 +369,8 @@ impl World {
         ensures err { OnErr result (self.new ≡ self.old) }
     {
         let grants = grants.copy()?;
-        self.sessions
+        self.scene
+            .sessions
             .open_session_tested(client, caller.copy(), grants)?;
         Ok(())
     }
@@ -401,39 +379,37 @@ impl World {
         ensures direct { IsDirect self.old (event.Unblock client) result self.new }
         ensures seen { Shows (view_of self.old) (view_of self.new) }
     {
-        if let Some(refusal) = self.sessions.unblock_refusal(client) {
+        if let Some(refusal) = self.scene.sessions.unblock_refusal(client) {
             return Reply::Refused(refusal);
         }
-        self.sessions.unblock_tested(client);
+        self.scene.sessions.unblock_tested(client);
         Reply::Done
     }
 
-    // Makes a file or a directory, with its locks.
+    // Makes a file or a directory in the directory that the client names, with its locks.
     fn make(
         &mut self,
         kind: Kind,
-        client: ClientId,
-        dir: Ino,
+        holder: Holder,
         name: &[u8],
         mode: Mode,
         changes: &mut ChangeList,
     ) -> Result<Reply, AllocError>
         requires none { changes.old.items ≡ [] }
-        ensures direct { IfOk result (λ reply. IsDirect self.old (made_event kind client dir name.now mode) reply self.new) }
+        ensures direct { IfOk result (λ reply. IsDirect self.old (made_event kind holder.client holder.ino name.now mode) reply self.new) }
         ensures changes { OnOk result (AreChanges changes.new.items (view_of self.old) (view_of self.new)) }
         ensures err { OnErr result (self.new ≡ self.old) }
     {
-        let (fs, tree, holder) = (&self.fs, &self.tree, Holder { client, ino: dir });
-        if let Some(stopped) = access_stop(fs, tree, &self.sessions, holder, Access::Write) {
+        if let Some(stopped) = access_stop(&self.scene, holder, Access::Write) {
             return Ok(stopped.into_reply());
         }
-        if let Some(refusal) = self.tree.new_inode_refusal(dir, name) {
+        if let Some(refusal) = self.scene.tree.new_inode_refusal(holder.ino, name) {
             return Ok(Reply::Refused(refusal));
         }
         changes.add_place()?;
-        let attr = owned_by(&self.sessions, client, mode);
-        let ino = self.add(kind, dir, name, attr)?;
-        changes.note_birth(&self.tree, ino);
+        let attr = owned_by(&self.scene.sessions, holder.client, mode);
+        let ino = self.add(kind, holder.ino, name, attr)?;
+        changes.note_birth(&self.scene.tree, ino);
         Ok(Reply::Ino(ino))
     }
 
@@ -445,12 +421,12 @@ impl World {
         ensures err { OnErr result (self.new ≡ self.old) }
     {
         // The locks first: they can be dropped again, and a number that was given can't be taken back.
-        let ino = Ino(self.tree.last().0 + 1);
-        self.locks.add_ino(ino)?;
-        match make_in(&mut self.tree, kind, dir, name, attr) {
+        let ino = Ino(self.scene.tree.last().0 + 1);
+        self.scene.locks.add_ino(ino)?;
+        match make_in(&mut self.scene.tree, kind, dir, name, attr) {
             Ok(()) => Ok(ino),
             Err(AllocError) => {
-                self.locks.drop_ino(ino);
+                self.scene.locks.drop_ino(ino);
                 Err(AllocError)
             }
         }
@@ -466,14 +442,14 @@ impl World {
         ensures seen { OnOk result (Shows (view_of self.old) (view_of self.new)) }
         ensures err { OnErr result (self.new ≡ self.old) }
     {
-        let (fs, tree, holder) = (&self.fs, &self.tree, Holder { client, ino });
-        if let Some(stopped) = access_stop(fs, tree, &self.sessions, holder, Access::Snapshot) {
+        let holder = Holder { client, ino };
+        if let Some(stopped) = access_stop(&self.scene, holder, Access::Snapshot) {
             return Ok(stopped.into_reply());
         }
-        if let Some(refusal) = self.tree.new_snapshot_refusal(ino, name) {
+        if let Some(refusal) = self.scene.tree.new_snapshot_refusal(ino, name) {
             return Ok(Reply::Refused(refusal));
         }
-        self.tree.snap_add_tested(ino, name)?;
+        self.scene.tree.snap_add_tested(ino, name)?;
         Ok(Reply::Done)
     }
 
@@ -487,14 +463,14 @@ impl World {
         ensures seen { OnOk result (Shows (view_of self.old) (view_of self.new)) }
         ensures err { OnErr result (self.new ≡ self.old) }
     {
-        let (fs, tree, holder) = (&self.fs, &self.tree, Holder { client, ino });
-        if let Some(stopped) = access_stop(fs, tree, &self.sessions, holder, Access::Snapshot) {
+        let holder = Holder { client, ino };
+        if let Some(stopped) = access_stop(&self.scene, holder, Access::Snapshot) {
             return Ok(stopped.into_reply());
         }
-        if let Some(refusal) = self.tree.old_snapshot_refusal(ino, name) {
+        if let Some(refusal) = self.scene.tree.old_snapshot_refusal(ino, name) {
             return Ok(Reply::Refused(refusal));
         }
-        self.tree.snap_remove_tested(ino, name);
+        self.scene.tree.snap_remove_tested(ino, name);
         Ok(Reply::Done)
     }
 }

@@ -74,6 +74,11 @@ impl ChangeList {
         }
     }
 
+    /// The allocator of the list.
+    pub fn alloc(&self) -> Global {
+        *self.items.allocator()
+    }
+
     /// No change, and room for so many.
     pub fn begin(&mut self, room: usize) -> Result<(), AllocError>
         ensures { OnOk result ((self.new.items ≡ []) × (room ≤ self.new.room)) }

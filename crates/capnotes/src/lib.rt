@@ -10,8 +10,8 @@ mod told_numbers;
 
 pub use capevents::{
     Ask, Bytes, Change, Ended, EndedList, Event, InodeLocks, Locks, Message, MessageList, Move,
-    OpenMode, Outcome, PartValues, Reply, Request, Row, Wants, copy_of_messages, copy_of_outcome,
-    copy_of_reply, copy_of_rules, permitted_and_wanted, wants_on,
+    OpenMode, Outcome, PartValues, Policy, Reply, Request, Row, Scene, Wants, copy_of_messages,
+    copy_of_outcome, copy_of_reply, copy_of_rules, permitted_and_wanted, wants_on,
 };
 pub use capview::{Question, Unknown, View, ViewChange};
 pub use changes::ChangeList;

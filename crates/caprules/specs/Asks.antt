@@ -18,7 +18,7 @@ use Rattle.capnotes.specs.Lockmachine.declared.request.Change.{Change}
 use Rattle.capnotes.specs.Lockmachine.declared.request.Change.TheVariants.{Set, SetXattr, RemoveXattr}
 use Rattle.capnotes.specs.Lockmachine.declared.request.Ask.{Ask}
 use Rattle.capnotes.specs.Lockmachine.declared.request.Ask.TheVariants.{Get, Alter, Unlink, Rmdir, Rename}
-use Rattle.capnotes.specs.Lockmachine.Scene.{Scene}
+use Rattle.capnotes.specs.Lockmachine.declared.scene.Scene.{Scene}
 use Rattle.caprules.specs.Needs.{Need, need, need_if}
 
 -- ---- accesses

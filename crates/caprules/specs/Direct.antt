@@ -27,7 +27,8 @@ use Rattle.capnotes.specs.Lockmachine.declared.request.Ask.{Ask}
 use Rattle.capnotes.specs.Lockmachine.declared.request.Ask.TheVariants.{Get, Alter, Unlink, Rmdir, Rename}
 use Rattle.capnotes.specs.Lockmachine.declared.request.Change.{Change}
 use Rattle.capnotes.specs.Lockmachine.Locks.{with_ino, with_request, requests_of, without_requests_of}
-use Rattle.capnotes.specs.Lockmachine.Scene.{Scene, told_set}
+use Rattle.capnotes.specs.Lockmachine.declared.scene.Scene.{Scene}
+use Rattle.capnotes.specs.Lockmachine.Scene.{told_set}
 use Rattle.capnotes.specs.Capevents.Replies.{outcome_reply}
 use Rattle.capnotes.specs.Capevents.declared.event.Event.{Event}
 use Rattle.capnotes.specs.Capevents.declared.event.Event.TheVariants as event

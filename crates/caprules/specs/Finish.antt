@@ -19,7 +19,8 @@ use Rattle.captable.specs.Calls.{issued, renumbered, with_size_due, is_of_inode}
 use Rattle.captable.specs.Many.{changed_where}
 use Rattle.capnotes.specs.Lockmachine.Locks.{lock_at}
 use Rattle.capnotes.specs.Lockmachine.Wants.{effective_want}
-use Rattle.capnotes.specs.Lockmachine.Scene.{Scene, told_set}
+use Rattle.capnotes.specs.Lockmachine.declared.scene.Scene.{Scene}
+use Rattle.capnotes.specs.Lockmachine.Scene.{told_set}
 use Rattle.inotree.specs.Tests.{is_gone}
 
 -- ---- sizes

@@ -20,7 +20,8 @@ use Rattle.capnotes.specs.Lockmachine.Locks.{LockMap, lock_at}
 use Rattle.capnotes.specs.Lockmachine.Policy.{failures, permitted}
 use Rattle.capnotes.specs.Lockmachine.declared.request.Request.{Request}
 use Rattle.capnotes.specs.Lockmachine.Requests.{same_part}
-use Rattle.capnotes.specs.Lockmachine.Scene.{Scene, against}
+use Rattle.capnotes.specs.Lockmachine.declared.scene.Scene.{Scene}
+use Rattle.capnotes.specs.Lockmachine.Scene.{against}
 use Rattle.capnotes.specs.Lockmachine.Moves.{is_open}
 use Rattle.capnotes.specs.Lockmachine.Runs.{AreFew}
 use Rattle.capnotes.specs.Lockmachine.declared.moves.Move.{Move}

@@ -22,7 +22,8 @@ use Rattle.capnotes.specs.Lockmachine.declared.request.Ask.TheVariants.{Get, Alt
 use Rattle.capnotes.specs.Lockmachine.Requests.{part_of_change}
 use Rattle.capnotes.specs.Lockmachine.Locks.{queue_tests}
 use Rattle.capnotes.specs.Lockmachine.Policy.{is_granted, failures}
-use Rattle.capnotes.specs.Lockmachine.Scene.{Scene, against}
+use Rattle.capnotes.specs.Lockmachine.declared.scene.Scene.{Scene}
+use Rattle.capnotes.specs.Lockmachine.Scene.{against}
 use Rattle.capbits.specs.declared.refusal.Refusal.{Refusal}
 use Rattle.capnotes.specs.Capevents.declared.event.Event.{Event}
 use Rattle.capnotes.specs.Capevents.declared.event.Event.TheVariants as event

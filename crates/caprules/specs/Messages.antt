@@ -9,7 +9,8 @@ use Rattle.captable.specs.declared.entry.Entry.{Entry}
 use Rattle.captable.specs.declared.entry.EntryRow.{EntryRow}
 use Rattle.captable.specs.Calls.{is_of_client, told, with_asked, with_size_due}
 use Rattle.captable.specs.Many.{changed_where}
-use Rattle.capnotes.specs.Lockmachine.Scene.{Scene, told_set}
+use Rattle.capnotes.specs.Lockmachine.declared.scene.Scene.{Scene}
+use Rattle.capnotes.specs.Lockmachine.Scene.{told_set}
 use Rattle.capnotes.specs.Capevents.declared.outcome.Ended.{Ended}
 use Rattle.capnotes.specs.Capevents.declared.outcome.Message.{Message}
 use Rattle.capnotes.specs.Capevents.declared.outcome.Message.TheVariants as message

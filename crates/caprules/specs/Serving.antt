@@ -11,7 +11,7 @@ use Rattle.capnotes.specs.Lockmachine.declared.request.Ask.TheVariants.{Get, Alt
 use Rattle.capnotes.specs.Lockmachine.declared.request.Request.{Request}
 use Rattle.capnotes.specs.Lockmachine.declared.moves.Move.TheVariants.{Serve}
 use Rattle.capnotes.specs.Lockmachine.Moves.{moved as moved_locks}
-use Rattle.capnotes.specs.Lockmachine.Scene.{Scene}
+use Rattle.capnotes.specs.Lockmachine.declared.scene.Scene.{Scene}
 use Rattle.capnotes.specs.Capevents.declared.outcome.PartValues.{PartValues}
 use Rattle.capnotes.specs.Capevents.declared.outcome.PartValues.TheVariants as values
 use Rattle.capnotes.specs.Capevents.declared.outcome.Ended.{Ended}

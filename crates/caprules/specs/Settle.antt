@@ -13,7 +13,7 @@ use Rattle.capnotes.specs.Lockmachine.declared.request.Change.TheVariants.{Set, 
 use Rattle.capnotes.specs.Lockmachine.declared.request.Request.{Request}
 use Rattle.capnotes.specs.Lockmachine.declared.moves.Move.TheVariants.{Begin, End, Serve, Settled}
 use Rattle.capnotes.specs.Lockmachine.Locks.{request_at}
-use Rattle.capnotes.specs.Lockmachine.Scene.{Scene}
+use Rattle.capnotes.specs.Lockmachine.declared.scene.Scene.{Scene}
 use Rattle.capnotes.specs.Lockmachine.Moves.{first_move, with_moved}
 use Rattle.capnotes.specs.Capevents.declared.outcome.Outcome.{Outcome}
 use Rattle.capnotes.specs.Capevents.declared.outcome.Outcome.TheVariants as outcome

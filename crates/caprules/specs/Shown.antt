@@ -11,7 +11,8 @@ use Rattle.captable.specs.declared.entry.Holder.{Holder}
 use Rattle.captable.specs.Shown.{IsShown}
 use Rattle.captable.specs.Table.{holder, same, entry_at}
 use Rattle.capnotes.specs.Lockmachine.Policy.{permitted}
-use Rattle.capnotes.specs.Lockmachine.Scene.{Scene, told_set}
+use Rattle.capnotes.specs.Lockmachine.declared.scene.Scene.{Scene}
+use Rattle.capnotes.specs.Lockmachine.Scene.{told_set}
 use Rattle.capnotes.specs.Capevents.declared.event.Event.{Event}
 use Rattle.capnotes.specs.Capevents.declared.event.Event.TheVariants as event
 use Rattle.capnotes.specs.Capevents.declared.row.Row.{Row}

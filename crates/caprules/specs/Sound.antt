@@ -11,7 +11,7 @@ use Rattle.inotree.specs.Tree.{place}
 use Rattle.sessiontab.specs.Calls.{has_session}
 use Rattle.captable.specs.declared.entry.EntryRow.{EntryRow}
 use Rattle.captable.specs.Calls.{is_of_inode}
-use Rattle.capnotes.specs.Lockmachine.Scene.{Scene}
+use Rattle.capnotes.specs.Lockmachine.declared.scene.Scene.{Scene}
 use Rattle.capnotes.specs.Lockmachine.Moves.{IsAtRest}
 use Rattle.caprules.specs.Finish.{due}
 use Rattle.caprules.specs.Headline.{AreInPlace}

@@ -1,6 +1,6 @@
 -- The state of the core.
 use Rattle.std.specs.Prelude.{List}
-use Rattle.capnotes.specs.Lockmachine.Scene.{Scene}
+use Rattle.capnotes.specs.Lockmachine.declared.scene.Scene.{Scene}
 use Rattle.capnotes.specs.Capevents.declared.outcome.Ended.{Ended}
 
 pub record State : Type 0 where

@@ -1,6 +1,6 @@
 -- One step: the event by itself, the moves, and the end of the step.
 use Rattle.std.specs.Prelude.{◌≡◌, ℕ, nat_le, List, ◌++◌, filter}
-use Rattle.capnotes.specs.Lockmachine.Scene.{Scene}
+use Rattle.capnotes.specs.Lockmachine.declared.scene.Scene.{Scene}
 use Rattle.capnotes.specs.Capevents.declared.event.Event.{Event}
 use Rattle.capnotes.specs.Capevents.declared.outcome.Ended.{Ended}
 use Rattle.capnotes.specs.Capevents.declared.reply.Reply.{Reply}

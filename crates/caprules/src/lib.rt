@@ -8,8 +8,8 @@ mod stopped;
 
 pub use capnotes::{
     Ask, Bytes, Change, ChangeList, Ended, EndedList, Event, InoSet, InodeLocks, Locks, Message,
-    MessageList, Messages, Move, OpenMode, Outcome, PartValues, Question, Reply, Request, Row,
-    ToldNumbers, Unknown, View, ViewChange, Wants, copy_of_messages, copy_of_outcome,
+    MessageList, Messages, Move, OpenMode, Outcome, PartValues, Policy, Question, Reply, Request,
+    Row, Scene, ToldNumbers, Unknown, View, ViewChange, Wants, copy_of_messages, copy_of_outcome,
     copy_of_reply, copy_of_rules, permitted_and_wanted, wants_on,
 };
 pub use stopped::Stopped;

@@ -15,7 +15,8 @@ use Rattle.captable.proofs.ByHolder.{row_found}
 use Rattle.captable.proofs.OneByOne.{fold-changed_by}
 use Rattle.captable.proofs.Searches.{find_passes}
 use Rattle.captable.proofs.Tables.{same-is}
-use Rattle.capacts.specs.Lockmachine.Scene.{Scene, told_set}
+use Rattle.capacts.specs.Lockmachine.declared.scene.Scene.{Scene}
+use Rattle.capacts.specs.Lockmachine.Scene.{told_set}
 use Rattle.capacts.proofs.Lockmachine.Told.{told-less}
 use Rattle.capacts.specs.Known.{KnownSets, kept_of, known_in, HasAll, OthersHaveAll, kept_anew, KeptAnew}
 use Rattle.capsteps.specs.Touching.{told_then, finished_entry}

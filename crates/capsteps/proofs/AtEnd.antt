@@ -22,7 +22,7 @@ use Rattle.captable.proofs.ByHolder.{entry_at-changed_other}
 use Rattle.captable.proofs.Searches.{find_passes}
 use Rattle.capacts.specs.Lockmachine.declared.states.InodeLocks.{InodeLocks}
 use Rattle.capacts.specs.Lockmachine.Inodes.{StateMap}
-use Rattle.capacts.specs.Lockmachine.Scene.{Scene}
+use Rattle.capacts.specs.Lockmachine.declared.scene.Scene.{Scene}
 use Rattle.capacts.specs.Finishing.{due_under, told_at, numbered_as, entry_under, entry_by}
 use Rattle.capacts.specs.Capnotes.InoSets.{InoSet}
 use Rattle.capsteps.specs.Touching.{forget_at, forget_among}

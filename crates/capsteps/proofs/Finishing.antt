@@ -18,7 +18,8 @@ use Rattle.captable.specs.declared.entry.EntryRow.{EntryRow}
 use Rattle.captable.specs.Table.{IsTable, is_row_of}
 use Rattle.captable.specs.Calls.{renumbered}
 use Rattle.captable.proofs.ByHolder.{row_found}
-use Rattle.capacts.specs.Lockmachine.Scene.{Scene, told_set}
+use Rattle.capacts.specs.Lockmachine.declared.scene.Scene.{Scene}
+use Rattle.capacts.specs.Lockmachine.Scene.{told_set}
 use Rattle.capacts.proofs.Lockmachine.Exact.{settled}
 use Rattle.capacts.proofs.Held.{or_inside}
 use Rattle.capacts.specs.Caprules.State.{State}

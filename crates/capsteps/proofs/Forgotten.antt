@@ -22,7 +22,8 @@ use Rattle.capacts.specs.Lockmachine.Inodes.{lock_in}
 use Rattle.capacts.specs.Lockmachine.Locks.{lock_at}
 use Rattle.capacts.specs.Lockmachine.Requests.{first_for}
 use Rattle.capacts.specs.Lockmachine.Wants.{Want, effective_want, in_all}
-use Rattle.capacts.specs.Lockmachine.Scene.{Scene, target_by, outside}
+use Rattle.capacts.specs.Lockmachine.declared.scene.Scene.{Scene}
+use Rattle.capacts.specs.Lockmachine.Scene.{target_by, outside}
 use Rattle.capacts.specs.Lockmachine.Moves.{IsQuiet, IsAtRest}
 use Rattle.capacts.specs.Lockmachine.Rows.{IsInRowOf, IsInRow}
 use Rattle.capacts.proofs.Lockmachine.PolicyElsewhere.{want-kept, wants-kept}

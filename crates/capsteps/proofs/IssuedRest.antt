@@ -16,7 +16,8 @@ use Rattle.captable.specs.Many.{changed_where}
 use Rattle.captable.proofs.Searches.{filter-map}
 use Rattle.capacts.specs.Lockmachine.Locks.{lock_at}
 use Rattle.capacts.specs.Lockmachine.Wants.{Want, want_of, in_all}
-use Rattle.capacts.specs.Lockmachine.Scene.{Scene, wants, target_by, outside}
+use Rattle.capacts.specs.Lockmachine.declared.scene.Scene.{Scene}
+use Rattle.capacts.specs.Lockmachine.Scene.{wants, target_by, outside}
 use Rattle.capacts.specs.Lockmachine.Moves.{is_open, IsQuiet, IsAtRest}
 use Rattle.capsteps.specs.Touching.{finished_entry}
 use Rattle.capsteps.proofs.IssuedRows.{ended_row, effective-ended, outside-ended}

@@ -24,7 +24,8 @@ use Rattle.captable.specs.Many.{remade}
 use Rattle.capacts.specs.Lockmachine.Locks.{lock_at}
 use Rattle.capacts.specs.Lockmachine.Policy.{permitted}
 use Rattle.capacts.specs.Lockmachine.Wants.{effective_want}
-use Rattle.capacts.specs.Lockmachine.Scene.{Scene, outside, told_set}
+use Rattle.capacts.specs.Lockmachine.declared.scene.Scene.{Scene}
+use Rattle.capacts.specs.Lockmachine.Scene.{outside, told_set}
 use Rattle.capacts.specs.Lockmachine.Rows.{IsInRowOf, IsInRow}
 use Rattle.capacts.specs.Caprules.Finish.{allowed_by, allowed_part, allowed_to, due, issue_row}
 use Rattle.capsteps.specs.Touching.{finished_entry}

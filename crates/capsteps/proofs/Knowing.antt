@@ -11,7 +11,8 @@ use Rattle.captable.specs.Table.{Table, IsTable, is_row_of, entry_of, entry_at}
 use Rattle.captable.specs.Many.{changed_where, remade}
 use Rattle.captable.proofs.ByHolder.{row_found}
 use Rattle.captable.proofs.Searches.{find-map}
-use Rattle.capacts.specs.Lockmachine.Scene.{Scene, told_set}
+use Rattle.capacts.specs.Lockmachine.declared.scene.Scene.{Scene}
+use Rattle.capacts.specs.Lockmachine.Scene.{told_set}
 use Rattle.capacts.specs.Lockmachine.Told.{is_taken}
 use Rattle.capacts.proofs.Lockmachine.Told.{has-against, has-told, told-less}
 use Rattle.capacts.specs.Caprules.Judge.{revoked_of}

@@ -29,7 +29,8 @@ use Rattle.capacts.specs.Lockmachine.Locks.{lock_at}
 use Rattle.capacts.specs.Lockmachine.Policy.{permitted}
 use Rattle.capacts.specs.Lockmachine.Requests.{first_for, head_of}
 use Rattle.capacts.specs.Lockmachine.Wants.{effective_want, want_of, loner_of, union_of}
-use Rattle.capacts.specs.Lockmachine.Scene.{Scene, rows_on, loner, wanted, against, told_set}
+use Rattle.capacts.specs.Lockmachine.declared.scene.Scene.{Scene}
+use Rattle.capacts.specs.Lockmachine.Scene.{rows_on, loner, wanted, against, told_set}
 use Rattle.capacts.specs.Lockmachine.Moves.{IsQuiet}
 use Rattle.capacts.proofs.Lockmachine.PolicyElsewhere.{wants-kept}
 use Rattle.capacts.specs.Caprules.State.{State}

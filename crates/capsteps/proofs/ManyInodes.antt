@@ -11,12 +11,13 @@ use Rattle.capbits.specs.declared.ids.Ino.{Ino}
 use Rattle.captable.specs.declared.entry.Entry.{Entry}
 use Rattle.captable.specs.declared.entry.EntryRow.{EntryRow}
 use Rattle.captable.specs.declared.entry.Holder.{Holder}
-use Rattle.captable.specs.Table.{Table, is_row_of}
+use Rattle.captable.specs.Table.{Table, IsTable, holders_of_rows, is_row_of}
 use Rattle.capbits.specs.Caps.{Caps}
 use Rattle.std.proofs.lemmas.List.Folds.{list_any-append}
 use Rattle.captable.specs.Calls.{is_of_inode, entries_on}
 use Rattle.captable.specs.Many.{changed_where, remade}
 use Rattle.captable.proofs.OneByOne.{same_holder}
+use Rattle.captable.proofs.Tables.{IsTable-rows}
 use Rattle.capacts.specs.Capnotes.InoSets.{InoSet, IsListOf}
 use Rattle.capacts.specs.Known.{KnownSets, kept_of, KeptAnew}
 use Rattle.capacts.proofs.KeptSets.{kept-nobody, kept-same, kept-then, kept-not, found-stays}
@@ -77,6 +78,14 @@ holders-stay passes g Q t all =
     All-map (λ row. Q row.holder) (λ row. cond (passes row) (remade g row) row) t.rows
     (All-weaker (λ row. Q row.holder) (λ row. Q (cond (passes row) (remade g row) row).holder)
     (λ row h. subst Q (sym (same_holder g row (passes row))) h) t.rows all)
+
+-- and each has one row still
+pub table-where : (passes : EntryRow → Bool) (g : EntryRow → Entry) (t : Table) → IsTable t → IsTable (changed_where passes g t)
+table-where passes g t = IsTable-rows t (changed_where passes g t).rows (same_holders t.rows)
+  where
+    same_holders : (rows : List EntryRow) → holders_of_rows (each (λ row. cond (passes row) (remade g row) row) rows) ≡ holders_of_rows rows
+    same_holders [] = refl
+    same_holders (row ∷ rows) = λ i. same_holder g row (passes row) i ∷ same_holders rows i
 
 -- the entries on an inode that fails the test are as they were
 rows-stay : (p : ℕ → Bool) (g : EntryRow → Entry) (ino : Ino) → p ino.0 ≡ false → (rows : List EntryRow)

@@ -7,7 +7,7 @@ use Rattle.std.specs.FinMap as map
 use Rattle.std.proofs.lemmas.List.Elements.{All-contains, All-contains_itself, All-cons, All-nil, All-weaker}
 use Rattle.capbits.specs.declared.cap.Part.{Part}
 use Rattle.capbits.specs.declared.cap.Part.TheVariants.{A}
-use Rattle.inotree.specs.Tree.{Nodes}
+use Rattle.inotree.specs.Tree.{IsTree, Nodes}
 use Rattle.inotree.proofs.OneInode.{known-changed}
 use Rattle.locktable.specs.declared.states.LockState.{LockState}
 use Rattle.locktable.specs.declared.states.LockState.TheVariants.{Stable, Gather}
@@ -20,7 +20,7 @@ use Rattle.capacts.specs.Lockmachine.declared.request.Request.{Request}
 use Rattle.capacts.specs.Lockmachine.Inodes.{lock_in}
 use Rattle.capacts.specs.Lockmachine.Requests.{is_numbered, first_for, is_for}
 use Rattle.capacts.specs.Lockmachine.Locks.{LockMap, IsLockMap, lock_at, with_lock}
-use Rattle.capacts.specs.Lockmachine.Scene.{Scene}
+use Rattle.capacts.specs.Lockmachine.declared.scene.Scene.{Scene}
 use Rattle.capacts.specs.Lockmachine.Moves.{LockPlace, present_state, coming_state, first_move, moved, with_moved}
 use Rattle.capacts.specs.Lockmachine.Runs.{Runs}
 use Rattle.capacts.specs.Lockmachine.Rows.{IsInRow}
@@ -35,7 +35,7 @@ use Rattle.capacts.specs.Caprules.Serving.{served}
 use Rattle.capacts.specs.Capnotes.Changing.{tree_with, tree_after}
 use Rattle.capacts.specs.Caprules.Settle.{Made, Began, Gathered, Served, Makes, MakesAll, ended_in}
 use Rattle.capsteps.proofs.LeftAlone.{found-contains}
-use Rattle.capsteps.proofs.OneChange.{by_ask}
+use Rattle.capsteps.proofs.OneChange.{by_ask, sound-after}
 
 pub record IsMoved (first now : Scene) : Type 0 where
   pub table : now.table ≡ first.table
@@ -170,6 +170,14 @@ moved-made s (Served q o) t (first, found, may, is) = subst (IsMoved s) (sym is)
 pub moved-all : (s : Scene) (ms : List Made) (t : Scene) → MakesAll s ms t → IsMoved s t
 moved-all s [] t is = subst (IsMoved s) (sym is) (not-moved s)
 moved-all s (m ∷ ms) t (mid, one, rest) = moved-twice s mid t (moved-made s m mid one) (moved-all mid ms t rest)
+
+-- and a tree stays one
+pub tree-moved : (s : Scene) (ms : List Made) (t : Scene) → MakesAll s ms t → IsTree s.tree → IsTree t.tree
+tree-moved s [] t is tree = subst (λ (u : Scene). IsTree u.tree) (sym is) tree
+tree-moved s (Began ino part to ∷ ms) t (mid, makes, rest) tree = tree-moved mid ms t rest (subst (λ (u : Scene). IsTree u.tree) (sym makes.1) tree)
+tree-moved s (Gathered ino part ∷ ms) t (mid, makes, rest) tree = tree-moved mid ms t rest (subst (λ (u : Scene). IsTree u.tree) (sym makes.1) tree)
+tree-moved s (Served q o ∷ ms) t (mid, makes, rest) tree =
+    tree-moved mid ms t rest (subst (λ (u : Scene). IsTree u.tree) (sym makes.3) (sound-after s q o tree makes.2))
 
 -- moves, and then others
 pub makes-append : (s : Scene) (ms : List Made) (mid : Scene) (more : List Made) (t : Scene) → MakesAll s ms mid → MakesAll mid more t → MakesAll s (ms ++ more) t

@@ -5,14 +5,14 @@ use Rattle.std.specs.FinSet as set
 use Rattle.capbits.specs.declared.ids.Ino.{Ino}
 use Rattle.capbits.specs.Caps.{Caps}
 use Rattle.capbits.specs.Sets.{IsSubset}
-use Rattle.inotree.specs.Tree.{Nodes}
+use Rattle.inotree.specs.Tree.{IsTree}
 use Rattle.sessiontab.specs.Table.{SessionTable}
 use Rattle.captable.specs.declared.entry.EntryRow.{EntryRow}
 use Rattle.captable.specs.declared.entry.Holder.{Holder}
 use Rattle.captable.specs.Table.{Table}
 use Rattle.capacts.specs.Lockmachine.Locks.{LockMap}
 use Rattle.capacts.specs.Lockmachine.Policy.{permitted}
-use Rattle.capacts.specs.Lockmachine.Scene.{Scene, scene}
+use Rattle.capacts.specs.Lockmachine.declared.scene.Scene.{Scene}
 use Rattle.capacts.specs.Capevents.declared.outcome.Ended.{Ended}
 use Rattle.capacts.specs.Finishing.{due_under, told_under}
 use Rattle.capacts.specs.Capnotes.InoSets.{InoSet, IsNext}
@@ -20,6 +20,7 @@ use Rattle.capacts.specs.Known.{KnownSets, OthersHaveAll}
 use Rattle.capacts.specs.Reach.{is_touched}
 use Rattle.capsteps.specs.Serves.{SettlesWith, EndsAt, EndsWith}
 use Rattle.capacts.specs.Caprules.Settle.{Made, Began, Gathered, Served, MakesAll, ended_in, sized_in}
+use Rattle.capsteps.proofs.Moved.{tree-moved}
 use Rattle.capsteps.proofs.SameOff.{off-wider}
 
 -- moves that end no request serve nobody: they change no size, and leave the tree
@@ -53,29 +54,47 @@ module _ (ino : ℕ) (from : ℕ → Bool) (touched : InoSet) (first settled : S
     sized_is = sym (nobody-served first settles.moves settled all.made moves-none).0;
   }
 
--- whoever has all by the tree and the locks of the inode, has it by others that are the same
-pub still-all_there : (sets : KnownSets) (fs : List ℕ) (tree after : Nodes) (sessions : SessionTable) (table : Table) (locks then : LockMap) (k : Holder)
-    → after ≡ tree → map.get then.states k.ino.0 ≡ map.get locks.states k.ino.0 → OthersHaveAll sets (scene fs tree sessions table locks) k → OthersHaveAll sets (scene fs after sessions table then) k
-still-all_there sets fs tree after sessions table locks then k same_tree same_locks others j e on apart there =
+-- whoever has all there by some locks, has it by others that are the same at the inode
+still-all_there : (sets : KnownSets) (s : Scene) (then : LockMap) (k : Holder) → map.get then.states k.ino.0 ≡ map.get s.locks.states k.ino.0 → OthersHaveAll sets s k
+    → OthersHaveAll sets (record s { locks = then }) k
+still-all_there sets s then k same others j e on apart there =
     let row : EntryRow = record { holder = j; entry = e } in
     let all = others j e on apart there in
-    let here : map.get locks.states j.ino.0 ≡ map.get then.states j.ino.0 = ap (map.get locks.states) on ∙ sym same_locks ∙ sym (ap (map.get then.states) on) in
-    let trees : tree ≡ after = sym same_tree in (
-      subst (λ (caps : Caps). IsSubset caps e.held) (λ i. due_under fs (trees i) sessions (here i) row) all.0,
-      all.1 ∙ ap Some (λ i. told_under (permitted fs (trees i) sessions j) (here i) row),
+    let here : map.get s.locks.states j.ino.0 ≡ map.get then.states j.ino.0 = ap (map.get s.locks.states) on ∙ sym same ∙ sym (ap (map.get then.states) on) in (
+      subst (λ (caps : Caps). IsSubset caps e.held) (λ i. due_under s.fs s.tree s.sessions (here i) row) all.0,
+      all.1 ∙ ap Some (λ i. told_under (permitted s.fs s.tree s.sessions j) (here i) row),
     )
+
+module _ (ino : ℕ) (from : ℕ → Bool) (touched : InoSet) (first settled : Scene) (ended : List Ended) (sized : List Ino)
+    (settles : SettlesWith (is_touched ino touched) from first settled ended sized) (nobody : ended ≡ []) where
+  pub others-still : (sets : KnownSets) (k : Holder) → map.get settled.locks.states k.ino.0 ≡ map.get first.locks.states k.ino.0 → OthersHaveAll sets first k → OthersHaveAll sets settled k
+  others-still sets k here others =
+      let there = settles.settles in
+      let same = there.same in
+      let tree = tree-stays ino from touched first settled ended sized settles nobody in
+      let whole : record first { locks = settled.locks } ≡ settled =
+      λ i. record { fs = sym same.fs i; tree = sym tree i; sessions = sym same.sessions i; table = sym same.table i; locks = settled.locks } in
+      subst (λ (s : Scene). OthersHaveAll sets s k) whole (still-all_there sets first settled.locks k here others)
 
 -- ---- the step
 
+-- the locks settle, and what holds of the entries and the sessions holds still
+pub settled-keeps : (at from : ℕ → Bool) (first settled : Scene) (ended : List Ended) (sized : List Ino) → SettlesWith at from first settled ended sized
+    → (P : Table → SessionTable → Type 0) → P first.table first.sessions → P settled.table settled.sessions
+settled-keeps at from first settled ended sized settles P was =
+    let there = settles.settles in
+    let same = there.same in
+    subst (λ (t : Table). P t settled.sessions) (sym same.table) (subst (λ (s : SessionTable). P first.table s) (sym same.sessions) was)
+
 -- the locks settle and then the step ends
 pub settled-ends : (at from : ℕ → Bool) (was now : KnownSets) (first settled last : Scene) (ended : List Ended) (sized : List Ino)
-    → SettlesWith at from first settled ended sized → EndsAt at sized was now settled last → EndsWith from was now first last ended
-settled-ends at from was now first settled last ended sized settles ends = record {
+    → SettlesWith at from first settled ended sized → IsTree first.tree → EndsAt at sized was now settled last → EndsWith from was now first last ended
+settled-ends at from was now first settled last ended sized settles tree ends = record {
   at = at;
   settled = settled;
   sized = sized;
   settles = settles;
-  tree = ends.tree;
+  tree = (let there = settles.settles in let all = there.settles in tree-moved first settles.moves settled all.made tree);
   finished = ends.finished;
   kept = ends.kept;
 }

@@ -6,7 +6,7 @@ use Rattle.capbits.specs.Caps.{has}
 use Rattle.captable.specs.declared.entry.EntryRow.{EntryRow}
 use Rattle.capacts.specs.Lockmachine.declared.moves.Move.TheVariants.{Begin, End}
 use Rattle.capacts.specs.Lockmachine.Locks.{IsLockMap}
-use Rattle.capacts.specs.Lockmachine.Scene.{Scene}
+use Rattle.capacts.specs.Lockmachine.declared.scene.Scene.{Scene}
 use Rattle.capacts.specs.Lockmachine.Turns.{WaitAt}
 use Rattle.capacts.proofs.Lockmachine.Waiting.{waits-kept-at, served-at, quiet-waits-at}
 use Rattle.capacts.specs.Caprules.State.{State}

@@ -18,7 +18,7 @@ use Rattle.capacts.specs.Lockmachine.declared.request.Change.TheVariants.{Set, S
 use Rattle.capacts.specs.Lockmachine.declared.request.Ask.{Ask}
 use Rattle.capacts.specs.Lockmachine.declared.request.Ask.TheVariants.{Get, Alter, Unlink, Rmdir, Rename}
 use Rattle.capacts.specs.Lockmachine.declared.request.Request.{Request}
-use Rattle.capacts.specs.Lockmachine.Scene.{Scene}
+use Rattle.capacts.specs.Lockmachine.declared.scene.Scene.{Scene}
 use Rattle.capacts.proofs.Lockmachine.PolicyElsewhere.{alike-itself}
 use Rattle.capacts.specs.Capevents.declared.outcome.Outcome.{Outcome}
 use Rattle.capacts.specs.Capevents.declared.outcome.Outcome.TheVariants as outcome

@@ -16,7 +16,8 @@ use Rattle.locktable.specs.Rows.{row_of}
 use Rattle.captable.specs.declared.entry.EntryRow.{EntryRow}
 use Rattle.captable.specs.Calls.{is_of_inode}
 use Rattle.capacts.specs.Lockmachine.Locks.{lock_at}
-use Rattle.capacts.specs.Lockmachine.Scene.{Scene, outside, against_lock, against_part, against_locks, against_policy, against, told_set}
+use Rattle.capacts.specs.Lockmachine.declared.scene.Scene.{Scene}
+use Rattle.capacts.specs.Lockmachine.Scene.{outside, against_lock, against_part, against_locks, against_policy, against, told_set}
 use Rattle.capacts.specs.Lockmachine.Rows.{IsInRowOf, IsInRow}
 use Rattle.capacts.specs.Lockmachine.Policy.{permitted}
 use Rattle.capacts.proofs.Walked.{second_true}

@@ -20,7 +20,8 @@ use Rattle.captable.proofs.ByHolder.{row_found}
 use Rattle.captable.specs.Calls.{is_of_client, is_due, changed, told, with_asked, with_size_due}
 use Rattle.captable.specs.Many.{changed_where, remade}
 use Rattle.captable.proofs.OneByOne.{fold-changed_by}
-use Rattle.capacts.specs.Lockmachine.Scene.{Scene, told_set}
+use Rattle.capacts.specs.Lockmachine.declared.scene.Scene.{Scene}
+use Rattle.capacts.specs.Lockmachine.Scene.{told_set}
 use Rattle.capacts.specs.Capevents.declared.outcome.Ended.{Ended}
 use Rattle.capacts.specs.Capevents.declared.outcome.Message.{Message}
 use Rattle.capacts.specs.Capevents.declared.outcome.Message.TheVariants as message

@@ -13,7 +13,8 @@ use Rattle.captable.specs.Table.{is_row_of, entry_of, entry_at}
 use Rattle.captable.proofs.Changes.{no_entry}
 use Rattle.captable.proofs.Searches.{find_passes}
 use Rattle.captable.proofs.Tables.{same-is}
-use Rattle.capacts.specs.Lockmachine.Scene.{Scene, against}
+use Rattle.capacts.specs.Lockmachine.declared.scene.Scene.{Scene}
+use Rattle.capacts.specs.Lockmachine.Scene.{against}
 use Rattle.capacts.specs.Caprules.Judge.{revoked_of}
 
 -- where it has one

@@ -13,7 +13,7 @@ use Rattle.captable.specs.Table.{Table}
 use Rattle.sessiontab.specs.Table.{SessionTable}
 use Rattle.capacts.specs.Lockmachine.Elsewhere.{IsSameOutside}
 use Rattle.capacts.specs.Lockmachine.Locks.{lock_at}
-use Rattle.capacts.specs.Lockmachine.Scene.{Scene}
+use Rattle.capacts.specs.Lockmachine.declared.scene.Scene.{Scene}
 use Rattle.capacts.proofs.Lockmachine.Finding.{contains-filter, filter-contains}
 use Rattle.capacts.proofs.Lockmachine.PolicyElsewhere.{alike-itself}
 use Rattle.capacts.proofs.Lockmachine.SameOutside.{alike-trans}

@@ -4,7 +4,7 @@ use Rattle.std.proofs.lemmas.List.{length-append}
 use Rattle.capacts.specs.Lockmachine.declared.request.Request.{Request}
 use Rattle.capacts.specs.Lockmachine.Requests.{is_numbered}
 use Rattle.capacts.specs.Lockmachine.Locks.{LockMap, IsLockMap, without_request}
-use Rattle.capacts.specs.Lockmachine.Scene.{Scene}
+use Rattle.capacts.specs.Lockmachine.declared.scene.Scene.{Scene}
 use Rattle.capacts.proofs.Lockmachine.Queue.{taken_alone}
 use Rattle.capacts.specs.Caprules.Settle.{Made, Began, Gathered, Served, Makes, MakesAll, ended_in}
 use Rattle.capsteps.proofs.LeftAlone.{found-contains}

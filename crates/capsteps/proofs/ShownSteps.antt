@@ -25,7 +25,8 @@ use Rattle.captable.proofs.ByHolder.{entry_at-changed, entry_at-changed_other, e
 use Rattle.captable.proofs.Searches.{find_passes, find-map}
 use Rattle.captable.proofs.Shown.{shown-numbered, shown-less, shown-told}
 use Rattle.captable.proofs.Tables.{same_equiv, same-is}
-use Rattle.capacts.specs.Lockmachine.Scene.{Scene, against, told_set}
+use Rattle.capacts.specs.Lockmachine.declared.scene.Scene.{Scene}
+use Rattle.capacts.specs.Lockmachine.Scene.{against, told_set}
 use Rattle.capacts.specs.Lockmachine.Told.{is_taken}
 use Rattle.capacts.proofs.Lockmachine.Told.{has-against, has-told}
 use Rattle.capacts.proofs.Lockmachine.Exact.{settled as at_rest_settled}

@@ -20,7 +20,8 @@ use Rattle.captable.specs.Many.{changed_where, remade}
 use Rattle.captable.proofs.ByHolder.{row_found}
 use Rattle.captable.proofs.Searches.{find-map}
 use Rattle.capacts.specs.Lockmachine.Locks.{IsLockMap}
-use Rattle.capacts.specs.Lockmachine.Scene.{Scene, told_set}
+use Rattle.capacts.specs.Lockmachine.declared.scene.Scene.{Scene}
+use Rattle.capacts.specs.Lockmachine.Scene.{told_set}
 use Rattle.capacts.specs.Caprules.Finish.{is_sized, owed, sizes_owed, issue_row, issue, is_kept, forget, told_before, number_row, number, finished}
 use Rattle.capacts.specs.Caprules.Headline.{IssuesExactly}
 use Rattle.capacts.specs.Caprules.Settle.{Made, sized_in}

@@ -19,7 +19,7 @@ use Rattle.capacts.specs.Lockmachine.Inodes.{lock_in}
 use Rattle.capacts.specs.Lockmachine.Requests.{first_for, is_numbered, part_of_ask}
 use Rattle.capacts.specs.Lockmachine.Locks.{IsLockMap, lock_at, request_at, without_request}
 use Rattle.capacts.specs.Lockmachine.Wants.{want_of, in_all}
-use Rattle.capacts.specs.Lockmachine.Scene.{Scene}
+use Rattle.capacts.specs.Lockmachine.declared.scene.Scene.{Scene}
 use Rattle.capacts.specs.Lockmachine.Moves.{may_begin, may_begin_in, is_servable, first_move, IsQuietOutside}
 use Rattle.capacts.specs.Lockmachine.Turns.{IsTurnOf, NobodyElsewhere, NothingEnds, WaitAt}
 use Rattle.capacts.proofs.Lockmachine.Alone.{nobody-held, served-alone}

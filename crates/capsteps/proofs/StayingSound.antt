@@ -26,7 +26,7 @@ use Rattle.capacts.specs.Lockmachine.declared.moves.Move.TheVariants.{Settled}
 use Rattle.capacts.specs.Lockmachine.Inodes.{StateMap, lock_in}
 use Rattle.capacts.specs.Lockmachine.Locks.{IsLockMap, lock_at}
 use Rattle.capacts.specs.Lockmachine.Requests.{first_for}
-use Rattle.capacts.specs.Lockmachine.Scene.{Scene}
+use Rattle.capacts.specs.Lockmachine.declared.scene.Scene.{Scene}
 use Rattle.capacts.specs.Lockmachine.Moves.{first_move, IsQuiet, IsAtRest, WaitAtLocks}
 use Rattle.capacts.specs.Lockmachine.Rows.{IsInRow}
 use Rattle.capacts.specs.Lockmachine.Wants.{effective_want}

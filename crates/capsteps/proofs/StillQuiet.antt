@@ -6,7 +6,8 @@ use Rattle.locktable.specs.declared.states.LockState.{LockState}
 use Rattle.locktable.specs.declared.states.LockState.TheVariants.{Stable, Gather}
 use Rattle.capacts.specs.Lockmachine.Requests.{first_for}
 use Rattle.capacts.specs.Lockmachine.Wants.{in_all}
-use Rattle.capacts.specs.Lockmachine.Scene.{Scene, wants, target_by}
+use Rattle.capacts.specs.Lockmachine.declared.scene.Scene.{Scene}
+use Rattle.capacts.specs.Lockmachine.Scene.{wants, target_by}
 use Rattle.capacts.specs.Lockmachine.Moves.{IsQuiet, is_open}
 
 pub still_quiet : (old new : Scene) (ino : ℕ) (part : Part) → new.locks.queue ≡ old.locks.queue → wants new ino ≡ wants old ino

@@ -1,7 +1,7 @@
 -- In a sound state an event that is stopped has one step alone, which changes nothing.
 use Rattle.std.proofs.Common.{◌≡◌, Some, List, [], ◌∷◌, refl, sym, ap, subst, ◌∙◌, append-nil}
 use Rattle.captable.specs.Table.{IsTable}
-use Rattle.capacts.specs.Lockmachine.Scene.{Scene}
+use Rattle.capacts.specs.Lockmachine.declared.scene.Scene.{Scene}
 use Rattle.capacts.proofs.Lockmachine.Exact.{settled}
 use Rattle.capacts.specs.Lockmachine.Moves.{first_move}
 use Rattle.capacts.specs.Lockmachine.declared.moves.Move.TheVariants.{Begin, End, Serve, Settled}

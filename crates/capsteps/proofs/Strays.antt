@@ -20,7 +20,7 @@ use Rattle.numbered.proofs.Maps.{same_or_other, remove-here, remove-other}
 use Rattle.captable.specs.declared.entry.EntryRow.{EntryRow}
 use Rattle.captable.specs.Calls.{is_of_inode}
 use Rattle.capacts.specs.Lockmachine.Locks.{without_ino}
-use Rattle.capacts.specs.Lockmachine.Scene.{Scene}
+use Rattle.capacts.specs.Lockmachine.declared.scene.Scene.{Scene}
 use Rattle.capacts.specs.Capnotes.InoSets.{InoSet, IsListOf}
 use Rattle.capacts.specs.Caprules.Finish.{is_kept}
 use Rattle.capsteps.specs.Touching.{stays, forget_at, forget_among}

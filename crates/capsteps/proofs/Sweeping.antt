@@ -19,7 +19,8 @@ use Rattle.capacts.specs.Lockmachine.declared.request.Request.{Request}
 use Rattle.capacts.specs.Lockmachine.declared.states.InodeLocks.{InodeLocks}
 use Rattle.capacts.specs.Lockmachine.Inodes.{lock_in}
 use Rattle.capacts.specs.Lockmachine.Locks.{LockMap, lock_at}
-use Rattle.capacts.specs.Lockmachine.Scene.{Scene, wanted_in_all}
+use Rattle.capacts.specs.Lockmachine.declared.scene.Scene.{Scene}
+use Rattle.capacts.specs.Lockmachine.Scene.{wanted_in_all}
 use Rattle.capacts.specs.Lockmachine.Moves.{may_end_by, may_end_in, may_begin_in, first_move}
 use Rattle.capacts.specs.Lockmachine.declared.moves.Move.TheVariants.{Settled}
 use Rattle.capacts.specs.Lockmachine.Runs.{MoveLittle, ChangesLocksOf}

@@ -24,7 +24,8 @@ use Rattle.captable.proofs.OneByOne.{fold-changed_by}
 use Rattle.captable.proofs.Searches.{find-map, filter-map}
 use Rattle.capacts.specs.Lockmachine.Locks.{lock_at}
 use Rattle.capacts.specs.Lockmachine.Wants.{want_of}
-use Rattle.capacts.specs.Lockmachine.Scene.{Scene, wants, outside}
+use Rattle.capacts.specs.Lockmachine.declared.scene.Scene.{Scene}
+use Rattle.capacts.specs.Lockmachine.Scene.{wants, outside}
 use Rattle.capacts.specs.Lockmachine.Moves.{is_open}
 use Rattle.capacts.specs.Capevents.declared.outcome.Ended.{Ended}
 use Rattle.capacts.specs.Capevents.declared.outcome.Message.{Message}

@@ -46,7 +46,8 @@ use Rattle.capacts.specs.Lockmachine.Locks.{lock_at}
 use Rattle.capacts.specs.Lockmachine.Policy.{Subject, subject, question_of, is_granted_to, permitted, permitted_to}
 use Rattle.capacts.specs.Lockmachine.Rows.{IsInRowOf, IsInRow}
 use Rattle.capacts.specs.Lockmachine.Requests.{part_of_ask}
-use Rattle.capacts.specs.Lockmachine.Scene.{Scene, outside}
+use Rattle.capacts.specs.Lockmachine.declared.scene.Scene.{Scene}
+use Rattle.capacts.specs.Lockmachine.Scene.{outside}
 use Rattle.capacts.specs.Lockmachine.Turns.{WaitAt}
 use Rattle.capacts.specs.Lockmachine.Moves.{present_state, is_open, IsQuiet}
 use Rattle.capacts.specs.Lockmachine.Wants.{effective_want}

@@ -5,7 +5,7 @@ use Rattle.capbits.specs.declared.ids.Ticket.{Ticket}
 use Rattle.inotree.specs.Tree.{IsTree}
 use Rattle.capacts.specs.Lockmachine.declared.request.Request.{Request}
 use Rattle.capacts.specs.Lockmachine.Locks.{request_at, without_request}
-use Rattle.capacts.specs.Lockmachine.Scene.{Scene}
+use Rattle.capacts.specs.Lockmachine.declared.scene.Scene.{Scene}
 use Rattle.capacts.specs.Capevents.declared.outcome.Ended.{Ended}
 use Rattle.capacts.specs.Caprules.Serving.{MayEndAs}
 use Rattle.capacts.specs.Capnotes.Changing.{tree_after}
@@ -32,7 +32,6 @@ pub record SettlesWith (at from : ℕ → Bool) (first settled : Scene) (ended :
 
 -- the locks have settled and the sizes of these inodes changed: the step ends at those that it touched
 pub record EndsAt (at : ℕ → Bool) (sized : List Ino) (was now : KnownSets) (settled last : Scene) : Type 0 where
-  pub tree : IsTree settled.tree
   pub finished : last ≡ finished_at at (known_in was) (sizes_owed sized settled)
   pub kept : KeptAnew (λ k. at k.ino.0) (told_then (sizes_owed sized settled)) (sizes_owed sized settled).table was now
 

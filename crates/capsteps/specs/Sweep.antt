@@ -7,7 +7,7 @@ use Rattle.capbits.specs.declared.ids.Ino.{Ino}
 use Rattle.capbits.specs.declared.ids.Ticket.{Ticket}
 use Rattle.capacts.specs.Lockmachine.declared.request.Request.{Request}
 use Rattle.capacts.specs.Lockmachine.declared.moves.Move.TheVariants.{Serve, Settled}
-use Rattle.capacts.specs.Lockmachine.Scene.{Scene}
+use Rattle.capacts.specs.Lockmachine.declared.scene.Scene.{Scene}
 use Rattle.capacts.specs.Lockmachine.Moves.{first_move, may_end, may_begin}
 use Rattle.capacts.specs.Lockmachine.Turns.{IsTurnOf, NobodyElsewhere, WaitAt}
 use Rattle.capacts.specs.Capnotes.InoSets.{InoSet}

@@ -22,7 +22,8 @@ use Rattle.capacts.specs.Lockmachine.Elsewhere.{IsSameBut, IsSameOutside}
 use Rattle.capacts.specs.Lockmachine.Wants.{effective_want}
 use Rattle.capacts.specs.Lockmachine.Requests.{first_for}
 use Rattle.capacts.specs.Lockmachine.Locks.{lock_at, without_ino}
-use Rattle.capacts.specs.Lockmachine.Scene.{Scene, told_set}
+use Rattle.capacts.specs.Lockmachine.declared.scene.Scene.{Scene}
+use Rattle.capacts.specs.Lockmachine.Scene.{told_set}
 use Rattle.capacts.specs.Lockmachine.Rows.{IsInRow}
 use Rattle.capacts.specs.Lockmachine.Turns.{WaitAt}
 use Rattle.capacts.specs.Capevents.declared.event.Event.{Event}

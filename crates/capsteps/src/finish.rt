@@ -1,16 +1,15 @@
 //! The end of a step at the inodes that it touched.
-ghost use Rattle.std.specs.Prelude.{◌≡◌, ◌==◌, ◌≤◌, ◌<◌, ◌^◌, ◌-◌, ◌+◌, length, ℕ, List, [], false, Some, IsTrue, All, IsSome, IfSome};
+ghost use Rattle.std.specs.Prelude.{◌≡◌, ◌==◌, ◌≤◌, ◌<◌, ◌^◌, ◌-◌, ◌+◌, length, [], false, Some, IsTrue, All, IsSome, IfSome};
 ghost use Rattle.std.specs.List.{find};
 ghost use Rattle.std.specs.FinSet as set;
 ghost use Rattle.std.specs.FinMap as map;
 ghost use Rattle.std.specs.Option.{option_copied};
 ghost use Rattle.inotree.specs.Tree.{path_of};
-ghost use Rattle.sessiontab.specs.Table.{SessionTable};
 ghost use Rattle.sessiontab.specs.Calls.{has_session};
 ghost use Rattle.captable.specs.Table.{IsTable, same, is_row_of, entry_at};
 ghost use Rattle.captable.specs.Calls.{told, changed, is_of_inode, entries_on};
 ghost use Rattle.captable.specs.Many.{changed_by, changed_where};
-ghost use Rattle.capacts.specs.Lockmachine.Scene.{Scene, scene};
+ghost use Rattle.capacts.specs.Lockmachine.declared.scene.Scene.{Scene};
 ghost use Rattle.capacts.specs.Finishing as words;
 ghost use Rattle.capacts.specs.Caprules.Direct.{opened_as};
 ghost use Rattle.capacts.specs.Known.{AreKnown, HaveRoom, KeptAnew, OthersHaveAll, kept_of, known_in};
@@ -20,14 +19,13 @@ ghost use Rattle.capsteps.specs.Serves.{EndsAt};
 ghost use Rattle.capacts.specs.Capnotes.Noted.{LeadOn};
 
 use arrayvec::ArrayVec;
-use capacts::finishing::finish_row;
+use capacts::finishing::{Standing, finish_row};
 use capacts::known::Known;
 use capacts::reach::is_held;
-use capacts::{ChangeList, InoSet, InodeLocks, Locks, Reply, ViewChange};
+use capacts::{ChangeList, InoSet, InodeLocks, Locks, Policy, Reply, Scene, ViewChange};
 use capbits::{ClientId, Ino};
-use capspec::FsName;
 use captable::{CapTable, EntryRow, Holder};
-use inotree::{Names, Node, Place, Tree};
+use inotree::{Names, Place};
 use sessiontab::{MAX_SESSIONS, Sessions};
 
 // ---- at the touched inodes
@@ -35,110 +33,90 @@ use sessiontab::{MAX_SESSIONS, Sessions};
 /// Issues what is due on the touched inodes, numbers what clients are to know of, keeps that, and forgets those inodes that are
 /// strays that nobody has an entry on. The locks have settled.
 pub fn finish(
-    fs: &FsName,
-    tree: &mut Tree,
-    sessions: &Sessions,
-    table: &mut CapTable,
+    scene: &mut Scene,
     known: &mut Known,
-    locks: &mut Locks,
     ino: Ino,
     touched: &InoSet,
     changes: &mut ChangeList,
 )
     requires apart { set.contains touched.now ino.0 ≡ false }
     requires places { length changes.old.items + set.len touched.now + 1 ≤ changes.old.room }
-    requires numbers { All (λ row. row.entry.seq < 2 ^ 64 - 1) table.old.rows }
-    requires clients { All (λ row. IsTrue (has_session sessions.now row.holder.client.0)) table.old.rows }
-    requires room { HaveRoom known.old.sets table.old }
-    ensures finished { scene fs.now tree.new sessions.now table.new locks.new
-        ≡ finished_at (is_touched ino.0 touched.now) (known_in known.old.sets) (scene fs.now tree.old sessions.now table.old locks.old) }
-    ensures known { KeptAnew (λ k. is_touched ino.0 touched.now k.ino.0) (told_then (scene fs.now tree.old sessions.now table.old locks.old))
-        table.old known.old.sets known.new.sets }
-    ensures queue { locks.new.queue ≡ locks.old.queue }
-    ensures lead { LeadOn changes.old.items changes.new.items tree.old tree.new }
+    requires numbers { All (λ row. row.entry.seq < 2 ^ 64 - 1) scene.old.table.rows }
+    requires clients { All (λ row. IsTrue (has_session scene.old.sessions row.holder.client.0)) scene.old.table.rows }
+    requires room { HaveRoom known.old.sets scene.old.table }
+    ensures finished { scene.new ≡ finished_at (is_touched ino.0 touched.now) (known_in known.old.sets) scene.old }
+    ensures known { KeptAnew (λ k. is_touched ino.0 touched.now k.ino.0) (told_then scene.old) scene.old.table known.old.sets known.new.sets }
+    ensures queue { scene.new.locks.queue ≡ scene.old.locks.queue }
+    ensures lead { LeadOn changes.old.items changes.new.items scene.old.tree scene.new.tree }
 {
-    finish_touched(fs, tree, sessions, table, known, locks, touched);
-    let now = locks.of_ino(ino);
-    finish_entries(fs, tree, sessions, table, known, ino, &now);
-    forget_touched(tree, table, locks, touched, changes);
-    forget_unheld(tree, table, locks, ino, changes);
+    let policy = Policy {
+        fs: &scene.fs,
+        tree: &scene.tree,
+        sessions: &scene.sessions,
+    };
+    finish_touched(&policy, &mut scene.table, known, &scene.locks, touched);
+    let now = scene.locks.of_ino(ino);
+    finish_entries(&policy, &mut scene.table, known, ino, &now);
+    forget_touched(scene, touched, changes);
+    forget_unheld(scene, ino, changes);
 }
 
 /// The same at the holder's inode alone, where each other entry on it has all that the end of the step would give it: only the
 /// holder's is gone through.
-pub fn finish_alone(
-    fs: &FsName,
-    tree: &mut Tree,
-    sessions: &Sessions,
-    table: &mut CapTable,
-    known: &mut Known,
-    locks: &mut Locks,
-    holder: Holder,
-    changes: &mut ChangeList,
-)
-    requires others { OthersHaveAll known.old.sets (scene fs.now tree.old sessions.now table.old locks.old) holder }
+pub fn finish_alone(scene: &mut Scene, known: &mut Known, holder: Holder, changes: &mut ChangeList)
+    requires others { OthersHaveAll known.old.sets scene.old holder }
     requires place { length changes.old.items < changes.old.room }
-    requires number { IfSome (entry_at table.old holder) (λ entry. entry.seq < 2 ^ 64 - 1) }
-    requires room { HaveRoom known.old.sets table.old }
-    ensures ends { EndsAt (λ other. other == holder.ino.0) [] known.old.sets known.new.sets
-        (scene fs.now tree.old sessions.now table.old locks.old) (scene fs.now tree.new sessions.now table.new locks.new) }
-    ensures queue { locks.new.queue ≡ locks.old.queue }
-    ensures lead { LeadOn changes.old.items changes.new.items tree.old tree.new }
-    ensures table { IsTable table.new }
+    requires number { IfSome (entry_at scene.old.table holder) (λ entry. entry.seq < 2 ^ 64 - 1) }
+    requires room { HaveRoom known.old.sets scene.old.table }
+    ensures ends { EndsAt (λ other. other == holder.ino.0) [] known.old.sets known.new.sets scene.old scene.new }
+    ensures queue { scene.new.locks.queue ≡ scene.old.locks.queue }
+    ensures lead { LeadOn changes.old.items changes.new.items scene.old.tree scene.new.tree }
 {
-    // A look at the tree, by which the proof knows what it keeps.
-    let _last = tree.last();
-    let now = locks.of_ino(holder.ino);
-    finish_holder(fs, tree, sessions, table, known, holder, &now);
-    forget_unheld(tree, table, locks, holder.ino, changes);
-    // And one at the entries.
-    let _oldest = table.oldest();
+    let now = scene.locks.of_ino(holder.ino);
+    let policy = Policy {
+        fs: &scene.fs,
+        tree: &scene.tree,
+        sessions: &scene.sessions,
+    };
+    finish_holder(&policy, &mut scene.table, known, holder, &now);
+    forget_unheld(scene, holder.ino, changes);
 }
 
 // Issues what is due on each inode that was touched beside the one, and numbers what its clients are to know of. Each is gone
 // through once, since an entry that was renumbered may have used up its number.
 fn finish_touched(
-    fs: &FsName,
-    tree: &Tree,
-    sessions: &Sessions,
+    policy: &Policy<'_>,
     table: &mut CapTable,
     known: &mut Known,
     locks: &Locks,
     touched: &InoSet,
 )
     requires numbers { All (λ row. row.entry.seq < 2 ^ 64 - 1) table.old.rows }
-    requires clients { All (λ row. IsTrue (has_session sessions.now row.holder.client.0)) table.old.rows }
+    requires clients { All (λ row. IsTrue (has_session policy.now.sessions.now row.holder.client.0)) table.old.rows }
     requires room { HaveRoom known.old.sets table.old }
     ensures table { table.new
-        ≡ changed_where (words.is_on touched.now) (words.entry_by (known_in known.old.sets) fs.now tree.now sessions.now locks.now.states) table.old }
-    ensures known { KeptAnew (λ k. set.contains touched.now k.ino.0) (words.told_by fs.now tree.now sessions.now locks.now.states)
+        ≡ changed_where (words.is_on touched.now) (words.entry_by (known_in known.old.sets) policy.now.fs.now policy.now.tree.now policy.now.sessions.now locks.now.states) table.old }
+    ensures known { KeptAnew (λ k. set.contains touched.now k.ino.0) (words.told_by policy.now.fs.now policy.now.tree.now policy.now.sessions.now locks.now.states)
         table.old known.old.sets known.new.sets }
 {
     for number in touched.numbers() {
         let ino = Ino(*number);
         let now = locks.of_ino(ino);
-        finish_entries(fs, tree, sessions, table, known, ino, &now);
+        finish_entries(policy, table, known, ino, &now);
     }
 }
 
 // Forgets those that are strays that nobody has an entry on.
-fn forget_touched(
-    tree: &mut Tree,
-    table: &CapTable,
-    locks: &mut Locks,
-    touched: &InoSet,
-    changes: &mut ChangeList,
-)
+fn forget_touched(scene: &mut Scene, touched: &InoSet, changes: &mut ChangeList)
     requires places { length changes.old.items + set.len touched.now ≤ changes.old.room }
-    ensures left { (fs : List ℕ) (sessions : SessionTable) → scene fs tree.new sessions table.now locks.new
-        ≡ forget_among (set.contains touched.now) (scene fs tree.old sessions table.now locks.old) }
-    ensures queue { locks.new.queue ≡ locks.old.queue }
-    ensures lead { LeadOn changes.old.items changes.new.items tree.old tree.new }
+    ensures left { scene.new ≡ forget_among (set.contains touched.now) scene.old }
+    ensures queue { scene.new.locks.queue ≡ scene.old.locks.queue }
+    ensures lead { LeadOn changes.old.items changes.new.items scene.old.tree scene.new.tree }
     ensures count { length changes.new.items ≤ length changes.old.items + set.len touched.now }
     ensures room { changes.old.room ≤ changes.new.room }
 {
     for number in touched.numbers() {
-        forget_unheld(tree, table, locks, Ino(*number), changes);
+        forget_unheld(scene, Ino(*number), changes);
     }
 }
 
@@ -146,38 +124,42 @@ fn forget_touched(
 
 // Issues what is due on the inode, which has these locks, numbers what its clients are to know of, and keeps that.
 fn finish_entries(
-    fs: &FsName,
-    tree: &Tree,
-    sessions: &Sessions,
+    policy: &Policy<'_>,
     table: &mut CapTable,
     known: &mut Known,
     ino: Ino,
     locks: &Option<InodeLocks>,
 )
     requires numbers { All (λ row. row.entry.seq < 2 ^ 64 - 1) (entries_on table.old ino) }
-    requires clients { All (λ row. IsTrue (has_session sessions.now row.holder.client.0)) table.old.rows }
+    requires clients { All (λ row. IsTrue (has_session policy.now.sessions.now row.holder.client.0)) table.old.rows }
     requires room { HaveRoom known.old.sets table.old }
     ensures table { table.new
-        ≡ changed_where (is_of_inode ino) (words.entry_under (known_in known.old.sets) fs.now tree.now sessions.now locks.now) table.old }
-    ensures known { KeptAnew (λ k. k.ino.0 == ino.0) (words.told_at fs.now tree.now sessions.now locks.now)
+        ≡ changed_where (is_of_inode ino) (words.entry_under (known_in known.old.sets) policy.now.fs.now policy.now.tree.now policy.now.sessions.now locks.now) table.old }
+    ensures known { KeptAnew (λ k. k.ino.0 == ino.0) (words.told_at policy.now.fs.now policy.now.tree.now policy.now.sessions.now locks.now)
         table.old known.old.sets known.new.sets }
 {
-    let clients = clients_on(sessions, table, ino);
+    let clients = clients_on(policy.sessions, table, ino);
     let numbers = clients.as_slice();
     if numbers.is_empty() {
         return;
     }
     // The names from the root are looked up once, and not for each entry.
     let mut names = Names::new();
-    let path = tree.read_path(ino, &mut names).then_some(&names);
-    let node = tree.node(ino);
+    let path = policy.tree.read_path(ino, &mut names).then_some(&names);
+    let node = policy.tree.node(ino);
+    let standing = Standing {
+        fs: policy.fs,
+        tree: policy.tree,
+        sessions: policy.sessions,
+        path,
+        node,
+        locks: *locks,
+    };
     let mut place = table.first_place(ino);
     for number in numbers {
         let client = ClientId(*number);
         let holder = Holder { client, ino };
-        finish_entry(
-            fs, tree, sessions, table, known, holder, place, path, node, locks,
-        );
+        finish_entry(&standing, table, known, holder, place);
         place = table.place_after(place);
     }
 }
@@ -200,26 +182,19 @@ pub fn clients_on(sessions: &Sessions, table: &CapTable, ino: Ino) -> ArrayVec<u
 }
 
 // Forgets the inode and its locks, if it is a stray that nobody has an entry on, and notes that.
-fn forget_unheld(
-    tree: &mut Tree,
-    table: &CapTable,
-    locks: &mut Locks,
-    ino: Ino,
-    changes: &mut ChangeList,
-)
+fn forget_unheld(scene: &mut Scene, ino: Ino, changes: &mut ChangeList)
     requires place { length changes.old.items < changes.old.room }
-    ensures left { (fs : List ℕ) (sessions : SessionTable) → scene fs tree.new sessions table.now locks.new
-        ≡ forget_at ino.0 (scene fs tree.old sessions table.now locks.old) }
-    ensures queue { locks.new.queue ≡ locks.old.queue }
-    ensures lead { LeadOn changes.old.items changes.new.items tree.old tree.new }
+    ensures left { scene.new ≡ forget_at ino.0 scene.old }
+    ensures queue { scene.new.locks.queue ≡ scene.old.locks.queue }
+    ensures lead { LeadOn changes.old.items changes.new.items scene.old.tree scene.new.tree }
     ensures count { length changes.new.items ≤ length changes.old.items + 1 }
     ensures room { changes.old.room ≤ changes.new.room }
 {
-    match tree.place(ino) {
+    match scene.tree.place(ino) {
         Place::Gone => {
-            if !is_held(table, ino) {
-                tree.forget(ino);
-                locks.drop_ino(ino);
+            if !is_held(&scene.table, ino) {
+                scene.tree.forget(ino);
+                scene.locks.drop_ino(ino);
                 changes.push(ViewChange::Forgotten { ino });
             }
         }
@@ -231,9 +206,7 @@ fn forget_unheld(
 
 // Issues what is due to the holder, whose inode has these locks, numbers what its client is to know of, and keeps that.
 fn finish_holder(
-    fs: &FsName,
-    tree: &Tree,
-    sessions: &Sessions,
+    policy: &Policy<'_>,
     table: &mut CapTable,
     known: &mut Known,
     holder: Holder,
@@ -243,42 +216,48 @@ fn finish_holder(
     requires room { IsSome (entry_at table.old holder) → IsSome (kept_of known.old.sets holder) }
     ensures sound { IsTable table.old }
     ensures table { table.new
-        ≡ changed_by (words.entry_under (known_in known.old.sets) fs.now tree.now sessions.now locks.now) table.old holder }
-    ensures known { KeptAnew (λ k. same k holder) (words.told_at fs.now tree.now sessions.now locks.now) table.old known.old.sets known.new.sets }
+        ≡ changed_by (words.entry_under (known_in known.old.sets) policy.now.fs.now policy.now.tree.now policy.now.sessions.now locks.now) table.old holder }
+    ensures known { KeptAnew (λ k. same k holder) (words.told_at policy.now.fs.now policy.now.tree.now policy.now.sessions.now locks.now) table.old known.old.sets known.new.sets }
 {
     if let Some(entry) = table.find(holder.client, holder.ino) {
         let mut names = Names::new();
-        let path = tree.read_path(holder.ino, &mut names).then_some(&names);
-        let node = tree.node(holder.ino);
+        let path = policy
+            .tree
+            .read_path(holder.ino, &mut names)
+            .then_some(&names);
+        let node = policy.tree.node(holder.ino);
+        let standing = Standing {
+            fs: policy.fs,
+            tree: policy.tree,
+            sessions: policy.sessions,
+            path,
+            node,
+            locks: *locks,
+        };
         let row = EntryRow { holder, entry };
-        finish_row(fs, tree, sessions, table, known, row, path, node, locks);
+        finish_row(&standing, table, known, row);
     }
 }
 
-// The same, where the inode has this path and this node in the tree. The place is a guess at where the holder's entry stands.
+// The same, where the inode stands so. The place is a guess at where the holder's entry stands.
 fn finish_entry(
-    fs: &FsName,
-    tree: &Tree,
-    sessions: &Sessions,
+    standing: &Standing<'_, '_>,
     table: &mut CapTable,
     known: &mut Known,
     holder: Holder,
     place: usize,
-    path: Option<&Names<'_>>,
-    node: Option<&Node>,
-    locks: &Option<InodeLocks>,
 )
-    requires path { option_copied path ≡ path_of tree.now.nodes holder.ino.0 }
-    requires node { option_copied node ≡ map.get tree.now.nodes holder.ino.0 }
+    requires path { option_copied standing.now.path ≡ path_of standing.now.tree.now.nodes holder.ino.0 }
+    requires node { option_copied standing.now.node ≡ map.get standing.now.tree.now.nodes holder.ino.0 }
     requires number { IfSome (entry_at table.old holder) (λ entry. entry.seq < 2 ^ 64 - 1) }
     requires room { IsSome (entry_at table.old holder) → IsSome (kept_of known.old.sets holder) }
     ensures table { table.new
-        ≡ changed_by (words.entry_under (known_in known.old.sets) fs.now tree.now sessions.now locks.now) table.old holder }
-    ensures known { KeptAnew (λ k. same k holder) (words.told_at fs.now tree.now sessions.now locks.now) table.old known.old.sets known.new.sets }
+        ≡ changed_by (words.entry_in (known_in known.old.sets) standing.now) table.old holder }
+    ensures known { KeptAnew (λ k. same k holder) (words.told_in standing.now) table.old known.old.sets known.new.sets }
 {
     if let Some(entry) = table.find_near(holder.client, holder.ino, place) {
         let row = EntryRow { holder, entry };
-        finish_row(fs, tree, sessions, table, known, row, path, node, locks);
+        finish_row(standing, table, known, row);
     }
 }
 

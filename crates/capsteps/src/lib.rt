@@ -17,7 +17,7 @@ pub mod touch;
 
 pub use capacts::{
     Ask, Bytes, Change, ChangeList, Ended, EndedList, Event, InoSet, Locks, Message, MessageList,
-    Messages, Move, OpenMode, Outcome, PartValues, Question, Reply, Row, Stopped, ToldNumbers,
-    Unknown, View, ViewChange, Wants, copy_of_messages, history, judge, known, leaving, serving,
-    stop, wants_on,
+    Messages, Move, OpenMode, Outcome, PartValues, Policy, Question, Reply, Row, Scene, Stopped,
+    ToldNumbers, Unknown, View, ViewChange, Wants, copy_of_messages, history, judge, known,
+    leaving, serving, stop, wants_on,
 };

@@ -1,14 +1,16 @@
 //! The messages that a client is given when it asks for them.
 ghost use Rattle.std.specs.Prelude.{◌≡◌, ◌≤◌, ◌-◌, ◌++◌, [], ◌∷◌, true, nat_lt, length, take, if◌then◌else◌, IfOk, OnOk};
+ghost use Rattle.captable.specs.Table.{IsTable};
 ghost use Rattle.captable.specs.Calls.{is_of_client, is_due};
 ghost use Rattle.captable.specs.Many.{changed_where};
-ghost use Rattle.capacts.specs.Lockmachine.Scene.{Scene, told_set};
+ghost use Rattle.capacts.specs.Lockmachine.declared.scene.Scene.{Scene};
+ghost use Rattle.capacts.specs.Lockmachine.Scene.{told_set};
 ghost use Rattle.capacts.specs.Known.{AreKnown, known_in};
 ghost use Rattle.capacts.specs.Caprules.Messages.{after_messages, caps_messages, end_messages, first_messages, row_messages, size_messages};
 ghost use Rattle.capacts.specs.Caprules.State.{State};
 
 use capacts::known::Known;
-use capacts::{Ended, Message, MessageList, copy_of_outcome};
+use capacts::{Ended, Message, MessageList, Scene, copy_of_outcome};
 use capbits::ClientId;
 use captable::{CapTable, EntryRow};
 use inotree::Tree;
@@ -18,24 +20,23 @@ use std::alloc::{AllocError, Global};
 pub fn due_messages(
     alloc: Global,
     ended: &[Ended],
-    tree: &Tree,
-    table: &CapTable,
+    scene: &Scene,
     known: &Known,
     client: ClientId,
     max: u32,
 ) -> Result<MessageList, AllocError>
-    ensures { IfOk result (λ due. (s : State) → s.scene.tree ≡ tree.now → s.scene.table ≡ table.now → AreKnown known.now.sets s.scene
+    ensures { IfOk result (λ due. (s : State) → s.scene.tree ≡ scene.now.tree → s.scene.table ≡ scene.now.table → AreKnown known.now.sets s.scene
         → s.messages ≡ ended.now
         → due ≡ first_messages s client max) }
 {
     let mut due = ended_messages(alloc, ended, client, max)?;
-    let mut left = table.due_count(client);
+    let mut left = scene.table.due_count(client);
     if left == 0 {
         return Ok(due);
     }
-    let mut walk = table.due_of(client);
+    let mut walk = scene.table.due_of(client);
     'rows: while let Some(row) = walk.next() {
-        add_due(&mut due, max, tree, known, &row)?;
+        add_due(&mut due, max, &scene.tree, known, &row)?;
         left = left_behind(left, &row);
         // Behind the last that is due the walk would come to nothing.
         if left == 0 {
@@ -153,6 +154,7 @@ fn add(list: &mut MessageList, max: u32, message: Message) -> Result<(), AllocEr
 
 /// The client is told of the changes and the sizes that these messages say, and asked no more where they ask.
 pub fn give(table: &mut CapTable, client: ClientId, given: &[Message])
+    requires { IsTable table.old }
     ensures { table.new ≡ changed_where (is_of_client client) (after_messages given.now) table.old }
 {
     for message in given {
@@ -162,10 +164,9 @@ pub fn give(table: &mut CapTable, client: ClientId, given: &[Message])
 
 // The same of one message.
 fn give_one(table: &mut CapTable, client: ClientId, message: &Message)
+    requires { IsTable table.old }
     ensures { table.new ≡ changed_where (is_of_client client) (after_messages (message.now ∷ [])) table.old }
 {
-    // A look at the entries, by which the proof knows what they keep.
-    let _oldest = table.oldest();
     match message {
         Message::Caps { ino, .. } => table.tell(client, *ino),
         Message::Size { ino, .. } => table.tell_size(client, *ino),

@@ -5,7 +5,7 @@ ghost use Rattle.std.specs.FinMap as map;
 ghost use Rattle.inotree.specs.Tree.{IsTree, is_within, place};
 ghost use Rattle.inotree.specs.Alike.{IsAlike};
 ghost use Rattle.capacts.specs.Lockmachine.declared.request.Request.{Request};
-ghost use Rattle.capacts.specs.Lockmachine.Scene.{Scene};
+ghost use Rattle.capacts.specs.Lockmachine.declared.scene.Scene.{Scene};
 ghost use Rattle.capacts.specs.Capevents.declared.outcome.Outcome.{Outcome};
 ghost use Rattle.capacts.specs.Caprules.Serving.{MayEndAs};
 ghost use Rattle.capacts.specs.Capnotes.Changing.{tree_after};

@@ -3,13 +3,12 @@ ghost use Rattle.std.specs.Prelude.{◌≡◌, ◌==◌, ◌≤◌, ◌<◌, ◌
 ghost use Rattle.std.specs.FinMap as map;
 ghost use Rattle.std.specs.FinSet as set;
 ghost use Rattle.capbits.specs.declared.cap.Part.{Part};
-ghost use Rattle.inotree.specs.Tree.{Nodes};
+ghost use Rattle.inotree.specs.Tree.{IsTree, Nodes};
 ghost use Rattle.sessiontab.specs.Table.{SessionTable};
 ghost use Rattle.sessiontab.specs.Calls.{has_session};
-ghost use Rattle.captable.specs.Table.{Table, IsTable};
 ghost use Rattle.capacts.specs.Lockmachine.declared.request.Request.{Request};
-ghost use Rattle.capacts.specs.Lockmachine.Locks.{request_at};
-ghost use Rattle.capacts.specs.Lockmachine.Scene.{scene};
+ghost use Rattle.capacts.specs.Lockmachine.Locks.{IsLockMap, request_at};
+ghost use Rattle.capacts.specs.Lockmachine.Scene.{scene as scene_of};
 ghost use Rattle.capacts.specs.Lockmachine.Moves.{may_end_by, IsQuietOutside};
 ghost use Rattle.capacts.specs.Lockmachine.Turns.{WaitAt};
 ghost use Rattle.capacts.specs.Capevents.declared.outcome.Ended.{Ended};
@@ -29,99 +28,69 @@ use capacts::known::Known;
 use capacts::reach::reach;
 use capacts::serving::{Served, serve};
 use capacts::sweep::{SweepPlace, advance};
-use capacts::{Ask, Change, ChangeList, InoSet, InodeLocks, Locks, Move, Outcome, Request};
-use capbits::{Ino, Part, Ticket};
-use capspec::FsName;
+use capacts::{Ask, Change, ChangeList, InoSet, InodeLocks, Locks, Move, Outcome, Request, Scene};
+use capbits::{Ino, Ticket};
 use captable::{CapTable, Holder};
-use inotree::{Setting, Tree};
-use sessiontab::Sessions;
+use inotree::Setting;
 
 /// Lets the locks settle after an event about one inode, and ends the step. The locks of every other inode are quiet.
-pub fn end_at_one(
-    fs: &FsName,
-    tree: &mut Tree,
-    sessions: &Sessions,
-    table: &mut CapTable,
-    known: &mut Known,
-    locks: &mut Locks,
-    ino: Ino,
-    endings: &mut Endings,
-)
-    requires quiet { IsQuietOutside (λ other. other == ino.0) (scene fs.now tree.old sessions.now table.old locks.old) }
+pub fn end_at_one(scene: &mut Scene, known: &mut Known, ino: Ino, endings: &mut Endings)
+    requires quiet { IsQuietOutside (λ other. other == ino.0) scene.old }
+    requires tree { IsTree scene.old.tree }
+    requires order { IsLockMap scene.old.locks }
     requires none { endings.old.told.items ≡ [] }
     requires no_sizes { endings.old.sized.items ≡ [] }
-    requires told { HasRoom endings.old.told locks.old }
-    requires kept { HasRoom endings.old.kept locks.old }
-    requires sized { length endings.old.sized.items + length locks.old.queue ≤ vec_capacity endings.old.sized }
+    requires told { HasRoom endings.old.told scene.old.locks }
+    requires kept { HasRoom endings.old.kept scene.old.locks }
+    requires sized { length endings.old.sized.items + length scene.old.locks.queue ≤ vec_capacity endings.old.sized }
     requires same { endings.old.kept.items ≡ endings.old.told.items }
-    requires places { length endings.old.changes.items + length locks.old.queue + 1 ≤ endings.old.changes.room }
-    requires numbers { All (λ row. row.entry.seq < 2 ^ 64 - 1) table.old.rows }
-    requires clients { All (λ row. IsTrue (has_session sessions.now row.holder.client.0)) table.old.rows }
-    requires room { HaveRoom known.old.sets table.old }
-    ensures ends { EndsWith (λ other. other == ino.0) known.old.sets known.new.sets (scene fs.now tree.old sessions.now table.old locks.old)
-        (scene fs.now tree.new sessions.now table.new locks.new) endings.new.told.items }
+    requires places { length endings.old.changes.items + length scene.old.locks.queue + 1 ≤ endings.old.changes.room }
+    requires numbers { All (λ row. row.entry.seq < 2 ^ 64 - 1) scene.old.table.rows }
+    requires clients { All (λ row. IsTrue (has_session scene.old.sessions row.holder.client.0)) scene.old.table.rows }
+    requires room { HaveRoom known.old.sets scene.old.table }
+    ensures ends { EndsWith (λ other. other == ino.0) known.old.sets known.new.sets scene.old scene.new endings.new.told.items }
     ensures kept { endings.new.kept.items ≡ endings.new.told.items }
-    ensures lead { LeadOn endings.old.changes.items endings.new.changes.items tree.old tree.new }
+    ensures lead { LeadOn endings.old.changes.items endings.new.changes.items scene.old.tree scene.new.tree }
     // As many waited as wait and have ended.
-    ensures count { length endings.new.told.items + length locks.new.queue ≡ length locks.old.queue }
-    ensures table { IsTable table.new }
+    ensures count { length endings.new.told.items + length scene.new.locks.queue ≡ length scene.old.locks.queue }
 {
     let others = InoSet::new(endings.alloc());
-    end_at(
-        fs, tree, sessions, table, known, locks, ino, others, endings,
-    );
+    end_at(scene, known, ino, others, endings);
 }
 
 /// The same after an event that is about one entry, before which the state was sound.
-pub fn end_at_entry(
-    fs: &FsName,
-    tree: &mut Tree,
-    sessions: &Sessions,
-    table: &mut CapTable,
-    known: &mut Known,
-    locks: &mut Locks,
-    holder: Holder,
-    endings: &mut Endings,
-)
-    requires quiet { IsQuietOutside (λ other. other == holder.ino.0) (scene fs.now tree.old sessions.now table.old locks.old) }
+pub fn end_at_entry(scene: &mut Scene, known: &mut Known, holder: Holder, endings: &mut Endings)
+    requires quiet { IsQuietOutside (λ other. other == holder.ino.0) scene.old }
+    requires tree { IsTree scene.old.tree }
+    requires order { IsLockMap scene.old.locks }
     // Each other entry on the inode has all, by the locks from before the settling.
-    requires others { OthersHaveAll known.old.sets (scene fs.now tree.old sessions.now table.old locks.old) holder }
+    requires others { OthersHaveAll known.old.sets scene.old holder }
     requires none { endings.old.told.items ≡ [] }
     requires no_sizes { endings.old.sized.items ≡ [] }
-    requires told { HasRoom endings.old.told locks.old }
-    requires kept { HasRoom endings.old.kept locks.old }
-    requires sized { length endings.old.sized.items + length locks.old.queue ≤ vec_capacity endings.old.sized }
+    requires told { HasRoom endings.old.told scene.old.locks }
+    requires kept { HasRoom endings.old.kept scene.old.locks }
+    requires sized { length endings.old.sized.items + length scene.old.locks.queue ≤ vec_capacity endings.old.sized }
     requires same { endings.old.kept.items ≡ endings.old.told.items }
-    requires places { length endings.old.changes.items + length locks.old.queue + 1 ≤ endings.old.changes.room }
-    requires numbers { All (λ row. row.entry.seq < 2 ^ 64 - 1) table.old.rows }
-    requires clients { All (λ row. IsTrue (has_session sessions.now row.holder.client.0)) table.old.rows }
-    requires room { HaveRoom known.old.sets table.old }
-    ensures ends { EndsWith (λ other. other == holder.ino.0) known.old.sets known.new.sets
-        (scene fs.now tree.old sessions.now table.old locks.old)
-        (scene fs.now tree.new sessions.now table.new locks.new) endings.new.told.items }
+    requires places { length endings.old.changes.items + length scene.old.locks.queue + 1 ≤ endings.old.changes.room }
+    requires numbers { All (λ row. row.entry.seq < 2 ^ 64 - 1) scene.old.table.rows }
+    requires clients { All (λ row. IsTrue (has_session scene.old.sessions row.holder.client.0)) scene.old.table.rows }
+    requires room { HaveRoom known.old.sets scene.old.table }
+    ensures ends { EndsWith (λ other. other == holder.ino.0) known.old.sets known.new.sets scene.old scene.new endings.new.told.items }
     ensures kept { endings.new.kept.items ≡ endings.new.told.items }
-    ensures lead { LeadOn endings.old.changes.items endings.new.changes.items tree.old tree.new }
+    ensures lead { LeadOn endings.old.changes.items endings.new.changes.items scene.old.tree scene.new.tree }
     // As many waited as wait and have ended.
-    ensures count { length endings.new.told.items + length locks.new.queue ≡ length locks.old.queue }
-    ensures table { IsTable table.new }
+    ensures count { length endings.new.told.items + length scene.new.locks.queue ≡ length scene.old.locks.queue }
 {
-    let before = locks.of_ino(holder.ino);
+    let before = scene.locks.of_ino(holder.ino);
     let others = InoSet::new(endings.alloc());
-    let touched = settle(
-        fs, tree, sessions, table, locks, holder.ino, others, endings,
-    );
+    let touched = settle(scene, holder.ino, others, endings);
     // Most steps of such events leave these locks as they were, and by the same locks and the same tree the others have all still.
-    if is_as_before(locks, holder.ino, &before, &touched, endings) {
-        let changes = &mut endings.changes;
-        finish_alone(fs, tree, sessions, table, known, locks, holder, changes);
+    if is_as_before(&scene.locks, holder.ino, &before, &touched, endings) {
+        finish_alone(scene, known, holder, &mut endings.changes);
     } else {
         end_settled(
-            fs,
-            tree,
-            sessions,
-            table,
+            scene,
             known,
-            locks,
             holder.ino,
             &touched,
             endings.sized.as_slice(),
@@ -152,45 +121,31 @@ fn is_as_before(
 
 /// Lets the locks settle after an event, and ends the step. The event was about one inode and the others; the locks of all
 /// besides are quiet.
-pub fn end_at(
-    fs: &FsName,
-    tree: &mut Tree,
-    sessions: &Sessions,
-    table: &mut CapTable,
-    known: &mut Known,
-    locks: &mut Locks,
-    ino: Ino,
-    others: InoSet,
-    endings: &mut Endings,
-)
-    requires quiet { IsQuietOutside (is_touched ino.0 others) (scene fs.now tree.old sessions.now table.old locks.old) }
+pub fn end_at(scene: &mut Scene, known: &mut Known, ino: Ino, others: InoSet, endings: &mut Endings)
+    requires quiet { IsQuietOutside (is_touched ino.0 others) scene.old }
+    requires tree { IsTree scene.old.tree }
+    requires order { IsLockMap scene.old.locks }
     requires apart { set.contains others ino.0 ≡ false }
     requires none { endings.old.told.items ≡ [] }
     requires no_sizes { endings.old.sized.items ≡ [] }
-    requires told { HasRoom endings.old.told locks.old }
-    requires kept { HasRoom endings.old.kept locks.old }
-    requires sized { length endings.old.sized.items + length locks.old.queue ≤ vec_capacity endings.old.sized }
+    requires told { HasRoom endings.old.told scene.old.locks }
+    requires kept { HasRoom endings.old.kept scene.old.locks }
+    requires sized { length endings.old.sized.items + length scene.old.locks.queue ≤ vec_capacity endings.old.sized }
     requires same { endings.old.kept.items ≡ endings.old.told.items }
-    requires places { HavePlaces endings.old.changes locks.old others }
-    requires numbers { All (λ row. row.entry.seq < 2 ^ 64 - 1) table.old.rows }
-    requires clients { All (λ row. IsTrue (has_session sessions.now row.holder.client.0)) table.old.rows }
-    requires room { HaveRoom known.old.sets table.old }
-    ensures ends { EndsWith (is_touched ino.0 others) known.old.sets known.new.sets (scene fs.now tree.old sessions.now table.old locks.old)
-        (scene fs.now tree.new sessions.now table.new locks.new) endings.new.told.items }
+    requires places { HavePlaces endings.old.changes scene.old.locks others }
+    requires numbers { All (λ row. row.entry.seq < 2 ^ 64 - 1) scene.old.table.rows }
+    requires clients { All (λ row. IsTrue (has_session scene.old.sessions row.holder.client.0)) scene.old.table.rows }
+    requires room { HaveRoom known.old.sets scene.old.table }
+    ensures ends { EndsWith (is_touched ino.0 others) known.old.sets known.new.sets scene.old scene.new endings.new.told.items }
     ensures kept { endings.new.kept.items ≡ endings.new.told.items }
-    ensures lead { LeadOn endings.old.changes.items endings.new.changes.items tree.old tree.new }
+    ensures lead { LeadOn endings.old.changes.items endings.new.changes.items scene.old.tree scene.new.tree }
     // As many waited as wait and have ended.
-    ensures count { length endings.new.told.items + length locks.new.queue ≡ length locks.old.queue }
-    ensures table { IsTable table.new }
+    ensures count { length endings.new.told.items + length scene.new.locks.queue ≡ length scene.old.locks.queue }
 {
-    let touched = settle(fs, tree, sessions, table, locks, ino, others, endings);
+    let touched = settle(scene, ino, others, endings);
     end_settled(
-        fs,
-        tree,
-        sessions,
-        table,
+        scene,
         known,
-        locks,
         ino,
         &touched,
         endings.sized.as_slice(),
@@ -200,12 +155,8 @@ pub fn end_at(
 
 // Ends the step at the inodes that it touched, whose locks have settled, where the sizes of these changed.
 fn end_settled(
-    fs: &FsName,
-    tree: &mut Tree,
-    sessions: &Sessions,
-    table: &mut CapTable,
+    scene: &mut Scene,
     known: &mut Known,
-    locks: &mut Locks,
     ino: Ino,
     touched: &InoSet,
     sized: &[Ino],
@@ -213,77 +164,46 @@ fn end_settled(
 )
     requires apart { set.contains touched.now ino.0 ≡ false }
     requires places { length changes.old.items + set.len touched.now + 1 ≤ changes.old.room }
-    requires numbers { All (λ row. row.entry.seq < 2 ^ 64 - 1) table.old.rows }
-    requires clients { All (λ row. IsTrue (has_session sessions.now row.holder.client.0)) table.old.rows }
-    requires room { HaveRoom known.old.sets table.old }
+    requires numbers { All (λ row. row.entry.seq < 2 ^ 64 - 1) scene.old.table.rows }
+    requires clients { All (λ row. IsTrue (has_session scene.old.sessions row.holder.client.0)) scene.old.table.rows }
+    requires room { HaveRoom known.old.sets scene.old.table }
     ensures ends { EndsAt (is_touched ino.0 touched.now) sized.now known.old.sets known.new.sets
-        (scene fs.now tree.old sessions.now table.old locks.old) (scene fs.now tree.new sessions.now table.new locks.new) }
-    ensures queue { locks.new.queue ≡ locks.old.queue }
-    ensures lead { LeadOn changes.old.items changes.new.items tree.old tree.new }
-    ensures table { IsTable table.new }
+        scene.old scene.new }
+    ensures queue { scene.new.locks.queue ≡ scene.old.locks.queue }
+    ensures lead { LeadOn changes.old.items changes.new.items scene.old.tree scene.new.tree }
 {
-    owe_sizes(sessions, table, sized);
-    // A look at the tree, by which the proof knows what it keeps.
-    let _last = tree.last();
-    finish(
-        fs, tree, sessions, table, known, locks, ino, touched, changes,
-    );
-    // And one at the entries.
-    let _oldest = table.oldest();
+    owe_sizes(&scene.sessions, &mut scene.table, sized);
+    finish(scene, known, ino, touched, changes);
 }
 
 // Makes the moves, always the first that applies, until none does. Each request that is served ends, once for its client and
 // once for the history. It answers the other inodes of the event, and those that were moved with one of them.
-fn settle(
-    fs: &FsName,
-    tree: &mut Tree,
-    sessions: &Sessions,
-    table: &CapTable,
-    locks: &mut Locks,
-    ino: Ino,
-    others: InoSet,
-    endings: &mut Endings,
-) -> InoSet
-    requires quiet { IsQuietOutside (is_touched ino.0 others) (scene fs.now tree.old sessions.now table.now locks.old) }
+fn settle(scene: &mut Scene, ino: Ino, others: InoSet, endings: &mut Endings) -> InoSet
+    requires quiet { IsQuietOutside (is_touched ino.0 others) scene.old }
+    requires tree { IsTree scene.old.tree }
+    requires order { IsLockMap scene.old.locks }
     requires apart { set.contains others ino.0 ≡ false }
     requires none { endings.old.told.items ≡ [] }
     requires no_sizes { endings.old.sized.items ≡ [] }
-    requires told { HasRoom endings.old.told locks.old }
-    requires kept { HasRoom endings.old.kept locks.old }
-    requires sized { length endings.old.sized.items + length locks.old.queue ≤ vec_capacity endings.old.sized }
+    requires told { HasRoom endings.old.told scene.old.locks }
+    requires kept { HasRoom endings.old.kept scene.old.locks }
+    requires sized { length endings.old.sized.items + length scene.old.locks.queue ≤ vec_capacity endings.old.sized }
     requires same { endings.old.kept.items ≡ endings.old.told.items }
-    requires places { HavePlaces endings.old.changes locks.old others }
-    ensures settles { SettlesWith (is_touched ino.0 result) (is_touched ino.0 others)
-        (scene fs.now tree.old sessions.now table.now locks.old)
-        (scene fs.now tree.new sessions.now table.now locks.new) endings.new.told.items endings.new.sized.items }
+    requires places { HavePlaces endings.old.changes scene.old.locks others }
+    ensures settles { SettlesWith (is_touched ino.0 result) (is_touched ino.0 others) scene.old scene.new endings.new.told.items endings.new.sized.items }
     ensures kept { endings.new.kept.items ≡ endings.new.told.items }
-    ensures count { length endings.new.told.items + length locks.new.queue ≡ length locks.old.queue }
+    ensures count { length endings.new.told.items + length scene.new.locks.queue ≡ length scene.old.locks.queue }
     ensures apart { set.contains result ino.0 ≡ false }
-    ensures lead { LeadOn endings.old.changes.items endings.new.changes.items tree.old tree.new }
-    ensures places { HavePlaces endings.new.changes locks.new result }
+    ensures lead { LeadOn endings.old.changes.items endings.new.changes.items scene.old.tree scene.new.tree }
+    ensures places { HavePlaces endings.new.changes scene.new.locks result }
 {
     let mut touched = others;
     // The inodes from which a rename has walked over all below.
     let mut walked = InoSet::new(endings.alloc());
-    end_gathers(table, locks, ino, &touched);
+    end_gathers(&scene.table, &mut scene.locks, ino, &touched);
     let mut place = first_place(&touched, ino);
-    'servings: while let Some(ticket) = sweep(
-        fs, tree, sessions, table, locks, ino, &touched, &mut place,
-    ) {
-        // A look at the locks and at the tree, by which the proof knows what they keep.
-        let (_lock, _last) = (locks.state(ino, Part::A), tree.last());
-        let changed = serve_next(
-            fs,
-            tree,
-            sessions,
-            table,
-            locks,
-            ino,
-            ticket,
-            &mut walked,
-            &mut touched,
-            endings,
-        );
+    'servings: while let Some(ticket) = sweep(scene, ino, &touched, &mut place) {
+        let changed = serve_next(scene, ino, ticket, &mut walked, &mut touched, endings);
         place = place_behind(place, changed, &touched, ino);
     }
     touched
@@ -298,9 +218,9 @@ fn end_gathers(table: &CapTable, locks: &mut Locks, ino: Ino, touched: &InoSet)
     ensures ends { (other : ℕ) (part : Part) → may_end_by table.now locks.new (other, part) ≡ false }
     // Each is the first move that applies, whatever the tree and the sessions are.
     ensures swept { (fs : List ℕ) (tree : Nodes) (sessions : SessionTable)
-        → WaitAt (is_touched ino.0 touched.now) (scene fs tree sessions table.now locks.old)
-        → IsSwept (is_touched ino.0 touched.now) (scene fs tree sessions table.now locks.old)
-        (scene fs tree sessions table.now locks.new) }
+        → WaitAt (is_touched ino.0 touched.now) (scene_of fs tree sessions table.now locks.old)
+        → IsSwept (is_touched ino.0 touched.now) (scene_of fs tree sessions table.now locks.old)
+        (scene_of fs tree sessions table.now locks.new) }
 {
     let mut at = lowest(touched, ino);
     'inodes: loop {
@@ -336,26 +256,16 @@ fn place_behind(place: SweepPlace, changed: Option<Ino>, touched: &InoSet, ino: 
 
 // Lets the locks of the touched inodes move, one inode after the other, from where the sweep has come to, until a request is to be
 // served, whose number it answers, or no move applies.
-fn sweep(
-    fs: &FsName,
-    tree: &Tree,
-    sessions: &Sessions,
-    table: &CapTable,
-    locks: &mut Locks,
-    ino: Ino,
-    touched: &InoSet,
-    place: &mut SweepPlace,
-) -> Option<Ticket>
-    requires place { StandsAt (is_touched ino.0 touched.now) place.old (scene fs.now tree.now sessions.now table.now locks.old) }
-    requires still { AreStill (is_touched ino.0 touched.now) (scene fs.now tree.now sessions.now table.now locks.old) }
-    requires waits { WaitAt (is_touched ino.0 touched.now) (scene fs.now tree.now sessions.now table.now locks.old) }
-    ensures swept { IsSwept (is_touched ino.0 touched.now) (scene fs.now tree.now sessions.now table.now locks.old)
-        (scene fs.now tree.now sessions.now table.now locks.new) }
-    ensures next { GoesOn (scene fs.now tree.now sessions.now table.now locks.new) result }
-    ensures place { StandsAt (is_touched ino.0 touched.now) place.new (scene fs.now tree.now sessions.now table.now locks.new) }
+fn sweep(scene: &mut Scene, ino: Ino, touched: &InoSet, place: &mut SweepPlace) -> Option<Ticket>
+    requires place { StandsAt (is_touched ino.0 touched.now) place.old scene.old }
+    requires still { AreStill (is_touched ino.0 touched.now) scene.old }
+    requires waits { WaitAt (is_touched ino.0 touched.now) scene.old }
+    ensures swept { IsSwept (is_touched ino.0 touched.now) scene.old scene.new }
+    ensures next { GoesOn scene.new result }
+    ensures place { StandsAt (is_touched ino.0 touched.now) place.new scene.new }
 {
     'inodes: loop {
-        if let Some(ticket) = advance(fs, tree, sessions, table, locks, *place) {
+        if let Some(ticket) = advance(scene, *place) {
             return Some(ticket);
         }
         match next_touched(touched, ino, place.at) {
@@ -392,48 +302,44 @@ fn next_touched(touched: &InoSet, ino: Ino, at: Ino) -> Option<Ino>
 // Serves the request with this number, notes what that changes for readers, and answers the inode that it changes alone. If it moves
 // its inode, each inode but the one that is at or below it and has entries is touched; for want of memory for that it ends so.
 fn serve_next(
-    fs: &FsName,
-    tree: &mut Tree,
-    sessions: &Sessions,
-    table: &CapTable,
-    locks: &mut Locks,
+    scene: &mut Scene,
     ino: Ino,
     ticket: Ticket,
     walked: &mut InoSet,
     touched: &mut InoSet,
     endings: &mut Endings,
 ) -> Option<Ino>
-    requires walked { AreWalked walked.old ino.0 tree.old table.now touched.old }
-    requires waits { (q : Request) × (request_at locks.old ticket.0 ≡ Some q) }
+    requires walked { AreWalked walked.old ino.0 scene.old.tree scene.old.table touched.old }
+    requires waits { (q : Request) × (request_at scene.old.locks ticket.0 ≡ Some q) }
     requires told { length endings.old.told.items < endings.old.told.room }
     requires kept { length endings.old.kept.items < endings.old.kept.room }
     requires sized { length endings.old.sized.items < vec_capacity endings.old.sized }
     requires place { length endings.old.changes.items < endings.old.changes.room }
-    ensures served { (ended : Ended) × ((some : Table) → Serves (scene fs.now tree.old sessions.now some locks.old) ticket ended
-        (scene fs.now tree.new sessions.now some locks.new))
+    ensures served { (ended : Ended) × Serves scene.old ticket ended scene.new
         × (endings.new.told.items ≡ endings.old.told.items ++ ended ∷ [])
         × (endings.new.kept.items ≡ endings.old.kept.items ++ ended ∷ [])
-        × ((q : Request) → request_at locks.old ticket.0 ≡ Some q
+        × ((q : Request) → request_at scene.old.locks ticket.0 ≡ Some q
         → endings.new.sized.items ≡ endings.old.sized.items ++ sized_in (Serving q ended.outcome ∷ [])) }
-    ensures reached { (q : Request) → request_at locks.old ticket.0 ≡ Some q
-        → Reaches q ino.0 tree.old tree.new table.now touched.old touched.new }
+    ensures reached { (q : Request) → request_at scene.old.locks ticket.0 ≡ Some q
+        → Reaches q ino.0 scene.old.tree scene.new.tree scene.old.table touched.old touched.new }
     // By the tree of before.
-    ensures walked { AreWalked walked.new ino.0 tree.old table.now touched.new }
-    ensures changed { (q : Request) → request_at locks.old ticket.0 ≡ Some q → result ≡ changed_alone q }
+    ensures walked { AreWalked walked.new ino.0 scene.old.tree scene.old.table touched.new }
+    ensures changed { (q : Request) → request_at scene.old.locks ticket.0 ≡ Some q → result ≡ changed_alone q }
     ensures room { (endings.old.told.room ≤ endings.new.told.room) × (endings.old.kept.room ≤ endings.new.kept.room)
         × (vec_capacity endings.old.sized ≤ vec_capacity endings.new.sized) }
     // At most one change is noted, and there is a place more for each inode that is touched besides.
-    ensures lead { LeadOn endings.old.changes.items endings.new.changes.items tree.old tree.new }
+    ensures lead { LeadOn endings.old.changes.items endings.new.changes.items scene.old.tree scene.new.tree }
     ensures noted { length endings.new.changes.items ≤ length endings.old.changes.items + 1 }
     ensures places { endings.old.changes.room + set.len touched.new ≤ endings.new.changes.room + set.len touched.old }
 {
-    let Some(request) = locks.apply_move(Move::Serve(ticket)) else {
+    let Some(request) = scene.locks.apply_move(Move::Serve(ticket)) else {
         unreachable!()
     };
     let (alloc, changes) = (endings.alloc(), &mut endings.changes);
-    let reached = reach(alloc, tree, table, &request, ino, walked, touched, changes);
+    let reached = reach(scene, &request, ino, walked, touched, changes);
+    let (fs, sessions, tree) = (&scene.fs, &scene.sessions, &mut scene.tree);
     let served = serve(alloc, fs, tree, sessions, &request, reached.is_ok());
-    changes.note_served(tree, &request, &served.outcome);
+    changes.note_served(&scene.tree, &request, &served.outcome);
     let (client, ticket) = (request.client, request.ticket);
     let (sized, changed) = (sized_by(&request, &served), changed_alone(&request));
     // The request goes before its end is told, so that the proof has to follow it but once.

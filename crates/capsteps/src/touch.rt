@@ -2,8 +2,8 @@
 ghost use Rattle.std.specs.Prelude.{◌≡◌, ◌<◌, ◌^◌, ◌-◌, [], None, OnOk, OnErr};
 ghost use Rattle.capbits.specs.Refusal.{first_failing};
 ghost use Rattle.capacts.specs.Caprules.Judge.{revoked_of, room_for};
-ghost use Rattle.capacts.specs.Lockmachine.Scene.{Scene};
-ghost use Rattle.captable.specs.Table.{IsTable, entry_at};
+ghost use Rattle.capacts.specs.Lockmachine.declared.scene.Scene.{Scene};
+ghost use Rattle.captable.specs.Table.{entry_at};
 ghost use Rattle.captable.specs.Calls.{opened};
 ghost use Rattle.captable.specs.Tests.{open_tests};
 ghost use Rattle.capacts.specs.Known.{AreKnown, StillKept};
@@ -161,10 +161,7 @@ pub fn tell(table: &mut CapTable, known: &Known, holder: Holder, touch: &Touch) 
         → result ≡ reply_of s [] (words.touch_answer holder touch.now) }
     ensures told { (s : State) → s.scene.table ≡ table.old
         → with_table s table.new ≡ shown (words.touch_answer holder touch.now) s }
-    ensures table { IsTable table.old }
 {
-    // A look at the entries, by which the proof knows what they keep.
-    let _oldest = table.oldest();
     match touch {
         Touch::Open(_) | Touch::Want(_) => show(table, known, holder),
         Touch::Ack(_) | Touch::Release(_) => Reply::Done,

@@ -1,10 +1,11 @@
 -- Which move comes next, what each does to the locks, and when they are at rest.
-use Rattle.std.specs.Prelude.{◌≡◌, ◌≤◌, ℕ, Bool, true, false, ◌&&◌, not, IsTrue, List, [], ◌∷◌, Option, Some, None, Contains, map as each}
+use Rattle.std.specs.Prelude.{◌≡◌, ◌≤◌, ℕ, Bool, true, false, ◌&&◌, not, IsTrue, List, [], ◌∷◌, Option, Some, None, Contains, map as each, if◌then◌else◌}
 use Rattle.std.specs.List.{find, flat_map}
 use Rattle.std.specs.Option.{option_map_or}
 use Rattle.std.specs.FinMap as map
 use Rattle.capbits.specs.declared.cap.Part.{Part}
 use Rattle.capbits.specs.declared.cap.Part.TheVariants.{A, L, X, F}
+use Rattle.capbits.specs.declared.ids.Ticket.{Ticket}
 use Rattle.locktable.specs.declared.states.State.{State}
 use Rattle.locktable.specs.declared.states.State.TheVariants.{Sync}
 use Rattle.locktable.specs.declared.states.LockState.{LockState}
@@ -72,6 +73,11 @@ is_first queue q = option_map_or (is_numbered q.ticket.0) (first_for queue q.ino
 -- its lock is stable in a state that serves it
 abbrev pub is_servable : LockMap → Request → Bool
 is_servable locks q = is_served_in (lock_at locks q.ino.0 (part_of_ask q.ask)) (head_of_ask q.client q.ask)
+
+-- the number of a request whose lock serves it
+abbrev pub served_of : LockMap → Option Request → Option Ticket
+served_of locks None = None
+served_of locks (Some q) = if is_servable locks q then Some q.ticket else None
 
 -- both hold of the request
 abbrev pub may_serve : LockMap → Request → Bool

@@ -7,8 +7,6 @@ use Rattle.capbits.specs.declared.ids.Ticket.{Ticket}
 use Rattle.lockmachine.specs.declared.request.Request.{Request}
 use Rattle.lockmachine.specs.declared.waiters.Waiter.{Waiter}
 use Rattle.lockmachine.specs.Requests.{part_place, part_of_ask, head_of_ask}
-use Rattle.lockmachine.specs.Locks.{LockMap}
-use Rattle.lockmachine.specs.Moves.{is_servable}
 
 -- what is kept of a request
 abbrev pub waiter_of : Request → Waiter
@@ -50,11 +48,6 @@ StandAlike xs ys = (lock : ℕ) → filter (is_at lock) xs ≡ filter (is_at loc
 -- the queue, where somebody may wait
 abbrev pub queue_if : Bool → List Request → List Request
 queue_if waits queue = if waits then queue else []
-
--- the number of a request whose lock serves it
-abbrev pub served_of : LockMap → Option Request → Option Ticket
-served_of locks None = None
-served_of locks (Some q) = if is_servable locks q then Some q.ticket else None
 
 -- the number that was given first, of at most two
 abbrev pub earlier : Option Ticket → Option Ticket → Option Ticket

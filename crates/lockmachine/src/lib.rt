@@ -7,7 +7,9 @@ mod bytes;
 mod laws;
 mod locks;
 mod moves;
+mod policy;
 mod request;
+mod scene;
 mod states;
 mod waiters;
 mod wants;
@@ -19,7 +21,9 @@ pub use laws::{
 };
 pub use locks::Locks;
 pub use moves::Move;
+pub use policy::Policy;
 pub use request::{Ask, Change, Request};
+pub use scene::Scene;
 pub use states::InodeLocks;
 pub use waiters::MAX_WAITING;
 pub use wants::{

@@ -12,7 +12,7 @@ ghost use Rattle.lockmachine.specs.declared.moves.Move.TheVariants.{Settled};
 ghost use Rattle.lockmachine.specs.Locks as words;
 ghost use Rattle.lockmachine.specs.Requests as requests;
 ghost use Rattle.lockmachine.specs.Requests.{waits_for};
-ghost use Rattle.lockmachine.specs.Scene.{wanted_in_all, scene, head_in, target_by};
+ghost use Rattle.lockmachine.specs.Scene.{wanted_in_all, scene, scene_by, head_in, target_by};
 ghost use Rattle.lockmachine.specs.Waiters as waiting;
 ghost use Rattle.lockmachine.specs.Moves as moves;
 ghost use Rattle.lockmachine.specs.Moves.{first_move, moved, handed};
@@ -20,6 +20,7 @@ ghost use Rattle.lockmachine.specs.Runs.{MoveLittle, EndLittle, ChangesLocksOf};
 ghost use Rattle.lockmachine.specs.Turns.{IsTurnOf, IsNextAt, IsDue, NobodyElsewhere};
 
 use crate::moves::Move;
+use crate::policy::Policy;
 use crate::request::{Ask, Request};
 use crate::states::{InodeLocks, States};
 use crate::waiters::{MAX_WAITING, Waiter, Waiters};
@@ -247,23 +248,22 @@ impl Locks {
         requires turn { IsTurnOf (scene fs.now tree.now sessions.now table.now self.now) ino.0 }
         ensures { IsNextAt (scene fs.now tree.now sessions.now table.now self.now) ino.0 result }
     {
-        self.next_move_by(table, sessions, tree, fs, ino, &mut None)
+        let policy = Policy { fs, tree, sessions };
+        self.next_move_by(&policy, table, ino, &mut None)
     }
 
     // The same, where it may be known what is wanted of the inode. That is found where a gather may begin, and kept.
     fn next_move_by(
         &self,
+        policy: &Policy<'_>,
         table: &CapTable,
-        sessions: &Sessions,
-        tree: &Tree,
-        fs: &FsName,
         ino: Ino,
         wanted: &mut Option<Wants>,
     ) -> Move
-        requires turn { IsTurnOf (scene fs.now tree.now sessions.now table.now self.now) ino.0 }
-        requires known { IfSome wanted.old (λ wants. wants ≡ wanted_in_all (scene fs.now tree.now sessions.now table.now self.now) ino.0) }
-        ensures next { IsNextAt (scene fs.now tree.now sessions.now table.now self.now) ino.0 result }
-        ensures known { IfSome wanted.new (λ wants. wants ≡ wanted_in_all (scene fs.now tree.now sessions.now table.now self.now) ino.0) }
+        requires turn { IsTurnOf (scene_by policy.now table.now self.now) ino.0 }
+        requires known { IfSome wanted.old (λ wants. wants ≡ wanted_in_all (scene_by policy.now table.now self.now) ino.0) }
+        ensures next { IsNextAt (scene_by policy.now table.now self.now) ino.0 result }
+        ensures known { IfSome wanted.new (λ wants. wants ≡ wanted_in_all (scene_by policy.now table.now self.now) ino.0) }
     {
         if let Some(part) = self.first_end(table, ino) {
             return Move::End { ino, part };
@@ -271,7 +271,7 @@ impl Locks {
         if let Some(served) = self.first_served() {
             return Move::Serve(served);
         }
-        let wants = known_or_found(*wanted, fs, tree, sessions, table, ino);
+        let wants = known_or_found(*wanted, policy.fs, policy.tree, policy.sessions, table, ino);
         *wanted = Some(wants);
         self.first_begin(ino, &wants).unwrap_or(Move::Settled)
     }
@@ -467,7 +467,7 @@ impl Locks {
 
     // The first request for a lock, where it may be served.
     fn first_where_served(&self, ino: Ino, part: Part) -> Option<Ticket>
-        ensures number { result ≡ waiting.served_of self.now (requests.first_for self.now.queue ino.0 part) }
+        ensures number { result ≡ moves.served_of self.now (requests.first_for self.now.queue ino.0 part) }
         ensures sound { words.IsLockMap self.now }
     {
         let first = self.waiters.first_at(ino, part)?;
@@ -551,25 +551,23 @@ impl Locks {
     /// request is to be served, whose number it answers, or the inode is done. It is still its turn then.
     pub fn advance_at(
         &mut self,
+        policy: &Policy<'_>,
         table: &CapTable,
-        sessions: &Sessions,
-        tree: &Tree,
-        fs: &FsName,
         ino: Ino,
     ) -> Option<Ticket>
-        requires turn { IsTurnOf (scene fs.now tree.now sessions.now table.now self.old) ino.0 }
+        requires turn { IsTurnOf (scene_by policy.now table.now self.old) ino.0 }
 
         // Each lock begins at most one gather and ends at most two.
-        ensures moves { MoveLittle (scene fs.now tree.now sessions.now table.now self.old)
-            (scene fs.now tree.now sessions.now table.now self.new) }
-        ensures due { IsDue (scene fs.now tree.now sessions.now table.now self.new) ino.0 result }
-        ensures turn { IsTurnOf (scene fs.now tree.now sessions.now table.now self.new) ino.0 }
+        ensures moves { MoveLittle (scene_by policy.now table.now self.old)
+            (scene_by policy.now table.now self.new) }
+        ensures due { IsDue (scene_by policy.now table.now self.new) ino.0 result }
+        ensures turn { IsTurnOf (scene_by policy.now table.now self.new) ino.0 }
         ensures elsewhere { ChangesLocksOf ino.0 self.old self.new }
     {
         // A move of a lock changes nothing of what is wanted, which is found once, and not where a request is served first.
         let mut wanted = None;
         'moves: loop {
-            match self.next_move_by(table, sessions, tree, fs, ino, &mut wanted) {
+            match self.next_move_by(policy, table, ino, &mut wanted) {
                 Move::Settled => return None,
                 Move::Serve(ticket) => return Some(ticket),
                 step => self.make(step),
@@ -580,27 +578,25 @@ impl Locks {
     /// The same, where nobody who waits at another inode may be served. It looks for the requests for this inode alone.
     pub fn advance_alone_at(
         &mut self,
+        policy: &Policy<'_>,
         table: &CapTable,
-        sessions: &Sessions,
-        tree: &Tree,
-        fs: &FsName,
         ino: Ino,
     ) -> Option<Ticket>
-        requires turn { IsTurnOf (scene fs.now tree.now sessions.now table.now self.old) ino.0 }
+        requires turn { IsTurnOf (scene_by policy.now table.now self.old) ino.0 }
         requires elsewhere { NobodyElsewhere self.old ino.0 }
 
         // Each lock begins at most one gather and ends at most two.
-        ensures moves { MoveLittle (scene fs.now tree.now sessions.now table.now self.old)
-            (scene fs.now tree.now sessions.now table.now self.new) }
-        ensures due { IsDue (scene fs.now tree.now sessions.now table.now self.new) ino.0 result }
-        ensures turn { IsTurnOf (scene fs.now tree.now sessions.now table.now self.new) ino.0 }
+        ensures moves { MoveLittle (scene_by policy.now table.now self.old)
+            (scene_by policy.now table.now self.new) }
+        ensures due { IsDue (scene_by policy.now table.now self.new) ino.0 result }
+        ensures turn { IsTurnOf (scene_by policy.now table.now self.new) ino.0 }
         ensures elsewhere { ChangesLocksOf ino.0 self.old self.new }
     {
         // A move of a lock changes nothing of what is wanted, nor of who waits.
         let mut wanted = None;
         let waits = self.waits_at(ino);
         'moves: loop {
-            match self.next_move_alone(table, sessions, tree, fs, ino, waits, &mut wanted) {
+            match self.next_move_alone(policy, table, ino, waits, &mut wanted) {
                 Move::Settled => return None,
                 Move::Serve(served) => return Some(served),
                 other => self.make(other),
@@ -611,20 +607,18 @@ impl Locks {
     // What is next at an inode, where it is known whether a request waits there, and may be known what is wanted of it.
     fn next_move_alone(
         &self,
+        policy: &Policy<'_>,
         table: &CapTable,
-        sessions: &Sessions,
-        tree: &Tree,
-        fs: &FsName,
         ino: Ino,
         waits: bool,
         wanted: &mut Option<Wants>,
     ) -> Move
-        requires turn { IsTurnOf (scene fs.now tree.now sessions.now table.now self.now) ino.0 }
+        requires turn { IsTurnOf (scene_by policy.now table.now self.now) ino.0 }
         requires elsewhere { NobodyElsewhere self.now ino.0 }
         requires here { waits ≡ list_any (waits_for ino.0) self.now.queue }
-        requires known { IfSome wanted.old (λ wants. wants ≡ wanted_in_all (scene fs.now tree.now sessions.now table.now self.now) ino.0) }
-        ensures next { IsNextAt (scene fs.now tree.now sessions.now table.now self.now) ino.0 result }
-        ensures known { IfSome wanted.new (λ wants. wants ≡ wanted_in_all (scene fs.now tree.now sessions.now table.now self.now) ino.0) }
+        requires known { IfSome wanted.old (λ wants. wants ≡ wanted_in_all (scene_by policy.now table.now self.now) ino.0) }
+        ensures next { IsNextAt (scene_by policy.now table.now self.now) ino.0 result }
+        ensures known { IfSome wanted.new (λ wants. wants ≡ wanted_in_all (scene_by policy.now table.now self.now) ino.0) }
     {
         if let Some(part) = self.first_end(table, ino) {
             return Move::End { ino, part };
@@ -632,7 +626,7 @@ impl Locks {
         if let Some(served) = self.first_served_where(ino, waits) {
             return Move::Serve(served);
         }
-        let wishes = known_or_found(*wanted, fs, tree, sessions, table, ino);
+        let wishes = known_or_found(*wanted, policy.fs, policy.tree, policy.sessions, table, ino);
         *wanted = Some(wishes);
         self.first_begin_where(ino, &wishes, waits)
             .unwrap_or(Move::Settled)

@@ -1,7 +1,8 @@
 use Rattle.std.proofs.Common.{[], ap, sym, ◌∙◌}
 use Rattle.capgrant.specs.declared.access.Access.{Access}
 use Rattle.caprules.specs.Lockmachine.declared.request.Ask.{Ask}
-use Rattle.caprules.specs.Lockmachine.Scene.{Scene, scene}
+use Rattle.caprules.specs.Lockmachine.declared.scene.Scene.{Scene}
+use Rattle.caprules.specs.Lockmachine.Scene.{scene}
 use Rattle.caprules.specs.Judge.{stop, denial_of}
 use Rattle.caprules.specs.Asks.{ask_needs, change_access}
 use Rattle.capacts.proofs.Again.{denial-stop}

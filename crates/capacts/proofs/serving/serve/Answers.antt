@@ -1,6 +1,7 @@
 use Rattle.std.proofs.Common.{[], refl, sym, ap, ◌∙◌}
 use Rattle.caprules.specs.Lockmachine.Locks.{no_locks}
-use Rattle.caprules.specs.Lockmachine.Scene.{Scene, scene}
+use Rattle.caprules.specs.Lockmachine.declared.scene.Scene.{Scene}
+use Rattle.caprules.specs.Lockmachine.Scene.{scene}
 use Rattle.caprules.specs.Capnotes.Changing.{tree_after}
 use Rattle.capacts.proofs.Again.{calls-passed, ends-stopped, ends-passed, ends-without_memory, tree-stopped, tree-passed}
 use Rattle.capacts.proofs.Memory.{rename-takes}

@@ -1,7 +1,8 @@
 use Rattle.std.proofs.Common.{refl, sym, ap, ◌∙◌}
 use Rattle.std.specs.Option.{option_map}
 use Rattle.caprules.specs.Lockmachine.declared.request.Request.{Request}
-use Rattle.caprules.specs.Lockmachine.Scene.{Scene, scene}
+use Rattle.caprules.specs.Lockmachine.declared.scene.Scene.{Scene}
+use Rattle.caprules.specs.Lockmachine.Scene.{scene}
 use Rattle.caprules.specs.declared.stopped.Stopped.TheVariants.{ByTest}
 use Rattle.caprules.specs.Asks.{ask_before, ask_needs, ask_after}
 use Rattle.capacts.proofs.Again.{stopped-before, stopped-policy, stopped-after}

@@ -1,20 +1,20 @@
 use Rattle.std.proofs.Common.{[], ◌∷◌, None, sym, ap, ◌∙◌}
-use Rattle.capsteps.specs.Lockmachine.Scene.{Scene, scene}
+use Rattle.capsteps.specs.Lockmachine.declared.scene.Scene.{Scene}
 use Rattle.capsteps.specs.Caprules.Judge.{asked_tests, first_denied, stop_by}
 use Rattle.capsteps.specs.Caprules.Needs.{need}
 use Rattle.capsteps.proofs.Capacts.Again.{denial-stop, stopped-before}
 use Rattle.capcore.proofs.judging.access_stop.Goals as goal
 
 pub returns-in-Some : goal.returns-in-Some
-returns-in-Some c = λ table locks.
-    let s : Scene = scene c.args.fs.now c.args.tree.now c.args.sessions.now table locks in
+returns-in-Some c =
+    let s : Scene = c.args.scene.now in
     let client = c.args.holder.client in
     let ino = c.args.holder.ino.0 in
     sym (stopped-before s (asked_tests s client ino) (need client ino c.args.access ∷ []) [] c.in-Some.refusal (sym c.asked_refusal.ensures ∙ c.in-Some.is))
 
 pub returns-in-None : goal.returns-in-None
-returns-in-None c = λ table locks.
-    let s : Scene = scene c.args.fs.now c.args.tree.now c.args.sessions.now table locks in
+returns-in-None c =
+    let s : Scene = c.args.scene.now in
     let client = c.args.holder.client in
     let ino = c.args.holder.ino.0 in
     c.denial.ensures

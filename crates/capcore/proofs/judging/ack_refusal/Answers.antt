@@ -1,7 +1,8 @@
 use Rattle.std.proofs.Common.{refl, sym, ap, ◌∙◌}
 use Rattle.capbits.specs.Refusal.{first_failing}
 use Rattle.captable.specs.Tests.{ack_tests}
-use Rattle.capsteps.specs.Lockmachine.Scene.{Scene, scene}
+use Rattle.capsteps.specs.Lockmachine.declared.scene.Scene.{Scene}
+use Rattle.capsteps.specs.Lockmachine.Scene.{scene}
 use Rattle.capsteps.specs.Caprules.Judge.{connected_tests, revoked_of}
 use Rattle.capsteps.proofs.Revoking.{passed-front}
 use Rattle.capcore.proofs.judging.ack_refusal.Goals as goal

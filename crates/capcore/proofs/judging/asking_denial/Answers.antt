@@ -1,6 +1,7 @@
 use Rattle.std.proofs.Common.{[], ap, sym, ◌∙◌}
 use Rattle.capgrant.specs.declared.access.Access.{Access}
-use Rattle.capsteps.specs.Lockmachine.Scene.{Scene, scene}
+use Rattle.capsteps.specs.Lockmachine.declared.scene.Scene.{Scene}
+use Rattle.capsteps.specs.Lockmachine.Scene.{scene}
 use Rattle.capsteps.specs.Caprules.Judge.{stop, denial_of}
 use Rattle.capsteps.specs.Caprules.Asks.{ask_needs, change_access}
 use Rattle.capsteps.proofs.Capacts.Again.{denial-stop}

@@ -1,8 +1,7 @@
 use Rattle.std.proofs.Common.{◌≡◌, [], ◌∷◌, refl, sym, ap, ◌∙◌}
 use Rattle.std.specs.Option.{option_map}
 use Rattle.capgrant.specs.declared.access.Access.{Access}
-use Rattle.capsteps.specs.Lockmachine.Locks.{LockMap}
-use Rattle.capsteps.specs.Lockmachine.Scene.{Scene, scene}
+use Rattle.capsteps.specs.Lockmachine.declared.scene.Scene.{Scene}
 use Rattle.capsteps.specs.Capevents.declared.event.Event.{Event}
 use Rattle.capsteps.specs.Capevents.declared.event.Event.TheVariants.{Flush}
 use Rattle.capsteps.specs.Caprules.declared.stopped.Stopped.TheVariants.{ByTest}
@@ -13,9 +12,9 @@ use Rattle.capcore.proofs.judging.flush_stop.Goals as goal
 use Rattle.capcore.proofs.judging.flush_stop.Goals.{After-access_stop}
 
 -- what the session, the inode and the grants stop
-module _ (c : After-access_stop) (locks : LockMap) where
+module _ (c : After-access_stop) where
   abbrev s : Scene
-  s = scene c.args.fs.now c.args.tree.now c.args.sessions.now c.args.table.now locks
+  s = c.args.scene.now
 
   abbrev e : Event
   e = Flush c.args.holder.client c.args.holder.ino c.args.change.now
@@ -23,21 +22,21 @@ module _ (c : After-access_stop) (locks : LockMap) where
   granted : c.access_stop.result ≡ stop s (before s e) (needs s e) []
   granted =
       let k = c.args.holder in
-      c.access_stop.ensures c.args.table.now locks
+      c.access_stop.ensures
       ∙ ap (λ (access : Access). stop s (asked_tests s k.client k.ino.0) (need k.client k.ino.0 access ∷ []) []) c.change_access-access.ensures
 
 pub returns-in-Some : goal.returns-in-Some
-returns-in-Some c = λ locks.
+returns-in-Some c =
     let here = (goal.at.returns-in-Some c).After-access_stop in
-    let w = s here locks in
-    let flush = e here locks in
-    sym (stopped w (before w flush) (needs w flush) (after w flush) c.in-Some.stopped (sym (granted here locks) ∙ c.in-Some.is))
+    let w = s here in
+    let flush = e here in
+    sym (stopped w (before w flush) (needs w flush) (after w flush) c.in-Some.stopped (sym (granted here) ∙ c.in-Some.is))
 
 pub returns : goal.returns
-returns c = λ locks.
+returns c =
     let here = (goal.at.returns c).After-access_stop in
-    let w = s here locks in
-    let flush = e here locks in
+    let w = s here in
+    let flush = e here in
     c.by_test.ensures
     ∙ ap (option_map ByTest) (c.flush_refusal.ensures w refl refl)
-    ∙ sym (passed w (before w flush) (needs w flush) (after w flush) (sym (granted here locks) ∙ c.in_default.is))
+    ∙ sym (passed w (before w flush) (needs w flush) (after w flush) (sym (granted here) ∙ c.in_default.is))

@@ -1,6 +1,6 @@
 use Rattle.std.proofs.Common.{refl, sym, ap, ◌∙◌}
 use Rattle.std.specs.Option.{option_map}
-use Rattle.capsteps.specs.Lockmachine.Scene.{Scene, scene}
+use Rattle.capsteps.specs.Lockmachine.declared.scene.Scene.{Scene}
 use Rattle.capsteps.specs.Capevents.declared.event.Event.{Event}
 use Rattle.capsteps.specs.Capevents.declared.event.Event.TheVariants.{Open}
 use Rattle.capsteps.specs.Caprules.declared.stopped.Stopped.TheVariants.{ByTest}
@@ -9,10 +9,10 @@ use Rattle.capsteps.proofs.Capacts.Again.{stopped-after}
 use Rattle.capcore.proofs.judging.open_stop.Goals as goal
 
 pub returns : goal.returns
-returns c = λ locks.
-    let s : Scene = scene c.args.fs.now c.args.tree.now c.args.sessions.now c.args.table.now locks in
+returns c =
+    let s : Scene = c.args.scene.now in
     let e : Event = Open c.args.holder.client c.args.holder.ino c.args.mode in
     c.by_test.ensures
     ∙ ap (option_map ByTest) (c.opening_refusal.ensures s refl refl)
     ∙ sym (stopped-after s (before s e) (needs s e) (after s e)
-    (sym c.asked_refusal.ensures ∙ c.in_default.is) (sym (c.opening_denial.ensures c.args.table.now locks) ∙ c.in_default-opening_denial.is))
+    (sym c.asked_refusal.ensures ∙ c.in_default.is) (sym (c.opening_denial.ensures s.table s.locks) ∙ c.in_default-opening_denial.is))

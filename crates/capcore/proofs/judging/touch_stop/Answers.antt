@@ -2,7 +2,7 @@ use Rattle.std.proofs.Common.{◌≡◌, Option, Some, None, refl, sym, ap, ◌�
 use Rattle.std.specs.Option.{option_map}
 use Rattle.capbits.specs.Refusal.{first_failing}
 use Rattle.capbits.specs.declared.refusal.Refusal.{Refusal}
-use Rattle.capsteps.specs.Lockmachine.Scene.{Scene, scene}
+use Rattle.capsteps.specs.Lockmachine.declared.scene.Scene.{Scene}
 use Rattle.capsteps.specs.Capevents.declared.event.Event.{Event}
 use Rattle.capsteps.specs.Capevents.declared.event.Event.TheVariants.{Ack}
 use Rattle.capsteps.specs.Caprules.declared.stopped.Stopped.TheVariants.{ByTest}
@@ -17,11 +17,11 @@ by_tests s (Some refusal) = refl
 by_tests s None = refl
 
 pub returns-in-Ack : goal.returns-in-Ack
-returns-in-Ack c = λ locks known.
-    let s : Scene = scene c.args.fs.now c.args.tree.now c.args.sessions.now c.args.table.now locks in
+returns-in-Ack c = λ known.
+    let s : Scene = c.args.scene.now in
     let k = c.args.holder in
     let e : Event = Ack k.client k.ino c.in-Ack.seq in
     c.by_test-in-Ack.ensures
-    ∙ ap (option_map ByTest) (c.ack_refusal.ensures c.args.fs.now locks known)
+    ∙ ap (option_map ByTest) (c.ack_refusal.ensures s.fs s.locks known)
     ∙ by_tests s (first_failing (before s e))
     ∙ ap (λ (touch : Touch). judged s (touch_event k.client k.ino touch)) (sym c.in-Ack.is)

@@ -16,7 +16,8 @@ use Rattle.captable.specs.Table.{Table, is_row_of}
 use Rattle.captable.specs.Calls.{is_of_inode, entries_on}
 use Rattle.captable.specs.Many.{changed_where}
 use Rattle.capacts.specs.Lockmachine.declared.states.InodeLocks.{InodeLocks}
-use Rattle.capacts.specs.Lockmachine.Scene.{Scene, scene}
+use Rattle.capacts.specs.Lockmachine.declared.scene.Scene.{Scene}
+use Rattle.capacts.specs.Lockmachine.Scene.{scene}
 use Rattle.capacts.specs.Finishing.{told_at, told_by, entry_under, entry_by, is_on}
 use Rattle.capacts.specs.Capnotes.InoSets.{InoSet}
 use Rattle.capacts.specs.Known.{known_in, HaveRoom}
@@ -30,15 +31,15 @@ use Rattle.capsteps.proofs.finish.finish.Goals as goal
 
 pub finish_entries-requires : goal.finish_entries-requires
 finish_entries-requires c =
-    let t : Table = c.args.table.now in
-    let g : EntryRow → Entry = entry_by (known_in c.args.known.now.sets) c.args.fs.now c.args.tree.now c.args.sessions.now c.args.locks.now.states in
-    let f : EntryRow → Caps = told_by c.args.fs.now c.args.tree.now c.args.sessions.now c.args.locks.now.states in
+    let t : Table = c.args.scene.now.table in
+    let g : EntryRow → Entry = entry_by (known_in c.args.known.now.sets) c.args.scene.now.fs c.args.scene.now.tree c.args.scene.now.sessions c.args.scene.now.locks.states in
+    let f : EntryRow → Caps = told_by c.args.scene.now.fs c.args.scene.now.tree c.args.scene.now.sessions c.args.scene.now.locks.states in
     record {
       numbers = subst (All (λ (row : EntryRow). row.entry.seq < 18446744073709551615))
           (sym (ap (λ (t : Table). entries_on t c.args.ino) c.finish_touched.ensures.table ∙ entries_on-stay (set.contains c.args.touched.now) g c.args.ino c.requires.apart t))
           (All-filter (is_of_inode c.args.ino) (λ row. row.entry.seq < 18446744073709551615) t.rows c.requires.numbers);
-      clients = subst (λ (t : Table). All (λ row. IsTrue (has_session c.args.sessions.now row.holder.client.0)) t.rows) (sym c.finish_touched.ensures.table)
-          (holders-stay (is_on c.args.touched.now) g (λ h. IsTrue (has_session c.args.sessions.now h.client.0)) t c.requires.clients);
+      clients = subst (λ (t : Table). All (λ row. IsTrue (has_session c.args.scene.now.sessions row.holder.client.0)) t.rows) (sym c.finish_touched.ensures.table)
+          (holders-stay (is_on c.args.touched.now) g (λ h. IsTrue (has_session c.args.scene.now.sessions h.client.0)) t c.requires.clients);
       room = subst (HaveRoom c.finish_touched.new.known.sets) (sym c.finish_touched.ensures.table)
           (room-still (λ k. set.contains c.args.touched.now k.ino.0) f t c.args.known.now.sets c.finish_touched.new.known.sets (is_on c.args.touched.now) g c.finish_touched.ensures.known c.requires.room);
     }
@@ -56,46 +57,46 @@ none_here touched ino n apart is = ap (set.contains touched) (eqb-true n ino is)
 
 pub returns-clause-finished : goal.returns-clause-finished
 returns-clause-finished c =
-    let fs = c.args.fs.now in
-    let tree = c.args.tree.now in
-    let sessions = c.args.sessions.now in
+    let fs = c.args.scene.now.fs in
+    let tree = c.args.scene.now.tree in
+    let sessions = c.args.scene.now.sessions in
     let touched = c.args.touched.now in
-    let t : Table = c.args.table.now in
-    let g : EntryRow → Entry = entry_by (known_in c.args.known.now.sets) fs tree sessions c.args.locks.now.states in
+    let t : Table = c.args.scene.now.table in
+    let g : EntryRow → Entry = entry_by (known_in c.args.known.now.sets) fs tree sessions c.args.scene.now.locks.states in
     let h : EntryRow → Entry = entry_under (known_in c.finish_touched.new.known.sets) fs tree sessions c.of_ino-now.result in
-    let ended : Scene = scene fs tree sessions c.finish_entries.new.table c.args.locks.now in
-    c.forget_unheld.ensures.left fs sessions
-    ∙ ap (forget_at c.args.ino.0) (c.forget_touched.ensures.left fs sessions)
+    let ended : Scene = scene fs tree sessions c.finish_entries.new.table c.args.scene.now.locks in
+    c.forget_unheld.ensures.left
+    ∙ ap (forget_at c.args.ino.0) c.forget_touched.ensures.left
     ∙ forget-all c.args.ino.0 touched ended
-    ∙ ap (λ (t : Table). forget_among (is_touched c.args.ino.0 touched) (scene fs tree sessions t c.args.locks.now))
+    ∙ ap (λ (t : Table). forget_among (is_touched c.args.ino.0 touched) (scene fs tree sessions t c.args.scene.now.locks))
     (c.finish_entries.ensures.table
     ∙ ap (changed_where (is_of_inode c.args.ino) h) c.finish_touched.ensures.table
     ∙ changed-twice_where (set.contains touched) (λ n. n == c.args.ino.0) (is_touched c.args.ino.0 touched) g h g (λ n there. beside touched c.args.ino.0 n c.requires.apart there)
     (λ n. or_turned (set.contains touched n) (n == c.args.ino.0)) (λ row e. refl)
     (λ row is.
-    entry-alike (known_in c.finish_touched.new.known.sets) (known_in c.args.known.now.sets) fs tree sessions c.of_ino-now.result c.args.locks.now.states row
+    entry-alike (known_in c.finish_touched.new.known.sets) (known_in c.args.known.now.sets) fs tree sessions c.of_ino-now.result c.args.scene.now.locks.states row
     (ap (λ (o : Option Caps). unwrap_or o no_caps)
-    (kept-not (λ k. set.contains touched k.ino.0) (told_by fs tree sessions c.args.locks.now.states) t c.args.known.now.sets c.finish_touched.new.known.sets c.finish_touched.ensures.known row.holder (none_here touched c.args.ino.0 row.holder.ino.0 c.requires.apart is)))
-    (c.of_ino-now.ensures ∙ sym (ap (map.get c.args.locks.now.states) (eqb-true row.holder.ino.0 c.args.ino.0 is)))) t)
+    (kept-not (λ k. set.contains touched k.ino.0) (told_by fs tree sessions c.args.scene.now.locks.states) t c.args.known.now.sets c.finish_touched.new.known.sets c.finish_touched.ensures.known row.holder (none_here touched c.args.ino.0 row.holder.ino.0 c.requires.apart is)))
+    (c.of_ino-now.ensures ∙ sym (ap (map.get c.args.scene.now.locks.states) (eqb-true row.holder.ino.0 c.args.ino.0 is)))) t)
 
 pub returns-clause-known : goal.returns-clause-known
 returns-clause-known c =
-    let fs = c.args.fs.now in
-    let tree = c.args.tree.now in
-    let sessions = c.args.sessions.now in
+    let fs = c.args.scene.now.fs in
+    let tree = c.args.scene.now.tree in
+    let sessions = c.args.scene.now.sessions in
     let touched = c.args.touched.now in
-    let t : Table = c.args.table.now in
-    let g : EntryRow → Entry = entry_by (known_in c.args.known.now.sets) fs tree sessions c.args.locks.now.states in
-    let f : EntryRow → Caps = told_by fs tree sessions c.args.locks.now.states in
+    let t : Table = c.args.scene.now.table in
+    let g : EntryRow → Entry = entry_by (known_in c.args.known.now.sets) fs tree sessions c.args.scene.now.locks.states in
+    let f : EntryRow → Caps = told_by fs tree sessions c.args.scene.now.locks.states in
     kept-same (λ k. set.contains touched k.ino.0 || (k.ino.0 == c.args.ino.0)) (λ k. is_touched c.args.ino.0 touched k.ino.0) f t c.args.known.now.sets c.finish_entries.new.known.sets (λ k. or_turned (set.contains touched k.ino.0) (k.ino.0 == c.args.ino.0))
     (kept-then (λ k. set.contains touched k.ino.0) (λ k. k.ino.0 == c.args.ino.0) f t c.finish_touched.new.table c.args.known.now.sets c.finish_touched.new.known.sets c.finish_entries.new.known.sets c.finish_touched.ensures.known
     (kept-as (λ k. k.ino.0 == c.args.ino.0) (told_at fs tree sessions c.of_ino-now.result) f c.finish_touched.new.table c.finish_touched.new.known.sets c.finish_entries.new.known.sets
-    (λ row is. ap (λ (o : Option InodeLocks). told_at fs tree sessions o row) (c.of_ino-now.ensures ∙ sym (ap (map.get c.args.locks.now.states) (eqb-true row.holder.ino.0 c.args.ino.0 is))))
+    (λ row is. ap (λ (o : Option InodeLocks). told_at fs tree sessions o row) (c.of_ino-now.ensures ∙ sym (ap (map.get c.args.scene.now.locks.states) (eqb-true row.holder.ino.0 c.args.ino.0 is))))
     c.finish_entries.ensures.known)
     (λ k is. ap (λ (u : Table). find (is_row_of k) u.rows) c.finish_touched.ensures.table
     ∙ found-stays (is_on touched) g t k (λ row mine. ap (λ (h : Holder). set.contains touched h.ino.0) (sym mine) ∙ none_here touched c.args.ino.0 k.ino.0 c.requires.apart is)))
 
 pub returns-clause-lead : goal.returns-clause-lead
 returns-clause-lead c =
-    leads-then c.args.changes.now.items c.forget_touched.new.changes.items c.forget_unheld.new.changes.items c.args.tree.now c.forget_touched.new.tree c.forget_unheld.new.tree
+    leads-then c.args.changes.now.items c.forget_touched.new.changes.items c.forget_unheld.new.changes.items c.args.scene.now.tree c.forget_touched.new.scene.tree c.forget_unheld.new.scene.tree
     c.forget_touched.ensures.lead c.forget_unheld.ensures.lead

@@ -7,7 +7,8 @@ use Rattle.captable.specs.Table.{Table, IsTable, same}
 use Rattle.captable.proofs.Tables.{same-is}
 use Rattle.captable.specs.Many.{changed_by, changed_where}
 use Rattle.capacts.specs.Lockmachine.declared.states.InodeLocks.{InodeLocks}
-use Rattle.capacts.specs.Lockmachine.Scene.{Scene, scene}
+use Rattle.capacts.specs.Lockmachine.declared.scene.Scene.{Scene}
+use Rattle.capacts.specs.Lockmachine.Scene.{scene}
 use Rattle.capacts.specs.Finishing.{entry_under, told_at}
 use Rattle.capacts.specs.Known.{known_in, KeptAnew}
 use Rattle.capsteps.specs.Touching.{forget_among, finished_at, finished_entry, told_then}
@@ -18,15 +19,15 @@ use Rattle.capsteps.proofs.Strays.{forget-one}
 use Rattle.capsteps.proofs.finish.finish_alone.Goals as goal
 
 pub finish_holder-requires-clause-room : goal.finish_holder-requires-clause-room
-finish_holder-requires-clause-room c = room-of c.args.known.now.sets c.args.table.now c.args.holder c.requires.room
+finish_holder-requires-clause-room c = room-of c.args.known.now.sets c.args.scene.now.table c.args.holder c.requires.room
 
 pub returns-clause-ends : goal.returns-clause-ends
 returns-clause-ends c =
-    let fs = c.args.fs.now in
-    let tree = c.args.tree.now in
-    let sessions = c.args.sessions.now in
-    let locks = c.args.locks.now in
-    let t : Table = c.args.table.now in
+    let fs = c.args.scene.now.fs in
+    let tree = c.args.scene.now.tree in
+    let sessions = c.args.scene.now.sessions in
+    let locks = c.args.scene.now.locks in
+    let t : Table = c.args.scene.now.table in
     let k : Holder = c.args.holder in
     let was = c.args.known.now.sets in
     let settled : Scene = scene fs tree sessions t locks in
@@ -42,9 +43,8 @@ returns-clause-ends c =
     (λ row mine. ap (λ (o : Option InodeLocks). told_at fs tree sessions o row) (here ∙ sym (ap (λ (h : Holder). map.get locks.states h.ino.0) (same-is row.holder k mine))))
     c.finish_holder.ensures.known in
     record {
-      tree = c.last-last.ensures.sound;
       finished =
-          c.forget_unheld.ensures.left fs sessions
+          c.forget_unheld.ensures.left
           ∙ sym (forget-one k.ino.0 (scene fs tree sessions c.finish_holder.new.table locks))
           ∙ ap (λ (u : Table). forget_among (λ other. other == k.ino.0) (scene fs tree sessions u locks)) all
           ∙ ap (finished_at (λ other. other == k.ino.0) (known_in was)) (sym (none-sized settled));

@@ -34,13 +34,13 @@ nobody c =
 pub returns-then-is_empty-clause-table : goal.returns-then-is_empty-clause-table
 returns-then-is_empty-clause-table c =
     let t : Table = c.args.table.now in
-    let g : EntryRow → Entry = entry_under (known_in c.args.known.now.sets) c.args.fs.now c.args.tree.now c.args.sessions.now c.args.locks.now in
+    let g : EntryRow → Entry = entry_under (known_in c.args.known.now.sets) c.args.policy.now.fs.now c.args.policy.now.tree.now c.args.policy.now.sessions.now c.args.locks.now in
     ap (fold (changed_by g) t) (nobody c) ∙ fold-on_inode g t c.args.ino c.clients_on-clients.ensures.sound
 
 pub returns-then-is_empty-clause-known : goal.returns-then-is_empty-clause-known
 returns-then-is_empty-clause-known c =
     let t : Table = c.args.table.now in
-    let f : EntryRow → Caps = told_at c.args.fs.now c.args.tree.now c.args.sessions.now c.args.locks.now in
+    let f : EntryRow → Caps = told_at c.args.policy.now.fs.now c.args.policy.now.tree.now c.args.policy.now.sessions.now c.args.locks.now in
     kept-on c.args.ino f t c.args.known.now.sets c.args.known.now.sets
     (kept-same (is_among []) (is_among (holders_of_rows (entries_on t c.args.ino))) f t c.args.known.now.sets c.args.known.now.sets (λ j. ap (λ (hs : List Holder). is_among hs j) (nobody c))
     (kept-nobody f t c.args.known.now.sets))
@@ -48,7 +48,7 @@ returns-then-is_empty-clause-known c =
 pub loop-number-init : goal.loop-number-init
 loop-number-init c = record {
   table = refl;
-  known = kept-nobody (told_at c.args.fs.now c.args.tree.now c.args.sessions.now c.args.locks.now) c.args.table.now c.args.known.now.sets;
+  known = kept-nobody (told_at c.args.policy.now.fs.now c.args.policy.now.tree.now c.args.policy.now.sessions.now c.args.locks.now) c.args.table.now c.args.known.now.sets;
 }
 
 pub finish_entry-requires : goal.finish_entry-requires
@@ -57,8 +57,8 @@ finish_entry-requires c =
     let i : ℕ = c.loop-number.number-index in
     let cs : List ℕ = c.as_slice-numbers.result.now in
     let ks : List Holder = named c.args.ino cs in
-    let g : EntryRow → Entry = entry_under (known_in c.args.known.now.sets) c.args.fs.now c.args.tree.now c.args.sessions.now c.args.locks.now in
-    let f : EntryRow → Caps = told_at c.args.fs.now c.args.tree.now c.args.sessions.now c.args.locks.now in
+    let g : EntryRow → Entry = entry_under (known_in c.args.known.now.sets) c.args.policy.now.fs.now c.args.policy.now.tree.now c.args.policy.now.sessions.now c.args.locks.now in
+    let f : EntryRow → Caps = told_at c.args.policy.now.fs.now c.args.policy.now.tree.now c.args.policy.now.sessions.now c.args.locks.now in
     let k : Holder = holder (record { 0 = get_or cs i 0 }) c.args.ino in
     let all : ks ≡ holders_of_rows (entries_on t c.args.ino) =
     ap (named c.args.ino) (c.as_slice-numbers.ensures.value ∙ c.clients_on-clients.ensures.clients) ∙ named-clients c.args.ino t.rows in
@@ -85,8 +85,8 @@ loop-number-preserved c =
     let i : ℕ = c.loop-number.number-index in
     let cs : List ℕ = c.as_slice-numbers.result.now in
     let ks : List Holder = named c.args.ino cs in
-    let g : EntryRow → Entry = entry_under (known_in c.args.known.now.sets) c.args.fs.now c.args.tree.now c.args.sessions.now c.args.locks.now in
-    let f : EntryRow → Caps = told_at c.args.fs.now c.args.tree.now c.args.sessions.now c.args.locks.now in
+    let g : EntryRow → Entry = entry_under (known_in c.args.known.now.sets) c.args.policy.now.fs.now c.args.policy.now.tree.now c.args.policy.now.sessions.now c.args.locks.now in
+    let f : EntryRow → Caps = told_at c.args.policy.now.fs.now c.args.policy.now.tree.now c.args.policy.now.sessions.now c.args.locks.now in
     let k : Holder = holder (record { 0 = get_or cs i 0 }) c.args.ino in
     let all : ks ≡ holders_of_rows (entries_on t c.args.ino) =
     ap (named c.args.ino) (c.as_slice-numbers.ensures.value ∙ c.clients_on-clients.ensures.clients) ∙ named-clients c.args.ino t.rows in
@@ -105,7 +105,7 @@ loop-number-preserved c =
       table =
           c.finish_entry.ensures.table
           ∙ ap (λ (o : Option Caps). changed c.loop-number.table k (λ e. let row : EntryRow = record { holder = k; entry = e } in
-          numbered_as (unwrap_or o no_caps) (f row) (due_under c.args.fs.now c.args.tree.now c.args.sessions.now c.args.locks.now row) row)) kept
+          numbered_as (unwrap_or o no_caps) (f row) (due_under c.args.policy.now.fs.now c.args.policy.now.tree.now c.args.policy.now.sessions.now c.args.locks.now row) row)) kept
           ∙ ap (λ (t : Table). changed_by g t k) c.loop-number.invariant.table
           ∙ sym (ap (fold (changed_by g) t) more ∙ fold-append (changed_by g) t (take i ks) (k ∷ []));
       known =
@@ -120,8 +120,8 @@ returns c =
     let t : Table = c.args.table.now in
     let cs : List ℕ = c.as_slice-numbers.result.now in
     let ks : List Holder = named c.args.ino cs in
-    let g : EntryRow → Entry = entry_under (known_in c.args.known.now.sets) c.args.fs.now c.args.tree.now c.args.sessions.now c.args.locks.now in
-    let f : EntryRow → Caps = told_at c.args.fs.now c.args.tree.now c.args.sessions.now c.args.locks.now in
+    let g : EntryRow → Entry = entry_under (known_in c.args.known.now.sets) c.args.policy.now.fs.now c.args.policy.now.tree.now c.args.policy.now.sessions.now c.args.locks.now in
+    let f : EntryRow → Caps = told_at c.args.policy.now.fs.now c.args.policy.now.tree.now c.args.policy.now.sessions.now c.args.locks.now in
     let past : length ks ≤ c.loop-number.number-index = omega (arith, c.loop-number-test.false, length-map cs (λ (n : ℕ). holder (record { 0 = n }) c.args.ino)) in
     let all : ks ≡ holders_of_rows (entries_on t c.args.ino) =
     ap (named c.args.ino) (c.as_slice-numbers.ensures.value ∙ c.clients_on-clients.ensures.clients) ∙ named-clients c.args.ino t.rows in

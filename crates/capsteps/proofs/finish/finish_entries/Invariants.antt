@@ -9,6 +9,6 @@ use Rattle.capsteps.proofs.finish.finish_entries.Given as goal
 
 abbrev pub invariant-loop-number : goal.invariant-loop-number
 invariant-loop-number l = record {
-  table : l.table ≡ fold (changed_by (entry_under (known_in l.fn.known.sets) l.fs l.tree l.sessions l.locks)) l.fn.table (take l.number-index (named l.ino l.numbers));
-  known : KeptAnew (is_among (take l.number-index (named l.ino l.numbers))) (told_at l.fs l.tree l.sessions l.locks) l.fn.table l.fn.known.sets l.known.sets;
+  table : l.table ≡ fold (changed_by (entry_under (known_in l.fn.known.sets) l.policy.fs.now l.policy.tree.now l.policy.sessions.now l.locks)) l.fn.table (take l.number-index (named l.ino l.numbers));
+  known : KeptAnew (is_among (take l.number-index (named l.ino l.numbers))) (told_at l.policy.fs.now l.policy.tree.now l.policy.sessions.now l.locks) l.fn.table l.fn.known.sets l.known.sets;
 }

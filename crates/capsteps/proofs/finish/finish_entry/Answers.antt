@@ -23,9 +23,9 @@ pub returns-in_default-clause-table : goal.returns-in_default-clause-table
 returns-in_default-clause-table c =
     let none : entry_at c.args.table.now c.args.holder ≡ None = cc in
     none_found c.args.table.now c.args.holder
-    (λ e. words.entry_under (known_in c.args.known.now.sets) c.args.fs.now c.args.tree.now c.args.sessions.now c.args.locks.now (record { holder = c.args.holder; entry = e })) none
+    (λ e. words.entry_in (known_in c.args.known.now.sets) c.args.standing.now (record { holder = c.args.holder; entry = e })) none
 
 pub returns-in_default-clause-known : goal.returns-in_default-clause-known
 returns-in_default-clause-known c =
     let none : entry_at c.args.table.now c.args.holder ≡ None = cc in
-    kept-none (words.told_at c.args.fs.now c.args.tree.now c.args.sessions.now c.args.locks.now) c.args.table.now c.args.known.now.sets c.args.known.now.sets c.args.holder none (λ k. refl)
+    kept-none (words.told_in c.args.standing.now) c.args.table.now c.args.known.now.sets c.args.known.now.sets c.args.holder none (λ k. refl)

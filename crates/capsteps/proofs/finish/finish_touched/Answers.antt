@@ -25,15 +25,15 @@ use Rattle.capsteps.proofs.finish.finish_touched.Goals as goal
 
 pub loop-number-init : goal.loop-number-init
 loop-number-init c =
-    let g : EntryRow → Entry = entry_by (known_in c.args.known.now.sets) c.args.fs.now c.args.tree.now c.args.sessions.now c.args.locks.now.states in
-    let f : EntryRow → Caps = told_by c.args.fs.now c.args.tree.now c.args.sessions.now c.args.locks.now.states in
+    let g : EntryRow → Entry = entry_by (known_in c.args.known.now.sets) c.args.policy.now.fs.now c.args.policy.now.tree.now c.args.policy.now.sessions.now c.args.locks.now.states in
+    let f : EntryRow → Caps = told_by c.args.policy.now.fs.now c.args.policy.now.tree.now c.args.policy.now.sessions.now c.args.locks.now.states in
     record { so_far = none-finished g f c.args.table.now c.args.known.now.sets c.into_iter-number-iterator.result }
 
 pub finish_entries-requires : goal.finish_entries-requires
 finish_entries-requires c =
     let t : Table = c.args.table.now in
-    let g : EntryRow → Entry = entry_by (known_in c.args.known.now.sets) c.args.fs.now c.args.tree.now c.args.sessions.now c.args.locks.now.states in
-    let f : EntryRow → Caps = told_by c.args.fs.now c.args.tree.now c.args.sessions.now c.args.locks.now.states in
+    let g : EntryRow → Entry = entry_by (known_in c.args.known.now.sets) c.args.policy.now.fs.now c.args.policy.now.tree.now c.args.policy.now.sessions.now c.args.locks.now.states in
+    let f : EntryRow → Caps = told_by c.args.policy.now.fs.now c.args.policy.now.tree.now c.args.policy.now.sessions.now c.args.locks.now.states in
     let k : ℕ = c.in-Some.number.now in
     let ks : List ℕ = c.next.new.self in
     let rest : c.loop-number.number-iterator ≡ k ∷ ks = rest_more deref _ _ _ _ c.in-Some.is c.next.ensures.steps in
@@ -45,8 +45,8 @@ finish_entries-requires c =
       numbers = subst (All (λ (row : EntryRow). row.entry.seq < 18446744073709551615))
           (sym (ap (λ (u : Table). entries_on u (record { 0 = k })) s.finished ∙ entries_on-stay (λ n. list_any (same_number n) s.done) g (record { 0 = k }) (apart k (eq-eqb k k refl)) t))
           (All-filter (is_of_inode (record { 0 = k })) (λ row. row.entry.seq < 18446744073709551615) t.rows c.requires.numbers);
-      clients = subst (λ (u : Table). All (λ row. IsTrue (has_session c.args.sessions.now row.holder.client.0)) u.rows) (sym s.finished)
-          (holders-stay (on (λ n. list_any (same_number n) s.done)) g (λ h. IsTrue (has_session c.args.sessions.now h.client.0)) t c.requires.clients);
+      clients = subst (λ (u : Table). All (λ row. IsTrue (has_session c.args.policy.now.sessions.now row.holder.client.0)) u.rows) (sym s.finished)
+          (holders-stay (on (λ n. list_any (same_number n) s.done)) g (λ h. IsTrue (has_session c.args.policy.now.sessions.now h.client.0)) t c.requires.clients);
       room = subst (HaveRoom c.loop-number.known.sets) (sym s.finished)
           (room-still (λ q. list_any (same_number q.ino.0) s.done) f t c.args.known.now.sets c.loop-number.known.sets (on (λ n. list_any (same_number n) s.done)) g s.kept c.requires.room);
     }
@@ -54,14 +54,14 @@ finish_entries-requires c =
 pub loop-number-preserved : goal.loop-number-preserved
 loop-number-preserved c =
     let t : Table = c.args.table.now in
-    let g : EntryRow → Entry = entry_by (known_in c.args.known.now.sets) c.args.fs.now c.args.tree.now c.args.sessions.now c.args.locks.now.states in
-    let f : EntryRow → Caps = told_by c.args.fs.now c.args.tree.now c.args.sessions.now c.args.locks.now.states in
+    let g : EntryRow → Entry = entry_by (known_in c.args.known.now.sets) c.args.policy.now.fs.now c.args.policy.now.tree.now c.args.policy.now.sessions.now c.args.locks.now.states in
+    let f : EntryRow → Caps = told_by c.args.policy.now.fs.now c.args.policy.now.tree.now c.args.policy.now.sessions.now c.args.locks.now.states in
     let k : ℕ = c.in-Some.number.now in
     let ks : List ℕ = c.next.new.self in
     let rest : c.loop-number.number-iterator ≡ k ∷ ks = rest_more deref _ _ _ _ c.in-Some.is c.next.ensures.steps in
     let all : List ℕ = c.into_iter-number-iterator.result in
     let lists : IsListOf c.args.touched.now all = subst (IsListOf c.args.touched.now) (sym c.into_iter-number-iterator.ensures.into_iter_gives) c.numbers-number-items.ensures.list in
-    let h : EntryRow → Entry = entry_under (known_in c.loop-number.known.sets) c.args.fs.now c.args.tree.now c.args.sessions.now c.of_ino-now.result in
+    let h : EntryRow → Entry = entry_under (known_in c.loop-number.known.sets) c.args.policy.now.fs.now c.args.policy.now.tree.now c.args.policy.now.sessions.now c.of_ino-now.result in
     record {
       so_far =
           next-finished g f t c.args.known.now.sets all k ks c.loop-number.table c.loop-number.known.sets h c.finish_entries.new.table c.finish_entries.new.known.sets
@@ -69,17 +69,17 @@ loop-number-preserved c =
           (subst (λ (left : List ℕ). IsFinishing g f t c.args.known.now.sets all left c.loop-number.table c.loop-number.known.sets) rest c.loop-number.invariant.so_far)
           c.finish_entries.ensures.table
           (λ row is kept.
-          entry-alike (known_in c.loop-number.known.sets) (known_in c.args.known.now.sets) c.args.fs.now c.args.tree.now c.args.sessions.now c.of_ino-now.result c.args.locks.now.states row
+          entry-alike (known_in c.loop-number.known.sets) (known_in c.args.known.now.sets) c.args.policy.now.fs.now c.args.policy.now.tree.now c.args.policy.now.sessions.now c.of_ino-now.result c.args.locks.now.states row
           (ap (λ (o : Option Caps). unwrap_or o no_caps) kept) (c.of_ino-now.ensures ∙ sym (ap (map.get c.args.locks.now.states) (eqb-true row.holder.ino.0 k is))))
-          (kept-as (λ q. q.ino.0 == k) (told_at c.args.fs.now c.args.tree.now c.args.sessions.now c.of_ino-now.result) f c.loop-number.table c.loop-number.known.sets c.finish_entries.new.known.sets
-          (λ row is. ap (λ (o : Option InodeLocks). told_at c.args.fs.now c.args.tree.now c.args.sessions.now o row) (c.of_ino-now.ensures ∙ sym (ap (map.get c.args.locks.now.states) (eqb-true row.holder.ino.0 k is))))
+          (kept-as (λ q. q.ino.0 == k) (told_at c.args.policy.now.fs.now c.args.policy.now.tree.now c.args.policy.now.sessions.now c.of_ino-now.result) f c.loop-number.table c.loop-number.known.sets c.finish_entries.new.known.sets
+          (λ row is. ap (λ (o : Option InodeLocks). told_at c.args.policy.now.fs.now c.args.policy.now.tree.now c.args.policy.now.sessions.now o row) (c.of_ino-now.ensures ∙ sym (ap (map.get c.args.locks.now.states) (eqb-true row.holder.ino.0 k is))))
           c.finish_entries.ensures.known);
     }
 
 pub returns : goal.returns
 returns c =
-    let g : EntryRow → Entry = entry_by (known_in c.args.known.now.sets) c.args.fs.now c.args.tree.now c.args.sessions.now c.args.locks.now.states in
-    let f : EntryRow → Caps = told_by c.args.fs.now c.args.tree.now c.args.sessions.now c.args.locks.now.states in
+    let g : EntryRow → Entry = entry_by (known_in c.args.known.now.sets) c.args.policy.now.fs.now c.args.policy.now.tree.now c.args.policy.now.sessions.now c.args.locks.now.states in
+    let f : EntryRow → Caps = told_by c.args.policy.now.fs.now c.args.policy.now.tree.now c.args.policy.now.sessions.now c.args.locks.now.states in
     let inos : InoSet = c.args.touched.now in
     let all : List ℕ = c.into_iter-number-iterator.result in
     let lists : IsListOf inos all = subst (IsListOf inos) (sym c.into_iter-number-iterator.ensures.into_iter_gives) c.numbers-number-items.ensures.list in

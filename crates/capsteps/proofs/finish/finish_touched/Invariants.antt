@@ -5,6 +5,6 @@ use Rattle.capsteps.proofs.finish.finish_touched.Given as goal
 
 abbrev pub invariant-loop-number : goal.invariant-loop-number
 invariant-loop-number l = record {
-  so_far : IsFinishing (entry_by (known_in l.fn.known.sets) l.fs l.tree l.sessions l.locks.states) (told_by l.fs l.tree l.sessions l.locks.states) l.fn.table l.fn.known.sets
+  so_far : IsFinishing (entry_by (known_in l.fn.known.sets) l.policy.fs.now l.policy.tree.now l.policy.sessions.now l.locks.states) (told_by l.policy.fs.now l.policy.tree.now l.policy.sessions.now l.locks.states) l.fn.table l.fn.known.sets
       l.initial.number-iterator l.number-iterator l.table l.known.sets;
 }

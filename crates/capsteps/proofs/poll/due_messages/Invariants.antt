@@ -1,7 +1,7 @@
 use Rattle.std.proofs.Common.{◌≡◌, ◌≤◌, true, Contains, filter, length}
 use Rattle.captable.specs.declared.entry.EntryRow.{EntryRow}
 use Rattle.captable.specs.Calls.{is_due}
-use Rattle.capacts.specs.Lockmachine.Scene.{Scene}
+use Rattle.capacts.specs.Lockmachine.declared.scene.Scene.{Scene}
 use Rattle.capacts.specs.Known.{AreKnown}
 use Rattle.capacts.specs.Caprules.Messages.{end_messages}
 use Rattle.capsteps.proofs.Polling.{IsListed}
@@ -14,6 +14,6 @@ abbrev pub invariant-rows : goal.invariant-rows
 invariant-rows l = record {
   left : l.left ≡ length (filter is_due l.walk);
   few : length l.due ≤ l.max;
-  among : (row : EntryRow) → Contains l.walk row → is_due row ≡ true → Contains l.table.rows row;
-  listed : (s : Scene) → s.tree ≡ l.tree → s.table ≡ l.table → AreKnown l.known.sets s → IsListed l.max s (end_messages l.fn.client l.ended) l.initial.walk l.due l.walk;
+  among : (row : EntryRow) → Contains l.walk row → is_due row ≡ true → Contains l.scene.table.rows row;
+  listed : (s : Scene) → s.tree ≡ l.scene.tree → s.table ≡ l.scene.table → AreKnown l.known.sets s → IsListed l.max s (end_messages l.fn.client l.ended) l.initial.walk l.due l.walk;
 }

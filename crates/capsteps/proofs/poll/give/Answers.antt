@@ -1,13 +1,20 @@
-use Rattle.std.proofs.Common.{◌≡◌, ◌+◌, ◌++◌, [], ◌∷◌, take, ap, sym, ◌∙◌}
+use Rattle.std.proofs.Common.{◌≡◌, ◌+◌, ◌++◌, [], ◌∷◌, take, ap, sym, subst, ◌∙◌}
 use Rattle.std.proofs.lemmas.List.{take_more, take_all}
+use Rattle.captable.specs.Table.{IsTable}
 use Rattle.captable.specs.Calls.{is_of_client}
 use Rattle.captable.specs.Many.{changed_where}
 use Rattle.capacts.specs.Caprules.Messages.{after_messages}
+use Rattle.capsteps.proofs.ManyInodes.{table-where}
 use Rattle.capsteps.proofs.Polling.{given-none, given-more}
 use Rattle.capsteps.proofs.poll.give.Goals as goal
 
 pub loop-message-init : goal.loop-message-init
 loop-message-init c = given-none c.args.client c.args.table.now
+
+pub give_one-requires : goal.give_one-requires
+give_one-requires c =
+    subst IsTable (sym c.loop-message.invariant)
+    (table-where (is_of_client c.args.client) (after_messages (take c.loop-message.message-index c.args.given.now)) c.args.table.now c.requires)
 
 pub loop-message-preserved : goal.loop-message-preserved
 loop-message-preserved c =

@@ -1,23 +1,38 @@
-use Rattle.std.proofs.Common.{subst, List}
+use Rattle.std.proofs.Common.{◌<◌, subst, List}
+use Rattle.std.specs.Prelude.{All, IsTrue}
 use Rattle.capbits.specs.declared.ids.Ino.{Ino}
-use Rattle.capacts.specs.Lockmachine.Scene.{Scene, scene}
+use Rattle.sessiontab.specs.Calls.{has_session}
+use Rattle.capacts.specs.Lockmachine.declared.scene.Scene.{Scene}
+use Rattle.capacts.specs.Known.{HaveRoom}
 use Rattle.capacts.specs.Reach.{is_touched}
 use Rattle.capsteps.specs.Serves.{EndsAt}
-use Rattle.capsteps.proofs.NobodyServed.{settled-ends}
+use Rattle.capsteps.proofs.NobodyServed.{settled-ends, settled-keeps}
 use Rattle.capacts.proofs.Capnotes.Noting.{leads-then}
 use Rattle.capsteps.proofs.settle.end_at.Goals as goal
 
 pub returns-clause-ends : goal.returns-clause-ends
 returns-clause-ends c =
     let at = is_touched c.args.ino.0 c.settle-touched.result in
-    let settled : Scene = scene c.args.fs.now c.settle-touched.new.tree c.args.sessions.now c.args.table.now c.settle-touched.new.locks in
-    let last : Scene = scene c.args.fs.now c.end_settled.new.tree c.args.sessions.now c.end_settled.new.table c.end_settled.new.locks in
+    let settled : Scene = c.settle-touched.new.scene in
+    let last : Scene = c.end_settled.new.scene in
     settled-ends at (is_touched c.args.ino.0 c.args.others) c.args.known.now.sets c.end_settled.new.known.sets
-    (scene c.args.fs.now c.args.tree.now c.args.sessions.now c.args.table.now c.args.locks.now) settled last
-    c.settle-touched.new.endings.told.items c.settle-touched.new.endings.sized.items c.settle-touched.ensures.settles
+    c.args.scene.now settled last c.settle-touched.new.endings.told.items c.settle-touched.new.endings.sized.items c.settle-touched.ensures.settles c.requires.tree
     (subst (λ (sized : List Ino). EndsAt at sized c.args.known.now.sets c.end_settled.new.known.sets settled last) c.as_slice.ensures.value c.end_settled.ensures.ends)
 
 pub returns-clause-lead : goal.returns-clause-lead
 returns-clause-lead c =
-    leads-then c.args.endings.now.changes.items c.settle-touched.new.endings.changes.items c.end_settled.new.changes.items c.args.tree.now c.settle-touched.new.tree c.end_settled.new.tree
+    leads-then c.args.endings.now.changes.items c.settle-touched.new.endings.changes.items c.end_settled.new.changes.items c.args.scene.now.tree c.settle-touched.new.scene.tree c.end_settled.new.scene.tree
     c.settle-touched.ensures.lead c.end_settled.ensures.lead
+
+-- ---- what ends the step finds the entries and the sessions as they were
+
+pub end_settled-requires-clause-numbers : goal.end_settled-requires-clause-numbers
+end_settled-requires-clause-numbers c =
+    settled-keeps _ _ _ _ _ _ c.settle-touched.ensures.settles (λ table sessions. All (λ row. row.entry.seq < 18446744073709551615) table.rows) c.requires.numbers
+
+pub end_settled-requires-clause-clients : goal.end_settled-requires-clause-clients
+end_settled-requires-clause-clients c =
+    settled-keeps _ _ _ _ _ _ c.settle-touched.ensures.settles (λ table sessions. All (λ row. IsTrue (has_session sessions row.holder.client.0)) table.rows) c.requires.clients
+
+pub end_settled-requires-clause-room : goal.end_settled-requires-clause-room
+end_settled-requires-clause-room c = settled-keeps _ _ _ _ _ _ c.settle-touched.ensures.settles (λ table sessions. HaveRoom c.args.known.now.sets table) c.requires.room

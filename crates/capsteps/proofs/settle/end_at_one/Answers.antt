@@ -1,7 +1,6 @@
 use Rattle.std.proofs.Common.{ap, ◌∙◌, arith}
 use Rattle.std.specs.FinSet as set
 use Rattle.std.specs.Ordering.{nat_cmp}
-use Rattle.capacts.specs.Lockmachine.Scene.{scene}
 use Rattle.capacts.specs.Capnotes.InoSets.{InoSet}
 use Rattle.capsteps.proofs.Among.{quiet-among, ends-one}
 use Rattle.capacts.proofs.InoSets.{none-there}
@@ -9,15 +8,14 @@ use Rattle.capsteps.proofs.settle.end_at_one.Goals as goal
 
 pub end_at-requires-clause-quiet : goal.end_at-requires-clause-quiet
 end_at-requires-clause-quiet c =
-    quiet-among c.args.ino.0 c.new-others.result (scene c.args.fs.now c.args.tree.now c.args.sessions.now c.args.table.now c.args.locks.now) c.requires.quiet
+    quiet-among c.args.ino.0 c.new-others.result c.args.scene.now c.requires.quiet
 
 pub end_at-requires-clause-apart : goal.end_at-requires-clause-apart
 end_at-requires-clause-apart c = ap (λ (inos : InoSet). set.contains inos c.args.ino.0) c.new-others.ensures ∙ none-there c.args.ino.0
 
 pub returns-clause-ends : goal.returns-clause-ends
 returns-clause-ends c =
-    ends-one c.args.ino.0 c.new-others.result c.args.known.now.sets c.end_at.new.known.sets (scene c.args.fs.now c.args.tree.now c.args.sessions.now c.args.table.now c.args.locks.now)
-    (scene c.args.fs.now c.end_at.new.tree c.args.sessions.now c.end_at.new.table c.end_at.new.locks) c.end_at.new.endings.told.items c.end_at.ensures.ends
+    ends-one c.args.ino.0 c.new-others.result c.args.known.now.sets c.end_at.new.known.sets c.args.scene.now c.end_at.new.scene c.end_at.new.endings.told.items c.end_at.ensures.ends
 
 pub end_at-requires-clause-places : goal.end_at-requires-clause-places
 end_at-requires-clause-places c =

@@ -2,49 +2,53 @@ use Rattle.std.proofs.Common.{◌≡◌, ◌<◌, ◌≤◌, ◌+◌, ◌++◌, 
 use Rattle.std.specs.List.{filter_map}
 use Rattle.std.proofs.lemmas.List.{length-append}
 use Rattle.capbits.specs.declared.ids.Ino.{Ino}
+use Rattle.inotree.specs.Tree.{IsTree}
+use Rattle.captable.specs.Table.{Table}
 use Rattle.capacts.specs.Lockmachine.declared.request.Request.{Request}
 use Rattle.capacts.specs.Lockmachine.declared.moves.Move.TheVariants.{Serve}
-use Rattle.capacts.specs.Lockmachine.Locks.{lock_at, request_at}
+use Rattle.capacts.specs.Lockmachine.Locks.{IsLockMap, lock_at, request_at}
 use Rattle.capacts.specs.Lockmachine.Moves.{first_move}
-use Rattle.capacts.specs.Lockmachine.Scene.{Scene, scene}
+use Rattle.capacts.specs.Lockmachine.declared.scene.Scene.{Scene}
 use Rattle.capacts.proofs.Lockmachine.Exact.{ends_not}
 use Rattle.capacts.proofs.Lockmachine.Waiting.{served-at}
 use Rattle.capacts.specs.Capevents.declared.outcome.Ended.{Ended}
 use Rattle.capacts.specs.Capevents.declared.outcome.Outcome.{Outcome}
 use Rattle.capacts.specs.declared.sweep.SweepPlace.{SweepPlace}
-use Rattle.capacts.specs.Reach.{is_touched, Reaches}
+use Rattle.capacts.specs.Capnotes.Noted.{LeadOn}
+use Rattle.capacts.specs.Reach.{is_touched, AreWalked, Reaches}
 use Rattle.capsteps.specs.Serves.{Serves}
 use Rattle.capacts.specs.Caprules.Settle.{Served, sets_size, is_done, sized_in}
 use Rattle.capsteps.specs.Sweep.{GoesOn, GoesOnBehind, IsSwept, StandsAt}
 use Rattle.capacts.proofs.Capnotes.Noting.{leads-none, leads-then}
+use Rattle.capsteps.proofs.Moved.{moved-all, tree-moved}
 use Rattle.capsteps.proofs.SoFar.{IsSoFar, so-far-begins, so-far-served, so-far-settled, so-far-swept, stands-behind, stands-first, turn-of_least}
 use Rattle.capacts.proofs.Walked.{none-walked}
 use Rattle.capsteps.proofs.WalkedStill.{walked-served}
 use Rattle.capsteps.proofs.settle.settle.Goals as goal
-use Rattle.capsteps.proofs.settle.settle.Goals.{After-last-last, After-place_behind-place}
+use Rattle.capsteps.proofs.settle.settle.Goals.{In-Some, After-place_behind-place}
 
 pub end_gathers-requires : goal.end_gathers-requires
 end_gathers-requires c =
-    let first : Scene = scene c.args.fs.now c.args.tree.now c.args.sessions.now c.args.table.now c.args.locks.now in
+    let first : Scene = c.args.scene.now in
     record { elsewhere = λ other part off. ends_not first (other, part) (lock_at first.locks other part) (c.requires.quiet.each_other other part off) }
 
 pub servings-init : goal.servings-init
 servings-init c =
-    let first : Scene = scene c.args.fs.now c.args.tree.now c.args.sessions.now c.args.table.now c.args.locks.now in
-    let now : Scene = scene c.args.fs.now c.args.tree.now c.args.sessions.now c.args.table.now c.end_gathers.new.locks in
+    let first : Scene = c.args.scene.now in
+    let now : Scene = record c.args.scene.now { locks = c.end_gathers.new.locks } in
     let at : ℕ → Bool = is_touched c.args.ino.0 c.args.others in
     let begun = so-far-begins c.args.ino.0 c.args.others first c.requires.quiet c.requires.apart in
-    let swept : IsSwept at first now = c.end_gathers.ensures.swept c.args.fs.now c.args.tree.now c.args.sessions.now begun.waits in
+    let swept : IsSwept at first now = c.end_gathers.ensures.swept first.fs first.tree first.sessions begun.waits in
     let so : IsSoFar c.args.ino.0 at c.args.others first now [] [] = so-far-swept c.args.ino.0 at c.args.others first first [] [] begun now swept in
-    let queue : length c.end_gathers.new.locks.queue ≡ length c.args.locks.now.queue = ap length swept.queue in
+    let queue : length c.end_gathers.new.locks.queue ≡ length c.args.scene.now.locks.queue = ap length swept.queue in
     record {
       so_far =
           subst (λ (told : List Ended). IsSoFar c.args.ino.0 at c.args.others first now told c.args.endings.now.sized.items) (sym c.requires.none)
           (subst (IsSoFar c.args.ino.0 at c.args.others first now []) (sym c.requires.no_sizes) so);
       stands = stands-first c.args.ino.0 c.args.others now c.first_place-place.result (turn-of_least at now so.still c.end_gathers.ensures.ends) so.waits c.first_place-place.ensures;
-      walked = none-walked c.new-walked.result c.args.ino.0 c.args.tree.now c.args.table.now c.args.others c.new-walked.ensures;
+      walked = none-walked c.new-walked.result c.args.ino.0 c.args.scene.now.tree c.args.scene.now.table c.args.others c.new-walked.ensures;
       same = c.requires.same;
-      lead = leads-none c.args.endings.now.changes.items c.args.tree.now;
+      lead = leads-none c.args.endings.now.changes.items c.args.scene.now.tree;
       places = omega (arith, queue, c.requires.places);
       told = omega (arith, queue, c.requires.told);
       kept = omega (arith, queue, c.requires.kept);
@@ -59,85 +63,99 @@ few-sized sized more q o is = elim (sets_size q.ask && is_done o) as (λ b. more
 ] is
 
 -- the inodes of the event
-abbrev from : After-last-last → ℕ → Bool
+abbrev from : In-Some → ℕ → Bool
 from c = is_touched c.args.ino.0 c.args.others
 
-module _ (c : After-last-last) where
+module _ (c : In-Some) where
   abbrev first : Scene
-  first = scene c.args.fs.now c.args.tree.now c.args.sessions.now c.args.table.now c.args.locks.now
+  first = c.args.scene.now
 
   abbrev now : Scene
-  now = scene c.args.fs.now c.servings.tree c.args.sessions.now c.args.table.now c.servings.locks
+  now = c.servings.scene
 
   abbrev mid : Scene
-  mid = scene c.args.fs.now c.servings.tree c.args.sessions.now c.args.table.now c.sweep.new.locks
+  mid = c.sweep.new.scene
 
   -- gathers began and ended
   swept : IsSoFar c.args.ino.0 (from c) c.servings.touched first mid c.servings.endings.told.items c.servings.endings.sized.items
   swept = so-far-swept c.args.ino.0 (is_touched c.args.ino.0 c.args.others) c.servings.touched first now c.servings.endings.told.items c.servings.endings.sized.items c.servings.invariant.so_far mid c.sweep.ensures.swept
 
+  -- the moves so far leave the requests in their order, and a tree
+  order : IsLockMap mid.locks
+  order = let so = swept in let moved = moved-all first so.moves mid so.made in moved.order c.requires.order
+
+  tree : IsTree mid.tree
+  tree = let so = swept in tree-moved first so.moves mid so.made c.requires.tree
+
+  stays : mid ≡ record now { locks = mid.locks }
+  stays = let is = c.sweep.ensures.swept in is.is
+
   move : first_move mid ≡ Serve c.in-Some.ticket
   move = subst (GoesOn mid) c.in-Some.is c.sweep.ensures.next
 
-  here : (r : Request) × (request_at c.sweep.new.locks c.in-Some.ticket.0 ≡ Some r) × Contains c.sweep.new.locks.queue r × (is_touched c.args.ino.0 c.servings.touched r.ino.0 ≡ true)
+  here : (r : Request) × (request_at c.sweep.new.scene.locks c.in-Some.ticket.0 ≡ Some r) × Contains c.sweep.new.scene.locks.queue r × (is_touched c.args.ino.0 c.servings.touched r.ino.0 ≡ true)
       × (r.ticket ≡ c.in-Some.ticket)
-  here = (let so = swept in served-at (is_touched c.args.ino.0 c.servings.touched) mid c.in-Some.ticket c.state-lock.ensures.sound so.waits move)
+  here = (let so = swept in served-at (is_touched c.args.ino.0 c.servings.touched) mid c.in-Some.ticket order so.waits move)
 
   -- somebody waits
-  some_wait : 0 < length c.servings.locks.queue
+  some_wait : 0 < length c.servings.scene.locks.queue
   some_wait =
       let found = here in
       let inside = found.2 in
       let is = c.sweep.ensures.swept in
-      let same : length c.sweep.new.locks.queue ≡ length c.servings.locks.queue = ap length is.queue in
+      let same : length c.sweep.new.scene.locks.queue ≡ length c.servings.scene.locks.queue = ap length is.queue in
       omega (arith, same, inside.1)
 
 pub serve_next-changed-requires-clause-waits : goal.serve_next-changed-requires-clause-waits
-serve_next-changed-requires-clause-waits c = (let found = here (goal.at.serve_next-changed-requires-clause-waits c).After-last-last in (found.0, found.1))
+serve_next-changed-requires-clause-waits c = (let found = here (goal.at.serve_next-changed-requires-clause-waits c).In-Some in (found.0, found.1))
+
+pub serve_next-changed-requires-clause-walked : goal.serve_next-changed-requires-clause-walked
+serve_next-changed-requires-clause-walked c =
+    subst (λ (s : Scene). AreWalked c.servings.walked c.args.ino.0 s.tree s.table c.servings.touched) (sym (stays (goal.at.serve_next-changed-requires-clause-walked c).In-Some)) c.servings.invariant.walked
 
 pub serve_next-changed-requires-clause-told : goal.serve_next-changed-requires-clause-told
-serve_next-changed-requires-clause-told c = let some = some_wait (goal.at.serve_next-changed-requires-clause-told c).After-last-last in omega (arith, some, c.servings.invariant.told)
+serve_next-changed-requires-clause-told c = let some = some_wait (goal.at.serve_next-changed-requires-clause-told c).In-Some in omega (arith, some, c.servings.invariant.told)
 
 pub serve_next-changed-requires-clause-kept : goal.serve_next-changed-requires-clause-kept
-serve_next-changed-requires-clause-kept c = let some = some_wait (goal.at.serve_next-changed-requires-clause-kept c).After-last-last in omega (arith, some, c.servings.invariant.kept)
+serve_next-changed-requires-clause-kept c = let some = some_wait (goal.at.serve_next-changed-requires-clause-kept c).In-Some in omega (arith, some, c.servings.invariant.kept)
 
 pub serve_next-changed-requires-clause-sized : goal.serve_next-changed-requires-clause-sized
-serve_next-changed-requires-clause-sized c = let some = some_wait (goal.at.serve_next-changed-requires-clause-sized c).After-last-last in omega (arith, some, c.servings.invariant.sized)
+serve_next-changed-requires-clause-sized c = let some = some_wait (goal.at.serve_next-changed-requires-clause-sized c).In-Some in omega (arith, some, c.servings.invariant.sized)
 
 pub serve_next-changed-requires-clause-place : goal.serve_next-changed-requires-clause-place
 serve_next-changed-requires-clause-place c = omega (arith, c.servings.invariant.places)
 
-abbrev before_serving : After-place_behind-place → After-last-last
-before_serving c = (goal.at.servings-preserved c).After-last-last
+abbrev before_serving : After-place_behind-place → In-Some
+before_serving c = (goal.at.servings-preserved c).In-Some
 
 module _ (c : After-place_behind-place) where
   abbrev ended : Ended
   ended = c.serve_next-changed.ensures.served.0
 
   abbrev new : Scene
-  new = scene c.args.fs.now c.serve_next-changed.new.tree c.args.sessions.now c.args.table.now c.serve_next-changed.new.locks
+  new = c.serve_next-changed.new.scene
 
   abbrev serves : Serves (mid (before_serving c)) c.in-Some.ticket ended new
-  serves = c.serve_next-changed.ensures.served.1 c.args.table.now
+  serves = c.serve_next-changed.ensures.served.1
 
-  abbrev reaches : Reaches serves.request c.args.ino.0 c.servings.tree c.serve_next-changed.new.tree c.args.table.now c.servings.touched c.serve_next-changed.new.touched
+  abbrev reaches : Reaches serves.request c.args.ino.0 c.sweep.new.scene.tree c.serve_next-changed.new.scene.tree c.sweep.new.scene.table c.servings.touched c.serve_next-changed.new.touched
   reaches = c.serve_next-changed.ensures.reached serves.request serves.waits
 
   served : IsSoFar c.args.ino.0 (from (before_serving c)) c.serve_next-changed.new.touched (first (before_serving c)) new (c.servings.endings.told.items ++ ended ∷ []) (c.servings.endings.sized.items ++ sized_in (Served serves.request ended.outcome ∷ []))
   served =
       so-far-served c.args.ino.0 (from (before_serving c)) c.servings.touched (first (before_serving c)) (mid (before_serving c)) c.servings.endings.told.items c.servings.endings.sized.items (swept (before_serving c))
-      c.in-Some.ticket ended new c.serve_next-changed.new.touched c.state-lock.ensures.sound c.last-last.ensures.sound (move (before_serving c)) serves reaches
+      c.in-Some.ticket ended new c.serve_next-changed.new.touched (order (before_serving c)) (tree (before_serving c)) (move (before_serving c)) serves reaches
 
   stands : (next : SweepPlace) → GoesOnBehind c.sweep.new.place c.serve_next-changed.result c.args.ino.0 c.serve_next-changed.new.touched next → StandsAt (is_touched c.args.ino.0 c.serve_next-changed.new.touched) next new
   stands next =
       stands-behind c.args.ino.0 (from (before_serving c)) c.servings.touched (first (before_serving c)) (mid (before_serving c)) c.servings.endings.told.items c.servings.endings.sized.items (swept (before_serving c))
-      c.in-Some.ticket ended new c.serve_next-changed.new.touched c.state-lock.ensures.sound c.last-last.ensures.sound (move (before_serving c)) serves reaches
+      c.in-Some.ticket ended new c.serve_next-changed.new.touched (order (before_serving c)) (tree (before_serving c)) (move (before_serving c)) serves reaches
       c.sweep.new.place next c.serve_next-changed.result c.sweep.ensures.place (c.serve_next-changed.ensures.changed serves.request serves.waits)
 
   one_more : length (c.servings.endings.told.items ++ ended ∷ []) ≡ length c.servings.endings.told.items + 1
   one_more = length-append c.servings.endings.told.items (ended ∷ [])
 
-  one_less : length c.serve_next-changed.new.locks.queue + 1 ≡ length c.servings.locks.queue
+  one_less : length c.serve_next-changed.new.scene.locks.queue + 1 ≡ length c.servings.scene.locks.queue
   one_less =
       let now = served in
       let was = c.servings.invariant.so_far in
@@ -157,17 +175,19 @@ servings-preserved c =
     let less = one_less c in
     let kept_more : length c.serve_next-changed.new.endings.kept.items ≡ length c.servings.endings.kept.items + 1 = ap length same ∙ more ∙ ap (λ (ms : List Ended). length ms + 1) (sym c.servings.invariant.same) in
     let room = c.serve_next-changed.ensures.room in
+    let is = stays (before_serving c) in
     record {
       so_far =
           subst (λ (told : List Ended). IsSoFar c.args.ino.0 (from (before_serving c)) c.serve_next-changed.new.touched (first (before_serving c)) (new c) told c.serve_next-changed.new.endings.sized.items) (sym all.2)
           (subst (IsSoFar c.args.ino.0 (from (before_serving c)) c.serve_next-changed.new.touched (first (before_serving c)) (new c) (c.servings.endings.told.items ++ ended c ∷ [])) (sym sizes) (served c));
       stands = stands c c.place_behind-place.result c.place_behind-place.ensures;
       walked =
-          walked-served c.servings.tree c.serve_next-changed.new.tree request (ended c).outcome c.args.ino.0 c.args.table.now c.serve_next-changed.new.walked c.servings.touched c.serve_next-changed.new.touched
-          (ap (λ (s : Scene). s.tree) (serves c).is) (reaches c) c.serve_next-changed.ensures.walked;
+          subst (λ (t : Table). AreWalked c.serve_next-changed.new.walked c.args.ino.0 (new c).tree t c.serve_next-changed.new.touched) (sym (ap (λ (s : Scene). s.table) (serves c).is))
+          (walked-served c.sweep.new.scene.tree (new c).tree request (ended c).outcome c.args.ino.0 c.sweep.new.scene.table c.serve_next-changed.new.walked c.servings.touched c.serve_next-changed.new.touched
+          (ap (λ (s : Scene). s.tree) (serves c).is) (reaches c) c.serve_next-changed.ensures.walked);
       same = same;
-      lead = leads-then c.args.endings.now.changes.items c.servings.endings.changes.items c.serve_next-changed.new.endings.changes.items c.args.tree.now c.servings.tree c.serve_next-changed.new.tree
-          c.servings.invariant.lead c.serve_next-changed.ensures.lead;
+      lead = leads-then c.args.endings.now.changes.items c.servings.endings.changes.items c.serve_next-changed.new.endings.changes.items c.args.scene.now.tree c.sweep.new.scene.tree (new c).tree
+          (subst (λ (s : Scene). LeadOn c.args.endings.now.changes.items c.servings.endings.changes.items c.args.scene.now.tree s.tree) (sym is) c.servings.invariant.lead) c.serve_next-changed.ensures.lead;
       places = omega (arith, less, c.serve_next-changed.ensures.noted, c.serve_next-changed.ensures.places, c.servings.invariant.places);
       told = omega (arith, more, less, room.0, c.servings.invariant.told);
       kept = omega (arith, kept_more, less, room.1, c.servings.invariant.kept);
@@ -176,15 +196,20 @@ servings-preserved c =
 
 pub returns-clause-settles : goal.returns-clause-settles
 returns-clause-settles c =
-    let first : Scene = scene c.args.fs.now c.args.tree.now c.args.sessions.now c.args.table.now c.args.locks.now in
-    let now : Scene = scene c.args.fs.now c.servings.tree c.args.sessions.now c.args.table.now c.servings.locks in
-    let last : Scene = scene c.args.fs.now c.servings.tree c.args.sessions.now c.args.table.now c.sweep.new.locks in
+    let first : Scene = c.args.scene.now in
+    let now : Scene = c.servings.scene in
+    let last : Scene = c.sweep.new.scene in
     so-far-settled c.args.ino.0 (is_touched c.args.ino.0 c.args.others) c.servings.touched first last c.servings.endings.told.items c.servings.endings.sized.items
     (so-far-swept c.args.ino.0 (is_touched c.args.ino.0 c.args.others) c.servings.touched first now c.servings.endings.told.items c.servings.endings.sized.items c.servings.invariant.so_far last c.sweep.ensures.swept)
     (subst (GoesOn last) c.in_default.is c.sweep.ensures.next)
 
+pub returns-clause-lead : goal.returns-clause-lead
+returns-clause-lead c =
+    let swept = c.sweep.ensures.swept in
+    subst (λ (s : Scene). LeadOn c.args.endings.now.changes.items c.servings.endings.changes.items c.args.scene.now.tree s.tree) (sym swept.is) c.servings.invariant.lead
+
 pub returns-clause-places : goal.returns-clause-places
 returns-clause-places c =
     let swept = c.sweep.ensures.swept in
-    let queue : length c.sweep.new.locks.queue ≡ length c.servings.locks.queue = ap length swept.queue in
+    let queue : length c.sweep.new.scene.locks.queue ≡ length c.servings.scene.locks.queue = ap length swept.queue in
     omega (arith, queue, c.servings.invariant.places)

@@ -1,6 +1,5 @@
 use Rattle.std.proofs.Common.{◌≡◌, ◌≤◌, ◌+◌, length}
 use Rattle.std.specs.Prelude.{vec_capacity}
-use Rattle.capacts.specs.Lockmachine.Scene.{scene}
 use Rattle.capacts.specs.Capnotes.Noted.{HavePlaces, LeadOn}
 use Rattle.capacts.specs.Reach.{is_touched, AreWalked}
 use Rattle.capsteps.specs.Sweep.{StandsAt}
@@ -9,17 +8,17 @@ use Rattle.capsteps.proofs.SoFar.{IsSoFar}
 use Rattle.capsteps.proofs.settle.settle.Given as goal
 
 abbrev pub decreases-servings : goal.decreases-servings
-decreases-servings l = length l.locks.queue
+decreases-servings l = length l.scene.locks.queue
 
 abbrev pub invariant-servings : goal.invariant-servings
 invariant-servings l = record {
-  so_far : IsSoFar l.ino.0 (is_touched l.ino.0 l.fn.others) l.touched (scene l.fs l.fn.tree l.sessions l.table l.fn.locks) (scene l.fs l.tree l.sessions l.table l.locks) l.endings.told.items l.endings.sized.items;
-  stands : StandsAt (is_touched l.ino.0 l.touched) l.place (scene l.fs l.tree l.sessions l.table l.locks);
-  walked : AreWalked l.walked l.ino.0 l.tree l.table l.touched;
+  so_far : IsSoFar l.ino.0 (is_touched l.ino.0 l.fn.others) l.touched l.fn.scene l.scene l.endings.told.items l.endings.sized.items;
+  stands : StandsAt (is_touched l.ino.0 l.touched) l.place l.scene;
+  walked : AreWalked l.walked l.ino.0 l.scene.tree l.scene.table l.touched;
   same : l.endings.kept.items ≡ l.endings.told.items;
-  told : HasRoom l.endings.told l.locks;
-  kept : HasRoom l.endings.kept l.locks;
-  lead : LeadOn l.fn.endings.changes.items l.endings.changes.items l.fn.tree l.tree;
-  places : HavePlaces l.endings.changes l.locks l.touched;
-  sized : length l.endings.sized.items + length l.locks.queue ≤ vec_capacity l.endings.sized;
+  told : HasRoom l.endings.told l.scene.locks;
+  kept : HasRoom l.endings.kept l.scene.locks;
+  lead : LeadOn l.fn.endings.changes.items l.endings.changes.items l.fn.scene.tree l.scene.tree;
+  places : HavePlaces l.endings.changes l.scene.locks l.touched;
+  sized : length l.endings.sized.items + length l.scene.locks.queue ≤ vec_capacity l.endings.sized;
 }

@@ -1,5 +1,6 @@
-use Rattle.std.proofs.Common.{subst}
-use Rattle.capacts.specs.Lockmachine.Scene.{Scene, scene}
+use Rattle.std.proofs.Common.{sym, subst}
+use Rattle.capacts.specs.Lockmachine.declared.scene.Scene.{Scene}
+use Rattle.capacts.specs.Lockmachine.Runs.{MoveLittle}
 use Rattle.capacts.specs.Lockmachine.Turns.{IsDue}
 use Rattle.capacts.proofs.Lockmachine.Alone.{nobody-done, nobody-kept}
 use Rattle.capacts.specs.Reach.{is_touched}
@@ -10,20 +11,24 @@ use Rattle.capsteps.proofs.settle.sweep.Goals.{After-advance}
 
 module _ (c : After-advance) where
   abbrev first : Scene
-  first = scene c.args.fs.now c.args.tree.now c.args.sessions.now c.args.table.now c.args.locks.now
+  first = c.args.scene.now
 
   abbrev now : Scene
-  now = scene c.args.fs.now c.args.tree.now c.args.sessions.now c.args.table.now c.inodes.locks
+  now = c.inodes.scene
 
   abbrev new : Scene
-  new = scene c.args.fs.now c.args.tree.now c.args.sessions.now c.args.table.now c.advance.new.locks
+  new = c.advance.new.scene
 
   more : IsSwept (is_touched c.args.ino.0 c.args.touched.now) first new
-  more = swept-on (is_touched c.args.ino.0 c.args.touched.now) first now c.inodes.invariant.swept c.inodes.place.at.0 c.inodes.invariant.stands.here
-      c.advance.new.locks c.advance.ensures.moves c.advance.ensures.elsewhere
+  more =
+      subst (IsSwept (is_touched c.args.ino.0 c.args.touched.now) first) (sym c.advance.ensures.rest)
+      (swept-on (is_touched c.args.ino.0 c.args.touched.now) first now c.inodes.invariant.swept c.inodes.place.at.0 c.inodes.invariant.stands.here
+      new.locks (subst (MoveLittle now) c.advance.ensures.rest c.advance.ensures.moves) c.advance.ensures.elsewhere)
 
   still : AreStill (is_touched c.args.ino.0 c.args.touched.now) new
-  still = let is = more in still-kept (is_touched c.args.ino.0 c.args.touched.now) first c.advance.new.locks c.requires.still is.queue is.states
+  still =
+      let is = more in
+      subst (AreStill (is_touched c.args.ino.0 c.args.touched.now)) (sym is.is) (still-kept (is_touched c.args.ino.0 c.args.touched.now) first new.locks c.requires.still is.queue is.states)
 
 pub returns-in-Some-clause-swept : goal.returns-in-Some-clause-swept
 returns-in-Some-clause-swept c = more (goal.at.returns-in-Some-clause-swept c).After-advance
@@ -56,7 +61,7 @@ module _ (c : After-advance) where
   stands = record {
     turn = c.advance.ensures.turn;
     here = c.inodes.invariant.stands.here;
-    alone = λ known. nobody-kept c.inodes.place.at.0 c.inodes.locks c.advance.new.locks c.advance.ensures.elsewhere (c.inodes.invariant.stands.alone known);
+    alone = λ known. nobody-kept c.inodes.place.at.0 c.inodes.scene.locks c.advance.new.scene.locks c.advance.ensures.elsewhere (c.inodes.invariant.stands.alone known);
   }
 
 pub returns-in-Some-clause-place : goal.returns-in-Some-clause-place

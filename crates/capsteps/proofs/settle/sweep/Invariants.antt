@@ -1,4 +1,3 @@
-use Rattle.capacts.specs.Lockmachine.Scene.{scene}
 use Rattle.capacts.specs.Reach.{is_touched}
 use Rattle.capsteps.specs.Sweep.{IsSwept, StandsAt}
 use Rattle.capsteps.proofs.Sweeping.{behind}
@@ -9,6 +8,6 @@ decreases-inodes l = behind l.ino.0 l.touched l.place.at.0
 
 abbrev pub invariant-inodes : goal.invariant-inodes
 invariant-inodes l = record {
-  swept : IsSwept (is_touched l.ino.0 l.touched) (scene l.fs l.tree l.sessions l.table l.fn.locks) (scene l.fs l.tree l.sessions l.table l.locks);
-  stands : StandsAt (is_touched l.ino.0 l.touched) l.place (scene l.fs l.tree l.sessions l.table l.locks);
+  swept : IsSwept (is_touched l.ino.0 l.touched) l.fn.scene l.scene;
+  stands : StandsAt (is_touched l.ino.0 l.touched) l.place l.scene;
 }

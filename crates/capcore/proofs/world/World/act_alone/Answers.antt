@@ -1,6 +1,4 @@
 use Rattle.std.proofs.Common.{sym, subst}
-use Rattle.inotree.specs.Tree.{IsTree}
-use Rattle.captable.specs.Table.{IsTable}
 use Rattle.capsteps.specs.Caprules.State.{State}
 use Rattle.capsteps.specs.Caprules.Direct.{IsDirect}
 use Rattle.capsteps.specs.Caprules.Sound.{IsSound}
@@ -16,11 +14,9 @@ with_changes-requires c = no_list-direct c.take_list-changes.new.self c.act.new.
 pub returns-clause-answered : goal.returns-clause-answered
 returns-clause-answered c =
     let s = c.args.self.now in
-    let known : IsSound s × IsTree s.scene.tree × IsTable s.scene.table =
-    subst (λ (w : State). IsSound w × IsTree w.scene.tree × IsTable w.scene.table) c.self.view_is (c.self.invariant.0, c.last-last.ensures.sound, c.oldest-oldest.ensures.sound) in
-    alone-answered s known.0 known.1 c.args.event.now (c.requires.touches, c.requires.lists, c.requires.turns) c.in_ok-reply.reply c.act.new.self
+    alone-answered s (subst IsSound c.self.view_is c.self.invariant.0) c.requires.tree c.args.event.now (c.requires.touches, c.requires.lists, c.requires.turns) c.in_ok-reply.reply c.act.new.self
     (subst (λ (w : State). IsDirect w c.args.event.now c.in_ok-reply.reply c.act.new.self) c.take_list-changes.ensures.same c.in_ok-reply.ensures.direct)
-    c.with_changes.result known.2 c.with_changes.ensures.reply c.with_changes.ensures.kept c.with_changes.ensures.ended
+    c.with_changes.result c.requires.table c.with_changes.ensures.reply c.with_changes.ensures.kept c.with_changes.ensures.ended
 
 pub returns-clause-changes : goal.returns-clause-changes
 returns-clause-changes c = subst (λ (n : Noted). AreChanges n.items (view_of c.args.self.now) (view_of c.act.new.self)) (sym c.with_changes.ensures.changes)

@@ -7,7 +7,7 @@ use Rattle.capcore.proofs.world.World.connect.Goals as goal
 
 pub invariant_of-self-2 : goal.invariant_of-self-2
 invariant_of-self-2 c =
-    let passed : first_failing (new_session_tests c.self.inside.sessions c.args.client.0) ≡ None =
+    let passed : first_failing (new_session_tests c.self.inside.scene.sessions c.args.client.0) ≡ None =
     subst (λ (s : State). first_failing (new_session_tests s.scene.sessions c.args.client.0) ≡ None) (sym c.self.view_is) c.requires.passed in
     let sound = c.self.invariant.0 in
     rw c.in_ok-open_session_tested.ensures.ok (

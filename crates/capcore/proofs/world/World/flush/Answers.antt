@@ -1,8 +1,10 @@
 use Rattle.std.proofs.Common.{is_some, ◌≡◌, ◌==◌, ◌+◌, ◌++◌, List, length, None, refl, sym, ap, subst, ◌∙◌, arith}
 use Rattle.std.proofs.lemmas.List.{length-append}
+use Rattle.inotree.specs.Tree.{IsTree}
+use Rattle.sessiontab.specs.Table.{SessionTable}
 use Rattle.captable.specs.declared.entry.Holder.{Holder}
 use Rattle.captable.specs.Table.{IsTable, holder}
-use Rattle.capsteps.specs.Lockmachine.Scene.{Scene}
+use Rattle.capsteps.specs.Lockmachine.declared.scene.Scene.{Scene}
 use Rattle.capsteps.specs.Capevents.declared.event.Event.{Event}
 use Rattle.capsteps.specs.Capevents.declared.event.Event.TheVariants as event
 use Rattle.capsteps.specs.Capevents.declared.outcome.Ended.{Ended}
@@ -16,13 +18,14 @@ use Rattle.capsteps.specs.Touching.{Knows}
 use Rattle.capsteps.specs.Serves.{EndsWith}
 use Rattle.capsteps.specs.Caprules.Sound.{IsSound}
 use Rattle.capsteps.specs.Caprules.Step.{earlier}
-use Rattle.capcore.proofs.Closing.{first-quiet, told-all, closed-known, closed}
+use Rattle.capcore.proofs.Closing.{ends-sessions, first-quiet, told-all, closed-known, closed}
 use Rattle.capsteps.proofs.Knowing.{HoldAlike, alike-less, still-there, still-room, still-knows}
 use Rattle.capcore.proofs.OfInode.{event-table}
-use Rattle.capcore.proofs.Flushed.{flush-calls, flush-direct}
-use Rattle.capcore.proofs.Stops.{judged-at, stopped-answered}
+use Rattle.capcore.proofs.Flushed.{flush-calls, flush-tree, flush-direct}
+use Rattle.capcore.proofs.Stops.{judged-at, HasTree, HasTable, stopped-answered}
 use Rattle.capsteps.specs.Capview.Changes.{AreChanges}
 use Rattle.capsteps.specs.Caprules.Noted.{view_of}
+use Rattle.capsteps.specs.Capnotes.Noted.{view}
 use Rattle.capsteps.proofs.Capnotes.Noting.{changes-all, changes-still, leads-then}
 use Rattle.capcore.proofs.world.World.flush.Goals as goal
 use Rattle.capcore.proofs.world.World.flush.Goals.{After-touch, After-close}
@@ -32,23 +35,23 @@ use Rattle.capcore.proofs.world.World.flush.Goals.{After-touch, After-close}
 pub returns-in-Some-clause-answered : goal.returns-in-Some-clause-answered
 returns-in-Some-clause-answered c =
     let s = c.args.self.now in
-    let known : IsSound s × IsTable s.scene.table = subst (λ (w : State). IsSound w × IsTable w.scene.table) c.self.view_is (c.self.invariant.0, c.oldest-oldest.ensures.sound) in
-    stopped-answered s (event.Flush c.args.client c.args.ino c.args.change.now) c.in-Some.stopped c.alone.result known.0 known.1
-    (judged-at _ s (event.Flush c.args.client c.args.ino c.args.change.now) c.flush_stop.result c.self.view_is (c.flush_stop.ensures c.self.inside.locks) ∙ c.in-Some.is)
+    let sound : IsSound s = subst IsSound c.self.view_is c.self.invariant.0 in
+    stopped-answered s (event.Flush c.args.client c.args.ino c.args.change.now) c.in-Some.stopped c.alone.result sound c.requires.table
+    (judged-at _ s (event.Flush c.args.client c.args.ino c.args.change.now) c.flush_stop.result c.self.view_is c.flush_stop.ensures ∙ c.in-Some.is)
     (c.alone.ensures.reply ∙ c.into_reply.ensures.reply) (c.alone.ensures.kept ∙ sym c.alone.ensures.reply) c.alone.ensures.ended
 
 pub alter-requires : goal.alter-requires
 alter-requires c =
-    let old : State = record { scene = record { fs = c.self.inside.fs; tree = c.self.inside.tree; sessions = c.self.inside.sessions; table = c.self.inside.table; locks = c.self.inside.locks }; messages = c.self.inside.messages.items } in
+    let old : State = record { scene = c.self.inside.scene; messages = c.self.inside.messages.items } in
     let e : Event = event.Flush c.args.client c.args.ino c.args.change.now in
-    let passed : judged old.scene e ≡ None = sym (c.flush_stop.ensures c.self.inside.locks) ∙ c.in_default.is in
+    let passed : judged old.scene e ≡ None = sym c.flush_stop.ensures ∙ c.in_default.is in
     record { passed = flush-calls old.scene (holder c.args.client c.args.ino) c.args.change.now passed }
 
 -- ---- one that nothing stops, by itself
 
 module _ (c : After-touch) where
   abbrev old : State
-  old = record { scene = record { fs = c.self.inside.fs; tree = c.self.inside.tree; sessions = c.self.inside.sessions; table = c.self.inside.table; locks = c.self.inside.locks }; messages = c.self.inside.messages.items }
+  old = record { scene = c.self.inside.scene; messages = c.self.inside.messages.items }
 
   abbrev e : Event
   e = event.Flush c.args.client c.args.ino c.args.change.now
@@ -60,7 +63,7 @@ module _ (c : After-touch) where
   first = record old.scene { tree = c.alter.new.tree; table = c.touch.new.self }
 
   passed : judged old.scene e ≡ None
-  passed = sym (c.flush_stop.ensures c.self.inside.locks) ∙ c.in_default.is
+  passed = sym c.flush_stop.ensures ∙ c.in_default.is
 
   by_itself : direct old e ≡ says (with_flush old k c.args.change.now) reply.Done
   by_itself = flush-direct old k c.args.change.now passed
@@ -72,17 +75,17 @@ module _ (c : After-touch) where
 
 -- what is known then: the entries are as they were
 module _ (c : After-touch) where
-  alike : HoldAlike c.self.inside.table c.touch.new.self
-  alike = subst (HoldAlike c.self.inside.table) (sym c.touch.ensures) (λ j f there. (f, there, refl))
+  alike : HoldAlike c.self.inside.scene.table c.touch.new.self
+  alike = subst (HoldAlike c.self.inside.scene.table) (sym c.touch.ensures) (λ j f there. (f, there, refl))
 
-  still : StillKept c.self.inside.table c.touch.new.self c.self.inside.known.sets c.self.inside.known.sets
-  still = still-there c.self.inside.table c.touch.new.self c.self.inside.known.sets c.self.inside.known.sets (λ j f there. ap is_some (alike j f there).1) (λ j f there. refl)
+  still : StillKept c.self.inside.scene.table c.touch.new.self c.self.inside.known.sets c.self.inside.known.sets
+  still = still-there c.self.inside.scene.table c.touch.new.self c.self.inside.known.sets c.self.inside.known.sets (λ j f there. ap is_some (alike j f there).1) (λ j f there. refl)
 
   knows : Knows (known_in c.self.inside.known.sets) (old c).scene (first c).table
   knows =
       still-knows c.self.inside.known.sets c.self.inside.known.sets (old c).scene c.touch.new.self c.self.invariant.2 still
-      (subst (λ (s : Scene). IsTable s.table) (sym (is c)) (event-table (old c) (e c) (k c) c.oldest-oldest.ensures.sound refl (passed c)))
-      (alike-less c.self.inside.table c.touch.new.self alike)
+      (subst (λ (s : Scene). IsTable s.table) (sym (is c)) (event-table (old c) (e c) (k c) (subst HasTable (sym c.self.view_is) c.requires.table) refl (passed c)))
+      (alike-less c.self.inside.scene.table c.touch.new.self alike)
 
 pub end_at_one-requires-clause-room : goal.end_at_one-requires-clause-room
 end_at_one-requires-clause-room g =
@@ -92,7 +95,12 @@ end_at_one-requires-clause-room g =
 pub end_at_one-requires-clause-quiet : goal.end_at_one-requires-clause-quiet
 end_at_one-requires-clause-quiet g =
     let c = (goal.at.end_at_one-requires-clause-quiet g).After-touch in
-    first-quiet (old c) (e c) (k c) refl (passed c) c.self.invariant.0 c.oldest-oldest.ensures.sound (first c) (is c)
+    first-quiet (old c) (e c) (k c) refl (passed c) c.self.invariant.0 (subst HasTable (sym c.self.view_is) c.requires.table) (first c) (is c)
+
+pub end_at_one-requires-clause-tree : goal.end_at_one-requires-clause-tree
+end_at_one-requires-clause-tree g =
+    let c = (goal.at.end_at_one-requires-clause-tree g).After-touch in
+    subst IsTree (sym c.in_ok-alter.ensures.ok) (flush-tree (old c).scene (k c) c.args.change.now (passed c) (subst HasTree (sym c.self.view_is) c.requires.tree))
 
 -- ---- the end of the step
 
@@ -101,7 +109,7 @@ module _ (c : After-close) where
   before = (goal.at.invariant_of-self-2 c).After-touch
 
   abbrev last : Scene
-  last = record { fs = c.self.inside.fs; tree = c.end_at_one.new.tree; sessions = c.self.inside.sessions; table = c.end_at_one.new.table; locks = c.end_at_one.new.locks }
+  last = c.end_at_one.new.scene
 
   abbrev told : List Ended
   told = c.end_at_one.new.endings.told.items
@@ -112,12 +120,12 @@ module _ (c : After-close) where
   ends : EndsWith (λ other. other == c.args.ino.0) c.self.inside.known.sets c.end_at_one.new.known.sets (first before) last told
   ends = c.end_at_one.ensures.ends
 
-  all : earlier c.self.inside.locks.last told ≡ told
+  all : earlier c.self.inside.scene.locks.last told ≡ told
   all = let w = ends in told-all w.at (λ other. other == c.args.ino.0) (first before) w.settled told w.sized w.settles c.waiting-waiting.ensures.sound
 
   -- the state when the step had ended at the inode
   abbrev closed_as : State
-  closed_as = record { scene = last; messages = c.self.inside.messages.items ++ earlier c.self.inside.locks.last told }
+  closed_as = record { scene = last; messages = c.self.inside.messages.items ++ earlier c.self.inside.scene.locks.last told }
 
   answer : Says reply.Done ≡ (direct (old before) (e before)).answer
   answer = sym (ap (λ (d : Direct). d.answer) (by_itself before))
@@ -129,8 +137,8 @@ module _ (c : After-close) where
 
   whole : IsAnswered (old before) (e before) c.close.result new
   whole =
-      closed (old before) (e before) (k before) refl (passed before) c.self.invariant.0 c.oldest-oldest.ensures.sound (first before) (is before)
-      c.self.inside.known.sets c.end_at_one.new.known.sets c.waiting-waiting.ensures.sound (knows before) last told ends c.end_at_one.ensures.table c.close.result new
+      closed (old before) (e before) (k before) refl (passed before) c.self.invariant.0 (subst HasTable (sym c.self.view_is) c.requires.table) (first before) (is before)
+      c.self.inside.known.sets c.end_at_one.new.known.sets c.waiting-waiting.ensures.sound (knows before) last told ends c.close.result new
       (c.close.ensures.reply ∙ ap (reply_of closed_as told) answer)
       (c.close.ensures.kept ∙ sym c.close.ensures.reply) (c.close.ensures.ended ∙ c.end_at_one.ensures.kept ∙ sym all) new_is
 
@@ -142,7 +150,7 @@ invariant_of-self-2 c =
     let b = before c in (
       w.sound,
       omega (arith, items, c.close.ensures.room, c.end_at_one.ensures.count, c.self.invariant.1),
-      closed-known (old b) (e b) (k b) refl (passed b) c.self.invariant.0 c.oldest-oldest.ensures.sound (first b) (is b)
+      closed-known (old b) (e b) (k b) refl (passed b) c.self.invariant.0 (subst HasTable (sym c.self.view_is) c.requires.table) (first b) (is b)
           c.self.inside.known.sets c.end_at_one.new.known.sets c.waiting-waiting.ensures.sound (knows b) (last c) (told c) (ends c) c.self.inside.known.sets c.self.invariant.2 (still b),
     )
 
@@ -160,5 +168,6 @@ returns-clause-changes c =
     let all = c.end_at_one.new.endings.changes.items in
     subst (λ (s : State). AreChanges c.close.result.changes.items (view_of s) (view_of (new c))) c.self.view_is
     (subst (λ items. AreChanges items (view_of (old (before c))) (view_of (new c))) (sym c.close.ensures.changes)
-    (changes-all none all c.self.inside.tree c.end_at_one.new.tree c.self.inside.sessions.sessions c.in_ok-begin.ensures.changes.0
-    (leads-then none noted all c.self.inside.tree c.alter.new.tree c.end_at_one.new.tree (c.note_change.ensures.lead c.self.inside.tree c.in_ok-alter.ensures.ok) c.end_at_one.ensures.lead)))
+    (subst (λ (t : SessionTable). AreChanges all (view_of (old (before c))) (view (last c).tree t.sessions)) (sym (ends-sessions _ _ _ _ _ _ (ends c)))
+    (changes-all none all c.self.inside.scene.tree (last c).tree c.self.inside.scene.sessions.sessions c.in_ok-begin.ensures.changes.0
+    (leads-then none noted all c.self.inside.scene.tree c.alter.new.tree c.end_at_one.new.scene.tree (c.note_change.ensures.lead c.self.inside.scene.tree c.in_ok-alter.ensures.ok) c.end_at_one.ensures.lead))))

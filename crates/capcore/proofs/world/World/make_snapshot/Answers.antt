@@ -16,18 +16,18 @@ use Rattle.capsteps.specs.Capnotes.Noted.{view}
 use Rattle.capcore.proofs.world.World.make_snapshot.Goals as goal
 
 pub returns-in-Some-clause-direct : goal.returns-in-Some-clause-direct
-returns-in-Some-clause-direct c = rw c.into_reply.ensures.reply (making-stopped c.args.self.now c.args.client c.args.ino c.args.name.now c.in-Some.stopped (access-at _ c.args.self.now c.args.client c.args.ino.0 Snapshot c.access_stop.result c.self.view_is (c.access_stop.ensures c.self.inside.table c.self.inside.locks) ∙ c.in-Some.is))
+returns-in-Some-clause-direct c = rw c.into_reply.ensures.reply (making-stopped c.args.self.now c.args.client c.args.ino c.args.name.now c.in-Some.stopped (access-at _ c.args.self.now c.args.client c.args.ino.0 Snapshot c.access_stop.result c.self.view_is c.access_stop.ensures ∙ c.in-Some.is))
 
 pub returns-in-Some-new_snapshot_refusal-clause-direct : goal.returns-in-Some-new_snapshot_refusal-clause-direct
 returns-in-Some-new_snapshot_refusal-clause-direct c =
-    snapshot-refused c.args.self.now c.args.client c.args.ino c.args.name.now (access-at _ c.args.self.now c.args.client c.args.ino.0 Snapshot c.access_stop.result c.self.view_is (c.access_stop.ensures c.self.inside.table c.self.inside.locks) ∙ c.in_default.is) c.in-Some-new_snapshot_refusal.refusal
+    snapshot-refused c.args.self.now c.args.client c.args.ino c.args.name.now (access-at _ c.args.self.now c.args.client c.args.ino.0 Snapshot c.access_stop.result c.self.view_is c.access_stop.ensures ∙ c.in_default.is) c.in-Some-new_snapshot_refusal.refusal
     (ap (λ s. first_failing (new_snapshot_tests s.scene.tree c.args.ino.0 c.args.name.now)) (sym c.self.view_is) ∙ sym c.new_snapshot_refusal.ensures ∙ c.in-Some-new_snapshot_refusal.is)
 
 pub snap_add_tested-requires : goal.snap_add_tested-requires
 snap_add_tested-requires c = record {
-  passed = pass-both (inode_tests c.self.inside.tree c.args.ino.0) (new_snapshot_tests c.self.inside.tree c.args.ino.0 c.args.name.now)
-      (inode-passed (scene c.self.inside.fs c.self.inside.tree c.self.inside.sessions c.self.inside.table c.self.inside.locks) c.args.client c.args.ino.0 Snapshot
-      (sym (c.access_stop.ensures c.self.inside.table c.self.inside.locks) ∙ c.in_default.is))
+  passed = pass-both (inode_tests c.self.inside.scene.tree c.args.ino.0) (new_snapshot_tests c.self.inside.scene.tree c.args.ino.0 c.args.name.now)
+      (inode-passed c.self.inside.scene c.args.client c.args.ino.0 Snapshot
+      (sym c.access_stop.ensures ∙ c.in_default.is))
       (sym c.new_snapshot_refusal.ensures ∙ c.in_default-new_snapshot_refusal.is);
 }
 
@@ -42,6 +42,6 @@ invariant_of-self-2 c =
 
 pub returns-clause-seen : goal.returns-clause-seen
 returns-clause-seen c =
-    subst (λ (s : State). Shows (view_of s) (view c.snap_add_tested.new.self c.self.inside.sessions.sessions)) c.self.view_is
-    (shows-tree c.self.inside.tree c.snap_add_tested.new.self c.self.inside.sessions.sessions
-    (subst (IsLike c.self.inside.tree) (sym c.in_ok-snap_add_tested.ensures.ok) (like-unseen c.self.inside.tree (with_snapshot c.args.name.now) c.args.ino.0 (λ n. refl))))
+    subst (λ (s : State). Shows (view_of s) (view c.snap_add_tested.new.self c.self.inside.scene.sessions.sessions)) c.self.view_is
+    (shows-tree c.self.inside.scene.tree c.snap_add_tested.new.self c.self.inside.scene.sessions.sessions
+    (subst (IsLike c.self.inside.scene.tree) (sym c.in_ok-snap_add_tested.ensures.ok) (like-unseen c.self.inside.scene.tree (with_snapshot c.args.name.now) c.args.ino.0 (λ n. refl))))

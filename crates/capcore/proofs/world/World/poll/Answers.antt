@@ -2,7 +2,6 @@ use Rattle.std.proofs.Common.{◌≡◌, ◌≤◌, [], List, length, filter, So
 use Rattle.std.proofs.lemmas.List.Sums.{length-filter, count_by-le-length}
 use Rattle.capbits.specs.Refusal.{first_failing}
 use Rattle.sessiontab.specs.Tests.{session_tests}
-use Rattle.captable.specs.Table.{IsTable}
 use Rattle.captable.specs.Calls.{is_of_client}
 use Rattle.captable.specs.Many.{changed_where}
 use Rattle.capsteps.specs.Capevents.declared.event.Event.TheVariants as event
@@ -18,7 +17,7 @@ use Rattle.capsteps.specs.Capnotes.Untold.{AreEndsOf, is_left}
 use Rattle.capsteps.specs.Caprules.Sound.{IsSound}
 use Rattle.capsteps.proofs.Capacts.Again.{stopped-before}
 use Rattle.capcore.proofs.Polled.{poll-answered, polled-new}
-use Rattle.capcore.proofs.Stops.{stopped-answered}
+use Rattle.capcore.proofs.Stops.{HasTable, stopped-answered}
 use Rattle.capsteps.proofs.Telling.{given-held}
 use Rattle.capsteps.proofs.Knowing.{HoldAlike, known-alike, alike-where}
 use Rattle.capsteps.specs.Capview.Changes.{AreChanges}
@@ -32,10 +31,10 @@ use Rattle.capcore.proofs.world.World.poll.Goals.{After-drop-told}
 pub returns-in-Some-clause-answered : goal.returns-in-Some-clause-answered
 returns-in-Some-clause-answered c =
     let s = c.args.self.now in
-    let known : IsSound s × IsTable s.scene.table = subst (λ (w : State). IsSound w × IsTable w.scene.table) c.self.view_is (c.self.invariant.0, c.oldest-oldest.ensures.sound) in
+    let sound : IsSound s = subst IsSound c.self.view_is c.self.invariant.0 in
     let failed : first_failing (session_tests s.scene.sessions c.args.client.0) ≡ Some c.in-Some.refusal =
     ap (λ (w : State). first_failing (session_tests w.scene.sessions c.args.client.0)) (sym c.self.view_is) ∙ sym c.session_refusal.ensures ∙ c.in-Some.is in
-    stopped-answered s (event.Poll c.args.client c.args.max) (ByTest c.in-Some.refusal) c.alone.result known.0 known.1
+    stopped-answered s (event.Poll c.args.client c.args.max) (ByTest c.in-Some.refusal) c.alone.result sound c.requires
     (stopped-before s.scene (session_tests s.scene.sessions c.args.client.0) [] [] c.in-Some.refusal failed)
     c.alone.ensures.reply (c.alone.ensures.kept ∙ sym c.alone.ensures.reply) c.alone.ensures.ended
 
@@ -44,7 +43,7 @@ returns-in-Some-clause-answered c =
 module _ (c : After-drop-told) where
   -- the state before the event
   abbrev old : State
-  old = record { scene = record { fs = c.self.inside.fs; tree = c.self.inside.tree; sessions = c.self.inside.sessions; table = c.self.inside.table; locks = c.self.inside.locks }; messages = c.self.inside.messages.items }
+  old = record { scene = c.self.inside.scene; messages = c.self.inside.messages.items }
 
   -- and behind it
   abbrev new : State
@@ -68,12 +67,12 @@ module _ (c : After-drop-told) where
   told = c.skip_quiet.ensures ∙ c.give.ensures ∙ ap (λ (given : List Message). changed_where (is_of_client c.args.client) (after_messages given) old.scene.table) c.as_slice-3.ensures
 
   left : with_given old c.args.client (first_messages old c.args.client c.args.max) ≡ new
-  left = polled-new old c.self.invariant.0 c.oldest-oldest.ensures.sound c.args.client c.args.max c.in_ok-given.given c.skip_quiet.new.self c.remove_given.new.self.items first told kept_items
+  left = polled-new old c.self.invariant.0 (subst HasTable (sym c.self.view_is) c.requires) c.args.client c.args.max c.in_ok-given.given c.skip_quiet.new.self c.remove_given.new.self.items first told kept_items
 
   whole : IsAnswered old (event.Poll c.args.client c.args.max) said new
   whole =
       subst (IsAnswered old (event.Poll c.args.client c.args.max) said) left
-      (poll-answered old c.self.invariant.0 c.oldest-oldest.ensures.sound c.args.client c.args.max said (sym c.session_refusal.ensures ∙ c.in_default.is)
+      (poll-answered old c.self.invariant.0 (subst HasTable (sym c.self.view_is) c.requires) c.args.client c.args.max said (sym c.session_refusal.ensures ∙ c.in_default.is)
       (ap reply.Messages first) (ap reply.Messages same) c.new.ensures)
 
 pub invariant_of-self : goal.invariant_of-self

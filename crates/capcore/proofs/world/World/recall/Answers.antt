@@ -15,7 +15,7 @@ use Rattle.capcore.proofs.world.World.recall.Goals.{After-new-2}
 module _ (c : After-new-2) where
   -- the state before the event
   abbrev old : State
-  old = record { scene = record { fs = c.self.inside.fs; tree = c.self.inside.tree; sessions = c.self.inside.sessions; table = c.self.inside.table; locks = c.self.inside.locks }; messages = c.self.inside.messages.items }
+  old = record { scene = c.self.inside.scene; messages = c.self.inside.messages.items }
 
   -- and behind it
   abbrev new : State

@@ -2,10 +2,11 @@ use Rattle.std.proofs.Common.{Some, ◌≡◌, ◌==◌, ◌+◌, ◌++◌, List
 use Rattle.std.proofs.lemmas.List.{length-append}
 use Rattle.capbits.specs.Refusal.{first_failing}
 use Rattle.capbits.specs.Sets.{IsSubset}
+use Rattle.sessiontab.specs.Table.{SessionTable}
 use Rattle.captable.specs.declared.entry.Entry.{Entry}
 use Rattle.captable.specs.declared.entry.Holder.{Holder}
 use Rattle.captable.specs.Table.{Table, IsTable, holder, entry_at}
-use Rattle.capsteps.specs.Lockmachine.Scene.{Scene}
+use Rattle.capsteps.specs.Lockmachine.declared.scene.Scene.{Scene}
 use Rattle.capsteps.specs.Capevents.declared.event.Event.{Event}
 use Rattle.capsteps.specs.Capevents.declared.outcome.Ended.{Ended}
 use Rattle.capsteps.specs.Caprules.State.{State}
@@ -19,15 +20,16 @@ use Rattle.capsteps.specs.Serves.{EndsWith}
 use Rattle.capsteps.specs.Caprules.Sound.{IsSound, NumbersLeft}
 use Rattle.capsteps.specs.Caprules.Step.{earlier}
 use Rattle.capsteps.specs.Touch.{touch_event, touch_tests, touch_answer}
-use Rattle.capcore.proofs.Closing.{first-quiet, first-numbers, first-clients, told-all, closed-known, closed}
+use Rattle.capcore.proofs.Closing.{ends-sessions, first-quiet, first-numbers, first-clients, told-all, closed-known, closed}
 use Rattle.capsteps.proofs.Knowing.{held_at, HoldAlike, known-alike, still-room, still-knows, still-all}
 use Rattle.capcore.proofs.OfInode.{event-table}
-use Rattle.capcore.proofs.Stops.{judged-at, stopped-answered}
+use Rattle.capcore.proofs.Stops.{judged-at, HasTree, HasTable, stopped-answered}
 use Rattle.capsteps.proofs.TouchKept.{touch-less, others-have_all}
 use Rattle.capcore.proofs.TouchWhole.{first-is, touch-answered, touched-by, touch-reply, no_list-touch, tell-alike}
 use Rattle.capsteps.proofs.Touched.{touched-tests}
 use Rattle.capsteps.specs.Capview.Changes.{AreChanges}
 use Rattle.capsteps.specs.Caprules.Noted.{view_of}
+use Rattle.capsteps.specs.Capnotes.Noted.{view}
 use Rattle.capsteps.proofs.Capnotes.Noting.{changes-all, changes-still}
 use Rattle.capcore.proofs.world.World.touch.Goals as goal
 use Rattle.capcore.proofs.world.World.touch.Goals.{In_ok-touch_entry, After-close}
@@ -37,31 +39,31 @@ use Rattle.capcore.proofs.world.World.touch.Goals.{In_ok-touch_entry, After-clos
 pub returns-in-Some-clause-answered : goal.returns-in-Some-clause-answered
 returns-in-Some-clause-answered c =
     let s = c.args.self.now in
-    let known : IsSound s × IsTable s.scene.table = subst (λ (w : State). IsSound w × IsTable w.scene.table) c.self.view_is (c.self.invariant.0, c.oldest-oldest.ensures.sound) in
-    stopped-answered s (touch_event c.args.client c.args.ino c.args.touch) c.in-Some.stopped c.alone.result known.0 known.1
-    (judged-at _ s (touch_event c.args.client c.args.ino c.args.touch) c.touch_stop.result c.self.view_is (c.touch_stop.ensures c.self.inside.locks c.self.invariant.2) ∙ c.in-Some.is)
+    let sound : IsSound s = subst IsSound c.self.view_is c.self.invariant.0 in
+    stopped-answered s (touch_event c.args.client c.args.ino c.args.touch) c.in-Some.stopped c.alone.result sound c.requires.table
+    (judged-at _ s (touch_event c.args.client c.args.ino c.args.touch) c.touch_stop.result c.self.view_is (c.touch_stop.ensures c.self.invariant.2) ∙ c.in-Some.is)
     (c.alone.ensures.reply ∙ c.into_reply.ensures.reply) (c.alone.ensures.kept ∙ sym c.alone.ensures.reply) c.alone.ensures.ended
 
 pub touch_entry-requires-clause-passed : goal.touch_entry-requires-clause-passed
 touch_entry-requires-clause-passed c =
-    let old : State = record { scene = record { fs = c.self.inside.fs; tree = c.self.inside.tree; sessions = c.self.inside.sessions; table = c.self.inside.table; locks = c.self.inside.locks }; messages = c.self.inside.messages.items } in
+    let old : State = record { scene = c.self.inside.scene; messages = c.self.inside.messages.items } in
     let k : Holder = holder c.args.client c.args.ino in
     ap first_failing (c.revoked_by-revoked.ensures.tests old.scene refl c.self.invariant.2) ∙
-    (touched-tests old.scene c.args.client c.args.ino c.args.touch (sym (c.touch_stop.ensures c.self.inside.locks c.self.invariant.2) ∙ c.in_default.is))
+    (touched-tests old.scene c.args.client c.args.ino c.args.touch (sym (c.touch_stop.ensures c.self.invariant.2) ∙ c.in_default.is))
 
 -- for want of memory the entries are as they were, and all is still known
 pub invariant_of-self-in_err-touch_entry : goal.invariant_of-self-in_err-touch_entry
 invariant_of-self-in_err-touch_entry c =
-    let s : Scene = record { fs = c.self.inside.fs; tree = c.self.inside.tree; sessions = c.self.inside.sessions; table = c.self.inside.table; locks = c.self.inside.locks } in
-    let still : StillKept c.self.inside.table c.self.inside.table c.self.inside.known.sets c.touch_entry.new.known.sets =
-    subst (λ (t : Table). StillKept c.self.inside.table t c.self.inside.known.sets c.touch_entry.new.known.sets) c.in_err-touch_entry.ensures.err c.touch_entry.ensures.known in
+    let s : Scene = c.self.inside.scene in
+    let still : StillKept c.self.inside.scene.table c.self.inside.scene.table c.self.inside.known.sets c.touch_entry.new.known.sets =
+    subst (λ (t : Table). StillKept c.self.inside.scene.table t c.self.inside.known.sets c.touch_entry.new.known.sets) c.in_err-touch_entry.ensures.err c.touch_entry.ensures.known in
     rw c.in_err-touch_entry.ensures.err (c.self.invariant.0, c.self.invariant.1, still-all c.self.inside.known.sets c.touch_entry.new.known.sets s c.self.invariant.2 still)
 
 -- ---- the event by itself
 
 module _ (c : In_ok-touch_entry) where
   abbrev old : State
-  old = record { scene = record { fs = c.self.inside.fs; tree = c.self.inside.tree; sessions = c.self.inside.sessions; table = c.self.inside.table; locks = c.self.inside.locks }; messages = c.self.inside.messages.items }
+  old = record { scene = c.self.inside.scene; messages = c.self.inside.messages.items }
 
   abbrev e : Event
   e = touch_event c.args.client c.args.ino c.args.touch
@@ -73,11 +75,11 @@ module _ (c : In_ok-touch_entry) where
   first = record old.scene { table = c.touch_entry.new.table }
 
   passed : judged old.scene e ≡ None
-  passed = sym (c.touch_stop.ensures c.self.inside.locks c.self.invariant.2) ∙ c.in_default.is
+  passed = sym (c.touch_stop.ensures c.self.invariant.2) ∙ c.in_default.is
 
   is : first ≡ (direct old e).state.scene
   is =
-      first-is old c.args.client c.args.ino c.args.touch passed c.self.invariant.0 c.oldest-oldest.ensures.sound c.touch_entry.new.table
+      first-is old c.args.client c.args.ino c.args.touch passed c.self.invariant.0 (subst HasTable (sym c.self.view_is) c.requires.table) c.touch_entry.new.table
       (c.in_ok-touch_entry.ensures.ok ∙ c.revoked_by-revoked.ensures.takes old.scene refl c.self.invariant.2)
 
 -- what is known then
@@ -85,13 +87,13 @@ module _ (c : In_ok-touch_entry) where
   first-table : IsTable c.touch_entry.new.table
   first-table =
       subst (λ (s : Scene). IsTable s.table) (sym (is c))
-      (event-table (old c) (e c) (k c) c.oldest-oldest.ensures.sound (touched-by c.args.client c.args.ino c.args.touch) (passed c))
+      (event-table (old c) (e c) (k c) (subst HasTable (sym c.self.view_is) c.requires.table) (touched-by c.args.client c.args.ino c.args.touch) (passed c))
 
   knows : Knows (known_in c.touch_entry.new.known.sets) (old c).scene (first c).table
   knows =
       still-knows c.self.inside.known.sets c.touch_entry.new.known.sets (old c).scene c.touch_entry.new.table c.self.invariant.2 c.touch_entry.ensures.known first-table
-      (subst (λ (t : Table). (j : Holder) (f : Entry) → entry_at t j ≡ Some f → IsSubset f.held (held_at c.self.inside.table j)) (sym c.in_ok-touch_entry.ensures.ok)
-      (touch-less c.self.inside.table (k c) c.revoked_by-revoked.result c.args.touch))
+      (subst (λ (t : Table). (j : Holder) (f : Entry) → entry_at t j ≡ Some f → IsSubset f.held (held_at c.self.inside.scene.table j)) (sym c.in_ok-touch_entry.ensures.ok)
+      (touch-less c.self.inside.scene.table (k c) c.revoked_by-revoked.result c.args.touch))
 
 pub end_at_entry-requires-clause-room : goal.end_at_entry-requires-clause-room
 end_at_entry-requires-clause-room g =
@@ -101,18 +103,21 @@ end_at_entry-requires-clause-room g =
 pub end_at_entry-requires-clause-quiet : goal.end_at_entry-requires-clause-quiet
 end_at_entry-requires-clause-quiet g =
     let c = (goal.at.end_at_entry-requires-clause-quiet g).In_ok-touch_entry in
-    first-quiet (old c) (e c) (k c) (touched-by c.args.client c.args.ino c.args.touch) (passed c) c.self.invariant.0 c.oldest-oldest.ensures.sound (first c) (is c)
+    first-quiet (old c) (e c) (k c) (touched-by c.args.client c.args.ino c.args.touch) (passed c) c.self.invariant.0 (subst HasTable (sym c.self.view_is) c.requires.table) (first c) (is c)
+
+pub end_at_entry-requires-clause-tree : goal.end_at_entry-requires-clause-tree
+end_at_entry-requires-clause-tree c = subst HasTree (sym c.self.view_is) c.requires.tree
 
 pub end_at_entry-requires-clause-numbers : goal.end_at_entry-requires-clause-numbers
 end_at_entry-requires-clause-numbers g =
     let c = (goal.at.end_at_entry-requires-clause-numbers g).In_ok-touch_entry in
-    first-numbers (old c) (e c) (k c) (touched-by c.args.client c.args.ino c.args.touch) (passed c) c.self.invariant.0 c.oldest-oldest.ensures.sound (first c) (is c)
+    first-numbers (old c) (e c) (k c) (touched-by c.args.client c.args.ino c.args.touch) (passed c) c.self.invariant.0 (subst HasTable (sym c.self.view_is) c.requires.table) (first c) (is c)
     (subst NumbersLeft (sym c.self.view_is) c.requires.numbers)
 
 pub end_at_entry-requires-clause-clients : goal.end_at_entry-requires-clause-clients
 end_at_entry-requires-clause-clients g =
     let c = (goal.at.end_at_entry-requires-clause-clients g).In_ok-touch_entry in
-    first-clients (old c) (e c) (k c) (touched-by c.args.client c.args.ino c.args.touch) (passed c) c.self.invariant.0 c.oldest-oldest.ensures.sound (first c) (is c)
+    first-clients (old c) (e c) (k c) (touched-by c.args.client c.args.ino c.args.touch) (passed c) c.self.invariant.0 (subst HasTable (sym c.self.view_is) c.requires.table) (first c) (is c)
 
 pub end_at_entry-requires-clause-others : goal.end_at_entry-requires-clause-others
 end_at_entry-requires-clause-others g =
@@ -126,11 +131,11 @@ pub close-requires-clause-list : goal.close-requires-clause-list
 close-requires-clause-list c =
     let b = (goal.at.close-requires-clause-list c).In_ok-touch_entry in
     let st : State = record {
-      scene = record { fs = c.self.inside.fs; tree = c.end_at_entry.new.tree; sessions = c.self.inside.sessions; table = c.end_at_entry.new.table; locks = c.end_at_entry.new.locks };
+      scene = c.end_at_entry.new.scene;
       messages = [];
     } in
     let known : AreKnown c.end_at_entry.new.known.sets st.scene =
-    closed-known (old b) (e b) (k b) (touched-by c.args.client c.args.ino c.args.touch) (passed b) c.self.invariant.0 c.oldest-oldest.ensures.sound (first b) (is b)
+    closed-known (old b) (e b) (k b) (touched-by c.args.client c.args.ino c.args.touch) (passed b) c.self.invariant.0 (subst HasTable (sym c.self.view_is) c.requires.table) (first b) (is b)
     c.touch_entry.new.known.sets c.end_at_entry.new.known.sets c.waiting-waiting.ensures.sound (knows b) st.scene c.end_at_entry.new.endings.told.items c.end_at_entry.ensures.ends
     c.self.inside.known.sets c.self.invariant.2 c.touch_entry.ensures.known in
     ap has_list (c.tell-reply.ensures.reply st refl known) ∙ no_list-touch st (holder c.args.client c.args.ino) c.args.touch
@@ -140,7 +145,7 @@ module _ (c : After-close) where
   before = (goal.at.invariant_of-self-2 c).In_ok-touch_entry
 
   abbrev last : Scene
-  last = record { fs = c.self.inside.fs; tree = c.end_at_entry.new.tree; sessions = c.self.inside.sessions; table = c.end_at_entry.new.table; locks = c.end_at_entry.new.locks }
+  last = c.end_at_entry.new.scene
 
   abbrev told : List Ended
   told = c.end_at_entry.new.endings.told.items
@@ -153,20 +158,20 @@ module _ (c : After-close) where
 
   known-last : AreKnown c.end_at_entry.new.known.sets last
   known-last =
-      closed-known (old before) (e before) (k before) (touched-by c.args.client c.args.ino c.args.touch) (passed before) c.self.invariant.0 c.oldest-oldest.ensures.sound (first before) (is before)
+      closed-known (old before) (e before) (k before) (touched-by c.args.client c.args.ino c.args.touch) (passed before) c.self.invariant.0 (subst HasTable (sym c.self.view_is) c.requires.table) (first before) (is before)
       c.touch_entry.new.known.sets c.end_at_entry.new.known.sets c.waiting-waiting.ensures.sound (knows before) last told ends c.self.inside.known.sets c.self.invariant.2 c.touch_entry.ensures.known
 
-  all : earlier c.self.inside.locks.last told ≡ told
+  all : earlier c.self.inside.scene.locks.last told ≡ told
   all = let w = ends in told-all w.at (λ other. other == c.args.ino.0) (first before) w.settled told w.sized w.settles c.waiting-waiting.ensures.sound
 
   -- the state when the step had ended at the inode
   abbrev closed_as : State
-  closed_as = record { scene = last; messages = c.self.inside.messages.items ++ earlier c.self.inside.locks.last told }
+  closed_as = record { scene = last; messages = c.self.inside.messages.items ++ earlier c.self.inside.scene.locks.last told }
 
   answer : touch_answer (holder c.args.client c.args.ino) c.args.touch ≡ (direct (old before) (e before)).answer
   answer =
       sym
-      (touch-answered (old before) c.args.client c.args.ino c.args.touch (passed before) c.self.invariant.0 c.oldest-oldest.ensures.sound c.touch_entry.new.table
+      (touch-answered (old before) c.args.client c.args.ino c.args.touch (passed before) c.self.invariant.0 (subst HasTable (sym c.self.view_is) c.requires.table) c.touch_entry.new.table
       (c.in_ok-touch_entry.ensures.ok ∙ c.revoked_by-revoked.ensures.takes (old before).scene refl c.self.invariant.2))
 
   new_is : new ≡ shown (direct (old before) (e before)).answer closed_as
@@ -177,8 +182,8 @@ module _ (c : After-close) where
 
   whole : IsAnswered (old before) (e before) c.close.result new
   whole =
-      closed (old before) (e before) (k before) (touched-by c.args.client c.args.ino c.args.touch) (passed before) c.self.invariant.0 c.oldest-oldest.ensures.sound (first before) (is before)
-      c.touch_entry.new.known.sets c.end_at_entry.new.known.sets c.waiting-waiting.ensures.sound (knows before) last told ends c.end_at_entry.ensures.table c.close.result new
+      closed (old before) (e before) (k before) (touched-by c.args.client c.args.ino c.args.touch) (passed before) c.self.invariant.0 (subst HasTable (sym c.self.view_is) c.requires.table) (first before) (is before)
+      c.touch_entry.new.known.sets c.end_at_entry.new.known.sets c.waiting-waiting.ensures.sound (knows before) last told ends c.close.result new
       (c.close.ensures.reply ∙ c.tell-reply.ensures.reply closed_as refl known-last ∙ touch-reply closed_as told (k before) c.args.touch ∙ ap (reply_of closed_as told) answer)
       (c.close.ensures.kept ∙ sym c.close.ensures.reply) (c.close.ensures.ended ∙ c.end_at_entry.ensures.kept ∙ sym all) new_is
 
@@ -190,7 +195,7 @@ invariant_of-self-2 c =
       w.sound,
       omega (arith, items, c.close.ensures.room, c.end_at_entry.ensures.count, c.self.invariant.1),
       known-alike c.end_at_entry.new.known.sets (last c) c.tell-reply.new.table
-          (subst (HoldAlike c.end_at_entry.new.table) (sym (ap (λ (s : State). s.scene.table) (c.tell-reply.ensures.told (closed_as c) refl))) (tell-alike (closed_as c) (holder c.args.client c.args.ino) c.args.touch)) (known-last c),
+          (subst (HoldAlike c.end_at_entry.new.scene.table) (sym (ap (λ (s : State). s.scene.table) (c.tell-reply.ensures.told (closed_as c) refl))) (tell-alike (closed_as c) (holder c.args.client c.args.ino) c.args.touch)) (known-last c),
     )
 
 pub returns-clause-answered : goal.returns-clause-answered
@@ -204,4 +209,5 @@ pub returns-clause-changes : goal.returns-clause-changes
 returns-clause-changes c =
     subst (λ (s : State). AreChanges c.close.result.changes.items (view_of s) (view_of (new c))) c.self.view_is
     (subst (λ items. AreChanges items (view_of (old (before c))) (view_of (new c))) (sym c.close.ensures.changes)
-    (changes-all c.begin.new.self.changes.items c.end_at_entry.new.endings.changes.items c.self.inside.tree c.end_at_entry.new.tree c.self.inside.sessions.sessions c.in_ok-begin.ensures.changes.0 c.end_at_entry.ensures.lead))
+    (subst (λ (t : SessionTable). AreChanges c.end_at_entry.new.endings.changes.items (view_of (old (before c))) (view (last c).tree t.sessions)) (sym (ends-sessions _ _ _ _ _ _ (ends c)))
+    (changes-all c.begin.new.self.changes.items c.end_at_entry.new.endings.changes.items c.self.inside.scene.tree (last c).tree c.self.inside.scene.sessions.sessions c.in_ok-begin.ensures.changes.0 c.end_at_entry.ensures.lead)))

@@ -1,11 +1,13 @@
 use Rattle.std.proofs.Common.{is_some, ◌≡◌, ◌≤◌, ◌<◌, ◌^◌, ◌-◌, ◌++◌, List, length, None, sym, ap, subst, ◌∙◌, arith, length-append}
 use Rattle.std.specs.Prelude.{All, IsTrue}
 use Rattle.std.specs.Option.{option_map}
+use Rattle.inotree.specs.Tree.{IsTree}
 use Rattle.sessiontab.specs.Calls.{has_session}
 use Rattle.sessiontab.specs.Table.{SessionTable}
-use Rattle.captable.specs.Table.{Table, IsTable}
+use Rattle.captable.specs.Table.{Table}
+use Rattle.capsteps.specs.Lockmachine.Locks.{IsLockMap}
 use Rattle.capsteps.specs.Lockmachine.Moves.{IsQuietOutside}
-use Rattle.capsteps.specs.Lockmachine.Scene.{Scene}
+use Rattle.capsteps.specs.Lockmachine.declared.scene.Scene.{Scene}
 use Rattle.capsteps.specs.Capevents.declared.event.Event.{Event}
 use Rattle.capsteps.specs.Capevents.declared.outcome.Ended.{Ended}
 use Rattle.capsteps.specs.Caprules.declared.stopped.Stopped.TheVariants.{ByTest}
@@ -18,12 +20,13 @@ use Rattle.capsteps.specs.Serves.{EndsWith}
 use Rattle.capsteps.specs.Caprules.Sound.{IsSound, NumbersLeft}
 use Rattle.capsteps.specs.Capacts.Left.{is_end, dropped_by}
 use Rattle.capsteps.specs.Turn.{turn_event, turned}
-use Rattle.capcore.proofs.Stops.{stopped-answered}
-use Rattle.capcore.proofs.TurnStep.{turn-stop, few-waiting, few-messages, turn-quiet, turn-clients, turn-numbers, turn-alike, turn-known, turn-closed}
+use Rattle.capcore.proofs.Closing.{ends-sessions}
+use Rattle.capcore.proofs.Stops.{HasTree, HasTable, HasLocks, stopped-answered}
+use Rattle.capcore.proofs.TurnStep.{turn-stop, few-waiting, few-messages, turn-quiet, turn-clients, turn-numbers, turn-order, turn-alike, turn-known, turn-closed}
 use Rattle.capsteps.proofs.Knowing.{HoldAlike, still-there, still-room}
 use Rattle.capsteps.specs.Capview.Changes.{AreChanges}
 use Rattle.capsteps.specs.Caprules.Noted.{view_of}
-use Rattle.capsteps.specs.Capnotes.Noted.{view}
+use Rattle.capsteps.specs.Capnotes.Noted.{LeadOn, view}
 use Rattle.capsteps.proofs.Capnotes.Noting.{changes-still}
 use Rattle.capcore.proofs.world.World.turn.Goals as goal
 use Rattle.capcore.proofs.world.World.turn.Goals.{After-leave, After-close_dropped}
@@ -33,9 +36,9 @@ use Rattle.capcore.proofs.world.World.turn.Goals.{After-leave, After-close_dropp
 pub returns-in-Some-clause-answered : goal.returns-in-Some-clause-answered
 returns-in-Some-clause-answered c =
     let s = c.args.self.now in
-    let known : IsSound s × IsTable s.scene.table = subst (λ (w : State). IsSound w × IsTable w.scene.table) c.self.view_is (c.self.invariant.0, c.oldest-oldest.ensures.sound) in
-    let inside : State = record { scene = record { fs = c.self.inside.fs; tree = c.self.inside.tree; sessions = c.self.inside.sessions; table = c.self.inside.table; locks = c.self.inside.locks }; messages = c.self.inside.messages.items } in
-    stopped-answered s (turn_event c.args.client c.args.turn) (ByTest c.in-Some.refusal) c.alone.result known.0 known.1
+    let sound : IsSound s = subst IsSound c.self.view_is c.self.invariant.0 in
+    let inside : State = record { scene = c.self.inside.scene; messages = c.self.inside.messages.items } in
+    stopped-answered s (turn_event c.args.client c.args.turn) (ByTest c.in-Some.refusal) c.alone.result sound c.requires.table
     (ap (λ (w : State). judged w.scene (turn_event c.args.client c.args.turn)) (sym c.self.view_is) ∙ turn-stop inside.scene c.args.client c.args.turn ∙ ap (option_map ByTest) (sym c.turn_refusal.ensures ∙ c.in-Some.is))
     c.alone.ensures.reply (c.alone.ensures.kept ∙ sym c.alone.ensures.reply) c.alone.ensures.ended
 
@@ -43,45 +46,55 @@ returns-in-Some-clause-answered c =
 
 module _ (c : After-leave) where
   abbrev old : State
-  old = record { scene = record { fs = c.self.inside.fs; tree = c.self.inside.tree; sessions = c.self.inside.sessions; table = c.self.inside.table; locks = c.self.inside.locks }; messages = c.self.inside.messages.items }
+  old = record { scene = c.self.inside.scene; messages = c.self.inside.messages.items }
 
   abbrev e : Event
   e = turn_event c.args.client c.args.turn
 
   abbrev first : Scene
-  first = record old.scene { sessions = c.turn_session.new.sessions; table = c.leave.new.table; locks = c.leave.new.locks }
+  first = c.leave.new.scene
 
   passed : judged old.scene e ≡ None
   passed = turn-stop old.scene c.args.client c.args.turn ∙ ap (option_map ByTest) (sym c.turn_refusal.ensures ∙ c.in_default.is)
 
   is : first ≡ (turned old c.args.client c.args.turn).scene
-  is = λ i. record old.scene { sessions = c.in_default-turn_session.ensures.ok i; table = c.leave.ensures.table i; locks = c.leave.ensures.locks i }
+  is = c.leave.ensures.rest ∙ (λ i. record old.scene { sessions = c.in_default-turn_session.ensures.ok i; table = c.leave.ensures.table i; locks = c.leave.ensures.locks i })
 
-  fewer : length c.leave.new.locks.queue ≤ length c.self.inside.locks.queue
-  fewer = rw c.leave.ensures.locks (few-waiting (is_end c.args.turn) c.self.inside.locks c.args.client)
+  fewer : length c.leave.new.scene.locks.queue ≤ length c.self.inside.scene.locks.queue
+  fewer = rw c.leave.ensures.locks (few-waiting (is_end c.args.turn) c.self.inside.scene.locks c.args.client)
 
   numbers : NumbersLeft old
   numbers = subst NumbersLeft (sym c.self.view_is) c.requires.numbers
 
 -- of each entry that is left the same is kept
 module _ (c : After-leave) where
-  still : StillKept c.self.inside.table c.leave.new.table c.self.inside.known.sets c.leave.new.known.sets
+  still : StillKept c.self.inside.scene.table c.leave.new.scene.table c.self.inside.known.sets c.leave.new.known.sets
   still =
-      still-there c.self.inside.table c.leave.new.table c.self.inside.known.sets c.leave.new.known.sets
-      (λ k f there. ap is_some (subst (HoldAlike c.self.inside.table) (sym c.leave.ensures.table)
-      (turn-alike (old c) c.args.client c.args.turn (passed c) c.self.invariant.0 c.oldest-oldest.ensures.sound 1 c.in_ok-room.room.others c.in_ok-room.ensures.reaches) k f there).1)
+      still-there c.self.inside.scene.table c.leave.new.scene.table c.self.inside.known.sets c.leave.new.known.sets
+      (λ k f there. ap is_some (subst (HoldAlike c.self.inside.scene.table) (sym c.leave.ensures.table)
+      (turn-alike (old c) c.args.client c.args.turn (passed c) c.self.invariant.0 (subst HasTable (sym c.self.view_is) c.requires.table) 1 c.in_ok-room.room.others c.in_ok-room.ensures.reaches) k f there).1)
       (λ k f there. c.leave.ensures.known k f there)
 
 pub end_at-requires-clause-room : goal.end_at-requires-clause-room
 end_at-requires-clause-room g =
     let c = (goal.at.end_at-requires-clause-room g).After-leave in
-    still-room c.self.inside.known.sets c.leave.new.known.sets (old c).scene c.leave.new.table c.self.invariant.2 (still c)
+    still-room c.self.inside.known.sets c.leave.new.known.sets (old c).scene c.leave.new.scene.table c.self.invariant.2 (still c)
 
 pub end_at-requires-clause-quiet : goal.end_at-requires-clause-quiet
 end_at-requires-clause-quiet g =
     let c = (goal.at.end_at-requires-clause-quiet g).After-leave in
     subst (IsQuietOutside (is_touched 1 c.in_ok-room.room.others)) (sym (is c))
-    (turn-quiet (old c) c.args.client c.args.turn (passed c) c.self.invariant.0 c.oldest-oldest.ensures.sound 1 c.in_ok-room.room.others c.in_ok-room.ensures.reaches)
+    (turn-quiet (old c) c.args.client c.args.turn (passed c) c.self.invariant.0 (subst HasTable (sym c.self.view_is) c.requires.table) 1 c.in_ok-room.room.others c.in_ok-room.ensures.reaches)
+
+pub end_at-requires-clause-tree : goal.end_at-requires-clause-tree
+end_at-requires-clause-tree g = subst (λ (s : Scene). IsTree s.tree) (sym g.leave.ensures.rest) (subst HasTree (sym g.self.view_is) g.requires.tree)
+
+pub end_at-requires-clause-order : goal.end_at-requires-clause-order
+end_at-requires-clause-order g =
+    let c = (goal.at.end_at-requires-clause-order g).After-leave in
+    subst (λ (s : Scene). IsLockMap s.locks) (sym (is c))
+    (turn-order (old c) c.args.client c.args.turn (passed c) c.self.invariant.0 (subst HasTable (sym c.self.view_is) c.requires.table) 1 c.in_ok-room.room.others c.in_ok-room.ensures.reaches
+    (subst HasLocks (sym c.self.view_is) c.requires.locks))
 
 pub end_at-requires-clause-told : goal.end_at-requires-clause-told
 end_at-requires-clause-told g =
@@ -108,13 +121,13 @@ pub end_at-requires-clause-numbers : goal.end_at-requires-clause-numbers
 end_at-requires-clause-numbers g =
     let c = (goal.at.end_at-requires-clause-numbers g).After-leave in
     subst (λ (s : Scene). All (λ row. row.entry.seq < 2 ^ 64 - 1) s.table.rows) (sym (is c))
-    (turn-numbers (old c) c.args.client c.args.turn (passed c) c.self.invariant.0 c.oldest-oldest.ensures.sound 1 c.in_ok-room.room.others c.in_ok-room.ensures.reaches (numbers c))
+    (turn-numbers (old c) c.args.client c.args.turn (passed c) c.self.invariant.0 (subst HasTable (sym c.self.view_is) c.requires.table) 1 c.in_ok-room.room.others c.in_ok-room.ensures.reaches (numbers c))
 
 pub end_at-requires-clause-clients : goal.end_at-requires-clause-clients
 end_at-requires-clause-clients g =
     let c = (goal.at.end_at-requires-clause-clients g).After-leave in
     subst (λ (s : Scene). All (λ row. IsTrue (has_session s.sessions row.holder.client.0)) s.table.rows) (sym (is c))
-    (turn-clients (old c) c.args.client c.args.turn (passed c) c.self.invariant.0 c.oldest-oldest.ensures.sound 1 c.in_ok-room.room.others c.in_ok-room.ensures.reaches)
+    (turn-clients (old c) c.args.client c.args.turn (passed c) c.self.invariant.0 (subst HasTable (sym c.self.view_is) c.requires.table) 1 c.in_ok-room.room.others c.in_ok-room.ensures.reaches)
 
 -- ---- the end of the step
 
@@ -126,7 +139,7 @@ module _ (g : After-close_dropped) where
   told = g.end_at.new.endings.told.items
 
   abbrev last : Scene
-  last = record { fs = g.self.inside.fs; tree = g.end_at.new.tree; sessions = g.turn_session.new.sessions; table = g.end_at.new.table; locks = g.end_at.new.locks }
+  last = g.end_at.new.scene
 
   abbrev new : State
   new = record { scene = last; messages = g.close_dropped.new.messages.items }
@@ -134,13 +147,13 @@ module _ (g : After-close_dropped) where
   ends : EndsWith (is_touched 1 g.in_ok-room.room.others) g.leave.new.known.sets g.end_at.new.known.sets (turned (old c) g.args.client g.args.turn).scene last told
   ends = subst (λ (s : Scene). EndsWith (is_touched 1 g.in_ok-room.room.others) g.leave.new.known.sets g.end_at.new.known.sets s last told) (is c) g.end_at.ensures.ends
 
-  still-turned : StillKept g.self.inside.table (turned (old c) g.args.client g.args.turn).scene.table g.self.inside.known.sets g.leave.new.known.sets
-  still-turned = subst (λ (t : Table). StillKept g.self.inside.table t g.self.inside.known.sets g.leave.new.known.sets) g.leave.ensures.table (still c)
+  still-turned : StillKept g.self.inside.scene.table (turned (old c) g.args.client g.args.turn).scene.table g.self.inside.known.sets g.leave.new.known.sets
+  still-turned = subst (λ (t : Table). StillKept g.self.inside.scene.table t g.self.inside.known.sets g.leave.new.known.sets) g.leave.ensures.table (still c)
 
   known-last : AreKnown g.end_at.new.known.sets last
   known-last =
-      turn-known (old c) g.args.client g.args.turn (passed c) g.self.invariant.0 g.oldest-oldest.ensures.sound 1 g.in_ok-room.room.others g.in_ok-room.ensures.reaches
-      g.self.inside.known.sets g.leave.new.known.sets g.end_at.new.known.sets g.waiting-waiting.ensures.sound g.self.invariant.2 still-turned last told ends
+      turn-known (old c) g.args.client g.args.turn (passed c) g.self.invariant.0 (subst HasTable (sym g.self.view_is) g.requires.table) 1 g.in_ok-room.room.others g.in_ok-room.ensures.reaches
+      g.self.inside.known.sets g.leave.new.known.sets g.end_at.new.known.sets (subst HasLocks (sym g.self.view_is) g.requires.locks) g.self.invariant.2 still-turned last told ends
 
   items : g.close_dropped.new.messages.items ≡ (turned (old c) g.args.client g.args.turn).messages ++ told
   items = g.close_dropped.ensures.items ∙ ap (λ ms. ms ++ told) g.leave.ensures.messages
@@ -148,9 +161,9 @@ module _ (g : After-close_dropped) where
   whole : IsAnswered (old c) (e c) g.close_dropped.result new
   whole =
       subst (λ (ms : List Ended). IsAnswered (old c) (e c) g.close_dropped.result (record { scene = last; messages = ms })) (sym items)
-      (turn-closed (old c) g.args.client g.args.turn (passed c) g.self.invariant.0 g.oldest-oldest.ensures.sound 1 g.in_ok-room.room.others g.in_ok-room.ensures.reaches
-      g.self.inside.known.sets g.leave.new.known.sets g.end_at.new.known.sets g.waiting-waiting.ensures.sound g.self.invariant.2 still-turned last told ends g.end_at.ensures.table g.close_dropped.result g.close_dropped.ensures.reply g.close_dropped.ensures.kept
-      (g.close_dropped.ensures.ended ∙ (λ i. (g.leave.ensures.dropped ∙ ap (λ ms. ms ++ dropped_by (is_end g.args.turn) g.self.inside.locks g.args.client) g.in_ok-room.ensures.dropped.0) i ++ g.end_at.ensures.kept i)))
+      (turn-closed (old c) g.args.client g.args.turn (passed c) g.self.invariant.0 (subst HasTable (sym g.self.view_is) g.requires.table) 1 g.in_ok-room.room.others g.in_ok-room.ensures.reaches
+      g.self.inside.known.sets g.leave.new.known.sets g.end_at.new.known.sets (subst HasLocks (sym g.self.view_is) g.requires.locks) g.self.invariant.2 still-turned last told ends g.close_dropped.result g.close_dropped.ensures.reply g.close_dropped.ensures.kept
+      (g.close_dropped.ensures.ended ∙ (λ i. (g.leave.ensures.dropped ∙ ap (λ ms. ms ++ dropped_by (is_end g.args.turn) g.self.inside.scene.locks g.args.client) g.in_ok-room.ensures.dropped.0) i ++ g.end_at.ensures.kept i)))
 
 pub close_dropped-requires-clause-room : goal.close_dropped-requires-clause-room
 close_dropped-requires-clause-room g =
@@ -184,9 +197,12 @@ pub returns-clause-changes : goal.returns-clause-changes
 returns-clause-changes g =
     let noted = g.new.new.endings.changes.items in
     let sessions = g.turn_session.new.sessions.sessions in
-    let turn : AreChanges noted (view_of (old (c g))) (view g.self.inside.tree sessions) =
-    subst (λ (t : SessionTable). AreChanges noted (view_of (old (c g))) (view g.self.inside.tree t.sessions)) (sym g.in_default-turn_session.ensures.ok)
-    (let notes = g.in_ok-room.ensures.lead in notes.lead g.self.inside.tree g.self.inside.sessions) in
+    let turn : AreChanges noted (view_of (old (c g))) (view g.self.inside.scene.tree sessions) =
+    subst (λ (t : SessionTable). AreChanges noted (view_of (old (c g))) (view g.self.inside.scene.tree t.sessions)) (sym g.in_default-turn_session.ensures.ok)
+    (let notes = g.in_ok-room.ensures.lead in notes.lead g.self.inside.scene.tree g.self.inside.scene.sessions) in
+    let all = g.end_at.new.endings.changes.items in
+    let lead : LeadOn noted all g.self.inside.scene.tree (last g).tree = subst (λ (s : Scene). LeadOn noted all s.tree (last g).tree) g.leave.ensures.rest g.end_at.ensures.lead in
+    let stay : (last g).sessions ≡ g.turn_session.new.sessions = ends-sessions _ _ _ _ _ _ g.end_at.ensures.ends ∙ ap (λ (s : Scene). s.sessions) g.leave.ensures.rest in
     subst (λ (s : State). AreChanges g.close_dropped.result.changes.items (view_of s) (view_of (new g))) g.self.view_is
     (subst (λ items. AreChanges items (view_of (old (c g))) (view_of (new g))) (sym g.close_dropped.ensures.changes)
-    (g.end_at.ensures.lead.on (view_of (old (c g))) sessions turn))
+    (subst (λ (t : SessionTable). AreChanges all (view_of (old (c g))) (view (last g).tree t.sessions)) (sym stay) (lead.on (view_of (old (c g))) sessions turn)))

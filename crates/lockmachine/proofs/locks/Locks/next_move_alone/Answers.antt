@@ -2,7 +2,7 @@ use Rattle.std.proofs.Common.{ap, sym, subst, ◌∙◌, unwrap_or, refl}
 use Rattle.std.specs.List.{find}
 use Rattle.std.specs.Option.{option_map}
 use Rattle.lockmachine.specs.declared.moves.Move.TheVariants.{Settled}
-use Rattle.lockmachine.specs.Scene.{Scene, scene}
+use Rattle.lockmachine.specs.Scene.{Scene, scene_by}
 use Rattle.lockmachine.specs.Moves.{parts, beginning, may_begin, may_begin_by}
 use Rattle.lockmachine.specs.Turns.{IsNextAt}
 use Rattle.lockmachine.proofs.Alone.{served-here}
@@ -11,18 +11,18 @@ use Rattle.lockmachine.proofs.locks.Locks.next_move_alone.Goals as goal
 
 pub returns-in-Some-clause-next : goal.returns-in-Some-clause-next
 returns-in-Some-clause-next c =
-    let s : Scene = scene c.args.fs.now c.args.tree.now c.args.sessions.now c.args.table.now c.args.self.now in
+    let s : Scene = scene_by c.args.policy.now c.args.table.now c.args.self.now in
     (end_first s c.args.ino.0 c.in-Some.part (ends_at s c.args.ino.0 c.requires.turn ∙ ap (option_map (λ part. (c.args.ino.0, part))) (sym c.first_end.ensures ∙ c.in-Some.is)), refl)
 
 pub returns-in-Some-first_served_where-clause-next : goal.returns-in-Some-first_served_where-clause-next
 returns-in-Some-first_served_where-clause-next c =
-    let s : Scene = scene c.args.fs.now c.args.tree.now c.args.sessions.now c.args.table.now c.args.self.now in
+    let s : Scene = scene_by c.args.policy.now c.args.table.now c.args.self.now in
     serve_first s c.in-Some-first_served_where.served (ends_at s c.args.ino.0 c.requires.turn ∙ ap (option_map (λ part. (c.args.ino.0, part))) (sym c.first_end.ensures ∙ c.in_default.is))
     (sym c.in-Some-first_served_where.is ∙ c.first_served_where.ensures ∙ ap (option_map (λ q. q.ticket)) (served-here s.locks c.args.ino.0 c.requires.elsewhere))
 
 pub returns-clause-next : goal.returns-clause-next
 returns-clause-next c =
-    let s : Scene = scene c.args.fs.now c.args.tree.now c.args.sessions.now c.args.table.now c.args.self.now in
+    let s : Scene = scene_by c.args.policy.now c.args.table.now c.args.self.now in
     subst (IsNextAt s c.args.ino.0)
     (sym (c.unwrap_or.ensures ∙ ap (λ o. unwrap_or o Settled) c.first_begin_where.ensures
     ∙ ap (λ wants. unwrap_or (option_map (λ part. beginning s.locks wants (c.args.ino.0, part)) (find (λ part. may_begin_by s.locks wants (c.args.ino.0, part)) parts)) Settled) c.known_or_found-wishes.ensures))
