@@ -549,12 +549,7 @@ impl Locks {
 
     /// Where it is an inode's turn, begins and ends gathers there, always by the first move that applies to all, until a
     /// request is to be served, whose number it answers, or the inode is done. It is still its turn then.
-    pub fn advance_at(
-        &mut self,
-        policy: &Policy<'_>,
-        table: &CapTable,
-        ino: Ino,
-    ) -> Option<Ticket>
+    pub fn advance_at(&mut self, policy: &Policy<'_>, table: &CapTable, ino: Ino) -> Option<Ticket>
         requires turn { IsTurnOf (scene_by policy.now table.now self.old) ino.0 }
 
         // Each lock begins at most one gather and ends at most two.
