@@ -1,5 +1,5 @@
 -- What becomes of a session is noted.
-use Rattle.std.proofs.Common.{◌≡◌, ◌+◌, List, [], ◌∷◌, ◌++◌, ◌⊎◌, inl, inr, Bor, refl, sym, ap, subst}
+use Rattle.std.proofs.Common.{◌≡◌, List, [], ◌∷◌, ◌++◌, ◌⊎◌, inl, inr, Bor, refl, sym, ap, subst}
 use Rattle.std.specs.FinMap as map
 use Rattle.capbits.specs.declared.ids.ClientId.{ClientId}
 use Rattle.capspec.specs.declared.grant.Grant.{Grant}

@@ -5,8 +5,15 @@ use Rattle.capsteps.specs.Capevents.declared.event.Event.{Event}
 use Rattle.capsteps.specs.Capevents.declared.event.Event.TheVariants.{Open}
 use Rattle.capsteps.specs.Caprules.declared.stopped.Stopped.TheVariants.{ByTest}
 use Rattle.capsteps.specs.Caprules.Judge.{before, needs, after}
-use Rattle.capsteps.proofs.Capacts.Again.{stopped-after}
+use Rattle.capsteps.proofs.Capacts.Again.{stopped-policy, stopped-after}
 use Rattle.capcore.proofs.judging.open_stop.Goals as goal
+
+pub returns-in-Some-opening_denial : goal.returns-in-Some-opening_denial
+returns-in-Some-opening_denial c =
+    let s : Scene = c.args.scene.now in
+    let e : Event = Open c.args.holder.client c.args.holder.ino c.args.mode in
+    sym (stopped-policy s (before s e) (needs s e) (after s e) c.in-Some-opening_denial.denied
+    (sym c.asked_refusal.ensures ∙ c.in_default.is) (sym (c.opening_denial.ensures s.table s.locks) ∙ c.in-Some-opening_denial.is))
 
 pub returns : goal.returns
 returns c =

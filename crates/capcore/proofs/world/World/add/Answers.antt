@@ -27,6 +27,9 @@ invariant_of-self-in-Ok c =
       birth-known sound c.self.inside.known.sets c.self.invariant.2 c.args.kind c.args.dir.0 c.args.name.now c.args.attr c.last.ensures.sound,
     )
 
+pub invariant_of-self : goal.invariant_of-self
+invariant_of-self c = rw c.in_err-add_ino.ensures.err c.self.invariant
+
 pub invariant_of-self-in-Err : goal.invariant_of-self-in-Err
 invariant_of-self-in-Err c =
     let undone = added-dropped c.self.inside.scene.locks (c.self.inside.scene.tree.last + 1) (not_given c.self.invariant.0 c.last.ensures.sound) in

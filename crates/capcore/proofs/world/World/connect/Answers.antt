@@ -5,6 +5,9 @@ use Rattle.capsteps.specs.Caprules.State.{State}
 use Rattle.capcore.proofs.Untouched.{session-sound, session-known}
 use Rattle.capcore.proofs.world.World.connect.Goals as goal
 
+pub invariant_of-self : goal.invariant_of-self
+invariant_of-self c = rw c.in_err-open_session_tested.ensures.err c.self.invariant
+
 pub invariant_of-self-2 : goal.invariant_of-self-2
 invariant_of-self-2 c =
     let passed : first_failing (new_session_tests c.self.inside.scene.sessions c.args.client.0) ≡ None =

@@ -47,6 +47,10 @@ alter-requires c =
     let passed : judged old.scene e ≡ None = sym c.flush_stop.ensures ∙ c.in_default.is in
     record { passed = flush-calls old.scene (holder c.args.client c.args.ino) c.args.change.now passed }
 
+-- for want of memory all is as it was
+pub invariant_of-self-in_err-alter : goal.invariant_of-self-in_err-alter
+invariant_of-self-in_err-alter c = rw c.in_err-alter.ensures.err c.self.invariant
+
 -- ---- one that nothing stops, by itself
 
 module _ (c : After-touch) where

@@ -1,7 +1,6 @@
 use Rattle.std.proofs.Common.{◌≡◌, None, ap, sym, subst, ◌∙◌}
 use Rattle.std.specs.FinMap as map
 use Rattle.capbits.proofs.Tests.{pass-both}
-use Rattle.capsteps.specs.Lockmachine.Scene.{scene}
 use Rattle.capsteps.specs.Caprules.State.{State}
 use Rattle.capsteps.specs.Caprules.Direct.{owned_by}
 use Rattle.capbits.specs.Refusal.{first_failing}

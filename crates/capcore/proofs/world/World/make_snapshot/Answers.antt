@@ -2,7 +2,6 @@ use Rattle.std.proofs.Common.{ap, sym, subst, ◌∙◌, refl}
 use Rattle.capbits.specs.Refusal.{first_failing}
 use Rattle.inotree.specs.Inodes.{with_snapshot}
 use Rattle.capbits.proofs.Tests.{pass-both}
-use Rattle.capsteps.specs.Lockmachine.Scene.{scene}
 use Rattle.inotree.specs.Tests.{inode_tests, new_snapshot_tests}
 use Rattle.capgrant.specs.declared.access.Access.TheVariants.{Snapshot}
 use Rattle.capcore.proofs.Stops.{access-at, inode-passed}

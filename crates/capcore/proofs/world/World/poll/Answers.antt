@@ -34,7 +34,7 @@ returns-in-Some-clause-answered c =
     let sound : IsSound s = subst IsSound c.self.view_is c.self.invariant.0 in
     let failed : first_failing (session_tests s.scene.sessions c.args.client.0) ≡ Some c.in-Some.refusal =
     ap (λ (w : State). first_failing (session_tests w.scene.sessions c.args.client.0)) (sym c.self.view_is) ∙ sym c.session_refusal.ensures ∙ c.in-Some.is in
-    stopped-answered s (event.Poll c.args.client c.args.max) (ByTest c.in-Some.refusal) c.alone.result sound c.requires
+    stopped-answered s (event.Poll c.args.client c.args.max) (ByTest c.in-Some.refusal) c.alone.result sound c.requires.table
     (stopped-before s.scene (session_tests s.scene.sessions c.args.client.0) [] [] c.in-Some.refusal failed)
     c.alone.ensures.reply (c.alone.ensures.kept ∙ sym c.alone.ensures.reply) c.alone.ensures.ended
 
@@ -67,12 +67,12 @@ module _ (c : After-drop-told) where
   told = c.skip_quiet.ensures ∙ c.give.ensures ∙ ap (λ (given : List Message). changed_where (is_of_client c.args.client) (after_messages given) old.scene.table) c.as_slice-3.ensures
 
   left : with_given old c.args.client (first_messages old c.args.client c.args.max) ≡ new
-  left = polled-new old c.self.invariant.0 (subst HasTable (sym c.self.view_is) c.requires) c.args.client c.args.max c.in_ok-given.given c.skip_quiet.new.self c.remove_given.new.self.items first told kept_items
+  left = polled-new old c.self.invariant.0 (subst HasTable (sym c.self.view_is) c.requires.table) c.args.client c.args.max c.in_ok-given.given c.skip_quiet.new.self c.remove_given.new.self.items first told kept_items
 
   whole : IsAnswered old (event.Poll c.args.client c.args.max) said new
   whole =
       subst (IsAnswered old (event.Poll c.args.client c.args.max) said) left
-      (poll-answered old c.self.invariant.0 (subst HasTable (sym c.self.view_is) c.requires) c.args.client c.args.max said (sym c.session_refusal.ensures ∙ c.in_default.is)
+      (poll-answered old c.self.invariant.0 (subst HasTable (sym c.self.view_is) c.requires.table) c.args.client c.args.max said (sym c.session_refusal.ensures ∙ c.in_default.is)
       (ap reply.Messages first) (ap reply.Messages same) c.new.ensures)
 
 pub invariant_of-self : goal.invariant_of-self

@@ -29,6 +29,9 @@ module _ (c : After-new-2) where
       subst (λ t. IsAnswered old (event.Recall c.args.count) said (with_table old t)) (sym c.in_ok-named.ensures.ok)
       (recall-answered old c.self.invariant.0 c.args.count said c.first_to_recall.ensures.sound (ap reply.Recalled c.in_ok-named.ensures.named) (ap reply.Recalled c.in_ok-kept.ensures.named) c.new.ensures)
 
+pub invariant_of-self : goal.invariant_of-self
+invariant_of-self c = rw c.in_err-named.ensures.err c.self.invariant
+
 pub invariant_of-self-2 : goal.invariant_of-self-2
 invariant_of-self-2 c = rw c.in_ok-named.ensures.ok (recalled-sound _ c.self.invariant.0 c.args.count, c.self.invariant.1, recalled-known _ c.self.invariant.0 c.args.count c.self.inside.known.sets c.self.invariant.2)
 

@@ -19,7 +19,7 @@ use Rattle.capsteps.specs.Touching.{Knows}
 use Rattle.capsteps.specs.Serves.{EndsWith}
 use Rattle.capsteps.specs.Caprules.Sound.{IsSound, NumbersLeft}
 use Rattle.capsteps.specs.Caprules.Step.{earlier}
-use Rattle.capsteps.specs.Touch.{touch_event, touch_tests, touch_answer}
+use Rattle.capsteps.specs.Touch.{touch_event, touch_answer}
 use Rattle.capcore.proofs.Closing.{ends-sessions, first-quiet, first-numbers, first-clients, told-all, closed-known, closed}
 use Rattle.capsteps.proofs.Knowing.{held_at, HoldAlike, known-alike, still-room, still-knows, still-all}
 use Rattle.capcore.proofs.OfInode.{event-table}

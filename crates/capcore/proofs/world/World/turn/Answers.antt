@@ -42,6 +42,10 @@ returns-in-Some-clause-answered c =
     (ap (λ (w : State). judged w.scene (turn_event c.args.client c.args.turn)) (sym c.self.view_is) ∙ turn-stop inside.scene c.args.client c.args.turn ∙ ap (option_map ByTest) (sym c.turn_refusal.ensures ∙ c.in-Some.is))
     c.alone.ensures.reply (c.alone.ensures.kept ∙ sym c.alone.ensures.reply) c.alone.ensures.ended
 
+-- for want of memory all is as it was
+pub invariant_of-self-in-Err : goal.invariant_of-self-in-Err
+invariant_of-self-in-Err c = rw c.in-Err.ensures.err c.self.invariant
+
 -- ---- one that nothing stops, by itself
 
 module _ (c : After-leave) where
