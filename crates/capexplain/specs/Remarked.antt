@@ -4,10 +4,12 @@ use Rattle.capspec.specs.declared.grant.Grant.{Grant}
 use Rattle.capgrant.specs.declared.access.Attr.{Attr}
 use Rattle.capgrant.specs.declared.answer.Verdict.{Verdict}
 use Rattle.capgrant.specs.Question.{Question}
+use Rattle.capgrant.specs.Verdict.{verdict_of}
 use Rattle.capremarks.specs.declared.differences.Difference.{Difference}
 use Rattle.capremarks.specs.declared.differences.Difference.TheVariants.{OtherFileSystem, LargeUid}
 use Rattle.capremarks.specs.declared.differences.Otherwise.{Otherwise}
-use Rattle.capremarks.specs.Differences.{has_reason}
+use Rattle.capremarks.specs.Differences.{answered_otherwise, has_reason}
+use Rattle.capremarks.specs.Left.{left_to_client}
 use Rattle.capexplain.specs.Explaining.{path_text}
 use Rattle.capexplain.specs.Lines.{HasNumber, HasGrant}
 use Rattle.capexplain.specs.Remarks.{remarked_text}
@@ -35,13 +37,16 @@ pub record IsRemarked (q : Question) (v : Verdict) (left : Option ℕ) (other : 
   pub to_client : IfSome left (λ grant. grant < 2 ^ 32)
   pub in_mds : IfSome other HasReason
 
--- so it is with what a list of grants says to a question, where these numbers fit
+-- what a list of grants says to a question is so, where these numbers fit
 pub record HasNumbers (q : Question) (grants : List Grant) : Type 0 where
   pub access : HasNumber q.access
   pub owner : q.attr.uid < 2 ^ 32
   pub group : q.attr.gid < 2 ^ 32
   pub mode : q.attr.mode < 2 ^ 12
   pub few : length grants < 2 ^ 32
+
+abbrev pub EachIsRemarked : Type 0
+EachIsRemarked = (q : Question) (grants : List Grant) → HasNumbers q grants → IsRemarked q (verdict_of q grants) (left_to_client q grants) (answered_otherwise q grants)
 
 -- the same grant leaves the same inode to the client, or none does
 abbrev pub LeaveAlike : Attr → Option ℕ → Attr → Option ℕ → Type 0

@@ -8,7 +8,7 @@ ghost use Rattle.capwho.specs.declared.standing.Standing.{Standing};
 ghost use Rattle.capexplain.specs.Found.{OneFinding};
 ghost use Rattle.capexplain.specs.Lines.{HasGrant, HasNumber, OneComparison, OneStanding, OneUnread, answer_line};
 ghost use Rattle.capexplain.specs.Quoting.{quoted};
-ghost use Rattle.capexplain.specs.Remarked.{OneRemark};
+ghost use Rattle.capexplain.specs.Remarked.{EachIsRemarked, OneRemark};
 ghost use Rattle.capexplain.specs.Standing.{standing_line, unread_line};
 
 /// No two texts are shown the same by `print_quoted`; and where a space stands behind, as behind a path in a line, no text can be taken
@@ -32,5 +32,6 @@ pub fn one_answer_for_a_line()
     ensures comparison { OneComparison }
     ensures finding { OneFinding }
     ensures remarked { OneRemark }
+    ensures remarks { EachIsRemarked }
     ensures either { (c d : List ℕ) (a : Access) (p : List (List ℕ)) (s : Standing) (f : SpecFault) → standing_line c a p s ≢ unread_line d f }
 {}
