@@ -1,12 +1,12 @@
 -- What is told of a log is one thing after the other, and its text tells which.
-use Rattle.std.proofs.Common.{◌≡◌, ◌⊎◌, inl, inr, ℕ, ◌+◌, ◌<◌, ◌^◌, ◌/◌, ◌%◌, true, Option, Some, None, List, [], ◌∷◌, ◌++◌, drop, map, refl, sym, ap, ◌∙◌, append_assoc, arith}
-use Rattle.std.specs.Prelude.{codes, All, bytes_eq, ◌==◌, if◌then◌else◌}
+use Rattle.std.proofs.Common.{◌≡◌, ◌⊎◌, inl, inr, ℕ, ◌+◌, ◌<◌, ◌≤◌, ◌^◌, ◌/◌, ◌%◌, true, Option, Some, None, List, [], ◌∷◌, ◌++◌, drop, length, refl, sym, ap, ◌∙◌, append_assoc, arith}
+use Rattle.std.specs.Prelude.{codes, All, IfSome, bytes_eq, ◌==◌, if◌then◌else◌}
 use Rattle.std.specs.Fmt.{decimal}
 use Rattle.std.specs.List.{AllZip, flat_map, list_all}
 use Rattle.std.proofs.lemmas.Fmt.{decimal_by_steps}
 use Rattle.std.proofs.lemmas.List.{append_cancel_left, append-nil}
 use Rattle.std.proofs.lemmas.List.Concat.{flat_map-append}
-use Rattle.std.proofs.lemmas.List.Elements.{All-head, All-tail}
+use Rattle.std.proofs.lemmas.List.Elements.{All-nil, All-cons, All-append, All-head, All-tail}
 use Rattle.capspec.specs.declared.fault.SpecFault.{SpecFault}
 use Rattle.capgrant.specs.declared.access.Access.{Access}
 use Rattle.capgrant.specs.declared.answer.Verdict.{Verdict}
@@ -15,6 +15,7 @@ use Rattle.capgrant.specs.Question.{Question as Asked}
 use Rattle.capexplain.specs.Capremarks.declared.differences.Otherwise.{Otherwise}
 use Rattle.capexplain.specs.Capremarks.Left.{left_to_client}
 use Rattle.capexplain.specs.Capremarks.Differences.{answered_otherwise}
+use Rattle.capexplain.specs.Lines.{HasNumber}
 use Rattle.capexplain.specs.Quoting.{is_plain, quoted}
 use Rattle.capexplain.specs.Remarks.{remarked_text}
 use Rattle.capexplain.specs.Standing.{fault_word}
@@ -30,14 +31,15 @@ use Rattle.capquestion.specs.declared.options.Opt.TheVariants.{Grants, Fs, Uid, 
 use Rattle.capquestion.specs.declared.question.Question.{Question}
 use Rattle.capquestion.specs.declared.question.Values.{Values}
 use Rattle.capquestion.specs.Options.{option_name}
-use Rattle.capquestion.specs.Question.{verdict_on}
+use Rattle.capquestion.specs.Question.{AsksFor, IsFaultIn, verdict_on}
 use Rattle.capquestion.specs.Remarks.{asked_of, full_text}
-use Rattle.caplines.specs.Lines.{lines}
+use Rattle.caplines.specs.Lines.{lines, longest_script}
 use Rattle.caplog.specs.Checks.{CheckTexts, check_text, check_of}
 use Rattle.caplog.specs.Items.{Told, lines_of, told_lines, told_in, IsTellable, HasLines, SameTold, SameOfLine}
 use Rattle.caplog.specs.Items.Told.{answered, formless, unknown, refused, bad}
 use Rattle.caplog.specs.Masks.{accesses_of}
-use Rattle.caplog.specs.Told.{IsToldOf, AreTold, IsAnswered, IsFaulty, Says, SaysIf, SaysOf, SaysFault, answer_lines, with_access, passed_line, passed_in}
+use Rattle.caplog.specs.Told.{AreValues, IsToldOf, AreTold, IsAnswered, IsFaulty, Says, SaysIf, SaysOf, SaysFault, answer_lines, with_access, passed_line, passed_in}
+use Rattle.caplog.proofs.Fitting.{AreShort, HasFew, all_asked, few_lines, few_passed_in, fits, more_than, near_fault, short_check, short_grants, short_lines}
 
 -- ---- how the lines begin
 
@@ -186,48 +188,65 @@ one_log (x ∷ xs) (y ∷ ys) m n p o small also same =
 -- ---- what is told of a log
 
 abbrev AreLines : List ℕ → Type 0
-AreLines text = (xs : List (ℕ × Told)) × (text ≡ flat_map told_lines xs)
+AreLines text = (xs : List (ℕ × Told)) × All HasLines xs × (text ≡ flat_map told_lines xs)
 
-one : (number : ℕ) (told : Told) (text : List ℕ) → text ≡ lines_of number told → AreLines text
-one number told text is = ((number, told) ∷ [], is ∙ sym (append-nil (lines_of number told)))
+module _ (number : ℕ) (small : number < 2 ^ 64) where
+  none : (text : List ℕ) → text ≡ [] → AreLines text
+  none text is = ([], All-nil HasLines, is)
 
-of_accesses : (number : ℕ) (q : Question) (accesses : List Access) → AreLines (flat_map (answer_lines number q) accesses)
-of_accesses number q [] = ([], refl)
-of_accesses number q (access ∷ accesses) =
-    let more = of_accesses number q accesses in
-    ((number, answered (with_access q access)) ∷ more.0, ap (λ (r : List ℕ). answer_lines number q access ++ r) more.1)
+  one : (told : Told) (text : List ℕ) → IsTellable told → text ≡ lines_of number told → AreLines text
+  one told text fits is = ((number, told) ∷ [], All-cons HasLines (number, told) [] (small, fits) (All-nil HasLines), is ∙ sym (append-nil (lines_of number told)))
 
-of_fault : (number : ℕ) (fault : QuestionFault) (text : List ℕ) → SaysFault number fault text → AreLines text
-of_fault number (BadGrants fault) text says = one number (refused fault) text says
-of_fault number (BadValue option) text says = one number (bad option) text says
-of_fault number NoMemory text says = absurd says
+  of_accesses : (v : Values) (q : Question) → AsksFor v q → (accesses : List Access) → All HasNumber accesses → AreLines (flat_map (answer_lines number q) accesses)
+  of_accesses v q asks [] numbers = none [] refl
+  of_accesses v q asks (access ∷ accesses) numbers =
+      let told : Told = answered (with_access q access) in
+      let more = of_accesses v q asks accesses (All-tail HasNumber access accesses numbers) in
+      (
+        (number, told) ∷ more.0,
+        All-cons HasLines (number, told) more.0 (small, fits v q access asks (All-head HasNumber access accesses numbers)) more.1,
+        ap (λ (r : List ℕ). answer_lines number q access ++ r) more.2,
+      )
 
-of_values : (number : ℕ) (check : CheckTexts) (v : Values) (text : List ℕ) → IsAnswered number check v text ⊎ IsFaulty number v text → AreLines text
-of_values number check v text (inl says) =
-    let told = of_accesses number says.question (accesses_of says.mask) in
-    (told.0, says.more_is ∙ told.1)
-of_values number check v text (inr says) = of_fault number says.fault text says.says
+  of_fault : (check : CheckTexts) (v : Values) (fault : QuestionFault) (text : List ℕ) → v.grants.items ≡ check.grants → length check.grants < 2 ^ 64 → IsFaultIn v fault → SaysFault number fault text → AreLines text
+  of_fault check v (BadGrants fault) text same short first says = one (refused fault) text (omega (arith, near_fault v.grants.items fault first, ap (λ (bytes : List ℕ). length bytes) same, short)) says
+  of_fault check v (BadValue option) text same short first says = one (bad option) text tt says
+  of_fault check v NoMemory text same short first says = absurd says
 
-of_check : (fs : List ℕ) (number : ℕ) (check : CheckTexts) (text : List ℕ) → Says fs number check text → AreLines text
-of_check fs number check text (inl says) = one number (unknown check.mask) text says.1
-of_check fs number check text (inr says) = of_values number check says.0 text says.2
+  of_values : (fs : List ℕ) (check : CheckTexts) (v : Values) (text : List ℕ) → length check.grants < 2 ^ 64 → AreValues fs check v → IsAnswered number check v text ⊎ IsFaulty number v text → AreLines text
+  of_values fs check v text short values (inl says) =
+      let told = of_accesses v says.question says.asks (accesses_of says.mask) (all_asked check says.mask says.is_mask) in
+      (told.0, told.1, says.more_is ∙ told.2)
+  of_values fs check v text short values (inr says) = of_fault check v says.fault text values.grants short says.first says.says
 
-of_form : (fs : List ℕ) (number : ℕ) (check : Option CheckTexts) (text : List ℕ) → SaysIf fs number check text → AreLines text
-of_form fs number None text says = one number formless text says
-of_form fs number (Some check) text says = of_check fs number check text says
+  of_check : (fs : List ℕ) (check : CheckTexts) (text : List ℕ) → length check.grants < 2 ^ 64 → Says fs number check text → AreLines text
+  of_check fs check text short (inl says) = one (unknown check.mask) text tt says.1
+  of_check fs check text short (inr says) = of_values fs check says.0 text short says.1 says.2
 
-of_line : (fs : List ℕ) (number : ℕ) (behind : Option (List ℕ)) (text : List ℕ) → SaysOf fs number behind text → AreLines text
-of_line fs number None text says = ([], says)
-of_line fs number (Some behind) text says = of_form fs number (check_of behind) text says
+  of_form : (fs : List ℕ) (check : Option CheckTexts) (text : List ℕ) → IfSome check (λ c. length c.grants < 2 ^ 64) → SaysIf fs number check text → AreLines text
+  of_form fs None text short says = one formless text tt says
+  of_form fs (Some check) text short says = of_check fs check text short says
 
-of_lines : (fs : List ℕ) (number : ℕ) (log : List (List ℕ)) (text : List ℕ) → AreTold fs number log text → AreLines text
-of_lines fs number [] text told = ([], told)
-of_lines fs number (line ∷ log) text told =
-    let first = of_line fs number (check_text line) told.0 told.2 in
-    let more = of_lines fs (number + 1) log told.1 told.3 in
-    (first.0 ++ more.0, told.4 ∙ ap (λ (r : List ℕ). r ++ told.1) first.1 ∙ ap (λ (r : List ℕ). flat_map told_lines first.0 ++ r) more.1 ∙ sym (flat_map-append told_lines first.0 more.0))
+-- the grants of a check in a line of a short log
+short_check_of : (most : ℕ) (text : List ℕ) → length text ≤ most → most < 2 ^ 63 → IfSome (check_of text) (λ c. length c.grants < 2 ^ 64)
+short_check_of most text inside short = by_check (check_of text) (short_grants text)
+  where
+    by_check : (check : Option CheckTexts) → IfSome check (λ c. length c.grants ≤ length text) → IfSome check (λ c. length c.grants < 2 ^ 64)
+    by_check None fit = tt
+    by_check (Some check) fit = omega (arith, fit, inside, short)
 
-pub each_has_its_lines : (fs log told : List ℕ) → IsToldOf fs log told → (xs : List (ℕ × Told)) × (told ≡ told_in xs (passed_in (lines log)))
-each_has_its_lines fs log told says =
-    let front = of_lines fs 1 (lines log) says.0 says.1 in
-    (front.0, says.2 ∙ ap (λ (r : List ℕ). r ++ passed_line (passed_in (lines log))) front.1)
+of_line : (fs : List ℕ) (number most : ℕ) (behind : Option (List ℕ)) (text : List ℕ) → number < 2 ^ 64 → most < 2 ^ 63 → HasFew most behind → SaysOf fs number behind text → AreLines text
+of_line fs number most None text small short few says = none number small text says
+of_line fs number most (Some behind) text small short few says = of_form number small fs (check_of behind) text (short_check_of most behind few short) says
+
+of_lines : (fs : List ℕ) (number most : ℕ) (log : List (List ℕ)) (text : List ℕ) → number + length log < 2 ^ 64 → most < 2 ^ 63 → AreShort most log → AreTold fs number log text → AreLines text
+of_lines fs number most [] text small short few told = ([], All-nil HasLines, told)
+of_lines fs number most (line ∷ log) text small short few told =
+    let first = of_line fs number most (check_text line) told.0 (omega (arith, small)) short (more_than (length line) most (check_text line) few.0 (short_check line)) told.2 in
+    let more = of_lines fs (number + 1) most log told.1 (omega (arith, small)) short few.1 told.3 in
+    (first.0 ++ more.0, All-append HasLines first.0 more.0 first.1 more.1, told.4 ∙ ap (λ (r : List ℕ). r ++ told.1) first.2 ∙ ap (λ (r : List ℕ). flat_map told_lines first.0 ++ r) more.2 ∙ sym (flat_map-append told_lines first.0 more.0))
+
+pub each_has_its_lines : (fs log told : List ℕ) → length log ≤ longest_script → IsToldOf fs log told → (xs : List (ℕ × Told)) × All HasLines xs × (passed_in (lines log) < 2 ^ 64) × (told ≡ told_in xs (passed_in (lines log)))
+each_has_its_lines fs log told short says =
+    let front = of_lines fs 1 (length log) (lines log) says.0 (omega (arith, short, few_lines log)) (omega (arith, short)) (short_lines log) says.1 in
+    (front.0, front.1, omega (arith, short, few_lines log, few_passed_in (lines log)), says.2 ∙ ap (λ (r : List ℕ). r ++ passed_line (passed_in (lines log))) front.2)

@@ -1,5 +1,5 @@
 -- The things that are told of a log, each with the number of its line.
-use Rattle.std.specs.Prelude.{◌≡◌, ℕ, ◌<◌, ◌^◌, List, ◌++◌, All, codes}
+use Rattle.std.specs.Prelude.{◌≡◌, ℕ, ◌<◌, ◌≤◌, ◌^◌, List, ◌++◌, length, All, codes}
 use Rattle.std.specs.Fmt.{decimal}
 use Rattle.std.specs.List.{AllZip, flat_map}
 use Rattle.capspec.specs.declared.fault.SpecFault.{SpecFault}
@@ -13,7 +13,7 @@ use Rattle.capquestion.specs.declared.question.Question.{Question}
 use Rattle.capquestion.specs.Options.{option_name}
 use Rattle.capquestion.specs.Question.{verdict_on}
 use Rattle.capquestion.specs.Remarks.{asked_of}
-use Rattle.caplines.specs.Lines.{lines}
+use Rattle.caplines.specs.Lines.{lines, longest_script}
 use Rattle.caplog.specs.Told.{IsToldOf, answer_lines, formless_line, unknown_line, passed_line, passed_in}
 
 -- the answer to a question of a check; that it has another form; an unknown mask; what is wrong with its grants, or with another part
@@ -74,6 +74,7 @@ abbrev pub OneLog : Type 0
 OneLog = (xs ys : List (ℕ × Told)) (m n : ℕ) → All HasLines xs → All HasLines ys → m < 2 ^ 64 → n < 2 ^ 64
     → told_in xs m ≡ told_in ys n → AllZip SameOfLine xs ys × (m ≡ n)
 
--- what is told of any log is such things
+-- what is told of a log that is not too long is such things
 abbrev pub EachHasItsLines : Type 0
-EachHasItsLines = (fs log told : List ℕ) → IsToldOf fs log told → (xs : List (ℕ × Told)) × (told ≡ told_in xs (passed_in (lines log)))
+EachHasItsLines = (fs log told : List ℕ) → length log ≤ longest_script → IsToldOf fs log told
+    → (xs : List (ℕ × Told)) × All HasLines xs × (passed_in (lines log) < 2 ^ 64) × (told ≡ told_in xs (passed_in (lines log)))
