@@ -1,11 +1,10 @@
 -- What is told of a log has numbers that fit.
-use Rattle.std.proofs.Common.{◌≡◌, ℕ, zero, suc, ◌+◌, ◌-◌, ◌/◌, ◌%◌, ◌<◌, ◌≤◌, ◌^◌, Bool, true, false, cond, Option, Some, None, List, [], ◌∷◌, ◌++◌, length, take, drop, refl, sym, ap, ◌∙◌, arith}
+use Rattle.std.proofs.Common.{ℕ, zero, suc, ◌+◌, ◌-◌, ◌/◌, ◌%◌, ◌<◌, ◌≤◌, ◌^◌, Bool, true, false, Option, Some, None, List, [], ◌∷◌, ◌++◌, length, take, drop, ap, arith}
 use Rattle.std.specs.Prelude.{codes, All, IfSome, nat_eq, ◌==◌, option_map, option_and_then, if◌then◌else◌}
 use Rattle.std.specs.List.{onto_first, starts_with}
-use Rattle.std.specs.Str.Parse.{digits_value}
 use Rattle.std.proofs.lemmas.Bool.{cond_both}
 use Rattle.std.proofs.lemmas.Int.Digits.{digits_value-lt}
-use Rattle.std.proofs.lemmas.List.{length-drop, length-take-le}
+use Rattle.std.proofs.lemmas.List.{length-drop}
 use Rattle.std.proofs.lemmas.List.Elements.{All-nil, All-cons, All-append}
 use Rattle.capspec.specs.declared.fault.SpecFault.{SpecFault}
 use Rattle.capspec.specs.Faults.{IsFault}
@@ -19,10 +18,10 @@ use Rattle.capquestion.specs.Question.{AsksFor}
 use Rattle.capquestion.specs.Remarks.{asked_of}
 use Rattle.capquestion.specs.Values.{IsModeText, without_kind}
 use Rattle.caplines.specs.Lines.{lines, is_line_feed}
-use Rattle.caplog.specs.Checks.{CheckTexts, InodeTexts, check_texts, behind_space, behind_head, check_text, head, cut_below, cut, then_cut, inode_of, check_of}
+use Rattle.caplog.specs.Checks.{CheckTexts, InodeTexts, check_texts, behind_space, check_text, head, cut_below, cut, then_cut, inode_of, check_of}
 use Rattle.caplog.specs.declared.mask.Mask.{Mask}
 use Rattle.caplog.specs.Masks.{IsMaskOf, asked_if, accesses_of}
-use Rattle.caplog.specs.Told.{with_access, passed_if, passed_over, passed_in}
+use Rattle.caplog.specs.Told.{with_access, passed_if, passed_in}
 
 -- ---- the lines of a log
 

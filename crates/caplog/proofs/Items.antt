@@ -1,5 +1,5 @@
 -- What is told of a log is one thing after the other, and its text tells which.
-use Rattle.std.proofs.Common.{◌≡◌, ◌⊎◌, inl, inr, ℕ, ◌+◌, ◌<◌, ◌≤◌, ◌^◌, ◌/◌, ◌%◌, true, Option, Some, None, List, [], ◌∷◌, ◌++◌, drop, length, refl, sym, ap, ◌∙◌, append_assoc, arith}
+use Rattle.std.proofs.Common.{◌≡◌, ◌⊎◌, inl, inr, ℕ, ◌+◌, ◌<◌, ◌≤◌, ◌^◌, ◌%◌, true, Option, Some, None, List, [], ◌∷◌, ◌++◌, drop, length, refl, sym, ap, ◌∙◌, append_assoc, arith}
 use Rattle.std.specs.Prelude.{codes, All, IfSome, bytes_eq, ◌==◌, if◌then◌else◌}
 use Rattle.std.specs.Fmt.{decimal}
 use Rattle.std.specs.List.{AllZip, flat_map, list_all}
@@ -22,7 +22,7 @@ use Rattle.capexplain.specs.Standing.{fault_word}
 use Rattle.capexplain.proofs.Answered.{number_to, number_and, plain_number}
 use Rattle.capexplain.proofs.Asked.{is_remarked}
 use Rattle.capexplain.proofs.Clients.{kind_of, has_word}
-use Rattle.capexplain.proofs.Quoted.{first_byte, clash, bare, bare_to, before_a_line_feed}
+use Rattle.capexplain.proofs.Quoted.{first_byte, bare, bare_to, before_a_line_feed}
 use Rattle.capexplain.proofs.Remarked.{IsOther, one_remark_to}
 use Rattle.capquestion.specs.declared.fault.QuestionFault.{QuestionFault}
 use Rattle.capquestion.specs.declared.fault.QuestionFault.TheVariants.{Grants as BadGrants, BadValue, NoMemory}
@@ -201,8 +201,7 @@ module _ (number : ℕ) (small : number < 2 ^ 64) where
   of_accesses v q asks [] numbers = none [] refl
   of_accesses v q asks (access ∷ accesses) numbers =
       let told : Told = answered (with_access q access) in
-      let more = of_accesses v q asks accesses (All-tail HasNumber access accesses numbers) in
-      (
+      let more = of_accesses v q asks accesses (All-tail HasNumber access accesses numbers) in (
         (number, told) ∷ more.0,
         All-cons HasLines (number, told) more.0 (small, fits v q access asks (All-head HasNumber access accesses numbers)) more.1,
         ap (λ (r : List ℕ). answer_lines number q access ++ r) more.2,
