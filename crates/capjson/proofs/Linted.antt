@@ -1,8 +1,9 @@
 -- What is found of grants and differs is values that differ.
-use Rattle.std.proofs.Common.{◌≡◌, ℕ, List, [], ◌∷◌, ◌++◌, drop, Option, None, Some, refl, sym, ap, subst, ◌∙◌, arith}
-use Rattle.std.specs.Prelude.{codes, not, All, ◌==◌, if◌then◌else◌}
+use Rattle.std.proofs.Common.{◌≡◌, ℕ, Bool, true, false, List, [], ◌∷◌, ◌++◌, drop, map, Option, None, Some, refl, sym, ap, subst, ◌∙◌, arith}
+use Rattle.std.specs.Prelude.{codes, not, All, IfSome, ◌==◌, if◌then◌else◌}
 use Rattle.std.specs.List.{AllZip, flat_map}
-use Rattle.std.proofs.lemmas.List.Elements.{All-head, All-tail}
+use Rattle.std.proofs.lemmas.List.Elements.{All-nil, All-cons, All-append, All-head, All-tail}
+use Rattle.std.proofs.lemmas.List.{map-append}
 use Rattle.serde_json.specs.Data.{Data, string}
 use Rattle.cephtexts.specs.declared.key.Key.{Key}
 use Rattle.cephtexts.specs.declared.key.Key.TheVariants.{FsName, Path, Uid, Gids, RootSquash}
@@ -11,14 +12,14 @@ use Rattle.cephtexts.specs.declared.unread.Unread.TheVariants.{WhiteSpace, AnyFi
 use Rattle.cephtexts.specs.Standing.{name}
 use Rattle.capremarks.specs.Capcompare.declared.finding.Finding.{Finding}
 use Rattle.capremarks.specs.Capcompare.declared.witness.Witness.{Witness}
-use Rattle.capexplain.specs.Found.{Found, all_found, SameFound, SameOfGrant}
+use Rattle.capexplain.specs.Found.{Found, found_if, found_by, all_found, SameFound, SameOfGrant}
 use Rattle.capexplain.specs.Found.Found.{covered, nothing, undone, unread, stands}
 use Rattle.capexplain.specs.Lines.{TellTheSame}
 use Rattle.capexplain.proofs.Linted.{if_some, in_order, key_at, kind, tag}
 use Rattle.capexplain.proofs.Quoted.{first_byte}
 use Rattle.capjson.specs.Answers.{IsAskable}
 use Rattle.capjson.specs.Changes.{asked_by}
-use Rattle.capjson.specs.Findings.{finding_if, undone_value, undone_line, stands_object, finding_objects, found_value, found_object, IsAskableIf, HasObject}
+use Rattle.capjson.specs.Findings.{finding_if, undone_value, undone_line, stands_object, finding_objects, found_value, found_object, IsAskableIf, IsRead, HasObject}
 use Rattle.capjson.proofs.Distinct.{value_at, text_in, number_in, Asks, one_question}
 use Rattle.capjson.proofs.Streams.{one_line, some_line}
 
@@ -139,3 +140,36 @@ one_list (x ∷ xs) (y ∷ ys) p q same =
     let there = All-head HasObject y ys q in
     let both = one_line (found_value x.0 x.1) (found_value y.0 y.1) (flat_map found_object xs) (flat_map found_object ys) here.1 there.1 same in
     (one_finding x y here.0 there.0 both.0, one_list xs ys (All-tail HasObject x xs p) (All-tail HasObject y ys q) both.1)
+
+-- ---- who reads the objects
+
+module _ (grant : ℕ) where
+  abbrev of_grant : Found → ℕ × Found
+  of_grant found = (grant, found)
+
+  both : (xs ys : List Found) → All IsRead (map of_grant xs) → All IsRead (map of_grant ys) → All IsRead (map of_grant (xs ++ ys))
+  both xs ys p q = subst (λ (things : List (ℕ × Found)). All IsRead things) (sym (map-append of_grant xs ys)) (All-append IsRead (map of_grant xs) (map of_grant ys) p q)
+
+  one : (found : Found) → IsRead (grant, found) → All IsRead (map of_grant (found ∷ []))
+  one found is = All-cons IsRead (grant, found) [] is (All-nil IsRead)
+
+  by_test : (test : Bool) (found : Found) → (test ≡ true → IsRead (grant, found)) → All IsRead (map of_grant (found_if test found))
+  by_test true found is = one found (is refl)
+  by_test false found is = All-nil IsRead
+
+  by_value : {A : Type 0} (makes : A → Found) (value : Option A) → IfSome value (λ a. IsRead (grant, makes a)) → All IsRead (map of_grant (found_by makes value))
+  by_value makes None is = All-nil IsRead
+  by_value makes (Some a) is = one (makes a) is
+
+pub each_is_read : (f : Finding) (why : Option Unread) → (f.is_redundant ≡ true → IsRead (f.grant, covered)) → (f.allows_nothing ≡ true → IsRead (f.grant, nothing)) → IfSome f.undoing (λ w. IsRead (f.grant, undone w))
+    → (not f.has_ceph_text ≡ true → IsRead (f.grant, unread)) → IfSome why (λ reason. IsRead (f.grant, stands reason)) → All IsRead (all_found f why)
+each_is_read f why a b c d e =
+    let no_text : Bool = not f.has_ceph_text in
+    let last : List Found = found_by stands why in
+    let fourth : List Found = found_if no_text unread ++ last in
+    let third : List Found = found_by undone f.undoing ++ fourth in
+    let second : List Found = found_if f.allows_nothing nothing ++ third in
+    both f.grant (found_if f.is_redundant covered) second (by_test f.grant f.is_redundant covered a)
+    (both f.grant (found_if f.allows_nothing nothing) third (by_test f.grant f.allows_nothing nothing b)
+    (both f.grant (found_by undone f.undoing) fourth (by_value f.grant undone f.undoing c)
+    (both f.grant (found_if no_text unread) last (by_test f.grant no_text unread d) (by_value f.grant stands why e))))

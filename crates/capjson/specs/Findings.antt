@@ -69,9 +69,12 @@ abbrev pub IsAskableIf : Found → Type 0
 IsAskableIf (undone w) = IsAskable (asked_by w)
 IsAskableIf found = Unit {0}
 
--- the same, and who reads its object has it again
+-- who reads its object has it again
+abbrev pub IsRead : ℕ × Found → Type 0
+IsRead x = ReadsBack (found_value x.0 x.1)
+
 abbrev pub HasObject : ℕ × Found → Type 0
-HasObject x = IsAskableIf x.1 × ReadsBack (found_value x.0 x.1)
+HasObject x = IsAskableIf x.1 × IsRead x
 
 -- findings that are the same object are the same, of the same grant
 abbrev pub OneFinding : Type 0
