@@ -5,9 +5,7 @@ use Rattle.capgrant.specs.declared.access.Access.{Access}
 use Rattle.capbits.specs.Refusal.{first_failing}
 use Rattle.capbits.proofs.Tests.{passed-both}
 use Rattle.inotree.specs.Tests.{inode_tests}
-use Rattle.inotree.specs.Tree.{IsTree}
 use Rattle.sessiontab.specs.Tests.{session_tests}
-use Rattle.capsteps.specs.Lockmachine.Locks.{IsLockMap}
 use Rattle.capsteps.specs.Lockmachine.declared.scene.Scene.{Scene}
 use Rattle.capsteps.proofs.Judging.{no_test}
 use Rattle.captable.specs.declared.entry.Holder.{Holder}
@@ -31,16 +29,6 @@ use Rattle.capsteps.specs.Touching.{Scope, Waiting, scope, asks_in, asks_for, to
 use Rattle.capcore.proofs.Promised.{has-due}
 use Rattle.capcore.proofs.Sounding.{later-given}
 use Rattle.capsteps.proofs.Stopping.{stopped-step}
-
--- what parts of a state keep by themselves
-abbrev pub HasTree : State → Type 0
-HasTree s = IsTree s.scene.tree
-
-abbrev pub HasTable : State → Type 0
-HasTable s = IsTable s.scene.table
-
-abbrev pub HasLocks : State → Type 0
-HasLocks s = IsLockMap s.scene.locks
 
 -- ---- what is stopped
 
