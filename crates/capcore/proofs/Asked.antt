@@ -52,23 +52,6 @@ same_asking k other ask more e is asking =
     subst (λ (p : Holder × Ask). IsAsking p.0 p.1 e) same asking
 
 pub asking : (e : Event) (k : Holder) (ask : Ask) → asks_for e ≡ Some (k, ask) → IsAsking k ask e
-asking (event.Session client caller grants) k ask is = absurd (none-some (k, ask) is)
-asking (event.CloseSession client) k ask is = absurd (none-some (k, ask) is)
-asking (event.Stale client) k ask is = absurd (none-some (k, ask) is)
-asking (event.Renew client) k ask is = absurd (none-some (k, ask) is)
-asking (event.Regrant client grants) k ask is = absurd (none-some (k, ask) is)
-asking (event.Evict client) k ask is = absurd (none-some (k, ask) is)
-asking (event.Unblock client) k ask is = absurd (none-some (k, ask) is)
-asking (event.Recall count) k ask is = absurd (none-some (k, ask) is)
-asking (event.Lookup client dir name) k ask is = absurd (none-some (k, ask) is)
-asking (event.Create client dir name mode) k ask is = absurd (none-some (k, ask) is)
-asking (event.Mkdir client dir name mode) k ask is = absurd (none-some (k, ask) is)
-asking (event.MakeSnapshot client ino name) k ask is = absurd (none-some (k, ask) is)
-asking (event.RemoveSnapshot client ino name) k ask is = absurd (none-some (k, ask) is)
-asking (event.Open client ino mode) k ask is = absurd (none-some (k, ask) is)
-asking (event.Want client ino caps) k ask is = absurd (none-some (k, ask) is)
-asking (event.Ack client ino seq) k ask is = absurd (none-some (k, ask) is)
-asking (event.Release client ino caps) k ask is = absurd (none-some (k, ask) is)
 asking (event.Get client ino part) k ask is =
     same_asking (holder client ino) k (Get part) ask (event.Get client ino part) is (record { effect_is = λ s. refl; judged_is = λ s. refl })
 asking (event.Alter client ino change) k ask is =
@@ -79,8 +62,7 @@ asking (event.Rmdir client ino) k ask is =
     same_asking (holder client ino) k Rmdir ask (event.Rmdir client ino) is (record { effect_is = λ s. refl; judged_is = λ s. refl })
 asking (event.Rename client ino dir name) k ask is =
     same_asking (holder client ino) k (Rename dir name) ask (event.Rename client ino dir name) is (record { effect_is = λ s. refl; judged_is = λ s. refl })
-asking (event.Flush client ino change) k ask is = absurd (none-some (k, ask) is)
-asking (event.Poll client max) k ask is = absurd (none-some (k, ask) is)
+asking e k ask is = absurd (none-some (k, ask) is)
 
 -- what stops the event is what stops the request
 pub asking-stop : (e : Event) (k : Holder) (ask : Ask) (s : Scene) → asks_for e ≡ Some (k, ask)

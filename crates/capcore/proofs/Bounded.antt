@@ -30,30 +30,17 @@ found-order s (Some ino) order = order
 
 -- an event that is about no inode that is there lets nobody wait
 alone-order : (old : State) (e : Event) → touched_by e ≡ None → IsLockMap old.scene.locks → IsLockMap (effect old e).state.scene.locks
-alone-order old (event.Session client caller grants) is order = order
 alone-order old (event.CloseSession client) is order = without_requests_of-kept old.scene.locks client order
-alone-order old (event.Stale client) is order = order
-alone-order old (event.Renew client) is order = order
-alone-order old (event.Regrant client grants) is order = order
 alone-order old (event.Evict client) is order = without_requests_of-kept old.scene.locks client order
-alone-order old (event.Unblock client) is order = order
-alone-order old (event.Recall count) is order = order
 alone-order old (event.Lookup client dir name) is order = found-order old (child old.scene.tree.nodes dir.0 name) order
 alone-order old (event.Create client dir name mode) is order = record { rising = order.rising; given = order.given; room = order.room }
 alone-order old (event.Mkdir client dir name mode) is order = record { rising = order.rising; given = order.given; room = order.room }
-alone-order old (event.MakeSnapshot client ino name) is order = order
-alone-order old (event.RemoveSnapshot client ino name) is order = order
-alone-order old (event.Open client ino mode) is order = absurd (cc)
-alone-order old (event.Want client ino caps) is order = absurd (cc)
-alone-order old (event.Ack client ino seq) is order = absurd (cc)
-alone-order old (event.Release client ino caps) is order = absurd (cc)
 alone-order old (event.Get client ino part) is order = absurd (cc)
 alone-order old (event.Alter client ino change) is order = absurd (cc)
 alone-order old (event.Unlink client ino) is order = absurd (cc)
 alone-order old (event.Rmdir client ino) is order = absurd (cc)
 alone-order old (event.Rename client ino dir name) is order = absurd (cc)
-alone-order old (event.Flush client ino change) is order = absurd (cc)
-alone-order old (event.Poll client max) is order = order
+alone-order old e is order = order
 
 pub direct-order : (old : State) (e : Event) → IsLockMap old.scene.locks → IsLockMap (direct old e).state.scene.locks
 direct-order old e order = by_stop (judged old.scene e) refl

@@ -120,30 +120,15 @@ module _ (old : State) (order : IsLockMap old.scene.locks) where
       All-push (Fits old (asks old client ino ask)) old.scene.locks.queue (next_request old.scene.locks client ino ask) (all-fit (asks old client ino ask)) (inr refl)
 
   effect-fits : (e : Event) → All (Fits old (effect old e)) (effect old e).state.scene.locks.queue
-  effect-fits (event.Session client caller grants) = all-fit (effect old (event.Session client caller grants))
   effect-fits (event.CloseSession client) = left-fits (effect old (event.CloseSession client)) client
-  effect-fits (event.Stale client) = all-fit (effect old (event.Stale client))
-  effect-fits (event.Renew client) = all-fit (effect old (event.Renew client))
-  effect-fits (event.Regrant client grants) = all-fit (effect old (event.Regrant client grants))
   effect-fits (event.Evict client) = left-fits (effect old (event.Evict client)) client
-  effect-fits (event.Unblock client) = all-fit (effect old (event.Unblock client))
-  effect-fits (event.Recall count) = all-fit (effect old (event.Recall count))
   effect-fits (event.Lookup client dir name) = found-fits (child old.scene.tree.nodes dir.0 name)
-  effect-fits (event.Create client dir name mode) = all-fit (effect old (event.Create client dir name mode))
-  effect-fits (event.Mkdir client dir name mode) = all-fit (effect old (event.Mkdir client dir name mode))
-  effect-fits (event.MakeSnapshot client ino name) = all-fit (effect old (event.MakeSnapshot client ino name))
-  effect-fits (event.RemoveSnapshot client ino name) = all-fit (effect old (event.RemoveSnapshot client ino name))
-  effect-fits (event.Open client ino mode) = all-fit (effect old (event.Open client ino mode))
-  effect-fits (event.Want client ino caps) = all-fit (effect old (event.Want client ino caps))
-  effect-fits (event.Ack client ino seq) = all-fit (effect old (event.Ack client ino seq))
-  effect-fits (event.Release client ino caps) = all-fit (effect old (event.Release client ino caps))
   effect-fits (event.Get client ino part) = asked-fits client ino (Get part)
   effect-fits (event.Alter client ino change) = asked-fits client ino (Alter change)
   effect-fits (event.Unlink client ino) = asked-fits client ino Unlink
   effect-fits (event.Rmdir client ino) = asked-fits client ino Rmdir
   effect-fits (event.Rename client ino dir name) = asked-fits client ino (Rename dir name)
-  effect-fits (event.Flush client ino change) = all-fit (effect old (event.Flush client ino change))
-  effect-fits (event.Poll client max) = all-fit (effect old (event.Poll client max))
+  effect-fits e = all-fit (effect old e)
 
   direct-fits : (e : Event) → All (Fits old (direct old e)) (direct old e).state.scene.locks.queue
   direct-fits e = by_stop (judged old.scene e)

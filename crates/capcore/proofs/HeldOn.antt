@@ -137,31 +137,16 @@ module _ (old : State) (k : Holder) (cap : Cap) (held : holds old.scene k cap �
   keeps_all e is = takes-nothing e (first_of e) (same_table (first_of e) is)
 
   by_event : (e : Event) → Takes e (first_of e)
-  by_event (event.Session client caller grants) = keeps_all (event.Session client caller grants) refl
   by_event (event.CloseSession client) = client-gone client (first_of (event.CloseSession client)) refl
-  by_event (event.Stale client) = keeps_all (event.Stale client) refl
-  by_event (event.Renew client) = keeps_all (event.Renew client) refl
-  by_event (event.Regrant client grants) = keeps_all (event.Regrant client grants) refl
   by_event (event.Evict client) = client-gone client (first_of (event.Evict client)) refl
-  by_event (event.Unblock client) = keeps_all (event.Unblock client) refl
   by_event (event.Recall count) = takes-nothing (event.Recall count) (first_of (event.Recall count)) (recalled-keeps t count k)
   by_event (event.Lookup client dir name) = looked_up (event.Lookup client dir name) (child old.scene.tree.nodes dir.0 name)
-  by_event (event.Create client dir name mode) = keeps_all (event.Create client dir name mode) refl
-  by_event (event.Mkdir client dir name mode) = keeps_all (event.Mkdir client dir name mode) refl
-  by_event (event.MakeSnapshot client ino name) = keeps_all (event.MakeSnapshot client ino name) refl
-  by_event (event.RemoveSnapshot client ino name) = keeps_all (event.RemoveSnapshot client ino name) refl
   by_event (event.Open client ino mode) = takes-nothing (event.Open client ino mode) (first_of (event.Open client ino mode)) (opened-keeps (holder client ino) mode)
   by_event (event.Want client ino caps) =
       takes-nothing (event.Want client ino caps) (first_of (event.Want client ino caps)) (changed-keeps t (holder client ino) k _ (λ f. refl))
   by_event (event.Ack client ino seq) = acked-own (holder client ino) (first_of (event.Ack client ino seq)) refl
   by_event (event.Release client ino caps) = released-own (holder client ino) caps (first_of (event.Release client ino caps)) refl
-  by_event (event.Get client ino part) = keeps_all (event.Get client ino part) refl
-  by_event (event.Alter client ino change) = keeps_all (event.Alter client ino change) refl
-  by_event (event.Unlink client ino) = keeps_all (event.Unlink client ino) refl
-  by_event (event.Rmdir client ino) = keeps_all (event.Rmdir client ino) refl
-  by_event (event.Rename client ino dir name) = keeps_all (event.Rename client ino dir name) refl
-  by_event (event.Flush client ino change) = keeps_all (event.Flush client ino change) refl
-  by_event (event.Poll client max) = keeps_all (event.Poll client max) refl
+  by_event e = keeps_all e refl
 
 -- ---- a step
 

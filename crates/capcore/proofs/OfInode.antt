@@ -31,19 +31,6 @@ pub data IsOfInode (k : Holder) (e : Event) : Type 0 where
   Flushes : (change : Change) → e ≡ event.Flush k.client k.ino change → IsOfInode k e
 
 pub asked_by : (e : Event) (k : Holder) → touched_by e ≡ Some k → IsOfInode k e
-asked_by (event.Session client caller grants) k is = absurd (none-some k is)
-asked_by (event.CloseSession client) k is = absurd (none-some k is)
-asked_by (event.Stale client) k is = absurd (none-some k is)
-asked_by (event.Renew client) k is = absurd (none-some k is)
-asked_by (event.Regrant client grants) k is = absurd (none-some k is)
-asked_by (event.Evict client) k is = absurd (none-some k is)
-asked_by (event.Unblock client) k is = absurd (none-some k is)
-asked_by (event.Recall count) k is = absurd (none-some k is)
-asked_by (event.Lookup client dir name) k is = absurd (none-some k is)
-asked_by (event.Create client dir name mode) k is = absurd (none-some k is)
-asked_by (event.Mkdir client dir name mode) k is = absurd (none-some k is)
-asked_by (event.MakeSnapshot client ino name) k is = absurd (none-some k is)
-asked_by (event.RemoveSnapshot client ino name) k is = absurd (none-some k is)
 asked_by (event.Open client ino mode) k is = let same : holder client ino ≡ k = cc in Touches_entry (Open mode) (λ i. event.Open (same i).client (same i).ino mode)
 asked_by (event.Want client ino caps) k is = let same : holder client ino ≡ k = cc in Touches_entry (Want caps) (λ i. event.Want (same i).client (same i).ino caps)
 asked_by (event.Ack client ino seq) k is = let same : holder client ino ≡ k = cc in Touches_entry (Ack seq) (λ i. event.Ack (same i).client (same i).ino seq)
@@ -54,7 +41,7 @@ asked_by (event.Unlink client ino) k is = let same : holder client ino ≡ k = c
 asked_by (event.Rmdir client ino) k is = let same : holder client ino ≡ k = cc in Waits_for Rmdir (λ i. Some (same i, Rmdir))
 asked_by (event.Rename client ino dir name) k is = let same : holder client ino ≡ k = cc in Waits_for (Rename dir name) (λ i. Some (same i, Rename dir name))
 asked_by (event.Flush client ino change) k is = let same : holder client ino ≡ k = cc in Flushes change (λ i. event.Flush (same i).client (same i).ino change)
-asked_by (event.Poll client max) k is = absurd (none-some k is)
+asked_by e k is = absurd (none-some k is)
 
 -- ---- an event that nothing stops
 

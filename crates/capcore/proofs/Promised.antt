@@ -58,30 +58,15 @@ module _ (old last : State) (ended : List Ended) where
 
   -- one that waits for no lock
   effect-no_stop : (e : Event) → asks_for e ≡ None → is_stop (read_off (effect old e)) ≡ false
-  effect-no_stop (event.Session client caller grants) none = refl
-  effect-no_stop (event.CloseSession client) none = refl
-  effect-no_stop (event.Stale client) none = refl
-  effect-no_stop (event.Renew client) none = refl
-  effect-no_stop (event.Regrant client grants) none = refl
-  effect-no_stop (event.Evict client) none = refl
-  effect-no_stop (event.Unblock client) none = refl
-  effect-no_stop (event.Recall count) none = refl
   effect-no_stop (event.Lookup client dir name) none = lookup-no_stop (child old.scene.tree.nodes dir.0 name)
-  effect-no_stop (event.Create client dir name mode) none = refl
-  effect-no_stop (event.Mkdir client dir name mode) none = refl
-  effect-no_stop (event.MakeSnapshot client ino name) none = refl
-  effect-no_stop (event.RemoveSnapshot client ino name) none = refl
   effect-no_stop (event.Open client ino mode) none = opened-no_stop (find (is_row_of (holder client ino)) last.scene.table.rows)
   effect-no_stop (event.Want client ino caps) none = opened-no_stop (find (is_row_of (holder client ino)) last.scene.table.rows)
-  effect-no_stop (event.Ack client ino seq) none = refl
-  effect-no_stop (event.Release client ino caps) none = refl
   effect-no_stop (event.Get client ino part) none = absurd (none-some (holder client ino, Get part) (sym none))
   effect-no_stop (event.Alter client ino change) none = absurd (none-some (holder client ino, Alter change) (sym none))
   effect-no_stop (event.Unlink client ino) none = absurd (none-some (holder client ino, Unlink) (sym none))
   effect-no_stop (event.Rmdir client ino) none = absurd (none-some (holder client ino, Rmdir) (sym none))
   effect-no_stop (event.Rename client ino dir name) none = absurd (none-some (holder client ino, Rename dir name) (sym none))
-  effect-no_stop (event.Flush client ino change) none = refl
-  effect-no_stop (event.Poll client max) none = refl
+  effect-no_stop e none = refl
 
 -- one that waits for a lock: if it is served in the step, then on the tree and the sessions on which it came
 asking-no_stop : (old last : State) (e : Event) (k : Holder) (ask : Ask) (moves : List Made) (s : Scene) → IsSound old → IsLockMap old.scene.locks → asks_for e ≡ Some (k, ask) → judged old.scene e ≡ None

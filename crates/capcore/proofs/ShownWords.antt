@@ -141,26 +141,4 @@ module _ (rows : List Row) (old : State) (sound : IsSound old) (was : AreShown r
 
 pub all-takes_unshown : (rows : List Row) (old : State) (e : Event) → IsSound old → AreShown rows old.scene → TakesUnshown rows old.scene e (direct old e).state.scene
 all-takes_unshown rows old (event.Ack client ino seq) sound was = λ cap held gone. takes-unshown rows old sound was client ino seq cap held gone
-all-takes_unshown rows old (event.Session client caller grants) sound was = tt
-all-takes_unshown rows old (event.CloseSession client) sound was = tt
-all-takes_unshown rows old (event.Stale client) sound was = tt
-all-takes_unshown rows old (event.Renew client) sound was = tt
-all-takes_unshown rows old (event.Regrant client grants) sound was = tt
-all-takes_unshown rows old (event.Evict client) sound was = tt
-all-takes_unshown rows old (event.Unblock client) sound was = tt
-all-takes_unshown rows old (event.Recall count) sound was = tt
-all-takes_unshown rows old (event.Lookup client dir name) sound was = tt
-all-takes_unshown rows old (event.Create client dir name mode) sound was = tt
-all-takes_unshown rows old (event.Mkdir client dir name mode) sound was = tt
-all-takes_unshown rows old (event.MakeSnapshot client ino name) sound was = tt
-all-takes_unshown rows old (event.RemoveSnapshot client ino name) sound was = tt
-all-takes_unshown rows old (event.Open client ino mode) sound was = tt
-all-takes_unshown rows old (event.Want client ino caps) sound was = tt
-all-takes_unshown rows old (event.Release client ino caps) sound was = tt
-all-takes_unshown rows old (event.Get client ino part) sound was = tt
-all-takes_unshown rows old (event.Alter client ino change) sound was = tt
-all-takes_unshown rows old (event.Unlink client ino) sound was = tt
-all-takes_unshown rows old (event.Rmdir client ino) sound was = tt
-all-takes_unshown rows old (event.Rename client ino dir name) sound was = tt
-all-takes_unshown rows old (event.Flush client ino change) sound was = tt
-all-takes_unshown rows old (event.Poll client max) sound was = tt
+all-takes_unshown rows old e sound was = tt

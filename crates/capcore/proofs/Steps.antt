@@ -5,7 +5,7 @@ use Rattle.capbits.specs.Refusal.{first_failing}
 use Rattle.inotree.specs.Inodes.{with_snapshot, without_snapshot}
 use Rattle.inotree.specs.Tree.{IsTree, child}
 use Rattle.sessiontab.specs.Tests.{new_session_tests}
-use Rattle.captable.specs.Table.{IsTable, holder}
+use Rattle.captable.specs.Table.{IsTable}
 use Rattle.capsteps.specs.Capevents.declared.event.Event.{Event}
 use Rattle.capsteps.specs.Capevents.declared.event.Event.TheVariants as event
 use Rattle.capsteps.specs.Capevents.declared.outcome.Ended.{Ended}
@@ -39,34 +39,14 @@ IsAlone e = (touched_by e ≡ None) × (is_listing e ≡ false) × (turned_by e 
 -- ---- the event by itself
 
 none_dropped-effect : (old : State) (e : Event) → turned_by e ≡ None → (effect old e).dropped ≡ []
-none_dropped-effect old (event.Session client caller grants) is = refl
 none_dropped-effect old (event.CloseSession client) is = absurd (none-some client (sym is))
-none_dropped-effect old (event.Stale client) is = absurd (none-some client (sym is))
-none_dropped-effect old (event.Renew client) is = absurd (none-some client (sym is))
-none_dropped-effect old (event.Regrant client grants) is = absurd (none-some client (sym is))
 none_dropped-effect old (event.Evict client) is = absurd (none-some client (sym is))
-none_dropped-effect old (event.Unblock client) is = refl
-none_dropped-effect old (event.Recall count) is = refl
 none_dropped-effect old (event.Lookup client dir name) is = by_found (child old.scene.tree.nodes dir.0 name)
   where
     by_found : (o : Option ℕ) → (found old o).dropped ≡ []
     by_found None = refl
     by_found (Some ino) = refl
-none_dropped-effect old (event.Create client dir name mode) is = refl
-none_dropped-effect old (event.Mkdir client dir name mode) is = refl
-none_dropped-effect old (event.MakeSnapshot client ino name) is = refl
-none_dropped-effect old (event.RemoveSnapshot client ino name) is = refl
-none_dropped-effect old (event.Open client ino mode) is = refl
-none_dropped-effect old (event.Want client ino caps) is = refl
-none_dropped-effect old (event.Ack client ino seq) is = refl
-none_dropped-effect old (event.Release client ino caps) is = refl
-none_dropped-effect old (event.Get client ino part) is = refl
-none_dropped-effect old (event.Alter client ino change) is = refl
-none_dropped-effect old (event.Unlink client ino) is = refl
-none_dropped-effect old (event.Rmdir client ino) is = refl
-none_dropped-effect old (event.Rename client ino dir name) is = refl
-none_dropped-effect old (event.Flush client ino change) is = refl
-none_dropped-effect old (event.Poll client max) is = refl
+none_dropped-effect old e is = refl
 
 none_dropped : (old : State) (e : Event) → turned_by e ≡ None → (o : Option Stopped) → (effect_unless old e o).dropped ≡ []
 none_dropped old e is (Some r) = refl
@@ -122,30 +102,10 @@ found-plain s None = refl
 found-plain s (Some ino) = refl
 
 effect-plain : (s : State) (e : Event) → is_listing e ≡ false → lists (effect s e).answer ≡ false
-effect-plain s (event.Session client caller grants) plain = refl
-effect-plain s (event.CloseSession client) plain = refl
-effect-plain s (event.Stale client) plain = refl
-effect-plain s (event.Renew client) plain = refl
-effect-plain s (event.Regrant client grants) plain = refl
-effect-plain s (event.Evict client) plain = refl
-effect-plain s (event.Unblock client) plain = refl
 effect-plain s (event.Recall count) plain = absurd (true≢false plain)
 effect-plain s (event.Lookup client dir name) plain = found-plain s (child s.scene.tree.nodes dir.0 name)
-effect-plain s (event.Create client dir name mode) plain = refl
-effect-plain s (event.Mkdir client dir name mode) plain = refl
-effect-plain s (event.MakeSnapshot client ino name) plain = refl
-effect-plain s (event.RemoveSnapshot client ino name) plain = refl
-effect-plain s (event.Open client ino mode) plain = refl
-effect-plain s (event.Want client ino caps) plain = refl
-effect-plain s (event.Ack client ino seq) plain = refl
-effect-plain s (event.Release client ino caps) plain = refl
-effect-plain s (event.Get client ino part) plain = refl
-effect-plain s (event.Alter client ino change) plain = refl
-effect-plain s (event.Unlink client ino) plain = refl
-effect-plain s (event.Rmdir client ino) plain = refl
-effect-plain s (event.Rename client ino dir name) plain = refl
-effect-plain s (event.Flush client ino change) plain = refl
 effect-plain s (event.Poll client max) plain = absurd (true≢false plain)
+effect-plain s e plain = refl
 
 plain_unless : (s : State) (e : Event) → is_listing e ≡ false → (o : Option Stopped) → lists (effect_unless s e o).answer ≡ false
 plain_unless s e plain (Some (ByPolicy access rules)) = refl
@@ -174,11 +134,6 @@ module _ (old : State) (sound : IsSound old) (tree : IsTree old.scene.tree) wher
   effect-left (event.Session client caller grants) alone none =
       let passed : first_failing (new_session_tests old.scene.sessions client.0) ≡ None = no_test old.scene (new_session_tests old.scene.sessions client.0) [] [] none in
       record { leaves = session-leaves old sound client.0 caller grants passed; is = refl }
-  effect-left (event.CloseSession client) alone none = absurd (none-some client (sym alone.2))
-  effect-left (event.Stale client) alone none = absurd (none-some client (sym alone.2))
-  effect-left (event.Renew client) alone none = absurd (none-some client (sym alone.2))
-  effect-left (event.Regrant client grants) alone none = absurd (none-some client (sym alone.2))
-  effect-left (event.Evict client) alone none = absurd (none-some client (sym alone.2))
   effect-left (event.Unblock client) alone none = record { leaves = unblocked-leaves old sound client.0; is = refl }
   effect-left (event.Recall count) alone none = absurd (true≢false alone.1)
   effect-left (event.Lookup client dir name) alone none = found-left (child old.scene.tree.nodes dir.0 name)
@@ -186,17 +141,8 @@ module _ (old : State) (sound : IsSound old) (tree : IsTree old.scene.tree) wher
   effect-left (event.Mkdir client dir name mode) alone none = record { leaves = birth-leaves old sound Directory dir.0 name _ tree; is = refl }
   effect-left (event.MakeSnapshot client ino name) alone none = record { leaves = changed-leaves old sound (with_snapshot name) ino.0 (λ n. refl) (λ n. refl); is = refl }
   effect-left (event.RemoveSnapshot client ino name) alone none = record { leaves = changed-leaves old sound (without_snapshot name) ino.0 (λ n. refl) (λ n. refl); is = refl }
-  effect-left (event.Open client ino mode) alone none = absurd (none-some (holder client ino) (sym alone.0))
-  effect-left (event.Want client ino caps) alone none = absurd (none-some (holder client ino) (sym alone.0))
-  effect-left (event.Ack client ino seq) alone none = absurd (none-some (holder client ino) (sym alone.0))
-  effect-left (event.Release client ino caps) alone none = absurd (none-some (holder client ino) (sym alone.0))
-  effect-left (event.Get client ino part) alone none = absurd (none-some (holder client ino) (sym alone.0))
-  effect-left (event.Alter client ino change) alone none = absurd (none-some (holder client ino) (sym alone.0))
-  effect-left (event.Unlink client ino) alone none = absurd (none-some (holder client ino) (sym alone.0))
-  effect-left (event.Rmdir client ino) alone none = absurd (none-some (holder client ino) (sym alone.0))
-  effect-left (event.Rename client ino dir name) alone none = absurd (none-some (holder client ino) (sym alone.0))
-  effect-left (event.Flush client ino change) alone none = absurd (none-some (holder client ino) (sym alone.0))
   effect-left (event.Poll client max) alone none = absurd (true≢false alone.1)
+  effect-left e (untouched, unlisted, unturned) none = absurd (cc)
 
   left_unless : (e : Event) → IsAlone e → (o : Option Stopped) → judged old.scene e ≡ o → IsLeft old (effect_unless old e o).state
   left_unless e alone (Some stopped) is = same-left

@@ -5,16 +5,13 @@ use Rattle.capgrant.specs.declared.access.Access.{Access}
 use Rattle.capbits.specs.Refusal.{first_failing}
 use Rattle.capbits.proofs.Tests.{passed-both}
 use Rattle.inotree.specs.Tests.{inode_tests}
-use Rattle.inotree.specs.Tree.{IsTree}
 use Rattle.sessiontab.specs.Tests.{session_tests}
-use Rattle.capsteps.specs.Lockmachine.Locks.{IsLockMap}
 use Rattle.capsteps.specs.Lockmachine.declared.scene.Scene.{Scene}
 use Rattle.capsteps.proofs.Judging.{no_test}
 use Rattle.captable.specs.declared.entry.Holder.{Holder}
 use Rattle.captable.specs.Table.{IsTable}
 use Rattle.capsteps.specs.Lockmachine.declared.request.Ask.{Ask}
 use Rattle.capsteps.specs.Capevents.declared.event.Event.{Event}
-use Rattle.capsteps.specs.Capevents.declared.event.Event.TheVariants as event
 use Rattle.capsteps.specs.Capevents.declared.outcome.Ended.{Ended}
 use Rattle.capsteps.specs.Capevents.declared.reply.Reply.{Reply}
 use Rattle.capsteps.specs.declared.said.Said.{Said}
@@ -28,20 +25,10 @@ use Rattle.capsteps.specs.Caprules.Judge.{judged, stop, stop_reply, asked_tests,
 use Rattle.capsteps.specs.Caprules.Needs.{need}
 use Rattle.capsteps.specs.Caprules.Sound.{IsSound}
 use Rattle.capsteps.specs.Caprules.Step.{Step}
-use Rattle.capsteps.specs.Touching.{asks_for, touched_by}
+use Rattle.capsteps.specs.Touching.{Scope, Waiting, scope, asks_in, asks_for, touched_in, touched_by}
 use Rattle.capcore.proofs.Promised.{has-due}
 use Rattle.capcore.proofs.Sounding.{later-given}
 use Rattle.capsteps.proofs.Stopping.{stopped-step}
-
--- what parts of a state keep by themselves
-abbrev pub HasTree : State → Type 0
-HasTree s = IsTree s.scene.tree
-
-abbrev pub HasTable : State → Type 0
-HasTable s = IsTable s.scene.table
-
-abbrev pub HasLocks : State → Type 0
-HasLocks s = IsLockMap s.scene.locks
 
 -- ---- what is stopped
 
@@ -84,31 +71,9 @@ holder_is : (a b : Holder × Ask) → Some a ≡ Some b → a ≡ b
 holder_is a b is = cc
 
 -- which inode it touches
-touched_as : (e : Event) (p : Holder × Ask) → asks_for e ≡ Some p → touched_by e ≡ Some p.0
-touched_as (event.Session client caller grants) p is = absurd (cc)
-touched_as (event.CloseSession client) p is = absurd (cc)
-touched_as (event.Stale client) p is = absurd (cc)
-touched_as (event.Renew client) p is = absurd (cc)
-touched_as (event.Regrant client grants) p is = absurd (cc)
-touched_as (event.Evict client) p is = absurd (cc)
-touched_as (event.Unblock client) p is = absurd (cc)
-touched_as (event.Recall count) p is = absurd (cc)
-touched_as (event.Lookup client dir name) p is = absurd (cc)
-touched_as (event.Create client dir name mode) p is = absurd (cc)
-touched_as (event.Mkdir client dir name mode) p is = absurd (cc)
-touched_as (event.MakeSnapshot client ino name) p is = absurd (cc)
-touched_as (event.RemoveSnapshot client ino name) p is = absurd (cc)
-touched_as (event.Open client ino mode) p is = absurd (cc)
-touched_as (event.Want client ino caps) p is = absurd (cc)
-touched_as (event.Ack client ino seq) p is = absurd (cc)
-touched_as (event.Release client ino caps) p is = absurd (cc)
-touched_as (event.Get client ino part) p is = ap (λ (q : Holder × Ask). Some q.0) (holder_is _ p is)
-touched_as (event.Alter client ino change) p is = ap (λ (q : Holder × Ask). Some q.0) (holder_is _ p is)
-touched_as (event.Unlink client ino) p is = ap (λ (q : Holder × Ask). Some q.0) (holder_is _ p is)
-touched_as (event.Rmdir client ino) p is = ap (λ (q : Holder × Ask). Some q.0) (holder_is _ p is)
-touched_as (event.Rename client ino dir name) p is = ap (λ (q : Holder × Ask). Some q.0) (holder_is _ p is)
-touched_as (event.Flush client ino change) p is = absurd (cc)
-touched_as (event.Poll client max) p is = absurd (cc)
+touched_as : (s : Scope) (p : Holder × Ask) → asks_in s ≡ Some p → touched_in s ≡ Some p.0
+touched_as (Waiting k ask) p is = ap (λ (q : Holder × Ask). Some q.0) (holder_is (k, ask) p is)
+touched_as s p is = absurd (cc)
 
 pub touched-asks : (e : Event) (k : Holder) (ask : Ask) → asks_for e ≡ Some (k, ask) → touched_by e ≡ Some k
-touched-asks e k ask is = touched_as e (k, ask) is
+touched-asks e k ask is = touched_as (scope e) (k, ask) is

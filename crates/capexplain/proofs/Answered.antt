@@ -1,12 +1,12 @@
 -- A line that answers a question is that of one answer alone.
-use Rattle.std.proofs.Common.{◌≡◌, ℕ, zero, suc, ◌+◌, ◌<◌, ◌^◌, ◌%◌, ◌==◌, ◌&&◌, inl, inr, Bool, true, List, [], ◌∷◌, ◌++◌, drop, refl, sym, ap, ◌∙◌, append_assoc, arith}
+use Rattle.std.proofs.Common.{◌≡◌, ℕ, zero, suc, ◌+◌, ◌<◌, ◌^◌, ◌%◌, ◌==◌, ◌&&◌, inl, inr, Bool, true, false, List, [], ◌∷◌, ◌++◌, drop, refl, sym, ap, ◌∙◌, append_assoc, arith}
 use Rattle.std.specs.Prelude.{codes, nat_eq, bytes_eq, if◌then◌else◌}
 use Rattle.std.specs.Fmt.{decimal}
 use Rattle.std.specs.List.{list_all, flat_map, enumerate_from, starts_with}
 use Rattle.std.specs.Str.Parse.{digits_value}
 use Rattle.std.proofs.lemmas.Bool.{and_parts, cases_lt}
 use Rattle.std.proofs.lemmas.Fmt.{decimal_is_IsNumeral, decimal_by_steps, decimal_injective}
-use Rattle.std.proofs.lemmas.List.{append_cancel_left}
+use Rattle.std.proofs.lemmas.List.{append_cancel_left, append_cancel_right}
 use Rattle.capgrant.specs.declared.access.Access.{Access}
 use Rattle.capgrant.specs.declared.access.Access.TheVariants.{Read, Write, SetVxattr, Snapshot, Chmod, Chown, Chgrp}
 use Rattle.capgrant.specs.declared.answer.Verdict.{Verdict}
@@ -15,10 +15,10 @@ use Rattle.capgrant.specs.declared.rule.Rule.{Rule}
 use Rattle.capgrant.specs.declared.rule.Rule.TheVariants as rules
 use Rattle.capgrant.specs.Access.{access_word}
 use Rattle.capgrant.specs.Rule.{rule_number, rule_word}
-use Rattle.capexplain.specs.Explaining.{failure_text, failures_text}
+use Rattle.capexplain.specs.Explaining.{failure_text, failures_text, outcome_text, reason_text}
 use Rattle.capexplain.specs.Lines.{answer_line, HasNumber, HasGrant}
 use Rattle.capexplain.specs.Quoting.{is_plain, quoted}
-use Rattle.capexplain.proofs.Quoted.{first_byte, clash, bare, before_a_space}
+use Rattle.capexplain.proofs.Quoted.{first_byte, clash, bare, bare_to, plain_both, before_a_space}
 
 -- ---- numbers
 
@@ -46,6 +46,20 @@ plain_number =
     decimal_by_steps (λ n ds. list_all is_plain ds ≡ true)
     (λ n below. plain_push [] (48 + n) refl (plain_below 10 n refl below))
     (λ n ds large all. plain_push ds (48 + n % 10) all (plain_below 10 (n % 10) refl (omega arith)))
+
+-- a byte that is not plain ends it
+pub number_to : (end m n : ℕ) (s t : List ℕ) → is_plain end ≡ false → m < 2 ^ 64 → n < 2 ^ 64 → decimal m ++ end ∷ s ≡ decimal n ++ end ∷ t → (m ≡ n) × (s ≡ t)
+number_to end m n s t stops small also same =
+    let both = bare_to end (decimal m) (decimal n) s t stops (plain_number m small) (plain_number n also) same in
+    (decimal_injective m n small also both.0, both.1)
+
+-- this byte stands behind it, and then one that is not plain
+pub number_and : (mark end m n : ℕ) (s t : List ℕ) → is_plain mark ≡ true → is_plain end ≡ false → m < 2 ^ 64 → n < 2 ^ 64 → decimal m ++ mark ∷ end ∷ s ≡ decimal n ++ mark ∷ end ∷ t → (m ≡ n) × (s ≡ t)
+number_and mark end m n s t plain stops small also same =
+    let one : list_all is_plain (mark ∷ []) ≡ true = rw plain refl in
+    let both = bare_to end (decimal m ++ mark ∷ []) (decimal n ++ mark ∷ []) s t stops (plain_both (decimal m) (mark ∷ []) (plain_number m small) one) (plain_both (decimal n) (mark ∷ []) (plain_number n also) one)
+    (append_assoc (decimal m) (mark ∷ []) (end ∷ s) ∙ same ∙ sym (append_assoc (decimal n) (mark ∷ []) (end ∷ t))) in
+    (decimal_injective m n small also (append_cancel_right (decimal m) (decimal n) (mark ∷ []) both.0), both.1)
 
 -- ---- accesses
 
@@ -120,26 +134,36 @@ one_failure k r q s t same =
 abbrev further : ℕ × Rule → List ℕ
 further failure = codes ", " ++ failure_text failure
 
-one_row : (n : ℕ) (rs qs : List Rule) → flat_map further (enumerate_from n rs) ≡ flat_map further (enumerate_from n qs) → rs ≡ qs
-one_row n [] [] same = refl
-one_row n [] (q ∷ qs) same = clash 0 44 (omega arith) (ap first_byte same)
-one_row n (r ∷ rs) [] same = clash 0 44 (omega arith) (sym (ap first_byte same))
-one_row n (r ∷ rs) (q ∷ qs) same =
-    let behind = append_cancel_left (codes ", ") (failure_text (n, r) ++ flat_map further (enumerate_from (n + 1) rs)) (failure_text (n, q) ++ flat_map further (enumerate_from (n + 1) qs)) same in
-    let both = one_failure n r q (flat_map further (enumerate_from (n + 1) rs)) (flat_map further (enumerate_from (n + 1) qs)) behind in
+-- a line feed stands behind the last
+one_row : (n : ℕ) (rs qs : List Rule) (s t : List ℕ) → flat_map further (enumerate_from n rs) ++ 10 ∷ s ≡ flat_map further (enumerate_from n qs) ++ 10 ∷ t → (rs ≡ qs) × (s ≡ t)
+one_row n [] [] s t same = (refl, append_cancel_left (codes "\n") s t same)
+one_row n [] (q ∷ qs) s t same = clash 10 44 (omega arith) (ap first_byte same)
+one_row n (r ∷ rs) [] s t same = clash 10 44 (omega arith) (sym (ap first_byte same))
+one_row n (r ∷ rs) (q ∷ qs) s t same =
+    let more : List ℕ = flat_map further (enumerate_from (n + 1) rs) in
+    let others : List ℕ = flat_map further (enumerate_from (n + 1) qs) in
+    let behind = append_cancel_left (codes ", ") (failure_text (n, r) ++ (more ++ 10 ∷ s)) (failure_text (n, q) ++ (others ++ 10 ∷ t)) (sym (append_assoc (further (n, r)) more (10 ∷ s)) ∙ same ∙ append_assoc (further (n, q)) others (10 ∷ t)) in
+    let both = one_failure n r q (more ++ 10 ∷ s) (others ++ 10 ∷ t) behind in
+    let rest = one_row (n + 1) rs qs s t both.1 in
     let here : r ≡ q = both.0 in
-    let more : rs ≡ qs = one_row (n + 1) rs qs both.1 in
-    cc
+    let all : rs ≡ qs = rest.0 in
+    (cc, rest.1)
+
+pub one_list_to : (rs qs : List Rule) (s t : List ℕ) → failures_text rs ++ 10 ∷ s ≡ failures_text qs ++ 10 ∷ t → (rs ≡ qs) × (s ≡ t)
+one_list_to [] [] s t same = (refl, append_cancel_left (codes "no grants\n") s t same)
+one_list_to [] (q ∷ qs) s t same = clash 103 110 (omega arith) (sym (ap first_byte same))
+one_list_to (r ∷ rs) [] s t same = clash 103 110 (omega arith) (ap first_byte same)
+one_list_to (r ∷ rs) (q ∷ qs) s t same =
+    let more : List ℕ = flat_map further (enumerate_from 2 rs) in
+    let others : List ℕ = flat_map further (enumerate_from 2 qs) in
+    let both = one_failure 1 r q (more ++ 10 ∷ s) (others ++ 10 ∷ t) (sym (append_assoc (failure_text (1, r)) more (10 ∷ s)) ∙ same ∙ append_assoc (failure_text (1, q)) others (10 ∷ t)) in
+    let rest = one_row 2 rs qs s t both.1 in
+    let here : r ≡ q = both.0 in
+    let all : rs ≡ qs = rest.0 in
+    (cc, rest.1)
 
 pub one_list : (rs qs : List Rule) → failures_text rs ≡ failures_text qs → rs ≡ qs
-one_list [] [] same = refl
-one_list [] (q ∷ qs) same = clash 103 110 (omega arith) (sym (ap first_byte same))
-one_list (r ∷ rs) [] same = clash 103 110 (omega arith) (ap first_byte same)
-one_list (r ∷ rs) (q ∷ qs) same =
-    let both = one_failure 1 r q (flat_map further (enumerate_from 2 rs)) (flat_map further (enumerate_from 2 qs)) same in
-    let here : r ≡ q = both.0 in
-    let more : rs ≡ qs = one_row 2 rs qs both.1 in
-    cc
+one_list rs qs same = (one_list_to rs qs [] [] (ap (λ (w : List ℕ). w ++ 10 ∷ []) same)).0
 
 -- ---- whole lines
 
@@ -151,23 +175,34 @@ parted a b p q s t fits also same =
     let path = before_a_space p q s t word.1 in
     (one_access a b fits also word.0, path.0, path.1)
 
-allowed_line : (a : Access) (p : List ℕ) (grant : ℕ) → answer_line a p (Allowed grant) ≡ codes "allowed " ++ (access_word a ++ 32 ∷ (quoted p ++ 32 ∷ (codes "grant " ++ decimal grant)))
-allowed_line a p grant = simp append_assoc
+in_parts : (a : Access) (p : List ℕ) (v : Verdict) (s : List ℕ) → answer_line a p v ++ s ≡ outcome_text a v ++ (quoted p ++ (reason_text v ++ s))
+in_parts a p v s = append_assoc (outcome_text a v) (quoted p ++ reason_text v) s ∙ ap (λ (r : List ℕ). outcome_text a v ++ r) (append_assoc (quoted p) (reason_text v) s)
 
-denied_line : (a : Access) (p : List ℕ) (rs : List Rule) → answer_line a p (Denied rs) ≡ codes "denied " ++ (access_word a ++ 32 ∷ (quoted p ++ 32 ∷ failures_text rs))
-denied_line a p rs = simp append_assoc
+allowed_line : (a : Access) (p : List ℕ) (grant : ℕ) (s : List ℕ) → answer_line a p (Allowed grant) ++ s ≡ codes "allowed " ++ (access_word a ++ 32 ∷ (quoted p ++ 32 ∷ (codes "grant " ++ (decimal grant ++ s))))
+allowed_line a p grant s = in_parts a p (Allowed grant) s ∙ ap (λ (r : List ℕ). codes "allowed " ++ r) (append_assoc (access_word a) (codes " ") (quoted p ++ (codes " grant " ++ (decimal grant ++ s))))
+
+denied_line : (a : Access) (p : List ℕ) (rs : List Rule) (s : List ℕ) → answer_line a p (Denied rs) ++ s ≡ codes "denied " ++ (access_word a ++ 32 ∷ (quoted p ++ 32 ∷ (failures_text rs ++ s)))
+denied_line a p rs s = in_parts a p (Denied rs) s ∙ ap (λ (r : List ℕ). codes "denied " ++ r) (append_assoc (access_word a) (codes " ") (quoted p ++ (codes " " ++ (failures_text rs ++ s))))
+
+-- and what stands behind the line
+pub one_answer_to : (a b : Access) (p q : List ℕ) (v w : Verdict) (s t : List ℕ) → HasNumber a → HasNumber b → HasGrant v → HasGrant w → answer_line a p v ++ 10 ∷ s ≡ answer_line b q w ++ 10 ∷ t
+    → (a ≡ b) × (p ≡ q) × (v ≡ w) × (s ≡ t)
+one_answer_to a b p q (Allowed g) (Allowed h) s t fits also small too same =
+    let behind = append_cancel_left (codes "allowed ") (access_word a ++ 32 ∷ (quoted p ++ 32 ∷ (codes "grant " ++ (decimal g ++ 10 ∷ s)))) (access_word b ++ 32 ∷ (quoted q ++ 32 ∷ (codes "grant " ++ (decimal h ++ 10 ∷ t))))
+    (sym (allowed_line a p g (10 ∷ s)) ∙ same ∙ allowed_line b q h (10 ∷ t)) in
+    let all = parted a b p q (codes "grant " ++ (decimal g ++ 10 ∷ s)) (codes "grant " ++ (decimal h ++ 10 ∷ t)) fits also behind in
+    let number = number_to 10 g h s t refl (omega arith) (omega arith) (append_cancel_left (codes "grant ") (decimal g ++ 10 ∷ s) (decimal h ++ 10 ∷ t) all.2) in
+    (all.0, all.1, ap Allowed number.0, number.1)
+one_answer_to a b p q (Allowed g) (Denied rs) s t fits also small too same = clash 97 100 (omega arith) (ap first_byte same)
+one_answer_to a b p q (Denied rs) (Allowed g) s t fits also small too same = clash 97 100 (omega arith) (sym (ap first_byte same))
+one_answer_to a b p q (Denied rs) (Denied qs) s t fits also small too same =
+    let behind = append_cancel_left (codes "denied ") (access_word a ++ 32 ∷ (quoted p ++ 32 ∷ (failures_text rs ++ 10 ∷ s))) (access_word b ++ 32 ∷ (quoted q ++ 32 ∷ (failures_text qs ++ 10 ∷ t)))
+    (sym (denied_line a p rs (10 ∷ s)) ∙ same ∙ denied_line b q qs (10 ∷ t)) in
+    let all = parted a b p q (failures_text rs ++ 10 ∷ s) (failures_text qs ++ 10 ∷ t) fits also behind in
+    let rules = one_list_to rs qs s t all.2 in
+    (all.0, all.1, ap Denied rules.0, rules.1)
 
 pub one_answer : (a b : Access) (p q : List ℕ) (v w : Verdict) → HasNumber a → HasNumber b → HasGrant v → HasGrant w → answer_line a p v ≡ answer_line b q w → (a ≡ b) × (p ≡ q) × (v ≡ w)
-one_answer a b p q (Allowed g) (Allowed h) fits also small too same =
-    let behind = append_cancel_left (codes "allowed ") (access_word a ++ 32 ∷ (quoted p ++ 32 ∷ (codes "grant " ++ decimal g))) (access_word b ++ 32 ∷ (quoted q ++ 32 ∷ (codes "grant " ++ decimal h)))
-    (sym (allowed_line a p g) ∙ same ∙ allowed_line b q h) in
-    let all = parted a b p q (codes "grant " ++ decimal g) (codes "grant " ++ decimal h) fits also behind in
-    let number = decimal_injective g h (omega arith) (omega arith) (append_cancel_left (codes "grant ") (decimal g) (decimal h) all.2) in
-    (all.0, all.1, ap Allowed number)
-one_answer a b p q (Allowed g) (Denied rs) fits also small too same = clash 97 100 (omega arith) (ap first_byte same)
-one_answer a b p q (Denied rs) (Allowed g) fits also small too same = clash 97 100 (omega arith) (sym (ap first_byte same))
-one_answer a b p q (Denied rs) (Denied qs) fits also small too same =
-    let behind = append_cancel_left (codes "denied ") (access_word a ++ 32 ∷ (quoted p ++ 32 ∷ failures_text rs)) (access_word b ++ 32 ∷ (quoted q ++ 32 ∷ failures_text qs))
-    (sym (denied_line a p rs) ∙ same ∙ denied_line b q qs) in
-    let all = parted a b p q (failures_text rs) (failures_text qs) fits also behind in
-    (all.0, all.1, ap Denied (one_list rs qs all.2))
+one_answer a b p q v w fits also small too same =
+    let all = one_answer_to a b p q v w [] [] fits also small too (ap (λ (line : List ℕ). line ++ 10 ∷ []) same) in
+    (all.0, all.1, all.2)

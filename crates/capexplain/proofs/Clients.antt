@@ -81,14 +81,14 @@ one_standing c d a b p q s t fits also small too same =
 
 -- ---- faults
 
-abbrev kind_of : List ℕ → SpecFaultKind
+abbrev pub kind_of : List ℕ → SpecFaultKind
 kind_of word =
     if bytes_eq word (codes "Empty") then Empty else (if bytes_eq word (codes "NotAllow") then NotAllow else (if bytes_eq word (codes "BadFlags") then BadFlags
     else (if bytes_eq word (codes "BadItem") then BadItem else (if bytes_eq word (codes "Twice") then Twice else (if bytes_eq word (codes "BadNumber") then BadNumber
     else (if bytes_eq word (codes "OpenQuote") then OpenQuote else (if bytes_eq word (codes "GidsWithoutUid") then GidsWithoutUid
     else (if bytes_eq word (codes "LeftOut") then LeftOut else (if bytes_eq word (codes "TooMany") then TooMany else (if bytes_eq word (codes "BadPath") then BadPath else NoMemory))))))))))
 
-has_word : (k : SpecFaultKind) → (kind_of (fault_word k) ≡ k) × (list_all is_plain (fault_word k) ≡ true)
+pub has_word : (k : SpecFaultKind) → (kind_of (fault_word k) ≡ k) × (list_all is_plain (fault_word k) ≡ true)
 has_word Empty = (refl, refl)
 has_word NotAllow = (refl, refl)
 has_word BadFlags = (refl, refl)

@@ -112,7 +112,7 @@ as_digits : (m : ℕ) → m < 2 ^ 12 → mode_text m ≡ digits_of m
 as_digits m small =
     rw (decimal_digit (m / 512) (omega arith), decimal_digit (m / 64 % 8) (omega arith), decimal_digit (m / 8 % 8) (omega arith), decimal_digit (m % 8) (omega arith)) refl
 
-mode : (m n : ℕ) (s t : List ℕ) → m < 2 ^ 12 → n < 2 ^ 12 → mode_text m ++ s ≡ mode_text n ++ t → (m ≡ n) × (s ≡ t)
+pub mode : (m n : ℕ) (s t : List ℕ) → m < 2 ^ 12 → n < 2 ^ 12 → mode_text m ++ s ≡ mode_text n ++ t → (m ≡ n) × (s ≡ t)
 mode m n s t small also same =
     let digits : digits_of m ++ s ≡ digits_of n ++ t = ap (λ (w : List ℕ). w ++ s) (sym (as_digits m small)) ∙ same ∙ ap (λ (w : List ℕ). w ++ t) (as_digits n also) in
     let first : 48 + m / 512 ≡ 48 + n / 512 = cc in

@@ -5,6 +5,9 @@ pub mod Quoted
 pub mod Answered
 pub mod Clients
 pub mod Compared
+pub mod Linted
+pub mod Remarked
+pub mod Asked
 pub use Rattle.capremarks.proofs.Capcompare
 pub use Rattle.capevents.proofs as Capevents
 pub use Rattle.capremarks.proofs as Capremarks

@@ -1,5 +1,5 @@
 -- What is shown in quotes can be read back, and so can what stands bare before a space.
-use Rattle.std.proofs.Common.{◌≡◌, ◌⊎◌, inl, inr, ℕ, ◌+◌, ◌<◌, ◌/◌, ◌%◌, true, false, cond, List, [], ◌∷◌, ◌++◌, refl, sym, ap, ◌∙◌, append_assoc, nat_lt, arith}
+use Rattle.std.proofs.Common.{◌≡◌, ◌⊎◌, inl, inr, ℕ, ◌+◌, ◌<◌, ◌/◌, ◌%◌, Bool, true, false, cond, List, [], ◌∷◌, ◌++◌, refl, sym, ap, ◌∙◌, append_assoc, nat_lt, arith}
 use Rattle.std.specs.Prelude.{codes}
 use Rattle.std.specs.Fmt.{digit_glyph}
 use Rattle.std.specs.List.{list_all, flat_map}
@@ -115,24 +115,32 @@ inside (x ∷ xs) (y ∷ ys) s t same =
 
 -- ---- texts that stand bare
 
--- a space ends them, and no quote begins them
-pub bare : (xs ys s t : List ℕ) → list_all is_plain xs ≡ true → list_all is_plain ys ≡ true → xs ++ 32 ∷ s ≡ ys ++ 32 ∷ t → (xs ≡ ys) × (s ≡ t)
-bare [] [] s t p q same = let e : 32 ∷ s ≡ 32 ∷ t = same in let rest : s ≡ t = cc in (refl, rest)
-bare [] (y ∷ ys) s t p q same =
-    let is : y ≡ 32 = sym (ap first_byte same) in absurd (false≢true (sym (ap is_plain is) ∙ (and_parts (is_plain y) (list_all is_plain ys) q).0))
-bare (x ∷ xs) [] s t p q same =
-    let is : x ≡ 32 = ap first_byte same in absurd (false≢true (sym (ap is_plain is) ∙ (and_parts (is_plain x) (list_all is_plain xs) p).0))
-bare (x ∷ xs) (y ∷ ys) s t p q same =
-    let e : x ∷ (xs ++ 32 ∷ s) ≡ y ∷ (ys ++ 32 ∷ t) = same in
+-- a byte ends them that fails a test which each of theirs passes
+pub parted_at : (test : ℕ → Bool) (end : ℕ) (xs ys s t : List ℕ) → test end ≡ false → list_all test xs ≡ true → list_all test ys ≡ true → xs ++ end ∷ s ≡ ys ++ end ∷ t → (xs ≡ ys) × (s ≡ t)
+parted_at test end [] [] s t fails p q same = let e : end ∷ s ≡ end ∷ t = same in let rest : s ≡ t = cc in (refl, rest)
+parted_at test end [] (y ∷ ys) s t fails p q same =
+    let is : y ≡ end = sym (ap first_byte same) in absurd (false≢true (sym (ap test is ∙ fails) ∙ (and_parts (test y) (list_all test ys) q).0))
+parted_at test end (x ∷ xs) [] s t fails p q same =
+    let is : x ≡ end = ap first_byte same in absurd (false≢true (sym (ap test is ∙ fails) ∙ (and_parts (test x) (list_all test xs) p).0))
+parted_at test end (x ∷ xs) (y ∷ ys) s t fails p q same =
+    let e : x ∷ (xs ++ end ∷ s) ≡ y ∷ (ys ++ end ∷ t) = same in
     let here : x ≡ y = ap first_byte e in
-    let behind : xs ++ 32 ∷ s ≡ ys ++ 32 ∷ t = cc in
-    let more = bare xs ys s t (and_parts (is_plain x) (list_all is_plain xs) p).1 (and_parts (is_plain y) (list_all is_plain ys) q).1 behind in
+    let behind : xs ++ end ∷ s ≡ ys ++ end ∷ t = cc in
+    let more = parted_at test end xs ys s t fails (and_parts (test x) (list_all test xs) p).1 (and_parts (test y) (list_all test ys) q).1 behind in
     let rest : xs ≡ ys = more.0 in
     (cc, more.1)
 
-no_opening : {A : Type 0} (xs s t : List ℕ) → list_all is_plain xs ≡ true → xs ++ 32 ∷ s ≡ 34 ∷ t → A
-no_opening [] s t p same = clash 32 34 (omega arith) (ap first_byte same)
-no_opening (x ∷ xs) s t p same =
+pub bare_to : (end : ℕ) (xs ys s t : List ℕ) → is_plain end ≡ false → list_all is_plain xs ≡ true → list_all is_plain ys ≡ true → xs ++ end ∷ s ≡ ys ++ end ∷ t → (xs ≡ ys) × (s ≡ t)
+bare_to end xs ys s t stops p q same = parted_at is_plain end xs ys s t stops p q same
+
+-- a space ends them
+pub bare : (xs ys s t : List ℕ) → list_all is_plain xs ≡ true → list_all is_plain ys ≡ true → xs ++ 32 ∷ s ≡ ys ++ 32 ∷ t → (xs ≡ ys) × (s ≡ t)
+bare xs ys s t p q same = bare_to 32 xs ys s t refl p q same
+
+-- no quote begins them
+no_opening : {A : Type 0} (end : ℕ) (xs s t : List ℕ) → end < 34 → list_all is_plain xs ≡ true → xs ++ end ∷ s ≡ 34 ∷ t → A
+no_opening end [] s t low p same = clash end 34 low (ap first_byte same)
+no_opening end (x ∷ xs) s t low p same =
     let is : x ≡ 34 = ap first_byte same in absurd (false≢true (sym (ap is_plain is) ∙ (and_parts (is_plain x) (list_all is_plain xs) p).0))
 
 -- ---- both
@@ -144,30 +152,37 @@ shown xs = codes "\"" ++ (flat_map escaped xs ++ codes "\"")
 opened : (xs s : List ℕ) → shown xs ++ s ≡ 34 ∷ (flat_map escaped xs ++ 34 ∷ s)
 opened xs s = ap (λ (t : List ℕ). 34 ∷ t) (append_assoc (flat_map escaped xs) (codes "\"") s)
 
-plain_both : (xs e : List ℕ) → list_all is_plain xs ≡ true → list_all is_plain e ≡ true → list_all is_plain (xs ++ e) ≡ true
+pub plain_both : (xs e : List ℕ) → list_all is_plain xs ≡ true → list_all is_plain e ≡ true → list_all is_plain (xs ++ e) ≡ true
 plain_both xs e p q = list_all-append is_plain xs e ∙ and_from (list_all is_plain xs) (list_all is_plain e) p q
 
--- plain bytes stand behind it, and end at a space
-pub before_word : (e xs ys s t : List ℕ) → list_all is_plain e ≡ true → quoted xs ++ (e ++ 32 ∷ s) ≡ quoted ys ++ (e ++ 32 ∷ t) → (xs ≡ ys) × (s ≡ t)
-before_word e xs ys s t plain =
-    elim (list_all is_plain xs) as (λ b. list_all is_plain xs ≡ b → cond b xs (shown xs) ++ (e ++ 32 ∷ s) ≡ quoted ys ++ (e ++ 32 ∷ t) → (xs ≡ ys) × (s ≡ t)) [
-      | true ↦ λ p. elim (list_all is_plain ys) as (λ b. list_all is_plain ys ≡ b → xs ++ (e ++ 32 ∷ s) ≡ cond b ys (shown ys) ++ (e ++ 32 ∷ t) → (xs ≡ ys) × (s ≡ t)) [
+-- plain bytes stand behind it, and end at such a byte
+before_stop : (end : ℕ) (e xs ys s t : List ℕ) → is_plain end ≡ false → end < 34 → list_all is_plain e ≡ true → quoted xs ++ (e ++ end ∷ s) ≡ quoted ys ++ (e ++ end ∷ t) → (xs ≡ ys) × (s ≡ t)
+before_stop end e xs ys s t stops low plain =
+    elim (list_all is_plain xs) as (λ b. list_all is_plain xs ≡ b → cond b xs (shown xs) ++ (e ++ end ∷ s) ≡ quoted ys ++ (e ++ end ∷ t) → (xs ≡ ys) × (s ≡ t)) [
+      | true ↦ λ p. elim (list_all is_plain ys) as (λ b. list_all is_plain ys ≡ b → xs ++ (e ++ end ∷ s) ≡ cond b ys (shown ys) ++ (e ++ end ∷ t) → (xs ≡ ys) × (s ≡ t)) [
         | true ↦ λ q same.
-            let both = bare (xs ++ e) (ys ++ e) s t (plain_both xs e p plain) (plain_both ys e q plain) (append_assoc xs e (32 ∷ s) ∙ same ∙ sym (append_assoc ys e (32 ∷ t))) in
+            let both = bare_to end (xs ++ e) (ys ++ e) s t stops (plain_both xs e p plain) (plain_both ys e q plain) (append_assoc xs e (end ∷ s) ∙ same ∙ sym (append_assoc ys e (end ∷ t))) in
             (append_cancel_right xs ys e both.0, both.1)
-        | false ↦ λ q same. no_opening (xs ++ e) s (flat_map escaped ys ++ 34 ∷ (e ++ 32 ∷ t)) (plain_both xs e p plain) (append_assoc xs e (32 ∷ s) ∙ same ∙ opened ys (e ++ 32 ∷ t))
+        | false ↦ λ q same. no_opening end (xs ++ e) s (flat_map escaped ys ++ 34 ∷ (e ++ end ∷ t)) low (plain_both xs e p plain) (append_assoc xs e (end ∷ s) ∙ same ∙ opened ys (e ++ end ∷ t))
       ] refl
-      | false ↦ λ p. elim (list_all is_plain ys) as (λ b. list_all is_plain ys ≡ b → shown xs ++ (e ++ 32 ∷ s) ≡ cond b ys (shown ys) ++ (e ++ 32 ∷ t) → (xs ≡ ys) × (s ≡ t)) [
-        | true ↦ λ q same. no_opening (ys ++ e) t (flat_map escaped xs ++ 34 ∷ (e ++ 32 ∷ s)) (plain_both ys e q plain) (append_assoc ys e (32 ∷ t) ∙ sym same ∙ opened xs (e ++ 32 ∷ s))
+      | false ↦ λ p. elim (list_all is_plain ys) as (λ b. list_all is_plain ys ≡ b → shown xs ++ (e ++ end ∷ s) ≡ cond b ys (shown ys) ++ (e ++ end ∷ t) → (xs ≡ ys) × (s ≡ t)) [
+        | true ↦ λ q same. no_opening end (ys ++ e) t (flat_map escaped xs ++ 34 ∷ (e ++ end ∷ s)) low (plain_both ys e q plain) (append_assoc ys e (end ∷ t) ∙ sym same ∙ opened xs (e ++ end ∷ s))
         | false ↦ λ q same.
-            let all : 34 ∷ (flat_map escaped xs ++ 34 ∷ (e ++ 32 ∷ s)) ≡ 34 ∷ (flat_map escaped ys ++ 34 ∷ (e ++ 32 ∷ t)) = sym (opened xs (e ++ 32 ∷ s)) ∙ same ∙ opened ys (e ++ 32 ∷ t) in
-            let behind : flat_map escaped xs ++ 34 ∷ (e ++ 32 ∷ s) ≡ flat_map escaped ys ++ 34 ∷ (e ++ 32 ∷ t) = cc in
-            let both = inside xs ys (e ++ 32 ∷ s) (e ++ 32 ∷ t) behind in
-            let tails : 32 ∷ s ≡ 32 ∷ t = append_cancel_left e (32 ∷ s) (32 ∷ t) both.1 in
+            let all : 34 ∷ (flat_map escaped xs ++ 34 ∷ (e ++ end ∷ s)) ≡ 34 ∷ (flat_map escaped ys ++ 34 ∷ (e ++ end ∷ t)) = sym (opened xs (e ++ end ∷ s)) ∙ same ∙ opened ys (e ++ end ∷ t) in
+            let behind : flat_map escaped xs ++ 34 ∷ (e ++ end ∷ s) ≡ flat_map escaped ys ++ 34 ∷ (e ++ end ∷ t) = cc in
+            let both = inside xs ys (e ++ end ∷ s) (e ++ end ∷ t) behind in
+            let tails : end ∷ s ≡ end ∷ t = append_cancel_left e (end ∷ s) (end ∷ t) both.1 in
             let rest : s ≡ t = cc in
             (both.0, rest)
       ] refl
     ] refl
+
+-- a space ends these
+pub before_word : (e xs ys s t : List ℕ) → list_all is_plain e ≡ true → quoted xs ++ (e ++ 32 ∷ s) ≡ quoted ys ++ (e ++ 32 ∷ t) → (xs ≡ ys) × (s ≡ t)
+before_word e xs ys s t plain same = before_stop 32 e xs ys s t refl (omega arith) plain same
+
+pub before_a_line_feed : (xs ys s t : List ℕ) → quoted xs ++ 10 ∷ s ≡ quoted ys ++ 10 ∷ t → (xs ≡ ys) × (s ≡ t)
+before_a_line_feed xs ys s t same = before_stop 10 [] xs ys s t refl (omega arith) refl same
 
 pub before_a_space : (xs ys s t : List ℕ) → quoted xs ++ 32 ∷ s ≡ quoted ys ++ 32 ∷ t → (xs ≡ ys) × (s ≡ t)
 before_a_space xs ys s t same = before_word [] xs ys s t refl same

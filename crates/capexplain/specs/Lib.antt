@@ -8,8 +8,10 @@ pub mod Explaining
 pub mod Quoting
 pub mod Lines
 pub mod Remarks
+pub mod Remarked
 pub mod Comparing
 pub mod Linting
+pub mod Found
 pub mod Standing
 pub use Rattle.capremarks.specs.Capcompare
 pub use Rattle.capevents.specs as Capevents

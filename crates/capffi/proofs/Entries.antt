@@ -18,7 +18,7 @@ use Rattle.capgrant.specs.Verdict.{allows, first_failures, verdict_of}
 use Rattle.capffi.specs.declared.block.Entry.{Entry}
 use Rattle.capffi.specs.declared.passed.Answer.{Answer}
 use Rattle.capffi.specs.Answering.{answer_of, rule_numbers}
-use Rattle.capffi.specs.ByBlock.{alone, with_groups, open_rules}
+use Rattle.capffi.specs.ByBlock.{alone, number_of, with_groups, open_rules}
 use Rattle.capffi.specs.Blocks.{grant_of, path_in, fs_in, behind, grants_in}
 
 -- what stands behind the texts of entries
@@ -138,6 +138,11 @@ pub openly : (q : Question) (g : Grant) (found : Option Rule) → found ≡ find
 unfolding fails_fsname fails_path fails_no_write fails_root_squash fails_no_p fails_no_s
 openly q g found is uid gids groups = sym (open_first (with_groups q groups) g uid gids) ∙ sym is
 
+-- no text counts for the rules behind that of the path
+pub further_same : (q : Question) (e : Entry) (text : List ℕ) (one other : Grant) → one ≡ grant_of e (path_in e []) (fs_in e []) → other ≡ grant_of e (path_in e text) (fs_in e text) → number_of (find (λ r. fails r q one) (drop 2 open_rules)) ≡ number_of (find (λ r. fails r q other) (drop 2 open_rules))
+unfolding fails_no_write fails_root_squash fails_no_p fails_no_s
+further_same q e text one other is are = rw (is, are) refl
+
 -- ---- the numbers of the rules
 
 put_rule : (rules : List Rule) (place : ℕ) (rule : Rule) → length rules ≡ place → place < 16 → set (rule_numbers rules) place (rule_number rule) ≡ rule_numbers (rules ++ rule ∷ [])
@@ -214,3 +219,7 @@ alone_fails q (e ∷ []) d text rule n one fails number =
     let is : alone (rule_number rule) ≡ record { grant = 0; count = 1; rules = rule_numbers (rule ∷ []) } = rw (number_some rule) refl in
     ap alone number ∙ is ∙ denied_answer q (e ∷ []) 1 text (rule_numbers (rule ∷ [])) (omega arith) none are
 alone_fails q (e ∷ f ∷ entries) d text rule n one fails number = absurd (omega (arith, one))
+
+pub alone_tells : (q : Question) (entries : List Entry) (d : Entry) (text : List ℕ) (found : Option Rule) (n : ℕ) → length entries ≡ 1 → first_failing q (first_of (at entries 0 d) text) ≡ found → n ≡ number_of found → alone n ≡ answer_of (verdict_of q (grants_in entries text))
+alone_tells q entries d text None n one passes number = ap alone number ∙ alone_allows q entries d text one passes
+alone_tells q entries d text (Some rule) n one fails number = alone_fails q entries d text rule n one fails number

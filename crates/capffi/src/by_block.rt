@@ -2,7 +2,7 @@
 ghost use Rattle.std.specs.Prelude.{◌≡◌, ◌≤◌, ◌↔◌, ℕ, List, length, IsTrue, IfSome};
 ghost use Rattle.capwords.specs.Paths.{names_of};
 ghost use Rattle.capffi.specs.Blocks.{IsBlock, bare_names};
-ghost use Rattle.capffi.specs.ByBlock.{IsSaid, IsSaidOf, IsSoonOf, TellsSoon, Tells, alone};
+ghost use Rattle.capffi.specs.ByBlock.{IsSaid, IsSaidOf, IsSoon, IsSoonOf, TellsSoon, Tells, alone};
 ghost use Rattle.capgrant.specs.Question.{question as asked};
 
 use crate::answering::tell_alone;
@@ -11,7 +11,7 @@ use crate::block::{BLOCK_VERSION, Block};
 use crate::given::split_front;
 use crate::judging::{Case, verdict_of};
 use crate::passed::{Answer, Question};
-use crate::plain::{plain, soon_plain};
+use crate::plain::{MAX_SOON, is_soon_plain, plain, without_slash};
 use crate::trouble::Trouble;
 use capbits::Mode;
 use capgrant::{Access, Attr, Verdict};
@@ -30,16 +30,69 @@ pub(crate) fn soon(
 ) -> u32
     ensures { TellsSoon block.now text.now path.now question.now answer.old answer.new result }
 {
-    if !is_block(block, text) {
-        return 0;
-    }
+    let bare = without_slash(path);
+    soon_bare(block, text, bare, question, answer)
+}
+
+// The same by a path without a slash in front.
+#[inline(always)]
+fn soon_bare(
+    block: &Block,
+    text: &[u8],
+    path: &[u8],
+    question: &Question,
+    answer: &mut Answer,
+) -> u32
+    ensures { TellsSoon block.now text.now path.now question.now answer.old answer.new result }
+{
     if is_first_for_one(block) {
         return 0;
     }
-    match soon_plain(path) {
-        Some(bare) => soon_of(block, text, bare, question, answer),
+    if !is_one_for_all(block) || question.access > 1 {
+        return soon_of_many(block, text, path, question, answer);
+    }
+    if path.len() > MAX_SOON || !is_block(block, text) {
+        return 0;
+    }
+    match soon_of_one(block, text, path, question) {
+        Some(rule) => tell_alone(rule, answer),
         None => 0,
     }
+}
+
+// The same of one grant: the number of the rule that it fails by, or 0 where it allows. The path's form is looked at last, when little
+// else is left in registers.
+#[inline(always)]
+fn soon_of_one(block: &Block, text: &[u8], path: &[u8], question: &Question) -> Option<u8>
+    requires whole { IsBlock block.now text.now }
+    requires one { block.now.count ≡ 1 }
+    ensures { IfSome result (λ rule. IsSoon block.now text.now path.now question.now (alone rule)) }
+{
+    let rule = rule_of_one(block, text, path, question)?;
+    if !is_soon_plain(path) {
+        return None;
+    }
+    Some(rule)
+}
+
+// The same of any number of grants and each access, apart from that of one to read or to write, which takes fewer registers.
+#[inline(never)]
+fn soon_of_many(
+    block: &Block,
+    text: &[u8],
+    path: &[u8],
+    question: &Question,
+    answer: &mut Answer,
+) -> u32
+    ensures { TellsSoon block.now text.now path.now question.now answer.old answer.new result }
+{
+    if !is_block(block, text) {
+        return 0;
+    }
+    if !is_soon_plain(path) {
+        return 0;
+    }
+    told_of_many(block, text, path, question, answer)
 }
 
 /// Whether the first grant is for one caller, so that it isn't seen soon what it allows.
@@ -48,12 +101,12 @@ pub(crate) fn is_first_for_one(block: &Block) -> bool {
     block.entries[0].has_uid != 0
 }
 
-/// Whether there is one grant alone, for every file system, as most clients have it.
+/// Whether there is one grant alone, for every file system and all groups, as most clients have it.
 #[inline(always)]
-pub(crate) fn is_one_for_all_fs(block: &Block) -> bool
+pub(crate) fn is_one_for_all(block: &Block) -> bool
     ensures { IsTrue result → block.now.count ≡ 1 }
 {
-    block.count == 1 && block.entries[0].fs_len == 0
+    block.count == 1 && block.entries[0].fs_len == 0 && block.entries[0].gid_count == 0
 }
 
 /// What the grants of a block say to a question.
@@ -110,39 +163,27 @@ pub(crate) fn bare_text(path: &TreePath) -> &[u8]
     split_front(path.as_bytes(), 1).1
 }
 
-// The same for a path without a slash in front.
+// The rule that one grant fails by, for the names of a path without a slash in front.
 #[inline(always)]
-fn soon_of(block: &Block, text: &[u8], path: &[u8], question: &Question, answer: &mut Answer) -> u32
-    requires { IsBlock block.now text.now }
-    ensures { Tells (IsSoonOf block.now text.now (bare_names path.now) question.now) answer.old answer.new result }
-{
-    if !is_one_for_all_fs(block) {
-        return soon_of_many(block, text, path, question, answer);
-    }
-    match soon_of_one(block, text, path, question) {
-        Some(rule) => tell_alone(rule, answer),
-        None => 0,
-    }
-}
-
-// The same of one grant: the number of the rule that it fails by, or 0 where it allows.
-#[inline(always)]
-fn soon_of_one(block: &Block, text: &[u8], path: &[u8], question: &Question) -> Option<u8>
+fn rule_of_one(block: &Block, text: &[u8], path: &[u8], question: &Question) -> Option<u8>
     requires whole { IsBlock block.now text.now }
     requires one { block.now.count ≡ 1 }
     ensures { IfSome result (λ rule. IsSoonOf block.now text.now (bare_names path.now) question.now (alone rule)) }
 {
     let mode = read_mode(question.mode)?;
     let access = read_access(question.access, question.number)?;
+    if block.fs_len as usize > text.len() {
+        return None;
+    }
     let (fs, rest) = split_front(text, block.fs_len as usize);
     let case = case_of(fs, path, &[], question, mode, access);
     let rule = case.soon_alone(&block.entries[..block.count as usize], rest)?;
     Some(rule)
 }
 
-// The same of any number of grants, apart from that of one, which takes fewer registers.
-#[inline(never)]
-fn soon_of_many(
+// What is told of any number of grants, for the names of a path without a slash in front.
+#[inline(always)]
+fn told_of_many(
     block: &Block,
     text: &[u8],
     path: &[u8],

@@ -1,5 +1,5 @@
 //! The eleven rules on the grants of a block.
-ghost use Rattle.std.specs.Prelude.{◌≡◌, ◌<◌, ◌≤◌, ◌==◌, ℕ, List, IfSome, IsTrue, IsFalse, Some, true, false, length, find, not, position};
+ghost use Rattle.std.specs.Prelude.{◌≡◌, ◌<◌, ◌≤◌, ◌==◌, ℕ, List, IfSome, IsTrue, IsFalse, Some, true, false, length, find, not, position, drop};
 ghost use Rattle.std.specs.List.{list_any};
 ghost use Rattle.capbits.specs.Caller.{gids_of};
 ghost use Rattle.capgrant.specs.Access.{is_read};
@@ -10,7 +10,7 @@ ghost use Rattle.capgrant.specs.Rule.{attr_rules};
 ghost use Rattle.capgrant.specs.Verdict.{allows, first_failures, verdict_of};
 ghost use Rattle.capffi.specs.Blocks.{grants_in};
 ghost use Rattle.capffi.specs.Answering.{answer_of};
-ghost use Rattle.capffi.specs.ByBlock.{Tells, alone, open_rules, with_groups};
+ghost use Rattle.capffi.specs.ByBlock.{Tells, alone, number_of, open_rules, with_groups};
 
 use crate::block::{Entry, MAX_ENTRIES};
 use crate::given::{Given, split_grant};
@@ -103,18 +103,19 @@ impl Case<'_> {
 
     /// The same of a grant that is alone: the number of the rule that it fails by, or 0 where it allows.
     #[inline(always)]
+    #[tactic(auto, using(crate::proofs::Entries::further_same))]
     pub(crate) fn soon_alone(&self, entries: &[Entry], text: &[u8]) -> Option<u8>
         requires { length entries.now ≡ 1 }
         ensures { IfSome result (λ rule. (groups : List ℕ) → alone rule ≡ answer_of (verdict_of (with_groups self.now groups) (grants_in entries.now text.now))) }
     {
+        // These rules need no text.
+        let (textless, _) = split_grant(&entries[0], &[]);
+        let further = self.number_further(&textless);
         let (grant, _) = split_grant(&entries[0], text);
         if !grant.is_for_all() {
             return None;
         }
-        match self.first_failing_openly(&grant) {
-            Some(rule) => Some(rule.number()),
-            None => Some(0),
-        }
+        Some(self.number_alone(&grant, further))
     }
 
     // The first rule by which a grant fails that is for everybody, if it does not allow the access.
@@ -128,6 +129,40 @@ impl Case<'_> {
         if !self.is_below(grant) {
             return Some(Rule::Path);
         }
+        self.first_failing_further(grant)
+    }
+
+    // The number of that rule, or 0, where that of the rules behind the path is known.
+    #[inline(always)]
+    fn number_alone(&self, grant: &Given, further: u8) -> u8
+        requires { further ≡ number_of (find (λ r. fails r self.now grant.now) (drop 2 open_rules)) }
+        ensures { result ≡ number_of (find (λ r. fails r self.now grant.now) open_rules) }
+    {
+        if self.fails_fsname(grant) {
+            Rule::FsName.number()
+        } else if self.is_below(grant) {
+            further
+        } else {
+            Rule::Path.number()
+        }
+    }
+
+    // The number of the first of the rules behind that of the path, or 0.
+    #[inline(always)]
+    fn number_further(&self, grant: &Given) -> u8
+        ensures { result ≡ number_of (find (λ r. fails r self.now grant.now) (drop 2 open_rules)) }
+    {
+        match self.first_failing_further(grant) {
+            Some(rule) => rule.number(),
+            None => 0,
+        }
+    }
+
+    // The first of the rules behind that of the path.
+    #[inline(always)]
+    fn first_failing_further(&self, grant: &Given) -> Option<Rule>
+        ensures { result ≡ find (λ r. fails r self.now grant.now) (drop 2 open_rules) }
+    {
         if self.fails_no_write(grant) {
             return Some(Rule::NoWrite);
         }

@@ -2,3 +2,8 @@ pub mod Said
 pub mod Saying
 pub mod Noting
 pub mod Giving
+pub mod Words
+pub mod Spaces
+pub mod Openings
+pub mod Tells
+pub mod Values

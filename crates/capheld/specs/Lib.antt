@@ -1,6 +1,8 @@
 pub mod Lines
 pub mod Objects
 pub mod Shaped
+pub mod Told
+pub mod Instead
 pub mod Order
 pub mod Summary
 pub mod Audited

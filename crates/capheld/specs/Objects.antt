@@ -57,10 +57,17 @@ held_table number path session issued pending f = (codes "missing", or_null acce
     ∷ (codes "being_revoked", caps_or_null (minus f.caps pending))
     ∷ []
 
--- a client holds of an inode what nobody behind its key is permitted; or, of all that is found so of it, what they have in common
+-- a client holds of an inode what nobody behind its key is permitted
+abbrev pub found_value : ℕ → List (List ℕ) → List ℕ → ℕ → Caps → Caps → Finding → Data
+found_value number path client session issued pending f = object_of (group_table client f ++ held_table number path session issued pending f)
+
+-- what all that is found so of it has in common
+abbrev pub alike_value : List ℕ → Finding → Data
+alike_value client f = object_of (group_table client f)
+
 abbrev pub found_object : Detail → ℕ → List (List ℕ) → List ℕ → ℕ → Caps → Caps → Finding → List ℕ
-found_object Each number path client session issued pending f = json_line (object_of (group_table client f ++ held_table number path session issued pending f))
-found_object Groups number path client session issued pending f = json_line (object_of (group_table client f))
+found_object Each number path client session issued pending f = json_line (found_value number path client session issued pending f)
+found_object Groups number path client session issued pending f = json_line (alike_value client f)
 
 -- ---- what two sessions hold together
 
@@ -85,10 +92,17 @@ clash_table detail one other c = (codes "kind", string (codes "conflict"))
 abbrev pub inode_table : ℕ → Option (List (List ℕ)) → Table
 inode_table number path = (codes "inode", natural number) ∷ (codes "path", or_null path_value path) ∷ []
 
--- two sessions hold of an inode what no two may hold together; or, of all such pairs of two clients by the same caps, what they have in common
+-- two sessions hold of an inode what no two may hold together
+abbrev pub conflict_value : ℕ → Option (List (List ℕ)) → Option (List ℕ) → Option (List ℕ) → Conflict → Data
+conflict_value number path one other c = object_of (clash_table Each one other c ++ inode_table number path)
+
+-- what all such pairs of two clients by the same caps have in common
+abbrev pub rivals_value : Option (List ℕ) → Option (List ℕ) → Conflict → Data
+rivals_value one other c = object_of (clash_table Groups one other c)
+
 abbrev pub conflict_object : Detail → ℕ → Option (List (List ℕ)) → Option (List ℕ) → Option (List ℕ) → Conflict → List ℕ
-conflict_object Each number path one other c = json_line (object_of (clash_table Each one other c ++ inode_table number path))
-conflict_object Groups number path one other c = json_line (object_of (clash_table Groups one other c))
+conflict_object Each number path one other c = json_line (conflict_value number path one other c)
+conflict_object Groups number path one other c = json_line (rivals_value one other c)
 
 -- ---- groups
 
@@ -103,34 +117,37 @@ group_value count each = object_of ((codes "count", natural count) ∷ (codes "e
 -- ---- what could not be judged
 
 -- a client that no session names
-abbrev pub unnamed_object : ℕ → List ℕ
-unnamed_object number = json_line (object_of ((codes "kind", string (codes "no-session")) ∷ (codes "session", natural number) ∷ []))
+abbrev pub unnamed_value : ℕ → Data
+unnamed_value number = object_of ((codes "kind", string (codes "no-session")) ∷ (codes "session", natural number) ∷ [])
 
 -- one that the auth list lacks
-abbrev pub unlisted_object : List ℕ → List ℕ
-unlisted_object client = json_line (object_of ((codes "kind", string (codes "no-entry")) ∷ (codes "client", bytes_value client) ∷ []))
+abbrev pub unlisted_value : List ℕ → Data
+unlisted_value client = object_of ((codes "kind", string (codes "no-entry")) ∷ (codes "client", bytes_value client) ∷ [])
 
 -- one whose grants can't be read: what is wrong, and how many bytes of their text stand before that
-abbrev pub unread_object : List ℕ → SpecFault → List ℕ
-unread_object client fault = json_line (object_of ((codes "kind", string (codes "unread")) ∷ (codes "client", bytes_value client) ∷ (codes "fault", string (fault_word fault.kind)) ∷ (codes "at", natural fault.at) ∷ []))
+abbrev pub unread_value : List ℕ → SpecFault → Data
+unread_value client fault = object_of ((codes "kind", string (codes "unread")) ∷ (codes "client", bytes_value client) ∷ (codes "fault", string (fault_word fault.kind)) ∷ (codes "at", natural fault.at) ∷ [])
 
 -- caps that are spelled otherwise
-abbrev pub strange_object : ℕ → List (List ℕ) → List ℕ → ℕ → List ℕ
-strange_object number path client session = json_line (object_of ((codes "kind", string (codes "unknown-caps")) ∷ (codes "inode", natural number) ∷ (codes "path", path_value path) ∷ (codes "client", bytes_value client) ∷ (codes "session", natural session) ∷ []))
+abbrev pub strange_value : ℕ → List (List ℕ) → List ℕ → ℕ → Data
+strange_value number path client session = object_of ((codes "kind", string (codes "unknown-caps")) ∷ (codes "inode", natural number) ∷ (codes "path", path_value path) ∷ (codes "client", bytes_value client) ∷ (codes "session", natural session) ∷ [])
 
 -- a client holds something of an inode to which no path leads
-abbrev pub pathless_object : ℕ → List ℕ → ℕ → List ℕ → List ℕ
-pathless_object number client session issued = json_line (object_of ((codes "kind", string (codes "no-path")) ∷ (codes "inode", natural number) ∷ (codes "client", bytes_value client) ∷ (codes "session", natural session) ∷ (codes "holds", bytes_value issued) ∷ []))
+abbrev pub pathless_value : ℕ → List ℕ → ℕ → List ℕ → Data
+pathless_value number client session issued = object_of ((codes "kind", string (codes "no-path")) ∷ (codes "inode", natural number) ∷ (codes "client", bytes_value client) ∷ (codes "session", natural session) ∷ (codes "holds", bytes_value issued) ∷ [])
 
 -- ---- the end
 
 -- how much an audit looked at, and what came of it
-abbrev pub counts_object : Counts → List ℕ
-counts_object n = json_line (object_of ((codes "kind", string (codes "summary"))
+abbrev pub counts_value : Counts → Data
+counts_value n = object_of ((codes "kind", string (codes "summary"))
     ∷ (codes "inodes", natural n.inodes)
     ∷ (codes "entries", natural n.entries)
     ∷ (codes "sessions", natural n.sessions)
     ∷ (codes "held_beyond", natural n.held_beyond)
     ∷ (codes "conflicts", natural n.conflicts)
     ∷ (codes "not_judged", natural n.not_judged)
-    ∷ []))
+    ∷ [])
+
+abbrev pub counts_object : Counts → List ℕ
+counts_object n = json_line (counts_value n)

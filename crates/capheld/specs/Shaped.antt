@@ -8,12 +8,13 @@ use Rattle.capaudit.specs.declared.pairs.Conflict.{Conflict}
 use Rattle.capexplain.specs.Standing.{unread_line}
 use Rattle.capjson.specs.declared.shape.Shape.{Shape}
 use Rattle.capjson.specs.declared.shape.Shape.TheVariants.{Lines, Objects}
+use Rattle.capjson.specs.Values.{json_line}
 use Rattle.capheld.specs.declared.notes.Detail.{Detail}
 use Rattle.capheld.specs.declared.notes.Detail.TheVariants.{Each, Groups}
 use Rattle.capheld.specs.declared.notes.Manner.{Manner}
 use Rattle.capheld.specs.declared.summary.Counts.{Counts}
 use Rattle.capheld.specs.Lines.{held_line, group_line, conflict_line, unnamed_line, unlisted_line, strange_line, pathless_line, counts_line}
-use Rattle.capheld.specs.Objects.{found_object, conflict_object, group_object, unnamed_object, unlisted_object, unread_object, strange_object, pathless_object, counts_object}
+use Rattle.capheld.specs.Objects.{found_object, conflict_object, group_object, unnamed_value, unlisted_value, unread_value, strange_value, pathless_value, counts_object}
 
 -- the line, or the object in its place
 abbrev pub in_shape : Shape → List ℕ → List ℕ → List ℕ
@@ -41,19 +42,19 @@ counted_in shape line count = in_shape shape (line ++ codes ": " ++ decimal coun
 -- ---- what could not be judged
 
 abbrev pub unnamed_in : Shape → ℕ → List ℕ
-unnamed_in shape number = in_shape shape (unnamed_line number) (unnamed_object number)
+unnamed_in shape number = in_shape shape (unnamed_line number) (json_line (unnamed_value number))
 
 abbrev pub unlisted_in : Shape → List ℕ → List ℕ
-unlisted_in shape client = in_shape shape (unlisted_line client) (unlisted_object client)
+unlisted_in shape client = in_shape shape (unlisted_line client) (json_line (unlisted_value client))
 
 abbrev pub unread_in : Shape → List ℕ → SpecFault → List ℕ
-unread_in shape client fault = in_shape shape (unread_line client fault) (unread_object client fault)
+unread_in shape client fault = in_shape shape (unread_line client fault) (json_line (unread_value client fault))
 
 abbrev pub strange_in : Shape → ℕ → List (List ℕ) → List ℕ → ℕ → List ℕ
-strange_in shape number path client session = in_shape shape (strange_line path client session) (strange_object number path client session)
+strange_in shape number path client session = in_shape shape (strange_line path client session) (json_line (strange_value number path client session))
 
 abbrev pub pathless_in : Shape → ℕ → List ℕ → ℕ → List ℕ → List ℕ
-pathless_in shape number client session issued = in_shape shape (pathless_line number client session issued) (pathless_object number client session issued)
+pathless_in shape number client session issued = in_shape shape (pathless_line number client session issued) (json_line (pathless_value number client session issued))
 
 -- ---- the end
 

@@ -21,5 +21,5 @@ pub use auditing::audit;
 pub use capcluster::{ClusterFault, Tree, TreeFault, TreeReader};
 pub use clients::ClusterClients;
 pub use fault::HeldFault;
-pub use laws::one_object_for_a_group;
+pub use laws::{one_line_for_what_is_told, one_object_for_a_group};
 pub use notes::{Detail, Manner, Report};

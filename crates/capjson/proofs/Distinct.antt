@@ -164,16 +164,16 @@ one_otherwise (Some a) (Some b) same =
 -- ---- what is asked
 
 -- what stands at the keys of a question
-record Asks (d : Data) (q : Question) : Type 0 where
-  access : value_at (codes "access") d ≡ string (access_word q.access)
-  path : value_at (codes "path") d ≡ bytes_value (path_text q.path)
-  fs : value_at (codes "fs") d ≡ bytes_value q.fs
-  uid : value_at (codes "uid") d ≡ natural q.caller.uid
-  gid : value_at (codes "gid") d ≡ natural q.caller.gid
-  groups : value_at (codes "groups") d ≡ numbers_value q.caller.groups
-  owner : value_at (codes "owner") d ≡ natural q.attr.uid
-  group : value_at (codes "group") d ≡ natural q.attr.gid
-  mode : value_at (codes "mode") d ≡ string (mode_text q.attr.mode)
+pub record Asks (d : Data) (q : Question) : Type 0 where
+  pub access : value_at (codes "access") d ≡ string (access_word q.access)
+  pub path : value_at (codes "path") d ≡ bytes_value (path_text q.path)
+  pub fs : value_at (codes "fs") d ≡ bytes_value q.fs
+  pub uid : value_at (codes "uid") d ≡ natural q.caller.uid
+  pub gid : value_at (codes "gid") d ≡ natural q.caller.gid
+  pub groups : value_at (codes "groups") d ≡ numbers_value q.caller.groups
+  pub owner : value_at (codes "owner") d ≡ natural q.attr.uid
+  pub group : value_at (codes "group") d ≡ natural q.attr.gid
+  pub mode : value_at (codes "mode") d ≡ string (mode_text q.attr.mode)
 
 -- and at those of what is worth a word beside its verdict
 record Shows (d : Data) (q : Question) (left : Option ℕ) (other : Option Otherwise) : Type 0 where
@@ -187,7 +187,7 @@ shows q (Allowed g) left other =
 shows q (Denied rs) left other =
     record { asks = record { access = refl; path = refl; fs = refl; uid = refl; gid = refl; groups = refl; owner = refl; group = refl; mode = refl }; client = refl; ceph = refl }
 
-one_question : (q r : Question) (d : Data) → IsAskable q → IsAskable r → Asks d q → Asks d r → AskTheSame q r
+pub one_question : (q r : Question) (d : Data) → IsAskable q → IsAskable r → Asks d q → Asks d r → AskTheSame q r
 one_question q r d fit fits p s =
     let access : q.access ≡ r.access = one_access q.access r.access fit.access fits.access (ap text_in (sym p.access ∙ s.access)) in
     let path : path_text q.path ≡ path_text r.path = one_spelling (path_text q.path) (path_text r.path) fit.path fits.path (sym p.path ∙ s.path) in

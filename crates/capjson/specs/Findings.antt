@@ -1,13 +1,17 @@
 -- The objects that say what is found of a grant.
-use Rattle.std.specs.Prelude.{ℕ, Bool, not, Option, Some, None, List, [], ◌∷◌, ◌++◌, codes, if◌then◌else◌}
+use Rattle.std.specs.Prelude.{◌≡◌, ℕ, Bool, not, Option, Some, None, List, [], ◌∷◌, ◌++◌, codes, if◌then◌else◌}
+use Rattle.std.specs.List.{flat_map}
 use Rattle.serde_json.specs.Data.{Data, string, object, no_members}
 use Rattle.capremarks.specs.Capcompare.declared.finding.Finding.{Finding}
 use Rattle.capremarks.specs.Capcompare.declared.witness.Witness.{Witness}
 use Rattle.cephtexts.specs.declared.unread.Unread.{Unread}
 use Rattle.cephtexts.specs.declared.unread.Unread.TheVariants.{WhiteSpace, AnyFileSystem, Order}
 use Rattle.cephtexts.specs.Standing.{name}
-use Rattle.capjson.specs.Values.{Table, with_all, object_of, natural, json_line}
-use Rattle.capjson.specs.Changes.{with_witness}
+use Rattle.capexplain.specs.Found.{Found, all_found, SameOfGrant}
+use Rattle.capexplain.specs.Found.Found.{covered, nothing, undone, unread, stands}
+use Rattle.capjson.specs.Values.{Table, ReadsBack, with_all, object_of, natural, json_line}
+use Rattle.capjson.specs.Answers.{IsAskable}
+use Rattle.capjson.specs.Changes.{with_witness, asked_by}
 
 -- this is found of the grant of this number
 abbrev pub finding_table : List ℕ → ℕ → Table
@@ -40,9 +44,42 @@ stands_object grant (Some why) = json_line (object_of (stands_table grant why))
 
 -- what is found of one grant, a line for each, and why Ceph 16 does not read it as it stands
 abbrev pub finding_objects : Finding → Option Unread → List ℕ
-finding_objects f unread =
+finding_objects f why =
     finding_if f.is_redundant (codes "covered") f.grant
     ++ (finding_if f.allows_nothing (codes "allows-nothing") f.grant
     ++ (undone_line f.grant f.undoing
     ++ (finding_if (not f.has_ceph_text) (codes "unread-by-ceph-16") f.grant
-    ++ stands_object f.grant unread)))
+    ++ stands_object f.grant why)))
+
+-- ---- one finding for an object
+
+-- the object for one thing that is found of the grant of this number, and its line
+abbrev pub found_value : ℕ → Found → Data
+found_value grant covered = object_of (finding_table (codes "covered") grant)
+found_value grant nothing = object_of (finding_table (codes "allows-nothing") grant)
+found_value grant (undone w) = undone_value grant w
+found_value grant unread = object_of (finding_table (codes "unread-by-ceph-16") grant)
+found_value grant (stands why) = object_of (stands_table grant why)
+
+abbrev pub found_object : ℕ × Found → List ℕ
+found_object x = json_line (found_value x.0 x.1)
+
+-- the question of one that has one can be asked
+abbrev pub IsAskableIf : Found → Type 0
+IsAskableIf (undone w) = IsAskable (asked_by w)
+IsAskableIf found = Unit {0}
+
+-- who reads its object has it again
+abbrev pub IsRead : ℕ × Found → Type 0
+IsRead x = ReadsBack (found_value x.0 x.1)
+
+abbrev pub HasObject : ℕ × Found → Type 0
+HasObject x = IsAskableIf x.1 × IsRead x
+
+-- findings that are the same object are the same, of the same grant
+abbrev pub OneFinding : Type 0
+OneFinding = (x y : ℕ × Found) → IsAskableIf x.1 → IsAskableIf y.1 → found_value x.0 x.1 ≡ found_value y.0 y.1 → SameOfGrant x y
+
+-- a line for each thing that is found has its object
+abbrev pub EachHasAnObject : Type 0
+EachHasAnObject = (f : Finding) (why : Option Unread) → finding_objects f why ≡ flat_map found_object (all_found f why)

@@ -1,8 +1,9 @@
 //! What is found of a grant.
-ghost use Rattle.std.specs.Prelude.{◌≡◌, ◌++◌, OnOk};
+ghost use Rattle.std.specs.Prelude.{◌≡◌, ◌++◌, All, IfSome, OnOk, true};
 ghost use Rattle.serde_json.specs.View.{members_view};
-ghost use Rattle.capjson.specs.Findings.{finding_if, finding_objects, finding_table, stands_object, undone_line};
-ghost use Rattle.capjson.specs.Values.{with_all};
+ghost use Rattle.capexplain.specs.Found.{all_found};
+ghost use Rattle.capjson.specs.Findings.{IsRead, finding_if, finding_objects, finding_table, stands_object, stands_table, undone_line, undone_value};
+ghost use Rattle.capjson.specs.Values.{ReadsBack, object_of, with_all};
 
 use crate::changes::put_witness;
 use crate::table::{Members, Piece, print_object, print_pieces, put_all};
@@ -12,13 +13,14 @@ use serde_json::Map;
 use std::alloc::{AllocError, Global};
 
 /// Appends an object for each thing that is found of a grant, and nothing where there is none; and one for why Ceph 16 does not read
-/// it as it stands in its text. Each is a line, with its line feed. Only memory can be missing.
+/// it as it stands in its text. Each is a line, with its line feed, and who reads it has the object again. Only memory can be missing.
 pub fn print_finding_object(
     lines: &mut Vec<u8>,
     finding: &Finding<'_>,
     unread: Option<Unread>,
 ) -> Result<(), AllocError>
-    ensures { OnOk result (lines.new.items ≡ lines.old.items ++ finding_objects finding.now unread) }
+    ensures line { OnOk result (lines.new.items ≡ lines.old.items ++ finding_objects finding.now unread) }
+    ensures reads { OnOk result (All IsRead (all_found finding.now unread)) }
 {
     let number = finding.grant;
     print_if(lines, finding.is_redundant, "covered", number)?;
@@ -30,7 +32,8 @@ pub fn print_finding_object(
 
 // Appends that this is found of the grant, where the test is passed.
 fn print_if(lines: &mut Vec<u8>, test: bool, found: &str, grant: u32) -> Result<(), AllocError>
-    ensures { OnOk result (lines.new.items ≡ lines.old.items ++ finding_if test found.now grant) }
+    ensures line { OnOk result (lines.new.items ≡ lines.old.items ++ finding_if test found.now grant) }
+    ensures reads { OnOk result (test ≡ true → ReadsBack (object_of (finding_table found.now grant))) }
 {
     if !test {
         return Ok(());
@@ -47,7 +50,8 @@ fn print_undone(
     grant: u32,
     undoing: &Option<Witness<'_>>,
 ) -> Result<(), AllocError>
-    ensures { OnOk result (lines.new.items ≡ lines.old.items ++ undone_line grant undoing.now) }
+    ensures line { OnOk result (lines.new.items ≡ lines.old.items ++ undone_line grant undoing.now) }
+    ensures reads { OnOk result (IfSome undoing.now (λ w. ReadsBack (undone_value grant w))) }
 {
     let Some(witness) = undoing else {
         return Ok(());
@@ -81,7 +85,8 @@ fn print_as_it_stands(
     grant: u32,
     unread: Option<Unread>,
 ) -> Result<(), AllocError>
-    ensures { OnOk result (lines.new.items ≡ lines.old.items ++ stands_object grant unread) }
+    ensures line { OnOk result (lines.new.items ≡ lines.old.items ++ stands_object grant unread) }
+    ensures reads { OnOk result (IfSome unread (λ why. ReadsBack (object_of (stands_table grant why)))) }
 {
     let finding = ("finding", Piece::Word("unread-as-it-stands"));
     let number = ("grant", Piece::Number(u64::from(grant)));

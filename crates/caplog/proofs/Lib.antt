@@ -1,2 +1,4 @@
 pub mod Cuts
 pub mod Telling
+pub mod Fitting
+pub mod Items

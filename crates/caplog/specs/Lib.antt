@@ -1,3 +1,4 @@
 pub mod Checks
 pub mod Masks
 pub mod Told
+pub mod Items

@@ -4,9 +4,11 @@
 #![tactic(auto)]
 
 mod check;
+mod laws;
 mod mask;
 mod told;
 mod values;
 
 pub use check::{Check, Inode, check_text, read_check};
+pub use laws::one_text_for_what_is_told;
 pub use told::log_lines;

@@ -4,4 +4,5 @@ pub mod Spelling
 pub mod TextFault
 pub mod ClientLines
 pub mod Looked
+pub mod Linted
 pub use Rattle.capauth.proofs as Capauth

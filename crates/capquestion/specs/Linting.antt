@@ -1,13 +1,16 @@
 -- What is told of a text of grants that is looked over.
-use Rattle.std.specs.Prelude.{◌≡◌, ℕ, Option, None, List, [], ◌∷◌, ◌++◌, if◌then◌else◌}
+use Rattle.std.specs.Prelude.{◌≡◌, ◌≢◌, ℕ, Option, None, List, [], ◌∷◌, ◌++◌, All, if◌then◌else◌}
+use Rattle.std.specs.List.{AllZip}
 use Rattle.capspec.specs.declared.grant.Grant.{Grant}
 use Rattle.capspec.specs.Grants.{Reads}
 use Rattle.cephtexts.specs.declared.unread.Unread.{Unread}
 use Rattle.cephtexts.specs.Standing.{AreTold}
 use Rattle.capexplain.specs.Capcompare.declared.finding.Finding.{Finding}
 use Rattle.capexplain.specs.Capcompare.Findings.{AreFindings}
+use Rattle.capexplain.specs.Found.{Found, all_found, HasLine, SameOfGrant}
 use Rattle.capexplain.specs.Linting.{finding_lines}
-use Rattle.capjson.specs.Findings.{finding_objects}
+use Rattle.capjson.specs.Findings.{HasObject, finding_objects}
+use Rattle.capjson.specs.Shapes.{nothing_in}
 use Rattle.capjson.specs.declared.shape.Shape.{Shape}
 use Rattle.capjson.specs.declared.shape.Shape.TheVariants.{Lines, Objects}
 
@@ -35,3 +38,25 @@ pub record IsLintOf (shape : Shape) (text lines : List ℕ) : Type 0 where
   pub found : AreFindings grants findings
   pub told : AreTold text grants unread
   pub lines_are : lines ≡ lint_in shape findings unread
+
+-- ---- one list of findings for a text
+
+-- all that is found, grant by grant, as it is told
+abbrev pub found_in_all : List Finding → List (Option Unread) → List (ℕ × Found)
+found_in_all [] unread = []
+found_in_all (f ∷ findings) [] = []
+found_in_all (f ∷ findings) (why ∷ unread) = all_found f (if f.has_ceph_text then why else None) ++ found_in_all findings unread
+
+-- its numbers and names fit into this shape
+abbrev pub HasText : Shape → ℕ × Found → Type 0
+HasText Lines x = HasLine x
+HasText Objects x = HasObject x
+
+-- texts of this shape that are the same tell the same things, one after the other
+abbrev pub OneLint : Type 0
+OneLint = (shape : Shape) (fs gs : List Finding) (us ws : List (Option Unread)) → All (HasText shape) (found_in_all fs us) → All (HasText shape) (found_in_all gs ws)
+    → lint_in shape fs us ≡ lint_in shape gs ws → AllZip SameOfGrant (found_in_all fs us) (found_in_all gs ws)
+
+-- and no line that tells a thing says that there is none
+abbrev pub SaysSomething : Type 0
+SaysSomething = (fs : List Finding) (us : List (Option Unread)) → lint_in Lines fs us ≢ nothing_in Lines

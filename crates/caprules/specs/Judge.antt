@@ -3,6 +3,7 @@ use Rattle.std.specs.Prelude.{ℕ, Bool, true, false, not, List, [], ◌∷◌, 
 use Rattle.std.specs.List.{find}
 use Rattle.std.specs.Option.{option_map, option_map_or}
 use Rattle.capbits.specs.declared.ids.ClientId.{ClientId}
+use Rattle.capbits.specs.declared.ids.Ino.{Ino}
 use Rattle.capbits.specs.Caps.{Caps}
 use Rattle.capbits.specs.Sets.{no_caps, caps_in}
 use Rattle.capgrant.specs.declared.access.Access.{Access}
@@ -58,66 +59,11 @@ asked_tests s client ino = session_tests s.sessions client.0 ++ inode_tests s.tr
 abbrev pub asking_tests : Scene → ClientId → ℕ → Ask → List Test
 asking_tests s client ino ask = session_tests s.sessions client.0 ++ ask_before s ino ask
 
--- the tests that stand before policy
-abbrev pub before : Scene → Event → List Test
-before s (event.Session client caller grants) = new_session_tests s.sessions client.0
-before s (event.CloseSession client) = connected_test s.sessions client.0 ∷ []
-before s (event.Stale client) = session_tests s.sessions client.0
-before s (event.Renew client) = stale_tests s.sessions client.0
-before s (event.Regrant client grants) = connected_test s.sessions client.0 ∷ []
-before s (event.Evict client) = evict_tests s.sessions client.0
-before s (event.Unblock client) = blocked_test s.sessions client.0 ∷ []
-before s (event.Recall count) = []
-before s (event.Lookup client dir name) = asked_tests s client dir.0 ++ directory_test s.tree dir.0 ∷ found_test s.tree dir.0 name ∷ []
-before s (event.Create client dir name mode) = asked_tests s client dir.0
-before s (event.Mkdir client dir name mode) = asked_tests s client dir.0
-before s (event.MakeSnapshot client ino name) = asked_tests s client ino.0
-before s (event.RemoveSnapshot client ino name) = asked_tests s client ino.0
-before s (event.Open client ino mode) = asked_tests s client ino.0
-before s (event.Want client ino caps) = asked_tests s client ino.0 ++ entry_test s.table (holder client ino) ∷ []
-before s (event.Ack client ino seq) =
-    connected_tests s client ino.0 ++ ack_tests s.table (holder client ino) seq (revoked_of s (holder client ino))
-before s (event.Release client ino caps) = connected_tests s client ino.0 ++ release_tests s.table (holder client ino) caps
-before s (event.Get client ino part) = asking_tests s client ino.0 (Get part)
-before s (event.Alter client ino change) = asking_tests s client ino.0 (Alter change)
-before s (event.Unlink client ino) = asking_tests s client ino.0 Unlink
-before s (event.Rmdir client ino) = asking_tests s client ino.0 Rmdir
-before s (event.Rename client ino dir name) = asking_tests s client ino.0 (Rename dir name)
-before s (event.Flush client ino change) = asked_tests s client ino.0
-before s (event.Poll client max) = session_tests s.sessions client.0
-
 -- the accesses that an opening needs, in order
 abbrev pub opening_needs : ClientId → ℕ → OpenMode → List Need
 opening_needs client ino opening.Read = need client ino Read ∷ []
 opening_needs client ino opening.Write = need client ino Write ∷ []
 opening_needs client ino opening.ReadWrite = need client ino Read ∷ need client ino Write ∷ []
-
--- the accesses that an event needs, in order
-abbrev pub needs : Scene → Event → List Need
-needs s (event.Session client caller grants) = []
-needs s (event.CloseSession client) = []
-needs s (event.Stale client) = []
-needs s (event.Renew client) = []
-needs s (event.Regrant client grants) = []
-needs s (event.Evict client) = []
-needs s (event.Unblock client) = []
-needs s (event.Recall count) = []
-needs s (event.Lookup client dir name) = need_if client (child s.tree.nodes dir.0 name) Read
-needs s (event.Create client dir name mode) = need client dir.0 Write ∷ []
-needs s (event.Mkdir client dir name mode) = need client dir.0 Write ∷ []
-needs s (event.MakeSnapshot client ino name) = need client ino.0 Snapshot ∷ []
-needs s (event.RemoveSnapshot client ino name) = need client ino.0 Snapshot ∷ []
-needs s (event.Open client ino mode) = opening_needs client ino.0 mode
-needs s (event.Want client ino caps) = []
-needs s (event.Ack client ino seq) = []
-needs s (event.Release client ino caps) = []
-needs s (event.Get client ino part) = ask_needs s client ino.0 (Get part)
-needs s (event.Alter client ino change) = ask_needs s client ino.0 (Alter change)
-needs s (event.Unlink client ino) = ask_needs s client ino.0 Unlink
-needs s (event.Rmdir client ino) = ask_needs s client ino.0 Rmdir
-needs s (event.Rename client ino dir name) = ask_needs s client ino.0 (Rename dir name)
-needs s (event.Flush client ino change) = need client ino.0 (change_access change) ∷ []
-needs s (event.Poll client max) = []
 
 -- there is room for the holder's entry, where it is to be made
 abbrev pub room_for : Table → Holder → List Test
@@ -131,38 +77,98 @@ opening_tests s k mode = (if is_writing mode then file_test s.tree k.ino.0 ∷ [
 abbrev pub waiting_tests : Scene → ℕ → Ask → List Test
 waiting_tests s ino ask = ask_after s ino ask ++ queue_tests s.locks
 
--- the holder has an entry, and holds the capability with which it changes the part by itself, be it that this is being revoked; and the
--- change has its own tests
+-- the holder has an entry, and holds the capability with which it changes the part by itself, which counts while it is being revoked;
+-- and the change has its own tests
 abbrev pub flush_tests : Scene → Holder → Change → List Test
 flush_tests s k change =
     release_tests s.table k (caps_in (exclusive (part_of_change change) ∷ [])) ++ change_tests s k.ino.0 change
 
+-- what is asked of an event, in order: the tests that stand before policy, the accesses that it needs, and the tests behind policy
+pub record Tests : Type 0 where
+  pub first : List Test
+  pub accesses : List Need
+  pub last : List Test
+
+-- an event that needs no access is asked these alone
+abbrev pub without_policy : List Test → Tests
+without_policy tests = record { first = tests; accesses = []; last = [] }
+
+-- an inode is to be made in the directory
+abbrev pub birth_tests : Scene → ClientId → Ino → List ℕ → Tests
+birth_tests s client dir name = record {
+  first = asked_tests s client dir.0;
+  accesses = need client dir.0 Write ∷ [];
+  last = new_inode_tests s.tree dir.0 name;
+}
+
+-- what may wait for a lock
+abbrev pub request_tests : Scene → ClientId → Ino → Ask → Tests
+request_tests s client ino ask = record {
+  first = asking_tests s client ino.0 ask;
+  accesses = ask_needs s client ino.0 ask;
+  last = waiting_tests s ino.0 ask;
+}
+
+-- of each event
+abbrev pub tests_of : Scene → Event → Tests
+tests_of s (event.Session client caller grants) = without_policy (new_session_tests s.sessions client.0)
+tests_of s (event.CloseSession client) = without_policy (connected_test s.sessions client.0 ∷ [])
+tests_of s (event.Stale client) = without_policy (session_tests s.sessions client.0)
+tests_of s (event.Renew client) = without_policy (stale_tests s.sessions client.0)
+tests_of s (event.Regrant client grants) = without_policy (connected_test s.sessions client.0 ∷ [])
+tests_of s (event.Evict client) = without_policy (evict_tests s.sessions client.0)
+tests_of s (event.Unblock client) = without_policy (blocked_test s.sessions client.0 ∷ [])
+tests_of s (event.Recall count) = without_policy []
+tests_of s (event.Lookup client dir name) = record {
+  first = asked_tests s client dir.0 ++ directory_test s.tree dir.0 ∷ found_test s.tree dir.0 name ∷ [];
+  accesses = need_if client (child s.tree.nodes dir.0 name) Read;
+  last = [];
+}
+tests_of s (event.Create client dir name mode) = birth_tests s client dir name
+tests_of s (event.Mkdir client dir name mode) = birth_tests s client dir name
+tests_of s (event.MakeSnapshot client ino name) = record {
+  first = asked_tests s client ino.0;
+  accesses = need client ino.0 Snapshot ∷ [];
+  last = new_snapshot_tests s.tree ino.0 name;
+}
+tests_of s (event.RemoveSnapshot client ino name) = record {
+  first = asked_tests s client ino.0;
+  accesses = need client ino.0 Snapshot ∷ [];
+  last = old_snapshot_tests s.tree ino.0 name;
+}
+tests_of s (event.Open client ino mode) = record {
+  first = asked_tests s client ino.0;
+  accesses = opening_needs client ino.0 mode;
+  last = opening_tests s (holder client ino) mode;
+}
+tests_of s (event.Want client ino caps) = without_policy (asked_tests s client ino.0 ++ entry_test s.table (holder client ino) ∷ [])
+tests_of s (event.Ack client ino seq) =
+    without_policy (connected_tests s client ino.0 ++ ack_tests s.table (holder client ino) seq (revoked_of s (holder client ino)))
+tests_of s (event.Release client ino caps) =
+    without_policy (connected_tests s client ino.0 ++ release_tests s.table (holder client ino) caps)
+tests_of s (event.Get client ino part) = request_tests s client ino (Get part)
+tests_of s (event.Alter client ino change) = request_tests s client ino (Alter change)
+tests_of s (event.Unlink client ino) = request_tests s client ino Unlink
+tests_of s (event.Rmdir client ino) = request_tests s client ino Rmdir
+tests_of s (event.Rename client ino dir name) = request_tests s client ino (Rename dir name)
+tests_of s (event.Flush client ino change) = record {
+  first = asked_tests s client ino.0;
+  accesses = need client ino.0 (change_access change) ∷ [];
+  last = flush_tests s (holder client ino) change;
+}
+tests_of s (event.Poll client max) = without_policy (session_tests s.sessions client.0)
+
+-- the tests that stand before policy
+abbrev pub before : Scene → Event → List Test
+before s e = (tests_of s e).first
+
+-- the accesses that an event needs, in order
+abbrev pub needs : Scene → Event → List Need
+needs s e = (tests_of s e).accesses
+
 -- the tests that stand behind policy
 abbrev pub after : Scene → Event → List Test
-after s (event.Session client caller grants) = []
-after s (event.CloseSession client) = []
-after s (event.Stale client) = []
-after s (event.Renew client) = []
-after s (event.Regrant client grants) = []
-after s (event.Evict client) = []
-after s (event.Unblock client) = []
-after s (event.Recall count) = []
-after s (event.Lookup client dir name) = []
-after s (event.Create client dir name mode) = new_inode_tests s.tree dir.0 name
-after s (event.Mkdir client dir name mode) = new_inode_tests s.tree dir.0 name
-after s (event.MakeSnapshot client ino name) = new_snapshot_tests s.tree ino.0 name
-after s (event.RemoveSnapshot client ino name) = old_snapshot_tests s.tree ino.0 name
-after s (event.Open client ino mode) = opening_tests s (holder client ino) mode
-after s (event.Want client ino caps) = []
-after s (event.Ack client ino seq) = []
-after s (event.Release client ino caps) = []
-after s (event.Get client ino part) = waiting_tests s ino.0 (Get part)
-after s (event.Alter client ino change) = waiting_tests s ino.0 (Alter change)
-after s (event.Unlink client ino) = waiting_tests s ino.0 Unlink
-after s (event.Rmdir client ino) = waiting_tests s ino.0 Rmdir
-after s (event.Rename client ino dir name) = waiting_tests s ino.0 (Rename dir name)
-after s (event.Flush client ino change) = flush_tests s (holder client ino) change
-after s (event.Poll client max) = []
+after s e = (tests_of s e).last
 
 -- ---- the judgement
 

@@ -532,31 +532,18 @@ module _ (old : State) (sound : IsSound old) (table : IsTable old.scene.table) (
   looked_up client dir name (Some ino) moves settled settles = by_number moves (found old (Some ino)) settled settles before (left-same t (λ k. refl))
 
   pub by_event : (e : Event) → (moves : List Made) (settled : Scene) → Settles (effect old e).state.scene moves settled → Shown e moves settled
-  by_event (event.Session client caller grants) moves settled settles = by_number moves (effect old (event.Session client caller grants)) settled settles before (left-same t (λ k. refl))
   by_event (event.CloseSession client) moves settled settles = by_number moves (effect old (event.CloseSession client)) settled settles before (left-dropped client)
-  by_event (event.Stale client) moves settled settles = by_number moves (effect old (event.Stale client)) settled settles before (left-same t (λ k. refl))
-  by_event (event.Renew client) moves settled settles = by_number moves (effect old (event.Renew client)) settled settles before (left-same t (λ k. refl))
-  by_event (event.Regrant client grants) moves settled settles = by_number moves (effect old (event.Regrant client grants)) settled settles before (left-same t (λ k. refl))
   by_event (event.Evict client) moves settled settles = by_number moves (effect old (event.Evict client)) settled settles before (left-dropped client)
-  by_event (event.Unblock client) moves settled settles = by_number moves (effect old (event.Unblock client)) settled settles before (left-same t (λ k. refl))
   by_event (event.Recall count) moves settled settles = by_number moves (effect old (event.Recall count)) settled settles before (left-recalled count)
   by_event (event.Lookup client dir name) moves settled settles = looked_up client dir name (child old.scene.tree.nodes dir.0 name) moves settled settles
-  by_event (event.Create client dir name mode) moves settled settles = by_number moves (effect old (event.Create client dir name mode)) settled settles before (left-same t (λ k. refl))
-  by_event (event.Mkdir client dir name mode) moves settled settles = by_number moves (effect old (event.Mkdir client dir name mode)) settled settles before (left-same t (λ k. refl))
-  by_event (event.MakeSnapshot client ino name) moves settled settles = by_number moves (effect old (event.MakeSnapshot client ino name)) settled settles before (left-same t (λ k. refl))
-  by_event (event.RemoveSnapshot client ino name) moves settled settles = by_number moves (effect old (event.RemoveSnapshot client ino name)) settled settles before (left-same t (λ k. refl))
   by_event (event.Open client ino mode) moves settled settles = by_show moves (effect old (event.Open client ino mode)) settled settles (holder client ino) (left-opened (holder client ino) mode)
   by_event (event.Want client ino caps) moves settled settles = by_show moves (effect old (event.Want client ino caps)) settled settles (holder client ino) (left-wanted (holder client ino) caps)
   by_event (event.Ack client ino seq) moves settled settles = by_number moves (effect old (event.Ack client ino seq)) settled settles before (left-acked (holder client ino))
   by_event (event.Release client ino caps) moves settled settles =
       by_number moves (effect old (event.Release client ino caps)) settled settles (λ k. cond (same k (holder client ino)) (minus (before k) caps) (before k)) (left-released (holder client ino) caps)
-  by_event (event.Get client ino part) moves settled settles = by_number moves (effect old (event.Get client ino part)) settled settles before (left-same t (λ k. refl))
-  by_event (event.Alter client ino change) moves settled settles = by_number moves (effect old (event.Alter client ino change)) settled settles before (left-same t (λ k. refl))
-  by_event (event.Unlink client ino) moves settled settles = by_number moves (effect old (event.Unlink client ino)) settled settles before (left-same t (λ k. refl))
-  by_event (event.Rmdir client ino) moves settled settles = by_number moves (effect old (event.Rmdir client ino)) settled settles before (left-same t (λ k. refl))
-  by_event (event.Rename client ino dir name) moves settled settles = by_number moves (effect old (event.Rename client ino dir name)) settled settles before (left-same t (λ k. refl))
   by_event (event.Flush client ino change) moves settled settles = by_number moves (effect old (event.Flush client ino change)) settled settles before (left-same (touched t (holder client ino)) (λ k. refl))
   by_event (event.Poll client max) moves settled settles = polled client max moves settled settles
+  by_event e moves settled settles = by_number moves (effect old e) settled settles before (left-same t (λ k. refl))
 
 -- ---- a step
 
@@ -574,30 +561,11 @@ given_stopped ino was (ByTest refusal) = refl
 
 -- what is stopped shows nothing
 stop-shows : (k : Holder) (was : Caps) (e : Event) (x : Stopped) → shown_by k was e (stop_reply x) ≡ was
-stop-shows k was (event.Session client caller grants) x = refl
-stop-shows k was (event.CloseSession client) x = refl
-stop-shows k was (event.Stale client) x = refl
-stop-shows k was (event.Renew client) x = refl
-stop-shows k was (event.Regrant client grants) x = refl
-stop-shows k was (event.Evict client) x = refl
-stop-shows k was (event.Unblock client) x = refl
-stop-shows k was (event.Recall count) x = refl
-stop-shows k was (event.Lookup client dir name) x = refl
-stop-shows k was (event.Create client dir name mode) x = refl
-stop-shows k was (event.Mkdir client dir name mode) x = refl
-stop-shows k was (event.MakeSnapshot client ino name) x = refl
-stop-shows k was (event.RemoveSnapshot client ino name) x = refl
 stop-shows k was (event.Open client ino mode) x = ap (λ c. cond (same k (holder client ino)) c was) (opened_stopped was x) ∙ cond_same (same k (holder client ino)) was
 stop-shows k was (event.Want client ino caps) x = ap (λ c. cond (same k (holder client ino)) c was) (opened_stopped was x) ∙ cond_same (same k (holder client ino)) was
-stop-shows k was (event.Ack client ino seq) x = refl
 stop-shows k was (event.Release client ino caps) x = ap (λ c. cond (same k (holder client ino)) c was) (less_stopped caps was x) ∙ cond_same (same k (holder client ino)) was
-stop-shows k was (event.Get client ino part) x = refl
-stop-shows k was (event.Alter client ino change) x = refl
-stop-shows k was (event.Unlink client ino) x = refl
-stop-shows k was (event.Rmdir client ino) x = refl
-stop-shows k was (event.Rename client ino dir name) x = refl
-stop-shows k was (event.Flush client ino change) x = refl
 stop-shows k was (event.Poll client max) x = ap (λ c. cond (k.client.0 == client.0) c was) (given_stopped k.ino was x) ∙ cond_same (k.client.0 == client.0) was
+stop-shows k was e x = refl
 
 more-shown : (k : Holder) (rows : List Row) (row : Row) → shown_of k (rows ++ row ∷ []) ≡ shown_by k (shown_of k rows) row.event row.reply
 more-shown k rows row = fold-append _ _ rows (row ∷ [])

@@ -32,113 +32,88 @@ use Rattle.capacts.specs.Caprules.Finish.{issue_row, is_kept}
 use Rattle.capacts.specs.Caprules.Settle.{Made, Settles}
 use Rattle.capacts.specs.Caprules.State.{State}
 
+-- what an event is about
+pub data Scope : Type 0 where
+  -- a new session, a new inode, or what nobody holds
+  Alone : Scope
+  -- whose session it ends, makes stale or renews, or whose grants it replaces
+  OfClient : ClientId → Scope
+  -- who asks, and of which inode, where it is about the entry on it
+  OnEntry : Holder → Scope
+  -- and where it may wait for a lock of the inode, what it asks for
+  Waiting : Holder → Ask → Scope
+  -- it is answered with a list: of messages, or of who is asked to give back
+  Listing : Scope
+
+abbrev pub scope : Event → Scope
+scope (event.Session client caller grants) = Alone
+scope (event.CloseSession client) = OfClient client
+scope (event.Stale client) = OfClient client
+scope (event.Renew client) = OfClient client
+scope (event.Regrant client grants) = OfClient client
+scope (event.Evict client) = OfClient client
+scope (event.Unblock client) = Alone
+scope (event.Recall count) = Listing
+scope (event.Lookup client dir name) = Alone
+scope (event.Create client dir name mode) = Alone
+scope (event.Mkdir client dir name mode) = Alone
+scope (event.MakeSnapshot client ino name) = Alone
+scope (event.RemoveSnapshot client ino name) = Alone
+scope (event.Open client ino mode) = OnEntry (holder client ino)
+scope (event.Want client ino caps) = OnEntry (holder client ino)
+scope (event.Ack client ino seq) = OnEntry (holder client ino)
+scope (event.Release client ino caps) = OnEntry (holder client ino)
+scope (event.Get client ino part) = Waiting (holder client ino) (Get part)
+scope (event.Alter client ino change) = Waiting (holder client ino) (Alter change)
+scope (event.Unlink client ino) = Waiting (holder client ino) Unlink
+scope (event.Rmdir client ino) = Waiting (holder client ino) Rmdir
+scope (event.Rename client ino dir name) = Waiting (holder client ino) (Rename dir name)
+scope (event.Flush client ino change) = OnEntry (holder client ino)
+scope (event.Poll client max) = Listing
+
+abbrev pub touched_in : Scope → Option Holder
+touched_in Alone = None
+touched_in (OfClient client) = None
+touched_in (OnEntry k) = Some k
+touched_in (Waiting k ask) = Some k
+touched_in Listing = None
+
 -- who asks, and of which inode, where the event is about one that is there already: about an entry on it, or about what it keeps
 abbrev pub touched_by : Event → Option Holder
-touched_by (event.Session client caller grants) = None
-touched_by (event.CloseSession client) = None
-touched_by (event.Stale client) = None
-touched_by (event.Renew client) = None
-touched_by (event.Regrant client grants) = None
-touched_by (event.Evict client) = None
-touched_by (event.Unblock client) = None
-touched_by (event.Recall count) = None
-touched_by (event.Lookup client dir name) = None
-touched_by (event.Create client dir name mode) = None
-touched_by (event.Mkdir client dir name mode) = None
-touched_by (event.MakeSnapshot client ino name) = None
-touched_by (event.RemoveSnapshot client ino name) = None
-touched_by (event.Open client ino mode) = Some (holder client ino)
-touched_by (event.Want client ino caps) = Some (holder client ino)
-touched_by (event.Ack client ino seq) = Some (holder client ino)
-touched_by (event.Release client ino caps) = Some (holder client ino)
-touched_by (event.Get client ino part) = Some (holder client ino)
-touched_by (event.Alter client ino change) = Some (holder client ino)
-touched_by (event.Unlink client ino) = Some (holder client ino)
-touched_by (event.Rmdir client ino) = Some (holder client ino)
-touched_by (event.Rename client ino dir name) = Some (holder client ino)
-touched_by (event.Flush client ino change) = Some (holder client ino)
-touched_by (event.Poll client max) = None
+touched_by e = touched_in (scope e)
+
+abbrev pub turned_in : Scope → Option ClientId
+turned_in Alone = None
+turned_in (OfClient client) = Some client
+turned_in (OnEntry k) = None
+turned_in (Waiting k ask) = None
+turned_in Listing = None
 
 -- whose session an event ends, makes stale or renews, or whose grants it replaces
 abbrev pub turned_by : Event → Option ClientId
-turned_by (event.Session client caller grants) = None
-turned_by (event.CloseSession client) = Some client
-turned_by (event.Stale client) = Some client
-turned_by (event.Renew client) = Some client
-turned_by (event.Regrant client grants) = Some client
-turned_by (event.Evict client) = Some client
-turned_by (event.Unblock client) = None
-turned_by (event.Recall count) = None
-turned_by (event.Lookup client dir name) = None
-turned_by (event.Create client dir name mode) = None
-turned_by (event.Mkdir client dir name mode) = None
-turned_by (event.MakeSnapshot client ino name) = None
-turned_by (event.RemoveSnapshot client ino name) = None
-turned_by (event.Open client ino mode) = None
-turned_by (event.Want client ino caps) = None
-turned_by (event.Ack client ino seq) = None
-turned_by (event.Release client ino caps) = None
-turned_by (event.Get client ino part) = None
-turned_by (event.Alter client ino change) = None
-turned_by (event.Unlink client ino) = None
-turned_by (event.Rmdir client ino) = None
-turned_by (event.Rename client ino dir name) = None
-turned_by (event.Flush client ino change) = None
-turned_by (event.Poll client max) = None
+turned_by e = turned_in (scope e)
+
+abbrev pub asks_in : Scope → Option (Holder × Ask)
+asks_in Alone = None
+asks_in (OfClient client) = None
+asks_in (OnEntry k) = None
+asks_in (Waiting k ask) = Some (k, ask)
+asks_in Listing = None
 
 -- of an event that waits for a lock, who asks, of which inode, and what
 abbrev pub asks_for : Event → Option (Holder × Ask)
-asks_for (event.Session client caller grants) = None
-asks_for (event.CloseSession client) = None
-asks_for (event.Stale client) = None
-asks_for (event.Renew client) = None
-asks_for (event.Regrant client grants) = None
-asks_for (event.Evict client) = None
-asks_for (event.Unblock client) = None
-asks_for (event.Recall count) = None
-asks_for (event.Lookup client dir name) = None
-asks_for (event.Create client dir name mode) = None
-asks_for (event.Mkdir client dir name mode) = None
-asks_for (event.MakeSnapshot client ino name) = None
-asks_for (event.RemoveSnapshot client ino name) = None
-asks_for (event.Open client ino mode) = None
-asks_for (event.Want client ino caps) = None
-asks_for (event.Ack client ino seq) = None
-asks_for (event.Release client ino caps) = None
-asks_for (event.Get client ino part) = Some (holder client ino, Get part)
-asks_for (event.Alter client ino change) = Some (holder client ino, Alter change)
-asks_for (event.Unlink client ino) = Some (holder client ino, Unlink)
-asks_for (event.Rmdir client ino) = Some (holder client ino, Rmdir)
-asks_for (event.Rename client ino dir name) = Some (holder client ino, Rename dir name)
-asks_for (event.Flush client ino change) = None
-asks_for (event.Poll client max) = None
+asks_for e = asks_in (scope e)
+
+abbrev pub lists_in : Scope → Bool
+lists_in Alone = false
+lists_in (OfClient client) = false
+lists_in (OnEntry k) = false
+lists_in (Waiting k ask) = false
+lists_in Listing = true
 
 -- the event is answered with a list: of messages, or of who is asked to give back
 abbrev pub is_listing : Event → Bool
-is_listing (event.Session client caller grants) = false
-is_listing (event.CloseSession client) = false
-is_listing (event.Stale client) = false
-is_listing (event.Renew client) = false
-is_listing (event.Regrant client grants) = false
-is_listing (event.Evict client) = false
-is_listing (event.Unblock client) = false
-is_listing (event.Recall count) = true
-is_listing (event.Lookup client dir name) = false
-is_listing (event.Create client dir name mode) = false
-is_listing (event.Mkdir client dir name mode) = false
-is_listing (event.MakeSnapshot client ino name) = false
-is_listing (event.RemoveSnapshot client ino name) = false
-is_listing (event.Open client ino mode) = false
-is_listing (event.Want client ino caps) = false
-is_listing (event.Ack client ino seq) = false
-is_listing (event.Release client ino caps) = false
-is_listing (event.Get client ino part) = false
-is_listing (event.Alter client ino change) = false
-is_listing (event.Unlink client ino) = false
-is_listing (event.Rmdir client ino) = false
-is_listing (event.Rename client ino dir name) = false
-is_listing (event.Flush client ino change) = false
-is_listing (event.Poll client max) = true
+is_listing e = lists_in (scope e)
 
 -- ---- what they leave
 

@@ -1,6 +1,9 @@
 use Rattle.capexplain.proofs.Answered.{one_answer}
 use Rattle.capexplain.proofs.Compared.{one_comparison}
 use Rattle.capexplain.proofs.Clients.{one_standing, one_fault, no_fault}
+use Rattle.capexplain.proofs.Linted.{one_finding}
+use Rattle.capexplain.proofs.Asked.{is_remarked}
+use Rattle.capexplain.proofs.Remarked.{one_remark}
 use Rattle.capexplain.proofs.laws.one_answer_for_a_line.Goals as goal
 
 pub returns-clause-answer : goal.returns-clause-answer
@@ -17,3 +20,12 @@ returns-clause-either c = no_fault
 
 pub returns-clause-comparison : goal.returns-clause-comparison
 returns-clause-comparison c = one_comparison
+
+pub returns-clause-finding : goal.returns-clause-finding
+returns-clause-finding c = one_finding
+
+pub returns-clause-remarked : goal.returns-clause-remarked
+returns-clause-remarked c = one_remark
+
+pub returns-clause-remarks : goal.returns-clause-remarks
+returns-clause-remarks c = is_remarked

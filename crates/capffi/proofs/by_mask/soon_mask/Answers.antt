@@ -1,19 +1,18 @@
-use Rattle.std.proofs.Common.{ℕ, List, refl}
+use Rattle.std.proofs.Common.{ℕ, List, subst}
+use Rattle.std.specs.Prelude.{Ok}
 use Rattle.capffi.specs.declared.passed.Answer.{Answer}
-use Rattle.capffi.specs.ByMask.{IsSoonOn, IsSoonToMask, verdict_on}
-use Rattle.capffi.specs.Blocks.{bare_names}
-use Rattle.capffi.proofs.Masks.{told_one}
+use Rattle.capffi.specs.ByMask.{IsSaidOnMask, IsSoonToMask}
 use Rattle.capffi.proofs.Telling.{tells_more}
 use Rattle.capffi.proofs.by_mask.soon_mask.Goals as goal
 
-pub returns-in-Some-soon_plain : goal.returns-in-Some-soon_plain
-returns-in-Some-soon_plain c =
-    let One : Answer → Type 0 = IsSoonOn c.args.block.now c.args.text.now (bare_names c.in-Some-soon_plain.bare.now) c.args.check.now c.in-Some.access in
+pub returns : goal.returns
+returns c =
+    let One : Answer → Type 0 = IsSoonToMask c.args.block.now c.args.text.now c.without_slash-bare.result.now c.args.check.now in
     let All : Answer → Type 0 = IsSoonToMask c.args.block.now c.args.text.now c.args.path.now c.args.check.now in
-    let access = c.in-Some.ensures in
-    tells_more One All c.args.answer.now c.soon_of.new.answer c.soon_of.result (λ (a : Answer). λ (is : One a). λ (groups : List ℕ). (
-      record { access = c.in-Some.access; verdict = verdict_on c.args.block.now c.args.text.now (bare_names c.in-Some-soon_plain.bare.now) groups c.args.check.now c.in-Some.access },
-      access.1,
-      told_one c.args.block.now c.args.text.now c.args.path.now groups c.in-Some-soon_plain.bare.now c.args.check.now c.in-Some.access (c.if-not-is_block.ensures.0 refl) c.in-Some-soon_plain.ensures.1 c.in-Some-soon_plain.ensures.0 access.0 access.1,
-      is groups,
-    )) c.soon_of.ensures
+    tells_more One All c.args.answer.now c.soon_bare.new.answer c.soon_bare.result (λ (a : Answer). λ (is : One a). λ (groups : List ℕ).
+    let found = is groups in (
+      found.0,
+      found.1,
+      subst (λ (names : List (List ℕ)). IsSaidOnMask c.args.block.now c.args.text.now names groups c.args.check.now (Ok found.0)) c.without_slash-bare.ensures found.2,
+      found.3,
+    )) c.soon_bare.ensures

@@ -1,8 +1,11 @@
-use Rattle.std.proofs.Common.{ℕ, List, codes, ◌++◌, map, option_map}
+use Rattle.std.proofs.Common.{◌≡◌, ℕ, List, codes, ◌++◌, map, option_map, append_assoc, sym, ap, ◌∙◌}
 use Rattle.std.proofs.lemmas.Result.{on_ok_weaker}
 use Rattle.capheld.specs.Lines.{beside_text, holder_text, on_inode}
 use Rattle.capheld.proofs.Noting.{behind}
 use Rattle.capheld.proofs.pairs.print_clash.Goals as goal
+
+end_behind : (a b c d : List ℕ) → (a ++ (b ++ c)) ++ d ≡ a ++ (b ++ (c ++ d))
+end_behind a b c d = simp append_assoc
 
 pub returns : goal.returns
 returns c =
@@ -15,8 +18,9 @@ returns c =
     let beside : List ℕ = beside_text conflict in
     let behind_beside : List ℕ = other ++ codes "\n" in
     on_ok_weaker c.print_str.result
-    (λ more. behind c.args.text.now.items c.print_on.new.text.items last place (one ++ (beside ++ behind_beside)) c.in_ok-print_on.ensures
+    (λ more. (behind c.args.text.now.items c.print_on.new.text.items last place (one ++ (beside ++ behind_beside)) c.in_ok-print_on.ensures
     (behind c.print_on.new.text.items c.print_client.new.text.items last one (beside ++ behind_beside) c.in_ok-print_client.ensures
     (behind c.print_client.new.text.items c.print_beside.new.text.items last beside behind_beside c.in_ok-print_beside.ensures
     (behind c.print_beside.new.text.items c.print_client-2.new.text.items last other (codes "\n") c.in_ok-print_client-2.ensures more))))
+    ∙ ap (λ (t : List ℕ). c.args.text.now.items ++ (place ++ t)) (sym (end_behind one beside other (codes "\n"))))
     c.print_str.ensures

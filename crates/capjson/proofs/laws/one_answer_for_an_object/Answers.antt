@@ -1,5 +1,6 @@
 use Rattle.capjson.proofs.Clients.{one_standing}
 use Rattle.capjson.proofs.Distinct.{one_answer, one_change}
+use Rattle.capjson.proofs.Linted.{each_has_one, one_finding}
 use Rattle.capjson.proofs.laws.one_answer_for_an_object.Goals as goal
 
 pub returns-clause-answer : goal.returns-clause-answer
@@ -10,3 +11,9 @@ returns-clause-client c = one_standing
 
 pub returns-clause-change : goal.returns-clause-change
 returns-clause-change c = one_change
+
+pub returns-clause-finding : goal.returns-clause-finding
+returns-clause-finding c = one_finding
+
+pub returns-clause-findings : goal.returns-clause-findings
+returns-clause-findings c = each_has_one

@@ -1,8 +1,9 @@
 use Rattle.std.proofs.Common.{is_some, ◌≡◌, ◌+◌, ◌++◌, ◌∷◌, List, length, [], None, Some, sym, ap, subst, ◌∙◌, arith}
 use Rattle.std.proofs.lemmas.List.{length-append}
+use Rattle.inotree.specs.Tree.{IsTree}
 use Rattle.sessiontab.specs.Table.{SessionTable}
 use Rattle.captable.specs.declared.entry.Holder.{Holder}
-use Rattle.captable.specs.Table.{holder}
+use Rattle.captable.specs.Table.{IsTable, holder}
 use Rattle.capsteps.specs.Lockmachine.declared.request.Ask.{Ask}
 use Rattle.capsteps.specs.Lockmachine.Locks.{LockMap, next_request, with_request}
 use Rattle.capsteps.specs.Lockmachine.declared.scene.Scene.{Scene}
@@ -23,7 +24,7 @@ use Rattle.capsteps.specs.Caprules.Noted.{view_of}
 use Rattle.capsteps.specs.Capnotes.Noted.{view}
 use Rattle.capsteps.proofs.Capnotes.Noting.{changes-all, changes-still}
 use Rattle.capsteps.specs.Caprules.Sound.{IsSound}
-use Rattle.capcore.proofs.Stops.{asking-at, HasTree, HasTable, stopped-answered}
+use Rattle.capcore.proofs.Stops.{asking-at, stopped-answered}
 use Rattle.capcore.proofs.world.World.ask.Goals as goal
 use Rattle.capcore.proofs.world.World.ask.Goals.{After-waiting-waiting, After-enqueue_tested-ticket, After-close_with}
 
@@ -70,15 +71,15 @@ enqueue_tested-ticket-requires-clause-room g =
 pub end_at_one-requires-clause-quiet : goal.end_at_one-requires-clause-quiet
 end_at_one-requires-clause-quiet g =
     let c = (goal.at.end_at_one-requires-clause-quiet g).After-waiting-waiting in
-    wait-quiet (old c) (k c) (ask c) g.self.invariant.0 (subst HasTable (sym g.self.view_is) g.requires.table) g.waiting-waiting.ensures.sound (free c) g.enqueue_tested-ticket.new.self (queued (goal.at.end_at_one-requires-clause-quiet g).After-enqueue_tested-ticket)
+    wait-quiet (old c) (k c) (ask c) g.self.invariant.0 (subst (λ (s : State). IsTable s.scene.table) (sym g.self.view_is) g.requires.table) g.waiting-waiting.ensures.sound (free c) g.enqueue_tested-ticket.new.self (queued (goal.at.end_at_one-requires-clause-quiet g).After-enqueue_tested-ticket)
 
 pub end_at_one-requires-clause-tree : goal.end_at_one-requires-clause-tree
-end_at_one-requires-clause-tree g = subst HasTree (sym g.self.view_is) g.requires.tree
+end_at_one-requires-clause-tree g = subst (λ (s : State). IsTree s.scene.tree) (sym g.self.view_is) g.requires.tree
 
 pub end_at_one-requires-clause-order : goal.end_at_one-requires-clause-order
 end_at_one-requires-clause-order g =
     let c = (goal.at.end_at_one-requires-clause-order g).After-waiting-waiting in
-    wait-order (old c) (k c) (ask c) g.self.invariant.0 (subst HasTable (sym g.self.view_is) g.requires.table) g.waiting-waiting.ensures.sound (free c)
+    wait-order (old c) (k c) (ask c) g.self.invariant.0 (subst (λ (s : State). IsTable s.scene.table) (sym g.self.view_is) g.requires.table) g.waiting-waiting.ensures.sound (free c)
     g.enqueue_tested-ticket.new.self (queued (goal.at.end_at_one-requires-clause-order g).After-enqueue_tested-ticket)
 
 pub end_at_one-requires-clause-room : goal.end_at_one-requires-clause-room
@@ -88,7 +89,7 @@ pub close_with-requires-clause-differ : goal.close_with-requires-clause-differ
 close_with-requires-clause-differ g =
     let c = (goal.at.close_with-requires-clause-differ g).After-waiting-waiting in
     let last : Scene = g.end_at_one.new.scene in
-    wait-differ (old c) (k c) (ask c) g.self.invariant.0 (subst HasTable (sym g.self.view_is) g.requires.table) g.waiting-waiting.ensures.sound (free c) g.enqueue_tested-ticket.new.self (queued (goal.at.close_with-requires-clause-differ g).After-enqueue_tested-ticket)
+    wait-differ (old c) (k c) (ask c) g.self.invariant.0 (subst (λ (s : State). IsTable s.scene.table) (sym g.self.view_is) g.requires.table) g.waiting-waiting.ensures.sound (free c) g.enqueue_tested-ticket.new.self (queued (goal.at.close_with-requires-clause-differ g).After-enqueue_tested-ticket)
     _ _ g.self.invariant.2 last g.end_at_one.new.endings.told.items
     g.end_at_one.ensures.ends
 
@@ -109,7 +110,7 @@ module _ (g : After-close_with) where
 
   whole : (e : Event) → asks_for e ≡ Some (k c, ask c) → IsAnswered (old c) e g.close_with.result new
   whole =
-      wait-answered (old c) (k c) (ask c) g.self.invariant.0 (subst HasTable (sym g.self.view_is) g.requires.table) g.waiting-waiting.ensures.sound (free c) g.enqueue_tested-ticket.new.self copied
+      wait-answered (old c) (k c) (ask c) g.self.invariant.0 (subst (λ (s : State). IsTable s.scene.table) (sym g.self.view_is) g.requires.table) g.waiting-waiting.ensures.sound (free c) g.enqueue_tested-ticket.new.self copied
       _ _ g.self.invariant.2 last g.end_at_one.new.endings.told.items
       g.end_at_one.ensures.ends
       g.enqueue_tested-ticket.result g.enqueue_tested-ticket.ensures.ticket g.close_with.result g.close_with.new.messages.items
@@ -129,7 +130,7 @@ invariant_of-self-2 g =
     ap (λ (l : LockMap). length l.queue) (copied g) ∙ length-append g.self.inside.scene.locks.queue (next_request g.self.inside.scene.locks g.args.client g.args.ino (ask (c g)) ∷ []) in (
       w.sound,
       omega (arith, items, few, queue, g.in_default-reserve.ensures.ok, g.close_with.ensures.room, g.end_at_one.ensures.count, g.waiting-waiting.ensures.waiting),
-      wait-known (old (c g)) (k (c g)) (ask (c g)) g.self.invariant.0 (subst HasTable (sym g.self.view_is) g.requires.table) g.waiting-waiting.ensures.sound (free (c g)) g.enqueue_tested-ticket.new.self (copied g)
+      wait-known (old (c g)) (k (c g)) (ask (c g)) g.self.invariant.0 (subst (λ (s : State). IsTable s.scene.table) (sym g.self.view_is) g.requires.table) g.waiting-waiting.ensures.sound (free (c g)) g.enqueue_tested-ticket.new.self (copied g)
           _ _ g.self.invariant.2 (last g) g.end_at_one.new.endings.told.items g.end_at_one.ensures.ends,
     )
 

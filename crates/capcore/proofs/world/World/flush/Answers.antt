@@ -22,7 +22,7 @@ use Rattle.capcore.proofs.Closing.{ends-sessions, first-quiet, told-all, closed-
 use Rattle.capsteps.proofs.Knowing.{HoldAlike, alike-less, still-there, still-room, still-knows}
 use Rattle.capcore.proofs.OfInode.{event-table}
 use Rattle.capcore.proofs.Flushed.{flush-calls, flush-tree, flush-direct}
-use Rattle.capcore.proofs.Stops.{judged-at, HasTree, HasTable, stopped-answered}
+use Rattle.capcore.proofs.Stops.{judged-at, stopped-answered}
 use Rattle.capsteps.specs.Capview.Changes.{AreChanges}
 use Rattle.capsteps.specs.Caprules.Noted.{view_of}
 use Rattle.capsteps.specs.Capnotes.Noted.{view}
@@ -88,7 +88,7 @@ module _ (c : After-touch) where
   knows : Knows (known_in c.self.inside.known.sets) (old c).scene (first c).table
   knows =
       still-knows c.self.inside.known.sets c.self.inside.known.sets (old c).scene c.touch.new.self c.self.invariant.2 still
-      (subst (λ (s : Scene). IsTable s.table) (sym (is c)) (event-table (old c) (e c) (k c) (subst HasTable (sym c.self.view_is) c.requires.table) refl (passed c)))
+      (subst (λ (s : Scene). IsTable s.table) (sym (is c)) (event-table (old c) (e c) (k c) (subst (λ (s : State). IsTable s.scene.table) (sym c.self.view_is) c.requires.table) refl (passed c)))
       (alike-less c.self.inside.scene.table c.touch.new.self alike)
 
 pub end_at_one-requires-clause-room : goal.end_at_one-requires-clause-room
@@ -99,12 +99,12 @@ end_at_one-requires-clause-room g =
 pub end_at_one-requires-clause-quiet : goal.end_at_one-requires-clause-quiet
 end_at_one-requires-clause-quiet g =
     let c = (goal.at.end_at_one-requires-clause-quiet g).After-touch in
-    first-quiet (old c) (e c) (k c) refl (passed c) c.self.invariant.0 (subst HasTable (sym c.self.view_is) c.requires.table) (first c) (is c)
+    first-quiet (old c) (e c) (k c) refl (passed c) c.self.invariant.0 (subst (λ (s : State). IsTable s.scene.table) (sym c.self.view_is) c.requires.table) (first c) (is c)
 
 pub end_at_one-requires-clause-tree : goal.end_at_one-requires-clause-tree
 end_at_one-requires-clause-tree g =
     let c = (goal.at.end_at_one-requires-clause-tree g).After-touch in
-    subst IsTree (sym c.in_ok-alter.ensures.ok) (flush-tree (old c).scene (k c) c.args.change.now (passed c) (subst HasTree (sym c.self.view_is) c.requires.tree))
+    subst IsTree (sym c.in_ok-alter.ensures.ok) (flush-tree (old c).scene (k c) c.args.change.now (passed c) (subst (λ (s : State). IsTree s.scene.tree) (sym c.self.view_is) c.requires.tree))
 
 -- ---- the end of the step
 
@@ -141,7 +141,7 @@ module _ (c : After-close) where
 
   whole : IsAnswered (old before) (e before) c.close.result new
   whole =
-      closed (old before) (e before) (k before) refl (passed before) c.self.invariant.0 (subst HasTable (sym c.self.view_is) c.requires.table) (first before) (is before)
+      closed (old before) (e before) (k before) refl (passed before) c.self.invariant.0 (subst (λ (s : State). IsTable s.scene.table) (sym c.self.view_is) c.requires.table) (first before) (is before)
       c.self.inside.known.sets c.end_at_one.new.known.sets c.waiting-waiting.ensures.sound (knows before) last told ends c.close.result new
       (c.close.ensures.reply ∙ ap (reply_of closed_as told) answer)
       (c.close.ensures.kept ∙ sym c.close.ensures.reply) (c.close.ensures.ended ∙ c.end_at_one.ensures.kept ∙ sym all) new_is
@@ -154,7 +154,7 @@ invariant_of-self-2 c =
     let b = before c in (
       w.sound,
       omega (arith, items, c.close.ensures.room, c.end_at_one.ensures.count, c.self.invariant.1),
-      closed-known (old b) (e b) (k b) refl (passed b) c.self.invariant.0 (subst HasTable (sym c.self.view_is) c.requires.table) (first b) (is b)
+      closed-known (old b) (e b) (k b) refl (passed b) c.self.invariant.0 (subst (λ (s : State). IsTable s.scene.table) (sym c.self.view_is) c.requires.table) (first b) (is b)
           c.self.inside.known.sets c.end_at_one.new.known.sets c.waiting-waiting.ensures.sound (knows b) (last c) (told c) (ends c) c.self.inside.known.sets c.self.invariant.2 (still b),
     )
 

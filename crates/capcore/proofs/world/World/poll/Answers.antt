@@ -2,6 +2,7 @@ use Rattle.std.proofs.Common.{◌≡◌, ◌≤◌, [], List, length, filter, So
 use Rattle.std.proofs.lemmas.List.Sums.{length-filter, count_by-le-length}
 use Rattle.capbits.specs.Refusal.{first_failing}
 use Rattle.sessiontab.specs.Tests.{session_tests}
+use Rattle.captable.specs.Table.{IsTable}
 use Rattle.captable.specs.Calls.{is_of_client}
 use Rattle.captable.specs.Many.{changed_where}
 use Rattle.capsteps.specs.Capevents.declared.event.Event.TheVariants as event
@@ -17,7 +18,7 @@ use Rattle.capsteps.specs.Capnotes.Untold.{AreEndsOf, is_left}
 use Rattle.capsteps.specs.Caprules.Sound.{IsSound}
 use Rattle.capsteps.proofs.Capacts.Again.{stopped-before}
 use Rattle.capcore.proofs.Polled.{poll-answered, polled-new}
-use Rattle.capcore.proofs.Stops.{HasTable, stopped-answered}
+use Rattle.capcore.proofs.Stops.{stopped-answered}
 use Rattle.capsteps.proofs.Telling.{given-held}
 use Rattle.capsteps.proofs.Knowing.{HoldAlike, known-alike, alike-where}
 use Rattle.capsteps.specs.Capview.Changes.{AreChanges}
@@ -67,12 +68,12 @@ module _ (c : After-drop-told) where
   told = c.skip_quiet.ensures ∙ c.give.ensures ∙ ap (λ (given : List Message). changed_where (is_of_client c.args.client) (after_messages given) old.scene.table) c.as_slice-3.ensures
 
   left : with_given old c.args.client (first_messages old c.args.client c.args.max) ≡ new
-  left = polled-new old c.self.invariant.0 (subst HasTable (sym c.self.view_is) c.requires.table) c.args.client c.args.max c.in_ok-given.given c.skip_quiet.new.self c.remove_given.new.self.items first told kept_items
+  left = polled-new old c.self.invariant.0 (subst (λ (s : State). IsTable s.scene.table) (sym c.self.view_is) c.requires.table) c.args.client c.args.max c.in_ok-given.given c.skip_quiet.new.self c.remove_given.new.self.items first told kept_items
 
   whole : IsAnswered old (event.Poll c.args.client c.args.max) said new
   whole =
       subst (IsAnswered old (event.Poll c.args.client c.args.max) said) left
-      (poll-answered old c.self.invariant.0 (subst HasTable (sym c.self.view_is) c.requires.table) c.args.client c.args.max said (sym c.session_refusal.ensures ∙ c.in_default.is)
+      (poll-answered old c.self.invariant.0 (subst (λ (s : State). IsTable s.scene.table) (sym c.self.view_is) c.requires.table) c.args.client c.args.max said (sym c.session_refusal.ensures ∙ c.in_default.is)
       (ap reply.Messages first) (ap reply.Messages same) c.new.ensures)
 
 pub invariant_of-self : goal.invariant_of-self

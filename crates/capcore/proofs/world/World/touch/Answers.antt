@@ -2,6 +2,7 @@ use Rattle.std.proofs.Common.{Some, ◌≡◌, ◌==◌, ◌+◌, ◌++◌, List
 use Rattle.std.proofs.lemmas.List.{length-append}
 use Rattle.capbits.specs.Refusal.{first_failing}
 use Rattle.capbits.specs.Sets.{IsSubset}
+use Rattle.inotree.specs.Tree.{IsTree}
 use Rattle.sessiontab.specs.Table.{SessionTable}
 use Rattle.captable.specs.declared.entry.Entry.{Entry}
 use Rattle.captable.specs.declared.entry.Holder.{Holder}
@@ -23,7 +24,7 @@ use Rattle.capsteps.specs.Touch.{touch_event, touch_answer}
 use Rattle.capcore.proofs.Closing.{ends-sessions, first-quiet, first-numbers, first-clients, told-all, closed-known, closed}
 use Rattle.capsteps.proofs.Knowing.{held_at, HoldAlike, known-alike, still-room, still-knows, still-all}
 use Rattle.capcore.proofs.OfInode.{event-table}
-use Rattle.capcore.proofs.Stops.{judged-at, HasTree, HasTable, stopped-answered}
+use Rattle.capcore.proofs.Stops.{judged-at, stopped-answered}
 use Rattle.capsteps.proofs.TouchKept.{touch-less, others-have_all}
 use Rattle.capcore.proofs.TouchWhole.{first-is, touch-answered, touched-by, touch-reply, no_list-touch, tell-alike}
 use Rattle.capsteps.proofs.Touched.{touched-tests}
@@ -79,7 +80,7 @@ module _ (c : In_ok-touch_entry) where
 
   is : first ≡ (direct old e).state.scene
   is =
-      first-is old c.args.client c.args.ino c.args.touch passed c.self.invariant.0 (subst HasTable (sym c.self.view_is) c.requires.table) c.touch_entry.new.table
+      first-is old c.args.client c.args.ino c.args.touch passed c.self.invariant.0 (subst (λ (s : State). IsTable s.scene.table) (sym c.self.view_is) c.requires.table) c.touch_entry.new.table
       (c.in_ok-touch_entry.ensures.ok ∙ c.revoked_by-revoked.ensures.takes old.scene refl c.self.invariant.2)
 
 -- what is known then
@@ -87,7 +88,7 @@ module _ (c : In_ok-touch_entry) where
   first-table : IsTable c.touch_entry.new.table
   first-table =
       subst (λ (s : Scene). IsTable s.table) (sym (is c))
-      (event-table (old c) (e c) (k c) (subst HasTable (sym c.self.view_is) c.requires.table) (touched-by c.args.client c.args.ino c.args.touch) (passed c))
+      (event-table (old c) (e c) (k c) (subst (λ (s : State). IsTable s.scene.table) (sym c.self.view_is) c.requires.table) (touched-by c.args.client c.args.ino c.args.touch) (passed c))
 
   knows : Knows (known_in c.touch_entry.new.known.sets) (old c).scene (first c).table
   knows =
@@ -103,21 +104,21 @@ end_at_entry-requires-clause-room g =
 pub end_at_entry-requires-clause-quiet : goal.end_at_entry-requires-clause-quiet
 end_at_entry-requires-clause-quiet g =
     let c = (goal.at.end_at_entry-requires-clause-quiet g).In_ok-touch_entry in
-    first-quiet (old c) (e c) (k c) (touched-by c.args.client c.args.ino c.args.touch) (passed c) c.self.invariant.0 (subst HasTable (sym c.self.view_is) c.requires.table) (first c) (is c)
+    first-quiet (old c) (e c) (k c) (touched-by c.args.client c.args.ino c.args.touch) (passed c) c.self.invariant.0 (subst (λ (s : State). IsTable s.scene.table) (sym c.self.view_is) c.requires.table) (first c) (is c)
 
 pub end_at_entry-requires-clause-tree : goal.end_at_entry-requires-clause-tree
-end_at_entry-requires-clause-tree c = subst HasTree (sym c.self.view_is) c.requires.tree
+end_at_entry-requires-clause-tree c = subst (λ (s : State). IsTree s.scene.tree) (sym c.self.view_is) c.requires.tree
 
 pub end_at_entry-requires-clause-numbers : goal.end_at_entry-requires-clause-numbers
 end_at_entry-requires-clause-numbers g =
     let c = (goal.at.end_at_entry-requires-clause-numbers g).In_ok-touch_entry in
-    first-numbers (old c) (e c) (k c) (touched-by c.args.client c.args.ino c.args.touch) (passed c) c.self.invariant.0 (subst HasTable (sym c.self.view_is) c.requires.table) (first c) (is c)
+    first-numbers (old c) (e c) (k c) (touched-by c.args.client c.args.ino c.args.touch) (passed c) c.self.invariant.0 (subst (λ (s : State). IsTable s.scene.table) (sym c.self.view_is) c.requires.table) (first c) (is c)
     (subst NumbersLeft (sym c.self.view_is) c.requires.numbers)
 
 pub end_at_entry-requires-clause-clients : goal.end_at_entry-requires-clause-clients
 end_at_entry-requires-clause-clients g =
     let c = (goal.at.end_at_entry-requires-clause-clients g).In_ok-touch_entry in
-    first-clients (old c) (e c) (k c) (touched-by c.args.client c.args.ino c.args.touch) (passed c) c.self.invariant.0 (subst HasTable (sym c.self.view_is) c.requires.table) (first c) (is c)
+    first-clients (old c) (e c) (k c) (touched-by c.args.client c.args.ino c.args.touch) (passed c) c.self.invariant.0 (subst (λ (s : State). IsTable s.scene.table) (sym c.self.view_is) c.requires.table) (first c) (is c)
 
 pub end_at_entry-requires-clause-others : goal.end_at_entry-requires-clause-others
 end_at_entry-requires-clause-others g =
@@ -135,7 +136,7 @@ close-requires-clause-list c =
       messages = [];
     } in
     let known : AreKnown c.end_at_entry.new.known.sets st.scene =
-    closed-known (old b) (e b) (k b) (touched-by c.args.client c.args.ino c.args.touch) (passed b) c.self.invariant.0 (subst HasTable (sym c.self.view_is) c.requires.table) (first b) (is b)
+    closed-known (old b) (e b) (k b) (touched-by c.args.client c.args.ino c.args.touch) (passed b) c.self.invariant.0 (subst (λ (s : State). IsTable s.scene.table) (sym c.self.view_is) c.requires.table) (first b) (is b)
     c.touch_entry.new.known.sets c.end_at_entry.new.known.sets c.waiting-waiting.ensures.sound (knows b) st.scene c.end_at_entry.new.endings.told.items c.end_at_entry.ensures.ends
     c.self.inside.known.sets c.self.invariant.2 c.touch_entry.ensures.known in
     ap has_list (c.tell-reply.ensures.reply st refl known) ∙ no_list-touch st (holder c.args.client c.args.ino) c.args.touch
@@ -158,7 +159,7 @@ module _ (c : After-close) where
 
   known-last : AreKnown c.end_at_entry.new.known.sets last
   known-last =
-      closed-known (old before) (e before) (k before) (touched-by c.args.client c.args.ino c.args.touch) (passed before) c.self.invariant.0 (subst HasTable (sym c.self.view_is) c.requires.table) (first before) (is before)
+      closed-known (old before) (e before) (k before) (touched-by c.args.client c.args.ino c.args.touch) (passed before) c.self.invariant.0 (subst (λ (s : State). IsTable s.scene.table) (sym c.self.view_is) c.requires.table) (first before) (is before)
       c.touch_entry.new.known.sets c.end_at_entry.new.known.sets c.waiting-waiting.ensures.sound (knows before) last told ends c.self.inside.known.sets c.self.invariant.2 c.touch_entry.ensures.known
 
   all : earlier c.self.inside.scene.locks.last told ≡ told
@@ -171,7 +172,7 @@ module _ (c : After-close) where
   answer : touch_answer (holder c.args.client c.args.ino) c.args.touch ≡ (direct (old before) (e before)).answer
   answer =
       sym
-      (touch-answered (old before) c.args.client c.args.ino c.args.touch (passed before) c.self.invariant.0 (subst HasTable (sym c.self.view_is) c.requires.table) c.touch_entry.new.table
+      (touch-answered (old before) c.args.client c.args.ino c.args.touch (passed before) c.self.invariant.0 (subst (λ (s : State). IsTable s.scene.table) (sym c.self.view_is) c.requires.table) c.touch_entry.new.table
       (c.in_ok-touch_entry.ensures.ok ∙ c.revoked_by-revoked.ensures.takes (old before).scene refl c.self.invariant.2))
 
   new_is : new ≡ shown (direct (old before) (e before)).answer closed_as
@@ -182,7 +183,7 @@ module _ (c : After-close) where
 
   whole : IsAnswered (old before) (e before) c.close.result new
   whole =
-      closed (old before) (e before) (k before) (touched-by c.args.client c.args.ino c.args.touch) (passed before) c.self.invariant.0 (subst HasTable (sym c.self.view_is) c.requires.table) (first before) (is before)
+      closed (old before) (e before) (k before) (touched-by c.args.client c.args.ino c.args.touch) (passed before) c.self.invariant.0 (subst (λ (s : State). IsTable s.scene.table) (sym c.self.view_is) c.requires.table) (first before) (is before)
       c.touch_entry.new.known.sets c.end_at_entry.new.known.sets c.waiting-waiting.ensures.sound (knows before) last told ends c.close.result new
       (c.close.ensures.reply ∙ c.tell-reply.ensures.reply closed_as refl known-last ∙ touch-reply closed_as told (k before) c.args.touch ∙ ap (reply_of closed_as told) answer)
       (c.close.ensures.kept ∙ sym c.close.ensures.reply) (c.close.ensures.ended ∙ c.end_at_entry.ensures.kept ∙ sym all) new_is

@@ -4,7 +4,7 @@ use Rattle.std.specs.Option.{option_map}
 use Rattle.inotree.specs.Tree.{IsTree}
 use Rattle.sessiontab.specs.Calls.{has_session}
 use Rattle.sessiontab.specs.Table.{SessionTable}
-use Rattle.captable.specs.Table.{Table}
+use Rattle.captable.specs.Table.{IsTable, Table}
 use Rattle.capsteps.specs.Lockmachine.Locks.{IsLockMap}
 use Rattle.capsteps.specs.Lockmachine.Moves.{IsQuietOutside}
 use Rattle.capsteps.specs.Lockmachine.declared.scene.Scene.{Scene}
@@ -21,7 +21,7 @@ use Rattle.capsteps.specs.Caprules.Sound.{IsSound, NumbersLeft}
 use Rattle.capsteps.specs.Capacts.Left.{is_end, dropped_by}
 use Rattle.capsteps.specs.Turn.{turn_event, turned}
 use Rattle.capcore.proofs.Closing.{ends-sessions}
-use Rattle.capcore.proofs.Stops.{HasTree, HasTable, HasLocks, stopped-answered}
+use Rattle.capcore.proofs.Stops.{stopped-answered}
 use Rattle.capcore.proofs.TurnStep.{turn-stop, few-waiting, few-messages, turn-quiet, turn-clients, turn-numbers, turn-order, turn-alike, turn-known, turn-closed}
 use Rattle.capsteps.proofs.Knowing.{HoldAlike, still-there, still-room}
 use Rattle.capsteps.specs.Capview.Changes.{AreChanges}
@@ -76,7 +76,7 @@ module _ (c : After-leave) where
   still =
       still-there c.self.inside.scene.table c.leave.new.scene.table c.self.inside.known.sets c.leave.new.known.sets
       (λ k f there. ap is_some (subst (HoldAlike c.self.inside.scene.table) (sym c.leave.ensures.table)
-      (turn-alike (old c) c.args.client c.args.turn (passed c) c.self.invariant.0 (subst HasTable (sym c.self.view_is) c.requires.table) 1 c.in_ok-room.room.others c.in_ok-room.ensures.reaches) k f there).1)
+      (turn-alike (old c) c.args.client c.args.turn (passed c) c.self.invariant.0 (subst (λ (s : State). IsTable s.scene.table) (sym c.self.view_is) c.requires.table) 1 c.in_ok-room.room.others c.in_ok-room.ensures.reaches) k f there).1)
       (λ k f there. c.leave.ensures.known k f there)
 
 pub end_at-requires-clause-room : goal.end_at-requires-clause-room
@@ -88,17 +88,17 @@ pub end_at-requires-clause-quiet : goal.end_at-requires-clause-quiet
 end_at-requires-clause-quiet g =
     let c = (goal.at.end_at-requires-clause-quiet g).After-leave in
     subst (IsQuietOutside (is_touched 1 c.in_ok-room.room.others)) (sym (is c))
-    (turn-quiet (old c) c.args.client c.args.turn (passed c) c.self.invariant.0 (subst HasTable (sym c.self.view_is) c.requires.table) 1 c.in_ok-room.room.others c.in_ok-room.ensures.reaches)
+    (turn-quiet (old c) c.args.client c.args.turn (passed c) c.self.invariant.0 (subst (λ (s : State). IsTable s.scene.table) (sym c.self.view_is) c.requires.table) 1 c.in_ok-room.room.others c.in_ok-room.ensures.reaches)
 
 pub end_at-requires-clause-tree : goal.end_at-requires-clause-tree
-end_at-requires-clause-tree g = subst (λ (s : Scene). IsTree s.tree) (sym g.leave.ensures.rest) (subst HasTree (sym g.self.view_is) g.requires.tree)
+end_at-requires-clause-tree g = subst (λ (s : Scene). IsTree s.tree) (sym g.leave.ensures.rest) (subst (λ (s : State). IsTree s.scene.tree) (sym g.self.view_is) g.requires.tree)
 
 pub end_at-requires-clause-order : goal.end_at-requires-clause-order
 end_at-requires-clause-order g =
     let c = (goal.at.end_at-requires-clause-order g).After-leave in
     subst (λ (s : Scene). IsLockMap s.locks) (sym (is c))
-    (turn-order (old c) c.args.client c.args.turn (passed c) c.self.invariant.0 (subst HasTable (sym c.self.view_is) c.requires.table) 1 c.in_ok-room.room.others c.in_ok-room.ensures.reaches
-    (subst HasLocks (sym c.self.view_is) c.requires.locks))
+    (turn-order (old c) c.args.client c.args.turn (passed c) c.self.invariant.0 (subst (λ (s : State). IsTable s.scene.table) (sym c.self.view_is) c.requires.table) 1 c.in_ok-room.room.others c.in_ok-room.ensures.reaches
+    (subst (λ (s : State). IsLockMap s.scene.locks) (sym c.self.view_is) c.requires.locks))
 
 pub end_at-requires-clause-told : goal.end_at-requires-clause-told
 end_at-requires-clause-told g =
@@ -125,13 +125,13 @@ pub end_at-requires-clause-numbers : goal.end_at-requires-clause-numbers
 end_at-requires-clause-numbers g =
     let c = (goal.at.end_at-requires-clause-numbers g).After-leave in
     subst (λ (s : Scene). All (λ row. row.entry.seq < 2 ^ 64 - 1) s.table.rows) (sym (is c))
-    (turn-numbers (old c) c.args.client c.args.turn (passed c) c.self.invariant.0 (subst HasTable (sym c.self.view_is) c.requires.table) 1 c.in_ok-room.room.others c.in_ok-room.ensures.reaches (numbers c))
+    (turn-numbers (old c) c.args.client c.args.turn (passed c) c.self.invariant.0 (subst (λ (s : State). IsTable s.scene.table) (sym c.self.view_is) c.requires.table) 1 c.in_ok-room.room.others c.in_ok-room.ensures.reaches (numbers c))
 
 pub end_at-requires-clause-clients : goal.end_at-requires-clause-clients
 end_at-requires-clause-clients g =
     let c = (goal.at.end_at-requires-clause-clients g).After-leave in
     subst (λ (s : Scene). All (λ row. IsTrue (has_session s.sessions row.holder.client.0)) s.table.rows) (sym (is c))
-    (turn-clients (old c) c.args.client c.args.turn (passed c) c.self.invariant.0 (subst HasTable (sym c.self.view_is) c.requires.table) 1 c.in_ok-room.room.others c.in_ok-room.ensures.reaches)
+    (turn-clients (old c) c.args.client c.args.turn (passed c) c.self.invariant.0 (subst (λ (s : State). IsTable s.scene.table) (sym c.self.view_is) c.requires.table) 1 c.in_ok-room.room.others c.in_ok-room.ensures.reaches)
 
 -- ---- the end of the step
 
@@ -156,8 +156,8 @@ module _ (g : After-close_dropped) where
 
   known-last : AreKnown g.end_at.new.known.sets last
   known-last =
-      turn-known (old c) g.args.client g.args.turn (passed c) g.self.invariant.0 (subst HasTable (sym g.self.view_is) g.requires.table) 1 g.in_ok-room.room.others g.in_ok-room.ensures.reaches
-      g.self.inside.known.sets g.leave.new.known.sets g.end_at.new.known.sets (subst HasLocks (sym g.self.view_is) g.requires.locks) g.self.invariant.2 still-turned last told ends
+      turn-known (old c) g.args.client g.args.turn (passed c) g.self.invariant.0 (subst (λ (s : State). IsTable s.scene.table) (sym g.self.view_is) g.requires.table) 1 g.in_ok-room.room.others g.in_ok-room.ensures.reaches
+      g.self.inside.known.sets g.leave.new.known.sets g.end_at.new.known.sets (subst (λ (s : State). IsLockMap s.scene.locks) (sym g.self.view_is) g.requires.locks) g.self.invariant.2 still-turned last told ends
 
   items : g.close_dropped.new.messages.items ≡ (turned (old c) g.args.client g.args.turn).messages ++ told
   items = g.close_dropped.ensures.items ∙ ap (λ ms. ms ++ told) g.leave.ensures.messages
@@ -165,8 +165,8 @@ module _ (g : After-close_dropped) where
   whole : IsAnswered (old c) (e c) g.close_dropped.result new
   whole =
       subst (λ (ms : List Ended). IsAnswered (old c) (e c) g.close_dropped.result (record { scene = last; messages = ms })) (sym items)
-      (turn-closed (old c) g.args.client g.args.turn (passed c) g.self.invariant.0 (subst HasTable (sym g.self.view_is) g.requires.table) 1 g.in_ok-room.room.others g.in_ok-room.ensures.reaches
-      g.self.inside.known.sets g.leave.new.known.sets g.end_at.new.known.sets (subst HasLocks (sym g.self.view_is) g.requires.locks) g.self.invariant.2 still-turned last told ends g.close_dropped.result g.close_dropped.ensures.reply g.close_dropped.ensures.kept
+      (turn-closed (old c) g.args.client g.args.turn (passed c) g.self.invariant.0 (subst (λ (s : State). IsTable s.scene.table) (sym g.self.view_is) g.requires.table) 1 g.in_ok-room.room.others g.in_ok-room.ensures.reaches
+      g.self.inside.known.sets g.leave.new.known.sets g.end_at.new.known.sets (subst (λ (s : State). IsLockMap s.scene.locks) (sym g.self.view_is) g.requires.locks) g.self.invariant.2 still-turned last told ends g.close_dropped.result g.close_dropped.ensures.reply g.close_dropped.ensures.kept
       (g.close_dropped.ensures.ended ∙ (λ i. (g.leave.ensures.dropped ∙ ap (λ ms. ms ++ dropped_by (is_end g.args.turn) g.self.inside.scene.locks g.args.client) g.in_ok-room.ensures.dropped.0) i ++ g.end_at.ensures.kept i)))
 
 pub close_dropped-requires-clause-room : goal.close_dropped-requires-clause-room
