@@ -2,7 +2,7 @@
 use Rattle.std.proofs.Common.{◌≡◌, ℕ, ◌+◌, ◌-◌, ◌<◌, ◌≤◌, suc, Bool, true, false, cond, ◌&&◌, ◌≢◌, eqb, ltb, leb, not, List, [], ◌∷◌, ◌++◌, length, drop, get_or, refl, sym, ap, subst, ◌∙◌, inl, inr, arith}
 use Rattle.std.specs.Prelude.{count_by, filter}
 use Rattle.std.specs.List.{list_all, slice_split, onto_first}
-use Rattle.std.proofs.lemmas.Bool.{and_parts, or_from, not-true, ne_eqb, ltb-true, true≢false}
+use Rattle.std.proofs.lemmas.Bool.{and_parts, or_parts, or_from, not-true, ne_eqb, ltb-true, true≢false}
 use Rattle.std.proofs.lemmas.Bool.Decides.{nat_tests}
 use Rattle.std.proofs.lemmas.List.{drop_more}
 use Rattle.std.proofs.lemmas.List.Splits.{slice_split-cons_yes, slice_split-cons_no}
@@ -87,11 +87,22 @@ parted (b ∷ bytes) some first last lone =
 pub parted_ne : (bare : List ℕ) → 0 < length bare → get_or bare 0 0 ≢ 47 → get_or bare (length bare - 1) 0 ≢ 47 → has_double_slash bare ≡ false → bare_names bare ≡ names_of bare
 parted_ne bare some first last lone = parted bare some (ne_eqb _ _ first) (ne_eqb _ _ last) lone
 
+-- the same, where no slash stands behind another or in front
+pub parted_behind : (bare : List ℕ) → 0 < length bare → has_double_slash (47 ∷ bare) ≡ false → get_or bare (length bare - 1) 0 ≢ 47 → bare_names bare ≡ names_of bare
+parted_behind [] some lone last = absurd (omega (arith, some))
+parted_behind (b ∷ bytes) some lone last =
+    let apart = or_parts (is_slash b) (has_double_slash (b ∷ bytes)) lone in
+    parted (b ∷ bytes) some apart.0 (ne_eqb _ _ last) apart.1
+
 -- ---- few parts
 
 few_in_parts : (bare : List ℕ) → is_slash (get_or bare 0 0) ≡ false → length bare ≤ 255 → count_by is_slash bare < 32 → are_few_and_short (names_of bare) ≡ true
 few_in_parts [] first le few = refl
 few_in_parts (b ∷ bytes) first le few = few_behind_slashes (b ∷ bytes) [] (b ∷ bytes) (record { parts = refl; all_in = refl; longest = first }) le few
+
+pub few_behind : (bare : List ℕ) → has_double_slash (47 ∷ bare) ≡ false → length bare ≤ 255 → count_by is_slash bare < 32 → are_few_and_short (names_of bare) ≡ true
+few_behind [] lone le few = few_in_parts [] refl le few
+few_behind (b ∷ bytes) lone le few = few_in_parts (b ∷ bytes) (or_parts (is_slash b) (has_double_slash (b ∷ bytes)) lone).0 le few
 
 pub few_parts : (bare : List ℕ) → get_or bare 0 0 ≢ 47 → length bare ≤ 255 → count_by is_slash bare < 32 → are_few_and_short (names_of bare) ≡ true
 few_parts bare first le few = few_in_parts bare (ne_eqb _ _ first) le few

@@ -4,7 +4,7 @@ use Rattle.std.specs.Prelude.{count_by}
 use Rattle.std.proofs.Math.Bool.{and-false}
 use Rattle.std.proofs.lemmas.Bool.{or_parts}
 use Rattle.std.proofs.lemmas.List.{drop-drop, length-drop}
-use Rattle.std.proofs.lemmas.List.Sums.{sum_by-drop_more, sum_by-take-drop, count_by-le-length}
+use Rattle.std.proofs.lemmas.List.Sums.{sum_by-take-drop, count_by-le-length}
 use Rattle.capwords.specs.Paths.{has_double_slash}
 use Rattle.capspec.proofs.OneText.{no_pair}
 use Rattle.capspec.proofs.Paths.{is_slash}
@@ -64,19 +64,16 @@ around text k some other =
 abbrev one : ℕ → ℕ
 one b = cond (is_slash b) 1 0
 
-pub count_more : (path : List ℕ) (k d : ℕ) → k < length path → count_by is_slash (drop k path) ≡ cond (is_slash (get_or path k d)) 1 0 + count_by is_slash (drop (k + 1) path)
-count_more path k d within = sum_by-drop_more one path k d within
-
-count_further : (k m : ℕ) (path : List ℕ) → k ≤ m → count_by is_slash (drop m path) ≤ count_by is_slash (drop k path)
+pub count_further : (k m : ℕ) (path : List ℕ) → k ≤ m → count_by is_slash (drop m path) ≤ count_by is_slash (drop k path)
 count_further k m path first =
     let place : k + (m - k) ≡ m = omega arith in
     let same : drop m path ≡ drop (m - k) (drop k path) = ap (λ (n : ℕ). drop n path) (sym place) ∙ sym (drop-drop (m - k) k path) in
     omega (arith, ap (count_by is_slash) same, sum_by-take-drop one (drop k path) (m - k))
 
 -- a part of a path is counted up to a place, and another from a place before that on, up to the last byte
-pub counted_twice : (path : List ℕ) (reached last front back : ℕ) → last ≤ reached → length path ≤ last + 65 → front + count_by is_slash (drop reached path) ≡ count_by is_slash path → back + count_by is_slash (drop (last + 64) path) ≡ count_by is_slash (drop last path) → count_by is_slash path ≤ (front + back) + 1
+pub counted_twice : (path : List ℕ) (reached last front back : ℕ) → last ≤ reached → length path ≤ last + 64 → count_by is_slash path ≤ front + count_by is_slash (drop reached path) → count_by is_slash (drop last path) ≤ back + count_by is_slash (drop (last + 63) path) → count_by is_slash path ≤ (front + back) + 1
 counted_twice path reached last front back before ends one_part other =
-    let end : count_by is_slash (drop (last + 64) path) ≤ 1 = omega (arith, count_by-le-length is_slash (drop (last + 64) path), length-drop (last + 64) path, ends) in
+    let end : count_by is_slash (drop (last + 63) path) ≤ 1 = omega (arith, count_by-le-length is_slash (drop (last + 63) path), length-drop (last + 63) path, ends) in
     omega (arith, count_further last reached path before, one_part, other, end)
 
 -- ---- a piece at each end
@@ -102,7 +99,3 @@ at_ends text front back k m end before ends first last =
     let none_behind : has_double_slash (drop end text) ≡ false = last_byte end text ends in
     let tells : back ≡ has_double_slash (drop k text) = sym (or_false back) ∙ ap (λ (t : Bool). back || t) (sym none_behind) ∙ last in
     ends_found front back (has_double_slash text) (has_double_slash (drop m text)) first (λ none. further k m text before (sym tells ∙ none)) (λ none. tells ∙ behind k text none)
-
--- the count of two pieces, of which the second begins within the first or right behind it
-pub counted_at_ends : (path : List ℕ) (first last k : ℕ) → k ≤ 0 + 64 → length path ≤ k + 65 → first + count_by is_slash (drop (0 + 64) path) ≡ count_by is_slash (drop 0 path) → last + count_by is_slash (drop (k + 64) path) ≡ count_by is_slash (drop k path) → count_by is_slash path ≤ (first + last) + 1
-counted_at_ends path first last k before ends one_part other = counted_twice path (0 + 64) k first last before ends one_part other

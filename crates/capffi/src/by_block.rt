@@ -2,7 +2,7 @@
 ghost use Rattle.std.specs.Prelude.{◌≡◌, ◌≤◌, ◌↔◌, ℕ, List, length, IsTrue, IfSome};
 ghost use Rattle.capwords.specs.Paths.{names_of};
 ghost use Rattle.capffi.specs.Blocks.{IsBlock, bare_names};
-ghost use Rattle.capffi.specs.ByBlock.{IsSaid, IsSaidOf, IsSoonOf, TellsSoon, Tells, alone};
+ghost use Rattle.capffi.specs.ByBlock.{IsSaid, IsSaidOf, IsSoon, IsSoonOf, TellsSoon, Tells, alone};
 ghost use Rattle.capgrant.specs.Question.{question as asked};
 
 use crate::answering::tell_alone;
@@ -11,7 +11,7 @@ use crate::block::{BLOCK_VERSION, Block};
 use crate::given::split_front;
 use crate::judging::{Case, verdict_of};
 use crate::passed::{Answer, Question};
-use crate::plain::{plain, soon_plain};
+use crate::plain::{is_soon_plain, plain, soon_plain, without_slash};
 use crate::trouble::Trouble;
 use capbits::Mode;
 use capgrant::{Access, Attr, Verdict};
@@ -30,14 +30,53 @@ pub(crate) fn soon(
 ) -> u32
     ensures { TellsSoon block.now text.now path.now question.now answer.old answer.new result }
 {
-    if !is_block(block, text) {
-        return 0;
-    }
     if is_first_for_one(block) {
         return 0;
     }
+    if !is_one_for_all_fs(block) {
+        return soon_of_many(block, text, path, question, answer);
+    }
+    if !is_block(block, text) {
+        return 0;
+    }
+    match soon_of_one(block, text, path, question) {
+        Some(rule) => tell_alone(rule, answer),
+        None => 0,
+    }
+}
+
+// The same of one grant: the number of the rule that it fails by, or 0 where it allows. The path's form is looked at last, when little
+// else is left in registers.
+#[inline(always)]
+fn soon_of_one(block: &Block, text: &[u8], path: &[u8], question: &Question) -> Option<u8>
+    requires whole { IsBlock block.now text.now }
+    requires one { block.now.count ≡ 1 }
+    ensures { IfSome result (λ rule. IsSoon block.now text.now path.now question.now (alone rule)) }
+{
+    let bare = without_slash(path);
+    let rule = rule_of_one(block, text, bare, question)?;
+    if !is_soon_plain(bare) {
+        return None;
+    }
+    Some(rule)
+}
+
+// The same of any number of grants, apart from that of one, which takes fewer registers.
+#[inline(never)]
+fn soon_of_many(
+    block: &Block,
+    text: &[u8],
+    path: &[u8],
+    question: &Question,
+    answer: &mut Answer,
+) -> u32
+    ensures { TellsSoon block.now text.now path.now question.now answer.old answer.new result }
+{
+    if !is_block(block, text) {
+        return 0;
+    }
     match soon_plain(path) {
-        Some(bare) => soon_of(block, text, bare, question, answer),
+        Some(bare) => told_of_many(block, text, bare, question, answer),
         None => 0,
     }
 }
@@ -110,24 +149,9 @@ pub(crate) fn bare_text(path: &TreePath) -> &[u8]
     split_front(path.as_bytes(), 1).1
 }
 
-// The same for a path without a slash in front.
+// The rule that one grant fails by, for the names of a path without a slash in front.
 #[inline(always)]
-fn soon_of(block: &Block, text: &[u8], path: &[u8], question: &Question, answer: &mut Answer) -> u32
-    requires { IsBlock block.now text.now }
-    ensures { Tells (IsSoonOf block.now text.now (bare_names path.now) question.now) answer.old answer.new result }
-{
-    if !is_one_for_all_fs(block) {
-        return soon_of_many(block, text, path, question, answer);
-    }
-    match soon_of_one(block, text, path, question) {
-        Some(rule) => tell_alone(rule, answer),
-        None => 0,
-    }
-}
-
-// The same of one grant: the number of the rule that it fails by, or 0 where it allows.
-#[inline(always)]
-fn soon_of_one(block: &Block, text: &[u8], path: &[u8], question: &Question) -> Option<u8>
+fn rule_of_one(block: &Block, text: &[u8], path: &[u8], question: &Question) -> Option<u8>
     requires whole { IsBlock block.now text.now }
     requires one { block.now.count ≡ 1 }
     ensures { IfSome result (λ rule. IsSoonOf block.now text.now (bare_names path.now) question.now (alone rule)) }
@@ -140,9 +164,9 @@ fn soon_of_one(block: &Block, text: &[u8], path: &[u8], question: &Question) -> 
     Some(rule)
 }
 
-// The same of any number of grants, apart from that of one, which takes fewer registers.
-#[inline(never)]
-fn soon_of_many(
+// What is told of any number of grants, for the names of a path without a slash in front.
+#[inline(always)]
+fn told_of_many(
     block: &Block,
     text: &[u8],
     path: &[u8],

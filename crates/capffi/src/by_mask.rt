@@ -3,7 +3,7 @@ ghost use Rattle.std.specs.Prelude.{◌≡◌, ◌<◌, ◌%◌, ℕ, List, [], 
 ghost use Rattle.capgrant.specs.Question.{question};
 ghost use Rattle.capffi.specs.Blocks.{IsBlock, bare_names};
 ghost use Rattle.capffi.specs.ByBlock.{Tells, alone};
-ghost use Rattle.capffi.specs.ByMask.{is_known, asked_if, accesses_of, verdict_on, is_denied, told_next, told_of, IsSaidOfMask, IsSaidToMask, IsSoonOn, TellsSoonToMask, access_number};
+ghost use Rattle.capffi.specs.ByMask.{is_known, asked_if, accesses_of, verdict_on, is_denied, told_next, told_of, IsSaidOfMask, IsSaidToMask, IsSoonOn, IsSoonToMask, TellsSoonToMask, access_number};
 
 use crate::answering::tell_alone;
 use crate::block::Block;
@@ -11,7 +11,7 @@ use crate::by_block::{bare_text, is_block, is_first_for_one, is_one_for_all_fs};
 use crate::given::split_front;
 use crate::judging::{Case, verdict_of};
 use crate::passed::{Answer, Check};
-use crate::plain::{plain, soon_plain};
+use crate::plain::{is_soon_plain, plain, soon_plain, without_slash};
 use crate::trouble::Trouble;
 use capbits::Mode;
 use capgrant::{Access, Attr, Verdict};
@@ -51,33 +51,14 @@ pub(crate) fn soon_mask(
     let Some(access) = frequent_access(check) else {
         return 0;
     };
-    if !is_block(block, text) {
-        return 0;
-    }
     if is_first_for_one(block) {
         return 0;
     }
-    match soon_plain(path) {
-        Some(bare) => soon_of(block, text, bare, check, access, answer),
-        None => 0,
-    }
-}
-
-// The same for a path without a slash in front, and an access.
-#[inline(always)]
-fn soon_of(
-    block: &Block,
-    text: &[u8],
-    path: &[u8],
-    check: &Check,
-    access: Access,
-    answer: &mut Answer,
-) -> u32
-    requires { IsBlock block.now text.now }
-    ensures { Tells (IsSoonOn block.now text.now (bare_names path.now) check.now access) answer.old answer.new result }
-{
     if !is_one_for_all_fs(block) {
         return soon_of_many(block, text, path, check, access, answer);
+    }
+    if !is_block(block, text) {
+        return 0;
     }
     match soon_of_one(block, text, path, check, access) {
         Some(rule) => tell_alone(rule, answer),
@@ -85,9 +66,50 @@ fn soon_of(
     }
 }
 
-// The same of one grant: the number of the rule that it fails by, or 0 where it allows.
+// The same of one grant: the number of the rule that it fails by, or 0 where it allows. The path's form is looked at last, when little
+// else is left in registers.
 #[inline(always)]
 fn soon_of_one(block: &Block, text: &[u8], path: &[u8], check: &Check, access: Access) -> Option<u8>
+    requires whole { IsBlock block.now text.now }
+    requires one { block.now.count ≡ 1 }
+    requires known { IsTrue (is_known check.now.mask) }
+    requires asked { accesses_of check.now ≡ access ∷ [] }
+    ensures { IfSome result (λ rule. IsSoonToMask block.now text.now path.now check.now (alone rule)) }
+{
+    let bare = without_slash(path);
+    let rule = rule_of_one(block, text, bare, check, access)?;
+    if !is_soon_plain(bare) {
+        return None;
+    }
+    Some(rule)
+}
+
+// The same of any number of grants, apart from that of one, which takes fewer registers.
+#[inline(never)]
+fn soon_of_many(
+    block: &Block,
+    text: &[u8],
+    path: &[u8],
+    check: &Check,
+    access: Access,
+    answer: &mut Answer,
+) -> u32
+    requires known { IsTrue (is_known check.now.mask) }
+    requires asked { accesses_of check.now ≡ access ∷ [] }
+    ensures { TellsSoonToMask block.now text.now path.now check.now answer.old answer.new result }
+{
+    if !is_block(block, text) {
+        return 0;
+    }
+    match soon_plain(path) {
+        Some(bare) => told_of_many(block, text, bare, check, access, answer),
+        None => 0,
+    }
+}
+
+// The rule that one grant fails by, for the names of a path without a slash in front.
+#[inline(always)]
+fn rule_of_one(block: &Block, text: &[u8], path: &[u8], check: &Check, access: Access) -> Option<u8>
     requires whole { IsBlock block.now text.now }
     requires one { block.now.count ≡ 1 }
     ensures { IfSome result (λ rule. IsSoonOn block.now text.now (bare_names path.now) check.now access (alone rule)) }
@@ -98,9 +120,9 @@ fn soon_of_one(block: &Block, text: &[u8], path: &[u8], check: &Check, access: A
     Some(rule)
 }
 
-// The same of any number of grants, apart from that of one, which takes fewer registers.
-#[inline(never)]
-fn soon_of_many(
+// What is told of any number of grants, for the names of a path without a slash in front.
+#[inline(always)]
+fn told_of_many(
     block: &Block,
     text: &[u8],
     path: &[u8],

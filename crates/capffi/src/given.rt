@@ -194,17 +194,31 @@ fn is_same(one: &[u8], other: &[u8]) -> bool
     ensures { result ≡ bytes_eq one.now other.now }
 {
     let len = other.len();
+    if len > 64 {
+        return is_same_of_many(one, other);
+    }
     if len <= 16 {
         return is_same_of_few(one, other);
     }
     if len <= 32 {
-        return is_same_at_ends(one, other, 16);
+        return is_same_at_ends(one, other, 16, 16);
     }
-    if len <= 64 {
-        return is_same_at_ends(one, other, 32);
+    is_same_at_ends(one, other, 32, 32)
+}
+
+// The same of more than 64 bytes.
+#[inline(always)]
+fn is_same_of_many(one: &[u8], other: &[u8]) -> bool
+    requires same { length one.now ≡ length other.now }
+    requires many { 64 < length other.now }
+    ensures { result ≡ bytes_eq one.now other.now }
+{
+    let len = other.len();
+    if len <= 96 {
+        return is_same_at_ends(one, other, 32, 64);
     }
     if len <= 128 {
-        return is_same_at_ends(one, other, 64);
+        return is_same_at_ends(one, other, 64, 64);
     }
     is_same_bytewise(one, other)
 }
@@ -218,8 +232,8 @@ fn is_same_of_few(one: &[u8], other: &[u8]) -> bool
 {
     match other.len() {
         2..=4 => is_same_by_pairs(one, other),
-        5..=8 => is_same_at_ends(one, other, 4),
-        9..=16 => is_same_at_ends(one, other, 8),
+        5..=8 => is_same_at_ends(one, other, 4, 4),
+        9..=16 => is_same_at_ends(one, other, 8, 8),
         _ => is_same_bytewise(one, other),
     }
 }
@@ -236,13 +250,14 @@ fn is_same_bytewise(one: &[u8], other: &[u8]) -> bool
 
 // The same by a piece at each end. The last bytes, by which paths mostly differ, are compared first.
 #[inline(always)]
-fn is_same_at_ends(one: &[u8], other: &[u8], piece: usize) -> bool
+fn is_same_at_ends(one: &[u8], other: &[u8], first: usize, last: usize) -> bool
     requires same { length one.now ≡ length other.now }
-    requires within { piece ≤ length other.now }
-    requires whole { length other.now ≤ piece + piece }
+    requires front { first ≤ length other.now }
+    requires back { last ≤ length other.now }
+    requires whole { length other.now ≤ first + last }
     ensures { result ≡ bytes_eq one.now other.now }
 {
-    is_same_from(one, other, other.len() - piece, piece) && is_same_from(one, other, 0, piece)
+    is_same_from(one, other, other.len() - last, last) && is_same_from(one, other, 0, first)
 }
 
 // Whether a piece of two texts is the same. There is no way out of the loop, so that it is compiled into a few comparisons of many

@@ -1,5 +1,5 @@
 //! The eleven rules on the grants of a block.
-ghost use Rattle.std.specs.Prelude.{◌≡◌, ◌<◌, ◌≤◌, ◌==◌, ℕ, List, IfSome, IsTrue, IsFalse, Some, true, false, length, find, not, position};
+ghost use Rattle.std.specs.Prelude.{◌≡◌, ◌<◌, ◌≤◌, ◌==◌, ℕ, List, IfSome, IsTrue, IsFalse, Some, true, false, length, find, not, position, drop};
 ghost use Rattle.std.specs.List.{list_any};
 ghost use Rattle.capbits.specs.Caller.{gids_of};
 ghost use Rattle.capgrant.specs.Access.{is_read};
@@ -111,7 +111,7 @@ impl Case<'_> {
         if !grant.is_for_all() {
             return None;
         }
-        match self.first_failing_openly(&grant) {
+        match self.first_failing_alone(&grant) {
             Some(rule) => Some(rule.number()),
             None => Some(0),
         }
@@ -128,6 +128,29 @@ impl Case<'_> {
         if !self.is_below(grant) {
             return Some(Rule::Path);
         }
+        self.first_failing_further(grant)
+    }
+
+    // The same, with the comparison of the paths at the end, when little else has to be kept in registers.
+    #[inline(always)]
+    fn first_failing_alone(&self, grant: &Given) -> Option<Rule>
+        ensures { result ≡ find (λ r. fails r self.now grant.now) open_rules }
+    {
+        let further = self.first_failing_further(grant);
+        if self.fails_fsname(grant) {
+            Some(Rule::FsName)
+        } else if self.is_below(grant) {
+            further
+        } else {
+            Some(Rule::Path)
+        }
+    }
+
+    // The first of the rules behind that of the path.
+    #[inline(always)]
+    fn first_failing_further(&self, grant: &Given) -> Option<Rule>
+        ensures { result ≡ find (λ r. fails r self.now grant.now) (drop 2 open_rules) }
+    {
         if self.fails_no_write(grant) {
             return Some(Rule::NoWrite);
         }

@@ -1,10 +1,16 @@
 //! Paths whose text needs no other form.
-ghost use Rattle.std.specs.Prelude.{◌≡◌, ◌≢◌, ◌==◌, ◌<◌, ◌≤◌, ◌+◌, ◌-◌, ◌||◌, false, count_by, IfSome, IsTrue, length, slice_index, drop};
+ghost use Rattle.std.specs.Prelude.{◌≡◌, ◌≢◌, ◌==◌, ◌<◌, ◌≤◌, ◌+◌, ◌-◌, ◌||◌, if◌then◌else◌, ◌∷◌, false, count_by, IfSome, IsTrue, IsFalse, length, slice_index, drop};
 ghost use Rattle.capwords.specs.Paths.{names_of, has_double_slash, are_few_and_short};
 ghost use Rattle.capffi.specs.Blocks.{bare_names};
 
+use std::simd::prelude::*;
+
 // How many bytes of a long path are looked at together.
 const LONG_PIECE: usize = 64;
+
+// How far one of these pieces stands behind the one before it: the last byte of each is the first of the next, so that each two that
+// stand side by side are in one of them.
+const LONG_STEP: usize = LONG_PIECE - 1;
 
 // How many names a path may have, and how many bytes a name.
 const MAX_NAMES: usize = 32;
@@ -21,7 +27,8 @@ pub(crate) fn plain(path: &[u8]) -> Option<&[u8]>
     if is_plain(bare) { Some(bare) } else { None }
 }
 
-/// The same, but for those paths of which this is not soon seen: of 64 bytes, of more than 129, and of 31 names and more.
+/// The same, but for those paths of which this is not soon seen: all of more than 127 bytes, and of those of more than 63 some with 17
+/// names and more, and all with 32.
 #[inline(always)]
 pub(crate) fn soon_plain(path: &[u8]) -> Option<&[u8]>
     ensures { IfSome result (λ bare. (bare_names bare.now ≡ names_of path.now) × IsTrue (are_few_and_short (names_of path.now))) }
@@ -34,10 +41,10 @@ pub(crate) fn soon_plain(path: &[u8]) -> Option<&[u8]>
     }
 }
 
-// The text of a path without the slash in front. A second one there stays.
+/// The text of a path without the slash in front. A second one there stays.
 #[inline(always)]
 #[tactic(auto, using(crate::proofs::Bare::names_behind))]
-fn without_slash(path: &[u8]) -> &[u8]
+pub(crate) fn without_slash(path: &[u8]) -> &[u8]
     ensures { names_of result.now ≡ names_of path.now }
 {
     if !path.is_empty() && path[0] == b'/' {
@@ -60,44 +67,46 @@ fn is_plain(bare: &[u8]) -> bool
     }
 }
 
-// The same, where it is soon seen.
+/// The same, where it is soon seen.
 #[inline(always)]
-fn is_soon_plain(bare: &[u8]) -> bool
+pub(crate) fn is_soon_plain(bare: &[u8]) -> bool
     ensures names { IsTrue result → bare_names bare.now ≡ names_of bare.now }
     ensures fit { IsTrue result → IsTrue (are_few_and_short (names_of bare.now)) }
 {
     if is_short(bare) {
         return is_parted(bare);
     }
-    bare.len() > 64 && bare.len() <= 129 && is_plain_at_ends(bare)
+    bare.len() <= 127 && is_plain_at_ends(bare)
 }
 
 // The same of a path that two pieces cover.
 #[inline(always)]
-#[tactic(auto, using(crate::proofs::Bare::parted, crate::proofs::Bare::few_parts))]
 fn is_plain_at_ends(bare: &[u8]) -> bool
-    requires more { 64 < length bare.now }
-    requires few { length bare.now ≤ 129 }
+    requires more { 64 ≤ length bare.now }
+    requires few { length bare.now ≤ 127 }
     ensures names { IsTrue result → bare_names bare.now ≡ names_of bare.now }
     ensures fit { IsTrue result → IsTrue (are_few_and_short (names_of bare.now)) }
 {
+    if bare[bare.len() - 1] == b'/' {
+        return false;
+    }
     let (is_found, slashes) = look_at_ends(bare);
-    if is_found || bare[0] == b'/' || bare[bare.len() - 1] == b'/' {
+    if is_found {
         return false;
     }
     slashes < 31
 }
 
-// Whether two slashes stand side by side, and how many there are at most, but for the last byte.
+// Whether two slashes stand side by side, as if there were one in front too, and how many there are at most, but for the last byte.
 #[inline(always)]
-fn look_at_ends(path: &[u8]) -> (bool, u8)
-    requires more { 64 < length path.now }
-    requires few { length path.now ≤ 129 }
-    ensures lone { result.0 ≡ has_double_slash path.now }
+fn look_at_ends(path: &[u8]) -> (bool, u32)
+    requires more { 64 ≤ length path.now }
+    requires few { length path.now ≤ 127 }
+    ensures lone { result.0 ≡ has_double_slash (47 ∷ path.now) }
     ensures count { count_by (λ b. b == 47) path.now ≤ result.1 + 1 }
 {
-    let (in_front, first) = look_from(path, 0);
-    let (at_back, last) = look_from(path, path.len() - 1 - LONG_PIECE);
+    let (in_front, first) = look_from(path, 0, true);
+    let (at_back, last) = look_from(path, path.len() - LONG_PIECE, false);
     (in_front | at_back, first + last)
 }
 
@@ -192,6 +201,7 @@ fn has_double_slash_from(path: &[u8], start: usize, piece: usize) -> bool
 fn is_short(path: &[u8]) -> bool
     ensures fit { IsTrue result → IsTrue (are_few_and_short (names_of path.now)) }
     ensures less { IsTrue result → length path.now ≤ 64 }
+    ensures more { IsFalse result → 64 ≤ length path.now }
 {
     path.len() < 64
 }
@@ -262,40 +272,35 @@ fn count_lone_slashes(path: &[u8]) -> Option<usize>
     ensures { IfSome result (λ count. (has_double_slash path.now ≡ false) × (count_by (λ b. b == 47) path.now ≤ count + 1)) }
 {
     let mut count = 0;
-    for piece in 0..(path.len() - 1) / LONG_PIECE {
-        let (is_found, slashes) = look_from(path, LONG_PIECE * piece);
+    for piece in 0..(path.len() - 1) / LONG_STEP {
+        let (is_found, slashes) = look_from(path, LONG_STEP * piece, false);
         if is_found {
             return None;
         }
-        count += usize::from(slashes);
+        count += slashes as usize;
     }
-    let (is_found, slashes) = look_from(path, path.len() - 1 - LONG_PIECE);
+    let (is_found, slashes) = look_from(path, path.len() - LONG_PIECE, false);
     if is_found {
         return None;
     }
-    Some(count + usize::from(slashes))
+    Some(count + slashes as usize)
 }
 
-// Whether one of the slashes of a piece of a long path stands before another, and how many there are.
+// Whether one of the slashes of a piece of a long path stands behind another, which may be one before the piece, and how many there
+// are. They are the bits of a number.
 #[inline(always)]
-#[tactic(auto, using(crate::proofs::Slashes::count_more))]
-fn look_from(path: &[u8], start: usize) -> (bool, u8)
-    requires { start + 64 < length path.now }
-    ensures lone { (result.0 || has_double_slash (drop (start + 64) path.now)) ≡ has_double_slash (drop start path.now) }
-    ensures count { result.1 + count_by (λ b. b == 47) (drop (start + 64) path.now) ≡ count_by (λ b. b == 47) (drop start path.now) }
+fn look_from(path: &[u8], start: usize, is_behind_slash: bool) -> (bool, u32)
+    requires { start + 64 ≤ length path.now }
+    ensures lone { (result.0 || has_double_slash (drop (start + 63) path.now)) ≡ has_double_slash (if is_behind_slash then 47 ∷ drop start path.now else drop start path.now) }
+    ensures count { count_by (λ b. b == 47) (drop start path.now) ≤ result.1 + count_by (λ b. b == 47) (drop (start + 63) path.now) }
     ensures few { result.1 ≤ 64 }
 {
-    let (here, behind) = (
-        &path[start..start + LONG_PIECE],
-        &path[start + 1..start + 1 + LONG_PIECE],
-    );
-    let (mut is_found, mut slashes) = (false, 0);
-    for step in 0..LONG_PIECE {
-        let (one, next) = (here[step] == b'/', behind[step] == b'/');
-        is_found |= one & next;
-        slashes += u8::from(one);
-    }
-    (is_found, slashes)
+    let bytes = u8x64::from_slice(&path[start..]);
+    let slashes = bytes.simd_eq(u8x64::splat(b'/')).to_bitmask();
+    let behind = slashes
+        .wrapping_add(slashes)
+        .wrapping_add(u64::from(is_behind_slash));
+    (slashes & behind != 0, slashes.count_ones())
 }
 
 // Whether a path has no more and no longer names than there may be, byte by byte.

@@ -1,19 +1,10 @@
-use Rattle.std.proofs.Common.{◌≤◌, ℕ, List, length, refl}
-use Rattle.std.specs.Prelude.{Ok}
+use Rattle.std.proofs.Common.{◌≡◌, sym, subst}
 use Rattle.capffi.specs.declared.passed.Answer.{Answer}
-use Rattle.capffi.specs.Blocks.{bare_names}
-use Rattle.capffi.specs.ByBlock.{IsSoon, IsSoonOf}
-use Rattle.capffi.proofs.Filled.{said_of_text}
+use Rattle.capffi.specs.ByBlock.{IsSoon, alone}
 use Rattle.capffi.proofs.Telling.{tells_more}
 use Rattle.capffi.proofs.by_block.soon.Goals as goal
 
 pub returns-in-Some : goal.returns-in-Some
 returns-in-Some c =
-    let One : Answer → Type 0 = IsSoonOf c.args.block.now c.args.text.now (bare_names c.in-Some.bare.now) c.args.question.now in
-    let All : Answer → Type 0 = IsSoon c.args.block.now c.args.text.now c.args.path.now c.args.question.now in
-    tells_more One All c.args.answer.now c.soon_of.new.answer c.soon_of.result (λ (a : Answer). λ (is : One a). λ (groups : List ℕ). λ (few : length groups ≤ 16).
-    let found = is groups in (
-      found.0,
-      said_of_text c.args.block.now c.args.text.now c.args.path.now groups c.in-Some.bare.now c.args.question.now (Ok found.0) (c.if-not-is_block.ensures.0 refl) few c.in-Some.ensures.1 c.in-Some.ensures.0 found.1,
-      found.2,
-    )) c.soon_of.ensures
+    let Is : Answer → Type 0 = IsSoon c.args.block.now c.args.text.now c.args.path.now c.args.question.now in
+    tells_more (λ (a : Answer). a ≡ alone c.in-Some.rule) Is c.args.answer.now c.tell_alone.new.answer c.tell_alone.result (λ (a : Answer). λ (is : a ≡ alone c.in-Some.rule). subst Is (sym is) c.in-Some.ensures) c.tell_alone.ensures

@@ -1,17 +1,19 @@
-use Rattle.std.proofs.Common.{◌≡◌, ℕ, List, refl, rules}
-use Rattle.capgrant.specs.declared.answer.Verdict.{Verdict}
-use Rattle.capgrant.specs.Verdict.{verdict_of}
+use Rattle.std.proofs.Common.{◌≤◌, ℕ, List, length, refl}
+use Rattle.std.specs.Prelude.{Ok}
 use Rattle.capffi.specs.declared.passed.Answer.{Answer}
-use Rattle.capffi.specs.Answering.{answer_of}
-use Rattle.capffi.specs.Blocks.{bare_names, block_fs, block_grants}
-use Rattle.capffi.specs.ByBlock.{IsSoonOf, case_of}
+use Rattle.capffi.specs.Blocks.{bare_names}
+use Rattle.capffi.specs.ByBlock.{IsSoon, IsSoonOf}
+use Rattle.capffi.proofs.Filled.{said_of_text}
 use Rattle.capffi.proofs.Telling.{tells_more}
 use Rattle.capffi.proofs.by_block.soon_of_many.Goals as goal
 
-pub returns : goal.returns
-returns c =
-    let verdict : List ℕ → Verdict = λ (groups : List ℕ). verdict_of (case_of (block_fs c.args.block.now c.args.text.now) (bare_names c.args.path.now) groups c.args.question.now c.in-Some-read_access.access) (block_grants c.args.block.now c.args.text.now) in
-    let One : Answer → Type 0 = λ (a : Answer). (groups : List ℕ) → a ≡ answer_of (verdict groups) in
-    let All : Answer → Type 0 = IsSoonOf c.args.block.now c.args.text.now (bare_names c.args.path.now) c.args.question.now in
-    let told = rw (c.case_of-case.ensures, c.split_front.ensures.front, c.split_front.ensures.behind, c.in-Some.ensures.0) at c.soon.ensures in
-    tells_more One All c.args.answer.now c.soon.new.answer c.soon.result (λ (a : Answer). λ (is : One a). λ (groups : List ℕ). (verdict groups, (c.in-Some-read_access.access, c.in-Some.ensures.1, search rules, refl), is groups)) told
+pub returns-in-Some : goal.returns-in-Some
+returns-in-Some c =
+    let One : Answer → Type 0 = IsSoonOf c.args.block.now c.args.text.now (bare_names c.in-Some.bare.now) c.args.question.now in
+    let All : Answer → Type 0 = IsSoon c.args.block.now c.args.text.now c.args.path.now c.args.question.now in
+    tells_more One All c.args.answer.now c.told_of_many.new.answer c.told_of_many.result (λ (a : Answer). λ (is : One a). λ (groups : List ℕ). λ (few : length groups ≤ 16).
+    let found = is groups in (
+      found.0,
+      said_of_text c.args.block.now c.args.text.now c.args.path.now groups c.in-Some.bare.now c.args.question.now (Ok found.0) (c.if-not-is_block.ensures.0 refl) few c.in-Some.ensures.1 c.in-Some.ensures.0 found.1,
+      found.2,
+    )) c.told_of_many.ensures

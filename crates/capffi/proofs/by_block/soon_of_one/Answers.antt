@@ -1,13 +1,17 @@
-use Rattle.std.proofs.Common.{ℕ, List, refl, rules}
-use Rattle.capgrant.specs.declared.answer.Verdict.{Verdict}
-use Rattle.capgrant.specs.Verdict.{verdict_of}
-use Rattle.capffi.specs.Blocks.{bare_names, block_fs, block_grants}
-use Rattle.capffi.specs.ByBlock.{case_of}
+use Rattle.std.proofs.Common.{◌≡◌, ◌≤◌, ℕ, List, length, refl, ◌∙◌, subst}
+use Rattle.std.specs.Prelude.{IsTrue, Ok}
+use Rattle.capwords.specs.Paths.{names_of, are_few_and_short}
+use Rattle.capffi.specs.Blocks.{bare_names}
+use Rattle.capffi.proofs.Filled.{said_of_text}
 use Rattle.capffi.proofs.by_block.soon_of_one.Goals as goal
 
 pub returns : goal.returns
 returns c =
-    λ (groups : List ℕ).
-    let found = rw (c.case_of-case.ensures, c.split_front.ensures.front, c.split_front.ensures.behind, c.in_ok-mode.ensures.0) at (c.in_ok-rule.ensures groups) in
-    let verdict : Verdict = verdict_of (case_of (block_fs c.args.block.now c.args.text.now) (bare_names c.args.path.now) groups c.args.question.now c.in_ok-access.access) (block_grants c.args.block.now c.args.text.now) in
-    (verdict, (c.in_ok-access.access, c.in_ok-mode.ensures.1, search rules, refl), found)
+    let same : bare_names c.without_slash-bare.result.now ≡ names_of c.args.path.now = c.if-not-is_soon_plain.ensures.names refl ∙ c.without_slash-bare.ensures in
+    let fit : IsTrue (are_few_and_short (names_of c.args.path.now)) = subst (λ (names : List (List ℕ)). IsTrue (are_few_and_short names)) c.without_slash-bare.ensures (c.if-not-is_soon_plain.ensures.fit refl) in
+    λ (groups : List ℕ). λ (few : length groups ≤ 16).
+    let found = c.in_ok-rule.ensures groups in (
+      found.0,
+      said_of_text c.args.block.now c.args.text.now c.args.path.now groups c.without_slash-bare.result.now c.args.question.now (Ok found.0) c.requires.whole few fit same found.1,
+      found.2,
+    )

@@ -1,19 +1,11 @@
-use Rattle.std.proofs.Common.{ℕ, List, refl}
+use Rattle.std.proofs.Common.{◌≡◌, sym, subst}
 use Rattle.capffi.specs.declared.passed.Answer.{Answer}
-use Rattle.capffi.specs.ByMask.{IsSoonOn, IsSoonToMask, verdict_on}
-use Rattle.capffi.specs.Blocks.{bare_names}
-use Rattle.capffi.proofs.Masks.{told_one}
+use Rattle.capffi.specs.ByBlock.{alone}
+use Rattle.capffi.specs.ByMask.{IsSoonToMask}
 use Rattle.capffi.proofs.Telling.{tells_more}
 use Rattle.capffi.proofs.by_mask.soon_mask.Goals as goal
 
-pub returns-in-Some-soon_plain : goal.returns-in-Some-soon_plain
-returns-in-Some-soon_plain c =
-    let One : Answer → Type 0 = IsSoonOn c.args.block.now c.args.text.now (bare_names c.in-Some-soon_plain.bare.now) c.args.check.now c.in-Some.access in
-    let All : Answer → Type 0 = IsSoonToMask c.args.block.now c.args.text.now c.args.path.now c.args.check.now in
-    let access = c.in-Some.ensures in
-    tells_more One All c.args.answer.now c.soon_of.new.answer c.soon_of.result (λ (a : Answer). λ (is : One a). λ (groups : List ℕ). (
-      record { access = c.in-Some.access; verdict = verdict_on c.args.block.now c.args.text.now (bare_names c.in-Some-soon_plain.bare.now) groups c.args.check.now c.in-Some.access },
-      access.1,
-      told_one c.args.block.now c.args.text.now c.args.path.now groups c.in-Some-soon_plain.bare.now c.args.check.now c.in-Some.access (c.if-not-is_block.ensures.0 refl) c.in-Some-soon_plain.ensures.1 c.in-Some-soon_plain.ensures.0 access.0 access.1,
-      is groups,
-    )) c.soon_of.ensures
+pub returns-in-Some-soon_of_one : goal.returns-in-Some-soon_of_one
+returns-in-Some-soon_of_one c =
+    let Is : Answer → Type 0 = IsSoonToMask c.args.block.now c.args.text.now c.args.path.now c.args.check.now in
+    tells_more (λ (a : Answer). a ≡ alone c.in-Some-soon_of_one.rule) Is c.args.answer.now c.tell_alone.new.answer c.tell_alone.result (λ (a : Answer). λ (is : a ≡ alone c.in-Some-soon_of_one.rule). subst Is (sym is) c.in-Some-soon_of_one.ensures) c.tell_alone.ensures
