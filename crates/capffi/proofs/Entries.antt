@@ -18,7 +18,7 @@ use Rattle.capgrant.specs.Verdict.{allows, first_failures, verdict_of}
 use Rattle.capffi.specs.declared.block.Entry.{Entry}
 use Rattle.capffi.specs.declared.passed.Answer.{Answer}
 use Rattle.capffi.specs.Answering.{answer_of, rule_numbers}
-use Rattle.capffi.specs.ByBlock.{alone, with_groups, open_rules}
+use Rattle.capffi.specs.ByBlock.{alone, number_of, with_groups, open_rules}
 use Rattle.capffi.specs.Blocks.{grant_of, path_in, fs_in, behind, grants_in}
 
 -- what stands behind the texts of entries
@@ -214,3 +214,7 @@ alone_fails q (e ∷ []) d text rule n one fails number =
     let is : alone (rule_number rule) ≡ record { grant = 0; count = 1; rules = rule_numbers (rule ∷ []) } = rw (number_some rule) refl in
     ap alone number ∙ is ∙ denied_answer q (e ∷ []) 1 text (rule_numbers (rule ∷ [])) (omega arith) none are
 alone_fails q (e ∷ f ∷ entries) d text rule n one fails number = absurd (omega (arith, one))
+
+pub alone_tells : (q : Question) (entries : List Entry) (d : Entry) (text : List ℕ) (found : Option Rule) (n : ℕ) → length entries ≡ 1 → first_failing q (first_of (at entries 0 d) text) ≡ found → n ≡ number_of found → alone n ≡ answer_of (verdict_of q (grants_in entries text))
+alone_tells q entries d text None n one passes number = ap alone number ∙ alone_allows q entries d text one passes
+alone_tells q entries d text (Some rule) n one fails number = alone_fails q entries d text rule n one fails number

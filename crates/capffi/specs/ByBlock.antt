@@ -1,5 +1,5 @@
 -- What the grants of a block say to a question.
-use Rattle.std.specs.Prelude.{◌≡◌, ◌==◌, ◌<◌, ◌≤◌, ◌⊎◌, ℕ, List, [], ◌∷◌, length, IsTrue, IsFalse, Some, None, Result, Ok, MatchResult, if◌then◌else◌}
+use Rattle.std.specs.Prelude.{◌≡◌, ◌==◌, ◌<◌, ◌≤◌, ◌⊎◌, ℕ, List, [], ◌∷◌, length, IsTrue, IsFalse, Option, Some, None, Result, Ok, MatchResult, if◌then◌else◌}
 use Rattle.capwords.specs.Paths.{names_of, are_few_and_short}
 use Rattle.capgrant.specs.declared.access.Access.{Access}
 use Rattle.capgrant.specs.declared.answer.Verdict.{Verdict}
@@ -8,6 +8,7 @@ use Rattle.capgrant.specs.declared.rule.Rule.{Rule}
 use Rattle.capgrant.specs.declared.rule.Rule.TheVariants.{FsName, Path, NoWrite, RootSquash, NoP, NoS}
 use Rattle.capgrant.specs.Question.{question}
 use Rattle.capgrant.specs.Question.{Question as Asked}
+use Rattle.capgrant.specs.Rule.{rule_number}
 use Rattle.capgrant.specs.Verdict.{verdict_of}
 use Rattle.capffi.specs.declared.block.Block.{Block}
 use Rattle.capffi.specs.declared.passed.Answer.{Answer}
@@ -77,6 +78,11 @@ abbrev pub alone : ℕ → Answer
 alone rule =
     if rule == 0 then answer_of (Allowed 1)
     else record { grant = 0; count = 1; rules = rule ∷ 0 ∷ 0 ∷ 0 ∷ 0 ∷ 0 ∷ 0 ∷ 0 ∷ 0 ∷ 0 ∷ 0 ∷ 0 ∷ 0 ∷ 0 ∷ 0 ∷ 0 ∷ [] }
+
+-- the number of a rule, or 0 where there is none
+abbrev pub number_of : Option Rule → ℕ
+number_of None = 0
+number_of (Some rule) = rule_number rule
 
 -- the same question of a caller with other groups
 abbrev pub with_groups : Asked → List ℕ → Asked

@@ -33,7 +33,7 @@ pub(crate) fn soon(
     if is_first_for_one(block) {
         return 0;
     }
-    if !is_one_for_all_fs(block) {
+    if !is_one_for_all_fs(block) || question.access > 1 {
         return soon_of_many(block, text, path, question, answer);
     }
     if !is_block(block, text) {
@@ -61,7 +61,7 @@ fn soon_of_one(block: &Block, text: &[u8], path: &[u8], question: &Question) -> 
     Some(rule)
 }
 
-// The same of any number of grants, apart from that of one, which takes fewer registers.
+// The same of any number of grants and each access, apart from that of one to read or to write, which takes fewer registers.
 #[inline(never)]
 fn soon_of_many(
     block: &Block,

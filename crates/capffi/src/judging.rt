@@ -10,7 +10,7 @@ ghost use Rattle.capgrant.specs.Rule.{attr_rules};
 ghost use Rattle.capgrant.specs.Verdict.{allows, first_failures, verdict_of};
 ghost use Rattle.capffi.specs.Blocks.{grants_in};
 ghost use Rattle.capffi.specs.Answering.{answer_of};
-ghost use Rattle.capffi.specs.ByBlock.{Tells, alone, open_rules, with_groups};
+ghost use Rattle.capffi.specs.ByBlock.{Tells, alone, number_of, open_rules, with_groups};
 
 use crate::block::{Entry, MAX_ENTRIES};
 use crate::given::{Given, split_grant};
@@ -111,10 +111,7 @@ impl Case<'_> {
         if !grant.is_for_all() {
             return None;
         }
-        match self.first_failing_alone(&grant) {
-            Some(rule) => Some(rule.number()),
-            None => Some(0),
-        }
+        Some(self.number_alone(&grant))
     }
 
     // The first rule by which a grant fails that is for everybody, if it does not allow the access.
@@ -131,18 +128,29 @@ impl Case<'_> {
         self.first_failing_further(grant)
     }
 
-    // The same, with the comparison of the paths at the end, when little else has to be kept in registers.
+    // The number of that rule, or 0. The paths are compared at the end, when little else has to be kept in registers.
     #[inline(always)]
-    fn first_failing_alone(&self, grant: &Given) -> Option<Rule>
-        ensures { result ≡ find (λ r. fails r self.now grant.now) open_rules }
+    fn number_alone(&self, grant: &Given) -> u8
+        ensures { result ≡ number_of (find (λ r. fails r self.now grant.now) open_rules) }
     {
-        let further = self.first_failing_further(grant);
+        let further = self.number_further(grant);
         if self.fails_fsname(grant) {
-            Some(Rule::FsName)
+            Rule::FsName.number()
         } else if self.is_below(grant) {
             further
         } else {
-            Some(Rule::Path)
+            Rule::Path.number()
+        }
+    }
+
+    // The number of the first of the rules behind that of the path, or 0.
+    #[inline(always)]
+    fn number_further(&self, grant: &Given) -> u8
+        ensures { result ≡ number_of (find (λ r. fails r self.now grant.now) (drop 2 open_rules)) }
+    {
+        match self.first_failing_further(grant) {
+            Some(rule) => rule.number(),
+            None => 0,
         }
     }
 
