@@ -48,15 +48,15 @@ pub(crate) fn soon_mask(
 ) -> u32
     ensures { TellsSoonToMask block.now text.now path.now check.now answer.old answer.new result }
 {
-    let Some(access) = frequent_access(check) else {
-        return 0;
-    };
     if is_first_for_one(block) {
         return 0;
     }
     if !is_one_for_all_fs(block) {
-        return soon_of_many(block, text, path, check, access, answer);
+        return soon_of_many(block, text, path, check, answer);
     }
+    let Some(access) = frequent_access(check) else {
+        return 0;
+    };
     if !is_block(block, text) {
         return 0;
     }
@@ -84,20 +84,21 @@ fn soon_of_one(block: &Block, text: &[u8], path: &[u8], check: &Check, access: A
     Some(rule)
 }
 
-// The same of any number of grants, apart from that of one, which takes fewer registers.
+// The same of any number of grants, apart from that of one, which takes fewer registers. What is passed on is passed as it came, so
+// that the one goes over into the other.
 #[inline(never)]
 fn soon_of_many(
     block: &Block,
     text: &[u8],
     path: &[u8],
     check: &Check,
-    access: Access,
     answer: &mut Answer,
 ) -> u32
-    requires known { IsTrue (is_known check.now.mask) }
-    requires asked { accesses_of check.now ≡ access ∷ [] }
     ensures { TellsSoonToMask block.now text.now path.now check.now answer.old answer.new result }
 {
+    let Some(access) = frequent_access(check) else {
+        return 0;
+    };
     if !is_block(block, text) {
         return 0;
     }
