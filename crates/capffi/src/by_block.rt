@@ -11,7 +11,7 @@ use crate::block::{BLOCK_VERSION, Block};
 use crate::given::split_front;
 use crate::judging::{Case, verdict_of};
 use crate::passed::{Answer, Question};
-use crate::plain::{is_soon_plain, plain, soon_plain, without_slash};
+use crate::plain::{is_soon_plain, plain, without_slash};
 use crate::trouble::Trouble;
 use capbits::Mode;
 use capgrant::{Access, Attr, Verdict};
@@ -22,6 +22,21 @@ use std::alloc::{AllocError, Global};
 /// allows, or all where none does, are for everybody. Else 0, and the whole verdict has to be asked for.
 #[inline(always)]
 pub(crate) fn soon(
+    block: &Block,
+    text: &[u8],
+    path: &[u8],
+    question: &Question,
+    answer: &mut Answer,
+) -> u32
+    ensures { TellsSoon block.now text.now path.now question.now answer.old answer.new result }
+{
+    let bare = without_slash(path);
+    soon_bare(block, text, bare, question, answer)
+}
+
+// The same by a path without a slash in front.
+#[inline(always)]
+fn soon_bare(
     block: &Block,
     text: &[u8],
     path: &[u8],
@@ -53,9 +68,8 @@ fn soon_of_one(block: &Block, text: &[u8], path: &[u8], question: &Question) -> 
     requires one { block.now.count ≡ 1 }
     ensures { IfSome result (λ rule. IsSoon block.now text.now path.now question.now (alone rule)) }
 {
-    let bare = without_slash(path);
-    let rule = rule_of_one(block, text, bare, question)?;
-    if !is_soon_plain(bare) {
+    let rule = rule_of_one(block, text, path, question)?;
+    if !is_soon_plain(path) {
         return None;
     }
     Some(rule)
@@ -75,10 +89,10 @@ fn soon_of_many(
     if !is_block(block, text) {
         return 0;
     }
-    match soon_plain(path) {
-        Some(bare) => told_of_many(block, text, bare, question, answer),
-        None => 0,
+    if !is_soon_plain(path) {
+        return 0;
     }
+    told_of_many(block, text, path, question, answer)
 }
 
 /// Whether the first grant is for one caller, so that it isn't seen soon what it allows.

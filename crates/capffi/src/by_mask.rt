@@ -11,7 +11,7 @@ use crate::by_block::{bare_text, is_block, is_first_for_one, is_one_for_all_fs};
 use crate::given::split_front;
 use crate::judging::{Case, verdict_of};
 use crate::passed::{Answer, Check};
-use crate::plain::{is_soon_plain, plain, soon_plain, without_slash};
+use crate::plain::{is_soon_plain, plain, without_slash};
 use crate::trouble::Trouble;
 use capbits::Mode;
 use capgrant::{Access, Attr, Verdict};
@@ -48,6 +48,21 @@ pub(crate) fn soon_mask(
 ) -> u32
     ensures { TellsSoonToMask block.now text.now path.now check.now answer.old answer.new result }
 {
+    let bare = without_slash(path);
+    soon_bare(block, text, bare, check, answer)
+}
+
+// The same by a path without a slash in front.
+#[inline(always)]
+fn soon_bare(
+    block: &Block,
+    text: &[u8],
+    path: &[u8],
+    check: &Check,
+    answer: &mut Answer,
+) -> u32
+    ensures { TellsSoonToMask block.now text.now path.now check.now answer.old answer.new result }
+{
     if is_first_for_one(block) {
         return 0;
     }
@@ -76,9 +91,8 @@ fn soon_of_one(block: &Block, text: &[u8], path: &[u8], check: &Check, access: A
     requires asked { accesses_of check.now ≡ access ∷ [] }
     ensures { IfSome result (λ rule. IsSoonToMask block.now text.now path.now check.now (alone rule)) }
 {
-    let bare = without_slash(path);
-    let rule = rule_of_one(block, text, bare, check, access)?;
-    if !is_soon_plain(bare) {
+    let rule = rule_of_one(block, text, path, check, access)?;
+    if !is_soon_plain(path) {
         return None;
     }
     Some(rule)
@@ -102,10 +116,10 @@ fn soon_of_many(
     if !is_block(block, text) {
         return 0;
     }
-    match soon_plain(path) {
-        Some(bare) => told_of_many(block, text, bare, check, access, answer),
-        None => 0,
+    if !is_soon_plain(path) {
+        return 0;
     }
+    told_of_many(block, text, path, check, access, answer)
 }
 
 // The rule that one grant fails by, for the names of a path without a slash in front.

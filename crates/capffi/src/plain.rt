@@ -27,20 +27,6 @@ pub(crate) fn plain(path: &[u8]) -> Option<&[u8]>
     if is_plain(bare) { Some(bare) } else { None }
 }
 
-/// The same, but for those paths of which this is not soon seen: all of more than 127 bytes, and of those of more than 63 some with 17
-/// names and more, and all with 32.
-#[inline(always)]
-pub(crate) fn soon_plain(path: &[u8]) -> Option<&[u8]>
-    ensures { IfSome result (λ bare. (bare_names bare.now ≡ names_of path.now) × IsTrue (are_few_and_short (names_of path.now))) }
-{
-    let bare = without_slash(path);
-    if is_soon_plain(bare) {
-        Some(bare)
-    } else {
-        None
-    }
-}
-
 /// The text of a path without the slash in front. A second one there stays.
 #[inline(always)]
 #[tactic(auto, using(crate::proofs::Bare::names_behind))]
@@ -67,7 +53,8 @@ fn is_plain(bare: &[u8]) -> bool
     }
 }
 
-/// The same, where it is soon seen.
+/// The same, where it is soon seen: not of more than 127 bytes, and, of those with more than 63, not of some with 17 names and more and
+/// of none with 32.
 #[inline(always)]
 pub(crate) fn is_soon_plain(bare: &[u8]) -> bool
     ensures names { IsTrue result → bare_names bare.now ≡ names_of bare.now }

@@ -1,10 +1,17 @@
-use Rattle.std.proofs.Common.{◌≡◌, sym, subst}
+use Rattle.std.proofs.Common.{◌≤◌, ℕ, List, length, subst}
+use Rattle.std.specs.Prelude.{Ok}
 use Rattle.capffi.specs.declared.passed.Answer.{Answer}
-use Rattle.capffi.specs.ByBlock.{IsSoon, alone}
+use Rattle.capffi.specs.ByBlock.{IsSaidOn, IsSoon}
 use Rattle.capffi.proofs.Telling.{tells_more}
 use Rattle.capffi.proofs.by_block.soon.Goals as goal
 
-pub returns-in-Some : goal.returns-in-Some
-returns-in-Some c =
-    let Is : Answer → Type 0 = IsSoon c.args.block.now c.args.text.now c.args.path.now c.args.question.now in
-    tells_more (λ (a : Answer). a ≡ alone c.in-Some.rule) Is c.args.answer.now c.tell_alone.new.answer c.tell_alone.result (λ (a : Answer). λ (is : a ≡ alone c.in-Some.rule). subst Is (sym is) c.in-Some.ensures) c.tell_alone.ensures
+pub returns : goal.returns
+returns c =
+    let One : Answer → Type 0 = IsSoon c.args.block.now c.args.text.now c.without_slash-bare.result.now c.args.question.now in
+    let All : Answer → Type 0 = IsSoon c.args.block.now c.args.text.now c.args.path.now c.args.question.now in
+    tells_more One All c.args.answer.now c.soon_bare.new.answer c.soon_bare.result (λ (a : Answer). λ (is : One a). λ (groups : List ℕ). λ (few : length groups ≤ 16).
+    let found = is groups few in (
+      found.0,
+      subst (λ (names : List (List ℕ)). IsSaidOn c.args.block.now c.args.text.now names groups c.args.question.now (Ok found.0)) c.without_slash-bare.ensures found.1,
+      found.2,
+    )) c.soon_bare.ensures

@@ -7,13 +7,13 @@ use Rattle.capffi.proofs.Filled.{said_of_text}
 use Rattle.capffi.proofs.Telling.{tells_more}
 use Rattle.capffi.proofs.by_block.soon_of_many.Goals as goal
 
-pub returns-in-Some : goal.returns-in-Some
-returns-in-Some c =
-    let One : Answer → Type 0 = IsSoonOf c.args.block.now c.args.text.now (bare_names c.in-Some.bare.now) c.args.question.now in
+pub returns : goal.returns
+returns c =
+    let One : Answer → Type 0 = IsSoonOf c.args.block.now c.args.text.now (bare_names c.args.path.now) c.args.question.now in
     let All : Answer → Type 0 = IsSoon c.args.block.now c.args.text.now c.args.path.now c.args.question.now in
     tells_more One All c.args.answer.now c.told_of_many.new.answer c.told_of_many.result (λ (a : Answer). λ (is : One a). λ (groups : List ℕ). λ (few : length groups ≤ 16).
     let found = is groups in (
       found.0,
-      said_of_text c.args.block.now c.args.text.now c.args.path.now groups c.in-Some.bare.now c.args.question.now (Ok found.0) (c.if-not-is_block.ensures.0 refl) few c.in-Some.ensures.1 c.in-Some.ensures.0 found.1,
+      said_of_text c.args.block.now c.args.text.now c.args.path.now groups c.args.path.now c.args.question.now (Ok found.0) (c.if-not-is_block.ensures.0 refl) few (c.if-not-is_soon_plain.ensures.fit refl) (c.if-not-is_soon_plain.ensures.names refl) found.1,
       found.2,
     )) c.told_of_many.ensures

@@ -1,11 +1,18 @@
-use Rattle.std.proofs.Common.{◌≡◌, sym, subst}
+use Rattle.std.proofs.Common.{ℕ, List, subst}
+use Rattle.std.specs.Prelude.{Ok}
 use Rattle.capffi.specs.declared.passed.Answer.{Answer}
-use Rattle.capffi.specs.ByBlock.{alone}
-use Rattle.capffi.specs.ByMask.{IsSoonToMask}
+use Rattle.capffi.specs.ByMask.{IsSaidOnMask, IsSoonToMask}
 use Rattle.capffi.proofs.Telling.{tells_more}
 use Rattle.capffi.proofs.by_mask.soon_mask.Goals as goal
 
-pub returns-in-Some-soon_of_one : goal.returns-in-Some-soon_of_one
-returns-in-Some-soon_of_one c =
-    let Is : Answer → Type 0 = IsSoonToMask c.args.block.now c.args.text.now c.args.path.now c.args.check.now in
-    tells_more (λ (a : Answer). a ≡ alone c.in-Some-soon_of_one.rule) Is c.args.answer.now c.tell_alone.new.answer c.tell_alone.result (λ (a : Answer). λ (is : a ≡ alone c.in-Some-soon_of_one.rule). subst Is (sym is) c.in-Some-soon_of_one.ensures) c.tell_alone.ensures
+pub returns : goal.returns
+returns c =
+    let One : Answer → Type 0 = IsSoonToMask c.args.block.now c.args.text.now c.without_slash-bare.result.now c.args.check.now in
+    let All : Answer → Type 0 = IsSoonToMask c.args.block.now c.args.text.now c.args.path.now c.args.check.now in
+    tells_more One All c.args.answer.now c.soon_bare.new.answer c.soon_bare.result (λ (a : Answer). λ (is : One a). λ (groups : List ℕ).
+    let found = is groups in (
+      found.0,
+      found.1,
+      subst (λ (names : List (List ℕ)). IsSaidOnMask c.args.block.now c.args.text.now names groups c.args.check.now (Ok found.0)) c.without_slash-bare.ensures found.2,
+      found.3,
+    )) c.soon_bare.ensures
