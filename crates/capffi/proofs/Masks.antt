@@ -1,5 +1,5 @@
 -- What is told of the accesses of a mask.
-use Rattle.std.proofs.Common.{◌≡◌, ◌≢◌, ℕ, true, false, eqb, List, [], ◌∷◌, ◌++◌, Option, Some, None, Result, Ok, Err, refl, sym, ap, subst, ◌∙◌, inl, inr}
+use Rattle.std.proofs.Common.{◌≡◌, ◌≢◌, ℕ, ◌≤◌, arith, true, false, eqb, List, [], ◌∷◌, ◌++◌, Option, Some, None, Result, Ok, Err, refl, sym, ap, subst, ◌∙◌, inl, inr}
 use Rattle.std.specs.Prelude.{◌/◌, ◌%◌, IsTrue, fold}
 use Rattle.std.proofs.lemmas.Bool.{ne_eqb}
 use Rattle.std.proofs.lemmas.List.Sums.{fold-append}
@@ -66,8 +66,10 @@ said_to_mask block text path groups bare c (Err trouble) whole fit same said = s
 pub to_read : (c : Check) → c.mask ≡ 1 → IsTrue (is_known c.mask) × (accesses_of c ≡ Read ∷ [])
 to_read c is = rw is (refl, refl)
 
-pub to_write : (c : Check) → c.mask ≡ 2 → IsTrue (is_known c.mask) × (accesses_of c ≡ Write ∷ [])
-to_write c is = rw is (refl, refl)
+pub to_write : (c : Check) → c.mask ≢ 0 → c.mask ≤ 2 → c.mask ≢ 1 → IsTrue (is_known c.mask) × (accesses_of c ≡ Write ∷ [])
+to_write c some few other =
+    let is : c.mask ≡ 2 = omega (arith, some, few, other) in
+    rw is (refl, refl)
 
 pub one_told : (judge : Access → Verdict) (c : Check) (access : Access) (verdict : Verdict) → accesses_of c ≡ access ∷ [] → verdict ≡ judge access → Some (record { access = access; verdict = verdict }) ≡ told_of judge (accesses_of c)
 one_told judge c access verdict asked is = ap (λ (v : Verdict). Some (record { access = access; verdict = v })) is ∙ ap (told_of judge) (sym asked)

@@ -11,7 +11,7 @@ use crate::block::{BLOCK_VERSION, Block};
 use crate::given::split_front;
 use crate::judging::{Case, verdict_of};
 use crate::passed::{Answer, Question};
-use crate::plain::{is_soon_plain, plain, without_slash};
+use crate::plain::{MAX_SOON, is_soon_plain, plain, without_slash};
 use crate::trouble::Trouble;
 use capbits::Mode;
 use capgrant::{Access, Attr, Verdict};
@@ -45,7 +45,7 @@ fn soon_bare(
 ) -> u32
     ensures { TellsSoon block.now text.now path.now question.now answer.old answer.new result }
 {
-    if is_first_for_one(block) {
+    if path.len() > MAX_SOON || is_first_for_one(block) {
         return 0;
     }
     if !is_one_for_all_fs(block) || question.access > 1 {

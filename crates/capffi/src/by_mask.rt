@@ -11,7 +11,7 @@ use crate::by_block::{bare_text, is_block, is_first_for_one, is_one_for_all_fs};
 use crate::given::split_front;
 use crate::judging::{Case, verdict_of};
 use crate::passed::{Answer, Check};
-use crate::plain::{is_soon_plain, plain, without_slash};
+use crate::plain::{MAX_SOON, is_soon_plain, plain, without_slash};
 use crate::trouble::Trouble;
 use capbits::Mode;
 use capgrant::{Access, Attr, Verdict};
@@ -63,7 +63,7 @@ fn soon_bare(
 ) -> u32
     ensures { TellsSoonToMask block.now text.now path.now check.now answer.old answer.new result }
 {
-    if is_first_for_one(block) {
+    if path.len() > MAX_SOON || is_first_for_one(block) {
         return 0;
     }
     if !is_one_for_all_fs(block) {
@@ -345,10 +345,13 @@ fn is_known(mask: u32) -> bool
 fn frequent_access(check: &Check) -> Option<Access>
     ensures { IfSome result (λ access. IsTrue (is_known check.now.mask) × (accesses_of check.now ≡ access ∷ [])) }
 {
-    match check.mask {
-        1 => Some(Access::Read),
-        2 => Some(Access::Write),
-        _ => None,
+    if check.mask == 0 || check.mask > 2 {
+        return None;
+    }
+    if check.mask == 1 {
+        Some(Access::Read)
+    } else {
+        Some(Access::Write)
     }
 }
 

@@ -12,6 +12,9 @@ const LONG_PIECE: usize = 64;
 // stand side by side are in one of them.
 const LONG_STEP: usize = LONG_PIECE - 1;
 
+/// How many bytes a path may have that is soon seen to be plain.
+pub(crate) const MAX_SOON: usize = 2 * LONG_PIECE - 1;
+
 // How many names a path may have, and how many bytes a name.
 const MAX_NAMES: usize = 32;
 
@@ -53,8 +56,8 @@ fn is_plain(bare: &[u8]) -> bool
     }
 }
 
-/// The same, where it is soon seen: not of more than 127 bytes, and, of those with more than 63, not of some with 17 names and more and
-/// of none with 32.
+/// The same, where it is soon seen: not of more than `MAX_SOON` bytes, and, of those with more than 63, not of some with 17 names and
+/// more and of none with 32.
 #[inline(always)]
 pub(crate) fn is_soon_plain(bare: &[u8]) -> bool
     ensures names { IsTrue result → bare_names bare.now ≡ names_of bare.now }
@@ -63,7 +66,7 @@ pub(crate) fn is_soon_plain(bare: &[u8]) -> bool
     if is_short(bare) {
         return is_parted(bare);
     }
-    bare.len() <= 127 && is_plain_at_ends(bare)
+    bare.len() <= MAX_SOON && is_plain_at_ends(bare)
 }
 
 // The same of a path that two pieces cover.
