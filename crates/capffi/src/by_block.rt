@@ -45,13 +45,13 @@ fn soon_bare(
 ) -> u32
     ensures { TellsSoon block.now text.now path.now question.now answer.old answer.new result }
 {
-    if path.len() > MAX_SOON || is_first_for_one(block) {
+    if is_first_for_one(block) {
         return 0;
     }
     if !is_one_for_all_fs(block) || question.access > 1 {
         return soon_of_many(block, text, path, question, answer);
     }
-    if !is_block(block, text) {
+    if path.len() > MAX_SOON || !is_block(block, text) {
         return 0;
     }
     match soon_of_one(block, text, path, question) {
@@ -172,6 +172,9 @@ fn rule_of_one(block: &Block, text: &[u8], path: &[u8], question: &Question) -> 
 {
     let mode = read_mode(question.mode)?;
     let access = read_access(question.access, question.number)?;
+    if block.fs_len as usize > text.len() {
+        return None;
+    }
     let (fs, rest) = split_front(text, block.fs_len as usize);
     let case = case_of(fs, path, &[], question, mode, access);
     let rule = case.soon_alone(&block.entries[..block.count as usize], rest)?;

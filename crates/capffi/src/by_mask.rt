@@ -63,7 +63,7 @@ fn soon_bare(
 ) -> u32
     ensures { TellsSoonToMask block.now text.now path.now check.now answer.old answer.new result }
 {
-    if path.len() > MAX_SOON || is_first_for_one(block) {
+    if is_first_for_one(block) {
         return 0;
     }
     if !is_one_for_all_fs(block) {
@@ -72,7 +72,7 @@ fn soon_bare(
     let Some(access) = frequent_access(check) else {
         return 0;
     };
-    if !is_block(block, text) {
+    if path.len() > MAX_SOON || !is_block(block, text) {
         return 0;
     }
     match soon_of_one(block, text, path, check, access) {
@@ -129,6 +129,9 @@ fn rule_of_one(block: &Block, text: &[u8], path: &[u8], check: &Check, access: A
     requires one { block.now.count ≡ 1 }
     ensures { IfSome result (λ rule. IsSoonOn block.now text.now (bare_names path.now) check.now access (alone rule)) }
 {
+    if block.fs_len as usize > text.len() {
+        return None;
+    }
     let (fs, rest) = split_front(text, block.fs_len as usize);
     let case = case_of(fs, path, &[], check, access);
     let rule = case.soon_alone(&block.entries[..block.count as usize], rest)?;

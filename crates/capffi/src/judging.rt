@@ -107,6 +107,9 @@ impl Case<'_> {
         requires { length entries.now ≡ 1 }
         ensures { IfSome result (λ rule. (groups : List ℕ) → alone rule ≡ answer_of (verdict_of (with_groups self.now groups) (grants_in entries.now text.now))) }
     {
+        if entries[0].path_len as usize > text.len() {
+            return None;
+        }
         let (grant, _) = split_grant(&entries[0], text);
         if !grant.is_for_all() {
             return None;
