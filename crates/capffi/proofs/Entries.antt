@@ -138,6 +138,11 @@ pub openly : (q : Question) (g : Grant) (found : Option Rule) → found ≡ find
 unfolding fails_fsname fails_path fails_no_write fails_root_squash fails_no_p fails_no_s
 openly q g found is uid gids groups = sym (open_first (with_groups q groups) g uid gids) ∙ sym is
 
+-- no text counts for the rules behind that of the path
+pub further_same : (q : Question) (e : Entry) (text : List ℕ) (one other : Grant) → one ≡ grant_of e (path_in e []) (fs_in e []) → other ≡ grant_of e (path_in e text) (fs_in e text) → number_of (find (λ r. fails r q one) (drop 2 open_rules)) ≡ number_of (find (λ r. fails r q other) (drop 2 open_rules))
+unfolding fails_no_write fails_root_squash fails_no_p fails_no_s
+further_same q e text one other is are = rw (is, are) refl
+
 -- ---- the numbers of the rules
 
 put_rule : (rules : List Rule) (place : ℕ) (rule : Rule) → length rules ≡ place → place < 16 → set (rule_numbers rules) place (rule_number rule) ≡ rule_numbers (rules ++ rule ∷ [])

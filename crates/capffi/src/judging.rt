@@ -103,10 +103,14 @@ impl Case<'_> {
 
     /// The same of a grant that is alone: the number of the rule that it fails by, or 0 where it allows.
     #[inline(always)]
+    #[tactic(auto, using(crate::proofs::Entries::further_same))]
     pub(crate) fn soon_alone(&self, entries: &[Entry], text: &[u8]) -> Option<u8>
         requires { length entries.now ≡ 1 }
         ensures { IfSome result (λ rule. (groups : List ℕ) → alone rule ≡ answer_of (verdict_of (with_groups self.now groups) (grants_in entries.now text.now))) }
     {
+        // These rules need no text.
+        let (textless, _) = split_grant(&entries[0], &[]);
+        let further = self.number_further(&textless);
         if entries[0].path_len as usize > text.len() {
             return None;
         }
@@ -114,7 +118,7 @@ impl Case<'_> {
         if !grant.is_for_all() {
             return None;
         }
-        Some(self.number_alone(&grant))
+        Some(self.number_alone(&grant, further))
     }
 
     // The first rule by which a grant fails that is for everybody, if it does not allow the access.
@@ -131,12 +135,12 @@ impl Case<'_> {
         self.first_failing_further(grant)
     }
 
-    // The number of that rule, or 0. The paths are compared at the end, when little else has to be kept in registers.
+    // The number of that rule, or 0, where that of the rules behind the path is known.
     #[inline(always)]
-    fn number_alone(&self, grant: &Given) -> u8
+    fn number_alone(&self, grant: &Given, further: u8) -> u8
+        requires { further ≡ number_of (find (λ r. fails r self.now grant.now) (drop 2 open_rules)) }
         ensures { result ≡ number_of (find (λ r. fails r self.now grant.now) open_rules) }
     {
-        let further = self.number_further(grant);
         if self.fails_fsname(grant) {
             Rule::FsName.number()
         } else if self.is_below(grant) {
