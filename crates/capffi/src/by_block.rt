@@ -48,7 +48,7 @@ fn soon_bare(
     if is_first_for_one(block) {
         return 0;
     }
-    if !is_one_for_all_fs(block) || question.access > 1 {
+    if !is_one_for_all(block) || question.access > 1 {
         return soon_of_many(block, text, path, question, answer);
     }
     if path.len() > MAX_SOON || !is_block(block, text) {
@@ -101,12 +101,12 @@ pub(crate) fn is_first_for_one(block: &Block) -> bool {
     block.entries[0].has_uid != 0
 }
 
-/// Whether there is one grant alone, for every file system, as most clients have it.
+/// Whether there is one grant alone, for every file system and all groups, as most clients have it.
 #[inline(always)]
-pub(crate) fn is_one_for_all_fs(block: &Block) -> bool
+pub(crate) fn is_one_for_all(block: &Block) -> bool
     ensures { IsTrue result → block.now.count ≡ 1 }
 {
-    block.count == 1 && block.entries[0].fs_len == 0
+    block.count == 1 && block.entries[0].fs_len == 0 && block.entries[0].gid_count == 0
 }
 
 /// What the grants of a block say to a question.

@@ -7,7 +7,7 @@ ghost use Rattle.capffi.specs.ByMask.{is_known, asked_if, accesses_of, verdict_o
 
 use crate::answering::tell_alone;
 use crate::block::Block;
-use crate::by_block::{bare_text, is_block, is_first_for_one, is_one_for_all_fs};
+use crate::by_block::{bare_text, is_block, is_first_for_one, is_one_for_all};
 use crate::given::split_front;
 use crate::judging::{Case, verdict_of};
 use crate::passed::{Answer, Check};
@@ -66,7 +66,7 @@ fn soon_bare(
     if is_first_for_one(block) {
         return 0;
     }
-    if !is_one_for_all_fs(block) {
+    if !is_one_for_all(block) {
         return soon_of_many(block, text, path, check, answer);
     }
     let Some(access) = frequent_access(check) else {

@@ -111,9 +111,6 @@ impl Case<'_> {
         // These rules need no text.
         let (textless, _) = split_grant(&entries[0], &[]);
         let further = self.number_further(&textless);
-        if entries[0].path_len as usize > text.len() {
-            return None;
-        }
         let (grant, _) = split_grant(&entries[0], text);
         if !grant.is_for_all() {
             return None;
