@@ -114,9 +114,9 @@ looked path start front before within e =
     let bytes : List ℕ = chunk start 64 path in
     let long : length bytes ≡ 64 = length-chunk start 64 path within in
     let bits : bit_and (slashes bytes) (moved (slashes bytes) front) ≡ pairs before bytes =
-      ap (bit_and (slashes bytes)) (moved_is (slashes bytes) front (is_slash before) e ∙ ap (λ (k : ℕ). (cond (is_slash before) 1 0 + 2 * slashes bytes) % 2 ^ k) (sym long)) ∙ ands before bytes in
+    ap (bit_and (slashes bytes)) (moved_is (slashes bytes) front (is_slash before) e ∙ ap (λ (k : ℕ). (cond (is_slash before) 1 0 + 2 * slashes bytes) % 2 ^ k) (sym long)) ∙ ands before bytes in
     let seen : not (eqb (bit_and (mask path start) (moved (mask path start) front)) 0) ≡ has_double_slash (before ∷ bytes) =
-      ap (λ (n : ℕ). not (eqb (bit_and n (moved n front)) 0)) (mask_is path start within) ∙ ap (λ (n : ℕ). not (eqb n 0)) bits ∙ found before bytes in
+    ap (λ (n : ℕ). not (eqb (bit_and n (moved n front)) 0)) (mask_is path start within) ∙ ap (λ (n : ℕ). not (eqb n 0)) bits ∙ found before bytes in
     ap₂ (λ (x : Bool). λ (rest : List ℕ). x || has_double_slash rest) seen (sym (drop-drop 63 start path))
     ∙ fronts (suc 63) (before ∷ drop start path) (omega (arith, length-drop start path, within))
 

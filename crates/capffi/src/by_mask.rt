@@ -54,13 +54,7 @@ pub(crate) fn soon_mask(
 
 // The same by a path without a slash in front.
 #[inline(always)]
-fn soon_bare(
-    block: &Block,
-    text: &[u8],
-    path: &[u8],
-    check: &Check,
-    answer: &mut Answer,
-) -> u32
+fn soon_bare(block: &Block, text: &[u8], path: &[u8], check: &Check, answer: &mut Answer) -> u32
     ensures { TellsSoonToMask block.now text.now path.now check.now answer.old answer.new result }
 {
     if is_first_for_one(block) {
@@ -101,13 +95,7 @@ fn soon_of_one(block: &Block, text: &[u8], path: &[u8], check: &Check, access: A
 // The same of any number of grants, apart from that of one, which takes fewer registers. What is passed on is passed as it came, so
 // that the one goes over into the other.
 #[inline(never)]
-fn soon_of_many(
-    block: &Block,
-    text: &[u8],
-    path: &[u8],
-    check: &Check,
-    answer: &mut Answer,
-) -> u32
+fn soon_of_many(block: &Block, text: &[u8], path: &[u8], check: &Check, answer: &mut Answer) -> u32
     ensures { TellsSoonToMask block.now text.now path.now check.now answer.old answer.new result }
 {
     let Some(access) = frequent_access(check) else {
