@@ -94,6 +94,14 @@ parted_behind (b ∷ bytes) some lone last =
     let apart = or_parts (is_slash b) (has_double_slash (b ∷ bytes)) lone in
     parted (b ∷ bytes) some apart.0 (ne_eqb _ _ last) apart.1
 
+pub first_slash : (bare : List ℕ) → 0 < length bare → get_or bare 0 0 ≡ 47 → true ≡ has_double_slash (47 ∷ bare)
+first_slash [] some is = absurd (omega (arith, some))
+first_slash (b ∷ bytes) some is = rw is refl
+
+pub no_first_slash : (bare : List ℕ) → 0 < length bare → get_or bare 0 0 ≢ 47 → has_double_slash bare ≡ has_double_slash (47 ∷ bare)
+no_first_slash [] some other = absurd (omega (arith, some))
+no_first_slash (b ∷ bytes) some other = rw (ne_eqb b 47 other) refl
+
 -- ---- few parts
 
 few_in_parts : (bare : List ℕ) → is_slash (get_or bare 0 0) ≡ false → length bare ≤ 255 → count_by is_slash bare < 32 → are_few_and_short (names_of bare) ≡ true

@@ -46,17 +46,17 @@ pairs before (b ∷ bytes) = cond (is_slash before && is_slash b) 1 0 + 2 * pair
 abbrev slashes : List ℕ → ℕ
 slashes bytes = mask_l (map is_slash bytes)
 
-ands : (before : ℕ) (bytes : List ℕ) → bit_and (slashes bytes) ((cond (is_slash before) 1 0 + 2 * slashes bytes) % 2 ^ length bytes) ≡ pairs before bytes
-ands before [] = refl
-ands before (b ∷ bytes) =
+ands : (before : ℕ) (bytes : List ℕ) (k : ℕ) → length bytes ≤ k → bit_and (slashes bytes) ((cond (is_slash before) 1 0 + 2 * slashes bytes) % 2 ^ k) ≡ pairs before bytes
+ands before [] k within = refl
+ands before (b ∷ bytes) zero within = absurd (omega (arith, within))
+ands before (b ∷ bytes) (suc k) within =
     let whole : ℕ = cond (is_slash b) 1 0 + 2 * slashes bytes in
-    let rest : ℕ = whole % 2 ^ length bytes in
+    let rest : ℕ = whole % 2 ^ k in
     let behind : ℕ = cond (is_slash before) 1 0 + 2 * rest in
-    ap (bit_and whole) (cut (is_slash before) whole (length bytes)) ∙ and_step whole behind
+    ap (bit_and whole) (cut (is_slash before) whole k) ∙ and_step whole behind
     ∙ ap₂ (λ (x y : ℕ). bit_and x y * 2 + min (whole % 2) (behind % 2)) (half (is_slash b) (slashes bytes)) (half (is_slash before) rest)
     ∙ ap₂ (λ (x y : ℕ). bit_and (slashes bytes) rest * 2 + min x y) (low (is_slash b) (slashes bytes)) (low (is_slash before) rest)
-    ∙ ap₂ (λ (x y : ℕ). x * 2 + y) (ands b bytes) (both (is_slash before) (is_slash b))
-    ∙ turned (pairs b bytes) (cond (is_slash before && is_slash b) 1 0)
+    ∙ ap₂ (λ (x y : ℕ). x * 2 + y) (ands b bytes k (omega (arith, within))) (both (is_slash before) (is_slash b)) ∙ turned (pairs b bytes) (cond (is_slash before && is_slash b) 1 0)
 
 none_more : (x y : Bool) (n : ℕ) → (x || y) ≡ false → (y ≡ false → n ≡ 0) → cond x 1 0 + 2 * n ≡ 0
 none_more true y n e rest = absurd (true≢false e)
@@ -93,12 +93,12 @@ fronts zero (b ∷ bytes) within = refl
 fronts (suc k) (b ∷ []) within = absurd (omega (arith, within))
 fronts (suc k) (b ∷ c ∷ bytes) within = or_more (is_slash b && is_slash c) (has_double_slash (take (suc k) (c ∷ bytes))) (has_double_slash (drop k (c ∷ bytes))) (has_double_slash (c ∷ bytes)) (fronts k (c ∷ bytes) (omega (arith, within)))
 
--- what a comparison with a slash gives of 64 bytes
-abbrev mask : List ℕ → ℕ → ℕ
-mask path start = mask_l (map (top 7) (zip2 (λ a b. cond (eqb a b) (2 ^ 8 - 1) 0) (chunk start 64 path) (replicate 64 47))) % 2 ^ 64
+-- what a comparison with a slash gives of m + 1 bytes
+abbrev mask : ℕ → List ℕ → ℕ → ℕ
+mask m path start = mask_l (map (top 7) (zip2 (λ a b. cond (eqb a b) (2 ^ 8 - 1) 0) (chunk start (suc m) path) (replicate (suc m) 47))) % 2 ^ 64
 
-mask_is : (path : List ℕ) (start : ℕ) → start + 64 ≤ length path → mask path start ≡ slashes (chunk start 64 path)
-mask_is path start within = bitmask_splat w8 eqb (chunk start 64 path) 64 47 (length-chunk start 64 path within) (omega arith)
+mask_is : (m : ℕ) (path : List ℕ) (start : ℕ) → m ≤ 63 → start + suc m ≤ length path → mask m path start ≡ slashes (chunk start (suc m) path)
+mask_is m path start few within = bitmask_splat w8 eqb (chunk start (suc m) path) (suc m) 47 (length-chunk start (suc m) path within) (omega (arith, few))
 
 -- one place on
 abbrev moved : ℕ → ℕ → ℕ
@@ -108,37 +108,35 @@ moved_is : (n front : ℕ) (b : Bool) → front ≡ cond b 1 0 → moved n front
 moved_is n front true e = omega (arith, e)
 moved_is n front false e = omega (arith, e)
 
-looked : (path : List ℕ) (start front before : ℕ) → start + 64 ≤ length path → front ≡ cond (is_slash before) 1 0
-    → (not (eqb (bit_and (mask path start) (moved (mask path start) front)) 0) || has_double_slash (drop (start + 63) path)) ≡ has_double_slash (before ∷ drop start path)
-looked path start front before within e =
-    let bytes : List ℕ = chunk start 64 path in
-    let long : length bytes ≡ 64 = length-chunk start 64 path within in
-    let bits : bit_and (slashes bytes) (moved (slashes bytes) front) ≡ pairs before bytes =
-    ap (bit_and (slashes bytes)) (moved_is (slashes bytes) front (is_slash before) e ∙ ap (λ (k : ℕ). (cond (is_slash before) 1 0 + 2 * slashes bytes) % 2 ^ k) (sym long)) ∙ ands before bytes in
-    let seen : not (eqb (bit_and (mask path start) (moved (mask path start) front)) 0) ≡ has_double_slash (before ∷ bytes) =
-    ap (λ (n : ℕ). not (eqb (bit_and n (moved n front)) 0)) (mask_is path start within) ∙ ap (λ (n : ℕ). not (eqb n 0)) bits ∙ found before bytes in
-    ap₂ (λ (x : Bool). λ (rest : List ℕ). x || has_double_slash rest) seen (sym (drop-drop 63 start path))
-    ∙ fronts (suc 63) (before ∷ drop start path) (omega (arith, length-drop start path, within))
+looked : (m : ℕ) (path : List ℕ) (start front before : ℕ) → m ≤ 63 → start + suc m ≤ length path → front ≡ cond (is_slash before) 1 0
+    → (not (eqb (bit_and (mask m path start) (moved (mask m path start) front)) 0) || has_double_slash (drop (start + m) path)) ≡ has_double_slash (before ∷ drop start path)
+looked m path start front before few within e =
+    let bytes : List ℕ = chunk start (suc m) path in
+    let short : length bytes ≤ 64 = omega (arith, length-chunk start (suc m) path within, few) in
+    let bits : bit_and (slashes bytes) (moved (slashes bytes) front) ≡ pairs before bytes = ap (bit_and (slashes bytes)) (moved_is (slashes bytes) front (is_slash before) e) ∙ ands before bytes 64 short in
+    let seen : not (eqb (bit_and (mask m path start) (moved (mask m path start) front)) 0) ≡ has_double_slash (before ∷ bytes) =
+      ap (λ (n : ℕ). not (eqb (bit_and n (moved n front)) 0)) (mask_is m path start few within) ∙ ap (λ (n : ℕ). not (eqb n 0)) bits ∙ found before bytes in
+    ap₂ (λ (x : Bool). λ (rest : List ℕ). x || has_double_slash rest) seen (sym (drop-drop m start path)) ∙ fronts (suc m) (before ∷ drop start path) (omega (arith, length-drop start path, within))
 
 not_behind : (bytes : List ℕ) → has_double_slash (0 ∷ bytes) ≡ has_double_slash bytes
 not_behind [] = refl
 not_behind (b ∷ bytes) = refl
 
-pub lone_in : (path : List ℕ) (start front : ℕ) (b : Bool) → start + 64 ≤ length path → front ≡ from_bool b
-    → (not (eqb (bit_and (mask path start) (moved (mask path start) front)) 0) || has_double_slash (drop (start + 63) path)) ≡ has_double_slash (if b then 47 ∷ drop start path else drop start path)
-lone_in path start front true within e = looked path start front 47 within e
-lone_in path start front false within e = looked path start front 0 within e ∙ not_behind (drop start path)
+pub lone_in : (m : ℕ) (path : List ℕ) (start front : ℕ) (b : Bool) → m ≤ 63 → start + suc m ≤ length path → front ≡ from_bool b
+    → (not (eqb (bit_and (mask m path start) (moved (mask m path start) front)) 0) || has_double_slash (drop (start + m) path)) ≡ has_double_slash (if b then 47 ∷ drop start path else drop start path)
+lone_in m path start front true few within e = looked m path start front 47 few within e
+lone_in m path start front false few within e = looked m path start front 0 few within e ∙ not_behind (drop start path)
 
 -- ---- how many there are
 
-counted_are : (path : List ℕ) (start : ℕ) → start + 64 ≤ length path → count_ones (mask path start) ≡ count_by is_slash (chunk start 64 path)
-counted_are path start within = ap count_ones (mask_is path start within) ∙ ones-mask_l is_slash (chunk start 64 path)
+counted_are : (path : List ℕ) (start : ℕ) → start + 64 ≤ length path → count_ones (mask 63 path start) ≡ count_by is_slash (chunk start 64 path)
+counted_are path start within = ap count_ones (mask_is 63 path start (omega arith) within) ∙ ones-mask_l is_slash (chunk start 64 path)
 
-pub counted_in : (path : List ℕ) (start : ℕ) → start + 64 ≤ length path → count_by is_slash (drop start path) ≤ count_ones (mask path start) + count_by is_slash (drop (start + 63) path)
+pub counted_in : (path : List ℕ) (start : ℕ) → start + 64 ≤ length path → count_by is_slash (drop start path) ≤ count_ones (mask 63 path start) + count_by is_slash (drop (start + 63) path)
 counted_in path start within =
     let rest : List ℕ = drop start path in
     let place : count_by is_slash (drop (start + 63) path) ≡ count_by is_slash (drop 63 rest) = ap (λ (bytes : List ℕ). count_by is_slash bytes) (sym (drop-drop 63 start path)) in
     omega (arith, counted_are path start within, sum_by-take-drop (λ b. cond (is_slash b) 1 0) rest 64, count_further 63 64 rest (omega arith), place)
 
-pub few_in : (path : List ℕ) (start : ℕ) → start + 64 ≤ length path → count_ones (mask path start) ≤ 64
+pub few_in : (path : List ℕ) (start : ℕ) → start + 64 ≤ length path → count_ones (mask 63 path start) ≤ 64
 few_in path start within = omega (arith, counted_are path start within, count_by-le-length is_slash (chunk start 64 path), length-chunk start 64 path within)

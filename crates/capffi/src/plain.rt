@@ -49,8 +49,8 @@ fn is_plain(bare: &[u8]) -> bool
     ensures names { IsTrue result → bare_names bare.now ≡ names_of bare.now }
     ensures fit { IsTrue result → IsTrue (are_few_and_short (names_of bare.now)) }
 {
-    if bare.len() <= LONG_PIECE {
-        is_parted(bare) && has_few_names(bare)
+    if is_short(bare) {
+        is_parted(bare)
     } else {
         is_long_plain(bare)
     }
@@ -102,30 +102,72 @@ fn look_at_ends(path: &[u8]) -> (bool, u32)
 
 // Whether the names of a path stand between its slashes.
 #[inline(always)]
-#[tactic(auto, using(crate::proofs::Bare::no_bytes, crate::proofs::Bare::parted))]
+#[tactic(auto, using(crate::proofs::Bare::no_bytes, crate::proofs::Bare::parted_behind))]
 fn is_parted(bare: &[u8]) -> bool
-    requires { length bare.now ≤ 64 }
+    requires { length bare.now ≤ 63 }
     ensures { IsTrue result → bare_names bare.now ≡ names_of bare.now }
 {
-    bare.is_empty() || (bare[0] != b'/' && bare[bare.len() - 1] != b'/' && !has_double_slash(bare))
+    if bare.is_empty() {
+        return true;
+    }
+    if bare[bare.len() - 1] == b'/' {
+        return false;
+    }
+    !has_double_slash(bare)
 }
 
-// Whether two slashes stand side by side.
+// Whether two slashes stand side by side, as if there were one in front too.
 #[inline(always)]
 fn has_double_slash(path: &[u8]) -> bool
-    requires { length path.now ≤ 64 }
-    ensures { result ≡ has_double_slash path.now }
+    requires some { 0 < length path.now }
+    requires few { length path.now ≤ 63 }
+    ensures { result ≡ has_double_slash (47 ∷ path.now) }
 {
     match path.len() {
-        0..=16 => has_double_slash_in_few(path),
-        17..=32 => has_double_slash_at_ends(path, 16),
-        _ => has_double_slash_at_ends(path, 32),
+        0..=15 => has_double_slash_in_few(path),
+        16..=31 => look_at_ends_by_16(path),
+        _ => look_at_ends_by_32(path),
     }
 }
 
-// The same, byte by byte: one of two that stand side by side has an odd place.
+// The same of two pieces of 16 bytes.
 #[inline(always)]
+fn look_at_ends_by_16(path: &[u8]) -> bool
+    requires more { 16 ≤ length path.now }
+    requires few { length path.now ≤ 31 }
+    ensures { result ≡ has_double_slash (47 ∷ path.now) }
+{
+    let in_front = look_by_16(path, 0, true);
+    in_front | look_by_16(path, path.len() - 16, false)
+}
+
+// The same of two pieces of 32 bytes.
+#[inline(always)]
+fn look_at_ends_by_32(path: &[u8]) -> bool
+    requires more { 32 ≤ length path.now }
+    requires few { length path.now ≤ 63 }
+    ensures { result ≡ has_double_slash (47 ∷ path.now) }
+{
+    let in_front = look_by_32(path, 0, true);
+    in_front | look_by_32(path, path.len() - 32, false)
+}
+
+// The same byte by byte.
+#[inline(always)]
+#[tactic(auto, using(crate::proofs::Bare::first_slash, crate::proofs::Bare::no_first_slash))]
 fn has_double_slash_in_few(path: &[u8]) -> bool
+    requires { 0 < length path.now }
+    ensures { result ≡ has_double_slash (47 ∷ path.now) }
+{
+    if path[0] == b'/' {
+        return true;
+    }
+    has_pair(path)
+}
+
+// Whether two slashes stand side by side, of which one has an odd place.
+#[inline(always)]
+fn has_pair(path: &[u8]) -> bool
     ensures { result ≡ has_double_slash path.now }
 {
     for pair in 0..path.len() / 2 {
@@ -161,62 +203,48 @@ fn is_double_slash(path: &[u8], place: usize) -> bool
     path[place - 1] == b'/' && path[place] == b'/'
 }
 
-// The same by a piece at each end. They may have places in common.
+// Whether one of the slashes of 16 bytes stands behind another, which may be one before them. They are the bits of a number.
 #[inline(always)]
-fn has_double_slash_at_ends(path: &[u8], piece: usize) -> bool
-    requires within { piece < length path.now }
-    requires whole { length path.now ≤ piece + piece + 1 }
-    ensures { result ≡ has_double_slash path.now }
+fn look_by_16(path: &[u8], start: usize, is_behind_slash: bool) -> bool
+    requires { start + 16 ≤ length path.now }
+    ensures { (result || has_double_slash (drop (start + 15) path.now)) ≡ has_double_slash (if is_behind_slash then 47 ∷ drop start path.now else drop start path.now) }
 {
-    let in_front = has_double_slash_from(path, 0, piece);
-    in_front | has_double_slash_from(path, path.len() - 1 - piece, piece)
+    let bytes = u8x16::from_slice(&path[start..]);
+    let slashes = bytes.simd_eq(u8x16::splat(b'/')).to_bitmask();
+    let behind = slashes
+        .wrapping_add(slashes)
+        .wrapping_add(u64::from(is_behind_slash));
+    slashes & behind != 0
 }
 
-// Whether one of the slashes of a piece stands before another. There is no way out of the loop, so that it is compiled into a few
-// comparisons of many bytes at once.
+// The same of 32 bytes.
 #[inline(always)]
-fn has_double_slash_from(path: &[u8], start: usize, piece: usize) -> bool
-    requires { start + piece < length path.now }
-    ensures { (result || has_double_slash (drop (start + piece) path.now)) ≡ has_double_slash (drop start path.now) }
+fn look_by_32(path: &[u8], start: usize, is_behind_slash: bool) -> bool
+    requires { start + 32 ≤ length path.now }
+    ensures { (result || has_double_slash (drop (start + 31) path.now)) ≡ has_double_slash (if is_behind_slash then 47 ∷ drop start path.now else drop start path.now) }
 {
-    let mut is_found = false;
-    for step in 0..piece {
-        let (here, behind) = (path[start + step] == b'/', path[start + step + 1] == b'/');
-        is_found |= here & behind;
-    }
-    is_found
+    let bytes = u8x32::from_slice(&path[start..]);
+    let slashes = bytes.simd_eq(u8x32::splat(b'/')).to_bitmask();
+    let behind = slashes
+        .wrapping_add(slashes)
+        .wrapping_add(u64::from(is_behind_slash));
+    slashes & behind != 0
 }
 
 // Whether a text is too short to have too many names, as each has a slash beside it, or too long a name.
 fn is_short(path: &[u8]) -> bool
     ensures fit { IsTrue result → IsTrue (are_few_and_short (names_of path.now)) }
-    ensures less { IsTrue result → length path.now ≤ 64 }
+    ensures less { IsTrue result → length path.now ≤ 63 }
     ensures more { IsFalse result → 64 ≤ length path.now }
 {
     path.len() < 64
-}
-
-// Whether a text of one piece has neither too many nor too long names.
-#[inline(always)]
-#[tactic(auto, using(crate::proofs::Bare::few_parts))]
-fn has_few_names(bare: &[u8]) -> bool
-    requires { length bare.now ≤ 64 }
-    ensures { IsTrue result → IsTrue (are_few_and_short (names_of bare.now)) }
-{
-    if is_short(bare) {
-        return true;
-    }
-    if bare.is_empty() || bare[0] == b'/' {
-        return false;
-    }
-    usize::from(count_slashes(bare)) < MAX_NAMES
 }
 
 // The same as `is_plain`, of a path that is too long for its length to tell how many names it has.
 #[inline(always)]
 #[tactic(auto, using(crate::proofs::Bare::parted))]
 fn is_long_plain(bare: &[u8]) -> bool
-    requires { 64 < length bare.now }
+    requires { 64 ≤ length bare.now }
     ensures names { IsTrue result → bare_names bare.now ≡ names_of bare.now }
     ensures fit { IsTrue result → IsTrue (are_few_and_short (names_of bare.now)) }
 {
@@ -258,7 +286,7 @@ fn count_slashes(text: &[u8]) -> u8
 // How many slashes a long path has at most, but for its last byte, where no two stand side by side.
 #[inline(always)]
 fn count_lone_slashes(path: &[u8]) -> Option<usize>
-    requires { 64 < length path.now }
+    requires { 64 ≤ length path.now }
     ensures { IfSome result (λ count. (has_double_slash path.now ≡ false) × (count_by (λ b. b == 47) path.now ≤ count + 1)) }
 {
     let mut count = 0;

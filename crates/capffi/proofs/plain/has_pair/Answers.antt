@@ -1,7 +1,7 @@
 use Rattle.std.proofs.Common.{◌≡◌, ◌+◌, ◌-◌, ◌*◌, ◌≤◌, ℕ, length, drop, sym, ap, ◌∙◌, arith}
 use Rattle.capwords.specs.Paths.{has_double_slash}
 use Rattle.capspec.proofs.OneText.{no_pair}
-use Rattle.capffi.proofs.plain.has_double_slash_in_few.Goals as goal
+use Rattle.capffi.proofs.plain.has_pair.Goals as goal
 
 pub returns : goal.returns
 returns c =
