@@ -84,9 +84,6 @@ parted (b ∷ bytes) some first last lone =
     let none : has_double_slash (47 ∷ b ∷ bytes) ≡ false = or_from (eqb b 47) (has_double_slash (b ∷ bytes)) first lone in
     ap path_names (is_as_it_stands (47 ∷ b ∷ bytes) 0 (omega arith) refl ends none) ∙ names_back (47 ∷ b ∷ bytes) ∙ names_of-slashes (47 ∷ []) (b ∷ bytes) refl
 
-pub parted_ne : (bare : List ℕ) → 0 < length bare → get_or bare 0 0 ≢ 47 → get_or bare (length bare - 1) 0 ≢ 47 → has_double_slash bare ≡ false → bare_names bare ≡ names_of bare
-parted_ne bare some first last lone = parted bare some (ne_eqb _ _ first) (ne_eqb _ _ last) lone
-
 -- the same, where no slash stands behind another or in front
 pub parted_behind : (bare : List ℕ) → 0 < length bare → has_double_slash (47 ∷ bare) ≡ false → get_or bare (length bare - 1) 0 ≢ 47 → bare_names bare ≡ names_of bare
 parted_behind [] some lone last = absurd (omega (arith, some))

@@ -115,7 +115,7 @@ looked m path start front before few within e =
     let short : length bytes ≤ 64 = omega (arith, length-chunk start (suc m) path within, few) in
     let bits : bit_and (slashes bytes) (moved (slashes bytes) front) ≡ pairs before bytes = ap (bit_and (slashes bytes)) (moved_is (slashes bytes) front (is_slash before) e) ∙ ands before bytes 64 short in
     let seen : not (eqb (bit_and (mask m path start) (moved (mask m path start) front)) 0) ≡ has_double_slash (before ∷ bytes) =
-      ap (λ (n : ℕ). not (eqb (bit_and n (moved n front)) 0)) (mask_is m path start few within) ∙ ap (λ (n : ℕ). not (eqb n 0)) bits ∙ found before bytes in
+    ap (λ (n : ℕ). not (eqb (bit_and n (moved n front)) 0)) (mask_is m path start few within) ∙ ap (λ (n : ℕ). not (eqb n 0)) bits ∙ found before bytes in
     ap₂ (λ (x : Bool). λ (rest : List ℕ). x || has_double_slash rest) seen (sym (drop-drop m start path)) ∙ fronts (suc m) (before ∷ drop start path) (omega (arith, length-drop start path, within))
 
 not_behind : (bytes : List ℕ) → has_double_slash (0 ∷ bytes) ≡ has_double_slash bytes

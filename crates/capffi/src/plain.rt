@@ -110,7 +110,8 @@ fn is_parted(bare: &[u8]) -> bool
     if bare.is_empty() {
         return true;
     }
-    if bare[bare.len() - 1] == b'/' {
+    let last = bare[bare.len() - 1];
+    if last == b'/' {
         return false;
     }
     !has_double_slash(bare)
