@@ -7,4 +7,5 @@ pub mod Comparing
 pub mod Linting
 pub mod Attempts
 pub mod Clients
+pub mod ClientsTold
 pub use Rattle.capauth.specs as Capauth

@@ -26,7 +26,7 @@ pub use capjson::Shape;
 pub use clients::{Telling, who};
 pub use comparing::{CompareFault, compare};
 pub use fault::QuestionFault;
-pub use laws::one_text_for_what_is_found;
+pub use laws::{one_text_for_what_is_found, one_text_for_what_is_said};
 pub use linting::lint_text;
 pub use options::Opt;
 pub use question::{Question, Values};
