@@ -1,5 +1,5 @@
--- The text of `who` tells one thing after the other.
-use Rattle.std.proofs.Common.{◌≡◌, ◌≢◌, ℕ, ◌+◌, ◌<◌, ◌≤◌, ◌^◌, inl, inr, Bool, true, false, Option, Some, None, List, [], ◌∷◌, ◌++◌, drop, length, refl, sym, ap, ◌∙◌, append_assoc, length-append, arith}
+-- The text of `who` tells one client after the other.
+use Rattle.std.proofs.Common.{◌≡◌, ◌≢◌, ℕ, ◌<◌, ◌≤◌, ◌^◌, inl, inr, Bool, true, false, Option, Some, None, List, [], ◌∷◌, ◌++◌, drop, length, map, refl, sym, ap, ◌∙◌, append_assoc, length-append, arith}
 use Rattle.std.specs.Prelude.{codes, All, IfSome, ◌==◌, if◌then◌else◌}
 use Rattle.std.specs.Fmt.{decimal}
 use Rattle.std.specs.List.{AllZip, flat_map}
@@ -31,15 +31,38 @@ use Rattle.capquestion.specs.declared.clients.Telling.{Telling}
 use Rattle.capquestion.specs.declared.clients.Telling.TheVariants.{Line, More, Object}
 use Rattle.capquestion.specs.Clients.{Says, AreLines, standing_in, unread_in}
 use Rattle.capquestion.specs.Clients.AreLines.{no_more, client, another}
-use Rattle.capquestion.specs.ClientsTold.{Told, told_line, HasLine, SameTold, HasLength}
-use Rattle.capquestion.specs.ClientsTold.Told.{judged, unread, there}
+use Rattle.capquestion.specs.ClientsTold.{There, Told, there_line, told_lines, HasNumbers, SameTold, HasLength}
+use Rattle.capquestion.specs.ClientsTold.Told.{judged, unread}
 
--- ---- how the lines begin
+-- ---- single lines
 
-abbrev client_of : Told → List ℕ
-client_of (judged name w standing) = name
-client_of (unread name fault) = name
-client_of (there name allows grant difference) = name
+data Single : Type 0 where
+  answer : List ℕ → Wanted → Standing → Single
+  refusal : List ℕ → SpecFault → Single
+  elsewhere : List ℕ → There → Single
+
+abbrev single_line : Single → List ℕ
+single_line (answer name w standing) = standing_line name w.access w.path standing
+single_line (refusal name fault) = unread_line name fault
+single_line (elsewhere name other) = there_line name other
+
+abbrev HasLine : Single → Type 0
+HasLine (answer name w standing) = HasNumber w.access × HasGrantIf standing
+HasLine (refusal name fault) = fault.at < 2 ^ 64
+HasLine (elsewhere name other) = other.grant < 2 ^ 32
+
+abbrev SameSingle : Single → Single → Type 0
+SameSingle (answer c w s) (answer d u t) = (c ≡ d) × (w.access ≡ u.access) × (path_text w.path ≡ path_text u.path) × (s ≡ t)
+SameSingle (refusal c f) (refusal d g) = (c ≡ d) × (f ≡ g)
+SameSingle (elsewhere c x) (elsewhere d y) = (c ≡ d) × (x ≡ y)
+SameSingle x y = ⊥
+
+-- ---- how they begin
+
+abbrev client_of : Single → List ℕ
+client_of (answer name w standing) = name
+client_of (refusal name fault) = name
+client_of (elsewhere name other) = name
 
 abbrev word_of : Standing → List ℕ
 word_of (Allowed grant) = codes "allowed "
@@ -61,10 +84,10 @@ abbrev differing : Bool → ℕ → Difference → List ℕ → List ℕ
 differing allows grant difference s = there_text allows ++ (difference_text difference ++ (codes " (grant " ++ (decimal grant ++ 41 ∷ 10 ∷ s)))
 
 -- behind the client
-abbrev said : Told → List ℕ → List ℕ
-said (judged name w standing) s = answered w standing s
-said (unread name fault) s = faulty fault s
-said (there name allows grant difference) s = differing allows grant difference s
+abbrev said : Single → List ℕ → List ℕ
+said (answer name w standing) s = answered w standing s
+said (refusal name fault) s = faulty fault s
+said (elsewhere name other) s = differing other.allows other.grant other.difference s
 
 worded : (standing : Standing) (s : List ℕ) → standing_word standing ++ s ≡ 58 ∷ 32 ∷ (word_of standing ++ s)
 worded (Allowed grant) s = refl
@@ -79,44 +102,50 @@ ended (Denied rules) s = ap (λ (r : List ℕ). 32 ∷ r) (append_assoc (failure
 in_line : (name front word path end s : List ℕ) → (name ++ (front ++ (word ++ 32 ∷ (path ++ end)))) ++ s ≡ name ++ (front ++ (word ++ 32 ∷ (path ++ (end ++ s))))
 in_line name front word path end s = simp append_assoc
 
-laid_out : (x : Told) (s : List ℕ) → told_line x ++ s ≡ quoted (client_of x) ++ (codes ":" ++ 32 ∷ said x s)
-laid_out (judged name w standing) s =
+laid_out : (x : Single) (s : List ℕ) → single_line x ++ s ≡ quoted (client_of x) ++ (codes ":" ++ 32 ∷ said x s)
+laid_out (answer name w standing) s =
     let word : List ℕ = access_word w.access in
     let path : List ℕ = quoted (path_text w.path) in
     in_line (quoted name) (standing_word standing) word path (standing_reason standing ++ codes "\n") s
     ∙ ap (λ (r : List ℕ). quoted name ++ (standing_word standing ++ (word ++ 32 ∷ (path ++ r)))) (ended standing s)
     ∙ ap (λ (r : List ℕ). quoted name ++ r) (worded standing (word ++ 32 ∷ (path ++ 32 ∷ reason_of standing s)))
-laid_out (unread name fault) s =
+laid_out (refusal name fault) s =
     let end : List ℕ = decimal fault.at ++ codes "\n" in
     append_assoc (quoted name) (codes ": grants: " ++ (fault_word fault.kind ++ (codes " at " ++ end))) s
     ∙ ap (λ (r : List ℕ). quoted name ++ (codes ": grants: " ++ r)) (append_assoc (fault_word fault.kind) (codes " at " ++ end) s ∙ ap (λ (r : List ℕ). fault_word fault.kind ++ (codes " at " ++ r)) (append_assoc (decimal fault.at) (codes "\n") s))
-laid_out (there name allows grant difference) s =
+laid_out (elsewhere name other) s =
+    let allows : Bool = other.allows in
+    let grant : ℕ = other.grant in
+    let difference : Difference = other.difference in
     let end : List ℕ = codes " (grant " ++ (decimal grant ++ codes ")\n") in
     append_assoc (quoted name ++ codes ": ") (there_text allows ++ (difference_text difference ++ end)) s
     ∙ append_assoc (quoted name) (codes ": ") ((there_text allows ++ (difference_text difference ++ end)) ++ s)
     ∙ ap (λ (r : List ℕ). quoted name ++ (codes ": " ++ r))
-      (append_assoc (there_text allows) (difference_text difference ++ end) s
-      ∙ ap (λ (r : List ℕ). there_text allows ++ r) (append_assoc (difference_text difference) end s ∙ ap (λ (r : List ℕ). difference_text difference ++ (codes " (grant " ++ r)) (append_assoc (decimal grant) (codes ")\n") s)))
+    (append_assoc (there_text allows) (difference_text difference ++ end) s
+    ∙ ap (λ (r : List ℕ). there_text allows ++ r) (append_assoc (difference_text difference) end s ∙ ap (λ (r : List ℕ). difference_text difference ++ (codes " (grant " ++ r)) (append_assoc (decimal grant) (codes ")\n") s)))
 
 -- ---- the kinds of lines
 
-abbrev kind : Told → ℕ
-kind (judged name w standing) = 0
-kind (unread name fault) = 1
-kind (there name allows grant difference) = 2
+abbrev kind : Single → ℕ
+kind (answer name w standing) = 0
+kind (refusal name fault) = 1
+kind (elsewhere name other) = 2
 
 abbrev kind_at : List ℕ → ℕ
 kind_at text = if first_byte text == 103 then 1 else (if first_byte text == 116 then 2 else 0)
 
-has_kind : (x : Told) (s : List ℕ) → kind_at (said x s) ≡ kind x
-has_kind (judged name w (Allowed grant)) s = refl
-has_kind (judged name w (Depends grant)) s = refl
-has_kind (judged name w (Denied rules)) s = refl
-has_kind (unread name fault) s = refl
-has_kind (there name true grant difference) s = refl
-has_kind (there name false grant difference) s = refl
+differs : (allows : Bool) (grant : ℕ) (difference : Difference) (s : List ℕ) → kind_at (differing allows grant difference s) ≡ 2
+differs true grant difference s = refl
+differs false grant difference s = refl
 
-one_kind : (x y : Told) (s t : List ℕ) → said x s ≡ said y t → kind x ≡ kind y
+has_kind : (x : Single) (s : List ℕ) → kind_at (said x s) ≡ kind x
+has_kind (answer name w (Allowed grant)) s = refl
+has_kind (answer name w (Depends grant)) s = refl
+has_kind (answer name w (Denied rules)) s = refl
+has_kind (refusal name fault) s = refl
+has_kind (elsewhere name other) s = differs other.allows other.grant other.difference s
+
+one_kind : (x y : Single) (s t : List ℕ) → said x s ≡ said y t → kind x ≡ kind y
 one_kind x y s t same = sym (has_kind x s) ∙ ap kind_at same ∙ has_kind y t
 
 -- ---- one thing for a line
@@ -167,40 +196,42 @@ has_text AttributeByFlag s = refl
 has_text ModeByBits s = refl
 has_text LargeUid s = refl
 
-abbrev verb : List ℕ → ℕ
-verb text = first_byte (drop 19 text)
+abbrev verb_at : List ℕ → ℕ
+verb_at text = first_byte (drop 19 text)
 
 one_there : (a b : Bool) (s t : List ℕ) → there_text a ++ s ≡ there_text b ++ t → (a ≡ b) × (s ≡ t)
 one_there true true s t same = (refl, append_cancel_left (there_text true) s t same)
-one_there true false s t same = clash 97 100 (omega arith) (ap verb same)
-one_there false true s t same = clash 97 100 (omega arith) (sym (ap verb same))
+one_there true false s t same = clash 97 100 (omega arith) (ap verb_at same)
+one_there false true s t same = clash 97 100 (omega arith) (sym (ap verb_at same))
 one_there false false s t same = (refl, append_cancel_left (there_text false) s t same)
 
-abbrev DifferAlike : Bool → Bool → ℕ → ℕ → Difference → Difference → Type 0
-DifferAlike a b g h x y = (a ≡ b) × (g ≡ h) × (x ≡ y)
+abbrev differing_at : There → List ℕ → List ℕ
+differing_at x s = differing x.allows x.grant x.difference s
 
-one_difference : (a b : Bool) (g h : ℕ) (x y : Difference) (s t : List ℕ) → g < 2 ^ 32 → h < 2 ^ 32 → differing a g x s ≡ differing b h y t → DifferAlike a b g h x y × (s ≡ t)
-one_difference a b g h x y s t small also same =
-    let u : List ℕ = codes " (grant " ++ (decimal g ++ 41 ∷ 10 ∷ s) in
-    let v : List ℕ = codes " (grant " ++ (decimal h ++ 41 ∷ 10 ∷ t) in
-    let verbs = one_there a b (difference_text x ++ u) (difference_text y ++ v) same in
-    let words : x ≡ y = sym (has_text x u) ∙ ap difference_at verbs.1 ∙ has_text y v in
-    let behind = append_cancel_left (difference_text x) u v (verbs.1 ∙ ap (λ (k : Difference). difference_text k ++ v) (sym words)) in
-    let number = number_and 41 10 g h s t refl refl (omega arith) (omega arith) (append_cancel_left (codes " (grant ") _ _ behind) in
-    ((verbs.0, number.0, words), number.1)
+one_other : (x y : There) (s t : List ℕ) → x.grant < 2 ^ 32 → y.grant < 2 ^ 32 → differing_at x s ≡ differing_at y t → (x ≡ y) × (s ≡ t)
+one_other x y s t small also same =
+    let u : List ℕ = codes " (grant " ++ (decimal x.grant ++ 41 ∷ 10 ∷ s) in
+    let v : List ℕ = codes " (grant " ++ (decimal y.grant ++ 41 ∷ 10 ∷ t) in
+    let verbs = one_there x.allows y.allows (difference_text x.difference ++ u) (difference_text y.difference ++ v) same in
+    let words : x.difference ≡ y.difference = sym (has_text x.difference u) ∙ ap difference_at verbs.1 ∙ has_text y.difference v in
+    let behind = append_cancel_left (difference_text x.difference) u v (verbs.1 ∙ ap (λ (k : Difference). difference_text k ++ v) (sym words)) in
+    let number = number_and 41 10 x.grant y.grant s t refl refl (omega arith) (omega arith) (append_cancel_left (codes " (grant ") _ _ behind) in
+    let verb : x.allows ≡ y.allows = verbs.0 in
+    let grant : x.grant ≡ y.grant = number.0 in
+    (λ i. record { allows = verb i; grant = grant i; difference = words i }, number.1)
 
-one_said : (x y : Told) (s t : List ℕ) → HasLine x → HasLine y → client_of x ≡ client_of y → said x s ≡ said y t → SameTold x y × (s ≡ t)
-one_said (judged c w a) (judged d u b) s t fits also name same = let both = one_answer w u a b s t fits.0 also.0 fits.1 also.1 same in ((name, both.0.0, both.0.1, both.0.2), both.1)
-one_said (unread c f) (unread d g) s t fits also name same = let both = one_fault f g s t fits also same in ((name, both.0), both.1)
-one_said (there c a g m) (there d b h n) s t fits also name same = let both = one_difference a b g h m n s t fits also same in ((name, both.0.0, both.0.1, both.0.2), both.1)
-one_said (judged c w a) (unread d g) s t fits also name same = clash 0 1 (omega arith) (one_kind (judged c w a) (unread d g) s t same)
-one_said (judged c w a) (there d b h n) s t fits also name same = clash 0 2 (omega arith) (one_kind (judged c w a) (there d b h n) s t same)
-one_said (unread c f) (judged d u b) s t fits also name same = clash 0 1 (omega arith) (sym (one_kind (unread c f) (judged d u b) s t same))
-one_said (unread c f) (there d b h n) s t fits also name same = clash 1 2 (omega arith) (one_kind (unread c f) (there d b h n) s t same)
-one_said (there c a g m) (judged d u b) s t fits also name same = clash 0 2 (omega arith) (sym (one_kind (there c a g m) (judged d u b) s t same))
-one_said (there c a g m) (unread d f) s t fits also name same = clash 1 2 (omega arith) (sym (one_kind (there c a g m) (unread d f) s t same))
+one_said : (x y : Single) (s t : List ℕ) → HasLine x → HasLine y → client_of x ≡ client_of y → said x s ≡ said y t → SameSingle x y × (s ≡ t)
+one_said (answer c w a) (answer d u b) s t fits also name same = let both = one_answer w u a b s t fits.0 also.0 fits.1 also.1 same in ((name, both.0.0, both.0.1, both.0.2), both.1)
+one_said (refusal c f) (refusal d g) s t fits also name same = let both = one_fault f g s t fits also same in ((name, both.0), both.1)
+one_said (elsewhere c x) (elsewhere d y) s t fits also name same = let both = one_other x y s t fits also same in ((name, both.0), both.1)
+one_said (answer c w a) (refusal d g) s t fits also name same = clash 0 1 (omega arith) (one_kind (answer c w a) (refusal d g) s t same)
+one_said (answer c w a) (elsewhere d y) s t fits also name same = clash 0 2 (omega arith) (one_kind (answer c w a) (elsewhere d y) s t same)
+one_said (refusal c f) (answer d u b) s t fits also name same = clash 0 1 (omega arith) (sym (one_kind (refusal c f) (answer d u b) s t same))
+one_said (refusal c f) (elsewhere d y) s t fits also name same = clash 1 2 (omega arith) (one_kind (refusal c f) (elsewhere d y) s t same)
+one_said (elsewhere c x) (answer d u b) s t fits also name same = clash 0 2 (omega arith) (sym (one_kind (elsewhere c x) (answer d u b) s t same))
+one_said (elsewhere c x) (refusal d f) s t fits also name same = clash 1 2 (omega arith) (sym (one_kind (elsewhere c x) (refusal d f) s t same))
 
-one_thing : (x y : Told) (s t : List ℕ) → HasLine x → HasLine y → told_line x ++ s ≡ told_line y ++ t → SameTold x y × (s ≡ t)
+one_thing : (x y : Single) (s t : List ℕ) → HasLine x → HasLine y → single_line x ++ s ≡ single_line y ++ t → SameSingle x y × (s ≡ t)
 one_thing x y s t fits also same =
     let parts = before_word (codes ":") (client_of x) (client_of y) (said x s) (said y t) refl (sym (laid_out x s) ∙ same ∙ laid_out y t) in
     one_said x y s t fits also parts.0 parts.1
@@ -209,63 +240,140 @@ no_end : {A : Type 0} (xs : List ℕ) (b : ℕ) (s : List ℕ) → [] ≡ xs ++ 
 no_end [] b s same = absurd (omega (arith, ap (λ (r : List ℕ). length r) same))
 no_end (x ∷ xs) b s same = absurd (omega (arith, ap (λ (r : List ℕ). length r) same))
 
-no_line : {A : Type 0} (x : Told) (s : List ℕ) → [] ≡ told_line x ++ s → A
+no_line : {A : Type 0} (x : Single) (s : List ℕ) → [] ≡ single_line x ++ s → A
 no_line x s same = no_end (quoted (client_of x)) 58 (32 ∷ said x s) (same ∙ laid_out x s)
 
-pub one_text : (xs ys : List Told) → All HasLine xs → All HasLine ys → flat_map told_line xs ≡ flat_map told_line ys → AllZip SameTold xs ys
-one_text [] [] fits also same = tt
-one_text [] (y ∷ ys) fits also same = no_line y (flat_map told_line ys) same
-one_text (x ∷ xs) [] fits also same = no_line x (flat_map told_line xs) (sym same)
-one_text (x ∷ xs) (y ∷ ys) fits also same =
-    let both = one_thing x y (flat_map told_line xs) (flat_map told_line ys) (All-head HasLine x xs fits) (All-head HasLine y ys also) same in
-    (both.0, one_text xs ys (All-tail HasLine x xs fits) (All-tail HasLine y ys also) both.1)
+one_by_one : (xs ys : List Single) → All HasLine xs → All HasLine ys → flat_map single_line xs ≡ flat_map single_line ys → AllZip SameSingle xs ys
+one_by_one [] [] fits also same = tt
+one_by_one [] (y ∷ ys) fits also same = no_line y (flat_map single_line ys) same
+one_by_one (x ∷ xs) [] fits also same = no_line x (flat_map single_line xs) (sym same)
+one_by_one (x ∷ xs) (y ∷ ys) fits also same =
+    let both = one_thing x y (flat_map single_line xs) (flat_map single_line ys) (All-head HasLine x xs fits) (All-head HasLine y ys also) same in
+    (both.0, one_by_one xs ys (All-tail HasLine x xs fits) (All-tail HasLine y ys also) both.1)
+
+-- ---- the lines of a client
+
+abbrev singles : Told → List Single
+singles (judged name w standing others) = answer name w standing ∷ map (elsewhere name) others
+singles (unread name fault) = refusal name fault ∷ []
+
+of_others : (name : List ℕ) (others : List There) → flat_map (there_line name) others ≡ flat_map single_line (map (elsewhere name) others)
+of_others name [] = refl
+of_others name (x ∷ others) = ap (λ (r : List ℕ). there_line name x ++ r) (of_others name others)
+
+of_one : (x : Told) → told_lines x ≡ flat_map single_line (singles x)
+of_one (judged name w standing others) = ap (λ (r : List ℕ). standing_line name w.access w.path standing ++ r) (of_others name others)
+of_one (unread name fault) = sym (append-nil (unread_line name fault))
+
+of_all : (xs : List Told) → flat_map told_lines xs ≡ flat_map single_line (flat_map singles xs)
+of_all [] = refl
+of_all (x ∷ xs) =
+    ap (λ (r : List ℕ). r ++ flat_map told_lines xs) (of_one x) ∙ ap (λ (r : List ℕ). flat_map single_line (singles x) ++ r) (of_all xs) ∙ sym (flat_map-append single_line (singles x) (flat_map singles xs))
+
+abbrev IsSmall : There → Type 0
+IsSmall other = other.grant < 2 ^ 32
+
+others_fit : (name : List ℕ) (others : List There) → All IsSmall others → All HasLine (map (elsewhere name) others)
+others_fit name [] small = All-nil HasLine
+others_fit name (x ∷ others) small =
+    All-cons HasLine (elsewhere name x) (map (elsewhere name) others) (All-head IsSmall x others small) (others_fit name others (All-tail IsSmall x others small))
+
+one_fits : (x : Told) → HasNumbers x → All HasLine (singles x)
+one_fits (judged name w standing others) fits = All-cons HasLine (answer name w standing) (map (elsewhere name) others) (fits.0, fits.1) (others_fit name others fits.2)
+one_fits (unread name fault) fits = All-cons HasLine (refusal name fault) [] fits (All-nil HasLine)
+
+all_fit : (xs : List Told) → All HasNumbers xs → All HasLine (flat_map singles xs)
+all_fit [] fits = All-nil HasLine
+all_fit (x ∷ xs) fits = All-append HasLine (singles x) (flat_map singles xs) (one_fits x (All-head HasNumbers x xs fits)) (all_fit xs (All-tail HasNumbers x xs fits))
+
+-- no line of a client is one of the next
+next_client : (c d : List ℕ) (ps qs : List There) (xs ys : List Told) → AllZip SameSingle (map (elsewhere c) ps ++ flat_map singles xs) (map (elsewhere d) qs ++ flat_map singles ys)
+    → (ps ≡ qs) × AllZip SameSingle (flat_map singles xs) (flat_map singles ys)
+next_client c d [] [] xs ys same = (refl, same)
+next_client c d [] (q ∷ qs) [] ys same = absurd same
+next_client c d [] (q ∷ qs) (judged name w standing others ∷ xs) ys same = absurd same.0
+next_client c d [] (q ∷ qs) (unread name fault ∷ xs) ys same = absurd same.0
+next_client c d (p ∷ ps) [] xs [] same = absurd same
+next_client c d (p ∷ ps) [] xs (judged name w standing others ∷ ys) same = absurd same.0
+next_client c d (p ∷ ps) [] xs (unread name fault ∷ ys) same = absurd same.0
+next_client c d (p ∷ ps) (q ∷ qs) xs ys same =
+    let rest = next_client c d ps qs xs ys same.1 in
+    let here : p ≡ q = same.0.1 in
+    let more : ps ≡ qs = rest.0 in
+    (cc, rest.1)
+
+by_clients : (xs ys : List Told) → AllZip SameSingle (flat_map singles xs) (flat_map singles ys) → AllZip SameTold xs ys
+by_clients [] [] same = tt
+by_clients [] (judged d u t qs ∷ ys) same = absurd same
+by_clients [] (unread d g ∷ ys) same = absurd same
+by_clients (judged c w s ps ∷ xs) [] same = absurd same
+by_clients (unread c f ∷ xs) [] same = absurd same
+by_clients (judged c w s ps ∷ xs) (judged d u t qs ∷ ys) same =
+    let rest = next_client c d ps qs xs ys same.1 in
+    ((same.0.0, same.0.1, same.0.2, same.0.3, rest.0), by_clients xs ys rest.1)
+by_clients (judged c w s ps ∷ xs) (unread d g ∷ ys) same = absurd same.0
+by_clients (unread c f ∷ xs) (judged d u t qs ∷ ys) same = absurd same.0
+by_clients (unread c f ∷ xs) (unread d g ∷ ys) same = (same.0, by_clients xs ys same.1)
+
+pub one_text : (xs ys : List Told) → All HasNumbers xs → All HasNumbers ys → flat_map told_lines xs ≡ flat_map told_lines ys → AllZip SameTold xs ys
+one_text xs ys fits also same = by_clients xs ys (one_by_one (flat_map singles xs) (flat_map singles ys) (all_fit xs fits) (all_fit ys also) (sym (of_all xs) ∙ same ∙ of_all ys))
 
 -- ---- what is printed is such lines
 
-abbrev AreTold : List ℕ → Type 0
-AreTold lines = (xs : List Told) × All HasLine xs × (lines ≡ flat_map told_line xs)
+module _ {X : Type 0} (Fits : X → Type 0) (line : X → List ℕ) where
+  abbrev AreOf : List ℕ → Type 0
+  AreOf text = (xs : List X) × All Fits xs × (text ≡ flat_map line xs)
 
-none : AreTold []
-none = ([], All-nil HasLine, refl)
+  none : AreOf []
+  none = ([], All-nil Fits, refl)
 
-one : (x : Told) → HasLine x → AreTold (told_line x)
-one x fits = (x ∷ [], All-cons HasLine x [] fits (All-nil HasLine), sym (append-nil (told_line x)))
+  one : (x : X) → Fits x → AreOf (line x)
+  one x fits = (x ∷ [], All-cons Fits x [] fits (All-nil Fits), sym (append-nil (line x)))
 
-both : (s t : List ℕ) → AreTold s → AreTold t → AreTold (s ++ t)
-both s t p q = (
+  both : (s t : List ℕ) → AreOf s → AreOf t → AreOf (s ++ t)
+  both s t p q = (
     p.0 ++ q.0,
-    All-append HasLine p.0 q.0 p.1 q.1,
-    ap (λ (r : List ℕ). r ++ t) p.2 ∙ ap (λ (r : List ℕ). flat_map told_line p.0 ++ r) q.2 ∙ sym (flat_map-append told_line p.0 q.0),
+    All-append Fits p.0 q.0 p.1 q.1,
+    ap (λ (r : List ℕ). r ++ t) p.2 ∙ ap (λ (r : List ℕ). flat_map line p.0 ++ r) q.2 ∙ sym (flat_map-append line p.0 q.0),
   )
+
+abbrev AreTold : List ℕ → Type 0
+AreTold text = AreOf HasNumbers told_lines text
 
 same_as : (s t : List ℕ) → s ≡ t → AreTold t → AreTold s
 same_as s t is told = (told.0, told.1, is ∙ told.2)
 
-abbrev IsSmall : Option Otherwise → Type 0
-IsSmall other = IfSome other (λ o. o.grant < 2 ^ 32)
+abbrev IsSmallIf : Option Otherwise → Type 0
+IsSmallIf other = IfSome other (λ o. o.grant < 2 ^ 32)
 
 module _ (name : List ℕ) where
-  of_difference : (allows : Bool) (grant : ℕ) (difference : Option Difference) → grant < 2 ^ 32 → AreTold (difference_line (quoted name ++ codes ": ") allows grant difference)
-  of_difference allows grant None small = none
-  of_difference allows grant (Some difference) small = one (there name allows grant difference) small
+  of_difference : (allows : Bool) (grant : ℕ) (difference : Option Difference) → grant < 2 ^ 32 → AreOf IsSmall (there_line name) (difference_line (quoted name ++ codes ": ") allows grant difference)
+  of_difference allows grant None small = none IsSmall (there_line name)
+  of_difference allows grant (Some difference) small = one IsSmall (there_line name) (record { allows = allows; grant = grant; difference = difference }) small
 
-  of_otherwise : (other : Option Otherwise) → IsSmall other → AreTold (standing_otherwise name other)
-  of_otherwise None small = none
+  of_otherwise : (other : Option Otherwise) → IsSmallIf other → AreOf IsSmall (there_line name) (standing_otherwise name other)
+  of_otherwise None small = none IsSmall (there_line name)
   of_otherwise (Some o) small =
       let front : List ℕ = quoted name ++ codes ": " in
-      both (difference_line front o.allows o.grant o.by_grant) (difference_line front o.allows o.grant o.by_access)
+      both IsSmall (there_line name) (difference_line front o.allows o.grant o.by_grant) (difference_line front o.allows o.grant o.by_access)
       (of_difference o.allows o.grant o.by_grant small) (of_difference o.allows o.grant o.by_access small)
 
-  of_standing : (telling : Telling) (w : Wanted) (attr : Option Attr) (standing : Standing) (other : Option Otherwise) → telling ≢ Object → HasNumber w.access → HasGrantIf standing → IsSmall other
+  of_judged : (w : Wanted) (standing : Standing) (text : List ℕ) → HasNumber w.access → HasGrantIf standing → AreOf IsSmall (there_line name) text → AreTold (standing_line name w.access w.path standing ++ text)
+  of_judged w standing text number grant others =
+      let told : Told = judged name w standing others.0 in
+      same_as (standing_line name w.access w.path standing ++ text) (told_lines told) (ap (λ (r : List ℕ). standing_line name w.access w.path standing ++ r) others.2) (one HasNumbers told_lines told (number, grant, others.1))
+
+  of_standing : (telling : Telling) (w : Wanted) (attr : Option Attr) (standing : Standing) (other : Option Otherwise) → telling ≢ Object → HasNumber w.access → HasGrantIf standing → IsSmallIf other
       → AreTold (standing_in telling name w attr standing other)
-  of_standing Line w attr standing other lines number grant small = one (judged name w standing) (number, grant)
-  of_standing More w attr standing other lines number grant small =
-      both (standing_line name w.access w.path standing) (standing_otherwise name other) (one (judged name w standing) (number, grant)) (of_otherwise other small)
+  of_standing Line w attr standing other lines number grant small =
+      let line : List ℕ = standing_line name w.access w.path standing in
+      same_as line (line ++ []) (sym (append-nil line)) (of_judged w standing [] number grant (none IsSmall (there_line name)))
+  of_standing More w attr standing other lines number grant small = of_judged w standing (standing_otherwise name other) number grant (of_otherwise other small)
   of_standing Object w attr standing other lines number grant small = absurd (lines refl)
 
   of_fault : (telling : Telling) (w : Wanted) (attr : Option Attr) (fault : SpecFault) → telling ≢ Object → fault.at < 2 ^ 64 → AreTold (unread_in telling name w attr fault)
-  of_fault Line w attr fault lines small = one (unread name fault) small
-  of_fault More w attr fault lines small = one (unread name fault) small
+  of_fault Line w attr fault lines small = one HasNumbers told_lines (unread name fault) small
+  of_fault More w attr fault lines small = one HasNumbers told_lines (unread name fault) small
   of_fault Object w attr fault lines small = absurd (lines refl)
 
 first : (Does Not : Grant → Type 0) (grants : List Grant) (number : ℕ) → length grants ≤ 16 → IsFirst Does Not grants number → number < 2 ^ 32
@@ -280,7 +388,7 @@ module _ (telling : Telling) (w : Wanted) (attr : Option Attr) (lines : telling 
   small_standing None grants (Depends grant) few is = first _ _ grants grant few is.0
   small_standing None grants (Denied rules) few is = tt
 
-  small_other : (grants : List Grant) (other : Option Otherwise) → length grants ≤ 16 → AnswersOtherwise w attr grants other → IsSmall other
+  small_other : (grants : List Grant) (other : Option Otherwise) → length grants ≤ 16 → AnswersOtherwise w attr grants other → IsSmallIf other
   small_other grants None few is = tt
   small_other grants (Some o) few is = first _ _ grants o.grant few is.first
 
@@ -293,10 +401,10 @@ module _ (telling : Telling) (w : Wanted) (attr : Option Attr) (lines : telling 
       same_as line (unread_in telling name w attr is.fault) is.line_is (of_fault name telling w attr is.fault lines (omega (arith, short, ap (λ (f : SpecFault). f.at) is.first.2)))
 
   of_clients : (es : List Named) (text : List ℕ) → All HasLength es → AreLines telling w attr es text → AreTold text
-  of_clients es text short no_more = none
-  of_clients (e ∷ es) text short (client line rest is says more) = both line rest (of_client e.name e.caps line (All-head HasLength e es short) says) (of_clients es rest (All-tail HasLength e es short) more)
+  of_clients es text short no_more = none HasNumbers told_lines
+  of_clients (e ∷ es) text short (client line rest is says more) = both HasNumbers told_lines line rest (of_client e.name e.caps line (All-head HasLength e es short) says) (of_clients es rest (All-tail HasLength e es short) more)
   of_clients (e ∷ es) text short (another is more) = of_clients es text (All-tail HasLength e es short) more
 
 pub each_has_its_lines : (telling : Telling) (w : Wanted) (attr : Option Attr) (es : List Named) (text : List ℕ) → telling ≢ Object → HasNumber w.access → All HasLength es → AreLines telling w attr es text
-    → (xs : List Told) × All HasLine xs × (text ≡ flat_map told_line xs)
+    → (xs : List Told) × All HasNumbers xs × (text ≡ flat_map told_lines xs)
 each_has_its_lines telling w attr es text lines number short are = of_clients telling w attr lines number es text short are
