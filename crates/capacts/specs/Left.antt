@@ -8,15 +8,13 @@ use Rattle.caprules.specs.Capevents.declared.outcome.Ended.{Ended}
 use Rattle.caprules.specs.Capnotes.Untold.{is_to}
 use Rattle.caprules.specs.Serving.{dropped_of}
 use Rattle.capacts.specs.declared.leaving.Turn.{Turn}
-use Rattle.capacts.specs.declared.leaving.Turn.TheVariants.{Close, Stale, Renew, Regrant, Evict}
+use Rattle.capacts.specs.declared.leaving.Turn.TheVariants.{Close, Evict}
 
 -- the session ends
 abbrev pub is_end : Turn → Bool
 is_end Close = true
-is_end Stale = false
-is_end Renew = false
-is_end (Regrant grants) = false
 is_end Evict = true
+is_end turn = false
 
 -- ---- what is left, where the session ends or does not
 

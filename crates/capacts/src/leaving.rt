@@ -13,16 +13,15 @@ use crate::known::Known;
 use capbits::ClientId;
 use caprules::{Ended, Locks, Messages, Outcome, Scene};
 use capspec::Grants;
+use sessiontab::Status;
 
 /// What becomes of a client's session.
 #[derive(Clone, Copy)]
 pub enum Turn<'a> {
     /// The client ends it.
     Close,
-    /// It is stale.
-    Stale,
-    /// It is open again.
-    Renew,
+    /// It has this status in place of the one that it had.
+    Mark(Status),
     /// It has these grants in place of those that it had.
     Regrant(&'a Grants),
     /// The client is thrown out.
@@ -55,7 +54,7 @@ pub fn leave(
             messages.remove_to(client);
             drop_requests(&mut scene.locks, client, dropped);
         }
-        Turn::Stale | Turn::Renew | Turn::Regrant(_) => {}
+        Turn::Mark(_) | Turn::Regrant(_) => {}
     }
 }
 

@@ -25,7 +25,7 @@ use Rattle.capsteps.proofs.Lockmachine.Queue.{without_requests_of-kept}
 use Rattle.capsteps.proofs.Lockmachine.SameOutside.{rest-outside}
 use Rattle.capsteps.specs.Capnotes.InoSets.{InoSet}
 use Rattle.capsteps.specs.Capacts.declared.leaving.Turn.{Turn}
-use Rattle.capsteps.specs.Capacts.declared.leaving.Turn.TheVariants.{Close, Stale, Renew, Regrant, Evict}
+use Rattle.capsteps.specs.Capacts.declared.leaving.Turn.TheVariants.{Close, Mark, Regrant, Evict}
 use Rattle.capsteps.specs.Capevents.declared.event.Event.{Event}
 use Rattle.capsteps.specs.Capevents.declared.outcome.Ended.{Ended}
 use Rattle.capsteps.specs.Capevents.declared.reply.Reply.TheVariants as reply
@@ -57,8 +57,7 @@ use Rattle.capcore.proofs.Turned.{turn_direct, direct-turned, turned-touches, tu
 
 before-turn : (s : Scene) (client : ClientId) (turn : Turn) → judged s (turn_event client turn) ≡ stop s (turn_tests s.sessions client turn) [] []
 before-turn s client Close = refl
-before-turn s client Stale = refl
-before-turn s client Renew = refl
+before-turn s client (Mark status) = refl
 before-turn s client (Regrant grants) = refl
 before-turn s client Evict = refl
 

@@ -1,4 +1,4 @@
--- A client's session ends, is stale, open again or has other grants, by itself: it touches the inodes where the client is.
+-- A client's session ends, is marked or has other grants, by itself: it touches the inodes where the client is.
 use Rattle.std.proofs.Common.{◌≡◌, ◌≢◌, ◌≤◌, ℕ, zero, suc, ◌==◌, Bool, true, false, not, cond, Option, Some, None, is_some, List, [], ◌∷◌, refl, sym, ap, subst, ◌∙◌, Contains, true≢false, arith, eq-eqb}
 use Rattle.std.specs.Prelude.{IsTrue, All, filter}
 use Rattle.std.specs.Cmp.{nat_cmp_total}
@@ -11,7 +11,6 @@ use Rattle.capbits.specs.declared.cap.Part.{Part}
 use Rattle.capbits.specs.declared.ids.ClientId.{ClientId}
 use Rattle.capbits.specs.declared.ids.Ino.{Ino}
 use Rattle.sessiontab.specs.declared.session.Session.{Session}
-use Rattle.sessiontab.specs.declared.session.Status.TheVariants as status
 use Rattle.sessiontab.specs.Connected.{SessionMap, change_session}
 use Rattle.sessiontab.specs.Table.{SessionTable}
 use Rattle.sessiontab.specs.Calls.{has_session}
@@ -32,7 +31,7 @@ use Rattle.capsteps.proofs.Lockmachine.PolicyElsewhere.{alike-itself}
 use Rattle.capsteps.proofs.Lockmachine.Finding.{contains-filter, fails_at, find_none}
 use Rattle.capsteps.proofs.Lockmachine.SameOutside.{outside-itself, outside-then, outside-dropped}
 use Rattle.capsteps.specs.Capacts.declared.leaving.Turn.{Turn}
-use Rattle.capsteps.specs.Capacts.declared.leaving.Turn.TheVariants.{Close, Stale, Renew, Regrant, Evict}
+use Rattle.capsteps.specs.Capacts.declared.leaving.Turn.TheVariants.{Close, Mark, Regrant, Evict}
 use Rattle.capsteps.specs.Capevents.declared.reply.Reply.TheVariants as reply
 use Rattle.capsteps.specs.Caprules.State.{State}
 use Rattle.capsteps.specs.Caprules.Direct.{Direct, Says, direct, effect, effect_unless}
@@ -52,8 +51,7 @@ turn_direct old client turn = record { state = turned old client turn; answer = 
 
 effect-turned : (old : State) (client : ClientId) (turn : Turn) → effect old (turn_event client turn) ≡ turn_direct old client turn
 effect-turned old client Close = refl
-effect-turned old client Stale = refl
-effect-turned old client Renew = refl
+effect-turned old client (Mark status) = refl
 effect-turned old client (Regrant grants) = refl
 effect-turned old client Evict = refl
 
@@ -96,16 +94,14 @@ module _ (sessions : SessionMap) (client other : ℕ) where
 
 pub turned-other : (t : SessionTable) (client : ClientId) (turn : Turn) (other : ℕ) → other ≢ client.0 → map.get (turned_sessions t client turn).sessions other ≡ map.get t.sessions other
 turned-other t client Close other off = removed-other t.sessions client.0 other off
-turned-other t client Stale other off = changed-other t.sessions client.0 other (λ session. record session { status = status.Stale }) off
-turned-other t client Renew other off = changed-other t.sessions client.0 other (λ session. record session { status = status.Open }) off
+turned-other t client (Mark status) other off = changed-other t.sessions client.0 other (λ session. record session { status = status }) off
 turned-other t client (Regrant grants) other off = changed-other t.sessions client.0 other (λ session. record session { grants = grants.now }) off
 turned-other t client Evict other off = removed-other t.sessions client.0 other off
 
 -- where the session does not end, it is there
 turned-has : (t : SessionTable) (client : ClientId) (turn : Turn) (other : ℕ) → is_end turn ≡ false → has_session (turned_sessions t client turn) other ≡ has_session t other
 turned-has t client Close other still = absurd (true≢false still)
-turned-has t client Stale other still = changed-has t.sessions client.0 other (λ session. record session { status = status.Stale })
-turned-has t client Renew other still = changed-has t.sessions client.0 other (λ session. record session { status = status.Open })
+turned-has t client (Mark status) other still = changed-has t.sessions client.0 other (λ session. record session { status = status })
 turned-has t client (Regrant grants) other still = changed-has t.sessions client.0 other (λ session. record session { grants = grants.now })
 turned-has t client Evict other still = absurd (true≢false still)
 

@@ -1,4 +1,4 @@
-//! Steps by which a client's session ends, becomes stale, is open again or has other grants.
+//! Steps by which a client's session ends, is marked or has other grants.
 ghost use Rattle.std.specs.Prelude.{◌≡◌, IfOk, OnErr};
 ghost use Rattle.inotree.specs.Tree.{IsTree};
 ghost use Rattle.captable.specs.Table.{IsTable};

@@ -160,8 +160,7 @@ impl World {
             } => self.flush(*client, *ino, change),
             Event::Poll { client, max } => self.poll(*client, *max),
             Event::CloseSession { client } => self.turn(*client, Turn::Close),
-            Event::Stale { client } => self.turn(*client, Turn::Stale),
-            Event::Renew { client } => self.turn(*client, Turn::Renew),
+            Event::Mark { client, status } => self.turn(*client, Turn::Mark(*status)),
             Event::Regrant { client, grants } => self.turn(*client, Turn::Regrant(grants)),
             Event::Evict { client } => self.turn(*client, Turn::Evict),
             Event::Recall { count } => self.recall(*count),
@@ -313,8 +312,7 @@ impl World {
                 self.remove_snapshot(*client, *ino, name.as_slice())
             }
             Event::CloseSession { .. }
-            | Event::Stale { .. }
-            | Event::Renew { .. }
+            | Event::Mark { .. }
             | Event::Regrant { .. }
             | Event::Evict { .. }
             | Event::Recall { .. }

@@ -3,6 +3,7 @@
 use capbits::{Caller, CapSet, ClientId, Ino, Mode, Part};
 use capspec::Grants;
 use lockmachine::{Bytes, Change};
+use sessiontab::Status;
 use std::fmt;
 
 /// What a client opens an inode for.
@@ -33,16 +34,13 @@ pub enum Event {
         /// The client.
         client: ClientId,
     },
-    /// A client has not been heard of for too long: its session is stale. What it holds it still holds, but what it wants
-    /// counts no more.
-    Stale {
+    /// A client's session has another status: it is stale, as the client was not heard of for too long, or open again. What
+    /// the client holds it still holds, but what it wants counts only while the session is open.
+    Mark {
         /// The client.
         client: ClientId,
-    },
-    /// A client whose session was stale was heard of: its session is open again, and what it wants counts.
-    Renew {
-        /// The client.
-        client: ClientId,
+        /// What its session is from now on.
+        status: Status,
     },
     /// An administrator replaces the grants of a client, whose session is open or stale and goes on. All is decided by
     /// the new grants from now on: what it holds and they do not permit is being revoked.
@@ -225,8 +223,10 @@ impl Drop for Event {
                 grants: _,
             } => {}
             Event::CloseSession { client: _ } => {}
-            Event::Stale { client: _ } => {}
-            Event::Renew { client: _ } => {}
+            Event::Mark {
+                client: _,
+                status: _,
+            } => {}
             Event::Regrant {
                 client: _,
                 grants: _,

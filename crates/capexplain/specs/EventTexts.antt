@@ -59,8 +59,7 @@ arguments_text (event.Session client caller grants) =
     codes " " ++ decimal client.0 ++ codes " " ++ decimal caller.uid ++ codes " " ++ decimal caller.gid ++ codes " "
     ++ groups_text caller.groups ++ codes " " ++ grants_text grants
 arguments_text (event.CloseSession client) = codes " " ++ decimal client.0
-arguments_text (event.Stale client) = codes " " ++ decimal client.0
-arguments_text (event.Renew client) = codes " " ++ decimal client.0
+arguments_text (event.Mark client status) = codes " " ++ decimal client.0
 arguments_text (event.Regrant client grants) = codes " " ++ decimal client.0 ++ codes " " ++ grants_text grants
 arguments_text (event.Evict client) = codes " " ++ decimal client.0
 arguments_text (event.Unblock client) = codes " " ++ decimal client.0

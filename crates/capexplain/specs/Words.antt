@@ -1,13 +1,14 @@
 -- The words of lines.
-use Rattle.std.specs.Prelude.{ℕ, List, codes}
+use Rattle.std.specs.Prelude.{ℕ, Option, List, [], ◌∷◌, codes, find, bytes_eq}
 use Rattle.capbits.specs.declared.cap.Part.{Part}
 use Rattle.capbits.specs.declared.cap.Part.TheVariants.{A, L, X, F}
+use Rattle.sessiontab.specs.declared.session.Status.TheVariants as status
 use Rattle.capevents.specs.declared.event.Event.{Event}
 use Rattle.capevents.specs.declared.event.Event.TheVariants as event
 use Rattle.capevents.specs.declared.event.OpenMode.{OpenMode}
 use Rattle.capevents.specs.declared.event.OpenMode.TheVariants as opening
 use Rattle.capexplain.specs.declared.command.Command.{Command}
-use Rattle.capexplain.specs.declared.command.Command.TheVariants.{Session, CloseSession, Stale, Renew, Regrant, Evict, Unblock, Recall, Lookup, Create, Mkdir, MakeSnapshot, RemoveSnapshot, Open, Want, Ack, Release, Get, Alter, Unlink, Rmdir, Rename, Flush, Poll}
+use Rattle.capexplain.specs.declared.command.Command.TheVariants.{Session, CloseSession, Mark, Regrant, Evict, Unblock, Recall, Lookup, Create, Mkdir, MakeSnapshot, RemoveSnapshot, Open, Want, Ack, Release, Get, Alter, Unlink, Rmdir, Rename, Flush, Poll}
 use Rattle.capexplain.specs.declared.change_word.ChangeWord.{ChangeWord}
 use Rattle.capexplain.specs.declared.change_word.ChangeWord.TheVariants as words
 
@@ -15,8 +16,8 @@ use Rattle.capexplain.specs.declared.change_word.ChangeWord.TheVariants as words
 abbrev pub command_word : Command → List ℕ
 command_word Session = codes "session"
 command_word CloseSession = codes "close"
-command_word Stale = codes "stale"
-command_word Renew = codes "renew"
+command_word (Mark status.Stale) = codes "stale"
+command_word (Mark status.Open) = codes "renew"
 command_word Regrant = codes "regrant"
 command_word Evict = codes "evict"
 command_word Unblock = codes "unblock"
@@ -38,12 +39,22 @@ command_word Rename = codes "rename"
 command_word Flush = codes "flush"
 command_word Poll = codes "poll"
 
+-- those that come most often stand first
+abbrev pub commands : List Command
+commands =
+    Open ∷ Want ∷ Ack ∷ Release ∷ Lookup ∷ Get ∷ Alter ∷ Poll ∷ Create
+    ∷ Flush ∷ Unlink ∷ Rename ∷ Mkdir ∷ Rmdir ∷ Recall ∷ Session ∷ CloseSession ∷ Mark status.Stale
+    ∷ Mark status.Open ∷ Regrant ∷ Evict ∷ Unblock ∷ MakeSnapshot ∷ RemoveSnapshot ∷ []
+
+-- the command that a word is
+abbrev pub command_by : List ℕ → Option Command
+command_by word = find (λ command. bytes_eq word (command_word command)) commands
+
 -- the command of the line that says the event
 abbrev pub command_of : Event → Command
 command_of (event.Session client caller grants) = Session
 command_of (event.CloseSession client) = CloseSession
-command_of (event.Stale client) = Stale
-command_of (event.Renew client) = Renew
+command_of (event.Mark client status) = Mark status
 command_of (event.Regrant client grants) = Regrant
 command_of (event.Evict client) = Evict
 command_of (event.Unblock client) = Unblock

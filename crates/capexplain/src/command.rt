@@ -1,8 +1,9 @@
 //! The words that lines begin with.
 ghost use Rattle.std.specs.Prelude.{◌≡◌};
-ghost use Rattle.capexplain.specs.Words.{command_of, command_word};
+ghost use Rattle.capexplain.specs.Words.{command_by, command_of, command_word};
 
 use capevents::Event;
+use sessiontab::Status;
 
 /// What a line says, by its first word.
 #[derive(Clone, Copy)]
@@ -11,10 +12,8 @@ pub enum Command {
     Session,
     /// A client ends its session.
     CloseSession,
-    /// A client's session is stale.
-    Stale,
-    /// A client's session is open again.
-    Renew,
+    /// A client's session has another status.
+    Mark(Status),
     /// A client's grants are replaced.
     Regrant,
     /// A client is thrown out.
@@ -57,7 +56,45 @@ pub enum Command {
     Poll,
 }
 
+// Those that come most often stand first, since they are searched for in this order.
+const COMMANDS: [Command; 24] = [
+    Command::Open,
+    Command::Want,
+    Command::Ack,
+    Command::Release,
+    Command::Lookup,
+    Command::Get,
+    Command::Alter,
+    Command::Poll,
+    Command::Create,
+    Command::Flush,
+    Command::Unlink,
+    Command::Rename,
+    Command::Mkdir,
+    Command::Rmdir,
+    Command::Recall,
+    Command::Session,
+    Command::CloseSession,
+    Command::Mark(Status::Stale),
+    Command::Mark(Status::Open),
+    Command::Regrant,
+    Command::Evict,
+    Command::Unblock,
+    Command::MakeSnapshot,
+    Command::RemoveSnapshot,
+];
+
 impl Command {
+    /// That which the word is.
+    pub fn by_word(word: &[u8]) -> Option<Command>
+        ensures { result ≡ command_by word.now }
+    {
+        COMMANDS
+            .iter()
+            .copied()
+            .find(|command| word == command.word().as_bytes())
+    }
+
     /// That of the line which says the event.
     pub fn of(event: &Event) -> Command
         ensures { result ≡ command_of event.now }
@@ -65,8 +102,7 @@ impl Command {
         match event {
             Event::Session { .. } => Command::Session,
             Event::CloseSession { .. } => Command::CloseSession,
-            Event::Stale { .. } => Command::Stale,
-            Event::Renew { .. } => Command::Renew,
+            Event::Mark { status, .. } => Command::Mark(*status),
             Event::Regrant { .. } => Command::Regrant,
             Event::Evict { .. } => Command::Evict,
             Event::Unblock { .. } => Command::Unblock,
@@ -97,8 +133,8 @@ impl Command {
         match self {
             Command::Session => "session",
             Command::CloseSession => "close",
-            Command::Stale => "stale",
-            Command::Renew => "renew",
+            Command::Mark(Status::Stale) => "stale",
+            Command::Mark(Status::Open) => "renew",
             Command::Regrant => "regrant",
             Command::Evict => "evict",
             Command::Unblock => "unblock",

@@ -46,8 +46,7 @@ fn print_arguments(text: &mut Vec<u8>, event: &Event) -> Result<(), AllocError>
             grants,
         } => print_session(text, *client, caller, grants),
         Event::CloseSession { client }
-        | Event::Stale { client }
-        | Event::Renew { client }
+        | Event::Mark { client, .. }
         | Event::Evict { client }
         | Event::Unblock { client } => print_numbers(text, &[u64::from(client.0)]),
         Event::Regrant { client, grants } => print_regrant(text, *client, grants),

@@ -14,21 +14,21 @@ use Rattle.capexplain.specs.Capevents.declared.event.Event.{Event}
 use Rattle.capexplain.specs.Capevents.declared.event.Event.TheVariants as events
 use Rattle.capexplain.specs.declared.change_word.ChangeWord.{ChangeWord}
 use Rattle.capexplain.specs.declared.change_word.ChangeWord.TheVariants as words
+use Rattle.capexplain.specs.Words.{command_by}
 use Rattle.capexplain.specs.declared.command.Command.{Command}
 use Rattle.capexplain.specs.declared.command.Command.TheVariants as commands
 use Rattle.caplines.specs.declared.fault.LineFault.{LineFault}
 use Rattle.caplines.specs.declared.fault.LineFault.TheVariants as faults
 use Rattle.caplines.specs.Changes.{change_kind, is_counted}
 use Rattle.caplines.specs.Lines.{is_skipped, longest_line}
-use Rattle.caplines.specs.Values.{number_below, number_in, client_in, ino_in, seq_in, mode_in, open_mode_in, part_in, bytes_in, groups_in, Spells}
-use Rattle.caplines.specs.Words.{parts, spaced, command_in}
+use Rattle.caplines.specs.Values.{number_below, number_in, client_in, only_client, ino_in, seq_in, mode_in, open_mode_in, part_in, bytes_in, groups_in, Spells}
+use Rattle.caplines.specs.Words.{parts, spaced}
 
 -- the client that the event is about; a recall is about none
 abbrev pub client_of : Event → Option ClientId
 client_of (events.Session client caller grants) = Some client
 client_of (events.CloseSession client) = Some client
-client_of (events.Stale client) = Some client
-client_of (events.Renew client) = Some client
+client_of (events.Mark client status) = Some client
 client_of (events.Regrant client grants) = Some client
 client_of (events.Evict client) = Some client
 client_of (events.Unblock client) = Some client
@@ -105,10 +105,9 @@ regrant_by arguments = Faulty faults.Count
 
 -- a client
 abbrev pub client_by : (ClientId → Event) → List (List ℕ) → Line
-client_by event (client_word ∷ []) = do
-  client ← client_in client_word
+client_by event arguments = do
+  client ← only_client arguments
   Says (event client)
-client_by event arguments = Faulty faults.Count
 
 -- how many entries are asked for, at most
 abbrev pub recall_by : List (List ℕ) → Line
@@ -227,8 +226,7 @@ poll_by arguments = Faulty faults.Count
 abbrev pub said_with : Command → List (List ℕ) → Line
 said_with commands.Session arguments = session_by arguments
 said_with commands.CloseSession arguments = client_by events.CloseSession arguments
-said_with commands.Stale arguments = client_by events.Stale arguments
-said_with commands.Renew arguments = client_by events.Renew arguments
+said_with (commands.Mark status) arguments = client_by (λ client. events.Mark client status) arguments
 said_with commands.Regrant arguments = regrant_by arguments
 said_with commands.Evict arguments = client_by events.Evict arguments
 said_with commands.Unblock arguments = client_by events.Unblock arguments
@@ -254,7 +252,7 @@ said_with commands.Poll arguments = poll_by arguments
 abbrev pub said_by : ℕ → List (List ℕ) → Line
 said_by size [] = Faulty faults.Command
 said_by size (word ∷ arguments) = do
-  command ← command_in word
+  command ← ok_or (command_by word) faults.Command
   if nat_le size longest_line then said_with command arguments else Faulty faults.Count
 
 -- what a line says that is not skipped

@@ -41,6 +41,11 @@ client_in word = do
   number ← number_in word
   Ok (record { 0 = number })
 
+-- the client, where there is no other word
+abbrev pub only_client : List (List ℕ) → Result ClientId LineFault
+only_client (word ∷ []) = client_in word
+only_client words = Err faults.Count
+
 abbrev pub ino_in : List ℕ → Result Ino LineFault
 ino_in word = do
   number ← number_below (2 ^ 64) word

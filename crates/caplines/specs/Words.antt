@@ -1,12 +1,6 @@
 -- The words of a line, and what the first of them says.
-use Rattle.std.specs.Prelude.{◌==◌, not, ℕ, Bool, Result, List, [], ◌∷◌, drop, find, bytes_eq}
+use Rattle.std.specs.Prelude.{◌==◌, not, ℕ, Bool, List, [], ◌∷◌, drop}
 use Rattle.std.specs.List.{list_all, slice_split, join_with_byte}
-use Rattle.std.specs.Option.{ok_or}
-use Rattle.capexplain.specs.declared.command.Command.{Command}
-use Rattle.capexplain.specs.declared.command.Command.TheVariants.{Session, CloseSession, Stale, Renew, Regrant, Evict, Unblock, Recall, Lookup, Create, Mkdir, MakeSnapshot, RemoveSnapshot, Open, Want, Ack, Release, Get, Alter, Unlink, Rmdir, Rename, Flush, Poll}
-use Rattle.capexplain.specs.Words.{command_word}
-use Rattle.caplines.specs.declared.fault.LineFault.{LineFault}
-use Rattle.caplines.specs.declared.fault.LineFault.TheVariants as faults
 
 abbrev pub is_space : ℕ → Bool
 is_space b = b == 32
@@ -36,13 +30,3 @@ arguments_in text = drop 1 (parts text)
 -- The part is one word. The last part of a line with more words than parts has a space.
 abbrev pub is_one_word : List ℕ → Bool
 is_one_word part = list_all (λ b. not (is_space b)) part
-
-abbrev pub commands : List Command
-commands =
-    Open ∷ Want ∷ Ack ∷ Release ∷ Lookup ∷ Get ∷ Alter ∷ Poll ∷ Create
-    ∷ Flush ∷ Unlink ∷ Rename ∷ Mkdir ∷ Rmdir ∷ Recall ∷ Session ∷ CloseSession ∷ Stale
-    ∷ Renew ∷ Regrant ∷ Evict ∷ Unblock ∷ MakeSnapshot ∷ RemoveSnapshot ∷ []
-
--- the command that a word is
-abbrev pub command_in : List ℕ → Result Command LineFault
-command_in word = ok_or (find (λ command. bytes_eq word (command_word command)) commands) faults.Command

@@ -8,7 +8,6 @@ ghost use Rattle.caplines.specs.Events.{Tells, said_in, said_with, session_by, r
 ghost use Rattle.caplines.specs.Faults.{IsRefused};
 ghost use Rattle.caplines.specs.Words.{arguments_in};
 
-use crate::command::read_command;
 use crate::entry_event::{EntryCaps, read_ack, read_entry_caps, read_open, read_poll};
 use crate::fault::{LineFault, Refused};
 use crate::inode_event::{
@@ -48,7 +47,7 @@ pub(crate) fn read_event(alloc: Global, text: &[u8]) -> Result<Event, Refused>
     let Some((first, arguments)) = words.as_slice().split_first() else {
         return Err(Refused::Wrong(LineFault::Command));
     };
-    let command = read_command(first)?;
+    let command = Command::by_word(first).ok_or(LineFault::Command)?;
     if text.len() > MAX_LINE {
         return Err(Refused::Wrong(LineFault::Count));
     }
@@ -72,13 +71,9 @@ fn read_arguments(
             let client = read_only_client(arguments)?;
             Ok(Event::CloseSession { client })
         }
-        Command::Stale => {
+        Command::Mark(status) => {
             let client = read_only_client(arguments)?;
-            Ok(Event::Stale { client })
-        }
-        Command::Renew => {
-            let client = read_only_client(arguments)?;
-            Ok(Event::Renew { client })
+            Ok(Event::Mark { client, status })
         }
         Command::Regrant => read_regrant(alloc, text),
         Command::Evict => {

@@ -2,7 +2,6 @@
 #![tactic(auto)]
 
 mod change;
-mod command;
 mod entry_event;
 mod event;
 mod fault;

@@ -74,8 +74,7 @@ fn client_of(event: &Event) -> Option<ClientId>
         Event::Recall { .. } => None,
         Event::Session { client, .. }
         | Event::CloseSession { client }
-        | Event::Stale { client }
-        | Event::Renew { client }
+        | Event::Mark { client, .. }
         | Event::Regrant { client, .. }
         | Event::Evict { client }
         | Event::Unblock { client }

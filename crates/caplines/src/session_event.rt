@@ -1,9 +1,8 @@
 //! The events that are about a client alone, or about none.
-ghost use Rattle.std.specs.Prelude.{map, MatchResult};
-ghost use Rattle.capbits.specs.declared.ids.ClientId.{ClientId as AClient};
-ghost use Rattle.capexplain.specs.Capevents.declared.event.Event.{Event as AnEvent};
-ghost use Rattle.caplines.specs.Events.{Tells, client_by, recall_by};
+ghost use Rattle.std.specs.Prelude.{◌≡◌, map, MatchResult};
+ghost use Rattle.caplines.specs.Events.{Tells, recall_by};
 ghost use Rattle.caplines.specs.Faults.{IsRefused};
+ghost use Rattle.caplines.specs.Values.{only_client};
 
 use crate::fault::{LineFault, Refused};
 use crate::values::{read_client, read_number};
@@ -22,14 +21,12 @@ pub(crate) fn read_recall(arguments: &[&[u8]]) -> Result<Event, Refused>
     Ok(Event::Recall { count })
 }
 
-// A client, whichever event it is said for.
-pub(crate) fn read_only_client(arguments: &[&[u8]]) -> Result<ClientId, Refused>
-    ensures { (event : AClient → AnEvent)
-        → let said = client_by event (map (λ word. word.now) arguments.now) in
-        MatchResult result (λ client. Tells said (event client)) (IsRefused said) }
+// A client alone.
+pub(crate) fn read_only_client(arguments: &[&[u8]]) -> Result<ClientId, LineFault>
+    ensures { result ≡ only_client (map (λ word. word.now) arguments.now) }
 {
     let [client] = arguments else {
-        return Err(Refused::Wrong(LineFault::Count));
+        return Err(LineFault::Count);
     };
-    Ok(read_client(client)?)
+    read_client(client)
 }

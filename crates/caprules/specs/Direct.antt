@@ -16,7 +16,6 @@ use Rattle.inotree.specs.Inodes.{with_snapshot, without_snapshot}
 use Rattle.inotree.specs.Tree.{Nodes, child}
 use Rattle.inotree.specs.Calls.{with_new, changed}
 use Rattle.sessiontab.specs.declared.session.Session.{Session}
-use Rattle.sessiontab.specs.declared.session.Status.TheVariants as status
 use Rattle.sessiontab.specs.Table.{SessionTable}
 use Rattle.sessiontab.specs.Calls.{with_session, without_session, with_status, with_grants, with_evicted, without_blocked}
 use Rattle.captable.specs.declared.entry.Holder.{Holder}
@@ -196,8 +195,7 @@ abbrev pub effect : State → Event → Direct
 effect s (event.Session client caller grants) =
     says (with_scene s (record s.scene { sessions = with_session s.scene.sessions client.0 caller grants })) reply.Done
 effect s (event.CloseSession client) = ends s client (without_session s.scene.sessions client.0)
-effect s (event.Stale client) = says (with_sessions s (with_status s.scene.sessions client.0 status.Stale)) reply.Done
-effect s (event.Renew client) = says (with_sessions s (with_status s.scene.sessions client.0 status.Open)) reply.Done
+effect s (event.Mark client status) = says (with_sessions s (with_status s.scene.sessions client.0 status)) reply.Done
 effect s (event.Regrant client grants) = says (with_sessions s (with_grants s.scene.sessions client.0 grants)) reply.Done
 effect s (event.Evict client) = ends s client (with_evicted s.scene.sessions client.0)
 effect s (event.Unblock client) =

@@ -10,7 +10,7 @@ use Rattle.capgrant.specs.declared.access.Access.{Access}
 use Rattle.capgrant.specs.declared.access.Access.TheVariants.{Read, Write, Snapshot}
 use Rattle.capbits.specs.Refusal.{Test, first_failing}
 use Rattle.sessiontab.specs.Table.{SessionTable}
-use Rattle.sessiontab.specs.Tests.{connected_test, session_tests, stale_tests, new_session_tests, evict_tests, blocked_test}
+use Rattle.sessiontab.specs.Tests.{connected_test, session_tests, mark_tests, new_session_tests, evict_tests, blocked_test}
 use Rattle.inotree.specs.Tree.{Nodes, child}
 use Rattle.inotree.specs.Tests.{known_test, inode_tests, directory_test, file_test, found_test, new_inode_tests, new_snapshot_tests, old_snapshot_tests}
 use Rattle.captable.specs.declared.entry.Holder.{Holder}
@@ -113,8 +113,7 @@ request_tests s client ino ask = record {
 abbrev pub tests_of : Scene → Event → Tests
 tests_of s (event.Session client caller grants) = without_policy (new_session_tests s.sessions client.0)
 tests_of s (event.CloseSession client) = without_policy (connected_test s.sessions client.0 ∷ [])
-tests_of s (event.Stale client) = without_policy (session_tests s.sessions client.0)
-tests_of s (event.Renew client) = without_policy (stale_tests s.sessions client.0)
+tests_of s (event.Mark client status) = without_policy (mark_tests s.sessions client.0 status)
 tests_of s (event.Regrant client grants) = without_policy (connected_test s.sessions client.0 ∷ [])
 tests_of s (event.Evict client) = without_policy (evict_tests s.sessions client.0)
 tests_of s (event.Unblock client) = without_policy (blocked_test s.sessions client.0 ∷ [])

@@ -5,7 +5,6 @@ use Rattle.capbits.specs.declared.ids.ClientId.{ClientId}
 use Rattle.capspec.specs.declared.grant.Grant.{Grant}
 use Rattle.inotree.specs.Tree.{Nodes}
 use Rattle.sessiontab.specs.declared.session.Status.{Status}
-use Rattle.sessiontab.specs.declared.session.Status.TheVariants as status
 use Rattle.sessiontab.specs.Calls.{with_status}
 use Rattle.sessiontab.specs.Connected.{SessionMap}
 use Rattle.sessiontab.specs.Table.{SessionTable}
@@ -14,7 +13,7 @@ use Rattle.capacts.specs.Capview.declared.change.ViewChange.TheVariants as chang
 use Rattle.capacts.specs.Capview.Changes.{AreChanges}
 use Rattle.capacts.proofs.Capview.Likeness.{guests-unseen, shows-sessions}
 use Rattle.capacts.specs.declared.leaving.Turn.{Turn}
-use Rattle.capacts.specs.declared.leaving.Turn.TheVariants.{Close, Stale, Renew, Regrant, Evict}
+use Rattle.capacts.specs.declared.leaving.Turn.TheVariants.{Close, Mark, Regrant, Evict}
 use Rattle.capacts.specs.Capnotes.Noted.{view}
 use Rattle.capacts.proofs.Capnotes.Noting.{changes-one, changes-unseen}
 use Rattle.capsteps.specs.Turn.{Notes, turned_sessions}
@@ -32,18 +31,14 @@ module _ (items : List ViewChange) (client : ClientId) (turn : Turn) where
       by sessions (inl e) = ap (λ (t : Turn). (turned_sessions sessions client t).sessions) e
       by sessions (inr e) = ap (λ (t : Turn). (turned_sessions sessions client t).sessions) e
 
-  -- it is stale, or open again, which nobody sees
-  pub notes-status : items ≡ [] → (turn ≡ Stale) ⊎ (turn ≡ Renew) → Notes items client turn
-  notes-status none turns = record { lead = λ tree sessions. by tree sessions turns }
-    where
-      with_state : (tree : Nodes) (sessions : SessionTable) (state : Status) → AreChanges items (view tree sessions.sessions) (view tree (with_status sessions client.0 state).sessions)
-      with_state tree sessions state =
-          changes-unseen items (view tree sessions.sessions) (view tree (with_status sessions client.0 state).sessions) none
-          (shows-sessions tree sessions.sessions (with_status sessions client.0 state).sessions (guests-unseen sessions.sessions (λ session. record session { status = state }) client.0 (λ session. refl)))
-
-      by : (tree : Nodes) (sessions : SessionTable) → (turn ≡ Stale) ⊎ (turn ≡ Renew) → AreChanges items (view tree sessions.sessions) (view tree (turned_sessions sessions client turn).sessions)
-      by tree sessions (inl e) = subst (λ (t : Turn). AreChanges items (view tree sessions.sessions) (view tree (turned_sessions sessions client t).sessions)) (sym e) (with_state tree sessions status.Stale)
-      by tree sessions (inr e) = subst (λ (t : Turn). AreChanges items (view tree sessions.sessions) (view tree (turned_sessions sessions client t).sessions)) (sym e) (with_state tree sessions status.Open)
+  -- it is marked, which nobody sees
+  pub notes-marked : items ≡ [] → (status : Status) → turn ≡ Mark status → Notes items client turn
+  notes-marked none status turns = record {
+    lead = λ tree sessions.
+        subst (λ (t : Turn). AreChanges items (view tree sessions.sessions) (view tree (turned_sessions sessions client t).sessions)) (sym turns)
+        (changes-unseen items (view tree sessions.sessions) (view tree (with_status sessions client.0 status).sessions) none
+        (shows-sessions tree sessions.sessions (with_status sessions client.0 status).sessions (guests-unseen sessions.sessions (λ session. record session { status = status }) client.0 (λ session. refl))));
+  }
 
   -- it has other grants
   pub notes-regranted : (none : List ViewChange) → none ≡ [] → (grants : Bor (List Grant)) → items ≡ none ++ change.Regranted client grants.now ∷ [] → turn ≡ Regrant grants → Notes items client turn

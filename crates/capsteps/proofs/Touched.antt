@@ -22,12 +22,9 @@ use Rattle.capgrant.proofs.Pins.{pin_of_read, pin_of_write}
 use Rattle.inotree.specs.declared.node.Node.{Node}
 use Rattle.inotree.specs.Tree.{place, place_at}
 use Rattle.inotree.specs.Tests.{is_no_ino, inode_tests, file_test}
-use Rattle.sessiontab.specs.declared.session.Session.{Session}
-use Rattle.sessiontab.specs.declared.session.Status.{Status}
-use Rattle.sessiontab.specs.declared.session.Status.TheVariants as status
 use Rattle.sessiontab.specs.Table.{SessionTable}
 use Rattle.sessiontab.specs.Calls.{has_session, status_of}
-use Rattle.sessiontab.specs.Tests.{is_open as is_open_status, is_stale, session_tests}
+use Rattle.sessiontab.specs.Tests.{is_open as is_open_status, session_tests}
 use Rattle.locktable.specs.declared.states.State.{State as LockGoal}
 use Rattle.locktable.specs.declared.states.LockState.{LockState}
 use Rattle.locktable.specs.Rows.{row_of}
@@ -382,14 +379,6 @@ not_false : (b : Bool) → not b ≡ false → b ≡ true
 not_false true is = refl
 not_false false is = sym is
 
-open_session : (o : Option Session) → is_some o ≡ true → is_stale (option_map (λ session. session.status) o) ≡ false → is_open_status (option_map (λ session. session.status) o) ≡ true
-open_session None has not_stale = has
-open_session (Some session) has not_stale = by_status session.status not_stale
-  where
-    by_status : (st : Status) → is_stale (Some st) ≡ false → is_open_status (Some st) ≡ true
-    by_status status.Open fresh = refl
-    by_status status.Stale fresh = sym fresh
-
 there : (o : Option Node) → is_no_ino (place_at (option_map (λ n. n.site) o)) ≡ false → is_some o ≡ true
 there None known = sym known
 there (Some node) known = refl
@@ -403,8 +392,8 @@ module _ (s : Scene) (client : ClientId) (ino : Ino) (asked : first_failing (ask
 
   asked-open : is_open_status (status_of s.sessions client.0) ≡ true
   asked-open =
-      open_session (map.get s.sessions.sessions client.0) asked-session
-      (passed-if (is_stale (status_of s.sessions client.0)) refusal.SessionStale None (passed-if (not (has_session s.sessions client.0)) refusal.NoSession _ both.0).1).0
+      not_false (is_open_status (status_of s.sessions client.0))
+      (passed-if (not (is_open_status (status_of s.sessions client.0))) refusal.SessionStale None (passed-if (not (has_session s.sessions client.0)) refusal.NoSession _ both.0).1).0
 
   pub asked-there : map.contains_key s.tree.nodes ino.0 ≡ true
   asked-there = there (map.get s.tree.nodes ino.0) (passed-if (is_no_ino (place s.tree.nodes ino.0)) refusal.NoIno _ both.1).0

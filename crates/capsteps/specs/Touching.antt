@@ -36,7 +36,7 @@ use Rattle.capacts.specs.Caprules.State.{State}
 pub data Scope : Type 0 where
   -- a new session, a new inode, or what nobody holds
   Alone : Scope
-  -- whose session it ends, makes stale or renews, or whose grants it replaces
+  -- whose session it ends or marks, or whose grants it replaces
   OfClient : ClientId → Scope
   -- who asks, and of which inode, where it is about the entry on it
   OnEntry : Holder → Scope
@@ -48,8 +48,7 @@ pub data Scope : Type 0 where
 abbrev pub scope : Event → Scope
 scope (event.Session client caller grants) = Alone
 scope (event.CloseSession client) = OfClient client
-scope (event.Stale client) = OfClient client
-scope (event.Renew client) = OfClient client
+scope (event.Mark client status) = OfClient client
 scope (event.Regrant client grants) = OfClient client
 scope (event.Evict client) = OfClient client
 scope (event.Unblock client) = Alone
@@ -89,7 +88,7 @@ turned_in (OnEntry k) = None
 turned_in (Waiting k ask) = None
 turned_in Listing = None
 
--- whose session an event ends, makes stale or renews, or whose grants it replaces
+-- whose session an event ends or marks, or whose grants it replaces
 abbrev pub turned_by : Event → Option ClientId
 turned_by e = turned_in (scope e)
 

@@ -4,10 +4,9 @@ use Rattle.std.specs.FinSet as set
 use Rattle.capbits.specs.declared.ids.ClientId.{ClientId}
 use Rattle.capbits.specs.Refusal.{Test}
 use Rattle.inotree.specs.Tree.{Nodes}
-use Rattle.sessiontab.specs.declared.session.Status.TheVariants as status
 use Rattle.sessiontab.specs.Table.{SessionTable}
 use Rattle.sessiontab.specs.Calls.{without_session, with_status, with_grants, with_evicted}
-use Rattle.sessiontab.specs.Tests.{connected_test, session_tests, stale_tests, evict_tests}
+use Rattle.sessiontab.specs.Tests.{connected_test, mark_tests, evict_tests}
 use Rattle.captable.specs.declared.entry.EntryRow.{EntryRow}
 use Rattle.captable.specs.Table.{Table}
 use Rattle.captable.specs.Calls.{is_of_client}
@@ -17,7 +16,7 @@ use Rattle.capacts.specs.Lockmachine.Requests.{is_of_client as is_asked_by}
 use Rattle.capacts.specs.Capview.declared.change.ViewChange.{ViewChange}
 use Rattle.capacts.specs.Capview.Changes.{AreChanges}
 use Rattle.capacts.specs.declared.leaving.Turn.{Turn}
-use Rattle.capacts.specs.declared.leaving.Turn.TheVariants.{Close, Stale, Renew, Regrant, Evict}
+use Rattle.capacts.specs.declared.leaving.Turn.TheVariants.{Close, Mark, Regrant, Evict}
 use Rattle.capacts.specs.Capevents.declared.event.Event.{Event}
 use Rattle.capacts.specs.Capevents.declared.event.Event.TheVariants as event
 use Rattle.capacts.specs.Capnotes.InoSets.{InoSet}
@@ -29,24 +28,21 @@ use Rattle.capacts.specs.Caprules.State.{State}
 -- the event by which it does
 abbrev pub turn_event : ClientId → Turn → Event
 turn_event client Close = event.CloseSession client
-turn_event client Stale = event.Stale client
-turn_event client Renew = event.Renew client
+turn_event client (Mark status) = event.Mark client status
 turn_event client (Regrant grants) = event.Regrant client grants.now
 turn_event client Evict = event.Evict client
 
 -- what is tested
 abbrev pub turn_tests : SessionTable → ClientId → Turn → List Test
 turn_tests sessions client Close = connected_test sessions client.0 ∷ []
-turn_tests sessions client Stale = session_tests sessions client.0
-turn_tests sessions client Renew = stale_tests sessions client.0
+turn_tests sessions client (Mark status) = mark_tests sessions client.0 status
 turn_tests sessions client (Regrant grants) = connected_test sessions client.0 ∷ []
 turn_tests sessions client Evict = evict_tests sessions client.0
 
 -- the sessions then
 abbrev pub turned_sessions : SessionTable → ClientId → Turn → SessionTable
 turned_sessions sessions client Close = without_session sessions client.0
-turned_sessions sessions client Stale = with_status sessions client.0 status.Stale
-turned_sessions sessions client Renew = with_status sessions client.0 status.Open
+turned_sessions sessions client (Mark status) = with_status sessions client.0 status
 turned_sessions sessions client (Regrant grants) = with_grants sessions client.0 grants.now
 turned_sessions sessions client Evict = with_evicted sessions client.0
 

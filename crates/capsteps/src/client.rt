@@ -1,4 +1,4 @@
-//! Steps by which a client's session ends, becomes stale, is open again or has other grants.
+//! Steps by which a client's session ends, is marked or has other grants.
 ghost use Rattle.std.specs.Prelude.{Some, ◌≡◌, ◌+◌, ◌≤◌, ◌<◌, true, [], ◌∷◌, None, All, Contains, length, map as each, IfOk, OnOk, OnErr, vec_capacity};
 ghost use Rattle.capbits.specs.Refusal.{first_failing};
 ghost use Rattle.captable.specs.declared.entry.EntryRow.{EntryRow};
@@ -35,8 +35,7 @@ pub fn turn_refusal(sessions: &Sessions, client: ClientId, turn: Turn) -> Option
 {
     match turn {
         Turn::Close => sessions.connected_refusal(client),
-        Turn::Stale => sessions.session_refusal(client),
-        Turn::Renew => sessions.renew_refusal(client),
+        Turn::Mark(status) => sessions.mark_refusal(client, status),
         Turn::Regrant(_grants) => sessions.connected_refusal(client),
         Turn::Evict => sessions.evict_refusal(client),
     }
@@ -51,8 +50,7 @@ pub fn turn_session(sessions: &mut Sessions, client: ClientId, turn: Turn) -> Re
 {
     match turn {
         Turn::Close => sessions.close_session_tested(client),
-        Turn::Stale => sessions.mark_stale_tested(client),
-        Turn::Renew => sessions.renew_tested(client),
+        Turn::Mark(status) => sessions.mark_tested(client, status),
         Turn::Regrant(grants) => sessions.regrant_tested(client, grants.copy()?),
         Turn::Evict => sessions.evict_tested(client)?,
     }
@@ -126,7 +124,7 @@ fn note_turn(changes: &mut ChangeList, client: ClientId, turn: Turn) -> Result<(
 {
     match turn {
         Turn::Close | Turn::Evict => changes.push(ViewChange::Ended { client }),
-        Turn::Stale | Turn::Renew => {}
+        Turn::Mark(_) => {}
         Turn::Regrant(grants) => changes.push(ViewChange::of_regrant(client, grants)?),
     }
     Ok(())

@@ -13,7 +13,7 @@ pub fn wanted_while(status: Option<Status>, row: EntryRow, permitted: CapSet) ->
     ensures { result ≡ (if is_open status then meet row.entry.want permitted else no_caps) }
 {
     match status {
-        Some(Status::Open) => row.entry.want.meet(permitted),
-        Some(Status::Stale) | None => CapSet::empty(),
+        Some(status) if status.is_open() => row.entry.want.meet(permitted),
+        _ => CapSet::empty(),
     }
 }

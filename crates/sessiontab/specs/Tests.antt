@@ -1,5 +1,5 @@
 -- The tests of what is asked of the sessions, each with what is answered where it fails.
-use Rattle.std.specs.Prelude.{ℕ, Bool, true, false, not, nat_le, Option, Some, None, List, [], ◌∷◌, Result, Ok, Err}
+use Rattle.std.specs.Prelude.{ℕ, Bool, true, false, not, nat_le, if◌then◌else◌, Option, Some, None, List, [], ◌∷◌, Result, Ok, Err}
 use Rattle.std.specs.FinMap as map
 use Rattle.std.specs.FinSet as set
 use Rattle.capbits.specs.declared.refusal.Refusal.{Refusal}
@@ -8,35 +8,30 @@ use Rattle.capbits.specs.Refusal.{Test, refused_if}
 use Rattle.sessiontab.specs.declared.error.SessionError.{SessionError}
 use Rattle.sessiontab.specs.declared.error.SessionError.TheVariants.{Refused, NoMemory}
 use Rattle.sessiontab.specs.declared.session.Status.{Status}
-use Rattle.sessiontab.specs.declared.session.Status.TheVariants.{Open, Stale}
+use Rattle.sessiontab.specs.declared.session.Status.TheVariants.{Open}
 use Rattle.sessiontab.specs.Table.{SessionTable}
 use Rattle.sessiontab.specs.Calls.{has_session, status_of}
 
-abbrev pub is_stale : Option Status → Bool
-is_stale (Some Stale) = true
-is_stale (Some Open) = false
-is_stale None = false
-
+-- the client has a session, which is not stale
 abbrev pub is_open : Option Status → Bool
 is_open (Some Open) = true
-is_open (Some Stale) = false
-is_open None = false
+is_open status = false
 
 -- the client has a session, open or stale
 abbrev pub connected_test : SessionTable → ℕ → Test
 connected_test table client = refused_if (not (has_session table client)) refusal.NoSession
 
--- the client's session is not stale
-abbrev pub not_stale_test : SessionTable → ℕ → Test
-not_stale_test table client = refused_if (is_stale (status_of table client)) refusal.SessionStale
-
 -- the client has an open session
 abbrev pub session_tests : SessionTable → ℕ → List Test
-session_tests table client = connected_test table client ∷ not_stale_test table client ∷ []
+session_tests table client = connected_test table client ∷ refused_if (not (is_open (status_of table client))) refusal.SessionStale ∷ []
 
 -- the client has a stale session
 abbrev pub stale_tests : SessionTable → ℕ → List Test
 stale_tests table client = connected_test table client ∷ refused_if (is_open (status_of table client)) refusal.NotStale ∷ []
+
+-- the client's session may be marked so: as open where it is stale, as all else where it is open
+abbrev pub mark_tests : SessionTable → ℕ → Status → List Test
+mark_tests table client status = if is_open (Some status) then stale_tests table client else session_tests table client
 
 -- the client may have a new session
 abbrev pub new_session_tests : SessionTable → ℕ → List Test

@@ -1,6 +1,7 @@
 //! The session of one client.
 
-ghost use Rattle.std.specs.Prelude.{◌≡◌, IfOk};
+ghost use Rattle.std.specs.Prelude.{◌≡◌, Some, IfOk};
+ghost use Rattle.sessiontab.specs.Tests.{is_open};
 
 use capbits::Caller;
 use capspec::KeptGrants;
@@ -13,6 +14,15 @@ pub enum Status {
     Open,
     /// The client was not heard of in time. It keeps its caps, and little is taken from it until its session is renewed.
     Stale,
+}
+
+impl Status {
+    /// Whether the client's requests are taken, and what it wants counts.
+    pub fn is_open(self) -> bool
+        ensures { result ≡ is_open (Some self) }
+    {
+        matches!(self, Status::Open)
+    }
 }
 
 /// A client has no session that could be changed.

@@ -54,7 +54,7 @@ impl Sessions {
     ghost use Rattle.sessiontab.specs.Table.{IsSound};
     ghost use Rattle.capbits.specs.Refusal.{first_failing};
     ghost use Rattle.sessiontab.specs.Calls.{status_of, with_session, without_session, with_status, with_grants, with_evicted, without_blocked, has_session};
-    ghost use Rattle.sessiontab.specs.Tests.{connected_test, session_tests, stale_tests, new_session_tests, evict_tests, blocked_test, refusal_in};
+    ghost use Rattle.sessiontab.specs.Tests.{connected_test, session_tests, stale_tests, mark_tests, new_session_tests, evict_tests, blocked_test, refusal_in};
     ghost use Rattle.sessiontab.specs.declared.session.Status.TheVariants.{Open, Stale};
 
     /// Nobody is connected, and nobody was thrown out.
@@ -69,14 +69,14 @@ impl Sessions {
 
     // ---- what would be refused
 
-    /// Why a client that needs an open session is refused, and can't be marked as stale: it has no session, or a stale one.
+    /// Why a client that needs an open session is refused: it has no session, or a stale one.
     pub fn session_refusal(&self, client: ClientId) -> Option<Refusal>
         ensures { result ≡ first_failing (session_tests self.now client.0) }
     {
         match self.status(client) {
             None => Some(Refusal::NoSession),
-            Some(Status::Stale) => Some(Refusal::SessionStale),
-            Some(Status::Open) => None,
+            Some(status) if status.is_open() => None,
+            Some(_stale) => Some(Refusal::SessionStale),
         }
     }
 
@@ -96,8 +96,19 @@ impl Sessions {
     {
         match self.status(client) {
             None => Some(Refusal::NoSession),
-            Some(Status::Open) => Some(Refusal::NotStale),
-            Some(Status::Stale) => None,
+            Some(status) if status.is_open() => Some(Refusal::NotStale),
+            Some(_stale) => None,
+        }
+    }
+
+    /// Why a client's session can't be marked so: the client has none, or it is open, or stale, already.
+    pub fn mark_refusal(&self, client: ClientId, status: Status) -> Option<Refusal>
+        ensures { result ≡ first_failing (mark_tests self.now client.0 status) }
+    {
+        if status.is_open() {
+            self.renew_refusal(client)
+        } else {
+            self.session_refusal(client)
         }
     }
 
@@ -184,7 +195,7 @@ impl Sessions {
         if let Some(refusal) = self.session_refusal(client) {
             return Err(refusal);
         }
-        self.mark_stale_tested(client);
+        self.mark_tested(client, Status::Stale);
         Ok(())
     }
 
@@ -197,7 +208,7 @@ impl Sessions {
         if let Some(refusal) = self.renew_refusal(client) {
             return Err(refusal);
         }
-        self.renew_tested(client);
+        self.mark_tested(client, Status::Open);
         Ok(())
     }
 
@@ -270,20 +281,12 @@ impl Sessions {
         self.connected.remove(client);
     }
 
-    /// Marks a client's open session as stale.
-    pub fn mark_stale_tested(&mut self, client: ClientId)
-        requires passed { first_failing (session_tests self.old client.0) ≡ None }
-        ensures { self.new ≡ with_status self.old client.0 Stale }
+    /// Marks a client's open session as stale, or its stale session as open again.
+    pub fn mark_tested(&mut self, client: ClientId, status: Status)
+        requires passed { first_failing (mark_tests self.old client.0 status) ≡ None }
+        ensures { self.new ≡ with_status self.old client.0 status }
     {
-        self.connected.set_status(client, Status::Stale);
-    }
-
-    /// Marks a client's stale session as open again.
-    pub fn renew_tested(&mut self, client: ClientId)
-        requires passed { first_failing (stale_tests self.old client.0) ≡ None }
-        ensures { self.new ≡ with_status self.old client.0 Open }
-    {
-        self.connected.set_status(client, Status::Open);
+        self.connected.set_status(client, status);
     }
 
     /// Gives a client's session, open or stale, other grants. Where the client has none, nothing happens.

@@ -2,21 +2,6 @@ use Rattle.capexplain.specs.Capevents.declared.event.Event.TheVariants as events
 use Rattle.caplines.proofs.SaidLines.{refused_by}
 use Rattle.caplines.proofs.event.read_arguments.Goals as goal
 
-pub returns-in_err-client-in-CloseSession : goal.returns-in_err-client-in-CloseSession
-returns-in_err-client-in-CloseSession c = rw c.in-CloseSession.is (refused_by _ _ _ c.in_err-client-in-CloseSession.field-0.0 c.from_residual.ensures.1 (c.in_err-client-in-CloseSession.ensures events.CloseSession))
-
-pub returns-in_err-client-in-Stale : goal.returns-in_err-client-in-Stale
-returns-in_err-client-in-Stale c = rw c.in-Stale.is (refused_by _ _ _ c.in_err-client-in-Stale.field-0.0 c.from_residual-in_err-client-in-Stale.ensures.1 (c.in_err-client-in-Stale.ensures events.Stale))
-
-pub returns-in_err-client-in-Renew : goal.returns-in_err-client-in-Renew
-returns-in_err-client-in-Renew c = rw c.in-Renew.is (refused_by _ _ _ c.in_err-client-in-Renew.field-0.0 c.from_residual-in_err-client-in-Renew.ensures.1 (c.in_err-client-in-Renew.ensures events.Renew))
-
-pub returns-in_err-client-in-Evict : goal.returns-in_err-client-in-Evict
-returns-in_err-client-in-Evict c = rw c.in-Evict.is (refused_by _ _ _ c.in_err-client-in-Evict.field-0.0 c.from_residual-in_err-client-in-Evict.ensures.1 (c.in_err-client-in-Evict.ensures events.Evict))
-
-pub returns-in_err-client-in-Unblock : goal.returns-in_err-client-in-Unblock
-returns-in_err-client-in-Unblock c = rw c.in-Unblock.is (refused_by _ _ _ c.in_err-client-in-Unblock.field-0.0 c.from_residual-in_err-client-in-Unblock.ensures.1 (c.in_err-client-in-Unblock.ensures events.Unblock))
-
 pub returns-in_err-client-in-Lookup : goal.returns-in_err-client-in-Lookup
 returns-in_err-client-in-Lookup c = rw c.in-Lookup.is (refused_by _ _ _ c.in_err-client-in-Lookup.field-0.0 c.from_residual-in_err-client-in-Lookup.ensures.1 (c.in_err-client-in-Lookup.ensures events.Lookup))
 

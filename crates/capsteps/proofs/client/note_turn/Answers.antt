@@ -1,12 +1,12 @@
 use Rattle.std.proofs.Common.{◌++◌, ◌∷◌, [], ap, ◌∙◌}
-use Rattle.capsteps.proofs.Noting.{notes-ended, notes-status, notes-regranted}
+use Rattle.capsteps.proofs.Noting.{notes-ended, notes-marked, notes-regranted}
 use Rattle.capsteps.proofs.client.note_turn.Goals as goal
 
 pub returns-in-Close-clause-lead : goal.returns-in-Close-clause-lead
 returns-in-Close-clause-lead c = notes-ended c.push.new.self.items c.args.client c.args.turn c.args.changes.now.items c.requires.none c.push.ensures.items c.in-Close.is
 
-pub returns-in-Stale-clause-lead : goal.returns-in-Stale-clause-lead
-returns-in-Stale-clause-lead c = notes-status c.args.changes.now.items c.args.client c.args.turn c.requires.none c.in-Stale.is
+pub returns-in-Mark-clause-lead : goal.returns-in-Mark-clause-lead
+returns-in-Mark-clause-lead c = notes-marked c.args.changes.now.items c.args.client c.args.turn c.requires.none _ c.in-Mark.is
 
 pub returns-in_ok-of_regrant-in-Regrant-clause-lead : goal.returns-in_ok-of_regrant-in-Regrant-clause-lead
 returns-in_ok-of_regrant-in-Regrant-clause-lead c =
