@@ -1,5 +1,5 @@
 -- What the calls of the step of a client's session come to.
-use Rattle.std.proofs.Common.{◌==◌, ◌≡◌, ◌≤◌, ◌<◌, ◌^◌, ◌-◌, ℕ, ◌+◌, ◌++◌, true, false, not, Bool, Option, Some, None, List, [], length, refl, sym, ap, subst, ◌∙◌, arith}
+use Rattle.std.proofs.Common.{◌==◌, ◌≡◌, ◌≤◌, ◌<◌, ◌^◌, ◌-◌, ℕ, ◌+◌, ◌++◌, true, false, not, Bool, Some, None, List, [], length, refl, sym, ap, subst, ◌∙◌, arith}
 use Rattle.std.specs.Prelude.{IsTrue, All}
 use Rattle.std.specs.Option.{option_map}
 use Rattle.captable.specs.declared.entry.Entry.{Entry}
@@ -10,7 +10,6 @@ use Rattle.std.proofs.lemmas.List.Sums.{length-filter, count_by-le-length}
 use Rattle.std.proofs.lemmas.List.Elements.{All-weaker}
 use Rattle.capbits.specs.declared.ids.ClientId.{ClientId}
 use Rattle.capbits.specs.declared.ids.Ino.{Ino}
-use Rattle.capbits.specs.declared.refusal.Refusal.{Refusal}
 use Rattle.capbits.specs.Refusal.{first_failing}
 use Rattle.sessiontab.specs.Calls.{has_session}
 use Rattle.captable.specs.declared.entry.EntryRow.{EntryRow}
@@ -49,6 +48,7 @@ use Rattle.capsteps.specs.Turn.{ReachesClient, turn_event, turn_tests, turned}
 use Rattle.capcore.proofs.Closing.{told-all, touches-clients, ends-table}
 use Rattle.capcore.proofs.EndKnown.{ends-known}
 use Rattle.capsteps.proofs.Knowing.{HoldAlike, alike-less, still-knows}
+use Rattle.capsteps.proofs.Judging.{by_tests}
 use Rattle.capsteps.proofs.ShownSteps.{apart_client}
 use Rattle.capcore.proofs.Concluded.{IsConcluded, GivesOne, concluded}
 use Rattle.capcore.proofs.Turned.{turn_direct, direct-turned, turned-touches, turned-table, turned-below, turned-made, turned-last}
@@ -63,11 +63,7 @@ before-turn s client Evict = refl
 
 -- the first test that fails, stops it, and nothing else
 pub turn-stop : (s : Scene) (client : ClientId) (turn : Turn) → judged s (turn_event client turn) ≡ option_map ByTest (first_failing (turn_tests s.sessions client turn))
-turn-stop s client turn = before-turn s client turn ∙ by_test (first_failing (turn_tests s.sessions client turn)) refl
-  where
-    by_test : (o : Option Refusal) → first_failing (turn_tests s.sessions client turn) ≡ o → stop s (turn_tests s.sessions client turn) [] [] ≡ option_map ByTest o
-    by_test (Some r) is = rw is refl
-    by_test None is = rw is refl
+turn-stop s client turn = before-turn s client turn ∙ sym (by_tests s (first_failing (turn_tests s.sessions client turn)))
 
 -- ---- no more are left than there were
 

@@ -1,10 +1,8 @@
 -- A client's session ends, is marked or has other grants, by itself: it touches the inodes where the client is.
-use Rattle.std.proofs.Common.{◌≡◌, ◌≢◌, ◌≤◌, ℕ, zero, suc, ◌==◌, Bool, true, false, not, cond, Option, Some, None, is_some, List, [], ◌∷◌, refl, sym, ap, subst, ◌∙◌, Contains, true≢false, arith, eq-eqb}
+use Rattle.std.proofs.Common.{◌≡◌, ◌≢◌, ◌≤◌, ℕ, zero, suc, ◌==◌, Bool, true, false, not, cond, Option, Some, None, is_some, List, [], ◌∷◌, refl, sym, ap, subst, ◌∙◌, Contains, true≢false, arith, eq-eqb, nat_eq}
 use Rattle.std.specs.Prelude.{IsTrue, All, filter}
-use Rattle.std.specs.Cmp.{nat_cmp_total}
-use Rattle.std.specs.Option.{option_map_or}
+use Rattle.std.specs.Option.{option_map}
 use Rattle.std.specs.FinMap as map
-use Rattle.std.specs.Ordering.{nat_cmp, eq_by_cmp}
 use Rattle.std.proofs.lemmas.Bool.{eqb-true}
 use Rattle.std.proofs.lemmas.List.Elements.{All-weaker, All-contains, All-contains_itself, All-filter, filter_passes}
 use Rattle.capbits.specs.declared.cap.Part.{Part}
@@ -14,7 +12,7 @@ use Rattle.sessiontab.specs.declared.session.Session.{Session}
 use Rattle.sessiontab.specs.Connected.{SessionMap, change_session}
 use Rattle.sessiontab.specs.Table.{SessionTable}
 use Rattle.sessiontab.specs.Calls.{has_session}
-use Rattle.sessiontab.proofs.Sound.{same_key}
+use Rattle.numbered.proofs.Maps.{remove-at, change-at}
 use Rattle.captable.specs.declared.entry.EntryRow.{EntryRow}
 use Rattle.captable.specs.Table.{Table, IsTable}
 use Rattle.captable.specs.Calls.{is_of_client, is_of_inode, entries_on, without_client}
@@ -61,36 +59,24 @@ direct-turned old client turn free = ap (effect_unless old (turn_event client tu
 -- ---- the sessions of others
 
 module _ (sessions : SessionMap) (client other : ℕ) where
-  by_key : (b : Bool) → eq_by_cmp nat_cmp other client ≡ b → other ≢ client → (new : Option Session) → cond b new (map.get sessions other) ≡ map.get sessions other
-  by_key true is off new = absurd (off (same_key other client is))
+  by_key : (b : Bool) → nat_eq client other ≡ b → other ≢ client → (new : Option Session) → cond b new (map.get sessions other) ≡ map.get sessions other
+  by_key true is off new = absurd (off (sym (eqb-true client other is)))
   by_key false is off new = refl
 
   removed-other : other ≢ client → map.get (map.remove sessions client) other ≡ map.get sessions other
-  removed-other off = map.get-remove nat_cmp_total sessions client other ∙ by_key (eq_by_cmp nat_cmp other client) refl off None
-
-  inserted-other : (session : Session) → other ≢ client → map.get (map.insert sessions client session) other ≡ map.get sessions other
-  inserted-other session off = map.get-insert nat_cmp_total sessions client session other ∙ by_key (eq_by_cmp nat_cmp other client) refl off (Some session)
+  removed-other off = remove-at sessions client other ∙ by_key (nat_eq client other) refl off None
 
   changed-other : (f : Session → Session) → other ≢ client → map.get (change_session f sessions client) other ≡ map.get sessions other
-  changed-other f off = by_session (map.get sessions client)
-    where
-      by_session : (o : Option Session) → map.get (option_map_or (λ session. map.insert sessions client (f session)) o sessions) other ≡ map.get sessions other
-      by_session None = refl
-      by_session (Some session) = inserted-other (f session) off
+  changed-other f off = change-at sessions client other f ∙ by_key (nat_eq client other) refl off (option_map f (map.get sessions other))
 
   -- who has a session has one still, if one is changed
-  some-inserted : (session : Session) (b : Bool) → eq_by_cmp nat_cmp other client ≡ b → is_some (map.get sessions client) ≡ true → is_some (cond b (Some session) (map.get sessions other)) ≡ is_some (map.get sessions other)
-  some-inserted session true is there = sym (ap (λ k. is_some (map.get sessions k)) (same_key other client is) ∙ there)
-  some-inserted session false is there = refl
-
   changed-has : (f : Session → Session) → map.contains_key (change_session f sessions client) other ≡ map.contains_key sessions other
-  changed-has f = by_session (map.get sessions client) refl
+  changed-has f = ap is_some (change-at sessions client other f) ∙ still (nat_eq client other) (map.get sessions other)
     where
-      by_session : (o : Option Session) → map.get sessions client ≡ o → is_some (map.get (option_map_or (λ session. map.insert sessions client (f session)) o sessions) other) ≡ is_some (map.get sessions other)
-      by_session None is = refl
-      by_session (Some session) is =
-          ap is_some (map.get-insert nat_cmp_total sessions client (f session) other)
-          ∙ some-inserted (f session) (eq_by_cmp nat_cmp other client) refl (ap is_some is)
+      still : (b : Bool) (o : Option Session) → is_some (cond b (option_map f o) o) ≡ is_some o
+      still true None = refl
+      still true (Some session) = refl
+      still false o = refl
 
 pub turned-other : (t : SessionTable) (client : ClientId) (turn : Turn) (other : ℕ) → other ≢ client.0 → map.get (turned_sessions t client turn).sessions other ≡ map.get t.sessions other
 turned-other t client Close other off = removed-other t.sessions client.0 other off

@@ -31,6 +31,11 @@ stop_by-passed s None None l e = refl
 pub passed : (s : Scene) (tests : List Test) (needed : List Need) (more : List Test) → stop s tests needed [] ≡ None → stop s tests needed more ≡ option_map ByTest (first_failing more)
 passed s tests needed more e = stop_by-passed s (first_failing tests) (first_denied s needed) (first_failing more) e
 
+-- where tests stand before policy alone, the first that fails decides
+pub by_tests : (s : Scene) (failing : Option Refusal) → option_map ByTest failing ≡ stop_by s failing None None
+by_tests s (Some refusal) = refl
+by_tests s None = refl
+
 stop_by-tests : (s : Scene) (o : Option Refusal) (d : Option Need) (l : Option Refusal) → stop_by s o d l ≡ None → o ≡ None
 stop_by-tests s (Some x) d l e = cc
 stop_by-tests s None d l e = refl

@@ -3,7 +3,6 @@ use Rattle.std.proofs.Common.{◌≡◌, List, [], ◌∷◌, ◌++◌, ◌⊎�
 use Rattle.std.specs.FinMap as map
 use Rattle.capbits.specs.declared.ids.ClientId.{ClientId}
 use Rattle.capspec.specs.declared.grant.Grant.{Grant}
-use Rattle.inotree.specs.Tree.{Nodes}
 use Rattle.sessiontab.specs.declared.session.Status.{Status}
 use Rattle.sessiontab.specs.Calls.{with_status}
 use Rattle.sessiontab.specs.Connected.{SessionMap}

@@ -1,20 +1,15 @@
-use Rattle.std.proofs.Common.{◌≡◌, Option, Some, None, refl, sym, ap, ◌∙◌}
+use Rattle.std.proofs.Common.{sym, ap, ◌∙◌}
 use Rattle.std.specs.Option.{option_map}
 use Rattle.capbits.specs.Refusal.{first_failing}
-use Rattle.capbits.specs.declared.refusal.Refusal.{Refusal}
 use Rattle.capsteps.specs.Lockmachine.declared.scene.Scene.{Scene}
 use Rattle.capsteps.specs.Capevents.declared.event.Event.{Event}
 use Rattle.capsteps.specs.Capevents.declared.event.Event.TheVariants.{Ack}
 use Rattle.capsteps.specs.Caprules.declared.stopped.Stopped.TheVariants.{ByTest}
 use Rattle.capsteps.specs.declared.touch.Touch.{Touch}
-use Rattle.capsteps.specs.Caprules.Judge.{before, judged, stop_by}
+use Rattle.capsteps.specs.Caprules.Judge.{before, judged}
 use Rattle.capsteps.specs.Touch.{touch_event}
+use Rattle.capsteps.proofs.Judging.{by_tests}
 use Rattle.capcore.proofs.judging.touch_stop.Goals as goal
-
--- where tests stand before policy alone, the first that fails decides
-by_tests : (s : Scene) (failing : Option Refusal) → option_map ByTest failing ≡ stop_by s failing None None
-by_tests s (Some refusal) = refl
-by_tests s None = refl
 
 pub returns-in-Ack : goal.returns-in-Ack
 returns-in-Ack c = λ known.
