@@ -1,11 +1,8 @@
 -- The lists with one more node.
-use Rattle.std.proofs.Common.{◌≡◌, ◌≢◌, ℕ, ◌+◌, ◌<◌, ◌≤◌, Bool, true, false, not, ◌&&◌, ◌||◌, cond, Option, Some, None, IsSome, is_some, List, [], ◌∷◌, ◌++◌, count_by, refl, sym, ap, ◌∙◌, subst, arith, nat_eq, nat_le, Result, Ok, Err, OnErr, IfOk}
+use Rattle.std.proofs.Common.{◌≡◌, ◌≢◌, ℕ, ◌+◌, ◌<◌, ◌≤◌, Bool, true, false, not, ◌&&◌, ◌||◌, cond, Option, Some, None, IsSome, is_some, List, [], ◌∷◌, ◌++◌, count_by, refl, sym, ap, ◌∙◌, subst, arith, nat_eq, Result, Ok, Err, OnErr, IfOk}
 use Rattle.std.specs.Option.{option_map, option_map_or, option_and_then}
-use Rattle.std.proofs.lemmas.Bool.{eqb-true, eq-eqb, leb-false}
+use Rattle.std.proofs.lemmas.Bool.{eqb-true, eq-eqb}
 use Rattle.std.specs.FinMap as map
-use Rattle.capbits.specs.declared.refusal.Refusal.TheVariants.{Limit}
-use Rattle.capbits.specs.Refusal.{first_failing}
-use Rattle.capbits.proofs.Tests.{passed-if}
 use Rattle.cap_arena.specs.declared.nodes.Order.{Order}
 use Rattle.cap_arena.specs.declared.nodes.Order.TheVariants as order
 use Rattle.cap_arena.specs.declared.nodes.Ends.{Ends}
@@ -16,8 +13,8 @@ use Rattle.cap_arena.specs.Nodes.{joint_of}
 use Rattle.cap_arena.specs.Places.{linked_at, next_at, previous_at, with_next_at, appended_ends}
 use Rattle.cap_arena.specs.Heads.{Heads, no_ends, ends_or_none, ends_at, with_room}
 use Rattle.cap_arena.specs.Walks.{is_among}
-use Rattle.cap_arena.specs.Lists.{Lists, ListName, OfInode, OfClient, OfRecall, order_of, belongs, count, ends_of, keys, IsLists, KeepsNoEmpty, lists_of}
-use Rattle.cap_arena.specs.Calls.{Adds, add_tests}
+use Rattle.cap_arena.specs.Lists.{Lists, ListName, OfInode, OfClient, OfRecall, order_of, belongs, ends_of, keys, IsLists, KeepsNoEmpty, lists_of}
+use Rattle.cap_arena.specs.Calls.{Adds}
 use Rattle.cap_arena.proofs.Rings.{among-append}
 use Rattle.cap_arena.proofs.Writes.{same_order, plain_at, Wrote, Wrote-next}
 use Rattle.cap_arena.proofs.Stands.{stands, Stand, Stand-alike, append_step, one_more, with_on, next_of_joint, previous_of_joint}
@@ -279,7 +276,3 @@ module _ {T : Type 0} where
   pub sound_either : {E : Type 0} (r : Result ℕ E) (t t' : Lists T) (P : ℕ → Type 0) → IfOk r (λ key. IsLists t' × P key) → OnErr r (t' ≡ t) → IsLists t → IsLists t'
   sound_either (Ok key) t t' P added same is = added.0
   sound_either (Err e) t t' P added same is = subst IsLists (sym same) is
-
-  -- there may be one more node where the tests pass
-  pub room_passed : (t : Lists T) → first_failing (add_tests t) ≡ None → count t < 65536
-  room_passed t passed = let fits = (passed-if (nat_le 65536 (count t)) Limit None passed).0 in omega (arith, leb-false 65536 (count t) fits)

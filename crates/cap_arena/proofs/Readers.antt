@@ -43,9 +43,6 @@ module _ {T : Type 0} where
   pub first_of_the_client : (s : List (Option (Linked T))) (r : Ends) (i c : Heads) (client : ClientId) → IsLists (lists_of s r i c) → (ends_at c client.0).first ≡ slice_get (keys (lists_of s r i c) (OfClient client)) 0
   first_of_the_client s r i c client is = first_is (lists_of s r i c) is (OfClient client)
 
-  pub first_of_recall : (t : Lists T) → IsLists t → t.recall.first ≡ slice_get (keys t OfRecall) 0
-  first_of_recall t is = first_is t is OfRecall
-
   -- the node after one
   next_is : (t : Lists T) → IsLists t → (name : ListName) (key : ℕ) → belongs_at t name key ≡ true → next_at t.slots (ends_of t name) (order_of name) (Some key) ≡ key_after (keys t name) key
   next_is t is name key there = walk_after (next_in t name) None (keys t name) key (is.lists name).forth ((is.lists name).nodes key ∙ there)

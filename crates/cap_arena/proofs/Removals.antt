@@ -30,11 +30,6 @@ pub fewer_left : {X : Type 0} (taken : Option X) (old new : Slab X) → OnSome t
 fewer_left None old new len same = let e : slab_len new ≡ slab_len old = ap slab_len same in omega arith
 fewer_left (Some x) old new len same = omega (arith, len)
 
--- ends that are there
-pub some_of_first : (o : Option Ends) → IsSome (ends_or_none o).first → IsSome o
-some_of_first None some = absurd (cc)
-some_of_first (Some ends) some = refl
-
 -- what a map has, where one of its numbers has other ends
 ends_kept : (m n : Heads) (number : ℕ) (ends : Ends) → ends_or_none (kept ends) ≡ ends → ((q : ℕ) → map.get n q ≡ cond (nat_eq number q) (kept ends) (map.get m q)) → (q : ℕ) → ends_at n q ≡ with_ends (ends_at m) number ends q
 ends_kept m n number ends whole at q = ap ends_or_none (at q) ∙ out (nat_eq number q)

@@ -21,12 +21,6 @@ pub same_place-refl : (x : Option ℕ) → same_place x x ≡ true
 same_place-refl None = refl
 same_place-refl (Some a) = eq-eqb a a refl
 
-pub same_place-symm : (x y : Option ℕ) → same_place x y ≡ same_place y x
-same_place-symm None None = refl
-same_place-symm (Some a) (Some b) = nat_eq_equiv.symm a b
-same_place-symm None (Some b) = refl
-same_place-symm (Some a) None = refl
-
 -- the place where a walk over these keys comes to
 abbrev pub last_place : Option ℕ → List ℕ → Option ℕ
 last_place place [] = place

@@ -30,17 +30,9 @@ one_name OfRecall (OfClient j) node e a b = absurd (cc)
 no_true : {P : Type 0} → false ≡ true → P
 no_true e = absurd (cc)
 
-and_both : (a b : Bool) → a ≡ true → b ≡ true → (a && b) ≡ true
-and_both true b e f = f
-and_both false b e f = no_true e
-
 and_left : (a b : Bool) → (a && b) ≡ true → a ≡ true
 and_left true b e = refl
 and_left false b e = e
-
-and_right : (a b : Bool) → (a && b) ≡ true → b ≡ true
-and_right true b e = e
-and_right false b e = no_true e
 
 or_false : (b : Bool) → (b || false) ≡ b
 or_false true = refl

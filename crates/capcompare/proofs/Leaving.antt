@@ -13,7 +13,7 @@ use Rattle.capgrant.specs.Verdict.{allows, granted, first_failures, verdict_at, 
 use Rattle.capgrant.proofs.Verdicts.{granted_somewhere}
 use Rattle.capcompare.specs.declared.witness.Witness.{Witness}
 use Rattle.capcompare.specs.Comparing.{Covers, IsWitness, question_of}
-use Rattle.capcompare.specs.Linting.{left_from, left, AreRedundant}
+use Rattle.capcompare.specs.Linting.{left_from, left}
 
 -- ---- the more numbers, the fewer grants
 
@@ -123,12 +123,6 @@ kept grants numbers slice after k m before is same after_is open' =
     subst (λ (ns : List ℕ). AreRedundantAbove grants ns m) (sym after_is)
     (one_kept grants numbers m (subst (λ (j : ℕ). AreRedundantAbove grants numbers j) is before)
     (λ covers. open' (subst (λ (ns : List ℕ). Covers (left (k ∷ ns) grants) grants) (sym same) (subst (λ (j : ℕ). Covers (left (j ∷ numbers) grants) grants) (sym is) covers))))
-
-pub all_above : (grants : List Grant) (numbers : List ℕ) → AreRedundantAbove grants numbers 0 → AreRedundant grants numbers
-all_above grants numbers all = record {
-  enough = all.enough;
-  needed = λ n one within out covers. all.needed n (omega arith) within out covers;
-}
 
 -- ---- the copies
 

@@ -1,5 +1,6 @@
 -- The pin is permitted with whatever else is.
-use Rattle.std.proofs.Common.{◌≡◌, refl, Bool, true, false, ◌||◌, List, ◌∙◌, sym, ap, true≢false}
+use Rattle.std.proofs.Common.{◌≡◌, Bool, true, false, ◌||◌, List, ◌∙◌, sym, ap, true≢false}
+use Rattle.std.proofs.lemmas.Bool.{or_right}
 use Rattle.capbits.specs.declared.cap.Cap.{Cap}
 use Rattle.capbits.specs.declared.cap.Cap.TheVariants.{P}
 use Rattle.capbits.specs.Caps.{has}
@@ -27,14 +28,10 @@ has_pin true writes may = has-union (caps_in for_either) _ P ∙ ap (λ b. b || 
 has_pin false true may = has-union (caps_in for_either) _ P ∙ ap (λ b. b || has (union no_caps (caps_in for_writers)) P) (has-caps_in for_either P)
 has_pin false false may = absurd (true≢false (sym may))
 
-or_second : (a b : Bool) → b ≡ true → (a || b) ≡ true
-or_second true b is = refl
-or_second false b is = is
-
 pub pin_of_read : (ask : Access → Question) (grants : List Grant) → granted (ask Read) grants ≡ true → has (permitted_of ask grants) P ≡ true
 unfolding permitted_of
 pin_of_read ask grants may = has_pin (granted (ask Read) grants) (granted (ask Write) grants) (ap (λ b. b || granted (ask Write) grants) may)
 
 pub pin_of_write : (ask : Access → Question) (grants : List Grant) → granted (ask Write) grants ≡ true → has (permitted_of ask grants) P ≡ true
 unfolding permitted_of
-pin_of_write ask grants may = has_pin (granted (ask Read) grants) (granted (ask Write) grants) (or_second (granted (ask Read) grants) (granted (ask Write) grants) may)
+pin_of_write ask grants may = has_pin (granted (ask Read) grants) (granted (ask Write) grants) (or_right (granted (ask Read) grants) (granted (ask Write) grants) may)

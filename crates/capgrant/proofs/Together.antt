@@ -1,14 +1,12 @@
 -- Gids that are compared many at once.
-use Rattle.std.proofs.Common.{◌≡◌, ℕ, zero, suc, ◌+◌, ◌-◌, ◌*◌, ◌%◌, ◌^◌, ◌<◌, Bool, true, false, ◌||◌, not, cond, eqb, List, [], ◌∷◌, ◌++◌, map, drop, length, replicate, refl, sym, ap, ◌∙◌, arith, w32, eqb-true, eq-eqb, inl, inr, ◌⊎◌}
+use Rattle.std.proofs.Common.{◌≡◌, ℕ, zero, suc, ◌+◌, ◌-◌, ◌*◌, ◌%◌, ◌^◌, ◌<◌, Bool, true, false, ◌||◌, not, cond, eqb, List, [], ◌∷◌, ◌++◌, map, drop, length, replicate, refl, sym, ap, ◌∙◌, arith, w32, eqb-true, eq-eqb, inl, inr}
 use Rattle.std.specs.List.{list_any}
-use Rattle.std.proofs.lemmas.Bool.{eqb-false}
+use Rattle.std.proofs.Math.Bool.{or-false}
 use Rattle.std.proofs.lemmas.Simd.{bitmask_splat}
+use Rattle.std.proofs.lemmas.Cmp.{nat_eq_equiv}
+use Rattle.capspec.proofs.Fronts.{which}
 use lib.Lanes.{zip2, mask_l, top}
 use Rattle.capgrant.specs.Question.{contains}
-
-which : (b : Bool) → (b ≡ true) ⊎ (b ≡ false)
-which true = inl refl
-which false = inr refl
 
 -- ---- the mask of a comparison
 
@@ -55,23 +53,13 @@ none_left p d e zero (suc m) = rw e (none_left p d e zero m)
 none_left p d e (suc n) zero = refl
 none_left p d e (suc n) (suc m) = none_left p d e n m
 
-or_false : (b : Bool) → (b || false) ≡ b
-or_false true = refl
-or_false false = refl
-
 pub left_to : (p : ℕ → Bool) (d : ℕ) (xs : List ℕ) (n m : ℕ) → (p d || list_any p (xs ++ drop n (replicate m d))) ≡ (p d || list_any p xs)
 left_to p d xs n m = elim (which (p d)) [
   | inl e ↦ rw e refl
-  | inr e ↦ ap (λ b. p d || b) (any_append p xs (drop n (replicate m d)) ∙ ap (λ b. list_any p xs || b) (none_left p d e n m) ∙ or_false (list_any p xs))
+  | inr e ↦ ap (λ b. p d || b) (any_append p xs (drop n (replicate m d)) ∙ ap (λ b. list_any p xs || b) (none_left p d e n m) ∙ or-false (list_any p xs))
 ]
 
 -- ---- one of these is listed, or one that is listed is one of these
-
-same_either_way : (x y : ℕ) → eqb x y ≡ eqb y x
-same_either_way x y = elim (which (eqb x y)) [
-  | inl e ↦ e ∙ sym (eq-eqb y x (sym (eqb-true x y e)))
-  | inr e ↦ elim (which (eqb y x)) [ inl f ↦ absurd (eqb-false x y e (sym (eqb-true y x f))) | inr f ↦ e ∙ sym f ]
-]
 
 none_in : (xs : List ℕ) → list_any (contains []) xs ≡ false
 none_in [] = refl
@@ -94,5 +82,5 @@ any_same f g same (x ∷ xs) = ap (λ b. b || list_any f xs) (same x) ∙ ap (λ
 pub commute : (xs ys : List ℕ) → list_any (contains xs) ys ≡ list_any (contains ys) xs
 commute xs [] = sym (none_in xs)
 commute xs (y ∷ ys) =
-    ap (λ b. b || list_any (contains xs) ys) (any_same (λ x. eqb x y) (λ x. eqb y x) (λ x. same_either_way x y) xs) ∙ ap (λ b. list_any (λ x. eqb y x) xs || b) (commute xs ys)
+    ap (λ b. b || list_any (contains xs) ys) (any_same (λ x. eqb x y) (λ x. eqb y x) (λ x. nat_eq_equiv.symm x y) xs) ∙ ap (λ b. list_any (λ x. eqb y x) xs || b) (commute xs ys)
     ∙ sym (any_or (λ x. eqb y x) (contains ys) xs)

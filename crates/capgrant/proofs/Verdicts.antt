@@ -1,5 +1,5 @@
 -- Where the first grant that allows stands, and how the rules of those that do not are gathered.
-use Rattle.std.proofs.Common.{◌≡◌, ℕ, ◌+◌, ◌<◌, suc, Bool, true, false, ltb, Option, Some, None, is_none, List, [], ◌∷◌, ◌++◌, length, take, get_or, refl, sym, ap, ◌∙◌, arith, inl, inr, ◌⊎◌}
+use Rattle.std.proofs.Common.{◌≡◌, ℕ, ◌+◌, ◌<◌, zero, suc, Bool, true, false, ltb, Option, Some, None, is_none, List, [], ◌∷◌, ◌++◌, ◌||◌, length, take, get_or, refl, sym, ap, ◌∙◌, arith, inl, inr}
 use Rattle.std.specs.Prelude.{position}
 use Rattle.std.specs.List.{list_any, position_or_len, cons_option}
 use Rattle.std.proofs.lemmas.Bool.{or_parts, lt-ltb}
@@ -7,15 +7,12 @@ use Rattle.std.proofs.lemmas.Bool.Decides.{nat_tests}
 use Rattle.std.proofs.lemmas.List.{take_more, append-nil}
 use Rattle.std.proofs.lemmas.List.Elements.{filter_map-append}
 use Rattle.capspec.specs.declared.grant.Grant.{Grant}
+use Rattle.capspec.proofs.Fronts.{which}
 use Rattle.capgrant.specs.declared.rule.Rule.{Rule}
 use Rattle.capgrant.specs.declared.answer.Verdict.TheVariants.{Allowed, Denied}
 use Rattle.capgrant.specs.Question.{Question}
 use Rattle.capgrant.specs.Failing.{first_failing}
 use Rattle.capgrant.specs.Verdict.{allows, granted, first_failures, verdict_of, verdict_at}
-
-which : (b : Bool) → (b ≡ true) ⊎ (b ≡ false)
-which true = inl refl
-which false = inr refl
 
 -- one grant more
 one_more : (q : Question) (grants : List Grant) (i : ℕ) (g : Grant) → i < length grants → g ≡ get_or grants i g → first_failures q (take (i + 1) grants) ≡ first_failures q (take i grants) ++ first_failures q (g ∷ [])
@@ -74,3 +71,14 @@ allowed_nowhere q grants is = ap (λ (place : Option ℕ). verdict_at place (fir
 -- and then each fails by a rule
 pub each_fails : (q : Question) (grants : List Grant) → position (allows q) grants ≡ None → length (first_failures q grants) ≡ length grants
 each_fails q grants is = one_each q grants (sym (granted_nowhere q grants is))
+
+-- what one of the first passes, one of all passes
+pub among_first : {T : Type 0} (p : T → Bool) (xs : List T) (n : ℕ) → list_any p (take n xs) ≡ true → list_any p xs ≡ true
+among_first p [] zero e = e
+among_first p [] (suc n) e = e
+among_first p (x ∷ xs) zero e = absurd (cc)
+among_first p (x ∷ xs) (suc n) e = by_test (p x) (among_first p xs n) e
+  where
+    by_test : (b : Bool) → (list_any p (take n xs) ≡ true → list_any p xs ≡ true) → (b || list_any p (take n xs)) ≡ true → (b || list_any p xs) ≡ true
+    by_test true rest e = refl
+    by_test false rest e = rest e

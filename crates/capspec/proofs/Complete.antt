@@ -41,10 +41,10 @@ gap_stops : (gap tail : List ℕ) → IsGap gap → goes_on (gap ++ tail) ≡ fa
 gap_stops [] tail is = absurd (omega (arith, is.1))
 gap_stops (g ∷ gs) tail is = rw (not_byte is_white g 44 (and_parts (is_white g) (list_all is_white gs) is.0).0 refl) refl
 
-mark_not_white : (b : ℕ) → is_mark b ≡ true → is_white b ≡ false
+pub mark_not_white : (b : ℕ) → is_mark b ≡ true → is_white b ≡ false
 mark_not_white b h = grind (arith, nat_tests)
 
-grant_end_not_white : (rest : List ℕ) → ends_grant rest ≡ true → begins is_white rest ≡ false
+pub grant_end_not_white : (rest : List ℕ) → ends_grant rest ≡ true → begins is_white rest ≡ false
 grant_end_not_white [] ends = refl
 grant_end_not_white (b ∷ bs) ends = mark_not_white b ends
 
@@ -57,14 +57,14 @@ next_is gap from blank begins = rest_is (is_in White) gap from blank begins
 
 -- ---- the items of a grant
 
-item_letter : (word tail : List ℕ) (item : Item) → IsItem word item → begins is_white (word ++ tail) ≡ false
+pub item_letter : (word tail : List ℕ) (item : Item) → IsItem word item → begins is_white (word ++ tail) ≡ false
 item_letter word tail (FsName name) is = rw is.1 refl
 item_letter word tail (Path names) is = rw is.1 refl
 item_letter word tail (Uid uid) is = rw is.1 refl
 item_letter word tail (Gids gids) is = rw is.1 refl
 item_letter word tail RootSquash is = rw is.1 refl
 
-item_goes_on : (word tail : List ℕ) (item : Item) → IsItem word item → ends_grant (word ++ tail) ≡ false
+pub item_goes_on : (word tail : List ℕ) (item : Item) → IsItem word item → ends_grant (word ++ tail) ≡ false
 item_goes_on word tail (FsName name) is = rw is.1 refl
 item_goes_on word tail (Path names) is = rw is.1 refl
 item_goes_on word tail (Uid uid) is = rw is.1 refl
@@ -146,7 +146,7 @@ items_give (item ∷ items) earlier words tail gids grant are_words are known en
 
 -- ---- a grant
 
-flags_letter : (word tail : List ℕ) (flags : Flags4) → IsFlags word flags → begins is_white (word ++ tail) ≡ false
+pub flags_letter : (word tail : List ℕ) (flags : Flags4) → IsFlags word flags → begins is_white (word ++ tail) ≡ false
 flags_letter word tail R is = rw is refl
 flags_letter word tail Rw is = rw is refl
 flags_letter word tail Rwp is = rw is refl
@@ -187,7 +187,7 @@ grant_gives before front rest grant few is ends stops =
 
 -- ---- the grants of a text
 
-blank_no_digit : (gap tail : List ℕ) → list_all is_white gap ≡ true → begins is_digit tail ≡ false → begins is_digit (gap ++ tail) ≡ false
+pub blank_no_digit : (gap tail : List ℕ) → list_all is_white gap ≡ true → begins is_digit tail ≡ false → begins is_digit (gap ++ tail) ≡ false
 blank_no_digit [] tail blank other = other
 blank_no_digit (g ∷ gs) tail blank other = white_no_digit g (and_parts (is_white g) (list_all is_white gs) blank).0
   where

@@ -141,12 +141,6 @@ pub record HasGrants (text rest : List ℕ) (count : ℕ) (kept : Result (Vec Gr
   pub are_kept : IfOk kept (λ grants. grants.items ≡ found)
   pub gives : (result : Result (List Grant) Refusal) → GrantsGive found rest result → GrantsGive [] text result
 
-pub has_no_grants : (text : List ℕ) (none : Vec Grant) → none.items ≡ [] → HasGrants text text 0 (Ok none)
-has_no_grants text none is = record { done = []; found = []; parts = refl; before = refl; counted = refl; are_kept = is; gives = λ result on. on }
-
-pub rest_within : (text rest : List ℕ) (count : ℕ) (kept : Result (Vec Grant) AllocError) → HasGrants text rest count kept → length rest ≤ length text
-rest_within text rest count kept so_far = omega (arith, ap length so_far.parts, length-append so_far.done rest)
-
 -- one grant more is kept, if it and those before found memory
 keeps_more : (kept new : Result (Vec Grant) AllocError) (found : List Grant) (grant : Grant) → IfOk kept (λ grants. grants.items ≡ found) → IfOk new (λ now. IsOkAnd kept (λ old. now.items ≡ old.items ++ grant ∷ []))
     → IfOk new (λ grants. grants.items ≡ found ++ grant ∷ [])

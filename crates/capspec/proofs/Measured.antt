@@ -43,7 +43,7 @@ parts_within (b ∷ bs) = elim (which (is_slash b)) [
   | inr e ↦ ap (list_all (is_within (length (b ∷ bs)))) (slice_split-cons_no is_slash b bs e) ∙ within_onto (length bs) b (slice_split is_slash bs) (parts_within bs)
 ]
 
-all_kept : (test kept : List ℕ → Bool) (parts : List (List ℕ)) → list_all test parts ≡ true → list_all test (filter kept parts) ≡ true
+pub all_kept : (test kept : List ℕ → Bool) (parts : List (List ℕ)) → list_all test parts ≡ true → list_all test (filter kept parts) ≡ true
 all_kept test kept [] all = refl
 all_kept test kept (part ∷ parts) all =
     let both = and_parts (test part) (list_all test parts) all in

@@ -20,9 +20,6 @@ pub record Writes (text : List ℕ) (end number : ℕ) : Type 0 where
   pub digits : AllDigits 10 (take end text)
   pub value : number ≡ digits_value 10 (take end text)
 
-pub writes_none : (text : List ℕ) → Writes text 0 0
-writes_none text = record { digits = tt; value = refl }
-
 pub writes_more : (text : List ℕ) (end number digit : ℕ) → Writes text end number → end < length text → digit ≡ digit_value (get_or text end 0) → digit < 10 → Writes text (end + 1) (10 * number + digit)
 writes_more text end number digit so_far within digit-is small = record {
   digits = digits_more 10 text end within so_far.digits (omega (arith, digit-is, small));
@@ -51,11 +48,6 @@ pub number_read : (text : List ℕ) (end number : ℕ) → Writes text end numbe
 number_read text end number so_far stops some within small =
     subst (λ (digits : List ℕ). IsNumber digits number) (sym (front_at text end number so_far stops))
     (record { numeral = (some_taken text end some within, so_far.digits); value = sym so_far.value; small = small })
-
-pub no_digits : (text : List ℕ) (number n : ℕ) → Writes text 0 number → begins is_digit (drop 0 text) ≡ false → IsNumber (front_while is_digit text) n → ⊥
-no_digits text number n so_far stops is =
-    let empty : IsNumber [] n = subst (λ (digits : List ℕ). IsNumber digits n) (front_at text 0 number so_far stops) is in
-    omega (arith, empty.numeral.0)
 
 -- a front of digits is one of all the digits in front
 front_take : (text : List ℕ) (k : ℕ) → list_all is_digit (take k text) ≡ true → take k (front_while is_digit text) ≡ take k text

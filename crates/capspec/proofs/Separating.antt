@@ -53,9 +53,6 @@ pub record HasGids (text rest : List ℕ) (all_fit : Bool) (gids : List ℕ) : T
   pub few : length gids ≤ 16
   pub over : all_fit ≡ false → 16 < length numbers
 
-pub no_gids : (text : List ℕ) → HasGids text text true []
-no_gids text = record { done = []; numbers = []; pieces = []; parts = refl; before = refl; word = refl; split = λ more. refl; kept = λ _. refl; few = omega arith; over = λ e. absurd (true≢false e) }
-
 few_more : (pushed : Bool) (gid : ℕ) (old new : List ℕ) → IsTrue pushed ↔ (length old < 16) → OnTrue pushed (new ≡ old ++ gid ∷ []) → OnFalse pushed (new ≡ old) → length old ≤ 16 → length new ≤ 16
 few_more true gid old new room added full few = let less : length old < 16 = room.0 refl in rw added (omega (arith, length-append old (gid ∷ [])))
 few_more false gid old new room added full few = rw full few

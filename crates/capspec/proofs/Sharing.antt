@@ -10,7 +10,7 @@ use Rattle.capwords.specs.Paths.{slashed}
 use Rattle.capspec.specs.declared.grant.Grant.{Grant}
 use Rattle.capwords.proofs.Backwards.{slashed-append}
 use Rattle.capspec.specs.declared.begun.Begun.{Begun}
-use Rattle.capspec.specs.Begun.{BeginsWith, Begins, IsBegun, ShareFirst, IsAlike, AreAlike, AreBegun}
+use Rattle.capspec.specs.Begun.{Begins, IsBegun, ShareFirst, IsAlike, AreAlike, AreBegun}
 use Rattle.capspec.specs.declared.kept.Alike.{Alike}
 
 -- ---- one name
@@ -59,9 +59,6 @@ module _ (names : List (Bor (List ℕ))) (text : List ℕ) (b : Begun) (d : Bor 
 
   pub no_more : (take (length name + 1) (drop b.size text) ≡ 47 ∷ name → ⊥) → IsBegun (texts names) text b
   no_more apart = (begins, λ _ more. apart (append_cancel_left before _ _ (sym cut ∙ ap (λ n. take n text) (sym long) ∙ more ∙ next names b.count d inside)))
-
-pub all_of_them : (names : List (List ℕ)) (text : List ℕ) (b : Begun) → Begins names text b → length names ≤ b.count → IsBegun names text b
-all_of_them names text b begins all = (begins, λ inside _. absurd (omega (arith, all, inside)))
 
 pub fits : (names : List (List ℕ)) (text : List ℕ) (b : Begun) → Begins names text b → b.size ≤ length text
 fits names text b begins =

@@ -1,6 +1,6 @@
 -- Values of items, taken from the front of a text, and why there is none.
-use Rattle.std.proofs.Common.{◌≡◌, ◌≢◌, ℕ, ◌≤◌, Bool, true, false, not, ◌||◌, ◌&&◌, eqb, List, [], ◌∷◌, ◌++◌, length, Some, None, Result, Ok, Err, refl, sym, ap, subst, ◌∙◌, inl, inr, append_assoc, Bor, arith}
-use Rattle.std.specs.Prelude.{IfOk, IfErr, codes}
+use Rattle.std.proofs.Common.{◌≡◌, ◌≢◌, ℕ, ◌≤◌, Bool, true, false, not, ◌||◌, ◌&&◌, eqb, List, [], ◌∷◌, ◌++◌, length, Some, None, refl, sym, ap, subst, ◌∙◌, inl, inr, append_assoc, arith}
+use Rattle.std.specs.Prelude.{codes}
 use Rattle.std.specs.List.{list_all, list_any}
 use Rattle.std.specs.Str.{bytes_eq}
 use Rattle.std.specs.Char.{digit_value}
@@ -59,9 +59,6 @@ takes_uid text rest uid is rest-is ends =
 
 pub other_wrong : (text word rest : List ℕ) → SplitsWhile Plain text word rest → word ≢ codes "network" → IsWrongOther (plain_word text) kinds.BadItem
 other_wrong text word rest cut differs = inr ((λ e. differs (sym (that_word text word rest cut) ∙ e)), refl)
-
-pub left_out_wrong : (text word rest : List ℕ) → SplitsWhile Plain text word rest → word ≡ codes "network" → IsWrongOther (plain_word text) kinds.LeftOut
-left_out_wrong text word rest cut is = inl (that_word text word rest cut ∙ is, refl)
 
 -- ---- paths without quotes
 
@@ -138,16 +135,6 @@ takes_quoted quote inside path closing rest b is_one cut closing-is ends fit =
     let same : b ≡ quote = eqb-true b quote (not-false (eqb b quote) stops) in
     let whole : inside ≡ (path ++ quote ∷ []) ++ rest = cut.parts ∙ ap (λ (t : List ℕ). path ++ t) (closing-is ∙ ap (λ (q : ℕ). q ∷ rest) same) ∙ sym (append_assoc path (quote ∷ []) rest) in
     (record { front = path ++ quote ∷ []; parts = whole; holds = record { written = quoted_by quote is_one _ path (record { parts = refl; none_inside = cut.all_in }); fit = fit } }, ends)
-
--- the same with the quote in front
-pub takes_written : (quote : ℕ) (text inside : List ℕ) (r : Result (Bor (List ℕ) × Bor (List ℕ)) SpecFaultKind) → text ≡ quote ∷ inside
-    → IfOk r (λ found. TakesWord (λ value. IsPath (quote ∷ value) found.0.now) inside found.1.now) → IfOk r (λ found. TakesWord (λ value. IsPath value found.0.now) text found.1.now)
-takes_written quote text inside (Ok found) text-is taken = (record { front = quote ∷ taken.0.front; parts = text-is ∙ ap (λ (t : List ℕ). quote ∷ t) taken.0.parts; holds = taken.0.holds }, taken.1)
-takes_written quote text inside (Err kind) text-is taken = tt
-
-pub wrong_written : (quote : ℕ) (text inside : List ℕ) (r : Result (Bor (List ℕ) × Bor (List ℕ)) SpecFaultKind) → text ≡ quote ∷ inside → IfErr r (IsWrongPath (quote ∷ inside)) → IfErr r (IsWrongPath text)
-wrong_written quote text inside (Ok found) text-is wrong = tt
-wrong_written quote text inside (Err kind) text-is wrong = subst (λ (t : List ℕ). IsWrongPath t kind) (sym text-is) wrong
 
 quoted_wrong : (quote : ℕ) (inside path closing : List ℕ) (kind : SpecFaultKind) → is_quote quote ≡ true → SplitsWhile (AllBut quote) inside path closing → IsWrongQuoted quote path closing kind → IsWrongPath (quote ∷ inside) kind
 quoted_wrong quote inside path closing kind is_one cut wrong =

@@ -24,14 +24,6 @@ use Rattle.capspec.specs.Items.Item.{FsName, Path, Uid, Gids, RootSquash}
 use Rattle.capwords.specs.Paths.{names_of}
 use Rattle.capspec.specs.Parts.{ReadsItems}
 
--- a word's key has a byte
-item_is_long : (word : List ℕ) (item : Item) → IsItem word item → 0 < length word
-item_is_long word (FsName name) is = rw is.1 (omega arith)
-item_is_long word (Path names) is = rw is.1 (omega arith)
-item_is_long word (Uid uid) is = rw is.1 (omega arith)
-item_is_long word (Gids gids) is = rw is.1 (omega arith)
-item_is_long word RootSquash is = rw is.1 (omega arith)
-
 neither : (a b : Bool) → (a || b) ≡ true → a ≡ false → b ≡ false → ⊥
 neither true b h a-no b-no = true≢false a-no
 neither false b h a-no b-no = true≢false (sym h ∙ b-no)
@@ -250,10 +242,6 @@ drafting_more old draft new text rest gap item after place place' so_far cut goe
       (subst (λ (t : List ℕ). BeginsWithItem t adds.item after) (sym here) adds.begins)
       (subst (λ (o : Option (List ℕ)). ItemsGive (so_far.items ++ adds.item ∷ []) o after result) moved on));
 }
-
-pub drafting_shrinks : (draft new : Draft) (rest gap item after : List ℕ) → SplitsWhile White rest gap item → AddsItem draft item after new → length after < length rest
-drafting_shrinks draft new rest gap item after cut adds =
-    omega (arith, ap length cut.parts, ap length adds.begins.takes.0.parts, length-append gap item, length-append adds.begins.takes.0.front after, item_is_long adds.begins.takes.0.front adds.item adds.begins.takes.0.holds)
 
 right_end : (draft : Draft) (items : List Item) (place rest : List ℕ) → stood items keys.Uid ≡ is_some draft.uid → (is_some draft.gids && not (is_some draft.uid)) ≡ false → grant_end items (place_of_gids draft place) rest ≡ Ok (items, rest)
 right_end draft items place rest same both = elim (which (is_some draft.gids)) [

@@ -42,7 +42,7 @@ decimals_are value (n ∷ m ∷ more) row = (decimal_is n row.5.small, decimals_
 
 -- ---- what the items of a grant have said
 
-given : {A : Type 0} (o : Option A) → (o ≡ None) ⊎ ((x : A) × (o ≡ Some x))
+pub given : {A : Type 0} (o : Option A) → (o ≡ None) ⊎ ((x : A) × (o ≡ Some x))
 given None = inl refl
 given (Some x) = inr (x, refl)
 

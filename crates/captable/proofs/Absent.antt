@@ -1,5 +1,5 @@
 -- Changes of a table that has no entry for them.
-use Rattle.std.proofs.Common.{◌≡◌, ◌<◌, ◌≤◌, Bool, true, false, not, ◌&&◌, ◌||◌, cond, Some, None, List, [], ◌∷◌, ◌++◌, length, filter, refl, sym, ap, ◌∙◌, arith, suc, append-nil}
+use Rattle.std.proofs.Common.{◌≡◌, ◌<◌, ◌≤◌, Bool, true, false, not, ◌&&◌, ◌||◌, cond, Some, None, List, [], ◌∷◌, ◌++◌, length, filter, refl, sym, ap, ◌∙◌, arith, append-nil}
 use Rattle.std.specs.Prelude.{◌==◌}
 use Rattle.std.proofs.lemmas.Bool.{or_parts}
 use Rattle.capbits.specs.declared.ids.ClientId.{ClientId}
@@ -10,6 +10,7 @@ use Rattle.captable.specs.Calls.{without, without_client, touched, moved_last, i
 use Rattle.captable.specs.Walks.{first_holder}
 use Rattle.captable.proofs.Tables.{same_equiv, same-is, no_row, holders-filter, among-filter}
 use Rattle.captable.proofs.Searches.{filter-filter, filter-filter_kept}
+use Rattle.captable.proofs.Numbers.{shorter}
 
 -- a filter that keeps all
 pub kept-holders : (k : Holder) (hs : List Holder) → is_among hs k ≡ false → filter (λ h. not (same k h)) hs ≡ hs
@@ -68,11 +69,6 @@ first-of client (row ∷ rows) k e = by_test (is_of_client client row) refl (fir
         → first_holder (cond b (row ∷ filter (is_of_client client) rows) (filter (is_of_client client) rows)) ≡ Some k → (k.client.0 == client.0) ≡ true
     by_test true own rest e = let is : row.holder ≡ k = cc in ap (λ (h : Holder). h.client.0 == client.0) (sym is) ∙ own
     by_test false other rest e = rest e
-
-shorter : {X : Type 0} (p : X → Bool) (xs : List X) → length (filter p xs) ≤ length xs
-shorter p [] = omega arith
-shorter p (x ∷ xs) =
-    elim (p x) as (λ b. length (cond b (x ∷ filter p xs) (filter p xs)) ≤ suc (length xs)) [ true ↦ omega (arith, shorter p xs) | false ↦ omega (arith, shorter p xs) ]
 
 -- the client has fewer entries without one
 pub fewer : (t : Table) (client : ClientId) (k : Holder) → first_holder (filter (is_of_client client) t.rows) ≡ Some k

@@ -129,12 +129,6 @@ entry_at-released_other t k j caps apart =
 
 -- ---- an acknowledgement
 
-pub entry_at-acked_pin : (t : Table) (k : Holder) (against : Caps) → has against P ≡ true → entry_at (acked t k against) k ≡ None
-entry_at-acked_pin t k against pin = ap (λ b. entry_at (cond b (without t k) (changed t k (taken against))) k) pin ∙ entry_at-without t k
-
-pub entry_at-acked : (t : Table) (k : Holder) (against : Caps) → has against P ≡ false → entry_at (acked t k against) k ≡ option_map (taken against) (entry_at t k)
-entry_at-acked t k against no_pin = ap (λ b. entry_at (cond b (without t k) (changed t k (taken against))) k) no_pin ∙ entry_at-changed t k (taken against)
-
 pub entry_at-acked_other : (t : Table) (k j : Holder) (against : Caps) → j ≢ k → entry_at (acked t k against) j ≡ entry_at t j
 entry_at-acked_other t k j against apart =
     elim (has against P) as (λ b. entry_at (cond b (without t k) (changed t k (taken against))) j ≡ entry_at t j)

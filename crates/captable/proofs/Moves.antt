@@ -46,9 +46,6 @@ either true false = refl
 either false true = refl
 either false false = refl
 
-flipped : (k q : Holder) → same q k ≡ same k q
-flipped k q = same_equiv.symm q k
-
 among-moved : (hs : List Holder) (k q : Holder) → is_among (moved_last hs k) q ≡ is_among hs q
 among-moved hs k q =
     list_any-append (same q) (filter (λ h. not (same k h)) hs) (filter (same k) hs)

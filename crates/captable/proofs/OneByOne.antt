@@ -2,6 +2,7 @@
 use Rattle.std.proofs.Common.{◌≡◌, Bool, true, false, cond, ◌||◌, ◌&&◌, List, [], ◌∷◌, map, filter, refl, sym, ap, subst, ◌∙◌}
 use Rattle.std.specs.Prelude.{◌==◌}
 use Rattle.std.specs.List.{fold, IsDistinct, AllByRecursion}
+use Rattle.std.proofs.Math.Bool.{and-true, or-true}
 use Rattle.capbits.specs.declared.ids.Ino.{Ino}
 use Rattle.captable.specs.declared.entry.Entry.{Entry}
 use Rattle.captable.specs.declared.entry.EntryRow.{EntryRow}
@@ -103,13 +104,9 @@ module _ (g : EntryRow → Entry) where
       → fold (changed_by g) t ks ≡ changed_where q g t
   by_test t ks q is named_once all = fold-changed_by t ks is named_once ∙ ap (λ (rows : List EntryRow). record t { rows = rows }) (same_map (λ row. is_among ks row.holder) q t.rows all)
 
-  or_true : (b : Bool) → (b || true) ≡ true
-  or_true true = refl
-  or_true false = refl
-
   among_more : (h : Holder) (hs : List Holder) (rows : List EntryRow) → AllByRecursion (λ row. is_among hs row.holder ≡ true) rows → AllByRecursion (λ row. is_among (h ∷ hs) row.holder ≡ true) rows
   among_more h hs [] all = tt
-  among_more h hs (row ∷ rows) all = (ap (λ b. same row.holder h || b) all.0 ∙ or_true (same row.holder h), among_more h hs rows all.1)
+  among_more h hs (row ∷ rows) all = (ap (λ b. same row.holder h || b) all.0 ∙ or-true (same row.holder h), among_more h hs rows all.1)
 
   -- the holder of each row is one of the holders
   each_among : (rows : List EntryRow) → AllByRecursion (λ row. is_among (holders_of_rows rows) row.holder ≡ true) rows
@@ -117,14 +114,10 @@ module _ (g : EntryRow → Entry) where
   each_among (row ∷ rows) =
       (ap (λ b. b || is_among (holders_of_rows rows) row.holder) (same_equiv.refl row.holder), among_more row.holder (holders_of_rows rows) rows (each_among rows))
 
-  and_true : (b : Bool) → (b && true) ≡ b
-  and_true true = refl
-  and_true false = refl
-
   among_on : (p : Holder → Bool) (hs : List Holder) (rows : List EntryRow) → AllByRecursion (λ row. is_among hs row.holder ≡ true) rows
       → AllByRecursion (λ row. is_among (filter p hs) row.holder ≡ p row.holder) rows
   among_on p hs [] all = tt
-  among_on p hs (row ∷ rows) all = (among-filter p hs row.holder ∙ ap (λ b. p row.holder && b) all.0 ∙ and_true (p row.holder), among_on p hs rows all.1)
+  among_on p hs (row ∷ rows) all = (among-filter p hs row.holder ∙ ap (λ b. p row.holder && b) all.0 ∙ and-true (p row.holder), among_on p hs rows all.1)
 
   pub fold-on_inode : (t : Table) (ino : Ino) → IsTable t → fold (changed_by g) t (holders_of_rows (entries_on t ino)) ≡ changed_where (is_of_inode ino) g t
   fold-on_inode t ino is =

@@ -1,6 +1,7 @@
 -- The keys of a list from one of them on, after a change of the list, and numbers that rise along it.
 use Rattle.std.proofs.Common.{◌≡◌, ◌<◌, ℕ, Bool, true, false, not, cond, ◌||◌, ◌⊎◌, inl, inr, List, [], ◌∷◌, ◌++◌, refl, sym, ap, ◌∙◌, arith, nat_eq}
 use Rattle.std.specs.List.{AllByRecursion, IsDistinct}
+use Rattle.std.proofs.Math.Bool.{or-false}
 use Rattle.std.proofs.lemmas.Bool.{eqb-true}
 use Rattle.std.proofs.lemmas.List.Folds.{list_any-append}
 use Rattle.cap_arena.specs.Walks.{is_among}
@@ -65,16 +66,12 @@ on-trans (k ∷ ks) i j q once a b = by_tests (nat_eq i k) a (nat_eq j k) refl b
 
 -- ---- one key more
 
-or_none : (b : Bool) → (b || false) ≡ b
-or_none true = refl
-or_none false = refl
-
 pub among-wider : (ks : List ℕ) (x j : ℕ) → is_among ks j ≡ true → is_among (ks ++ x ∷ []) j ≡ true
 among-wider ks x j there = list_any-append (nat_eq j) ks (x ∷ []) ∙ ap (λ b. b || is_among (x ∷ []) j) there
 
 pub among-narrow : (ks : List ℕ) (x j : ℕ) → is_among (ks ++ x ∷ []) j ≡ true → nat_eq j x ≡ false → is_among ks j ≡ true
 among-narrow ks x j there other =
-    sym (or_none (is_among ks j)) ∙ sym (ap (λ c. is_among ks j || (c || false)) other) ∙ sym (list_any-append (nat_eq j) ks (x ∷ [])) ∙ there
+    sym (or-false (is_among ks j)) ∙ sym (ap (λ c. is_among ks j || (c || false)) other) ∙ sym (list_any-append (nat_eq j) ks (x ∷ [])) ∙ there
 
 pub on-wider : (ks : List ℕ) (x i j : ℕ) → is_among (keys_on ks i) j ≡ true → is_among (keys_on (ks ++ x ∷ []) i) j ≡ true
 on-wider [] x i j there = absurd (cc)

@@ -14,14 +14,10 @@ use Rattle.captable.specs.Nodes.{row_of, with_first, nodes_at}
 use Rattle.captable.specs.Walks.{keys_on, keys_from, IsPlaceIn}
 use Rattle.captable.specs.Places.{AreInOrder, IsQuietIn, is_due_at, moved_on}
 use Rattle.captable.proofs.NodesAt.{head_in, rest_in}
-use Rattle.captable.proofs.WalkOn.{after-in, first-in, from-first, apart-from, keys-next}
+use Rattle.captable.proofs.WalkOn.{after-in, apart-from, keys-next}
 use Rattle.captable.proofs.Orders.{on-in, own-on, either-on, on-trans, among-wider, among-narrow, on-wider, among-left, left-in, left-apart, on-left}
 
 -- ---- places of a list
-
--- before the first key there is none
-pub quiet-first : (ks : List ℕ) (due : ℕ → Bool) → IsQuietIn ks due (slice_get ks 0)
-quiet-first ks due = record { placed = first-in ks; later = λ key there is. ap (λ js. is_among js key) (from-first ks) ∙ there }
 
 -- a place whose key is not due
 pub quiet-next : (ks : List ℕ) (due : ℕ → Bool) (j : ℕ) → IsDistinct nat_eq ks → due j ≡ false → IsQuietIn ks due (Some j) → IsQuietIn ks due (key_after ks j)

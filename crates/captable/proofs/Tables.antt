@@ -1,12 +1,12 @@
 -- What the changes of a table keep.
-use Rattle.std.proofs.Common.{◌≡◌, ℕ, ◌<◌, ◌≤◌, Bool, true, false, not, take, ◌&&◌, ◌||◌, cond, Some, None, List, [], ◌∷◌, ◌++◌, map, length, filter, refl, sym, ap, ◌∙◌, arith, suc, nat_le}
+use Rattle.std.proofs.Common.{◌≡◌, ℕ, ◌<◌, ◌≤◌, Bool, true, false, not, take, ◌&&◌, ◌||◌, cond, Some, None, List, [], ◌∷◌, ◌++◌, map, length, filter, refl, sym, ap, ◌∙◌, arith, suc, nat_le, length-append}
 use Rattle.std.specs.List.{find, AllByRecursion, IsDistinct}
 use Rattle.std.specs.Cmp.{IsEquivalence, nat_eq_equiv}
 use Rattle.std.proofs.lemmas.List.Folds.{list_any-append}
 use Rattle.std.proofs.lemmas.Map.Keys.{IsDistinct-push}
 use Rattle.std.proofs.lemmas.Bool.{and_from, and_parts, leb-false}
-use Rattle.std.proofs.Common.{length-append}
 use Rattle.std.specs.Prelude.{◌==◌}
+use Rattle.std.proofs.Math.Bool.{or-false}
 use Rattle.capbits.specs.declared.cap.Cap.TheVariants.{P}
 use Rattle.capbits.specs.declared.ids.ClientId.{ClientId}
 use Rattle.capbits.specs.Caps.{Caps, has}
@@ -75,12 +75,8 @@ IsTable-asked t named is = IsTable-rows t (map (asked_row named) t.rows) (holder
 
 -- ---- one more
 
-or_false : (b : Bool) → (b || false) ≡ b
-or_false true = refl
-or_false false = refl
-
 pub is_among-push : (hs : List Holder) (k q : Holder) → is_among (hs ++ k ∷ []) q ≡ (is_among hs q || same q k)
-is_among-push hs k q = list_any-append (same q) hs (k ∷ []) ∙ ap (λ b. is_among hs q || b) (or_false (same q k))
+is_among-push hs k q = list_any-append (same q) hs (k ∷ []) ∙ ap (λ b. is_among hs q || b) (or-false (same q k))
 
 -- a holder with no entry has no row
 pub no_row : (rows : List EntryRow) (k : Holder) → entry_of (find (is_row_of k) rows) ≡ None → is_among (holders_of_rows rows) k ≡ false

@@ -1,5 +1,5 @@
 -- What the tests of a call that were passed say of the tree.
-use Rattle.std.proofs.Common.{◌≡◌, ℕ, ◌-◌, Bool, true, false, not, nat_le, ◌<◌, ◌≤◌, ◌||◌, ◌==◌, List, [], ◌∷◌, length, Option, Some, None, is_some, ◌⊎◌, inl, inr, refl, ◌∙◌, arith}
+use Rattle.std.proofs.Common.{◌≡◌, ℕ, ◌-◌, Bool, true, false, not, nat_le, ◌<◌, ◌≤◌, ◌||◌, ◌==◌, List, [], ◌∷◌, length, Option, Some, None, is_some, inl, inr, refl, ◌∙◌, arith}
 use Rattle.std.specs.Prelude.{if◌then◌else◌}
 use Rattle.std.specs.Option.{option_map}
 use Rattle.std.proofs.lemmas.Bool.{cases_lt}
@@ -19,7 +19,7 @@ use Rattle.inotree.specs.declared.node.Place.TheVariants.{NoIno, Gone, Here}
 use Rattle.inotree.specs.Names.{is_bad_name, is_bad_attribute}
 use Rattle.inotree.specs.Inodes.{InodeMap}
 use Rattle.inotree.specs.Index.{NameIndex}
-use Rattle.inotree.specs.Tree.{Nodes, IsTree, IsIndexed, IsChildless, site_of, place, place_at, path_at, slot_at, is_directory, child, depth, reaches, is_within}
+use Rattle.inotree.specs.Tree.{Nodes, IsTree, IsIndexed, IsChildless, site_of, place, place_at, slot_at, is_directory, child, depth, reaches, is_within}
 use Rattle.inotree.specs.Tests.{is_no_ino, is_gone, is_root_site, test_at, create_tests, detach_tests, rename_tests, set_xattr_tests, remove_xattr_tests, snap_add_tests, snap_remove_tests}
 use Rattle.inotree.proofs.Growing.{reach_up}
 use Rattle.inotree.proofs.Inner.{long_name, no_long_attribute, no_long_snapshot}
@@ -42,11 +42,6 @@ slot_site (Some Stray) p e = cc
 slot_site (Some (Under dir name)) p e =
     let same : ◌≡◌ {A = Slot} (record { dir = dir.0; name = name }) p = cc in
     λ i. Some (Under (record { 0 = (same i).dir }) (same i).name)
-
-pub no_path : (p : Place) (names : List (List ℕ)) → (p ≡ NoIno) ⊎ (p ≡ Gone) → None ≡ path_at p names
-no_path NoIno names h = refl
-no_path Gone names h = refl
-no_path Here names h = elim h [ inl e ↦ cc | inr e ↦ cc ]
 
 here_by : (p : Place) → is_no_ino p ≡ false → is_gone p ≡ false → p ≡ Here
 here_by NoIno is was = cc
@@ -106,9 +101,6 @@ passed-create t d a passed =
 -- a name that can be given is not too long
 pub short : (a : List ℕ) → (255 < length a → ⊥) → length a ≤ 255
 short a not_long = elim (cases_lt 255 (length a)) [ inl long ↦ absurd (not_long long) | inr fits ↦ fits ]
-
-pub short_name : (a : List ℕ) → is_bad_name a ≡ false → length a ≤ 255
-short_name a good = short a (λ long. let bad = long_name a long in cc)
 
 known_at : (o : Option Node) → place_at (option_map (λ n. n.site) o) ≡ Here → (n : Node) × (o ≡ Some n)
 known_at None at = cc

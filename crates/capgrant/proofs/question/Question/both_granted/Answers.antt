@@ -1,25 +1,14 @@
-use Rattle.std.proofs.Common.{◌≡◌, ℕ, zero, suc, Bool, true, false, ◌||◌, List, [], ◌∷◌, take, refl, sym, ap, ◌∙◌}
-use Rattle.std.specs.List.{list_any}
+use Rattle.std.proofs.Common.{true, sym, ap, ◌∙◌}
 use Rattle.capgrant.specs.Question.{Question}
 use Rattle.capgrant.specs.Failing.{fails_fsname, fails_uid, fails_gids, fails_path}
 use Rattle.capgrant.specs.Verdict.{allows, may_allow}
+use Rattle.capgrant.proofs.Verdicts.{among_first}
 use Rattle.capgrant.proofs.question.Question.both_granted.Goals as goal
 
 -- the rules that look at no access say the same to both
 pub allows_passed-two-requires : goal.allows_passed-two-requires
 unfolding fails_fsname fails_uid fails_gids fails_path
 allows_passed-two-requires c = c.may_allow-passed.ensures ∙ ap (λ (q : Question). may_allow q c.grant-item.result) (sym c.requires)
-
--- what one of the first passes, one of all passes
-among_first : {T : Type 0} (p : T → Bool) (xs : List T) (n : ℕ) → list_any p (take n xs) ≡ true → list_any p xs ≡ true
-among_first p [] zero e = e
-among_first p [] (suc n) e = e
-among_first p (x ∷ xs) zero e = absurd (cc)
-among_first p (x ∷ xs) (suc n) e = by_test (p x) (among_first p xs n) e
-  where
-    by_test : (b : Bool) → (list_any p (take n xs) ≡ true → list_any p xs ≡ true) → (b || list_any p (take n xs)) ≡ true → (b || list_any p xs) ≡ true
-    by_test true rest e = refl
-    by_test false rest e = rest e
 
 pub returns-then-two-clause-one : goal.returns-then-two-clause-one
 returns-then-two-clause-one c = sym (among_first (allows c.args.self.now) c.args.grants.now c.loop-grant.grant-index (sym c.loop-grant.invariant.one ∙ c.if-one.true))

@@ -1,5 +1,4 @@
-use Rattle.std.proofs.Common.{◌≡◌, List, ◌∷◌, ◌++◌, [], sym, ap, ◌∙◌}
-use Rattle.std.specs.Option.{option_or}
+use Rattle.std.proofs.Common.{◌≡◌, List, ◌∷◌, ◌++◌, [], sym, ◌∙◌}
 use Rattle.capbits.specs.Refusal.{Test, first_failing}
 use Rattle.capbits.proofs.Tests.{failing-front}
 use Rattle.inotree.specs.Tests.{inode_tests, root_test, new_place_tests}
