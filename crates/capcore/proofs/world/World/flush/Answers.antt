@@ -19,6 +19,7 @@ use Rattle.capsteps.specs.Serves.{EndsWith}
 use Rattle.capsteps.specs.Caprules.Sound.{IsSound}
 use Rattle.capsteps.specs.Caprules.Step.{earlier}
 use Rattle.capcore.proofs.Closing.{ends-sessions, first-quiet, told-all, closed-known, closed}
+use Rattle.capsteps.proofs.Judged.{none-judged}
 use Rattle.capsteps.proofs.Knowing.{HoldAlike, alike-less, still-there, still-room, still-knows}
 use Rattle.capcore.proofs.OfInode.{event-table}
 use Rattle.capcore.proofs.Flushed.{flush-calls, flush-tree, flush-direct}
@@ -90,6 +91,9 @@ module _ (c : After-touch) where
       still-knows c.self.inside.known.sets c.self.inside.known.sets (old c).scene c.touch.new.self c.self.invariant.2 still
       (subst (λ (s : Scene). IsTable s.table) (sym (is c)) (event-table (old c) (e c) (k c) (subst (λ (s : State). IsTable s.scene.table) (sym c.self.view_is) c.requires.table) refl (passed c)))
       (alike-less c.self.inside.scene.table c.touch.new.self alike)
+
+pub end_at_one-requires-clause-judged : goal.end_at_one-requires-clause-judged
+end_at_one-requires-clause-judged c = none-judged _ _ c.in_ok-begin.ensures.judged
 
 pub end_at_one-requires-clause-room : goal.end_at_one-requires-clause-room
 end_at_one-requires-clause-room g =

@@ -22,6 +22,7 @@ use Rattle.capsteps.specs.Caprules.Sound.{IsSound, NumbersLeft}
 use Rattle.capsteps.specs.Caprules.Step.{earlier}
 use Rattle.capsteps.specs.Touch.{touch_event, touch_answer}
 use Rattle.capcore.proofs.Closing.{ends-sessions, first-quiet, first-numbers, first-clients, told-all, closed-known, closed}
+use Rattle.capsteps.proofs.Judged.{none-judged}
 use Rattle.capsteps.proofs.Knowing.{held_at, HoldAlike, known-alike, still-room, still-knows, still-all}
 use Rattle.capcore.proofs.OfInode.{event-table}
 use Rattle.capcore.proofs.Stops.{judged-at, stopped-answered}
@@ -95,6 +96,9 @@ module _ (c : In_ok-touch_entry) where
       still-knows c.self.inside.known.sets c.touch_entry.new.known.sets (old c).scene c.touch_entry.new.table c.self.invariant.2 c.touch_entry.ensures.known first-table
       (subst (λ (t : Table). (j : Holder) (f : Entry) → entry_at t j ≡ Some f → IsSubset f.held (held_at c.self.inside.scene.table j)) (sym c.in_ok-touch_entry.ensures.ok)
       (touch-less c.self.inside.scene.table (k c) c.revoked_by-revoked.result c.args.touch))
+
+pub end_at_entry-requires-clause-judged : goal.end_at_entry-requires-clause-judged
+end_at_entry-requires-clause-judged c = none-judged _ _ c.in_ok-begin.ensures.judged
 
 pub end_at_entry-requires-clause-room : goal.end_at_entry-requires-clause-room
 end_at_entry-requires-clause-room g =

@@ -23,6 +23,7 @@ use Rattle.capsteps.specs.Turn.{turn_event, turned}
 use Rattle.capcore.proofs.Closing.{ends-sessions}
 use Rattle.capcore.proofs.Stops.{stopped-answered}
 use Rattle.capcore.proofs.TurnStep.{turn-stop, few-waiting, few-messages, turn-quiet, turn-clients, turn-numbers, turn-order, turn-alike, turn-known, turn-closed}
+use Rattle.capsteps.proofs.Judged.{none-judged}
 use Rattle.capsteps.proofs.Knowing.{HoldAlike, still-there, still-room}
 use Rattle.capsteps.specs.Capview.Changes.{AreChanges}
 use Rattle.capsteps.specs.Caprules.Noted.{view_of}
@@ -78,6 +79,9 @@ module _ (c : After-leave) where
       (λ k f there. ap is_some (subst (HoldAlike c.self.inside.scene.table) (sym c.leave.ensures.table)
       (turn-alike (old c) c.args.client c.args.turn (passed c) c.self.invariant.0 (subst (λ (s : State). IsTable s.scene.table) (sym c.self.view_is) c.requires.table) 1 c.in_ok-room.room.others c.in_ok-room.ensures.reaches) k f there).1)
       (λ k f there. c.leave.ensures.known k f there)
+
+pub end_at-requires-clause-judged : goal.end_at-requires-clause-judged
+end_at-requires-clause-judged c = none-judged _ _ c.in_ok-room.ensures.judged
 
 pub end_at-requires-clause-room : goal.end_at-requires-clause-room
 end_at-requires-clause-room g =
