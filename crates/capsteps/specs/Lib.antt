@@ -4,6 +4,7 @@ pub mod Turn
 pub mod Leaving
 pub mod Answered
 pub mod Judged
+pub mod Begun
 pub mod Serves
 pub mod Sweep
 pub use Rattle.capacts.specs as Capacts
