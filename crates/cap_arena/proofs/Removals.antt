@@ -1,7 +1,7 @@
 -- The lists with one node less.
 use Rattle.std.proofs.Common.{◌≡◌, ◌≢◌, ℕ, ◌+◌, ◌≤◌, Bool, true, false, not, ◌&&◌, cond, Option, Some, None, IsSome, is_some, List, reverse, count_by, refl, sym, ap, ◌∙◌, subst, arith, nat_eq, OnSome, IfNone}
 use Rattle.std.specs.Option.{option_map, option_map_or}
-use Rattle.std.proofs.lemmas.Bool.{eqb-true, eq-eqb}
+use Rattle.std.proofs.lemmas.Bool.{and_parts, eqb-true, eq-eqb}
 use Rattle.std.specs.FinMap as map
 use Rattle.slab.specs.Slab.{Slab, slab_len}
 use Rattle.cap_arena.specs.declared.nodes.Order.{Order}
@@ -20,10 +20,6 @@ use Rattle.cap_arena.proofs.Writes.{plain_at, Wrote, Wrote-unlinked, IsPlace}
 use Rattle.cap_arena.proofs.Stands.{stands, Stand, Stand-alike, unlink_step, one_less, with_off}
 use Rattle.cap_arena.proofs.HeadMaps.{heads_of, with_ends, with_ends-same, with_ends-inode, with_ends-client, recall_differs}
 use Rattle.cap_arena.proofs.Sound.{nowhere_off, place_of, stand_of, Stand-heads, keys_are, list_of, first_some, kept_is, count-next, count-previous, heads_are, heads_known}
-
-left : (a b : Bool) → (a && b) ≡ true → a ≡ true
-left true b e = refl
-left false b e = e
 
 -- a slab has no more values after a removal
 pub fewer_left : {X : Type 0} (taken : Option X) (old new : Slab X) → OnSome taken (slab_len new + 1 ≡ slab_len old) → IfNone taken (new ≡ old) → slab_len new ≤ slab_len old
@@ -62,7 +58,7 @@ module _ {T : Type 0} where
     where
       place : (o : Option ℕ) → ((j : ℕ) → o ≡ Some j → is_among (ks name) j ≡ true) → IsPlace s o
       place None there = tt
-      place (Some j) there = place_of s name j (left (stands s name j) _ (sym ((st name).members j) ∙ there j refl))
+      place (Some j) there = place_of s name j (and_parts (stands s name j) _ (sym ((st name).members j) ∙ there j refl)).0
 
   -- the node is among the keys of a list that it belongs into and is not out of
   among_on : (s : List (Option (Linked T))) (heads : ListName → Ends) (off : Order → Bool) (key : ℕ) (ks : ListName → List ℕ) (name : ListName) → Stand s heads off key ks → off (order_of name) ≡ false → stands s name key ≡ true → is_among (ks name) key ≡ true

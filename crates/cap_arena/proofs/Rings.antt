@@ -1,8 +1,9 @@
 -- Lists whose links agree both ways, as two walks round a ring: one more key at the end, and one taken out.
 use Rattle.std.proofs.Common.{◌≡◌, ℕ, Bool, true, false, not, ◌&&◌, ◌||◌, cond, Option, Some, None, List, [], ◌∷◌, ◌++◌, filter, reverse, refl, sym, ap, ◌∙◌, subst, slice_get, nat_eq, append-nil}
 use Rattle.std.specs.List.{AllByRecursion, IsDistinct}
+use Rattle.std.proofs.Math.Bool.{and-false, or-false, or_comm}
 use Rattle.std.proofs.lemmas.Cmp.{nat_eq_equiv}
-use Rattle.std.proofs.lemmas.Bool.{eqb-true, eq-eqb}
+use Rattle.std.proofs.lemmas.Bool.{eqb-true, eq-eqb, or_left, or_parts, or_right}
 use Rattle.std.proofs.lemmas.List.{reverse-append, reverse-reverse, append_assoc}
 use Rattle.std.proofs.lemmas.List.Folds.{list_any-append}
 use Rattle.std.proofs.lemmas.List.Sorted.{IsPermutation-reverse}
@@ -30,21 +31,9 @@ last_place place (key ∷ keys) = last_place (Some key) keys
 abbrev pub IsApart : Option ℕ → List ℕ → Type 0
 IsApart place keys = (key : ℕ) → is_among keys key ≡ true → same_place place (Some key) ≡ false
 
-or_right : (a b : Bool) → b ≡ true → (a || b) ≡ true
-or_right true b e = refl
-or_right false b e = e
-
-or_left : (a b : Bool) → a ≡ true → (a || b) ≡ true
-or_left true b e = refl
-or_left false b e = absurd (cc)
-
 or_cases : {P : Type 0} (a b : Bool) → (a || b) ≡ true → (a ≡ true → P) → (b ≡ true → P) → P
 or_cases true b e f g = f refl
 or_cases false b e f g = g e
-
-or_parts : (a b : Bool) → (a || b) ≡ false → (a ≡ false) × (b ≡ false)
-or_parts true b e = absurd (cc)
-or_parts false b e = (refl, e)
 
 -- what is among these is none of those that a key differs from
 among_all : (P : ℕ → Type 0) (keys : List ℕ) → AllByRecursion P keys → (key : ℕ) → is_among keys key ≡ true → P key
@@ -111,28 +100,18 @@ pub record IsRing (next previous : Option ℕ → Option ℕ) (keys : List ℕ) 
   pub back : IsWalk previous None (reverse keys)
   pub once : IsDistinct nat_eq keys
 
--- whether a key is among these, from behind
-or_swap : (a b : Bool) → (a || b) ≡ (b || a)
-or_swap true true = refl
-or_swap true false = refl
-or_swap false true = refl
-or_swap false false = refl
-
-or_false : (b : Bool) → (b || false) ≡ b
-or_false true = refl
-or_false false = refl
-
 pub among-append : (xs ys : List ℕ) (key : ℕ) → is_among (xs ++ ys) key ≡ (is_among xs key || is_among ys key)
 among-append xs ys key = list_any-append (nat_eq key) xs ys
 
+-- whether a key is among these, from behind
 pub among-reverse : (keys : List ℕ) (key : ℕ) → is_among (reverse keys) key ≡ is_among keys key
 among-reverse [] key = refl
 among-reverse (k ∷ keys) key =
     ap (λ ks. is_among ks key) (reverse-append (k ∷ []) keys)
     ∙ among-append (reverse keys) (k ∷ []) key
     ∙ ap (λ b. b || (nat_eq key k || false)) (among-reverse keys key)
-    ∙ or_swap (is_among keys key) (nat_eq key k || false)
-    ∙ ap (λ b. b || is_among keys key) (or_false (nat_eq key k))
+    ∙ or_comm (is_among keys key) (nat_eq key k || false)
+    ∙ ap (λ b. b || is_among keys key) (or-false (nat_eq key k))
 
 pub IsRing-alike : (next previous next' previous' : Option ℕ → Option ℕ) (keys : List ℕ) → next' None ≡ next None → previous' None ≡ previous None
     → ((key : ℕ) → is_among keys key ≡ true → next' (Some key) ≡ next (Some key)) → ((key : ℕ) → is_among keys key ≡ true → previous' (Some key) ≡ previous (Some key))
@@ -303,10 +282,6 @@ walk_stays step place (x ∷ ks) walk k there j e =
     (λ same. or_right (nat_eq j x) (is_among ks j) (head_among ks j (sym (first_step step (Some x) ks walk.1) ∙ ap step (ap Some (sym (eqb-true k x same))) ∙ e)))
     (λ later. or_right (nat_eq j x) (is_among ks j) (walk_stays step (Some x) ks walk.1 k later j e))
 
-and_false : (a : Bool) → (a && false) ≡ false
-and_false true = refl
-and_false false = refl
-
 or_and : (a b c : Bool) → (a ≡ true → c ≡ true) → (a || (b && c)) ≡ ((a || b) && c)
 or_and true b c f = sym (f refl)
 or_and false b c f = refl
@@ -317,7 +292,7 @@ filter_one : (x : ℕ) (ks : List ℕ) (key k : ℕ) → is_among (filter (λ y.
     → is_among (cond (not t) (x ∷ filter (λ y. not (nat_eq key y)) ks) (filter (λ y. not (nat_eq key y)) ks)) k ≡ ((b || is_among ks k) && not (nat_eq key k))
 filter_one x ks key k rest true same true here =
     let none : not (nat_eq key k) ≡ false = ap not (ap (nat_eq key) (eqb-true k x here) ∙ same) in
-    rest ∙ ap (λ c. is_among ks k && c) none ∙ and_false (is_among ks k) ∙ sym none
+    rest ∙ ap (λ c. is_among ks k && c) none ∙ and-false (is_among ks k) ∙ sym none
 filter_one x ks key k rest true same false here = rest
 filter_one x ks key k rest false apart b here =
     ap (λ c. c || is_among (filter (λ y. not (nat_eq key y)) ks) k) here

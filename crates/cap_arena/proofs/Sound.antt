@@ -2,6 +2,7 @@
 use Rattle.std.proofs.Common.{◌≡◌, ℕ, ◌<◌, ◌≤◌, zero, suc, Bool, true, false, not, ◌&&◌, cond, Option, Some, None, IsSome, is_some, List, [], ◌∷◌, length, count_by, reverse, refl, sym, ap, ◌∙◌, subst, arith, nat_eq, set}
 use Rattle.std.specs.List.{IsDistinct}
 use Rattle.std.specs.Option.{option_map, option_map_or}
+use Rattle.std.proofs.Math.Bool.{and-true}
 use Rattle.std.proofs.lemmas.Map.Steps.{length-le_from_distinct_below}
 use Rattle.std.proofs.lemmas.List.Sums.{sum_by-set}
 use Rattle.cap_arena.specs.declared.nodes.Order.{Order}
@@ -24,10 +25,6 @@ nowhere_off o = false
 -- each list is
 abbrev pub off_all : Order → Bool
 off_all o = true
-
-and_true : (b : Bool) → (b && true) ≡ b
-and_true true = refl
-and_true false = refl
 
 -- as many steps as there are keys, or more, make the walk
 pub walk_is : (step : Option ℕ → Option ℕ) (n : ℕ) (place : Option ℕ) (ks : List ℕ) → length ks ≤ n → IsWalk step place ks → walk step n place ≡ ks
@@ -53,7 +50,7 @@ module _ {T : Type 0} where
       let l = is name in
       record {
         ring = record { forth = l.forth; back = l.back; once = l.once };
-        members = λ k. l.nodes k ∙ sym (and_true (belongs_at t name k));
+        members = λ k. l.nodes k ∙ sym (and-true (belongs_at t name k));
       }
 
   -- the same lists by other ends that are the same
@@ -86,7 +83,7 @@ module _ {T : Type 0} where
         forth = subst (IsWalk (next_in t name) None) (sym same) (st name).ring.forth;
         back = subst (λ xs. IsWalk (previous_in t name) None (reverse xs)) (sym same) (st name).ring.back;
         once = subst (IsDistinct nat_eq) (sym same) (st name).ring.once;
-        nodes = λ k. ap (λ xs. is_among xs k) same ∙ (st name).members k ∙ ap (λ b. stands t.slots name k && not (b && nat_eq key k)) (on (order_of name)) ∙ and_true (stands t.slots name k);
+        nodes = λ k. ap (λ xs. is_among xs k) same ∙ (st name).members k ∙ ap (λ b. stands t.slots name k && not (b && nat_eq key k)) (on (order_of name)) ∙ and-true (stands t.slots name k);
       }
 
   -- ---- the ends of a list

@@ -1,8 +1,9 @@
 -- All lists at once, while a node is taken into its lists, or out of them, one after another.
 use Rattle.std.proofs.Common.{◌≡◌, ℕ, Bool, true, false, not, ◌&&◌, ◌||◌, cond, Option, Some, None, List, [], ◌∷◌, ◌++◌, filter, reverse, refl, sym, ap, ◌∙◌, subst, nat_eq}
 use Rattle.std.specs.Option.{option_map, option_map_or, option_and_then}
+use Rattle.std.proofs.Math.Bool.{or-false}
 use Rattle.std.proofs.lemmas.Cmp.{nat_eq_equiv}
-use Rattle.std.proofs.lemmas.Bool.{eqb-true, eq-eqb}
+use Rattle.std.proofs.lemmas.Bool.{and_parts, eqb-true, eq-eqb}
 use Rattle.cap_arena.specs.declared.nodes.Order.{Order}
 use Rattle.cap_arena.specs.declared.nodes.Ends.{Ends}
 use Rattle.cap_arena.specs.declared.nodes.Linked.{Linked}
@@ -29,14 +30,6 @@ one_name OfRecall (OfClient j) node e a b = absurd (cc)
 
 no_true : {P : Type 0} → false ≡ true → P
 no_true e = absurd (cc)
-
-and_left : (a b : Bool) → (a && b) ≡ true → a ≡ true
-and_left true b e = refl
-and_left false b e = e
-
-or_false : (b : Bool) → (b || false) ≡ b
-or_false true = refl
-or_false false = refl
 
 -- the orders in whose lists the node is not, with one less, and with one more
 abbrev pub with_on : (Order → Bool) → Order → Order → Bool
@@ -152,8 +145,8 @@ module _ {T : Type 0} where
       by_test false e = refl
       by_test true e =
           let here : is_among (keys name0) k ≡ true = from k (sym (same_place-is (Some k) place e)) in
-          let one = and_left (stands s name k) _ (sym ((st name).members k) ∙ there) in
-          let two = and_left (stands s name0 k) _ (sym ((st name0).members k) ∙ here) in
+          let one = (and_parts (stands s name k) _ (sym ((st name).members k) ∙ there)).0 in
+          let two = (and_parts (stands s name0 k) _ (sym ((st name0).members k) ∙ here)).0 in
           absurd (differ (one_name_at (plain_at s k) name name0 same one two))
 
   -- ---- one more node in a list
@@ -199,7 +192,7 @@ module _ {T : Type 0} where
               and_true : (a : Bool) → (a && true) ≡ a
               and_true true = refl
               and_true false = refl
-          by_key k false e = or_false (stands s name0 k && not (nat_eq key k)) ∙ ap (λ b. stands s name0 k && not b) (nat_eq_equiv.symm key k ∙ e)
+          by_key k false e = or-false (stands s name0 k && not (nat_eq key k)) ∙ ap (λ b. stands s name0 k && not b) (nat_eq_equiv.symm key k ∙ e)
 
       other_list : order_of name ≡ (order_of name0) → stands s name key ≡ false → Row s' (heads' name) name (keys name) (member s' (with_on off (order_of name0)) key name)
       other_list same out =

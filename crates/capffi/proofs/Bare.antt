@@ -9,7 +9,7 @@ use Rattle.std.proofs.lemmas.List.Splits.{slice_split-cons_yes, slice_split-cons
 use Rattle.std.proofs.lemmas.List.Sums.{length-filter, count_by-le-length}
 use Rattle.capwords.specs.Paths.{names_of, slashed, has_double_slash, are_few_and_short}
 use Rattle.capspec.proofs.Fronts.{which}
-use Rattle.capspec.proofs.Measured.{few_behind_slashes}
+use Rattle.capspec.proofs.Measured.{few_behind_slashes, all_kept}
 use Rattle.capspec.proofs.OneText.{is_as_it_stands}
 use Rattle.capspec.proofs.Paths.{is_slash, has_bytes, names_of-slashes}
 use Rattle.capspec.proofs.Slashed.{all_in, all_filter}
@@ -152,12 +152,6 @@ fit_parts names bytes (b ∷ bs) fit = elim (which (is_slash b)) [
       let parts = and_parts _ _ both in
       rw (slice_split-cons_no is_slash b bs e) (fit_onto b names bytes (slice_split is_slash bs) (ltb-true 0 bytes parts.0) (fit_parts names (bytes - 1) bs parts.1))
 ]
-
-all_kept : (test kept : List ℕ → Bool) (parts : List (List ℕ)) → list_all test parts ≡ true → list_all test (filter kept parts) ≡ true
-all_kept test kept [] all = refl
-all_kept test kept (part ∷ parts) all =
-    let both = and_parts (test part) (list_all test parts) all in
-    elim (which (kept part)) [ inl e ↦ rw (e, both.0) (all_kept test kept parts both.1) | inr e ↦ rw e (all_kept test kept parts both.1) ]
 
 pub fit_path : (path : List ℕ) → fits 31 255 path ≡ true → are_few_and_short (names_of path) ≡ true
 fit_path path fit =

@@ -14,26 +14,21 @@ use Rattle.capspec.specs.Items.{Item, IsItem}
 use Rattle.capspec.specs.Items.Item.{FsName, Path, Uid, Gids, RootSquash}
 use Rattle.capwords.specs.Paths.{names_of, slashed, are_few_and_short}
 use Rattle.capspec.specs.Separated.{AreSeparated}
+use Rattle.capspec.proofs.Written.{given}
 use Rattle.capgrant.specs.declared.answer.Verdict.{Verdict}
 use Rattle.capffi.specs.declared.block.Block.{Block}
 use Rattle.capffi.specs.declared.block.Entry.{Entry}
 use Rattle.capffi.specs.declared.filling.Ready.{Ready}
-use Rattle.capffi.specs.declared.passed.Answer.{Answer}
 use Rattle.capffi.specs.declared.passed.Question.{Question}
 use Rattle.capffi.specs.declared.trouble.Trouble.{Trouble}
 use Rattle.capffi.specs.declared.trouble.Trouble.TheVariants as troubles
 use Rattle.capffi.proofs.Bare.{names_back}
 use Rattle.capffi.specs.Blocks.{bare_names, path_names, flags_of, unless_zero, grant_of, grants_in, IsBlock}
 use Rattle.capffi.specs.ByBlock.{IsSaid, IsSaidOn, IsSaidOf, IsNumberTrouble, IsBlockTrouble}
-use Rattle.capffi.specs.Calls.{TellsVerdictBy}
 use Rattle.capffi.specs.Texts.{IsPut}
 use Rattle.capffi.specs.Filling.{fs_text, text_of, texts_of, block_text, IsNoneOrSome, CanBeSaid, IsEntryOf, AreEntriesOf, Says, IsPutInBlock}
 
 -- ---- a block can say each grant of a text
-
-given : {A : Type 0} (o : Option A) → (o ≡ None) ⊎ ((x : A) × (o ≡ Some x))
-given None = inl refl
-given (Some x) = inr (x, refl)
 
 -- what items say of a field has what each item's word gives it
 all_said : {A : Type 0} (says : Item → Option A) (P : A → Type 0) → ((word : List ℕ) (item : Item) (x : A) → IsItem word item → says item ≡ Some x → P x) → (words : List ℕ) (items : List Item) → AreWordsOf words items → AllByRecursion P (filter_map says items)
@@ -95,9 +90,6 @@ pub read_can : (text : List ℕ) (grants : List Grant) → Reads text grants →
 read_can text grants reads = all_can text grants reads.are_grants
 
 -- ---- entries say their grants
-
-pub no_entries : AreEntriesOf [] []
-no_entries = tt
 
 pub entry_more : (entries : List Entry) (grants : List Grant) (e : Entry) (g : Grant) → AreEntriesOf entries grants → IsEntryOf e g → AreEntriesOf (entries ++ e ∷ []) (grants ++ g ∷ [])
 entry_more [] [] e g are is = (is, tt)
@@ -217,8 +209,3 @@ said_of_text block text path groups bare q told whole few fit same is =
 pub names_of_read : (path bytes bare : List ℕ) (names : List (List ℕ)) → names ≡ names_of path → bytes ≡ slashed names → bare ≡ drop 1 bytes → bare_names bare ≡ names
 names_of_read path bytes bare names read is behind =
     ap bare_names behind ∙ ap path_names is ∙ ap (λ (ns : List (List ℕ)). path_names (slashed ns)) read ∙ names_back path ∙ sym read
-
--- what is told of a path is told of each text that has its names
-pub either_form : (block : Block) (text path other groups : List ℕ) (q : Question) (told : ℕ) (answered : Answer) → names_of other ≡ names_of path → TellsVerdictBy block text path groups q told answered → TellsVerdictBy block text other groups q told answered
-either_form block text path other groups q told answered same tells =
-    (tells.0, subst (λ (names : List (List ℕ)). IsSaidOn block text names groups q tells.0) (sym same) tells.1, tells.2, tells.3)

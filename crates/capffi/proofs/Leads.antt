@@ -2,11 +2,13 @@
 use Rattle.std.proofs.Common.{◌≡◌, ℕ, ◌<◌, ◌≤◌, Bool, true, false, ◌&&◌, ◌≢◌, eqb, List, [], ◌∷◌, length, take, drop, get_or, ◌+◌, ◌-◌, true≢false, refl, sym, ap, ◌∙◌, inl, inr, arith}
 use Rattle.std.specs.Prelude.{◌↔◌, IsTrue, bytes_eq}
 use Rattle.std.specs.List.{starts_with, slice_split, onto_first}
+use Rattle.std.proofs.Math.Bool.{and-false, and-true, and_assoc}
 use Rattle.std.proofs.lemmas.Bool.{eqb-true, ne_eqb}
 use Rattle.std.proofs.lemmas.Bool.Decides.{same_from_decides}
 use Rattle.std.proofs.lemmas.Slice.Eq.{bytes_eq-Decides}
-use Rattle.std.proofs.lemmas.List.{drop_more, drop_all, drop-drop}
+use Rattle.std.proofs.lemmas.List.{drop_all, drop-drop}
 use Rattle.std.proofs.lemmas.List.Splits.{slice_split-cons_yes, slice_split-cons_no, length-slice_split}
+use Rattle.std.proofs.lemmas.Cmp.{nat_eq_equiv}
 use Rattle.capspec.proofs.Fronts.{which}
 use Rattle.capspec.proofs.Paths.{is_slash}
 use Rattle.capffi.specs.Blocks.{bare_names, path_names}
@@ -37,14 +39,10 @@ empty_part : (b : ℕ) (parts firsts : List (List ℕ)) → begin ([] ∷ parts)
 empty_part b parts [] = refl
 empty_part b parts (first ∷ firsts) = refl
 
-and_more : (a b c : Bool) → ((a && b) && c) ≡ (a && (b && c))
-and_more true b c = refl
-and_more false b c = refl
-
 onto_both : (b c : ℕ) (parts firsts : List (List ℕ)) → 0 < length parts → 0 < length firsts → begin (onto_first c parts) (onto_first b firsts) ≡ (eqb b c && begin parts firsts)
 onto_both b c [] firsts some others = absurd (omega arith)
 onto_both b c (part ∷ parts) [] some others = absurd (omega arith)
-onto_both b c (part ∷ parts) (first ∷ firsts) some others = and_more (eqb b c) (bytes_eq first part) (begin parts firsts)
+onto_both b c (part ∷ parts) (first ∷ firsts) some others = and_assoc (eqb b c) (bytes_eq first part) (begin parts firsts)
 
 -- two bytes, of which one alone is a slash
 differ : (b c : ℕ) (one other : Bool) → one ≢ other → is_slash b ≡ one → is_slash c ≡ other → eqb b c ≡ false
@@ -80,19 +78,6 @@ begin_is (b ∷ dir) (c ∷ to) = elim (which (is_slash b)) [
 
 -- ---- how a text leads to another, by its length
 
-eq_turns : (b c : ℕ) → eqb b c ≡ eqb c b
-eq_turns b c = elim (which (eqb b c)) [
-  | inl e ↦ rw (eqb-true b c e) refl
-  | inr e ↦ elim (which (eqb c b)) [
-    | inl f ↦ rw (eqb-true c b f) refl
-    | inr f ↦ e ∙ sym f
-  ]
-]
-
-and_false : (a : Bool) → (a && false) ≡ false
-and_false true = refl
-and_false false = refl
-
 leads_past : (dir to : List ℕ) → length to ≤ length dir → bytes_eq dir to ≡ leads dir to
 leads_past [] [] past = refl
 leads_past [] (c ∷ to) past = absurd (omega (arith, past))
@@ -103,13 +88,13 @@ leads_slash : (dir to : List ℕ) → length dir < length to → get_or to (leng
 leads_slash [] [] within is = absurd (omega (arith, within))
 leads_slash [] (c ∷ to) within is = rw is refl
 leads_slash (b ∷ dir) [] within is = absurd (omega (arith, within))
-leads_slash (b ∷ dir) (c ∷ to) within is = rw (eq_turns c b) (ap (λ (t : Bool). eqb b c && t) (leads_slash dir to (omega (arith, within)) is))
+leads_slash (b ∷ dir) (c ∷ to) within is = rw (nat_eq_equiv.symm c b) (ap (λ (t : Bool). eqb b c && t) (leads_slash dir to (omega (arith, within)) is))
 
 leads_other : (dir to : List ℕ) → length dir < length to → get_or to (length dir) 0 ≢ 47 → false ≡ leads dir to
 leads_other [] [] within other = absurd (omega (arith, within))
 leads_other [] (c ∷ to) within other = sym (ne_eqb c 47 other)
 leads_other (b ∷ dir) [] within other = absurd (omega (arith, within))
-leads_other (b ∷ dir) (c ∷ to) within other = sym (and_false (eqb b c)) ∙ ap (λ (t : Bool). eqb b c && t) (leads_other dir to (omega (arith, within)) other)
+leads_other (b ∷ dir) (c ∷ to) within other = sym (and-false (eqb b c)) ∙ ap (λ (t : Bool). eqb b c && t) (leads_other dir to (omega (arith, within)) other)
 
 -- ---- the same of the names
 
@@ -150,9 +135,6 @@ other_length xs ys other = elim (which (bytes_eq xs ys)) [
 
 -- ---- piece by piece
 
-pub byte_more : (xs ys : List ℕ) (k : ℕ) → length xs ≡ length ys → k < length ys → bytes_eq (drop k xs) (drop k ys) ≡ (eqb (get_or xs k 0) (get_or ys k 0) && bytes_eq (drop (k + 1) xs) (drop (k + 1) ys))
-byte_more xs ys k same within = rw (drop_more xs k 0 (omega (arith, same, within)), drop_more ys k 0 within) refl
-
 -- where the ends of two texts are the same, so are those behind them
 further_same : (k m : ℕ) (xs ys : List ℕ) → k ≤ m → bytes_eq (drop k xs) (drop k ys) ≡ true → bytes_eq (drop m xs) (drop m ys) ≡ true
 further_same k m xs ys before same =
@@ -161,19 +143,15 @@ further_same k m xs ys before same =
     let later : drop m xs ≡ drop m ys = ap (λ (n : ℕ). drop n xs) (sym place) ∙ sym (drop-drop (m - k) k xs) ∙ ap (drop (m - k)) rests ∙ drop-drop (m - k) k ys ∙ ap (λ (n : ℕ). drop n ys) place in
     (bytes_eq-Decides (drop m xs) (drop m ys)).1 later
 
-and_true : (b : Bool) → (b && true) ≡ b
-and_true true = refl
-and_true false = refl
-
 -- the last piece of two texts is the same where all behind its place is
 pub last_piece : (xs ys : List ℕ) (back : Bool) (k m : ℕ) → length xs ≡ length ys → length ys ≤ m → (back && bytes_eq (drop m xs) (drop m ys)) ≡ bytes_eq (drop k xs) (drop k ys) → back ≡ bytes_eq (drop k xs) (drop k ys)
 last_piece xs ys back k m same past told =
     let end : bytes_eq (drop m xs) (drop m ys) ≡ true = rw (drop_all m xs (omega (arith, same, past)), drop_all m ys past) refl in
-    sym (and_true back) ∙ ap (λ (t : Bool). back && t) (sym end) ∙ told
+    sym (and-true back) ∙ ap (λ (t : Bool). back && t) (sym end) ∙ told
 
 -- where it is the same, the first tells of the whole
 pub first_piece : (xs ys : List ℕ) (front : Bool) (k m : ℕ) → k ≤ m → bytes_eq (drop k xs) (drop k ys) ≡ true → (front && bytes_eq (drop m xs) (drop m ys)) ≡ bytes_eq xs ys → front ≡ bytes_eq xs ys
-first_piece xs ys front k m before same told = sym (and_true front) ∙ ap (λ (t : Bool). front && t) (sym (further_same k m xs ys before same)) ∙ told
+first_piece xs ys front k m before same told = sym (and-true front) ∙ ap (λ (t : Bool). front && t) (sym (further_same k m xs ys before same)) ∙ told
 
 pub other_end : (xs ys : List ℕ) (k : ℕ) → bytes_eq (drop k xs) (drop k ys) ≡ false → false ≡ bytes_eq xs ys
 other_end xs ys k other = elim (which (bytes_eq xs ys)) [

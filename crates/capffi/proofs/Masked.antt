@@ -1,5 +1,5 @@
 -- The slashes of many bytes at once, as the bits of a number.
-use Rattle.std.proofs.Common.{◌≡◌, ℕ, zero, suc, ◌+◌, ◌-◌, ◌*◌, ◌/◌, ◌%◌, ◌^◌, ◌<◌, ◌≤◌, min, Bool, true, false, cond, ◌&&◌, ◌||◌, not, eqb, if◌then◌else◌, List, [], ◌∷◌, length, map, take, drop, replicate, count_ones, true≢false, refl, sym, ap, ap₂, ◌∙◌, inl, inr, arith, w8, eqb-true, eq-eqb, pow-suc, pow_pos}
+use Rattle.std.proofs.Common.{◌≡◌, ℕ, zero, suc, ◌+◌, ◌-◌, ◌*◌, ◌/◌, ◌%◌, ◌^◌, ◌<◌, ◌≤◌, min, Bool, true, false, cond, ◌&&◌, ◌||◌, not, eqb, if◌then◌else◌, List, [], ◌∷◌, length, map, take, drop, replicate, count_ones, true≢false, refl, sym, ap, ap₂, subst, ◌∙◌, inl, inr, arith, w8, eqb-true, eq-eqb, pow-suc, pow_pos}
 use Rattle.std.specs.Prelude.{count_by}
 use Rattle.std.specs.Int.{from_bool}
 use Rattle.std.proofs.lemmas.List.{drop-drop, length-drop}
@@ -93,9 +93,12 @@ fronts zero (b ∷ bytes) within = refl
 fronts (suc k) (b ∷ []) within = absurd (omega (arith, within))
 fronts (suc k) (b ∷ c ∷ bytes) within = or_more (is_slash b && is_slash c) (has_double_slash (take (suc k) (c ∷ bytes))) (has_double_slash (drop k (c ∷ bytes))) (has_double_slash (c ∷ bytes)) (fronts k (c ∷ bytes) (omega (arith, within)))
 
--- what a comparison with a slash gives of m + 1 bytes
+-- what a comparison with a slash gives of n bytes
+abbrev mask_of : ℕ → List ℕ → ℕ → ℕ
+mask_of n path start = mask_l (map (top 7) (zip2 (λ a b. cond (eqb a b) (2 ^ 8 - 1) 0) (chunk start n path) (replicate n 47))) % 2 ^ 64
+
 abbrev mask : ℕ → List ℕ → ℕ → ℕ
-mask m path start = mask_l (map (top 7) (zip2 (λ a b. cond (eqb a b) (2 ^ 8 - 1) 0) (chunk start (suc m) path) (replicate (suc m) 47))) % 2 ^ 64
+mask m path start = mask_of (suc m) path start
 
 mask_is : (m : ℕ) (path : List ℕ) (start : ℕ) → m ≤ 63 → start + suc m ≤ length path → mask m path start ≡ slashes (chunk start (suc m) path)
 mask_is m path start few within = bitmask_splat w8 eqb (chunk start (suc m) path) (suc m) 47 (length-chunk start (suc m) path within) (omega (arith, few))
@@ -126,6 +129,14 @@ pub lone_in : (m : ℕ) (path : List ℕ) (start front : ℕ) (b : Bool) → m �
     → (not (eqb (bit_and (mask m path start) (moved (mask m path start) front)) 0) || has_double_slash (drop (start + m) path)) ≡ has_double_slash (if b then 47 ∷ drop start path else drop start path)
 lone_in m path start front true few within e = looked m path start front 47 few within e
 lone_in m path start front false few within e = looked m path start front 0 few within e ∙ not_behind (drop start path)
+
+-- the same of n bytes
+pub lone_by : (n : ℕ) (path : List ℕ) (start front : ℕ) (b : Bool) → 0 < n → n ≤ 64 → start + n ≤ length path → front ≡ from_bool b
+    → (not (eqb (bit_and (mask_of n path start) (moved (mask_of n path start) front)) 0) || has_double_slash (drop (start + (n - 1)) path)) ≡ has_double_slash (if b then 47 ∷ drop start path else drop start path)
+lone_by n path start front b some few within e =
+    let whole : suc (n - 1) ≡ n = omega (arith, some) in
+    subst (λ (k : ℕ). (not (eqb (bit_and (mask_of k path start) (moved (mask_of k path start) front)) 0) || has_double_slash (drop (start + (n - 1)) path)) ≡ has_double_slash (if b then 47 ∷ drop start path else drop start path))
+    whole (lone_in (n - 1) path start front b (omega (arith, few)) (omega (arith, some, within)) e)
 
 -- ---- how many there are
 

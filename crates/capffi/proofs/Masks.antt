@@ -10,11 +10,10 @@ use Rattle.capgrant.specs.declared.access.Access.TheVariants.{Read, Write}
 use Rattle.capgrant.specs.declared.answer.Verdict.{Verdict}
 use Rattle.capffi.specs.declared.block.Block.{Block}
 use Rattle.capffi.specs.declared.by_mask.Told.{Told}
-use Rattle.capffi.specs.declared.passed.Answer.{Answer}
 use Rattle.capffi.specs.declared.passed.Check.{Check}
 use Rattle.capffi.specs.declared.trouble.Trouble.{Trouble}
 use Rattle.capffi.specs.Blocks.{bare_names, IsBlock}
-use Rattle.capffi.specs.ByMask.{is_known, asked_if, accesses_of, verdict_on, is_denied, told_next, told_of, IsSaidOfMask, IsMaskTrouble, IsSaidOnMask, IsSaidToMask, TellsMask}
+use Rattle.capffi.specs.ByMask.{is_known, asked_if, accesses_of, verdict_on, is_denied, told_next, told_of, IsSaidOfMask, IsMaskTrouble, IsSaidToMask}
 
 -- ---- one access more
 
@@ -79,8 +78,3 @@ told_one block text path groups bare c access whole fit same known asked =
     let judge : Access → Verdict = verdict_on block text (bare_names bare) groups c in
     let all : Some (record { access = access; verdict = judge access }) ≡ told_of judge (accesses_of c) = ap (told_of judge) (sym asked) in
     said_to_mask block text path groups bare c (Ok (record { access = access; verdict = judge access })) whole fit same (known, all)
-
--- what is told of a path is told of each text that has its names
-pub either_form : (block : Block) (text path other groups : List ℕ) (c : Check) (told : ℕ) (answered : Answer) (access : ℕ) → names_of other ≡ names_of path → TellsMask block text path groups c told answered access → TellsMask block text other groups c told answered access
-either_form block text path other groups c told answered access same tells =
-    (tells.0, subst (λ (names : List (List ℕ)). IsSaidOnMask block text names groups c tells.0) (sym same) tells.1, tells.2, tells.3, tells.4)

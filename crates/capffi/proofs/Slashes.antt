@@ -1,7 +1,7 @@
 -- Pieces of a path's text, in which two slashes may stand side by side.
 use Rattle.std.proofs.Common.{◌≡◌, ℕ, ◌+◌, ◌-◌, ◌<◌, ◌≤◌, zero, suc, Bool, true, false, cond, ◌||◌, List, [], ◌∷◌, length, get_or, drop, refl, sym, ap, subst, ◌∙◌, true≢false, arith}
 use Rattle.std.specs.Prelude.{count_by}
-use Rattle.std.proofs.Math.Bool.{and-false}
+use Rattle.std.proofs.Math.Bool.{and-false, or-false}
 use Rattle.std.proofs.lemmas.Bool.{or_parts}
 use Rattle.std.proofs.lemmas.List.{drop-drop, length-drop}
 use Rattle.std.proofs.lemmas.List.Sums.{sum_by-take-drop, count_by-le-length}
@@ -84,10 +84,6 @@ ends_found false true true later first more fewer = refl
 ends_found false true false later first more fewer = fewer refl
 ends_found false false whole later first more fewer = sym (more refl) ∙ first
 
-or_false : (b : Bool) → (b || false) ≡ b
-or_false true = refl
-or_false false = refl
-
 -- no two stand behind the place of the last byte
 last_byte : (k : ℕ) (text : List ℕ) → length text ≤ k + 1 → has_double_slash (drop k text) ≡ false
 last_byte k text ends =
@@ -97,5 +93,5 @@ last_byte k text ends =
 pub at_ends : (text : List ℕ) (front back : Bool) (k m end : ℕ) → k ≤ m → length text ≤ end + 1 → (front || has_double_slash (drop m text)) ≡ has_double_slash text → (back || has_double_slash (drop end text)) ≡ has_double_slash (drop k text) → (front || back) ≡ has_double_slash text
 at_ends text front back k m end before ends first last =
     let none_behind : has_double_slash (drop end text) ≡ false = last_byte end text ends in
-    let tells : back ≡ has_double_slash (drop k text) = sym (or_false back) ∙ ap (λ (t : Bool). back || t) (sym none_behind) ∙ last in
+    let tells : back ≡ has_double_slash (drop k text) = sym (or-false back) ∙ ap (λ (t : Bool). back || t) (sym none_behind) ∙ last in
     ends_found front back (has_double_slash text) (has_double_slash (drop m text)) first (λ none. further k m text before (sym tells ∙ none)) (λ none. tells ∙ behind k text none)

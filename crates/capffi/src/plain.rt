@@ -1,5 +1,5 @@
 //! Paths whose text needs no other form.
-ghost use Rattle.std.specs.Prelude.{◌≡◌, ◌≢◌, ◌==◌, ◌<◌, ◌≤◌, ◌+◌, ◌-◌, ◌||◌, if◌then◌else◌, ◌∷◌, false, count_by, IfSome, IsTrue, IsFalse, length, slice_index, drop};
+ghost use Rattle.std.specs.Prelude.{◌≡◌, ◌≢◌, ◌==◌, ◌<◌, ◌≤◌, ◌+◌, ◌-◌, ◌*◌, ◌||◌, if◌then◌else◌, ◌∷◌, false, count_by, IfSome, IsTrue, IsFalse, length, slice_index, drop};
 ghost use Rattle.capwords.specs.Paths.{names_of, has_double_slash, are_few_and_short};
 ghost use Rattle.capffi.specs.Blocks.{bare_names};
 
@@ -126,31 +126,21 @@ fn has_double_slash(path: &[u8]) -> bool
 {
     match path.len() {
         0..=15 => has_double_slash_in_few(path),
-        16..=31 => look_at_ends_by_16(path),
-        _ => look_at_ends_by_32(path),
+        16..=31 => look_at_ends_by::<16>(path),
+        _ => look_at_ends_by::<32>(path),
     }
 }
 
-// The same of two pieces of 16 bytes.
+// The same of two pieces of so many bytes.
 #[inline(always)]
-fn look_at_ends_by_16(path: &[u8]) -> bool
-    requires more { 16 ≤ length path.now }
-    requires few { length path.now ≤ 31 }
+fn look_at_ends_by<const PIECE: usize>(path: &[u8]) -> bool
+    requires piece { PIECE ≤ 64 }
+    requires more { PIECE ≤ length path.now }
+    requires few { length path.now < 2 * PIECE }
     ensures { result ≡ has_double_slash (47 ∷ path.now) }
 {
-    let in_front = look_by_16(path, 0, true);
-    in_front | look_by_16(path, path.len() - 16, false)
-}
-
-// The same of two pieces of 32 bytes.
-#[inline(always)]
-fn look_at_ends_by_32(path: &[u8]) -> bool
-    requires more { 32 ≤ length path.now }
-    requires few { length path.now ≤ 63 }
-    ensures { result ≡ has_double_slash (47 ∷ path.now) }
-{
-    let in_front = look_by_32(path, 0, true);
-    in_front | look_by_32(path, path.len() - 32, false)
+    let in_front = look_by::<PIECE>(path, 0, true);
+    in_front | look_by::<PIECE>(path, path.len() - PIECE, false)
 }
 
 // The same byte by byte.
@@ -204,28 +194,16 @@ fn is_double_slash(path: &[u8], place: usize) -> bool
     path[place - 1] == b'/' && path[place] == b'/'
 }
 
-// Whether one of the slashes of 16 bytes stands behind another, which may be one before them. They are the bits of a number.
+// Whether one of the slashes of a piece stands behind another, which may be one before the piece. They are the bits of a number.
 #[inline(always)]
-fn look_by_16(path: &[u8], start: usize, is_behind_slash: bool) -> bool
-    requires { start + 16 ≤ length path.now }
-    ensures { (result || has_double_slash (drop (start + 15) path.now)) ≡ has_double_slash (if is_behind_slash then 47 ∷ drop start path.now else drop start path.now) }
+fn look_by<const PIECE: usize>(path: &[u8], start: usize, is_behind_slash: bool) -> bool
+    requires some { 0 < PIECE }
+    requires piece { PIECE ≤ 64 }
+    requires inside { start + PIECE ≤ length path.now }
+    ensures { (result || has_double_slash (drop (start + (PIECE - 1)) path.now)) ≡ has_double_slash (if is_behind_slash then 47 ∷ drop start path.now else drop start path.now) }
 {
-    let bytes = u8x16::from_slice(&path[start..]);
-    let slashes = bytes.simd_eq(u8x16::splat(b'/')).to_bitmask();
-    let behind = slashes
-        .wrapping_add(slashes)
-        .wrapping_add(u64::from(is_behind_slash));
-    slashes & behind != 0
-}
-
-// The same of 32 bytes.
-#[inline(always)]
-fn look_by_32(path: &[u8], start: usize, is_behind_slash: bool) -> bool
-    requires { start + 32 ≤ length path.now }
-    ensures { (result || has_double_slash (drop (start + 31) path.now)) ≡ has_double_slash (if is_behind_slash then 47 ∷ drop start path.now else drop start path.now) }
-{
-    let bytes = u8x32::from_slice(&path[start..]);
-    let slashes = bytes.simd_eq(u8x32::splat(b'/')).to_bitmask();
+    let bytes = Simd::<u8, PIECE>::from_slice(&path[start..]);
+    let slashes = bytes.simd_eq(Simd::splat(b'/')).to_bitmask();
     let behind = slashes
         .wrapping_add(slashes)
         .wrapping_add(u64::from(is_behind_slash));

@@ -4,6 +4,7 @@ use Rattle.std.specs.FinMap as map
 use Rattle.std.specs.List.{list_any, flat_map}
 use Rattle.std.proofs.lemmas.List.Elements.{All-contains_itself, recursion_from_All}
 use Rattle.std.proofs.lemmas.List.Folds.{list_any-append, list_any_at}
+use Rattle.std.proofs.lemmas.Bool.{or_left, or_right}
 use Rattle.capbits.specs.declared.ids.Ino.{Ino}
 use Rattle.inotree.specs.declared.index.Slot.{Slot}
 use Rattle.inotree.specs.Inodes.{InodeMap}
@@ -13,8 +14,8 @@ use Rattle.numbered.proofs.Found.{both_true, and_true, any_some, any-filter, fou
 use Rattle.inotree.proofs.Growing.{last_step}
 use Rattle.inotree.proofs.Shape.{climb_on}
 use Rattle.inotree.proofs.Slots.{slot_total, slot_same}
-use Rattle.inotree.proofs.Walks.{or_first, same_test, test_same}
-use Rattle.inotree.proofs.Within.{within-climbs, climb_fits, or_second}
+use Rattle.inotree.proofs.Walks.{same_test, test_same}
+use Rattle.inotree.proofs.Within.{within-climbs, climb_fits}
 
 -- ---- step by step
 
@@ -48,8 +49,8 @@ has-step n index k i = ap (λ b. (i == k) || b) (any_flat k (λ (e : Slot × ℕ
 
 has-itself : (n : ℕ) (index : NameIndex) (k i : ℕ) → i ≡ k → has k (gathered n index i) ≡ true
 unfolding gathered
-has-itself zero index k i e = or_first (i == k) _ (same_test i k e)
-has-itself (suc n) index k i e = or_first (i == k) _ (same_test i k e)
+has-itself zero index k i e = or_left (i == k) _ (same_test i k e)
+has-itself (suc n) index k i e = or_left (i == k) _ (same_test i k e)
 
 module _ (m : InodeMap) (index : NameIndex) (x : IsIndexed m index) where
   -- what climbs so far is gathered
@@ -60,7 +61,7 @@ module _ (m : InodeMap) (index : NameIndex) (x : IsIndexed m index) where
       let r = last_step m k a up i c in
       let deeper : has k (gathered n index r.0) ≡ true = gathers n r.2 k r.0 (omega (arith, r.5)) r.4 in
       has-step n index k i
-      ∙ or_second (i == k) _ (any_found slot_total slot_same (λ (e : Slot × ℕ). (e.0.dir == i) && has k (gathered n index e.1)) index (record { dir = i; name = r.1 }) r.0 (x.taken r.0 i r.1 r.3)
+      ∙ or_right (i == k) _ (any_found slot_total slot_same (λ (e : Slot × ℕ). (e.0.dir == i) && has k (gathered n index e.1)) index (record { dir = i; name = r.1 }) r.0 (x.taken r.0 i r.1 r.3)
       (and_true _ _ (same_test i i refl) deeper))
 
   single : (b : Bool) → (b || false) ≡ true → b ≡ true

@@ -5,6 +5,7 @@ use Rattle.std.specs.Ordering.{nat_cmp, ord_max, is_lt}
 use Rattle.std.proofs.lemmas.Map.Keys.{ge_from_not_lt}
 use Rattle.std.proofs.lemmas.Bool.Decides.{nat_tests}
 use Rattle.std.proofs.lemmas.List.Folds.{list_any-append}
+use Rattle.std.proofs.lemmas.Bool.{or_parts}
 use Rattle.std.specs.Cmp.{nat_cmp_total}
 use Rattle.std.specs.FinMap as map
 use Rattle.std.specs.Map.Iter.{deref_pair}
@@ -17,7 +18,6 @@ use Rattle.inotree.specs.Heights.{HeightMap, bound, height, IsHigher, HeightsRis
 use Rattle.inotree.specs.Tree.{IsIndexed, IsUnder, is_directory}
 use Rattle.numbered.proofs.Found.{and_true, any-filter, any-map, any_found}
 use Rattle.numbered.proofs.Maps.{insert-here, change-is, change-none}
-use Rattle.inotree.proofs.Passing.{or_both}
 use Rattle.inotree.proofs.Reaching.{reaches-zero, reaches-step, any_found as reached_one}
 use Rattle.inotree.proofs.Rising.{inserted_same, height_dir}
 use Rattle.inotree.proofs.Shape.{same_ino}
@@ -55,7 +55,7 @@ module _ {A : Type 0} (f g : A → ℕ) (lower : (x : A) → g x ≤ f x) (n k :
   none_high : (xs : List A) → list_any (λ x. nat_le n (f x)) xs ≡ false → list_any (λ x. nat_le k (g x)) xs ≡ false
   none_high [] e = refl
   none_high (x ∷ xs) e =
-      let parts = or_both (nat_le n (f x)) (list_any (λ x. nat_le n (f x)) xs) e in
+      let parts = or_parts (nat_le n (f x)) (list_any (λ x. nat_le n (f x)) xs) e in
       ap (λ b. b || list_any (λ x. nat_le k (g x)) xs) (still_low n k (f x) (g x) more (lower x) parts.0) ∙ none_high xs parts.1
 
 -- a turn of the loop, in which heights may be lowered

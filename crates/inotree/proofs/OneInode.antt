@@ -1,5 +1,6 @@
 -- A change of one inode: what it leaves of the inodes, of their paths and of what every tree keeps.
 use Rattle.std.proofs.Common.{◌≡◌, ℕ, Bool, false, not, nat_lt, ◌||◌, List, [], ◌∷◌, ◌++◌, Option, Some, None, is_some, refl, sym, ap, subst, ◌∙◌}
+use Rattle.std.proofs.lemmas.Bool.{or_parts}
 use Rattle.std.specs.Cmp.{nat_cmp_total}
 use Rattle.std.specs.FinMap as map
 use Rattle.std.specs.FinSet as set
@@ -22,7 +23,7 @@ use Rattle.inotree.proofs.Changes.{tree-changed, tree-unlinked, setting_kind, se
 use Rattle.inotree.proofs.Elsewhere.{path_of-kept, field-changed, alike-other}
 use Rattle.inotree.proofs.Inner.{setting_good, attribute_good, no_attribute_good}
 use Rattle.numbered.proofs.Maps.{insert-other, change-none}
-use Rattle.inotree.proofs.Passing.{here, or_both, childless_file, childless_empty}
+use Rattle.inotree.proofs.Passing.{here, childless_file, childless_empty}
 
 -- ---- which inodes there are, and the others
 
@@ -76,7 +77,7 @@ shallow-empty : (tree : Nodes) (ino : ℕ) → first_failing (directory_test tre
 shallow-empty tree ino passed =
     let dir = passed-if (not (is_directory tree.nodes ino)) refusal.NotDir _ passed in
     let empty = passed-if (reaches 1 tree.nodes ino || test_at (λ n. nat_lt 0 (set.len n.snapshots)) tree ino) refusal.NotEmpty _ dir.1 in
-    (or_both (reaches 1 tree.nodes ino) _ empty.0).0
+    (or_parts (reaches 1 tree.nodes ino) _ empty.0).0
 
 pub childless-empty : (tree : Nodes) (ino : ℕ) → first_failing (directory_test tree ino ∷ empty_test tree ino ∷ []) ≡ None → IsChildless tree.nodes ino
 childless-empty tree ino passed = childless_empty tree.nodes ino (shallow-empty tree ino passed)

@@ -1,8 +1,8 @@
 -- What the tests of a call that were passed say of the tree.
-use Rattle.std.proofs.Common.{◌≡◌, ℕ, ◌-◌, Bool, true, false, not, nat_le, ◌<◌, ◌≤◌, ◌||◌, ◌==◌, List, [], ◌∷◌, length, Option, Some, None, is_some, inl, inr, refl, ◌∙◌, arith}
+use Rattle.std.proofs.Common.{◌≡◌, ℕ, ◌-◌, true, false, not, nat_le, ◌<◌, ◌≤◌, ◌||◌, ◌==◌, List, [], ◌∷◌, length, Option, Some, None, is_some, inl, inr, refl, ◌∙◌, arith}
 use Rattle.std.specs.Prelude.{if◌then◌else◌}
 use Rattle.std.specs.Option.{option_map}
-use Rattle.std.proofs.lemmas.Bool.{cases_lt}
+use Rattle.std.proofs.lemmas.Bool.{cases_lt, or_parts, not-false}
 use Rattle.std.proofs.lemmas.Bool.Decides.{nat_tests}
 use Rattle.std.specs.FinMap as map
 use Rattle.std.specs.FinSet as set
@@ -48,17 +48,9 @@ here_by NoIno is was = cc
 here_by Gone is was = cc
 here_by Here is was = refl
 
-not_false : (b : Bool) → not b ≡ false → b ≡ true
-not_false true e = refl
-not_false false e = cc
-
 none_of : {A : Type 0} (o : Option A) → is_some o ≡ false → o ≡ None
 none_of None e = refl
 none_of (Some x) e = cc
-
-pub or_both : (a b : Bool) → (a || b) ≡ false → (a ≡ false) × (b ≡ false)
-or_both true b e = cc
-or_both false b e = (refl, e)
 
 -- an inode that passed its tests is there, and so what comes behind them passed
 pub here : (t : Nodes) (i : ℕ) (rest : Option Refusal) → (if is_no_ino (place t.nodes i) then Some refusal.NoIno else if is_gone (place t.nodes i) then Some refusal.Gone else rest) ≡ None →
@@ -83,7 +75,7 @@ placeable t d a rest passed =
     let dir = passed-if (not (is_directory t.nodes d)) refusal.NotDir _ at.1 in
     let bad = passed-if (is_bad_name a) refusal.NameBad _ dir.1 in
     let taken = passed-if (is_some (child t.nodes d a)) refusal.Exists rest bad.1 in
-    (record { kind = not_false (is_directory t.nodes d) dir.0; here = at.0; good = bad.0; free = none_of (child t.nodes d a) taken.0 }, taken.1)
+    (record { kind = not-false (is_directory t.nodes d) dir.0; here = at.0; good = bad.0; free = none_of (child t.nodes d a) taken.0 }, taken.1)
 
 below_limit : (n : ℕ) → nat_le 32 n ≡ false → n < 32
 below_limit n e = grind (arith, nat_tests)
@@ -96,7 +88,7 @@ passed-create t d a passed =
     let p = placeable t d a _ passed in
     let deep = passed-if (nat_le 32 (depth t.nodes d)) refusal.TooDeep _ p.1 in
     let full = passed-if (nat_le 65536 (map.len t.nodes) || (t.last == 18446744073709551615)) refusal.Limit _ deep.1 in
-    (p.0, below_limit (depth t.nodes d) deep.0, not_last t.last (or_both (nat_le 65536 (map.len t.nodes)) (t.last == 18446744073709551615) full.0).1)
+    (p.0, below_limit (depth t.nodes d) deep.0, not_last t.last (or_parts (nat_le 65536 (map.len t.nodes)) (t.last == 18446744073709551615) full.0).1)
 
 -- a name that can be given is not too long
 pub short : (a : List ℕ) → (255 < length a → ⊥) → length a ≤ 255

@@ -1,6 +1,7 @@
 -- What a walk down the index says step by step.
-use Rattle.std.proofs.Common.{◌≡◌, ℕ, ◌-◌, suc, zero, Bool, true, false, List, [], ◌∷◌, ◌++◌, ◌||◌, refl, sym, ap, ◌∙◌, subst, arith}
+use Rattle.std.proofs.Common.{◌≡◌, ℕ, ◌-◌, suc, zero, Bool, true, List, [], ◌∷◌, ◌++◌, ◌||◌, refl, sym, ap, ◌∙◌, subst, arith}
 use Rattle.std.specs.List.{list_any}
+use Rattle.std.proofs.Math.Bool.{or-true}
 use Rattle.inotree.specs.Index.{NameIndex, names_in, index_reaches}
 
 pub reaches-zero : (n : ℕ) (index : NameIndex) (dir : ℕ) → n ≡ 0 → index_reaches n index dir ≡ true
@@ -12,10 +13,6 @@ unfolding index_reaches
 reaches-step zero index dir h = absurd (h refl)
 reaches-step (suc n) index dir h = let e : suc n - 1 ≡ n = omega arith in ap (λ k. list_any (λ e. index_reaches k index e.1) (names_in dir index)) (sym e)
 
-or_true : (b : Bool) → (b || true) ≡ true
-or_true true = refl
-or_true false = refl
-
 pub any_found : {A : Type 0} (p : A → Bool) (xs ys : List A) (x : A) → p x ≡ true → list_any p (xs ++ x ∷ ys) ≡ true
 any_found p [] ys x e = ap (λ b. b || list_any p ys) e
-any_found p (y ∷ zs) ys x e = ap (λ b. p y || b) (any_found p zs ys x e) ∙ or_true (p y)
+any_found p (y ∷ zs) ys x e = ap (λ b. p y || b) (any_found p zs ys x e) ∙ or-true (p y)

@@ -45,9 +45,6 @@ to_dir (Some (Under dir name)) a f d e = let same : dir.0 ≡ d = cc in ap f sam
 pub or_same : (a b : Bool) → a ≡ false → (a || b) ≡ b
 or_same a b e = ap (λ x. x || b) e
 
-pub or_first : (a b : Bool) → a ≡ true → (a || b) ≡ true
-or_first a b e = ap (λ x. x || b) e
-
 pub same_test : (a b : ℕ) → a ≡ b → (a == b) ≡ true
 same_test a b e = grind (arith, nat_tests)
 

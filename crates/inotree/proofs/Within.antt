@@ -1,6 +1,8 @@
 -- What lies within an inode is what climbs to it, and the depth counts the names of the path.
 use Rattle.std.proofs.Common.{◌≡◌, ℕ, zero, suc, ◌-◌, ◌≤◌, Bool, true, false, ◌||◌, ◌==◌, ◌↔◌, ◌⊎◌, inl, inr, List, [], ◌∷◌, length, reverse, Option, Some, None, refl, sym, ap, subst, ◌∙◌, arith}
+use Rattle.std.proofs.Math.Bool.{or-true}
 use Rattle.std.proofs.lemmas.List.{length-reverse}
+use Rattle.std.proofs.lemmas.Bool.{or_left, or_right}
 use Rattle.inotree.specs.declared.node.Site.{Site}
 use Rattle.inotree.specs.declared.node.Site.TheVariants.{Root, Under, Stray}
 use Rattle.inotree.specs.declared.node.Place.{Place}
@@ -8,7 +10,7 @@ use Rattle.inotree.specs.declared.node.Place.TheVariants.{NoIno, Gone, Here}
 use Rattle.inotree.specs.Inodes.{InodeMap}
 use Rattle.inotree.specs.Tree.{Nodes, IsTree, IsUnder, Climbs, site_of, upward, names_up, lies_below, is_within, depth, path_at, path_of, place}
 use Rattle.inotree.proofs.Shape.{one_dir, under_here}
-use Rattle.inotree.proofs.Walks.{lies_below-none, lies_below-step, is_within-is, same_test, test_same, or_first}
+use Rattle.inotree.proofs.Walks.{lies_below-none, lies_below-step, is_within-is, same_test, test_same}
 
 -- a walk up that goes on stands somewhere
 stands : (m : InodeMap) (i n above : ℕ) (s : Option Site) → site_of m i ≡ s → upward s false (λ dir name. lies_below n m dir above) ≡ true → (d : ℕ) × (a : List ℕ) × IsUnder m i d a × (lies_below n m d above ≡ true)
@@ -34,13 +36,10 @@ climb_of (suc n) m i above e =
 
 below_of : (up : List (List ℕ)) (n : ℕ) (m : InodeMap) (i above : ℕ) → length up ≤ n → Climbs m i up above → lies_below n m i above ≡ true
 below_of [] zero m i above fits c = lies_below-none m i above ∙ same_test i above c
-below_of [] (suc n) m i above fits c = lies_below-step (suc n) m i above (omega arith) ∙ or_first (i == above) _ (same_test i above c)
+below_of [] (suc n) m i above fits c = lies_below-step (suc n) m i above (omega arith) ∙ or_left (i == above) _ (same_test i above c)
 below_of (a ∷ up) n m i above fits c =
     lies_below-step n m i above (omega arith) ∙ ap (λ s. (i == above) || upward s false (λ dir name. lies_below (n - 1) m dir above)) c.1
-    ∙ ap (λ b. (i == above) || b) (below_of up (n - 1) m c.0 above (omega arith) c.2) ∙ or_true (i == above) where
-      or_true : (b : Bool) → (b || true) ≡ true
-      or_true true = refl
-      or_true false = refl
+    ∙ ap (λ b. (i == above) || b) (below_of up (n - 1) m c.0 above (omega arith) c.2) ∙ or-true (i == above)
 
 -- no climb goes beyond the root
 no_longer : (m : InodeMap) (up full : List (List ℕ)) (i above : ℕ) → site_of m 1 ≡ Some Root → Climbs m i up above → Climbs m i full 1 → length up ≤ length full
@@ -74,10 +73,6 @@ pub depth-path : (m : InodeMap) (i : ℕ) (names : List (List ℕ)) → path_of 
 unfolding depth path_of
 depth-path m i names e = sym (length-reverse (names_up 32 m i)) ∙ ap length (names_of (place m i) (names_up 32 m i) names e)
 
-pub or_second : (a b : Bool) → b ≡ true → (a || b) ≡ true
-or_second true b e = refl
-or_second false b e = e
-
 -- Each inode that stands somewhere stood there before, or is one of some that may have moved.
 module _ (m n : InodeMap) (P : ℕ → Type 0) (was : (i d : ℕ) (a : List ℕ) → IsUnder n i d a → IsUnder m i d a ⊎ P i) where
   -- it lay below before, or at or below one of those
@@ -86,11 +81,11 @@ module _ (m n : InodeMap) (P : ℕ → Type 0) (was : (i d : ℕ) (a : List ℕ)
 
   below_here : (c i top : ℕ) → (i == top) ≡ true → lies_below (suc c) m i top ≡ true
   unfolding lies_below
-  below_here c i top is = or_first (i == top) _ is
+  below_here c i top is = or_left (i == top) _ is
 
   below_next : (c i d top : ℕ) (a : List ℕ) → IsUnder m i d a → lies_below c m d top ≡ true → lies_below (suc c) m i top ≡ true
   unfolding lies_below
-  below_next c i d top a under below = ap (λ s. (i == top) || upward s false (λ dir name. lies_below c m dir top)) under ∙ or_second (i == top) (lies_below c m d top) below
+  below_next c i d top a under below = ap (λ s. (i == top) || upward s false (λ dir name. lies_below c m dir top)) under ∙ or_right (i == top) (lies_below c m d top) below
 
   lay_up : (c i top : ℕ) → ((d : ℕ) → lies_below c n d top ≡ true → Lay c d top)
       → (b : Bool) → (i == top) ≡ b → (b || upward (site_of n i) false (λ dir name. lies_below c n dir top)) ≡ true → Lay (suc c) i top

@@ -1,6 +1,5 @@
-use Rattle.std.proofs.Common.{arith}
-use Rattle.capffi.proofs.Masked.{lone_in}
-use Rattle.capffi.proofs.plain.look_by_16.Goals as goal
+use Rattle.capffi.proofs.Masked.{lone_by}
+use Rattle.capffi.proofs.plain.look_by.Goals as goal
 
 pub returns : goal.returns
-returns c = lone_in 15 c.args.path.now c.args.start c.from.result c.args.is_behind_slash (omega arith) c.requires c.from.ensures
+returns g c = lone_by g.row.PIECE c.args.path.now c.args.start c.from.result c.args.is_behind_slash c.requires.some c.requires.piece c.requires.inside c.from.ensures

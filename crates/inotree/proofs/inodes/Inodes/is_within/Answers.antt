@@ -1,8 +1,9 @@
 use Rattle.std.proofs.Common.{◌≡◌, ◌+◌, ◌-◌, Some, None, sym, ap, ◌∙◌, arith}
+use Rattle.std.proofs.lemmas.Bool.{or_left}
 use Rattle.std.specs.Option.{option_map}
 use Rattle.capbits.specs.declared.ids.Ino.{Ino}
 use Rattle.inotree.specs.Tree.{lies_below, site_of, parent}
-use Rattle.inotree.proofs.Walks.{is_within-is, lies_below-none, lies_below-step, no_dir, to_dir, or_same, or_first, same_test, other_test}
+use Rattle.inotree.proofs.Walks.{is_within-is, lies_below-none, lies_below-step, no_dir, to_dir, or_same, same_test, other_test}
 use Rattle.inotree.proofs.inodes.Inodes.is_within.Goals as goal
 
 pub loop-init : goal.loop-init
@@ -10,7 +11,7 @@ loop-init c = is_within-is c.args.self.now c.args.ino c.args.above
 
 pub returns-then-at-above : goal.returns-then-at-above
 returns-then-at-above c =
-    sym (c.loop.invariant ∙ lies_below-step (32 - c.loop.counter) c.args.self.now c.loop.at c.args.above (omega arith) ∙ or_first _ _ (same_test c.loop.at c.args.above c.if-at-above.true))
+    sym (c.loop.invariant ∙ lies_below-step (32 - c.loop.counter) c.args.self.now c.loop.at c.args.above (omega arith) ∙ or_left _ _ (same_test c.loop.at c.args.above c.if-at-above.true))
 
 pub returns-in-None : goal.returns-in-None
 returns-in-None c =
