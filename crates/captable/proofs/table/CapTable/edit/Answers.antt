@@ -124,7 +124,7 @@ put_there c =
     let found : IsKeyOf t h key = c.in_ok-key.ensures.found in
     table-put t c.set_entry.new.lists made h key x c.self.invariant.0 found (c.set_entry.ensures.there (node-there t made c.self.invariant.0 h key found))
     ∙ ap (λ t. changed t h (λ _. x)) c.self.view_is
-    ∙ put_found c.args.self.now h c.in-Some.node.value.entry x (edited c.args.edit) 
+    ∙ put_found c.args.self.now h c.in-Some.node.value.entry x (edited c.args.edit)
     (sym (found_there c.self.inside.lists c.self.inside.made c.self.invariant.0 c.args.self.now c.args.holder c.in_ok-key.key c.in-Some.node c.self.view_is c.in_ok-key.ensures.found c.in-Some.ensures.node))
     c.edited-entry.ensures
 
