@@ -1,10 +1,10 @@
 -- What different clients hold of one inode has no conflict, where it is in place.
-use Rattle.std.proofs.Common.{◌≡◌, ◌≢◌, Bool, true, false, ◌||◌, ◌&&◌, ◌==◌, Option, Some, None, refl, sym, ap, subst, ◌∙◌, true≢false}
+use Rattle.std.proofs.Common.{◌≡◌, ◌≢◌, Bool, true, false, ◌||◌, ◌==◌, Option, Some, None, refl, sym, ap, subst, ◌∙◌, true≢false}
 use Rattle.std.specs.Prelude.{IsTrue}
 use Rattle.std.specs.List.{find, list_any}
 use Rattle.std.specs.Option.{option_map_or}
 use Rattle.std.specs.Cmp.{nat_eq_equiv}
-use Rattle.std.proofs.lemmas.Bool.{eqb-true}
+use Rattle.std.proofs.lemmas.Bool.{and_from}
 use Rattle.capbits.specs.declared.cap.Cap.{Cap}
 use Rattle.capbits.specs.declared.cap.Cap.TheVariants.{P, As, Ax, Ls, Lx, Xs, Xx, Fs, Fx, Fc, Fr, Fw, Fb, Fa, Fl}
 use Rattle.capbits.specs.declared.cap.Part.{Part}
@@ -12,13 +12,14 @@ use Rattle.capbits.specs.declared.cap.Part.TheVariants.{A, L, X, F}
 use Rattle.capbits.specs.declared.ids.ClientId.{ClientId}
 use Rattle.capbits.specs.declared.ids.Ino.{Ino}
 use Rattle.capbits.specs.Caps.{has}
-use Rattle.capbits.specs.Sets.{IsSubset, of_part, covers, same_cap, all_in, and_parts, has-of_part, has-none}
+use Rattle.capbits.specs.Sets.{IsSubset, of_part, covers, same_cap, all_in, has-of_part, has-none}
 use Rattle.locktable.specs.declared.states.LockState.{LockState}
 use Rattle.locktable.specs.declared.states.LockState.TheVariants.{Stable, Gather}
 use Rattle.locktable.specs.Rows.{row_of}
 use Rattle.locktable.specs.Conflicts.{conflict, barred_by, rows_apart}
 use Rattle.captable.specs.declared.entry.EntryRow.{EntryRow}
 use Rattle.captable.specs.declared.entry.Holder.{Holder}
+use Rattle.captable.proofs.Tables.{same-is}
 use Rattle.captable.specs.Table.{same, is_row_of}
 use Rattle.captable.proofs.Searches.{find_passes}
 use Rattle.capsteps.specs.Lockmachine.Locks.{lock_at}
@@ -58,11 +59,6 @@ conflict_part c d false false first second h = absurd (true≢false (sym h))
 
 -- ---- what is held of a part is in the row of its lock
 
-both_true : (a b : Bool) → IsTrue a → IsTrue b → IsTrue (a && b)
-both_true true true h e = refl
-both_true true false h e = e
-both_true false b h e = h
-
 in_row : (s : Scene) (row : EntryRow) (part : Part) (lock : Option LockState) → IsInPlace s row part lock → IsSubset (of_part part row.entry.held) (row_of part (present_state lock) row.holder.client)
 in_row s row part None place = λ c h. absurd (true≢false (sym (place c h) ∙ has-none c))
 in_row s row part (Some (Stable state)) place = place
@@ -71,16 +67,9 @@ in_row s row part (Some (Gather from to)) place = place.0
 in_row_of : (s : Scene) (row : EntryRow) (c : Cap) (part : Part) → AreInPlace s → find (is_row_of row.holder) s.table.rows ≡ Some row → IsTrue (has row.entry.held c) → IsTrue (covers c part)
     → IsTrue (has (row_of part (present_state (lock_at s.locks row.holder.ino.0 part)) row.holder.client) c)
 in_row_of s row c part placed found held cov =
-    in_row s row part (lock_at s.locks row.holder.ino.0 part) (placed row part found) c (has-of_part part row.entry.held c ∙ both_true _ _ held cov)
+    in_row s row part (lock_at s.locks row.holder.ino.0 part) (placed row part found) c (has-of_part part row.entry.held c ∙ and_from _ _ held cov)
 
 -- ---- the entries that two holders have
-
-same_holder : (a b : Holder) → same a b ≡ true → a ≡ b
-same_holder a b e =
-    let both = and_parts (a.client.0 == b.client.0) (a.ino.0 == b.ino.0) e in
-    let clients = eqb-true a.client.0 b.client.0 both.0 in
-    let inos = eqb-true a.ino.0 b.ino.0 both.1 in
-    λ i. record { client = record { 0 = clients i }; ino = record { 0 = inos i } }
 
 -- the entry by which a holder holds something
 record HeldBy (s : Scene) (k : Holder) (c : Cap) : Type 0 where
@@ -92,7 +81,7 @@ record HeldBy (s : Scene) (k : Holder) (c : Cap) : Type 0 where
 held_by : (s : Scene) (k : Holder) (c : Cap) (o : Option EntryRow) → find (is_row_of k) s.table.rows ≡ o → IsTrue (option_map_or (λ row. has row.entry.held c) o false) → HeldBy s k c
 held_by s k c None found held = absurd (true≢false (sym held))
 held_by s k c (Some row) found held =
-    let is = same_holder k row.holder (find_passes (is_row_of k) s.table.rows row found) in
+    let is = same-is k row.holder (find_passes (is_row_of k) s.table.rows row found) in
     record { row = row; is = is; found = subst (λ (h : Holder). find (is_row_of h) s.table.rows ≡ Some row) is found; held = held }
 
 pub held-apart : (s : State) → IsSound s → NoneConflict s.scene

@@ -36,7 +36,7 @@ use Rattle.capsteps.specs.Caprules.Direct.{direct, effect, effect_unless, asks}
 use Rattle.capsteps.specs.Caprules.Serving.{judged_again}
 use Rattle.capsteps.specs.Caprules.Sound.{IsSound, AreGiven}
 use Rattle.capsteps.specs.Touching.{asks_for, IsTouchedEntry, TouchesOne}
-use Rattle.capsteps.proofs.NothingServed.{sound-pinned}
+use Rattle.capsteps.proofs.Moved.{sound-pinned}
 use Rattle.capsteps.proofs.Touched.{all-left, asked-session, asked-there, AreBelow}
 
 -- ---- which events ask, and what

@@ -20,7 +20,7 @@ use Rattle.capsteps.specs.Caprules.Settle.{Made, Began, Gathered, Served, MakesA
 use Rattle.capsteps.specs.Caprules.Step.{Step}
 use Rattle.capsteps.specs.Touching.{touched_by}
 use Rattle.capcore.proofs.OfInode.{event-order}
-use Rattle.capsteps.proofs.Served.{served-count}
+use Rattle.capsteps.proofs.Moved.{served-count}
 
 -- ---- the queue stays in order, whatever the event
 

@@ -1,5 +1,6 @@
 -- At the end of a step that touched some inodes it is known of each entry what its client is to know of.
-use Rattle.std.proofs.Common.{◌≡◌, ℕ, Bool, true, false, Some, List, Contains, refl, sym, ap, subst, ◌∙◌, true≢false}
+use Rattle.std.proofs.Common.{◌≡◌, ℕ, Bool, true, false, Some, List, Contains, sym, ap, subst, ◌∙◌, true≢false}
+use Rattle.std.proofs.lemmas.Bool.{false_from_ne_true}
 use Rattle.capbits.specs.declared.ids.Ino.{Ino}
 use Rattle.captable.specs.declared.entry.EntryRow.{EntryRow}
 use Rattle.captable.specs.Table.{IsTable, entry_of}
@@ -32,11 +33,7 @@ module _ (before was now : KnownSets) (from : ℕ → Bool) (old touched : State
       (ap entry_of (row_found touched.scene.table row table inside)) (ap entry_of (row_found old.scene.table row old_table inside_old))
 
   off_from : (row : EntryRow) → ends.at row.holder.ino.0 ≡ false → from row.holder.ino.0 ≡ false
-  off_from row off = by_test (from row.holder.ino.0) refl
-    where
-      by_test : (b : Bool) → from row.holder.ino.0 ≡ b → b ≡ false
-      by_test false is = refl
-      by_test true is = let all = settles.settles in absurd (true≢false (sym (all.among row.holder.ino.0 is) ∙ off))
+  off_from row off = false_from_ne_true (from row.holder.ino.0) (λ is. let all = settles.settles in true≢false (sym (all.among row.holder.ino.0 is) ∙ off))
 
   pub ends-known : AreKnown now last
   ends-known =

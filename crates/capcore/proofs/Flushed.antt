@@ -32,7 +32,7 @@ use Rattle.capsteps.specs.Caprules.Sound.{IsSound, AreGiven}
 use Rattle.capsteps.specs.Touching.{IsTouchedEntry, TouchesOne}
 use Rattle.capsteps.proofs.Capacts.Again.{change-passed}
 use Rattle.capsteps.proofs.OneChange.{by_change, alike_change, sound_change}
-use Rattle.capsteps.proofs.NothingServed.{sound-pinned}
+use Rattle.capsteps.proofs.Moved.{sound-pinned}
 use Rattle.capsteps.proofs.Touched.{all-left, before-passed, after-passed, AreBelow}
 
 known_change : (tree : Nodes) (ino : ℕ) (change : Change) (other : ℕ) → map.contains_key (tree_changed tree ino change).nodes other ≡ map.contains_key tree.nodes other

@@ -1,6 +1,7 @@
 -- What was held is held on, but for what the event may take.
 use Rattle.std.proofs.Common.{◌≡◌, ℕ, ◌==◌, Bool, true, false, cond, ◌&&◌, ◌||◌, Option, Some, None, is_some, take, refl, sym, ap, subst, ◌∙◌, true≢false}
 use Rattle.std.specs.Option.{option_map}
+use Rattle.std.proofs.lemmas.Bool.{or_parts, true_from_ne_false}
 use Rattle.capbits.specs.declared.cap.Cap.{Cap}
 use Rattle.capbits.specs.declared.cap.Cap.TheVariants.{P}
 use Rattle.capbits.specs.declared.ids.ClientId.{ClientId}
@@ -84,23 +85,15 @@ module _ (old : State) (k : Holder) (cap : Cap) (held : holds old.scene k cap �
   takes-nothing e first keeps gone = absurd (no_loss first keeps gone)
 
   client-gone : (client : ClientId) (first : Scene) → first.table ≡ without_client t client → holds first k cap ≡ false → (k.client.0 == client.0) ≡ true
-  client-gone client first left gone = by_test (k.client.0 == client.0) refl
-    where
-      by_test : (b : Bool) → (k.client.0 == client.0) ≡ b → (k.client.0 == client.0) ≡ true
-      by_test true on = on
-      by_test false off =
-          absurd (no_loss first (same-keeps t first.table k (ap (λ (u : Table). entry_at u k) left ∙ entry_at-without_client_other t client k (apart_client k.client client off))) gone)
+  client-gone client first left gone = true_from_ne_false (k.client.0 == client.0) (λ off.
+      no_loss first (same-keeps t first.table k (ap (λ (u : Table). entry_at u k) left ∙ entry_at-without_client_other t client k (apart_client k.client client off))) gone)
 
   opened-keeps : (j : Holder) (mode : OpenMode) → KeepsAt t (with_opening t j mode) k
   opened-keeps j mode e there = changed-keeps (with_entry t j) j k _ (λ f. refl) e (entry-kept t j k e there)
 
   acked-own : (j : Holder) (first : Scene) → first.table ≡ acked t j (revoked_of old.scene j) → holds first k cap ≡ false → same k j ≡ true
-  acked-own j first left gone = by_same (same k j) refl
-    where
-      by_same : (b : Bool) → same k j ≡ b → same k j ≡ true
-      by_same true on = on
-      by_same false off =
-          absurd (no_loss first (same-keeps t first.table k (ap (λ (u : Table). entry_at u k) left ∙ entry_at-acked_other t j k (revoked_of old.scene j) (apart-of k j off))) gone)
+  acked-own j first left gone = true_from_ne_false (same k j) (λ off.
+      no_loss first (same-keeps t first.table k (ap (λ (u : Table). entry_at u k) left ∙ entry_at-acked_other t j k (revoked_of old.scene j) (apart-of k j off))) gone)
 
   -- with the pin all that was held was given back
   given-own : (j : Holder) (caps : Caps) (first : Scene) → first.table ≡ released t j caps → k ≡ j → holds first k cap ≡ false → (has caps P || has caps cap) ≡ true
@@ -150,16 +143,12 @@ module _ (old : State) (k : Holder) (cap : Cap) (held : holds old.scene k cap �
 
 -- ---- a step
 
-not_either : (a b : Bool) → (a || b) ≡ false → a ≡ false
-not_either false b none = refl
-not_either true b none = none
-
 -- where a step issues exactly what it must, nothing else goes
 pub takes-only_so : (old : State) (e : Event) (new : Scene) → IssuesExactly (direct old e).state.scene new → TakesOnlySo old.scene e new
 takes-only_so old e new issued k cap held gone = by_judged (judged old.scene e) refl
   where
     gone_first : holds (direct old e).state.scene k cap ≡ false
-    gone_first = not_either (holds (direct old e).state.scene k cap) (is_due new k cap) (sym (issued k cap) ∙ gone)
+    gone_first = (or_parts (holds (direct old e).state.scene k cap) (is_due new k cap) (sym (issued k cap) ∙ gone)).0
 
     by_judged : (o : Option Stopped) → judged old.scene e ≡ o → may_take e k cap ≡ true
     by_judged (Some x) is =

@@ -1,8 +1,9 @@
 -- Locks change by the moves of a step alone: each other lock that is there at its end is as it was right after the event.
-use Rattle.std.proofs.Common.{◌≡◌, ℕ, Bool, true, false, ◌||◌, Some, List, [], ◌∷◌, refl, sym, ap, ◌∙◌, true≢false}
+use Rattle.std.proofs.Common.{◌≡◌, ℕ, Bool, true, false, Some, List, [], ◌∷◌, refl, sym, ap, ◌∙◌, true≢false}
 use Rattle.std.specs.List.{list_any}
 use Rattle.std.specs.Option.{option_map}
 use Rattle.std.specs.FinMap as map
+use Rattle.std.proofs.lemmas.Bool.{or_parts}
 use Rattle.capbits.specs.declared.cap.Part.{Part}
 use Rattle.locktable.specs.declared.states.LockState.{LockState}
 use Rattle.locktable.specs.declared.states.LockState.TheVariants.{Stable, Gather}
@@ -39,16 +40,11 @@ one_stays s t (Gathered i p) ino part (first, is) off =
     ∙ other_lock s.locks i.0 p (Stable (coming_state (lock_at s.locks i.0 p))) (ino, part) off
 one_stays s t (Served q o) ino part (first, found, may, is) off = ap (λ (s : Scene). lock_at s.locks ino part) is
 
--- neither is true where one of two is not
-neither : (a b : Bool) → (a || b) ≡ false → (a ≡ false) × (b ≡ false)
-neither true b is = absurd (true≢false is)
-neither false b is = (refl, is)
-
 all_stay : (s : Scene) (moves : List Made) (t : Scene) (ino : ℕ) (part : Part) → MakesAll s moves t → list_any (is_of_lock_at ino part) moves ≡ false
     → lock_at t.locks ino part ≡ lock_at s.locks ino part
 all_stay s [] t ino part is off = ap (λ (s : Scene). lock_at s.locks ino part) is
 all_stay s (m ∷ moves) t ino part (mid, one, made) off =
-    let each = neither (is_of_lock_at ino part m) (list_any (is_of_lock_at ino part) moves) off in
+    let each = or_parts (is_of_lock_at ino part m) (list_any (is_of_lock_at ino part) moves) off in
     all_stay mid moves t ino part made each.1 ∙ one_stays s mid m ino part one each.0
 
 -- ---- the end of the step

@@ -6,7 +6,7 @@ use Rattle.std.specs.List.{find}
 use Rattle.std.specs.Option.{option_map_or, option_or}
 use Rattle.std.specs.FinMap as map
 use Rattle.std.specs.Cmp.{nat_eq_equiv}
-use Rattle.std.proofs.lemmas.Bool.{eqb-true}
+use Rattle.std.proofs.lemmas.Bool.{eqb-true, true_from_ne_false}
 use Rattle.std.proofs.lemmas.List.Elements.{Contains-push}
 use Rattle.std.proofs.lemmas.List.Folds.{find-append}
 use Rattle.capbits.specs.declared.cap.Part.{Part}
@@ -147,10 +147,7 @@ module _ (old : Scene) (client : ClientId) (inode : Ino) (ask : Ask) (rest : IsA
 
     -- so what moves is its own
     only_here : (p : LockPlace → Bool) → ((place : LockPlace) → is_at ino part place ≡ false → p place ≡ false) → (place : LockPlace) → p place ≡ true → is_at ino part place ≡ true
-    only_here p elsewhere place passes = elim (is_at ino part place) as (λ b. is_at ino part place ≡ b → b ≡ true) [
-      | true ↦ λ e. refl
-      | false ↦ λ e. absurd (true≢false (sym passes ∙ elsewhere place e))
-    ] refl
+    only_here p elsewhere place passes = true_from_ne_false (is_at ino part place) (λ e. true≢false (sym passes ∙ elsewhere place e))
 
     begins_here : (place : LockPlace) → may_begin (now locks) place ≡ true → is_at ino part place ≡ true
     begins_here = only_here (may_begin (now locks)) (λ place off. begins_not (now locks) place (lock_at locks place.0 place.1) (quiet-other place off))
@@ -182,10 +179,8 @@ module _ (old : Scene) (client : ClientId) (inode : Ino) (ask : Ask) (rest : IsA
 
     module _ (nobody : first_for old.locks.queue ino part ≡ None) where
       of_it : (r : Request) → may_serve locks r ≡ true → is_at ino part (r.ino.0, part_of_ask r.ask) ≡ true
-      of_it r may = elim (is_at ino part (r.ino.0, part_of_ask r.ask)) as (λ b. is_at ino part (r.ino.0, part_of_ask r.ask) ≡ b → b ≡ true) [
-        | true ↦ λ e. refl
-        | false ↦ λ e. absurd (true≢false (sym may ∙ serves_not (now locks) r (lock_at locks r.ino.0 (part_of_ask r.ask)) (quiet-other (r.ino.0, part_of_ask r.ask) e)))
-      ] refl
+      of_it r may = true_from_ne_false (is_at ino part (r.ino.0, part_of_ask r.ask))
+          (λ e. true≢false (sym may ∙ serves_not (now locks) r (lock_at locks r.ino.0 (part_of_ask r.ask)) (quiet-other (r.ino.0, part_of_ask r.ask) e)))
 
       its_number : (r : Request) → may_serve locks r ≡ true → q.ticket.0 ≡ r.ticket.0
       its_number r may =

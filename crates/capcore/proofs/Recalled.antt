@@ -1,10 +1,10 @@
 -- A recall is a whole step: it marks entries as asked for, by which nothing is judged, moved or issued.
-use Rattle.std.proofs.Common.{◌≡◌, ◌≤◌, ℕ, ◌+◌, Bool, true, false, cond, ◌||◌, List, [], take, refl, sym, ap, subst}
+use Rattle.std.proofs.Common.{◌≡◌, ◌≤◌, ℕ, ◌+◌, Bool, true, false, cond, ◌||◌, List, [], map, take, refl, sym, subst}
 use Rattle.std.proofs.lemmas.List.Elements.{All-map}
 use Rattle.captable.specs.declared.entry.EntryRow.{EntryRow}
 use Rattle.captable.specs.declared.entry.Holder.{Holder}
 use Rattle.captable.specs.Table.{Table, IsTable, is_among}
-use Rattle.captable.specs.Calls.{asked_row, recalled, with_asked}
+use Rattle.captable.specs.Calls.{recalled, with_asked}
 use Rattle.captable.proofs.Tables.{IsTable-recalled}
 use Rattle.capsteps.specs.Capevents.declared.event.Event.TheVariants as event
 use Rattle.capsteps.specs.Capevents.declared.reply.Reply.TheVariants as reply
@@ -19,7 +19,7 @@ use Rattle.capsteps.proofs.Finishing.{same-finished}
 use Rattle.capsteps.proofs.Knowing.{HoldAlike, known-alike, alike-where}
 use Rattle.capcore.proofs.Sounding.{later-given}
 use Rattle.capcore.proofs.Steps.{direct-answered}
-use Rattle.capsteps.proofs.Telling.{as_told, as_sized, map_alike, retold, retold_table, retold-sound}
+use Rattle.capsteps.proofs.Telling.{as_told, as_sized, retold, retold_table, retold-sound}
 
 -- who was named is asked, and who was asked before
 abbrev asked_too : List Holder → EntryRow → Bool
@@ -33,8 +33,7 @@ row_asked row false = refl
 recalled-retold : (t : Table) (n : ℕ) → recalled t n ≡ retold_table as_told as_sized (asked_too (take n t.recall)) t
 recalled-retold t n =
     let named : List Holder = take n t.recall in
-    ap (λ (rows : List EntryRow). record t { rows = rows })
-    (map_alike (asked_row named) (retold as_told as_sized (asked_too named)) (λ row. row_asked row (is_among named row.holder)) t.rows)
+    λ i. record t { rows = map (λ row. row_asked row (is_among named row.holder) i) t.rows }
 
 module _ (old : State) (sound : IsSound old) (count : ℕ) where
   abbrev named : List Holder

@@ -19,6 +19,7 @@ use Rattle.captable.specs.Table.{Table, holder, is_row_of, entry_of, entry_at}
 use Rattle.captable.specs.Calls.{taken, changed, without}
 use Rattle.captable.specs.Tests.{last_revocation}
 use Rattle.captable.proofs.ByHolder.{entry_at-changed}
+use Rattle.captable.proofs.ByHolder.{row_of-entry}
 use Rattle.capsteps.specs.Lockmachine.declared.scene.Scene.{Scene}
 use Rattle.capsteps.specs.Lockmachine.Scene.{against}
 use Rattle.capsteps.specs.Lockmachine.Told.{is_taken}
@@ -37,13 +38,13 @@ use Rattle.capsteps.specs.Caprules.Sound.{IsSound, IsSoundEntry}
 use Rattle.capsteps.proofs.LeftAlone.{found-contains}
 use Rattle.capsteps.proofs.Placed.{told-permitted}
 use Rattle.capsteps.proofs.Revoking.{revoked-found}
-use Rattle.capsteps.proofs.ShownSteps.{at, entry_found}
+use Rattle.capsteps.proofs.ShownSteps.{at}
 use Rattle.capsteps.proofs.Touched.{touched-tests}
 
 pub shows-told : (rows : List Row) (s : State) → IsSound s → AreShown rows s.scene → ShowsWhatIsTold rows s.scene
 shows-told rows s sound was k e there none_due =
     let row : EntryRow = record { holder = k; entry = e } in
-    let inside : Contains s.scene.table.rows row = found-contains (is_row_of k) s.scene.table.rows row (entry_found s.scene.table k e there) in
+    let inside : Contains s.scene.table.rows row = found-contains (is_row_of k) s.scene.table.rows row (row_of-entry s.scene.table k e there) in
     let entry = All-contains (IsSoundEntry s.scene) s.scene.table.rows row sound.entries inside in
     let below : e.told_seq ≤ e.seq = entry.told in
     let above : e.seq ≤ e.told_seq = ltb-false e.told_seq e.seq none_due in
@@ -65,7 +66,7 @@ holds-entry s k cap held = by_row (find (is_row_of k) s.table.rows) refl held
     by_row (Some row) found it = (row.entry, ap entry_of found, it)
 
 pub holds-found : (s : Scene) (k : Holder) (cap : Cap) (e : Entry) → entry_at s.table k ≡ Some e → holds s k cap ≡ has e.held cap
-holds-found s k cap e there = ap (λ o. option_map_or (λ (row : EntryRow). has row.entry.held cap) o false) (entry_found s.table k e there)
+holds-found s k cap e there = ap (λ o. option_map_or (λ (row : EntryRow). has row.entry.held cap) o false) (row_of-entry s.table k e there)
 
 not_shown : (s h t : Bool) → (s ≡ true → (h && not t) ≡ true) → (h && t) ≡ true → s ≡ false
 not_shown false h t inside taken = refl

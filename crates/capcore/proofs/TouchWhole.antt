@@ -12,7 +12,6 @@ use Rattle.capsteps.specs.declared.touch.Touch.{Touch}
 use Rattle.capsteps.specs.declared.touch.Touch.TheVariants.{Open, Want, Ack, Release}
 use Rattle.capsteps.specs.Capevents.declared.event.Event.{Event}
 use Rattle.capsteps.specs.Capevents.declared.outcome.Ended.{Ended}
-use Rattle.capsteps.specs.Caprules.declared.stopped.Stopped.{Stopped}
 use Rattle.capsteps.specs.Caprules.State.{State}
 use Rattle.capsteps.specs.Caprules.Judge.{judged, revoked_of}
 use Rattle.capsteps.specs.Capevents.Replies.{has_list}
@@ -59,12 +58,6 @@ tell-alike s k (Open mode) = alike-changed s.scene.table k told (λ e. refl)
 tell-alike s k (Want caps) = alike-changed s.scene.table k told (λ e. refl)
 tell-alike s k (Ack seq) = λ j e there. (e, there, refl)
 tell-alike s k (Release caps) = λ j e there. (e, there, refl)
-
--- ---- what the first calls answered, on the state that the call was handed
-
-pub passed-of : (s handed : State) (client : ClientId) (ino : Ino) (touch : Touch) (o : Option Stopped) → s ≡ handed → o ≡ judged handed.scene (touch_event client ino touch) → o ≡ None
-    → judged s.scene (touch_event client ino touch) ≡ None
-passed-of s handed client ino touch o view asked none = ap (λ (w : State). judged w.scene (touch_event client ino touch)) view ∙ sym asked ∙ none
 
 -- ---- an event that nothing stops, and the table that it leads to
 module _ (old : State) (client : ClientId) (ino : Ino) (touch : Touch) (passed : judged old.scene (touch_event client ino touch) ≡ None) (sound : IsSound old) (table : IsTable old.scene.table)

@@ -3,7 +3,7 @@ use Rattle.std.proofs.Common.{◌≡◌, ◌≢◌, ◌≤◌, ℕ, zero, suc, �
 use Rattle.std.specs.Prelude.{IsTrue, All, filter}
 use Rattle.std.specs.Option.{option_map}
 use Rattle.std.specs.FinMap as map
-use Rattle.std.proofs.lemmas.Bool.{eqb-true}
+use Rattle.std.proofs.lemmas.Bool.{eqb-true, not-true, false_from_ne_true}
 use Rattle.std.proofs.lemmas.List.Elements.{All-weaker, All-contains, All-contains_itself, All-filter, filter_passes}
 use Rattle.capbits.specs.declared.cap.Part.{Part}
 use Rattle.capbits.specs.declared.ids.ClientId.{ClientId}
@@ -39,7 +39,7 @@ use Rattle.capsteps.specs.Caprules.Sound.{IsSound}
 use Rattle.capsteps.specs.Touching.{Touches, IsTouchedEntry}
 use Rattle.capsteps.specs.Capacts.Left.{is_end, table_left, locks_left, messages_left, dropped_by}
 use Rattle.capsteps.specs.Turn.{turn_event, turned_sessions, turned}
-use Rattle.capsteps.proofs.NothingServed.{sound-pinned}
+use Rattle.capsteps.proofs.Moved.{sound-pinned}
 use Rattle.capsteps.proofs.Touched.{IsKeptEntry, kept-left, sound-kept}
 
 -- ---- the event
@@ -92,9 +92,6 @@ turned-has t client (Regrant grants) other still = changed-has t.sessions client
 turned-has t client Evict other still = absurd (true≢false still)
 
 -- whose session ends is left nowhere
-not_true : (b : Bool) → not b ≡ true → b ≡ false
-not_true true is = absurd (true≢false (sym is))
-not_true false is = refl
 
 apart : (a b : ℕ) → (a == b) ≡ false → a ≢ b
 apart a b off same = true≢false (sym (eq-eqb a b same) ∙ off)
@@ -110,7 +107,7 @@ module _ {T : Type 0} (mine : T → Bool) (Q R : T → Type 0) (xs : List T) (al
       one : (x : T) → Contains (filter (λ x. not (mine x)) xs) x → R x
       one x inside =
           let passes = All-contains (λ x. not (mine x) ≡ true) (filter (λ x. not (mine x)) xs) x (filter_passes (λ x. not (mine x)) xs) inside in
-          keeps x (not_true (mine x) passes) (All-contains Q xs x all (contains-filter (λ x. not (mine x)) xs x inside))
+          keeps x (not-true (mine x) passes) (All-contains Q xs x all (contains-filter (λ x. not (mine x)) xs x inside))
 
 module _ (old : State) (client : ClientId) (turn : Turn) (sound : IsSound old) (table : IsTable old.scene.table) where
   abbrev sessions : SessionTable
@@ -129,11 +126,7 @@ module _ (old : State) (client : ClientId) (turn : Turn) (sound : IsSound old) (
     with_theirs = record old.scene { sessions = sessions }
 
     not_mine : (row : EntryRow) → Contains old.scene.table.rows row → from row.holder.ino.0 ≡ false → is_of_client client row ≡ false
-    not_mine row inside off = by_test (is_of_client client row) refl
-      where
-        by_test : (b : Bool) → is_of_client client row ≡ b → b ≡ false
-        by_test true mine = absurd (true≢false (sym (entries row inside mine) ∙ off))
-        by_test false mine = refl
+    not_mine row inside off = false_from_ne_true (is_of_client client row) (λ mine. true≢false (sym (entries row inside mine) ∙ off))
 
     outside-sessions : IsSameOutside from old.scene with_theirs
     outside-sessions = record {

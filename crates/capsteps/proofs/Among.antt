@@ -1,83 +1,76 @@
 -- Which inodes a step touches: that of its event, and the others.
-use Rattle.std.proofs.Common.{◌≡◌, ◌≢◌, ℕ, Bool, true, false, ◌||◌, ◌==◌, ◌⊎◌, inl, inr, List, refl, sym, ap, ◌∙◌, eq-eqb, true≢false}
+use Rattle.std.proofs.Common.{◌≡◌, ◌≢◌, ℕ, true, false, ◌||◌, ◌==◌, inl, inr, ap, ◌∙◌, ◌⊎◌, Result, Ok, Err, OnOk, List, [], ◌∷◌, Contains, zero, suc, refl, subst, arith}
+use Rattle.captable.specs.declared.entry.EntryRow.{EntryRow}
 use Rattle.std.specs.FinSet as set
-use Rattle.std.proofs.lemmas.Bool.{ne_eqb}
-use Rattle.capacts.specs.Lockmachine.declared.scene.Scene.{Scene}
-use Rattle.capacts.specs.Capevents.declared.outcome.Ended.{Ended}
+use Rattle.std.proofs.Math.Bool.{or-false}
+use Rattle.std.proofs.lemmas.Bool.{eqb-false, ne_eqb, or_cases, or_from, or_left, or_parts, or_right, false_from_ne_true}
 use Rattle.capacts.specs.Capnotes.InoSets.{InoSet}
-use Rattle.capacts.specs.Known.{KnownSets}
-use Rattle.capacts.specs.Reach.{is_touched}
-use Rattle.capsteps.specs.Begun.{MaySettle}
-use Rattle.capsteps.specs.Serves.{EndsWith}
-
-or_true : (a b : Bool) → a || b ≡ true → (a ≡ true) ⊎ (b ≡ true)
-or_true true b is = inl refl
-or_true false b is = inr is
-
-or_false : (a b : Bool) → a || b ≡ false → (a ≡ false) × (b ≡ false)
-or_false true b is = absurd (true≢false is)
-or_false false b is = (refl, is)
-
-itself : (n : ℕ) → (n == n) ≡ true
-itself n = eq-eqb n n refl
+use Rattle.capacts.specs.Reach.{is_touched, Widens}
+use Rattle.capacts.proofs.InoSets.{none-there, added}
 
 -- an inode that is not touched is another, and none of the others
 pub untouched : (ino : ℕ) (touched : InoSet) (other : ℕ) → is_touched ino touched other ≡ false → (other ≢ ino) × (set.contains touched other ≡ false)
 untouched ino touched other off =
-    let both = or_false (other == ino) (set.contains touched other) off in
-    ((λ same. true≢false (sym (ap (λ n. n == ino) same ∙ itself ino) ∙ both.0)), both.1)
+    let both = or_parts (other == ino) (set.contains touched other) off in (eqb-false other ino both.0, both.1)
 
 pub not-touched : (ino : ℕ) (touched : InoSet) (other : ℕ) → other ≢ ino → set.contains touched other ≡ false → is_touched ino touched other ≡ false
-not-touched ino touched other off none = ap (λ b. b || set.contains touched other) (ne_eqb other ino off) ∙ none
+not-touched ino touched other off none = or_from (other == ino) (set.contains touched other) (ne_eqb other ino off) none
 
--- the inode itself is touched
-pub one-touched : (ino : ℕ) (touched : InoSet) (other : ℕ) → (other == ino) ≡ true → is_touched ino touched other ≡ true
-one-touched ino touched other is = ap (λ b. b || set.contains touched other) is
-
--- and each of the others
+-- each of the others is touched
 pub other-touched : (ino : ℕ) (others : InoSet) (other : ℕ) → set.contains others other ≡ true → is_touched ino others other ≡ true
-other-touched ino others other there = by_test (other == ino)
-  where
-    by_test : (b : Bool) → (b || set.contains others other) ≡ true
-    by_test true = refl
-    by_test false = there
+other-touched ino others other there = or_right (other == ino) (set.contains others other) there
 
 -- and where there are more others, more are
 pub more-touched : (ino : ℕ) (touched kept : InoSet) → ((other : ℕ) → set.contains touched other ≡ true → set.contains kept other ≡ true)
     → (other : ℕ) → is_touched ino touched other ≡ true → is_touched ino kept other ≡ true
-more-touched ino touched kept more other is = elim (or_true (other == ino) (set.contains touched other) is) as (λ _. is_touched ino kept other ≡ true) [
-  | inl here ↦ one-touched ino kept other here
-  | inr there ↦ either (other == ino) (more other there)
+more-touched ino touched kept more other is = elim (or_cases (other == ino) (set.contains touched other) is) as (λ _. is_touched ino kept other ≡ true) [
+  | inl here ↦ or_left (other == ino) (set.contains kept other) here
+  | inr there ↦ other-touched ino kept other (more other there)
+]
+
+-- where there are no others, it is the one that is touched
+pub touched-alone : (ino : ℕ) (others : InoSet) → others ≡ set.empty → is_touched ino others ≡ (λ other. other == ino)
+touched-alone ino others none = λ i other. (ap (λ (inos : InoSet). is_touched ino inos other) none ∙ ap (λ b. (other == ino) || b) (none-there other) ∙ or-false (other == ino)) i
+
+-- ---- where a client is: the inodes that are gathered for it
+
+pub touched-still : (ino : ℕ) (a b : InoSet) → Widens ino a b → (other : ℕ) → is_touched ino a other ≡ true → is_touched ino b other ≡ true
+touched-still ino a b widens = more-touched ino a b widens.stay
+
+-- of the rows that were gone through, each is on an inode that is reached
+abbrev pub AreReached : ℕ → InoSet → List EntryRow → List EntryRow → Type 0
+AreReached ino others all left = (row : EntryRow) → Contains all row → (Contains left row) ⊎ (is_touched ino others row.holder.ino.0 ≡ true)
+
+pub first-reached : (ino : ℕ) (others : InoSet) (all : List EntryRow) → AreReached ino others all all
+first-reached ino others all row inside = inl inside
+
+pub more-reached : (ino : ℕ) (a b : InoSet) (all left rest : List EntryRow) (row : EntryRow) → left ≡ row ∷ rest → Widens ino a b
+    → is_touched ino b row.holder.ino.0 ≡ true → AreReached ino a all left → AreReached ino b all rest
+more-reached ino a b all left rest row is widens reached so_far other inside = elim (so_far other inside) as (λ _. (Contains rest other) ⊎ (is_touched ino b other.holder.ino.0 ≡ true)) [
+  | inl still ↦ of_rest (subst (λ (rows : List EntryRow). Contains rows other) is still)
+  | inr done ↦ inr (touched-still ino a b widens other.holder.ino.0 done)
 ]
   where
-    either : (a : Bool) → set.contains kept other ≡ true → (a || set.contains kept other) ≡ true
-    either true e = refl
-    either false e = e
+    of_rest : Contains (row ∷ rest) other → (Contains rest other) ⊎ (is_touched ino b other.holder.ino.0 ≡ true)
+    of_rest (zero, room, at) = (let e : row ≡ other = at in inr (subst (λ (r : EntryRow). is_touched ino b r.holder.ino.0 ≡ true) e reached))
+    of_rest (suc k, room, at) = inl (k, omega arith, at)
 
--- locks that are quiet outside of it alone are so outside of all that are touched
-pub settles-among : (ino : ℕ) (touched : InoSet) (s : Scene) → MaySettle (λ other. other == ino) s → MaySettle (is_touched ino touched) s
-settles-among ino touched s may = record {
-  quiet = record { each_other = λ other part off. may.quiet.each_other other part (or_false (other == ino) (set.contains touched other) off).0 };
-  tree = may.tree;
-  order = may.order;
-}
+pub all-reached : (ino : ℕ) (others : InoSet) (all left : List EntryRow) → left ≡ [] → AreReached ino others all left → (row : EntryRow) → Contains all row → is_touched ino others row.holder.ino.0 ≡ true
+all-reached ino others all left none so_far row inside = elim (so_far row inside) as (λ _. is_touched ino others row.holder.ino.0 ≡ true) [
+  | inl still ↦ absurd (nothing (subst (λ (rows : List EntryRow). Contains rows row) none still))
+  | inr done ↦ done
+]
+  where
+    nothing : Contains [] row → ⊥
+    nothing (k, room, at) = omega arith
 
--- ---- at the inode alone
+-- where there were none at first, this one is none of them
+pub none-of_it : (ino : ℕ) (none others : InoSet) → none ≡ set.empty → Widens ino none others → set.contains others ino ≡ false
+none-of_it ino none others is widens =
+    let out : set.contains none ino ≡ false = ap (λ (inos : InoSet). set.contains inos ino) is ∙ none-there ino in
+    false_from_ne_true (set.contains others ino) (λ there. widens.besides ino out there refl)
 
--- what ends at more inodes, has ended at this one
-pub ends-one : (ino : ℕ) (touched : InoSet) (was now : KnownSets) (first last : Scene) (told : List Ended)
-    → EndsWith (is_touched ino touched) was now first last told → EndsWith (λ other. other == ino) was now first last told
-ends-one ino touched was now first last told ends = let all = ends.settles in let there = all.settles in record {
-  at = ends.at;
-  settled = ends.settled;
-  sized = ends.sized;
-  settles = record {
-    moves = all.moves;
-    settles = record { settles = there.settles; among = λ q is. there.among q (one-touched ino touched q is); same = there.same };
-    ended_is = all.ended_is;
-    sized_is = all.sized_is;
-  };
-  tree = ends.tree;
-  finished = ends.finished;
-  kept = ends.kept;
-}
+-- where there was memory for one more, it is touched
+pub touched-tried : {A E : Type 0} (ino k : ℕ) (old new : InoSet) (r : Result A E) → OnOk r (new ≡ set.insert old k) → OnOk r (is_touched ino new k ≡ true)
+touched-tried ino k old new (Ok x) ok = other-touched ino new k (added k old new ok)
+touched-tried ino k old new (Err e) ok = tt

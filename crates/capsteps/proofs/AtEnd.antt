@@ -1,34 +1,118 @@
 -- The end of a step: the entries on an inode one by one, and all inodes that it touched.
-use Rattle.std.proofs.Common.{◌≡◌, ℕ, zero, suc, ◌<◌, Bool, true, false, cond, ◌||◌, Option, Some, None, List, [], ◌∷◌, length, filter, take, get_or, refl, sym, ap, ◌∙◌, arith, eq-eqb, true≢false}
-use Rattle.std.specs.Prelude.{All, IfSome, ◌==◌}
-use Rattle.std.specs.List.{find, fold, AllByRecursion, IsDistinct}
+use Rattle.std.proofs.Common.{◌≡◌, ℕ, zero, suc, ◌<◌, Bool, true, false, cond, Option, Some, None, List, [], ◌∷◌, length, filter, take, get_or, refl, sym, ap, ◌∙◌, arith, eq-eqb, true≢false, ◌≤◌, ◌||◌, map as each, is_some, subst}
+use Rattle.std.specs.Prelude.{All, IfSome, ◌==◌, IsTrue}
+use Rattle.std.specs.List.{fold, AllByRecursion, IsDistinct, list_any}
 use Rattle.std.specs.FinMap as map
 use Rattle.std.specs.FinSet as set
-use Rattle.std.proofs.lemmas.List.Elements.{All-contains, All-from_recursion, recursion_from_All}
+use Rattle.std.proofs.Math.Bool.{or_comm}
+use Rattle.std.proofs.lemmas.List.Elements.{All-contains, All-from_recursion, recursion_from_All, All-map, All-filter}
 use Rattle.std.proofs.lemmas.Map.Keys.{apart_from_distinct}
+use Rattle.std.specs.Ordering.{nat_cmp, eq_by_cmp}
+use Rattle.std.specs.Cmp.{nat_cmp_total, eq_by_cmp_equiv}
+use Rattle.std.specs.FinMap.Entries.{is_some-find}
+use Rattle.std.proofs.lemmas.Bool.{eqb-true, false_from_ne_true}
+use Rattle.std.proofs.lemmas.List.{length-map}
+use Rattle.std.proofs.lemmas.Map.Made.{is_some-lookup}
+use Rattle.std.proofs.lemmas.Map.Steps.{length-le_from_keys}
 use Rattle.capbits.specs.declared.ids.ClientId.{ClientId}
 use Rattle.capbits.specs.declared.ids.Ino.{Ino}
 use Rattle.capbits.specs.Caps.{Caps}
 use Rattle.inotree.specs.Tree.{Nodes}
-use Rattle.sessiontab.specs.Table.{SessionTable}
+use Rattle.sessiontab.specs.Table.{SessionTable, IsSound}
+use Rattle.sessiontab.specs.declared.table.TheConstants.{MAX_SESSIONS}
+use Rattle.sessiontab.specs.Calls.{has_session}
 use Rattle.captable.specs.declared.entry.Entry.{Entry}
 use Rattle.captable.specs.declared.entry.EntryRow.{EntryRow}
 use Rattle.captable.specs.declared.entry.Holder.{Holder}
-use Rattle.captable.specs.Table.{Table, same, holder, is_row_of, entry_of, entry_at}
+use Rattle.captable.specs.Table.{Table, same, holder, is_row_of, entry_at, IsTable, holders_of_rows}
 use Rattle.captable.specs.Calls.{is_of_inode, entries_on}
 use Rattle.captable.specs.Many.{changed_by}
-use Rattle.captable.proofs.Tables.{same_equiv, same-is}
-use Rattle.captable.proofs.ByHolder.{entry_at-changed_other}
-use Rattle.captable.proofs.Searches.{find_passes}
+use Rattle.captable.proofs.Tables.{same_equiv, holders-filter, distinct-filter}
+use Rattle.captable.proofs.ByHolder.{entry_at-changed_other, row_of-entry}
 use Rattle.capacts.specs.Lockmachine.declared.states.InodeLocks.{InodeLocks}
 use Rattle.capacts.specs.Lockmachine.Inodes.{StateMap}
 use Rattle.capacts.specs.Lockmachine.declared.scene.Scene.{Scene}
-use Rattle.capacts.specs.Finishing.{due_under, told_at, numbered_as, entry_under, entry_by}
+use Rattle.capacts.specs.Finishing.{due_under, told_at, numbered_as, entry_under, entry_by, clients_of}
 use Rattle.capacts.specs.Capnotes.InoSets.{InoSet}
 use Rattle.capsteps.specs.Touching.{forget_at, forget_among}
 use Rattle.capacts.specs.Reach.{is_touched}
+use Rattle.capacts.proofs.Lockmachine.Rest.{same_key}
 use Rattle.capsteps.proofs.LeftAlone.{found-contains}
-use Rattle.capsteps.proofs.Strays.{forget-one, forget-twice, forget-same}
+use Rattle.capsteps.proofs.Strays.{forget-one, forget-twice}
+
+-- ---- the clients with an entry on an inode have a session each, so they are no more than the sessions
+
+-- ---- keys of a map
+
+-- the same number
+abbrev same_number : ℕ → ℕ → Bool
+same_number = eq_by_cmp nat_cmp
+
+module _ {X : Type 0} (m : map.FinMap nat_cmp X) where
+  there : (ks : List ℕ) → AllByRecursion (λ k. map.contains_key m k ≡ true) ks → (q : ℕ) → list_any (same_number q) ks ≡ true → map.contains_key m q ≡ true
+  there [] all q is = absurd (cc)
+  there (k ∷ ks) all q is =
+      elim (same_number q k) as (λ b. same_number q k ≡ b → (b || list_any (same_number q) ks) ≡ true → map.contains_key m q ≡ true) [
+        | true ↦ λ e is. subst (λ k. map.contains_key m k ≡ true) (same_key q k e) all.0
+        | false ↦ λ e is. there ks all.1 q is
+      ] refl is
+
+  -- keys that are named once are at most as many as the map has
+  few_keys : (ks : List ℕ) → IsDistinct same_number ks → AllByRecursion (λ k. map.contains_key m k ≡ true) ks → length ks ≤ map.len m
+  few_keys ks apart all =
+      let few : length ks ≤ length (map.entries m) = length-le_from_keys (eq_by_cmp_equiv nat_cmp_total) ks (map.entries m) apart (λ q is.
+      is_some-lookup (same_number q) (map.entries m) ∙ sym (is_some-find nat_cmp q (map.entries m)) ∙ sym (ap is_some (map.get-entries m q)) ∙ there ks all q is) in
+      omega (arith, few, map.len-entries m)
+
+-- ---- holders on one inode
+
+-- the clients, on the inode
+abbrev pub named : Ino → List ℕ → List Holder
+named ino clients = each (λ c. holder (record { 0 = c }) ino) clients
+
+pub named-clients : (ino : Ino) (rows : List EntryRow) → named ino (clients_of (filter (is_of_inode ino) rows)) ≡ holders_of_rows (filter (is_of_inode ino) rows)
+named-clients ino [] = refl
+named-clients ino (row ∷ rows) =
+    elim (is_of_inode ino row) as (λ b. is_of_inode ino row ≡ b → named ino (clients_of (cond b (row ∷ filter (is_of_inode ino) rows) (filter (is_of_inode ino) rows))) ≡ holders_of_rows (cond b (row ∷ filter (is_of_inode ino) rows) (filter (is_of_inode ino) rows))) [
+      | true ↦ λ e. (let on : ino.0 ≡ row.holder.ino.0 = sym (eqb-true row.holder.ino.0 ino.0 e) in
+          λ i. holder row.holder.client (record { 0 = on i }) ∷ named-clients ino rows i)
+      | false ↦ λ e. named-clients ino rows
+    ] refl
+
+-- the holders on an inode differ
+pub distinct-on : (t : Table) (ino : Ino) → IsTable t → IsDistinct same (holders_of_rows (entries_on t ino))
+distinct-on t ino is =
+    let p : Holder → Bool = λ h. h.ino.0 == ino.0 in
+    subst (IsDistinct same) (sym (holders-filter p t.rows)) (distinct-filter p (holders_of_rows t.rows) is.one_row)
+
+-- who differs on one inode has another number
+other_number : (ino : Ino) (c x : ℕ) → same (holder (record { 0 = c }) ino) (holder (record { 0 = x }) ino) ≡ false → same_number c x ≡ false
+other_number ino c x apart = false_from_ne_true (same_number c x) (λ e.
+    let k : Holder = holder (record { 0 = c }) ino in
+    let is : same k k ≡ false = subst (λ y. same k (holder (record { 0 = y }) ino) ≡ false) (same_key c x e) apart in
+    true≢false (sym (same_equiv.refl k) ∙ is))
+
+other_numbers : (ino : Ino) (c : ℕ) (cs : List ℕ) → AllByRecursion (λ h. same (holder (record { 0 = c }) ino) h ≡ false) (named ino cs) → AllByRecursion (λ x. same_number c x ≡ false) cs
+other_numbers ino c [] apart = tt
+other_numbers ino c (x ∷ cs) apart = (other_number ino c x apart.0, other_numbers ino c cs apart.1)
+
+distinct_numbers : (ino : Ino) (cs : List ℕ) → IsDistinct same (named ino cs) → IsDistinct same_number cs
+unfolding IsDistinct
+distinct_numbers ino [] apart = tt
+distinct_numbers ino (c ∷ cs) apart = (other_numbers ino c cs apart.0, distinct_numbers ino cs apart.1)
+
+-- the entries on an inode are at most as many as the sessions may be
+pub few-entries : (t : Table) (ino : Ino) (s : SessionTable) → IsTable t → IsSound s → All (λ row. IsTrue (has_session s row.holder.client.0)) t.rows
+    → length (entries_on t ino) ≤ MAX_SESSIONS
+few-entries t ino s is sound connected =
+    let rows : List EntryRow = entries_on t ino in
+    let apart : IsDistinct same (named ino (clients_of rows)) = subst (IsDistinct same) (sym (named-clients ino t.rows)) (distinct-on t ino is) in
+    let all = recursion_from_All (λ k. map.contains_key s.sessions k ≡ true) (clients_of rows)
+    (All-map (λ k. map.contains_key s.sessions k ≡ true) (λ row. row.holder.client.0) rows
+    (All-filter (is_of_inode ino) (λ row. IsTrue (has_session s row.holder.client.0)) t.rows connected)) in
+    let few : length (clients_of rows) ≤ map.len s.sessions = few_keys s.sessions (clients_of rows) (distinct_numbers ino (clients_of rows) apart) all in
+    let as_many : length (clients_of rows) ≡ length rows = length-map rows (λ (row : EntryRow). row.holder.client.0) in
+    omega (arith, few, as_many, sound.sessions)
 
 -- ---- one entry
 
@@ -42,19 +126,21 @@ all-unfiltered P p (row ∷ rows) all =
 
 -- what holds of each entry on an inode holds of the holder's
 pub entry-on : (P : Entry → Type 0) (t : Table) (client : ClientId) (ino : Ino) → All (λ row. P row.entry) (entries_on t ino) → IfSome (entry_at t (holder client ino)) P
-entry-on P t client ino all = by_case (find (is_row_of (holder client ino)) t.rows) refl
+entry-on P t client ino all = by_entry (entry_at t k) refl
   where
+    k : Holder
+    k = holder client ino
+
     each_on : All (λ row. is_of_inode ino row ≡ true → P row.entry) t.rows
     each_on =
         All-from_recursion (λ row. is_of_inode ino row ≡ true → P row.entry) t.rows
         (all-unfiltered (λ row. P row.entry) (is_of_inode ino) t.rows (recursion_from_All (λ row. P row.entry) (entries_on t ino) all))
 
-    by_case : (o : Option EntryRow) → find (is_row_of (holder client ino)) t.rows ≡ o → IfSome (entry_of o) P
-    by_case None found = tt
-    by_case (Some row) found =
-        let mine : holder client ino ≡ row.holder = same-is (holder client ino) row.holder (find_passes (is_row_of (holder client ino)) t.rows row found) in
-        All-contains (λ row. is_of_inode ino row ≡ true → P row.entry) t.rows row each_on (found-contains (is_row_of (holder client ino)) t.rows row found)
-        (eq-eqb row.holder.ino.0 ino.0 (ap (λ (h : Holder). h.ino.0) (sym mine)))
+    by_entry : (o : Option Entry) → entry_at t k ≡ o → IfSome o P
+    by_entry None none = tt
+    by_entry (Some e) there =
+        let row : EntryRow = record { holder = k; entry = e } in
+        All-contains (λ row. is_of_inode ino row ≡ true → P row.entry) t.rows row each_on (found-contains (is_row_of k) t.rows row (row_of-entry t k e there)) (eq-eqb ino.0 ino.0 refl)
 
 -- ---- one entry after another
 
@@ -72,12 +158,6 @@ yet-unchanged g t (k ∷ ks) (suc i) d apart inside =
 
 -- ---- all entries on the touched inodes
 
-pub or_turned : (a b : Bool) → (a || b) ≡ (b || a)
-or_turned true true = refl
-or_turned true false = refl
-or_turned false true = refl
-or_turned false false = refl
-
 -- of an entry on the inode: by its locks, and by those of all inodes; and by what is known now, and what was known at first
 pub entry-alike : (known first : Holder → Caps) (fs : List ℕ) (tree : Nodes) (sessions : SessionTable) (locks : Option InodeLocks) (states : StateMap) (row : EntryRow)
     → known row.holder ≡ first row.holder → locks ≡ map.get states row.holder.ino.0 → entry_under known fs tree sessions locks row ≡ entry_by first fs tree sessions states row
@@ -89,4 +169,4 @@ pub forget-all : (ino : ℕ) (touched : InoSet) (s : Scene) → forget_at ino (f
 forget-all ino touched s =
     sym (forget-one ino (forget_among (set.contains touched) s))
     ∙ forget-twice (set.contains touched) (λ n. n == ino) s
-    ∙ forget-same (λ n. set.contains touched n || (n == ino)) (is_touched ino touched) s (λ n. or_turned (set.contains touched n) (n == ino))
+    ∙ (λ i. forget_among (λ n. or_comm (set.contains touched n) (n == ino) i) s)

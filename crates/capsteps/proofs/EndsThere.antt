@@ -1,9 +1,10 @@
 -- The step of an event ends at the inodes that it touched.
-use Rattle.std.proofs.Common.{◌≡◌, ℕ, suc, ◌+◌, ◌==◌, Bool, true, false, cond, not, ◌||◌, Option, Some, None, List, [], ◌∷◌, map, refl, sym, ap, subst, ◌∙◌, Contains, arith}
+use Rattle.std.proofs.Common.{◌≡◌, ℕ, ◌+◌, ◌==◌, Bool, true, false, cond, not, ◌||◌, Option, Some, None, List, [], ◌∷◌, map, refl, sym, ap, subst, ◌∙◌, Contains}
 use Rattle.std.specs.List.{find, list_any}
 use Rattle.std.specs.Option.{option_map, option_map_or}
 use Rattle.std.specs.Ordering.{nat_cmp}
 use Rattle.std.specs.FinMap as finite
+use Rattle.std.proofs.lemmas.Simd.{map-map}
 use Rattle.std.proofs.lemmas.List.Elements.{All-contains}
 use Rattle.capbits.specs.declared.cap.Cap.{Cap}
 use Rattle.capbits.specs.declared.cap.Cap.TheVariants.{P}
@@ -38,24 +39,13 @@ use Rattle.capacts.specs.Caprules.Settle.{Made}
 use Rattle.capsteps.specs.Touching.{Touches, SettlesAt, Knows, stays, told_then, finished_entry, finished_at}
 use Rattle.capacts.specs.Known.{KnownSets, kept_of, AreKnown, kept_anew, KeptAnew}
 use Rattle.capacts.proofs.Held.{or_inside}
-use Rattle.capsteps.proofs.Finishing.{same-issue_row, same-renumbered, kept_by}
+use Rattle.capsteps.proofs.Finishing.{each-alike, same-issue_row, same-renumbered, kept_by}
 use Rattle.capsteps.proofs.Forgotten.{due-left}
 use Rattle.capsteps.proofs.LeftAlone.{found-contains}
 use Rattle.capsteps.proofs.Moved.{moved-all}
 use Rattle.capsteps.proofs.SameOff.{row_elsewhere, any_elsewhere, IsSameFrom, from-first}
+use Rattle.capsteps.proofs.Telling.{any-map_same}
 use Rattle.capsteps.proofs.Strays.{retained-here, kept-held, goes, alike-retained}
-
--- ---- lists of rows
-
-pub any-map : (p : EntryRow → Bool) (g : EntryRow → EntryRow) → ((row : EntryRow) → p (g row) ≡ p row) → (rows : List EntryRow) → list_any p (map g rows) ≡ list_any p rows
-any-map p g same [] = refl
-any-map p g same (x ∷ xs) = λ i. same x i || any-map p g same xs i
-
--- two changes of each row are one
-pub two_changes : (f g h : EntryRow → EntryRow) (rows : List EntryRow) → ((row : EntryRow) → Contains rows row → f (g row) ≡ h row) → map f (map g rows) ≡ map h rows
-two_changes f g h [] each = refl
-two_changes f g h (row ∷ rows) each =
-    λ i. each row (0, omega arith, refl) i ∷ two_changes f g h rows (λ x inside. each x (suc inside.0, omega (arith, inside.1), inside.2)) i
 
 -- ---- an entry at the end
 
@@ -128,7 +118,7 @@ module _ (at : ℕ → Bool) (known : Holder → Caps) (old : State) (now : Scen
 
   kept_elsewhere : (q : ℕ) → at q ≡ false → is_kept (issue now) q ≡ true
   kept_elsewhere q off = kept_by (place now.tree.nodes q) _ (λ gone.
-      any-map (is_of_inode (record { 0 = q })) (issue_row now) (λ row. refl) now.table.rows
+      any-map_same (is_of_inode (record { 0 = q })) (issue_row now) (λ row. refl) now.table.rows
       ∙ any_elsewhere at old.scene.table now.table same_from.entries q off ∙ sound.strays q (sym (same_from.places q off) ∙ gone))
 
   pub holder_ended : (row : EntryRow) → (ended row).holder ≡ row.holder
@@ -136,10 +126,10 @@ module _ (at : ℕ → Bool) (known : Holder → Caps) (old : State) (now : Scen
       elim (at row.holder.ino.0) as (λ b. (cond b (remade (finished_entry known now) row) row).holder ≡ row.holder) [ true ↦ refl | false ↦ refl ]
 
   any_ended : (q : ℕ) → list_any (is_of_inode (record { 0 = q })) (map ended now.table.rows) ≡ list_any (is_of_inode (record { 0 = q })) now.table.rows
-  any_ended q = any-map (is_of_inode (record { 0 = q })) ended (λ row. ap (λ (h : Holder). h.ino.0 == q) (holder_ended row)) now.table.rows
+  any_ended q = any-map_same (is_of_inode (record { 0 = q })) ended (λ row. ap (λ (h : Holder). h.ino.0 == q) (holder_ended row)) now.table.rows
 
   any_issued : (q : ℕ) → list_any (is_of_inode (record { 0 = q })) (map (issue_row now) now.table.rows) ≡ list_any (is_of_inode (record { 0 = q })) now.table.rows
-  any_issued q = any-map (is_of_inode (record { 0 = q })) (issue_row now) (λ row. refl) now.table.rows
+  any_issued q = any-map_same (is_of_inode (record { 0 = q })) (issue_row now) (λ row. refl) now.table.rows
 
   -- once they are issued as once they are numbered, the same inodes are kept
   kept_issued : (q : ℕ) → is_kept (issue now) q ≡ is_kept now q
@@ -203,7 +193,7 @@ module _ (at : ℕ → Bool) (known : Holder → Caps) (old : State) (now : Scen
   pub ends_there : finished old.scene now now ≡ finished_at at known now
   ends_there = λ i. record now {
     tree = record now.tree { nodes = kept_map now.tree.nodes i };
-    table = record now.table { rows = two_changes (number_row old.scene now last) (issue_row now) ended now.table.rows one_row i };
+    table = record now.table { rows = (map-map (number_row old.scene now last) (issue_row now) now.table.rows ∙ each-alike (λ row. number_row old.scene now last (issue_row now row)) ended now.table.rows one_row) i };
     locks = record now.locks { states = kept_map now.locks.states i };
   }
 
@@ -214,6 +204,9 @@ module _ (at : ℕ → Bool) (known : Holder → Caps) (old : State) (now : Scen
   told_finished row inside e =
       sym (λ i. told_set (record now { tree = record now.tree { nodes = kept_map now.tree.nodes i }; locks = record now.locks { states = kept_map now.locks.states i } }) (record row { entry = e }))
       ∙ told_last row inside e
+
+  pub found_last : (k : Holder) → find (is_row_of k) (finished_at at known now).table.rows ≡ option_map ended (find (is_row_of k) now.table.rows)
+  found_last k = find-map (is_row_of k) ended (λ row. ap (same k) (holder_ended row)) now.table.rows
 
   module _ (was sets : KnownSets) (off_known : (row : EntryRow) → Contains now.table.rows row → at row.holder.ino.0 ≡ false → kept_of was row.holder ≡ Some (told_set old.scene row))
       (kept : KeptAnew (λ k. at k.ino.0) (told_then now) now.table was sets) where
@@ -228,15 +221,12 @@ module _ (at : ℕ → Bool) (known : Holder → Caps) (old : State) (now : Scen
     pub known-there : AreKnown sets (finished_at at known now)
     known-there k e there = by_found (find (is_row_of k) now.table.rows) refl
       where
-        found : find (is_row_of k) (finished_at at known now).table.rows ≡ option_map ended (find (is_row_of k) now.table.rows)
-        found = find-map (is_row_of k) ended (λ row. ap (same k) (holder_ended row)) now.table.rows
-
         by_found : (o : Option EntryRow) → find (is_row_of k) now.table.rows ≡ o → kept_of sets k ≡ Some (told_set (finished_at at known now) (record { holder = k; entry = e }))
-        by_found None none = let gone : entry_at (finished_at at known now).table k ≡ None = ap entry_of (found ∙ ap (option_map ended) none) in absurd (cc)
+        by_found None none = let gone : entry_at (finished_at at known now).table k ≡ None = ap entry_of (found_last k ∙ ap (option_map ended) none) in absurd (cc)
         by_found (Some row) is =
             let inside : Contains now.table.rows row = found-contains (is_row_of k) now.table.rows row is in
             let mine : k ≡ row.holder = same-is k row.holder (find_passes (is_row_of k) now.table.rows row is) in
-            let then : entry_at (finished_at at known now).table k ≡ Some (ended row).entry = ap entry_of (found ∙ ap (option_map ended) is) in
+            let then : entry_at (finished_at at known now).table k ≡ Some (ended row).entry = ap entry_of (found_last k ∙ ap (option_map ended) is) in
             let e_is : e ≡ (ended row).entry = cc in
             kept k ∙ (λ i. kept_anew (at (mine i).ino.0) (told_then now) (is i) (kept_of was (mine i))) ∙ by_place row inside (at row.holder.ino.0) refl
             ∙ (λ i. Some (told_set (finished_at at known now) (record { holder = sym mine i; entry = sym e_is i })))
@@ -271,9 +261,6 @@ module _ (at : ℕ → Bool) (known : Holder → Caps) (old : State) (now : Scen
     by_row : (cap : Cap) (k : Holder) (o : Option EntryRow) → find (is_row_of k) now.table.rows ≡ o → held_of cap (option_map ended o) ≡ (held_of cap o || due_of cap (option_map ended o))
     by_row cap k None e = refl
     by_row cap k (Some row) e = held_last row cap (found-contains (is_row_of k) now.table.rows row e)
-
-    pub found_last : (k : Holder) → find (is_row_of k) (finished_at at known now).table.rows ≡ option_map ended (find (is_row_of k) now.table.rows)
-    found_last k = find-map (is_row_of k) ended (λ row. ap (same k) (holder_ended row)) now.table.rows
 
     pub issues_there : IssuesExactly now (finished_at at known now)
     issues_there k cap =

@@ -1,10 +1,12 @@
 -- In a sound state the end of a step changes nothing.
-use Rattle.std.proofs.Common.{◌≡◌, ℕ, suc, Bool, true, false, cond, not, ◌&&◌, ◌||◌, Some, None, List, [], ◌∷◌, refl, sym, ap, ◌∙◌, Contains, arith}
+use Rattle.std.proofs.Common.{◌≡◌, ℕ, suc, Bool, true, cond, not, ◌||◌, Some, None, List, [], ◌∷◌, refl, sym, ap, ◌∙◌, Contains, arith}
 use Rattle.std.specs.Prelude.{map}
 use Rattle.std.specs.List.{find}
 use Rattle.std.specs.Cmp.{nat_cmp_total}
 use Rattle.std.specs.Ordering.{nat_cmp}
 use Rattle.std.specs.FinMap as finite
+use Rattle.std.proofs.lemmas.List.{map-id}
+use Rattle.std.proofs.Math.Bool.{and-not_self}
 use Rattle.std.proofs.lemmas.List.Elements.{All-contains}
 use Rattle.capbits.specs.Caps.{Caps, has}
 use Rattle.capbits.specs.Sets.{no_caps, union, minus, same_caps, IsSubset, has-union, has-minus, has-none, is_empty}
@@ -29,10 +31,10 @@ use Rattle.capacts.specs.Caprules.Sound.{IsSound, IsSoundEntry}
 
 -- ---- lists of rows that stay
 
--- a change that leaves each row leaves all
-same_rows : (f : EntryRow → EntryRow) (rows : List EntryRow) → ((row : EntryRow) → Contains rows row → f row ≡ row) → map f rows ≡ rows
-same_rows f [] each = refl
-same_rows f (row ∷ rows) each = λ i. each row (0, omega arith, refl) i ∷ same_rows f rows (λ x inside. each x (suc inside.0, omega (arith, inside.1), inside.2)) i
+-- changes that are the same of each row are the same of all
+pub each-alike : (f g : EntryRow → EntryRow) (rows : List EntryRow) → ((row : EntryRow) → Contains rows row → f row ≡ g row) → map f rows ≡ map g rows
+each-alike f g [] alike = refl
+each-alike f g (row ∷ rows) alike = λ i. alike row (0, omega arith, refl) i ∷ each-alike f g rows (λ x inside. alike x (suc inside.0, omega (arith, inside.1), inside.2)) i
 
 with_rows : Scene → List EntryRow → Scene
 with_rows s rows = record s { table = record s.table { rows = rows } }
@@ -40,7 +42,7 @@ with_rows s rows = record s { table = record s.table { rows = rows } }
 -- where no size was changed, none is to be told
 pub none-sized : (s : Scene) → sizes_owed [] s ≡ s
 unfolding with_rows
-none-sized s = ap (with_rows s) (same_rows (λ row. row) s.table.rows (λ row inside. refl))
+none-sized s = ap (with_rows s) (map-id s.table.rows)
 
 -- ---- issue
 
@@ -52,12 +54,8 @@ same-issue_row s row all =
 
 -- ---- numbers
 
-and_not : (b : Bool) → (b && not b) ≡ false
-and_not true = refl
-and_not false = refl
-
 none_lost : (a : Caps) → is_empty (minus a a) ≡ true
-none_lost a = (is_empty-no_caps (minus a a)).1 (same_caps (minus a a) no_caps (λ c. has-minus a a c ∙ and_not (has a c) ∙ sym (has-none c)))
+none_lost a = (is_empty-no_caps (minus a a)).1 (same_caps (minus a a) no_caps (λ c. has-minus a a c ∙ and-not_self (has a c) ∙ sym (has-none c)))
 
 -- where nothing changed, no number rises
 pub same-renumbered : (before after : Caps) (e : Entry) → before ≡ after → renumbered before after e ≡ e
@@ -82,7 +80,7 @@ same_kept m p all = finite.same_map nat_cmp_total finite.nat_cmp-IsAntisymmetric
 module _ (s : State) (sound : IsSound s) (table : IsTable s.scene.table) where
   same-issue : issue s.scene ≡ s.scene
   unfolding with_rows
-  same-issue = ap (with_rows s.scene) (same_rows (issue_row s.scene) s.scene.table.rows (λ row inside. same-issue_row s.scene row (has_due row inside)))
+  same-issue = ap (with_rows s.scene) (each-alike (issue_row s.scene) (λ row. row) s.scene.table.rows (λ row inside. same-issue_row s.scene row (has_due row inside)) ∙ map-id s.scene.table.rows)
     where
       has_due : (row : EntryRow) → Contains s.scene.table.rows row → IsSubset (due s.scene row) row.entry.held
       has_due row inside = let entry = All-contains (IsSoundEntry s.scene) s.scene.table.rows row sound.entries inside in entry.has_due
@@ -100,7 +98,8 @@ module _ (s : State) (sound : IsSound s) (table : IsTable s.scene.table) where
   module _ (old : Scene) (told : (row : EntryRow) → Contains s.scene.table.rows row → told_set old row ≡ told_set s.scene row) where
     same-number : number old s.scene s.scene ≡ s.scene
     unfolding with_rows
-    same-number = ap (with_rows s.scene) (same_rows (number_row old s.scene s.scene) s.scene.table.rows (λ row inside. same-number_row old s.scene row (row_found s.scene.table row table inside) (told row inside)))
+    same-number = ap (with_rows s.scene)
+        (each-alike (number_row old s.scene s.scene) (λ row. row) s.scene.table.rows (λ row inside. same-number_row old s.scene row (row_found s.scene.table row table inside) (told row inside)) ∙ map-id s.scene.table.rows)
 
     pub same-finished : finished old s.scene s.scene ≡ s.scene
     same-finished = ap (λ t. number old s.scene (forget t)) same-issue ∙ ap (number old s.scene) same-forget ∙ same-number

@@ -1,6 +1,9 @@
 -- What the end of a step makes of an entry on an inode that it touched: it gains what is due, which its locks allow, and its number may rise.
-use Rattle.std.proofs.Common.{◌≡◌, ◌≤◌, ℕ, ◌+◌, Bool, true, false, not, cond, ◌&&◌, ◌||◌, Option, Some, None, List, [], ◌∷◌, refl, sym, ap, subst, ◌∙◌, true≢false, ◌⊎◌, inl, inr, arith}
+use Rattle.std.proofs.Common.{◌≡◌, ◌≤◌, ℕ, ◌+◌, Bool, true, false, not, cond, ◌&&◌, ◌||◌, Option, Some, None, List, [], ◌∷◌, refl, sym, ap, subst, ◌∙◌, true≢false, ◌⊎◌, inl, inr, arith, ◌==◌, map as each, filter}
 use Rattle.std.specs.Prelude.{if◌then◌else◌}
+use Rattle.std.proofs.lemmas.Bool.{and_from, or_cases, or_left, eqb-true}
+use Rattle.std.specs.List.{list_any}
+use Rattle.std.proofs.lemmas.Simd.{map-map}
 use Rattle.capbits.specs.declared.cap.Cap.{Cap}
 use Rattle.capbits.specs.declared.cap.Cap.TheVariants.{P}
 use Rattle.capbits.specs.declared.cap.Part.{Part}
@@ -11,7 +14,7 @@ use Rattle.capbits.proofs.Covering.{one_part, same_cap-pin}
 use Rattle.inotree.specs.Tree.{Nodes}
 use Rattle.sessiontab.specs.Table.{SessionTable}
 use Rattle.sessiontab.specs.Calls.{status_of}
-use Rattle.sessiontab.specs.Tests.{is_open}
+use Rattle.sessiontab.specs.Tests.{is_open as is_open_status}
 use Rattle.locktable.specs.declared.states.State.{State}
 use Rattle.locktable.specs.declared.states.LockState.{LockState}
 use Rattle.locktable.specs.declared.states.LockState.TheVariants.{Stable, Gather}
@@ -19,29 +22,19 @@ use Rattle.locktable.specs.Rows.{row_of, allowed_of, allowed_covers}
 use Rattle.captable.specs.declared.entry.Entry.{Entry}
 use Rattle.captable.specs.declared.entry.EntryRow.{EntryRow}
 use Rattle.captable.specs.declared.entry.Holder.{Holder}
-use Rattle.captable.specs.Calls.{renumbered}
-use Rattle.captable.specs.Many.{remade}
+use Rattle.captable.specs.Calls.{renumbered, is_of_inode}
+use Rattle.captable.specs.Many.{remade, changed_where}
+use Rattle.captable.proofs.Searches.{filter-map}
 use Rattle.capacts.specs.Lockmachine.Locks.{lock_at}
 use Rattle.capacts.specs.Lockmachine.Policy.{permitted}
-use Rattle.capacts.specs.Lockmachine.Wants.{effective_want}
+use Rattle.capacts.specs.Lockmachine.Wants.{effective_want, Want, want_of, in_all}
 use Rattle.capacts.specs.Lockmachine.declared.scene.Scene.{Scene}
-use Rattle.capacts.specs.Lockmachine.Scene.{outside, told_set}
+use Rattle.capacts.specs.Lockmachine.Scene.{outside, told_set, wants, target_by}
 use Rattle.capacts.specs.Lockmachine.Rows.{IsInRowOf, IsInRow}
 use Rattle.capacts.specs.Caprules.Finish.{allowed_by, allowed_part, allowed_to, due, issue_row}
 use Rattle.capsteps.specs.Touching.{finished_entry}
 use Rattle.capacts.proofs.Walked.{second_true}
-
-either : (a b : Bool) → (a || b) ≡ true → (a ≡ true) ⊎ (b ≡ true)
-either true b e = inl refl
-either false b e = inr e
-
-first_true : (a b : Bool) → a ≡ true → (a || b) ≡ true
-first_true true b e = refl
-first_true false b e = absurd (true≢false (sym e))
-
-both_true : (a b : Bool) → a ≡ true → b ≡ true → (a && b) ≡ true
-both_true true b e f = f
-both_true false b e f = e
+use Rattle.capacts.specs.Lockmachine.Moves.{is_open, IsQuiet, IsAtRest}
 
 -- ---- what the locks allow of a part
 
@@ -55,13 +48,13 @@ part_covers s row part c h = by_lock (lock_at s.locks row.holder.ino.0 part) h
 -- what is allowed of a part is allowed by its lock
 allowed_here : (s : Scene) (row : EntryRow) (part : Part) (c : Cap) → covers c part ≡ true → has (allowed_to s row) c ≡ true → has (allowed_part s row part) c ≡ true
 allowed_here s row part c cov h =
-    elim (either _ _ (sym (has-union _ _ c) ∙ h)) [
+    elim (or_cases _ _ (sym (has-union _ _ c) ∙ h)) [
       | inl pin ↦ absurd (true≢false (sym pin ∙ has-caps_in (P ∷ []) c ∙ ap (λ b. b || false) (same_cap-pin c part cov)))
-      | inr rest ↦ elim (either _ _ (sym (has-union _ _ c) ∙ rest)) [
+      | inr rest ↦ elim (or_cases _ _ (sym (has-union _ _ c) ∙ rest)) [
         | inl a ↦ here A a
-        | inr rest ↦ elim (either _ _ (sym (has-union _ _ c) ∙ rest)) [
+        | inr rest ↦ elim (or_cases _ _ (sym (has-union _ _ c) ∙ rest)) [
           | inl l ↦ here L l
-          | inr rest ↦ elim (either _ _ (sym (has-union _ _ c) ∙ rest)) [
+          | inr rest ↦ elim (or_cases _ _ (sym (has-union _ _ c) ∙ rest)) [
             | inl x ↦ here X x
             | inr f ↦ here F f
           ]
@@ -74,7 +67,7 @@ allowed_here s row part c cov h =
 
 -- the pin is always allowed
 pin_allowed : (s : Scene) (row : EntryRow) → has (allowed_to s row) P ≡ true
-pin_allowed s row = has-union _ _ P ∙ first_true _ _ (has-caps_in (P ∷ []) P)
+pin_allowed s row = has-union _ _ P ∙ or_left _ _ (has-caps_in (P ∷ []) P)
 
 -- ---- numbers
 
@@ -121,21 +114,21 @@ module _ (known : Holder → Caps) (s : Scene) (row : EntryRow) where
 
   pub effective-ended : (fs : List ℕ) (tree : Nodes) (sessions : SessionTable) → effective_want fs tree sessions (ended_row known s row) ≡ effective_want fs tree sessions row
   effective-ended fs tree sessions =
-      ap (λ (want : Caps). if is_open (status_of sessions row.holder.client.0) then meet want (permitted fs tree sessions row.holder) else no_caps) want-ended
+      ap (λ (want : Caps). if is_open_status (status_of sessions row.holder.client.0) then meet want (permitted fs tree sessions row.holder) else no_caps) want-ended
 
   -- ---- what it holds
 
   pub holds-held : (c : Cap) → has row.entry.held c ≡ true → has (finished_entry known s row).held c ≡ true
-  holds-held c h = ap (λ caps. has caps c) held-ended ∙ has-union row.entry.held (due s row) c ∙ first_true _ _ h
+  holds-held c h = ap (λ caps. has caps c) held-ended ∙ has-union row.entry.held (due s row) c ∙ or_left _ _ h
 
   pub holds-due : (c : Cap) → has (due s row) c ≡ true → has (finished_entry known s row).held c ≡ true
   holds-due c h = ap (λ caps. has caps c) held-ended ∙ has-union row.entry.held (due s row) c ∙ second_true _ _ h
 
   -- it holds the pin, where the pin was held or is wanted
   pub holds-pin : (has row.entry.held P || has (effective_want s.fs s.tree s.sessions row) P) ≡ true → has (finished_entry known s row).held P ≡ true
-  holds-pin h = elim (either _ _ h) [
+  holds-pin h = elim (or_cases _ _ h) [
     | inl held ↦ holds-held P held
-    | inr wanted ↦ holds-due P (has-meet _ _ P ∙ both_true _ _ wanted (pin_allowed s row))
+    | inr wanted ↦ holds-due P (has-meet _ _ P ∙ and_from _ _ wanted (pin_allowed s row))
   ]
 
   -- what is due of a part is allowed by its lock
@@ -147,8 +140,8 @@ module _ (known : Holder → Caps) (s : Scene) (row : EntryRow) where
       → (has (of_part part row.entry.held) c ≡ true) ⊎ (has (allowed_part s row part) c ≡ true)
   held_or_due part c h =
       let parts = and_parts (has (finished_entry known s row).held c) (covers c part) (sym (has-of_part part (finished_entry known s row).held c) ∙ h) in
-      elim (either (has row.entry.held c) (has (due s row) c) (sym (ap (λ caps. has caps c) held-ended ∙ has-union row.entry.held (due s row) c) ∙ parts.0)) as (λ _. (has (of_part part row.entry.held) c ≡ true) ⊎ (has (allowed_part s row part) c ≡ true)) [
-        | inl held ↦ inl (has-of_part part row.entry.held c ∙ both_true _ _ held parts.1)
+      elim (or_cases (has row.entry.held c) (has (due s row) c) (sym (ap (λ caps. has caps c) held-ended ∙ has-union row.entry.held (due s row) c) ∙ parts.0)) as (λ _. (has (of_part part row.entry.held) c ≡ true) ⊎ (has (allowed_part s row part) c ≡ true)) [
+        | inl held ↦ inl (has-of_part part row.entry.held c ∙ and_from _ _ held parts.1)
         | inr is_due ↦ inr (due_here part c is_due parts.1)
       ]
 
@@ -186,3 +179,73 @@ module _ (known : Holder → Caps) (s : Scene) (row : EntryRow) where
       absorbed false false v r e = refl
       absorbed false true false r e = refl
       absorbed false true true r e = ap not (e refl refl)
+
+-- ---- the end of a step keeps the locks at rest: it gives only what is in the rows of both states of a gather, and no want looks
+-- at what is held
+
+-- at these inodes
+module _ (known : Holder → Caps) (s : Scene) (at : ℕ → Bool) where
+  abbrev pub on_it : EntryRow → Bool
+  on_it row = at row.holder.ino.0
+
+  -- a row at the end: those on these inodes change
+  abbrev pub last_row : EntryRow → EntryRow
+  last_row row = cond (on_it row) (ended_row known s row) row
+
+  -- the scene with these rows
+  abbrev pub issued_at : Scene
+  issued_at = record s { table = changed_where on_it (finished_entry known s) s.table }
+
+  -- what holds of a row on one of them at the end, and of each other as it is, holds of each at the end
+  pub by_place : (P : EntryRow → Type 0) (row : EntryRow) → (on_it row ≡ true → P (ended_row known s row)) → (on_it row ≡ false → P row) → P (last_row row)
+  by_place P row here elsewhere = elim (on_it row) as (λ b. on_it row ≡ b → P (cond b (ended_row known s row) row)) [ true ↦ here | false ↦ elsewhere ] refl
+
+  pub holder-last : (row : EntryRow) → (last_row row).holder ≡ row.holder
+  holder-last row = by_place (λ r. r.holder ≡ row.holder) row (λ e. refl) (λ e. refl)
+
+  pub of_inode-last : (i : ℕ) (row : EntryRow) → is_of_inode (record { 0 = i }) (last_row row) ≡ is_of_inode (record { 0 = i }) row
+  of_inode-last i row = ap (λ (h : Holder). h.ino.0 == i) (holder-last row)
+
+  want-last : (row : EntryRow) → want_of s.fs s.tree s.sessions (last_row row) ≡ want_of s.fs s.tree s.sessions row
+  want-last row = by_place (λ r. want_of s.fs s.tree s.sessions r ≡ want_of s.fs s.tree s.sessions row) row (λ e i. (row.holder.client, effective-ended known s row s.fs s.tree s.sessions i)) (λ e. refl)
+
+  wants-last : (i : ℕ) → wants issued_at i ≡ wants s i
+  wants-last i =
+      ap (each (want_of s.fs s.tree s.sessions)) (filter-map (is_of_inode (record { 0 = i })) last_row (of_inode-last i) s.table.rows)
+      ∙ map-map (want_of s.fs s.tree s.sessions) last_row (filter (is_of_inode (record { 0 = i })) s.table.rows)
+      ∙ (λ j. each (λ row. want-last row j) (filter (is_of_inode (record { 0 = i })) s.table.rows))
+
+  -- ---- a gather stays open
+
+  module _ (i : ℕ) (part : Part) (from to : State) (lock : lock_at s.locks i part ≡ Some (Gather from to)) where
+    abbrev on : EntryRow → Bool
+    on = is_of_inode (record { 0 = i })
+
+    abbrev is_left : EntryRow → Bool
+    is_left row = not (is_empty (outside part to row))
+
+    left-last : (row : EntryRow) → row.holder.ino.0 ≡ i → is_left (last_row row) ≡ is_left row
+    left-last row here =
+        by_place (λ r. is_left r ≡ is_left row) row (λ e. ap (λ caps. not (is_empty caps)) (outside-ended known s row part from to (ap (λ n. lock_at s.locks n part) here ∙ lock))) (λ e. refl)
+
+    left : (rows : List EntryRow) → list_any is_left (filter on (each last_row rows)) ≡ list_any is_left (filter on rows)
+    left [] = refl
+    left (row ∷ rows) =
+        ap (λ b. list_any is_left (cond b (last_row row ∷ filter on (each last_row rows)) (filter on (each last_row rows)))) (of_inode-last i row)
+        ∙ elim (on row) as (λ b. on row ≡ b → list_any is_left (cond b (last_row row ∷ filter on (each last_row rows)) (filter on (each last_row rows))) ≡ list_any is_left (cond b (row ∷ filter on rows) (filter on rows))) [
+          | true ↦ λ e k. left-last row (eqb-true row.holder.ino.0 i e) k || left rows k
+          | false ↦ λ e. left rows
+        ] refl
+
+    open-last : is_open issued_at i part to ≡ is_open s i part to
+    open-last = left s.table.rows
+
+  -- ---- rest
+
+  quiet-last : (i : ℕ) (part : Part) (o : Option LockState) → lock_at s.locks i part ≡ o → IsQuiet s i part o → IsQuiet issued_at i part o
+  quiet-last i part None is quiet = quiet
+  quiet-last i part (Some (Stable state)) is quiet = (ap (λ (ws : List Want). target_by s.locks.queue (in_all ws) i part state) (wants-last i) ∙ quiet.0, quiet.1)
+  quiet-last i part (Some (Gather from to)) is quiet = open-last i part from to is ∙ quiet
+
+  pub rest-issued : IsAtRest s → IsAtRest issued_at
+  rest-issued rest = record { each = λ i part. quiet-last i part (lock_at s.locks i part) refl (rest.each i part) }

@@ -2,6 +2,7 @@
 use Rattle.std.proofs.Common.{◌≡◌, Bool, true, false, cond, not, ◌&&◌, Option, Some, None, is_some, IsSome, refl, sym, ap, subst, ◌∙◌, true≢false}
 use Rattle.std.specs.List.{find}
 use Rattle.std.specs.Option.{option_map, option_map_or, unwrap_or}
+use Rattle.std.proofs.lemmas.Bool.{and_right, false_from_ne_true, false≢true}
 use Rattle.capbits.specs.Caps.{Caps, has}
 use Rattle.capbits.specs.Sets.{no_caps, minus, meet, IsSubset, same_caps, has-none, has-meet, has-minus}
 use Rattle.captable.specs.declared.entry.Entry.{Entry}
@@ -84,14 +85,6 @@ revoked-known sets s k e known there =
 
 -- ---- what an event leaves by itself
 
-nothing : (b : Bool) → (b ≡ true → false ≡ true) → b ≡ false
-nothing true f = sym (f refl)
-nothing false f = refl
-
-and_none : (a b : Bool) → b ≡ false → (a && b) ≡ false
-and_none true b e = e
-and_none false b e = refl
-
 -- entries of a table of which each was there, where of each the same is kept
 pub still-there : (old new : Table) (was now : KnownSets) → ((k : Holder) (e : Entry) → entry_at new k ≡ Some e → IsSome (entry_at old k))
     → ((k : Holder) (e : Entry) → entry_at new k ≡ Some e → kept_of now k ≡ kept_of was k) → StillKept old new was now
@@ -131,9 +124,9 @@ module _ (was now : KnownSets) (old : Scene) (table : Table) (known : AreKnown w
           ap (λ (o : Option Caps). meet (unwrap_or o no_caps) row.entry.held) (still-known row.holder row.entry e here there)
           ∙ sym (told-less old (record { holder = row.holder; entry = e }) row.entry fewer)
       by_entry None none = same_caps _ _ (λ c.
-          let out : has row.entry.held c ≡ false = nothing (has row.entry.held c) (λ h.
-          sym (has-none c) ∙ ap (λ (o : Option Entry). has (option_map_or (λ (x : Entry). x.held) o no_caps) c) (sym none) ∙ less row.holder row.entry here c h) in
-          has-meet (known_in now row.holder) row.entry.held c ∙ and_none (has (known_in now row.holder) c) (has row.entry.held c) out
+          let out : has row.entry.held c ≡ false = false_from_ne_true (has row.entry.held c) (λ h. false≢true (
+          sym (has-none c) ∙ ap (λ (o : Option Entry). has (option_map_or (λ (x : Entry). x.held) o no_caps) c) (sym none) ∙ less row.holder row.entry here c h)) in
+          has-meet (known_in now row.holder) row.entry.held c ∙ and_right (has (known_in now row.holder) c) (has row.entry.held c) out
           ∙ sym (has-told old row c ∙ ap (λ b. b && not (is_taken old row.holder c)) out))
 
 -- where the table stays, all is still known

@@ -4,7 +4,7 @@ use Rattle.std.specs.Prelude.{IsTrue}
 use Rattle.std.specs.List.{find}
 use Rattle.std.specs.Option.{option_map}
 use Rattle.std.specs.FinMap as map
-use Rattle.std.proofs.lemmas.Bool.{eqb-true}
+use Rattle.std.proofs.lemmas.Bool.{eqb-true, false_from_ne_true, true≢false}
 use Rattle.std.proofs.lemmas.List.Elements.{All-contains, All-contains_itself, All-weaker}
 use Rattle.capbits.specs.declared.cap.Part.{Part}
 use Rattle.capbits.specs.declared.cap.Part.TheVariants.{A, L, X, F}
@@ -15,26 +15,26 @@ use Rattle.locktable.specs.declared.states.LockState.{LockState}
 use Rattle.locktable.specs.declared.states.LockState.TheVariants.{Stable, Gather}
 use Rattle.locktable.specs.declared.targets.Head.TheVariants.{Empty}
 use Rattle.locktable.specs.Targets.{target_of}
+use Rattle.locktable.specs.declared.states.State.{State as LockGoal}
 use Rattle.inotree.specs.declared.node.Node.{Node}
 use Rattle.inotree.specs.Tree.{Nodes}
 use Rattle.sessiontab.specs.Table.{SessionTable}
 use Rattle.sessiontab.specs.Calls.{has_session}
 use Rattle.captable.specs.declared.entry.EntryRow.{EntryRow}
-use Rattle.captable.specs.Table.{IsTable, same, is_row_of, entry_of}
-use Rattle.captable.proofs.Searches.{find_passes}
-use Rattle.captable.proofs.Tables.{same-is}
+use Rattle.captable.specs.Table.{IsTable, same, is_row_of}
 use Rattle.captable.specs.Calls.{is_of_inode}
+use Rattle.captable.proofs.ByHolder.{row_of-entry}
 use Rattle.capacts.specs.Lockmachine.Inodes.{StateMap, lock_in, in_sync}
 use Rattle.capacts.specs.Lockmachine.Locks.{lock_at}
 use Rattle.capacts.specs.Lockmachine.Policy.{permitted}
 use Rattle.capacts.specs.Lockmachine.Requests.{first_for, head_of}
-use Rattle.capacts.specs.Lockmachine.Wants.{effective_want, want_of, loner_of, union_of}
+use Rattle.capacts.specs.Lockmachine.Wants.{effective_want, want_of, loner_of, union_of, in_all}
 use Rattle.capacts.specs.Lockmachine.declared.scene.Scene.{Scene}
-use Rattle.capacts.specs.Lockmachine.Scene.{rows_on, loner, wanted, against, told_set}
-use Rattle.capacts.specs.Lockmachine.Moves.{IsQuiet}
+use Rattle.capacts.specs.Lockmachine.Scene.{rows_on, loner, wanted, against, wants, target_by}
+use Rattle.capacts.specs.Lockmachine.Moves.{IsQuiet, is_open}
 use Rattle.capacts.proofs.Lockmachine.PolicyElsewhere.{wants-kept}
 use Rattle.capacts.specs.Caprules.State.{State}
-use Rattle.capacts.specs.Known.{KnownSets, kept_of, AreKnown}
+use Rattle.capacts.specs.Known.{KnownSets, AreKnown}
 use Rattle.capacts.specs.Caprules.Direct.{with_scene}
 use Rattle.capacts.specs.Caprules.Finish.{due, finished}
 use Rattle.capacts.specs.Finishing.{against_under, allowed_under}
@@ -42,7 +42,16 @@ use Rattle.capacts.specs.Caprules.Headline.{IsInPlace}
 use Rattle.capacts.specs.Caprules.Sound.{IsSoundEntry, IsSound}
 use Rattle.capsteps.specs.Leaving.{with_parts, LeavesEntries}
 use Rattle.capsteps.proofs.Finishing.{same-finished}
-use Rattle.capsteps.proofs.StillQuiet.{still_quiet}
+
+-- a quiet lock stays quiet where the same requests wait, clients want the same of its inode, and its gather is as open
+pub still_quiet : (old new : Scene) (ino : ℕ) (part : Part) → new.locks.queue ≡ old.locks.queue → wants new ino ≡ wants old ino
+    → ((goal : LockGoal) → is_open new ino part goal ≡ is_open old ino part goal) → (lock : Option LockState) → IsQuiet old ino part lock → IsQuiet new ino part lock
+still_quiet old new ino part queue wanted as_open None quiet = ap (λ q. first_for q ino part) queue ∙ quiet
+still_quiet old new ino part queue wanted as_open (Some (Stable state)) quiet = (
+  ap (λ q. target_by q (in_all (wants new ino)) ino part state) queue ∙ ap (λ each. target_by old.locks.queue (in_all each) ino part state) wanted ∙ quiet.0,
+  ap (λ q. first_for q ino part) queue ∙ quiet.1,
+)
+still_quiet old new ino part queue wanted as_open (Some (Gather from goal)) quiet = as_open goal ∙ quiet
 
 -- ---- lists of rows
 
@@ -95,14 +104,10 @@ module _ (s : State) (sound : IsSound s) where
   sound_row row inside = All-contains (IsSoundEntry s.scene) s.scene.table.rows row sound.entries inside
 
   no_rows : (ino : ℕ) → map.contains_key s.scene.tree.nodes ino ≡ false → rows_on s.scene ino ≡ []
-  no_rows ino out = none_passes (is_of_inode (record { 0 = ino })) s.scene.table.rows (λ row inside. by_test row inside (row.holder.ino.0 == ino) refl)
-    where
-      by_test : (row : EntryRow) → Contains s.scene.table.rows row → (b : Bool) → (row.holder.ino.0 == ino) ≡ b → b ≡ false
-      by_test row inside false e = refl
-      by_test row inside true e =
-          let entry = sound_row row inside in
-          let here : map.contains_key s.scene.tree.nodes ino ≡ true = subst (λ q. map.contains_key s.scene.tree.nodes q ≡ true) (eqb-true row.holder.ino.0 ino e) entry.on_inode in
-          cc
+  no_rows ino out = none_passes (is_of_inode (record { 0 = ino })) s.scene.table.rows (λ row inside. false_from_ne_true (row.holder.ino.0 == ino) (λ e.
+      let entry = sound_row row inside in
+      let here : map.contains_key s.scene.tree.nodes ino ≡ true = subst (λ q. map.contains_key s.scene.tree.nodes q ≡ true) (eqb-true row.holder.ino.0 ino e) entry.on_inode in
+      true≢false (sym here ∙ out)))
 
 -- ---- what is left alone
 
@@ -188,14 +193,7 @@ module _ (s : State) (sound : IsSound s) (tree : Nodes) (sessions : SessionTable
 
   -- what is known of each entry is known
   pub kept-known : (sets : KnownSets) → AreKnown sets s.scene → AreKnown sets (with_parts s.scene tree sessions states)
-  kept-known sets known k e there = by_row (find (is_row_of k) s.scene.table.rows) refl there
-    where
-      by_row : (o : Option EntryRow) → find (is_row_of k) s.scene.table.rows ≡ o → entry_of o ≡ Some e → kept_of sets k ≡ Some (told_set new (record { holder = k; entry = e }))
-      by_row None none is = absurd (cc)
-      by_row (Some row) found is =
-          let mine : k ≡ row.holder = same-is k row.holder (find_passes (is_row_of k) s.scene.table.rows row found) in
-          let its : row.entry ≡ e = cc in
-          let one : row ≡ record { holder = k; entry = e } = λ i. record { holder = sym mine i; entry = its i } in
-          known k e there ∙ ap (λ (r : EntryRow). Some (told_set s.scene r)) (sym one)
-          ∙ ap (λ caps. Some (minus row.entry.held caps)) (sym (same_against row (found-contains (is_row_of k) s.scene.table.rows row found)))
-          ∙ ap (λ (r : EntryRow). Some (told_set new r)) one
+  kept-known sets known k e there =
+      let row : EntryRow = record { holder = k; entry = e } in
+      let inside : Contains s.scene.table.rows row = found-contains (is_row_of k) s.scene.table.rows row (row_of-entry s.scene.table k e there) in
+      known k e there ∙ ap (λ caps. Some (minus e.held caps)) (sym (same_against row inside))

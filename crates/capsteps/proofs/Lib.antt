@@ -1,11 +1,9 @@
 pub mod Among
 pub mod AtEnd
 pub mod Begun
-pub mod Counting
 pub mod Finishing
 pub mod FirstLocks
 pub mod Forgotten
-pub mod IssuedRest
 pub mod IssuedRows
 pub mod Judging
 pub mod Judged
@@ -15,7 +13,6 @@ pub mod Moved
 pub mod Noting
 pub mod EndsThere
 pub mod OneChange
-pub mod Openings
 pub mod Placed
 pub mod Polling
 pub mod Revoking
@@ -23,23 +20,15 @@ pub mod SameOff
 pub mod StayingSound
 pub mod Strays
 pub mod Stopping
-pub mod StillQuiet
 pub mod SizesOwed
-pub mod Owing
 pub mod Touched
 pub mod Telling
 pub mod Sweeping
 pub mod SoFar
-pub mod Served
-pub mod Reaching
 pub mod ShownSteps
-pub mod NothingServed
 pub mod NobodyServed
-pub mod AloneAtEnd
-pub mod SameLocks
 pub mod Knowing
 pub mod TouchKept
-pub mod WalkedStill
 pub use Rattle.capacts.proofs as Capacts
 pub use Rattle.capacts.proofs.Capevents
 pub use Rattle.capacts.proofs.Capnotes

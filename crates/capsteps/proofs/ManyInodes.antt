@@ -1,11 +1,13 @@
 -- The end of a step at several inodes: one after another, each once, they are finished as if all at once.
-use Rattle.std.proofs.Common.{◌≡◌, ℕ, Bool, true, false, cond, ◌||◌, List, [], ◌∷◌, filter, map as each, ◌++◌, append-nil, append_assoc, eq-eqb, refl, sym, ap, subst, ◌∙◌}
+use Rattle.std.proofs.Common.{◌≡◌, ℕ, Bool, true, false, cond, ◌||◌, List, [], ◌∷◌, filter, map as each, ◌++◌, append-nil, append_assoc, eq-eqb, refl, sym, ap, subst, ◌∙◌, true≢false}
 use Rattle.std.specs.Prelude.{All, ◌==◌}
 use Rattle.std.specs.Cmp.{unsigned_tied}
 use Rattle.std.specs.FinSet as set
 use Rattle.std.specs.List.{find, list_any, AllByRecursion, IsDistinct}
 use Rattle.std.specs.Ordering.{nat_cmp, eq_by_cmp}
-use Rattle.std.proofs.lemmas.Bool.{eqb-true}
+use Rattle.std.proofs.lemmas.List.{map-id}
+use Rattle.std.proofs.Math.Bool.{or-false}
+use Rattle.std.proofs.lemmas.Bool.{eqb-true, false_from_ne_true}
 use Rattle.std.proofs.lemmas.List.Elements.{All-map, All-weaker}
 use Rattle.capbits.specs.declared.ids.Ino.{Ino}
 use Rattle.captable.specs.declared.entry.Entry.{Entry}
@@ -58,19 +60,6 @@ pub changed-twice_where : (p q r : ℕ → Bool) (f g h : EntryRow → Entry) �
 changed-twice_where p q r f g h apart joined of_f of_g t =
     ap (λ (rows : List EntryRow). record t { rows = rows }) (twice_rows p q r f g h apart joined of_f of_g t.rows)
 
-same_rows_where : (passes : EntryRow → Bool) (f g : EntryRow → Entry) → ((row : EntryRow) → passes row ≡ true → f row ≡ g row) → (rows : List EntryRow)
-    → each (λ row. cond (passes row) (remade f row) row) rows ≡ each (λ row. cond (passes row) (remade g row) row) rows
-same_rows_where passes f g is [] = refl
-same_rows_where passes f g is (row ∷ rows) = λ i. one (passes row) refl i ∷ same_rows_where passes f g is rows i
-  where
-    one : (b : Bool) → passes row ≡ b → cond b (remade f row) row ≡ cond b (remade g row) row
-    one true e = ap (λ (x : Entry). record row { entry = x }) (is row e)
-    one false e = refl
-
--- what is made of the entries that change, is all that matters
-pub same-where : (passes : EntryRow → Bool) (f g : EntryRow → Entry) → ((row : EntryRow) → passes row ≡ true → f row ≡ g row) → (t : Table) → changed_where passes f t ≡ changed_where passes g t
-same-where passes f g is t = ap (λ (rows : List EntryRow). record t { rows = rows }) (same_rows_where passes f g is t.rows)
-
 -- what is known of each entry's holder, stays known
 pub holders-stay : (passes : EntryRow → Bool) (g : EntryRow → Entry) (Q : Holder → Type 0) (t : Table)
     → All (λ row. Q row.holder) t.rows → All (λ row. Q row.holder) (changed_where passes g t).rows
@@ -93,14 +82,13 @@ rows-stay : (p : ℕ → Bool) (g : EntryRow → Entry) (ino : Ino) → p ino.0 
 rows-stay p g ino fails [] = refl
 rows-stay p g ino fails (row ∷ rows) = by_test (rows-stay p g ino fails rows) (on p row) refl
   where
-    elsewhere : on p row ≡ true → (b : Bool) → is_of_inode ino row ≡ b → b ≡ false
-    elsewhere e false is = refl
-    elsewhere e true is = sym e ∙ ap p (eqb-true row.holder.ino.0 ino.0 is) ∙ fails
+    elsewhere : on p row ≡ true → is_of_inode ino row ≡ false
+    elsewhere e = false_from_ne_true (is_of_inode ino row) (λ is. true≢false (sym e ∙ ap p (eqb-true row.holder.ino.0 ino.0 is) ∙ fails))
 
     by_test : filter (is_of_inode ino) (each (λ row. cond (on p row) (remade g row) row) rows) ≡ filter (is_of_inode ino) rows → (b : Bool) → on p row ≡ b
         → filter (is_of_inode ino) (cond b (remade g row) row ∷ each (λ row. cond (on p row) (remade g row) row) rows) ≡ filter (is_of_inode ino) (row ∷ rows)
     by_test rest true e =
-        let out : is_of_inode ino row ≡ false = elsewhere e (is_of_inode ino row) refl in
+        let out = elsewhere e in
         let later : List EntryRow = filter (is_of_inode ino) (each (λ row. cond (on p row) (remade g row) row) rows) in
         ap (λ b. cond b (remade g row ∷ later) later) out ∙ rest ∙ sym (ap (λ b. cond b (row ∷ filter (is_of_inode ino) rows) (filter (is_of_inode ino) rows)) out)
     by_test rest false e = ap (λ rest. cond (is_of_inode ino row) (row ∷ rest) rest) rest
@@ -109,17 +97,6 @@ pub entries_on-stay : (p : ℕ → Bool) (g : EntryRow → Entry) (ino : Ino) �
 entries_on-stay p g ino fails t = rows-stay p g ino fails t.rows
 
 -- ---- one inode after another
-
-untouched : (g : EntryRow → Entry) (rows : List EntryRow) → each (λ row. cond false (remade g row) row) rows ≡ rows
-untouched g [] = refl
-untouched g (row ∷ rows) = ap (λ rest. row ∷ rest) (untouched g rows)
-
-same_tests : (p q : ℕ → Bool) → ((n : ℕ) → p n ≡ q n) → (g : EntryRow → Entry) (rows : List EntryRow)
-    → each (λ row. cond (on p row) (remade g row) row) rows ≡ each (λ row. cond (on q row) (remade g row) row) rows
-same_tests p q is g [] = refl
-same_tests p q is g (row ∷ rows) = λ i. cond (is row.holder.ino.0 i) (remade g row) row ∷ same_tests p q is g rows i
-
--- ---- so far
 
 -- some inodes are done, of those that are named: their entries are finished, and what their clients are to know is kept
 pub record IsFinishing (g : EntryRow → Entry) (f : EntryRow → Caps) (t : Table) (was : KnownSets) (all : List ℕ) (left : List ℕ) (now : Table) (sets : KnownSets) : Type 0 where
@@ -133,7 +110,7 @@ pub none-finished : (g : EntryRow → Entry) (f : EntryRow → Caps) (t : Table)
 none-finished g f t was all = record {
   done = [];
   named = refl;
-  finished = ap (λ (rows : List EntryRow). record t { rows = rows }) (sym (untouched g t.rows));
+  finished = ap (λ (rows : List EntryRow). record t { rows = rows }) (sym (map-id t.rows));
   kept = kept-nobody f t was;
 }
 
@@ -142,18 +119,17 @@ pub next-apart : (done : List ℕ) (k : ℕ) (left : List ℕ) → IsDistinct sa
 unfolding IsDistinct
 next-apart [] k left apart n is = refl
 next-apart (d ∷ done) k left apart n is =
-    ap (λ b. b || list_any (same_number n) done) (turned (same_number n d) refl) ∙ next-apart done k left apart.1 n is
+    ap (λ b. b || list_any (same_number n) done) (false_from_ne_true (same_number n d) turned) ∙ next-apart done k left apart.1 n is
   where
     behind : (xs : List ℕ) → AllByRecursion (λ q. same_number d q ≡ false) (xs ++ k ∷ left) → same_number d k ≡ false
     behind [] all = all.0
     behind (x ∷ xs) all = behind xs all.1
 
-    turned : (b : Bool) → same_number n d ≡ b → b ≡ false
-    turned false e = refl
-    turned true e =
+    turned : same_number n d ≡ true → ⊥
+    turned e =
         let here : (n == d) ≡ true = sym (unsigned_tied n d) ∙ e in
         let equal : d ≡ k = sym (eqb-true n d here) ∙ eqb-true n k is in
-        sym (unsigned_tied k k ∙ eq-eqb k k refl) ∙ ap (λ q. same_number q k) (sym equal) ∙ behind done apart.0
+        true≢false (sym (unsigned_tied k k ∙ eq-eqb k k refl) ∙ ap (λ q. same_number q k) (sym equal) ∙ behind done apart.0)
 
 -- it is finished in its turn, as it would have been at first
 pub next-finished : (g : EntryRow → Entry) (f : EntryRow → Caps) (t : Table) (was : KnownSets) (all : List ℕ) (k : ℕ) (left : List ℕ) (mid : Table) (sets : KnownSets)
@@ -182,19 +158,11 @@ next-finished g f t was all k left mid sets h now then once so_far step alike ke
     apart n e = next-apart so_far.done k left (subst (IsDistinct same_number) (sym so_far.named) once) n e
 
     elsewhere : (n : ℕ) → list_any (same_number n) so_far.done ≡ true → (n == k) ≡ false
-    elsewhere n among = by_test (n == k) refl
-      where
-        by_test : (b : Bool) → (n == k) ≡ b → b ≡ false
-        by_test false e = refl
-        by_test true e = sym among ∙ apart n e
-
-    or_false : (b : Bool) → (b || false) ≡ b
-    or_false true = refl
-    or_false false = refl
+    elsewhere n among = false_from_ne_true (n == k) (λ e. true≢false (sym among ∙ apart n e))
 
     more : (n : ℕ) → (list_any (same_number n) so_far.done || (n == k)) ≡ among_more n
     more n =
-        ap (λ b. list_any (same_number n) so_far.done || b) (sym (unsigned_tied n k) ∙ sym (or_false (same_number n k)))
+        ap (λ b. list_any (same_number n) so_far.done || b) (sym (unsigned_tied n k) ∙ sym (or-false (same_number n k)))
         ∙ sym (list_any-append (same_number n) so_far.done (k ∷ []))
 
 -- at the end all inodes of a set are
@@ -202,7 +170,7 @@ pub all-finished : (g : EntryRow → Entry) (f : EntryRow → Caps) (t : Table) 
     → IsListOf inos all → IsFinishing g f t was all [] now sets
     → (now ≡ changed_where (on (set.contains inos)) g t) × KeptAnew (λ k. set.contains inos k.ino.0) f t was sets
 all-finished g f t was inos all now sets lists so_far = (
-  so_far.finished ∙ ap (λ (rows : List EntryRow). record t { rows = rows }) (same_tests (λ n. list_any (same_number n) so_far.done) (set.contains inos) tests g t.rows),
+  so_far.finished ∙ (λ i. changed_where (on (λ n. tests n i)) g t),
   kept-same (λ k. list_any (same_number k.ino.0) so_far.done) (λ k. set.contains inos k.ino.0) f t was sets (λ k. tests k.ino.0) so_far.kept,
 )
   where

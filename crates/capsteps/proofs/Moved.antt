@@ -1,12 +1,15 @@
 -- What moves leave as it is: the entries, which inodes are there and which have locks, the last number, and the rows in which what
 -- is held lies. Who waits then, waited before.
-use Rattle.std.proofs.Common.{◌≡◌, ℕ, Bool, not, Option, Some, None, is_some, List, [], ◌∷◌, ◌++◌, refl, sym, ap, subst, ◌∙◌, Contains, true≢false}
+use Rattle.std.proofs.Common.{◌≡◌, ℕ, Bool, not, Option, Some, None, is_some, List, [], ◌∷◌, ◌++◌, refl, sym, subst, ◌∙◌, Contains, true≢false, ◌+◌, length, ap, arith, false}
 use Rattle.std.specs.Prelude.{All}
 use Rattle.std.specs.Option.{option_map}
 use Rattle.std.specs.FinMap as map
 use Rattle.std.proofs.lemmas.List.Elements.{All-contains, All-contains_itself, All-cons, All-nil, All-weaker}
+use Rattle.std.proofs.lemmas.List.{length-append}
 use Rattle.capbits.specs.declared.cap.Part.{Part}
 use Rattle.capbits.specs.declared.cap.Part.TheVariants.{A}
+use Rattle.capbits.specs.declared.cap.Cap.TheVariants.{P}
+use Rattle.capbits.specs.Caps.{has}
 use Rattle.inotree.specs.Tree.{IsTree, Nodes}
 use Rattle.inotree.proofs.OneInode.{known-changed}
 use Rattle.locktable.specs.declared.states.LockState.{LockState}
@@ -19,7 +22,7 @@ use Rattle.capacts.specs.Lockmachine.declared.request.Ask.{Ask}
 use Rattle.capacts.specs.Lockmachine.declared.request.Request.{Request}
 use Rattle.capacts.specs.Lockmachine.Inodes.{lock_in}
 use Rattle.capacts.specs.Lockmachine.Requests.{is_numbered, first_for, is_for}
-use Rattle.capacts.specs.Lockmachine.Locks.{LockMap, IsLockMap, lock_at, with_lock}
+use Rattle.capacts.specs.Lockmachine.Locks.{LockMap, IsLockMap, lock_at, with_lock, without_request}
 use Rattle.capacts.specs.Lockmachine.declared.scene.Scene.{Scene}
 use Rattle.capacts.specs.Lockmachine.Moves.{LockPlace, present_state, coming_state, first_move, moved, with_moved}
 use Rattle.capacts.specs.Lockmachine.Runs.{Runs}
@@ -27,13 +30,17 @@ use Rattle.capacts.specs.Lockmachine.Rows.{IsInRow}
 use Rattle.capacts.proofs.Lockmachine.Finding.{contains-filter, fails_at, find_none}
 use Rattle.capacts.proofs.Lockmachine.InRows.{one_keeps}
 use Rattle.capacts.proofs.Lockmachine.Moving.{with_lock-each}
-use Rattle.capacts.proofs.Lockmachine.Queue.{moved-kept}
+use Rattle.capacts.proofs.Lockmachine.Queue.{moved-kept, taken_alone}
 use Rattle.capacts.specs.Capevents.declared.outcome.Outcome.{Outcome}
 use Rattle.capacts.specs.Capevents.declared.outcome.Outcome.TheVariants as outcome
 use Rattle.capacts.specs.Capevents.declared.outcome.Ended.{Ended}
 use Rattle.capacts.specs.Caprules.Serving.{served}
 use Rattle.capacts.specs.Capnotes.Changing.{tree_with, tree_after}
 use Rattle.capacts.specs.Caprules.Settle.{Made, Began, Gathered, Served, Makes, MakesAll, ended_in}
+use Rattle.capacts.specs.Lockmachine.Turns.{WaitAt}
+use Rattle.capacts.proofs.Lockmachine.Waiting.{waits-kept-at, served-at, quiet-waits-at}
+use Rattle.capacts.specs.Caprules.State.{State}
+use Rattle.capacts.specs.Caprules.Sound.{IsSound, IsSoundEntry}
 use Rattle.capsteps.proofs.LeftAlone.{found-contains}
 use Rattle.capsteps.proofs.OneChange.{by_ask, sound-after}
 
@@ -184,13 +191,6 @@ pub makes-append : (s : Scene) (ms : List Made) (mid : Scene) (more : List Made)
 makes-append s [] mid more t is rest = subst (λ (u : Scene). MakesAll u more t) is rest
 makes-append s (m ∷ ms) mid more t (next, one, made) rest = (next, one, makes-append next ms mid more t made rest)
 
--- and they end what the one end, and then what the others do
-pub ended-append : (ms more : List Made) → ended_in (ms ++ more) ≡ ended_in ms ++ ended_in more
-ended-append [] more = refl
-ended-append (Began ino part to ∷ ms) more = ended-append ms more
-ended-append (Gathered ino part ∷ ms) more = ended-append ms more
-ended-append (Served q o ∷ ms) more = ap (λ (rest : List Ended). record { client = q.client; ticket = q.ticket; outcome = o } ∷ rest) (ended-append ms more)
-
 -- ---- the requests that ended
 
 -- the request waited
@@ -234,3 +234,57 @@ as_made old (End ino part ∷ steps) new (first, lock, runs) =
     record { moves = Gathered ino part ∷ rest.moves; made = (with_moved old (End ino part), (first, refl), rest.made); none = rest.none }
 as_made old (Serve ticket ∷ steps) new (first, lock, runs) = absurd (true≢false (sym lock))
 as_made old (Settled ∷ steps) new (first, lock, runs) = absurd (true≢false (sym lock))
+
+-- ---- how many requests a settling serves
+
+-- who is taken out of the queue leaves one less
+pub one-less : (locks : LockMap) (q : Request) → IsLockMap locks → Contains locks.queue q → length (without_request locks q.ticket.0).queue + 1 ≡ length locks.queue
+one-less locks q order inside =
+    let takes = taken_alone locks q order inside in
+    let was : length locks.queue ≡ length takes.earlier + length (q ∷ takes.later) = ap length takes.queue_was ∙ length-append takes.earlier (q ∷ takes.later) in
+    let is : length (without_request locks q.ticket.0).queue ≡ length takes.earlier + length takes.later = ap length takes.queue_is ∙ length-append takes.earlier takes.later in
+    omega (arith, was, is)
+
+-- as many have ended as fewer wait
+pub served-count : (s : Scene) (ms : List Made) (t : Scene) → IsLockMap s.locks → MakesAll s ms t → length (ended_in ms) + length t.locks.queue ≡ length s.locks.queue
+served-count s [] t order is = (let same : length t.locks.queue ≡ length s.locks.queue = ap (λ (u : Scene). length u.locks.queue) is in omega (arith, same))
+served-count s (m ∷ ms) t order (mid, one, rest) =
+    by_move m one (let moved = moved-made s m mid one in served-count mid ms t (moved.order order) rest)
+  where
+    by_move : (m : Made) → Makes s m mid → length (ended_in ms) + length t.locks.queue ≡ length mid.locks.queue → length (ended_in (m ∷ ms)) + length t.locks.queue ≡ length s.locks.queue
+    by_move (Began ino part to) (first, is) more = more ∙ ap (λ (u : Scene). length u.locks.queue) is
+    by_move (Gathered ino part) (first, is) more = more ∙ ap (λ (u : Scene). length u.locks.queue) is
+    by_move (Served q o) (first, found, may, is) more =
+        let left : length mid.locks.queue ≡ length (without_request s.locks q.ticket.0).queue = ap (λ (u : Scene). length u.locks.queue) is in
+        let less = one-less s.locks q order (found-contains (is_numbered q.ticket.0) s.locks.queue q found) in
+        omega (arith, more, left, less)
+
+-- ---- where all who wait are held up, no move serves anybody, and the tree stays
+
+abbrev none : ℕ → Bool
+none ino = false
+
+pub nothing-served : (first : Scene) (moves : List Made) (settled : Scene) → IsLockMap first.locks → WaitAt none first → MakesAll first moves settled
+    → (ended_in moves ≡ []) × (settled.tree ≡ first.tree)
+nothing-served first [] settled order wait made = (refl, ap (λ (s : Scene). s.tree) made)
+nothing-served first (Began ino part to ∷ ms) settled order wait (mid, makes, rest) =
+    let wait_mid : WaitAt none mid = waits-kept-at none first (Begin ino part to ∷ []) mid (makes.0, refl, makes.1) wait in
+    let moved = moved-made first (Began ino part to) mid makes in
+    let later = nothing-served mid ms settled (moved.order order) wait_mid rest in
+    (later.0, later.1 ∙ ap (λ (s : Scene). s.tree) makes.1)
+nothing-served first (Gathered ino part ∷ ms) settled order wait (mid, makes, rest) =
+    let wait_mid : WaitAt none mid = waits-kept-at none first (End ino part ∷ []) mid (makes.0, refl, makes.1) wait in
+    let moved = moved-made first (Gathered ino part) mid makes in
+    let later = nothing-served mid ms settled (moved.order order) wait_mid rest in
+    (later.0, later.1 ∙ ap (λ (s : Scene). s.tree) makes.1)
+nothing-served first (Served q o ∷ ms) settled order wait (mid, makes, rest) =
+    let found = served-at none first q.ticket order wait makes.0 in absurd (true≢false (sym found.3))
+
+-- so it is of every sound state
+pub sound-waits : (s : State) → IsSound s → WaitAt none s.scene
+sound-waits s sound = quiet-waits-at none s.scene (record { each_other = λ other part off. sound.at_rest.each other part })
+
+-- and each entry of it holds its pin
+pub sound-pinned : (s : State) → IsSound s → (row : EntryRow) → Contains s.scene.table.rows row → has row.entry.held P ≡ false → ⊥
+sound-pinned s sound row inside none =
+    let was = All-contains (IsSoundEntry s.scene) s.scene.table.rows row sound.entries inside in true≢false (sym was.holds_pin ∙ none)

@@ -5,10 +5,12 @@ use Rattle.std.specs.List.{list_any, flat_map, IsDistinct}
 use Rattle.std.specs.Cmp.{nat_eq_equiv}
 use Rattle.std.specs.FinMap as finite
 use Rattle.std.specs.Option.{unwrap_or}
+use Rattle.std.proofs.lemmas.Simd.{map-map}
+use Rattle.std.proofs.Math.Bool.{or-false}
 use Rattle.capbits.specs.Sets.{no_caps}
 use Rattle.capacts.specs.Known.{KnownSets, known_in, AreKnown}
 use Rattle.std.proofs.lemmas.Bool.{or_parts}
-use Rattle.std.proofs.lemmas.List.{take-append-le, take_all}
+use Rattle.std.proofs.lemmas.List.{take-append-le, take_all, map-id}
 use Rattle.std.proofs.lemmas.List.Folds.{list_any-append}
 use Rattle.capbits.specs.declared.ids.ClientId.{ClientId}
 use Rattle.capbits.specs.declared.ids.Ino.{Ino}
@@ -27,7 +29,7 @@ use Rattle.capacts.specs.Capevents.declared.outcome.Message.{Message}
 use Rattle.capacts.specs.Capevents.declared.outcome.Message.TheVariants as message
 use Rattle.capacts.specs.Caprules.State.{State}
 use Rattle.capacts.specs.Caprules.Messages.{row_messages, size_message, first_messages, end_messages, after_messages, is_caps_of, is_size_of, is_recall_of, told_if, sized_if, unasked_if}
-use Rattle.capsteps.proofs.Telling.{map_alike, given_fields, given-fields}
+use Rattle.capsteps.proofs.Telling.{given_fields, given-fields}
 
 -- ---- the first of a list
 
@@ -132,12 +134,8 @@ module _ (client : ClientId) where
   given-row_none row true = refl
   given-row_none row false = refl
 
-  map-same : (f : EntryRow → EntryRow) → ((row : EntryRow) → f row ≡ row) → (rows : List EntryRow) → map f rows ≡ rows
-  map-same f same [] = refl
-  map-same f same (row ∷ rows) = λ i. same row i ∷ map-same f same rows i
-
   pub given-none : (t : Table) → t ≡ changed_where (is_of_client client) (after_messages []) t
-  given-none t = ap (λ (rows : List EntryRow). record t { rows = rows }) (sym (map-same (given_to []) (λ row. given-row_none row (is_of_client client row)) t.rows))
+  given-none t = λ i. record t { rows = sym ((λ j. map (λ row. given-row_none row (is_of_client client row) j) t.rows) ∙ map-id t.rows) i }
 
   -- given once more
   seq_twice : (seq told_seq : ℕ) (b more : Bool) → cond more seq (cond b seq told_seq) ≡ cond (b || more) seq told_seq
@@ -180,22 +178,15 @@ module _ (client : ClientId) where
       ∙ ap (λ b. cond b (remade (after_messages more) row) row) is
       ∙ sym (ap (λ b. cond b (remade (after_messages (done ++ more)) row) row) is)
 
-  map-map : (f g h : EntryRow → EntryRow) → ((row : EntryRow) → f (g row) ≡ h row) → (rows : List EntryRow) → map f (map g rows) ≡ map h rows
-  map-map f g h same [] = refl
-  map-map f g h same (row ∷ rows) = λ i. same row i ∷ map-map f g h same rows i
-
   pub given-more : (done more : List Message) (t : Table)
       → changed_where (is_of_client client) (after_messages more) (changed_where (is_of_client client) (after_messages done) t) ≡ changed_where (is_of_client client) (after_messages (done ++ more)) t
   given-more done more t =
       ap (λ (rows : List EntryRow). record t { rows = rows })
-      (map-map (given_to more) (given_to done) (given_to (done ++ more)) (λ row. given-row_more done more row (is_of_client client row) refl) t.rows)
+      (map-map (given_to more) (given_to done) t.rows ∙ (λ i. map (λ row. given-row_more done more row (is_of_client client row) refl i) t.rows))
 
 -- ---- one message
 
 -- the holder is the client on the inode
-or_false : (b : Bool) → (b || false) ≡ b
-or_false true = refl
-or_false false = refl
 
 and_symm : (a b c d : ℕ) → ((a == b) && (c == d)) ≡ ((a == b) && (d == c))
 and_symm a b c d = λ i. (a == b) && nat_eq_equiv.symm c d i
@@ -208,7 +199,7 @@ module _ (g : EntryRow → Entry) (given : List Message) (client : ClientId) (in
   one_row row false there = refl
 
   named : (row : EntryRow) → is_among (holder client ino ∷ []) row.holder ≡ (is_of_client client row && (ino.0 == row.holder.ino.0))
-  named row = or_false (same row.holder (holder client ino)) ∙ and_symm row.holder.client.0 client.0 row.holder.ino.0 ino.0
+  named row = or-false (same row.holder (holder client ino)) ∙ and_symm row.holder.client.0 client.0 row.holder.ino.0 ino.0
 
   each_row : (row : EntryRow) → cond (is_among (holder client ino ∷ []) row.holder) (remade g row) row ≡ cond (is_of_client client row) (remade (after_messages given) row) row
   each_row row =
@@ -220,8 +211,7 @@ module _ (g : EntryRow → Entry) (given : List Message) (client : ClientId) (in
   unfolding IsDistinct
   one-given t is =
       fold-changed_by g t (holder client ino ∷ []) is (tt, tt)
-      ∙ ap (λ (rows : List EntryRow). record t { rows = rows })
-      (map_alike (λ row. cond (is_among (holder client ino ∷ []) row.holder) (remade g row) row) (λ row. cond (is_of_client client row) (remade (after_messages given) row) row) each_row t.rows)
+      ∙ (λ i. record t { rows = map (λ row. each_row row i) t.rows })
 
 caps_if : (e : Entry) (b : Bool) → unasked_if false (sized_if false (told_if (b || false) e)) ≡ cond b (told e) e
 caps_if e true = refl

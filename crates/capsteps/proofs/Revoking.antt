@@ -1,5 +1,5 @@
 -- What is being revoked of a holder's entry, by what is found of it, and the tests that stand behind others.
-use Rattle.std.proofs.Common.{◌≡◌, Option, Some, None, List, [], ◌∷◌, ◌++◌, refl, sym, ap, ◌∙◌}
+use Rattle.std.proofs.Common.{◌≡◌, Option, Some, None, List, [], ◌∷◌, ◌++◌, refl, ap, ◌∙◌}
 use Rattle.std.specs.Prelude.{if◌then◌else◌}
 use Rattle.std.specs.List.{find}
 use Rattle.std.specs.Option.{option_map_or}
@@ -9,24 +9,16 @@ use Rattle.capbits.proofs.Tests.{passed-if}
 use Rattle.captable.specs.declared.entry.Entry.{Entry}
 use Rattle.captable.specs.declared.entry.EntryRow.{EntryRow}
 use Rattle.captable.specs.declared.entry.Holder.{Holder}
-use Rattle.captable.specs.Table.{is_row_of, entry_of, entry_at}
+use Rattle.captable.specs.Table.{is_row_of, entry_at}
 use Rattle.captable.proofs.Changes.{no_entry}
-use Rattle.captable.proofs.Searches.{find_passes}
-use Rattle.captable.proofs.Tables.{same-is}
+use Rattle.captable.proofs.ByHolder.{row_of-entry}
 use Rattle.capacts.specs.Lockmachine.declared.scene.Scene.{Scene}
 use Rattle.capacts.specs.Lockmachine.Scene.{against}
 use Rattle.capacts.specs.Caprules.Judge.{revoked_of}
 
 -- where it has one
 pub revoked-found : (s : Scene) (k : Holder) (e : Entry) → entry_at s.table k ≡ Some e → revoked_of s k ≡ against s (record { holder = k; entry = e })
-revoked-found s k e is = by_row (find (is_row_of k) s.table.rows) refl is
-  where
-    by_row : (o : Option EntryRow) → find (is_row_of k) s.table.rows ≡ o → entry_of o ≡ Some e → option_map_or (against s) o no_caps ≡ against s (record { holder = k; entry = e })
-    by_row None found there = absurd (cc)
-    by_row (Some row) found there =
-        let of : k ≡ row.holder = same-is k row.holder (find_passes (is_row_of k) s.table.rows row found) in
-        let has : row.entry ≡ e = cc in
-        λ i. against s (record { holder = sym of i; entry = has i })
+revoked-found s k e is = ap (λ (o : Option EntryRow). option_map_or (against s) o no_caps) (row_of-entry s.table k e is)
 
 -- and where it has none
 pub revoked-none : (s : Scene) (k : Holder) → entry_at s.table k ≡ None → revoked_of s k ≡ no_caps

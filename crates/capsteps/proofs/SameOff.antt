@@ -2,6 +2,7 @@
 use Rattle.std.proofs.Common.{◌≡◌, ℕ, Bool, true, false, List, refl, sym, ap, subst, ◌∙◌, Contains, filter, true≢false, eq-eqb}
 use Rattle.std.specs.List.{list_any}
 use Rattle.std.specs.FinMap as map
+use Rattle.std.proofs.lemmas.Bool.{false_from_ne_true}
 use Rattle.std.proofs.lemmas.Map.Views.{any-filter_same}
 use Rattle.capbits.specs.declared.cap.Part.{Part}
 use Rattle.capbits.specs.declared.ids.Ino.{Ino}
@@ -56,10 +57,7 @@ off-wider at wider a b less same = record {
 
 -- what is not among more inodes, is not among these
 pub not-among : (from at : ℕ → Bool) → ((q : ℕ) → from q ≡ true → at q ≡ true) → (q : ℕ) → at q ≡ false → from q ≡ false
-not-among from at among q off = elim (from q) as (λ b. from q ≡ b → b ≡ false) [
-  | true ↦ λ is. absurd (true≢false (sym (among q is) ∙ off))
-  | false ↦ λ is. refl
-] refl
+not-among from at among q off = false_from_ne_true (from q) (λ is. true≢false (sym (among q is) ∙ off))
 
 -- ---- rows elsewhere
 

@@ -11,7 +11,7 @@ use Rattle.capbits.specs.declared.cap.Cap.TheVariants.{P, Fc}
 use Rattle.capbits.specs.declared.ids.ClientId.{ClientId}
 use Rattle.capbits.specs.declared.ids.Ino.{Ino}
 use Rattle.capbits.specs.Caps.{Caps, has}
-use Rattle.capbits.specs.Sets.{minus, is_empty, same_caps, has-minus}
+use Rattle.capbits.specs.Sets.{minus, same_caps, has-minus}
 use Rattle.inotree.specs.declared.node.Node.{Node}
 use Rattle.inotree.specs.Tree.{child}
 use Rattle.captable.specs.declared.entry.Entry.{Entry}
@@ -21,8 +21,8 @@ use Rattle.captable.specs.Table.{Table, IsTable, holder, same, is_row_of, is_amo
 use Rattle.captable.specs.Calls.{opened, changed, without, issued, taken, given_back, acked, released, touched, told, recalled, renumbered, with_asked, with_size_due, without_client, is_of_client}
 use Rattle.captable.specs.Many.{remade}
 use Rattle.captable.specs.Shown.{IsShown}
-use Rattle.captable.proofs.ByHolder.{entry_at-changed, entry_at-changed_other, entry_at-opened_other, entry_at-acked_other, entry_at-without, entry_at-without_client, entry_at-without_client_other, entry_at-released_pin, entry_at-released, entry_at-released_other, entry_at-recalled, entry_at-recalled_other, row_found}
-use Rattle.captable.proofs.Searches.{find_passes, find-map}
+use Rattle.captable.proofs.ByHolder.{entry_at-changed, entry_at-changed_other, entry_at-opened_other, entry_at-without, entry_at-without_client, entry_at-without_client_other, entry_at-recalled, entry_at-recalled_other, row_found, row_of-entry, entry_at-without_other}
+use Rattle.captable.proofs.Searches.{find-map}
 use Rattle.captable.proofs.Shown.{shown-numbered, shown-less, shown-told}
 use Rattle.captable.proofs.Tables.{same_equiv, same-is}
 use Rattle.capacts.specs.Lockmachine.declared.scene.Scene.{Scene}
@@ -51,6 +51,7 @@ use Rattle.capacts.specs.Caprules.Settle.{Made, Settles, ended_in, sized_in}
 use Rattle.capacts.specs.Caprules.Shown.{AreShown, shown_by, shown_of, shown_opened, shown_less, shown_given, shown_in}
 use Rattle.capacts.specs.Caprules.Sound.{IsSound, IsSoundEntry}
 use Rattle.capacts.specs.Caprules.Step.{Step, state_after}
+use Rattle.capsteps.proofs.EndsThere.{held-renumbered}
 use Rattle.capsteps.proofs.Finishing.{sound-ends}
 use Rattle.capsteps.proofs.LeftAlone.{found-contains}
 use Rattle.capsteps.proofs.Moved.{moved-all}
@@ -117,28 +118,33 @@ mapped : (g : Entry → Entry) (o : Option Entry) (f : Entry) → option_map g o
 mapped g None f is = absurd (cc)
 mapped g (Some e) f is = let now : f ≡ g e = cc in (e, refl, now)
 
-pub entry_found : (t : Table) (k : Holder) (e : Entry) → entry_at t k ≡ Some e → find (is_row_of k) t.rows ≡ Some (at k e)
-entry_found t k e is = by_row (find (is_row_of k) t.rows) refl is
-  where
-    by_row : (o : Option EntryRow) → find (is_row_of k) t.rows ≡ o → entry_of o ≡ Some e → o ≡ Some (at k e)
-    by_row None found there = absurd (cc)
-    by_row (Some row) found there =
-        let of : k ≡ row.holder = same-is k row.holder (find_passes (is_row_of k) t.rows row found) in
-        let has_it : row.entry ≡ e = cc in
-        λ i. Some (record { holder = sym of i; entry = has_it i })
-
 pub apart-of : (k j : Holder) → same k j ≡ false → k ≢ j
 apart-of k j off is = true≢false (sym (same_equiv.refl k) ∙ ap (same k) is ∙ off)
 
 pub apart_client : (a b : ClientId) → (a.0 == b.0) ≡ false → a ≢ b
 apart_client a b off is = true≢false (sym (eq-eqb a.0 b.0 (ap (λ (c : ClientId). c.0) is)) ∙ off)
 
-held-renumbered : (before after : Caps) (e : Entry) → (renumbered before after e).held ≡ e.held
-held-renumbered before after e =
-    elim (not (is_empty (minus before after))) as (λ lost. (cond lost (record e { seq = e.seq + 1; revoke_seq = e.seq + 1 }) (cond (not (is_empty (minus after before))) (record e { seq = e.seq + 1 }) e)).held ≡ e.held) [
-      | true ↦ refl
-      | false ↦ elim (not (is_empty (minus after before))) as (λ more. (cond more (record e { seq = e.seq + 1 }) e).held ≡ e.held) [ true ↦ refl | false ↦ refl ]
-    ]
+-- an entry of a table in which one was changed, or went: it is as it was, or is the one that was changed
+pub record IsOf (t : Table) (j : Holder) (g : Entry → Entry) (k : Holder) (e : Entry) : Type 0 where
+  pub before : Entry
+  pub there : entry_at t k ≡ Some before
+  pub other : same k j ≡ false → e ≡ before
+  pub own : same k j ≡ true → e ≡ g before
+
+pub changed-as : (gone : Bool) (t : Table) (j : Holder) (g : Entry → Entry) (k : Holder) (e : Entry) → entry_at (cond gone (without t j) (changed t j g)) k ≡ Some e → IsOf t j g k e
+changed-as gone t j g k e there = by_same (same k j) refl gone there
+  where
+    stays : (b : Bool) → same k j ≡ false → entry_at (cond b (without t j) (changed t j g)) k ≡ entry_at t k
+    stays true off = entry_at-without_other t j k (apart-of k j off)
+    stays false off = entry_at-changed_other t j k g (apart-of k j off)
+
+    by_same : (s : Bool) → same k j ≡ s → (b : Bool) → entry_at (cond b (without t j) (changed t j g)) k ≡ Some e → IsOf t j g k e
+    by_same true on true here = let none : entry_at (without t j) k ≡ None = ap (entry_at (without t j)) (same-is k j on) ∙ entry_at-without t j in absurd (cc)
+    by_same true on false here =
+        let is : k ≡ j = same-is k j on in
+        let m = mapped g (entry_at t k) e (ap (λ (q : Holder). option_map g (entry_at t q)) is ∙ sym (entry_at-changed t j g) ∙ sym (ap (entry_at (changed t j g)) is) ∙ here) in
+        record { before = m.0; there = m.1; other = λ off. absurd (true≢false (sym on ∙ off)); own = λ _. m.2 }
+    by_same false off b here = record { before = e; there = sym (stays b off) ∙ here; other = λ _. refl; own = λ on. absurd (true≢false (sym on ∙ off)) }
 
 -- what an opening leaves of all others
 pub entry_at-entry_other : (t : Table) (j k : Holder) → k ≢ j → entry_at (with_entry t j) k ≡ entry_at t k
@@ -223,7 +229,7 @@ module _ (old : State) (sound : IsSound old) (table : IsTable old.scene.table) (
 
   known-old : Left t before
   known-old k e there =
-      let inside : Contains t.rows (at k e) = found-contains (is_row_of k) t.rows (at k e) (entry_found t k e there) in
+      let inside : Contains t.rows (at k e) = found-contains (is_row_of k) t.rows (at k e) (row_of-entry t k e there) in
       let entry = All-contains (IsSoundEntry old.scene) t.rows (at k e) sound.entries inside in
       record { says = was_shown k e there; below = entry.told }
 
@@ -263,49 +269,36 @@ module _ (old : State) (sound : IsSound old) (table : IsTable old.scene.table) (
 
   -- what a release leaves
   left-released : (j : Holder) (caps : Caps) → Left (released t j caps) (λ k. cond (same k j) (minus (before k) caps) (before k))
-  left-released j caps k f there = elim (same k j) as (λ b. same k j ≡ b → IsKnown old.scene k (cond b (minus (before k) caps) (before k)) f) [
-    | false ↦ λ off. known-old k f (sym (entry_at-released_other t j k caps (apart-of k j off)) ∙ there)
-    | true ↦ λ on. own (same-is k j on) (has caps P) refl
-  ] refl
-    where
-      own : k ≡ j → (b : Bool) → has caps P ≡ b → IsKnown old.scene k (minus (before k) caps) f
-      own is true pin = let none : entry_at (released t j caps) k ≡ None = ap (entry_at (released t j caps)) is ∙ entry_at-released_pin t j caps pin in absurd (cc)
-      own is false no_pin =
-          let now : entry_at (released t j caps) k ≡ option_map (given_back caps) (entry_at t k) =
-          ap (entry_at (released t j caps)) is ∙ entry_at-released t j caps no_pin ∙ ap (λ (q : Holder). option_map (given_back caps) (entry_at t q)) (sym is) in
-          let found = mapped (given_back caps) (entry_at t k) f (sym now ∙ there) in
-          let e : Entry = found.0 in
-          let known = known-old k e found.1 in
-          subst (IsKnown old.scene k (minus (before k) caps)) (sym found.2) (record {
-            says = subst (λ (told_of : Caps). IsShown (minus (before k) caps) told_of (given_back caps e)) (sym (given-told old.scene k e caps))
-                (shown-less (before k) (told_set old.scene (at k e)) caps e (given_back caps e) refl refl refl known.says);
-            below = known.below;
-          })
+  left-released j caps k f there =
+      let m = changed-as (has caps P) t j (given_back caps) k f there in
+      let known = known-old k m.before m.there in
+      elim (same k j) as (λ b. same k j ≡ b → IsKnown old.scene k (cond b (minus (before k) caps) (before k)) f) [
+        | false ↦ λ off. subst (IsKnown old.scene k (before k)) (sym (m.other off)) known
+        | true ↦ λ on. subst (IsKnown old.scene k (minus (before k) caps)) (sym (m.own on)) (record {
+          says = subst (λ (told_of : Caps). IsShown (minus (before k) caps) told_of (given_back caps m.before)) (sym (given-told old.scene k m.before caps))
+              (shown-less (before k) (told_set old.scene (at k m.before)) caps m.before (given_back caps m.before) refl refl refl known.says);
+          below = known.below;
+        })
+      ] refl
 
   -- what an acknowledgement leaves
   left-acked : (j : Holder) → Left (acked t j (revoked_of old.scene j)) before
   left-acked j k f there = by_same (same k j) refl
     where
-      by_pin : (b : Bool) → k ≡ j → entry_at (cond b (without t j) (changed t j (taken (revoked_of old.scene j)))) k ≡ Some f → IsKnown old.scene k (before k) f
-      by_pin true is here = let none : entry_at (without t j) k ≡ None = ap (entry_at (without t j)) is ∙ entry_at-without t j in absurd (cc)
-      by_pin false is here =
-          let now : entry_at (changed t j (taken (revoked_of old.scene j))) k ≡ option_map (taken (revoked_of old.scene j)) (entry_at t k) =
-          ap (entry_at (changed t j (taken (revoked_of old.scene j)))) is ∙ entry_at-changed t j (taken (revoked_of old.scene j)) ∙ ap (λ (q : Holder). option_map (taken (revoked_of old.scene j)) (entry_at t q)) (sym is) in
-          let found = mapped (taken (revoked_of old.scene j)) (entry_at t k) f (sym now ∙ here) in
-          let e : Entry = found.0 in
-          let known = known-old k e found.1 in
-          let all : revoked_of old.scene j ≡ against old.scene (at k e) =
-          ap (revoked_of old.scene) (sym is) ∙ revoked-found old.scene k e found.1 in
-          let left : f ≡ taken (against old.scene (at k e)) e = found.2 ∙ ap (λ (caps : Caps). taken caps e) all in
-          subst (IsKnown old.scene k (before k)) (sym left) (record {
+      m : IsOf t j (taken (revoked_of old.scene j)) k f
+      m = changed-as (has (revoked_of old.scene j) P) t j (taken (revoked_of old.scene j)) k f there
+
+      by_same : (b : Bool) → same k j ≡ b → IsKnown old.scene k (before k) f
+      by_same false off = subst (IsKnown old.scene k (before k)) (sym (m.other off)) (known-old k m.before m.there)
+      by_same true on =
+          let e : Entry = m.before in
+          let known = known-old k e m.there in
+          let all : revoked_of old.scene j ≡ against old.scene (at k e) = ap (revoked_of old.scene) (sym (same-is k j on)) ∙ revoked-found old.scene k e m.there in
+          subst (IsKnown old.scene k (before k)) (sym (m.own on ∙ ap (λ (caps : Caps). taken caps e) all)) (record {
             says = subst (λ (told_of : Caps). IsShown (before k) told_of (taken (against old.scene (at k e)) e)) (sym (taken-told old.scene k e))
                 (same-numbers (before k) (told_set old.scene (at k e)) e (taken (against old.scene (at k e)) e) refl refl refl known.says);
             below = known.below;
           })
-
-      by_same : (b : Bool) → same k j ≡ b → IsKnown old.scene k (before k) f
-      by_same true on = by_pin (has (revoked_of old.scene j) P) (same-is k j on) there
-      by_same false off = known-old k f (sym (entry_at-acked_other t j k (revoked_of old.scene j) (apart-of k j off)) ∙ there)
 
   -- ---- the end of the step
 
@@ -340,7 +333,7 @@ module _ (old : State) (sound : IsSound old) (table : IsTable old.scene.table) (
         by_row None none = let gone : entry_at owing.table k ≡ None = ap entry_of (found_owing ∙ ap (option_map owed_row) none) in absurd (cc)
         by_row (Some row) found_it =
             let settled_there : entry_at settled.table k ≡ Some row.entry = ap entry_of found_it in
-            let at_row : Some row ≡ Some (at k row.entry) = sym found_it ∙ entry_found settled.table k row.entry settled_there in
+            let at_row : Some row ≡ Some (at k row.entry) = sym found_it ∙ row_of-entry settled.table k row.entry settled_there in
             let now : entry_at owing.table k ≡ Some (owed_row (at k row.entry)).entry = ap entry_of (found_owing ∙ ap (option_map owed_row) (found_it ∙ at_row)) in
             let f_is : f ≡ (owed_row (at k row.entry)).entry = cc in
             (row.entry, ap (λ (u : Table). entry_at u k) (sym same_table) ∙ settled_there, f_is)
@@ -385,12 +378,12 @@ module _ (old : State) (sound : IsSound old) (table : IsTable old.scene.table) (
             let w = was_first k f there in
             let g : Entry = w.0 in
             let held : f.held ≡ g.held = ap (λ (e : Entry). e.held) w.2 ∙ field-owed (λ e. e.held) (λ e. refl) (at k g) (is_sized (sized_in moves) (at k g)) (has g.held Fc) in
-            ap (told_before old.scene) (entry_found first.table k g w.1) ∙ sym (told-held old.scene k g f held)
+            ap (told_before old.scene) (row_of-entry first.table k g w.1) ∙ sym (told-held old.scene k g f held)
 
         e_is : e ≡ renumbered (then_told k f) (now_told k f) (more k f)
         e_is =
             let now : entry_at st.scene.table k ≡ Some (renumbered (told_before old.scene (find (is_row_of k) first.table.rows)) (now_told k f) (more k f)) =
-            ap entry_of (found_last k ∙ ap (λ o. option_map (number_row old.scene first ended) (option_map (issue_row owing) o)) (entry_found owing.table k f there)) in
+            ap entry_of (found_last k ∙ ap (λ o. option_map (number_row old.scene first ended) (option_map (issue_row owing) o)) (row_of-entry owing.table k f there)) in
             let there_now : e ≡ renumbered (told_before old.scene (find (is_row_of k) first.table.rows)) (now_told k f) (more k f) = cc in
             there_now ∙ ap (λ (was : Caps). renumbered was (now_told k f) (more k f)) told_then
 
@@ -426,7 +419,7 @@ module _ (old : State) (sound : IsSound old) (table : IsTable old.scene.table) (
             let found_it = mapped told (entry_at st.scene.table k) e (sym now ∙ last) in
             let f : Entry = found_it.0 in
             let answers : reply_of st (ended_in moves) (Shows j) ≡ reply.Opened f.seq (told_set st.scene (at k f)) =
-            ap (λ (q : Holder). opened_as st.scene (find (is_row_of q) st.scene.table.rows)) (sym is) ∙ ap (opened_as st.scene) (entry_found st.scene.table k f found_it.1) in
+            ap (λ (q : Holder). opened_as st.scene (find (is_row_of q) st.scene.table.rows)) (sym is) ∙ ap (opened_as st.scene) (row_of-entry st.scene.table k f found_it.1) in
             subst (λ (x : Entry). IsShown (shown_opened (before k) (reply_of st (ended_in moves) (Shows j))) (told_set st.scene (at k x)) x) (sym found_it.2)
             (subst (λ (r : Reply). IsShown (shown_opened (before k) r) (told_set st.scene (at k (told f))) (told f)) (sym answers) (shown-told (told_set st.scene (at k f)) f))
 
@@ -465,7 +458,7 @@ module _ (old : State) (sound : IsSound old) (table : IsTable old.scene.table) (
             let clients : row.holder.client.0 ≡ k.client.0 = eqb-true row.holder.client.0 client.0 its ∙ sym (eqb-true k.client.0 client.0 own) in
             let inos : row.holder.ino.0 ≡ k.ino.0 = eqb-true row.holder.ino.0 k.ino.0 on in
             let holders : row.holder ≡ k = λ i. record { client = record { 0 = clients i }; ino = record { 0 = inos i } } in
-            let both : Some row ≡ Some (at k e) = sym (row_found t row table in_all) ∙ ap (λ (q : Holder). find (is_row_of q) t.rows) holders ∙ entry_found t k e there in
+            let both : Some row ≡ Some (at k e) = sym (row_found t row table in_all) ∙ ap (λ (q : Holder). find (is_row_of q) t.rows) holders ∙ row_of-entry t k e there in
             let rows_same : row ≡ at k e = cc in
             ap (told_set old.scene) rows_same
 
@@ -510,7 +503,7 @@ module _ (old : State) (sound : IsSound old) (table : IsTable old.scene.table) (
             let e : Entry = row.entry in
             let there : entry_at t k ≡ Some e = ap entry_of is in
             let left : entry_at (shown (Gives client max) old).scene.table k ≡ Some (polled_row (at k e)).entry =
-            ap entry_of (found_polled k ∙ ap (option_map polled_row) (entry_found t k e there)) in
+            ap entry_of (found_polled k ∙ ap (option_map polled_row) (row_of-entry t k e there)) in
             let f_is : f ≡ (polled_row (at k e)).entry = cc in
             subst (λ (x : Entry). IsShown (cond (k.client.0 == client.0) (fold (shown_in k.ino) (before k) given) (before k)) (told_set old.scene (at k x)) x) (sym f_is) (given_entry k e there)
 

@@ -4,6 +4,7 @@ use Rattle.std.specs.Prelude.{All}
 use Rattle.std.specs.FinMap as finite
 use Rattle.std.specs.List.{find, list_any}
 use Rattle.std.specs.Option.{option_map, option_map_or}
+use Rattle.std.proofs.lemmas.Simd.{map-map}
 use Rattle.std.proofs.lemmas.List.Elements.{All-map, All-weaker}
 use Rattle.capbits.specs.declared.cap.Cap.TheVariants.{Fc}
 use Rattle.capbits.specs.declared.ids.Ino.{Ino}
@@ -30,10 +31,10 @@ use Rattle.capacts.specs.Caprules.State.{State}
 use Rattle.capacts.specs.Caprules.Step.{state_at_end}
 use Rattle.capsteps.specs.Touching.{Touches, SettlesAt, Knows, stays, forget_among, told_then, finished_entry, finished_at}
 use Rattle.capacts.specs.Known.{KnownSets, kept_of, AreKnown, kept_anew, KeptAnew}
-use Rattle.capsteps.proofs.EndsThere.{any-map, two_changes, field-renumbered, settled-table, touched-ends, touched-issues, touched-known}
+use Rattle.capsteps.proofs.EndsThere.{field-renumbered, settled-table, touched-ends, touched-issues, touched-known}
 use Rattle.capsteps.proofs.Knowing.{known-alike, alike-where}
 use Rattle.capsteps.proofs.StayingSound.{sound-touched}
-use Rattle.capsteps.proofs.Telling.{as_told, as_asked, retold, retold_table, retold-sound, retold-issued}
+use Rattle.capsteps.proofs.Telling.{any-map_same, as_told, as_asked, retold, retold_table, retold-sound, retold-issued}
 
 -- no number changes
 pub owed-numbers : (passes : EntryRow → Bool) (Q : ℕ → Type 0) (t : Table) → All (λ row. Q row.entry.seq) t.rows → All (λ row. Q row.entry.seq) (changed_where passes owed t).rows
@@ -93,7 +94,7 @@ module _ (sized : List Ino) (t : Table) where
       (sym (field-renumbered (λ e. e.size_due) (λ e seq revoked. refl) before after row.entry))
 
   same_any : (q : ℕ) (rows : List EntryRow) → list_any (is_of_inode (record { 0 = q })) (map sized_row rows) ≡ list_any (is_of_inode (record { 0 = q })) rows
-  same_any q rows = any-map (is_of_inode (record { 0 = q })) sized_row (λ row. refl) rows
+  same_any q rows = any-map_same (is_of_inode (record { 0 = q })) sized_row (λ row. refl) rows
 
   same_kept : (x : Scene) (q : ℕ) → is_kept (with_sizes x) q ≡ is_kept x q
   same_kept x q = ap (λ b. not (is_gone (place x.tree.nodes q)) || b) (same_any q x.table.rows)
@@ -128,15 +129,14 @@ module _ (sized : List Ino) (t : Table) where
         ∙ ap (λ (rows : List EntryRow). record (forget (issue s)) { table = record s.table { rows = rows } }) renumbers
       where
         issued : map (issue_row s) (map sized_row s.table.rows) ≡ map sized_row (map (issue_row s) s.table.rows)
-        issued =
-            two_changes (issue_row s) sized_row (λ row. sized_row (issue_row s row)) s.table.rows (λ row inside. refl)
-            ∙ sym (two_changes sized_row (issue_row s) (λ row. sized_row (issue_row s row)) s.table.rows (λ row inside. refl))
+        issued = map-map (issue_row s) sized_row s.table.rows ∙ sym (map-map sized_row (issue_row s) s.table.rows)
 
         renumbers : map (number_row old first (forget (issue s))) (map sized_row (issue s).table.rows) ≡ map sized_row (map (number_row old first (forget (issue s))) (issue s).table.rows)
         renumbers =
-            two_changes (number_row old first (forget (issue s))) sized_row (λ row. sized_row (number_row old first (forget (issue s)) row)) (issue s).table.rows
-            (λ row inside. ap (λ (e : Entry). record row { entry = e }) (numbered (told_before old (find (is_row_of row.holder) first.table.rows)) (told_set (forget (issue s)) row) row))
-            ∙ sym (two_changes sized_row (number_row old first (forget (issue s))) (λ row. sized_row (number_row old first (forget (issue s)) row)) (issue s).table.rows (λ row inside. refl))
+            map-map (number_row old first (forget (issue s))) sized_row (issue s).table.rows
+            ∙ (λ i. let one : EntryRow → EntryRow = λ row. record row { entry = numbered (told_before old (find (is_row_of row.holder) first.table.rows)) (told_set (forget (issue s)) row) row i } in
+            map one (issue s).table.rows)
+            ∙ sym (map-map sized_row (number_row old first (forget (issue s))) (issue s).table.rows)
 
     -- ---- and at some inodes alone
 
@@ -160,10 +160,8 @@ module _ (sized : List Ino) (t : Table) where
         ended : map (λ row. cond (at row.holder.ino.0) (remade (finished_entry known s) row) row) (map sized_row s.table.rows)
             ≡ map sized_row (map (λ row. cond (at row.holder.ino.0) (remade (finished_entry known s) row) row) s.table.rows)
         ended =
-            two_changes (λ row. cond (at row.holder.ino.0) (remade (finished_entry known s) row) row) sized_row
-            (λ row. sized_row (cond (at row.holder.ino.0) (remade (finished_entry known s) row) row)) s.table.rows (λ row inside. ended_row row (at row.holder.ino.0))
-            ∙ sym (two_changes sized_row (λ row. cond (at row.holder.ino.0) (remade (finished_entry known s) row) row)
-            (λ row. sized_row (cond (at row.holder.ino.0) (remade (finished_entry known s) row) row)) s.table.rows (λ row inside. refl))
+            let finish : EntryRow → EntryRow = λ row. cond (at row.holder.ino.0) (remade (finished_entry known s) row) row in
+            map-map finish sized_row s.table.rows ∙ (λ i. map (λ row. ended_row row (at row.holder.ino.0) i) s.table.rows) ∙ sym (map-map sized_row finish s.table.rows)
 
     -- ---- what is kept of entries
 

@@ -3,7 +3,8 @@ use Rattle.std.proofs.Common.{◌≡◌, ◌≢◌, ◌+◌, ◌≤◌, ◌==◌
 use Rattle.std.specs.Option.{option_map, option_map_or}
 use Rattle.std.specs.FinMap as map
 use Rattle.std.specs.FinSet as set
-use Rattle.std.proofs.lemmas.Bool.{eqb-true, eqb-false}
+use Rattle.std.proofs.Math.Bool.{or-false}
+use Rattle.std.proofs.lemmas.Bool.{eqb-true, eqb-false, false_from_ne_true}
 use Rattle.std.proofs.lemmas.List.{length-append}
 use Rattle.std.proofs.lemmas.List.Elements.{All-contains, filter_map-append, filter_passes}
 use Rattle.capbits.specs.declared.cap.Part.{Part}
@@ -40,9 +41,8 @@ use Rattle.capacts.specs.Caprules.Settle.{Made, Began, Gathered, Served, Makes, 
 use Rattle.capsteps.specs.Sweep.{AreStill, GoesOnBehind, IsFirstPlace, IsSwept, IsTurnOfLeast, StandsAt, changed_alone}
 use Rattle.capsteps.specs.Touching.{IsSameOff}
 use Rattle.capsteps.proofs.Among.{untouched, not-touched, more-touched}
-use Rattle.capsteps.proofs.Moved.{makes-append}
+use Rattle.capsteps.proofs.Moved.{makes-append, one-less}
 use Rattle.capsteps.proofs.OneChange.{alike-apart, place-after}
-use Rattle.capsteps.proofs.Served.{one-less}
 use Rattle.capsteps.proofs.SameOff.{off-refl, off-trans, off-wider}
 use Rattle.capsteps.proofs.Sweeping.{still-kept}
 
@@ -95,16 +95,12 @@ turn-of_least at s still ends a least = ends-turn s a ends (λ other part below.
 
 -- ---- where the sweep begins
 
-or_no : (a b : Bool) → b ≡ false → (a || b) ≡ a
-or_no true b e = refl
-or_no false b e = e
-
 -- where no other inode is touched, who waits elsewhere is held up
 nobody_first : (ino : ℕ) (touched : InoSet) (s : Scene) (at : ℕ) → WaitAt (is_touched ino touched) s → is_touched ino touched at ≡ true
     → ((other : ℕ) → set.contains touched other ≡ false) → NobodyElsewhere s.locks at
 nobody_first ino touched s at waits here empty =
-    let is : at ≡ ino = eqb-true at ino (sym (or_no (at == ino) _ (empty at)) ∙ here) in
-    nobody-held s at (waits-wider (is_touched ino touched) (λ other. other == at) s (λ other away. or_no (other == ino) _ (empty other) ∙ ap (λ i. other == i) (sym is) ∙ away) waits)
+    let is : at ≡ ino = eqb-true at ino (sym (ap (λ b. (at == ino) || b) (empty at) ∙ or-false (at == ino)) ∙ here) in
+    nobody-held s at (waits-wider (is_touched ino touched) (λ other. other == at) s (λ other away. ap (λ b. (other == ino) || b) (empty other) ∙ or-false (other == ino) ∙ ap (λ i. other == i) (sym is) ∙ away) waits)
 
 pub stands-first : (ino : ℕ) (touched : InoSet) (s : Scene) (place : SweepPlace) → IsTurnOfLeast (is_touched ino touched) s → WaitAt (is_touched ino touched) s
     → IsFirstPlace ino touched place → StandsAt (is_touched ino touched) place s
@@ -212,19 +208,13 @@ module _ (ino : ℕ) (from : ℕ → Bool) (touched : InoSet) (first now : Scene
     more = reaches.widens
 
     not_before : (other : ℕ) → set.contains kept other ≡ false → set.contains touched other ≡ false
-    not_before other none = elim (set.contains touched other) as (λ b. set.contains touched other ≡ b → b ≡ false) [
-      | true ↦ λ was. absurd (true≢false (sym (more.stay other was) ∙ none))
-      | false ↦ λ was. refl
-    ] refl
+    not_before other none = false_from_ne_true (set.contains touched other) (λ was. true≢false (sym (more.stay other was) ∙ none))
 
     wider : (other : ℕ) → is_touched ino kept other ≡ false → is_touched ino touched other ≡ false
     wider other off = (let un = untouched ino kept other off in not-touched ino touched other un.0 (not_before other un.1))
 
     apart_now : set.contains kept ino ≡ false
-    apart_now = elim (set.contains kept ino) as (λ b. set.contains kept ino ≡ b → b ≡ false) [
-      | true ↦ λ is. (absurd (more.besides ino so.apart is refl))
-      | false ↦ λ is. refl
-    ] refl
+    apart_now = false_from_ne_true (set.contains kept ino) (λ is. more.besides ino so.apart is refl)
 
     -- an inode that is not touched is another than that of the request
     another : (other : ℕ) → is_touched ino kept other ≡ false → other ≢ q.ino.0
@@ -243,10 +233,7 @@ module _ (ino : ℕ) (from : ℕ → Bool) (touched : InoSet) (first now : Scene
         not_within : Covers q ino now.tree now.table kept → is_rename q.ask ≡ true → set.contains kept row.holder.ino.0 ≡ false → row.holder.ino.0 ≢ ino
             → is_within now.tree.nodes row.holder.ino.0 q.ino.0 ≡ false
         not_within covers moves none other =
-            elim (is_within now.tree.nodes row.holder.ino.0 q.ino.0) as (λ b. is_within now.tree.nodes row.holder.ino.0 q.ino.0 ≡ b → b ≡ false) [
-              | true ↦ λ below. absurd (true≢false (sym (covers moves row among other below) ∙ none))
-              | false ↦ λ below. refl
-            ] refl
+            false_from_ne_true (is_within now.tree.nodes row.holder.ino.0 q.ino.0) (λ below. true≢false (sym (covers moves row among other below) ∙ none))
 
     first_same : (other : ℕ) (part : Part) → other ≢ q.ino.0 → first_for after.locks.queue other part ≡ first_for now.locks.queue other part
     first_same other part off = first-moved now.locks q order inside other part off

@@ -38,13 +38,12 @@ use Rattle.capacts.specs.Caprules.Sound.{IsSoundEntry, IsSound, AreGiven}
 use Rattle.capacts.specs.Caprules.Settle.{Made, ended_in}
 use Rattle.capacts.specs.Caprules.Step.{earlier, state_at_end}
 use Rattle.capsteps.specs.Touching.{IsTouchedEntry, Touches, SettlesAt, Knows, finished_at}
-use Rattle.capsteps.proofs.EndsThere.{any-map, off_due}
-use Rattle.capsteps.proofs.IssuedRows.{ended_row, want-ended, told-ended, revoked-ended, seq-ended, effective-ended, holds-due, holds-pin, in_row-ended}
-use Rattle.capsteps.proofs.IssuedRest.{on_it, last_row, issued_at, by_place, of_inode-last, rest-issued}
+use Rattle.capsteps.proofs.EndsThere.{off_due}
+use Rattle.capsteps.proofs.Telling.{any-map_same}
+use Rattle.capsteps.proofs.IssuedRows.{ended_row, want-ended, told-ended, revoked-ended, seq-ended, effective-ended, holds-due, holds-pin, in_row-ended, on_it, last_row, issued_at, by_place, of_inode-last, rest-issued}
 use Rattle.capsteps.proofs.Placed.{placed-in_row}
 use Rattle.capsteps.proofs.Forgotten.{all_rows, IsSoundBut, sound-forgotten}
-use Rattle.capsteps.proofs.Moved.{IsMoved, moved-all, no_lock-moved, nobody-moved, all-waiting, Waited, ended-waited}
-use Rattle.capsteps.proofs.NothingServed.{nothing-served}
+use Rattle.capsteps.proofs.Moved.{IsMoved, moved-all, no_lock-moved, nobody-moved, all-waiting, Waited, ended-waited, nothing-served}
 use Rattle.capsteps.proofs.SameOff.{not-among, row_elsewhere, any_elsewhere, IsSameFrom, from-first}
 use Rattle.capsteps.proofs.Touched.{IsKeptEntry, kept-left}
 
@@ -223,7 +222,7 @@ module _ (at from : ℕ → Bool) (known : Holder → Caps) (old touched : State
         let sound = g.sound in
         let same = g.same in
         let of_it = is_of_inode (record { 0 = q }) in
-        any-map of_it last_of (of_inode-last known settled at q) rows
+        any-map_same of_it last_of (of_inode-last known settled at q) rows
         ∙ any_elsewhere at old.scene.table settled.table same.entries q off ∙ sound.strays q (sym (same.places q off) ∙ gone)
 
     -- ---- all together

@@ -6,7 +6,7 @@ use Rattle.std.specs.Option.{option_map}
 use Rattle.std.specs.Ordering.{nat_cmp}
 use Rattle.std.specs.FinMap as map
 use Rattle.std.specs.FinSet as set
-use Rattle.std.proofs.lemmas.Bool.{or_right, ne_eqb}
+use Rattle.std.proofs.lemmas.Bool.{or_right, ne_eqb, true_from_ne_false}
 use Rattle.std.proofs.lemmas.List.Folds.{list_any_at}
 use Rattle.inotree.specs.declared.node.Node.{Node}
 use Rattle.inotree.specs.declared.node.Place.{Place}
@@ -84,11 +84,9 @@ alike-retained tree p sound strays ino here = record {
 }
   where
     above : (i d : ℕ) (a : List ℕ) → p i ≡ true → IsUnder tree.nodes i d a → p d ≡ true
-    above i d a is under = elim (p d) as (λ b. p d ≡ b → b ≡ true) [
-      | true ↦ λ e. refl
-      | false ↦ λ e. (let here : place tree.nodes d ≡ Here = (sound.parents i d a under).1 in
-          let gone : place tree.nodes d ≡ Gone = strays d e in cc)
-    ] refl
+    above i d a is under = true_from_ne_false (p d) (λ e.
+        let here : place tree.nodes d ≡ Here = (sound.parents i d a under).1 in
+        let gone : place tree.nodes d ≡ Gone = strays d e in cc)
 
 -- ---- one after another
 
@@ -129,9 +127,6 @@ module _ (p q : ℕ → Bool) (s : Scene) where
     tree = record s.tree { nodes = twice_kept s.tree.nodes i };
     locks = record s.locks { states = twice_kept s.locks.states i };
   }
-
-pub forget-same : (p q : ℕ → Bool) (s : Scene) → ((n : ℕ) → p n ≡ q n) → forget_among p s ≡ forget_among q s
-forget-same p q s same = λ i. forget_among (λ n. same n i) s
 
 forget_none : (s : Scene) → forget_among (λ n. false) s ≡ s
 forget_none s = λ i. record s {
@@ -184,8 +179,7 @@ fold_forget (k ∷ ks) s =
     fold_forget ks (forget_at k s)
     ∙ ap (forget_among (λ n. list_any (same_number n) ks)) (sym (forget-one k s))
     ∙ forget-twice (λ n. n == k) (λ n. list_any (same_number n) ks) s
-    ∙ forget-same (λ n. (n == k) || list_any (same_number n) ks) (λ n. list_any (same_number n) (k ∷ ks)) s
-    (λ n. ap (λ b. b || list_any (same_number n) ks) (sym (unsigned_tied n k)))
+    ∙ (λ i. forget_among (λ n. sym (unsigned_tied n k) i || list_any (same_number n) ks) s)
 
 pub forget-all_of : (inos : InoSet) (numbers : List ℕ) (s : Scene) → IsListOf inos numbers → fold forget_on s numbers ≡ forget_among (set.contains inos) s
-forget-all_of inos numbers s lists = fold_forget numbers s ∙ forget-same (λ n. list_any (same_number n) numbers) (set.contains inos) s (λ n. sym (lists.among n))
+forget-all_of inos numbers s lists = fold_forget numbers s ∙ (λ i. forget_among (λ n. sym (lists.among n) i) s)

@@ -6,6 +6,7 @@ use Rattle.std.specs.Cmp.{unsigned_tied}
 use Rattle.std.specs.Option.{option_map}
 use Rattle.std.specs.FinMap as map
 use Rattle.std.specs.FinSet as set
+use Rattle.std.proofs.lemmas.List.Elements.{filter_map-append}
 use Rattle.std.proofs.lemmas.Bool.{ltb-true, lt-ltb, le-ltb}
 use Rattle.std.proofs.lemmas.List.Sums.{sum_by-cons}
 use Rattle.capacts.proofs.Lockmachine.Rest.{same_key}
@@ -29,9 +30,9 @@ use Rattle.capacts.proofs.Lockmachine.Turns.{turn-passes, turn-rests}
 use Rattle.capacts.proofs.Lockmachine.Finding.{by_number}
 use Rattle.capacts.proofs.Lockmachine.Waiting.{waits-kept-at}
 use Rattle.captable.specs.Table.{Table}
-use Rattle.capacts.specs.Caprules.Settle.{ended_in}
+use Rattle.capacts.specs.Caprules.Settle.{ended_by, ended_in}
 use Rattle.capsteps.specs.Sweep.{AreStill, IsSwept, IsNextOf}
-use Rattle.capsteps.proofs.Moved.{as_made, makes-append, ended-append}
+use Rattle.capsteps.proofs.Moved.{as_made, makes-append}
 
 -- ---- the locks of an inode
 
@@ -94,7 +95,7 @@ swept-on at first now is here touched locks (steps, few, runs) changes =
     record {
       moves = is.moves ++ more.moves;
       made = makes-append first is.moves now more.moves (record now { locks = locks }) is.made more.made;
-      none = ended-append is.moves more.moves ∙ ap (λ ms. ms ++ ended_in more.moves) is.none ∙ more.none;
+      none = filter_map-append ended_by is.moves more.moves ∙ ap (λ ms. ms ++ ended_in more.moves) is.none ∙ more.none;
       is = ap (λ (s : Scene). record s { locks = locks }) is.is;
       states = λ other off. same-elsewhere at now.locks locks here touched changes other off ∙ is.states other off;
       queue = changes.queue ∙ is.queue;

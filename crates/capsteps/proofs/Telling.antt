@@ -3,6 +3,7 @@ use Rattle.std.proofs.Common.{◌≡◌, ◌≤◌, ℕ, Bool, true, false, cond
 use Rattle.std.specs.Prelude.{IsTrue, All}
 use Rattle.std.specs.List.{find, list_any, IsDistinct, AllByRecursion}
 use Rattle.std.specs.Option.{option_map, option_map_or}
+use Rattle.std.proofs.lemmas.Simd.{map-map}
 use Rattle.std.proofs.lemmas.List.Elements.{All-map, All-weaker, All-filter, All-from_recursion, recursion_from_All}
 use Rattle.capbits.specs.declared.cap.Cap.{Cap}
 use Rattle.capbits.specs.declared.cap.Part.{Part}
@@ -36,23 +37,14 @@ use Rattle.capacts.specs.Caprules.Headline.{holds, is_due, IssuesExactly, IsInPl
 use Rattle.capacts.specs.Caprules.Messages.{first_messages, after_messages, is_caps_of, is_size_of, is_recall_of, told_if, sized_if, unasked_if}
 use Rattle.capacts.specs.Capnotes.Untold.{is_end_of, is_to}
 use Rattle.capacts.specs.Caprules.Sound.{IsSoundEntry, IsSound, AreGiven}
-use Rattle.capsteps.proofs.StillQuiet.{still_quiet}
+use Rattle.capsteps.proofs.LeftAlone.{still_quiet}
 
 -- ---- lists that are mapped
 
 -- a test that doesn't see the map
-any-map_same : {X : Type 0} (p : X → Bool) (g : X → X) → ((x : X) → p (g x) ≡ p x) → (xs : List X) → list_any p (map g xs) ≡ list_any p xs
+pub any-map_same : {X : Type 0} (p : X → Bool) (g : X → X) → ((x : X) → p (g x) ≡ p x) → (xs : List X) → list_any p (map g xs) ≡ list_any p xs
 any-map_same p g same [] = refl
 any-map_same p g same (x ∷ xs) = λ i. same x i || any-map_same p g same xs i
-
--- and a map that doesn't
-map-map_same : {X Y : Type 0} (h : X → Y) (g : X → X) → ((x : X) → h (g x) ≡ h x) → (xs : List X) → map h (map g xs) ≡ map h xs
-map-map_same h g same [] = refl
-map-map_same h g same (x ∷ xs) = λ i. same x i ∷ map-map_same h g same xs i
-
-pub map_alike : {X Y : Type 0} (f g : X → Y) → ((x : X) → f x ≡ g x) → (xs : List X) → map f xs ≡ map g xs
-map_alike f g same [] = refl
-map_alike f g same (x ∷ xs) = λ i. same x i ∷ map_alike f g same xs i
 
 -- ---- entries of which other changes were told, of which the size is due or not, and that are asked or not
 
@@ -80,7 +72,7 @@ module _ (s : State) (told_as : EntryRow → ℕ) (size_as asked_as : EntryRow �
   same_wants : (ino : ℕ) → wants new ino ≡ wants s.scene ino
   same_wants ino =
       ap (map (want_of s.scene.fs s.scene.tree s.scene.sessions)) (same_on (record { 0 = ino }))
-      ∙ map-map_same (want_of s.scene.fs s.scene.tree s.scene.sessions) to (λ row. refl) (filter (is_of_inode (record { 0 = ino })) s.scene.table.rows)
+      ∙ map-map (want_of s.scene.fs s.scene.tree s.scene.sessions) to (filter (is_of_inode (record { 0 = ino })) s.scene.table.rows)
 
   same_open : (ino : ℕ) (part : Part) (goal : LockGoal) → is_open new ino part goal ≡ is_open s.scene ino part goal
   same_open ino part goal =
@@ -176,7 +168,7 @@ shown_table : (t : Table) (k : Holder) → IsTable t → changed t k told ≡ re
 unfolding IsDistinct
 shown_table t k is =
     fold-changed_by (λ row. told row.entry) t (k ∷ []) is once
-    ∙ ap (λ (rows : List EntryRow). record t { rows = rows }) (map_alike (λ row. cond (named k row) (remade (λ row. told row.entry) row) row) (retold (told_where (named k)) as_sized as_asked) (λ row. told_row row (named k row)) t.rows)
+    ∙ (λ i. record t { rows = map (λ row. told_row row (named k row) i) t.rows })
   where
     once : IsDistinct same (k ∷ [])
     once = (tt, tt)
@@ -222,9 +214,9 @@ given_row row true caps size recall = ap (λ (e : Entry). record row { entry = e
 
 given_table : (client : ClientId) (given : List Message) (t : Table) → changed_where (is_of_client client) (after_messages given) t ≡ retold_table (told_given client given) (size_given client given) (asked_given client given) t
 given_table client given t =
-    ap (λ (rows : List EntryRow). record t { rows = rows })
-    (map_alike (λ row. cond (is_of_client client row) (remade (after_messages given) row) row) (retold (told_given client given) (size_given client given) (asked_given client given))
-    (λ row. given_row row (is_of_client client row) (list_any (is_caps_of row.holder.ino) given) (list_any (is_size_of row.holder.ino) given) (list_any (is_recall_of row.holder.ino) given)) t.rows)
+    λ i. record t {
+      rows = map (λ row. given_row row (is_of_client client row) (list_any (is_caps_of row.holder.ino) given) (list_any (is_size_of row.holder.ino) given) (list_any (is_recall_of row.holder.ino) given) i) t.rows;
+    }
 
 -- ---- each answer
 

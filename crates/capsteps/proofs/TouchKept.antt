@@ -1,6 +1,6 @@
 -- What an event about one entry leaves of what is kept of entries.
 use Rattle.std.proofs.Common.{◌≡◌, ◌≢◌, Bool, true, false, cond, not, ◌&&◌, Option, Some, None, is_some, IsSome, [], ◌∷◌, refl, sym, ap, subst, ◌∙◌, true≢false}
-use Rattle.std.specs.Option.{option_map, option_map_or}
+use Rattle.std.specs.Option.{option_map_or}
 use Rattle.std.proofs.lemmas.List.Elements.{All-contains}
 use Rattle.capbits.specs.declared.cap.Cap.{Cap}
 use Rattle.capbits.specs.declared.cap.Cap.TheVariants.{P}
@@ -11,7 +11,7 @@ use Rattle.captable.specs.declared.entry.EntryRow.{EntryRow}
 use Rattle.captable.specs.declared.entry.Holder.{Holder}
 use Rattle.captable.specs.Table.{Table, same, is_row_of, entry_at}
 use Rattle.captable.specs.Calls.{new_entry, opened, changed, wanting, taken, given_back, without}
-use Rattle.captable.proofs.ByHolder.{entry_at-changed, entry_at-changed_other, entry_at-opened, entry_at-opened_other, entry_at-without, entry_at-without_other, entry_at-acked_other, entry_at-released_other, row_of-entry}
+use Rattle.captable.proofs.ByHolder.{entry_at-changed_other, entry_at-opened, entry_at-opened_other, entry_at-acked_other, entry_at-released_other, row_of-entry}
 use Rattle.captable.proofs.Tables.{same-is}
 use Rattle.capsteps.specs.declared.touch.Touch.{Touch}
 use Rattle.capsteps.specs.declared.touch.Touch.TheVariants.{Open, Want, Ack, Release}
@@ -22,7 +22,7 @@ use Rattle.capacts.specs.Caprules.State.{State}
 use Rattle.capsteps.specs.Touch.{touched_table}
 use Rattle.capsteps.proofs.Knowing.{held_at, HoldAlike, still-known}
 use Rattle.capsteps.proofs.LeftAlone.{found-contains}
-use Rattle.capsteps.proofs.ShownSteps.{apart-of}
+use Rattle.capsteps.proofs.ShownSteps.{IsOf, apart-of, changed-as}
 
 -- ---- a new entry
 
@@ -55,49 +55,12 @@ still-itself t sets k e there = subst (λ o. is_still_kept o (kept_of sets k) (k
 abbrev pub WasThere : Table → Table → Type 0
 WasThere old new = (k : Holder) (e : Entry) → entry_at new k ≡ Some e → (f : Entry) × (entry_at old k ≡ Some f)
 
-was-mapped : (g : Entry → Entry) (o : Option Entry) (e : Entry) → option_map g o ≡ Some e → (f : Entry) × (o ≡ Some f) × (e ≡ g f)
-was-mapped g None e is = absurd (cc)
-was-mapped g (Some f) e is = let now : e ≡ g f = cc in (f, refl, now)
-
--- an entry of a table in which one was changed: it is as it was, or is the one that was changed
-record IsOf (t : Table) (j : Holder) (g : Entry → Entry) (k : Holder) (e : Entry) : Type 0 where
-  before : Entry
-  there : entry_at t k ≡ Some before
-  other : same k j ≡ false → e ≡ before
-  own : same k j ≡ true → e ≡ g before
-
-changed-as : (t : Table) (j : Holder) (g : Entry → Entry) (k : Holder) (e : Entry) → entry_at (changed t j g) k ≡ Some e → IsOf t j g k e
-changed-as t j g k e there = by_same (same k j) refl
-  where
-    by_same : (b : Bool) → same k j ≡ b → IsOf t j g k e
-    by_same true on =
-        let is : k ≡ j = same-is k j on in
-        let m = was-mapped g (entry_at t k) e (ap (λ (q : Holder). option_map g (entry_at t q)) is ∙ sym (entry_at-changed t j g) ∙ sym (ap (entry_at (changed t j g)) is) ∙ there) in
-        record { before = m.0; there = m.1; other = λ off. absurd (true≢false (sym on ∙ off)); own = λ _. m.2 }
-    by_same false off = record {
-      before = e;
-      there = sym (entry_at-changed_other t j k g (apart-of k j off)) ∙ there;
-      other = λ _. refl;
-      own = λ on. absurd (true≢false (sym on ∙ off));
-    }
-
-pub there-changed : (t : Table) (j : Holder) (g : Entry → Entry) → WasThere t (changed t j g)
-there-changed t j g k e there = let m = changed-as t j g k e there in (m.before, m.there)
-
-pub there-without : (t : Table) (j : Holder) → WasThere t (without t j)
-there-without t j k e there = by_same (same k j) refl
-  where
-    by_same : (b : Bool) → same k j ≡ b → (f : Entry) × (entry_at t k ≡ Some f)
-    by_same true on = let gone : entry_at (without t j) k ≡ None = ap (entry_at (without t j)) (same-is k j on) ∙ entry_at-without t j in absurd (cc)
-    by_same false off = (e, sym (entry_at-without_other t j k (apart-of k j off)) ∙ there)
-
-pub there-cond : (b : Bool) (t : Table) (j : Holder) (g : Entry → Entry) → WasThere t (cond b (without t j) (changed t j g))
-there-cond true t j g = there-without t j
-there-cond false t j g = there-changed t j g
+pub there-changed : (gone : Bool) (t : Table) (j : Holder) (g : Entry → Entry) → WasThere t (cond gone (without t j) (changed t j g))
+there-changed gone t j g k e there = let m = changed-as gone t j g k e there in (m.before, m.there)
 
 -- where what is held stays, all hold alike
 pub alike-changed : (t : Table) (j : Holder) (g : Entry → Entry) → ((e : Entry) → (g e).held ≡ e.held) → HoldAlike t (changed t j g)
-alike-changed t j g same_held k e there = let m = changed-as t j g k e there in (m.before, m.there, by_same m (same k j) refl)
+alike-changed t j g same_held k e there = let m = changed-as false t j g k e there in (m.before, m.there, by_same m (same k j) refl)
   where
     by_same : (m : IsOf t j g k e) (b : Bool) → same k j ≡ b → e.held ≡ m.before.held
     by_same m true on = ap (λ (x : Entry). x.held) (m.own on) ∙ same_held m.before
@@ -111,25 +74,14 @@ HoldsLess old new = (k : Holder) (e : Entry) → entry_at new k ≡ Some e → I
 as_before : (t : Table) (k : Holder) (f : Entry) (e : Entry) → entry_at t k ≡ Some f → IsSubset e.held f.held → IsSubset e.held (held_at t k)
 as_before t k f e there less c held = ap (λ (o : Option Entry). has (option_map_or (λ (x : Entry). x.held) o no_caps) c) there ∙ less c held
 
-less-changed : (t : Table) (j : Holder) (g : Entry → Entry) → ((e : Entry) → IsSubset (g e).held e.held) → HoldsLess t (changed t j g)
-less-changed t j g less k e there =
-    let m = changed-as t j g k e there in
+less-changed : (gone : Bool) (t : Table) (j : Holder) (g : Entry → Entry) → ((e : Entry) → IsSubset (g e).held e.held) → HoldsLess t (cond gone (without t j) (changed t j g))
+less-changed gone t j g less k e there =
+    let m = changed-as gone t j g k e there in
     as_before t k m.before e m.there (by_same m (same k j) refl)
   where
     by_same : (m : IsOf t j g k e) (b : Bool) → same k j ≡ b → IsSubset e.held m.before.held
     by_same m true on c held = less m.before c (ap (λ (x : Entry). has x.held c) (sym (m.own on)) ∙ held)
     by_same m false off c held = ap (λ (x : Entry). has x.held c) (sym (m.other off)) ∙ held
-
-less-without : (t : Table) (j : Holder) → HoldsLess t (without t j)
-less-without t j k e there = by_same (same k j) refl
-  where
-    by_same : (b : Bool) → same k j ≡ b → IsSubset e.held (held_at t k)
-    by_same true on = let gone : entry_at (without t j) k ≡ None = ap (entry_at (without t j)) (same-is k j on) ∙ entry_at-without t j in absurd (cc)
-    by_same false off = as_before t k e e (sym (entry_at-without_other t j k (apart-of k j off)) ∙ there) (λ c held. held)
-
-less-cond : (b : Bool) (t : Table) (j : Holder) (g : Entry → Entry) → ((e : Entry) → IsSubset (g e).held e.held) → HoldsLess t (cond b (without t j) (changed t j g))
-less-cond true t j g less = less-without t j
-less-cond false t j g less = less-changed t j g less
 
 less-minus : (caps held : Caps) (c : Cap) → (has held c && not (has caps c)) ≡ true → has held c ≡ true
 less-minus caps held c is = (and_parts (has held c) (not (has caps c)) is).0
@@ -154,9 +106,9 @@ less-alike t mid new less alike k e there c held = let was = alike k e there in 
 
 pub touch-less : (t : Table) (k : Holder) (revoked : Caps) (touch : Touch) → HoldsLess t (touched_table t k revoked touch)
 touch-less t k revoked (Open mode) = less-alike t (with_entry t k) (with_opening t k mode) (less-entry t k) (alike-changed (with_entry t k) k (λ e. wanting (union e.want (opening_wants mode)) e) (λ e. refl))
-touch-less t k revoked (Want caps) = less-changed t k (λ e. wanting (union caps (caps_in (P ∷ []))) e) (λ e c held. held)
-touch-less t k revoked (Ack seq) = less-cond (has revoked P) t k (taken revoked) (λ e c held. less-minus revoked e.held c (sym (has-minus e.held revoked c) ∙ held))
-touch-less t k revoked (Release caps) = less-cond (has caps P) t k (given_back caps) (λ e c held. less-minus caps e.held c (sym (has-minus e.held caps c) ∙ held))
+touch-less t k revoked (Want caps) = less-changed false t k (λ e. wanting (union caps (caps_in (P ∷ []))) e) (λ e c held. held)
+touch-less t k revoked (Ack seq) = less-changed (has revoked P) t k (taken revoked) (λ e c held. less-minus revoked e.held c (sym (has-minus e.held revoked c) ∙ held))
+touch-less t k revoked (Release caps) = less-changed (has caps P) t k (given_back caps) (λ e c held. less-minus caps e.held c (sym (has-minus e.held caps c) ∙ held))
 
 -- ---- the other entries
 

@@ -3,6 +3,7 @@
 use Rattle.std.proofs.Common.{◌≡◌, ◌≢◌, ◌≤◌, ℕ, ◌+◌, Bool, true, false, cond, not, ◌&&◌, ◌||◌, Option, Some, None, is_some, List, [], ◌∷◌, ◌++◌, filter, refl, sym, ap, subst, ◌∙◌, Contains, true≢false, arith}
 use Rattle.std.specs.Prelude.{IsTrue, All}
 use Rattle.std.specs.List.{find, list_any}
+use Rattle.std.proofs.lemmas.Bool.{and_from, not-false, or_right}
 use Rattle.std.proofs.lemmas.List.Folds.{list_any-append}
 use Rattle.std.specs.Option.{option_map}
 use Rattle.std.specs.FinMap as map
@@ -32,7 +33,7 @@ use Rattle.captable.specs.declared.entry.Entry.{Entry}
 use Rattle.captable.specs.declared.entry.EntryRow.{EntryRow}
 use Rattle.captable.specs.declared.entry.Holder.{Holder}
 use Rattle.captable.specs.Table.{Table, IsTable, holder, is_row_of, entry_of, entry_at}
-use Rattle.captable.specs.Calls.{new_entry, opened, change_rows, changed, without, wanting, taken, given_back, is_of_inode, entries_on}
+use Rattle.captable.specs.Calls.{new_entry, opened, change_rows, changed, without, wanting, taken, given_back, is_of_inode, entries_on, acked, released}
 use Rattle.captable.specs.Tests.{open_tests, entry_test, ack_tests, release_tests}
 use Rattle.captable.proofs.Tables.{same_equiv, IsTable-changed, IsTable-opened, IsTable-released, IsTable-without}
 use Rattle.captable.proofs.Moves.{IsTable-touched}
@@ -63,7 +64,7 @@ use Rattle.capsteps.specs.Touch.{touch_event, touch_tests, touched_table}
 use Rattle.capsteps.specs.Touching.{IsTouchedEntry, TouchesOne}
 use Rattle.capacts.specs.Caprules.Sound.{IsSound, IsSoundEntry, AreGiven}
 use Rattle.capsteps.proofs.Judging.{no_test}
-use Rattle.capsteps.proofs.NothingServed.{sound-waits}
+use Rattle.capsteps.proofs.Moved.{sound-waits}
 use Rattle.capsteps.proofs.Placed.{placed-in_row}
 
 -- ---- the tests of an event that nothing stops
@@ -173,48 +174,32 @@ module _ (count : ℕ) (k : Holder) where
   below-entry t all true = all
   below-entry t all false = All-push IsBelow t.rows (row_with k new_entry) all (omega arith)
 
-  below-released : (t : Table) (caps : Caps) → All IsBelow t.rows → (b : Bool) → All IsBelow (cond b (without t k) (changed t k (given_back caps))).rows
-  below-released t caps all true = All-filter (λ row. not (is_row_of k row)) IsBelow t.rows all
-  below-released t caps all false = All-change IsBelow t.rows k (given_back caps) (λ row is. is) all
-
-  below-acked : (t : Table) (caps : Caps) → All IsBelow t.rows → (b : Bool) → All IsBelow (cond b (without t k) (changed t k (taken caps))).rows
-  below-acked t caps all true = All-filter (λ row. not (is_row_of k row)) IsBelow t.rows all
-  below-acked t caps all false = All-change IsBelow t.rows k (taken caps) (λ row is. is) all
+  below-less : (t : Table) (f : Entry → Entry) → ((e : Entry) → (f e).seq ≡ e.seq) → All IsBelow t.rows → (b : Bool) → All IsBelow (cond b (without t k) (changed t k f)).rows
+  below-less t f same all true = All-filter (λ row. not (is_row_of k row)) IsBelow t.rows all
+  below-less t f same all false = All-change IsBelow t.rows k f (λ row is. rw (same row.entry) is) all
 
   pub below-touched : (t : Table) (revoked : Caps) (touch : Touch) → All IsBelow t.rows → All IsBelow (touched_table t k revoked touch).rows
   below-touched t revoked (Open mode) all =
       All-change IsBelow (with_entry t k).rows k (λ e. wanting (union e.want (opening_wants mode)) e) (λ row is. is) (below-entry t all (is_some (entry_at t k)))
   below-touched t revoked (Want caps) all = All-change IsBelow t.rows k (λ e. wanting (union caps (caps_in (P ∷ []))) e) (λ row is. is) all
-  below-touched t revoked (Ack seq) all = below-acked t revoked all (has revoked P)
-  below-touched t revoked (Release caps) all = below-released t caps all (has caps P)
+  below-touched t revoked (Ack seq) all = below-less t (taken revoked) (λ e. refl) all (has revoked P)
+  below-touched t revoked (Release caps) all = below-less t (given_back caps) (λ e. refl) all (has caps P)
 
   made-entry : (t : Table) → t.made ≤ count → (b : Bool) → (cond b t (opened t k)).made ≤ count + 1
   made-entry t made true = omega (arith, made)
   made-entry t made false = omega (arith, made)
 
-  made-released : (t : Table) (caps : Caps) → t.made ≤ count → (b : Bool) → (cond b (without t k) (changed t k (given_back caps))).made ≤ count + 1
-  made-released t caps made true = omega (arith, made)
-  made-released t caps made false = omega (arith, made)
-
-  made-acked : (t : Table) (caps : Caps) → t.made ≤ count → (b : Bool) → (cond b (without t k) (changed t k (taken caps))).made ≤ count + 1
-  made-acked t caps made true = omega (arith, made)
-  made-acked t caps made false = omega (arith, made)
+  made-less : (t : Table) (f : Entry → Entry) → t.made ≤ count → (b : Bool) → (cond b (without t k) (changed t k f)).made ≤ count + 1
+  made-less t f made true = omega (arith, made)
+  made-less t f made false = omega (arith, made)
 
   pub made-touched : (t : Table) (revoked : Caps) (touch : Touch) → t.made ≤ count → (touched_table t k revoked touch).made ≤ count + 1
   made-touched t revoked (Open mode) made = made-entry t made (is_some (entry_at t k))
   made-touched t revoked (Want caps) made = omega (arith, made)
-  made-touched t revoked (Ack seq) made = made-acked t revoked made (has revoked P)
-  made-touched t revoked (Release caps) made = made-released t caps made (has caps P)
+  made-touched t revoked (Ack seq) made = made-less t (taken revoked) made (has revoked P)
+  made-touched t revoked (Release caps) made = made-less t (given_back caps) made (has caps P)
 
 -- ---- sets of capabilities
-
-and_true : (a b : Bool) → IsTrue a → IsTrue b → IsTrue (a && b)
-and_true true b p q = q
-and_true false b p q = p
-
-or_right : (a b : Bool) → IsTrue b → IsTrue (a || b)
-or_right true b p = refl
-or_right false b p = p
 
 in-union_left : (a b : Caps) → has a P ≡ true → has (union a b) P ≡ true
 in-union_left a b is = has-union a b P ∙ ap (λ x. x || has b P) is
@@ -222,19 +207,16 @@ in-union_left a b is = has-union a b P ∙ ap (λ x. x || has b P) is
 in-union_right : (a b : Caps) → has b P ≡ true → has (union a b) P ≡ true
 in-union_right a b is = has-union a b P ∙ or_right (has a P) (has b P) is
 
-out-union : (a b : Caps) → has a P ≡ false → has b P ≡ false → has (union a b) P ≡ false
-out-union a b first second = has-union a b P ∙ ap (λ x. x || has b P) first ∙ second
-
 minus-less : (a b : Caps) → IsSubset (minus a b) a
 minus-less a b c in_it = (and_parts (has a c) (not (has b c)) (sym (has-minus a b c) ∙ in_it)).0
 
 in-minus : (a b : Caps) → has b P ≡ false → has a P ≡ true → has (minus a b) P ≡ true
-in-minus a b out is = has-minus a b P ∙ and_true (has a P) (not (has b P)) is (ap not out)
+in-minus a b out is = has-minus a b P ∙ and_from (has a P) (not (has b P)) is (ap not out)
 
 part-less : (part : Part) (a b : Caps) → IsSubset a b → IsSubset (of_part part a) (of_part part b)
 part-less part a b less c in_it =
     let both = and_parts (has a c) (covers c part) (sym (has-of_part part a c) ∙ in_it) in
-    has-of_part part b c ∙ and_true (has b c) (covers c part) (less c both.0) both.1
+    has-of_part part b c ∙ and_from (has b c) (covers c part) (less c both.0) both.1
 
 part-none : (part : Part) (more : Caps) → IsSubset (of_part part no_caps) more
 part-none part more c in_it = absurd (true≢false (sym in_it ∙ has-of_part part no_caps c ∙ ap (λ b. b && covers c part) (has-none c)))
@@ -354,24 +336,20 @@ module _ (s : Scene) (k : Holder) where
       All-change IsKept rows k (λ e. wanting (f e.want) e)
       (λ row was. less-kept s row (wanting (f row.entry.want) row.entry) (λ c held. held) was.holds_pin (keeps row.entry.want was.wants_pin) refl refl refl was) all
 
-  -- where something is taken, but not the pin
-  taken-kept : (rows : List EntryRow) (caps : Caps) → has caps P ≡ false → All IsKept rows → All IsKept (change_rows rows k (taken caps))
-  taken-kept rows caps no_pin all =
-      All-change IsKept rows k (taken caps)
-      (λ row was. less-kept s row (taken caps row.entry) (minus-less row.entry.held caps) (in-minus row.entry.held caps no_pin was.holds_pin) was.wants_pin refl refl refl was) all
+  -- where these are held no more, and wanted no more than this makes of it; with the pin the entry goes
+  lost-kept : (t : Table) (caps : Caps) (wanted : Caps → Caps) → ((want : Caps) → has caps P ≡ false → has want P ≡ true → has (wanted want) P ≡ true) → (b : Bool) → has caps P ≡ b → All IsKept t.rows
+      → All IsKept (cond b (without t k) (changed t k (λ e. record e { held = minus e.held caps; want = wanted e.want }))).rows
+  lost-kept t caps wanted keeps true pin all = All-filter (λ row. not (is_row_of k row)) IsKept t.rows all
+  lost-kept t caps wanted keeps false no_pin all =
+      All-change IsKept t.rows k (λ e. record e { held = minus e.held caps; want = wanted e.want })
+      (λ row was. less-kept s row (record row.entry { held = minus row.entry.held caps; want = wanted row.entry.want }) (minus-less row.entry.held caps) (in-minus row.entry.held caps no_pin was.holds_pin)
+      (keeps row.entry.want no_pin was.wants_pin) refl refl refl was) all
 
-  -- where something is taken, and with the pin the entry goes
-  acked-kept : (t : Table) (caps : Caps) (b : Bool) → has caps P ≡ b → All IsKept t.rows → All IsKept (cond b (without t k) (changed t k (taken caps))).rows
-  acked-kept t caps true pin all = All-filter (λ row. not (is_row_of k row)) IsKept t.rows all
-  acked-kept t caps false no_pin all = taken-kept t.rows caps no_pin all
+  acked-kept : (t : Table) (caps : Caps) → All IsKept t.rows → All IsKept (acked t k caps).rows
+  acked-kept t caps = lost-kept t caps (λ want. want) (λ want no_pin is. is) (has caps P) refl
 
-  -- where something is given back
-  released-kept : (t : Table) (caps : Caps) (b : Bool) → has caps P ≡ b → All IsKept t.rows → All IsKept (cond b (without t k) (changed t k (given_back caps))).rows
-  released-kept t caps true pin all = All-filter (λ row. not (is_row_of k row)) IsKept t.rows all
-  released-kept t caps false no_pin all =
-      All-change IsKept t.rows k (given_back caps)
-      (λ row was. less-kept s row (given_back caps row.entry) (minus-less row.entry.held caps) (in-minus row.entry.held caps no_pin was.holds_pin)
-      (in-minus row.entry.want caps no_pin was.wants_pin) refl refl refl was) all
+  released-kept : (t : Table) (caps : Caps) → All IsKept t.rows → All IsKept (released t k caps).rows
+  released-kept t caps = lost-kept t caps (λ want. minus want caps) (λ want. in-minus want caps) (has caps P) refl
 
 -- ---- an entry that an opening makes
 
@@ -388,7 +366,7 @@ module _ (s : Scene) (client : ClientId) (ino : Ino) (asked : first_failing (ask
   both = passed-both (session_tests s.sessions client.0) (inode_tests s.tree ino.0) asked
 
   pub asked-session : has_session s.sessions client.0 ≡ true
-  asked-session = not_false (has_session s.sessions client.0) (passed-if _ refusal.NoSession _ both.0).0
+  asked-session = not-false (has_session s.sessions client.0) (passed-if _ refusal.NoSession _ both.0).0
 
   asked-open : is_open_status (status_of s.sessions client.0) ≡ true
   asked-open =
@@ -420,7 +398,7 @@ module _ (s : Scene) (client : ClientId) (ino : Ino) (asked : first_failing (ask
       pin_due =
           ap (λ b. has (cond b (meet want (permitted s.fs s.tree s.sessions (holder client ino))) no_caps) P) asked-open
           ∙ has-meet want (permitted s.fs s.tree s.sessions (holder client ino)) P
-          ∙ and_true _ _ wanted may
+          ∙ and_from _ _ wanted may
 
 -- ---- the entries, as the event leaves them
 
@@ -477,8 +455,8 @@ module _ (old : State) (client : ClientId) (ino : Ino) (sound : IsSound old) (ta
   left-touched (Open mode) new free = left-opening mode new (opening-pin old.scene client ino mode free) (before-passed old.scene (event.Open client ino mode) free) (entry_at t k) refl
   left-touched (Want caps) new free =
       left new _ (want-kept old.scene k t.rows (λ want. union caps (caps_in (P ∷ []))) (λ want is. in-union_right caps (caps_in (P ∷ [])) (has-caps_in (P ∷ []) P)) all_kept)
-  left-touched (Ack seq) new free = left new _ (acked-kept old.scene k t (revoked_of old.scene k) (has (revoked_of old.scene k) P) refl all_kept)
-  left-touched (Release caps) new free = left new _ (released-kept old.scene k t caps (has caps P) refl all_kept)
+  left-touched (Ack seq) new free = left new _ (acked-kept old.scene k t (revoked_of old.scene k) all_kept)
+  left-touched (Release caps) new free = left new _ (released-kept old.scene k t caps all_kept)
 
   -- ---- who waits
 
@@ -495,8 +473,8 @@ module _ (old : State) (client : ClientId) (ino : Ino) (sound : IsSound old) (ta
           ∙ any-entry (λ r. not (is_empty (outside part to r))) (is_of_inode (record { 0 = i })) t k is
   calm-touched (Want caps) row inside none =
       absurd (pinned _ (want-kept old.scene k t.rows (λ want. union caps (caps_in (P ∷ []))) (λ want is. in-union_right caps (caps_in (P ∷ [])) (has-caps_in (P ∷ []) P)) all_kept) row inside none)
-  calm-touched (Ack seq) row inside none = absurd (pinned _ (acked-kept old.scene k t (revoked_of old.scene k) (has (revoked_of old.scene k) P) refl all_kept) row inside none)
-  calm-touched (Release caps) row inside none = absurd (pinned _ (released-kept old.scene k t caps (has caps P) refl all_kept) row inside none)
+  calm-touched (Ack seq) row inside none = absurd (pinned _ (acked-kept old.scene k t (revoked_of old.scene k) all_kept) row inside none)
+  calm-touched (Release caps) row inside none = absurd (pinned _ (released-kept old.scene k t caps all_kept) row inside none)
 
 -- ---- the event
 

@@ -1,6 +1,6 @@
 use Rattle.std.proofs.Common.{◌≢◌, sym, ◌∙◌, eq-eqb, true≢false}
 use Rattle.capacts.proofs.InoSets.{widens-tried}
-use Rattle.capsteps.proofs.Reaching.{touched-tried}
+use Rattle.capsteps.proofs.Among.{touched-tried}
 use Rattle.capsteps.proofs.client.add_other.Goals as goal
 
 pub returns-clause-widens : goal.returns-clause-widens

@@ -1,5 +1,5 @@
 use Rattle.capacts.proofs.InoSets.{widens-then}
-use Rattle.capsteps.proofs.Reaching.{touched-still, none-of_it}
+use Rattle.capsteps.proofs.Among.{touched-still, none-of_it}
 use Rattle.capsteps.proofs.client.reach_client.Goals as goal
 
 pub returns : goal.returns

@@ -1,7 +1,7 @@
 use Rattle.std.proofs.Common.{Contains, length}
 use Rattle.captable.specs.declared.entry.EntryRow.{EntryRow}
 use Rattle.capacts.specs.Reach.{Widens}
-use Rattle.capsteps.proofs.Reaching.{AreReached}
+use Rattle.capsteps.proofs.Among.{AreReached}
 use Rattle.capsteps.proofs.client.reach_entries.Given as goal
 
 abbrev pub decreases-rows : goal.decreases-rows

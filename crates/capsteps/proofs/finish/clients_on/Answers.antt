@@ -3,7 +3,7 @@ use Rattle.std.proofs.lemmas.List.{length-map}
 use Rattle.captable.specs.declared.entry.EntryRow.{EntryRow}
 use Rattle.captable.specs.Calls.{entries_on}
 use Rattle.capacts.specs.Finishing.{clients_of}
-use Rattle.capsteps.proofs.Counting.{few-entries}
+use Rattle.capsteps.proofs.AtEnd.{few-entries}
 use Rattle.capsteps.proofs.finish.clients_on.Goals as goal
 
 -- the client that comes is one of those that have an entry

@@ -1,10 +1,11 @@
-use Rattle.std.proofs.Common.{◌≡◌, ◌<◌, ◌||◌, ◌==◌, ℕ, Bool, true, false, Option, sym, refl, ap, subst, ◌∙◌}
+use Rattle.std.proofs.Common.{◌≡◌, ◌<◌, ◌||◌, ◌==◌, ℕ, true, false, Option, sym, refl, ap, subst, ◌∙◌, true≢false}
 use Rattle.std.specs.Prelude.{IsTrue, All}
 use Rattle.std.specs.FinMap as map
 use Rattle.std.specs.FinSet as set
 use Rattle.std.specs.List.{find}
 use Rattle.std.specs.Option.{unwrap_or}
-use Rattle.std.proofs.lemmas.Bool.{eqb-true}
+use Rattle.std.proofs.Math.Bool.{or_comm}
+use Rattle.std.proofs.lemmas.Bool.{eqb-true, false_from_ne_true}
 use Rattle.std.proofs.lemmas.List.Elements.{All-filter}
 use Rattle.capbits.specs.Caps.{Caps}
 use Rattle.capbits.specs.Sets.{no_caps}
@@ -23,7 +24,7 @@ use Rattle.capacts.specs.Capnotes.InoSets.{InoSet}
 use Rattle.capacts.specs.Known.{known_in, HaveRoom}
 use Rattle.capacts.specs.Reach.{is_touched}
 use Rattle.capsteps.specs.Touching.{forget_at, forget_among}
-use Rattle.capsteps.proofs.AtEnd.{or_turned, entry-alike, forget-all}
+use Rattle.capsteps.proofs.AtEnd.{entry-alike, forget-all}
 use Rattle.capacts.proofs.KeptSets.{kept-as, kept-same, kept-then, kept-not, found-stays, room-still}
 use Rattle.capsteps.proofs.ManyInodes.{changed-twice_where, entries_on-stay, holders-stay}
 use Rattle.capacts.proofs.Capnotes.Noting.{leads-then}
@@ -46,11 +47,7 @@ finish_entries-requires c =
 
 -- an inode that was touched beside the one is another
 beside : (touched : InoSet) (ino n : ℕ) → set.contains touched ino ≡ false → set.contains touched n ≡ true → (n == ino) ≡ false
-beside touched ino n apart there = by_test (n == ino) refl
-  where
-    by_test : (b : Bool) → (n == ino) ≡ b → b ≡ false
-    by_test false e = refl
-    by_test true e = sym there ∙ ap (set.contains touched) (eqb-true n ino e) ∙ apart
+beside touched ino n apart there = false_from_ne_true (n == ino) (λ is. true≢false (sym there ∙ ap (set.contains touched) (eqb-true n ino is) ∙ apart))
 
 none_here : (touched : InoSet) (ino n : ℕ) → set.contains touched ino ≡ false → (n == ino) ≡ true → set.contains touched n ≡ false
 none_here touched ino n apart is = ap (set.contains touched) (eqb-true n ino is) ∙ apart
@@ -72,7 +69,7 @@ returns-clause-finished c =
     (c.finish_entries.ensures.table
     ∙ ap (changed_where (is_of_inode c.args.ino) h) c.finish_touched.ensures.table
     ∙ changed-twice_where (set.contains touched) (λ n. n == c.args.ino.0) (is_touched c.args.ino.0 touched) g h g (λ n there. beside touched c.args.ino.0 n c.requires.apart there)
-    (λ n. or_turned (set.contains touched n) (n == c.args.ino.0)) (λ row e. refl)
+    (λ n. or_comm (set.contains touched n) (n == c.args.ino.0)) (λ row e. refl)
     (λ row is.
     entry-alike (known_in c.finish_touched.new.known.sets) (known_in c.args.known.now.sets) fs tree sessions c.of_ino-now.result c.args.scene.now.locks.states row
     (ap (λ (o : Option Caps). unwrap_or o no_caps)
@@ -88,7 +85,7 @@ returns-clause-known c =
     let t : Table = c.args.scene.now.table in
     let g : EntryRow → Entry = entry_by (known_in c.args.known.now.sets) fs tree sessions c.args.scene.now.locks.states in
     let f : EntryRow → Caps = told_by fs tree sessions c.args.scene.now.locks.states in
-    kept-same (λ k. set.contains touched k.ino.0 || (k.ino.0 == c.args.ino.0)) (λ k. is_touched c.args.ino.0 touched k.ino.0) f t c.args.known.now.sets c.finish_entries.new.known.sets (λ k. or_turned (set.contains touched k.ino.0) (k.ino.0 == c.args.ino.0))
+    kept-same (λ k. set.contains touched k.ino.0 || (k.ino.0 == c.args.ino.0)) (λ k. is_touched c.args.ino.0 touched k.ino.0) f t c.args.known.now.sets c.finish_entries.new.known.sets (λ k. or_comm (set.contains touched k.ino.0) (k.ino.0 == c.args.ino.0))
     (kept-then (λ k. set.contains touched k.ino.0) (λ k. k.ino.0 == c.args.ino.0) f t c.finish_touched.new.table c.args.known.now.sets c.finish_touched.new.known.sets c.finish_entries.new.known.sets c.finish_touched.ensures.known
     (kept-as (λ k. k.ino.0 == c.args.ino.0) (told_at fs tree sessions c.of_ino-now.result) f c.finish_touched.new.table c.finish_touched.new.known.sets c.finish_entries.new.known.sets
     (λ row is. ap (λ (o : Option InodeLocks). told_at fs tree sessions o row) (c.of_ino-now.ensures ∙ sym (ap (map.get c.args.scene.now.locks.states) (eqb-true row.holder.ino.0 c.args.ino.0 is))))

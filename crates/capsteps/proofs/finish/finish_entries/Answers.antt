@@ -19,8 +19,7 @@ use Rattle.captable.proofs.OneByOne.{fold-on_inode}
 use Rattle.captable.proofs.Tables.{same-is}
 use Rattle.capacts.specs.Finishing.{told_at, due_under, numbered_as, entry_under}
 use Rattle.capacts.specs.Known.{kept_of, known_in}
-use Rattle.capsteps.proofs.AtEnd.{entry-on, yet-unchanged}
-use Rattle.capsteps.proofs.Counting.{named, named-clients, distinct-on}
+use Rattle.capsteps.proofs.AtEnd.{entry-on, yet-unchanged, named, named-clients, distinct-on}
 use Rattle.capacts.proofs.KeptSets.{kept-same, kept-then, kept-not, kept-on, kept-nobody, found-as, not-yet, room-of}
 use Rattle.capsteps.proofs.finish.finish_entries.Goals as goal
 

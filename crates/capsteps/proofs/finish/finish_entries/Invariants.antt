@@ -4,7 +4,7 @@ use Rattle.captable.specs.Table.{is_among}
 use Rattle.captable.specs.Many.{changed_by}
 use Rattle.capacts.specs.Finishing.{told_at, entry_under}
 use Rattle.capacts.specs.Known.{known_in, KeptAnew}
-use Rattle.capsteps.proofs.Counting.{named}
+use Rattle.capsteps.proofs.AtEnd.{named}
 use Rattle.capsteps.proofs.finish.finish_entries.Given as goal
 
 abbrev pub invariant-loop-number : goal.invariant-loop-number

@@ -1,20 +1,21 @@
-use Rattle.std.proofs.Common.{◌==◌, List, [], ap, subst, ◌∙◌, arith}
+use Rattle.std.proofs.Common.{◌==◌, ℕ, Bool, List, [], sym, ap, subst, ◌∙◌, arith}
 use Rattle.std.specs.FinSet as set
 use Rattle.std.specs.Ordering.{nat_cmp}
 use Rattle.capbits.specs.declared.ids.Ino.{Ino}
 use Rattle.capacts.specs.Lockmachine.declared.scene.Scene.{Scene}
 use Rattle.capacts.specs.Capnotes.InoSets.{InoSet}
 use Rattle.capacts.specs.Reach.{is_touched}
-use Rattle.capsteps.specs.Begun.{MayEnd}
-use Rattle.capsteps.specs.Serves.{EndsAt}
-use Rattle.capsteps.proofs.Among.{settles-among, ends-one}
+use Rattle.capsteps.specs.Begun.{MayEnd, MaySettle}
+use Rattle.capsteps.specs.Serves.{EndsAt, EndsWith}
+use Rattle.capsteps.proofs.Among.{touched-alone}
 use Rattle.capacts.proofs.InoSets.{none-there}
 use Rattle.capsteps.proofs.NobodyServed.{others-still, settled-ends, settled-keeps, settles-alone}
 use Rattle.capacts.proofs.Capnotes.Noting.{leads-then}
 use Rattle.capsteps.proofs.settle.end_at_entry.Goals as goal
 
 pub settle-touched-requires-clause-settles : goal.settle-touched-requires-clause-settles
-settle-touched-requires-clause-settles c = settles-among c.args.holder.ino.0 c.new-others.result c.args.scene.now c.requires.settles
+settle-touched-requires-clause-settles c =
+    subst (λ (from : ℕ → Bool). MaySettle from c.args.scene.now) (sym (touched-alone c.args.holder.ino.0 c.new-others.result c.new-others.ensures)) c.requires.settles
 
 pub settle-touched-requires-clause-apart : goal.settle-touched-requires-clause-apart
 settle-touched-requires-clause-apart c = ap (λ (inos : InoSet). set.contains inos c.args.holder.ino.0) c.new-others.ensures ∙ none-there c.args.holder.ino.0
@@ -65,7 +66,7 @@ returns-clause-ends c =
     let first : Scene = c.args.scene.now in
     let settled : Scene = c.settle-touched.new.scene in
     let last : Scene = c.end_settled.new.scene in
-    ends-one ino c.new-others.result c.args.known.now.sets c.end_settled.new.known.sets first last c.settle-touched.new.endings.told.items
+    subst (λ (from : ℕ → Bool). EndsWith from c.args.known.now.sets c.end_settled.new.known.sets first last c.settle-touched.new.endings.told.items) (touched-alone ino c.new-others.result c.new-others.ensures)
     (settled-ends at (is_touched ino c.new-others.result) c.args.known.now.sets c.end_settled.new.known.sets first settled last
     c.settle-touched.new.endings.told.items c.settle-touched.new.endings.sized.items c.settle-touched.ensures.settles c.requires.settles.tree
     (subst (λ (sized : List Ino). EndsAt at sized c.args.known.now.sets c.end_settled.new.known.sets settled last) c.as_slice.ensures.value c.end_settled.ensures.ends))

@@ -1,8 +1,8 @@
-use Rattle.std.proofs.Common.{◌≡◌, ◌<◌, ◌≤◌, ◌+◌, ◌++◌, ◌∷◌, [], ℕ, Bool, true, false, cond, ◌&&◌, length, List, Option, Some, None, Contains, sym, ap, subst, ◌∙◌, arith}
+use Rattle.std.proofs.Common.{◌≡◌, ◌<◌, ◌≤◌, ◌+◌, ◌++◌, ◌∷◌, [], ℕ, Bool, true, false, cond, ◌&&◌, length, List, Option, Some, None, Contains, sym, ap, subst, ◌∙◌, arith, inl, inr}
 use Rattle.std.specs.List.{filter_map}
 use Rattle.std.proofs.lemmas.List.{length-append}
 use Rattle.capbits.specs.declared.ids.Ino.{Ino}
-use Rattle.inotree.specs.Tree.{IsTree}
+use Rattle.inotree.specs.Tree.{IsTree, Nodes}
 use Rattle.captable.specs.Table.{Table}
 use Rattle.capacts.specs.Lockmachine.declared.request.Request.{Request}
 use Rattle.capacts.specs.Lockmachine.declared.moves.Move.TheVariants.{Serve}
@@ -15,7 +15,7 @@ use Rattle.capacts.specs.Capevents.declared.outcome.Ended.{Ended}
 use Rattle.capacts.specs.Capevents.declared.outcome.Outcome.{Outcome}
 use Rattle.capacts.specs.declared.sweep.SweepPlace.{SweepPlace}
 use Rattle.capacts.specs.Capnotes.Noted.{LeadOn}
-use Rattle.capacts.specs.Reach.{is_touched, AreWalked, Reaches}
+use Rattle.capacts.specs.Reach.{is_touched, AreWalked, Reaches, Covers}
 use Rattle.capsteps.specs.Serves.{Serves}
 use Rattle.capacts.specs.Caprules.Settle.{Served, sets_size, is_done, sized_in}
 use Rattle.capsteps.specs.Sweep.{GoesOn, GoesOnBehind, IsSwept, StandsAt}
@@ -24,10 +24,28 @@ use Rattle.capsteps.specs.Judged.{IsJudged}
 use Rattle.capsteps.proofs.Judged.{none-judged, still-judged}
 use Rattle.capsteps.proofs.Moved.{moved-all, tree-moved}
 use Rattle.capsteps.proofs.SoFar.{IsSoFar, so-far-begins, so-far-served, so-far-settled, so-far-swept, stands-behind, stands-first, turn-of_least}
+use Rattle.capsteps.proofs.OneChange.{within-after}
 use Rattle.capacts.proofs.Walked.{none-walked}
-use Rattle.capsteps.proofs.WalkedStill.{walked-served}
+use Rattle.capacts.specs.Capnotes.InoSets.{InoSet}
+use Rattle.capacts.specs.Capnotes.Changing.{tree_after}
 use Rattle.capsteps.proofs.settle.settle.Goals as goal
 use Rattle.capsteps.proofs.settle.settle.Goals.{In-Some, After-place_behind-place}
+
+-- What a rename walked over in a step is touched until its end.
+
+-- when a request was served, what was walked over is touched still: the serving left the tree, or moved nothing but what is touched
+walked-served : (tree after : Nodes) (q : Request) (o : Outcome) (ino : ℕ) (table : Table) (walked touched others : InoSet) → after ≡ tree_after tree q o
+    → Reaches q ino tree after table touched others → AreWalked walked ino tree table others → AreWalked walked ino after table others
+walked-served tree after q o ino table walked touched others is reaches all = elim reaches.covers [
+  | inl same ↦ subst (λ (t : Nodes). AreWalked walked ino t table others) (sym same) all
+  | inr covers ↦ subst (λ (t : Nodes). AreWalked walked ino t table others) (sym is) (by_move covers)
+]
+  where
+    by_move : Covers q ino tree table others → AreWalked walked ino (tree_after tree q o) table others
+    by_move covers above there row among apart below = elim (within-after tree q o row.holder.ino.0 above below) [
+      | inl lay ↦ all above there row among apart lay
+      | inr moved ↦ covers moved.0 row among apart moved.1
+    ]
 
 pub end_gathers-requires : goal.end_gathers-requires
 end_gathers-requires c =

@@ -8,7 +8,7 @@ use Rattle.captable.specs.Calls.{entries_on}
 use Rattle.captable.specs.Many.{changed_by}
 use Rattle.captable.proofs.OneByOne.{fold-on_inode}
 use Rattle.capacts.specs.Caprules.Finish.{owed}
-use Rattle.capsteps.proofs.Counting.{named, named-clients}
+use Rattle.capsteps.proofs.AtEnd.{named, named-clients}
 use Rattle.capsteps.proofs.sizes.owe_on.Goals as goal
 
 pub loop-number-preserved : goal.loop-number-preserved

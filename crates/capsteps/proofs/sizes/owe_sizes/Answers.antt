@@ -1,15 +1,58 @@
-use Rattle.std.proofs.Common.{◌≡◌, ◌+◌, ◌++◌, List, [], ◌∷◌, take, get_or, sym, ap, subst, ◌∙◌}
+use Rattle.std.proofs.Common.{◌≡◌, ◌+◌, ◌++◌, List, [], ◌∷◌, take, get_or, sym, ap, subst, ◌∙◌, Bool, true, false, cond, ◌||◌, map, refl}
 use Rattle.std.specs.Prelude.{IsTrue, All}
-use Rattle.std.proofs.lemmas.List.{take_more, take_all}
+use Rattle.std.proofs.lemmas.List.{take_more, take_all, map-id}
+use Rattle.std.proofs.lemmas.List.Folds.{list_any-append}
 use Rattle.capbits.specs.declared.ids.Ino.{Ino}
+use Rattle.capbits.specs.declared.cap.Cap.TheVariants.{Fc}
+use Rattle.capbits.specs.Caps.{has}
 use Rattle.sessiontab.specs.Calls.{has_session}
 use Rattle.captable.specs.Table.{Table}
-use Rattle.captable.specs.Calls.{is_of_inode}
-use Rattle.captable.specs.Many.{changed_where}
+use Rattle.captable.specs.Calls.{is_of_inode, with_size_due}
+use Rattle.captable.specs.Many.{changed_where, remade}
+use Rattle.captable.specs.declared.entry.Entry.{Entry}
+use Rattle.captable.specs.declared.entry.EntryRow.{EntryRow}
 use Rattle.capacts.specs.Caprules.Finish.{is_sized, owed}
 use Rattle.capsteps.proofs.ManyInodes.{holders-stay}
-use Rattle.capsteps.proofs.Owing.{none-owed, more-owed}
 use Rattle.capsteps.proofs.sizes.owe_sizes.Goals as goal
+
+-- Entries on several inodes that are to be told a size, one inode after another: as all at once, since being told twice is being told.
+
+none-owed : (t : Table) → t ≡ changed_where (is_sized []) owed t
+none-owed t = ap (λ (rows : List EntryRow). record t { rows = rows }) (sym (map-id t.rows))
+
+-- an entry that is to be told the size stays so
+owed_twice : (row : EntryRow) → owed (remade owed row) ≡ owed row
+owed_twice row = by_held (has row.entry.held Fc) refl
+  where
+    by_held : (h : Bool) → has row.entry.held Fc ≡ h → owed (record row { entry = cond h (with_size_due true row.entry) row.entry }) ≡ cond h (with_size_due true row.entry) row.entry
+    by_held true is = ap (λ b. cond b (with_size_due true row.entry) (with_size_due true row.entry)) is
+    by_held false is = ap (λ b. cond b (with_size_due true row.entry) row.entry) is
+
+one_more : (row : EntryRow) (b c : Bool) → cond c (remade owed (cond b (remade owed row) row)) (cond b (remade owed row) row) ≡ cond (b || (c || false)) (remade owed row) row
+one_more row true true = ap (λ (e : Entry). record row { entry = e }) (owed_twice row)
+one_more row true false = refl
+one_more row false true = refl
+one_more row false false = refl
+
+same_inode : (ino : Ino) (row : EntryRow) (b : Bool) → is_of_inode ino (cond b (remade owed row) row) ≡ is_of_inode ino row
+same_inode ino row true = refl
+same_inode ino row false = refl
+
+each_row : (done : List Ino) (ino : Ino) (row : EntryRow)
+    → cond (is_of_inode ino (cond (is_sized done row) (remade owed row) row)) (remade owed (cond (is_sized done row) (remade owed row) row)) (cond (is_sized done row) (remade owed row) row)
+    ≡ cond (is_sized (done ++ ino ∷ []) row) (remade owed row) row
+each_row done ino row =
+    ap (λ b. cond b (remade owed (cond (is_sized done row) (remade owed row) row)) (cond (is_sized done row) (remade owed row) row)) (same_inode ino row (is_sized done row))
+    ∙ one_more row (is_sized done row) (is_of_inode ino row)
+    ∙ ap (λ b. cond b (remade owed row) row) (sym (list_any-append (λ ino. is_of_inode ino row) done (ino ∷ [])))
+
+more-owed : (done : List Ino) (ino : Ino) (t : Table) → changed_where (is_of_inode ino) owed (changed_where (is_sized done) owed t) ≡ changed_where (is_sized (done ++ ino ∷ [])) owed t
+more-owed done ino t = ap (λ (rows : List EntryRow). record t { rows = rows }) (all t.rows)
+  where
+    all : (rows : List EntryRow) → map (λ row. cond (is_of_inode ino row) (remade owed row) row) (map (λ row. cond (is_sized done row) (remade owed row) row) rows)
+        ≡ map (λ row. cond (is_sized (done ++ ino ∷ []) row) (remade owed row) row) rows
+    all [] = refl
+    all (row ∷ rows) = λ i. each_row done ino row i ∷ all rows i
 
 pub loop-ino-init : goal.loop-ino-init
 loop-ino-init c = record { owes = none-owed c.args.table.now; clients = c.requires }

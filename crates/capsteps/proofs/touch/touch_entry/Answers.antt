@@ -6,7 +6,7 @@ use Rattle.captable.specs.Calls.{taken, given_back, wanting}
 use Rattle.capacts.specs.Caprules.Direct.{with_want}
 use Rattle.capsteps.specs.Touch.{touched_table}
 use Rattle.capsteps.proofs.Knowing.{still-there}
-use Rattle.capsteps.proofs.TouchKept.{WasThere, there-changed, there-cond}
+use Rattle.capsteps.proofs.TouchKept.{WasThere, there-changed}
 use Rattle.capsteps.proofs.touch.touch_entry.Goals as goal
 
 pub returns-in-Want-clause-ok : goal.returns-in-Want-clause-ok
@@ -17,15 +17,15 @@ returns-in-Want-clause-ok c =
 
 pub returns-in-Want-clause-known : goal.returns-in-Want-clause-known
 returns-in-Want-clause-known c =
-    let was : WasThere c.args.table.now c.want.new.table = subst (WasThere c.args.table.now) (sym c.want.ensures) (there-changed c.args.table.now c.args.holder (λ e. wanting c.union.result e)) in
+    let was : WasThere c.args.table.now c.want.new.table = subst (WasThere c.args.table.now) (sym c.want.ensures) (there-changed false c.args.table.now c.args.holder (λ e. wanting c.union.result e)) in
     still-there c.args.table.now c.want.new.table c.args.known.now.sets c.args.known.now.sets (λ k e there. ap is_some (was k e there).1) (λ k e there. refl)
 
 pub returns-in-Ack-clause-known : goal.returns-in-Ack-clause-known
 returns-in-Ack-clause-known c =
-    let was : WasThere c.args.table.now c.ack_tested.new.self = subst (WasThere c.args.table.now) (sym c.ack_tested.ensures) (there-cond (has c.args.revoked P) c.args.table.now c.args.holder (taken c.args.revoked)) in
+    let was : WasThere c.args.table.now c.ack_tested.new.self = subst (WasThere c.args.table.now) (sym c.ack_tested.ensures) (there-changed (has c.args.revoked P) c.args.table.now c.args.holder (taken c.args.revoked)) in
     still-there c.args.table.now c.ack_tested.new.self c.args.known.now.sets c.remove_unheld.new.self.sets (λ k e there. ap is_some (was k e there).1) c.remove_unheld.ensures
 
 pub returns-in-Release-clause-known : goal.returns-in-Release-clause-known
 returns-in-Release-clause-known c =
-    let was : WasThere c.args.table.now c.release_tested.new.self = subst (WasThere c.args.table.now) (sym c.release_tested.ensures) (there-cond (has c.in-Release.caps P) c.args.table.now c.args.holder (given_back c.in-Release.caps)) in
+    let was : WasThere c.args.table.now c.release_tested.new.self = subst (WasThere c.args.table.now) (sym c.release_tested.ensures) (there-changed (has c.in-Release.caps P) c.args.table.now c.args.holder (given_back c.in-Release.caps)) in
     still-there c.args.table.now c.release_tested.new.self c.args.known.now.sets c.remove_unheld-in-Release.new.self.sets (λ k e there. ap is_some (was k e there).1) c.remove_unheld-in-Release.ensures
