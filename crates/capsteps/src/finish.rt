@@ -269,21 +269,11 @@ pub fn show(table: &mut CapTable, known: &Known, holder: Holder) -> Reply
         → result ≡ opened_as s (find (is_row_of holder) table.old.rows) }
     ensures told { table.new ≡ changed table.old holder told }
 {
-    let reply = opened(table, known, holder);
-    table.tell(holder.client, holder.ino);
-    reply
-}
-
-// What the holder's client is to know that it holds.
-fn opened(table: &CapTable, known: &Known, holder: Holder) -> Reply
-    ensures { (s : Scene) → s.table ≡ table.now → AreKnown known.now.sets s
-        → result ≡ opened_as s (find (is_row_of holder) table.now.rows) }
-{
-    let Some(entry) = table.find(holder.client, holder.ino) else {
-        return Reply::Done;
-    };
-    Reply::Opened {
-        seq: entry.seq,
-        caps: known.of(holder),
+    match table.tell(holder.client, holder.ino) {
+        Some(entry) => Reply::Opened {
+            seq: entry.seq,
+            caps: known.of(holder),
+        },
+        None => Reply::Done,
     }
 }

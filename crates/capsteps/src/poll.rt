@@ -168,7 +168,9 @@ fn give_one(table: &mut CapTable, client: ClientId, message: &Message)
     ensures { table.new ≡ changed_where (is_of_client client) (after_messages (message.now ∷ [])) table.old }
 {
     match message {
-        Message::Caps { ino, .. } => table.tell(client, *ino),
+        Message::Caps { ino, .. } => {
+            let _entry = table.tell(client, *ino);
+        }
         Message::Size { ino, .. } => table.tell_size(client, *ino),
         Message::Recall { ino } => table.ask(client, *ino, false),
         Message::Ended { .. } => {}

@@ -27,10 +27,6 @@ change_same (r ∷ rows) k e x f some is =
 pub put_found : (t : Table) (k : Holder) (e x : Entry) (f : Entry → Entry) → entry_at t k ≡ Some e → x ≡ f e → changed t k (λ _. x) ≡ changed t k f
 put_found t k e x f some is = ap (λ (rows : List EntryRow). record t { rows = rows }) (change_same t.rows k e x f some is)
 
--- so it has where the table was looked at before
-pub put_after : (t u : Table) (k : Holder) (e x : Entry) (f : Entry → Entry) → u ≡ t → entry_at t k ≡ Some e → x ≡ f e → changed u k (λ _. x) ≡ changed t k f
-put_after t u k e x f same some is = ap (λ v. changed v k (λ _. x)) same ∙ put_found t k e x f some is
-
 -- where two changes make the same of the holder's entry, they are the same change
 pub same_found : (t : Table) (k : Holder) (e : Entry) (f g : Entry → Entry) → entry_at t k ≡ Some e → f e ≡ g e → changed t k f ≡ changed t k g
 same_found t k e f g some is = sym (put_found t k e (f e) f some refl) ∙ put_found t k e (f e) g some is

@@ -1,6 +1,7 @@
 pub mod Table
 pub mod Calls
 pub mod Codes
+pub mod Edits
 pub mod Kept
 pub mod Many
 pub mod Nodes

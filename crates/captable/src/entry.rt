@@ -1,7 +1,8 @@
 //! What the table keeps of one client on one inode.
 
-ghost use Rattle.std.specs.Prelude.{◌≡◌, ◌<◌, ◌^◌, ◌-◌};
+ghost use Rattle.std.specs.Prelude.{◌≡◌, ◌<◌, ◌^◌, ◌-◌, true};
 ghost use Rattle.captable.specs.Calls as words;
+ghost use Rattle.captable.specs.Edits.{edited, is_numbering};
 
 use capbits::{CapSet, ClientId, Ino};
 
@@ -53,6 +54,36 @@ pub struct Slot {
     pub number: u64,
 }
 
+// A change of an entry.
+#[derive(Clone, Copy)]
+pub(crate) enum Edit {
+    // The client wants these.
+    Want(CapSet),
+    // It holds these too.
+    Issue(CapSet),
+    // It holds these no more.
+    Take(CapSet),
+    // It neither holds nor wants these.
+    GiveBack(CapSet),
+    // What it is to know of changed.
+    Renumber {
+        before: CapSet,
+        after: CapSet,
+    },
+    // It holds these too, and what it is to know of changed.
+    IssueNumbered {
+        caps: CapSet,
+        before: CapSet,
+        after: CapSet,
+    },
+    // It was told of the last change.
+    Tell,
+    // Whether it is asked.
+    Ask(bool),
+    // Whether it is to be told the size.
+    OweSize(bool),
+}
+
 impl Entry {
     // The entry of a client that opens the inode.
     pub(crate) fn new() -> Entry
@@ -76,37 +107,48 @@ impl Entry {
         self.told_seq < self.seq || self.size_due || self.asked
     }
 
+    // The entry, changed.
+    pub(crate) fn edited(&self, edit: Edit) -> Entry
+        requires { is_numbering edit ≡ true → self.now.seq < 2 ^ 64 - 1 }
+        ensures { result ≡ edited edit self.now }
+    {
+        match edit {
+            Edit::Want(want) => Entry { want, ..*self },
+            Edit::Issue(caps) => self.issued(caps),
+            Edit::Take(caps) => Entry {
+                held: self.held.minus(caps),
+                ..*self
+            },
+            Edit::GiveBack(caps) => Entry {
+                held: self.held.minus(caps),
+                want: self.want.minus(caps),
+                ..*self
+            },
+            Edit::Renumber { before, after } => self.renumbered(before, after),
+            Edit::IssueNumbered {
+                caps,
+                before,
+                after,
+            } => self.issued(caps).renumbered(before, after),
+            Edit::Tell => Entry {
+                told_seq: self.seq,
+                ..*self
+            },
+            Edit::Ask(asked) => Entry { asked, ..*self },
+            Edit::OweSize(size_due) => Entry { size_due, ..*self },
+        }
+    }
+
     // The client holds these too.
-    pub(crate) fn issued(&self, caps: CapSet) -> Entry
+    fn issued(&self, caps: CapSet) -> Entry
         ensures { result ≡ words.issued caps self.now }
     {
         let held = self.held.union(caps);
         Entry { held, ..*self }
     }
 
-    // The client holds these no more.
-    pub(crate) fn taken(&self, caps: CapSet) -> Entry
-        ensures { result ≡ words.taken caps self.now }
-    {
-        let held = self.held.minus(caps);
-        Entry { held, ..*self }
-    }
-
-    // The client neither holds nor wants these.
-    pub(crate) fn given_back(&self, caps: CapSet) -> Entry
-        ensures { result ≡ words.given_back caps self.now }
-    {
-        let held = self.held.minus(caps);
-        let want = self.want.minus(caps);
-        Entry {
-            held,
-            want,
-            ..*self
-        }
-    }
-
     // What the client is to know of changed.
-    pub(crate) fn renumbered(&self, before: CapSet, after: CapSet) -> Entry
+    fn renumbered(&self, before: CapSet, after: CapSet) -> Entry
         requires { self.now.seq < 2 ^ 64 - 1 }
         ensures { result ≡ words.renumbered before after self.now }
     {

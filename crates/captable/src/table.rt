@@ -1,7 +1,7 @@
 //! The table of entries.
 ghost use Rattle.std.specs.Prelude.{◌≡◌, ◌<◌, ◌^◌, ◌-◌, true, false, [], ◌∷◌, IfSome, IfOk, OnOk, OnErr, None, length, slice_get, take, filter};
 
-use crate::entry::{Entry, Holder, Slot};
+use crate::entry::{Edit, Entry, Holder, Slot};
 use crate::holders::Holders;
 use crate::nodes::{add_node, holder_at, key_of, remove_node, set_entry, touch_node};
 use crate::places::is_due_at;
@@ -90,6 +90,7 @@ impl CapTable {
     ghost use Rattle.captable.specs.Many.{changed_by, asking};
     ghost use Rattle.capbits.specs.Refusal.{first_failing};
     ghost use Rattle.captable.specs.Tests.{open_tests, open_entry_tests, entry_test, ack_tests, release_tests};
+    ghost use Rattle.captable.specs.Edits.{edited, is_numbering};
     ghost use Rattle.captable.specs.Calls.{opened, with_entry, changed, wanting, issued, acked, renumbered, told, with_asked, with_size_due, released, without, without_client, newer_in, touched, recalled, is_of_client, is_of_inode, is_due};
 
     /// A table without entries, of which none was made yet. No clause can say that the memory for it is there.
@@ -122,17 +123,6 @@ impl CapTable {
         let key = key_of(&self.lists, Holder { client, ino }, self.near)?;
         let node = self.lists.get(key)?;
         Some(node.value.entry)
-    }
-
-    // The same, and the entry is looked at first the next time.
-    fn found(&mut self, client: ClientId, ino: Ino) -> Option<Entry>
-        ensures entry { result ≡ entry_at self.old (holder client ino) }
-        ensures same { self.new ≡ self.old }
-    {
-        let key = key_of(&self.lists, Holder { client, ino }, self.near)?;
-        self.near = key;
-        let found = self.lists.get(key)?;
-        Some(found.value.entry)
     }
 
     /// The same, where the entry is guessed to stand at a place. If it does, it is not searched for.
@@ -301,37 +291,40 @@ impl CapTable {
         Ok(())
     }
 
-    // Gives the holder this entry in place of its own, where it has one.
-    fn put(&mut self, holder: Holder, entry: Entry)
-        ensures { self.new ≡ changed self.old holder (λ _. entry) }
+    // Changes the holder's entry, where it has one, by one search, and answers what it was. It is looked at first the next time.
+    fn edit(&mut self, holder: Holder, edit: Edit) -> Option<Entry>
+        requires { is_numbering edit ≡ true → IfSome (entry_at self.old holder) (λ entry. entry.seq < 2 ^ 64 - 1) }
+        ensures was { result ≡ entry_at self.old holder }
+        ensures changed { self.new ≡ changed self.old holder (edited edit) }
     {
-        if let Some(key) = key_of(&self.lists, holder, self.near) {
-            let was = is_due_at(&self.lists, key);
-            let is = entry.is_due();
-            set_entry(&mut self.lists, key, entry);
-            count_again(&mut self.polls, holder.client, was, is);
-            if is {
-                lower_place(&mut self.polls, &self.lists, holder.client, key);
-            }
+        let key = key_of(&self.lists, holder, self.near)?;
+        let Some(node) = self.lists.get(key) else {
+            unreachable!()
+        };
+        self.near = key;
+        let found = node.value.entry;
+        let entry = found.edited(edit);
+        let is = entry.is_due();
+        set_entry(&mut self.lists, key, entry);
+        count_again(&mut self.polls, holder.client, found.is_due(), is);
+        if is {
+            lower_place(&mut self.polls, &self.lists, holder.client, key);
         }
+        Some(found)
     }
 
     /// The client asks for these capabilities from now on. Where it has no entry, nothing happens.
     pub fn set_want(&mut self, client: ClientId, ino: Ino, want: CapSet)
         ensures { self.new ≡ changed self.old (holder client ino) (wanting want) }
     {
-        if let Some(entry) = self.found(client, ino) {
-            self.put(Holder { client, ino }, Entry { want, ..entry });
-        }
+        let _found = self.edit(Holder { client, ino }, Edit::Want(want));
     }
 
     /// The client holds these capabilities too from now on. Where it has no entry, nothing happens.
     pub fn issue(&mut self, client: ClientId, ino: Ino, caps: CapSet)
         ensures { self.new ≡ changed self.old (holder client ino) (issued caps) }
     {
-        if let Some(entry) = self.found(client, ino) {
-            self.put(Holder { client, ino }, entry.issued(caps));
-        }
+        let _found = self.edit(Holder { client, ino }, Edit::Issue(caps));
     }
 
     /// Takes an acknowledgement, which names the message with the number `seq`: the client gives back the capabilities
@@ -344,8 +337,8 @@ impl CapTable {
         let holder = Holder { client, ino };
         if against.has(Cap::P) {
             self.remove(holder);
-        } else if let Some(entry) = self.found(client, ino) {
-            self.put(holder, entry.taken(against));
+        } else {
+            let _found = self.edit(holder, Edit::Take(against));
         }
     }
 
@@ -356,9 +349,7 @@ impl CapTable {
         requires { IfSome (entry_at self.old (holder client ino)) (λ entry. entry.seq < 2 ^ 64 - 1) }
         ensures { self.new ≡ changed self.old (holder client ino) (renumbered before after) }
     {
-        if let Some(entry) = self.found(client, ino) {
-            self.put(Holder { client, ino }, entry.renumbered(before, after));
-        }
+        let _found = self.edit(Holder { client, ino }, Edit::Renumber { before, after });
     }
 
     /// Issues these capabilities, and then numbers the change of what the client is to know, as `issue` and `renumber` do
@@ -374,29 +365,27 @@ impl CapTable {
         requires { IfSome (entry_at self.old (holder client ino)) (λ entry. entry.seq < 2 ^ 64 - 1) }
         ensures { self.new ≡ changed self.old (holder client ino) (λ entry. renumbered before after (issued caps entry)) }
     {
-        if let Some(entry) = self.found(client, ino) {
-            let issued = entry.issued(caps);
-            self.put(Holder { client, ino }, issued.renumbered(before, after));
-        }
+        let edit = Edit::IssueNumbered {
+            caps,
+            before,
+            after,
+        };
+        let _found = self.edit(Holder { client, ino }, edit);
     }
 
-    /// The client was told of the entry's last change. Where it has no entry, nothing happens.
-    pub fn tell(&mut self, client: ClientId, ino: Ino)
-        ensures { self.new ≡ changed self.old (holder client ino) told }
+    /// The client was told of the entry's last change. Where it has no entry, nothing happens. It answers what the entry was.
+    pub fn tell(&mut self, client: ClientId, ino: Ino) -> Option<Entry>
+        ensures was { result ≡ entry_at self.old (holder client ino) }
+        ensures told { self.new ≡ changed self.old (holder client ino) told }
     {
-        if let Some(entry) = self.found(client, ino) {
-            let told_seq = entry.seq;
-            self.put(Holder { client, ino }, Entry { told_seq, ..entry });
-        }
+        self.edit(Holder { client, ino }, Edit::Tell)
     }
 
     /// Marks the client's entry as asked for capabilities, or as not asked. Where it has no entry, nothing happens.
     pub fn ask(&mut self, client: ClientId, ino: Ino, asked: bool)
         ensures { self.new ≡ changed self.old (holder client ino) (with_asked asked) }
     {
-        if let Some(entry) = self.found(client, ino) {
-            self.put(Holder { client, ino }, Entry { asked, ..entry });
-        }
+        let _found = self.edit(Holder { client, ino }, Edit::Ask(asked));
     }
 
     /// The client is to be told the inode's size, in a message that is due from now on. Where it has no entry, nothing
@@ -404,20 +393,14 @@ impl CapTable {
     pub fn owe_size(&mut self, client: ClientId, ino: Ino)
         ensures { self.new ≡ changed self.old (holder client ino) (with_size_due true) }
     {
-        if let Some(entry) = self.found(client, ino) {
-            let size_due = true;
-            self.put(Holder { client, ino }, Entry { size_due, ..entry });
-        }
+        let _found = self.edit(Holder { client, ino }, Edit::OweSize(true));
     }
 
     /// The client was told the inode's size. Where it has no entry, nothing happens.
     pub fn tell_size(&mut self, client: ClientId, ino: Ino)
         ensures { self.new ≡ changed self.old (holder client ino) (with_size_due false) }
     {
-        if let Some(entry) = self.found(client, ino) {
-            let size_due = false;
-            self.put(Holder { client, ino }, Entry { size_due, ..entry });
-        }
+        let _found = self.edit(Holder { client, ino }, Edit::OweSize(false));
     }
 
     /// The first holder in the order of recall.
@@ -458,8 +441,8 @@ impl CapTable {
         let holder = Holder { client, ino };
         if caps.has(Cap::P) {
             self.remove(holder);
-        } else if let Some(entry) = self.found(client, ino) {
-            self.put(holder, entry.given_back(caps));
+        } else {
+            let _found = self.edit(holder, Edit::GiveBack(caps));
         }
     }
 

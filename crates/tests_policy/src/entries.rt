@@ -155,7 +155,9 @@ fn take(rt: &impl Abort, table: &mut CapTable, step: &Step, at: At) {
         Want(h, text) => table.set_want(h.client, h.ino, caps(text)),
         Give(h, text) => table.issue(h.client, h.ino, caps(text)),
         Renumber(h, before, after) => renumber(table, *h, caps(before), caps(after)),
-        Tell(h) => table.tell(h.client, h.ino),
+        Tell(h) => {
+            let _entry = table.tell(h.client, h.ino);
+        }
         Release(h, text, want) => same(rt, release(table, *h, text), *want, at),
         Ack(h, seq, text, want) => same(rt, ack(table, *h, *seq, text), *want, at),
         Touch(h) => table.touch(h.client, h.ino),

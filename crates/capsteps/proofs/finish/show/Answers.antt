@@ -7,10 +7,10 @@ use Rattle.captable.specs.Table.{Table, entry_at}
 use Rattle.capacts.specs.Capevents.declared.reply.Reply.TheVariants.{Opened}
 use Rattle.capacts.specs.Caprules.Direct.{opened_as}
 use Rattle.captable.proofs.ByHolder.{row_of-entry}
-use Rattle.capsteps.proofs.finish.opened.Goals as goal
+use Rattle.capsteps.proofs.finish.show.Goals as goal
 
-pub returns : goal.returns
-returns c = λ s table known.
+pub returns-in-Some-clause-answer : goal.returns-in-Some-clause-answer
+returns-in-Some-clause-answer c = λ s table known.
     let t : Table = c.args.table.now in
     let k : Holder = c.args.holder in
     let found : entry_at t k ≡ Some c.in-Some.entry = cc in

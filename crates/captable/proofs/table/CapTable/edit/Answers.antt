@@ -1,0 +1,135 @@
+use Rattle.std.proofs.Common.{◌≡◌, ◌<◌, ◌∙◌, ℕ, Some, false, sym, ap, subst, is_some}
+use Rattle.std.specs.Prelude.{IfSome}
+use Rattle.std.specs.FinMap as map
+use Rattle.std.specs.Option.{option_map_or}
+use Rattle.cap_arena.specs.declared.nodes.Node.{Node}
+use Rattle.cap_arena.specs.Lists.{Lists, OfClient, node_at}
+use Rattle.captable.specs.declared.entry.Entry.{Entry}
+use Rattle.captable.specs.declared.entry.Holder.{Holder}
+use Rattle.captable.specs.declared.entry.Slot.{Slot}
+use Rattle.captable.specs.Table.{Table, entry_at}
+use Rattle.captable.specs.Nodes.{SetsEntry, IsKeyOf, table_of}
+use Rattle.captable.specs.Polls.{places_of, counts_of, recounted}
+use Rattle.captable.specs.Calls.{changed, is_due_entry}
+use Rattle.captable.specs.Edits.{edited}
+use Rattle.captable.specs.Kept.{Kept}
+use Rattle.captable.specs.Places.{lowered, is_due_at}
+use Rattle.captable.proofs.Changes.{put_found, none_found}
+use Rattle.captable.proofs.Counting.{count-fits, counted-same}
+use Rattle.captable.proofs.Counted.{counted-put}
+use Rattle.captable.proofs.Keeping.{held}
+use Rattle.captable.proofs.Placed.{placed-set, placed-alike, placed-same, quiet-same}
+use Rattle.captable.proofs.Polled.{if_part, places-changed, places-kept, counts-changed, counts-kept, counts-placed}
+use Rattle.captable.proofs.Quiet.{quiet-set, quiet-due}
+use Rattle.captable.proofs.Reading.{entry-found, entry-none, node-there}
+use Rattle.captable.proofs.Setting.{Kept-put, table-put}
+use Rattle.captable.proofs.table.CapTable.edit.Goals as goal
+use Rattle.captable.proofs.table.CapTable.edit.Goals.{Joined-is, then-is, else-is}
+
+pub returns-in_err-key-clause-was : goal.returns-in_err-key-clause-was
+returns-in_err-key-clause-was c =
+    let h = c.args.holder in
+    c.from_residual.ensures ∙ sym (entry-none c.self.inside.lists c.self.inside.made c.self.invariant.0 h c.in_err-key.ensures.none) ∙ ap (λ t. entry_at t h) c.self.view_is
+
+pub returns-in_err-key-clause-changed : goal.returns-in_err-key-clause-changed
+returns-in_err-key-clause-changed c =
+    let h = c.args.holder in
+    none_found c.args.self.now h (edited c.args.edit)
+    (ap (λ t. entry_at t h) (sym c.self.view_is) ∙ entry-none c.self.inside.lists c.self.inside.made c.self.invariant.0 h c.in_err-key.ensures.none)
+
+-- the node that is found tells the holder's entry
+found_there : (t : Lists Slot) (made : ℕ) (kept : Kept t made) (now : Table) (h : Holder) (key : ℕ) (n : Node Slot) → table_of t made ≡ now → IsKeyOf t h key → Some n ≡ node_at t key
+    → Some n.value.entry ≡ entry_at now h
+found_there t made kept now h key n is found there = sym (entry-found t made kept h key n found (sym there)) ∙ ap (λ t. entry_at t h) is
+
+pub edited-entry-requires : goal.edited-entry-requires
+edited-entry-requires c = λ numbering.
+    subst (λ o. IfSome o (λ (entry : Entry). entry.seq < 18446744073709551615)) (sym (found_there c.self.inside.lists c.self.inside.made c.self.invariant.0 c.args.self.now c.args.holder c.in_ok-key.key c.in-Some.node c.self.view_is c.in_ok-key.ensures.found c.in-Some.ensures.node)) (c.requires numbering)
+
+pub count_again-requires : goal.count_again-requires
+count_again-requires c =
+    let client = c.args.holder.client in
+    let m = c.self.inside.polls in
+    record {
+      fits = if_part (λ poll. poll.due) (λ n. n < 18446744073709551615) (map.get m client.0)
+          (count-fits (table_of c.self.inside.lists c.self.inside.made).rows (counts_of m) c.self.invariant.0.table.room c.self.invariant.3 client);
+    }
+
+-- whether the entry was due
+due_there : (t : Lists Slot) (key : ℕ) (n : Node Slot) → Some n ≡ node_at t key → is_due_entry n.value.entry ≡ is_due_at t key
+due_there t key n is = ap (λ o. option_map_or (λ (node : Node Slot). is_due_entry node.value.entry) o false) is
+
+pub invariant_of-self : goal.invariant_of-self
+invariant_of-self c =
+    let t = c.self.inside.lists in
+    let made = c.self.inside.made in
+    let h = c.args.holder in
+    let key = c.in_ok-key.key in
+    let m = c.self.inside.polls in
+    let n = c.count_again.new.polls in
+    let l = c.lower_place.new.polls in
+    let x = c.edited-entry.result in
+    let found : IsKeyOf t h key = c.in_ok-key.ensures.found in
+    let sets : SetsEntry t c.set_entry.new.lists key x = c.set_entry.ensures.there (node-there t made c.self.invariant.0 h key found) in
+    let kept : Kept c.set_entry.new.lists made = Kept-put t c.set_entry.new.lists made h key x c.self.invariant.0 found sets c.set_entry.ensures.sound in
+    let o = held t made c.self.invariant.0 h key found in
+    let same_places = places-kept m h.client n (recounted c.is_due.result c.is_due-is.result) c.count_again.ensures in
+    let places = places-changed n h.client l (lowered c.set_entry.new.lists key) c.lower_place.ensures in (
+      kept,
+      quiet-due t c.set_entry.new.lists key x sets (places_of n) (quiet-same t (places_of m) (places_of n) same_places c.self.invariant.1) c.self.invariant.0.sound kept.ordered
+          h.client o.0 o.1.there (ap (λ (q : Holder). q.client) o.2) (places_of l) places,
+      placed-set t c.set_entry.new.lists key x sets h.client (lowered c.set_entry.new.lists key) (places_of n) (places_of l) places
+          (placed-same t (places_of m) (places_of n) same_places c.self.invariant.2),
+      counted-same (table_of c.set_entry.new.lists made).rows (counts_of n) (counts_of l) (counts-kept n h.client l (lowered c.set_entry.new.lists key) c.lower_place.ensures)
+          (counted-put t c.set_entry.new.lists made h key c.self.invariant.0 found o.0 o.1.there o.2 (counts_of m) (counts_of n) c.is_due.result c.is_due-is.result
+          (c.is_due.ensures ∙ due_there t key c.in-Some.node c.in-Some.ensures.node) (counts-placed t m c.self.invariant.2)
+          (counts-changed m h.client n (recounted c.is_due.result c.is_due-is.result) c.count_again.ensures)
+          c.self.invariant.3 x c.is_due-is.ensures (table-put t c.set_entry.new.lists made h key x c.self.invariant.0 found sets)),
+    )
+
+pub invariant_of-self-else-is : goal.invariant_of-self-else-is
+invariant_of-self-else-is c =
+    let t = c.self.inside.lists in
+    let made = c.self.inside.made in
+    let h = c.args.holder in
+    let key = c.in_ok-key.key in
+    let m = c.self.inside.polls in
+    let n = c.count_again.new.polls in
+    let x = c.edited-entry.result in
+    let found : IsKeyOf t h key = c.in_ok-key.ensures.found in
+    let sets : SetsEntry t c.set_entry.new.lists key x = c.set_entry.ensures.there (node-there t made c.self.invariant.0 h key found) in
+    let o = held t made c.self.invariant.0 h key found in
+    let same_places = places-kept m h.client n (recounted c.is_due.result c.is_due-is.result) c.count_again.ensures in (
+      Kept-put t c.set_entry.new.lists made h key x c.self.invariant.0 found sets c.set_entry.ensures.sound,
+      quiet-set t c.set_entry.new.lists key x sets (places_of n) (quiet-same t (places_of m) (places_of n) same_places c.self.invariant.1) (sym c.is_due-is.ensures ∙ c.if-is.false),
+      placed-alike t c.set_entry.new.lists (places_of m) (places_of n) (λ q. sets.lists (OfClient q)) (λ q. ap is_some (same_places q)) c.self.invariant.2,
+      counted-put t c.set_entry.new.lists made h key c.self.invariant.0 found o.0 o.1.there o.2 (counts_of m) (counts_of n) c.is_due.result c.is_due-is.result
+          (c.is_due.ensures ∙ due_there t key c.in-Some.node c.in-Some.ensures.node) (counts-placed t m c.self.invariant.2)
+          (counts-changed m h.client n (recounted c.is_due.result c.is_due-is.result) c.count_again.ensures)
+          c.self.invariant.3 x c.is_due-is.ensures (table-put t c.set_entry.new.lists made h key x c.self.invariant.0 found sets),
+    )
+
+pub returns-clause-was : goal.returns-clause-was
+returns-clause-was c =
+    found_there c.self.inside.lists c.self.inside.made c.self.invariant.0 c.args.self.now c.args.holder c.in_ok-key.key c.in-Some.node c.self.view_is c.in_ok-key.ensures.found c.in-Some.ensures.node
+
+-- what the table is once the node has the entry
+put_there : (c : Joined-is) → table_of c.set_entry.new.lists c.self.inside.made ≡ changed c.args.self.now c.args.holder (edited c.args.edit)
+put_there c =
+    let t = c.self.inside.lists in
+    let made = c.self.inside.made in
+    let h = c.args.holder in
+    let key = c.in_ok-key.key in
+    let x = c.edited-entry.result in
+    let found : IsKeyOf t h key = c.in_ok-key.ensures.found in
+    table-put t c.set_entry.new.lists made h key x c.self.invariant.0 found (c.set_entry.ensures.there (node-there t made c.self.invariant.0 h key found))
+    ∙ ap (λ t. changed t h (λ _. x)) c.self.view_is
+    ∙ put_found c.args.self.now h c.in-Some.node.value.entry x (edited c.args.edit) 
+    (sym (found_there c.self.inside.lists c.self.inside.made c.self.invariant.0 c.args.self.now c.args.holder c.in_ok-key.key c.in-Some.node c.self.view_is c.in_ok-key.ensures.found c.in-Some.ensures.node))
+    c.edited-entry.ensures
+
+pub returns-clause-changed : goal.returns-clause-changed
+returns-clause-changed c = elim c.if-is.branch [
+  | then-is w ↦ w.self-is ∙ put_there c
+  | else-is w ↦ w.self-is ∙ put_there c
+]
