@@ -8,7 +8,7 @@ ghost use Rattle.inotree.specs.Tests.{inode_tests, root_test};
 ghost use Rattle.caprules.specs.Lockmachine.declared.request.Ask.TheVariants as ask_kind;
 ghost use Rattle.caprules.specs.Lockmachine.Locks.{LockMap};
 ghost use Rattle.caprules.specs.Lockmachine.declared.scene.Scene.{Scene};
-ghost use Rattle.caprules.specs.Lockmachine.Scene.{scene};
+ghost use Rattle.caprules.specs.Lockmachine.Scene.{scene as scene_of};
 ghost use Rattle.captable.specs.Table.{Table};
 ghost use Rattle.caprules.specs.Capevents.declared.outcome.Outcome.TheVariants as outcome;
 ghost use Rattle.caprules.specs.Judge.{stop};
@@ -23,7 +23,7 @@ ghost use Rattle.capacts.specs.Served.{call_tests, change_call_tests, is_rename}
 use crate::judge::{by_test, denial};
 use capbits::{Ino, Part, Refusal};
 use capgrant::Access;
-use caprules::{Ask, Change, Outcome, PartValues, Request, Stopped, copy_of_rules};
+use caprules::{Ask, Change, Outcome, PartValues, Request, Scene, Stopped, copy_of_rules};
 use capspec::FsName;
 use captable::Holder;
 use inotree::{Node, Setting, Tree};
@@ -37,30 +37,31 @@ pub struct Served {
     pub kept: Outcome,
 }
 
-/// Serves a request: what stops it now, or what it asks for. A request that moves its inode and found no room for what it
-/// reaches ends as out of memory, unless something stops it.
+/// Serves a request: what stops it now, or what it asks for. One that was judged on this tree when it came is not judged again. A
+/// request that moves its inode and found no room for what it reaches ends as out of memory, unless something stops it.
 pub fn serve(
     alloc: Global,
-    fs: &FsName,
-    tree: &mut Tree,
-    sessions: &Sessions,
+    scene: &mut Scene,
     request: &Request,
     room: bool,
+    judged: bool,
 ) -> Served
     requires room { room ≡ false → is_rename request.now.ask ≡ true }
+    requires judged { judged ≡ true → judged_again scene.old request.now ≡ None }
     ensures ends { (table : Table) (locks : LockMap)
-        → MayEndAs (scene fs.now tree.old sessions.now table locks) request.now result.outcome }
+        → MayEndAs (scene_of scene.old.fs scene.old.tree scene.old.sessions table locks) request.now result.outcome }
     ensures kept { result.kept ≡ result.outcome }
-    ensures tree { tree.new ≡ tree_after tree.old request.now result.outcome }
-    ensures stays { room ≡ false → tree.new ≡ tree.old }
+    ensures tree { scene.new.tree ≡ tree_after scene.old.tree request.now result.outcome }
+    ensures rest { scene.new ≡ record scene.old { tree = scene.new.tree } }
+    ensures stays { room ≡ false → scene.new.tree ≡ scene.old.tree }
 {
-    if let Some(stopped) = stop_again(fs, tree, sessions, request) {
+    if let Some(stopped) = stop_again(scene, request, judged) {
         return stopped_by(stopped);
     }
     if !room {
         return out_of_memory();
     }
-    match carry_out(alloc, tree, request.ino, &request.ask) {
+    match carry_out(alloc, &mut scene.tree, request.ino, &request.ask) {
         Ok(served) => served,
         Err(AllocError) => out_of_memory(),
     }
@@ -68,11 +69,15 @@ pub fn serve(
 
 // ---- how it is judged
 
-// What stops the request now.
-fn stop_again(fs: &FsName, tree: &Tree, sessions: &Sessions, request: &Request) -> Option<Stopped>
-    ensures { (table : Table) (locks : LockMap)
-        → result ≡ judged_again (scene fs.now tree.now sessions.now table locks) request.now }
+// What stops the request now: nothing, where it is known that it was judged on this tree.
+fn stop_again(scene: &Scene, request: &Request, judged: bool) -> Option<Stopped>
+    requires { judged ≡ true → judged_again scene.now request.now ≡ None }
+    ensures { result ≡ judged_again scene.now request.now }
 {
+    if judged {
+        return None;
+    }
+    let (fs, tree, sessions) = (&scene.fs, &scene.tree, &scene.sessions);
     let (client, ino) = (request.client, request.ino);
     if let Some(refusal) = before_refusal(tree, ino, &request.ask) {
         return Some(Stopped::ByTest(refusal));
@@ -123,8 +128,8 @@ pub fn ask_denial(
     ask: &Ask,
 ) -> Option<Stopped>
     ensures { (table : Table) (locks : LockMap)
-        → result ≡ stop (scene fs.now tree.now sessions.now table locks) []
-        (ask_needs (scene fs.now tree.now sessions.now table locks) holder.client holder.ino.0 ask.now) [] }
+        → result ≡ stop (scene_of fs.now tree.now sessions.now table locks) []
+        (ask_needs (scene_of fs.now tree.now sessions.now table locks) holder.client holder.ino.0 ask.now) [] }
 {
     match ask {
         Ask::Get(_) => denial(fs, tree, sessions, holder, Access::Read),
@@ -143,7 +148,7 @@ pub fn rename_denial(
     dir: Ino,
 ) -> Option<Stopped>
     ensures { (table : Table) (locks : LockMap)
-        → result ≡ stop (scene fs.now tree.now sessions.now table locks) []
+        → result ≡ stop (scene_of fs.now tree.now sessions.now table locks) []
         (need_if holder.client (parent tree.now.nodes holder.ino.0) access_kind.Write ++ need holder.client dir.0 access_kind.Write ∷ []) [] }
 {
     match parent_denial(fs, tree, sessions, holder) {
@@ -158,7 +163,7 @@ pub fn rename_denial(
 // The denial of a change of the directory that the inode stands in, where it stands in one.
 fn parent_denial(fs: &FsName, tree: &Tree, sessions: &Sessions, holder: Holder) -> Option<Stopped>
     ensures { (table : Table) (locks : LockMap)
-        → result ≡ stop (scene fs.now tree.now sessions.now table locks) []
+        → result ≡ stop (scene_of fs.now tree.now sessions.now table locks) []
         (need_if holder.client (parent tree.now.nodes holder.ino.0) access_kind.Write) [] }
 {
     let client = holder.client;

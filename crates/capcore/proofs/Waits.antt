@@ -1,7 +1,8 @@
 -- The step of a request that waits, as its calls go.
-use Rattle.std.proofs.Common.{is_some, ◌≡◌, ◌<◌, ◌≤◌, ℕ, Bool, ◌+◌, ◌==◌, not, cond, Some, None, List, ◌++◌, length, refl, sym, ap, subst, ◌∙◌, arith}
+use Rattle.std.proofs.Common.{Contains, is_some, ◌≡◌, ◌<◌, ◌≤◌, ℕ, Bool, ◌+◌, ◌==◌, not, cond, Some, None, List, ◌++◌, length, refl, sym, ap, subst, ◌∙◌, arith}
 use Rattle.std.specs.List.{count_by, find}
 use Rattle.std.proofs.lemmas.Bool.{lt-leb}
+use Rattle.std.proofs.lemmas.List.Elements.{Contains-push}
 use Rattle.std.proofs.lemmas.List.Sums.{length-filter, count_by-le-length}
 use Rattle.capbits.specs.declared.ids.Ticket.{Ticket}
 use Rattle.capbits.specs.declared.refusal.Refusal.TheVariants as refusal
@@ -9,9 +10,11 @@ use Rattle.capbits.specs.Refusal.{first_failing}
 use Rattle.captable.specs.declared.entry.Holder.{Holder}
 use Rattle.capsteps.specs.Lockmachine.declared.request.Ask.{Ask}
 use Rattle.capsteps.specs.Lockmachine.declared.request.Ask.TheVariants.{Get, Alter, Unlink, Rmdir, Rename}
-use Rattle.capsteps.specs.Lockmachine.Locks.{LockMap, IsLockMap, queue_tests, with_request}
+use Rattle.capsteps.specs.Lockmachine.declared.request.Request.{Request}
+use Rattle.capsteps.specs.Lockmachine.Locks.{LockMap, IsLockMap, next_request, queue_tests, request_at, with_request}
 use Rattle.capsteps.specs.Lockmachine.declared.scene.Scene.{Scene}
 use Rattle.capsteps.specs.Lockmachine.Moves.{IsQuietOutside}
+use Rattle.capsteps.proofs.Lockmachine.Queue.{found_by_number}
 use Rattle.capsteps.proofs.Lockmachine.SameOutside.{rest-outside}
 use Rattle.captable.specs.Table.{IsTable}
 use Rattle.capsteps.specs.Caprules.State.{State}
@@ -21,10 +24,12 @@ use Rattle.capsteps.specs.declared.said.Said.{Said}
 use Rattle.capsteps.specs.Caprules.Direct.{Answer, Awaits, Direct, direct, reply_of, shown, with_scene, awaited_as}
 use Rattle.capsteps.specs.Capnotes.Untold.{is_of_ticket, HaveOwnNumbers, but_for}
 use Rattle.capsteps.specs.Caprules.Judge.{judged, stop, asking_tests, waiting_tests}
+use Rattle.capsteps.specs.Caprules.Serving.{judged_again}
+use Rattle.capsteps.specs.Judged.{IsJudged}
 use Rattle.capsteps.specs.Serves.{EndsWith}
 use Rattle.capsteps.specs.Caprules.Sound.{IsSound}
 use Rattle.capsteps.specs.Caprules.Step.{earlier}
-use Rattle.capcore.proofs.Asked.{asking-touches, asking-direct, asking-stop, order-of_ask}
+use Rattle.capcore.proofs.Asked.{asking-again, asking-touches, asking-direct, asking-stop, order-of_ask}
 use Rattle.capcore.proofs.EndKnown.{ends-known}
 use Rattle.capsteps.proofs.Knowing.{HoldAlike, alike-less, still-there, still-knows}
 use Rattle.capcore.proofs.Closing.{told-own_numbers, told-but_own, touches-one, closed}
@@ -76,6 +81,16 @@ module _ (old : State) (k : Holder) (ask : Ask) (sound : IsSound old) (table : I
 
   pub wait-order : IsLockMap locks
   wait-order = subst IsLockMap (sym queued) (order-of_ask old.scene k ask order free)
+
+  -- and it was judged on this tree
+  pub wait-judged : (ticket : Ticket) → ticket.0 ≡ old.scene.locks.last + 1 → IsJudged (Some ticket) first
+  wait-judged ticket next = λ t q own there.
+      let request : Request = next_request old.scene.locks k.client k.ino ask in
+      let same : ticket ≡ t = cc in
+      let found = found_by_number locks request wait-order (subst (λ (l : LockMap). Contains l.queue request) (sym queued) (Contains-push old.scene.locks.queue request)) in
+      let both : Some request ≡ Some q = sym found ∙ ap (request_at locks) (sym next ∙ ap (λ (n : Ticket). n.0) same) ∙ there in
+      let itself : request ≡ q = cc in
+      subst (λ (r : Request). judged_again first r ≡ None) itself (asking-again old.scene k ask free)
 
   -- the entries are as they were
   wait-alike : HoldAlike old.scene.table first.table

@@ -48,6 +48,7 @@ impl World {
             return Err(refused);
         }
         let ticket = self.scene.locks.enqueue_tested(client, ino, ask);
+        self.endings.judged = Some(ticket);
         end_at_one(&mut self.scene, &mut self.known, ino, &mut self.endings);
         Ok(close_with(&mut self.messages, ticket, &mut self.endings))
     }

@@ -7,6 +7,7 @@ pub mod Forgotten
 pub mod IssuedRest
 pub mod IssuedRows
 pub mod Judging
+pub mod Judged
 pub mod LeftAlone
 pub mod ManyInodes
 pub mod Moved

@@ -79,6 +79,7 @@ impl Room {
         ensures dropped { IfOk result (λ room. (room.dropped.items ≡ []) × (length locks.now.queue ≤ room.dropped.room)) }
         ensures places { IfOk result (λ room. HavePlaces endings.new.changes locks.now room.others) }
         ensures lead { OnOk result (Notes endings.new.changes.items client turn.entry) }
+        ensures judged { OnOk result (endings.new.judged ≡ None) }
     {
         let others = reach_client(alloc, table, locks, client)?;
         let waiting = locks.waiting();
@@ -111,6 +112,7 @@ fn begin_turn(
     ensures sized { OnOk result ((endings.new.sized.items ≡ []) × (waiting ≤ vec_capacity endings.new.sized)) }
     ensures places { OnOk result ((length endings.new.changes.items ≤ 1) × (places ≤ endings.new.changes.room)) }
     ensures lead { OnOk result (Notes endings.new.changes.items client turn.entry) }
+    ensures judged { OnOk result (endings.new.judged ≡ None) }
 {
     endings.begin(waiting, places)?;
     note_turn(&mut endings.changes, client, turn)

@@ -1,5 +1,5 @@
 //! The requests that a step ends.
-ghost use Rattle.std.specs.Prelude.{◌≡◌, ◌+◌, ◌≤◌, ◌<◌, ◌++◌, [], ◌∷◌, length, OnOk, vec_capacity};
+ghost use Rattle.std.specs.Prelude.{◌≡◌, ◌+◌, ◌≤◌, ◌<◌, ◌++◌, [], ◌∷◌, None, length, OnOk, vec_capacity};
 ghost use Rattle.std.specs.List.{filter_map};
 
 use capacts::serving::Served;
@@ -9,12 +9,14 @@ use std::alloc::{AllocError, Global};
 use std::fmt;
 
 /// The requests that a step ends: once to be told to their clients, and once for the history; the inodes whose sizes they
-/// changed; and what the step changes of what readers see. Between steps their room alone is of use, and is no part of a state.
+/// changed; what the step changes of what readers see; and the request that came with the step and was judged then, until one is
+/// served. Between steps their room alone is of use, and is no part of a state.
 pub struct Endings {
     pub told: Messages,
     pub kept: Messages,
     pub sized: Vec<Ino>,
     pub changes: ChangeList,
+    pub judged: Option<Ticket>,
 }
 
 // By hand, so that whoever lets one go has one call to prove.
@@ -25,6 +27,7 @@ impl Drop for Endings {
             kept: _,
             sized: _,
             changes: _,
+            judged: _,
         } = self;
     }
 }
@@ -44,6 +47,7 @@ impl Endings {
             kept: Messages::new(alloc),
             sized: Vec::new(alloc),
             changes: ChangeList::new(alloc),
+            judged: None,
         }
     }
 
@@ -53,7 +57,9 @@ impl Endings {
         ensures kept { OnOk result ((self.new.kept.items ≡ []) × (room ≤ self.new.kept.room)) }
         ensures sized { OnOk result ((self.new.sized.items ≡ []) × (room ≤ vec_capacity self.new.sized)) }
         ensures changes { OnOk result ((self.new.changes.items ≡ []) × (places ≤ self.new.changes.room)) }
+        ensures judged { OnOk result (self.new.judged ≡ None) }
     {
+        self.judged = None;
         self.told.clear();
         self.kept.clear();
         if !self.sized.is_empty() {
@@ -84,6 +90,7 @@ impl Endings {
         ensures room { (self.old.told.room ≤ self.new.told.room) × (self.old.kept.room ≤ self.new.kept.room)
             × (vec_capacity self.old.sized ≤ vec_capacity self.new.sized) }
         ensures changes { self.new.changes ≡ self.old.changes }
+        ensures judged { self.new.judged ≡ self.old.judged }
     {
         let Served { outcome, kept } = served;
         self.told.push(Ended {

@@ -16,6 +16,7 @@ ghost use Rattle.capacts.specs.Capnotes.InoSets.{IsNext};
 ghost use Rattle.capacts.specs.Known.{HaveRoom, OthersHaveAll};
 ghost use Rattle.capacts.specs.Capnotes.Noted.{HavePlaces, LeadOn};
 ghost use Rattle.capacts.specs.Reach.{is_touched, AreWalked, Reaches};
+ghost use Rattle.capsteps.specs.Judged.{IsJudged};
 ghost use Rattle.capsteps.specs.Serves.{Serves, SettlesWith, EndsAt, EndsWith};
 ghost use Rattle.capacts.specs.Caprules.Settle.{Served as Serving, sized_by, sized_in};
 ghost use Rattle.capsteps.specs.Sweep.{AreStill, GoesOn, GoesOnBehind, IsFirstPlace, IsLeastOf, IsNextOf, IsSwept, StandsAt, changed_alone};
@@ -38,6 +39,7 @@ pub fn end_at_one(scene: &mut Scene, known: &mut Known, ino: Ino, endings: &mut 
     requires quiet { IsQuietOutside (λ other. other == ino.0) scene.old }
     requires tree { IsTree scene.old.tree }
     requires order { IsLockMap scene.old.locks }
+    requires judged { IsJudged endings.old.judged scene.old }
     requires none { endings.old.told.items ≡ [] }
     requires no_sizes { endings.old.sized.items ≡ [] }
     requires told { HasRoom endings.old.told scene.old.locks }
@@ -63,6 +65,7 @@ pub fn end_at_entry(scene: &mut Scene, known: &mut Known, holder: Holder, ending
     requires quiet { IsQuietOutside (λ other. other == holder.ino.0) scene.old }
     requires tree { IsTree scene.old.tree }
     requires order { IsLockMap scene.old.locks }
+    requires judged { IsJudged endings.old.judged scene.old }
     // Each other entry on the inode has all, by the locks from before the settling.
     requires others { OthersHaveAll known.old.sets scene.old holder }
     requires none { endings.old.told.items ≡ [] }
@@ -125,6 +128,7 @@ pub fn end_at(scene: &mut Scene, known: &mut Known, ino: Ino, others: InoSet, en
     requires quiet { IsQuietOutside (is_touched ino.0 others) scene.old }
     requires tree { IsTree scene.old.tree }
     requires order { IsLockMap scene.old.locks }
+    requires judged { IsJudged endings.old.judged scene.old }
     requires apart { set.contains others ino.0 ≡ false }
     requires none { endings.old.told.items ≡ [] }
     requires no_sizes { endings.old.sized.items ≡ [] }
@@ -182,6 +186,7 @@ fn settle(scene: &mut Scene, ino: Ino, others: InoSet, endings: &mut Endings) ->
     requires quiet { IsQuietOutside (is_touched ino.0 others) scene.old }
     requires tree { IsTree scene.old.tree }
     requires order { IsLockMap scene.old.locks }
+    requires judged { IsJudged endings.old.judged scene.old }
     requires apart { set.contains others ino.0 ≡ false }
     requires none { endings.old.told.items ≡ [] }
     requires no_sizes { endings.old.sized.items ≡ [] }
@@ -315,6 +320,8 @@ fn serve_next(
     requires kept { length endings.old.kept.items < endings.old.kept.room }
     requires sized { length endings.old.sized.items < vec_capacity endings.old.sized }
     requires place { length endings.old.changes.items < endings.old.changes.room }
+    requires judged { IsJudged endings.old.judged scene.old }
+    ensures judged { endings.new.judged ≡ None }
     ensures served { (ended : Ended) × Serves scene.old ticket ended scene.new
         × (endings.new.told.items ≡ endings.old.told.items ++ ended ∷ [])
         × (endings.new.kept.items ≡ endings.old.kept.items ++ ended ∷ [])
@@ -335,10 +342,12 @@ fn serve_next(
     let Some(request) = scene.locks.apply_move(Move::Serve(ticket)) else {
         unreachable!()
     };
+    // Only the first that is served finds the tree as it was when the event came.
+    let judged = is_judged(endings.judged, ticket);
+    endings.judged = None;
     let (alloc, changes) = (endings.alloc(), &mut endings.changes);
     let reached = reach(scene, &request, ino, walked, touched, changes);
-    let (fs, sessions, tree) = (&scene.fs, &scene.sessions, &mut scene.tree);
-    let served = serve(alloc, fs, tree, sessions, &request, reached.is_ok());
+    let served = serve(alloc, scene, &request, reached.is_ok(), judged);
     changes.note_served(&scene.tree, &request, &served.outcome);
     let (client, ticket) = (request.client, request.ticket);
     let (sized, changed) = (sized_by(&request, &served), changed_alone(&request));
@@ -346,6 +355,16 @@ fn serve_next(
     drop(request);
     endings.push(client, ticket, served, sized);
     changed
+}
+
+// Whether this is the request that was judged.
+fn is_judged(judged: Option<Ticket>, ticket: Ticket) -> bool
+    ensures { result ≡ true → judged ≡ Some ticket }
+{
+    match judged {
+        Some(own) => own.0 == ticket.0,
+        None => false,
+    }
 }
 
 // The inode of the request, unless it is to move that.

@@ -1,5 +1,4 @@
-use Rattle.std.proofs.Common.{[], refl, sym, ap, ◌∙◌}
-use Rattle.caprules.specs.Lockmachine.Locks.{no_locks}
+use Rattle.std.proofs.Common.{refl, sym, ap, ◌∙◌}
 use Rattle.caprules.specs.Lockmachine.declared.scene.Scene.{Scene}
 use Rattle.caprules.specs.Lockmachine.Scene.{scene}
 use Rattle.caprules.specs.Capnotes.Changing.{tree_after}
@@ -9,34 +8,32 @@ use Rattle.capacts.proofs.serving.serve.Goals as goal
 
 pub returns-in-Some-clause-ends : goal.returns-in-Some-clause-ends
 returns-in-Some-clause-ends c = λ table locks.
-    ends-stopped (scene c.args.fs.now c.args.tree.now c.args.sessions.now table locks) c.args.request.now c.in-Some.stopped c.stopped_by.result.outcome
-    (sym (c.stop_again.ensures table locks) ∙ c.in-Some.is) c.stopped_by.ensures.outcome
+    ends-stopped (scene c.args.scene.now.fs c.args.scene.now.tree c.args.scene.now.sessions table locks) c.args.request.now c.in-Some.stopped c.stopped_by.result.outcome
+    (sym c.stop_again.ensures ∙ c.in-Some.is) c.stopped_by.ensures.outcome
 
 pub returns-in-Some-clause-tree : goal.returns-in-Some-clause-tree
-returns-in-Some-clause-tree c = tree-stopped c.args.tree.now c.args.request.now c.in-Some.stopped c.stopped_by.result.outcome c.stopped_by.ensures.outcome
+returns-in-Some-clause-tree c = tree-stopped c.args.scene.now.tree c.args.request.now c.in-Some.stopped c.stopped_by.result.outcome c.stopped_by.ensures.outcome
 
--- the tests read no entries and no locks
 pub carry_out-requires : goal.carry_out-requires
 carry_out-requires c =
-    let s : Scene = scene c.args.fs.now c.args.tree.now c.args.sessions.now (record { rows = []; recall = []; made = 0 }) no_locks in
-    record { passed = calls-passed s c.args.request.now (sym (c.stop_again.ensures s.table s.locks) ∙ c.in_default.is) }
+    record { passed = calls-passed c.args.scene.now c.args.request.now (sym c.stop_again.ensures ∙ c.in_default.is) }
 
 pub returns-in-Ok-clause-ends : goal.returns-in-Ok-clause-ends
 returns-in-Ok-clause-ends c = λ table locks.
-    let s : Scene = scene c.args.fs.now c.args.tree.now c.args.sessions.now table locks in
-    ends-passed s c.args.request.now c.in-Ok.served.outcome (sym (c.stop_again.ensures table locks) ∙ c.in_default.is) (c.in-Ok.ensures.outcome s refl)
+    let s : Scene = scene c.args.scene.now.fs c.args.scene.now.tree c.args.scene.now.sessions table locks in
+    ends-passed s c.args.request.now c.in-Ok.served.outcome (sym c.stop_again.ensures ∙ c.in_default.is) (c.in-Ok.ensures.outcome s refl)
 
 pub returns-in-Ok-clause-tree : goal.returns-in-Ok-clause-tree
 returns-in-Ok-clause-tree c =
-    let s : Scene = scene c.args.fs.now c.args.tree.now c.args.sessions.now (record { rows = []; recall = []; made = 0 }) no_locks in
+    let s : Scene = c.args.scene.now in
     c.in-Ok.ensures.tree ∙ tree-passed s c.args.request.now ∙ ap (tree_after s.tree c.args.request.now) (sym (c.in-Ok.ensures.outcome s refl))
 
 pub returns-then-not-room-clause-ends : goal.returns-then-not-room-clause-ends
 returns-then-not-room-clause-ends c = λ table locks.
-    ends-without_memory (scene c.args.fs.now c.args.tree.now c.args.sessions.now table locks) c.args.request.now c.out_of_memory.result.outcome
-    (sym (c.stop_again.ensures table locks) ∙ c.in_default.is) (rename-takes c.args.request.now.ask (c.requires.room search)) c.out_of_memory.ensures.outcome
+    ends-without_memory (scene c.args.scene.now.fs c.args.scene.now.tree c.args.scene.now.sessions table locks) c.args.request.now c.out_of_memory.result.outcome
+    (sym c.stop_again.ensures ∙ c.in_default.is) (rename-takes c.args.request.now.ask (c.requires.room search)) c.out_of_memory.ensures.outcome
 
 pub returns-in-Err-clause-ends : goal.returns-in-Err-clause-ends
 returns-in-Err-clause-ends c = λ table locks.
-    ends-without_memory (scene c.args.fs.now c.args.tree.now c.args.sessions.now table locks) c.args.request.now c.out_of_memory-in-Err.result.outcome
-    (sym (c.stop_again.ensures table locks) ∙ c.in_default.is) c.in-Err.ensures.memory c.out_of_memory-in-Err.ensures.outcome
+    ends-without_memory (scene c.args.scene.now.fs c.args.scene.now.tree c.args.scene.now.sessions table locks) c.args.request.now c.out_of_memory-in-Err.result.outcome
+    (sym c.stop_again.ensures ∙ c.in_default.is) c.in-Err.ensures.memory c.out_of_memory-in-Err.ensures.outcome

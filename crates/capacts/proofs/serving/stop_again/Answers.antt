@@ -2,31 +2,30 @@ use Rattle.std.proofs.Common.{refl, sym, ap, ◌∙◌}
 use Rattle.std.specs.Option.{option_map}
 use Rattle.caprules.specs.Lockmachine.declared.request.Request.{Request}
 use Rattle.caprules.specs.Lockmachine.declared.scene.Scene.{Scene}
-use Rattle.caprules.specs.Lockmachine.Scene.{scene}
 use Rattle.caprules.specs.declared.stopped.Stopped.TheVariants.{ByTest}
 use Rattle.caprules.specs.Asks.{ask_before, ask_needs, ask_after}
 use Rattle.capacts.proofs.Again.{stopped-before, stopped-policy, stopped-after}
 use Rattle.capacts.proofs.serving.stop_again.Goals as goal
 
 pub returns-in-Some : goal.returns-in-Some
-returns-in-Some c = λ table locks.
-    let s : Scene = scene c.args.fs.now c.args.tree.now c.args.sessions.now table locks in
+returns-in-Some c =
+    let s : Scene = c.args.scene.now in
     let q : Request = c.args.request.now in
     sym (stopped-before s (ask_before s q.ino.0 q.ask) (ask_needs s q.client q.ino.0 q.ask) (ask_after s q.ino.0 q.ask) c.in-Some.refusal
     (sym (c.before_refusal.ensures s refl) ∙ c.in-Some.is))
 
 pub returns-in-Some-ask_denial : goal.returns-in-Some-ask_denial
-returns-in-Some-ask_denial c = λ table locks.
-    let s : Scene = scene c.args.fs.now c.args.tree.now c.args.sessions.now table locks in
+returns-in-Some-ask_denial c =
+    let s : Scene = c.args.scene.now in
     let q : Request = c.args.request.now in
     sym (stopped-policy s (ask_before s q.ino.0 q.ask) (ask_needs s q.client q.ino.0 q.ask) (ask_after s q.ino.0 q.ask) c.in-Some-ask_denial.denied
-    (sym (c.before_refusal.ensures s refl) ∙ c.in_default.is) (sym (c.ask_denial.ensures table locks) ∙ c.in-Some-ask_denial.is))
+    (sym (c.before_refusal.ensures s refl) ∙ c.in_default.is) (sym (c.ask_denial.ensures s.table s.locks) ∙ c.in-Some-ask_denial.is))
 
 pub returns : goal.returns
-returns c = λ table locks.
-    let s : Scene = scene c.args.fs.now c.args.tree.now c.args.sessions.now table locks in
+returns c =
+    let s : Scene = c.args.scene.now in
     let q : Request = c.args.request.now in
     c.by_test.ensures
     ∙ ap (option_map ByTest) (c.after_refusal.ensures s refl)
     ∙ sym (stopped-after s (ask_before s q.ino.0 q.ask) (ask_needs s q.client q.ino.0 q.ask) (ask_after s q.ino.0 q.ask)
-    (sym (c.before_refusal.ensures s refl) ∙ c.in_default.is) (sym (c.ask_denial.ensures table locks) ∙ c.in_default-ask_denial.is))
+    (sym (c.before_refusal.ensures s refl) ∙ c.in_default.is) (sym (c.ask_denial.ensures s.table s.locks) ∙ c.in_default-ask_denial.is))

@@ -8,18 +8,22 @@ use Rattle.capacts.specs.Caprules.Settle.{Served, sized_by}
 use Rattle.capsteps.specs.Serves.{Serves}
 use Rattle.capsteps.proofs.settle.serve_next.Goals as goal
 
+pub serve-served-requires-clause-judged : goal.serve-served-requires-clause-judged
+serve-served-requires-clause-judged c = λ judged.
+    c.requires.judged c.args.ticket c.in-Some.request (c.is_judged-judged.ensures judged) (sym c.in-Some.ensures.request)
+
 pub returns-clause-served : goal.returns-clause-served
 returns-clause-served c =
     let request : Request = c.in-Some.request in
     let outcome : Outcome = c.serve-served.result.outcome in
     let ended : Outcome → Ended = λ o. record { client = request.client; ticket = request.ticket; outcome = o } in
     let old = c.args.scene.now in
-    let serves : Serves old c.args.ticket (ended outcome) (record old { tree = c.serve-served.new.tree; locks = c.apply_move.new.self }) = record {
+    let serves : Serves old c.args.ticket (ended outcome) c.serve-served.new.scene = record {
       request = request;
       waits = sym c.in-Some.ensures.request;
       may = c.serve-served.ensures.ends old.table old.locks;
       ended_is = refl;
-      is = λ i. record old { tree = c.serve-served.ensures.tree i; locks = c.apply_move.ensures.locks i };
+      is = c.serve-served.ensures.rest ∙ (λ i. record old { tree = c.serve-served.ensures.tree i; locks = c.apply_move.ensures.locks i });
     } in (
       ended outcome,
       serves,

@@ -20,6 +20,8 @@ use Rattle.capsteps.specs.Serves.{Serves}
 use Rattle.capacts.specs.Caprules.Settle.{Served, sets_size, is_done, sized_in}
 use Rattle.capsteps.specs.Sweep.{GoesOn, GoesOnBehind, IsSwept, StandsAt}
 use Rattle.capacts.proofs.Capnotes.Noting.{leads-none, leads-then}
+use Rattle.capsteps.specs.Judged.{IsJudged}
+use Rattle.capsteps.proofs.Judged.{none-judged, still-judged}
 use Rattle.capsteps.proofs.Moved.{moved-all, tree-moved}
 use Rattle.capsteps.proofs.SoFar.{IsSoFar, so-far-begins, so-far-served, so-far-settled, so-far-swept, stands-behind, stands-first, turn-of_least}
 use Rattle.capacts.proofs.Walked.{none-walked}
@@ -47,6 +49,7 @@ servings-init c =
           (subst (IsSoFar c.args.ino.0 at c.args.others first now []) (sym c.requires.no_sizes) so);
       stands = stands-first c.args.ino.0 c.args.others now c.first_place-place.result (turn-of_least at now so.still c.end_gathers.ensures.ends) so.waits c.first_place-place.ensures;
       walked = none-walked c.new-walked.result c.args.ino.0 c.args.scene.now.tree c.args.scene.now.table c.args.others c.new-walked.ensures;
+      judged = still-judged c.args.endings.now.judged first now.locks swept.queue c.requires.judged;
       same = c.requires.same;
       lead = leads-none c.args.endings.now.changes.items c.args.scene.now.tree;
       places = omega (arith, queue, c.requires.places);
@@ -112,6 +115,12 @@ serve_next-changed-requires-clause-waits c = (let found = here (goal.at.serve_ne
 pub serve_next-changed-requires-clause-walked : goal.serve_next-changed-requires-clause-walked
 serve_next-changed-requires-clause-walked c =
     subst (λ (s : Scene). AreWalked c.servings.walked c.args.ino.0 s.tree s.table c.servings.touched) (sym (stays (goal.at.serve_next-changed-requires-clause-walked c).In-Some)) c.servings.invariant.walked
+
+pub serve_next-changed-requires-clause-judged : goal.serve_next-changed-requires-clause-judged
+serve_next-changed-requires-clause-judged c =
+    let is = c.sweep.ensures.swept in
+    let judged = c.servings.endings.judged in
+    subst (IsJudged judged) (sym is.is) (still-judged judged c.servings.scene c.sweep.new.scene.locks is.queue c.servings.invariant.judged)
 
 pub serve_next-changed-requires-clause-told : goal.serve_next-changed-requires-clause-told
 serve_next-changed-requires-clause-told c = let some = some_wait (goal.at.serve_next-changed-requires-clause-told c).In-Some in omega (arith, some, c.servings.invariant.told)
@@ -185,6 +194,7 @@ servings-preserved c =
           subst (λ (t : Table). AreWalked c.serve_next-changed.new.walked c.args.ino.0 (new c).tree t c.serve_next-changed.new.touched) (sym (ap (λ (s : Scene). s.table) (serves c).is))
           (walked-served c.sweep.new.scene.tree (new c).tree request (ended c).outcome c.args.ino.0 c.sweep.new.scene.table c.serve_next-changed.new.walked c.servings.touched c.serve_next-changed.new.touched
           (ap (λ (s : Scene). s.tree) (serves c).is) (reaches c) c.serve_next-changed.ensures.walked);
+      judged = none-judged c.serve_next-changed.new.endings.judged (new c) c.serve_next-changed.ensures.judged;
       same = same;
       lead = leads-then c.args.endings.now.changes.items c.servings.endings.changes.items c.serve_next-changed.new.endings.changes.items c.args.scene.now.tree c.sweep.new.scene.tree (new c).tree
           (subst (λ (s : Scene). LeadOn c.args.endings.now.changes.items c.servings.endings.changes.items c.args.scene.now.tree s.tree) (sym is) c.servings.invariant.lead) c.serve_next-changed.ensures.lead;

@@ -2,6 +2,7 @@ use Rattle.std.proofs.Common.{◌≡◌, ◌≤◌, ◌+◌, length}
 use Rattle.std.specs.Prelude.{vec_capacity}
 use Rattle.capacts.specs.Capnotes.Noted.{HavePlaces, LeadOn}
 use Rattle.capacts.specs.Reach.{is_touched, AreWalked}
+use Rattle.capsteps.specs.Judged.{IsJudged}
 use Rattle.capsteps.specs.Sweep.{StandsAt}
 use Rattle.capacts.specs.Capnotes.Untold.{HasRoom}
 use Rattle.capsteps.proofs.SoFar.{IsSoFar}
@@ -15,6 +16,7 @@ invariant-servings l = record {
   so_far : IsSoFar l.ino.0 (is_touched l.ino.0 l.fn.others) l.touched l.fn.scene l.scene l.endings.told.items l.endings.sized.items;
   stands : StandsAt (is_touched l.ino.0 l.touched) l.place l.scene;
   walked : AreWalked l.walked l.ino.0 l.scene.tree l.scene.table l.touched;
+  judged : IsJudged l.endings.judged l.scene;
   same : l.endings.kept.items ≡ l.endings.told.items;
   told : HasRoom l.endings.told l.scene.locks;
   kept : HasRoom l.endings.kept l.scene.locks;

@@ -18,7 +18,7 @@ use Rattle.capsteps.specs.Capnotes.Untold.{but_for}
 use Rattle.capcore.specs.Asks.{ask_of}
 use Rattle.capcore.proofs.Closing.{ends-sessions}
 use Rattle.capcore.proofs.Asked.{asking-room, asking-stop}
-use Rattle.capcore.proofs.Waits.{some-asking, room-left, few-others, wait-quiet, wait-order, wait-differ, wait-known, wait-answered}
+use Rattle.capcore.proofs.Waits.{some-asking, room-left, few-others, wait-quiet, wait-order, wait-judged, wait-differ, wait-known, wait-answered}
 use Rattle.capsteps.specs.Capview.Changes.{AreChanges}
 use Rattle.capsteps.specs.Caprules.Noted.{view_of}
 use Rattle.capsteps.specs.Capnotes.Noted.{view}
@@ -81,6 +81,12 @@ end_at_one-requires-clause-order g =
     let c = (goal.at.end_at_one-requires-clause-order g).After-waiting-waiting in
     wait-order (old c) (k c) (ask c) g.self.invariant.0 (subst (λ (s : State). IsTable s.scene.table) (sym g.self.view_is) g.requires.table) g.waiting-waiting.ensures.sound (free c)
     g.enqueue_tested-ticket.new.self (queued (goal.at.end_at_one-requires-clause-order g).After-enqueue_tested-ticket)
+
+pub end_at_one-requires-clause-judged : goal.end_at_one-requires-clause-judged
+end_at_one-requires-clause-judged g =
+    let c = (goal.at.end_at_one-requires-clause-judged g).After-waiting-waiting in
+    wait-judged (old c) (k c) (ask c) g.self.invariant.0 (subst (λ (s : State). IsTable s.scene.table) (sym g.self.view_is) g.requires.table) g.waiting-waiting.ensures.sound (free c)
+    g.enqueue_tested-ticket.new.self (queued (goal.at.end_at_one-requires-clause-judged g).After-enqueue_tested-ticket) g.enqueue_tested-ticket.result g.enqueue_tested-ticket.ensures.ticket
 
 pub end_at_one-requires-clause-room : goal.end_at_one-requires-clause-room
 end_at_one-requires-clause-room g = λ j f there. ap is_some (g.self.invariant.2 j f there)

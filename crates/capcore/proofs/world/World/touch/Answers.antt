@@ -1,7 +1,8 @@
-use Rattle.std.proofs.Common.{Some, ◌≡◌, ◌==◌, ◌+◌, ◌++◌, List, length, [], None, refl, sym, ap, subst, ◌∙◌, arith}
+use Rattle.std.proofs.Common.{Some, ◌≡◌, ◌==◌, ◌+◌, ◌++◌, List, length, [], None, refl, sym, ap, subst, ◌∙◌, arith, Option}
 use Rattle.std.proofs.lemmas.List.{length-append}
 use Rattle.capbits.specs.Refusal.{first_failing}
 use Rattle.capbits.specs.Sets.{IsSubset}
+use Rattle.capbits.specs.declared.ids.Ticket.{Ticket}
 use Rattle.inotree.specs.Tree.{IsTree}
 use Rattle.sessiontab.specs.Table.{SessionTable}
 use Rattle.captable.specs.declared.entry.Entry.{Entry}
@@ -95,6 +96,9 @@ module _ (c : In_ok-touch_entry) where
       still-knows c.self.inside.known.sets c.touch_entry.new.known.sets (old c).scene c.touch_entry.new.table c.self.invariant.2 c.touch_entry.ensures.known first-table
       (subst (λ (t : Table). (j : Holder) (f : Entry) → entry_at t j ≡ Some f → IsSubset f.held (held_at c.self.inside.scene.table j)) (sym c.in_ok-touch_entry.ensures.ok)
       (touch-less c.self.inside.scene.table (k c) c.revoked_by-revoked.result c.args.touch))
+
+pub end_at_entry-requires-clause-judged : goal.end_at_entry-requires-clause-judged
+end_at_entry-requires-clause-judged c = λ ticket q own there. let no : ◌≡◌ {A = Option Ticket} None (Some ticket) = sym c.in_ok-begin.ensures.judged ∙ own in absurd (cc)
 
 pub end_at_entry-requires-clause-room : goal.end_at_entry-requires-clause-room
 end_at_entry-requires-clause-room g =

@@ -1,6 +1,7 @@
-use Rattle.std.proofs.Common.{is_some, ◌≡◌, ◌≤◌, ◌<◌, ◌^◌, ◌-◌, ◌++◌, List, length, None, sym, ap, subst, ◌∙◌, arith, length-append}
+use Rattle.std.proofs.Common.{is_some, ◌≡◌, ◌≤◌, ◌<◌, ◌^◌, ◌-◌, ◌++◌, List, length, None, sym, ap, subst, ◌∙◌, arith, length-append, Option, Some}
 use Rattle.std.specs.Prelude.{All, IsTrue}
 use Rattle.std.specs.Option.{option_map}
+use Rattle.capbits.specs.declared.ids.Ticket.{Ticket}
 use Rattle.inotree.specs.Tree.{IsTree}
 use Rattle.sessiontab.specs.Calls.{has_session}
 use Rattle.sessiontab.specs.Table.{SessionTable}
@@ -78,6 +79,9 @@ module _ (c : After-leave) where
       (λ k f there. ap is_some (subst (HoldAlike c.self.inside.scene.table) (sym c.leave.ensures.table)
       (turn-alike (old c) c.args.client c.args.turn (passed c) c.self.invariant.0 (subst (λ (s : State). IsTable s.scene.table) (sym c.self.view_is) c.requires.table) 1 c.in_ok-room.room.others c.in_ok-room.ensures.reaches) k f there).1)
       (λ k f there. c.leave.ensures.known k f there)
+
+pub end_at-requires-clause-judged : goal.end_at-requires-clause-judged
+end_at-requires-clause-judged c = λ ticket q own there. let no : ◌≡◌ {A = Option Ticket} None (Some ticket) = sym c.in_ok-room.ensures.judged ∙ own in absurd (cc)
 
 pub end_at-requires-clause-room : goal.end_at-requires-clause-room
 end_at-requires-clause-room g =

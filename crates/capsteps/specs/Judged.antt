@@ -1,0 +1,11 @@
+-- A request that was judged when it came.
+use Rattle.std.specs.Prelude.{◌≡◌, Option, None, Some}
+use Rattle.capbits.specs.declared.ids.Ticket.{Ticket}
+use Rattle.capacts.specs.Lockmachine.declared.request.Request.{Request}
+use Rattle.capacts.specs.Lockmachine.Locks.{request_at}
+use Rattle.capacts.specs.Lockmachine.declared.scene.Scene.{Scene}
+use Rattle.capacts.specs.Caprules.Serving.{judged_again}
+
+-- nothing would stop the request with this number, were it served now
+abbrev pub IsJudged : Option Ticket → Scene → Type 0
+IsJudged judged s = (ticket : Ticket) (q : Request) → judged ≡ Some ticket → request_at s.locks ticket.0 ≡ Some q → judged_again s q ≡ None
