@@ -31,11 +31,7 @@ pub fn advance(scene: &mut Scene, place: SweepPlace) -> Option<Ticket>
         tree: &scene.tree,
         sessions: &scene.sessions,
     };
-    if place.alone {
-        scene
-            .locks
-            .advance_alone_at(&policy, &scene.table, place.at)
-    } else {
-        scene.locks.advance_at(&policy, &scene.table, place.at)
-    }
+    scene
+        .locks
+        .advance_at(&policy, &scene.table, place.at, place.alone)
 }

@@ -10,7 +10,10 @@ use Rattle.locktable.specs.Targets.{target_of}
 use Rattle.locktable.specs.declared.states.State.{State}
 use Rattle.locktable.specs.declared.states.LockState.{LockState}
 use Rattle.locktable.specs.declared.states.LockState.TheVariants.{Stable, Gather}
+use Rattle.lockmachine.specs.declared.moves.Move.{Move}
 use Rattle.lockmachine.specs.declared.moves.Move.TheVariants.{Begin, Serve}
+use Rattle.lockmachine.specs.declared.moves.Sought.{Sought}
+use Rattle.lockmachine.specs.declared.moves.Sought.TheVariants.{Everybody, Here, Nobody}
 use Rattle.lockmachine.specs.declared.request.Request.{Request}
 use Rattle.lockmachine.specs.declared.wants.Wants.{Wants}
 use Rattle.lockmachine.specs.Requests.{first_for, head_of, head_of_ask, part_of_ask, same_part, waits_for}
@@ -18,7 +21,7 @@ use Rattle.lockmachine.specs.Locks.{LockMap, IsLockMap, lock_at, request_at}
 use Rattle.lockmachine.specs.Scene.{Scene, target_by}
 use Rattle.lockmachine.specs.Moves.{same_state, parts, may_begin_in, may_begin_by, may_serve, is_first, is_servable, is_served_in, first_move, beginning, beginning_by, present_state}
 use Rattle.lockmachine.specs.Runs.{ChangesLocksOf}
-use Rattle.lockmachine.specs.Turns.{IsDoneAt, NobodyElsewhere, WaitAt}
+use Rattle.lockmachine.specs.Turns.{IsDoneAt, NobodyElsewhere, Suffices, WaitAt, may_wait}
 use Rattle.lockmachine.specs.Waiters.{queue_if}
 use Rattle.lockmachine.proofs.Finding.{find_none}
 use Rattle.lockmachine.proofs.Queue.{found_by_number, least_served}
@@ -65,12 +68,18 @@ same-beginning locks wants ino none k =
     option_map (λ part. Begin (record { 0 = ino }) part (same-target locks.queue wants ino none part (present_state (lock_at locks ino part)) k))
     (find (λ part. same-begin locks.queue wants ino none part (lock_at locks ino part) k) parts)
 
--- where it is known whether one does
-pub asked-beginning : (locks : LockMap) (wants : Wants) (ino : ℕ) (waits : Bool) → waits ≡ list_any (waits_for ino) locks.queue
-    → option_map (λ part. beginning_by (queue_if waits locks.queue) locks wants (ino, part)) (find (λ part. may_begin_in (queue_if waits locks.queue) wants (ino, part) (lock_at locks ino part)) parts)
-    ≡ option_map (λ part. beginning locks wants (ino, part)) (find (λ part. may_begin_by locks wants (ino, part)) parts)
-asked-beginning locks wants ino true is = refl
-asked-beginning locks wants ino false is = same-beginning locks wants ino (sym is)
+-- where it is known whether one may
+abbrev begins_if : LockMap → Wants → ℕ → Bool → Option Move
+begins_if locks wants ino waits = option_map (λ part. beginning_by (queue_if waits locks.queue) locks wants (ino, part)) (find (λ part. may_begin_in (queue_if waits locks.queue) wants (ino, part) (lock_at locks ino part)) parts)
+
+sought_begins : (locks : LockMap) (wants : Wants) (ino : ℕ) (sought : Sought) → Suffices sought locks ino → begins_if locks wants ino (may_wait sought) ≡ begins_if locks wants ino true
+sought_begins locks wants ino Everybody is = refl
+sought_begins locks wants ino Here is = refl
+sought_begins locks wants ino Nobody is = same-beginning locks wants ino is.1
+
+pub sought-beginning : (locks : LockMap) (wants : Wants) (ino : ℕ) (sought : Sought) (waits : Bool) → waits ≡ may_wait sought → Suffices sought locks ino
+    → begins_if locks wants ino waits ≡ option_map (λ part. beginning locks wants (ino, part)) (find (λ part. may_begin_by locks wants (ino, part)) parts)
+sought-beginning locks wants ino sought waits is suffices = ap (begins_if locks wants ino) is ∙ sought_begins locks wants ino sought suffices
 
 -- where nobody who waits at another inode may be served
 
@@ -88,6 +97,11 @@ nobody-kept ino old new changes nobody q inside away =
     ap (λ queue. is_first queue q && is_servable new q) changes.queue
     ∙ ap (λ o. is_first old.queue q && is_served_in o (head_of_ask q.client q.ask)) (changes.others q.ino.0 part (eqb-false q.ino.0 ino away))
     ∙ nobody q (subst (λ (qs : List Request). Contains qs q) changes.queue inside) away
+
+pub suffices-kept : (sought : Sought) (ino : ℕ) (old new : LockMap) → ChangesLocksOf ino old new → Suffices sought old ino → Suffices sought new ino
+suffices-kept Everybody ino old new changes is = is
+suffices-kept Here ino old new changes is = nobody-kept ino old new changes is
+suffices-kept Nobody ino old new changes is = (nobody-kept ino old new changes is.0, ap (list_any (waits_for ino)) changes.queue ∙ is.1)
 
 -- who waits elsewhere is held up
 pub nobody-held : (s : Scene) (ino : ℕ) → WaitAt (λ other. other == ino) s → NobodyElsewhere s.locks ino

@@ -1,13 +1,16 @@
 -- Whose turn it is, where a step touches many inodes: a caller goes over them in the order of their numbers.
-use Rattle.std.specs.Prelude.{◌≡◌, ◌≢◌, ◌<◌, ◌==◌, ℕ, Bool, true, false, Option, Some, None, Contains}
+use Rattle.std.specs.Prelude.{◌≡◌, ◌≢◌, ◌<◌, ◌==◌, ℕ, Bool, true, false, IsTrue, Option, Some, None, Contains}
+use Rattle.std.specs.List.{list_any}
 use Rattle.capbits.specs.declared.cap.Part.{Part}
 use Rattle.capbits.specs.declared.ids.Ticket.{Ticket}
 use Rattle.locktable.specs.declared.states.State.{State}
 use Rattle.locktable.specs.declared.states.LockState.TheVariants.{Gather}
 use Rattle.lockmachine.specs.declared.request.Request.{Request}
+use Rattle.lockmachine.specs.declared.moves.Sought.{Sought}
+use Rattle.lockmachine.specs.declared.moves.Sought.TheVariants.{Everybody, Here, Nobody}
 use Rattle.lockmachine.specs.declared.moves.Move.{Move}
 use Rattle.lockmachine.specs.declared.moves.Move.TheVariants.{Begin, End, Serve, Settled}
-use Rattle.lockmachine.specs.Requests.{part_of_ask}
+use Rattle.lockmachine.specs.Requests.{part_of_ask, waits_for}
 use Rattle.lockmachine.specs.Locks.{LockMap, lock_at}
 use Rattle.lockmachine.specs.Scene.{Scene}
 use Rattle.lockmachine.specs.Moves.{is_open, may_end, may_begin, may_serve, first_move}
@@ -57,3 +60,15 @@ WaitAt at s = (q : Request) → Contains s.locks.queue q → at q.ino.0 ≡ fals
 -- nobody who waits at another inode may be served
 abbrev pub NobodyElsewhere : LockMap → ℕ → Type 0
 NobodyElsewhere locks ino = (q : Request) → Contains locks.queue q → (q.ino.0 == ino) ≡ false → may_serve locks q ≡ false
+
+-- who may be served is found among those who are sought
+abbrev pub Suffices : Sought → LockMap → ℕ → Type 0
+Suffices Everybody locks ino = IsTrue true
+Suffices Here locks ino = NobodyElsewhere locks ino
+Suffices Nobody locks ino = NobodyElsewhere locks ino × (list_any (waits_for ino) locks.queue ≡ false)
+
+-- one may wait at the inode
+abbrev pub may_wait : Sought → Bool
+may_wait Everybody = true
+may_wait Here = true
+may_wait Nobody = false

@@ -1,5 +1,5 @@
 //! The locks by inode, the queue, and the moves of both.
-ghost use Rattle.std.specs.Prelude.{◌≡◌, ◌==◌, ◌&&◌, ◌+◌, ◌-◌, ◌<◌, ◌^◌, ℕ, List, None, false, length, position, IfOk, IfSome, OnOk, OnErr};
+ghost use Rattle.std.specs.Prelude.{◌≡◌, ◌==◌, ◌&&◌, ◌+◌, ◌-◌, ◌<◌, ◌^◌, ℕ, List, None, true, false, length, position, IfOk, IfSome, OnOk, OnErr};
 ghost use Rattle.std.specs.List.{find, list_any};
 ghost use Rattle.std.specs.Option.{option_map};
 ghost use Rattle.std.specs.Result.{result_err};
@@ -17,9 +17,9 @@ ghost use Rattle.lockmachine.specs.Waiters as waiting;
 ghost use Rattle.lockmachine.specs.Moves as moves;
 ghost use Rattle.lockmachine.specs.Moves.{first_move, moved, handed};
 ghost use Rattle.lockmachine.specs.Runs.{MoveLittle, EndLittle, ChangesLocksOf};
-ghost use Rattle.lockmachine.specs.Turns.{IsTurnOf, IsNextAt, IsDue, NobodyElsewhere};
+ghost use Rattle.lockmachine.specs.Turns.{IsTurnOf, IsNextAt, IsDue, NobodyElsewhere, Suffices};
 
-use crate::moves::Move;
+use crate::moves::{Move, Sought};
 use crate::policy::Policy;
 use crate::request::{Ask, Request};
 use crate::states::{InodeLocks, States};
@@ -249,18 +249,21 @@ impl Locks {
         ensures { IsNextAt (scene fs.now tree.now sessions.now table.now self.now) ino.0 result }
     {
         let policy = Policy { fs, tree, sessions };
-        self.next_move_by(&policy, table, ino, &mut None)
+        self.next_move_by(&policy, table, ino, Sought::Everybody, &mut None)
     }
 
-    // The same, where it may be known what is wanted of the inode. That is found where a gather may begin, and kept.
+    // The same, where who may be served is found among those who are sought, and it may be known what is wanted of the inode. That is
+    // found where a gather may begin, and kept.
     fn next_move_by(
         &self,
         policy: &Policy<'_>,
         table: &CapTable,
         ino: Ino,
+        sought: Sought,
         wanted: &mut Option<Wants>,
     ) -> Move
         requires turn { IsTurnOf (scene_by policy.now table.now self.now) ino.0 }
+        requires sought { Suffices sought self.now ino.0 }
         requires known { IfSome wanted.old (λ wants. wants ≡ wanted_in_all (scene_by policy.now table.now self.now) ino.0) }
         ensures next { IsNextAt (scene_by policy.now table.now self.now) ino.0 result }
         ensures known { IfSome wanted.new (λ wants. wants ≡ wanted_in_all (scene_by policy.now table.now self.now) ino.0) }
@@ -268,12 +271,25 @@ impl Locks {
         if let Some(part) = self.first_end(table, ino) {
             return Move::End { ino, part };
         }
-        if let Some(served) = self.first_served() {
+        if let Some(served) = self.first_among(sought, ino) {
             return Move::Serve(served);
         }
         let wants = known_or_found(*wanted, policy.fs, policy.tree, policy.sessions, table, ino);
         *wanted = Some(wants);
-        self.first_begin(ino, &wants).unwrap_or(Move::Settled)
+        self.first_begin(sought.may_wait(), ino, &wants)
+            .unwrap_or(Move::Settled)
+    }
+
+    // The oldest request that may be served, which is among those who are sought.
+    fn first_among(&self, sought: Sought, ino: Ino) -> Option<Ticket>
+        requires { Suffices sought self.now ino.0 }
+        ensures { result ≡ option_map (λ q. q.ticket) (find (moves.may_serve self.now) self.now.queue) }
+    {
+        match sought {
+            Sought::Everybody => self.first_served(),
+            Sought::Here => self.first_served_at(ino),
+            Sought::Nobody => None,
+        }
     }
 
     /// The oldest request that may be served. It looks at the locks and the queue alone.
@@ -318,7 +334,7 @@ impl Locks {
         for number in self.states.inos() {
             let ino = Ino(*number);
             let wants = wants_on(fs, tree, sessions, table, ino);
-            if let Some(step) = self.first_begin(ino, &wants) {
+            if let Some(step) = self.first_begin(true, ino, &wants) {
                 return step;
             }
         }
@@ -342,16 +358,8 @@ impl Locks {
             .find(|part| may_end(table, ino, *part, four.of_part(*part)))
     }
 
-    // The beginning of the first lock of an inode that may begin.
-    fn first_begin(&self, ino: Ino, wants: &Wants) -> Option<Move>
-        ensures { result ≡ option_map (λ part. moves.beginning self.now wants.now (ino.0, part))
-            (find (λ part. moves.may_begin_by self.now wants.now (ino.0, part)) moves.parts) }
-    {
-        self.first_begin_by(true, ino, wants)
-    }
-
-    // The same, where no request waits unless `waits` says that one may.
-    fn first_begin_by(&self, waits: bool, ino: Ino, wants: &Wants) -> Option<Move>
+    // The beginning of the first lock of an inode that may begin, where no request waits unless `waits` says that one may.
+    fn first_begin(&self, waits: bool, ino: Ino, wants: &Wants) -> Option<Move>
         ensures { result ≡ option_map (λ part. moves.beginning_by (waiting.queue_if waits self.now.queue) self.now wants.now (ino.0, part))
             (find (λ part. moves.may_begin_in (waiting.queue_if waits self.now.queue) wants.now (ino.0, part) (words.lock_at self.now ino.0 part)) moves.parts) }
     {
@@ -442,13 +450,6 @@ impl Locks {
             Some(first) => first.ticket.0 == request.ticket.0,
             None => false,
         }
-    }
-
-    // Whether a request waits for a lock of this inode.
-    fn waits_at(&self, ino: Ino) -> bool
-        ensures { result ≡ list_any (waits_for ino.0) self.now.queue }
-    {
-        self.waiters.any_at(ino)
     }
 
     // The oldest request for a lock of this inode that may be served.
@@ -548,9 +549,17 @@ impl Locks {
     }
 
     /// Where it is an inode's turn, begins and ends gathers there, always by the first move that applies to all, until a
-    /// request is to be served, whose number it answers, or the inode is done. It is still its turn then.
-    pub fn advance_at(&mut self, policy: &Policy<'_>, table: &CapTable, ino: Ino) -> Option<Ticket>
+    /// request is to be served, whose number it answers, or the inode is done. It is still its turn then. Where nobody who waits at
+    /// another inode may be served (`alone`), it looks for the requests for this inode alone.
+    pub fn advance_at(
+        &mut self,
+        policy: &Policy<'_>,
+        table: &CapTable,
+        ino: Ino,
+        alone: bool,
+    ) -> Option<Ticket>
         requires turn { IsTurnOf (scene_by policy.now table.now self.old) ino.0 }
+        requires alone { alone ≡ true → NobodyElsewhere self.old ino.0 }
 
         // Each lock begins at most one gather and ends at most two.
         ensures moves { MoveLittle (scene_by policy.now table.now self.old)
@@ -559,10 +568,12 @@ impl Locks {
         ensures turn { IsTurnOf (scene_by policy.now table.now self.new) ino.0 }
         ensures elsewhere { ChangesLocksOf ino.0 self.old self.new }
     {
-        // A move of a lock changes nothing of what is wanted, which is found once, and not where a request is served first.
+        // A move of a lock changes nothing of what is wanted, which is found once, and not where a request is served first; nor of who
+        // waits.
         let mut wanted = None;
+        let sought = self.sought_at(ino, alone);
         'moves: loop {
-            match self.next_move_by(policy, table, ino, &mut wanted) {
+            match self.next_move_by(policy, table, ino, sought, &mut wanted) {
                 Move::Settled => return None,
                 Move::Serve(ticket) => return Some(ticket),
                 step => self.make(step),
@@ -570,82 +581,18 @@ impl Locks {
         }
     }
 
-    /// The same, where nobody who waits at another inode may be served. It looks for the requests for this inode alone.
-    pub fn advance_alone_at(
-        &mut self,
-        policy: &Policy<'_>,
-        table: &CapTable,
-        ino: Ino,
-    ) -> Option<Ticket>
-        requires turn { IsTurnOf (scene_by policy.now table.now self.old) ino.0 }
-        requires elsewhere { NobodyElsewhere self.old ino.0 }
-
-        // Each lock begins at most one gather and ends at most two.
-        ensures moves { MoveLittle (scene_by policy.now table.now self.old)
-            (scene_by policy.now table.now self.new) }
-        ensures due { IsDue (scene_by policy.now table.now self.new) ino.0 result }
-        ensures turn { IsTurnOf (scene_by policy.now table.now self.new) ino.0 }
-        ensures elsewhere { ChangesLocksOf ino.0 self.old self.new }
+    // Among whom one that may be served is sought.
+    fn sought_at(&self, ino: Ino, alone: bool) -> Sought
+        requires { alone ≡ true → NobodyElsewhere self.now ino.0 }
+        ensures { Suffices result self.now ino.0 }
     {
-        // A move of a lock changes nothing of what is wanted, nor of who waits.
-        let mut wanted = None;
-        let waits = self.waits_at(ino);
-        'moves: loop {
-            match self.next_move_alone(policy, table, ino, waits, &mut wanted) {
-                Move::Settled => return None,
-                Move::Serve(served) => return Some(served),
-                other => self.make(other),
-            }
+        if !alone {
+            return Sought::Everybody;
         }
-    }
-
-    // What is next at an inode, where it is known whether a request waits there, and may be known what is wanted of it.
-    fn next_move_alone(
-        &self,
-        policy: &Policy<'_>,
-        table: &CapTable,
-        ino: Ino,
-        waits: bool,
-        wanted: &mut Option<Wants>,
-    ) -> Move
-        requires turn { IsTurnOf (scene_by policy.now table.now self.now) ino.0 }
-        requires elsewhere { NobodyElsewhere self.now ino.0 }
-        requires here { waits ≡ list_any (waits_for ino.0) self.now.queue }
-        requires known { IfSome wanted.old (λ wants. wants ≡ wanted_in_all (scene_by policy.now table.now self.now) ino.0) }
-        ensures next { IsNextAt (scene_by policy.now table.now self.now) ino.0 result }
-        ensures known { IfSome wanted.new (λ wants. wants ≡ wanted_in_all (scene_by policy.now table.now self.now) ino.0) }
-    {
-        if let Some(part) = self.first_end(table, ino) {
-            return Move::End { ino, part };
+        if self.waiters.any_at(ino) {
+            return Sought::Here;
         }
-        if let Some(served) = self.first_served_where(ino, waits) {
-            return Move::Serve(served);
-        }
-        let wishes = known_or_found(*wanted, policy.fs, policy.tree, policy.sessions, table, ino);
-        *wanted = Some(wishes);
-        self.first_begin_where(ino, &wishes, waits)
-            .unwrap_or(Move::Settled)
-    }
-
-    // The oldest request for a lock of this inode that may be served, where it is known whether one waits.
-    fn first_served_where(&self, ino: Ino, waits: bool) -> Option<Ticket>
-        requires { waits ≡ list_any (waits_for ino.0) self.now.queue }
-        ensures { result ≡ option_map (λ q. q.ticket) (find (λ q. waits_for ino.0 q && moves.may_serve self.now q) self.now.queue) }
-    {
-        if waits {
-            self.first_served_at(ino)
-        } else {
-            None
-        }
-    }
-
-    // The beginning of the first lock of an inode that may begin, where it is known whether a request waits for one of them.
-    fn first_begin_where(&self, ino: Ino, wants: &Wants, waits: bool) -> Option<Move>
-        requires { waits ≡ list_any (waits_for ino.0) self.now.queue }
-        ensures { result ≡ option_map (λ part. moves.beginning self.now wants.now (ino.0, part))
-            (find (λ part. moves.may_begin_by self.now wants.now (ino.0, part)) moves.parts) }
-    {
-        self.first_begin_by(waits, ino, wants)
+        Sought::Nobody
     }
 
     /// Where no gather of a lower inode may end, ends those of an inode that may, in the order of the parts. It looks at

@@ -1,4 +1,6 @@
 //! The moves of a step.
+ghost use Rattle.std.specs.Prelude.{◌≡◌};
+ghost use Rattle.lockmachine.specs.Turns.{may_wait};
 
 use capbits::{Ino, Part, Ticket};
 use locktable::State;
@@ -26,4 +28,26 @@ pub enum Move {
     Serve(Ticket),
     /// Nothing is left to do.
     Settled,
+}
+
+// Among whom one who waits and may be served is sought, where it is an inode's turn.
+#[derive(Clone, Copy)]
+pub(crate) enum Sought {
+    Everybody,
+    // Those at the inode, where nobody elsewhere may be served.
+    Here,
+    // Nor does one wait at the inode.
+    Nobody,
+}
+
+impl Sought {
+    // Whether one may wait at the inode.
+    pub(crate) fn may_wait(self) -> bool
+        ensures { result ≡ may_wait self }
+    {
+        match self {
+            Sought::Everybody | Sought::Here => true,
+            Sought::Nobody => false,
+        }
+    }
 }

@@ -1,4 +1,5 @@
 use Rattle.lockmachine.specs.Scene.{scene_by}
+use Rattle.lockmachine.proofs.Alone.{suffices-kept}
 use Rattle.lockmachine.proofs.Ending.{few}
 use Rattle.lockmachine.proofs.Settling.{one_more}
 use Rattle.lockmachine.proofs.locks.Locks.advance_at.Goals as goal
@@ -18,3 +19,6 @@ returns-in-Settled-clause-moves c = (c.moves.invariant.0.steps, few _ _ _ c.move
 
 pub returns-in-Serve-clause-moves : goal.returns-in-Serve-clause-moves
 returns-in-Serve-clause-moves c = (c.moves.invariant.0.steps, few _ _ _ c.moves.invariant.0.runs, c.moves.invariant.0.runs)
+
+pub next_move_by-requires-clause-sought : goal.next_move_by-requires-clause-sought
+next_move_by-requires-clause-sought c = suffices-kept c.sought_at-sought.result c.args.ino.0 c.args.self.now c.moves.self c.moves.invariant.0.elsewhere c.sought_at-sought.ensures
