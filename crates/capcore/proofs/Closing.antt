@@ -3,6 +3,7 @@ use Rattle.std.proofs.Common.{◌≡◌, ◌≤◌, ◌<◌, ◌^◌, ◌-◌, �
 use Rattle.std.specs.Prelude.{IsTrue, All}
 use Rattle.std.proofs.lemmas.Bool.{eqb-true}
 use Rattle.std.proofs.lemmas.List.Elements.{All-weaker, All-contains}
+use Rattle.inotree.specs.Tree.{IsTree}
 use Rattle.sessiontab.specs.Table.{SessionTable}
 use Rattle.sessiontab.specs.Calls.{has_session}
 use Rattle.captable.specs.declared.entry.EntryRow.{EntryRow}
@@ -12,7 +13,6 @@ use Rattle.captable.specs.Calls.{is_of_inode, entries_on}
 use Rattle.capsteps.specs.Lockmachine.Locks.{IsLockMap, lock_at}
 use Rattle.capsteps.specs.Lockmachine.Requests.{first_for}
 use Rattle.capsteps.specs.Lockmachine.declared.scene.Scene.{Scene}
-use Rattle.capsteps.specs.Lockmachine.Moves.{IsQuietOutside}
 use Rattle.capsteps.proofs.Lockmachine.Finding.{filter-contains}
 use Rattle.capsteps.proofs.Lockmachine.SameOutside.{outside-one, rest-outside}
 use Rattle.capbits.specs.declared.ids.Ino.{Ino}
@@ -24,13 +24,14 @@ use Rattle.capsteps.specs.Caprules.State.{State}
 use Rattle.capsteps.specs.Answered.{IsAnswered}
 use Rattle.capsteps.specs.Caprules.Direct.{direct, reply_of, shown, with_scene}
 use Rattle.capsteps.specs.Caprules.Judge.{judged}
+use Rattle.capsteps.specs.Begun.{MayEnd, MaySettle}
 use Rattle.capsteps.specs.Serves.{SettlesWith, EndsWith}
 use Rattle.capsteps.specs.Caprules.Finish.{is_sized, owed, sizes_owed}
 use Rattle.capsteps.specs.Caprules.Settle.{MakesAll, ended_in, sized_in}
 use Rattle.capsteps.specs.Caprules.Sound.{IsSoundEntry, IsSound, NumbersLeft}
 use Rattle.capsteps.specs.Caprules.Step.{earlier, all_ended, state_at_end}
 use Rattle.capsteps.specs.Touching.{touched_by, IsTouchedEntry, Touches, TouchesOne, SettlesAt, Knows, finished_at, finished_entry}
-use Rattle.capsteps.specs.Capacts.Known.{KnownSets, known_in, AreKnown, StillKept}
+use Rattle.capsteps.specs.Capacts.Known.{KnownSets, HaveRoom, known_in, AreKnown, StillKept}
 use Rattle.capsteps.specs.Capnotes.Untold.{HaveOwnNumbers, but_for}
 use Rattle.capcore.proofs.Concluded.{IsConcluded, GivesOne, concluded}
 use Rattle.capcore.proofs.EndKnown.{ends-known}
@@ -94,12 +95,21 @@ module _ (from : ℕ → Bool) (old touched : State) (sound : IsSound old) (touc
           let was = row_elsewhere from old.scene.table touched.scene.table same.entries row inside off in
           elsewhere row was off (All-contains (IsSoundEntry old.scene) old.scene.table.rows row sound.entries was)
 
-  pub touches-clients : All (λ row. IsTrue (has_session touched.scene.sessions row.holder.client.0)) rows
+  touches-clients : All (λ row. IsTrue (has_session touched.scene.sessions row.holder.client.0)) rows
   touches-clients =
       touches-all (λ row. IsTrue (has_session touched.scene.sessions row.holder.client.0)) (λ row entry. entry.of_session)
       (λ row was off entry. let same = touches.same in ap is_some (same.sessions row was off) ∙ entry.of_session)
 
--- ---- what touches one inode
+  -- so the locks may settle behind it and the step may end
+  pub touches-settles : IsTree touched.scene.tree → IsLockMap touched.scene.locks → MaySettle from touched.scene
+  touches-settles tree order = record { quiet = rest-outside from old.scene touched.scene sound.at_rest touches.same; tree = tree; order = order }
+
+  pub touches-ends : (was : KnownSets) (count : ℕ) → count < 2 ^ 32 → All (λ row. row.entry.seq ≤ count) rows → HaveRoom was touched.scene.table → MayEnd was touched.scene.sessions touched.scene.table
+  touches-ends was count less given room = record {
+    numbers = All-weaker (λ (row : EntryRow). row.entry.seq ≤ count) (λ (row : EntryRow). row.entry.seq < 2 ^ 64 - 1) (λ row few. omega (arith, few, less)) rows given;
+    clients = touches-clients;
+    room = room;
+  }
 
 -- it touches the inodes of which there is but this one
 pub touches-one : (ino : ℕ) (old : State) (first : Scene) → IsSound old → TouchesOne ino old first → Touches (λ other. other == ino) old (with_scene old first)
@@ -134,16 +144,12 @@ module _ (old : State) (e : Event) (k : Holder) (about : touched_by e ≡ Some k
 
   -- ---- what the next calls ask
 
-  pub first-quiet : IsQuietOutside from first
-  first-quiet = let t = touches in rest-outside from old.scene first sound.at_rest t.same
+  pub first-settles : IsTree first.tree → IsLockMap first.locks → MaySettle from first
+  first-settles = touches-settles from old (with_scene old first) sound touches
 
-  pub first-numbers : NumbersLeft old → All (λ row. row.entry.seq < 2 ^ 64 - 1) first.table.rows
-  first-numbers (count, given, less) =
-      All-weaker (λ (row : EntryRow). row.entry.seq ≤ count) (λ (row : EntryRow). row.entry.seq < 2 ^ 64 - 1) (λ row few. omega (arith, few, less)) first.table.rows
-      (subst (λ (s : Scene). All (λ row. row.entry.seq ≤ count) s.table.rows) (sym is) (gives count given).0)
-
-  pub first-clients : All (λ row. IsTrue (has_session first.sessions row.holder.client.0)) first.table.rows
-  first-clients = touches-clients from old (with_scene old first) sound touches
+  pub first-ends : (was : KnownSets) → NumbersLeft old → HaveRoom was first.table → MayEnd was first.sessions first.table
+  first-ends was (count, given, less) =
+      touches-ends from old (with_scene old first) sound touches was count less (subst (λ (s : Scene). All (λ row. row.entry.seq ≤ count) s.table.rows) (sym is) (gives count given).0)
 
   -- ---- the end of the step
 

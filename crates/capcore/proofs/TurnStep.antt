@@ -1,28 +1,24 @@
 -- What the calls of the step of a client's session come to.
-use Rattle.std.proofs.Common.{◌==◌, ◌≡◌, ◌≤◌, ◌<◌, ◌^◌, ◌-◌, ℕ, ◌+◌, ◌++◌, true, false, not, Bool, Option, Some, None, List, [], length, refl, sym, ap, subst, ◌∙◌, arith}
-use Rattle.std.specs.Prelude.{IsTrue, All}
+use Rattle.std.proofs.Common.{◌==◌, ◌≡◌, ◌≤◌, ℕ, ◌+◌, ◌++◌, true, false, not, Bool, Option, Some, None, List, [], length, refl, sym, ap, subst, ◌∙◌, arith}
+use Rattle.std.specs.Prelude.{All}
 use Rattle.std.specs.Option.{option_map}
 use Rattle.captable.specs.declared.entry.Entry.{Entry}
 use Rattle.captable.specs.declared.entry.Holder.{Holder}
 use Rattle.std.proofs.lemmas.Bool.{eqb-true}
 use Rattle.captable.specs.Calls.{without_client}
 use Rattle.std.proofs.lemmas.List.Sums.{length-filter, count_by-le-length}
-use Rattle.std.proofs.lemmas.List.Elements.{All-weaker}
 use Rattle.capbits.specs.declared.ids.ClientId.{ClientId}
 use Rattle.capbits.specs.declared.ids.Ino.{Ino}
 use Rattle.capbits.specs.declared.refusal.Refusal.{Refusal}
 use Rattle.capbits.specs.Refusal.{first_failing}
-use Rattle.sessiontab.specs.Calls.{has_session}
-use Rattle.captable.specs.declared.entry.EntryRow.{EntryRow}
+use Rattle.inotree.specs.Tree.{IsTree}
 use Rattle.captable.specs.Table.{Table, IsTable, entry_at}
 use Rattle.captable.proofs.ByHolder.{entry_at-without_client, entry_at-without_client_other}
 use Rattle.capsteps.specs.Lockmachine.declared.request.Request.{Request}
 use Rattle.capsteps.specs.Lockmachine.Locks.{LockMap, IsLockMap}
 use Rattle.capsteps.specs.Lockmachine.Requests.{is_of_client}
-use Rattle.capsteps.specs.Lockmachine.Moves.{IsQuietOutside}
 use Rattle.capsteps.specs.Lockmachine.declared.scene.Scene.{Scene}
 use Rattle.capsteps.proofs.Lockmachine.Queue.{without_requests_of-kept}
-use Rattle.capsteps.proofs.Lockmachine.SameOutside.{rest-outside}
 use Rattle.capsteps.specs.Capnotes.InoSets.{InoSet}
 use Rattle.capsteps.specs.Capacts.declared.leaving.Turn.{Turn}
 use Rattle.capsteps.specs.Capacts.declared.leaving.Turn.TheVariants.{Close, Stale, Renew, Regrant, Evict}
@@ -37,16 +33,17 @@ use Rattle.capsteps.specs.Caprules.Direct.{Direct, direct, reply_of, shown}
 use Rattle.capsteps.specs.Caprules.Judge.{judged, stop}
 use Rattle.capsteps.specs.Capnotes.Untold.{is_to}
 use Rattle.capsteps.specs.Capacts.Reach.{is_touched}
+use Rattle.capsteps.specs.Begun.{MayEnd, MaySettle}
 use Rattle.capsteps.specs.Serves.{SettlesWith, EndsWith}
 use Rattle.capsteps.specs.Caprules.Finish.{sizes_owed}
 use Rattle.capsteps.specs.Caprules.Settle.{ended_in, sized_in}
 use Rattle.capsteps.specs.Caprules.Sound.{IsSound, NumbersLeft}
 use Rattle.capsteps.specs.Caprules.Step.{earlier, all_ended, state_at_end}
 use Rattle.capsteps.specs.Touching.{Touches, SettlesAt, Knows, finished_at}
-use Rattle.capsteps.specs.Capacts.Known.{KnownSets, known_in, AreKnown, StillKept}
+use Rattle.capsteps.specs.Capacts.Known.{KnownSets, HaveRoom, known_in, AreKnown, StillKept}
 use Rattle.capsteps.specs.Capacts.Left.{is_end, table_left, locks_left, messages_left, dropped_by}
 use Rattle.capsteps.specs.Turn.{ReachesClient, turn_event, turn_tests, turned}
-use Rattle.capcore.proofs.Closing.{told-all, touches-clients, ends-table}
+use Rattle.capcore.proofs.Closing.{told-all, touches-settles, touches-ends, ends-table}
 use Rattle.capcore.proofs.EndKnown.{ends-known}
 use Rattle.capsteps.proofs.Knowing.{HoldAlike, alike-less, still-knows}
 use Rattle.capsteps.proofs.ShownSteps.{apart_client}
@@ -133,23 +130,18 @@ module _ (old : State) (client : ClientId) (turn : Turn) (passed : judged old.sc
 
   -- ---- what the next calls ask
 
-  pub turn-quiet : IsQuietOutside from touched.scene
-  turn-quiet = let t = touches in rest-outside from old.scene touched.scene sound.at_rest t.same
-
-  pub turn-clients : All (λ row. IsTrue (has_session touched.scene.sessions row.holder.client.0)) touched.scene.table.rows
-  turn-clients = touches-clients from old touched sound touches
-
-  pub turn-numbers : NumbersLeft old → All (λ row. row.entry.seq < 2 ^ 64 - 1) touched.scene.table.rows
-  turn-numbers (count, given, less) =
-      All-weaker (λ (row : EntryRow). row.entry.seq ≤ count) (λ (row : EntryRow). row.entry.seq < 2 ^ 64 - 1) (λ row few. omega (arith, few, less)) touched.scene.table.rows
-      (gives-turned count given.entries)
-
   order-left : (b : Bool) → IsLockMap old.scene.locks → IsLockMap (locks_left b old.scene.locks client)
   order-left false order = order
   order-left true order = without_requests_of-kept old.scene.locks client order
 
-  pub turn-order : IsLockMap old.scene.locks → IsLockMap touched.scene.locks
+  turn-order : IsLockMap old.scene.locks → IsLockMap touched.scene.locks
   turn-order order = order-left (is_end turn) order
+
+  pub turn-settles : IsTree old.scene.tree → IsLockMap old.scene.locks → MaySettle from touched.scene
+  turn-settles tree order = touches-settles from old touched sound touches tree (turn-order order)
+
+  pub turn-ends : (was : KnownSets) → NumbersLeft old → HaveRoom was touched.scene.table → MayEnd was touched.scene.sessions touched.scene.table
+  turn-ends was (count, given, less) = touches-ends from old touched sound touches was count less (gives-turned count given.entries)
 
   -- ---- the end of the step
 

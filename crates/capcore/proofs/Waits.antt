@@ -13,10 +13,9 @@ use Rattle.capsteps.specs.Lockmachine.declared.request.Ask.TheVariants.{Get, Alt
 use Rattle.capsteps.specs.Lockmachine.declared.request.Request.{Request}
 use Rattle.capsteps.specs.Lockmachine.Locks.{LockMap, IsLockMap, next_request, queue_tests, request_at, with_request}
 use Rattle.capsteps.specs.Lockmachine.declared.scene.Scene.{Scene}
-use Rattle.capsteps.specs.Lockmachine.Moves.{IsQuietOutside}
 use Rattle.capsteps.proofs.Lockmachine.Queue.{found_by_number}
-use Rattle.capsteps.proofs.Lockmachine.SameOutside.{rest-outside}
 use Rattle.captable.specs.Table.{IsTable}
+use Rattle.inotree.specs.Tree.{IsTree}
 use Rattle.capsteps.specs.Caprules.State.{State}
 use Rattle.capsteps.specs.Answered.{IsAnswered}
 use Rattle.capsteps.specs.Caprules.Asks.{ask_needs}
@@ -26,19 +25,20 @@ use Rattle.capsteps.specs.Capnotes.Untold.{is_of_ticket, HaveOwnNumbers, but_for
 use Rattle.capsteps.specs.Caprules.Judge.{judged, stop, asking_tests, waiting_tests}
 use Rattle.capsteps.specs.Caprules.Serving.{judged_again}
 use Rattle.capsteps.specs.Judged.{IsJudged}
+use Rattle.capsteps.specs.Begun.{MayEnd, MaySettle}
 use Rattle.capsteps.specs.Serves.{EndsWith}
-use Rattle.capsteps.specs.Caprules.Sound.{IsSound}
+use Rattle.capsteps.specs.Caprules.Sound.{IsSound, NumbersLeft}
 use Rattle.capsteps.specs.Caprules.Step.{earlier}
 use Rattle.capcore.proofs.Asked.{asking-again, asking-touches, asking-direct, asking-stop, order-of_ask}
 use Rattle.capcore.proofs.EndKnown.{ends-known}
 use Rattle.capsteps.proofs.Knowing.{HoldAlike, alike-less, still-there, still-knows}
-use Rattle.capcore.proofs.Closing.{told-own_numbers, told-but_own, touches-one, closed}
+use Rattle.capcore.proofs.Closing.{told-own_numbers, told-but_own, touches-one, touches-settles, touches-ends, closed}
 use Rattle.capcore.proofs.Stops.{touched-asks}
 use Rattle.capsteps.specs.Capevents.declared.event.Event.{Event}
 use Rattle.capsteps.specs.Capevents.declared.event.Event.TheVariants as event
 use Rattle.capsteps.specs.Capevents.declared.outcome.Ended.{Ended}
 use Rattle.capsteps.specs.Touching.{asks_for, Touches, Knows}
-use Rattle.capsteps.specs.Capacts.Known.{KnownSets, known_in, AreKnown, StillKept}
+use Rattle.capsteps.specs.Capacts.Known.{KnownSets, HaveRoom, known_in, AreKnown, StillKept}
 
 -- an event asks for it
 pub some-asking : (k : Holder) (ask : Ask) → (e : Event) × (asks_for e ≡ Some (k, ask))
@@ -76,10 +76,7 @@ module _ (old : State) (k : Holder) (ask : Ask) (sound : IsSound old) (table : I
       subst (λ (l : LockMap). Touches from old (with_scene old (record old.scene { locks = l }))) (sym queued)
       (touches-one k.ino.0 old (record old.scene { locks = with_request old.scene.locks k.client k.ino ask }) sound (asking-touches old k ask sound table free))
 
-  pub wait-quiet : IsQuietOutside from first
-  wait-quiet = let t = touches in rest-outside from old.scene first sound.at_rest t.same
-
-  pub wait-order : IsLockMap locks
+  wait-order : IsLockMap locks
   wait-order = subst IsLockMap (sym queued) (order-of_ask old.scene k ask order free)
 
   -- and it was judged on this tree
@@ -91,6 +88,12 @@ module _ (old : State) (k : Holder) (ask : Ask) (sound : IsSound old) (table : I
       let both : Some request ≡ Some q = sym found ∙ ap (request_at locks) (sym next ∙ ap (λ (n : Ticket). n.0) same) ∙ there in
       let itself : request ≡ q = cc in
       subst (λ (r : Request). judged_again first r ≡ None) itself (asking-again old.scene k ask free)
+
+  pub wait-settles : IsTree old.scene.tree → MaySettle from first
+  wait-settles tree = touches-settles from old (with_scene old first) sound touches tree wait-order
+
+  pub wait-ends : (was : KnownSets) → NumbersLeft old → HaveRoom was first.table → MayEnd was first.sessions first.table
+  wait-ends was (count, given, less) = touches-ends from old (with_scene old first) sound touches was count less given.entries
 
   -- the entries are as they were
   wait-alike : HoldAlike old.scene.table first.table

@@ -2,12 +2,12 @@
 use Rattle.std.proofs.Common.{◌≡◌, ◌≢◌, ℕ, Bool, true, false, ◌||◌, ◌==◌, ◌⊎◌, inl, inr, List, refl, sym, ap, ◌∙◌, eq-eqb, true≢false}
 use Rattle.std.specs.FinSet as set
 use Rattle.std.proofs.lemmas.Bool.{ne_eqb}
-use Rattle.capacts.specs.Lockmachine.Moves.{IsQuietOutside}
 use Rattle.capacts.specs.Lockmachine.declared.scene.Scene.{Scene}
 use Rattle.capacts.specs.Capevents.declared.outcome.Ended.{Ended}
 use Rattle.capacts.specs.Capnotes.InoSets.{InoSet}
 use Rattle.capacts.specs.Known.{KnownSets}
 use Rattle.capacts.specs.Reach.{is_touched}
+use Rattle.capsteps.specs.Begun.{MaySettle}
 use Rattle.capsteps.specs.Serves.{EndsWith}
 
 or_true : (a b : Bool) → a || b ≡ true → (a ≡ true) ⊎ (b ≡ true)
@@ -55,9 +55,11 @@ more-touched ino touched kept more other is = elim (or_true (other == ino) (set.
     either false e = e
 
 -- locks that are quiet outside of it alone are so outside of all that are touched
-pub quiet-among : (ino : ℕ) (touched : InoSet) (s : Scene) → IsQuietOutside (λ other. other == ino) s → IsQuietOutside (is_touched ino touched) s
-quiet-among ino touched s quiet = record {
-  each_other = λ other part off. quiet.each_other other part (or_false (other == ino) (set.contains touched other) off).0;
+pub settles-among : (ino : ℕ) (touched : InoSet) (s : Scene) → MaySettle (λ other. other == ino) s → MaySettle (is_touched ino touched) s
+settles-among ino touched s may = record {
+  quiet = record { each_other = λ other part off. may.quiet.each_other other part (or_false (other == ino) (set.contains touched other) off).0 };
+  tree = may.tree;
+  order = may.order;
 }
 
 -- ---- at the inode alone

@@ -1,5 +1,6 @@
 pub mod Among
 pub mod AtEnd
+pub mod Begun
 pub mod Counting
 pub mod Finishing
 pub mod FirstLocks

@@ -3,6 +3,7 @@ pub mod Touching
 pub mod Turn
 pub mod Leaving
 pub mod Answered
+pub mod Begun
 pub mod Judged
 pub mod Serves
 pub mod Sweep

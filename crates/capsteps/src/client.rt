@@ -7,6 +7,7 @@ ghost use Rattle.capacts.specs.Lockmachine.declared.request.Request.{Request};
 ghost use Rattle.capacts.specs.Lockmachine.Requests.{is_of_client as is_asked_by};
 ghost use Rattle.capacts.specs.Capnotes.Noted.{HavePlaces};
 ghost use Rattle.capacts.specs.Reach.{is_touched, Widens};
+ghost use Rattle.capsteps.specs.Begun.{HaveRoomFor};
 ghost use Rattle.capsteps.specs.Turn.{Notes, ReachesClient, turn_tests, turned_sessions};
 
 use crate::endings::Endings;
@@ -73,9 +74,7 @@ impl Room {
         endings: &mut Endings,
     ) -> Result<Room, AllocError>
         ensures reaches { IfOk result (λ room. ReachesClient 1 client table.now locks.now room.others) }
-        ensures told { OnOk result ((endings.new.told.items ≡ []) × (length locks.now.queue ≤ endings.new.told.room)) }
-        ensures kept { OnOk result ((endings.new.kept.items ≡ []) × (length locks.now.queue ≤ endings.new.kept.room)) }
-        ensures sized { OnOk result ((endings.new.sized.items ≡ []) × (length locks.now.queue ≤ vec_capacity endings.new.sized)) }
+        ensures room { OnOk result (HaveRoomFor (length locks.now.queue) endings.new) }
         ensures dropped { IfOk result (λ room. (room.dropped.items ≡ []) × (length locks.now.queue ≤ room.dropped.room)) }
         ensures places { IfOk result (λ room. HavePlaces endings.new.changes locks.now room.others) }
         ensures lead { OnOk result (Notes endings.new.changes.items client turn.entry) }
@@ -107,9 +106,7 @@ fn begin_turn(
     turn: Turn,
 ) -> Result<(), AllocError>
     requires place { 1 ≤ places }
-    ensures told { OnOk result ((endings.new.told.items ≡ []) × (waiting ≤ endings.new.told.room)) }
-    ensures kept { OnOk result ((endings.new.kept.items ≡ []) × (waiting ≤ endings.new.kept.room)) }
-    ensures sized { OnOk result ((endings.new.sized.items ≡ []) × (waiting ≤ vec_capacity endings.new.sized)) }
+    ensures room { OnOk result (HaveRoomFor waiting endings.new) }
     ensures places { OnOk result ((length endings.new.changes.items ≤ 1) × (places ≤ endings.new.changes.room)) }
     ensures lead { OnOk result (Notes endings.new.changes.items client turn.entry) }
     ensures judged { OnOk result (endings.new.judged ≡ None) }

@@ -1,6 +1,7 @@
 //! The requests that a step ends.
 ghost use Rattle.std.specs.Prelude.{◌≡◌, ◌+◌, ◌≤◌, ◌<◌, ◌++◌, [], ◌∷◌, None, length, OnOk, vec_capacity};
 ghost use Rattle.std.specs.List.{filter_map};
+ghost use Rattle.capsteps.specs.Begun.{HaveRoomFor};
 
 use capacts::serving::Served;
 use capacts::{ChangeList, Ended, Messages};
@@ -53,9 +54,7 @@ impl Endings {
 
     /// No request and no change, and room for so many requests and so many changes.
     pub fn begin(&mut self, room: usize, places: usize) -> Result<(), AllocError>
-        ensures told { OnOk result ((self.new.told.items ≡ []) × (room ≤ self.new.told.room)) }
-        ensures kept { OnOk result ((self.new.kept.items ≡ []) × (room ≤ self.new.kept.room)) }
-        ensures sized { OnOk result ((self.new.sized.items ≡ []) × (room ≤ vec_capacity self.new.sized)) }
+        ensures room { OnOk result (HaveRoomFor room self.new) }
         ensures changes { OnOk result ((self.new.changes.items ≡ []) × (places ≤ self.new.changes.room)) }
         ensures judged { OnOk result (self.new.judged ≡ None) }
     {

@@ -15,6 +15,7 @@ ghost use Rattle.capacts.specs.Caprules.Direct.{opened_as};
 ghost use Rattle.capacts.specs.Known.{AreKnown, HaveRoom, KeptAnew, OthersHaveAll, kept_of, known_in};
 ghost use Rattle.capsteps.specs.Touching.{forget_at, forget_among, finished_at, told_then};
 ghost use Rattle.capacts.specs.Reach.{is_touched};
+ghost use Rattle.capsteps.specs.Begun.{MayEnd};
 ghost use Rattle.capsteps.specs.Serves.{EndsAt};
 ghost use Rattle.capacts.specs.Capnotes.Noted.{LeadOn};
 
@@ -41,9 +42,7 @@ pub fn finish(
 )
     requires apart { set.contains touched.now ino.0 ≡ false }
     requires places { length changes.old.items + set.len touched.now + 1 ≤ changes.old.room }
-    requires numbers { All (λ row. row.entry.seq < 2 ^ 64 - 1) scene.old.table.rows }
-    requires clients { All (λ row. IsTrue (has_session scene.old.sessions row.holder.client.0)) scene.old.table.rows }
-    requires room { HaveRoom known.old.sets scene.old.table }
+    requires entries { MayEnd known.old.sets scene.old.sessions scene.old.table }
     ensures finished { scene.new ≡ finished_at (is_touched ino.0 touched.now) (known_in known.old.sets) scene.old }
     ensures known { KeptAnew (λ k. is_touched ino.0 touched.now k.ino.0) (told_then scene.old) scene.old.table known.old.sets known.new.sets }
     ensures queue { scene.new.locks.queue ≡ scene.old.locks.queue }
@@ -66,8 +65,7 @@ pub fn finish(
 pub fn finish_alone(scene: &mut Scene, known: &mut Known, holder: Holder, changes: &mut ChangeList)
     requires others { OthersHaveAll known.old.sets scene.old holder }
     requires place { length changes.old.items < changes.old.room }
-    requires number { IfSome (entry_at scene.old.table holder) (λ entry. entry.seq < 2 ^ 64 - 1) }
-    requires room { HaveRoom known.old.sets scene.old.table }
+    requires entries { MayEnd known.old.sets scene.old.sessions scene.old.table }
     ensures ends { EndsAt (λ other. other == holder.ino.0) [] known.old.sets known.new.sets scene.old scene.new }
     ensures queue { scene.new.locks.queue ≡ scene.old.locks.queue }
     ensures lead { LeadOn changes.old.items changes.new.items scene.old.tree scene.new.tree }
@@ -91,9 +89,7 @@ fn finish_touched(
     locks: &Locks,
     touched: &InoSet,
 )
-    requires numbers { All (λ row. row.entry.seq < 2 ^ 64 - 1) table.old.rows }
-    requires clients { All (λ row. IsTrue (has_session policy.now.sessions.now row.holder.client.0)) table.old.rows }
-    requires room { HaveRoom known.old.sets table.old }
+    requires entries { MayEnd known.old.sets policy.now.sessions.now table.old }
     ensures table { table.new
         ≡ changed_where (words.is_on touched.now) (words.entry_by (known_in known.old.sets) policy.now.fs.now policy.now.tree.now policy.now.sessions.now locks.now.states) table.old }
     ensures known { KeptAnew (λ k. set.contains touched.now k.ino.0) (words.told_by policy.now.fs.now policy.now.tree.now policy.now.sessions.now locks.now.states)

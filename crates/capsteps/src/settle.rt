@@ -1,26 +1,25 @@
 //! The locks settle at the inodes that a step touches, and who waits for them is served.
-ghost use Rattle.std.specs.Prelude.{◌≡◌, ◌==◌, ◌≤◌, ◌<◌, ◌^◌, ◌-◌, ◌+◌, ◌++◌, ◌∷◌, [], true, false, length, ℕ, List, Some, None, All, IsTrue, vec_capacity};
+ghost use Rattle.std.specs.Prelude.{◌≡◌, ◌==◌, ◌≤◌, ◌<◌, ◌+◌, ◌++◌, ◌∷◌, [], true, false, length, ℕ, List, Some, None, vec_capacity};
 ghost use Rattle.std.specs.FinMap as map;
 ghost use Rattle.std.specs.FinSet as set;
 ghost use Rattle.capbits.specs.declared.cap.Part.{Part};
-ghost use Rattle.inotree.specs.Tree.{IsTree, Nodes};
+ghost use Rattle.inotree.specs.Tree.{Nodes};
 ghost use Rattle.sessiontab.specs.Table.{SessionTable};
-ghost use Rattle.sessiontab.specs.Calls.{has_session};
 ghost use Rattle.capacts.specs.Lockmachine.declared.request.Request.{Request};
-ghost use Rattle.capacts.specs.Lockmachine.Locks.{IsLockMap, request_at};
+ghost use Rattle.capacts.specs.Lockmachine.Locks.{request_at};
 ghost use Rattle.capacts.specs.Lockmachine.Scene.{scene as scene_of};
-ghost use Rattle.capacts.specs.Lockmachine.Moves.{may_end_by, IsQuietOutside};
+ghost use Rattle.capacts.specs.Lockmachine.Moves.{may_end_by};
 ghost use Rattle.capacts.specs.Lockmachine.Turns.{WaitAt};
 ghost use Rattle.capacts.specs.Capevents.declared.outcome.Ended.{Ended};
 ghost use Rattle.capacts.specs.Capnotes.InoSets.{IsNext};
-ghost use Rattle.capacts.specs.Known.{HaveRoom, OthersHaveAll};
+ghost use Rattle.capacts.specs.Known.{OthersHaveAll};
 ghost use Rattle.capacts.specs.Capnotes.Noted.{HavePlaces, LeadOn};
 ghost use Rattle.capacts.specs.Reach.{is_touched, AreWalked, Reaches};
+ghost use Rattle.capsteps.specs.Begun.{HaveRoomFor, MayEnd, MaySettle};
 ghost use Rattle.capsteps.specs.Judged.{IsJudged};
 ghost use Rattle.capsteps.specs.Serves.{Serves, SettlesWith, EndsAt, EndsWith};
 ghost use Rattle.capacts.specs.Caprules.Settle.{Served as Serving, sized_by, sized_in};
 ghost use Rattle.capsteps.specs.Sweep.{AreStill, GoesOn, GoesOnBehind, IsFirstPlace, IsLeastOf, IsNextOf, IsSwept, StandsAt, changed_alone};
-ghost use Rattle.capacts.specs.Capnotes.Untold.{HasRoom};
 
 use crate::endings::Endings;
 use crate::finish::{finish, finish_alone};
@@ -36,20 +35,11 @@ use inotree::Setting;
 
 /// Lets the locks settle after an event about one inode, and ends the step. The locks of every other inode are quiet.
 pub fn end_at_one(scene: &mut Scene, known: &mut Known, ino: Ino, endings: &mut Endings)
-    requires quiet { IsQuietOutside (λ other. other == ino.0) scene.old }
-    requires tree { IsTree scene.old.tree }
-    requires order { IsLockMap scene.old.locks }
+    requires settles { MaySettle (λ other. other == ino.0) scene.old }
     requires judged { IsJudged endings.old.judged scene.old }
-    requires none { endings.old.told.items ≡ [] }
-    requires no_sizes { endings.old.sized.items ≡ [] }
-    requires told { HasRoom endings.old.told scene.old.locks }
-    requires kept { HasRoom endings.old.kept scene.old.locks }
-    requires sized { length endings.old.sized.items + length scene.old.locks.queue ≤ vec_capacity endings.old.sized }
-    requires same { endings.old.kept.items ≡ endings.old.told.items }
+    requires room { HaveRoomFor (length scene.old.locks.queue) endings.old }
     requires places { length endings.old.changes.items + length scene.old.locks.queue + 1 ≤ endings.old.changes.room }
-    requires numbers { All (λ row. row.entry.seq < 2 ^ 64 - 1) scene.old.table.rows }
-    requires clients { All (λ row. IsTrue (has_session scene.old.sessions row.holder.client.0)) scene.old.table.rows }
-    requires room { HaveRoom known.old.sets scene.old.table }
+    requires entries { MayEnd known.old.sets scene.old.sessions scene.old.table }
     ensures ends { EndsWith (λ other. other == ino.0) known.old.sets known.new.sets scene.old scene.new endings.new.told.items }
     ensures kept { endings.new.kept.items ≡ endings.new.told.items }
     ensures lead { LeadOn endings.old.changes.items endings.new.changes.items scene.old.tree scene.new.tree }
@@ -62,22 +52,13 @@ pub fn end_at_one(scene: &mut Scene, known: &mut Known, ino: Ino, endings: &mut 
 
 /// The same after an event that is about one entry, before which the state was sound.
 pub fn end_at_entry(scene: &mut Scene, known: &mut Known, holder: Holder, endings: &mut Endings)
-    requires quiet { IsQuietOutside (λ other. other == holder.ino.0) scene.old }
-    requires tree { IsTree scene.old.tree }
-    requires order { IsLockMap scene.old.locks }
+    requires settles { MaySettle (λ other. other == holder.ino.0) scene.old }
     requires judged { IsJudged endings.old.judged scene.old }
     // Each other entry on the inode has all, by the locks from before the settling.
     requires others { OthersHaveAll known.old.sets scene.old holder }
-    requires none { endings.old.told.items ≡ [] }
-    requires no_sizes { endings.old.sized.items ≡ [] }
-    requires told { HasRoom endings.old.told scene.old.locks }
-    requires kept { HasRoom endings.old.kept scene.old.locks }
-    requires sized { length endings.old.sized.items + length scene.old.locks.queue ≤ vec_capacity endings.old.sized }
-    requires same { endings.old.kept.items ≡ endings.old.told.items }
+    requires room { HaveRoomFor (length scene.old.locks.queue) endings.old }
     requires places { length endings.old.changes.items + length scene.old.locks.queue + 1 ≤ endings.old.changes.room }
-    requires numbers { All (λ row. row.entry.seq < 2 ^ 64 - 1) scene.old.table.rows }
-    requires clients { All (λ row. IsTrue (has_session scene.old.sessions row.holder.client.0)) scene.old.table.rows }
-    requires room { HaveRoom known.old.sets scene.old.table }
+    requires entries { MayEnd known.old.sets scene.old.sessions scene.old.table }
     ensures ends { EndsWith (λ other. other == holder.ino.0) known.old.sets known.new.sets scene.old scene.new endings.new.told.items }
     ensures kept { endings.new.kept.items ≡ endings.new.told.items }
     ensures lead { LeadOn endings.old.changes.items endings.new.changes.items scene.old.tree scene.new.tree }
@@ -125,21 +106,12 @@ fn is_as_before(
 /// Lets the locks settle after an event, and ends the step. The event was about one inode and the others; the locks of all
 /// besides are quiet.
 pub fn end_at(scene: &mut Scene, known: &mut Known, ino: Ino, others: InoSet, endings: &mut Endings)
-    requires quiet { IsQuietOutside (is_touched ino.0 others) scene.old }
-    requires tree { IsTree scene.old.tree }
-    requires order { IsLockMap scene.old.locks }
+    requires settles { MaySettle (is_touched ino.0 others) scene.old }
     requires judged { IsJudged endings.old.judged scene.old }
     requires apart { set.contains others ino.0 ≡ false }
-    requires none { endings.old.told.items ≡ [] }
-    requires no_sizes { endings.old.sized.items ≡ [] }
-    requires told { HasRoom endings.old.told scene.old.locks }
-    requires kept { HasRoom endings.old.kept scene.old.locks }
-    requires sized { length endings.old.sized.items + length scene.old.locks.queue ≤ vec_capacity endings.old.sized }
-    requires same { endings.old.kept.items ≡ endings.old.told.items }
+    requires room { HaveRoomFor (length scene.old.locks.queue) endings.old }
     requires places { HavePlaces endings.old.changes scene.old.locks others }
-    requires numbers { All (λ row. row.entry.seq < 2 ^ 64 - 1) scene.old.table.rows }
-    requires clients { All (λ row. IsTrue (has_session scene.old.sessions row.holder.client.0)) scene.old.table.rows }
-    requires room { HaveRoom known.old.sets scene.old.table }
+    requires entries { MayEnd known.old.sets scene.old.sessions scene.old.table }
     ensures ends { EndsWith (is_touched ino.0 others) known.old.sets known.new.sets scene.old scene.new endings.new.told.items }
     ensures kept { endings.new.kept.items ≡ endings.new.told.items }
     ensures lead { LeadOn endings.old.changes.items endings.new.changes.items scene.old.tree scene.new.tree }
@@ -168,9 +140,7 @@ fn end_settled(
 )
     requires apart { set.contains touched.now ino.0 ≡ false }
     requires places { length changes.old.items + set.len touched.now + 1 ≤ changes.old.room }
-    requires numbers { All (λ row. row.entry.seq < 2 ^ 64 - 1) scene.old.table.rows }
-    requires clients { All (λ row. IsTrue (has_session scene.old.sessions row.holder.client.0)) scene.old.table.rows }
-    requires room { HaveRoom known.old.sets scene.old.table }
+    requires entries { MayEnd known.old.sets scene.old.sessions scene.old.table }
     ensures ends { EndsAt (is_touched ino.0 touched.now) sized.now known.old.sets known.new.sets
         scene.old scene.new }
     ensures queue { scene.new.locks.queue ≡ scene.old.locks.queue }
@@ -183,17 +153,10 @@ fn end_settled(
 // Makes the moves, always the first that applies, until none does. Each request that is served ends, once for its client and
 // once for the history. It answers the other inodes of the event, and those that were moved with one of them.
 fn settle(scene: &mut Scene, ino: Ino, others: InoSet, endings: &mut Endings) -> InoSet
-    requires quiet { IsQuietOutside (is_touched ino.0 others) scene.old }
-    requires tree { IsTree scene.old.tree }
-    requires order { IsLockMap scene.old.locks }
+    requires settles { MaySettle (is_touched ino.0 others) scene.old }
     requires judged { IsJudged endings.old.judged scene.old }
     requires apart { set.contains others ino.0 ≡ false }
-    requires none { endings.old.told.items ≡ [] }
-    requires no_sizes { endings.old.sized.items ≡ [] }
-    requires told { HasRoom endings.old.told scene.old.locks }
-    requires kept { HasRoom endings.old.kept scene.old.locks }
-    requires sized { length endings.old.sized.items + length scene.old.locks.queue ≤ vec_capacity endings.old.sized }
-    requires same { endings.old.kept.items ≡ endings.old.told.items }
+    requires room { HaveRoomFor (length scene.old.locks.queue) endings.old }
     requires places { HavePlaces endings.old.changes scene.old.locks others }
     ensures settles { SettlesWith (is_touched ino.0 result) (is_touched ino.0 others) scene.old scene.new endings.new.told.items endings.new.sized.items }
     ensures kept { endings.new.kept.items ≡ endings.new.told.items }

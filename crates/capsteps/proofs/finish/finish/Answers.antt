@@ -37,11 +37,11 @@ finish_entries-requires c =
     record {
       numbers = subst (All (λ (row : EntryRow). row.entry.seq < 18446744073709551615))
           (sym (ap (λ (t : Table). entries_on t c.args.ino) c.finish_touched.ensures.table ∙ entries_on-stay (set.contains c.args.touched.now) g c.args.ino c.requires.apart t))
-          (All-filter (is_of_inode c.args.ino) (λ row. row.entry.seq < 18446744073709551615) t.rows c.requires.numbers);
+          (All-filter (is_of_inode c.args.ino) (λ row. row.entry.seq < 18446744073709551615) t.rows c.requires.entries.numbers);
       clients = subst (λ (t : Table). All (λ row. IsTrue (has_session c.args.scene.now.sessions row.holder.client.0)) t.rows) (sym c.finish_touched.ensures.table)
-          (holders-stay (is_on c.args.touched.now) g (λ h. IsTrue (has_session c.args.scene.now.sessions h.client.0)) t c.requires.clients);
+          (holders-stay (is_on c.args.touched.now) g (λ h. IsTrue (has_session c.args.scene.now.sessions h.client.0)) t c.requires.entries.clients);
       room = subst (HaveRoom c.finish_touched.new.known.sets) (sym c.finish_touched.ensures.table)
-          (room-still (λ k. set.contains c.args.touched.now k.ino.0) f t c.args.known.now.sets c.finish_touched.new.known.sets (is_on c.args.touched.now) g c.finish_touched.ensures.known c.requires.room);
+          (room-still (λ k. set.contains c.args.touched.now k.ino.0) f t c.args.known.now.sets c.finish_touched.new.known.sets (is_on c.args.touched.now) g c.finish_touched.ensures.known c.requires.entries.room);
     }
 
 -- an inode that was touched beside the one is another

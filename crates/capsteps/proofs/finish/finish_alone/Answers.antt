@@ -1,10 +1,12 @@
-use Rattle.std.proofs.Common.{◌≡◌, ◌==◌, Option, sym, ap, subst, ◌∙◌}
+use Rattle.std.proofs.Common.{◌≡◌, ◌<◌, ◌==◌, Option, sym, ap, subst, ◌∙◌}
 use Rattle.std.specs.FinMap as map
+use Rattle.std.proofs.lemmas.List.Elements.{All-filter}
 use Rattle.captable.specs.declared.entry.Entry.{Entry}
 use Rattle.captable.specs.declared.entry.EntryRow.{EntryRow}
 use Rattle.captable.specs.declared.entry.Holder.{Holder}
 use Rattle.captable.specs.Table.{Table, IsTable, same}
 use Rattle.captable.proofs.Tables.{same-is}
+use Rattle.captable.specs.Calls.{is_of_inode}
 use Rattle.captable.specs.Many.{changed_by, changed_where}
 use Rattle.capacts.specs.Lockmachine.declared.states.InodeLocks.{InodeLocks}
 use Rattle.capacts.specs.Lockmachine.declared.scene.Scene.{Scene}
@@ -12,6 +14,7 @@ use Rattle.capacts.specs.Lockmachine.Scene.{scene}
 use Rattle.capacts.specs.Finishing.{entry_under, told_at}
 use Rattle.capacts.specs.Known.{known_in, KeptAnew}
 use Rattle.capsteps.specs.Touching.{forget_among, finished_at, finished_entry, told_then}
+use Rattle.capsteps.proofs.AtEnd.{entry-on}
 use Rattle.capsteps.proofs.AloneAtEnd.{alone-changed, alone-kept}
 use Rattle.capsteps.proofs.Finishing.{none-sized}
 use Rattle.capacts.proofs.KeptSets.{kept-as, room-of}
@@ -19,7 +22,13 @@ use Rattle.capsteps.proofs.Strays.{forget-one}
 use Rattle.capsteps.proofs.finish.finish_alone.Goals as goal
 
 pub finish_holder-requires-clause-room : goal.finish_holder-requires-clause-room
-finish_holder-requires-clause-room c = room-of c.args.known.now.sets c.args.scene.now.table c.args.holder c.requires.room
+finish_holder-requires-clause-room c = room-of c.args.known.now.sets c.args.scene.now.table c.args.holder c.requires.entries.room
+
+pub finish_holder-requires-clause-number : goal.finish_holder-requires-clause-number
+finish_holder-requires-clause-number c =
+    let k = c.args.holder in
+    let below = λ (e : Entry). e.seq < 18446744073709551615 in
+    entry-on below c.args.scene.now.table k.client k.ino (All-filter (is_of_inode k.ino) (λ row. below row.entry) c.args.scene.now.table.rows c.requires.entries.numbers)
 
 pub returns-clause-ends : goal.returns-clause-ends
 returns-clause-ends c =

@@ -44,11 +44,11 @@ finish_entries-requires c =
     record {
       numbers = subst (All (λ (row : EntryRow). row.entry.seq < 18446744073709551615))
           (sym (ap (λ (u : Table). entries_on u (record { 0 = k })) s.finished ∙ entries_on-stay (λ n. list_any (same_number n) s.done) g (record { 0 = k }) (apart k (eq-eqb k k refl)) t))
-          (All-filter (is_of_inode (record { 0 = k })) (λ row. row.entry.seq < 18446744073709551615) t.rows c.requires.numbers);
+          (All-filter (is_of_inode (record { 0 = k })) (λ row. row.entry.seq < 18446744073709551615) t.rows c.requires.entries.numbers);
       clients = subst (λ (u : Table). All (λ row. IsTrue (has_session c.args.policy.now.sessions.now row.holder.client.0)) u.rows) (sym s.finished)
-          (holders-stay (on (λ n. list_any (same_number n) s.done)) g (λ h. IsTrue (has_session c.args.policy.now.sessions.now h.client.0)) t c.requires.clients);
+          (holders-stay (on (λ n. list_any (same_number n) s.done)) g (λ h. IsTrue (has_session c.args.policy.now.sessions.now h.client.0)) t c.requires.entries.clients);
       room = subst (HaveRoom c.loop-number.known.sets) (sym s.finished)
-          (room-still (λ q. list_any (same_number q.ino.0) s.done) f t c.args.known.now.sets c.loop-number.known.sets (on (λ n. list_any (same_number n) s.done)) g s.kept c.requires.room);
+          (room-still (λ q. list_any (same_number q.ino.0) s.done) f t c.args.known.now.sets c.loop-number.known.sets (on (λ n. list_any (same_number n) s.done)) g s.kept c.requires.entries.room);
     }
 
 pub loop-number-preserved : goal.loop-number-preserved

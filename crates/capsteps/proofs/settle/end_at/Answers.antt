@@ -1,10 +1,8 @@
-use Rattle.std.proofs.Common.{◌<◌, subst, List}
-use Rattle.std.specs.Prelude.{All, IsTrue}
+use Rattle.std.proofs.Common.{subst, List}
 use Rattle.capbits.specs.declared.ids.Ino.{Ino}
-use Rattle.sessiontab.specs.Calls.{has_session}
 use Rattle.capacts.specs.Lockmachine.declared.scene.Scene.{Scene}
-use Rattle.capacts.specs.Known.{HaveRoom}
 use Rattle.capacts.specs.Reach.{is_touched}
+use Rattle.capsteps.specs.Begun.{MayEnd}
 use Rattle.capsteps.specs.Serves.{EndsAt}
 use Rattle.capsteps.proofs.NobodyServed.{settled-ends, settled-keeps}
 use Rattle.capacts.proofs.Capnotes.Noting.{leads-then}
@@ -16,7 +14,7 @@ returns-clause-ends c =
     let settled : Scene = c.settle-touched.new.scene in
     let last : Scene = c.end_settled.new.scene in
     settled-ends at (is_touched c.args.ino.0 c.args.others) c.args.known.now.sets c.end_settled.new.known.sets
-    c.args.scene.now settled last c.settle-touched.new.endings.told.items c.settle-touched.new.endings.sized.items c.settle-touched.ensures.settles c.requires.tree
+    c.args.scene.now settled last c.settle-touched.new.endings.told.items c.settle-touched.new.endings.sized.items c.settle-touched.ensures.settles c.requires.settles.tree
     (subst (λ (sized : List Ino). EndsAt at sized c.args.known.now.sets c.end_settled.new.known.sets settled last) c.as_slice.ensures.value c.end_settled.ensures.ends)
 
 pub returns-clause-lead : goal.returns-clause-lead
@@ -26,13 +24,5 @@ returns-clause-lead c =
 
 -- ---- what ends the step finds the entries and the sessions as they were
 
-pub end_settled-requires-clause-numbers : goal.end_settled-requires-clause-numbers
-end_settled-requires-clause-numbers c =
-    settled-keeps _ _ _ _ _ _ c.settle-touched.ensures.settles (λ table sessions. All (λ row. row.entry.seq < 18446744073709551615) table.rows) c.requires.numbers
-
-pub end_settled-requires-clause-clients : goal.end_settled-requires-clause-clients
-end_settled-requires-clause-clients c =
-    settled-keeps _ _ _ _ _ _ c.settle-touched.ensures.settles (λ table sessions. All (λ row. IsTrue (has_session sessions row.holder.client.0)) table.rows) c.requires.clients
-
-pub end_settled-requires-clause-room : goal.end_settled-requires-clause-room
-end_settled-requires-clause-room c = settled-keeps _ _ _ _ _ _ c.settle-touched.ensures.settles (λ table sessions. HaveRoom c.args.known.now.sets table) c.requires.room
+pub end_settled-requires-clause-entries : goal.end_settled-requires-clause-entries
+end_settled-requires-clause-entries c = settled-keeps _ _ _ _ _ _ c.settle-touched.ensures.settles (λ table sessions. MayEnd c.args.known.now.sets sessions table) c.requires.entries

@@ -1,27 +1,20 @@
-use Rattle.std.proofs.Common.{◌<◌, ◌==◌, List, [], ap, subst, ◌∙◌, arith}
-use Rattle.std.specs.Prelude.{All, IfSome, IsTrue}
+use Rattle.std.proofs.Common.{◌==◌, List, [], ap, subst, ◌∙◌, arith}
 use Rattle.std.specs.FinSet as set
 use Rattle.std.specs.Ordering.{nat_cmp}
-use Rattle.std.proofs.lemmas.List.Elements.{All-filter}
 use Rattle.capbits.specs.declared.ids.Ino.{Ino}
-use Rattle.sessiontab.specs.Calls.{has_session}
-use Rattle.captable.specs.Table.{entry_at}
-use Rattle.captable.specs.Calls.{is_of_inode}
 use Rattle.capacts.specs.Lockmachine.declared.scene.Scene.{Scene}
 use Rattle.capacts.specs.Capnotes.InoSets.{InoSet}
-use Rattle.capacts.specs.Known.{HaveRoom}
 use Rattle.capacts.specs.Reach.{is_touched}
+use Rattle.capsteps.specs.Begun.{MayEnd}
 use Rattle.capsteps.specs.Serves.{EndsAt}
-use Rattle.capsteps.proofs.Among.{quiet-among, ends-one}
-use Rattle.capsteps.proofs.AtEnd.{entry-on}
+use Rattle.capsteps.proofs.Among.{settles-among, ends-one}
 use Rattle.capacts.proofs.InoSets.{none-there}
 use Rattle.capsteps.proofs.NobodyServed.{others-still, settled-ends, settled-keeps, settles-alone}
 use Rattle.capacts.proofs.Capnotes.Noting.{leads-then}
 use Rattle.capsteps.proofs.settle.end_at_entry.Goals as goal
 
-pub settle-touched-requires-clause-quiet : goal.settle-touched-requires-clause-quiet
-settle-touched-requires-clause-quiet c =
-    quiet-among c.args.holder.ino.0 c.new-others.result c.args.scene.now c.requires.quiet
+pub settle-touched-requires-clause-settles : goal.settle-touched-requires-clause-settles
+settle-touched-requires-clause-settles c = settles-among c.args.holder.ino.0 c.new-others.result c.args.scene.now c.requires.settles
 
 pub settle-touched-requires-clause-apart : goal.settle-touched-requires-clause-apart
 settle-touched-requires-clause-apart c = ap (λ (inos : InoSet). set.contains inos c.args.holder.ino.0) c.new-others.ensures ∙ none-there c.args.holder.ino.0
@@ -43,15 +36,8 @@ finish_alone-requires-clause-others c =
     others-still ino (is_touched ino c.new-others.result) c.settle-touched.result first settled c.settle-touched.new.endings.told.items c.settle-touched.new.endings.sized.items
     c.settle-touched.ensures.settles calm.0 c.args.known.now.sets c.args.holder (calm.2 ∙ c.of_ino-before.ensures) c.requires.others
 
-pub finish_alone-requires-clause-number : goal.finish_alone-requires-clause-number
-finish_alone-requires-clause-number c =
-    let k = c.args.holder in
-    settled-keeps _ _ _ _ _ _ c.settle-touched.ensures.settles (λ table sessions. IfSome (entry_at table k) (λ e. e.seq < 18446744073709551615))
-    (entry-on (λ e. e.seq < 18446744073709551615) c.args.scene.now.table k.client k.ino
-    (All-filter (is_of_inode k.ino) (λ row. row.entry.seq < 18446744073709551615) c.args.scene.now.table.rows c.requires.numbers))
-
-pub finish_alone-requires-clause-room : goal.finish_alone-requires-clause-room
-finish_alone-requires-clause-room c = settled-keeps _ _ _ _ _ _ c.settle-touched.ensures.settles (λ table sessions. HaveRoom c.args.known.now.sets table) c.requires.room
+pub finish_alone-requires-clause-entries : goal.finish_alone-requires-clause-entries
+finish_alone-requires-clause-entries c = settled-keeps _ _ _ _ _ _ c.settle-touched.ensures.settles (λ table sessions. MayEnd c.args.known.now.sets sessions table) c.requires.entries
 
 pub returns-then-is_as_before-clause-ends : goal.returns-then-is_as_before-clause-ends
 returns-then-is_as_before-clause-ends c =
@@ -63,7 +49,7 @@ returns-then-is_as_before-clause-ends c =
     settled-ends (λ other. other == ino) (λ other. other == ino) c.args.known.now.sets c.finish_alone.new.known.sets first settled last c.settle-touched.new.endings.told.items []
     (settles-alone ino (is_touched ino c.new-others.result) c.settle-touched.result first settled c.settle-touched.new.endings.told.items c.settle-touched.new.endings.sized.items
     c.settle-touched.ensures.settles calm.0 calm.1)
-    c.requires.tree c.finish_alone.ensures.ends
+    c.requires.settles.tree c.finish_alone.ensures.ends
 
 pub returns-then-is_as_before-clause-lead : goal.returns-then-is_as_before-clause-lead
 returns-then-is_as_before-clause-lead c =
@@ -81,7 +67,7 @@ returns-clause-ends c =
     let last : Scene = c.end_settled.new.scene in
     ends-one ino c.new-others.result c.args.known.now.sets c.end_settled.new.known.sets first last c.settle-touched.new.endings.told.items
     (settled-ends at (is_touched ino c.new-others.result) c.args.known.now.sets c.end_settled.new.known.sets first settled last
-    c.settle-touched.new.endings.told.items c.settle-touched.new.endings.sized.items c.settle-touched.ensures.settles c.requires.tree
+    c.settle-touched.new.endings.told.items c.settle-touched.new.endings.sized.items c.settle-touched.ensures.settles c.requires.settles.tree
     (subst (λ (sized : List Ino). EndsAt at sized c.args.known.now.sets c.end_settled.new.known.sets settled last) c.as_slice.ensures.value c.end_settled.ensures.ends))
 
 pub returns-clause-lead : goal.returns-clause-lead
@@ -89,13 +75,5 @@ returns-clause-lead c =
     leads-then c.args.endings.now.changes.items c.settle-touched.new.endings.changes.items c.end_settled.new.changes.items c.args.scene.now.tree c.settle-touched.new.scene.tree c.end_settled.new.scene.tree
     c.settle-touched.ensures.lead c.end_settled.ensures.lead
 
-pub end_settled-requires-clause-numbers : goal.end_settled-requires-clause-numbers
-end_settled-requires-clause-numbers c =
-    settled-keeps _ _ _ _ _ _ c.settle-touched.ensures.settles (λ table sessions. All (λ row. row.entry.seq < 18446744073709551615) table.rows) c.requires.numbers
-
-pub end_settled-requires-clause-clients : goal.end_settled-requires-clause-clients
-end_settled-requires-clause-clients c =
-    settled-keeps _ _ _ _ _ _ c.settle-touched.ensures.settles (λ table sessions. All (λ row. IsTrue (has_session sessions row.holder.client.0)) table.rows) c.requires.clients
-
-pub end_settled-requires-clause-room : goal.end_settled-requires-clause-room
-end_settled-requires-clause-room c = settled-keeps _ _ _ _ _ _ c.settle-touched.ensures.settles (λ table sessions. HaveRoom c.args.known.now.sets table) c.requires.room
+pub end_settled-requires-clause-entries : goal.end_settled-requires-clause-entries
+end_settled-requires-clause-entries c = settled-keeps _ _ _ _ _ _ c.settle-touched.ensures.settles (λ table sessions. MayEnd c.args.known.now.sets sessions table) c.requires.entries

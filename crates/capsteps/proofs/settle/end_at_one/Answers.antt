@@ -2,13 +2,12 @@ use Rattle.std.proofs.Common.{ap, ◌∙◌, arith}
 use Rattle.std.specs.FinSet as set
 use Rattle.std.specs.Ordering.{nat_cmp}
 use Rattle.capacts.specs.Capnotes.InoSets.{InoSet}
-use Rattle.capsteps.proofs.Among.{quiet-among, ends-one}
+use Rattle.capsteps.proofs.Among.{settles-among, ends-one}
 use Rattle.capacts.proofs.InoSets.{none-there}
 use Rattle.capsteps.proofs.settle.end_at_one.Goals as goal
 
-pub end_at-requires-clause-quiet : goal.end_at-requires-clause-quiet
-end_at-requires-clause-quiet c =
-    quiet-among c.args.ino.0 c.new-others.result c.args.scene.now c.requires.quiet
+pub end_at-requires-clause-settles : goal.end_at-requires-clause-settles
+end_at-requires-clause-settles c = settles-among c.args.ino.0 c.new-others.result c.args.scene.now c.requires.settles
 
 pub end_at-requires-clause-apart : goal.end_at-requires-clause-apart
 end_at-requires-clause-apart c = ap (λ (inos : InoSet). set.contains inos c.args.ino.0) c.new-others.ensures ∙ none-there c.args.ino.0

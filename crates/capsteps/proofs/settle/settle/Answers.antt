@@ -32,30 +32,31 @@ use Rattle.capsteps.proofs.settle.settle.Goals.{In-Some, After-place_behind-plac
 pub end_gathers-requires : goal.end_gathers-requires
 end_gathers-requires c =
     let first : Scene = c.args.scene.now in
-    record { elsewhere = λ other part off. ends_not first (other, part) (lock_at first.locks other part) (c.requires.quiet.each_other other part off) }
+    record { elsewhere = λ other part off. ends_not first (other, part) (lock_at first.locks other part) (c.requires.settles.quiet.each_other other part off) }
 
 pub servings-init : goal.servings-init
 servings-init c =
     let first : Scene = c.args.scene.now in
     let now : Scene = record c.args.scene.now { locks = c.end_gathers.new.locks } in
     let at : ℕ → Bool = is_touched c.args.ino.0 c.args.others in
-    let begun = so-far-begins c.args.ino.0 c.args.others first c.requires.quiet c.requires.apart in
+    let begun = so-far-begins c.args.ino.0 c.args.others first c.requires.settles.quiet c.requires.apart in
     let swept : IsSwept at first now = c.end_gathers.ensures.swept first.fs first.tree first.sessions begun.waits in
     let so : IsSoFar c.args.ino.0 at c.args.others first now [] [] = so-far-swept c.args.ino.0 at c.args.others first first [] [] begun now swept in
     let queue : length c.end_gathers.new.locks.queue ≡ length c.args.scene.now.locks.queue = ap length swept.queue in
+    let room = c.requires.room in
     record {
       so_far =
-          subst (λ (told : List Ended). IsSoFar c.args.ino.0 at c.args.others first now told c.args.endings.now.sized.items) (sym c.requires.none)
-          (subst (IsSoFar c.args.ino.0 at c.args.others first now []) (sym c.requires.no_sizes) so);
+          subst (λ (told : List Ended). IsSoFar c.args.ino.0 at c.args.others first now told c.args.endings.now.sized.items) (sym c.requires.room.told)
+          (subst (IsSoFar c.args.ino.0 at c.args.others first now []) (sym c.requires.room.sized) so);
       stands = stands-first c.args.ino.0 c.args.others now c.first_place-place.result (turn-of_least at now so.still c.end_gathers.ensures.ends) so.waits c.first_place-place.ensures;
       walked = none-walked c.new-walked.result c.args.ino.0 c.args.scene.now.tree c.args.scene.now.table c.args.others c.new-walked.ensures;
       judged = still-judged c.args.endings.now.judged first now.locks swept.queue c.requires.judged;
-      same = c.requires.same;
+      same = c.requires.room.kept ∙ sym c.requires.room.told;
       lead = leads-none c.args.endings.now.changes.items c.args.scene.now.tree;
       places = omega (arith, queue, c.requires.places);
-      told = omega (arith, queue, c.requires.told);
-      kept = omega (arith, queue, c.requires.kept);
-      sized = omega (arith, queue, c.requires.sized);
+      told = omega (arith, queue, ap length room.told, room.told_room);
+      kept = omega (arith, queue, ap length room.kept, room.kept_room);
+      sized = omega (arith, queue, ap length room.sized, room.sized_room);
     }
 
 -- a serving changes at most one size
@@ -85,10 +86,10 @@ module _ (c : In-Some) where
 
   -- the moves so far leave the requests in their order, and a tree
   order : IsLockMap mid.locks
-  order = let so = swept in let moved = moved-all first so.moves mid so.made in moved.order c.requires.order
+  order = let so = swept in let moved = moved-all first so.moves mid so.made in moved.order c.requires.settles.order
 
   tree : IsTree mid.tree
-  tree = let so = swept in tree-moved first so.moves mid so.made c.requires.tree
+  tree = let so = swept in tree-moved first so.moves mid so.made c.requires.settles.tree
 
   stays : mid ≡ record now { locks = mid.locks }
   stays = let is = c.sweep.ensures.swept in is.is

@@ -18,12 +18,13 @@ use Rattle.capsteps.specs.Capnotes.Untold.{but_for}
 use Rattle.capcore.specs.Asks.{ask_of}
 use Rattle.capcore.proofs.Closing.{ends-sessions}
 use Rattle.capcore.proofs.Asked.{asking-room, asking-stop}
-use Rattle.capcore.proofs.Waits.{some-asking, room-left, few-others, wait-quiet, wait-order, wait-judged, wait-differ, wait-known, wait-answered}
+use Rattle.capcore.proofs.Waits.{some-asking, room-left, few-others, wait-settles, wait-ends, wait-judged, wait-differ, wait-known, wait-answered}
 use Rattle.capsteps.specs.Capview.Changes.{AreChanges}
 use Rattle.capsteps.specs.Caprules.Noted.{view_of}
 use Rattle.capsteps.specs.Capnotes.Noted.{view}
 use Rattle.capsteps.proofs.Capnotes.Noting.{changes-all, changes-still}
-use Rattle.capsteps.specs.Caprules.Sound.{IsSound}
+use Rattle.capsteps.specs.Caprules.Sound.{IsSound, NumbersLeft}
+use Rattle.capsteps.proofs.Begun.{room-for}
 use Rattle.capcore.proofs.Stops.{asking-at, stopped-answered}
 use Rattle.capcore.proofs.world.World.ask.Goals as goal
 use Rattle.capcore.proofs.world.World.ask.Goals.{After-waiting-waiting, After-enqueue_tested-ticket, After-close_with}
@@ -61,6 +62,9 @@ module _ (c : After-enqueue_tested-ticket) where
   queued : c.enqueue_tested-ticket.new.self ≡ with_request c.self.inside.scene.locks c.args.client c.args.ino (ask_of c.args.asked)
   queued = c.enqueue_tested-ticket.ensures.queued ∙ ap (with_request c.self.inside.scene.locks c.args.client c.args.ino) c.in_ok-ask.ensures
 
+  one-waits : length c.enqueue_tested-ticket.new.self.queue ≡ length c.self.inside.scene.locks.queue + 1
+  one-waits = ap (λ (l : LockMap). length l.queue) queued ∙ length-append c.self.inside.scene.locks.queue (next_request c.self.inside.scene.locks c.args.client c.args.ino (ask_of c.args.asked) ∷ [])
+
 pub enqueue_tested-ticket-requires-clause-room : goal.enqueue_tested-ticket-requires-clause-room
 enqueue_tested-ticket-requires-clause-room g =
     let c = (goal.at.enqueue_tested-ticket-requires-clause-room g).After-waiting-waiting in
@@ -68,19 +72,18 @@ enqueue_tested-ticket-requires-clause-room g =
 
 -- ---- while it waits
 
-pub end_at_one-requires-clause-quiet : goal.end_at_one-requires-clause-quiet
-end_at_one-requires-clause-quiet g =
-    let c = (goal.at.end_at_one-requires-clause-quiet g).After-waiting-waiting in
-    wait-quiet (old c) (k c) (ask c) g.self.invariant.0 (subst (λ (s : State). IsTable s.scene.table) (sym g.self.view_is) g.requires.table) g.waiting-waiting.ensures.sound (free c) g.enqueue_tested-ticket.new.self (queued (goal.at.end_at_one-requires-clause-quiet g).After-enqueue_tested-ticket)
+pub end_at_one-requires-clause-settles : goal.end_at_one-requires-clause-settles
+end_at_one-requires-clause-settles g =
+    let c = (goal.at.end_at_one-requires-clause-settles g).After-waiting-waiting in
+    wait-settles (old c) (k c) (ask c) g.self.invariant.0 (subst (λ (s : State). IsTable s.scene.table) (sym g.self.view_is) g.requires.table) g.waiting-waiting.ensures.sound (free c)
+    g.enqueue_tested-ticket.new.self (queued (goal.at.end_at_one-requires-clause-settles g).After-enqueue_tested-ticket) (subst (λ (s : State). IsTree s.scene.tree) (sym g.self.view_is) g.requires.tree)
 
-pub end_at_one-requires-clause-tree : goal.end_at_one-requires-clause-tree
-end_at_one-requires-clause-tree g = subst (λ (s : State). IsTree s.scene.tree) (sym g.self.view_is) g.requires.tree
-
-pub end_at_one-requires-clause-order : goal.end_at_one-requires-clause-order
-end_at_one-requires-clause-order g =
-    let c = (goal.at.end_at_one-requires-clause-order g).After-waiting-waiting in
-    wait-order (old c) (k c) (ask c) g.self.invariant.0 (subst (λ (s : State). IsTable s.scene.table) (sym g.self.view_is) g.requires.table) g.waiting-waiting.ensures.sound (free c)
-    g.enqueue_tested-ticket.new.self (queued (goal.at.end_at_one-requires-clause-order g).After-enqueue_tested-ticket)
+pub end_at_one-requires-clause-entries : goal.end_at_one-requires-clause-entries
+end_at_one-requires-clause-entries g =
+    let c = (goal.at.end_at_one-requires-clause-entries g).After-waiting-waiting in
+    wait-ends (old c) (k c) (ask c) g.self.invariant.0 (subst (λ (s : State). IsTable s.scene.table) (sym g.self.view_is) g.requires.table) g.waiting-waiting.ensures.sound (free c)
+    g.enqueue_tested-ticket.new.self (queued (goal.at.end_at_one-requires-clause-entries g).After-enqueue_tested-ticket)
+    g.self.inside.known.sets (subst NumbersLeft (sym g.self.view_is) g.requires.numbers) (λ j f there. ap is_some (g.self.invariant.2 j f there))
 
 pub end_at_one-requires-clause-judged : goal.end_at_one-requires-clause-judged
 end_at_one-requires-clause-judged g =
@@ -89,7 +92,10 @@ end_at_one-requires-clause-judged g =
     g.enqueue_tested-ticket.new.self (queued (goal.at.end_at_one-requires-clause-judged g).After-enqueue_tested-ticket) g.enqueue_tested-ticket.result g.enqueue_tested-ticket.ensures.ticket
 
 pub end_at_one-requires-clause-room : goal.end_at_one-requires-clause-room
-end_at_one-requires-clause-room g = λ j f there. ap is_some (g.self.invariant.2 j f there)
+end_at_one-requires-clause-room g =
+    let c = (goal.at.end_at_one-requires-clause-room g).After-enqueue_tested-ticket in
+    let one_more = one-waits c in
+    room-for g.begin.new.self g.begin.new.self.changes (Some g.enqueue_tested-ticket.result) _ _ g.in_ok-begin.ensures.room (omega (arith, one_more, g.waiting-waiting.ensures.waiting))
 
 pub close_with-requires-clause-differ : goal.close_with-requires-clause-differ
 close_with-requires-clause-differ g =
@@ -132,8 +138,7 @@ invariant_of-self-2 g =
     let items : length g.close_with.new.messages.items ≡ length g.self.inside.messages.items + length (but_for ticket told) =
     ap length g.close_with.ensures.items ∙ length-append g.reserve.new.self.items (but_for ticket told) ∙ ap (λ (ms : List Ended). length ms + length (but_for ticket told)) g.reserve.ensures.items in
     let few = few-others ticket told in
-    let queue : length g.enqueue_tested-ticket.new.self.queue ≡ length g.self.inside.scene.locks.queue + 1 =
-    ap (λ (l : LockMap). length l.queue) (copied g) ∙ length-append g.self.inside.scene.locks.queue (next_request g.self.inside.scene.locks g.args.client g.args.ino (ask (c g)) ∷ []) in (
+    let queue = one-waits (goal.at.invariant_of-self-2 g).After-enqueue_tested-ticket in (
       w.sound,
       omega (arith, items, few, queue, g.in_default-reserve.ensures.ok, g.close_with.ensures.room, g.end_at_one.ensures.count, g.waiting-waiting.ensures.waiting),
       wait-known (old (c g)) (k (c g)) (ask (c g)) g.self.invariant.0 (subst (λ (s : State). IsTable s.scene.table) (sym g.self.view_is) g.requires.table) g.waiting-waiting.ensures.sound (free (c g)) g.enqueue_tested-ticket.new.self (copied g)

@@ -17,10 +17,11 @@ use Rattle.capsteps.specs.Caprules.Judge.{judged}
 use Rattle.capsteps.specs.Capacts.Known.{known_in, StillKept}
 use Rattle.capsteps.specs.Touching.{Knows}
 use Rattle.capsteps.specs.Serves.{EndsWith}
-use Rattle.capsteps.specs.Caprules.Sound.{IsSound}
+use Rattle.capsteps.specs.Caprules.Sound.{IsSound, NumbersLeft}
 use Rattle.capsteps.specs.Caprules.Step.{earlier}
-use Rattle.capcore.proofs.Closing.{ends-sessions, first-quiet, told-all, closed-known, closed}
+use Rattle.capcore.proofs.Closing.{ends-sessions, first-settles, first-ends, told-all, closed-known, closed}
 use Rattle.capsteps.proofs.Knowing.{HoldAlike, alike-less, still-there, still-room, still-knows}
+use Rattle.capsteps.proofs.Begun.{room-for}
 use Rattle.capcore.proofs.OfInode.{event-table}
 use Rattle.capcore.proofs.Flushed.{flush-calls, flush-tree, flush-direct}
 use Rattle.capcore.proofs.Stops.{judged-at, stopped-answered}
@@ -95,20 +96,20 @@ module _ (c : After-touch) where
 pub end_at_one-requires-clause-judged : goal.end_at_one-requires-clause-judged
 end_at_one-requires-clause-judged c = λ ticket q own there. let no : ◌≡◌ {A = Option Ticket} None (Some ticket) = sym c.in_ok-begin.ensures.judged ∙ own in absurd (cc)
 
+pub end_at_one-requires-clause-settles : goal.end_at_one-requires-clause-settles
+end_at_one-requires-clause-settles g =
+    let c = (goal.at.end_at_one-requires-clause-settles g).After-touch in
+    let tree = flush-tree (old c).scene (k c) c.args.change.now (passed c) (subst (λ (s : State). IsTree s.scene.tree) (sym c.self.view_is) c.requires.tree) in
+    first-settles (old c) (e c) (k c) refl (passed c) c.self.invariant.0 (subst (λ (s : State). IsTable s.scene.table) (sym c.self.view_is) c.requires.table) (first c) (is c) (subst IsTree (sym c.in_ok-alter.ensures.ok) tree) c.waiting-waiting.ensures.sound
+
+pub end_at_one-requires-clause-entries : goal.end_at_one-requires-clause-entries
+end_at_one-requires-clause-entries g =
+    let c = (goal.at.end_at_one-requires-clause-entries g).After-touch in
+    first-ends (old c) (e c) (k c) refl (passed c) c.self.invariant.0 (subst (λ (s : State). IsTable s.scene.table) (sym c.self.view_is) c.requires.table) (first c) (is c)
+    c.self.inside.known.sets (subst NumbersLeft (sym c.self.view_is) c.requires.numbers) (still-room c.self.inside.known.sets c.self.inside.known.sets (old c).scene c.touch.new.self c.self.invariant.2 (still c))
+
 pub end_at_one-requires-clause-room : goal.end_at_one-requires-clause-room
-end_at_one-requires-clause-room g =
-    let c = (goal.at.end_at_one-requires-clause-room g).After-touch in
-    still-room c.self.inside.known.sets c.self.inside.known.sets (old c).scene c.touch.new.self c.self.invariant.2 (still c)
-
-pub end_at_one-requires-clause-quiet : goal.end_at_one-requires-clause-quiet
-end_at_one-requires-clause-quiet g =
-    let c = (goal.at.end_at_one-requires-clause-quiet g).After-touch in
-    first-quiet (old c) (e c) (k c) refl (passed c) c.self.invariant.0 (subst (λ (s : State). IsTable s.scene.table) (sym c.self.view_is) c.requires.table) (first c) (is c)
-
-pub end_at_one-requires-clause-tree : goal.end_at_one-requires-clause-tree
-end_at_one-requires-clause-tree g =
-    let c = (goal.at.end_at_one-requires-clause-tree g).After-touch in
-    subst IsTree (sym c.in_ok-alter.ensures.ok) (flush-tree (old c).scene (k c) c.args.change.now (passed c) (subst (λ (s : State). IsTree s.scene.tree) (sym c.self.view_is) c.requires.tree))
+end_at_one-requires-clause-room c = room-for c.begin.new.self c.note_change.new.self c.begin.new.self.judged _ _ c.in_ok-begin.ensures.room (omega arith)
 
 -- ---- the end of the step
 

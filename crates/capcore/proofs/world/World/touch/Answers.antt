@@ -22,8 +22,9 @@ use Rattle.capsteps.specs.Serves.{EndsWith}
 use Rattle.capsteps.specs.Caprules.Sound.{IsSound, NumbersLeft}
 use Rattle.capsteps.specs.Caprules.Step.{earlier}
 use Rattle.capsteps.specs.Touch.{touch_event, touch_answer}
-use Rattle.capcore.proofs.Closing.{ends-sessions, first-quiet, first-numbers, first-clients, told-all, closed-known, closed}
+use Rattle.capcore.proofs.Closing.{ends-sessions, first-settles, first-ends, told-all, closed-known, closed}
 use Rattle.capsteps.proofs.Knowing.{held_at, HoldAlike, known-alike, still-room, still-knows, still-all}
+use Rattle.capsteps.proofs.Begun.{room-for}
 use Rattle.capcore.proofs.OfInode.{event-table}
 use Rattle.capcore.proofs.Stops.{judged-at, stopped-answered}
 use Rattle.capsteps.proofs.TouchKept.{touch-less, others-have_all}
@@ -100,29 +101,20 @@ module _ (c : In_ok-touch_entry) where
 pub end_at_entry-requires-clause-judged : goal.end_at_entry-requires-clause-judged
 end_at_entry-requires-clause-judged c = λ ticket q own there. let no : ◌≡◌ {A = Option Ticket} None (Some ticket) = sym c.in_ok-begin.ensures.judged ∙ own in absurd (cc)
 
+pub end_at_entry-requires-clause-settles : goal.end_at_entry-requires-clause-settles
+end_at_entry-requires-clause-settles g =
+    let c = (goal.at.end_at_entry-requires-clause-settles g).In_ok-touch_entry in
+    first-settles (old c) (e c) (k c) (touched-by c.args.client c.args.ino c.args.touch) (passed c) c.self.invariant.0 (subst (λ (s : State). IsTable s.scene.table) (sym c.self.view_is) c.requires.table) (first c) (is c)
+    (subst (λ (s : State). IsTree s.scene.tree) (sym c.self.view_is) c.requires.tree) c.waiting-waiting.ensures.sound
+
+pub end_at_entry-requires-clause-entries : goal.end_at_entry-requires-clause-entries
+end_at_entry-requires-clause-entries g =
+    let c = (goal.at.end_at_entry-requires-clause-entries g).In_ok-touch_entry in
+    first-ends (old c) (e c) (k c) (touched-by c.args.client c.args.ino c.args.touch) (passed c) c.self.invariant.0 (subst (λ (s : State). IsTable s.scene.table) (sym c.self.view_is) c.requires.table) (first c) (is c)
+    c.touch_entry.new.known.sets (subst NumbersLeft (sym c.self.view_is) c.requires.numbers) (still-room c.self.inside.known.sets c.touch_entry.new.known.sets (old c).scene c.touch_entry.new.table c.self.invariant.2 c.touch_entry.ensures.known)
+
 pub end_at_entry-requires-clause-room : goal.end_at_entry-requires-clause-room
-end_at_entry-requires-clause-room g =
-    let c = (goal.at.end_at_entry-requires-clause-room g).In_ok-touch_entry in
-    still-room c.self.inside.known.sets c.touch_entry.new.known.sets (old c).scene c.touch_entry.new.table c.self.invariant.2 c.touch_entry.ensures.known
-
-pub end_at_entry-requires-clause-quiet : goal.end_at_entry-requires-clause-quiet
-end_at_entry-requires-clause-quiet g =
-    let c = (goal.at.end_at_entry-requires-clause-quiet g).In_ok-touch_entry in
-    first-quiet (old c) (e c) (k c) (touched-by c.args.client c.args.ino c.args.touch) (passed c) c.self.invariant.0 (subst (λ (s : State). IsTable s.scene.table) (sym c.self.view_is) c.requires.table) (first c) (is c)
-
-pub end_at_entry-requires-clause-tree : goal.end_at_entry-requires-clause-tree
-end_at_entry-requires-clause-tree c = subst (λ (s : State). IsTree s.scene.tree) (sym c.self.view_is) c.requires.tree
-
-pub end_at_entry-requires-clause-numbers : goal.end_at_entry-requires-clause-numbers
-end_at_entry-requires-clause-numbers g =
-    let c = (goal.at.end_at_entry-requires-clause-numbers g).In_ok-touch_entry in
-    first-numbers (old c) (e c) (k c) (touched-by c.args.client c.args.ino c.args.touch) (passed c) c.self.invariant.0 (subst (λ (s : State). IsTable s.scene.table) (sym c.self.view_is) c.requires.table) (first c) (is c)
-    (subst NumbersLeft (sym c.self.view_is) c.requires.numbers)
-
-pub end_at_entry-requires-clause-clients : goal.end_at_entry-requires-clause-clients
-end_at_entry-requires-clause-clients g =
-    let c = (goal.at.end_at_entry-requires-clause-clients g).In_ok-touch_entry in
-    first-clients (old c) (e c) (k c) (touched-by c.args.client c.args.ino c.args.touch) (passed c) c.self.invariant.0 (subst (λ (s : State). IsTable s.scene.table) (sym c.self.view_is) c.requires.table) (first c) (is c)
+end_at_entry-requires-clause-room c = room-for c.begin.new.self c.begin.new.self.changes c.begin.new.self.judged _ _ c.in_ok-begin.ensures.room (omega arith)
 
 pub end_at_entry-requires-clause-others : goal.end_at_entry-requires-clause-others
 end_at_entry-requires-clause-others g =

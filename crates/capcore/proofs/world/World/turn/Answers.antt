@@ -1,13 +1,10 @@
-use Rattle.std.proofs.Common.{is_some, ◌≡◌, ◌≤◌, ◌<◌, ◌^◌, ◌-◌, ◌++◌, List, length, None, sym, ap, subst, ◌∙◌, arith, length-append, Option, Some}
-use Rattle.std.specs.Prelude.{All, IsTrue}
+use Rattle.std.proofs.Common.{is_some, ◌≡◌, ◌≤◌, ◌++◌, List, length, None, sym, ap, subst, ◌∙◌, arith, length-append, Option, Some}
 use Rattle.std.specs.Option.{option_map}
 use Rattle.capbits.specs.declared.ids.Ticket.{Ticket}
 use Rattle.inotree.specs.Tree.{IsTree}
-use Rattle.sessiontab.specs.Calls.{has_session}
 use Rattle.sessiontab.specs.Table.{SessionTable}
 use Rattle.captable.specs.Table.{IsTable, Table}
 use Rattle.capsteps.specs.Lockmachine.Locks.{IsLockMap}
-use Rattle.capsteps.specs.Lockmachine.Moves.{IsQuietOutside}
 use Rattle.capsteps.specs.Lockmachine.declared.scene.Scene.{Scene}
 use Rattle.capsteps.specs.Capevents.declared.event.Event.{Event}
 use Rattle.capsteps.specs.Capevents.declared.outcome.Ended.{Ended}
@@ -15,15 +12,17 @@ use Rattle.capsteps.specs.Caprules.declared.stopped.Stopped.TheVariants.{ByTest}
 use Rattle.capsteps.specs.Caprules.State.{State}
 use Rattle.capsteps.specs.Answered.{IsAnswered}
 use Rattle.capsteps.specs.Caprules.Judge.{judged}
-use Rattle.capsteps.specs.Capacts.Known.{AreKnown, StillKept}
+use Rattle.capsteps.specs.Capacts.Known.{AreKnown, HaveRoom, StillKept}
 use Rattle.capsteps.specs.Capacts.Reach.{is_touched}
+use Rattle.capsteps.specs.Begun.{MayEnd, MaySettle}
 use Rattle.capsteps.specs.Serves.{EndsWith}
 use Rattle.capsteps.specs.Caprules.Sound.{IsSound, NumbersLeft}
 use Rattle.capsteps.specs.Capacts.Left.{is_end, dropped_by}
 use Rattle.capsteps.specs.Turn.{turn_event, turned}
 use Rattle.capcore.proofs.Closing.{ends-sessions}
+use Rattle.capsteps.proofs.Begun.{room-for}
 use Rattle.capcore.proofs.Stops.{stopped-answered}
-use Rattle.capcore.proofs.TurnStep.{turn-stop, few-waiting, few-messages, turn-quiet, turn-clients, turn-numbers, turn-order, turn-alike, turn-known, turn-closed}
+use Rattle.capcore.proofs.TurnStep.{turn-stop, few-waiting, few-messages, turn-settles, turn-ends, turn-alike, turn-known, turn-closed}
 use Rattle.capsteps.proofs.Knowing.{HoldAlike, still-there, still-room}
 use Rattle.capsteps.specs.Capview.Changes.{AreChanges}
 use Rattle.capsteps.specs.Caprules.Noted.{view_of}
@@ -83,59 +82,22 @@ module _ (c : After-leave) where
 pub end_at-requires-clause-judged : goal.end_at-requires-clause-judged
 end_at-requires-clause-judged c = λ ticket q own there. let no : ◌≡◌ {A = Option Ticket} None (Some ticket) = sym c.in_ok-room.ensures.judged ∙ own in absurd (cc)
 
+pub end_at-requires-clause-settles : goal.end_at-requires-clause-settles
+end_at-requires-clause-settles g =
+    let c = (goal.at.end_at-requires-clause-settles g).After-leave in
+    subst (MaySettle (is_touched 1 c.in_ok-room.room.others)) (sym (is c))
+    (turn-settles (old c) c.args.client c.args.turn (passed c) c.self.invariant.0 (subst (λ (s : State). IsTable s.scene.table) (sym c.self.view_is) c.requires.table) 1 c.in_ok-room.room.others c.in_ok-room.ensures.reaches
+    (subst (λ (s : State). IsTree s.scene.tree) (sym c.self.view_is) c.requires.tree) (subst (λ (s : State). IsLockMap s.scene.locks) (sym c.self.view_is) c.requires.locks))
+
+pub end_at-requires-clause-entries : goal.end_at-requires-clause-entries
+end_at-requires-clause-entries g =
+    let c = (goal.at.end_at-requires-clause-entries g).After-leave in
+    subst (λ (s : Scene). MayEnd c.leave.new.known.sets s.sessions s.table) (sym (is c))
+    (turn-ends (old c) c.args.client c.args.turn (passed c) c.self.invariant.0 (subst (λ (s : State). IsTable s.scene.table) (sym c.self.view_is) c.requires.table) 1 c.in_ok-room.room.others c.in_ok-room.ensures.reaches c.leave.new.known.sets (numbers c)
+    (subst (λ (s : Scene). HaveRoom c.leave.new.known.sets s.table) (is c) (still-room c.self.inside.known.sets c.leave.new.known.sets (old c).scene c.leave.new.scene.table c.self.invariant.2 (still c))))
+
 pub end_at-requires-clause-room : goal.end_at-requires-clause-room
-end_at-requires-clause-room g =
-    let c = (goal.at.end_at-requires-clause-room g).After-leave in
-    still-room c.self.inside.known.sets c.leave.new.known.sets (old c).scene c.leave.new.scene.table c.self.invariant.2 (still c)
-
-pub end_at-requires-clause-quiet : goal.end_at-requires-clause-quiet
-end_at-requires-clause-quiet g =
-    let c = (goal.at.end_at-requires-clause-quiet g).After-leave in
-    subst (IsQuietOutside (is_touched 1 c.in_ok-room.room.others)) (sym (is c))
-    (turn-quiet (old c) c.args.client c.args.turn (passed c) c.self.invariant.0 (subst (λ (s : State). IsTable s.scene.table) (sym c.self.view_is) c.requires.table) 1 c.in_ok-room.room.others c.in_ok-room.ensures.reaches)
-
-pub end_at-requires-clause-tree : goal.end_at-requires-clause-tree
-end_at-requires-clause-tree g = subst (λ (s : Scene). IsTree s.tree) (sym g.leave.ensures.rest) (subst (λ (s : State). IsTree s.scene.tree) (sym g.self.view_is) g.requires.tree)
-
-pub end_at-requires-clause-order : goal.end_at-requires-clause-order
-end_at-requires-clause-order g =
-    let c = (goal.at.end_at-requires-clause-order g).After-leave in
-    subst (λ (s : Scene). IsLockMap s.locks) (sym (is c))
-    (turn-order (old c) c.args.client c.args.turn (passed c) c.self.invariant.0 (subst (λ (s : State). IsTable s.scene.table) (sym c.self.view_is) c.requires.table) 1 c.in_ok-room.room.others c.in_ok-room.ensures.reaches
-    (subst (λ (s : State). IsLockMap s.scene.locks) (sym c.self.view_is) c.requires.locks))
-
-pub end_at-requires-clause-told : goal.end_at-requires-clause-told
-end_at-requires-clause-told g =
-    let c = (goal.at.end_at-requires-clause-told g).After-leave in
-    let told = c.in_ok-room.ensures.told in
-    let none = ap length told.0 in
-    omega (arith, none, told.1, fewer c)
-
-pub end_at-requires-clause-kept : goal.end_at-requires-clause-kept
-end_at-requires-clause-kept g =
-    let c = (goal.at.end_at-requires-clause-kept g).After-leave in
-    let kept = c.in_ok-room.ensures.kept in
-    let none = ap length kept.0 in
-    omega (arith, none, kept.1, fewer c)
-
-pub end_at-requires-clause-sized : goal.end_at-requires-clause-sized
-end_at-requires-clause-sized g =
-    let c = (goal.at.end_at-requires-clause-sized g).After-leave in
-    let sized = c.in_ok-room.ensures.sized in
-    let none = ap length sized.0 in
-    omega (arith, none, sized.1, fewer c)
-
-pub end_at-requires-clause-numbers : goal.end_at-requires-clause-numbers
-end_at-requires-clause-numbers g =
-    let c = (goal.at.end_at-requires-clause-numbers g).After-leave in
-    subst (λ (s : Scene). All (λ row. row.entry.seq < 2 ^ 64 - 1) s.table.rows) (sym (is c))
-    (turn-numbers (old c) c.args.client c.args.turn (passed c) c.self.invariant.0 (subst (λ (s : State). IsTable s.scene.table) (sym c.self.view_is) c.requires.table) 1 c.in_ok-room.room.others c.in_ok-room.ensures.reaches (numbers c))
-
-pub end_at-requires-clause-clients : goal.end_at-requires-clause-clients
-end_at-requires-clause-clients g =
-    let c = (goal.at.end_at-requires-clause-clients g).After-leave in
-    subst (λ (s : Scene). All (λ row. IsTrue (has_session s.sessions row.holder.client.0)) s.table.rows) (sym (is c))
-    (turn-clients (old c) c.args.client c.args.turn (passed c) c.self.invariant.0 (subst (λ (s : State). IsTable s.scene.table) (sym c.self.view_is) c.requires.table) 1 c.in_ok-room.room.others c.in_ok-room.ensures.reaches)
+end_at-requires-clause-room g = room-for g.new.new.endings g.new.new.endings.changes g.new.new.endings.judged _ _ g.in_ok-room.ensures.room (fewer (goal.at.end_at-requires-clause-room g).After-leave)
 
 -- ---- the end of the step
 
