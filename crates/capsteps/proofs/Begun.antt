@@ -1,12 +1,13 @@
 -- Room for the requests that a step ends.
-use Rattle.std.proofs.Common.{◌≤◌, ℕ, arith}
+use Rattle.std.proofs.Common.{◌≤◌, ℕ, Option, arith}
+use Rattle.capbits.specs.declared.ids.Ticket.{Ticket}
 use Rattle.capacts.specs.Capnotes.Noted.{Noted}
 use Rattle.capsteps.specs.declared.endings.Endings.{Endings}
 use Rattle.capsteps.specs.Begun.{HaveRoomFor}
 
--- room for some is room for fewer, whatever changes are noted
-pub room-for : (e : Endings) (changes : Noted) (n m : ℕ) → HaveRoomFor n e → m ≤ n → HaveRoomFor m (record e { changes = changes })
-room-for e changes n m room fewer = record {
+-- room for some is room for fewer, whatever changes are noted and whoever was judged
+pub room-for : (e : Endings) (changes : Noted) (judged : Option Ticket) (n m : ℕ) → HaveRoomFor n e → m ≤ n → HaveRoomFor m (record e { changes = changes; judged = judged })
+room-for e changes judged n m room fewer = record {
   told = room.told;
   kept = room.kept;
   sized = room.sized;

@@ -5,6 +5,7 @@ pub mod Leaving
 pub mod Answered
 pub mod Judged
 pub mod Begun
+pub mod Judged
 pub mod Serves
 pub mod Sweep
 pub use Rattle.capacts.specs as Capacts

@@ -5,7 +5,7 @@ use Rattle.capsteps.proofs.poll.give_one.Goals as goal
 pub returns-in-Caps : goal.returns-in-Caps
 returns-in-Caps c =
     rw c.in-Caps.is
-    (c.tell.ensures.told ∙ caps-given c.args.client c.in-Caps.ino c.in-Caps.seq c.in-Caps.caps c.args.table.now c.requires)
+    (c.tell-entry.ensures.told ∙ caps-given c.args.client c.in-Caps.ino c.in-Caps.seq c.in-Caps.caps c.args.table.now c.requires)
 
 pub returns-in-Size : goal.returns-in-Size
 returns-in-Size c =

@@ -18,7 +18,7 @@ use Rattle.capsteps.specs.Capnotes.Untold.{but_for}
 use Rattle.capcore.specs.Asks.{ask_of}
 use Rattle.capcore.proofs.Closing.{ends-sessions}
 use Rattle.capcore.proofs.Asked.{asking-room, asking-stop}
-use Rattle.capcore.proofs.Waits.{some-asking, room-left, few-others, wait-settles, wait-ends, wait-differ, wait-known, wait-answered}
+use Rattle.capcore.proofs.Waits.{some-asking, room-left, few-others, wait-settles, wait-ends, wait-judged, wait-differ, wait-known, wait-answered}
 use Rattle.capsteps.specs.Capview.Changes.{AreChanges}
 use Rattle.capsteps.specs.Caprules.Noted.{view_of}
 use Rattle.capsteps.specs.Capnotes.Noted.{view}
@@ -85,11 +85,17 @@ end_at_one-requires-clause-entries g =
     g.enqueue_tested-ticket.new.self (queued (goal.at.end_at_one-requires-clause-entries g).After-enqueue_tested-ticket)
     g.self.inside.known.sets (subst NumbersLeft (sym g.self.view_is) g.requires.numbers) (λ j f there. ap is_some (g.self.invariant.2 j f there))
 
+pub end_at_one-requires-clause-judged : goal.end_at_one-requires-clause-judged
+end_at_one-requires-clause-judged g =
+    let c = (goal.at.end_at_one-requires-clause-judged g).After-waiting-waiting in
+    wait-judged (old c) (k c) (ask c) g.self.invariant.0 (subst (λ (s : State). IsTable s.scene.table) (sym g.self.view_is) g.requires.table) g.waiting-waiting.ensures.sound (free c)
+    g.enqueue_tested-ticket.new.self (queued (goal.at.end_at_one-requires-clause-judged g).After-enqueue_tested-ticket) g.enqueue_tested-ticket.result g.enqueue_tested-ticket.ensures.ticket
+
 pub end_at_one-requires-clause-room : goal.end_at_one-requires-clause-room
 end_at_one-requires-clause-room g =
     let c = (goal.at.end_at_one-requires-clause-room g).After-enqueue_tested-ticket in
     let one_more = one-waits c in
-    room-for g.begin.new.self g.begin.new.self.changes _ _ g.in_ok-begin.ensures.room (omega (arith, one_more, g.waiting-waiting.ensures.waiting))
+    room-for g.begin.new.self g.begin.new.self.changes (Some g.enqueue_tested-ticket.result) _ _ g.in_ok-begin.ensures.room (omega (arith, one_more, g.waiting-waiting.ensures.waiting))
 
 pub close_with-requires-clause-differ : goal.close_with-requires-clause-differ
 close_with-requires-clause-differ g =

@@ -1,5 +1,6 @@
-use Rattle.std.proofs.Common.{is_some, ◌≡◌, ◌==◌, ◌+◌, ◌++◌, List, length, None, refl, sym, ap, subst, ◌∙◌, arith}
+use Rattle.std.proofs.Common.{is_some, ◌≡◌, ◌==◌, ◌+◌, ◌++◌, List, length, None, refl, sym, ap, subst, ◌∙◌, arith, Option, Some}
 use Rattle.std.proofs.lemmas.List.{length-append}
+use Rattle.capbits.specs.declared.ids.Ticket.{Ticket}
 use Rattle.inotree.specs.Tree.{IsTree}
 use Rattle.sessiontab.specs.Table.{SessionTable}
 use Rattle.captable.specs.declared.entry.Holder.{Holder}
@@ -92,6 +93,9 @@ module _ (c : After-touch) where
       (subst (λ (s : Scene). IsTable s.table) (sym (is c)) (event-table (old c) (e c) (k c) (subst (λ (s : State). IsTable s.scene.table) (sym c.self.view_is) c.requires.table) refl (passed c)))
       (alike-less c.self.inside.scene.table c.touch.new.self alike)
 
+pub end_at_one-requires-clause-judged : goal.end_at_one-requires-clause-judged
+end_at_one-requires-clause-judged c = λ ticket q own there. let no : ◌≡◌ {A = Option Ticket} None (Some ticket) = sym c.in_ok-begin.ensures.judged ∙ own in absurd (cc)
+
 pub end_at_one-requires-clause-settles : goal.end_at_one-requires-clause-settles
 end_at_one-requires-clause-settles g =
     let c = (goal.at.end_at_one-requires-clause-settles g).After-touch in
@@ -105,7 +109,7 @@ end_at_one-requires-clause-entries g =
     c.self.inside.known.sets (subst NumbersLeft (sym c.self.view_is) c.requires.numbers) (still-room c.self.inside.known.sets c.self.inside.known.sets (old c).scene c.touch.new.self c.self.invariant.2 (still c))
 
 pub end_at_one-requires-clause-room : goal.end_at_one-requires-clause-room
-end_at_one-requires-clause-room c = room-for c.begin.new.self c.note_change.new.self _ _ c.in_ok-begin.ensures.room (omega arith)
+end_at_one-requires-clause-room c = room-for c.begin.new.self c.note_change.new.self c.begin.new.self.judged _ _ c.in_ok-begin.ensures.room (omega arith)
 
 -- ---- the end of the step
 

@@ -1,7 +1,8 @@
-use Rattle.std.proofs.Common.{Some, ◌≡◌, ◌==◌, ◌+◌, ◌++◌, List, length, [], None, refl, sym, ap, subst, ◌∙◌, arith}
+use Rattle.std.proofs.Common.{Some, ◌≡◌, ◌==◌, ◌+◌, ◌++◌, List, length, [], None, refl, sym, ap, subst, ◌∙◌, arith, Option}
 use Rattle.std.proofs.lemmas.List.{length-append}
 use Rattle.capbits.specs.Refusal.{first_failing}
 use Rattle.capbits.specs.Sets.{IsSubset}
+use Rattle.capbits.specs.declared.ids.Ticket.{Ticket}
 use Rattle.inotree.specs.Tree.{IsTree}
 use Rattle.sessiontab.specs.Table.{SessionTable}
 use Rattle.captable.specs.declared.entry.Entry.{Entry}
@@ -97,6 +98,9 @@ module _ (c : In_ok-touch_entry) where
       (subst (λ (t : Table). (j : Holder) (f : Entry) → entry_at t j ≡ Some f → IsSubset f.held (held_at c.self.inside.scene.table j)) (sym c.in_ok-touch_entry.ensures.ok)
       (touch-less c.self.inside.scene.table (k c) c.revoked_by-revoked.result c.args.touch))
 
+pub end_at_entry-requires-clause-judged : goal.end_at_entry-requires-clause-judged
+end_at_entry-requires-clause-judged c = λ ticket q own there. let no : ◌≡◌ {A = Option Ticket} None (Some ticket) = sym c.in_ok-begin.ensures.judged ∙ own in absurd (cc)
+
 pub end_at_entry-requires-clause-settles : goal.end_at_entry-requires-clause-settles
 end_at_entry-requires-clause-settles g =
     let c = (goal.at.end_at_entry-requires-clause-settles g).In_ok-touch_entry in
@@ -110,7 +114,7 @@ end_at_entry-requires-clause-entries g =
     c.touch_entry.new.known.sets (subst NumbersLeft (sym c.self.view_is) c.requires.numbers) (still-room c.self.inside.known.sets c.touch_entry.new.known.sets (old c).scene c.touch_entry.new.table c.self.invariant.2 c.touch_entry.ensures.known)
 
 pub end_at_entry-requires-clause-room : goal.end_at_entry-requires-clause-room
-end_at_entry-requires-clause-room c = room-for c.begin.new.self c.begin.new.self.changes _ _ c.in_ok-begin.ensures.room (omega arith)
+end_at_entry-requires-clause-room c = room-for c.begin.new.self c.begin.new.self.changes c.begin.new.self.judged _ _ c.in_ok-begin.ensures.room (omega arith)
 
 pub end_at_entry-requires-clause-others : goal.end_at_entry-requires-clause-others
 end_at_entry-requires-clause-others g =

@@ -1,5 +1,6 @@
-use Rattle.std.proofs.Common.{is_some, ◌≡◌, ◌≤◌, ◌++◌, List, length, None, sym, ap, subst, ◌∙◌, arith, length-append}
+use Rattle.std.proofs.Common.{is_some, ◌≡◌, ◌≤◌, ◌++◌, List, length, None, sym, ap, subst, ◌∙◌, arith, length-append, Option, Some}
 use Rattle.std.specs.Option.{option_map}
+use Rattle.capbits.specs.declared.ids.Ticket.{Ticket}
 use Rattle.inotree.specs.Tree.{IsTree}
 use Rattle.sessiontab.specs.Table.{SessionTable}
 use Rattle.captable.specs.Table.{IsTable, Table}
@@ -78,6 +79,9 @@ module _ (c : After-leave) where
       (turn-alike (old c) c.args.client c.args.turn (passed c) c.self.invariant.0 (subst (λ (s : State). IsTable s.scene.table) (sym c.self.view_is) c.requires.table) 1 c.in_ok-room.room.others c.in_ok-room.ensures.reaches) k f there).1)
       (λ k f there. c.leave.ensures.known k f there)
 
+pub end_at-requires-clause-judged : goal.end_at-requires-clause-judged
+end_at-requires-clause-judged c = λ ticket q own there. let no : ◌≡◌ {A = Option Ticket} None (Some ticket) = sym c.in_ok-room.ensures.judged ∙ own in absurd (cc)
+
 pub end_at-requires-clause-settles : goal.end_at-requires-clause-settles
 end_at-requires-clause-settles g =
     let c = (goal.at.end_at-requires-clause-settles g).After-leave in
@@ -93,7 +97,7 @@ end_at-requires-clause-entries g =
     (subst (λ (s : Scene). HaveRoom c.leave.new.known.sets s.table) (is c) (still-room c.self.inside.known.sets c.leave.new.known.sets (old c).scene c.leave.new.scene.table c.self.invariant.2 (still c))))
 
 pub end_at-requires-clause-room : goal.end_at-requires-clause-room
-end_at-requires-clause-room g = room-for g.new.new.endings g.new.new.endings.changes _ _ g.in_ok-room.ensures.room (fewer (goal.at.end_at-requires-clause-room g).After-leave)
+end_at-requires-clause-room g = room-for g.new.new.endings g.new.new.endings.changes g.new.new.endings.judged _ _ g.in_ok-room.ensures.room (fewer (goal.at.end_at-requires-clause-room g).After-leave)
 
 -- ---- the end of the step
 
