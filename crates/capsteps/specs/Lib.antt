@@ -5,7 +5,6 @@ pub mod Leaving
 pub mod Answered
 pub mod Judged
 pub mod Begun
-pub mod Judged
 pub mod Serves
 pub mod Sweep
 pub use Rattle.capacts.specs as Capacts

@@ -17,7 +17,6 @@ ghost use Rattle.capacts.specs.Capnotes.Noted.{HavePlaces, LeadOn};
 ghost use Rattle.capacts.specs.Reach.{is_touched, AreWalked, Reaches};
 ghost use Rattle.capsteps.specs.Judged.{IsJudged};
 ghost use Rattle.capsteps.specs.Begun.{HaveRoomFor, MayEnd, MaySettle};
-ghost use Rattle.capsteps.specs.Judged.{IsJudged};
 ghost use Rattle.capsteps.specs.Serves.{Serves, SettlesWith, EndsAt, EndsWith};
 ghost use Rattle.capacts.specs.Caprules.Settle.{Served as Serving, sized_by, sized_in};
 ghost use Rattle.capsteps.specs.Sweep.{AreStill, GoesOn, GoesOnBehind, IsFirstPlace, IsLeastOf, IsNextOf, IsSwept, StandsAt, changed_alone};
