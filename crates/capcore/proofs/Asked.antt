@@ -1,12 +1,14 @@
 -- An event that asks for something, by itself: its request comes to wait behind the others, and nothing else changes.
-use Rattle.std.proofs.Common.{◌≡◌, ℕ, ◌<◌, true, Option, Some, None, is_some, [], ◌∷◌, length, refl, sym, ap, subst, ◌∙◌, true≢false, arith}
+use Rattle.std.proofs.Common.{◌≡◌, ℕ, ◌<◌, cond, true, Option, Some, None, is_some, [], ◌∷◌, length, refl, sym, ap, subst, ◌∙◌, true≢false, arith}
 use Rattle.std.specs.Prelude.{IsTrue, nat_le}
 use Rattle.std.specs.Option.{option_map}
 use Rattle.std.specs.FinMap as map
-use Rattle.std.proofs.lemmas.Bool.{leb-false}
+use Rattle.std.proofs.lemmas.Bool.{leb-false, lt-leb}
 use Rattle.std.proofs.lemmas.Option.{none-some}
 use Rattle.std.proofs.lemmas.List.Elements.{All-push, All-filter}
 use Rattle.capbits.specs.declared.cap.Part.{Part}
+use Rattle.capbits.specs.declared.ids.ClientId.{ClientId}
+use Rattle.capbits.specs.declared.ids.Ino.{Ino}
 use Rattle.capbits.specs.declared.refusal.Refusal.{Refusal}
 use Rattle.capbits.specs.declared.refusal.Refusal.TheVariants as refusal
 use Rattle.capbits.specs.Refusal.{first_failing}
@@ -37,6 +39,9 @@ use Rattle.capsteps.specs.Caprules.Serving.{judged_again}
 use Rattle.capsteps.specs.Caprules.Sound.{IsSound, AreGiven}
 use Rattle.capsteps.specs.Touching.{asks_for, IsTouchedEntry, TouchesOne}
 use Rattle.capsteps.proofs.Moved.{sound-pinned}
+use Rattle.capcore.specs.Asks.{ask_of, asked_event}
+use Rattle.capcore.specs.declared.asks.Asked.{Asked}
+use Rattle.capcore.specs.declared.asks.Asked.TheVariants as asked_kind
 use Rattle.capsteps.proofs.Touched.{all-left, asked-session, asked-there, AreBelow}
 
 -- ---- which events ask, and what
@@ -150,3 +155,17 @@ below-of_ask count old k ask given = let made = given.made in let last = given.l
 pub order-of_ask : (s : Scene) (k : Holder) (ask : Ask) → IsLockMap s.locks
     → stop s (asking_tests s k.client k.ino.0 ask) (ask_needs s k.client k.ino.0 ask) (waiting_tests s k.ino.0 ask) ≡ None → IsLockMap (with_request s.locks k.client k.ino ask)
 order-of_ask s k ask order free = with_request-kept s.locks k.client k.ino ask order (asking-room s k ask free)
+
+-- one more may wait
+pub room-left : (s : Scene) (k : Holder) (ask : Ask)
+    → stop s (asking_tests s k.client k.ino.0 ask) (ask_needs s k.client k.ino.0 ask) (waiting_tests s k.ino.0 ask) ≡ None → first_failing (queue_tests s.locks) ≡ None
+room-left s k ask free = ap (λ b. cond b (Some refusal.Limit) None) (lt-leb 1024 (length s.locks.queue) (asking-room s k ask free))
+
+-- ---- what the call is handed
+
+pub asked-for : (client : ClientId) (ino : Ino) (asked : Asked) → asks_for (asked_event client ino asked) ≡ Some (holder client ino, ask_of asked)
+asked-for client ino (asked_kind.Get part) = refl
+asked-for client ino (asked_kind.Alter change) = refl
+asked-for client ino asked_kind.Unlink = refl
+asked-for client ino asked_kind.Rmdir = refl
+asked-for client ino (asked_kind.Rename dir name) = refl

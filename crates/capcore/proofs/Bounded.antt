@@ -1,7 +1,8 @@
 -- How many requests a step serves, and how often its locks move between two servings.
 use Rattle.std.proofs.Common.{◌≡◌, ◌++◌, ℕ, List, [], ◌∷◌, Option, Some, None, map, refl, sym, subst, arith}
 use Rattle.inotree.specs.Tree.{child}
-use Rattle.captable.specs.declared.entry.Holder.{Holder}
+use Rattle.captable.specs.Table.{holder}
+use Rattle.capsteps.specs.Lockmachine.declared.request.Ask.TheVariants.{Get, Alter, Unlink, Rmdir, Rename}
 use Rattle.capsteps.specs.Lockmachine.Locks.{IsLockMap}
 use Rattle.capsteps.specs.Lockmachine.Runs.{Runs}
 use Rattle.capsteps.specs.Lockmachine.declared.scene.Scene.{Scene}
@@ -18,9 +19,8 @@ use Rattle.capsteps.specs.Caprules.Headline.{ByMoves, AreBounded, move_of}
 use Rattle.capsteps.specs.Caprules.Judge.{judged}
 use Rattle.capsteps.specs.Caprules.Settle.{Made, Began, Gathered, Served, MakesAll, ended_in}
 use Rattle.capsteps.specs.Caprules.Step.{Step}
-use Rattle.capsteps.specs.Touching.{touched_by}
-use Rattle.capcore.proofs.OfInode.{event-order}
 use Rattle.capsteps.proofs.Moved.{served-count}
+use Rattle.capcore.proofs.Asked.{order-of_ask}
 
 -- ---- the queue stays in order, whatever the event
 
@@ -28,30 +28,26 @@ found-order : (s : State) (o : Option ℕ) → IsLockMap s.scene.locks → IsLoc
 found-order s None order = order
 found-order s (Some ino) order = order
 
--- an event that is about no inode that is there lets nobody wait
-alone-order : (old : State) (e : Event) → touched_by e ≡ None → IsLockMap old.scene.locks → IsLockMap (effect old e).state.scene.locks
-alone-order old (event.CloseSession client) is order = without_requests_of-kept old.scene.locks client order
-alone-order old (event.Evict client) is order = without_requests_of-kept old.scene.locks client order
-alone-order old (event.Lookup client dir name) is order = found-order old (child old.scene.tree.nodes dir.0 name) order
-alone-order old (event.Create client dir name mode) is order = record { rising = order.rising; given = order.given; room = order.room }
-alone-order old (event.Mkdir client dir name mode) is order = record { rising = order.rising; given = order.given; room = order.room }
-alone-order old (event.Get client ino part) is order = absurd (cc)
-alone-order old (event.Alter client ino change) is order = absurd (cc)
-alone-order old (event.Unlink client ino) is order = absurd (cc)
-alone-order old (event.Rmdir client ino) is order = absurd (cc)
-alone-order old (event.Rename client ino dir name) is order = absurd (cc)
-alone-order old e is order = order
+-- who comes to wait, comes last
+effect-order : (old : State) (e : Event) → judged old.scene e ≡ None → IsLockMap old.scene.locks → IsLockMap (effect old e).state.scene.locks
+effect-order old (event.CloseSession client) free order = without_requests_of-kept old.scene.locks client order
+effect-order old (event.Evict client) free order = without_requests_of-kept old.scene.locks client order
+effect-order old (event.Lookup client dir name) free order = found-order old (child old.scene.tree.nodes dir.0 name) order
+effect-order old (event.Create client dir name mode) free order = record { rising = order.rising; given = order.given; room = order.room }
+effect-order old (event.Mkdir client dir name mode) free order = record { rising = order.rising; given = order.given; room = order.room }
+effect-order old (event.Get client ino part) free order = order-of_ask old.scene (holder client ino) (Get part) order free
+effect-order old (event.Alter client ino change) free order = order-of_ask old.scene (holder client ino) (Alter change) order free
+effect-order old (event.Unlink client ino) free order = order-of_ask old.scene (holder client ino) Unlink order free
+effect-order old (event.Rmdir client ino) free order = order-of_ask old.scene (holder client ino) Rmdir order free
+effect-order old (event.Rename client ino dir name) free order = order-of_ask old.scene (holder client ino) (Rename dir name) order free
+effect-order old e free order = order
 
 pub direct-order : (old : State) (e : Event) → IsLockMap old.scene.locks → IsLockMap (direct old e).state.scene.locks
 direct-order old e order = by_stop (judged old.scene e) refl
   where
-    by_touch : judged old.scene e ≡ None → (o : Option Holder) → touched_by e ≡ o → IsLockMap (direct old e).state.scene.locks
-    by_touch free (Some k) is = event-order old e k order is free
-    by_touch free None is = subst (λ (o : Option Stopped). IsLockMap (effect_unless old e o).state.scene.locks) (sym free) (alone-order old e is order)
-
     by_stop : (o : Option Stopped) → judged old.scene e ≡ o → IsLockMap (direct old e).state.scene.locks
     by_stop (Some stopped) is = subst (λ (o : Option Stopped). IsLockMap (effect_unless old e o).state.scene.locks) (sym is) order
-    by_stop None free = by_touch free (touched_by e) refl
+    by_stop None free = subst (λ (o : Option Stopped). IsLockMap (effect_unless old e o).state.scene.locks) (sym free) (effect-order old e free order)
 
 -- ---- between two servings
 

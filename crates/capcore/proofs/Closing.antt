@@ -1,5 +1,5 @@
 -- What the calls of the step of an event about one inode come to.
-use Rattle.std.proofs.Common.{◌≡◌, ◌≤◌, ◌<◌, ◌^◌, ◌-◌, ℕ, ◌+◌, ◌++◌, ◌==◌, Bool, true, false, Some, None, is_some, List, Contains, refl, sym, ap, subst, ◌∙◌, arith}
+use Rattle.std.proofs.Common.{◌≡◌, ◌≤◌, ◌<◌, ◌^◌, ◌-◌, ℕ, ◌+◌, ◌==◌, Bool, true, false, is_some, List, Contains, refl, sym, ap, subst, ◌∙◌, arith}
 use Rattle.std.specs.Prelude.{IsTrue, All}
 use Rattle.std.proofs.lemmas.Bool.{eqb-true}
 use Rattle.std.proofs.lemmas.List.Elements.{All-weaker, All-contains}
@@ -7,7 +7,6 @@ use Rattle.inotree.specs.Tree.{IsTree}
 use Rattle.sessiontab.specs.Table.{SessionTable}
 use Rattle.sessiontab.specs.Calls.{has_session}
 use Rattle.captable.specs.declared.entry.EntryRow.{EntryRow}
-use Rattle.captable.specs.declared.entry.Holder.{Holder}
 use Rattle.captable.specs.Table.{IsTable}
 use Rattle.captable.specs.Calls.{is_of_inode, entries_on}
 use Rattle.capsteps.specs.Lockmachine.Locks.{IsLockMap, lock_at}
@@ -17,29 +16,22 @@ use Rattle.capsteps.proofs.Lockmachine.Finding.{filter-contains}
 use Rattle.capsteps.proofs.Lockmachine.SameOutside.{outside-one, rest-outside}
 use Rattle.capbits.specs.declared.ids.Ino.{Ino}
 use Rattle.capbits.specs.declared.ids.Ticket.{Ticket}
-use Rattle.capsteps.specs.Capevents.declared.event.Event.{Event}
 use Rattle.capsteps.specs.Capevents.declared.outcome.Ended.{Ended}
-use Rattle.capsteps.specs.declared.said.Said.{Said}
 use Rattle.capsteps.specs.Caprules.State.{State}
-use Rattle.capsteps.specs.Answered.{IsAnswered}
-use Rattle.capsteps.specs.Caprules.Direct.{direct, reply_of, shown, with_scene}
-use Rattle.capsteps.specs.Caprules.Judge.{judged}
+use Rattle.capsteps.specs.Caprules.Direct.{with_scene}
 use Rattle.capsteps.specs.Begun.{MayEnd, MaySettle}
 use Rattle.capsteps.specs.Serves.{SettlesWith, EndsWith}
 use Rattle.capsteps.specs.Caprules.Finish.{is_sized, owed, sizes_owed}
-use Rattle.capsteps.specs.Caprules.Settle.{MakesAll, ended_in, sized_in}
-use Rattle.capsteps.specs.Caprules.Sound.{IsSoundEntry, IsSound, NumbersLeft}
-use Rattle.capsteps.specs.Caprules.Step.{earlier, all_ended, state_at_end}
-use Rattle.capsteps.specs.Touching.{touched_by, IsTouchedEntry, Touches, TouchesOne, SettlesAt, Knows, finished_at, finished_entry}
-use Rattle.capsteps.specs.Capacts.Known.{KnownSets, HaveRoom, known_in, AreKnown, StillKept}
+use Rattle.capsteps.specs.Caprules.Settle.{MakesAll}
+use Rattle.capsteps.specs.Caprules.Sound.{IsSoundEntry, IsSound}
+use Rattle.capsteps.specs.Caprules.Step.{earlier}
+use Rattle.capsteps.specs.Touching.{IsTouchedEntry, Touches, TouchesOne, finished_entry}
+use Rattle.capsteps.specs.Capacts.Known.{KnownSets, HaveRoom, known_in}
 use Rattle.capsteps.specs.Capnotes.Untold.{HaveOwnNumbers, but_for}
-use Rattle.capcore.proofs.Concluded.{IsConcluded, GivesOne, concluded}
-use Rattle.capcore.proofs.EndKnown.{ends-known}
 use Rattle.capcore.proofs.EndedIn.{earlier-all, earlier-but_own, own-numbers}
 use Rattle.capsteps.proofs.Forgotten.{all_rows}
 use Rattle.capsteps.proofs.ManyInodes.{table-where}
 use Rattle.capsteps.proofs.Moved.{moved-all}
-use Rattle.capcore.proofs.OfInode.{event-touches, event-table, event-below, event-keeps}
 use Rattle.capsteps.proofs.SameOff.{row_elsewhere}
 
 -- ---- the numbers of those that a settling ends
@@ -129,67 +121,3 @@ touches-one ino old first sound one = record {
       (filter-contains (is_of_inode (record { 0 = ino })) first.table.rows row inside is);
   calm = one.calm;
 }
-
--- ---- an event about one inode that nothing stops, and the scene that it leads to by itself
-module _ (old : State) (e : Event) (k : Holder) (about : touched_by e ≡ Some k) (passed : judged old.scene e ≡ None) (sound : IsSound old) (table : IsTable old.scene.table)
-    (first : Scene) (is : first ≡ (direct old e).state.scene) where
-  abbrev from : ℕ → Bool
-  from other = other == k.ino.0
-
-  touches : Touches from old (with_scene old first)
-  touches = touches-one k.ino.0 old first sound (subst (TouchesOne k.ino.0 old) (sym is) (event-touches old e k sound table about passed))
-
-  gives : GivesOne old e
-  gives count given = event-below count old e k given about
-
-  -- ---- what the next calls ask
-
-  pub first-settles : IsTree first.tree → IsLockMap first.locks → MaySettle from first
-  first-settles = touches-settles from old (with_scene old first) sound touches
-
-  pub first-ends : (was : KnownSets) → NumbersLeft old → HaveRoom was first.table → MayEnd was first.sessions first.table
-  first-ends was (count, given, less) =
-      touches-ends from old (with_scene old first) sound touches was count less (subst (λ (s : Scene). All (λ row. row.entry.seq ≤ count) s.table.rows) (sym is) (gives count given).0)
-
-  -- ---- the end of the step
-
-  module _ (was now : KnownSets) (order : IsLockMap first.locks) (knows : Knows (known_in was) old.scene first.table)
-      (last : Scene) (told : List Ended) (ends : EndsWith from was now first last told) where
-    abbrev settles : SettlesWith ends.at from first ends.settled told ends.sized
-    settles = ends.settles
-
-    -- the event leaves the messages
-    left : with_scene old first ≡ (direct old e).state
-    left = λ i. record { scene = is i; messages = sym (event-keeps old e k about).1 i }
-
-    -- the state at the end, by the requests that the settling ended
-    abbrev pub closed_state : State
-    closed_state = record { scene = last; messages = old.messages ++ earlier old.scene.locks.last told }
-
-    same_state : closed_state ≡ state_at_end old (direct old e).state settles.moves (finished_at ends.at (known_in was) (sizes_owed (sized_in settles.moves) ends.settled))
-    same_state =
-        (λ i. record { scene = ends.finished i; messages = old.messages ++ earlier old.scene.locks.last (settles.ended_is i) })
-        ∙ ap (λ (sized : List Ino). state_at_end old (with_scene old first) settles.moves (finished_at ends.at (known_in was) (sizes_owed sized ends.settled))) settles.sized_is
-        ∙ ap (λ (s : State). state_at_end old s settles.moves (finished_at ends.at (known_in was) (sizes_owed (sized_in settles.moves) ends.settled))) left
-
-    -- what is known of each entry at the end
-    pub closed-known : (before : KnownSets) → AreKnown before old.scene → StillKept old.scene.table first.table before was → AreKnown now last
-    closed-known before known still =
-        ends-known before was now from old (with_scene old first) sound table (subst (λ (s : Scene). IsTable s.table) (sym is) (event-table old e k table about passed)) touches known still knows
-        last told ends
-
-    pub closed : (said : Said) (new : State) → said.reply ≡ reply_of closed_state told (direct old e).answer → said.kept ≡ said.reply
-        → said.ended ≡ earlier old.scene.locks.last told → new ≡ shown (direct old e).answer closed_state → IsAnswered old e said new
-    closed said new replies kept ended new-is =
-        let first_table = subst (λ (s : Scene). IsTable s.table) (sym is) (event-table old e k table about passed) in
-        let c =
-        concluded ends.at from (known_in was) old e settles.moves ends.settled sound (subst (Touches from old) left touches)
-        (event-table old e k table about passed) (subst (λ (s : Scene). IsLockMap s.locks) is order) (subst (λ (s : Scene). Knows (known_in was) old.scene s.table) is knows)
-        gives (subst (λ (s : Scene). SettlesAt ends.at from settles.moves s ends.settled) is settles.settles) ends.tree
-        (subst (λ (s : State). IsTable s.scene.table) same_state (ends-table from was now first last told ends first_table)) said.reply new
-        (replies ∙ (λ i. reply_of (same_state i) (settles.ended_is i) (direct old e).answer)) (new-is ∙ ap (shown (direct old e).answer) same_state) in
-        let ends_so : all_ended old (direct old e) settles.moves ≡ said.ended =
-        ap (λ dropped. dropped ++ earlier old.scene.locks.last (ended_in settles.moves)) (event-keeps old e k about).0
-        ∙ ap (earlier old.scene.locks.last) (sym settles.ended_is) ∙ sym ended in
-        let whole : IsConcluded old e said.reply said.ended new = subst (λ (ms : List Ended). IsConcluded old e said.reply ms new) ends_so c in
-        record { step = whole.step; kept = kept; sound = whole.sound; issued = whole.issued; given = whole.given }

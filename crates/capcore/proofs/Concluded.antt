@@ -1,7 +1,6 @@
 -- The step of an event that touched some inodes, all together: it is a step of the rules, leaves the state sound, issues what is due
 -- and gives at most one number.
-use Rattle.std.proofs.Common.{◌≡◌, ◌≤◌, ℕ, ◌+◌, Bool, List, sym, subst}
-use Rattle.std.specs.Prelude.{All}
+use Rattle.std.proofs.Common.{◌≡◌, ℕ, ◌+◌, Bool, List, sym, subst}
 use Rattle.inotree.specs.Tree.{IsTree}
 use Rattle.capbits.specs.Caps.{Caps}
 use Rattle.captable.specs.declared.entry.Holder.{Holder}
@@ -22,6 +21,7 @@ use Rattle.capsteps.specs.Touching.{Touches, SettlesAt, Knows, finished_at}
 use Rattle.capsteps.proofs.SizesOwed.{sizes-end, sizes-sound, sizes-issues, sizes-given}
 use Rattle.capsteps.proofs.StayingSound.{given-touched}
 use Rattle.capsteps.proofs.Telling.{shown-sound, shown-issued, shown-given}
+use Rattle.capcore.specs.UnderWay.{GivesOne}
 use Rattle.capcore.proofs.TouchStep.{one-step}
 
 -- what is promised of a step
@@ -30,13 +30,6 @@ pub record IsConcluded (old : State) (e : Event) (answer : Reply) (ended : List 
   pub sound : IsSound new
   pub issued : IssuesExactly (direct old e).state.scene new.scene
   pub given : (count : ℕ) → AreGiven count old → AreGiven (count + 1) new
-
--- the event by itself gives at most one number
-abbrev pub GivesOne : State → Event → Type 0
-GivesOne old e =
-    (count : ℕ) → AreGiven count old →
-    All (λ row. row.entry.seq ≤ count) (direct old e).state.scene.table.rows
-    × ((direct old e).state.scene.table.made ≤ count + 1) × ((direct old e).state.scene.locks.last ≤ count + 1)
 
 module _ (at from : ℕ → Bool) (known : Holder → Caps) (old : State) (e : Event) (moves : List Made) (settled : Scene) (sound : IsSound old)
     (touches : Touches from old (direct old e).state) (table : IsTable (direct old e).state.scene.table) (order : IsLockMap (direct old e).state.scene.locks)

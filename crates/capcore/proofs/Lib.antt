@@ -18,13 +18,12 @@ pub mod Undone
 pub mod Steps
 pub mod Asked
 pub mod Flushed
-pub mod OfInode
 pub mod Untouched
 pub mod TouchStep
 pub mod TouchWhole
 pub mod EndedIn
 pub mod Closing
-pub mod Waits
+pub mod Begun
 pub mod Turned
 pub mod TurnStep
 pub mod ShownWords

@@ -8,9 +8,7 @@ use Rattle.inotree.specs.Tests.{inode_tests}
 use Rattle.sessiontab.specs.Tests.{session_tests}
 use Rattle.capsteps.specs.Lockmachine.declared.scene.Scene.{Scene}
 use Rattle.capsteps.proofs.Judging.{no_test}
-use Rattle.captable.specs.declared.entry.Holder.{Holder}
 use Rattle.captable.specs.Table.{IsTable}
-use Rattle.capsteps.specs.Lockmachine.declared.request.Ask.{Ask}
 use Rattle.capsteps.specs.Capevents.declared.event.Event.{Event}
 use Rattle.capsteps.specs.Capevents.declared.outcome.Ended.{Ended}
 use Rattle.capsteps.specs.Capevents.declared.reply.Reply.{Reply}
@@ -20,12 +18,10 @@ use Rattle.capsteps.specs.Caprules.State.{State}
 use Rattle.capsteps.specs.Answered.{IsAnswered}
 use Rattle.capsteps.specs.Caprules.Direct.{Direct, direct, effect_unless, says}
 use Rattle.capsteps.specs.Caprules.Headline.{IssuesExactly}
-use Rattle.capsteps.specs.Caprules.Asks.{ask_needs}
-use Rattle.capsteps.specs.Caprules.Judge.{judged, stop, stop_reply, asked_tests, asking_tests, waiting_tests}
+use Rattle.capsteps.specs.Caprules.Judge.{judged, stop, stop_reply, asked_tests}
 use Rattle.capsteps.specs.Caprules.Needs.{need}
 use Rattle.capsteps.specs.Caprules.Sound.{IsSound}
 use Rattle.capsteps.specs.Caprules.Step.{Step}
-use Rattle.capsteps.specs.Touching.{Scope, Waiting, scope, asks_in, asks_for, touched_in, touched_by}
 use Rattle.capcore.proofs.Promised.{has-due}
 use Rattle.capcore.proofs.Sounding.{later-given}
 use Rattle.capsteps.proofs.Stopping.{stopped-step}
@@ -58,22 +54,3 @@ access-at old now client ino access o view is = ap (λ (s : State). stop s.scene
 pub inode-passed : (s : Scene) (client : ClientId) (ino : ℕ) (access : Access) → stop s (asked_tests s client ino) (need client ino access ∷ []) [] ≡ None → first_failing (inode_tests s.tree ino) ≡ None
 inode-passed s client ino access free =
     (passed-both (session_tests s.sessions client.0) (inode_tests s.tree ino) (no_test s (asked_tests s client ino) (need client ino access ∷ []) [] free)).1
-
-pub asking-at : (old now : State) (client : ClientId) (ino : ℕ) (ask : Ask) (o : Option Stopped) → old ≡ now
-    → o ≡ stop old.scene (asking_tests old.scene client ino ask) (ask_needs old.scene client ino ask) (waiting_tests old.scene ino ask)
-    → stop now.scene (asking_tests now.scene client ino ask) (ask_needs now.scene client ino ask) (waiting_tests now.scene ino ask) ≡ o
-asking-at old now client ino ask o view is =
-    ap (λ (s : State). stop s.scene (asking_tests s.scene client ino ask) (ask_needs s.scene client ino ask) (waiting_tests s.scene ino ask)) (sym view) ∙ sym is
-
--- ---- what waits for a lock
-
-holder_is : (a b : Holder × Ask) → Some a ≡ Some b → a ≡ b
-holder_is a b is = cc
-
--- which inode it touches
-touched_as : (s : Scope) (p : Holder × Ask) → asks_in s ≡ Some p → touched_in s ≡ Some p.0
-touched_as (Waiting k ask) p is = ap (λ (q : Holder × Ask). Some q.0) (holder_is (k, ask) p is)
-touched_as s p is = absurd (cc)
-
-pub touched-asks : (e : Event) (k : Holder) (ask : Ask) → asks_for e ≡ Some (k, ask) → touched_by e ≡ Some k
-touched-asks e k ask is = touched_as (scope e) (k, ask) is

@@ -1,39 +1,28 @@
 -- What the calls of the step of an event about one entry come to.
-use Rattle.std.proofs.Common.{◌≡◌, false, [], List, Option, Some, None, refl, sym, ap, ◌∙◌}
+use Rattle.std.proofs.Common.{◌≡◌, false, [], List, Option, Some, None, refl}
 use Rattle.std.specs.List.{find}
 use Rattle.capbits.specs.declared.ids.ClientId.{ClientId}
 use Rattle.capbits.specs.declared.ids.Ino.{Ino}
 use Rattle.captable.specs.declared.entry.EntryRow.{EntryRow}
 use Rattle.captable.specs.declared.entry.Holder.{Holder}
-use Rattle.captable.specs.Table.{Table, IsTable, holder, is_row_of}
+use Rattle.captable.specs.Table.{holder, is_row_of}
 use Rattle.captable.specs.Calls.{told}
 use Rattle.capsteps.specs.Lockmachine.declared.scene.Scene.{Scene}
 use Rattle.capsteps.specs.declared.touch.Touch.{Touch}
 use Rattle.capsteps.specs.declared.touch.Touch.TheVariants.{Open, Want, Ack, Release}
-use Rattle.capsteps.specs.Capevents.declared.event.Event.{Event}
 use Rattle.capsteps.specs.Capevents.declared.outcome.Ended.{Ended}
 use Rattle.capsteps.specs.Caprules.State.{State}
-use Rattle.capsteps.specs.Caprules.Judge.{judged, revoked_of}
 use Rattle.capsteps.specs.Capevents.Replies.{has_list}
-use Rattle.capsteps.specs.Caprules.Direct.{direct, effect, effect_unless, reply_of, shown, opened_as}
-use Rattle.capsteps.specs.Caprules.Sound.{IsSound}
-use Rattle.capsteps.specs.Touch.{touch_event, touched_table, touch_answer}
-use Rattle.capsteps.specs.Touching.{touched_by}
+use Rattle.capsteps.specs.Caprules.Direct.{effect, reply_of, shown, opened_as}
+use Rattle.capsteps.specs.Touch.{touch_event, touch_answer}
 use Rattle.capsteps.proofs.Knowing.{HoldAlike}
 use Rattle.capsteps.proofs.TouchKept.{alike-changed}
-use Rattle.capsteps.proofs.Touched.{touched-state}
 
 no_list-opened : (s : Scene) (o : Option EntryRow) → has_list (opened_as s o) ≡ false
 no_list-opened s None = refl
 no_list-opened s (Some row) = refl
 
-pub touched-by : (client : ClientId) (ino : Ino) (touch : Touch) → touched_by (touch_event client ino touch) ≡ Some (holder client ino)
-touched-by client ino (Open mode) = refl
-touched-by client ino (Want caps) = refl
-touched-by client ino (Ack seq) = refl
-touched-by client ino (Release caps) = refl
-
-effect-answer : (old : State) (client : ClientId) (ino : Ino) (touch : Touch) → (effect old (touch_event client ino touch)).answer ≡ touch_answer (holder client ino) touch
+pub effect-answer : (old : State) (client : ClientId) (ino : Ino) (touch : Touch) → (effect old (touch_event client ino touch)).answer ≡ touch_answer (holder client ino) touch
 effect-answer old client ino (Open mode) = refl
 effect-answer old client ino (Want caps) = refl
 effect-answer old client ino (Ack seq) = refl
@@ -58,20 +47,3 @@ tell-alike s k (Open mode) = alike-changed s.scene.table k told (λ e. refl)
 tell-alike s k (Want caps) = alike-changed s.scene.table k told (λ e. refl)
 tell-alike s k (Ack seq) = λ j e there. (e, there, refl)
 tell-alike s k (Release caps) = λ j e there. (e, there, refl)
-
--- ---- an event that nothing stops, and the table that it leads to
-module _ (old : State) (client : ClientId) (ino : Ino) (touch : Touch) (passed : judged old.scene (touch_event client ino touch) ≡ None) (sound : IsSound old) (table : IsTable old.scene.table)
-    (new : Table) (new_is : new ≡ touched_table old.scene.table (holder client ino) (revoked_of old.scene (holder client ino)) touch) where
-  abbrev e : Event
-  e = touch_event client ino touch
-
-  abbrev first : Scene
-  first = record old.scene { table = new }
-
-  pub first-is : first ≡ (direct old e).state.scene
-  first-is =
-      ap (λ (t : Table). record old.scene { table = t }) new_is
-      ∙ sym (ap (λ (s : State). s.scene) (touched-state old client ino touch passed))
-
-  pub touch-answered : (direct old e).answer ≡ touch_answer (holder client ino) touch
-  touch-answered = ap (λ o. (effect_unless old e o).answer) passed ∙ effect-answer old client ino touch

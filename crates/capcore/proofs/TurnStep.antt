@@ -1,16 +1,15 @@
--- What the calls of the step of a client's session come to.
-use Rattle.std.proofs.Common.{◌==◌, ◌≡◌, ◌≤◌, ◌-◌, ℕ, ◌+◌, ◌++◌, true, false, not, Bool, Some, None, List, [], length, refl, sym, ap, subst, ◌∙◌, arith}
+-- What the step of a client's session leaves by itself.
+use Rattle.std.proofs.Common.{◌==◌, ◌≡◌, ◌≤◌, ◌-◌, ℕ, ◌+◌, true, false, not, Bool, Some, None, is_some, List, [], length, refl, sym, ap, subst, ◌∙◌, arith}
 use Rattle.std.specs.Prelude.{All}
 use Rattle.std.specs.Option.{option_map}
-use Rattle.captable.specs.declared.entry.Entry.{Entry}
-use Rattle.captable.specs.declared.entry.Holder.{Holder}
 use Rattle.std.proofs.lemmas.Bool.{eqb-true}
-use Rattle.captable.specs.Calls.{without_client}
 use Rattle.std.proofs.lemmas.List.Sums.{length-filter, count_by-le-length}
 use Rattle.capbits.specs.declared.ids.ClientId.{ClientId}
-use Rattle.capbits.specs.declared.ids.Ino.{Ino}
 use Rattle.capbits.specs.Refusal.{first_failing}
 use Rattle.inotree.specs.Tree.{IsTree}
+use Rattle.captable.specs.declared.entry.Entry.{Entry}
+use Rattle.captable.specs.declared.entry.Holder.{Holder}
+use Rattle.captable.specs.Calls.{without_client}
 use Rattle.captable.specs.Table.{Table, IsTable, entry_at}
 use Rattle.captable.proofs.ByHolder.{entry_at-without_client, entry_at-without_client_other}
 use Rattle.capsteps.specs.Lockmachine.declared.request.Request.{Request}
@@ -19,35 +18,34 @@ use Rattle.capsteps.specs.Lockmachine.Requests.{is_of_client}
 use Rattle.capsteps.specs.Lockmachine.declared.scene.Scene.{Scene}
 use Rattle.capsteps.proofs.Lockmachine.Queue.{without_requests_of-kept}
 use Rattle.capsteps.specs.Capnotes.InoSets.{InoSet}
+use Rattle.capsteps.specs.Capnotes.Noted.{HavePlaces}
+use Rattle.capsteps.specs.Capnotes.Untold.{Untold, HasRoom, is_to}
+use Rattle.capsteps.specs.Capview.Changes.{AreChanges}
 use Rattle.capsteps.specs.Capacts.declared.leaving.Turn.{Turn}
 use Rattle.capsteps.specs.Capacts.declared.leaving.Turn.TheVariants.{Close, Mark, Regrant, Evict}
 use Rattle.capsteps.specs.Capevents.declared.event.Event.{Event}
 use Rattle.capsteps.specs.Capevents.declared.outcome.Ended.{Ended}
-use Rattle.capsteps.specs.Capevents.declared.reply.Reply.TheVariants as reply
-use Rattle.capsteps.specs.declared.said.Said.{Said}
 use Rattle.capsteps.specs.Caprules.declared.stopped.Stopped.TheVariants.{ByTest}
 use Rattle.capsteps.specs.Caprules.State.{State}
-use Rattle.capsteps.specs.Answered.{IsAnswered}
-use Rattle.capsteps.specs.Caprules.Direct.{Direct, direct, reply_of, shown}
+use Rattle.capsteps.specs.Caprules.Direct.{Direct, direct}
 use Rattle.capsteps.specs.Caprules.Judge.{judged, stop}
-use Rattle.capsteps.specs.Capnotes.Untold.{is_to}
+use Rattle.capsteps.specs.Caprules.Noted.{view_of}
 use Rattle.capsteps.specs.Capacts.Reach.{is_touched}
-use Rattle.capsteps.specs.Begun.{MayEnd, MaySettle}
-use Rattle.capsteps.specs.Serves.{SettlesWith, EndsWith}
-use Rattle.capsteps.specs.Caprules.Finish.{sizes_owed}
-use Rattle.capsteps.specs.Caprules.Settle.{ended_in, sized_in}
-use Rattle.capsteps.specs.Caprules.Sound.{IsSound, NumbersLeft}
-use Rattle.capsteps.specs.Caprules.Step.{earlier, all_ended, state_at_end}
-use Rattle.capsteps.specs.Touching.{Touches, SettlesAt, Knows, finished_at}
-use Rattle.capsteps.specs.Capacts.Known.{KnownSets, HaveRoom, known_in, AreKnown, StillKept}
+use Rattle.capsteps.specs.Capacts.Known.{kept_of, StillKept}
 use Rattle.capsteps.specs.Capacts.Left.{is_end, table_left, locks_left, messages_left, dropped_by}
+use Rattle.capsteps.specs.Begun.{HaveRoomFor}
+use Rattle.capsteps.specs.Judged.{IsJudged}
+use Rattle.capsteps.specs.Touching.{Touches}
 use Rattle.capsteps.specs.Turn.{ReachesClient, turn_event, turn_tests, turned}
-use Rattle.capcore.proofs.Closing.{told-all, touches-settles, touches-ends, ends-table}
-use Rattle.capcore.proofs.EndKnown.{ends-known}
-use Rattle.capsteps.proofs.Knowing.{HoldAlike, alike-less, still-knows}
+use Rattle.capcore.proofs.Closing.{touches-settles}
+use Rattle.capsteps.proofs.Knowing.{HoldAlike, alike-less, still-knows, still-there}
 use Rattle.capsteps.proofs.Judging.{by_tests}
 use Rattle.capsteps.proofs.ShownSteps.{apart_client}
-use Rattle.capcore.proofs.Concluded.{IsConcluded, GivesOne, concluded}
+use Rattle.capcore.specs.declared.parts.Parts.{Parts}
+use Rattle.capcore.specs.declared.parts.Affected.TheVariants.{Others}
+use Rattle.capcore.specs.declared.parts.Answer.TheVariants.{Dropped}
+use Rattle.capcore.specs.UnderWay.{state_of, MayBegin, GivesOne, HasBegun}
+use Rattle.capcore.proofs.Begun.{begun-entries}
 use Rattle.capcore.proofs.Turned.{turn_direct, direct-turned, turned-touches, turned-table, turned-below, turned-made, turned-last}
 
 -- ---- what is tested
@@ -92,104 +90,79 @@ left-alike true t client k e there = by_client (k.client.0 == client.0) refl
         let none : entry_at (without_client t client) k ≡ None = entry_at-without_client t client k (ap (λ n. record { 0 = n }) (eqb-true k.client.0 client.0 mine)) in absurd (cc)
     by_client false off = (e, sym (entry_at-without_client_other t client k (apart_client k.client client off)) ∙ there, refl)
 
--- ---- an event that nothing stops, and the state that it leads to by itself
+left-order : (b : Bool) (locks : LockMap) (client : ClientId) → IsLockMap locks → IsLockMap (locks_left b locks client)
+left-order false locks client order = order
+left-order true locks client order = without_requests_of-kept locks client order
 
-module _ (old : State) (client : ClientId) (turn : Turn) (passed : judged old.scene (turn_event client turn) ≡ None) (sound : IsSound old) (table : IsTable old.scene.table)
-    (ino : ℕ) (others : InoSet) (reaches : ReachesClient ino client old.scene.table old.scene.locks others) where
+-- ---- an event that nothing stops
+
+module _ (p q : Parts) (client : ClientId) (turn : Turn) (may : MayBegin p (turn_event client turn)) (is : q.scene ≡ (turned (state_of p) client turn).scene)
+    (left : q.messages.items ≡ messages_left (is_end turn) p.messages.items client) (others : InoSet) (reaches : ReachesClient 1 client p.scene.table p.scene.locks others)
+    (kept : (k : Holder) (f : Entry) → entry_at q.scene.table k ≡ Some f → kept_of q.known.sets k ≡ kept_of p.known.sets k) where
   abbrev e : Event
   e = turn_event client turn
 
+  abbrev old : State
+  old = state_of p
+
   abbrev from : ℕ → Bool
-  from = is_touched ino others
-
-  abbrev touched : State
-  touched = turned old client turn
-
-  touches : Touches from old touched
-  touches = turned-touches old client turn sound table from reaches.entries reaches.requests
+  from = is_touched 1 others
 
   by_itself : direct old e ≡ turn_direct old client turn
-  by_itself = direct-turned old client turn passed
+  by_itself = direct-turned old client turn may.passed
 
-  gives-turned : (count : ℕ) → All (λ row. row.entry.seq ≤ count) old.scene.table.rows → All (λ row. row.entry.seq ≤ count) touched.scene.table.rows
-  gives-turned count all = turned-below count (is_end turn) old.scene.table client all
+  state_is : state_of q ≡ turned old client turn
+  state_is = λ i. record { scene = is i; messages = left i }
+
+  touches : Touches from old (state_of q)
+  touches = subst (Touches from old) (sym state_is) (turned-touches old client turn may.whole.0 may.table from reaches.entries reaches.requests)
+
+  table : IsTable q.scene.table
+  table = subst (λ (s : Scene). IsTable s.table) (sym is) (turned-table (is_end turn) p.scene.table client may.table)
 
   gives : GivesOne old e
   gives count given =
       subst (λ (d : Direct). All (λ row. row.entry.seq ≤ count) d.state.scene.table.rows × (d.state.scene.table.made ≤ count + 1) × (d.state.scene.locks.last ≤ count + 1)) (sym by_itself)
       (let made = given.made in
       let last = given.last in
-      let same_made = turned-made (is_end turn) old.scene.table client in
-      let same_last = turned-last (is_end turn) old.scene.locks client in
-      (gives-turned count given.entries, omega (arith, made, same_made), omega (arith, last, same_last)))
-
-  -- ---- what the next calls ask
-
-  order-left : (b : Bool) → IsLockMap old.scene.locks → IsLockMap (locks_left b old.scene.locks client)
-  order-left false order = order
-  order-left true order = without_requests_of-kept old.scene.locks client order
-
-  turn-order : IsLockMap old.scene.locks → IsLockMap touched.scene.locks
-  turn-order order = order-left (is_end turn) order
-
-  pub turn-settles : IsTree old.scene.tree → IsLockMap old.scene.locks → MaySettle from touched.scene
-  turn-settles tree order = touches-settles from old touched sound touches tree (turn-order order)
-
-  pub turn-ends : (was : KnownSets) → NumbersLeft old → HaveRoom was touched.scene.table → MayEnd was touched.scene.sessions touched.scene.table
-  turn-ends was (count, given, less) = touches-ends from old touched sound touches was count less (gives-turned count given.entries)
-
-  -- ---- the end of the step
-
-  table-left : IsTable touched.scene.table
-  table-left = turned-table (is_end turn) old.scene.table client table
+      let same_made = turned-made (is_end turn) p.scene.table client in
+      let same_last = turned-last (is_end turn) p.scene.locks client in
+      (turned-below count (is_end turn) p.scene.table client given.entries, omega (arith, made, same_made), omega (arith, last, same_last)))
 
   -- each entry is as it was
-  pub turn-alike : HoldAlike old.scene.table touched.scene.table
-  turn-alike k f there = left-alike (is_end turn) old.scene.table client k f there
+  alike : HoldAlike p.scene.table q.scene.table
+  alike = subst (λ (s : Scene). HoldAlike p.scene.table s.table) (sym is) (λ k f there. left-alike (is_end turn) p.scene.table client k f there)
 
-  module _ (before was now : KnownSets) (order : IsLockMap old.scene.locks) (known : AreKnown before old.scene) (still : StillKept old.scene.table touched.scene.table before was)
-      (last : Scene) (told : List Ended) (ends : EndsWith from was now touched.scene last told) where
-    knows : Knows (known_in was) old.scene touched.scene.table
-    knows = still-knows before was old.scene touched.scene.table known still table-left (alike-less old.scene.table touched.scene.table turn-alike)
+  still : StillKept p.scene.table q.scene.table p.known.sets q.known.sets
+  still = still-there p.scene.table q.scene.table p.known.sets q.known.sets (λ k f there. ap is_some (alike k f there).1) kept
 
-    pub turn-known : AreKnown now last
-    turn-known = ends-known before was now from old touched sound table table-left touches known still knows last told ends
+  order : IsLockMap q.scene.locks
+  order = subst (λ (s : Scene). IsLockMap s.locks) (sym is) (left-order (is_end turn) p.scene.locks client may.order)
 
-    abbrev settles : SettlesWith ends.at from touched.scene ends.settled told ends.sized
-    settles = ends.settles
-
-    -- all that were served were of earlier steps
-    all : earlier old.scene.locks.last told ≡ told
-    all =
-        subst (λ n. earlier n told ≡ told) (turned-last (is_end turn) old.scene.locks client)
-        (told-all ends.at from touched.scene ends.settled told ends.sized settles (turn-order order))
-
-    -- the state at the end
-    abbrev pub turn_closed : State
-    turn_closed = record { scene = last; messages = touched.messages ++ told }
-
-    abbrev by_the_rules : State
-    by_the_rules = state_at_end old (direct old e).state settles.moves (finished_at ends.at (known_in was) (sizes_owed (sized_in settles.moves) ends.settled))
-
-    same_state : turn_closed ≡ by_the_rules
-    same_state =
-        (λ i. record { scene = ends.finished i; messages = touched.messages ++ (sym all ∙ ap (earlier old.scene.locks.last) settles.ended_is) i })
-        ∙ ap (λ (sized : List Ino). state_at_end old touched settles.moves (finished_at ends.at (known_in was) (sizes_owed sized ends.settled))) settles.sized_is
-        ∙ ap (λ (d : Direct). state_at_end old d.state settles.moves (finished_at ends.at (known_in was) (sizes_owed (sized_in settles.moves) ends.settled))) (sym by_itself)
-
-    pub turn-closed : (said : Said) → said.reply ≡ reply.Done → said.kept ≡ reply.Done → said.ended ≡ dropped_by (is_end turn) old.scene.locks client ++ told
-        → IsAnswered old e said turn_closed
-    turn-closed said replies kept ended =
-        let c =
-        concluded ends.at from (known_in was) old e settles.moves ends.settled sound (subst (λ (d : Direct). Touches from old d.state) (sym by_itself) touches)
-        (subst (λ (d : Direct). IsTable d.state.scene.table) (sym by_itself) table-left)
-        (subst (λ (d : Direct). IsLockMap d.state.scene.locks) (sym by_itself) (turn-order order))
-        (subst (λ (d : Direct). Knows (known_in was) old.scene d.state.scene.table) (sym by_itself) knows) gives
-        (subst (λ (d : Direct). SettlesAt ends.at from settles.moves d.state.scene ends.settled) (sym by_itself) settles.settles) ends.tree
-        (subst (λ (s : State). IsTable s.scene.table) same_state (ends-table from was now touched.scene last told ends table-left)) said.reply turn_closed
-        (replies ∙ sym (ap (λ (d : Direct). reply_of by_the_rules (ended_in settles.moves) d.answer) by_itself))
-        (same_state ∙ sym (ap (λ (d : Direct). shown d.answer by_the_rules) by_itself)) in
-        let ends_so : all_ended old (direct old e) settles.moves ≡ said.ended =
-        (λ i. (by_itself i).dropped ++ earlier old.scene.locks.last (sym settles.ended_is i)) ∙ ap (λ ms. dropped_by (is_end turn) old.scene.locks client ++ ms) all ∙ sym ended in
-        let whole : IsConcluded old e said.reply said.ended turn_closed = subst (λ (ms : List Ended). IsConcluded old e said.reply ms turn_closed) ends_so c in
-        record { step = whole.step; kept = kept ∙ sym replies; sound = whole.sound; issued = whole.issued; given = whole.given }
+  pub turn-begun : (dropped : Untold) → dropped.items ≡ dropped_by (is_end turn) p.scene.locks client → HaveRoomFor (length q.scene.locks.queue) q.endings
+      → IsJudged q.endings.judged q.scene → HavePlaces q.endings.changes q.scene.locks others → HasRoom q.messages q.scene.locks → length dropped.items + length q.scene.locks.queue ≤ dropped.room
+      → AreChanges q.endings.changes.items (view_of old) (view_of (state_of q)) → HasBegun p e (record { affected = Others others; answer = Dropped dropped }) q
+  turn-begun dropped dropped_is room judged at left_room places noted =
+      let tree = subst (λ (s : Scene). IsTree s.tree) (sym is) may.tree in
+      let by_rule : state_of q ≡ (direct old e).state = state_is ∙ sym (ap (λ (d : Direct). d.state) by_itself) in
+      record {
+        is = by_rule;
+        answer = sym (ap (λ (d : Direct). d.answer) by_itself);
+        dropped = dropped_is ∙ sym (ap (λ (d : Direct). d.dropped) by_itself);
+        number = ap (λ (s : Scene). s.locks.last) is ∙ turned-last (is_end turn) p.scene.locks client;
+        touches = touches;
+        table = table;
+        gives = gives;
+        still = still;
+        knows = still-knows p.known.sets q.known.sets p.scene q.scene.table may.whole.2 still table (alike-less p.scene.table q.scene.table alike);
+        ready = record {
+          settles = touches-settles from old (state_of q) may.whole.0 touches tree order;
+          judged = judged;
+          entries = begun-entries p q e from may by_rule touches gives still;
+          room = room;
+          at = (at, reaches.apart);
+        };
+        room = left_room;
+        places = places;
+        noted = noted;
+      }

@@ -2,6 +2,7 @@ pub mod Asks
 pub mod Codes
 pub mod SameEvents
 pub mod Promised
+pub mod UnderWay
 pub use Rattle.capsteps.specs.Capacts
 pub use Rattle.capsteps.specs.Capevents
 pub use Rattle.capsteps.specs.Caprules

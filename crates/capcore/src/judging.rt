@@ -16,11 +16,14 @@ ghost use Rattle.capsteps.specs.Capacts.Known.{AreKnown};
 ghost use Rattle.capsteps.specs.Caprules.Needs.{need};
 ghost use Rattle.capsteps.specs.Touch.{touch_event};
 ghost use Rattle.capcore.specs.Asks.{ask_of};
+ghost use Rattle.capcore.specs.UnderWay.{event_of};
 
 use crate::asks::Asked;
+use crate::parts::Asking;
 use capbits::{Cap, CapSet, Ino, Part, Refusal};
 use capgrant::Access;
 use capspec::FsName;
+use capsteps::client::turn_refusal;
 use capsteps::judge::{by_test, denial};
 use capsteps::known::Known;
 use capsteps::serving::{
@@ -31,6 +34,18 @@ use capsteps::{Ask, Change, Locks, OpenMode, Scene, Stopped};
 use captable::{CapTable, Holder};
 use inotree::Tree;
 use sessiontab::Sessions;
+
+// What stops an event.
+pub(crate) fn stopped(scene: &Scene, known: &Known, asking: &Asking) -> Option<Stopped>
+    ensures { AreKnown known.now.sets scene.now → result ≡ judged scene.now (event_of asking.now) }
+{
+    match asking {
+        Asking::OfEntry(holder, touch) => touch_stop(scene, known, *holder, touch),
+        Asking::OfLock(holder, asked) => ask_stop(scene, *holder, *asked),
+        Asking::Flush(holder, change) => flush_stop(scene, *holder, *change),
+        Asking::OfSession(client, turn) => by_test(turn_refusal(&scene.sessions, *client, *turn)),
+    }
+}
 
 // ---- the tests before policy
 
@@ -71,12 +86,7 @@ pub(crate) fn access_stop(scene: &Scene, holder: Holder, access: Access) -> Opti
 // ---- what is asked of an entry
 
 // What stops what is asked of an entry.
-pub(crate) fn touch_stop(
-    scene: &Scene,
-    known: &Known,
-    holder: Holder,
-    touch: &Touch,
-) -> Option<Stopped>
+fn touch_stop(scene: &Scene, known: &Known, holder: Holder, touch: &Touch) -> Option<Stopped>
     ensures { AreKnown known.now.sets scene.now → result ≡ judged scene.now (touch_event holder.client holder.ino touch.now) }
 {
     let (tree, sessions, table) = (&scene.tree, &scene.sessions, &scene.table);
@@ -204,7 +214,7 @@ fn release_refusal(
 // ---- what may wait for a lock
 
 // What stops a request.
-pub(crate) fn ask_stop(scene: &Scene, holder: Holder, asked: Asked) -> Option<Stopped>
+fn ask_stop(scene: &Scene, holder: Holder, asked: Asked) -> Option<Stopped>
     ensures { let s = scene.now in let ask = ask_of asked.entry in
         result ≡ stop s (asking_tests s holder.client holder.ino.0 ask) (ask_needs s holder.client holder.ino.0 ask) (waiting_tests s holder.ino.0 ask) }
 {
@@ -287,7 +297,7 @@ fn own_refusal(tree: &Tree, ino: Ino, asked: Asked) -> Option<Refusal>
 // ---- a flush
 
 // What stops a flush.
-pub(crate) fn flush_stop(scene: &Scene, holder: Holder, change: &Change) -> Option<Stopped>
+fn flush_stop(scene: &Scene, holder: Holder, change: &Change) -> Option<Stopped>
     ensures { result ≡ judged scene.now (event.Flush holder.client holder.ino change.now) }
 {
     let access = change_access(change);

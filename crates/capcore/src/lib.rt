@@ -3,18 +3,17 @@
 //! Public source: "Capabilities in CephFS" in the Ceph documentation.
 #![tactic(auto)]
 
-mod asking;
 mod asks;
-mod flushing;
 mod giving;
 mod judging;
 mod laws;
+mod moving;
 mod own_laws;
+mod parts;
 mod recalling;
 mod shown_laws;
 mod step;
 mod touch_laws;
-mod turning;
 mod world;
 
 pub use capbits::Refusal;

@@ -17,10 +17,10 @@ impl World {
         ensures changes { IfOk result (λ said. AreChanges said.changes.items (view_of self.old) (view_of self.new)) }
         ensures err { OnErr result (self.new ≡ self.old) }
     {
-        let alloc = self.messages.alloc();
+        let alloc = self.parts.messages.alloc();
         // The list once for the history and once for the reply, both before an entry is marked.
-        let kept = self.scene.table.first_to_recall(count)?;
-        let named = self.scene.table.recall(count)?;
+        let kept = self.parts.scene.table.first_to_recall(count)?;
+        let named = self.parts.scene.table.recall(count)?;
         Ok(Said {
             reply: Reply::Recalled(named),
             kept: Reply::Recalled(kept),

@@ -106,35 +106,35 @@ impl Core {
     pub fn entry(&self, client: ClientId, ino: Ino) -> Option<Entry>
         ensures { result ≡ entry_at self.now.state.scene.table (holder client ino) }
     {
-        self.world.scene.table.find(client, ino)
+        self.world.parts.scene.table.find(client, ino)
     }
 
     /// The lock of an inode's part, where the inode is there.
     pub fn lock_state(&self, ino: Ino, part: Part) -> Option<LockState>
         ensures { result ≡ lock_at self.now.state.scene.locks ino.0 part }
     {
-        self.world.scene.locks.state(ino, part)
+        self.world.parts.scene.locks.state(ino, part)
     }
 
     /// The tree of today.
     pub fn tree(&self) -> &Tree
         ensures { result.now ≡ self.now.state.scene.tree }
     {
-        &self.world.scene.tree
+        &self.world.parts.scene.tree
     }
 
     /// The sessions of today.
     pub fn sessions(&self) -> &Sessions
         ensures { result.now ≡ self.now.state.scene.sessions }
     {
-        &self.world.scene.sessions
+        &self.world.parts.scene.sessions
     }
 
     /// A client's session, with its status, its caller and its grants, where it has one.
     pub fn session(&self, client: ClientId) -> Option<&Session>
         ensures { option_copied result ≡ map.get self.now.state.scene.sessions.sessions client.0 }
     {
-        self.world.scene.sessions.session(client)
+        self.world.parts.scene.sessions.session(client)
     }
 
     /// The history: a row for each event that was answered, the first first.

@@ -4,10 +4,9 @@ ghost use Rattle.inotree.specs.Tree.{IsTree, is_directory};
 ghost use Rattle.inotree.specs.Calls.{with_new};
 ghost use Rattle.inotree.specs.Tests.{create_tests};
 ghost use Rattle.capsteps.specs.Caprules.State.{State};
-ghost use Rattle.capsteps.specs.Caprules.Sound.{IsSound, NumbersLeft};
-ghost use Rattle.capsteps.specs.Touch.{touch_event};
+ghost use Rattle.capsteps.specs.Caprules.Sound.{NumbersLeft};
 ghost use Rattle.capsteps.specs.Touching.{touched_by, turned_by, is_listing};
-ghost use Rattle.captable.specs.Table.{IsTable, Table};
+ghost use Rattle.captable.specs.Table.{IsTable, Table, holder};
 ghost use Rattle.capsteps.specs.Lockmachine.Locks.{IsLockMap, LockMap};
 ghost use Rattle.sessiontab.specs.Calls.{with_session};
 ghost use Rattle.sessiontab.specs.Tests.{new_session_tests};
@@ -15,6 +14,7 @@ ghost use Rattle.std.specs.FinMap as map;
 ghost use Rattle.capsteps.specs.Caprules.Direct.{Says, IsDirect, direct, made_event, owned_by, with_birth, with_sessions};
 ghost use Rattle.capsteps.specs.Caprules.History.{IsOpening, HasNoStray};
 ghost use Rattle.capsteps.specs.Answered.{IsAnswered};
+ghost use Rattle.capcore.specs.UnderWay.{event_of};
 ghost use Rattle.capsteps.specs.Caprules.Noted.{view_of};
 ghost use Rattle.capsteps.specs.Capview.Changes.{AreChanges};
 ghost use Rattle.capsteps.specs.Capview.Sight.{Shows};
@@ -24,20 +24,19 @@ ghost use Rattle.capsteps.specs.Capevents.declared.outcome.Ended.{Ended as AnEnd
 ghost use Rattle.capsteps.specs.Capevents.declared.event.Event.TheVariants as event;
 
 use crate::asks::Asked;
-use crate::judging::{access_stop, asked_refusal, touch_stop};
+use crate::judging::{access_stop, asked_refusal, stopped};
+use crate::parts::{Asking, Effect, Parts};
 use capbits::{Caller, ClientId, Ino, Mode, Refusal};
 use capgrant::{Access, Attr};
 use capspec::{FsName, Grants};
-use capsteps::ended::close;
 use capsteps::endings::Endings;
 use capsteps::judge::denial;
 use capsteps::known::Known;
 use capsteps::leaving::Turn;
 use capsteps::poll::{due_messages, give};
 use capsteps::said::Said;
-use capsteps::settle::end_at_entry;
 use capsteps::start::first_locks;
-use capsteps::touch::{Touch, revoked_by, tell, touch_entry};
+use capsteps::touch::Touch;
 use capsteps::{
     ChangeList, EndedList, Event, Messages, Reply, Scene, ToldNumbers, ViewChange, copy_of_messages,
 };
@@ -48,50 +47,31 @@ use std::alloc::{AllocError, Global};
 use std::marker::Model;
 use std::mem::replace;
 
-// The state that events change: tree, sessions, entries, locks, and what clients are still to be told.
+// The state that events change.
 #[derive(Debug)]
 pub(crate) struct World {
-    pub(crate) scene: Scene,
-    // Of each entry what its client was to know of at the end of the last step.
-    pub(crate) known: Known,
-    // The requests that ended and that no client was told of.
-    pub(crate) messages: Messages,
-    // What a step lists, between steps of use for its room alone.
-    pub(crate) endings: Endings,
+    pub(crate) parts: Parts,
 }
 
 // By hand, so that whoever lets one go has one call to prove.
 impl Drop for World {
     fn drop(self) {
-        let World {
-            scene: _,
-            known: _,
-            messages: _,
-            endings: _,
-        } = self;
+        let World { parts: _parts } = self;
     }
 }
 
 impl Model for World {
     ghost use Rattle.capsteps.specs.Caprules.State.{State};
     ghost use Rattle.capcore.specs.Codes.{state_code};
-    ghost use Rattle.capsteps.specs.Caprules.Sound.{IsSound, NumbersLeft};
-    ghost use Rattle.capsteps.specs.Touch.{touch_event};
-    ghost use Rattle.capsteps.specs.Touching.{touched_by, is_listing};
-    ghost use Rattle.capsteps.specs.Capnotes.Untold.{HasRoom};
-    ghost use Rattle.capsteps.specs.Capacts.Known.{AreKnown};
+    ghost use Rattle.capcore.specs.UnderWay.{IsWhole, state_of};
 
     ghost Value = { State };
 
     ghost coded = { state_code };
 
-    ghost view = { λ w. record { scene = w.scene; messages = w.messages.items } };
+    ghost view = { λ w. state_of w.parts };
 
-    // Sound; there is room for each message that is to come; and of each entry it is known what its client is to know of.
-    ghost invariant = { λ w.
-        IsSound (record { scene = w.scene; messages = w.messages.items })
-        × HasRoom w.messages w.scene.locks
-        × AreKnown w.known.sets w.scene };
+    ghost invariant = { λ w. IsWhole w.parts };
 }
 
 impl World {
@@ -111,12 +91,13 @@ impl World {
             table,
             locks,
         };
-        Ok(World {
+        let parts = Parts {
             scene,
             known: Known::new(alloc),
             messages: Messages::new(alloc),
             endings: Endings::new(alloc),
-        })
+        };
+        Ok(World { parts })
     }
 
     // Makes one step.
@@ -130,39 +111,63 @@ impl World {
         ensures err { OnErr result (self.new ≡ self.old) }
     {
         // The one look at the tree, the entries and the locks, by which the proof knows what they keep.
-        let (_last, _oldest) = (self.scene.tree.last(), self.scene.table.oldest());
-        let _waiting = self.scene.locks.waiting();
+        let scene = &self.parts.scene;
+        let (_last, _oldest) = (scene.tree.last(), scene.table.oldest());
+        let _waiting = scene.locks.waiting();
         match event {
-            Event::Open { client, ino, mode } => self.touch(*client, *ino, Touch::Open(*mode)),
-            Event::Want { client, ino, caps } => self.touch(*client, *ino, Touch::Want(*caps)),
-            Event::Ack { client, ino, seq } => self.touch(*client, *ino, Touch::Ack(*seq)),
-            Event::Release { client, ino, caps } => {
-                self.touch(*client, *ino, Touch::Release(*caps))
+            Event::Open { client, ino, mode } => {
+                self.move_locks(&Asking::OfEntry(holder(*client, *ino), Touch::Open(*mode)))
             }
-            Event::Get { client, ino, part } => self.ask(*client, *ino, Asked::Get(*part)),
+            Event::Want { client, ino, caps } => {
+                self.move_locks(&Asking::OfEntry(holder(*client, *ino), Touch::Want(*caps)))
+            }
+            Event::Ack { client, ino, seq } => {
+                self.move_locks(&Asking::OfEntry(holder(*client, *ino), Touch::Ack(*seq)))
+            }
+            Event::Release { client, ino, caps } => {
+                self.move_locks(&Asking::OfEntry(holder(*client, *ino), Touch::Release(*caps)))
+            }
+            Event::Get { client, ino, part } => {
+                self.move_locks(&Asking::OfLock(holder(*client, *ino), Asked::Get(*part)))
+            }
             Event::Alter {
                 client,
                 ino,
                 change,
-            } => self.ask(*client, *ino, Asked::Alter(change)),
-            Event::Unlink { client, ino } => self.ask(*client, *ino, Asked::Unlink),
-            Event::Rmdir { client, ino } => self.ask(*client, *ino, Asked::Rmdir),
+            } => self.move_locks(&Asking::OfLock(holder(*client, *ino), Asked::Alter(change))),
+            Event::Unlink { client, ino } => {
+                self.move_locks(&Asking::OfLock(holder(*client, *ino), Asked::Unlink))
+            }
+            Event::Rmdir { client, ino } => {
+                self.move_locks(&Asking::OfLock(holder(*client, *ino), Asked::Rmdir))
+            }
             Event::Rename {
                 client,
                 ino,
                 dir,
                 name,
-            } => self.ask(*client, *ino, Asked::Rename { dir: *dir, name }),
+            } => {
+                let asked = Asked::Rename { dir: *dir, name };
+                self.move_locks(&Asking::OfLock(holder(*client, *ino), asked))
+            }
             Event::Flush {
                 client,
                 ino,
                 change,
-            } => self.flush(*client, *ino, change),
+            } => self.move_locks(&Asking::Flush(holder(*client, *ino), change)),
             Event::Poll { client, max } => self.poll(*client, *max),
-            Event::CloseSession { client } => self.turn(*client, Turn::Close),
-            Event::Mark { client, status } => self.turn(*client, Turn::Mark(*status)),
-            Event::Regrant { client, grants } => self.turn(*client, Turn::Regrant(grants)),
-            Event::Evict { client } => self.turn(*client, Turn::Evict),
+            Event::CloseSession { client } => self.move_locks(&Asking::OfSession(
+                *client,
+                Turn::Close,
+            )),
+            Event::Mark { client, status } => {
+                self.move_locks(&Asking::OfSession(*client, Turn::Mark(*status)))
+            }
+            Event::Regrant { client, grants } => self.move_locks(&Asking::OfSession(
+                *client,
+                Turn::Regrant(grants),
+            )),
+            Event::Evict { client } => self.move_locks(&Asking::OfSession(*client, Turn::Evict)),
             Event::Recall { count } => self.recall(*count),
             Event::Session { .. }
             | Event::Unblock { .. }
@@ -185,34 +190,29 @@ impl World {
         ensures changes { IfOk result (λ said. AreChanges said.changes.items (view_of self.old) (view_of self.new)) }
         ensures err { OnErr result (self.new ≡ self.old) }
     {
-        let alloc = self.messages.alloc();
+        let alloc = self.parts.messages.alloc();
         let mut changes = self.take_list();
         let reply = self.act(event, &mut changes)?;
         Ok(Said::with_changes(alloc, reply, changes))
     }
 
-    // A step that is about one entry: what is asked of it is done, the locks of what the step touches settle, and it ends there.
-    fn touch(&mut self, client: ClientId, ino: Ino, touch: Touch) -> Result<Said, AllocError>
+    // A step that may move locks: what stops its event is answered. Else it has its effect, the locks settle of all that it affected,
+    // and it ends there.
+    fn move_locks(&mut self, asking: &Asking) -> Result<Said, AllocError>
         requires numbers { NumbersLeft self.old }
         requires tree { IsTree self.old.scene.tree }
         requires table { IsTable self.old.scene.table }
-        ensures answered { IfOk result (λ said. IsAnswered self.old (touch_event client ino touch) said self.new) }
+        requires locks { IsLockMap self.old.scene.locks }
+        ensures answered { IfOk result (λ said. IsAnswered self.old (event_of asking.now) said self.new) }
         ensures changes { IfOk result (λ said. AreChanges said.changes.items (view_of self.old) (view_of self.new)) }
         ensures err { OnErr result (self.new ≡ self.old) }
     {
-        let holder = Holder { client, ino };
-        if let Some(stopped) = touch_stop(&self.scene, &self.known, holder, &touch) {
-            return Ok(Said::alone(self.messages.alloc(), stopped.into_reply()));
+        if let Some(stopped) = stopped(&self.parts.scene, &self.parts.known, asking) {
+            return Ok(Said::alone(self.parts.messages.alloc(), stopped.into_reply()));
         }
-        let revoked = revoked_by(&self.scene.table, &self.known, holder, &touch);
-        let waiting = self.scene.locks.waiting();
-        self.endings.begin(waiting, waiting + 1)?;
-        let (table, known) = (&mut self.scene.table, &mut self.known);
-        touch_entry(table, known, holder, revoked, &touch)?;
-        let (scene, endings) = (&mut self.scene, &mut self.endings);
-        end_at_entry(scene, &mut self.known, holder, endings);
-        let reply = tell(&mut self.scene.table, &self.known, holder, &touch);
-        Ok(close(&mut self.messages, reply, &mut self.endings))
+        let Effect { affected, answer } = self.parts.begin(asking)?;
+        self.parts.end(affected);
+        Ok(self.parts.close(answer))
     }
 
     // A step that gives a client the first messages that are due to it.
@@ -222,18 +222,25 @@ impl World {
         ensures changes { IfOk result (λ said. AreChanges said.changes.items (view_of self.old) (view_of self.new)) }
         ensures err { OnErr result (self.new ≡ self.old) }
     {
-        if let Some(refusal) = self.scene.sessions.session_refusal(client) {
-            return Ok(Said::alone(self.messages.alloc(), Reply::Refused(refusal)));
+        if let Some(refusal) = self.parts.scene.sessions.session_refusal(client) {
+            return Ok(Said::alone(self.parts.messages.alloc(), Reply::Refused(refusal)));
         }
         // The list once for the reply and once for the history, both before the client was told of anything.
-        let alloc = self.messages.alloc();
-        let ended = self.messages.as_slice();
-        let given = due_messages(alloc, ended, &self.scene, &self.known, client, max)?;
+        let alloc = self.parts.messages.alloc();
+        let ended = self.parts.messages.as_slice();
+        let given = due_messages(
+            alloc,
+            ended,
+            &self.parts.scene,
+            &self.parts.known,
+            client,
+            max,
+        )?;
         let kept = copy_of_messages(alloc, given.as_slice())?;
         let told = ToldNumbers::of(alloc, given.as_slice())?;
-        give(&mut self.scene.table, client, given.as_slice());
-        self.scene.table.skip_quiet(client);
-        self.messages.remove_given(client, &told);
+        give(&mut self.parts.scene.table, client, given.as_slice());
+        self.parts.scene.table.skip_quiet(client);
+        self.parts.messages.remove_given(client, &told);
         Ok(Said {
             reply: Reply::Messages(given),
             kept: Reply::Messages(kept),
@@ -247,8 +254,8 @@ impl World {
         ensures same { self.new ≡ self.old }
         ensures none { result.items ≡ [] }
     {
-        let none = ChangeList::new(self.messages.alloc());
-        let mut changes = replace(&mut self.endings.changes, none);
+        let none = ChangeList::new(self.parts.messages.alloc());
+        let mut changes = replace(&mut self.parts.endings.changes, none);
         changes.clear();
         changes
     }
@@ -257,7 +264,7 @@ impl World {
     pub(crate) fn keep_room(&mut self, changes: ChangeList)
         ensures { self.new ≡ self.old }
     {
-        self.endings.changes.keep(changes);
+        self.parts.endings.changes.keep(changes);
     }
 
     // The event by itself, of which nothing was noted yet.
@@ -278,7 +285,11 @@ impl World {
             } => self.open_session(*client, caller, grants, changes),
             Event::Unblock { client } => Ok(self.unblock(*client)),
             Event::Lookup { client, dir, name } => {
-                let (fs, tree, sessions) = (&self.scene.fs, &self.scene.tree, &self.scene.sessions);
+                let (fs, tree, sessions) = (
+                    &self.parts.scene.fs,
+                    &self.parts.scene.tree,
+                    &self.parts.scene.sessions,
+                );
                 Ok(lookup(fs, tree, sessions, *client, *dir, name.as_slice()))
             }
             Event::Create {
@@ -342,7 +353,7 @@ impl World {
         ensures changes { OnOk result (AreChanges changes.new.items (view_of self.old) (view_of self.new)) }
         ensures err { OnErr result (self.new ≡ self.old) }
     {
-        if let Some(refusal) = self.scene.sessions.open_refusal(client) {
+        if let Some(refusal) = self.parts.scene.sessions.open_refusal(client) {
             return Ok(Reply::Refused(refusal));
         }
         changes.add_place()?;
@@ -367,7 +378,8 @@ impl World {
         ensures err { OnErr result (self.new ≡ self.old) }
     {
         let grants = grants.copy()?;
-        self.scene
+        self.parts
+            .scene
             .sessions
             .open_session_tested(client, caller.copy(), grants)?;
         Ok(())
@@ -377,10 +389,10 @@ impl World {
         ensures direct { IsDirect self.old (event.Unblock client) result self.new }
         ensures seen { Shows (view_of self.old) (view_of self.new) }
     {
-        if let Some(refusal) = self.scene.sessions.unblock_refusal(client) {
+        if let Some(refusal) = self.parts.scene.sessions.unblock_refusal(client) {
             return Reply::Refused(refusal);
         }
-        self.scene.sessions.unblock_tested(client);
+        self.parts.scene.sessions.unblock_tested(client);
         Reply::Done
     }
 
@@ -398,16 +410,16 @@ impl World {
         ensures changes { OnOk result (AreChanges changes.new.items (view_of self.old) (view_of self.new)) }
         ensures err { OnErr result (self.new ≡ self.old) }
     {
-        if let Some(stopped) = access_stop(&self.scene, holder, Access::Write) {
+        if let Some(stopped) = access_stop(&self.parts.scene, holder, Access::Write) {
             return Ok(stopped.into_reply());
         }
-        if let Some(refusal) = self.scene.tree.new_inode_refusal(holder.ino, name) {
+        if let Some(refusal) = self.parts.scene.tree.new_inode_refusal(holder.ino, name) {
             return Ok(Reply::Refused(refusal));
         }
         changes.add_place()?;
-        let attr = owned_by(&self.scene.sessions, holder.client, mode);
+        let attr = owned_by(&self.parts.scene.sessions, holder.client, mode);
         let ino = self.add(kind, holder.ino, name, attr)?;
-        changes.note_birth(&self.scene.tree, ino);
+        changes.note_birth(&self.parts.scene.tree, ino);
         Ok(Reply::Ino(ino))
     }
 
@@ -419,12 +431,12 @@ impl World {
         ensures err { OnErr result (self.new ≡ self.old) }
     {
         // The locks first: they can be dropped again, and a number that was given can't be taken back.
-        let ino = Ino(self.scene.tree.last().0 + 1);
-        self.scene.locks.add_ino(ino)?;
-        match make_in(&mut self.scene.tree, kind, dir, name, attr) {
+        let ino = Ino(self.parts.scene.tree.last().0 + 1);
+        self.parts.scene.locks.add_ino(ino)?;
+        match make_in(&mut self.parts.scene.tree, kind, dir, name, attr) {
             Ok(()) => Ok(ino),
             Err(AllocError) => {
-                self.scene.locks.drop_ino(ino);
+                self.parts.scene.locks.drop_ino(ino);
                 Err(AllocError)
             }
         }
@@ -441,13 +453,13 @@ impl World {
         ensures err { OnErr result (self.new ≡ self.old) }
     {
         let holder = Holder { client, ino };
-        if let Some(stopped) = access_stop(&self.scene, holder, Access::Snapshot) {
+        if let Some(stopped) = access_stop(&self.parts.scene, holder, Access::Snapshot) {
             return Ok(stopped.into_reply());
         }
-        if let Some(refusal) = self.scene.tree.new_snapshot_refusal(ino, name) {
+        if let Some(refusal) = self.parts.scene.tree.new_snapshot_refusal(ino, name) {
             return Ok(Reply::Refused(refusal));
         }
-        self.scene.tree.snap_add_tested(ino, name)?;
+        self.parts.scene.tree.snap_add_tested(ino, name)?;
         Ok(Reply::Done)
     }
 
@@ -462,15 +474,22 @@ impl World {
         ensures err { OnErr result (self.new ≡ self.old) }
     {
         let holder = Holder { client, ino };
-        if let Some(stopped) = access_stop(&self.scene, holder, Access::Snapshot) {
+        if let Some(stopped) = access_stop(&self.parts.scene, holder, Access::Snapshot) {
             return Ok(stopped.into_reply());
         }
-        if let Some(refusal) = self.scene.tree.old_snapshot_refusal(ino, name) {
+        if let Some(refusal) = self.parts.scene.tree.old_snapshot_refusal(ino, name) {
             return Ok(Reply::Refused(refusal));
         }
-        self.scene.tree.snap_remove_tested(ino, name);
+        self.parts.scene.tree.snap_remove_tested(ino, name);
         Ok(Reply::Done)
     }
+}
+
+// The client on the inode.
+fn holder(client: ClientId, ino: Ino) -> Holder
+    ensures { result ≡ holder client ino }
+{
+    Holder { client, ino }
 }
 
 // What a lookup answers.

@@ -12,9 +12,9 @@ use Rattle.capcore.proofs.world.World.add.Goals as goal
 
 pub overflow_add-ino : goal.overflow_add-ino
 overflow_add-ino c =
-    let no_fault : first_failing (create_tests c.self.inside.scene.tree c.args.dir.0 c.args.name.now) ≡ None =
+    let no_fault : first_failing (create_tests c.self.inside.parts.scene.tree c.args.dir.0 c.args.name.now) ≡ None =
     subst (λ (s : State). first_failing (create_tests s.scene.tree c.args.dir.0 c.args.name.now) ≡ None) (sym c.self.view_is) c.requires.passed in
-    let more = (passed-create c.self.inside.scene.tree c.args.dir.0 c.args.name.now no_fault).2 in
+    let more = (passed-create c.self.inside.parts.scene.tree c.args.dir.0 c.args.name.now no_fault).2 in
     let last = c.last.ensures.last in
     omega (arith, more, last)
 
@@ -24,7 +24,7 @@ invariant_of-self-in-Ok c =
     rw (c.in-Ok.ensures.ok, c.in_ok-add_ino.ensures.ok, c.last.ensures.last) (
       birth-sound sound c.args.kind c.args.dir.0 c.args.name.now c.args.attr c.last.ensures.sound,
       c.self.invariant.1,
-      birth-known sound c.self.inside.known.sets c.self.invariant.2 c.args.kind c.args.dir.0 c.args.name.now c.args.attr c.last.ensures.sound,
+      birth-known sound c.self.inside.parts.known.sets c.self.invariant.2 c.args.kind c.args.dir.0 c.args.name.now c.args.attr c.last.ensures.sound,
     )
 
 pub invariant_of-self : goal.invariant_of-self
@@ -32,14 +32,14 @@ invariant_of-self c = rw c.in_err-add_ino.ensures.err c.self.invariant
 
 pub invariant_of-self-in-Err : goal.invariant_of-self-in-Err
 invariant_of-self-in-Err c =
-    let undone = added-dropped c.self.inside.scene.locks (c.self.inside.scene.tree.last + 1) (not_given c.self.invariant.0 c.last.ensures.sound) in
-    let locks : c.drop_ino.new.self ≡ c.self.inside.scene.locks = rw (c.drop_ino.ensures, c.in_ok-add_ino.ensures.ok, c.last.ensures.last, undone) refl in (
+    let undone = added-dropped c.self.inside.parts.scene.locks (c.self.inside.parts.scene.tree.last + 1) (not_given c.self.invariant.0 c.last.ensures.sound) in
+    let locks : c.drop_ino.new.self ≡ c.self.inside.parts.scene.locks = rw (c.drop_ino.ensures, c.in_ok-add_ino.ensures.ok, c.last.ensures.last, undone) refl in (
       rw (c.in-Err.ensures.err, c.drop_ino.ensures, c.in_ok-add_ino.ensures.ok, c.last.ensures.last, undone) c.self.invariant.0,
-      subst (HasRoom c.self.inside.messages) (sym locks) c.self.invariant.1,
-      rw c.in-Err.ensures.err (subst (λ (l : LockMap). AreKnown c.self.inside.known.sets (record { fs = c.self.inside.scene.fs; tree = c.self.inside.scene.tree; sessions = c.self.inside.scene.sessions; table = c.self.inside.scene.table; locks = l })) (sym locks) c.self.invariant.2),
+      subst (HasRoom c.self.inside.parts.messages) (sym locks) c.self.invariant.1,
+      rw c.in-Err.ensures.err (subst (λ (l : LockMap). AreKnown c.self.inside.parts.known.sets (record { fs = c.self.inside.parts.scene.fs; tree = c.self.inside.parts.scene.tree; sessions = c.self.inside.parts.scene.sessions; table = c.self.inside.parts.scene.table; locks = l })) (sym locks) c.self.invariant.2),
     )
 
 pub returns-in-Err-clause-err : goal.returns-in-Err-clause-err
 returns-in-Err-clause-err c =
-    let undone = added-dropped c.self.inside.scene.locks (c.self.inside.scene.tree.last + 1) (not_given c.self.invariant.0 c.last.ensures.sound) in
+    let undone = added-dropped c.self.inside.parts.scene.locks (c.self.inside.parts.scene.tree.last + 1) (not_given c.self.invariant.0 c.last.ensures.sound) in
     rw (c.in-Err.ensures.err, c.drop_ino.ensures, c.in_ok-add_ino.ensures.ok, c.last.ensures.last, undone) c.self.view_is

@@ -10,11 +10,11 @@ invariant_of-self c = rw c.in_err-open_session_tested.ensures.err c.self.invaria
 
 pub invariant_of-self-2 : goal.invariant_of-self-2
 invariant_of-self-2 c =
-    let passed : first_failing (new_session_tests c.self.inside.scene.sessions c.args.client.0) ≡ None =
+    let passed : first_failing (new_session_tests c.self.inside.parts.scene.sessions c.args.client.0) ≡ None =
     subst (λ (s : State). first_failing (new_session_tests s.scene.sessions c.args.client.0) ≡ None) (sym c.self.view_is) c.requires.passed in
     let sound = c.self.invariant.0 in
     rw c.in_ok-open_session_tested.ensures.ok (
       session-sound sound c.args.client.0 c.copy-2.result c.in_ok-grants.grants passed,
       c.self.invariant.1,
-      session-known sound c.self.inside.known.sets c.self.invariant.2 c.args.client.0 c.copy-2.result c.in_ok-grants.grants passed,
+      session-known sound c.self.inside.parts.known.sets c.self.invariant.2 c.args.client.0 c.copy-2.result c.in_ok-grants.grants passed,
     )

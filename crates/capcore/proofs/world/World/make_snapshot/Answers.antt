@@ -24,8 +24,8 @@ returns-in-Some-new_snapshot_refusal-clause-direct c =
 
 pub snap_add_tested-requires : goal.snap_add_tested-requires
 snap_add_tested-requires c = record {
-  passed = pass-both (inode_tests c.self.inside.scene.tree c.args.ino.0) (new_snapshot_tests c.self.inside.scene.tree c.args.ino.0 c.args.name.now)
-      (inode-passed c.self.inside.scene c.args.client c.args.ino.0 Snapshot
+  passed = pass-both (inode_tests c.self.inside.parts.scene.tree c.args.ino.0) (new_snapshot_tests c.self.inside.parts.scene.tree c.args.ino.0 c.args.name.now)
+      (inode-passed c.self.inside.parts.scene c.args.client c.args.ino.0 Snapshot
       (sym c.access_stop.ensures ∙ c.in_default.is))
       (sym c.new_snapshot_refusal.ensures ∙ c.in_default-new_snapshot_refusal.is);
 }
@@ -36,11 +36,11 @@ invariant_of-self-2 c =
     rw c.in_ok-snap_add_tested.ensures.ok (
       changed-sound sound (with_snapshot c.args.name.now) c.args.ino.0 (λ n. refl) (λ n. refl),
       c.self.invariant.1,
-      changed-known sound c.self.inside.known.sets c.self.invariant.2 (with_snapshot c.args.name.now) c.args.ino.0 (λ n. refl) (λ n. refl),
+      changed-known sound c.self.inside.parts.known.sets c.self.invariant.2 (with_snapshot c.args.name.now) c.args.ino.0 (λ n. refl) (λ n. refl),
     )
 
 pub returns-clause-seen : goal.returns-clause-seen
 returns-clause-seen c =
-    subst (λ (s : State). Shows (view_of s) (view c.snap_add_tested.new.self c.self.inside.scene.sessions.sessions)) c.self.view_is
-    (shows-tree c.self.inside.scene.tree c.snap_add_tested.new.self c.self.inside.scene.sessions.sessions
-    (subst (IsLike c.self.inside.scene.tree) (sym c.in_ok-snap_add_tested.ensures.ok) (like-unseen c.self.inside.scene.tree (with_snapshot c.args.name.now) c.args.ino.0 (λ n. refl))))
+    subst (λ (s : State). Shows (view_of s) (view c.snap_add_tested.new.self c.self.inside.parts.scene.sessions.sessions)) c.self.view_is
+    (shows-tree c.self.inside.parts.scene.tree c.snap_add_tested.new.self c.self.inside.parts.scene.sessions.sessions
+    (subst (IsLike c.self.inside.parts.scene.tree) (sym c.in_ok-snap_add_tested.ensures.ok) (like-unseen c.self.inside.parts.scene.tree (with_snapshot c.args.name.now) c.args.ino.0 (λ n. refl))))

@@ -44,7 +44,7 @@ returns-in-Some-clause-answered c =
 module _ (c : After-drop-told) where
   -- the state before the event
   abbrev old : State
-  old = record { scene = c.self.inside.scene; messages = c.self.inside.messages.items }
+  old = record { scene = c.self.inside.parts.scene; messages = c.self.inside.parts.messages.items }
 
   -- and behind it
   abbrev new : State
@@ -79,13 +79,13 @@ module _ (c : After-drop-told) where
 pub invariant_of-self : goal.invariant_of-self
 invariant_of-self c =
     let w = whole c in
-    let items = c.self.inside.messages.items in
+    let items = c.self.inside.parts.messages.items in
     let few : length c.remove_given.new.self.items ≤ length items =
     subst (λ (n : List Ended). length n ≤ length items) (sym (kept_items c))
     (omega (arith, length-filter (is_left c.args.client c.in_ok-given.given) items, count_by-le-length (is_left c.args.client c.in_ok-given.given) items)) in (
       w.sound,
       omega (arith, few, c.remove_given.ensures.room, c.self.invariant.1),
-      known-alike c.self.inside.known.sets (old c).scene c.skip_quiet.new.self
+      known-alike c.self.inside.parts.known.sets (old c).scene c.skip_quiet.new.self
           (subst (HoldAlike (old c).scene.table) (sym (told c)) (alike-where (is_of_client c.args.client) (after_messages c.in_ok-given.given) (old c).scene.table (given-held c.in_ok-given.given))) c.self.invariant.2,
     )
 

@@ -15,7 +15,7 @@ use Rattle.capcore.proofs.world.World.recall.Goals.{After-new-2}
 module _ (c : After-new-2) where
   -- the state before the event
   abbrev old : State
-  old = record { scene = c.self.inside.scene; messages = c.self.inside.messages.items }
+  old = record { scene = c.self.inside.parts.scene; messages = c.self.inside.parts.messages.items }
 
   -- and behind it
   abbrev new : State
@@ -33,7 +33,7 @@ pub invariant_of-self : goal.invariant_of-self
 invariant_of-self c = rw c.in_err-named.ensures.err c.self.invariant
 
 pub invariant_of-self-2 : goal.invariant_of-self-2
-invariant_of-self-2 c = rw c.in_ok-named.ensures.ok (recalled-sound _ c.self.invariant.0 c.args.count, c.self.invariant.1, recalled-known _ c.self.invariant.0 c.args.count c.self.inside.known.sets c.self.invariant.2)
+invariant_of-self-2 c = rw c.in_ok-named.ensures.ok (recalled-sound _ c.self.invariant.0 c.args.count, c.self.invariant.1, recalled-known _ c.self.invariant.0 c.args.count c.self.inside.parts.known.sets c.self.invariant.2)
 
 pub returns-clause-answered : goal.returns-clause-answered
 returns-clause-answered c = subst (λ (s : State). IsAnswered s (event.Recall c.args.count) (said c) (new c)) c.self.view_is (whole c)

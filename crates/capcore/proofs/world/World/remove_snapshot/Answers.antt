@@ -24,8 +24,8 @@ returns-in-Some-old_snapshot_refusal-clause-direct c =
 
 pub snap_remove_tested-requires : goal.snap_remove_tested-requires
 snap_remove_tested-requires c = record {
-  passed = pass-both (inode_tests c.self.inside.scene.tree c.args.ino.0) (old_snapshot_tests c.self.inside.scene.tree c.args.ino.0 c.args.name.now)
-      (inode-passed c.self.inside.scene c.args.client c.args.ino.0 Snapshot
+  passed = pass-both (inode_tests c.self.inside.parts.scene.tree c.args.ino.0) (old_snapshot_tests c.self.inside.parts.scene.tree c.args.ino.0 c.args.name.now)
+      (inode-passed c.self.inside.parts.scene c.args.client c.args.ino.0 Snapshot
       (sym c.access_stop.ensures ∙ c.in_default.is))
       (sym c.old_snapshot_refusal.ensures ∙ c.in_default-old_snapshot_refusal.is);
 }
@@ -36,11 +36,11 @@ invariant_of-self c =
     rw c.snap_remove_tested.ensures (
       changed-sound sound (without_snapshot c.args.name.now) c.args.ino.0 (λ n. refl) (λ n. refl),
       c.self.invariant.1,
-      changed-known sound c.self.inside.known.sets c.self.invariant.2 (without_snapshot c.args.name.now) c.args.ino.0 (λ n. refl) (λ n. refl),
+      changed-known sound c.self.inside.parts.known.sets c.self.invariant.2 (without_snapshot c.args.name.now) c.args.ino.0 (λ n. refl) (λ n. refl),
     )
 
 pub returns-clause-seen : goal.returns-clause-seen
 returns-clause-seen c =
-    subst (λ (s : State). Shows (view_of s) (view c.snap_remove_tested.new.self c.self.inside.scene.sessions.sessions)) c.self.view_is
-    (shows-tree c.self.inside.scene.tree c.snap_remove_tested.new.self c.self.inside.scene.sessions.sessions
-    (subst (IsLike c.self.inside.scene.tree) (sym c.snap_remove_tested.ensures) (like-unseen c.self.inside.scene.tree (without_snapshot c.args.name.now) c.args.ino.0 (λ n. refl))))
+    subst (λ (s : State). Shows (view_of s) (view c.snap_remove_tested.new.self c.self.inside.parts.scene.sessions.sessions)) c.self.view_is
+    (shows-tree c.self.inside.parts.scene.tree c.snap_remove_tested.new.self c.self.inside.parts.scene.sessions.sessions
+    (subst (IsLike c.self.inside.parts.scene.tree) (sym c.snap_remove_tested.ensures) (like-unseen c.self.inside.parts.scene.tree (without_snapshot c.args.name.now) c.args.ino.0 (λ n. refl))))

@@ -1,0 +1,52 @@
+use Rattle.std.proofs.Common.{is_some, ◌≡◌, length, refl, sym, ap, subst, arith}
+use Rattle.inotree.specs.Tree.{IsTree}
+use Rattle.captable.specs.declared.entry.Holder.{Holder}
+use Rattle.captable.specs.Table.{Table, IsTable}
+use Rattle.capsteps.specs.Capevents.declared.event.Event.{Event}
+use Rattle.capsteps.specs.Capevents.declared.event.Event.TheVariants as event
+use Rattle.capsteps.specs.Capevents.declared.reply.Reply.TheVariants as reply
+use Rattle.capsteps.specs.Caprules.Direct.{direct, says, with_flush}
+use Rattle.capsteps.specs.Touching.{TouchesOne}
+use Rattle.capsteps.proofs.Capnotes.Noting.{changes-all}
+use Rattle.capsteps.proofs.Knowing.{HoldAlike, alike-less, still-there}
+use Rattle.capsteps.proofs.Begun.{room-for}
+use Rattle.capsteps.proofs.Judged.{none-judged}
+use Rattle.capcore.specs.declared.parts.Parts.{Parts}
+use Rattle.capcore.specs.declared.parts.Affected.TheVariants as affected
+use Rattle.capcore.specs.declared.parts.Answer.TheVariants.{Done}
+use Rattle.capcore.specs.UnderWay.{state_of}
+use Rattle.capcore.proofs.Begun.{on_err, one-begun}
+use Rattle.capcore.proofs.Flushed.{below-of_flush, flush-calls, flush-direct, flush-table, flush-touches, flush-tree}
+use Rattle.capcore.proofs.parts.Parts.flush.Goals as goal
+
+pub alter-requires : goal.alter-requires
+alter-requires c = record { passed = flush-calls c.args.self.now.scene c.args.holder c.args.change.now c.requires.may.passed }
+
+-- for want of memory all is as it was
+pub returns-in_err-alter-clause-whole : goal.returns-in_err-alter-clause-whole
+returns-in_err-alter-clause-whole c = rw c.in_err-alter.ensures.err (on_err _ c.requires.may.whole)
+
+pub returns-clause-begun : goal.returns-clause-begun
+returns-clause-begun c =
+    let p : Parts = c.args.self.now in
+    let k : Holder = c.args.holder in
+    let change = c.args.change.now in
+    let e : Event = event.Flush k.client k.ino change in
+    let may = c.requires.may in
+    let table : Table = c.touch.new.self in
+    let q : Parts = record { scene = record p.scene { tree = c.alter.new.tree; table = table }; known = p.known; messages = p.messages; endings = record c.begin.new.self { changes = c.note_change.new.self } } in
+    let by_itself : direct (state_of p) e ≡ says (with_flush (state_of p) k change) reply.Done = flush-direct (state_of p) k change may.passed in
+    let alike : HoldAlike p.scene.table table = subst (HoldAlike p.scene.table) (sym c.touch.ensures) (λ j f there. (f, there, refl)) in
+    let begun = c.in_ok-begin.ensures in
+    let none = ap length begun.changes.0 in
+    let is : q.scene ≡ (with_flush (state_of p) k change).scene = λ i. record p.scene { tree = c.in_ok-alter.ensures.ok i; table = c.touch.ensures i } in
+    one-begun p q e k may (says (with_flush (state_of p) k change) reply.Done) by_itself (refl, refl) (λ count given. below-of_flush count (state_of p) k change given) is refl
+    (affected.Inode k) Done refl refl refl refl (subst (TouchesOne k.ino.0 (state_of p)) (sym is) (flush-touches (state_of p) k change may.whole.0 may.table))
+    (subst IsTable (sym c.touch.ensures) (flush-table (state_of p) k change may.table))
+    (still-there p.scene.table table p.known.sets p.known.sets (λ j f there. ap is_some (alike j f there).1) (λ j f there. refl)) (alike-less p.scene.table table alike)
+    (subst IsTree (sym c.in_ok-alter.ensures.ok) (flush-tree p.scene k change may.passed may.tree)) may.order
+    (room-for c.begin.new.self q.endings.changes q.endings.judged c.waiting-waiting.result (length p.scene.locks.queue) begun.room (omega (arith, c.waiting-waiting.ensures.waiting)))
+    (none-judged q.endings.judged q.scene begun.judged)
+    (omega (arith, none, begun.changes.1, c.note_change.ensures.count, c.note_change.ensures.room, c.waiting-waiting.ensures.waiting))
+    may.whole.1 tt
+    (changes-all c.begin.new.self.changes.items q.endings.changes.items p.scene.tree c.alter.new.tree p.scene.sessions.sessions begun.changes.0 (c.note_change.ensures.lead p.scene.tree c.in_ok-alter.ensures.ok))

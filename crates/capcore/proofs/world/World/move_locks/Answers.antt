@@ -1,0 +1,161 @@
+use Rattle.std.proofs.Common.{◌≡◌, ◌+◌, ◌++◌, List, length, sym, ap, subst, ◌∙◌, arith}
+use Rattle.std.proofs.lemmas.List.{length-append}
+use Rattle.inotree.specs.Tree.{IsTree}
+use Rattle.sessiontab.specs.Table.{SessionTable}
+use Rattle.captable.specs.Table.{IsTable}
+use Rattle.capsteps.specs.Lockmachine.Locks.{IsLockMap}
+use Rattle.capsteps.specs.Lockmachine.declared.scene.Scene.{Scene}
+use Rattle.capsteps.specs.Answered.{IsAnswered}
+use Rattle.capsteps.specs.Capacts.Known.{AreKnown}
+use Rattle.capsteps.specs.Capevents.declared.event.Event.{Event}
+use Rattle.capsteps.specs.Capevents.declared.outcome.Ended.{Ended}
+use Rattle.capsteps.specs.Capnotes.Untold.{Untold}
+use Rattle.capsteps.specs.Capnotes.Noted.{view}
+use Rattle.capsteps.specs.Capview.Changes.{AreChanges}
+use Rattle.capsteps.specs.Caprules.Direct.{shown}
+use Rattle.capsteps.specs.Caprules.Noted.{view_of}
+use Rattle.capsteps.specs.Caprules.Sound.{IsSound, NumbersLeft}
+use Rattle.capsteps.specs.Caprules.State.{State}
+use Rattle.capsteps.proofs.Capnotes.Noting.{changes-still}
+use Rattle.capcore.specs.declared.parts.Parts.{Parts}
+use Rattle.capcore.specs.declared.parts.Effect.{Effect}
+use Rattle.capcore.specs.UnderWay.{MayBegin, HasBegun, answer_of, earlier_of, event_of, state_of}
+use Rattle.capcore.proofs.Begun.{ended-answered, ended-known, ended-numbers, few-earlier, fewer-places, shown-known, shown-rest}
+use Rattle.capcore.proofs.Closing.{ends-sessions}
+use Rattle.capcore.proofs.Stops.{judged-at, stopped-answered}
+use Rattle.capcore.proofs.world.World.move_locks.Goals as goal
+use Rattle.capcore.proofs.world.World.move_locks.Goals.{After-end, After-close}
+
+-- ---- an event that is stopped
+
+pub returns-in-Some-clause-answered : goal.returns-in-Some-clause-answered
+returns-in-Some-clause-answered c =
+    let s = c.args.self.now in
+    stopped-answered s (event_of c.args.asking.now) c.in-Some.stopped c.alone.result (subst IsSound c.self.view_is c.self.invariant.0) c.requires.table
+    (judged-at _ s (event_of c.args.asking.now) c.stopped.result c.self.view_is (c.stopped.ensures c.self.invariant.2) ∙ c.in-Some.is)
+    (c.alone.ensures.reply ∙ c.into_reply.ensures.reply) (c.alone.ensures.kept ∙ sym c.alone.ensures.reply) c.alone.ensures.ended
+
+pub returns-in-Some-clause-changes : goal.returns-in-Some-clause-changes
+returns-in-Some-clause-changes c = changes-still c.alone.result.changes.items (view_of c.args.self.now) c.alone.ensures.changes
+
+-- ---- one that nothing stops
+
+pub begin-requires : goal.begin-requires
+begin-requires c = record {
+  may = record {
+    whole = c.self.invariant;
+    tree = subst (λ (s : State). IsTree s.scene.tree) (sym c.self.view_is) c.requires.tree;
+    table = subst (λ (s : State). IsTable s.scene.table) (sym c.self.view_is) c.requires.table;
+    order = subst (λ (s : State). IsLockMap s.scene.locks) (sym c.self.view_is) c.requires.locks;
+    numbers = subst NumbersLeft (sym c.self.view_is) c.requires.numbers;
+    passed = sym (c.stopped.ensures c.self.invariant.2) ∙ c.in_default.is;
+  };
+}
+
+pub end-requires : goal.end-requires
+end-requires c = record { ready = c.in_ok-affected.ensures.begun.ready }
+
+-- ---- the end of the step
+
+module _ (c : After-end) where
+  abbrev p : Parts
+  p = c.self.inside.parts
+
+  abbrev q : Parts
+  q = c.begin.new.self
+
+  abbrev last : Parts
+  last = c.end.new.self
+
+  abbrev e : Event
+  e = event_of c.args.asking.now
+
+  abbrev effect : Effect
+  effect = c.in_ok-affected.field-0
+
+  may : MayBegin p e
+  may = record {
+    whole = c.self.invariant;
+    tree = subst (λ (s : State). IsTree s.scene.tree) (sym c.self.view_is) c.requires.tree;
+    table = subst (λ (s : State). IsTable s.scene.table) (sym c.self.view_is) c.requires.table;
+    order = subst (λ (s : State). IsLockMap s.scene.locks) (sym c.self.view_is) c.requires.locks;
+    numbers = subst NumbersLeft (sym c.self.view_is) c.requires.numbers;
+    passed = sym (c.stopped.ensures c.self.invariant.2) ∙ c.in_default.is;
+  }
+
+  begun : HasBegun p e effect q
+  begun = c.in_ok-affected.ensures.begun
+
+  known : AreKnown last.known.sets last.scene
+  known = ended-known p q e effect may begun last.known.sets last.scene last.endings.told.items c.end.ensures.ends
+
+pub close-requires : goal.close-requires
+close-requires g =
+    let c = (goal.at.close-requires g).After-end in
+    let left = ap (λ (m : Untold). length m.items) c.end.ensures.messages in
+    let room = ap (λ (m : Untold). m.room) c.end.ensures.messages in
+    record {
+      differ = ended-numbers (p c) (q c) (e c) (effect c) (may c) (begun c) (last c).known.sets (last c).scene (last c).endings.told.items c.end.ensures.ends;
+      same = c.end.ensures.kept;
+      room = omega (arith, left, room, c.end.ensures.count, (begun c).room);
+      places = fewer-places (effect c).answer (length (q c).scene.locks.queue) (length (last c).endings.told.items) (omega (arith, c.end.ensures.count)) (begun c).places;
+      known = known c;
+    }
+
+module _ (g : After-close) where
+  abbrev c : After-end
+  c = (goal.at.returns-clause-answered g).After-end
+
+  abbrev new : Parts
+  new = g.close.new.self
+
+  abbrev told : List Ended
+  told = (last c).endings.told.items
+
+  abbrev left : List Ended
+  left = (q c).messages.items ++ earlier_of (effect c).answer told
+
+  abbrev closed : State
+  closed = record { scene = (last c).scene; messages = left }
+
+  items : new.messages.items ≡ left
+  items = g.close.ensures.messages ∙ ap (λ (m : Untold). m.items ++ earlier_of (effect c).answer told) g.end.ensures.messages
+
+  new_is : state_of new ≡ shown (answer_of (effect c).answer) closed
+  new_is = (λ i. record { scene = new.scene; messages = items i }) ∙ g.close.ensures.shown left
+
+  rest : new.scene ≡ record (last c).scene { table = (shown (answer_of (effect c).answer) closed).scene.table }
+  rest = ap (λ (s : State). s.scene) new_is ∙ shown-rest (effect c).answer closed
+
+  whole : IsAnswered (state_of (p c)) (e c) g.close.result (state_of new)
+  whole =
+      ended-answered (p c) (q c) (e c) (effect c) (may c) (begun c) (last c).known.sets (last c).scene told g.end.ensures.ends g.close.result (state_of new)
+      (g.close.ensures.reply left) g.close.ensures.kept g.close.ensures.ended new_is
+
+pub returns-clause-answered : goal.returns-clause-answered
+returns-clause-answered g = subst (λ (s : State). IsAnswered s (e (c g)) g.close.result (state_of (new g))) g.self.view_is (whole g)
+
+pub invariant_of-self-2 : goal.invariant_of-self-2
+invariant_of-self-2 g =
+    let w = whole g in
+    let items = ap length (items g) ∙ length-append (q (c g)).messages.items (earlier_of (effect (c g)).answer (told g)) in
+    let few = few-earlier (effect (c g)).answer (told g) in
+    let queue = ap (λ (s : Scene). length s.locks.queue) (rest g) in
+    let room = ap (λ (m : Untold). m.room) g.end.ensures.messages in (
+      w.sound,
+      omega (arith, items, few, queue, room, g.close.ensures.room, g.end.ensures.count, (begun (c g)).room),
+      subst (λ (s : Scene). AreKnown g.close.new.self.known.sets s) (sym (ap (λ (s : State). s.scene) (new_is g)))
+          (rw g.close.ensures.known (shown-known (effect (c g)).answer (closed g) (last (c g)).known.sets (known (c g)))),
+    )
+
+pub returns-clause-changes : goal.returns-clause-changes
+returns-clause-changes g =
+    let changes = (last (c g)).endings.changes.items in
+    let first : State = state_of (p (c g)) in
+    let all : AreChanges changes (view_of first) (view (last (c g)).scene.tree (q (c g)).scene.sessions.sessions) =
+    g.end.ensures.lead.on (view_of first) (q (c g)).scene.sessions.sessions (begun (c g)).noted in
+    let stay : (new g).scene.sessions ≡ (q (c g)).scene.sessions = ap (λ (s : Scene). s.sessions) (rest g) ∙ ends-sessions _ _ _ _ _ _ g.end.ensures.ends in
+    subst (λ (s : State). AreChanges g.close.result.changes.items (view_of s) (view_of (state_of (new g)))) g.self.view_is
+    (subst (λ items. AreChanges items (view_of first) (view_of (state_of (new g)))) (sym g.close.ensures.changes)
+    (subst (λ (t : SessionTable). AreChanges changes (view_of first) (view (new g).scene.tree t.sessions)) (sym stay)
+    (rw (ap (λ (s : Scene). s.tree) (rest g)) all)))

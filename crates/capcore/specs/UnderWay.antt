@@ -1,0 +1,143 @@
+-- A step that may move locks: before its event, and between the event and the end.
+use Rattle.std.specs.Prelude.{◌≡◌, ◌≤◌, ◌+◌, ◌==◌, ℕ, Bool, false, List, [], All, length, None}
+use Rattle.std.specs.FinSet as set
+use Rattle.inotree.specs.Tree.{IsTree}
+use Rattle.captable.specs.Table.{IsTable}
+use Rattle.capsteps.specs.Lockmachine.Locks.{IsLockMap}
+use Rattle.capsteps.specs.Capevents.declared.event.Event.{Event}
+use Rattle.capsteps.specs.Capevents.declared.event.Event.TheVariants as event
+use Rattle.capsteps.specs.Capevents.declared.outcome.Ended.{Ended}
+use Rattle.capsteps.specs.Capevents.declared.reply.Reply.TheVariants as reply
+use Rattle.capsteps.specs.Capview.Changes.{AreChanges}
+use Rattle.capsteps.specs.Capnotes.Noted.{HavePlaces}
+use Rattle.capsteps.specs.Capnotes.Untold.{HasRoom, but_for}
+use Rattle.capsteps.specs.Capacts.Known.{known_in, AreKnown, StillKept, OthersHaveAll}
+use Rattle.capsteps.specs.Capacts.Reach.{is_touched}
+use Rattle.capsteps.specs.Caprules.State.{State}
+use Rattle.capsteps.specs.Caprules.Direct as rules
+use Rattle.capsteps.specs.Caprules.Direct.{direct}
+use Rattle.capsteps.specs.Caprules.Judge.{judged}
+use Rattle.capsteps.specs.Caprules.Noted.{view_of}
+use Rattle.capsteps.specs.Caprules.Sound.{IsSound, AreGiven, NumbersLeft}
+use Rattle.capsteps.specs.Begun.{MaySettle, MayEnd, HaveRoomFor}
+use Rattle.capsteps.specs.Judged.{IsJudged}
+use Rattle.capsteps.specs.Touch.{touch_event, touch_answer}
+use Rattle.capsteps.specs.Touching.{Touches, Knows}
+use Rattle.capsteps.specs.Turn.{turn_event}
+use Rattle.capcore.specs.Asks.{asked_event}
+use Rattle.capcore.specs.declared.parts.Parts.{Parts}
+use Rattle.capcore.specs.declared.parts.Asking.{Asking}
+use Rattle.capcore.specs.declared.parts.Asking.TheVariants.{OfEntry, OfLock, Flush, OfSession}
+use Rattle.capcore.specs.declared.parts.Effect.{Effect}
+use Rattle.capcore.specs.declared.parts.Affected.{Affected}
+use Rattle.capcore.specs.declared.parts.Affected.TheVariants.{Entry, Inode, Others}
+use Rattle.capcore.specs.declared.parts.Answer.{Answer}
+use Rattle.capcore.specs.declared.parts.Answer.TheVariants.{Done, Dropped, Touched, Awaited}
+
+abbrev pub state_of : Parts → State
+state_of p = record { scene = p.scene; messages = p.messages.items }
+
+-- what the parts are between two steps: sound, with room for each message that is to come, and of each entry it is known what its
+-- client is to know of
+abbrev pub IsWhole : Parts → Type 0
+IsWhole p = IsSound (state_of p) × HasRoom p.messages p.scene.locks × AreKnown p.known.sets p.scene
+
+-- ---- the event
+
+abbrev pub event_of : Asking → Event
+event_of (OfEntry k touch) = touch_event k.client k.ino touch
+event_of (OfLock k asked) = asked_event k.client k.ino asked
+event_of (Flush k change) = event.Flush k.client k.ino change.now
+event_of (OfSession client turn) = turn_event client turn
+
+-- nothing stops it
+pub record MayBegin (p : Parts) (e : Event) : Type 0 where
+  pub whole : IsWhole p
+  pub tree : IsTree p.scene.tree
+  pub table : IsTable p.scene.table
+  pub order : IsLockMap p.scene.locks
+  pub numbers : NumbersLeft (state_of p)
+  pub passed : judged p.scene e ≡ None
+
+-- ---- what it leaves by itself
+
+-- the inodes that it affects
+abbrev pub among : Affected → ℕ → Bool
+among (Entry k) = λ other. other == k.ino.0
+among (Inode k) = λ other. other == k.ino.0
+among (Others others) = is_touched 1 others
+
+abbrev pub answer_of : Answer → rules.Answer
+answer_of Done = rules.Says reply.Done
+answer_of (Dropped dropped) = rules.Says reply.Done
+answer_of (Touched k touch) = touch_answer k touch
+answer_of (Awaited ticket) = rules.Awaits ticket
+
+abbrev pub dropped_of : Answer → List Ended
+dropped_of Done = []
+dropped_of (Dropped dropped) = dropped.items
+dropped_of (Touched k touch) = []
+dropped_of (Awaited ticket) = []
+
+-- of the requests that the step ends, those of earlier steps
+abbrev pub earlier_of : Answer → List Ended → List Ended
+earlier_of Done told = told
+earlier_of (Dropped dropped) told = told
+earlier_of (Touched k touch) told = told
+earlier_of (Awaited ticket) told = but_for ticket told
+
+-- the last number of a request, before and after: the one that is awaited, is new
+abbrev pub IsNumbered : Answer → ℕ → ℕ → Type 0
+IsNumbered Done was now = now ≡ was
+IsNumbered (Dropped dropped) was now = now ≡ was
+IsNumbered (Touched k touch) was now = now ≡ was
+IsNumbered (Awaited ticket) was now = (ticket.0 ≡ was + 1) × (now ≡ was + 1)
+
+-- where requests were dropped, there is room for so many beside them
+abbrev pub HasPlaces : Answer → ℕ → Type 0
+HasPlaces Done waiting = Unit
+HasPlaces (Dropped dropped) waiting = length dropped.items + waiting ≤ dropped.room
+HasPlaces (Touched k touch) waiting = Unit
+HasPlaces (Awaited ticket) waiting = Unit
+
+-- it gives at most one number
+abbrev pub GivesOne : State → Event → Type 0
+GivesOne old e =
+    (count : ℕ) → AreGiven count old →
+    All (λ row. row.entry.seq ≤ count) (direct old e).state.scene.table.rows
+    × ((direct old e).state.scene.table.made ≤ count + 1) × ((direct old e).state.scene.locks.last ≤ count + 1)
+
+-- ---- what there has to be before the locks settle and the step ends
+
+-- at an inode there is a place for its change and for that of each request that waits. Where one entry alone was touched, the
+-- others on its inode have all
+abbrev pub MayEndAt : Affected → Parts → Type 0
+MayEndAt (Entry k) p =
+    (length p.endings.changes.items + length p.scene.locks.queue + 1 ≤ p.endings.changes.room) × OthersHaveAll p.known.sets p.scene k
+MayEndAt (Inode k) p = length p.endings.changes.items + length p.scene.locks.queue + 1 ≤ p.endings.changes.room
+MayEndAt (Others others) p = HavePlaces p.endings.changes p.scene.locks others × (set.contains others 1 ≡ false)
+
+pub record IsReady (affected : Affected) (p : Parts) : Type 0 where
+  pub settles : MaySettle (among affected) p.scene
+  pub judged : IsJudged p.endings.judged p.scene
+  pub entries : MayEnd p.known.sets p.scene.sessions p.scene.table
+  pub room : HaveRoomFor (length p.scene.locks.queue) p.endings
+  pub at : MayEndAt affected p
+
+-- ---- the event alone has been applied
+
+pub record HasBegun (p : Parts) (e : Event) (effect : Effect) (q : Parts) : Type 0 where
+  pub is : state_of q ≡ (direct (state_of p) e).state
+  pub answer : answer_of effect.answer ≡ (direct (state_of p) e).answer
+  pub dropped : dropped_of effect.answer ≡ (direct (state_of p) e).dropped
+  pub number : IsNumbered effect.answer p.scene.locks.last q.scene.locks.last
+  pub touches : Touches (among effect.affected) (state_of p) (state_of q)
+  pub table : IsTable q.scene.table
+  pub gives : GivesOne (state_of p) e
+  -- of each entry what was known is kept
+  pub still : StillKept p.scene.table q.scene.table p.known.sets q.known.sets
+  pub knows : Knows (known_in q.known.sets) p.scene q.scene.table
+  pub ready : IsReady effect.affected q
+  pub room : HasRoom q.messages q.scene.locks
+  pub places : HasPlaces effect.answer (length q.scene.locks.queue)
+  pub noted : AreChanges q.endings.changes.items (view_of (state_of p)) (view_of (state_of q))

@@ -1,0 +1,74 @@
+//! The parts of the core that a step changes, and what its event asks for and leaves.
+
+use crate::asks::Asked;
+use capbits::{ClientId, Ticket};
+use capsteps::endings::Endings;
+use capsteps::known::Known;
+use capsteps::leaving::Turn;
+use capsteps::touch::Touch;
+use capsteps::{Change, InoSet, Messages, Scene};
+use captable::Holder;
+
+// Tree, sessions, entries and locks, what clients are still to be told, and what a step needs beside them.
+#[derive(Debug)]
+pub(crate) struct Parts {
+    pub(crate) scene: Scene,
+    // Of each entry what its client was to know of at the end of the last step.
+    pub(crate) known: Known,
+    // The requests that ended and that no client was told of.
+    pub(crate) messages: Messages,
+    // What a step lists, between steps of use for its room alone.
+    pub(crate) endings: Endings,
+}
+
+// By hand, so that whoever lets one go has one call to prove.
+impl Drop for Parts {
+    fn drop(self) {
+        let Parts {
+            scene: _,
+            known: _,
+            messages: _,
+            endings: _,
+        } = self;
+    }
+}
+
+// What an event asks for that may move locks.
+#[derive(Clone, Copy)]
+pub(crate) enum Asking<'a> {
+    OfEntry(Holder, Touch),
+    OfLock(Holder, Asked<'a>),
+    // The holder, which alone may change a part, has changed it.
+    Flush(Holder, &'a Change),
+    OfSession(ClientId, Turn<'a>),
+}
+
+// What the event left by itself, before any lock moves.
+#[derive(Drop)]
+pub(crate) struct Effect {
+    pub(crate) affected: Affected,
+    pub(crate) answer: Answer,
+}
+
+// Whose locks may move.
+#[derive(Drop)]
+pub(crate) enum Affected {
+    // Those of the inode, on which this entry alone was touched.
+    Entry(Holder),
+    // Those of the inode.
+    Inode(Holder),
+    // Those of the root and of these others.
+    Others(InoSet),
+}
+
+// What is answered at the end of the step.
+#[derive(Drop)]
+pub(crate) enum Answer {
+    Done,
+    // That it is done, where these requests were dropped.
+    Dropped(Messages),
+    // What is answered where this was asked of the holder's entry.
+    Touched(Holder, Touch),
+    // How the request with this number ended, if it did.
+    Awaited(Ticket),
+}
