@@ -17,7 +17,7 @@ use Rattle.caprules.proofs.Lockmachine.Positions.{at_position, no_position}
 use Rattle.numbered.specs.Rows.{with_new}
 use Rattle.numbered.proofs.Maps.{insert-at, remove-at}
 use Rattle.capacts.specs.declared.on_inode.OnInode.{OnInode}
-use Rattle.capacts.specs.Known.{KnownSets, sets_on, is_of, kept_among, kept_of}
+use Rattle.capacts.specs.Known.{KnownSets, sets_on, is_of, known_among, known_of}
 
 one_number : (a b : ClientId) → a.0 ≡ b.0 → a ≡ b
 one_number a b e = λ i. record { 0 = e i }
@@ -45,17 +45,17 @@ module _ (client : ClientId) (sets : List (ClientId × Caps)) (i : ℕ) (at : po
   pub found-at : (kept : ClientId × Caps) → find (is_of client) sets ≡ Some (get_or sets i kept)
   found-at kept = find_at (is_of client) sets ∙ ap (slice_get sets) (sym (at_position (is_of client) sets i at).0) ∙ slice_get-get_or sets i kept inside-at
 
-  pub kept-at : (kept : ClientId × Caps) → kept_among sets client ≡ Some (get_or sets i kept).1
+  pub kept-at : (kept : ClientId × Caps) → known_among sets client ≡ Some (get_or sets i kept).1
   kept-at kept = ap (option_map (λ (k : ClientId × Caps). k.1)) (found-at kept)
 
   -- where another set is put there, it is that
-  pub put-own : (caps : Caps) → kept_among (set sets i (client, caps)) client ≡ Some caps
+  pub put-own : (caps : Caps) → known_among (set sets i (client, caps)) client ≡ Some caps
   put-own caps =
       let place = at_position (is_of client) sets i at in
       ap (option_map (λ (k : ClientId × Caps). k.1)) (find-set (is_of client) sets i (client, caps) place.0 inside-at (nat_eq_equiv.refl client.0))
 
   -- and of the others it is what it was
-  pub put-others : (caps : Caps) (other : ClientId) → other ≢ client → kept_among (set sets i (client, caps)) other ≡ kept_among sets other
+  pub put-others : (caps : Caps) (other : ClientId) → other ≢ client → known_among (set sets i (client, caps)) other ≡ known_among sets other
   put-others caps other apart =
       ap (option_map (λ (k : ClientId × Caps). k.1))
       (find_past (is_of other) sets i (client, caps) (client, caps)
@@ -63,7 +63,7 @@ module _ (client : ClientId) (sets : List (ClientId × Caps)) (i : ℕ) (at : po
       (not_of client other apart (client, caps) (nat_eq_equiv.refl client.0)))
 
   -- so it is where what stands there is taken out
-  pub remove-others : (other : ClientId) → other ≢ client → kept_among (remove sets i) other ≡ kept_among sets other
+  pub remove-others : (other : ClientId) → other ≢ client → known_among (remove sets i) other ≡ known_among sets other
   remove-others other apart =
       let kept : ClientId × Caps = get_or sets i (client, no_caps) in
       ap (option_map (λ (k : ClientId × Caps). k.1))
@@ -71,18 +71,18 @@ module _ (client : ClientId) (sets : List (ClientId × Caps)) (i : ℕ) (at : po
       (not_of client other apart kept (find_passes (is_of client) sets kept (found-at (client, no_caps)))))
 
 -- without a place, nothing is
-pub none-kept : (client : ClientId) (sets : List (ClientId × Caps)) → position (is_of client) sets ≡ None → kept_among sets client ≡ None
+pub none-kept : (client : ClientId) (sets : List (ClientId × Caps)) → position (is_of client) sets ≡ None → known_among sets client ≡ None
 none-kept client sets none = ap (option_map (λ (k : ClientId × Caps). k.1)) (no_position (is_of client) sets none)
 
 module _ (client : ClientId) (sets : List (ClientId × Caps)) (caps : Caps) where
-  pub add-own : IsSome (kept_among (sets ++ (client, caps) ∷ []) client)
+  pub add-own : IsSome (known_among (sets ++ (client, caps) ∷ []) client)
   add-own = rw find-append (by_found (find (is_of client) sets))
     where
       by_found : (o : Option (ClientId × Caps)) → IsSome (option_map (λ (k : ClientId × Caps). k.1) (option_or o (find (is_of client) ((client, caps) ∷ []))))
       by_found (Some kept) = refl
       by_found None = rw nat_eq_equiv.refl refl
 
-  pub add-others : (other : ClientId) → other ≢ client → kept_among (sets ++ (client, caps) ∷ []) other ≡ kept_among sets other
+  pub add-others : (other : ClientId) → other ≢ client → known_among (sets ++ (client, caps) ∷ []) other ≡ known_among sets other
   add-others other apart =
       ap (option_map (λ (k : ClientId × Caps). k.1))
       (find-append (is_of other) sets ((client, caps) ∷ [])
@@ -97,15 +97,15 @@ module _ (client : ClientId) (sets : List (ClientId × Caps)) (caps : Caps) wher
 
 module _ (first : ClientId × Caps) (client : ClientId) where
   -- the first one's set
-  pub first-own : first.0.0 ≡ client.0 → (sets : List (ClientId × Caps)) → kept_among (first ∷ sets) client ≡ Some first.1
+  pub first-own : first.0.0 ≡ client.0 → (sets : List (ClientId × Caps)) → known_among (first ∷ sets) client ≡ Some first.1
   first-own own sets = ap (λ b. option_map (λ (k : ClientId × Caps). k.1) (cond b (Some first) (find (is_of client) sets))) (ap (λ n. n == client.0) own ∙ nat_eq_equiv.refl client.0)
 
   -- who is not the first is among the others
-  pub first-other : first.0.0 ≢ client.0 → (sets : List (ClientId × Caps)) → kept_among (first ∷ sets) client ≡ kept_among sets client
+  pub first-other : first.0.0 ≢ client.0 → (sets : List (ClientId × Caps)) → known_among (first ∷ sets) client ≡ known_among sets client
   first-other off sets = ap (λ b. option_map (λ (k : ClientId × Caps). k.1) (cond b (Some first) (find (is_of client) sets))) (ne_eqb first.0.0 client.0 off)
 
   -- as much is kept of it as is among the others
-  pub behind-first : (xs ys : List (ClientId × Caps)) → kept_among xs client ≡ kept_among ys client → kept_among (first ∷ xs) client ≡ kept_among (first ∷ ys) client
+  pub behind-first : (xs ys : List (ClientId × Caps)) → known_among xs client ≡ known_among ys client → known_among (first ∷ xs) client ≡ known_among (first ∷ ys) client
   behind-first xs ys same = elim (is_of client first) as (λ b. option_map (λ (k : ClientId × Caps). k.1) (cond b (Some first) (find (is_of client) xs)) ≡ option_map (λ (k : ClientId × Caps). k.1) (cond b (Some first) (find (is_of client) ys))) [
     | true ↦ refl
     | false ↦ same
@@ -114,30 +114,30 @@ module _ (first : ClientId × Caps) (client : ClientId) where
 -- where the first is a client's
 module _ (first : ClientId × Caps) (client : ClientId) (own : first.0.0 ≡ client.0) (sets : List (ClientId × Caps)) where
   -- of another as much is kept as is among the others
-  past-first : (other : ClientId) → other ≢ client → kept_among (first ∷ sets) other ≡ kept_among sets other
+  past-first : (other : ClientId) → other ≢ client → known_among (first ∷ sets) other ≡ known_among sets other
   past-first other apart = first-other first other (λ is. apart (one_number other client (sym is ∙ own))) sets
 
   -- so it is where another set stands there
-  pub first-put : (caps : Caps) (other : ClientId) → other ≢ client → kept_among ((client, caps) ∷ sets) other ≡ kept_among (first ∷ sets) other
+  pub first-put : (caps : Caps) (other : ClientId) → other ≢ client → known_among ((client, caps) ∷ sets) other ≡ known_among (first ∷ sets) other
   first-put caps other apart = first-other (client, caps) other (λ is. apart (one_number other client (sym is))) sets ∙ sym (past-first other apart)
 
   -- and where the next one takes its place
-  pub first-gone : (next : ClientId × Caps) → 0 < length sets → next ≡ slice_index_or sets 0 next → (other : ClientId) → other ≢ client → kept_among (next ∷ remove sets 0) other ≡ kept_among (first ∷ sets) other
-  first-gone next some is other apart = ap (λ xs. kept_among xs other) (taken sets next some is) ∙ sym (past-first other apart)
+  pub first-gone : (next : ClientId × Caps) → 0 < length sets → next ≡ slice_index_or sets 0 next → (other : ClientId) → other ≢ client → known_among (next ∷ remove sets 0) other ≡ known_among (first ∷ sets) other
+  first-gone next some is other apart = ap (λ xs. known_among xs other) (taken sets next some is) ∙ sym (past-first other apart)
     where
       taken : (xs : List (ClientId × Caps)) (x : ClientId × Caps) → 0 < length xs → x ≡ slice_index_or xs 0 x → x ∷ remove xs 0 ≡ xs
       taken [] x some is = absurd (omega arith)
       taken (y ∷ ys) x some is = ap (λ z. z ∷ ys) is
 
   -- of another nothing is, where there are no others
-  pub first-alone : length sets ≡ 0 → (other : ClientId) → other ≢ client → kept_among (first ∷ sets) other ≡ None
-  first-alone empty other apart = past-first other apart ∙ ap (λ xs. kept_among xs other) (nil_from_length sets empty)
+  pub first-alone : length sets ≡ 0 → (other : ClientId) → other ≢ client → known_among (first ∷ sets) other ≡ None
+  first-alone empty other apart = past-first other apart ∙ ap (λ xs. known_among xs other) (nil_from_length sets empty)
 
 -- ---- of a holder
 
 -- what an inode's sets say of a client, where there are some
 abbrev pub of_sets : Option OnInode → ClientId → Option Caps
-of_sets o client = option_and_then (λ (on : OnInode). kept_among (sets_on on) client) o
+of_sets o client = option_and_then (λ (on : OnInode). known_among (sets_on on) client) o
 
 module _ (was : KnownSets) (h : Holder) where
   -- another holder on the same inode is of another client
@@ -150,24 +150,24 @@ module _ (was : KnownSets) (h : Holder) where
     abbrev pub now : KnownSets
     now = map.insert was h.ino.0 sets
 
-    on_inode : (k : Holder) → kept_of now k ≡ of_sets (cond (h.ino.0 == k.ino.0) (Some sets) (map.get was k.ino.0)) k.client
+    on_inode : (k : Holder) → known_of now k ≡ of_sets (cond (h.ino.0 == k.ino.0) (Some sets) (map.get was k.ino.0)) k.client
     on_inode k = ap (λ o. of_sets o k.client) (insert-at was h.ino.0 k.ino.0 sets)
 
-    pub kept-own : kept_of now h ≡ kept_among (sets_on sets) h.client
+    pub kept-own : known_of now h ≡ known_among (sets_on sets) h.client
     kept-own = on_inode h ∙ ap (λ b. of_sets (cond b (Some sets) (map.get was h.ino.0)) h.client) (nat_eq_equiv.refl h.ino.0)
 
-    pub kept-others : ((c : ClientId) → c ≢ h.client → kept_among (sets_on sets) c ≡ of_sets (map.get was h.ino.0) c) → (k : Holder) → k ≢ h → kept_of now k ≡ kept_of was k
+    pub kept-others : ((c : ClientId) → c ≢ h.client → known_among (sets_on sets) c ≡ of_sets (map.get was h.ino.0) c) → (k : Holder) → k ≢ h → known_of now k ≡ known_of was k
     kept-others others k apart = on_inode k ∙ by_inode (h.ino.0 == k.ino.0) refl
       where
-        by_inode : (b : Bool) → (h.ino.0 == k.ino.0) ≡ b → of_sets (cond b (Some sets) (map.get was k.ino.0)) k.client ≡ kept_of was k
+        by_inode : (b : Bool) → (h.ino.0 == k.ino.0) ≡ b → of_sets (cond b (Some sets) (map.get was k.ino.0)) k.client ≡ known_of was k
         by_inode true on = others k.client (other_client k apart on) ∙ ap (λ q. of_sets (map.get was q) k.client) (eqb-true h.ino.0 k.ino.0 on)
         by_inode false off = refl
 
     -- if there is none of another client, they may as well be gone
-    pub kept-none : ((c : ClientId) → c ≢ h.client → kept_among (sets_on sets) c ≡ None) → (k : Holder) → k ≢ h → kept_of (map.remove now h.ino.0) k ≡ kept_of now k
+    pub kept-none : ((c : ClientId) → c ≢ h.client → known_among (sets_on sets) c ≡ None) → (k : Holder) → k ≢ h → known_of (map.remove now h.ino.0) k ≡ known_of now k
     kept-none alone k apart = ap (λ o. of_sets o k.client) (remove-at now h.ino.0 k.ino.0) ∙ by_inode (h.ino.0 == k.ino.0) refl
       where
-        by_inode : (b : Bool) → (h.ino.0 == k.ino.0) ≡ b → of_sets (cond b None (map.get now k.ino.0)) k.client ≡ kept_of now k
+        by_inode : (b : Bool) → (h.ino.0 == k.ino.0) ≡ b → of_sets (cond b None (map.get now k.ino.0)) k.client ≡ known_of now k
         by_inode true on =
             sym (on_inode k ∙ ap (λ b. of_sets (cond b (Some sets) (map.get was k.ino.0)) k.client) on ∙ alone k.client (other_client k apart on))
         by_inode false off = refl
@@ -184,10 +184,10 @@ module _ (was : KnownSets) (h : Holder) where
       added : then ≡ now
       added = is ∙ ap (λ (o : Option OnInode). cond (is_some o) was now) had_none
 
-      pub added-own : kept_of then h ≡ kept_among (sets_on sets) h.client
-      added-own = ap (λ all. kept_of all h) added ∙ kept-own
+      pub added-own : known_of then h ≡ known_among (sets_on sets) h.client
+      added-own = ap (λ all. known_of all h) added ∙ kept-own
 
-      pub added-others : sets.first.0 ≡ h.client → length sets.others.items ≡ 0 → (k : Holder) → k ≢ h → kept_of then k ≡ kept_of was k
+      pub added-others : sets.first.0 ≡ h.client → length sets.others.items ≡ 0 → (k : Holder) → k ≢ h → known_of then k ≡ known_of was k
       added-others own alone k apart =
-          ap (λ all. kept_of all k) added
+          ap (λ all. known_of all k) added
           ∙ kept-others (λ c other. first-alone sets.first h.client (ap (λ (c : ClientId). c.0) own) sets.others.items alone c other ∙ sym (ap (λ o. of_sets o c) had_none)) k apart

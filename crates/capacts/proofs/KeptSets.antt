@@ -15,90 +15,90 @@ use Rattle.captable.proofs.ByHolder.{row_of-entry}
 use Rattle.captable.proofs.Changes.{no_entry}
 use Rattle.captable.proofs.Searches.{find_passes, find-map}
 use Rattle.captable.proofs.Tables.{same_equiv, same-is, holders-filter, among-filter}
-use Rattle.capacts.specs.Known.{KnownSets, kept_of, HaveRoom, kept_anew, KeptAnew}
+use Rattle.capacts.specs.Known.{KnownSets, known_of, HaveRoom, known_anew, KnownAnew}
 
 -- ---- one holder
 
 module _ (f : EntryRow → Caps) (t : Table) (was now : KnownSets) (h : Holder) where
   -- where it has an entry
-  pub kept-one : (e : Entry) → entry_at t h ≡ Some e → kept_of now h ≡ Some (f (record { holder = h; entry = e })) → ((k : Holder) → k ≢ h → kept_of now k ≡ kept_of was k) → KeptAnew (λ k. same k h) f t was now
+  pub kept-one : (e : Entry) → entry_at t h ≡ Some e → known_of now h ≡ Some (f (record { holder = h; entry = e })) → ((k : Holder) → k ≢ h → known_of now k ≡ known_of was k) → KnownAnew (λ k. same k h) f t was now
   kept-one e there own others k = by_same (same k h) refl
     where
-      by_same : (b : Bool) → same k h ≡ b → kept_of now k ≡ kept_anew b f (find (is_row_of k) t.rows) (kept_of was k)
+      by_same : (b : Bool) → same k h ≡ b → known_of now k ≡ known_anew b f (find (is_row_of k) t.rows) (known_of was k)
       by_same true on =
           let is : k ≡ h = same-is k h on in
-          ap (kept_of now) is ∙ own ∙ sym (ap (λ q. kept_anew true f (find (is_row_of q) t.rows) (kept_of was k)) is ∙ ap (λ o. kept_anew true f o (kept_of was k)) (row_of-entry t h e there))
+          ap (known_of now) is ∙ own ∙ sym (ap (λ q. known_anew true f (find (is_row_of q) t.rows) (known_of was k)) is ∙ ap (λ o. known_anew true f o (known_of was k)) (row_of-entry t h e there))
       by_same false off = others k (λ is. true≢false (sym (same_equiv.refl k) ∙ ap (same k) is ∙ off))
 
   -- and where it has none
-  pub kept-none : entry_at t h ≡ None → ((k : Holder) → kept_of now k ≡ kept_of was k) → KeptAnew (λ k. same k h) f t was now
+  pub kept-none : entry_at t h ≡ None → ((k : Holder) → known_of now k ≡ known_of was k) → KnownAnew (λ k. same k h) f t was now
   kept-none none all k = all k ∙ by_same (same k h) refl
     where
-      by_same : (b : Bool) → same k h ≡ b → kept_of was k ≡ kept_anew b f (find (is_row_of k) t.rows) (kept_of was k)
+      by_same : (b : Bool) → same k h ≡ b → known_of was k ≡ known_anew b f (find (is_row_of k) t.rows) (known_of was k)
       by_same true on =
-          sym (ap (λ q. kept_anew true f (find (is_row_of q) t.rows) (kept_of was k)) (same-is k h on) ∙ ap (λ o. kept_anew true f o (kept_of was k)) (no_entry (find (is_row_of h) t.rows) none))
+          sym (ap (λ q. known_anew true f (find (is_row_of q) t.rows) (known_of was k)) (same-is k h on) ∙ ap (λ o. known_anew true f o (known_of was k)) (no_entry (find (is_row_of h) t.rows) none))
       by_same false off = refl
 
 -- ---- some after others
 
 -- none
-pub kept-nobody : (f : EntryRow → Caps) (t : Table) (sets : KnownSets) → KeptAnew (λ k. false) f t sets sets
+pub kept-nobody : (f : EntryRow → Caps) (t : Table) (sets : KnownSets) → KnownAnew (λ k. false) f t sets sets
 kept-nobody f t sets k = refl
 
 -- the same
-pub kept-same : (p q : Holder → Bool) (f : EntryRow → Caps) (t : Table) (was now : KnownSets) → ((k : Holder) → p k ≡ q k) → KeptAnew p f t was now → KeptAnew q f t was now
-kept-same p q f t was now same_tests kept k = kept k ∙ ap (λ b. kept_anew b f (find (is_row_of k) t.rows) (kept_of was k)) (same_tests k)
+pub kept-same : (p q : Holder → Bool) (f : EntryRow → Caps) (t : Table) (was now : KnownSets) → ((k : Holder) → p k ≡ q k) → KnownAnew p f t was now → KnownAnew q f t was now
+kept-same p q f t was now same_tests kept k = kept k ∙ ap (λ b. known_anew b f (find (is_row_of k) t.rows) (known_of was k)) (same_tests k)
 
 -- by sets that are the same for those who are among them
 pub kept-as : (p : Holder → Bool) (f g : EntryRow → Caps) (t : Table) (was now : KnownSets) → ((row : EntryRow) → p row.holder ≡ true → f row ≡ g row)
-    → KeptAnew p f t was now → KeptAnew p g t was now
+    → KnownAnew p f t was now → KnownAnew p g t was now
 kept-as p f g t was now same_sets kept k = kept k ∙ by_row (p k) refl (find (is_row_of k) t.rows) refl
   where
-    by_row : (b : Bool) → p k ≡ b → (o : Option EntryRow) → find (is_row_of k) t.rows ≡ o → kept_anew b f o (kept_of was k) ≡ kept_anew b g o (kept_of was k)
+    by_row : (b : Bool) → p k ≡ b → (o : Option EntryRow) → find (is_row_of k) t.rows ≡ o → known_anew b f o (known_of was k) ≡ known_anew b g o (known_of was k)
     by_row true on None none = refl
     by_row true on (Some row) found = ap Some (same_sets row (ap p (sym (same-is k row.holder (find_passes (is_row_of k) t.rows row found))) ∙ on))
     by_row false off o found = refl
 
 -- those whose rows in a later table are as in the first
-pub kept-then : (p q : Holder → Bool) (f : EntryRow → Caps) (t later : Table) (was mid now : KnownSets) → KeptAnew p f t was mid → KeptAnew q f later mid now
-    → ((k : Holder) → q k ≡ true → find (is_row_of k) later.rows ≡ find (is_row_of k) t.rows) → KeptAnew (λ k. p k || q k) f t was now
+pub kept-then : (p q : Holder → Bool) (f : EntryRow → Caps) (t later : Table) (was mid now : KnownSets) → KnownAnew p f t was mid → KnownAnew q f later mid now
+    → ((k : Holder) → q k ≡ true → find (is_row_of k) later.rows ≡ find (is_row_of k) t.rows) → KnownAnew (λ k. p k || q k) f t was now
 kept-then p q f t later was mid now first then alike k = then k ∙ by_second (q k) refl
   where
     row : Option EntryRow
     row = find (is_row_of k) t.rows
 
-    twice : (a : Bool) (o : Option EntryRow) (s m : Option Caps) → m ≡ kept_anew a f o s → kept_anew true f o m ≡ kept_anew (a || true) f o s
+    twice : (a : Bool) (o : Option EntryRow) (s m : Option Caps) → m ≡ known_anew a f o s → known_anew true f o m ≡ known_anew (a || true) f o s
     twice true None s m is = is
     twice true (Some r) s m is = refl
     twice false None s m is = is
     twice false (Some r) s m is = refl
 
-    once : (a : Bool) (o : Option EntryRow) (s : Option Caps) → kept_anew a f o s ≡ kept_anew (a || false) f o s
+    once : (a : Bool) (o : Option EntryRow) (s : Option Caps) → known_anew a f o s ≡ known_anew (a || false) f o s
     once true o s = refl
     once false o s = refl
 
-    by_second : (b : Bool) → q k ≡ b → kept_anew b f (find (is_row_of k) later.rows) (kept_of mid k) ≡ kept_anew (p k || b) f (find (is_row_of k) t.rows) (kept_of was k)
-    by_second true on = ap (λ o. kept_anew true f o (kept_of mid k)) (alike k on) ∙ twice (p k) row (kept_of was k) (kept_of mid k) (first k)
-    by_second false off = first k ∙ once (p k) row (kept_of was k)
+    by_second : (b : Bool) → q k ≡ b → known_anew b f (find (is_row_of k) later.rows) (known_of mid k) ≡ known_anew (p k || b) f (find (is_row_of k) t.rows) (known_of was k)
+    by_second true on = ap (λ o. known_anew true f o (known_of mid k)) (alike k on) ∙ twice (p k) row (known_of was k) (known_of mid k) (first k)
+    by_second false off = first k ∙ once (p k) row (known_of was k)
 
 -- of who is not among them the same is kept
-pub kept-not : (p : Holder → Bool) (f : EntryRow → Caps) (t : Table) (was now : KnownSets) → KeptAnew p f t was now → (k : Holder) → p k ≡ false → kept_of now k ≡ kept_of was k
-kept-not p f t was now kept k off = kept k ∙ ap (λ b. kept_anew b f (find (is_row_of k) t.rows) (kept_of was k)) off
+pub kept-not : (p : Holder → Bool) (f : EntryRow → Caps) (t : Table) (was now : KnownSets) → KnownAnew p f t was now → (k : Holder) → p k ≡ false → known_of now k ≡ known_of was k
+kept-not p f t was now kept k off = kept k ∙ ap (λ b. known_anew b f (find (is_row_of k) t.rows) (known_of was k)) off
 
 -- where something was kept, something is
-pub kept-some : (p : Holder → Bool) (f : EntryRow → Caps) (t : Table) (was now : KnownSets) → KeptAnew p f t was now → (k : Holder) → IsSome (kept_of was k) → IsSome (kept_of now k)
+pub kept-some : (p : Holder → Bool) (f : EntryRow → Caps) (t : Table) (was now : KnownSets) → KnownAnew p f t was now → (k : Holder) → IsSome (known_of was k) → IsSome (known_of now k)
 kept-some p f t was now kept k some = subst IsSome (sym (kept k)) (by_case (p k) (find (is_row_of k) t.rows))
   where
-    by_case : (b : Bool) (o : Option EntryRow) → IsSome (kept_anew b f o (kept_of was k))
+    by_case : (b : Bool) (o : Option EntryRow) → IsSome (known_anew b f o (known_of was k))
     by_case true None = some
     by_case true (Some row) = refl
     by_case false o = some
 
 -- whoever has an entry, has room
-pub room-of : (sets : KnownSets) (t : Table) (k : Holder) → HaveRoom sets t → IsSome (entry_at t k) → IsSome (kept_of sets k)
+pub room-of : (sets : KnownSets) (t : Table) (k : Holder) → HaveRoom sets t → IsSome (entry_at t k) → IsSome (known_of sets k)
 room-of sets t k room some = by_entry (entry_at t k) refl some
   where
-    by_entry : (o : Option Entry) → entry_at t k ≡ o → IsSome o → IsSome (kept_of sets k)
+    by_entry : (o : Option Entry) → entry_at t k ≡ o → IsSome o → IsSome (known_of sets k)
     by_entry None none s = absurd (true≢false (sym s))
     by_entry (Some e) there s = room k e there
 
@@ -137,7 +137,7 @@ was-there passes g t k e there = by_row (find (is_row_of k) t.rows) refl
 
 -- so there is room still
 pub room-still : (p : Holder → Bool) (f : EntryRow → Caps) (t : Table) (was now : KnownSets) (passes : EntryRow → Bool) (g : EntryRow → Entry)
-    → KeptAnew p f t was now → HaveRoom was t → HaveRoom now (changed_where passes g t)
+    → KnownAnew p f t was now → HaveRoom was t → HaveRoom now (changed_where passes g t)
 room-still p f t was now passes g kept room k e there = let before = was-there passes g t k e there in kept-some p f t was now kept k (room k before.0 before.1)
 
 -- ---- all holders on an inode
@@ -160,13 +160,13 @@ among_rows k (r ∷ rows) row found =
     ] found
 
 -- they are all whose entries are on it
-pub kept-on : (ino : Ino) (f : EntryRow → Caps) (t : Table) (was now : KnownSets) → KeptAnew (is_among (holders_of_rows (entries_on t ino))) f t was now → KeptAnew (λ k. k.ino.0 == ino.0) f t was now
+pub kept-on : (ino : Ino) (f : EntryRow → Caps) (t : Table) (was now : KnownSets) → KnownAnew (is_among (holders_of_rows (entries_on t ino))) f t was now → KnownAnew (λ k. k.ino.0 == ino.0) f t was now
 kept-on ino f t was now kept k = kept k ∙ by_row (find (is_row_of k) t.rows) refl
   where
     on : Holder → Bool
     on h = h.ino.0 == ino.0
 
-    nobody : (a b : Bool) (s : Option Caps) → kept_anew a f None s ≡ kept_anew b f None s
+    nobody : (a b : Bool) (s : Option Caps) → known_anew a f None s ≡ known_anew b f None s
     nobody true true s = refl
     nobody true false s = refl
     nobody false true s = refl
@@ -177,12 +177,12 @@ kept-on ino f t was now kept k = kept k ∙ by_row (find (is_row_of k) t.rows) r
     always false = refl
 
     by_row : (o : Option EntryRow) → find (is_row_of k) t.rows ≡ o
-        → kept_anew (is_among (holders_of_rows (entries_on t ino)) k) f (find (is_row_of k) t.rows) (kept_of was k) ≡ kept_anew (k.ino.0 == ino.0) f (find (is_row_of k) t.rows) (kept_of was k)
+        → known_anew (is_among (holders_of_rows (entries_on t ino)) k) f (find (is_row_of k) t.rows) (known_of was k) ≡ known_anew (k.ino.0 == ino.0) f (find (is_row_of k) t.rows) (known_of was k)
     by_row None none =
-        ap (λ o. kept_anew (is_among (holders_of_rows (entries_on t ino)) k) f o (kept_of was k)) none
-        ∙ nobody (is_among (holders_of_rows (entries_on t ino)) k) (k.ino.0 == ino.0) (kept_of was k)
-        ∙ sym (ap (λ o. kept_anew (k.ino.0 == ino.0) f o (kept_of was k)) none)
+        ap (λ o. known_anew (is_among (holders_of_rows (entries_on t ino)) k) f o (known_of was k)) none
+        ∙ nobody (is_among (holders_of_rows (entries_on t ino)) k) (k.ino.0 == ino.0) (known_of was k)
+        ∙ sym (ap (λ o. known_anew (k.ino.0 == ino.0) f o (known_of was k)) none)
     by_row (Some row) found =
         let its : is_among (holders_of_rows (entries_on t ino)) k ≡ (k.ino.0 == ino.0) =
         ap (λ (hs : List Holder). is_among hs k) (holders-filter on t.rows) ∙ among-filter on (holders_of_rows t.rows) k ∙ ap (λ b. on k && b) (among_rows k t.rows row found) ∙ always (on k) in
-        ap (λ b. kept_anew b f (find (is_row_of k) t.rows) (kept_of was k)) its
+        ap (λ b. known_anew b f (find (is_row_of k) t.rows) (known_of was k)) its

@@ -1,4 +1,4 @@
--- What a rename walked over in a step is touched until its end.
+-- What a rename walked over in a step is affected until its end.
 use Rattle.std.proofs.Common.{◌≡◌, ◌≢◌, ℕ, zero, suc, eq-eqb, arith, List, [], ◌∷◌, Contains, Bool, true, false, ◌||◌, Result, Ok, Err, OnOk, OnErr, refl, sym, ap, subst, ◌∙◌, true≢false}
 use Rattle.std.specs.FinSet as set
 use Rattle.std.specs.Cmp.{unsigned_tied}
@@ -33,7 +33,7 @@ covers-listed above ino tree table inos others all kept row among apart below =
 pub none-walked : (walked : InoSet) (ino : ℕ) (tree : Nodes) (table : Table) (others : InoSet) → walked ≡ set.empty → AreWalked walked ino tree table others
 none-walked walked ino tree table others is above there = absurd (true≢false (sym there ∙ ap (λ (inos : InoSet). set.contains inos above) is ∙ none-there above))
 
--- more are touched
+-- more are affected
 pub walked-wider : (walked : InoSet) (ino : ℕ) (tree : Nodes) (table : Table) (a b : InoSet) → Widens ino a b → AreWalked walked ino tree table a → AreWalked walked ino tree table b
 walked-wider walked ino tree table a b widens all above there row among apart below = widens.stay row.holder.ino.0 (all above there row among apart below)
 

@@ -30,41 +30,41 @@ abbrev pub is_of : ClientId → ClientId × Caps → Bool
 is_of client kept = kept.0.0 == client.0
 
 -- what is kept of a client among those on one inode, where something is
-abbrev pub kept_among : List (ClientId × Caps) → ClientId → Option Caps
-kept_among sets client = option_map (λ (kept : ClientId × Caps). kept.1) (find (is_of client) sets)
+abbrev pub known_among : List (ClientId × Caps) → ClientId → Option Caps
+known_among sets client = option_map (λ (kept : ClientId × Caps). kept.1) (find (is_of client) sets)
 
 -- what is kept of a holder, where something is
-abbrev pub kept_of : KnownSets → Holder → Option Caps
-kept_of sets k = option_and_then (λ (on : OnInode). kept_among (sets_on on) k.client) (map.get sets k.ino.0)
+abbrev pub known_of : KnownSets → Holder → Option Caps
+known_of sets k = option_and_then (λ (on : OnInode). known_among (sets_on on) k.client) (map.get sets k.ino.0)
 
 -- the same, and nothing where nothing is
 abbrev pub known_in : KnownSets → Holder → Caps
-known_in sets k = unwrap_or (kept_of sets k) no_caps
+known_in sets k = unwrap_or (known_of sets k) no_caps
 
 -- of each entry it is kept, and it is what its client is to know of. What is kept of others counts for nothing
 abbrev pub AreKnown : KnownSets → Scene → Type 0
-AreKnown sets s = (k : Holder) (e : Entry) → entry_at s.table k ≡ Some e → kept_of sets k ≡ Some (told_set s (record { holder = k; entry = e }))
+AreKnown sets s = (k : Holder) (e : Entry) → entry_at s.table k ≡ Some e → known_of sets k ≡ Some (told_set s (record { holder = k; entry = e }))
 
 -- something is kept of each entry, so that to keep another set of it takes no memory
 abbrev pub HaveRoom : KnownSets → Table → Type 0
-HaveRoom sets table = (k : Holder) (e : Entry) → entry_at table k ≡ Some e → IsSome (kept_of sets k)
+HaveRoom sets table = (k : Holder) (e : Entry) → entry_at table k ≡ Some e → IsSome (known_of sets k)
 
 -- ---- as an event leaves it
 
 -- of an entry that was there, the same is kept; of a new one something is
-abbrev pub is_still_kept : Option Entry → Option Caps → Option Caps → Type 0
-is_still_kept (Some e) was now = now ≡ was
-is_still_kept None was now = IsSome now
+abbrev pub is_still_known : Option Entry → Option Caps → Option Caps → Type 0
+is_still_known (Some e) was now = now ≡ was
+is_still_known None was now = IsSome now
 
 -- so it is of each entry of the new table
-abbrev pub StillKept : Table → Table → KnownSets → KnownSets → Type 0
-StillKept old new was now = (k : Holder) (e : Entry) → entry_at new k ≡ Some e → is_still_kept (entry_at old k) (kept_of was k) (kept_of now k)
+abbrev pub StillKnown : Table → Table → KnownSets → KnownSets → Type 0
+StillKnown old new was now = (k : Holder) (e : Entry) → entry_at new k ≡ Some e → is_still_known (entry_at old k) (known_of was k) (known_of now k)
 
 -- ---- who has all
 
 -- all that is due to the entry is held, and what is kept of it is what its client is to know of: the end of a step leaves it so
 abbrev pub HasAll : KnownSets → Scene → EntryRow → Type 0
-HasAll sets s row = IsSubset (due s row) row.entry.held × (kept_of sets row.holder ≡ Some (told_set s row))
+HasAll sets s row = IsSubset (due s row) row.entry.held × (known_of sets row.holder ≡ Some (told_set s row))
 
 -- so it is of each entry on the holder's inode but its own
 abbrev pub OthersHaveAll : KnownSets → Scene → Holder → Type 0
@@ -74,12 +74,12 @@ OthersHaveAll sets s k =
 -- ---- at the end of the step
 
 -- where the holder is among those, and has an entry, its set is this; else it is as it was
-abbrev pub kept_anew : Bool → (EntryRow → Caps) → Option EntryRow → Option Caps → Option Caps
-kept_anew true set_of (Some row) was = Some (set_of row)
-kept_anew true set_of None was = was
-kept_anew false set_of row was = was
+abbrev pub known_anew : Bool → (EntryRow → Caps) → Option EntryRow → Option Caps → Option Caps
+known_anew true set_of (Some row) was = Some (set_of row)
+known_anew true set_of None was = was
+known_anew false set_of row was = was
 
 -- of each entry of the table whose holder is among those, its new set is kept
-abbrev pub KeptAnew : (Holder → Bool) → (EntryRow → Caps) → Table → KnownSets → KnownSets → Type 0
-KeptAnew among set_of table was now =
-    (k : Holder) → kept_of now k ≡ kept_anew (among k) set_of (find (is_row_of k) table.rows) (kept_of was k)
+abbrev pub KnownAnew : (Holder → Bool) → (EntryRow → Caps) → Table → KnownSets → KnownSets → Type 0
+KnownAnew among set_of table was now =
+    (k : Holder) → known_of now k ≡ known_anew (among k) set_of (find (is_row_of k) table.rows) (known_of was k)

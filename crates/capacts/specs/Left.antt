@@ -5,16 +5,16 @@ use Rattle.captable.specs.Table.{Table}
 use Rattle.captable.specs.Calls.{without_client}
 use Rattle.caprules.specs.Lockmachine.Locks.{LockMap, requests_of, without_requests_of}
 use Rattle.caprules.specs.Capevents.declared.outcome.Ended.{Ended}
-use Rattle.caprules.specs.Capnotes.Untold.{is_to}
+use Rattle.caprules.specs.Capnotes.DueEndings.{is_to}
 use Rattle.caprules.specs.Serving.{dropped_of}
-use Rattle.capacts.specs.declared.leaving.Turn.{Turn}
-use Rattle.capacts.specs.declared.leaving.Turn.TheVariants.{Close, Evict}
+use Rattle.capacts.specs.declared.leaving.SessionChange.{SessionChange}
+use Rattle.capacts.specs.declared.leaving.SessionChange.TheVariants.{Close, Evict}
 
 -- the session ends
-abbrev pub is_end : Turn → Bool
+abbrev pub is_end : SessionChange → Bool
 is_end Close = true
 is_end Evict = true
-is_end turn = false
+is_end change = false
 
 -- ---- what is left, where the session ends or does not
 

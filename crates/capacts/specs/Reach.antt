@@ -1,4 +1,4 @@
--- The inodes that a step touches, and those that a rename in it reaches.
+-- The inodes that a step affects, and those that a rename in it reaches.
 use Rattle.std.specs.Prelude.{◌≡◌, ◌≢◌, ℕ, Bool, true, false, ◌||◌, ◌==◌, ◌⊎◌, Contains}
 use Rattle.std.specs.FinSet as set
 use Rattle.inotree.specs.Tree.{Nodes, is_within}
@@ -9,8 +9,8 @@ use Rattle.caprules.specs.Capnotes.InoSets.{InoSet}
 use Rattle.capacts.specs.Served.{is_rename}
 
 -- the inode, or one of the others: another of the event, or one that was moved
-abbrev pub is_touched : ℕ → InoSet → ℕ → Bool
-is_touched ino others other = (other == ino) || set.contains others other
+abbrev pub is_affected : ℕ → InoSet → ℕ → Bool
+is_affected ino others other = (other == ino) || set.contains others other
 
 -- every inode at or below one that somebody has an entry on is one of these, but for this one
 abbrev pub CoversBelow : ℕ → ℕ → Nodes → Table → InoSet → Type 0

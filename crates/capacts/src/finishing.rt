@@ -8,7 +8,7 @@ ghost use Rattle.captable.specs.Calls.{changed};
 ghost use Rattle.captable.specs.Many.{changed_by};
 ghost use Rattle.caprules.specs.Finish.{allowed_by};
 ghost use Rattle.capacts.specs.Finishing as words;
-ghost use Rattle.capacts.specs.Known.{KeptAnew, kept_of, known_in};
+ghost use Rattle.capacts.specs.Known.{KnownAnew, known_of, known_in};
 
 use crate::known::Known;
 use crate::told::{lock_under, told_under};
@@ -32,7 +32,7 @@ pub struct Standing<'t, 'n> {
     pub locks: Option<InodeLocks>,
 }
 
-/// Issues what is due to the entry, which is there, numbers what its client is to know of, and keeps that. Its inode stands so.
+/// Ends the step for one entry, which is there: issues due caps, raises `seq` if the told set changed, and notes the told set.
 pub fn finish_row(
     standing: &Standing<'_, '_>,
     table: &mut CapTable,
@@ -43,10 +43,10 @@ pub fn finish_row(
     requires path { option_copied standing.now.path ≡ path_of standing.now.tree.now.nodes row.holder.ino.0 }
     requires node { option_copied standing.now.node ≡ map.get standing.now.tree.now.nodes row.holder.ino.0 }
     requires number { row.entry.seq < 2 ^ 64 - 1 }
-    requires room { IsSome (kept_of known.old.sets row.holder) }
+    requires room { IsSome (known_of known.old.sets row.holder) }
     ensures table { table.new
         ≡ changed_by (words.entry_in (known_in known.old.sets) standing.now) table.old row.holder }
-    ensures known { KeptAnew (λ k. same k row.holder) (words.told_in standing.now)
+    ensures known { KnownAnew (λ k. same k row.holder) (words.told_in standing.now)
         table.old known.old.sets known.new.sets }
 {
     let (permitted, wanted) = permitted_and_wanted(

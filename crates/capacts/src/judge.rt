@@ -5,12 +5,12 @@ ghost use Rattle.capgrant.specs.Verdict.{is_allowed, IfDenied};
 ghost use Rattle.capgrant.specs.declared.answer.Verdict.TheVariants as verdict_kind;
 ghost use Rattle.caprules.specs.Lockmachine.Policy.{is_granted, failures};
 ghost use Rattle.caprules.specs.Judge.{denial_of};
-ghost use Rattle.caprules.specs.declared.stopped.Stopped.TheVariants as stopped_kind;
+ghost use Rattle.caprules.specs.declared.rejection.Rejection.TheVariants as rejection_kind;
 
 use arrayvec::ArrayVec;
 use capbits::Refusal;
 use capgrant::{Access, Rules, Verdict, verdict};
-use caprules::Stopped;
+use caprules::Rejection;
 use capspec::FsName;
 use captable::Holder;
 use inotree::{Names, Tree};
@@ -23,12 +23,12 @@ pub fn denial(
     sessions: &Sessions,
     holder: Holder,
     access: Access,
-) -> Option<Stopped>
+) -> Option<Rejection>
     ensures { result ≡ denial_of fs.now tree.now sessions.now holder access }
 {
     match verdict_on(fs, tree, sessions, holder, access) {
         Verdict::Allowed { .. } => None,
-        Verdict::Denied { rules } => Some(Stopped::ByPolicy { access, rules }),
+        Verdict::Denied { rules } => Some(Rejection::ByPolicy { access, rules }),
     }
 }
 
@@ -66,11 +66,11 @@ fn no_grant() -> Verdict
 }
 
 /// What a test stops.
-pub fn by_test(refusal: Option<Refusal>) -> Option<Stopped>
-    ensures { result ≡ option_map stopped_kind.ByTest refusal }
+pub fn by_test(refusal: Option<Refusal>) -> Option<Rejection>
+    ensures { result ≡ option_map rejection_kind.ByTest refusal }
 {
     match refusal {
-        Some(refusal) => Some(Stopped::ByTest(refusal)),
+        Some(refusal) => Some(Rejection::ByTest(refusal)),
         None => None,
     }
 }

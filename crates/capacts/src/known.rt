@@ -4,7 +4,7 @@ ghost use Rattle.captable.specs.declared.entry.Entry.{Entry};
 ghost use Rattle.captable.specs.declared.entry.Holder.{Holder};
 ghost use Rattle.captable.specs.Table.{entry_at};
 ghost use Rattle.capbits.specs.declared.ids.ClientId.{ClientId};
-ghost use Rattle.capacts.specs.Known.{kept_of, known_in};
+ghost use Rattle.capacts.specs.Known.{known_of, known_in};
 
 use crate::on_inode::OnInode;
 use capbits::{CapSet, ClientId};
@@ -30,7 +30,7 @@ impl Drop for Known {
 
 impl Known {
     pub fn new(alloc: Global) -> Known
-        ensures { (k : Holder) → kept_of result.sets k ≡ None }
+        ensures { (k : Holder) → known_of result.sets k ≡ None }
     {
         Known {
             sets: Numbered::new(alloc),
@@ -50,10 +50,10 @@ impl Known {
 
     /// Keeps this of the holder, of whom something is kept already, and answers what was kept. It takes no memory.
     pub fn put(&mut self, holder: Holder, caps: CapSet) -> CapSet
-        requires there { IsSome (kept_of self.old.sets holder) }
+        requires there { IsSome (known_of self.old.sets holder) }
         ensures was { result ≡ known_in self.old.sets holder }
-        ensures own { kept_of self.new.sets holder ≡ Some caps }
-        ensures others { (k : Holder) → k ≢ holder → kept_of self.new.sets k ≡ kept_of self.old.sets k }
+        ensures own { known_of self.new.sets holder ≡ Some caps }
+        ensures others { (k : Holder) → k ≢ holder → known_of self.new.sets k ≡ known_of self.old.sets k }
     {
         match self.sets.get_mut(holder.ino.0) {
             Some(sets) => sets.put(holder.client, caps),
@@ -63,8 +63,8 @@ impl Known {
 
     /// Keeps the empty set of a new holder. For want of memory nothing changes.
     pub fn add(&mut self, holder: Holder) -> Result<(), AllocError>
-        ensures own { OnOk result (IsSome (kept_of self.new.sets holder)) }
-        ensures others { (k : Holder) → k ≢ holder → kept_of self.new.sets k ≡ kept_of self.old.sets k }
+        ensures own { OnOk result (IsSome (known_of self.new.sets holder)) }
+        ensures others { (k : Holder) → k ≢ holder → known_of self.new.sets k ≡ known_of self.old.sets k }
     {
         let alone = OnInode {
             first: (holder.client, CapSet::empty()),
@@ -81,7 +81,7 @@ impl Known {
 
     /// Keeps nothing of the holder any more.
     pub fn remove(&mut self, holder: Holder)
-        ensures { (k : Holder) → k ≢ holder → kept_of self.new.sets k ≡ kept_of self.old.sets k }
+        ensures { (k : Holder) → k ≢ holder → known_of self.new.sets k ≡ known_of self.old.sets k }
     {
         let Some(sets) = self.sets.get_mut(holder.ino.0) else {
             return;
@@ -93,7 +93,7 @@ impl Known {
 
     /// Nor of the holder, where it has no entry any more.
     pub fn remove_unheld(&mut self, table: &CapTable, holder: Holder)
-        ensures { (k : Holder) (e : Entry) → entry_at table.now k ≡ Some e → kept_of self.new.sets k ≡ kept_of self.old.sets k }
+        ensures { (k : Holder) (e : Entry) → entry_at table.now k ≡ Some e → known_of self.new.sets k ≡ known_of self.old.sets k }
     {
         match table.find(holder.client, holder.ino) {
             Some(_entry) => {}
@@ -103,7 +103,7 @@ impl Known {
 
     /// Nor of any entry of the client.
     pub fn remove_client(&mut self, table: &CapTable, client: ClientId)
-        ensures { (k : Holder) → k.client ≢ client → kept_of self.new.sets k ≡ kept_of self.old.sets k }
+        ensures { (k : Holder) → k.client ≢ client → known_of self.new.sets k ≡ known_of self.old.sets k }
     {
         let mut walk = table.entries_of(client);
         'rows: while let Some(row) = walk.next() {

@@ -4,7 +4,7 @@ ghost use Rattle.captable.specs.declared.entry.Entry.{Entry};
 ghost use Rattle.captable.specs.declared.entry.Holder.{Holder};
 ghost use Rattle.captable.specs.Table.{entry_at};
 ghost use Rattle.caprules.specs.Lockmachine.Locks.{requests_of, without_requests_of};
-ghost use Rattle.capacts.specs.Known.{kept_of};
+ghost use Rattle.capacts.specs.Known.{known_of};
 ghost use Rattle.capacts.specs.Left.{is_end};
 ghost use Rattle.capacts.specs.Left as words;
 ghost use Rattle.caprules.specs.Serving.{dropped_of};
@@ -17,7 +17,7 @@ use sessiontab::Status;
 
 /// What becomes of a client's session.
 #[derive(Clone, Copy)]
-pub enum Turn<'a> {
+pub enum SessionChange<'a> {
     /// The client ends it.
     Close,
     /// It has this status in place of the one that it had.
@@ -34,27 +34,27 @@ pub fn leave(
     known: &mut Known,
     messages: &mut Messages,
     client: ClientId,
-    turn: Turn,
+    change: SessionChange,
     dropped: &mut Messages,
 )
     requires room { length dropped.old.items + length scene.old.locks.queue ≤ dropped.old.room }
-    ensures table { scene.new.table ≡ words.table_left (is_end turn.entry) scene.old.table client }
-    ensures known { (k : Holder) (e : Entry) → entry_at scene.new.table k ≡ Some e → kept_of known.new.sets k ≡ kept_of known.old.sets k }
-    ensures locks { scene.new.locks ≡ words.locks_left (is_end turn.entry) scene.old.locks client }
+    ensures table { scene.new.table ≡ words.table_left (is_end change.entry) scene.old.table client }
+    ensures known { (k : Holder) (e : Entry) → entry_at scene.new.table k ≡ Some e → known_of known.new.sets k ≡ known_of known.old.sets k }
+    ensures locks { scene.new.locks ≡ words.locks_left (is_end change.entry) scene.old.locks client }
     ensures rest { scene.new ≡ record scene.old { table = scene.new.table; locks = scene.new.locks } }
-    ensures messages { messages.new.items ≡ words.messages_left (is_end turn.entry) messages.old.items client }
+    ensures messages { messages.new.items ≡ words.messages_left (is_end change.entry) messages.old.items client }
     ensures left { messages.new.room ≡ messages.old.room }
-    ensures dropped { dropped.new.items ≡ dropped.old.items ++ words.dropped_by (is_end turn.entry) scene.old.locks client }
+    ensures dropped { dropped.new.items ≡ dropped.old.items ++ words.dropped_by (is_end change.entry) scene.old.locks client }
     ensures room { length dropped.new.items + length scene.new.locks.queue ≤ dropped.new.room }
 {
-    match turn {
-        Turn::Close | Turn::Evict => {
+    match change {
+        SessionChange::Close | SessionChange::Evict => {
             known.remove_client(&scene.table, client);
             scene.table.drop_client(client);
             messages.remove_to(client);
             drop_requests(&mut scene.locks, client, dropped);
         }
-        Turn::Mark(_) | Turn::Regrant(_) => {}
+        SessionChange::Mark(_) | SessionChange::Regrant(_) => {}
     }
 }
 

@@ -1,7 +1,7 @@
 //! The acts of a step, each on one thing: a request that is judged, or served and what it reaches; an inode whose locks move; an
 //! entry at the end of the step; a client that leaves; a row more in the history.
 //!
-//! `capsteps` goes over all that a step touches with them.
+//! `capsteps` goes over all that a step affects with them.
 #![tactic(auto)]
 
 pub mod finishing;
@@ -17,8 +17,8 @@ pub mod sweep;
 pub mod told;
 
 pub use caprules::{
-    Ask, Bytes, Change, ChangeList, Ended, EndedList, Event, InoSet, InodeLocks, Locks, Message,
-    MessageList, Messages, Move, OpenMode, Outcome, PartValues, Policy, Question, Reply, Request,
-    Row, Scene, Stopped, ToldNumbers, Unknown, View, ViewChange, Wants, copy_of_messages,
+    Ask, Bytes, Change, ChangeList, Ended, EndedList, EndedTickets, Event, InoSet, InodeLocks,
+    Locks, Message, MessageList, Messages, Move, OpenMode, Outcome, PartValues, Policy, Question,
+    Rejection, Reply, Request, Row, Scene, Unknown, View, ViewChange, Wants, copy_of_messages,
     copy_of_outcome, copy_of_reply, wants_on,
 };

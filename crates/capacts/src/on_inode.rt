@@ -4,7 +4,7 @@ ghost use Rattle.std.specs.Bool.{OnTrue};
 ghost use Rattle.std.specs.List.{position};
 ghost use Rattle.capbits.specs.declared.ids.ClientId.{ClientId};
 ghost use Rattle.capbits.specs.Sets.{no_caps};
-ghost use Rattle.capacts.specs.Known.{is_of, kept_among, sets_on};
+ghost use Rattle.capacts.specs.Known.{is_of, known_among, sets_on};
 
 use capbits::{CapSet, ClientId};
 use numbered::trim;
@@ -21,7 +21,7 @@ pub(crate) struct OnInode {
 impl OnInode {
     // What is kept of the client.
     pub(crate) fn of(&self, client: ClientId) -> CapSet
-        ensures { result ≡ unwrap_or (kept_among (sets_on self.now) client) no_caps }
+        ensures { result ≡ unwrap_or (known_among (sets_on self.now) client) no_caps }
     {
         if self.first.0.0 == client.0 {
             return self.first.1;
@@ -34,10 +34,10 @@ impl OnInode {
 
     // Keeps this of the client, of whom something is kept, and answers what was kept.
     pub(crate) fn put(&mut self, client: ClientId, caps: CapSet) -> CapSet
-        requires there { IsSome (kept_among (sets_on self.old) client) }
-        ensures was { kept_among (sets_on self.old) client ≡ Some result }
-        ensures own { kept_among (sets_on self.new) client ≡ Some caps }
-        ensures others { (other : ClientId) → other ≢ client → kept_among (sets_on self.new) other ≡ kept_among (sets_on self.old) other }
+        requires there { IsSome (known_among (sets_on self.old) client) }
+        ensures was { known_among (sets_on self.old) client ≡ Some result }
+        ensures own { known_among (sets_on self.new) client ≡ Some caps }
+        ensures others { (other : ClientId) → other ≢ client → known_among (sets_on self.new) other ≡ known_among (sets_on self.old) other }
     {
         if self.first.0.0 == client.0 {
             return replace(&mut self.first, (client, caps)).1;
@@ -50,8 +50,8 @@ impl OnInode {
 
     // Keeps the empty set of the client behind the others. For want of memory nothing changes.
     pub(crate) fn add(&mut self, client: ClientId) -> Result<(), AllocError>
-        ensures own { OnOk result (IsSome (kept_among (sets_on self.new) client)) }
-        ensures others { (other : ClientId) → other ≢ client → kept_among (sets_on self.new) other ≡ kept_among (sets_on self.old) other }
+        ensures own { OnOk result (IsSome (known_among (sets_on self.new) client)) }
+        ensures others { (other : ClientId) → other ≢ client → known_among (sets_on self.new) other ≡ known_among (sets_on self.old) other }
     {
         match self.others.push((client, CapSet::empty())) {
             Ok(()) => Ok(()),
@@ -61,8 +61,8 @@ impl OnInode {
 
     // Keeps nothing of the client any more, and answers whether nothing is kept of another: then it stays as it is, and may go.
     pub(crate) fn remove(&mut self, client: ClientId) -> bool
-        ensures others { (other : ClientId) → other ≢ client → kept_among (sets_on self.new) other ≡ kept_among (sets_on self.old) other }
-        ensures alone { OnTrue result ((other : ClientId) → other ≢ client → kept_among (sets_on self.new) other ≡ None) }
+        ensures others { (other : ClientId) → other ≢ client → known_among (sets_on self.new) other ≡ known_among (sets_on self.old) other }
+        ensures alone { OnTrue result ((other : ClientId) → other ≢ client → known_among (sets_on self.new) other ≡ None) }
     {
         if self.first.0.0 == client.0 {
             if self.others.is_empty() {

@@ -12,57 +12,57 @@ use captable::CapTable;
 use std::alloc::AllocError;
 
 /// If the request moves its inode, adds every inode at or below it that somebody has an entry on, but for this one, with a place
-/// for the change of each. What renames of this step have walked over is touched, and stays so.
+/// for the change of each. What renames of this step have walked over is affected, and stays so.
 pub fn reach(
     scene: &Scene,
     request: &Request,
     ino: Ino,
     walked: &mut InoSet,
-    touched: &mut InoSet,
+    affected: &mut InoSet,
     changes: &mut ChangeList,
 ) -> Result<(), AllocError>
-    requires walked { AreWalked walked.old ino.0 scene.now.tree scene.now.table touched.old }
-    ensures walked { AreWalked walked.new ino.0 scene.now.tree scene.now.table touched.new }
-    ensures widens { Widens ino.0 touched.old touched.new }
-    ensures covers { OnOk result (Covers request.now ino.0 scene.now.tree scene.now.table touched.new) }
+    requires walked { AreWalked walked.old ino.0 scene.now.tree scene.now.table affected.old }
+    ensures walked { AreWalked walked.new ino.0 scene.now.tree scene.now.table affected.new }
+    ensures widens { Widens ino.0 affected.old affected.new }
+    ensures covers { OnOk result (Covers request.now ino.0 scene.now.tree scene.now.table affected.new) }
     ensures memory { OnErr result (is_rename request.now.ask ≡ true) }
     // There is a place more for each.
     ensures items { changes.new.items ≡ changes.old.items }
-    ensures places { changes.old.room + set.len touched.new ≤ changes.new.room + set.len touched.old }
+    ensures places { changes.old.room + set.len affected.new ≤ changes.new.room + set.len affected.old }
     ensures room { changes.old.room ≤ changes.new.room }
 {
     match request.ask {
         Ask::Rename { .. } => {
             let above = request.ino;
-            walk(scene, above, ino, walked, touched, changes)
+            walk(scene, above, ino, walked, affected, changes)
         }
         Ask::Get(_) | Ask::Alter(_) | Ask::Unlink | Ask::Rmdir => Ok(()),
     }
 }
 
-// Adds those at or below this inode, unless a rename of the step has walked from it before: what lies there now was touched then,
+// Adds those at or below this inode, unless a rename of the step has walked from it before: what lies there now was affected then,
 // or when it was moved there.
 fn walk(
     scene: &Scene,
     above: Ino,
     ino: Ino,
     walked: &mut InoSet,
-    touched: &mut InoSet,
+    affected: &mut InoSet,
     changes: &mut ChangeList,
 ) -> Result<(), AllocError>
-    requires walked { AreWalked walked.old ino.0 scene.now.tree scene.now.table touched.old }
-    ensures walked { AreWalked walked.new ino.0 scene.now.tree scene.now.table touched.new }
-    ensures widens { Widens ino.0 touched.old touched.new }
-    ensures covers { OnOk result (CoversBelow above.0 ino.0 scene.now.tree scene.now.table touched.new) }
+    requires walked { AreWalked walked.old ino.0 scene.now.tree scene.now.table affected.old }
+    ensures walked { AreWalked walked.new ino.0 scene.now.tree scene.now.table affected.new }
+    ensures widens { Widens ino.0 affected.old affected.new }
+    ensures covers { OnOk result (CoversBelow above.0 ino.0 scene.now.tree scene.now.table affected.new) }
     ensures items { changes.new.items ≡ changes.old.items }
-    ensures places { changes.old.room + set.len touched.new ≤ changes.new.room + set.len touched.old }
+    ensures places { changes.old.room + set.len affected.new ≤ changes.new.room + set.len affected.old }
     ensures room { changes.old.room ≤ changes.new.room }
 {
     if walked.contains(above) {
         return Ok(());
     }
     let inos = scene.tree.within(changes.alloc(), above)?;
-    add_held(&scene.table, ino, inos.as_slice(), touched, changes)?;
+    add_held(&scene.table, ino, inos.as_slice(), affected, changes)?;
     // Where this finds no memory, the next rename of the inode walks once more.
     let _walked = walked.insert(above);
     Ok(())
@@ -73,34 +73,34 @@ fn add_held(
     table: &CapTable,
     ino: Ino,
     inos: &[Ino],
-    touched: &mut InoSet,
+    affected: &mut InoSet,
     changes: &mut ChangeList,
 ) -> Result<(), AllocError>
-    ensures widens { Widens ino.0 touched.old touched.new }
+    ensures widens { Widens ino.0 affected.old affected.new }
     ensures covers { OnOk result ((other : Ino) → Contains inos.now other → other.0 ≢ ino.0
-        → list_any (is_of_inode other) table.now.rows ≡ true → set.contains touched.new other.0 ≡ true) }
+        → list_any (is_of_inode other) table.now.rows ≡ true → set.contains affected.new other.0 ≡ true) }
     ensures items { changes.new.items ≡ changes.old.items }
-    ensures places { changes.old.room + set.len touched.new ≤ changes.new.room + set.len touched.old }
+    ensures places { changes.old.room + set.len affected.new ≤ changes.new.room + set.len affected.old }
     ensures room { changes.old.room ≤ changes.new.room }
 {
     for other in inos {
         if *other != ino && is_held(table, *other) {
-            add(*other, touched, changes)?;
+            add(*other, affected, changes)?;
         }
     }
     Ok(())
 }
 
 // Adds the inode, with a place for its change. For want of memory it is not added.
-fn add(ino: Ino, touched: &mut InoSet, changes: &mut ChangeList) -> Result<(), AllocError>
-    ensures ok { OnOk result (touched.new ≡ set.insert touched.old ino.0) }
-    ensures err { OnErr result (touched.new ≡ touched.old) }
+fn add(ino: Ino, affected: &mut InoSet, changes: &mut ChangeList) -> Result<(), AllocError>
+    ensures ok { OnOk result (affected.new ≡ set.insert affected.old ino.0) }
+    ensures err { OnErr result (affected.new ≡ affected.old) }
     ensures items { changes.new.items ≡ changes.old.items }
-    ensures places { changes.old.room + set.len touched.new ≤ changes.new.room + set.len touched.old }
+    ensures places { changes.old.room + set.len affected.new ≤ changes.new.room + set.len affected.old }
     ensures room { changes.old.room ≤ changes.new.room }
 {
     changes.add_place()?;
-    touched.insert(ino)
+    affected.insert(ino)
 }
 
 /// Whether somebody has an entry on the inode.

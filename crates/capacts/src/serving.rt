@@ -11,9 +11,9 @@ ghost use Rattle.caprules.specs.Lockmachine.declared.scene.Scene.{Scene};
 ghost use Rattle.caprules.specs.Lockmachine.Scene.{scene as scene_of};
 ghost use Rattle.captable.specs.Table.{Table};
 ghost use Rattle.caprules.specs.Capevents.declared.outcome.Outcome.TheVariants as outcome;
-ghost use Rattle.caprules.specs.Judge.{stop};
+ghost use Rattle.caprules.specs.Judge.{rejection_of};
 ghost use Rattle.caprules.specs.Needs.{need, need_if};
-ghost use Rattle.caprules.specs.Serving.{MayEndAs, judged_again, stop_outcome, takes_memory, told_of};
+ghost use Rattle.caprules.specs.Serving.{MayEndAs, judged_again, rejection_outcome, takes_memory, values_outcome};
 ghost use Rattle.caprules.specs.Capnotes.Changing.{tree_after, tree_with, tree_changed};
 ghost use Rattle.caprules.specs.Asks.{ask_before, ask_needs, ask_after};
 ghost use Rattle.caprules.specs.Serving as words;
@@ -23,7 +23,7 @@ ghost use Rattle.capacts.specs.Served.{call_tests, change_call_tests, is_rename}
 use crate::judge::{by_test, denial};
 use capbits::{Ino, Part, Refusal};
 use capgrant::Access;
-use caprules::{Ask, Change, Outcome, PartValues, Request, Scene, Stopped, copy_of_rules};
+use caprules::{Ask, Change, Outcome, PartValues, Rejection, Request, Scene, copy_of_rules};
 use capspec::FsName;
 use captable::Holder;
 use inotree::{Node, Setting, Tree};
@@ -55,8 +55,8 @@ pub fn serve(
     ensures rest { scene.new ≡ record scene.old { tree = scene.new.tree } }
     ensures stays { room ≡ false → scene.new.tree ≡ scene.old.tree }
 {
-    if let Some(stopped) = stop_again(scene, request, judged) {
-        return stopped_by(stopped);
+    if let Some(rejection) = reject_again(scene, request, judged) {
+        return rejected(rejection);
     }
     if !room {
         return out_of_memory();
@@ -70,7 +70,7 @@ pub fn serve(
 // ---- how it is judged
 
 // What stops the request now: nothing, where it is known that it was judged on this tree.
-fn stop_again(scene: &Scene, request: &Request, judged: bool) -> Option<Stopped>
+fn reject_again(scene: &Scene, request: &Request, judged: bool) -> Option<Rejection>
     requires { judged ≡ true → judged_again scene.now request.now ≡ None }
     ensures { result ≡ judged_again scene.now request.now }
 {
@@ -80,7 +80,7 @@ fn stop_again(scene: &Scene, request: &Request, judged: bool) -> Option<Stopped>
     let (fs, tree, sessions) = (&scene.fs, &scene.tree, &scene.sessions);
     let (client, ino) = (request.client, request.ino);
     if let Some(refusal) = before_refusal(tree, ino, &request.ask) {
-        return Some(Stopped::ByTest(refusal));
+        return Some(Rejection::ByTest(refusal));
     }
     if let Some(denied) = ask_denial(fs, tree, sessions, Holder { client, ino }, &request.ask) {
         return Some(denied);
@@ -126,9 +126,9 @@ pub fn ask_denial(
     sessions: &Sessions,
     holder: Holder,
     ask: &Ask,
-) -> Option<Stopped>
+) -> Option<Rejection>
     ensures { (table : Table) (locks : LockMap)
-        → result ≡ stop (scene_of fs.now tree.now sessions.now table locks) []
+        → result ≡ rejection_of (scene_of fs.now tree.now sessions.now table locks) []
         (ask_needs (scene_of fs.now tree.now sessions.now table locks) holder.client holder.ino.0 ask.now) [] }
 {
     match ask {
@@ -146,9 +146,9 @@ pub fn rename_denial(
     sessions: &Sessions,
     holder: Holder,
     dir: Ino,
-) -> Option<Stopped>
+) -> Option<Rejection>
     ensures { (table : Table) (locks : LockMap)
-        → result ≡ stop (scene_of fs.now tree.now sessions.now table locks) []
+        → result ≡ rejection_of (scene_of fs.now tree.now sessions.now table locks) []
         (need_if holder.client (parent tree.now.nodes holder.ino.0) access_kind.Write ++ need holder.client dir.0 access_kind.Write ∷ []) [] }
 {
     match parent_denial(fs, tree, sessions, holder) {
@@ -161,9 +161,9 @@ pub fn rename_denial(
 }
 
 // The denial of a change of the directory that the inode stands in, where it stands in one.
-fn parent_denial(fs: &FsName, tree: &Tree, sessions: &Sessions, holder: Holder) -> Option<Stopped>
+fn parent_denial(fs: &FsName, tree: &Tree, sessions: &Sessions, holder: Holder) -> Option<Rejection>
     ensures { (table : Table) (locks : LockMap)
-        → result ≡ stop (scene_of fs.now tree.now sessions.now table locks) []
+        → result ≡ rejection_of (scene_of fs.now tree.now sessions.now table locks) []
         (need_if holder.client (parent tree.now.nodes holder.ino.0) access_kind.Write) [] }
 {
     let client = holder.client;
@@ -236,7 +236,7 @@ fn carry_out(alloc: Global, tree: &mut Tree, ino: Ino, ask: &Ask) -> Result<Serv
     ensures memory { OnErr result (takes_memory ask.now ≡ true) }
 {
     match ask {
-        Ask::Get(part) => tell(alloc, tree, ino, *part),
+        Ask::Get(part) => read_values(alloc, tree, ino, *part),
         Ask::Alter(change) => {
             alter(tree, ino, change)?;
             Ok(done())
@@ -276,12 +276,12 @@ pub fn alter(tree: &mut Tree, ino: Ino, change: &Change) -> Result<(), AllocErro
 }
 
 // Tells what the inode keeps of a part.
-fn tell(alloc: Global, tree: &Tree, ino: Ino, part: Part) -> Result<Served, AllocError>
-    ensures outcome { IfOk result (λ served. served.outcome ≡ told_of part (map.get tree.now.nodes ino.0)) }
+fn read_values(alloc: Global, tree: &Tree, ino: Ino, part: Part) -> Result<Served, AllocError>
+    ensures outcome { IfOk result (λ served. served.outcome ≡ values_outcome part (map.get tree.now.nodes ino.0)) }
     ensures kept { IfOk result (λ served. served.kept ≡ served.outcome) }
     ensures memory { OnErr result (takes_memory (ask_kind.Get part) ≡ true) }
 {
-    // A test has found that it is there.
+    // Tested before: the inode exists.
     let Some(node) = tree.node(ino) else {
         return Ok(done());
     };
@@ -347,12 +347,12 @@ fn with_values(shown: PartValues, kept: PartValues) -> Served
 }
 
 // It was stopped.
-fn stopped_by(stopped: Stopped) -> Served
-    ensures outcome { result.outcome ≡ stop_outcome stopped }
-    ensures kept { result.kept ≡ stop_outcome stopped }
+fn rejected(rejection: Rejection) -> Served
+    ensures outcome { result.outcome ≡ rejection_outcome rejection }
+    ensures kept { result.kept ≡ rejection_outcome rejection }
 {
-    match stopped {
-        Stopped::ByPolicy { access, rules } => {
+    match rejection {
+        Rejection::ByPolicy { access, rules } => {
             let kept = copy_of_rules(&rules);
             Served {
                 outcome: Outcome::Denied { access, rules },
@@ -362,7 +362,7 @@ fn stopped_by(stopped: Stopped) -> Served
                 },
             }
         }
-        Stopped::ByTest(refusal) => Served {
+        Rejection::ByTest(refusal) => Served {
             outcome: Outcome::Refused(refusal),
             kept: Outcome::Refused(refusal),
         },

@@ -6,7 +6,7 @@ ghost use Rattle.caprules.specs.Lockmachine.Turns.{IsTurnOf, IsDue, NobodyElsewh
 use capbits::{Ino, Ticket};
 use caprules::{Policy, Scene};
 
-/// Where a sweep over the touched inodes has come to.
+/// Where a sweep over the affected inodes has come to.
 #[derive(Clone, Copy)]
 pub struct SweepPlace {
     /// The inode whose turn it is.

@@ -32,24 +32,24 @@ use Rattle.capsteps.specs.Capevents.declared.event.Event.{Event}
 use Rattle.capsteps.specs.Capevents.declared.event.Event.TheVariants as event
 use Rattle.capsteps.specs.Caprules.State.{State}
 use Rattle.capsteps.specs.Caprules.Asks.{ask_before, ask_needs, ask_after}
-use Rattle.capsteps.specs.Caprules.Judge.{judged, asked_tests, asking_tests, waiting_tests, stop, stop_by, first_denied}
+use Rattle.capsteps.specs.Caprules.Judge.{judged, asked_tests, asking_tests, waiting_tests, rejection_of, rejection_by, first_denied}
 use Rattle.capsteps.specs.Caprules.Needs.{Need}
 use Rattle.capsteps.specs.Caprules.Direct.{direct, effect, effect_unless, asks}
 use Rattle.capsteps.specs.Caprules.Serving.{judged_again}
 use Rattle.capsteps.specs.Caprules.Sound.{IsSound, AreGiven}
-use Rattle.capsteps.specs.Touching.{asks_for, IsTouchedEntry, TouchesOne}
+use Rattle.capsteps.specs.Affected.{asks_for, IsAffectedEntry, AffectsOne}
 use Rattle.capsteps.proofs.Moved.{sound-pinned}
 use Rattle.capcore.specs.Asks.{ask_of, asked_event}
 use Rattle.capcore.specs.declared.asks.Asked.{Asked}
 use Rattle.capcore.specs.declared.asks.Asked.TheVariants as asked_kind
-use Rattle.capsteps.proofs.Touched.{all-left, asked-session, asked-there, AreBelow}
+use Rattle.capsteps.proofs.EntryRequests.{all-left, asked-session, asked-there, AreBelow}
 
 -- ---- which events ask, and what
 
 -- the event asks for this
 pub record IsAsking (k : Holder) (ask : Ask) (e : Event) : Type 0 where
   pub effect_is : (s : State) → effect s e ≡ asks s k.client k.ino ask
-  pub judged_is : (s : Scene) → judged s e ≡ stop s (asking_tests s k.client k.ino.0 ask) (ask_needs s k.client k.ino.0 ask) (waiting_tests s k.ino.0 ask)
+  pub judged_is : (s : Scene) → judged s e ≡ rejection_of s (asking_tests s k.client k.ino.0 ask) (ask_needs s k.client k.ino.0 ask) (waiting_tests s k.ino.0 ask)
 
 same_asking : (k other : Holder) (ask more : Ask) (e : Event) → ◌≡◌ {A = Option (Holder × Ask)} (Some (k, ask)) (Some (other, more)) → IsAsking k ask e → IsAsking other more e
 same_asking k other ask more e is asking =
@@ -70,9 +70,9 @@ asking (event.Rename client ino dir name) k ask is =
 asking e k ask is = absurd (none-some (k, ask) is)
 
 -- what stops the event is what stops the request
-pub asking-stop : (e : Event) (k : Holder) (ask : Ask) (s : Scene) → asks_for e ≡ Some (k, ask)
-    → judged s e ≡ stop s (asking_tests s k.client k.ino.0 ask) (ask_needs s k.client k.ino.0 ask) (waiting_tests s k.ino.0 ask)
-asking-stop e k ask s is = let a = asking e k ask is in a.judged_is s
+pub asking-rejection : (e : Event) (k : Holder) (ask : Ask) (s : Scene) → asks_for e ≡ Some (k, ask)
+    → judged s e ≡ rejection_of s (asking_tests s k.client k.ino.0 ask) (ask_needs s k.client k.ino.0 ask) (waiting_tests s k.ino.0 ask)
+asking-rejection e k ask s is = let a = asking e k ask is in a.judged_is s
 
 -- and where nothing does, it comes to wait
 pub asking-direct : (old : State) (e : Event) (k : Holder) (ask : Ask) → asks_for e ≡ Some (k, ask) → judged old.scene e ≡ None → direct old e ≡ asks old k.client k.ino ask
@@ -88,13 +88,13 @@ inode_passed s ino Rmdir passed = (passed-both (inode_tests s.tree ino) (root_te
 inode_passed s ino (Rename dir name) passed = (passed-both (inode_tests s.tree ino) (root_test s.tree ino ∷ inode_tests s.tree dir.0) passed).0
 
 -- where nothing stops a request, no test fails and nothing is denied
-all_passed : (s : Scene) (o : Option Refusal) (d : Option Need) (l : Option Refusal) → stop_by s o d l ≡ None → (o ≡ None) × (d ≡ None) × (l ≡ None)
+all_passed : (s : Scene) (o : Option Refusal) (d : Option Need) (l : Option Refusal) → rejection_by s o d l ≡ None → (o ≡ None) × (d ≡ None) × (l ≡ None)
 all_passed s (Some r) d l free = absurd (cc)
 all_passed s None (Some n) l free = absurd (cc)
 all_passed s None None (Some r) free = absurd (cc)
 all_passed s None None None free = (refl, refl, refl)
 
-module _ (s : Scene) (k : Holder) (ask : Ask) (free : stop s (asking_tests s k.client k.ino.0 ask) (ask_needs s k.client k.ino.0 ask) (waiting_tests s k.ino.0 ask) ≡ None) where
+module _ (s : Scene) (k : Holder) (ask : Ask) (free : rejection_of s (asking_tests s k.client k.ino.0 ask) (ask_needs s k.client k.ino.0 ask) (waiting_tests s k.ino.0 ask) ≡ None) where
   all_three : (first_failing (asking_tests s k.client k.ino.0 ask) ≡ None) × (first_denied s (ask_needs s k.client k.ino.0 ask) ≡ None) × (first_failing (waiting_tests s k.ino.0 ask) ≡ None)
   all_three = all_passed s (first_failing (asking_tests s k.client k.ino.0 ask)) (first_denied s (ask_needs s k.client k.ino.0 ask)) (first_failing (waiting_tests s k.ino.0 ask)) free
 
@@ -121,8 +121,8 @@ module _ (s : Scene) (k : Holder) (ask : Ask) (free : stop s (asking_tests s k.c
   -- and nothing would stop it, were it served now
   pub asking-again : judged_again s (next_request s.locks k.client k.ino ask) ≡ None
   asking-again =
-      ap (λ o. stop_by s o (first_denied s (ask_needs s k.client k.ino.0 ask)) (first_failing (ask_after s k.ino.0 ask))) before_passed.1
-      ∙ (λ i. stop_by s None (all_three.1 i) (after_passed.0 i))
+      ap (λ o. rejection_by s o (first_denied s (ask_needs s k.client k.ino.0 ask)) (first_failing (ask_after s k.ino.0 ask))) before_passed.1
+      ∙ (λ i. rejection_by s None (all_three.1 i) (after_passed.0 i))
 
 -- ---- the event
 
@@ -131,12 +131,12 @@ no_lock part None there none = true≢false (sym there)
 no_lock part (Some locks) there none = none-some (lock_in part locks) (sym none)
 
 module _ (old : State) (k : Holder) (ask : Ask) (sound : IsSound old) (table : IsTable old.scene.table)
-    (free : stop old.scene (asking_tests old.scene k.client k.ino.0 ask) (ask_needs old.scene k.client k.ino.0 ask) (waiting_tests old.scene k.ino.0 ask) ≡ None) where
+    (free : rejection_of old.scene (asking_tests old.scene k.client k.ino.0 ask) (ask_needs old.scene k.client k.ino.0 ask) (waiting_tests old.scene k.ino.0 ask) ≡ None) where
   abbrev first : Scene
   first = record old.scene { locks = with_request old.scene.locks k.client k.ino ask }
 
-  pub asking-touches : TouchesOne k.ino.0 old first
-  asking-touches = record {
+  pub asking-affects : AffectsOne k.ino.0 old first
+  asking-affects = record {
     same = same-request old.scene k.client k.ino ask;
     states = refl;
     known = λ other. refl;
@@ -145,7 +145,7 @@ module _ (old : State) (k : Holder) (ask : Ask) (sound : IsSound old) (table : I
         All-push (λ (q : Request). IsTrue (has_session old.scene.sessions q.client.0)) old.scene.locks.queue (next_request old.scene.locks k.client k.ino ask) sound.waiting
         (asking-session old.scene k ask free);
     at_lock = λ part none. absurd (no_lock part (map.get old.scene.locks.states k.ino.0) (sound.locked k.ino.0 ∙ asking-there old.scene k ask free) none);
-    each = All-filter (is_of_inode (record { 0 = k.ino.0 })) (IsTouchedEntry first) old.scene.table.rows (all-left old first sound table refl refl (λ ino. refl));
+    each = All-filter (is_of_inode (record { 0 = k.ino.0 })) (IsAffectedEntry first) old.scene.table.rows (all-left old first sound table refl refl (λ ino. refl));
     calm = λ row inside none. absurd (sound-pinned old sound row inside none);
   }
 
@@ -153,12 +153,12 @@ pub below-of_ask : (count : ℕ) (old : State) (k : Holder) (ask : Ask) → AreG
 below-of_ask count old k ask given = let made = given.made in let last = given.last in (given.entries, omega (arith, made), omega (arith, last))
 
 pub order-of_ask : (s : Scene) (k : Holder) (ask : Ask) → IsLockMap s.locks
-    → stop s (asking_tests s k.client k.ino.0 ask) (ask_needs s k.client k.ino.0 ask) (waiting_tests s k.ino.0 ask) ≡ None → IsLockMap (with_request s.locks k.client k.ino ask)
+    → rejection_of s (asking_tests s k.client k.ino.0 ask) (ask_needs s k.client k.ino.0 ask) (waiting_tests s k.ino.0 ask) ≡ None → IsLockMap (with_request s.locks k.client k.ino ask)
 order-of_ask s k ask order free = with_request-kept s.locks k.client k.ino ask order (asking-room s k ask free)
 
 -- one more may wait
 pub room-left : (s : Scene) (k : Holder) (ask : Ask)
-    → stop s (asking_tests s k.client k.ino.0 ask) (ask_needs s k.client k.ino.0 ask) (waiting_tests s k.ino.0 ask) ≡ None → first_failing (queue_tests s.locks) ≡ None
+    → rejection_of s (asking_tests s k.client k.ino.0 ask) (ask_needs s k.client k.ino.0 ask) (waiting_tests s k.ino.0 ask) ≡ None → first_failing (queue_tests s.locks) ≡ None
 room-left s k ask free = ap (λ b. cond b (Some refusal.Limit) None) (lt-leb 1024 (length s.locks.queue) (asking-room s k ask free))
 
 -- ---- what the call is handed

@@ -14,8 +14,8 @@ use Rattle.capsteps.specs.Lockmachine.declared.scene.Scene.{Scene}
 use Rattle.capsteps.specs.Capevents.declared.event.Event.{Event}
 use Rattle.capsteps.specs.Capevents.declared.outcome.Ended.{Ended}
 use Rattle.capsteps.specs.Capview.Changes.{AreChanges}
-use Rattle.capsteps.specs.Capacts.Known.{KnownSets, known_in, AreKnown, StillKept}
-use Rattle.capsteps.specs.Capnotes.Untold.{HasRoom, HaveOwnNumbers, but_for}
+use Rattle.capsteps.specs.Capacts.Known.{KnownSets, known_in, AreKnown, StillKnown}
+use Rattle.capsteps.specs.Capnotes.DueEndings.{HasRoom, HaveOwnNumbers, but_for}
 use Rattle.capsteps.specs.Caprules.State.{State}
 use Rattle.capsteps.specs.Caprules.Direct.{Direct, direct, reply_of, shown}
 use Rattle.capsteps.specs.Caprules.Finish.{sizes_owed}
@@ -28,31 +28,31 @@ use Rattle.capsteps.specs.Answered.{IsAnswered}
 use Rattle.capsteps.specs.Begun.{MaySettle, MayEnd, HaveRoomFor}
 use Rattle.capsteps.specs.Judged.{IsJudged}
 use Rattle.capsteps.specs.Serves.{SettlesWith, EndsWith}
-use Rattle.capsteps.specs.declared.touch.Touch.{Touch}
-use Rattle.capsteps.specs.declared.touch.Touch.TheVariants.{Open, Want, Ack, Release}
-use Rattle.capsteps.specs.Touch.{touch_answer}
-use Rattle.capsteps.specs.Touching.{Touches, TouchesOne, SettlesAt, Knows, finished_at}
+use Rattle.capsteps.specs.declared.entry_request.EntryRequest.{EntryRequest}
+use Rattle.capsteps.specs.declared.entry_request.EntryRequest.TheVariants.{Open, Want, Ack, Release}
+use Rattle.capsteps.specs.EntryRequest.{entry_answer}
+use Rattle.capsteps.specs.Affected.{Affects, AffectsOne, SettlesAt, Knows, finished_at}
 use Rattle.capsteps.proofs.Knowing.{held_at, known-alike, still-room, still-knows}
-use Rattle.capsteps.proofs.Touched.{AreBelow, Keeps}
+use Rattle.capsteps.proofs.EntryRequests.{AreBelow, Keeps}
 use Rattle.capcore.specs.declared.parts.Parts.{Parts}
 use Rattle.capcore.specs.declared.parts.Effect.{Effect}
 use Rattle.capcore.specs.declared.parts.Affected.{Affected}
 use Rattle.capcore.specs.declared.parts.Answer.{Answer}
 use Rattle.capcore.specs.declared.parts.Answer.TheVariants.{Done, Dropped, Touched, Awaited}
 use Rattle.capcore.specs.UnderWay.{state_of, MayBegin, among, answer_of, dropped_of, earlier_of, IsNumbered, HasPlaces, GivesOne, MayEndAt, HasBegun}
-use Rattle.capcore.proofs.Closing.{told-own_numbers, told-all, told-but_own, ends-table, touches-settles, touches-ends, touches-one}
+use Rattle.capcore.proofs.Closing.{told-own_numbers, told-all, told-but_own, ends-table, affects-settles, affects-ends, affects-one}
 use Rattle.capcore.proofs.Concluded.{IsConcluded, concluded}
 use Rattle.capcore.proofs.EndKnown.{ends-known}
-use Rattle.capcore.proofs.TouchWhole.{tell-alike}
+use Rattle.capcore.proofs.EntryWhole.{show_reply-alike}
 
 -- each entry has a number left then
-pub begun-entries : (p q : Parts) (e : Event) (from : ℕ → Bool) → MayBegin p e → state_of q ≡ (direct (state_of p) e).state → Touches from (state_of p) (state_of q) → GivesOne (state_of p) e
-    → StillKept p.scene.table q.scene.table p.known.sets q.known.sets → MayEnd q.known.sets q.scene.sessions q.scene.table
-begun-entries p q e from may is touches gives still = by_count may.numbers
+pub begun-entries : (p q : Parts) (e : Event) (from : ℕ → Bool) → MayBegin p e → state_of q ≡ (direct (state_of p) e).state → Affects from (state_of p) (state_of q) → GivesOne (state_of p) e
+    → StillKnown p.scene.table q.scene.table p.known.sets q.known.sets → MayEnd q.known.sets q.scene.sessions q.scene.table
+begun-entries p q e from may is affects gives still = by_count may.numbers
   where
     by_count : NumbersLeft (state_of p) → MayEnd q.known.sets q.scene.sessions q.scene.table
     by_count (count, given, less) =
-        touches-ends from (state_of p) (state_of q) may.whole.0 touches q.known.sets count less
+        affects-ends from (state_of p) (state_of q) may.whole.0 affects q.known.sets count less
         (subst (λ (s : State). All (λ row. row.entry.seq ≤ count) s.scene.table.rows) (sym is) (gives count given).0)
         (still-room p.known.sets q.known.sets p.scene q.scene.table may.whole.2 still)
 
@@ -78,27 +78,27 @@ module _ (p q : Parts) (e : Event) (k : Holder) (may : MayBegin p e) (d : Direct
   one-gives count given = subst (λ (x : Direct). AreBelow count x.state) (sym by_itself) (below count given)
 
   pub one-begun : (affected : Affected) (answer : Answer) → among affected ≡ from → answer_of answer ≡ d.answer → dropped_of answer ≡ []
-      → IsNumbered answer p.scene.locks.last q.scene.locks.last → TouchesOne k.ino.0 old q.scene → IsTable q.scene.table → StillKept p.scene.table q.scene.table p.known.sets q.known.sets
+      → IsNumbered answer p.scene.locks.last q.scene.locks.last → AffectsOne k.ino.0 old q.scene → IsTable q.scene.table → StillKnown p.scene.table q.scene.table p.known.sets q.known.sets
       → ((j : Holder) (f : Entry) → entry_at q.scene.table j ≡ Some f → IsSubset f.held (held_at p.scene.table j)) → IsTree q.scene.tree → IsLockMap q.scene.locks
       → HaveRoomFor (length q.scene.locks.queue) q.endings → IsJudged q.endings.judged q.scene → MayEndAt affected q → HasRoom q.messages q.scene.locks → HasPlaces answer (length q.scene.locks.queue)
       → AreChanges q.endings.changes.items (view_of old) (view_of (state_of q)) → HasBegun p e (record { affected = affected; answer = answer }) q
   one-begun affected answer same answers none number one table still less tree order room judged at left_room places noted =
-      let touches : Touches from old (state_of q) =
-      subst (λ (ms : List Ended). Touches from old (record { scene = q.scene; messages = ms })) (sym left) (touches-one k.ino.0 old q.scene may.whole.0 one) in
+      let affects : Affects from old (state_of q) =
+      subst (λ (ms : List Ended). Affects from old (record { scene = q.scene; messages = ms })) (sym left) (affects-one k.ino.0 old q.scene may.whole.0 one) in
       record {
         is = one-state;
         answer = answers ∙ sym (ap (λ (x : Direct). x.answer) by_itself);
         dropped = none ∙ sym keeps.0 ∙ sym (ap (λ (x : Direct). x.dropped) by_itself);
         number = number;
-        touches = subst (λ (at : ℕ → Bool). Touches at old (state_of q)) (sym same) touches;
+        affects = subst (λ (at : ℕ → Bool). Affects at old (state_of q)) (sym same) affects;
         table = table;
         gives = one-gives;
         still = still;
         knows = still-knows p.known.sets q.known.sets p.scene q.scene.table may.whole.2 still table less;
         ready = record {
-          settles = subst (λ (at : ℕ → Bool). MaySettle at q.scene) (sym same) (touches-settles from old (state_of q) may.whole.0 touches tree order);
+          settles = subst (λ (at : ℕ → Bool). MaySettle at q.scene) (sym same) (affects-settles from old (state_of q) may.whole.0 affects tree order);
           judged = judged;
-          entries = begun-entries p q e from may one-state touches one-gives still;
+          entries = begun-entries p q e from may one-state affects one-gives still;
           room = room;
           at = at;
         };
@@ -110,30 +110,30 @@ module _ (p q : Parts) (e : Event) (k : Holder) (may : MayBegin p e) (d : Direct
 -- ---- what is shown
 
 -- it changes what is kept beside entries alone
-touch-rest : (k : Holder) (touch : Touch) (s : State) → (shown (touch_answer k touch) s).scene ≡ record s.scene { table = (shown (touch_answer k touch) s).scene.table }
-touch-rest k (Open mode) s = refl
-touch-rest k (Want caps) s = refl
-touch-rest k (Ack seq) s = refl
-touch-rest k (Release caps) s = refl
+request-rest : (k : Holder) (request : EntryRequest) (s : State) → (shown (entry_answer k request) s).scene ≡ record s.scene { table = (shown (entry_answer k request) s).scene.table }
+request-rest k (Open mode) s = refl
+request-rest k (Want caps) s = refl
+request-rest k (Ack seq) s = refl
+request-rest k (Release caps) s = refl
 
 pub shown-rest : (a : Answer) (s : State) → (shown (answer_of a) s).scene ≡ record s.scene { table = (shown (answer_of a) s).scene.table }
 shown-rest Done s = refl
 shown-rest (Dropped dropped) s = refl
-shown-rest (Touched k touch) s = touch-rest k touch s
+shown-rest (Touched k request) s = request-rest k request s
 shown-rest (Awaited ticket) s = refl
 
 pub shown-known : (a : Answer) (s : State) (sets : KnownSets) → AreKnown sets s.scene → AreKnown sets (shown (answer_of a) s).scene
 shown-known Done s sets known = known
 shown-known (Dropped dropped) s sets known = known
-shown-known (Touched k touch) s sets known =
-    subst (AreKnown sets) (sym (touch-rest k touch s)) (known-alike sets s.scene (shown (touch_answer k touch) s).scene.table (tell-alike s k touch) known)
+shown-known (Touched k request) s sets known =
+    subst (AreKnown sets) (sym (request-rest k request s)) (known-alike sets s.scene (shown (entry_answer k request) s).scene.table (show_reply-alike s k request) known)
 shown-known (Awaited ticket) s sets known = known
 
 -- where there is room for some, there is for fewer
 pub fewer-places : (a : Answer) (n m : ℕ) → m ≤ n → HasPlaces a n → HasPlaces a m
 fewer-places Done n m few places = places
 fewer-places (Dropped dropped) n m few places = omega (arith, few, places)
-fewer-places (Touched k touch) n m few places = places
+fewer-places (Touched k request) n m few places = places
 fewer-places (Awaited ticket) n m few places = places
 
 -- those of earlier steps are no more than all
@@ -144,7 +144,7 @@ few-earlier (Awaited ticket) told =
     omega (arith, few, most)
 few-earlier Done told = omega arith
 few-earlier (Dropped dropped) told = omega arith
-few-earlier (Touched k touch) told = omega arith
+few-earlier (Touched k request) told = omega arith
 
 -- ---- the end of the step
 
@@ -153,8 +153,8 @@ module _ (p q : Parts) (e : Event) (effect : Effect) (may : MayBegin p e) (begun
   abbrev before : State
   before = state_of p
 
-  abbrev touched : State
-  touched = state_of q
+  abbrev affected : State
+  affected = state_of q
 
   abbrev settles : SettlesWith ends.at (among effect.affected) q.scene ends.settled told ends.sized
   settles = ends.settles
@@ -164,7 +164,7 @@ module _ (p q : Parts) (e : Event) (effect : Effect) (may : MayBegin p e) (begun
 
   pub ended-known : AreKnown now last
   ended-known =
-      ends-known p.known.sets q.known.sets now (among effect.affected) before touched may.whole.0 may.table begun.table begun.touches may.whole.2 begun.still begun.knows last told ends
+      ends-known p.known.sets q.known.sets now (among effect.affected) before affected may.whole.0 may.table begun.table begun.affects may.whole.2 begun.still begun.knows last told ends
 
   pub ended-numbers : HaveOwnNumbers told
   ended-numbers = told-own_numbers ends.at (among effect.affected) q.scene ends.settled told ends.sized settles
@@ -175,7 +175,7 @@ module _ (p q : Parts) (e : Event) (effect : Effect) (may : MayBegin p e) (begun
   by_answer : (a : Answer) → IsNumbered a p.scene.locks.last q.scene.locks.last → earlier p.scene.locks.last told ≡ earlier_of a told
   by_answer Done same = all same
   by_answer (Dropped dropped) same = all same
-  by_answer (Touched k touch) same = all same
+  by_answer (Touched k request) same = all same
   by_answer (Awaited ticket) (own, next) = told-but_own ends.at (among effect.affected) q.scene ends.settled told ends.sized settles order p.scene.locks.last ticket own next
 
   others : earlier p.scene.locks.last told ≡ earlier_of effect.answer told
@@ -191,14 +191,14 @@ module _ (p q : Parts) (e : Event) (effect : Effect) (may : MayBegin p e) (begun
   same_state : closed ≡ by_the_rules
   same_state =
       (λ i. record { scene = ends.finished i; messages = q.messages.items ++ (sym others ∙ ap (earlier p.scene.locks.last) settles.ended_is) i })
-      ∙ ap (λ (sized : List Ino). state_at_end before touched settles.moves (finished_at ends.at (known_in q.known.sets) (sizes_owed sized ends.settled))) settles.sized_is
+      ∙ ap (λ (sized : List Ino). state_at_end before affected settles.moves (finished_at ends.at (known_in q.known.sets) (sizes_owed sized ends.settled))) settles.sized_is
       ∙ ap (λ (s : State). state_at_end before s settles.moves (finished_at ends.at (known_in q.known.sets) (sizes_owed (sized_in settles.moves) ends.settled))) begun.is
 
   pub ended-answered : (said : Said) (new : State) → said.reply ≡ reply_of closed told (answer_of effect.answer) → said.kept ≡ said.reply
       → said.ended ≡ dropped_of effect.answer ++ earlier_of effect.answer told → new ≡ shown (answer_of effect.answer) closed → IsAnswered before e said new
   ended-answered said new replies kept ended new-is =
       let c =
-      concluded ends.at (among effect.affected) (known_in q.known.sets) before e settles.moves ends.settled may.whole.0 (subst (Touches (among effect.affected) before) begun.is begun.touches)
+      concluded ends.at (among effect.affected) (known_in q.known.sets) before e settles.moves ends.settled may.whole.0 (subst (Affects (among effect.affected) before) begun.is begun.affects)
       (subst (λ (s : State). IsTable s.scene.table) begun.is begun.table) (subst (λ (s : State). IsLockMap s.scene.locks) begun.is order)
       (subst (λ (s : State). Knows (known_in q.known.sets) before.scene s.scene.table) begun.is begun.knows) begun.gives
       (subst (λ (s : State). SettlesAt ends.at (among effect.affected) settles.moves s.scene ends.settled) begun.is settles.settles) ends.tree

@@ -12,7 +12,7 @@ use Rattle.capsteps.specs.Capevents.declared.event.Event.{Event}
 use Rattle.capsteps.specs.Capevents.declared.event.Event.TheVariants as event
 use Rattle.capsteps.specs.Capevents.declared.outcome.Ended.{Ended}
 use Rattle.capsteps.specs.Capevents.declared.reply.Reply.{Reply}
-use Rattle.capsteps.specs.Caprules.declared.stopped.Stopped.{Stopped}
+use Rattle.capsteps.specs.Caprules.declared.rejection.Rejection.{Rejection}
 use Rattle.capsteps.specs.Caprules.State.{State}
 use Rattle.capsteps.specs.Caprules.Direct.{direct, effect, effect_unless, found}
 use Rattle.capsteps.specs.Caprules.Headline.{ByMoves, AreBounded, move_of}
@@ -45,9 +45,9 @@ effect-order old e free order = order
 pub direct-order : (old : State) (e : Event) → IsLockMap old.scene.locks → IsLockMap (direct old e).state.scene.locks
 direct-order old e order = by_stop (judged old.scene e) refl
   where
-    by_stop : (o : Option Stopped) → judged old.scene e ≡ o → IsLockMap (direct old e).state.scene.locks
-    by_stop (Some stopped) is = subst (λ (o : Option Stopped). IsLockMap (effect_unless old e o).state.scene.locks) (sym is) order
-    by_stop None free = subst (λ (o : Option Stopped). IsLockMap (effect_unless old e o).state.scene.locks) (sym free) (effect-order old e free order)
+    by_stop : (o : Option Rejection) → judged old.scene e ≡ o → IsLockMap (direct old e).state.scene.locks
+    by_stop (Some rejection) is = subst (λ (o : Option Rejection). IsLockMap (effect_unless old e o).state.scene.locks) (sym is) order
+    by_stop None free = subst (λ (o : Option Rejection). IsLockMap (effect_unless old e o).state.scene.locks) (sym free) (effect-order old e free order)
 
 -- ---- between two servings
 

@@ -25,9 +25,9 @@ use Rattle.capsteps.specs.Caprules.Finish.{is_sized, owed, sizes_owed}
 use Rattle.capsteps.specs.Caprules.Settle.{MakesAll}
 use Rattle.capsteps.specs.Caprules.Sound.{IsSoundEntry, IsSound}
 use Rattle.capsteps.specs.Caprules.Step.{earlier}
-use Rattle.capsteps.specs.Touching.{IsTouchedEntry, Touches, TouchesOne, finished_entry}
+use Rattle.capsteps.specs.Affected.{IsAffectedEntry, Affects, AffectsOne, finished_entry}
 use Rattle.capsteps.specs.Capacts.Known.{KnownSets, HaveRoom, known_in}
-use Rattle.capsteps.specs.Capnotes.Untold.{HaveOwnNumbers, but_for}
+use Rattle.capsteps.specs.Capnotes.DueEndings.{HaveOwnNumbers, but_for}
 use Rattle.capcore.proofs.EndedIn.{earlier-all, earlier-but_own, own-numbers}
 use Rattle.capsteps.proofs.Forgotten.{all_rows}
 use Rattle.capsteps.proofs.ManyInodes.{table-where}
@@ -71,41 +71,41 @@ ends-table from was now first last told ends table =
 
 -- ---- the entries, when the event alone has been applied
 
-module _ (from : ℕ → Bool) (old touched : State) (sound : IsSound old) (touches : Touches from old touched) where
+module _ (from : ℕ → Bool) (old affected : State) (sound : IsSound old) (affects : Affects from old affected) where
   abbrev rows : List EntryRow
-  rows = touched.scene.table.rows
+  rows = affected.scene.table.rows
 
   -- what an entry on one of the inodes has, and what each entry of a sound state has elsewhere, all have
-  touches-all : (Q : EntryRow → Type 0) → ((row : EntryRow) → IsTouchedEntry touched.scene row → Q row)
+  affects-all : (Q : EntryRow → Type 0) → ((row : EntryRow) → IsAffectedEntry affected.scene row → Q row)
       → ((row : EntryRow) → Contains old.scene.table.rows row → from row.holder.ino.0 ≡ false → IsSoundEntry old.scene row → Q row) → All Q rows
-  touches-all Q here elsewhere = all_rows Q rows (λ row inside. by_test row inside (from row.holder.ino.0) refl)
+  affects-all Q here elsewhere = all_rows Q rows (λ row inside. by_test row inside (from row.holder.ino.0) refl)
     where
       by_test : (row : EntryRow) → Contains rows row → (b : Bool) → from row.holder.ino.0 ≡ b → Q row
-      by_test row inside true on = here row (touches.each row inside on)
+      by_test row inside true on = here row (affects.each row inside on)
       by_test row inside false off =
-          let same = touches.same in
-          let was = row_elsewhere from old.scene.table touched.scene.table same.entries row inside off in
+          let same = affects.same in
+          let was = row_elsewhere from old.scene.table affected.scene.table same.entries row inside off in
           elsewhere row was off (All-contains (IsSoundEntry old.scene) old.scene.table.rows row sound.entries was)
 
-  touches-clients : All (λ row. IsTrue (has_session touched.scene.sessions row.holder.client.0)) rows
-  touches-clients =
-      touches-all (λ row. IsTrue (has_session touched.scene.sessions row.holder.client.0)) (λ row entry. entry.of_session)
-      (λ row was off entry. let same = touches.same in ap is_some (same.sessions row was off) ∙ entry.of_session)
+  affects-clients : All (λ row. IsTrue (has_session affected.scene.sessions row.holder.client.0)) rows
+  affects-clients =
+      affects-all (λ row. IsTrue (has_session affected.scene.sessions row.holder.client.0)) (λ row entry. entry.of_session)
+      (λ row was off entry. let same = affects.same in ap is_some (same.sessions row was off) ∙ entry.of_session)
 
   -- so the locks may settle behind it and the step may end
-  pub touches-settles : IsTree touched.scene.tree → IsLockMap touched.scene.locks → MaySettle from touched.scene
-  touches-settles tree order = record { quiet = rest-outside from old.scene touched.scene sound.at_rest touches.same; tree = tree; order = order }
+  pub affects-settles : IsTree affected.scene.tree → IsLockMap affected.scene.locks → MaySettle from affected.scene
+  affects-settles tree order = record { quiet = rest-outside from old.scene affected.scene sound.at_rest affects.same; tree = tree; order = order }
 
-  pub touches-ends : (was : KnownSets) (count : ℕ) → count < 2 ^ 32 → All (λ row. row.entry.seq ≤ count) rows → HaveRoom was touched.scene.table → MayEnd was touched.scene.sessions touched.scene.table
-  touches-ends was count less given room = record {
+  pub affects-ends : (was : KnownSets) (count : ℕ) → count < 2 ^ 32 → All (λ row. row.entry.seq ≤ count) rows → HaveRoom was affected.scene.table → MayEnd was affected.scene.sessions affected.scene.table
+  affects-ends was count less given room = record {
     numbers = All-weaker (λ (row : EntryRow). row.entry.seq ≤ count) (λ (row : EntryRow). row.entry.seq < 2 ^ 64 - 1) (λ row few. omega (arith, few, less)) rows given;
-    clients = touches-clients;
+    clients = affects-clients;
     room = room;
   }
 
--- it touches the inodes of which there is but this one
-pub touches-one : (ino : ℕ) (old : State) (first : Scene) → IsSound old → TouchesOne ino old first → Touches (λ other. other == ino) old (with_scene old first)
-touches-one ino old first sound one = record {
+-- it affects the inodes of which there is but this one
+pub affects-one : (ino : ℕ) (old : State) (first : Scene) → IsSound old → AffectsOne ino old first → Affects (λ other. other == ino) old (with_scene old first)
+affects-one ino old first sound one = record {
   same = outside-one ino old.scene first one.same;
   states = one.states;
   known = one.known;
@@ -117,7 +117,7 @@ touches-one ino old first sound one = record {
       ap (λ i. first_for first.locks.queue i part) (eqb-true i ino is)
       ∙ one.at_lock part (ap (λ i. lock_at first.locks i part) (sym (eqb-true i ino is)) ∙ none);
   each = λ row inside is.
-      All-contains (IsTouchedEntry first) (entries_on first.table (record { 0 = ino })) row one.each
+      All-contains (IsAffectedEntry first) (entries_on first.table (record { 0 = ino })) row one.each
       (filter-contains (is_of_inode (record { 0 = ino })) first.table.rows row inside is);
   calm = one.calm;
 }

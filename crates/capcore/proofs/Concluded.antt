@@ -1,4 +1,4 @@
--- The step of an event that touched some inodes, all together: it is a step of the rules, leaves the state sound, issues what is due
+-- The step of an event that affected some inodes, all together: it is a step of the rules, leaves the state sound, issues what is due
 -- and gives at most one number.
 use Rattle.std.proofs.Common.{◌≡◌, ℕ, ◌+◌, Bool, List, sym, subst}
 use Rattle.inotree.specs.Tree.{IsTree}
@@ -17,12 +17,12 @@ use Rattle.capsteps.specs.Caprules.Finish.{sizes_owed}
 use Rattle.capsteps.specs.Caprules.Settle.{Made, ended_in, sized_in}
 use Rattle.capsteps.specs.Caprules.Sound.{IsSound, AreGiven}
 use Rattle.capsteps.specs.Caprules.Step.{Step, all_ended, state_at_end}
-use Rattle.capsteps.specs.Touching.{Touches, SettlesAt, Knows, finished_at}
+use Rattle.capsteps.specs.Affected.{Affects, SettlesAt, Knows, finished_at}
 use Rattle.capsteps.proofs.SizesOwed.{sizes-end, sizes-sound, sizes-issues, sizes-given}
-use Rattle.capsteps.proofs.StayingSound.{given-touched}
+use Rattle.capsteps.proofs.StayingSound.{given-affected}
 use Rattle.capsteps.proofs.Telling.{shown-sound, shown-issued, shown-given}
 use Rattle.capcore.specs.UnderWay.{GivesOne}
-use Rattle.capcore.proofs.TouchStep.{one-step}
+use Rattle.capcore.proofs.EntryStep.{one-step}
 
 -- what is promised of a step
 pub record IsConcluded (old : State) (e : Event) (answer : Reply) (ended : List Ended) (new : State) : Type 0 where
@@ -32,30 +32,30 @@ pub record IsConcluded (old : State) (e : Event) (answer : Reply) (ended : List 
   pub given : (count : ℕ) → AreGiven count old → AreGiven (count + 1) new
 
 module _ (at from : ℕ → Bool) (known : Holder → Caps) (old : State) (e : Event) (moves : List Made) (settled : Scene) (sound : IsSound old)
-    (touches : Touches from old (direct old e).state) (table : IsTable (direct old e).state.scene.table) (order : IsLockMap (direct old e).state.scene.locks)
+    (affects : Affects from old (direct old e).state) (table : IsTable (direct old e).state.scene.table) (order : IsLockMap (direct old e).state.scene.locks)
     (knows : Knows known old.scene (direct old e).state.scene.table) (gives : GivesOne old e)
     (settles : SettlesAt at from moves (direct old e).state.scene settled) (tree : IsTree settled.tree) where
-  abbrev touched : State
-  touched = (direct old e).state
+  abbrev affected : State
+  affected = (direct old e).state
 
   abbrev pub last : State
-  last = state_at_end old touched moves (finished_at at known (sizes_owed (sized_in moves) settled))
+  last = state_at_end old affected moves (finished_at at known (sizes_owed (sized_in moves) settled))
 
   pub concluded : IsTable last.scene.table → (answer : Reply) (new : State) → answer ≡ reply_of last (ended_in moves) (direct old e).answer
       → new ≡ shown (direct old e).answer last → IsConcluded old e answer (all_ended old (direct old e) moves) new
   concluded last-table answer new answers is = record {
     step =
         one-step old e moves settled (finished_at at known (sizes_owed (sized_in moves) settled)) settles.settles
-        (sizes-end at from known old touched moves settled sound tree table touches knows settles) answer new answers is;
+        (sizes-end at from known old affected moves settled sound tree table affects knows settles) answer new answers is;
     sound =
         subst IsSound (sym is)
-        (shown-sound last (direct old e).answer (sizes-sound at from known old touched moves settled sound tree table touches knows settles order) last-table);
+        (shown-sound last (direct old e).answer (sizes-sound at from known old affected moves settled sound tree table affects knows settles order) last-table);
     issued =
-        subst (λ (s : State). IssuesExactly touched.scene s.scene) (sym is)
-        (shown-issued touched.scene last (direct old e).answer last-table
-        (sizes-issues at from known old touched moves settled sound tree table touches knows settles));
+        subst (λ (s : State). IssuesExactly affected.scene s.scene) (sym is)
+        (shown-issued affected.scene last (direct old e).answer last-table
+        (sizes-issues at from known old affected moves settled sound tree table affects knows settles));
     given = λ count given. (let b = gives count given in
         subst (AreGiven (count + 1)) (sym is)
         (shown-given (count + 1) last (direct old e).answer
-        (sizes-given at from known old touched moves settled sound tree table touches knows settles count (given-touched at from known count old touched moves settled settles b.0 b.1 b.2))));
+        (sizes-given at from known old affected moves settled sound tree table affects knows settles count (given-affected at from known count old affected moves settled settles b.0 b.1 b.2))));
   }

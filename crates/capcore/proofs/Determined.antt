@@ -28,10 +28,10 @@ use Rattle.capsteps.specs.Capevents.declared.outcome.Outcome.{Outcome}
 use Rattle.capsteps.specs.Capevents.declared.outcome.Outcome.TheVariants as outcome
 use Rattle.capsteps.specs.Capevents.declared.reply.Reply.{Reply}
 use Rattle.capsteps.specs.Capevents.declared.reply.Reply.TheVariants as reply
-use Rattle.capsteps.specs.Caprules.declared.stopped.Stopped.{Stopped}
+use Rattle.capsteps.specs.Caprules.declared.rejection.Rejection.{Rejection}
 use Rattle.capsteps.specs.Capevents.Replies.{outcome_reply}
 use Rattle.capsteps.specs.Caprules.Direct.{Direct, Answer, Says, Shows, Gives, Awaits, direct, effect, effect_unless, asks, found, reply_of, shown, awaited_as}
-use Rattle.capsteps.specs.Capnotes.Untold.{is_of_ticket, HaveOwnNumbers}
+use Rattle.capsteps.specs.Capnotes.DueEndings.{is_of_ticket, HaveOwnNumbers}
 use Rattle.capsteps.specs.Caprules.Finish.{sizes_owed, finished}
 use Rattle.capsteps.specs.Caprules.Headline.{move_of}
 use Rattle.capsteps.specs.Caprules.Judge.{judged}
@@ -133,9 +133,9 @@ module _ (old : State) (order : IsLockMap old.scene.locks) where
   direct-fits : (e : Event) → All (Fits old (direct old e)) (direct old e).state.scene.locks.queue
   direct-fits e = by_stop (judged old.scene e)
     where
-      by_stop : (o : Option Stopped) → All (Fits old (effect_unless old e o)) (effect_unless old e o).state.scene.locks.queue
+      by_stop : (o : Option Rejection) → All (Fits old (effect_unless old e o)) (effect_unless old e o).state.scene.locks.queue
       by_stop None = effect-fits e
-      by_stop (Some stopped) = all-fit (effect_unless old e (Some stopped))
+      by_stop (Some rejection) = all-fit (effect_unless old e (Some rejection))
 
 -- a request that ended is found by its number
 found-own : (m : Ended) (ms : List Ended) → HaveOwnNumbers ms → Contains ms m → find (is_of_ticket m.ticket) ms ≡ Some m

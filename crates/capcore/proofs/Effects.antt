@@ -16,33 +16,33 @@ use Rattle.capsteps.specs.Capevents.declared.event.Event.{Event}
 use Rattle.capsteps.specs.Capevents.declared.event.Event.TheVariants as event
 use Rattle.capsteps.specs.Capevents.declared.reply.Reply.{Reply}
 use Rattle.capsteps.specs.Capevents.declared.reply.Reply.TheVariants as reply
-use Rattle.capsteps.specs.Caprules.declared.stopped.Stopped.{Stopped}
-use Rattle.capsteps.specs.Caprules.declared.stopped.Stopped.TheVariants.{ByTest}
+use Rattle.capsteps.specs.Caprules.declared.rejection.Rejection.{Rejection}
+use Rattle.capsteps.specs.Caprules.declared.rejection.Rejection.TheVariants.{ByTest}
 use Rattle.capsteps.specs.Caprules.State.{State}
-use Rattle.capsteps.specs.Caprules.Judge.{stop, stop_reply, judged, asked_tests}
+use Rattle.capsteps.specs.Caprules.Judge.{rejection_of, rejection_reply, judged, asked_tests}
 use Rattle.capsteps.specs.Caprules.Needs.{Need, need}
 use Rattle.capsteps.specs.Caprules.Direct.{Says, IsDirect, direct, effect_unless, found, with_birth, owned_by, made_event}
-use Rattle.capsteps.proofs.Judging.{stopped, passed, direct-stopped, direct-passed}
+use Rattle.capsteps.proofs.Judging.{rejection, passed, direct-rejection, direct-passed}
 
 -- the tests behind policy, where what stands before them stops nothing
-module _ (old : State) (e : Event) (tests more : List Test) (needed : List Need) (splits : judged old.scene e ≡ stop old.scene tests needed more) (free : stop old.scene tests needed [] ≡ None) where
+module _ (old : State) (e : Event) (tests more : List Test) (needed : List Need) (splits : judged old.scene e ≡ rejection_of old.scene tests needed more) (free : rejection_of old.scene tests needed [] ≡ None) where
   rest : judged old.scene e ≡ option_map ByTest (first_failing more)
   rest = splits ∙ passed old.scene tests needed more free
 
   refused : (r : Refusal) → first_failing more ≡ Some r → IsDirect old e (reply.Refused r) old
-  refused r is = direct-stopped old e (ByTest r) (rest ∙ ap (option_map ByTest) is)
+  refused r is = direct-rejection old e (ByTest r) (rest ∙ ap (option_map ByTest) is)
 
   nothing : first_failing more ≡ None → judged old.scene e ≡ None
   nothing none = rest ∙ ap (option_map ByTest) none
 
-module _ (old : State) (client : ClientId) (ino : Ino) (name : List ℕ) (free : stop old.scene (asked_tests old.scene client ino.0) (need client ino.0 Snapshot ∷ []) [] ≡ None) where
+module _ (old : State) (client : ClientId) (ino : Ino) (name : List ℕ) (free : rejection_of old.scene (asked_tests old.scene client ino.0) (need client ino.0 Snapshot ∷ []) [] ≡ None) where
   pub snapshot-refused : (r : Refusal) → first_failing (new_snapshot_tests old.scene.tree ino.0 name) ≡ Some r → IsDirect old (event.MakeSnapshot client ino name) (reply.Refused r) old
   snapshot-refused r is = refused old (event.MakeSnapshot client ino name) (asked_tests old.scene client ino.0) (new_snapshot_tests old.scene.tree ino.0 name) (need client ino.0 Snapshot ∷ []) refl free r is
 
   pub snapshot-kept : (r : Refusal) → first_failing (old_snapshot_tests old.scene.tree ino.0 name) ≡ Some r → IsDirect old (event.RemoveSnapshot client ino name) (reply.Refused r) old
   snapshot-kept r is = refused old (event.RemoveSnapshot client ino name) (asked_tests old.scene client ino.0) (old_snapshot_tests old.scene.tree ino.0 name) (need client ino.0 Snapshot ∷ []) refl free r is
 
-module _ (old : State) (client : ClientId) (dir : Ino) (name : List ℕ) (mode : Mode) (free : stop old.scene (asked_tests old.scene client dir.0) (need client dir.0 Write ∷ []) [] ≡ None) where
+module _ (old : State) (client : ClientId) (dir : Ino) (name : List ℕ) (mode : Mode) (free : rejection_of old.scene (asked_tests old.scene client dir.0) (need client dir.0 Write ∷ []) [] ≡ None) where
   pub birth-refused : (kind : Kind) (r : Refusal) → first_failing (new_inode_tests old.scene.tree dir.0 name) ≡ Some r → IsDirect old (made_event kind client dir name mode) (reply.Refused r) old
   birth-refused File r is = refused old (event.Create client dir name mode) (asked_tests old.scene client dir.0) (new_inode_tests old.scene.tree dir.0 name) (need client dir.0 Write ∷ []) refl free r is
   birth-refused Directory r is = refused old (event.Mkdir client dir name mode) (asked_tests old.scene client dir.0) (new_inode_tests old.scene.tree dir.0 name) (need client dir.0 Write ∷ []) refl free r is
@@ -61,25 +61,25 @@ found-still : (s : State) (ino : Option ℕ) → s ≡ (found s ino).state
 found-still s None = refl
 found-still s (Some ino) = refl
 
-lookup-still : (s : State) (client : ClientId) (dir : Ino) (name : List ℕ) (o : Option Stopped) → s ≡ (effect_unless s (event.Lookup client dir name) o).state
+lookup-still : (s : State) (client : ClientId) (dir : Ino) (name : List ℕ) (o : Option Rejection) → s ≡ (effect_unless s (event.Lookup client dir name) o).state
 lookup-still s client dir name None = found-still s (child s.scene.tree.nodes dir.0 name)
-lookup-still s client dir name (Some stopped) = refl
+lookup-still s client dir name (Some rejection) = refl
 
 pub looked-up : (old : State) (client : ClientId) (dir : Ino) (name : List ℕ) (answer : Reply) → Says answer ≡ (direct old (event.Lookup client dir name)).answer
     → IsDirect old (event.Lookup client dir name) answer old
 looked-up old client dir name answer says = record { answer_is = says; state_is = lookup-still old client dir name (judged old.scene (event.Lookup client dir name)) }
 
 -- what stops a request at the inode that it names stops the event
-pub birth-stopped : (old : State) (kind : Kind) (client : ClientId) (dir : Ino) (name : List ℕ) (mode : Mode) (r : Stopped) → stop old.scene (asked_tests old.scene client dir.0) (need client dir.0 Write ∷ []) [] ≡ Some r → IsDirect old (made_event kind client dir name mode) (stop_reply r) old
-birth-stopped old File client dir name mode r is =
-    direct-stopped old (event.Create client dir name mode) r (stopped old.scene (asked_tests old.scene client dir.0) (need client dir.0 Write ∷ []) (new_inode_tests old.scene.tree dir.0 name) r is)
-birth-stopped old Directory client dir name mode r is =
-    direct-stopped old (event.Mkdir client dir name mode) r (stopped old.scene (asked_tests old.scene client dir.0) (need client dir.0 Write ∷ []) (new_inode_tests old.scene.tree dir.0 name) r is)
+pub birth-rejection : (old : State) (kind : Kind) (client : ClientId) (dir : Ino) (name : List ℕ) (mode : Mode) (r : Rejection) → rejection_of old.scene (asked_tests old.scene client dir.0) (need client dir.0 Write ∷ []) [] ≡ Some r → IsDirect old (made_event kind client dir name mode) (rejection_reply r) old
+birth-rejection old File client dir name mode r is =
+    direct-rejection old (event.Create client dir name mode) r (rejection old.scene (asked_tests old.scene client dir.0) (need client dir.0 Write ∷ []) (new_inode_tests old.scene.tree dir.0 name) r is)
+birth-rejection old Directory client dir name mode r is =
+    direct-rejection old (event.Mkdir client dir name mode) r (rejection old.scene (asked_tests old.scene client dir.0) (need client dir.0 Write ∷ []) (new_inode_tests old.scene.tree dir.0 name) r is)
 
-pub making-stopped : (old : State) (client : ClientId) (ino : Ino) (name : List ℕ) (r : Stopped) → stop old.scene (asked_tests old.scene client ino.0) (need client ino.0 Snapshot ∷ []) [] ≡ Some r → IsDirect old (event.MakeSnapshot client ino name) (stop_reply r) old
-making-stopped old client ino name r is =
-    direct-stopped old (event.MakeSnapshot client ino name) r (stopped old.scene (asked_tests old.scene client ino.0) (need client ino.0 Snapshot ∷ []) (new_snapshot_tests old.scene.tree ino.0 name) r is)
+pub making-rejection : (old : State) (client : ClientId) (ino : Ino) (name : List ℕ) (r : Rejection) → rejection_of old.scene (asked_tests old.scene client ino.0) (need client ino.0 Snapshot ∷ []) [] ≡ Some r → IsDirect old (event.MakeSnapshot client ino name) (rejection_reply r) old
+making-rejection old client ino name r is =
+    direct-rejection old (event.MakeSnapshot client ino name) r (rejection old.scene (asked_tests old.scene client ino.0) (need client ino.0 Snapshot ∷ []) (new_snapshot_tests old.scene.tree ino.0 name) r is)
 
-pub removing-stopped : (old : State) (client : ClientId) (ino : Ino) (name : List ℕ) (r : Stopped) → stop old.scene (asked_tests old.scene client ino.0) (need client ino.0 Snapshot ∷ []) [] ≡ Some r → IsDirect old (event.RemoveSnapshot client ino name) (stop_reply r) old
-removing-stopped old client ino name r is =
-    direct-stopped old (event.RemoveSnapshot client ino name) r (stopped old.scene (asked_tests old.scene client ino.0) (need client ino.0 Snapshot ∷ []) (old_snapshot_tests old.scene.tree ino.0 name) r is)
+pub removing-rejection : (old : State) (client : ClientId) (ino : Ino) (name : List ℕ) (r : Rejection) → rejection_of old.scene (asked_tests old.scene client ino.0) (need client ino.0 Snapshot ∷ []) [] ≡ Some r → IsDirect old (event.RemoveSnapshot client ino name) (rejection_reply r) old
+removing-rejection old client ino name r is =
+    direct-rejection old (event.RemoveSnapshot client ino name) r (rejection old.scene (asked_tests old.scene client ino.0) (need client ino.0 Snapshot ∷ []) (old_snapshot_tests old.scene.tree ino.0 name) r is)

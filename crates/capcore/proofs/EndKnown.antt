@@ -1,4 +1,4 @@
--- At the end of a step that touched some inodes it is known of each entry what its client is to know of.
+-- At the end of a step that affected some inodes it is known of each entry what its client is to know of.
 use Rattle.std.proofs.Common.{◌≡◌, ℕ, Bool, true, false, Some, List, Contains, sym, ap, subst, ◌∙◌, true≢false}
 use Rattle.std.proofs.lemmas.Bool.{false_from_ne_true}
 use Rattle.capbits.specs.declared.ids.Ino.{Ino}
@@ -10,27 +10,27 @@ use Rattle.capsteps.specs.Lockmachine.Scene.{told_set}
 use Rattle.capsteps.specs.Capevents.declared.outcome.Ended.{Ended}
 use Rattle.capsteps.specs.Caprules.State.{State}
 use Rattle.capsteps.specs.Caprules.Finish.{sizes_owed}
-use Rattle.capsteps.specs.Capacts.Known.{KnownSets, kept_of, known_in, AreKnown, StillKept, KeptAnew}
+use Rattle.capsteps.specs.Capacts.Known.{KnownSets, known_of, known_in, AreKnown, StillKnown, KnownAnew}
 use Rattle.capsteps.specs.Serves.{SettlesWith, EndsWith}
 use Rattle.capsteps.specs.Caprules.Sound.{IsSound}
-use Rattle.capsteps.specs.Touching.{Touches, Knows, told_then, finished_at}
+use Rattle.capsteps.specs.Affected.{Affects, Knows, told_then, finished_at}
 use Rattle.capsteps.proofs.Knowing.{still-known}
 use Rattle.capsteps.proofs.SameOff.{row_elsewhere}
 use Rattle.capsteps.proofs.SizesOwed.{sizes-known}
 
-module _ (before was now : KnownSets) (from : ℕ → Bool) (old touched : State) (sound : IsSound old) (old_table : IsTable old.scene.table) (table : IsTable touched.scene.table)
-    (touches : Touches from old touched) (known : AreKnown before old.scene) (still : StillKept old.scene.table touched.scene.table before was) (knows : Knows (known_in was) old.scene touched.scene.table)
-    (last : Scene) (told : List Ended) (ends : EndsWith from was now touched.scene last told) where
-  abbrev settles : SettlesWith ends.at from touched.scene ends.settled told ends.sized
+module _ (before was now : KnownSets) (from : ℕ → Bool) (old affected : State) (sound : IsSound old) (old_table : IsTable old.scene.table) (table : IsTable affected.scene.table)
+    (affects : Affects from old affected) (known : AreKnown before old.scene) (still : StillKnown old.scene.table affected.scene.table before was) (knows : Knows (known_in was) old.scene affected.scene.table)
+    (last : Scene) (told : List Ended) (ends : EndsWith from was now affected.scene last told) where
+  abbrev settles : SettlesWith ends.at from affected.scene ends.settled told ends.sized
   settles = ends.settles
 
   -- elsewhere entries are as they were
-  elsewhere : (row : EntryRow) → Contains touched.scene.table.rows row → from row.holder.ino.0 ≡ false → kept_of was row.holder ≡ Some (told_set old.scene row)
+  elsewhere : (row : EntryRow) → Contains affected.scene.table.rows row → from row.holder.ino.0 ≡ false → known_of was row.holder ≡ Some (told_set old.scene row)
   elsewhere row inside off =
-      let same_from = touches.same in
-      let inside_old : Contains old.scene.table.rows row = row_elsewhere from old.scene.table touched.scene.table same_from.entries row inside off in
-      still-known before was old.scene touched.scene.table known still row.holder row.entry row.entry
-      (ap entry_of (row_found touched.scene.table row table inside)) (ap entry_of (row_found old.scene.table row old_table inside_old))
+      let same_from = affects.same in
+      let inside_old : Contains old.scene.table.rows row = row_elsewhere from old.scene.table affected.scene.table same_from.entries row inside off in
+      still-known before was old.scene affected.scene.table known still row.holder row.entry row.entry
+      (ap entry_of (row_found affected.scene.table row table inside)) (ap entry_of (row_found old.scene.table row old_table inside_old))
 
   off_from : (row : EntryRow) → ends.at row.holder.ino.0 ≡ false → from row.holder.ino.0 ≡ false
   off_from row off = false_from_ne_true (from row.holder.ino.0) (λ is. let all = settles.settles in true≢false (sym (all.among row.holder.ino.0 is) ∙ off))
@@ -38,6 +38,6 @@ module _ (before was now : KnownSets) (from : ℕ → Bool) (old touched : State
   pub ends-known : AreKnown now last
   ends-known =
       subst (AreKnown now) (sym (ends.finished ∙ ap (λ (sized : List Ino). finished_at ends.at (known_in was) (sizes_owed sized ends.settled)) settles.sized_is))
-      (sizes-known ends.at from (known_in was) old touched settles.moves ends.settled sound ends.tree table touches knows settles.settles was now
+      (sizes-known ends.at from (known_in was) old affected settles.moves ends.settled sound ends.tree table affects knows settles.settles was now
       (λ row inside off. elsewhere row inside (off_from row off))
-      (subst (λ (sized : List Ino). KeptAnew (λ k. ends.at k.ino.0) (told_then (sizes_owed sized ends.settled)) (sizes_owed sized ends.settled).table was now) settles.sized_is ends.kept))
+      (subst (λ (sized : List Ino). KnownAnew (λ k. ends.at k.ino.0) (told_then (sizes_owed sized ends.settled)) (sizes_owed sized ends.settled).table was now) settles.sized_is ends.kept))

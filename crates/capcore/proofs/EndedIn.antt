@@ -13,7 +13,7 @@ use Rattle.capsteps.specs.Lockmachine.declared.scene.Scene.{Scene}
 use Rattle.capsteps.specs.Capevents.declared.outcome.Ended.{Ended}
 use Rattle.capsteps.specs.Caprules.Settle.{Made, Began, Gathered, Served, Makes, MakesAll, ended_in}
 use Rattle.capsteps.specs.Caprules.Step.{earlier}
-use Rattle.capsteps.specs.Capnotes.Untold.{HaveOwnNumbers, but_for}
+use Rattle.capsteps.specs.Capnotes.DueEndings.{HaveOwnNumbers, but_for}
 use Rattle.capsteps.proofs.Moved.{Waited, ended-waited}
 
 -- ---- lists that are filtered alike

@@ -29,11 +29,11 @@ use Rattle.capsteps.specs.Caprules.Judge.{judged}
 use Rattle.capsteps.specs.Caprules.Direct.{direct, effect_unless, says, with_flush}
 use Rattle.capsteps.specs.Capacts.Served.{change_call_tests}
 use Rattle.capsteps.specs.Caprules.Sound.{IsSound, AreGiven}
-use Rattle.capsteps.specs.Touching.{IsTouchedEntry, TouchesOne}
+use Rattle.capsteps.specs.Affected.{IsAffectedEntry, AffectsOne}
 use Rattle.capsteps.proofs.Capacts.Again.{change-passed}
 use Rattle.capsteps.proofs.OneChange.{by_change, alike_change, sound_change}
 use Rattle.capsteps.proofs.Moved.{sound-pinned}
-use Rattle.capsteps.proofs.Touched.{all-left, before-passed, after-passed, AreBelow}
+use Rattle.capsteps.proofs.EntryRequests.{all-left, before-passed, after-passed, AreBelow}
 
 known_change : (tree : Nodes) (ino : ℕ) (change : Change) (other : ℕ) → map.contains_key (tree_changed tree ino change).nodes other ≡ map.contains_key tree.nodes other
 known_change tree ino change other =
@@ -51,8 +51,8 @@ same-flush s k change =
     (same-tree k.ino.0 s (tree_changed s.tree k.ino.0 change) (λ other off. place_change s.tree k.ino.0 change other off) (λ other off. alike_change s.tree k.ino.0 other change off))
     (same-entries k.ino.0 changed (touched s.table k) (λ other off. refl))
 
-pub flush-touches : (old : State) (k : Holder) (change : Change) → IsSound old → IsTable old.scene.table → TouchesOne k.ino.0 old (with_flush old k change).scene
-flush-touches old k change sound table = record {
+pub flush-affects : (old : State) (k : Holder) (change : Change) → IsSound old → IsTable old.scene.table → AffectsOne k.ino.0 old (with_flush old k change).scene
+flush-affects old k change sound table = record {
   same = same-flush old.scene k change;
   states = refl;
   known = λ other. known_change old.scene.tree k.ino.0 change other;
@@ -60,7 +60,7 @@ flush-touches old k change sound table = record {
   waiting = sound.waiting;
   at_lock = λ part none. subst (IsQuiet old.scene k.ino.0 part) none (sound.at_rest.each k.ino.0 part);
   each =
-      All-filter (is_of_inode (record { 0 = k.ino.0 })) (IsTouchedEntry (with_flush old k change).scene) old.scene.table.rows
+      All-filter (is_of_inode (record { 0 = k.ino.0 })) (IsAffectedEntry (with_flush old k change).scene) old.scene.table.rows
       (all-left old (with_flush old k change).scene sound table refl refl (λ ino. known_change old.scene.tree k.ino.0 change ino));
   calm = λ row inside none. absurd (sound-pinned old sound row inside none);
 }

@@ -8,7 +8,7 @@ use Rattle.capsteps.specs.Caprules.State.{State}
 use Rattle.capsteps.specs.Caprules.Step.{Step}
 use Rattle.capsteps.specs.Caprules.Sound.{IsSound, AreGiven}
 use Rattle.capsteps.specs.Caprules.Numbers.{rows_of}
-use Rattle.capsteps.specs.Caprules.History.{Told, told, IsTold, IsOpening, HasNoStray, Replays}
+use Rattle.capsteps.specs.Caprules.History.{Recorded, recorded, IsRecorded, IsOpening, HasNoStray, Replays}
 use Rattle.capsteps.proofs.Capacts.Numbered.{numbered-nil, numbered-snoc}
 use Rattle.capsteps.proofs.ShownSteps.{step-shown}
 use Rattle.capcore.proofs.Sounding.{opening-sound, opening-given}
@@ -22,7 +22,7 @@ length-more [] row = refl
 length-more (r ∷ rows) row = let more = length-more rows row in omega (arith, more)
 
 -- a new core has the empty history
-pub first-told : (fs : List ℕ) (tree : Nodes) (s : State) (max_rows : ℕ) (changes : List ViewChange) → HasNoStray tree → IsOpening fs tree s → IsTold (told s [] max_rows changes)
+pub first-told : (fs : List ℕ) (tree : Nodes) (s : State) (max_rows : ℕ) (changes : List ViewChange) → HasNoStray tree → IsOpening fs tree s → IsRecorded (recorded s [] max_rows changes)
 first-told fs tree s max_rows changes none is = record {
   fs = fs;
   tree = tree;
@@ -40,8 +40,8 @@ pub given-more : (rows : List Row) (row : Row) (new : State) → AreGiven (lengt
 given-more rows row new = subst (λ n. AreGiven n new) (sym (length-more rows row))
 
 -- one step more, with its row, to a state that is sound
-pub more-told : (t : Told) (row : Row) (new : State) (changes : List ViewChange) → IsTold t → Step t.state row.event row.reply row.ended new → row.nth ≡ rows_of row.pass t.rows + 1 → length t.rows < t.max_rows → IsTable t.state.scene.table → IsSound new → AreGiven (length t.rows + 1) new →
-    IsTold (told new (t.rows ++ row ∷ []) t.max_rows changes)
+pub more-told : (t : Recorded) (row : Row) (new : State) (changes : List ViewChange) → IsRecorded t → Step t.state row.event row.reply row.ended new → row.nth ≡ rows_of row.pass t.rows + 1 → length t.rows < t.max_rows → IsTable t.state.scene.table → IsSound new → AreGiven (length t.rows + 1) new →
+    IsRecorded (recorded new (t.rows ++ row ∷ []) t.max_rows changes)
 more-told t row new changes is step nth less table sound given = record {
   fs = is.fs;
   tree = is.tree;

@@ -18,7 +18,7 @@ use Rattle.capsteps.specs.Lockmachine.declared.scene.Scene.{Scene}
 use Rattle.capsteps.specs.Capevents.declared.event.Event.{Event}
 use Rattle.capsteps.specs.Capevents.declared.event.Event.TheVariants as event
 use Rattle.capsteps.specs.Capevents.declared.event.OpenMode.{OpenMode}
-use Rattle.capsteps.specs.Caprules.declared.stopped.Stopped.{Stopped}
+use Rattle.capsteps.specs.Caprules.declared.rejection.Rejection.{Rejection}
 use Rattle.capsteps.specs.Caprules.State.{State}
 use Rattle.capsteps.specs.Caprules.Direct.{Direct, direct, effect, effect_unless, found, with_entry, with_opening}
 use Rattle.capsteps.specs.Caprules.Headline.{holds, is_due, IssuesExactly}
@@ -150,7 +150,7 @@ takes-only_so old e new issued k cap held gone = by_judged (judged old.scene e) 
     gone_first : holds (direct old e).state.scene k cap ≡ false
     gone_first = (or_parts (holds (direct old e).state.scene k cap) (is_due new k cap) (sym (issued k cap) ∙ gone)).0
 
-    by_judged : (o : Option Stopped) → judged old.scene e ≡ o → may_take e k cap ≡ true
+    by_judged : (o : Option Rejection) → judged old.scene e ≡ o → may_take e k cap ≡ true
     by_judged (Some x) is =
         let same_held : holds (direct old e).state.scene k cap ≡ holds old.scene k cap = ap (λ (d : Direct). holds d.state.scene k cap) (ap (effect_unless old e) is) in
         absurd (true≢false (sym held ∙ sym same_held ∙ gone_first))

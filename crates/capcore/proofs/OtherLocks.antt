@@ -16,7 +16,7 @@ use Rattle.capsteps.specs.Capevents.declared.event.Event.{Event}
 use Rattle.capsteps.specs.Capevents.declared.outcome.Ended.{Ended}
 use Rattle.capsteps.specs.Capevents.declared.reply.Reply.{Reply}
 use Rattle.capsteps.specs.Caprules.Direct.{Answer, Says, Shows, Gives, Awaits, direct, shown}
-use Rattle.capsteps.specs.Caprules.Finish.{is_kept, issue, sizes_owed}
+use Rattle.capsteps.specs.Caprules.Finish.{is_in_use, issue, sizes_owed}
 use Rattle.capsteps.specs.Caprules.Headline.{ByMoves, OtherLocksStay, is_of_lock_at}
 use Rattle.capsteps.specs.Caprules.Settle.{Made, Began, Gathered, Served, Makes, MakesAll, sized_in}
 use Rattle.capsteps.specs.Caprules.State.{State}
@@ -76,5 +76,5 @@ other-locks old e answer ended new (moves, by) = (
       let at_end : lock_at last.scene.locks ino part ≡ Some lock =
       sym (ap (λ (s : State). lock_at s.scene.locks ino part) by.new_is ∙ ap (λ (locks : LockMap). lock_at locks ino part) (shown_locks (direct old e).answer last)) ∙ there in
       sym (all_stay (direct old e).state.scene moves by.settled ino part settles.made off)
-      ∙ lock_before by.settled (is_kept (issue (sizes_owed (sized_in moves) by.settled))) ino part lock at_end,
+      ∙ lock_before by.settled (is_in_use (issue (sizes_owed (sized_in moves) by.settled))) ino part lock at_end,
 )

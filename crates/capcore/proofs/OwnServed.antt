@@ -34,12 +34,12 @@ use Rattle.capsteps.proofs.Lockmachine.Rest.{same_part_is}
 use Rattle.capsteps.specs.Capevents.declared.outcome.Outcome.{Outcome}
 use Rattle.capsteps.specs.Capevents.declared.reply.Reply.{Reply}
 use Rattle.capsteps.specs.Capevents.declared.reply.Reply.TheVariants as reply
-use Rattle.capsteps.specs.Caprules.declared.stopped.Stopped.{Stopped}
+use Rattle.capsteps.specs.Caprules.declared.rejection.Rejection.{Rejection}
 use Rattle.capsteps.specs.Capevents.Replies.{outcome_reply}
 use Rattle.capsteps.specs.Caprules.Direct.{awaited_as}
-use Rattle.capsteps.specs.Capnotes.Untold.{is_of_ticket}
-use Rattle.capsteps.specs.Caprules.Headline.{is_stop}
-use Rattle.capsteps.specs.Caprules.Serving.{judged_again, told_of, passed_as, outcome_unless, MayEndAs, As_judged, Without_memory}
+use Rattle.capsteps.specs.Capnotes.DueEndings.{is_of_ticket}
+use Rattle.capsteps.specs.Caprules.Headline.{is_rejection}
+use Rattle.capsteps.specs.Caprules.Serving.{judged_again, values_outcome, passed_as, outcome_unless, MayEndAs, As_judged, Without_memory}
 use Rattle.capsteps.specs.Caprules.Settle.{Made, Began, Gathered, Served, MakesAll, ended_in}
 use Rattle.capsteps.proofs.Stopping.{no_moves}
 
@@ -49,11 +49,11 @@ module _ (ticket : Ticket) where
   abbrev answered : Outcome → Reply
   answered o = unwrap_or (outcome_reply o) (reply.Waiting ticket)
 
-  told-unstopped : (part : Part) (o : Option Node) → is_stop (answered (told_of part o)) ≡ false
+  told-unstopped : (part : Part) (o : Option Node) → is_rejection (answered (values_outcome part o)) ≡ false
   told-unstopped part None = refl
   told-unstopped part (Some node) = refl
 
-  passed-unstopped : (s : Scene) (ino : ℕ) (ask : Ask) → is_stop (answered (passed_as s ino ask)) ≡ false
+  passed-unstopped : (s : Scene) (ino : ℕ) (ask : Ask) → is_rejection (answered (passed_as s ino ask)) ≡ false
   passed-unstopped s ino (Get part) = told-unstopped part (map.get s.tree.nodes ino)
   passed-unstopped s ino (Alter change) = refl
   passed-unstopped s ino Unlink = refl
@@ -61,8 +61,8 @@ module _ (ticket : Ticket) where
   passed-unstopped s ino (Rename dir name) = refl
 
   -- it is neither denied nor refused
-  unstopped : (s : Scene) (q : Request) (o : Outcome) → judged_again s q ≡ None → MayEndAs s q o → is_stop (answered o) ≡ false
-  unstopped s q o free (As_judged) = ap (λ (j : Option Stopped). is_stop (answered (outcome_unless s q j))) free ∙ passed-unstopped s q.ino.0 q.ask
+  unstopped : (s : Scene) (q : Request) (o : Outcome) → judged_again s q ≡ None → MayEndAs s q o → is_rejection (answered o) ≡ false
+  unstopped s q o free (As_judged) = ap (λ (j : Option Rejection). is_rejection (answered (outcome_unless s q j))) free ∙ passed-unstopped s q.ino.0 q.ask
   unstopped s q o free (Without_memory nothing takes) = refl
 
 -- ---- a request that has just come to wait
@@ -206,27 +206,27 @@ module _ (old : Scene) (client : ClientId) (inode : Ino) (ask : Ask) (rest : IsA
 
   -- ---- the step
 
-  abbrev NotStopped : List Made → Type 0
-  NotStopped moves = is_stop (awaited_as q.ticket (find (is_of_ticket q.ticket) (ended_in moves))) ≡ false
+  abbrev NotRejected : List Made → Type 0
+  NotRejected moves = is_rejection (awaited_as q.ticket (find (is_of_ticket q.ticket) (ended_in moves))) ≡ false
 
   module _ (free : judged_again old q ≡ None) (nobody : first_for old.locks.queue ino part ≡ None) where
-    not-stopped : (locks : LockMap) (moves : List Made) (last : Scene) → IsAlone locks → MakesAll (now locks) moves last → NotStopped moves
-    not-stopped locks [] last alone made = refl
-    not-stopped locks (Began i p to ∷ moves) last alone (mid, (first, is), made) =
+    not-rejection : (locks : LockMap) (moves : List Made) (last : Scene) → IsAlone locks → MakesAll (now locks) moves last → NotRejected moves
+    not-rejection locks [] last alone made = refl
+    not-rejection locks (Began i p to ∷ moves) last alone (mid, (first, is), made) =
         let may = subst (IsMove (now locks)) first (first_is (now locks)) in
-        not-stopped (begun_locks locks i.0 p to) moves last
+        not-rejection (begun_locks locks i.0 p to) moves last
         (still_alone locks alone i.0 p (Gather (present_state (lock_at locks i.0 p)) to) (begins_here locks alone (i.0, p) may.0) (moved-kept locks (Begin i p to) alone.order))
         (subst (λ (s : Scene). MakesAll s moves last) is made)
-    not-stopped locks (Gathered i p ∷ moves) last alone (mid, (first, is), made) =
+    not-rejection locks (Gathered i p ∷ moves) last alone (mid, (first, is), made) =
         let may = subst (IsMove (now locks)) first (first_is (now locks)) in
-        not-stopped (gathered_locks locks i.0 p) moves last
+        not-rejection (gathered_locks locks i.0 p) moves last
         (still_alone locks alone i.0 p (Stable (coming_state (lock_at locks i.0 p))) (ends_here locks alone (i.0, p) may) (moved-kept locks (End i p) alone.order))
         (subst (λ (s : Scene). MakesAll s moves last) is made)
-    not-stopped locks (Served r o ∷ moves) last alone (mid, (first, found, may, is), made) =
+    not-rejection locks (Served r o ∷ moves) last alone (mid, (first, found, may, is), made) =
         let inside : Contains locks.queue q = subst (λ rs. Contains rs q) (sym alone.same_queue) (Contains-push old.locks.queue q) in
         let itself : r ≡ q = served-itself locks alone nobody r first found inside in
         let number : (r.ticket.0 == q.ticket.0) ≡ true = ap (λ (x : Request). x.ticket.0 == q.ticket.0) itself ∙ nat_eq_equiv.refl q.ticket.0 in
-        ap (λ b. is_stop (awaited_as q.ticket (cond b (Some (record { client = r.client; ticket = r.ticket; outcome = o })) (find (is_of_ticket q.ticket) (ended_in moves))))) number
+        ap (λ b. is_rejection (awaited_as q.ticket (cond b (Some (record { client = r.client; ticket = r.ticket; outcome = o })) (find (is_of_ticket q.ticket) (ended_in moves))))) number
         ∙ unstopped q.ticket (now locks) q o free (subst (λ (x : Request). MayEndAs (now locks) x o) itself may)
 
   module _ (order : IsLockMap (with_request old.locks client inode ask)) where
@@ -248,12 +248,12 @@ module _ (old : Scene) (client : ClientId) (inode : Ino) (ask : Ask) (rest : IsA
       ] refl;
     }
 
-    pub own-not_stopped : (moves : List Made) (last : Scene) → judged_again old q ≡ None → MakesAll (now waiting) moves last → NotStopped moves
+    pub own-not_stopped : (moves : List Made) (last : Scene) → judged_again old q ≡ None → MakesAll (now waiting) moves last → NotRejected moves
     own-not_stopped moves last free made = by_lock (lock_at old.locks ino part) refl (rest.each ino part)
       where
-        by_lock : (o : Option LockState) → lock_at old.locks ino part ≡ o → IsQuiet old ino part o → NotStopped moves
-        by_lock None is quiet = not-stopped free quiet waiting moves last alone-first made
-        by_lock (Some (Stable state)) is quiet = not-stopped free quiet.1 waiting moves last alone-first made
+        by_lock : (o : Option LockState) → lock_at old.locks ino part ≡ o → IsQuiet old ino part o → NotRejected moves
+        by_lock None is quiet = not-rejection free quiet waiting moves last alone-first made
+        by_lock (Some (Stable state)) is quiet = not-rejection free quiet.1 waiting moves last alone-first made
         by_lock (Some (Gather from to)) is quiet =
             let none = no_moves (now waiting) moves last (settled (now waiting) (rests-on (subst (IsQuiet (now waiting) ino part) (sym is) quiet))) made in
-            subst NotStopped (sym none.0) refl
+            subst NotRejected (sym none.0) refl

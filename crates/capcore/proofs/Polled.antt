@@ -13,14 +13,14 @@ use Rattle.capsteps.specs.Capevents.declared.outcome.Message.{Message}
 use Rattle.capsteps.specs.Capevents.declared.reply.Reply.{Reply}
 use Rattle.capsteps.specs.Capevents.declared.reply.Reply.TheVariants as reply
 use Rattle.capsteps.specs.declared.said.Said.{Said}
-use Rattle.capsteps.specs.Caprules.declared.stopped.Stopped.{Stopped}
+use Rattle.capsteps.specs.Caprules.declared.rejection.Rejection.{Rejection}
 use Rattle.capsteps.specs.Caprules.State.{State}
 use Rattle.capsteps.specs.Answered.{IsAnswered}
-use Rattle.capsteps.specs.Caprules.Judge.{judged, stop_by, first_denied}
+use Rattle.capsteps.specs.Caprules.Judge.{judged, rejection_by, first_denied}
 use Rattle.capsteps.specs.Caprules.Direct.{Direct, Gives, direct, effect_unless, reply_of, shown}
 use Rattle.capsteps.specs.Caprules.Headline.{IssuesExactly}
 use Rattle.capsteps.specs.Caprules.Messages.{first_messages, with_given, after_messages}
-use Rattle.capsteps.specs.Capnotes.Untold.{is_left}
+use Rattle.capsteps.specs.Capnotes.DueEndings.{is_left}
 use Rattle.capsteps.specs.Caprules.Settle.{Settles}
 use Rattle.capsteps.specs.Caprules.Sound.{IsSound, AreGiven}
 use Rattle.capsteps.specs.Caprules.Step.{Step, all_ended, state_after}
@@ -34,8 +34,8 @@ module _ (old : State) (sound : IsSound old) (table : IsTable old.scene.table) (
   poll = event.Poll client max
 
   -- by itself it changes nothing
-  same_state : (o : Option Stopped) → (effect_unless old poll o).state ≡ old
-  same_state (Some stopped) = refl
+  same_state : (o : Option Rejection) → (effect_unless old poll o).state ≡ old
+  same_state (Some rejection) = refl
   same_state None = refl
 
   -- ---- where the client has an open session
@@ -69,7 +69,7 @@ module _ (old : State) (sound : IsSound old) (table : IsTable old.scene.table) (
       here = record { state = old; answer = Gives client max; dropped = [] }
 
       by_itself : direct old poll ≡ here
-      by_itself = ap (λ o. effect_unless old poll (stop_by old.scene o (first_denied old.scene []) (first_failing []))) is
+      by_itself = ap (λ o. effect_unless old poll (rejection_by old.scene o (first_denied old.scene []) (first_failing []))) is
 
       nothing_left : state_after old here [] old.scene ≡ old
       nothing_left = λ i. record old { scene = sound-ends old sound table i; messages = append-nil old.messages i }

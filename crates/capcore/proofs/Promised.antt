@@ -24,22 +24,22 @@ use Rattle.capsteps.specs.Capevents.declared.reply.Reply.{Reply}
 use Rattle.capsteps.specs.Capevents.declared.reply.Reply.TheVariants as reply
 use Rattle.capsteps.specs.Caprules.State.{State}
 use Rattle.capbits.specs.Refusal.{first_failing}
-use Rattle.capsteps.specs.Caprules.Judge.{judged, before, needs, after, first_denied, stop_by}
+use Rattle.capsteps.specs.Caprules.Judge.{judged, before, needs, after, first_denied, rejection_by}
 use Rattle.capsteps.specs.Caprules.Needs.{Need}
 use Rattle.capsteps.specs.Capevents.declared.outcome.Ended.{Ended}
-use Rattle.capsteps.specs.Caprules.declared.stopped.Stopped.{Stopped}
-use Rattle.capsteps.specs.Caprules.declared.stopped.Stopped.TheVariants.{ByPolicy, ByTest}
+use Rattle.capsteps.specs.Caprules.declared.rejection.Rejection.{Rejection}
+use Rattle.capsteps.specs.Caprules.declared.rejection.Rejection.TheVariants.{ByPolicy, ByTest}
 use Rattle.capsteps.specs.Caprules.Direct.{Direct, effect, effect_unless, found, direct, opened_as, reply_of, IsDirect}
 use Rattle.capsteps.specs.Caprules.Settle.{Made, MakesAll, ended_in}
-use Rattle.capsteps.specs.Touching.{asks_for}
-use Rattle.capcore.proofs.Asked.{asking, asking-stop, asking-direct, asking-again, order-of_ask}
+use Rattle.capsteps.specs.Affected.{asks_for}
+use Rattle.capcore.proofs.Asked.{asking, asking-rejection, asking-direct, asking-again, order-of_ask}
 use Rattle.capcore.proofs.OwnServed.{own-not_stopped}
 use Rattle.capsteps.specs.Caprules.Step.{Step, state_after}
-use Rattle.capsteps.proofs.Stopping.{stopped-only}
+use Rattle.capsteps.proofs.Stopping.{rejection-only}
 use Rattle.capsteps.specs.Caprules.Finish.{due}
 use Rattle.capsteps.specs.Caprules.Sound.{IsSoundEntry, IsSound}
 use Rattle.capsteps.proofs.LeftAlone.{found-contains}
-use Rattle.capsteps.specs.Caprules.Headline.{DeniedExactly, DeniesByName, IssuesExactly, is_stop}
+use Rattle.capsteps.specs.Caprules.Headline.{DeniedExactly, DeniesByName, IssuesExactly, is_rejection}
 
 -- ---- an event that nothing stops
 
@@ -48,33 +48,33 @@ module _ (old last : State) (ended : List Ended) where
   abbrev read_off : Direct → Reply
   read_off d = reply_of last ended d.answer
 
-  lookup-no_stop : (o : Option ℕ) → is_stop (read_off (found old o)) ≡ false
-  lookup-no_stop None = refl
-  lookup-no_stop (Some ino) = refl
+  lookup-not_rejected : (o : Option ℕ) → is_rejection (read_off (found old o)) ≡ false
+  lookup-not_rejected None = refl
+  lookup-not_rejected (Some ino) = refl
 
-  opened-no_stop : (o : Option EntryRow) → is_stop (opened_as last.scene o) ≡ false
-  opened-no_stop None = refl
-  opened-no_stop (Some row) = refl
+  opened-not_rejected : (o : Option EntryRow) → is_rejection (opened_as last.scene o) ≡ false
+  opened-not_rejected None = refl
+  opened-not_rejected (Some row) = refl
 
   -- one that waits for no lock
-  effect-no_stop : (e : Event) → asks_for e ≡ None → is_stop (read_off (effect old e)) ≡ false
-  effect-no_stop (event.Lookup client dir name) none = lookup-no_stop (child old.scene.tree.nodes dir.0 name)
-  effect-no_stop (event.Open client ino mode) none = opened-no_stop (find (is_row_of (holder client ino)) last.scene.table.rows)
-  effect-no_stop (event.Want client ino caps) none = opened-no_stop (find (is_row_of (holder client ino)) last.scene.table.rows)
-  effect-no_stop (event.Get client ino part) none = absurd (none-some (holder client ino, Get part) (sym none))
-  effect-no_stop (event.Alter client ino change) none = absurd (none-some (holder client ino, Alter change) (sym none))
-  effect-no_stop (event.Unlink client ino) none = absurd (none-some (holder client ino, Unlink) (sym none))
-  effect-no_stop (event.Rmdir client ino) none = absurd (none-some (holder client ino, Rmdir) (sym none))
-  effect-no_stop (event.Rename client ino dir name) none = absurd (none-some (holder client ino, Rename dir name) (sym none))
-  effect-no_stop e none = refl
+  effect-not_rejected : (e : Event) → asks_for e ≡ None → is_rejection (read_off (effect old e)) ≡ false
+  effect-not_rejected (event.Lookup client dir name) none = lookup-not_rejected (child old.scene.tree.nodes dir.0 name)
+  effect-not_rejected (event.Open client ino mode) none = opened-not_rejected (find (is_row_of (holder client ino)) last.scene.table.rows)
+  effect-not_rejected (event.Want client ino caps) none = opened-not_rejected (find (is_row_of (holder client ino)) last.scene.table.rows)
+  effect-not_rejected (event.Get client ino part) none = absurd (none-some (holder client ino, Get part) (sym none))
+  effect-not_rejected (event.Alter client ino change) none = absurd (none-some (holder client ino, Alter change) (sym none))
+  effect-not_rejected (event.Unlink client ino) none = absurd (none-some (holder client ino, Unlink) (sym none))
+  effect-not_rejected (event.Rmdir client ino) none = absurd (none-some (holder client ino, Rmdir) (sym none))
+  effect-not_rejected (event.Rename client ino dir name) none = absurd (none-some (holder client ino, Rename dir name) (sym none))
+  effect-not_rejected e none = refl
 
 -- one that waits for a lock: if it is served in the step, then on the tree and the sessions on which it came
-asking-no_stop : (old last : State) (e : Event) (k : Holder) (ask : Ask) (moves : List Made) (s : Scene) → IsSound old → IsLockMap old.scene.locks → asks_for e ≡ Some (k, ask) → judged old.scene e ≡ None
-    → MakesAll (direct old e).state.scene moves s → is_stop (reply_of last (ended_in moves) (effect old e).answer) ≡ false
-asking-no_stop old last e k ask moves s sound order is free made =
+asking-not_rejected : (old last : State) (e : Event) (k : Holder) (ask : Ask) (moves : List Made) (s : Scene) → IsSound old → IsLockMap old.scene.locks → asks_for e ≡ Some (k, ask) → judged old.scene e ≡ None
+    → MakesAll (direct old e).state.scene moves s → is_rejection (reply_of last (ended_in moves) (effect old e).answer) ≡ false
+asking-not_rejected old last e k ask moves s sound order is free made =
     let a = asking e k ask is in
-    let passed = sym (asking-stop e k ask old.scene is) ∙ free in
-    ap (λ (d : Direct). is_stop (reply_of last (ended_in moves) d.answer)) (a.effect_is old)
+    let passed = sym (asking-rejection e k ask old.scene is) ∙ free in
+    ap (λ (d : Direct). is_rejection (reply_of last (ended_in moves) d.answer)) (a.effect_is old)
     ∙ own-not_stopped old.scene k.client k.ino ask sound.at_rest (order-of_ask old.scene k ask order passed) moves s (asking-again old.scene k ask passed)
     (subst (λ (d : Direct). MakesAll d.state.scene moves s) (asking-direct old e k ask is free) made)
 
@@ -82,11 +82,11 @@ asking-no_stop old last e k ask moves s sound order is free made =
 
 module _ (old last : State) (ended : List Ended) (e : Event) where
   answered_by : Option Refusal → Option Need → Option Refusal → Reply
-  answered_by o d l = read_off old last ended (effect_unless old e (stop_by old.scene o d l))
+  answered_by o d l = read_off old last ended (effect_unless old e (rejection_by old.scene o d l))
 
   -- what nothing stops is answered neither with a denial nor with a refusal
   IsFree : Option Refusal → Option Need → Option Refusal → Type 0
-  IsFree o d l = stop_by old.scene o d l ≡ None → is_stop (read_off old last ended (effect old e)) ≡ false
+  IsFree o d l = rejection_by old.scene o d l ≡ None → is_rejection (read_off old last ended (effect old e)) ≡ false
 
   Cause : Option Refusal → Option Need → Access → List Rule → Type 0
   Cause o d access rules = (n : Need) × (o ≡ None) × (d ≡ Some n) × (access ≡ n.access) × (rules ≡ failures old.scene.fs old.scene.tree old.scene.sessions n.holder n.access)
@@ -99,7 +99,7 @@ module _ (old last : State) (ended : List Ended) (e : Event) where
       let rs : failures old.scene.fs old.scene.tree old.scene.sessions n.holder n.access ≡ rules = cc in
       (n, refl, refl, sym accesses, sym rs)
   cause None None (Some r) access rules free is = cc
-  cause None None None access rules free is = absurd (true≢false (sym (ap is_stop is) ∙ free refl))
+  cause None None None access rules free is = absurd (true≢false (sym (ap is_rejection is) ∙ free refl))
 
   effect_of : (o : Option Refusal) (d : Option Need) (l : Option Refusal) (n : Need) → o ≡ None → d ≡ Some n → (access : Access) × (rules : List Rule) × (answered_by o d l ≡ reply.Denied access rules)
   unfolding answered_by
@@ -107,7 +107,7 @@ module _ (old last : State) (ended : List Ended) (e : Event) where
   effect_of None None l n none some = cc
   effect_of None (Some m) l n none some = (m.access, failures old.scene.fs old.scene.tree old.scene.sessions m.holder m.access, refl)
 
-  stops : (o : Option Refusal) (d : Option Need) (l : Option Refusal) → IsFree o d l → is_stop (answered_by o d l) ≡ true → (stopped : Stopped) × (stop_by old.scene o d l ≡ Some stopped)
+  stops : (o : Option Refusal) (d : Option Need) (l : Option Refusal) → IsFree o d l → is_rejection (answered_by o d l) ≡ true → (rejection : Rejection) × (rejection_by old.scene o d l ≡ Some rejection)
   unfolding answered_by IsFree
   stops (Some r) d l free is = (ByTest r, refl)
   stops None (Some n) l free is = (ByPolicy n.access (failures old.scene.fs old.scene.tree old.scene.sessions n.holder n.access), refl)
@@ -135,17 +135,17 @@ module _ (old : State) (e : Event) (answer : Reply) (done : List Ended) (new : S
   unfolding answered_by o d l last ended
   answered = let by = step.1 in by.answer_is
 
-  no_stop-by : (a : Option (Holder × Ask)) → asks_for e ≡ a → judged old.scene e ≡ None → is_stop (read_off old last ended (effect old e)) ≡ false
+  not_rejected-by : (a : Option (Holder × Ask)) → asks_for e ≡ a → judged old.scene e ≡ None → is_rejection (read_off old last ended (effect old e)) ≡ false
   unfolding ended
-  no_stop-by None is none = effect-no_stop old last ended e is
-  no_stop-by (Some (k, ask)) is none =
+  not_rejected-by None is none = effect-not_rejected old last ended e is
+  not_rejected-by (Some (k, ask)) is none =
       let by = step.1 in
       let settles = by.settles in
-      asking-no_stop old last e k ask step.0 by.settled sound order is none settles.made
+      asking-not_rejected old last e k ask step.0 by.settled sound order is none settles.made
 
   free : IsFree old last ended e o d l
   unfolding IsFree o d l
-  free none = no_stop-by (asks_for e) refl none
+  free none = not_rejected-by (asks_for e) refl none
 
   pub denied-exactly : DeniedExactly old.scene e answer
   unfolding Cause o d l
@@ -158,11 +158,11 @@ module _ (old : State) (e : Event) (answer : Reply) (done : List Ended) (new : S
   unfolding Cause o d l
   denies-by_name access rules at = let c = cause old last ended e o d l access rules free (sym answered ∙ at) in (c.0, (c.1, c.2), c.3, c.4)
 
-  pub stopped-unchanged : IsTable old.scene.table → IsTrue (is_stop answer) → new ≡ old
+  pub rejection-unchanged : IsTable old.scene.table → IsTrue (is_rejection answer) → new ≡ old
   unfolding o d l
-  stopped-unchanged table h =
-      let s = stops old last ended e o d l free (ap is_stop (sym answered) ∙ h) in
-      let only = stopped-only old new e s.0 answer done sound table s.1 step in
+  rejection-unchanged table h =
+      let s = stops old last ended e o d l free (ap is_rejection (sym answered) ∙ h) in
+      let only = rejection-only old new e s.0 answer done sound table s.1 step in
       only.2
 
 -- ---- caps

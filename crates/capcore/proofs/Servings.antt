@@ -14,9 +14,9 @@ use Rattle.capsteps.specs.Capevents.declared.outcome.Outcome.{Outcome}
 use Rattle.capsteps.specs.Capevents.declared.outcome.Outcome.TheVariants as outcome
 use Rattle.capbits.specs.declared.refusal.Refusal.{Refusal}
 use Rattle.capbits.specs.Refusal.{first_failing}
-use Rattle.capsteps.specs.Caprules.Judge.{first_denied, stop_by}
+use Rattle.capsteps.specs.Caprules.Judge.{first_denied, rejection_by}
 use Rattle.capsteps.specs.Caprules.Needs.{Need}
-use Rattle.capsteps.specs.Caprules.Serving.{MayEndAs, As_judged, Without_memory, told_of, passed_as, outcome_unless}
+use Rattle.capsteps.specs.Caprules.Serving.{MayEndAs, As_judged, Without_memory, values_outcome, passed_as, outcome_unless}
 use Rattle.capsteps.specs.Caprules.Asks.{ask_before, ask_needs, ask_after}
 use Rattle.capsteps.specs.Caprules.Settle.{Made, Began, Gathered, Served, Makes, MakesAll}
 use Rattle.capsteps.specs.Caprules.Headline.{ServedDenied, ServedByName, EachServing}
@@ -24,7 +24,7 @@ use Rattle.capsteps.specs.Caprules.Headline.{ServedDenied, ServedByName, EachSer
 -- ---- one serving
 
 -- a request that nothing stops is not denied
-told-not_denied : (part : Part) (o : Option Node) (access : Access) (rules : List Rule) → told_of part o ≢ outcome.Denied access rules
+told-not_denied : (part : Part) (o : Option Node) (access : Access) (rules : List Rule) → values_outcome part o ≢ outcome.Denied access rules
 told-not_denied part None access rules is = absurd (cc)
 told-not_denied part (Some node) access rules is = absurd (cc)
 
@@ -37,7 +37,7 @@ passed-not_denied s ino (Rename dir name) access rules is = absurd (cc)
 
 module _ (s : Scene) (q : Request) where
   abbrev ended_by : Option Refusal → Option Need → Option Refusal → Outcome
-  ended_by o d l = outcome_unless s q (stop_by s o d l)
+  ended_by o d l = outcome_unless s q (rejection_by s o d l)
 
   -- why it is denied
   abbrev Cause : Option Refusal → Option Need → Access → List Rule → Type 0
@@ -57,7 +57,7 @@ module _ (s : Scene) (q : Request) where
   effect_of None None l n none some = absurd (cc)
   effect_of None (Some m) l n none some = (m.access, failures s.fs s.tree s.sessions m.holder m.access, refl)
 
-  unstopped : (o : Option Refusal) (d : Option Need) (l : Option Refusal) (n : Need) → stop_by s o d l ≡ None → o ≡ None → d ≡ Some n → ⊥
+  unstopped : (o : Option Refusal) (d : Option Need) (l : Option Refusal) (n : Need) → rejection_by s o d l ≡ None → o ≡ None → d ≡ Some n → ⊥
   unstopped (Some r) d l n free none some = absurd (cc)
   unstopped None None l n free none some = absurd (cc)
   unstopped None (Some m) l n free none some = absurd (cc)

@@ -22,12 +22,12 @@ use Rattle.captable.proofs.ByHolder.{entry_at-changed}
 use Rattle.captable.proofs.ByHolder.{row_of-entry}
 use Rattle.capsteps.specs.Lockmachine.declared.scene.Scene.{Scene}
 use Rattle.capsteps.specs.Lockmachine.Scene.{against}
-use Rattle.capsteps.specs.Lockmachine.Told.{is_taken}
+use Rattle.capsteps.specs.Lockmachine.Revoked.{is_revoked}
 use Rattle.capsteps.proofs.Lockmachine.Told.{has-against, has-told, pin-takes_all}
 use Rattle.capsteps.specs.Capevents.declared.event.Event.{Event}
 use Rattle.capsteps.specs.Capevents.declared.event.Event.TheVariants as event
-use Rattle.capsteps.specs.Caprules.declared.stopped.Stopped.{Stopped}
-use Rattle.capsteps.specs.declared.touch.Touch.TheVariants.{Ack}
+use Rattle.capsteps.specs.Caprules.declared.rejection.Rejection.{Rejection}
+use Rattle.capsteps.specs.declared.entry_request.EntryRequest.TheVariants.{Ack}
 use Rattle.capsteps.specs.Caprules.Direct.{Direct, direct, effect_unless}
 use Rattle.capsteps.specs.Caprules.Headline.{holds}
 use Rattle.capsteps.specs.Caprules.Judge.{judged, revoked_of}
@@ -39,7 +39,7 @@ use Rattle.capsteps.proofs.LeftAlone.{found-contains}
 use Rattle.capsteps.proofs.Placed.{told-permitted}
 use Rattle.capsteps.proofs.Revoking.{revoked-found}
 use Rattle.capsteps.proofs.ShownSteps.{at}
-use Rattle.capsteps.proofs.Touched.{touched-tests}
+use Rattle.capsteps.proofs.EntryRequests.{affected-tests}
 
 pub shows-told : (rows : List Row) (s : State) → IsSound s → AreShown rows s.scene → ShowsWhatIsTold rows s.scene
 shows-told rows s sound was k e there none_due =
@@ -99,7 +99,7 @@ module _ (rows : List Row) (old : State) (sound : IsSound old) (was : AreShown r
     -- the number is that of the last revocation at least, and the client was told of it
     was_told : e.revoke_seq ≤ e.told_seq
     was_told =
-        let tests = touched-tests old.scene client ino (Ack seq) free in
+        let tests = affected-tests old.scene client ino (Ack seq) free in
         let one = passed-if _ refusal.NoEntry _ tests in
         let two = passed-if _ refusal.NothingToAck _ one.1 in
         let three = passed-if _ refusal.BadSeq _ two.1 in
@@ -127,14 +127,14 @@ module _ (rows : List Row) (old : State) (sound : IsSound old) (was : AreShown r
     taken_unshown : (cap : Cap) → has e.held cap ≡ true → holds (direct old ack).state.scene k cap ≡ false → has (shown_of k rows) cap ≡ false
     taken_unshown cap held gone =
         let is = was k e there in
-        not_shown (has (shown_of k rows) cap) (has e.held cap) (is_taken old.scene k cap)
+        not_shown (has (shown_of k rows) cap) (has e.held cap) (is_revoked old.scene k cap)
         (λ h. sym (has-told old.scene (at k e) cap) ∙ is.none_lost was_told cap h)
         (sym (has-against old.scene (at k e) cap) ∙ revoked_is cap held gone)
 
   takes-unshown : (cap : Cap) → holds old.scene k cap ≡ true → holds (direct old ack).state.scene k cap ≡ false → has (shown_of k rows) cap ≡ false
   takes-unshown cap held gone = by_judged (judged old.scene ack) refl
     where
-      by_judged : (o : Option Stopped) → judged old.scene ack ≡ o → has (shown_of k rows) cap ≡ false
+      by_judged : (o : Option Rejection) → judged old.scene ack ≡ o → has (shown_of k rows) cap ≡ false
       by_judged (Some x) is =
           let same : holds (direct old ack).state.scene k cap ≡ holds old.scene k cap = ap (λ (d : Direct). holds d.state.scene k cap) (ap (effect_unless old ack) is) in
           absurd (true≢false (sym held ∙ sym same ∙ gone))

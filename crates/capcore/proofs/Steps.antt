@@ -11,8 +11,8 @@ use Rattle.capsteps.specs.Capevents.declared.event.Event.TheVariants as event
 use Rattle.capsteps.specs.Capevents.declared.outcome.Ended.{Ended}
 use Rattle.capsteps.specs.Capevents.declared.reply.Reply.{Reply}
 use Rattle.capsteps.specs.declared.said.Said.{Said}
-use Rattle.capsteps.specs.Caprules.declared.stopped.Stopped.{Stopped}
-use Rattle.capsteps.specs.Caprules.declared.stopped.Stopped.TheVariants.{ByPolicy, ByTest}
+use Rattle.capsteps.specs.Caprules.declared.rejection.Rejection.{Rejection}
+use Rattle.capsteps.specs.Caprules.declared.rejection.Rejection.TheVariants.{ByPolicy, ByTest}
 use Rattle.capsteps.specs.Caprules.State.{State}
 use Rattle.capsteps.specs.Answered.{IsAnswered}
 use Rattle.inotree.specs.declared.node.Kind.TheVariants.{Directory, File}
@@ -24,21 +24,21 @@ use Rattle.capsteps.specs.Caprules.Finish.{sizes_owed, finished}
 use Rattle.capsteps.specs.Leaving.{with_parts, LeavesEntries}
 use Rattle.capsteps.specs.Caprules.Sound.{IsSound, AreGiven}
 use Rattle.capsteps.specs.Caprules.Step.{Step, state_after}
-use Rattle.capsteps.specs.Touching.{touched_by, turned_by, is_listing}
+use Rattle.capsteps.specs.Affected.{affected_by, session_changed_by, is_listing}
 use Rattle.capsteps.proofs.Finishing.{none-sized, sound-settles}
 use Rattle.capsteps.proofs.Judging.{no_test}
 use Rattle.capsteps.proofs.LeftAlone.{kept-sound, kept-finished}
 use Rattle.capcore.proofs.Promised.{issues-exactly}
 use Rattle.capcore.proofs.Sounding.{later-given}
-use Rattle.capcore.proofs.Untouched.{nothing-leaves, session-leaves, unblocked-leaves, changed-leaves, birth-leaves}
+use Rattle.capcore.proofs.Unaffected.{nothing-leaves, session-leaves, unblocked-leaves, changed-leaves, birth-leaves}
 
 -- the event is about no entry, no request and no session that is there, and is answered with no list
 abbrev pub IsAlone : Event → Type 0
-IsAlone e = (touched_by e ≡ None) × (is_listing e ≡ false) × (turned_by e ≡ None)
+IsAlone e = (affected_by e ≡ None) × (is_listing e ≡ false) × (session_changed_by e ≡ None)
 
 -- ---- the event by itself
 
-none_dropped-effect : (old : State) (e : Event) → turned_by e ≡ None → (effect old e).dropped ≡ []
+none_dropped-effect : (old : State) (e : Event) → session_changed_by e ≡ None → (effect old e).dropped ≡ []
 none_dropped-effect old (event.CloseSession client) is = absurd (none-some client (sym is))
 none_dropped-effect old (event.Evict client) is = absurd (none-some client (sym is))
 none_dropped-effect old (event.Lookup client dir name) is = by_found (child old.scene.tree.nodes dir.0 name)
@@ -48,14 +48,14 @@ none_dropped-effect old (event.Lookup client dir name) is = by_found (child old.
     by_found (Some ino) = refl
 none_dropped-effect old e is = refl
 
-none_dropped : (old : State) (e : Event) → turned_by e ≡ None → (o : Option Stopped) → (effect_unless old e o).dropped ≡ []
+none_dropped : (old : State) (e : Event) → session_changed_by e ≡ None → (o : Option Rejection) → (effect_unless old e o).dropped ≡ []
 none_dropped old e is (Some r) = refl
 none_dropped old e is None = none_dropped-effect old e is
 
 -- ---- a whole step
 
 -- an event that says its answer, and leads by itself to a sound state in which nothing is left to do, is a whole step
-module _ (old new : State) (e : Event) (still : turned_by e ≡ None) (answer : Reply) (is : IsDirect old e answer new) (sound : IsSound new) (finishes : finished old.scene new.scene new.scene ≡ new.scene) where
+module _ (old new : State) (e : Event) (still : session_changed_by e ≡ None) (answer : Reply) (is : IsDirect old e answer new) (sound : IsSound new) (finishes : finished old.scene new.scene new.scene ≡ new.scene) where
   whole_step : Step old e answer [] new
   whole_step = (
     [],
@@ -107,7 +107,7 @@ effect-plain s (event.Lookup client dir name) plain = found-plain s (child s.sce
 effect-plain s (event.Poll client max) plain = absurd (true≢false plain)
 effect-plain s e plain = refl
 
-plain_unless : (s : State) (e : Event) → is_listing e ≡ false → (o : Option Stopped) → lists (effect_unless s e o).answer ≡ false
+plain_unless : (s : State) (e : Event) → is_listing e ≡ false → (o : Option Rejection) → lists (effect_unless s e o).answer ≡ false
 plain_unless s e plain (Some (ByPolicy access rules)) = refl
 plain_unless s e plain (Some (ByTest refusal)) = refl
 plain_unless s e plain None = effect-plain s e plain
@@ -142,10 +142,10 @@ module _ (old : State) (sound : IsSound old) (tree : IsTree old.scene.tree) wher
   effect-left (event.MakeSnapshot client ino name) alone none = record { leaves = changed-leaves old sound (with_snapshot name) ino.0 (λ n. refl) (λ n. refl); is = refl }
   effect-left (event.RemoveSnapshot client ino name) alone none = record { leaves = changed-leaves old sound (without_snapshot name) ino.0 (λ n. refl) (λ n. refl); is = refl }
   effect-left (event.Poll client max) alone none = absurd (true≢false alone.1)
-  effect-left e (untouched, unlisted, unturned) none = absurd (cc)
+  effect-left e (unaffected, unlisted, unturned) none = absurd (cc)
 
-  left_unless : (e : Event) → IsAlone e → (o : Option Stopped) → judged old.scene e ≡ o → IsLeft old (effect_unless old e o).state
-  left_unless e alone (Some stopped) is = same-left
+  left_unless : (e : Event) → IsAlone e → (o : Option Rejection) → judged old.scene e ≡ o → IsLeft old (effect_unless old e o).state
+  left_unless e alone (Some rejection) is = same-left
   left_unless e alone None is = effect-left e alone is
 
   -- ---- and so the state after it is sound, and nothing is left to do

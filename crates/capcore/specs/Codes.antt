@@ -15,7 +15,7 @@ use Rattle.capsteps.specs.Capview.contracts.change.ViewChange as view_change
 use Rattle.capsteps.specs.Capevents.contracts.outcome.Ended as ended
 use Rattle.capsteps.specs.Capevents.contracts.row.Row as history_row
 use Rattle.capsteps.specs.Caprules.State.{State}
-use Rattle.capsteps.specs.Caprules.History.{Told, told}
+use Rattle.capsteps.specs.Caprules.History.{Recorded, recorded}
 
 -- a state as its parts
 abbrev pub scene_code : Coded Scene
@@ -32,8 +32,8 @@ state_code =
     (λ s. (s.scene, s.messages)) (λ p. record { scene = p.0; messages = p.1 }) (λ _. refl)
 
 -- and with its history, and what the last step changed
-abbrev pub told_code : Coded Told
-told_code =
+abbrev pub recorded_code : Coded Recorded
+recorded_code =
     code_by (State × (List Row × (ℕ × List ViewChange)))
     (coded× state_code (coded× (coded_list history_row.the_row.coded) (coded× coded_ℕ (coded_list view_change.the_row.coded))))
-    (λ t. (t.state, (t.rows, (t.max_rows, t.changes)))) (λ p. told p.0 p.1.0 p.1.1.0 p.1.1.1) (λ _. refl)
+    (λ t. (t.state, (t.rows, (t.max_rows, t.changes)))) (λ p. recorded p.0 p.1.0 p.1.1.0 p.1.1.1) (λ _. refl)

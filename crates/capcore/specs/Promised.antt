@@ -8,13 +8,13 @@ use Rattle.capsteps.specs.Capevents.declared.event.Event.{Event}
 use Rattle.capsteps.specs.Capevents.declared.reply.Reply.{Reply}
 use Rattle.capsteps.specs.Caprules.State.{State}
 use Rattle.capsteps.specs.Caprules.Direct.{direct}
-use Rattle.capsteps.specs.Caprules.Headline.{DeniedExactly, DeniesByName, ServedDenied, ServedByName, EachServing, ByMoves, AreBounded, OtherLocksStay, IssuesExactly, AreInPlace, AreRevoked, NoneConflict, is_stop}
-use Rattle.capsteps.specs.Caprules.History.{Told, IsNext, InItsRow, Replays}
+use Rattle.capsteps.specs.Caprules.Headline.{DeniedExactly, DeniesByName, ServedDenied, ServedByName, EachServing, ByMoves, AreBounded, OtherLocksStay, IssuesExactly, AreInPlace, AreRevoked, NoneConflict, is_rejection}
+use Rattle.capsteps.specs.Caprules.History.{Recorded, IsNext, InItsRow, Replays}
 use Rattle.capsteps.specs.Caprules.Noted.{view_of}
 use Rattle.capsteps.specs.Caprules.Shown.{ShowsWhatIsTold, ShowsOnlyPermitted, TakesUnshown, TakesOnlySo}
 use Rattle.capsteps.specs.Caprules.Sound.{IsSound}
 
-pub record IsPromised (old : Told) (pass : PassId) (event : Event) (answer : Reply) (new : Told) : Type 0 where
+pub record IsPromised (old : Recorded) (pass : PassId) (event : Event) (answer : Reply) (new : Recorded) : Type 0 where
   -- one step of the rules, and one row
   pub next : IsNext old pass event answer new
   -- a request is denied exactly if it passes the tests that stand before policy and an access that it needs has no grant, and each
@@ -44,7 +44,7 @@ pub record IsPromised (old : Told) (pass : PassId) (event : Event) (answer : Rep
   pub sound : IsSound new.state
   -- locks are at rest, and a denial or a refusal changes nothing but the history
   pub at_rest : IsAtRest new.state.scene
-  pub unchanged : IsTrue (is_stop answer) → new.state ≡ old.state
+  pub unchanged : IsTrue (is_rejection answer) → new.state ≡ old.state
   -- wherever the history began, it goes on from there
   pub legal : (first : State) → Replays first old.rows old.state → Replays first new.rows new.state
   -- what it says that it changed leads readers from what they saw to what there is to see

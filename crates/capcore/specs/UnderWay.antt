@@ -10,9 +10,9 @@ use Rattle.capsteps.specs.Capevents.declared.outcome.Ended.{Ended}
 use Rattle.capsteps.specs.Capevents.declared.reply.Reply.TheVariants as reply
 use Rattle.capsteps.specs.Capview.Changes.{AreChanges}
 use Rattle.capsteps.specs.Capnotes.Noted.{HavePlaces}
-use Rattle.capsteps.specs.Capnotes.Untold.{HasRoom, but_for}
-use Rattle.capsteps.specs.Capacts.Known.{known_in, AreKnown, StillKept, OthersHaveAll}
-use Rattle.capsteps.specs.Capacts.Reach.{is_touched}
+use Rattle.capsteps.specs.Capnotes.DueEndings.{HasRoom, but_for}
+use Rattle.capsteps.specs.Capacts.Known.{known_in, AreKnown, StillKnown, OthersHaveAll}
+use Rattle.capsteps.specs.Capacts.Reach.{is_affected}
 use Rattle.capsteps.specs.Caprules.State.{State}
 use Rattle.capsteps.specs.Caprules.Direct as rules
 use Rattle.capsteps.specs.Caprules.Direct.{direct}
@@ -21,9 +21,9 @@ use Rattle.capsteps.specs.Caprules.Noted.{view_of}
 use Rattle.capsteps.specs.Caprules.Sound.{IsSound, AreGiven, NumbersLeft}
 use Rattle.capsteps.specs.Begun.{MaySettle, MayEnd, HaveRoomFor}
 use Rattle.capsteps.specs.Judged.{IsJudged}
-use Rattle.capsteps.specs.Touch.{touch_event, touch_answer}
-use Rattle.capsteps.specs.Touching.{Touches, Knows}
-use Rattle.capsteps.specs.Turn.{turn_event}
+use Rattle.capsteps.specs.EntryRequest.{entry_event, entry_answer}
+use Rattle.capsteps.specs.Affected.{Affects, Knows}
+use Rattle.capsteps.specs.SessionChange.{session_event}
 use Rattle.capcore.specs.Asks.{asked_event}
 use Rattle.capcore.specs.declared.parts.Parts.{Parts}
 use Rattle.capcore.specs.declared.parts.Asking.{Asking}
@@ -45,10 +45,10 @@ IsWhole p = IsSound (state_of p) × HasRoom p.messages p.scene.locks × AreKnown
 -- ---- the event
 
 abbrev pub event_of : Asking → Event
-event_of (OfEntry k touch) = touch_event k.client k.ino touch
+event_of (OfEntry k request) = entry_event k.client k.ino request
 event_of (OfLock k asked) = asked_event k.client k.ino asked
 event_of (Flush k change) = event.Flush k.client k.ino change.now
-event_of (OfSession client turn) = turn_event client turn
+event_of (OfSession client change) = session_event client change
 
 -- nothing stops it
 pub record MayBegin (p : Parts) (e : Event) : Type 0 where
@@ -65,39 +65,39 @@ pub record MayBegin (p : Parts) (e : Event) : Type 0 where
 abbrev pub among : Affected → ℕ → Bool
 among (Entry k) = λ other. other == k.ino.0
 among (Inode k) = λ other. other == k.ino.0
-among (Others others) = is_touched 1 others
+among (Others others) = is_affected 1 others
 
 abbrev pub answer_of : Answer → rules.Answer
 answer_of Done = rules.Says reply.Done
 answer_of (Dropped dropped) = rules.Says reply.Done
-answer_of (Touched k touch) = touch_answer k touch
+answer_of (Touched k request) = entry_answer k request
 answer_of (Awaited ticket) = rules.Awaits ticket
 
 abbrev pub dropped_of : Answer → List Ended
 dropped_of Done = []
 dropped_of (Dropped dropped) = dropped.items
-dropped_of (Touched k touch) = []
+dropped_of (Touched k request) = []
 dropped_of (Awaited ticket) = []
 
 -- of the requests that the step ends, those of earlier steps
 abbrev pub earlier_of : Answer → List Ended → List Ended
 earlier_of Done told = told
 earlier_of (Dropped dropped) told = told
-earlier_of (Touched k touch) told = told
+earlier_of (Touched k request) told = told
 earlier_of (Awaited ticket) told = but_for ticket told
 
 -- the last number of a request, before and after: the one that is awaited, is new
 abbrev pub IsNumbered : Answer → ℕ → ℕ → Type 0
 IsNumbered Done was now = now ≡ was
 IsNumbered (Dropped dropped) was now = now ≡ was
-IsNumbered (Touched k touch) was now = now ≡ was
+IsNumbered (Touched k request) was now = now ≡ was
 IsNumbered (Awaited ticket) was now = (ticket.0 ≡ was + 1) × (now ≡ was + 1)
 
 -- where requests were dropped, there is room for so many beside them
 abbrev pub HasPlaces : Answer → ℕ → Type 0
 HasPlaces Done waiting = Unit
 HasPlaces (Dropped dropped) waiting = length dropped.items + waiting ≤ dropped.room
-HasPlaces (Touched k touch) waiting = Unit
+HasPlaces (Touched k request) waiting = Unit
 HasPlaces (Awaited ticket) waiting = Unit
 
 -- it gives at most one number
@@ -109,7 +109,7 @@ GivesOne old e =
 
 -- ---- what there has to be before the locks settle and the step ends
 
--- at an inode there is a place for its change and for that of each request that waits. Where one entry alone was touched, the
+-- at an inode there is a place for its change and for that of each request that waits. Where one entry alone was affected, the
 -- others on its inode have all
 abbrev pub MayEndAt : Affected → Parts → Type 0
 MayEndAt (Entry k) p =
@@ -131,11 +131,11 @@ pub record HasBegun (p : Parts) (e : Event) (effect : Effect) (q : Parts) : Type
   pub answer : answer_of effect.answer ≡ (direct (state_of p) e).answer
   pub dropped : dropped_of effect.answer ≡ (direct (state_of p) e).dropped
   pub number : IsNumbered effect.answer p.scene.locks.last q.scene.locks.last
-  pub touches : Touches (among effect.affected) (state_of p) (state_of q)
+  pub affects : Affects (among effect.affected) (state_of p) (state_of q)
   pub table : IsTable q.scene.table
   pub gives : GivesOne (state_of p) e
   -- of each entry what was known is kept
-  pub still : StillKept p.scene.table q.scene.table p.known.sets q.known.sets
+  pub still : StillKnown p.scene.table q.scene.table p.known.sets q.known.sets
   pub knows : Knows (known_in q.known.sets) p.scene q.scene.table
   pub ready : IsReady effect.affected q
   pub room : HasRoom q.messages q.scene.locks

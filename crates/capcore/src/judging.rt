@@ -3,7 +3,7 @@ ghost use Rattle.std.specs.Prelude.{◌≡◌, ◌++◌, ◌∷◌, [], ℕ, Lis
 ghost use Rattle.capbits.specs.Refusal.{first_failing};
 ghost use Rattle.captable.specs.Table.{Table};
 ghost use Rattle.captable.specs.Tests.{entry_test, release_tests};
-ghost use Rattle.inotree.specs.Tests.{inode_tests, known_test};
+ghost use Rattle.inotree.specs.Tests.{inode_tests, exists_test};
 ghost use Rattle.sessiontab.specs.Tests.{connected_test, session_tests};
 ghost use Rattle.capsteps.specs.Lockmachine.Locks.{LockMap};
 ghost use Rattle.capsteps.specs.Lockmachine.declared.scene.Scene.{Scene};
@@ -11,10 +11,10 @@ ghost use Rattle.capsteps.specs.Lockmachine.Scene.{scene as scene_of};
 ghost use Rattle.capsteps.specs.Capevents.declared.event.Event.TheVariants as event;
 ghost use Rattle.capsteps.specs.Caprules.Asks as words;
 ghost use Rattle.capsteps.specs.Caprules.Asks.{ask_after, ask_before, ask_needs};
-ghost use Rattle.capsteps.specs.Caprules.Judge.{asked_tests, asking_tests, before, flush_tests, judged, opening_needs, opening_tests, room_for, stop, waiting_tests};
+ghost use Rattle.capsteps.specs.Caprules.Judge.{asked_tests, asking_tests, before, flush_tests, judged, opening_needs, opening_tests, room_for, rejection_of, waiting_tests};
 ghost use Rattle.capsteps.specs.Capacts.Known.{AreKnown};
 ghost use Rattle.capsteps.specs.Caprules.Needs.{need};
-ghost use Rattle.capsteps.specs.Touch.{touch_event};
+ghost use Rattle.capsteps.specs.EntryRequest.{entry_event};
 ghost use Rattle.capcore.specs.Asks.{ask_of};
 ghost use Rattle.capcore.specs.UnderWay.{event_of};
 
@@ -23,27 +23,31 @@ use crate::parts::Asking;
 use capbits::{Cap, CapSet, Ino, Part, Refusal};
 use capgrant::Access;
 use capspec::FsName;
-use capsteps::client::turn_refusal;
+use capsteps::client::session_change_refusal;
+use capsteps::entry_request::{EntryRequest, revoked_of};
 use capsteps::judge::{by_test, denial};
 use capsteps::known::Known;
 use capsteps::serving::{
     ask_denial, before_refusal, change_access, change_refusal, places_refusal, rename_denial,
 };
-use capsteps::touch::{Touch, revoked_of};
-use capsteps::{Ask, Change, Locks, OpenMode, Scene, Stopped};
+use capsteps::{Ask, Change, Locks, OpenMode, Rejection, Scene};
 use captable::{CapTable, Holder};
 use inotree::Tree;
 use sessiontab::Sessions;
 
 // What stops an event.
-pub(crate) fn stopped(scene: &Scene, known: &Known, asking: &Asking) -> Option<Stopped>
+pub(crate) fn rejection(scene: &Scene, known: &Known, asking: &Asking) -> Option<Rejection>
     ensures { AreKnown known.now.sets scene.now → result ≡ judged scene.now (event_of asking.now) }
 {
     match asking {
-        Asking::OfEntry(holder, touch) => touch_stop(scene, known, *holder, touch),
-        Asking::OfLock(holder, asked) => ask_stop(scene, *holder, *asked),
-        Asking::Flush(holder, change) => flush_stop(scene, *holder, *change),
-        Asking::OfSession(client, turn) => by_test(turn_refusal(&scene.sessions, *client, *turn)),
+        Asking::OfEntry(holder, request) => entry_rejection(scene, known, *holder, request),
+        Asking::OfLock(holder, asked) => request_rejection(scene, *holder, *asked),
+        Asking::Flush(holder, change) => flush_rejection(scene, *holder, *change),
+        Asking::OfSession(client, change) => by_test(session_change_refusal(
+            &scene.sessions,
+            *client,
+            *change,
+        )),
     }
 }
 
@@ -62,23 +66,23 @@ pub(crate) fn asked_refusal(sessions: &Sessions, tree: &Tree, holder: Holder) ->
 
 // The first test of the client, which may be stale, and of the inode, which may be a stray, that fails.
 fn connected_refusal(sessions: &Sessions, tree: &Tree, holder: Holder) -> Option<Refusal>
-    ensures { result ≡ first_failing (connected_test sessions.now holder.client.0 ∷ known_test tree.now holder.ino.0 ∷ []) }
+    ensures { result ≡ first_failing (connected_test sessions.now holder.client.0 ∷ exists_test tree.now holder.ino.0 ∷ []) }
 {
     match sessions.connected_refusal(holder.client) {
         Some(refusal) => Some(refusal),
-        None => tree.known_refusal(holder.ino),
+        None => tree.exists_refusal(holder.ino),
     }
 }
 
 // ---- one access
 
 // What stops a request that needs one access to an inode that it names, before any other test.
-pub(crate) fn access_stop(scene: &Scene, holder: Holder, access: Access) -> Option<Stopped>
-    ensures { result ≡ stop scene.now (asked_tests scene.now holder.client holder.ino.0) (need holder.client holder.ino.0 access ∷ []) [] }
+pub(crate) fn access_rejection(scene: &Scene, holder: Holder, access: Access) -> Option<Rejection>
+    ensures { result ≡ rejection_of scene.now (asked_tests scene.now holder.client holder.ino.0) (need holder.client holder.ino.0 access ∷ []) [] }
 {
     let (tree, sessions) = (&scene.tree, &scene.sessions);
     match asked_refusal(sessions, tree, holder) {
-        Some(refusal) => Some(Stopped::ByTest(refusal)),
+        Some(refusal) => Some(Rejection::ByTest(refusal)),
         None => denial(&scene.fs, tree, sessions, holder, access),
     }
 }
@@ -86,25 +90,32 @@ pub(crate) fn access_stop(scene: &Scene, holder: Holder, access: Access) -> Opti
 // ---- what is asked of an entry
 
 // What stops what is asked of an entry.
-fn touch_stop(scene: &Scene, known: &Known, holder: Holder, touch: &Touch) -> Option<Stopped>
-    ensures { AreKnown known.now.sets scene.now → result ≡ judged scene.now (touch_event holder.client holder.ino touch.now) }
+fn entry_rejection(
+    scene: &Scene,
+    known: &Known,
+    holder: Holder,
+    request: &EntryRequest,
+) -> Option<Rejection>
+    ensures { AreKnown known.now.sets scene.now → result ≡ judged scene.now (entry_event holder.client holder.ino request.now) }
 {
     let (tree, sessions, table) = (&scene.tree, &scene.sessions, &scene.table);
-    match touch {
-        Touch::Open(mode) => open_stop(scene, holder, *mode),
-        Touch::Want(_) => by_test(want_refusal(sessions, tree, table, holder)),
-        Touch::Ack(seq) => by_test(ack_refusal(sessions, tree, table, known, holder, *seq)),
-        Touch::Release(caps) => by_test(release_refusal(sessions, tree, table, holder, *caps)),
+    match request {
+        EntryRequest::Open(mode) => open_rejection(scene, holder, *mode),
+        EntryRequest::Want(_) => by_test(want_refusal(sessions, tree, table, holder)),
+        EntryRequest::Ack(seq) => by_test(ack_refusal(sessions, tree, table, known, holder, *seq)),
+        EntryRequest::Release(caps) => by_test(release_refusal(
+            sessions, tree, table, holder, *caps,
+        )),
     }
 }
 
 // What stops an opening.
-fn open_stop(scene: &Scene, holder: Holder, mode: OpenMode) -> Option<Stopped>
+fn open_rejection(scene: &Scene, holder: Holder, mode: OpenMode) -> Option<Rejection>
     ensures { result ≡ judged scene.now (event.Open holder.client holder.ino mode) }
 {
     let (tree, sessions) = (&scene.tree, &scene.sessions);
     if let Some(refusal) = asked_refusal(sessions, tree, holder) {
-        return Some(Stopped::ByTest(refusal));
+        return Some(Rejection::ByTest(refusal));
     }
     if let Some(denied) = opening_denial(&scene.fs, tree, sessions, holder, mode) {
         return Some(denied);
@@ -119,9 +130,9 @@ fn opening_denial(
     sessions: &Sessions,
     holder: Holder,
     mode: OpenMode,
-) -> Option<Stopped>
+) -> Option<Rejection>
     ensures { (table : Table) (locks : LockMap) → let s = scene_of fs.now tree.now sessions.now table locks in
-        result ≡ stop s [] (opening_needs holder.client holder.ino.0 mode) [] }
+        result ≡ rejection_of s [] (opening_needs holder.client holder.ino.0 mode) [] }
 {
     match mode {
         OpenMode::Read => denial(fs, tree, sessions, holder, Access::Read),
@@ -203,7 +214,7 @@ fn release_refusal(
     holder: Holder,
     caps: CapSet,
 ) -> Option<Refusal>
-    ensures { result ≡ first_failing ((connected_test sessions.now holder.client.0 ∷ known_test tree.now holder.ino.0 ∷ []) ++ release_tests table.now holder caps) }
+    ensures { result ≡ first_failing ((connected_test sessions.now holder.client.0 ∷ exists_test tree.now holder.ino.0 ∷ []) ++ release_tests table.now holder caps) }
 {
     match connected_refusal(sessions, tree, holder) {
         Some(refusal) => Some(refusal),
@@ -214,13 +225,13 @@ fn release_refusal(
 // ---- what may wait for a lock
 
 // What stops a request.
-fn ask_stop(scene: &Scene, holder: Holder, asked: Asked) -> Option<Stopped>
+fn request_rejection(scene: &Scene, holder: Holder, asked: Asked) -> Option<Rejection>
     ensures { let s = scene.now in let ask = ask_of asked.entry in
-        result ≡ stop s (asking_tests s holder.client holder.ino.0 ask) (ask_needs s holder.client holder.ino.0 ask) (waiting_tests s holder.ino.0 ask) }
+        result ≡ rejection_of s (asking_tests s holder.client holder.ino.0 ask) (ask_needs s holder.client holder.ino.0 ask) (waiting_tests s holder.ino.0 ask) }
 {
     let (tree, sessions) = (&scene.tree, &scene.sessions);
     if let Some(refusal) = asking_refusal(sessions, tree, holder, asked) {
-        return Some(Stopped::ByTest(refusal));
+        return Some(Rejection::ByTest(refusal));
     }
     if let Some(denied) = asking_denial(&scene.fs, tree, sessions, holder, asked) {
         return Some(denied);
@@ -258,9 +269,9 @@ fn asking_denial(
     sessions: &Sessions,
     holder: Holder,
     asked: Asked,
-) -> Option<Stopped>
+) -> Option<Rejection>
     ensures { (table : Table) (locks : LockMap) → let s = scene_of fs.now tree.now sessions.now table locks in
-        result ≡ stop s [] (ask_needs s holder.client holder.ino.0 (ask_of asked.entry)) [] }
+        result ≡ rejection_of s [] (ask_needs s holder.client holder.ino.0 (ask_of asked.entry)) [] }
 {
     match asked {
         Asked::Get(_) => denial(fs, tree, sessions, holder, Access::Read),
@@ -297,12 +308,12 @@ fn own_refusal(tree: &Tree, ino: Ino, asked: Asked) -> Option<Refusal>
 // ---- a flush
 
 // What stops a flush.
-fn flush_stop(scene: &Scene, holder: Holder, change: &Change) -> Option<Stopped>
+fn flush_rejection(scene: &Scene, holder: Holder, change: &Change) -> Option<Rejection>
     ensures { result ≡ judged scene.now (event.Flush holder.client holder.ino change.now) }
 {
     let access = change_access(change);
-    if let Some(stopped) = access_stop(scene, holder, access) {
-        return Some(stopped);
+    if let Some(rejection) = access_rejection(scene, holder, access) {
+        return Some(rejection);
     }
     by_test(flush_refusal(&scene.tree, &scene.table, holder, change))
 }
@@ -318,7 +329,7 @@ fn flush_refusal(tree: &Tree, table: &CapTable, holder: Holder, change: &Change)
     }
 }
 
-// The capability with which a client changes a part by itself.
+// The cap by which a client alone changes a part.
 fn exclusive(part: Part) -> Cap
     ensures { result ≡ words.exclusive part }
 {

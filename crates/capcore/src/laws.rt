@@ -20,11 +20,11 @@ ghost use Rattle.capsteps.specs.Capevents.declared.event.Event.{Event};
 ghost use Rattle.capsteps.specs.Capevents.declared.row.Row.{Row};
 ghost use Rattle.capsteps.specs.Capevents.declared.outcome.Ended.{Ended};
 ghost use Rattle.capsteps.specs.Capevents.declared.reply.Reply.{Reply};
-ghost use Rattle.capsteps.specs.Caprules.declared.stopped.Stopped.{Stopped};
+ghost use Rattle.capsteps.specs.Caprules.declared.rejection.Rejection.{Rejection};
 ghost use Rattle.capsteps.specs.Caprules.State.{State};
 ghost use Rattle.capsteps.specs.Caprules.Direct.{with_scene};
 ghost use Rattle.capsteps.specs.Leaving.{with_parts, LeavesEntries};
-ghost use Rattle.capsteps.specs.Caprules.Judge.{judged, stop_reply};
+ghost use Rattle.capsteps.specs.Caprules.Judge.{judged, rejection_reply};
 ghost use Rattle.capsteps.specs.Caprules.Step.{Step, StepBy};
 ghost use Rattle.capsteps.specs.Caprules.History.{HasNoStray, IsOpening, Replays, IsLegal};
 ghost use Rattle.capcore.specs.SameEvents.{FoundMemory, AllFoundMemory, events_of, ends_of, passes_of};
@@ -58,12 +58,12 @@ pub fn moves_leave_what_is_held()
 
 /// So of an event that is stopped there is a step, which says what stopped it, ends no request and changes nothing; and
 /// there is no other.
-pub fn a_stop_changes_nothing()
-    ensures step { (old : State) (e : Event) (stopped : Stopped) → IsSound old → IsTable old.scene.table
-        → judged old.scene e ≡ Some stopped → Step old e (stop_reply stopped) [] old }
-    ensures only { (old new : State) (e : Event) (stopped : Stopped) (answer : Reply) (ended : List Ended)
-        → IsSound old → IsTable old.scene.table → judged old.scene e ≡ Some stopped
-        → Step old e answer ended new → (answer ≡ stop_reply stopped) × (ended ≡ []) × (new ≡ old) }
+pub fn a_rejection_changes_nothing()
+    ensures step { (old : State) (e : Event) (rejection : Rejection) → IsSound old → IsTable old.scene.table
+        → judged old.scene e ≡ Some rejection → Step old e (rejection_reply rejection) [] old }
+    ensures only { (old new : State) (e : Event) (rejection : Rejection) (answer : Reply) (ended : List Ended)
+        → IsSound old → IsTable old.scene.table → judged old.scene e ≡ Some rejection
+        → Step old e answer ended new → (answer ≡ rejection_reply rejection) × (ended ≡ []) × (new ≡ old) }
 {}
 
 /// After an event that leaves alone all that entries and requests depend on, a state that was sound is sound, no move

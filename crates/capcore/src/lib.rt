@@ -13,7 +13,7 @@ mod parts;
 mod recalling;
 mod shown_laws;
 mod step;
-mod touch_laws;
+mod step_laws;
 mod world;
 
 pub use capbits::Refusal;
@@ -21,17 +21,16 @@ pub use capsteps::serving_laws::{a_serving_changes_what_it_moves, a_serving_keep
 pub use capsteps::stop::Stop;
 pub use capsteps::{
     Ask, Change, Ended, EndedList, Event, Locks, Message, MessageList, Move, OpenMode, Outcome,
-    PartValues, Question, Reply, Row, Stopped, Unknown, View, ViewChange, Wants, wants_on,
+    PartValues, Question, Rejection, Reply, Row, Unknown, View, ViewChange, Wants, wants_on,
 };
 pub use giving::{a_recall_leaves_all_but_the_marks, telling_leaves_all_but_what_was_told};
 pub use laws::{
-    a_row_fixes_its_step, a_settling_serves_at_most_who_waits,
+    a_rejection_changes_nothing, a_row_fixes_its_step, a_settling_serves_at_most_who_waits,
     a_sound_state_has_nothing_left_to_do, a_step_that_finds_memory_has_one_end,
-    a_stop_changes_nothing, an_opening_is_sound, rows_fix_the_state,
-    sessions_inodes_and_snapshots_leave_entries_alone, the_held_are_apart,
-    the_same_events_have_the_same_history, the_served_are_denied_by_name,
+    an_opening_is_sound, rows_fix_the_state, sessions_inodes_and_snapshots_leave_entries_alone,
+    the_held_are_apart, the_same_events_have_the_same_history, the_served_are_denied_by_name,
     the_served_are_denied_exactly, what_leaves_entries_alone_leaves_nothing_to_do,
 };
-pub use own_laws::what_is_served_at_once_is_not_stopped;
+pub use own_laws::what_is_served_at_once_is_not_rejected;
 pub use step::Core;
-pub use touch_laws::an_event_is_a_step_once_it_has_ended;
+pub use step_laws::an_event_is_a_step_once_it_has_ended;

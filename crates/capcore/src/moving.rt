@@ -3,12 +3,12 @@ ghost use Rattle.std.specs.Prelude.{◌≡◌, ◌+◌, ◌≤◌, ◌++◌, Lis
 ghost use Rattle.capsteps.specs.Capacts.Known.{AreKnown};
 ghost use Rattle.capsteps.specs.Capevents.declared.outcome.Ended.{Ended};
 ghost use Rattle.capsteps.specs.Capnotes.Noted.{LeadOn};
-ghost use Rattle.capsteps.specs.Capnotes.Untold.{HaveOwnNumbers};
+ghost use Rattle.capsteps.specs.Capnotes.DueEndings.{HaveOwnNumbers};
 ghost use Rattle.capsteps.specs.Caprules.Direct.{reply_of, shown};
 ghost use Rattle.capsteps.specs.Caprules.State.{State};
 ghost use Rattle.capsteps.specs.Serves.{EndsWith};
-ghost use Rattle.capsteps.specs.Touch.{touch_event};
-ghost use Rattle.capsteps.specs.Turn.{turn_event};
+ghost use Rattle.capsteps.specs.EntryRequest.{entry_event};
+ghost use Rattle.capsteps.specs.SessionChange.{session_event};
 ghost use Rattle.capsteps.specs.Capevents.declared.event.Event.TheVariants as event;
 ghost use Rattle.capcore.specs.Asks.{asked_event};
 ghost use Rattle.capcore.specs.UnderWay.{HasBegun, HasPlaces, IsReady, IsWhole, MayBegin, among, answer_of, dropped_of, earlier_of, event_of, state_of};
@@ -16,13 +16,13 @@ ghost use Rattle.capcore.specs.UnderWay.{HasBegun, HasPlaces, IsReady, IsWhole, 
 use crate::asks::{Asked, copy_of_ask};
 use crate::parts::{Affected, Answer, Asking, Effect, Parts};
 use capbits::ClientId;
-use capsteps::client::{Room, turn_session};
+use capsteps::client::{Room, apply_session_change};
 use capsteps::ended::{close, close_dropped, close_with};
-use capsteps::leaving::{Turn, leave};
+use capsteps::entry_request::{EntryRequest, apply_request, revoked_by, show_reply};
+use capsteps::leaving::{SessionChange, leave};
 use capsteps::said::Said;
 use capsteps::serving::alter;
 use capsteps::settle::{end_at, end_at_entry, end_at_one};
-use capsteps::touch::{Touch, revoked_by, tell, touch_entry};
 use capsteps::{Change, Reply};
 use captable::Holder;
 use inotree::ROOT;
@@ -38,33 +38,33 @@ impl Parts {
         ensures whole { OnErr result (IsWhole self.new) }
     {
         match asking {
-            Asking::OfEntry(holder, touch) => self.touch(*holder, *touch),
-            Asking::OfLock(holder, asked) => self.ask(*holder, *asked),
+            Asking::OfEntry(holder, request) => self.entry_request(*holder, *request),
+            Asking::OfLock(holder, asked) => self.lock_request(*holder, *asked),
             Asking::Flush(holder, change) => self.flush(*holder, *change),
-            Asking::OfSession(client, turn) => self.turn(*client, *turn),
+            Asking::OfSession(client, change) => self.session_change(*client, *change),
         }
     }
 
     // What is asked of an entry is done to it.
-    fn touch(&mut self, holder: Holder, touch: Touch) -> Result<Effect, AllocError>
-        requires may { MayBegin self.old (touch_event holder.client holder.ino touch) }
-        ensures begun { IfOk result (λ effect. HasBegun self.old (touch_event holder.client holder.ino touch) effect self.new) }
+    fn entry_request(&mut self, holder: Holder, request: EntryRequest) -> Result<Effect, AllocError>
+        requires may { MayBegin self.old (entry_event holder.client holder.ino request) }
+        ensures begun { IfOk result (λ effect. HasBegun self.old (entry_event holder.client holder.ino request) effect self.new) }
         ensures err { OnErr result (state_of self.new ≡ state_of self.old) }
         ensures whole { OnErr result (IsWhole self.new) }
     {
         let waiting = self.scene.locks.waiting();
         self.endings.begin(waiting, waiting + 1)?;
-        let revoked = revoked_by(&self.scene.table, &self.known, holder, &touch);
+        let revoked = revoked_by(&self.scene.table, &self.known, holder, &request);
         let (table, known) = (&mut self.scene.table, &mut self.known);
-        touch_entry(table, known, holder, revoked, &touch)?;
+        apply_request(table, known, holder, revoked, &request)?;
         Ok(Effect {
             affected: Affected::Entry(holder),
-            answer: Answer::Touched(holder, touch),
+            answer: Answer::Touched(holder, request),
         })
     }
 
     // What is asked waits: only that is copied, and the room for how it ends can't be lost.
-    fn ask(&mut self, holder: Holder, asked: Asked) -> Result<Effect, AllocError>
+    fn lock_request(&mut self, holder: Holder, asked: Asked) -> Result<Effect, AllocError>
         requires may { MayBegin self.old (asked_event holder.client holder.ino asked) }
         ensures begun { IfOk result (λ effect. HasBegun self.old (asked_event holder.client holder.ino asked.entry) effect self.new) }
         ensures err { OnErr result (state_of self.new ≡ state_of self.old) }
@@ -109,21 +109,25 @@ impl Parts {
 
     // A client's session ends or changes. Where it ends, the client's requests are dropped, its entries go, and nobody is told what
     // it was still to be told of.
-    fn turn(&mut self, client: ClientId, turn: Turn) -> Result<Effect, AllocError>
-        requires may { MayBegin self.old (turn_event client turn) }
-        ensures begun { IfOk result (λ effect. HasBegun self.old (turn_event client turn.entry) effect self.new) }
+    fn session_change(
+        &mut self,
+        client: ClientId,
+        change: SessionChange,
+    ) -> Result<Effect, AllocError>
+        requires may { MayBegin self.old (session_event client change) }
+        ensures begun { IfOk result (λ effect. HasBegun self.old (session_event client change.entry) effect self.new) }
         ensures err { OnErr result (state_of self.new ≡ state_of self.old) }
         ensures whole { OnErr result (IsWhole self.new) }
     {
         let (alloc, endings) = (self.messages.alloc(), &mut self.endings);
         let (table, locks) = (&self.scene.table, &self.scene.locks);
-        let mut room = Room::new(alloc, table, locks, client, turn, endings)?;
-        if let Err(refused) = turn_session(&mut self.scene.sessions, client, turn) {
+        let mut room = Room::new(alloc, table, locks, client, change, endings)?;
+        if let Err(refused) = apply_session_change(&mut self.scene.sessions, client, change) {
             drop(room);
             return Err(refused);
         }
         let (scene, known, messages) = (&mut self.scene, &mut self.known, &mut self.messages);
-        leave(scene, known, messages, client, turn, &mut room.dropped);
+        leave(scene, known, messages, client, change, &mut room.dropped);
         let Room { others, dropped } = room;
         Ok(Effect {
             affected: Affected::Others(others),
@@ -172,8 +176,8 @@ impl Parts {
         match answer {
             Answer::Done => close(messages, Reply::Done, endings),
             Answer::Dropped(dropped) => close_dropped(messages, dropped, endings),
-            Answer::Touched(holder, touch) => {
-                let reply = tell(&mut self.scene.table, &self.known, holder, &touch);
+            Answer::Touched(holder, request) => {
+                let reply = show_reply(&mut self.scene.table, &self.known, holder, &request);
                 close(messages, reply, endings)
             }
             Answer::Awaited(ticket) => close_with(messages, ticket, endings),

@@ -8,17 +8,17 @@ ghost use Rattle.capsteps.specs.Lockmachine.Locks.{IsLockMap, next_request, with
 ghost use Rattle.capsteps.specs.Lockmachine.declared.scene.Scene.{Scene};
 ghost use Rattle.capsteps.specs.Caprules.State.{State};
 ghost use Rattle.capsteps.specs.Caprules.Direct.{Awaits, reply_of};
-ghost use Rattle.capsteps.specs.Caprules.Headline.{is_stop};
+ghost use Rattle.capsteps.specs.Caprules.Headline.{is_rejection};
 ghost use Rattle.capsteps.specs.Caprules.Serving.{judged_again};
 ghost use Rattle.capsteps.specs.Caprules.Settle.{Made, MakesAll, ended_in};
 ghost use Rattle.capsteps.specs.Caprules.Sound.{IsSound};
 
 /// A request that nothing stops when it comes, and that is served in the same step, is neither denied nor refused: no
 /// request of an earlier step is served before it, so it is judged on the tree and the sessions on which it came.
-pub fn what_is_served_at_once_is_not_stopped()
+pub fn what_is_served_at_once_is_not_rejected()
     ensures { (old last : State) (client : ClientId) (ino : Ino) (ask : Ask) (moves : List Made) (settled : Scene)
         → IsSound old → IsLockMap (with_request old.scene.locks client ino ask)
         → judged_again old.scene (next_request old.scene.locks client ino ask) ≡ None
         → MakesAll (record old.scene { locks = with_request old.scene.locks client ino ask }) moves settled
-        → is_stop (reply_of last (ended_in moves) (Awaits (record { 0 = old.scene.locks.last + 1 }))) ≡ false }
+        → is_rejection (reply_of last (ended_in moves) (Awaits (record { 0 = old.scene.locks.last + 1 }))) ≡ false }
 {}

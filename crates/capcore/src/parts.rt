@@ -3,9 +3,9 @@
 use crate::asks::Asked;
 use capbits::{ClientId, Ticket};
 use capsteps::endings::Endings;
+use capsteps::entry_request::EntryRequest;
 use capsteps::known::Known;
-use capsteps::leaving::Turn;
-use capsteps::touch::Touch;
+use capsteps::leaving::SessionChange;
 use capsteps::{Change, InoSet, Messages, Scene};
 use captable::Holder;
 
@@ -36,11 +36,11 @@ impl Drop for Parts {
 // What an event asks for that may move locks.
 #[derive(Clone, Copy)]
 pub(crate) enum Asking<'a> {
-    OfEntry(Holder, Touch),
+    OfEntry(Holder, EntryRequest),
     OfLock(Holder, Asked<'a>),
     // The holder, which alone may change a part, has changed it.
     Flush(Holder, &'a Change),
-    OfSession(ClientId, Turn<'a>),
+    OfSession(ClientId, SessionChange<'a>),
 }
 
 // What the event left by itself, before any lock moves.
@@ -53,7 +53,7 @@ pub(crate) struct Effect {
 // Whose locks may move.
 #[derive(Drop)]
 pub(crate) enum Affected {
-    // Those of the inode, on which this entry alone was touched.
+    // Those of the inode, on which this entry alone was affected.
     Entry(Holder),
     // Those of the inode.
     Inode(Holder),
@@ -68,7 +68,7 @@ pub(crate) enum Answer {
     // That it is done, where these requests were dropped.
     Dropped(Messages),
     // What is answered where this was asked of the holder's entry.
-    Touched(Holder, Touch),
+    Touched(Holder, EntryRequest),
     // How the request with this number ended, if it did.
     Awaited(Ticket),
 }

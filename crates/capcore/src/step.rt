@@ -2,7 +2,7 @@
 ghost use Rattle.std.specs.Prelude.{◌≡◌, ◌↔◌, ◌<◌, [], length, Err, IfOk, OnErr};
 ghost use Rattle.std.specs.FinMap as map;
 ghost use Rattle.std.specs.Option.{option_copied};
-ghost use Rattle.capsteps.specs.Caprules.History.{HasNoStray, IsOpening, IsTold};
+ghost use Rattle.capsteps.specs.Caprules.History.{HasNoStray, IsOpening, IsRecorded};
 ghost use Rattle.capcore.specs.Promised.{IsPromised};
 ghost use Rattle.captable.specs.Table.{holder, entry_at};
 ghost use Rattle.capsteps.specs.Lockmachine.Locks.{lock_at};
@@ -34,16 +34,16 @@ pub struct Core {
 }
 
 impl Model for Core {
-    ghost use Rattle.capsteps.specs.Caprules.History.{Told, IsTold, told};
-    ghost use Rattle.capcore.specs.Codes.{told_code};
+    ghost use Rattle.capsteps.specs.Caprules.History.{Recorded, IsRecorded, recorded};
+    ghost use Rattle.capcore.specs.Codes.{recorded_code};
 
-    ghost Value = { Told };
+    ghost Value = { Recorded };
 
-    ghost coded = { told_code };
+    ghost coded = { recorded_code };
 
-    ghost view = { λ c. told c.world c.rows.items c.max_rows c.changes.items };
+    ghost view = { λ c. recorded c.world c.rows.items c.max_rows c.changes.items };
 
-    ghost invariant = { λ c. IsTold (told c.world c.rows.items c.max_rows c.changes.items) };
+    ghost invariant = { λ c. IsRecorded (recorded c.world c.rows.items c.max_rows c.changes.items) };
 }
 
 // By hand, so that a caller which lets one go has one call to prove, and no step for each of its parts.
@@ -97,7 +97,7 @@ impl Core {
             reply: kept,
             ended,
         };
-        tell(&mut self.changes, changes, &mut self.world);
+        keep_changes(&mut self.changes, changes, &mut self.world);
         add_row(&mut self.rows, row);
         Ok(reply)
     }
@@ -141,7 +141,7 @@ impl Core {
     pub fn history(&self) -> &[Row]
         ensures rows { result.now ≡ self.now.rows }
         // It is legal, and leads to the state that the other calls show, which is sound.
-        ensures told { IsTold self.now }
+        ensures told { IsRecorded self.now }
     {
         self.rows.as_slice()
     }
@@ -156,7 +156,7 @@ impl Core {
 }
 
 // These changes are told in the place of those of the step before. The list that is not needed is kept for a later step.
-fn tell(told: &mut ChangeList, changes: ChangeList, world: &mut World)
+fn keep_changes(told: &mut ChangeList, changes: ChangeList, world: &mut World)
     ensures told { told.new.items ≡ changes.items }
     ensures world { world.new ≡ world.old }
 {

@@ -5,7 +5,7 @@ ghost use Rattle.inotree.specs.Calls.{with_new};
 ghost use Rattle.inotree.specs.Tests.{create_tests};
 ghost use Rattle.capsteps.specs.Caprules.State.{State};
 ghost use Rattle.capsteps.specs.Caprules.Sound.{NumbersLeft};
-ghost use Rattle.capsteps.specs.Touching.{touched_by, turned_by, is_listing};
+ghost use Rattle.capsteps.specs.Affected.{affected_by, session_changed_by, is_listing};
 ghost use Rattle.captable.specs.Table.{IsTable, Table, holder};
 ghost use Rattle.capsteps.specs.Lockmachine.Locks.{IsLockMap, LockMap};
 ghost use Rattle.sessiontab.specs.Calls.{with_session};
@@ -24,21 +24,22 @@ ghost use Rattle.capsteps.specs.Capevents.declared.outcome.Ended.{Ended as AnEnd
 ghost use Rattle.capsteps.specs.Capevents.declared.event.Event.TheVariants as event;
 
 use crate::asks::Asked;
-use crate::judging::{access_stop, asked_refusal, stopped};
+use crate::judging::{access_rejection, asked_refusal, rejection};
 use crate::parts::{Asking, Effect, Parts};
 use capbits::{Caller, ClientId, Ino, Mode, Refusal};
 use capgrant::{Access, Attr};
 use capspec::{FsName, Grants};
 use capsteps::endings::Endings;
+use capsteps::entry_request::EntryRequest;
 use capsteps::judge::denial;
 use capsteps::known::Known;
-use capsteps::leaving::Turn;
+use capsteps::leaving::SessionChange;
 use capsteps::poll::{due_messages, give};
 use capsteps::said::Said;
 use capsteps::start::first_locks;
-use capsteps::touch::Touch;
 use capsteps::{
-    ChangeList, EndedList, Event, Messages, Reply, Scene, ToldNumbers, ViewChange, copy_of_messages,
+    ChangeList, EndedList, EndedTickets, Event, Messages, Reply, Scene, ViewChange,
+    copy_of_messages,
 };
 use captable::{CapTable, Holder};
 use inotree::{Kind, Tree};
@@ -116,16 +117,19 @@ impl World {
         let _waiting = scene.locks.waiting();
         match event {
             Event::Open { client, ino, mode } => {
-                self.move_locks(&Asking::OfEntry(holder(*client, *ino), Touch::Open(*mode)))
+                self.move_locks(&Asking::OfEntry(holder(*client, *ino), EntryRequest::Open(*mode)))
             }
             Event::Want { client, ino, caps } => {
-                self.move_locks(&Asking::OfEntry(holder(*client, *ino), Touch::Want(*caps)))
+                self.move_locks(&Asking::OfEntry(holder(*client, *ino), EntryRequest::Want(*caps)))
             }
             Event::Ack { client, ino, seq } => {
-                self.move_locks(&Asking::OfEntry(holder(*client, *ino), Touch::Ack(*seq)))
+                self.move_locks(&Asking::OfEntry(holder(*client, *ino), EntryRequest::Ack(*seq)))
             }
             Event::Release { client, ino, caps } => {
-                self.move_locks(&Asking::OfEntry(holder(*client, *ino), Touch::Release(*caps)))
+                self.move_locks(&Asking::OfEntry(
+                    holder(*client, *ino),
+                    EntryRequest::Release(*caps),
+                ))
             }
             Event::Get { client, ino, part } => {
                 self.move_locks(&Asking::OfLock(holder(*client, *ino), Asked::Get(*part)))
@@ -158,16 +162,19 @@ impl World {
             Event::Poll { client, max } => self.poll(*client, *max),
             Event::CloseSession { client } => self.move_locks(&Asking::OfSession(
                 *client,
-                Turn::Close,
+                SessionChange::Close,
             )),
             Event::Mark { client, status } => {
-                self.move_locks(&Asking::OfSession(*client, Turn::Mark(*status)))
+                self.move_locks(&Asking::OfSession(*client, SessionChange::Mark(*status)))
             }
             Event::Regrant { client, grants } => self.move_locks(&Asking::OfSession(
                 *client,
-                Turn::Regrant(grants),
+                SessionChange::Regrant(grants),
             )),
-            Event::Evict { client } => self.move_locks(&Asking::OfSession(*client, Turn::Evict)),
+            Event::Evict { client } => self.move_locks(&Asking::OfSession(
+                *client,
+                SessionChange::Evict,
+            )),
             Event::Recall { count } => self.recall(*count),
             Event::Session { .. }
             | Event::Unblock { .. }
@@ -181,9 +188,9 @@ impl World {
 
     // A step that leaves alone what entries and requests depend on: no lock moves, and all is done when the event is.
     fn act_alone(&mut self, event: &Event) -> Result<Said, AllocError>
-        requires touches { touched_by event.now ≡ None }
+        requires affects { affected_by event.now ≡ None }
         requires lists { is_listing event.now ≡ false }
-        requires turns { turned_by event.now ≡ None }
+        requires changes_session { session_changed_by event.now ≡ None }
         requires tree { IsTree self.old.scene.tree }
         requires table { IsTable self.old.scene.table }
         ensures answered { IfOk result (λ said. IsAnswered self.old event.now said self.new) }
@@ -207,8 +214,8 @@ impl World {
         ensures changes { IfOk result (λ said. AreChanges said.changes.items (view_of self.old) (view_of self.new)) }
         ensures err { OnErr result (self.new ≡ self.old) }
     {
-        if let Some(stopped) = stopped(&self.parts.scene, &self.parts.known, asking) {
-            return Ok(Said::alone(self.parts.messages.alloc(), stopped.into_reply()));
+        if let Some(rejection) = rejection(&self.parts.scene, &self.parts.known, asking) {
+            return Ok(Said::alone(self.parts.messages.alloc(), rejection.into_reply()));
         }
         let Effect { affected, answer } = self.parts.begin(asking)?;
         self.parts.end(affected);
@@ -237,7 +244,7 @@ impl World {
             max,
         )?;
         let kept = copy_of_messages(alloc, given.as_slice())?;
-        let told = ToldNumbers::of(alloc, given.as_slice())?;
+        let told = EndedTickets::of(alloc, given.as_slice())?;
         give(&mut self.parts.scene.table, client, given.as_slice());
         self.parts.scene.table.skip_quiet(client);
         self.parts.messages.remove_given(client, &told);
@@ -270,9 +277,9 @@ impl World {
     // The event by itself, of which nothing was noted yet.
     fn act(&mut self, event: &Event, changes: &mut ChangeList) -> Result<Reply, AllocError>
         requires none { changes.old.items ≡ [] }
-        requires touches { touched_by event.now ≡ None }
+        requires affects { affected_by event.now ≡ None }
         requires lists { is_listing event.now ≡ false }
-        requires turns { turned_by event.now ≡ None }
+        requires changes_session { session_changed_by event.now ≡ None }
         ensures direct { IfOk result (λ reply. IsDirect self.old event.now reply self.new) }
         ensures changes { OnOk result (AreChanges changes.new.items (view_of self.old) (view_of self.new)) }
         ensures err { OnErr result (self.new ≡ self.old) }
@@ -410,8 +417,8 @@ impl World {
         ensures changes { OnOk result (AreChanges changes.new.items (view_of self.old) (view_of self.new)) }
         ensures err { OnErr result (self.new ≡ self.old) }
     {
-        if let Some(stopped) = access_stop(&self.parts.scene, holder, Access::Write) {
-            return Ok(stopped.into_reply());
+        if let Some(rejection) = access_rejection(&self.parts.scene, holder, Access::Write) {
+            return Ok(rejection.into_reply());
         }
         if let Some(refusal) = self.parts.scene.tree.new_inode_refusal(holder.ino, name) {
             return Ok(Reply::Refused(refusal));
@@ -453,8 +460,8 @@ impl World {
         ensures err { OnErr result (self.new ≡ self.old) }
     {
         let holder = Holder { client, ino };
-        if let Some(stopped) = access_stop(&self.parts.scene, holder, Access::Snapshot) {
-            return Ok(stopped.into_reply());
+        if let Some(rejection) = access_rejection(&self.parts.scene, holder, Access::Snapshot) {
+            return Ok(rejection.into_reply());
         }
         if let Some(refusal) = self.parts.scene.tree.new_snapshot_refusal(ino, name) {
             return Ok(Reply::Refused(refusal));
@@ -474,8 +481,8 @@ impl World {
         ensures err { OnErr result (self.new ≡ self.old) }
     {
         let holder = Holder { client, ino };
-        if let Some(stopped) = access_stop(&self.parts.scene, holder, Access::Snapshot) {
-            return Ok(stopped.into_reply());
+        if let Some(rejection) = access_rejection(&self.parts.scene, holder, Access::Snapshot) {
+            return Ok(rejection.into_reply());
         }
         if let Some(refusal) = self.parts.scene.tree.old_snapshot_refusal(ino, name) {
             return Ok(Reply::Refused(refusal));

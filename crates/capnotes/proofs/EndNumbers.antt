@@ -11,7 +11,7 @@ use Rattle.capbits.specs.declared.ids.ClientId.{ClientId}
 use Rattle.capbits.specs.declared.ids.Ticket.{Ticket}
 use Rattle.capevents.specs.declared.outcome.Ended.{Ended}
 use Rattle.capevents.specs.declared.outcome.Message.{Message}
-use Rattle.capnotes.specs.Untold.{AreEndsOf, is_end_of, is_left, is_to}
+use Rattle.capnotes.specs.DueEndings.{AreEndsOf, is_end_of, is_left, is_to}
 
 -- the numbers of some messages, and of one more
 pub told-more : (messages : List Message) (i : ℕ) (d : Message) (numbers more : List ℕ) → i < length messages → AreEndsOf (take i messages) numbers

@@ -12,7 +12,7 @@ use Rattle.capevents.proofs.Lockmachine.Positions.{at_position}
 use Rattle.capevents.proofs.Lockmachine.Rest.{not_found}
 use Rattle.capbits.specs.declared.ids.Ticket.{Ticket}
 use Rattle.capevents.specs.declared.outcome.Ended.{Ended}
-use Rattle.capnotes.specs.Untold.{is_of_ticket, HaveOwnNumbers, but_for}
+use Rattle.capnotes.specs.DueEndings.{is_of_ticket, HaveOwnNumbers, but_for}
 
 -- none of the others has the number of the first
 pub own-head : (m : Ended) (ms : List Ended) → HaveOwnNumbers (m ∷ ms) → All (λ other. other.ticket.0 ≢ m.ticket.0) ms

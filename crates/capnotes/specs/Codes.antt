@@ -6,11 +6,11 @@ use Rattle.capevents.specs.contracts.outcome.Ended as ended
 use Rattle.capview.specs.declared.change.ViewChange.{ViewChange}
 use Rattle.capview.specs.contracts.change.ViewChange as view_change
 use Rattle.capnotes.specs.Noted.{Noted}
-use Rattle.capnotes.specs.Untold.{Untold}
+use Rattle.capnotes.specs.DueEndings.{DueEndings}
 
 -- a list with room as its parts
-abbrev pub untold_code : Coded Untold
-untold_code =
+abbrev pub due_endings_code : Coded DueEndings
+due_endings_code =
     code_by (List Ended × ℕ) (coded× (coded_list ended.the_row.coded) coded_ℕ)
     (λ m. (m.items, m.room)) (λ p. record { items = p.0; room = p.1 }) (λ _. refl)
 

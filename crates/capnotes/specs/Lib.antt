@@ -1,4 +1,4 @@
-pub mod Untold
+pub mod DueEndings
 pub mod InoSets
 pub mod Noted
 pub mod Changing

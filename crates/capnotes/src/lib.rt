@@ -4,9 +4,9 @@
 #![tactic(auto)]
 
 mod changes;
+mod ended_tickets;
 mod ino_set;
 mod messages;
-mod told_numbers;
 
 pub use capevents::{
     Ask, Bytes, Change, Ended, EndedList, Event, InodeLocks, Locks, Message, MessageList, Move,
@@ -15,6 +15,6 @@ pub use capevents::{
 };
 pub use capview::{Question, Unknown, View, ViewChange};
 pub use changes::ChangeList;
+pub use ended_tickets::EndedTickets;
 pub use ino_set::InoSet;
 pub use messages::Messages;
-pub use told_numbers::ToldNumbers;

@@ -1,10 +1,10 @@
 //! The requests that ended and that no client was told of.
 ghost use Rattle.std.specs.Prelude.{◌≡◌, ◌==◌, ◌&&◌, ◌+◌, ◌≤◌, List, ◌<◌, ◌++◌, [], ◌∷◌, length, filter, not, IfOk, OnOk, OnErr, vec_capacity};
 ghost use Rattle.std.specs.List.{find, list_any, position};
-ghost use Rattle.capnotes.specs.Untold.{is_of_ticket, AreEndsOf, is_to, is_left, HaveOwnNumbers, but_for};
+ghost use Rattle.capnotes.specs.DueEndings.{is_of_ticket, AreEndsOf, is_to, is_left, HaveOwnNumbers, but_for};
 ghost use Rattle.capevents.specs.declared.outcome.Message.{Message};
 
-use crate::told_numbers::ToldNumbers;
+use crate::ended_tickets::EndedTickets;
 use capbits::{ClientId, Ticket};
 use capevents::{Ended, EndedList};
 use std::alloc::{AllocError, Global};
@@ -26,12 +26,12 @@ impl Drop for Messages {
 
 impl Model for Messages {
     ghost use Rattle.std.specs.Prelude.{vec_capacity};
-    ghost use Rattle.capnotes.specs.Untold.{Untold};
-    ghost use Rattle.capnotes.specs.Codes.{untold_code};
+    ghost use Rattle.capnotes.specs.DueEndings.{DueEndings};
+    ghost use Rattle.capnotes.specs.Codes.{due_endings_code};
 
-    ghost Value = { Untold };
+    ghost Value = { DueEndings };
 
-    ghost coded = { untold_code };
+    ghost coded = { due_endings_code };
 
     ghost view = { λ m. record { items = m.items.items; room = vec_capacity m.items } };
 }
@@ -145,7 +145,7 @@ impl Messages {
     }
 
     /// Those are due no more of which a client was told by some messages.
-    pub fn remove_given(&mut self, client: ClientId, told: &ToldNumbers)
+    pub fn remove_given(&mut self, client: ClientId, told: &EndedTickets)
         ensures items { (given : List Message) → AreEndsOf given told.now → self.new.items ≡ filter (is_left client given) self.old.items }
         ensures room { self.new.room ≡ self.old.room }
     {
@@ -173,7 +173,7 @@ fn is_to(client: ClientId, ended: &Ended) -> bool
 }
 
 // Whether the message is still due to its client, when a client was told how these requests ended.
-fn is_left(client: ClientId, told: &ToldNumbers, ended: &Ended) -> bool
+fn is_left(client: ClientId, told: &EndedTickets, ended: &Ended) -> bool
     ensures { result ≡ not (is_to client ended.now && list_any (λ number. number == ended.now.ticket.0) told.now) }
 {
     !(is_to(client, ended) && told.contains(ended.ticket))

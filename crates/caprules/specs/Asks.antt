@@ -77,7 +77,7 @@ ask_after s ino (Rename dir name) = new_place_tests s.tree ino dir.0 name
 
 -- ---- what changes
 
--- the capability with which a client changes a part by itself
+-- the cap by which a client alone changes a part
 abbrev pub exclusive : Part → Cap
 exclusive A = Ax
 exclusive L = Lx

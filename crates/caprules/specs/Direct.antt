@@ -36,12 +36,12 @@ use Rattle.capnotes.specs.Capevents.declared.event.OpenMode.TheVariants as openi
 use Rattle.capnotes.specs.Capevents.declared.outcome.Ended.{Ended}
 use Rattle.capnotes.specs.Capevents.declared.reply.Reply.{Reply}
 use Rattle.capnotes.specs.Capevents.declared.reply.Reply.TheVariants as reply
-use Rattle.capnotes.specs.Untold.{is_of_ticket, is_to}
+use Rattle.capnotes.specs.DueEndings.{is_of_ticket, is_to}
 use Rattle.caprules.specs.State.{State}
-use Rattle.caprules.specs.declared.stopped.Stopped.{Stopped}
+use Rattle.caprules.specs.declared.rejection.Rejection.{Rejection}
 use Rattle.capnotes.specs.Changing.{tree_changed}
 use Rattle.caprules.specs.Serving.{dropped_of}
-use Rattle.caprules.specs.Judge.{judged, stop_reply, revoked_of}
+use Rattle.caprules.specs.Judge.{judged, rejection_reply, revoked_of}
 use Rattle.caprules.specs.Messages.{first_messages, with_given}
 
 abbrev pub with_scene : State → Scene → State
@@ -221,8 +221,8 @@ effect s (event.Rename client ino dir name) = asks s client ino (Rename dir name
 effect s (event.Flush client ino change) = says (with_flush s (holder client ino) change) reply.Done
 effect s (event.Poll client max) = record { state = s; answer = Gives client max; dropped = [] }
 
-abbrev pub effect_unless : State → Event → Option Stopped → Direct
-effect_unless s e (Some stopped) = says s (stop_reply stopped)
+abbrev pub effect_unless : State → Event → Option Rejection → Direct
+effect_unless s e (Some rejection) = says s (rejection_reply rejection)
 effect_unless s e None = effect s e
 
 -- what stops an event is all that it answers, and it has no effect then

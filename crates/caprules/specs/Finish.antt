@@ -68,14 +68,14 @@ issue s = record s { table = record s.table { rows = map (issue_row s) s.table.r
 -- ---- forget
 
 -- the inode is no stray, or somebody has an entry on it
-abbrev pub is_kept : Scene → ℕ → Bool
-is_kept s ino = not (is_gone (place s.tree.nodes ino)) || list_any (is_of_inode (record { 0 = ino })) s.table.rows
+abbrev pub is_in_use : Scene → ℕ → Bool
+is_in_use s ino = not (is_gone (place s.tree.nodes ino)) || list_any (is_of_inode (record { 0 = ino })) s.table.rows
 
 -- the others go, with their locks
 abbrev pub forget : Scene → Scene
 forget s = record s {
-  tree = record s.tree { nodes = finite.retain_keys s.tree.nodes (is_kept s) };
-  locks = record s.locks { states = finite.retain_keys s.locks.states (is_kept s) };
+  tree = record s.tree { nodes = finite.retain_keys s.tree.nodes (is_in_use s) };
+  locks = record s.locks { states = finite.retain_keys s.locks.states (is_in_use s) };
 }
 
 -- ---- numbers

@@ -68,17 +68,17 @@ abbrev pub DeniesByName : Scene → Event → Reply → Type 0
 DeniesByName s e answer = DenialIsByName s (before s e) (needs s e) (λ access rules. answer ≡ reply.Denied access rules)
 
 -- whether the answer is a denial or a refusal
-abbrev pub is_stop : Reply → Bool
-is_stop reply.Done = false
-is_stop (reply.Ino ino) = false
-is_stop (reply.Opened seq caps) = false
-is_stop (reply.Values values) = false
-is_stop (reply.Messages messages) = false
-is_stop (reply.Recalled holders) = false
-is_stop (reply.Waiting ticket) = false
-is_stop (reply.Denied access rules) = true
-is_stop (reply.Refused refusal) = true
-is_stop reply.OutOfMemory = false
+abbrev pub is_rejection : Reply → Bool
+is_rejection reply.Done = false
+is_rejection (reply.Ino ino) = false
+is_rejection (reply.Opened seq caps) = false
+is_rejection (reply.Values values) = false
+is_rejection (reply.Messages messages) = false
+is_rejection (reply.Recalled holders) = false
+is_rejection (reply.Waiting ticket) = false
+is_rejection (reply.Denied access rules) = true
+is_rejection (reply.Refused refusal) = true
+is_rejection reply.OutOfMemory = false
 
 -- ---- denials of requests that waited
 
@@ -149,8 +149,8 @@ IsInRow row part state = IsSubset (of_part part row.entry.held) (row_of part sta
 
 -- what it holds of the part outside the row of this state is being revoked, and keeps a gather to this state open. It says what
 -- revoking and an open gather come to: it follows from these two words alone, and what a step could break is the row
-abbrev pub IsTakenBack : Scene → EntryRow → Part → LockGoal → Type 0
-IsTakenBack s row part to =
+abbrev pub IsRevoked : Scene → EntryRow → Part → LockGoal → Type 0
+IsRevoked s row part to =
     (cap : Cap) → IsTrue (has (of_part part row.entry.held) cap) → IsFalse (has (row_of part to row.holder.client) cap) →
     IsTrue (has (against s row) cap) × IsTrue (is_open s row.holder.ino.0 part to)
 
@@ -159,7 +159,7 @@ IsTakenBack s row part to =
 abbrev pub IsInPlace : Scene → EntryRow → Part → Option LockState → Type 0
 IsInPlace s row part None = IsSubset (of_part part row.entry.held) no_caps
 IsInPlace s row part (Some (Stable state)) = IsInRow row part state
-IsInPlace s row part (Some (Gather from to)) = IsInRow row part from × IsTakenBack s row part to
+IsInPlace s row part (Some (Gather from to)) = IsInRow row part from × IsRevoked s row part to
 
 -- of each entry and each part
 abbrev pub AreInPlace : Scene → Type 0

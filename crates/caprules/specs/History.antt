@@ -20,15 +20,15 @@ use Rattle.caprules.specs.Sound.{IsSound, AreGiven}
 use Rattle.caprules.specs.Shown.{AreShown}
 
 -- a state, the history that led to it, how many rows it may have, and what the last step changed of what readers see
-pub record Told : Type 0 where
+pub record Recorded : Type 0 where
   pub state : State
   pub rows : List Row
   pub max_rows : ℕ
   pub changes : List ViewChange
 
 -- what a core has, as one value
-abbrev pub told : State → List Row → ℕ → List ViewChange → Told
-told state rows max_rows changes = record { state = state; rows = rows; max_rows = max_rows; changes = changes }
+abbrev pub recorded : State → List Row → ℕ → List ViewChange → Recorded
+recorded state rows max_rows changes = record { state = state; rows = rows; max_rows = max_rows; changes = changes }
 
 -- ---- the opening state
 
@@ -65,7 +65,7 @@ abbrev pub made_row : PassId → ℕ → Event → Reply → List Ended → Row
 made_row pass nth e answer ended = record { pass = pass; nth = nth; event = e; reply = answer; ended = ended }
 
 -- the event is one step, and adds its row
-pub record IsNext (old : Told) (pass : PassId) (e : Event) (answer : Reply) (new : Told) : Type 0 where
+pub record IsNext (old : Recorded) (pass : PassId) (e : Event) (answer : Reply) (new : Recorded) : Type 0 where
   pub ended : List Ended
   pub step : Step old.state e answer ended new.state
   pub rows : new.rows ≡ old.rows ++ made_row pass (rows_of pass old.rows + 1) e answer ended ∷ []
@@ -79,7 +79,7 @@ InItsRow old new Fact = (row : Row) × (new ≡ old ++ row ∷ []) × Fact row.e
 
 -- the history is legal, led here from some opening state and is not longer than it may be; the state is sound, with the
 -- numbers that so many rows can give; and the numbers of each entry say what its client was last shown
-pub record IsTold (t : Told) : Type 0 where
+pub record IsRecorded (t : Recorded) : Type 0 where
   pub fs : List ℕ
   pub tree : Nodes
   pub no_strays : HasNoStray tree

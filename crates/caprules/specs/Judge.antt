@@ -12,7 +12,7 @@ use Rattle.capbits.specs.Refusal.{Test, first_failing}
 use Rattle.sessiontab.specs.Table.{SessionTable}
 use Rattle.sessiontab.specs.Tests.{connected_test, session_tests, mark_tests, new_session_tests, evict_tests, blocked_test}
 use Rattle.inotree.specs.Tree.{Nodes, child}
-use Rattle.inotree.specs.Tests.{known_test, inode_tests, directory_test, file_test, found_test, new_inode_tests, new_snapshot_tests, old_snapshot_tests}
+use Rattle.inotree.specs.Tests.{exists_test, inode_tests, directory_test, file_test, found_test, new_inode_tests, new_snapshot_tests, old_snapshot_tests}
 use Rattle.captable.specs.declared.entry.Holder.{Holder}
 use Rattle.captable.specs.Table.{Table, holder, is_row_of, entry_at}
 use Rattle.captable.specs.Tests.{open_tests, entry_test, ack_tests, release_tests}
@@ -31,8 +31,8 @@ use Rattle.capnotes.specs.Capevents.declared.event.OpenMode.{OpenMode}
 use Rattle.capnotes.specs.Capevents.declared.event.OpenMode.TheVariants as opening
 use Rattle.capnotes.specs.Capevents.declared.reply.Reply.{Reply}
 use Rattle.capnotes.specs.Capevents.declared.reply.Reply.TheVariants as reply
-use Rattle.caprules.specs.declared.stopped.Stopped.{Stopped}
-use Rattle.caprules.specs.declared.stopped.Stopped.TheVariants.{ByPolicy, ByTest}
+use Rattle.caprules.specs.declared.rejection.Rejection.{Rejection}
+use Rattle.caprules.specs.declared.rejection.Rejection.TheVariants.{ByPolicy, ByTest}
 use Rattle.caprules.specs.Needs.{Need, need, need_if}
 use Rattle.caprules.specs.Asks.{ask_before, ask_needs, ask_after, change_access, change_tests, exclusive}
 
@@ -49,7 +49,7 @@ revoked_of s k = option_map_or (against s) (find (is_row_of k) s.table.rows) no_
 
 -- the client has a session, open or stale, and the inode is there, with a path or without
 abbrev pub connected_tests : Scene → ClientId → ℕ → List Test
-connected_tests s client ino = connected_test s.sessions client.0 ∷ known_test s.tree ino ∷ []
+connected_tests s client ino = connected_test s.sessions client.0 ∷ exists_test s.tree ino ∷ []
 
 -- the client has an open session, and the inode is there and has a path
 abbrev pub asked_tests : Scene → ClientId → ℕ → List Test
@@ -180,23 +180,23 @@ abbrev pub first_denied : Scene → List Need → Option Need
 first_denied s needed = find (λ n. not (is_met s n)) needed
 
 -- the denial of one access without a grant
-abbrev pub denial_of : List ℕ → Nodes → SessionTable → Holder → Access → Option Stopped
+abbrev pub denial_of : List ℕ → Nodes → SessionTable → Holder → Access → Option Rejection
 denial_of fs tree sessions k access = if is_granted fs tree sessions k access then None else Some (ByPolicy access (failures fs tree sessions k access))
 
-abbrev pub stop_by : Scene → Option Refusal → Option Need → Option Refusal → Option Stopped
-stop_by s (Some refusal) denied later = Some (ByTest refusal)
-stop_by s None (Some n) later = Some (ByPolicy n.access (failures s.fs s.tree s.sessions n.holder n.access))
-stop_by s None None later = option_map ByTest later
+abbrev pub rejection_by : Scene → Option Refusal → Option Need → Option Refusal → Option Rejection
+rejection_by s (Some refusal) denied later = Some (ByTest refusal)
+rejection_by s None (Some n) later = Some (ByPolicy n.access (failures s.fs s.tree s.sessions n.holder n.access))
+rejection_by s None None later = option_map ByTest later
 
 -- what stops a request: a test; or an access without a grant, with the rule by which each grant fails first; or nothing
-abbrev pub stop : Scene → List Test → List Need → List Test → Option Stopped
-stop s tests needed more = stop_by s (first_failing tests) (first_denied s needed) (first_failing more)
+abbrev pub rejection_of : Scene → List Test → List Need → List Test → Option Rejection
+rejection_of s tests needed more = rejection_by s (first_failing tests) (first_denied s needed) (first_failing more)
 
 -- what stops an event: the tests before policy, then policy, then the tests behind it
-abbrev pub judged : Scene → Event → Option Stopped
-judged s e = stop s (before s e) (needs s e) (after s e)
+abbrev pub judged : Scene → Event → Option Rejection
+judged s e = rejection_of s (before s e) (needs s e) (after s e)
 
 -- what is answered to a request that is stopped
-abbrev pub stop_reply : Stopped → Reply
-stop_reply (ByPolicy access rules) = reply.Denied access rules
-stop_reply (ByTest refusal) = reply.Refused refusal
+abbrev pub rejection_reply : Rejection → Reply
+rejection_reply (ByPolicy access rules) = reply.Denied access rules
+rejection_reply (ByTest refusal) = reply.Refused refusal

@@ -14,7 +14,7 @@ use Rattle.capnotes.specs.Lockmachine.Scene.{told_set}
 use Rattle.capnotes.specs.Capevents.declared.outcome.Ended.{Ended}
 use Rattle.capnotes.specs.Capevents.declared.outcome.Message.{Message}
 use Rattle.capnotes.specs.Capevents.declared.outcome.Message.TheVariants as message
-use Rattle.capnotes.specs.Untold.{is_to, is_left}
+use Rattle.capnotes.specs.DueEndings.{is_to, is_left}
 use Rattle.caprules.specs.State.{State}
 
 -- what the client is to know that it holds has changed since it was told

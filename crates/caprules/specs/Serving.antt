@@ -17,15 +17,15 @@ use Rattle.capnotes.specs.Capevents.declared.outcome.PartValues.TheVariants as v
 use Rattle.capnotes.specs.Capevents.declared.outcome.Ended.{Ended}
 use Rattle.capnotes.specs.Capevents.declared.outcome.Outcome.{Outcome}
 use Rattle.capnotes.specs.Capevents.declared.outcome.Outcome.TheVariants as outcome
-use Rattle.caprules.specs.declared.stopped.Stopped.{Stopped}
-use Rattle.caprules.specs.declared.stopped.Stopped.TheVariants.{ByPolicy, ByTest}
+use Rattle.caprules.specs.declared.rejection.Rejection.{Rejection}
+use Rattle.caprules.specs.declared.rejection.Rejection.TheVariants.{ByPolicy, ByTest}
 use Rattle.caprules.specs.Asks.{ask_before, ask_needs, ask_after}
 use Rattle.capnotes.specs.Changing.{tree_after}
-use Rattle.caprules.specs.Judge.{stop}
+use Rattle.caprules.specs.Judge.{rejection_of}
 
 -- what stops the request now
-abbrev pub judged_again : Scene → Request → Option Stopped
-judged_again s q = stop s (ask_before s q.ino.0 q.ask) (ask_needs s q.client q.ino.0 q.ask) (ask_after s q.ino.0 q.ask)
+abbrev pub judged_again : Scene → Request → Option Rejection
+judged_again s q = rejection_of s (ask_before s q.ino.0 q.ask) (ask_needs s q.client q.ino.0 q.ask) (ask_after s q.ino.0 q.ask)
 
 -- ---- what it does
 
@@ -36,24 +36,24 @@ values_of X node = values.Xattr node.attributes
 values_of F node = values.File node.size node.time
 
 -- what the inode keeps of a part; one that a test has found is there
-abbrev pub told_of : Part → Option Node → Outcome
-told_of part None = outcome.Done
-told_of part (Some node) = outcome.Values (values_of part node)
+abbrev pub values_outcome : Part → Option Node → Outcome
+values_outcome part None = outcome.Done
+values_outcome part (Some node) = outcome.Values (values_of part node)
 
 abbrev pub passed_as : Scene → ℕ → Ask → Outcome
-passed_as s ino (Get part) = told_of part (map.get s.tree.nodes ino)
+passed_as s ino (Get part) = values_outcome part (map.get s.tree.nodes ino)
 passed_as s ino (Alter change) = outcome.Done
 passed_as s ino Unlink = outcome.Done
 passed_as s ino Rmdir = outcome.Done
 passed_as s ino (Rename dir name) = outcome.Done
 
 -- what stopped it, as its outcome
-abbrev pub stop_outcome : Stopped → Outcome
-stop_outcome (ByPolicy access rules) = outcome.Denied access rules
-stop_outcome (ByTest refusal) = outcome.Refused refusal
+abbrev pub rejection_outcome : Rejection → Outcome
+rejection_outcome (ByPolicy access rules) = outcome.Denied access rules
+rejection_outcome (ByTest refusal) = outcome.Refused refusal
 
-abbrev pub outcome_unless : Scene → Request → Option Stopped → Outcome
-outcome_unless s q (Some stopped) = stop_outcome stopped
+abbrev pub outcome_unless : Scene → Request → Option Rejection → Outcome
+outcome_unless s q (Some rejection) = rejection_outcome rejection
 outcome_unless s q None = passed_as s q.ino.0 q.ask
 
 -- how the request ends if it is served now and finds its memory

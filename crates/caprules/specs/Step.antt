@@ -25,9 +25,9 @@ state_after old d moves settled = record d.state {
   messages = d.state.messages ++ earlier old.scene.locks.last (ended_in moves);
 }
 
--- and so it is at the end of a step by these moves that leads to this scene, where the state was `touched` right after the event
+-- and so it is at the end of a step by these moves that leads to this scene, where the state was `affected` right after the event
 abbrev pub state_at_end : State → State → List Made → Scene → State
-state_at_end old touched moves last = record touched { scene = last; messages = touched.messages ++ earlier old.scene.locks.last (ended_in moves) }
+state_at_end old affected moves last = record affected { scene = last; messages = affected.messages ++ earlier old.scene.locks.last (ended_in moves) }
 
 -- a step by these moves
 pub record StepBy (old : State) (e : Event) (moves : List Made) (answer : Reply) (ended : List Ended) (new : State) : Type 0 where

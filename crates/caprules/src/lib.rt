@@ -4,12 +4,12 @@
 //! No body goes by them here: `capacts`, `capsteps` and `capcore` do, and what stands beside the core knows nothing else of it.
 #![tactic(auto)]
 
-mod stopped;
+mod rejection;
 
 pub use capnotes::{
-    Ask, Bytes, Change, ChangeList, Ended, EndedList, Event, InoSet, InodeLocks, Locks, Message,
-    MessageList, Messages, Move, OpenMode, Outcome, PartValues, Policy, Question, Reply, Request,
-    Row, Scene, ToldNumbers, Unknown, View, ViewChange, Wants, copy_of_messages, copy_of_outcome,
-    copy_of_reply, copy_of_rules, permitted_and_wanted, wants_on,
+    Ask, Bytes, Change, ChangeList, Ended, EndedList, EndedTickets, Event, InoSet, InodeLocks,
+    Locks, Message, MessageList, Messages, Move, OpenMode, Outcome, PartValues, Policy, Question,
+    Reply, Request, Row, Scene, Unknown, View, ViewChange, Wants, copy_of_messages,
+    copy_of_outcome, copy_of_reply, copy_of_rules, permitted_and_wanted, wants_on,
 };
-pub use stopped::Stopped;
+pub use rejection::Rejection;

@@ -1,7 +1,7 @@
 -- What a call says of the core when the lock is free again: not which state it found, but that there is one.
 use Rattle.std.specs.Prelude.{ℕ}
 use Rattle.capbits.specs.declared.ids.PassId.{PassId}
-use Rattle.capcore.specs.Caprules.History.{Told}
+use Rattle.capcore.specs.Caprules.History.{Recorded}
 use Rattle.capcore.specs.Promised.{IsPromised}
 use Rattle.capcore.specs.Caprules.State.{State}
 use Rattle.capcore.specs.Capevents.declared.event.Event.{Event}
@@ -10,7 +10,7 @@ use Rattle.capserver.specs.Held.{IsLed}
 
 -- from some state, to which a history leads from the opening, an event of this pass is answered so, with all that is promised of one
 pub record IsStep (opening : State) (max_rows : ℕ) (pass : PassId) (event : Event) (reply : Reply) : Type 0 where
-  pub old : Told
+  pub old : Recorded
   pub led : IsLed opening max_rows old
-  pub new : Told
+  pub new : Recorded
   pub promised : IsPromised old pass event reply new

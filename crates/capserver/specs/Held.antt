@@ -2,19 +2,19 @@
 use Rattle.std.specs.Prelude.{◌≡◌, ◌≤◌, ℕ, false, length}
 use mathlib.Core.List.{IsPrefix}
 use Rattle.capcore.specs.Caprules.State.{State}
-use Rattle.capcore.specs.Caprules.History.{Told, Replays}
+use Rattle.capcore.specs.Caprules.History.{Recorded, Replays}
 use Rattle.capcore.specs.Capview.Sight.{Shows}
 use Rattle.capcore.specs.Caprules.Noted.{view_of}
 use Rattle.onecall.specs.Cappass.Published.Publishing.{Publishing}
 
 -- the history leads from the opening state to that of the core, and takes as many rows as the opening said
-pub record IsLed (opening : State) (max_rows : ℕ) (core : Told) : Type 0 where
+pub record IsLed (opening : State) (max_rows : ℕ) (core : Recorded) : Type 0 where
   pub replays : Replays opening core.rows core.state
   pub max_rows_is : core.max_rows ≡ max_rows
 
 -- As many calls were counted as the history has rows. The rows that are in the book begin it. Unless a stage was lost, they are the
 -- whole history, and what readers are to see next shows the state of the core.
-pub record IsHeld (core : Told) (calls : ℕ) (next : Publishing) : Type 0 where
+pub record IsHeld (core : Recorded) (calls : ℕ) (next : Publishing) : Type 0 where
   pub counted : calls ≡ length core.rows
   pub room : core.max_rows ≤ 4294967295
   pub begins : IsPrefix next.rows core.rows

@@ -32,13 +32,13 @@ pub struct Locked<L: Server> {
 
 impl<L: Server> Model for Locked<L> {
     ghost use Rattle.std.specs.Prelude.{◌≡◌, ◌+◌, MatchOption};
-    ghost use Rattle.capcore.specs.Caprules.History.{Told};
-    ghost use Rattle.capcore.specs.Codes.{told_code};
+    ghost use Rattle.capcore.specs.Caprules.History.{Recorded};
+    ghost use Rattle.capcore.specs.Codes.{recorded_code};
     ghost use Rattle.capserver.specs.Held.{IsHeld, IsLed};
 
-    ghost Value = { Told };
+    ghost Value = { Recorded };
 
-    ghost coded = { told_code };
+    ghost coded = { recorded_code };
 
     ghost view = { λ s. s.core };
 

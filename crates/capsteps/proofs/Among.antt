@@ -1,62 +1,62 @@
--- Which inodes a step touches: that of its event, and the others.
+-- Which inodes a step affects: that of its event, and the others.
 use Rattle.std.proofs.Common.{◌≡◌, ◌≢◌, ℕ, true, false, ◌||◌, ◌==◌, inl, inr, ap, ◌∙◌, ◌⊎◌, Result, Ok, Err, OnOk, List, [], ◌∷◌, Contains, zero, suc, refl, subst, arith}
 use Rattle.captable.specs.declared.entry.EntryRow.{EntryRow}
 use Rattle.std.specs.FinSet as set
 use Rattle.std.proofs.Math.Bool.{or-false}
 use Rattle.std.proofs.lemmas.Bool.{eqb-false, ne_eqb, or_cases, or_from, or_left, or_parts, or_right, false_from_ne_true}
 use Rattle.capacts.specs.Capnotes.InoSets.{InoSet}
-use Rattle.capacts.specs.Reach.{is_touched, Widens}
+use Rattle.capacts.specs.Reach.{is_affected, Widens}
 use Rattle.capacts.proofs.InoSets.{none-there, added}
 
--- an inode that is not touched is another, and none of the others
-pub untouched : (ino : ℕ) (touched : InoSet) (other : ℕ) → is_touched ino touched other ≡ false → (other ≢ ino) × (set.contains touched other ≡ false)
-untouched ino touched other off =
-    let both = or_parts (other == ino) (set.contains touched other) off in (eqb-false other ino both.0, both.1)
+-- an inode that is not affected is another, and none of the others
+pub unaffected : (ino : ℕ) (affected : InoSet) (other : ℕ) → is_affected ino affected other ≡ false → (other ≢ ino) × (set.contains affected other ≡ false)
+unaffected ino affected other off =
+    let both = or_parts (other == ino) (set.contains affected other) off in (eqb-false other ino both.0, both.1)
 
-pub not-touched : (ino : ℕ) (touched : InoSet) (other : ℕ) → other ≢ ino → set.contains touched other ≡ false → is_touched ino touched other ≡ false
-not-touched ino touched other off none = or_from (other == ino) (set.contains touched other) (ne_eqb other ino off) none
+pub not-affected : (ino : ℕ) (affected : InoSet) (other : ℕ) → other ≢ ino → set.contains affected other ≡ false → is_affected ino affected other ≡ false
+not-affected ino affected other off none = or_from (other == ino) (set.contains affected other) (ne_eqb other ino off) none
 
--- each of the others is touched
-pub other-touched : (ino : ℕ) (others : InoSet) (other : ℕ) → set.contains others other ≡ true → is_touched ino others other ≡ true
-other-touched ino others other there = or_right (other == ino) (set.contains others other) there
+-- each of the others is affected
+pub other-affected : (ino : ℕ) (others : InoSet) (other : ℕ) → set.contains others other ≡ true → is_affected ino others other ≡ true
+other-affected ino others other there = or_right (other == ino) (set.contains others other) there
 
 -- and where there are more others, more are
-pub more-touched : (ino : ℕ) (touched kept : InoSet) → ((other : ℕ) → set.contains touched other ≡ true → set.contains kept other ≡ true)
-    → (other : ℕ) → is_touched ino touched other ≡ true → is_touched ino kept other ≡ true
-more-touched ino touched kept more other is = elim (or_cases (other == ino) (set.contains touched other) is) as (λ _. is_touched ino kept other ≡ true) [
+pub more-affected : (ino : ℕ) (affected kept : InoSet) → ((other : ℕ) → set.contains affected other ≡ true → set.contains kept other ≡ true)
+    → (other : ℕ) → is_affected ino affected other ≡ true → is_affected ino kept other ≡ true
+more-affected ino affected kept more other is = elim (or_cases (other == ino) (set.contains affected other) is) as (λ _. is_affected ino kept other ≡ true) [
   | inl here ↦ or_left (other == ino) (set.contains kept other) here
-  | inr there ↦ other-touched ino kept other (more other there)
+  | inr there ↦ other-affected ino kept other (more other there)
 ]
 
--- where there are no others, it is the one that is touched
-pub touched-alone : (ino : ℕ) (others : InoSet) → others ≡ set.empty → is_touched ino others ≡ (λ other. other == ino)
-touched-alone ino others none = λ i other. (ap (λ (inos : InoSet). is_touched ino inos other) none ∙ ap (λ b. (other == ino) || b) (none-there other) ∙ or-false (other == ino)) i
+-- where there are no others, it is the one that is affected
+pub affected-alone : (ino : ℕ) (others : InoSet) → others ≡ set.empty → is_affected ino others ≡ (λ other. other == ino)
+affected-alone ino others none = λ i other. (ap (λ (inos : InoSet). is_affected ino inos other) none ∙ ap (λ b. (other == ino) || b) (none-there other) ∙ or-false (other == ino)) i
 
 -- ---- where a client is: the inodes that are gathered for it
 
-pub touched-still : (ino : ℕ) (a b : InoSet) → Widens ino a b → (other : ℕ) → is_touched ino a other ≡ true → is_touched ino b other ≡ true
-touched-still ino a b widens = more-touched ino a b widens.stay
+pub affected-still : (ino : ℕ) (a b : InoSet) → Widens ino a b → (other : ℕ) → is_affected ino a other ≡ true → is_affected ino b other ≡ true
+affected-still ino a b widens = more-affected ino a b widens.stay
 
 -- of the rows that were gone through, each is on an inode that is reached
 abbrev pub AreReached : ℕ → InoSet → List EntryRow → List EntryRow → Type 0
-AreReached ino others all left = (row : EntryRow) → Contains all row → (Contains left row) ⊎ (is_touched ino others row.holder.ino.0 ≡ true)
+AreReached ino others all left = (row : EntryRow) → Contains all row → (Contains left row) ⊎ (is_affected ino others row.holder.ino.0 ≡ true)
 
 pub first-reached : (ino : ℕ) (others : InoSet) (all : List EntryRow) → AreReached ino others all all
 first-reached ino others all row inside = inl inside
 
 pub more-reached : (ino : ℕ) (a b : InoSet) (all left rest : List EntryRow) (row : EntryRow) → left ≡ row ∷ rest → Widens ino a b
-    → is_touched ino b row.holder.ino.0 ≡ true → AreReached ino a all left → AreReached ino b all rest
-more-reached ino a b all left rest row is widens reached so_far other inside = elim (so_far other inside) as (λ _. (Contains rest other) ⊎ (is_touched ino b other.holder.ino.0 ≡ true)) [
+    → is_affected ino b row.holder.ino.0 ≡ true → AreReached ino a all left → AreReached ino b all rest
+more-reached ino a b all left rest row is widens reached so_far other inside = elim (so_far other inside) as (λ _. (Contains rest other) ⊎ (is_affected ino b other.holder.ino.0 ≡ true)) [
   | inl still ↦ of_rest (subst (λ (rows : List EntryRow). Contains rows other) is still)
-  | inr done ↦ inr (touched-still ino a b widens other.holder.ino.0 done)
+  | inr done ↦ inr (affected-still ino a b widens other.holder.ino.0 done)
 ]
   where
-    of_rest : Contains (row ∷ rest) other → (Contains rest other) ⊎ (is_touched ino b other.holder.ino.0 ≡ true)
-    of_rest (zero, room, at) = (let e : row ≡ other = at in inr (subst (λ (r : EntryRow). is_touched ino b r.holder.ino.0 ≡ true) e reached))
+    of_rest : Contains (row ∷ rest) other → (Contains rest other) ⊎ (is_affected ino b other.holder.ino.0 ≡ true)
+    of_rest (zero, room, at) = (let e : row ≡ other = at in inr (subst (λ (r : EntryRow). is_affected ino b r.holder.ino.0 ≡ true) e reached))
     of_rest (suc k, room, at) = inl (k, omega arith, at)
 
-pub all-reached : (ino : ℕ) (others : InoSet) (all left : List EntryRow) → left ≡ [] → AreReached ino others all left → (row : EntryRow) → Contains all row → is_touched ino others row.holder.ino.0 ≡ true
-all-reached ino others all left none so_far row inside = elim (so_far row inside) as (λ _. is_touched ino others row.holder.ino.0 ≡ true) [
+pub all-reached : (ino : ℕ) (others : InoSet) (all left : List EntryRow) → left ≡ [] → AreReached ino others all left → (row : EntryRow) → Contains all row → is_affected ino others row.holder.ino.0 ≡ true
+all-reached ino others all left none so_far row inside = elim (so_far row inside) as (λ _. is_affected ino others row.holder.ino.0 ≡ true) [
   | inl still ↦ absurd (nothing (subst (λ (rows : List EntryRow). Contains rows row) none still))
   | inr done ↦ done
 ]
@@ -70,7 +70,7 @@ none-of_it ino none others is widens =
     let out : set.contains none ino ≡ false = ap (λ (inos : InoSet). set.contains inos ino) is ∙ none-there ino in
     false_from_ne_true (set.contains others ino) (λ there. widens.besides ino out there refl)
 
--- where there was memory for one more, it is touched
-pub touched-tried : {A E : Type 0} (ino k : ℕ) (old new : InoSet) (r : Result A E) → OnOk r (new ≡ set.insert old k) → OnOk r (is_touched ino new k ≡ true)
-touched-tried ino k old new (Ok x) ok = other-touched ino new k (added k old new ok)
-touched-tried ino k old new (Err e) ok = tt
+-- where there was memory for one more, it is affected
+pub affected-tried : {A E : Type 0} (ino k : ℕ) (old new : InoSet) (r : Result A E) → OnOk r (new ≡ set.insert old k) → OnOk r (is_affected ino new k ≡ true)
+affected-tried ino k old new (Ok x) ok = other-affected ino new k (added k old new ok)
+affected-tried ino k old new (Err e) ok = tt

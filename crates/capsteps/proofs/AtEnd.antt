@@ -1,4 +1,4 @@
--- The end of a step: the entries on an inode one by one, and all inodes that it touched.
+-- The end of a step: the entries on an inode one by one, and all inodes that it affected.
 use Rattle.std.proofs.Common.{◌≡◌, ℕ, zero, suc, ◌<◌, Bool, true, false, cond, Option, Some, None, List, [], ◌∷◌, length, filter, take, get_or, refl, sym, ap, ◌∙◌, arith, eq-eqb, true≢false, ◌≤◌, ◌||◌, map as each, is_some, subst}
 use Rattle.std.specs.Prelude.{All, IfSome, ◌==◌, IsTrue}
 use Rattle.std.specs.List.{fold, AllByRecursion, IsDistinct, list_any}
@@ -34,8 +34,8 @@ use Rattle.capacts.specs.Lockmachine.Inodes.{StateMap}
 use Rattle.capacts.specs.Lockmachine.declared.scene.Scene.{Scene}
 use Rattle.capacts.specs.Finishing.{due_under, told_at, numbered_as, entry_under, entry_by, clients_of}
 use Rattle.capacts.specs.Capnotes.InoSets.{InoSet}
-use Rattle.capsteps.specs.Touching.{forget_at, forget_among}
-use Rattle.capacts.specs.Reach.{is_touched}
+use Rattle.capsteps.specs.Affected.{forget_at, forget_among}
+use Rattle.capacts.specs.Reach.{is_affected}
 use Rattle.capacts.proofs.Lockmachine.Rest.{same_key}
 use Rattle.capsteps.proofs.LeftAlone.{found-contains}
 use Rattle.capsteps.proofs.Strays.{forget-one, forget-twice}
@@ -156,7 +156,7 @@ yet-unchanged g t (k ∷ ks) (suc i) d apart inside =
     yet-unchanged g (changed_by g t k) ks i d apart.1 (omega arith)
     ∙ entry_at-changed_other t k x (λ e. g (record { holder = k; entry = e })) (λ is. true≢false (sym (same_equiv.refl k) ∙ ap (same k) (sym is) ∙ differ))
 
--- ---- all entries on the touched inodes
+-- ---- all entries on the affected inodes
 
 -- of an entry on the inode: by its locks, and by those of all inodes; and by what is known now, and what was known at first
 pub entry-alike : (known first : Holder → Caps) (fs : List ℕ) (tree : Nodes) (sessions : SessionTable) (locks : Option InodeLocks) (states : StateMap) (row : EntryRow)
@@ -164,9 +164,9 @@ pub entry-alike : (known first : Holder → Caps) (fs : List ℕ) (tree : Nodes)
 entry-alike known first fs tree sessions locks states row same_known is =
     λ i. numbered_as (same_known i) (told_at fs tree sessions (is i) row) (due_under fs tree sessions (is i) row) row
 
--- first the others are forgotten, and then the inode of the event: the strays of all that are touched
-pub forget-all : (ino : ℕ) (touched : InoSet) (s : Scene) → forget_at ino (forget_among (set.contains touched) s) ≡ forget_among (is_touched ino touched) s
-forget-all ino touched s =
-    sym (forget-one ino (forget_among (set.contains touched) s))
-    ∙ forget-twice (set.contains touched) (λ n. n == ino) s
-    ∙ (λ i. forget_among (λ n. or_comm (set.contains touched n) (n == ino) i) s)
+-- first the others are forgotten, and then the inode of the event: the strays of all that are affected
+pub forget-all : (ino : ℕ) (affected : InoSet) (s : Scene) → forget_at ino (forget_among (set.contains affected) s) ≡ forget_among (is_affected ino affected) s
+forget-all ino affected s =
+    sym (forget-one ino (forget_among (set.contains affected) s))
+    ∙ forget-twice (set.contains affected) (λ n. n == ino) s
+    ∙ (λ i. forget_among (λ n. or_comm (set.contains affected n) (n == ino) i) s)

@@ -1,4 +1,4 @@
--- The step of an event ends at the inodes that it touched.
+-- The step of an event ends at the inodes that it affected.
 use Rattle.std.proofs.Common.{◌≡◌, ℕ, ◌+◌, ◌==◌, Bool, true, false, cond, not, ◌||◌, Option, Some, None, List, [], ◌∷◌, map, refl, sym, ap, subst, ◌∙◌, Contains}
 use Rattle.std.specs.List.{find, list_any}
 use Rattle.std.specs.Option.{option_map, option_map_or}
@@ -32,12 +32,12 @@ use Rattle.capacts.specs.Lockmachine.Inodes.{lock_in}
 use Rattle.capacts.proofs.Lockmachine.PolicyElsewhere.{permitted-kept, want-kept}
 use Rattle.capacts.proofs.Lockmachine.Told.{told-same}
 use Rattle.capacts.specs.Caprules.State.{State}
-use Rattle.capacts.specs.Caprules.Finish.{allowed_by, due, issue_row, issue, is_kept, forget, told_before, number_row, finished}
+use Rattle.capacts.specs.Caprules.Finish.{allowed_by, due, issue_row, issue, is_in_use, forget, told_before, number_row, finished}
 use Rattle.capacts.specs.Caprules.Headline.{holds, IssuesExactly}
 use Rattle.capacts.specs.Caprules.Sound.{IsSound, IsSoundEntry}
 use Rattle.capacts.specs.Caprules.Settle.{Made}
-use Rattle.capsteps.specs.Touching.{Touches, SettlesAt, Knows, stays, told_then, finished_entry, finished_at}
-use Rattle.capacts.specs.Known.{KnownSets, kept_of, AreKnown, kept_anew, KeptAnew}
+use Rattle.capsteps.specs.Affected.{Affects, SettlesAt, Knows, stays, told_then, finished_entry, finished_at}
+use Rattle.capacts.specs.Known.{KnownSets, known_of, AreKnown, known_anew, KnownAnew}
 use Rattle.capacts.proofs.Held.{or_inside}
 use Rattle.capsteps.proofs.Finishing.{each-alike, same-issue_row, same-renumbered, kept_by}
 use Rattle.capsteps.proofs.Forgotten.{due-left}
@@ -70,7 +70,7 @@ due-want s row e want = ap (λ (w : Caps). due s (record row { entry = record ro
 
 -- ---- the end of the step
 
--- of a scene that is the old one off the inodes that the step touched
+-- of a scene that is the old one off the inodes that the step affected
 module _ (at : ℕ → Bool) (known : Holder → Caps) (old : State) (now : Scene) (sound : IsSound old) (is_table : IsTable now.table) (same_from : IsSameFrom at old.scene now)
     (tree : IsTree now.tree) (knows : Knows known old.scene now.table) where
   abbrev last : Scene
@@ -116,7 +116,7 @@ module _ (at : ℕ → Bool) (known : Holder → Caps) (old : State) (now : Scen
 
   -- ---- which inodes are kept
 
-  kept_elsewhere : (q : ℕ) → at q ≡ false → is_kept (issue now) q ≡ true
+  kept_elsewhere : (q : ℕ) → at q ≡ false → is_in_use (issue now) q ≡ true
   kept_elsewhere q off = kept_by (place now.tree.nodes q) _ (λ gone.
       any-map_same (is_of_inode (record { 0 = q })) (issue_row now) (λ row. refl) now.table.rows
       ∙ any_elsewhere at old.scene.table now.table same_from.entries q off ∙ sound.strays q (sym (same_from.places q off) ∙ gone))
@@ -132,23 +132,23 @@ module _ (at : ℕ → Bool) (known : Holder → Caps) (old : State) (now : Scen
   any_issued q = any-map_same (is_of_inode (record { 0 = q })) (issue_row now) (λ row. refl) now.table.rows
 
   -- once they are issued as once they are numbered, the same inodes are kept
-  kept_issued : (q : ℕ) → is_kept (issue now) q ≡ is_kept now q
+  kept_issued : (q : ℕ) → is_in_use (issue now) q ≡ is_in_use now q
   kept_issued q = ap (λ b. not (is_gone (place now.tree.nodes q)) || b) (any_issued q)
 
-  kept_numbered : (q : ℕ) → is_kept numbered q ≡ is_kept now q
+  kept_numbered : (q : ℕ) → is_in_use numbered q ≡ is_in_use now q
   kept_numbered q = ap (λ b. not (is_gone (place now.tree.nodes q)) || b) (any_ended q)
 
   -- and all others are
-  stays_so : (q : ℕ) → is_kept (issue now) q ≡ stays at numbered q
-  stays_so q = elim (at q) as (λ b. at q ≡ b → is_kept (issue now) q ≡ (not b || is_kept numbered q)) [
+  stays_so : (q : ℕ) → is_in_use (issue now) q ≡ stays at numbered q
+  stays_so q = elim (at q) as (λ b. at q ≡ b → is_in_use (issue now) q ≡ (not b || is_in_use numbered q)) [
     | true ↦ λ is. kept_issued q ∙ sym (kept_numbered q)
     | false ↦ λ off. kept_elsewhere q off
   ] refl
 
-  kept_map : {V : Type 0} (m : finite.FinMap nat_cmp V) → finite.retain_keys m (is_kept (issue now)) ≡ finite.retain_keys m (stays at numbered)
+  kept_map : {V : Type 0} (m : finite.FinMap nat_cmp V) → finite.retain_keys m (is_in_use (issue now)) ≡ finite.retain_keys m (stays at numbered)
   kept_map m = λ i. finite.retain_keys m (λ q. stays_so q i)
 
-  kept_row : (row : EntryRow) → Contains now.table.rows row → is_kept (issue now) row.holder.ino.0 ≡ true
+  kept_row : (row : EntryRow) → Contains now.table.rows row → is_in_use (issue now) row.holder.ino.0 ≡ true
   kept_row row inside = kept_issued row.holder.ino.0 ∙ kept-held now row inside
 
   -- ---- the rows
@@ -156,13 +156,13 @@ module _ (at : ℕ → Bool) (known : Holder → Caps) (old : State) (now : Scen
   -- an inode that somebody has an entry on keeps its locks
   locks_kept : (row : EntryRow) → Contains now.table.rows row → finite.get last.locks.states row.holder.ino.0 ≡ finite.get now.locks.states row.holder.ino.0
   locks_kept row inside =
-      retained-here now.locks.states (is_kept (issue now)) row.holder.ino.0 (kept_row row inside)
+      retained-here now.locks.states (is_in_use (issue now)) row.holder.ino.0 (kept_row row inside)
 
   -- and what is permitted there, as what is forgotten is another inode
   may_last : (row : EntryRow) → Contains now.table.rows row → permitted last.fs last.tree last.sessions row.holder ≡ permitted now.fs now.tree now.sessions row.holder
   may_last row inside =
       permitted-kept now.fs now.tree last.tree now.sessions now.sessions row.holder
-      (alike-retained now.tree (is_kept (issue now)) tree (λ q gone. (goes (λ _. true) (issue now) q gone).1) row.holder.ino.0 (kept_row row inside)) refl
+      (alike-retained now.tree (is_in_use (issue now)) tree (λ q gone. (goes (λ _. true) (issue now) q gone).1) row.holder.ino.0 (kept_row row inside)) refl
 
   told_last : (row : EntryRow) → Contains now.table.rows row → (e : Entry) → told_set last (record row { entry = e }) ≡ told_set now (record row { entry = e })
   told_last row inside e = told-same last now (record row { entry = e }) (λ part. ap (option_map (lock_in part)) (locks_kept row inside)) (may_last row inside)
@@ -208,10 +208,10 @@ module _ (at : ℕ → Bool) (known : Holder → Caps) (old : State) (now : Scen
   pub found_last : (k : Holder) → find (is_row_of k) (finished_at at known now).table.rows ≡ option_map ended (find (is_row_of k) now.table.rows)
   found_last k = find-map (is_row_of k) ended (λ row. ap (same k) (holder_ended row)) now.table.rows
 
-  module _ (was sets : KnownSets) (off_known : (row : EntryRow) → Contains now.table.rows row → at row.holder.ino.0 ≡ false → kept_of was row.holder ≡ Some (told_set old.scene row))
-      (kept : KeptAnew (λ k. at k.ino.0) (told_then now) now.table was sets) where
+  module _ (was sets : KnownSets) (off_known : (row : EntryRow) → Contains now.table.rows row → at row.holder.ino.0 ≡ false → known_of was row.holder ≡ Some (told_set old.scene row))
+      (kept : KnownAnew (λ k. at k.ino.0) (told_then now) now.table was sets) where
     by_place : (row : EntryRow) → Contains now.table.rows row → (b : Bool) → at row.holder.ino.0 ≡ b
-        → kept_anew b (told_then now) (Some row) (kept_of was row.holder) ≡ Some (told_set (finished_at at known now) (record row { entry = (cond b (remade (finished_entry known now) row) row).entry }))
+        → known_anew b (told_then now) (Some row) (known_of was row.holder) ≡ Some (told_set (finished_at at known now) (record row { entry = (cond b (remade (finished_entry known now) row) row).entry }))
     by_place row inside true on =
         let e : Entry = finished_entry known now row in
         let held : (issue_row now row).entry.held ≡ e.held = sym (held-renumbered (meet (known row.holder) row.entry.held) (told_then now row) (issue_row now row).entry) in
@@ -221,14 +221,14 @@ module _ (at : ℕ → Bool) (known : Holder → Caps) (old : State) (now : Scen
     pub known-there : AreKnown sets (finished_at at known now)
     known-there k e there = by_found (find (is_row_of k) now.table.rows) refl
       where
-        by_found : (o : Option EntryRow) → find (is_row_of k) now.table.rows ≡ o → kept_of sets k ≡ Some (told_set (finished_at at known now) (record { holder = k; entry = e }))
+        by_found : (o : Option EntryRow) → find (is_row_of k) now.table.rows ≡ o → known_of sets k ≡ Some (told_set (finished_at at known now) (record { holder = k; entry = e }))
         by_found None none = let gone : entry_at (finished_at at known now).table k ≡ None = ap entry_of (found_last k ∙ ap (option_map ended) none) in absurd (cc)
         by_found (Some row) is =
             let inside : Contains now.table.rows row = found-contains (is_row_of k) now.table.rows row is in
             let mine : k ≡ row.holder = same-is k row.holder (find_passes (is_row_of k) now.table.rows row is) in
             let then : entry_at (finished_at at known now).table k ≡ Some (ended row).entry = ap entry_of (found_last k ∙ ap (option_map ended) is) in
             let e_is : e ≡ (ended row).entry = cc in
-            kept k ∙ (λ i. kept_anew (at (mine i).ino.0) (told_then now) (is i) (kept_of was (mine i))) ∙ by_place row inside (at row.holder.ino.0) refl
+            kept k ∙ (λ i. known_anew (at (mine i).ino.0) (told_then now) (is i) (known_of was (mine i))) ∙ by_place row inside (at row.holder.ino.0) refl
             ∙ (λ i. Some (told_set (finished_at at known now) (record { holder = sym mine i; entry = sym e_is i })))
 
   -- ---- what is newly held
@@ -269,35 +269,35 @@ module _ (at : ℕ → Bool) (known : Holder → Caps) (old : State) (now : Scen
 
 -- ---- of an event
 
-module _ (at from : ℕ → Bool) (known : Holder → Caps) (old touched : State) (moves : List Made) (settled : Scene) (sound : IsSound old) (tree : IsTree settled.tree) (table : IsTable touched.scene.table)
-    (touches : Touches from old touched) (knows : Knows known old.scene touched.scene.table) (settles : SettlesAt at from moves touched.scene settled) where
+module _ (at from : ℕ → Bool) (known : Holder → Caps) (old affected : State) (moves : List Made) (settled : Scene) (sound : IsSound old) (tree : IsTree settled.tree) (table : IsTable affected.scene.table)
+    (affects : Affects from old affected) (knows : Knows known old.scene affected.scene.table) (settles : SettlesAt at from moves affected.scene settled) where
   -- moves leave the entries
-  pub same-table : settled.table ≡ touched.scene.table
-  same-table = let made = settles.settles in (moved-all touched.scene moves settled made.made).table
+  pub same-table : settled.table ≡ affected.scene.table
+  same-table = let made = settles.settles in (moved-all affected.scene moves settled made.made).table
 
   pub settled-table : IsTable settled.table
   settled-table = subst IsTable (sym same-table) table
 
   off-these : IsSameFrom at old.scene settled
-  off-these = from-first at from old.scene touched.scene settled settles.among touches.same settles.same
+  off-these = from-first at from old.scene affected.scene settled settles.among affects.same settles.same
 
   knows_settled : Knows known old.scene settled.table
   knows_settled = subst (λ (t : Table). Knows known old.scene t) (sym same-table) knows
 
-  pub touched-ends : finished old.scene touched.scene settled ≡ finished_at at known settled
-  touched-ends =
+  pub affected-ends : finished old.scene affected.scene settled ≡ finished_at at known settled
+  affected-ends =
       ap (λ (t : Table). finished old.scene (record settled { table = t }) settled) (sym same-table)
       ∙ ends_there at known old settled sound settled-table off-these tree knows_settled
 
   -- of each entry elsewhere what was known is known; and of each on these inodes what its client is to know
-  pub touched-known : (was sets : KnownSets)
-      → ((row : EntryRow) → Contains touched.scene.table.rows row → at row.holder.ino.0 ≡ false → kept_of was row.holder ≡ Some (told_set old.scene row))
-      → KeptAnew (λ k. at k.ino.0) (told_then settled) settled.table was sets → AreKnown sets (finished_at at known settled)
-  touched-known was sets off_known kept =
+  pub affected-known : (was sets : KnownSets)
+      → ((row : EntryRow) → Contains affected.scene.table.rows row → at row.holder.ino.0 ≡ false → known_of was row.holder ≡ Some (told_set old.scene row))
+      → KnownAnew (λ k. at k.ino.0) (told_then settled) settled.table was sets → AreKnown sets (finished_at at known settled)
+  affected-known was sets off_known kept =
       known-there at known old settled sound settled-table off-these tree knows_settled was sets
       (λ row inside. off_known row (subst (λ (t : Table). Contains t.rows row) same-table inside)) kept
 
-  pub touched-issues : IssuesExactly touched.scene (finished_at at known settled)
-  touched-issues =
+  pub affected-issues : IssuesExactly affected.scene (finished_at at known settled)
+  affected-issues =
       subst (λ (t : Table). IssuesExactly (record settled { table = t }) (finished_at at known settled)) same-table
       (issues_there at known old settled sound settled-table off-these tree knows_settled)

@@ -26,7 +26,7 @@ use Rattle.capacts.proofs.Lockmachine.Exact.{settled}
 use Rattle.capacts.proofs.Held.{or_inside}
 use Rattle.capacts.specs.Caprules.State.{State}
 use Rattle.capacts.specs.Caprules.Settle.{Settles}
-use Rattle.capacts.specs.Caprules.Finish.{sizes_owed, due, issue_row, issue, is_kept, forget, told_before, number_row, number, finished}
+use Rattle.capacts.specs.Caprules.Finish.{sizes_owed, due, issue_row, issue, is_in_use, forget, told_before, number_row, number, finished}
 use Rattle.capacts.specs.Caprules.Sound.{IsSound, IsSoundEntry}
 
 -- ---- lists of rows that stay
@@ -87,11 +87,11 @@ module _ (s : State) (sound : IsSound s) (table : IsTable s.scene.table) where
 
   same-forget : forget s.scene ≡ s.scene
   same-forget = λ i. record s.scene {
-    tree = record s.scene.tree { nodes = same_kept s.scene.tree.nodes (is_kept s.scene) kept i };
-    locks = record s.scene.locks { states = same_kept s.scene.locks.states (is_kept s.scene) kept i };
+    tree = record s.scene.tree { nodes = same_kept s.scene.tree.nodes (is_in_use s.scene) kept i };
+    locks = record s.scene.locks { states = same_kept s.scene.locks.states (is_in_use s.scene) kept i };
   }
     where
-      kept : (ino : ℕ) → is_kept s.scene ino ≡ true
+      kept : (ino : ℕ) → is_in_use s.scene ino ≡ true
       kept ino = kept_by (place s.scene.tree.nodes ino) _ (sound.strays ino)
 
   -- where the clients are to know what they were to know on an older scene

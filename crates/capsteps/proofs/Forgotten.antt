@@ -29,9 +29,9 @@ use Rattle.capacts.specs.Lockmachine.Rows.{IsInRowOf, IsInRow}
 use Rattle.capacts.proofs.Lockmachine.PolicyElsewhere.{want-kept, wants-kept}
 use Rattle.capacts.specs.Caprules.State.{State}
 use Rattle.capacts.specs.Caprules.Direct.{with_scene}
-use Rattle.capacts.specs.Caprules.Finish.{allowed_by, due, is_kept}
+use Rattle.capacts.specs.Caprules.Finish.{allowed_by, due, is_in_use}
 use Rattle.capacts.specs.Caprules.Sound.{IsSoundEntry, IsSound}
-use Rattle.capsteps.specs.Touching.{stays, forget_among}
+use Rattle.capsteps.specs.Affected.{stays, forget_among}
 use Rattle.capsteps.proofs.LeftAlone.{found-contains}
 use Rattle.capsteps.proofs.Placed.{placed}
 use Rattle.capsteps.proofs.Strays.{retained, retained-here, retained-gone, kept-held, stays-kept, goes, stays-held, alike-retained}
@@ -95,13 +95,13 @@ module _ (at : ℕ → Bool) (s : Scene) where
   no_lock : (q : ℕ) (part : Part) → keeps q ≡ false → lock_at left.locks q part ≡ None
   no_lock q part is = ap (option_map (lock_in part)) (retained-gone s.locks.states keeps q is)
 
-  want_left : IsTree s.tree → (row : EntryRow) → is_kept s row.holder.ino.0 ≡ true → effective_want s.fs left.tree s.sessions row ≡ effective_want s.fs s.tree s.sessions row
+  want_left : IsTree s.tree → (row : EntryRow) → is_in_use s row.holder.ino.0 ≡ true → effective_want s.fs left.tree s.sessions row ≡ effective_want s.fs s.tree s.sessions row
   want_left tree row kept =
       want-kept s.fs s.tree left.tree s.sessions s.sessions row
       (alike-retained s.tree keeps tree (λ q gone. (goes at s q gone).1) row.holder.ino.0 (stays-kept at s row.holder.ino.0 kept)) refl
 
   -- the same is due on an inode that is kept
-  pub due-left : IsTree s.tree → (row : EntryRow) → is_kept s row.holder.ino.0 ≡ true → due left row ≡ due s row
+  pub due-left : IsTree s.tree → (row : EntryRow) → is_in_use s row.holder.ino.0 ≡ true → due left row ≡ due s row
   due-left tree row kept = same-due left s row (want_left tree row kept) (λ part. same_lock row.holder.ino.0 part (stays-kept at s row.holder.ino.0 kept))
 
 module _ (at : ℕ → Bool) (s : State) (sound : IsSoundBut at s) (tree : IsTree s.scene.tree) where

@@ -1,4 +1,4 @@
--- What the end of a step makes of an entry on an inode that it touched: it gains what is due, which its locks allow, and its number may rise.
+-- What the end of a step makes of an entry on an inode that it affected: it gains what is due, which its locks allow, and its number may rise.
 use Rattle.std.proofs.Common.{◌≡◌, ◌≤◌, ℕ, ◌+◌, Bool, true, false, not, cond, ◌&&◌, ◌||◌, Option, Some, None, List, [], ◌∷◌, refl, sym, ap, subst, ◌∙◌, true≢false, ◌⊎◌, inl, inr, arith, ◌==◌, map as each, filter}
 use Rattle.std.specs.Prelude.{if◌then◌else◌}
 use Rattle.std.proofs.lemmas.Bool.{and_from, or_cases, or_left, eqb-true}
@@ -32,7 +32,7 @@ use Rattle.capacts.specs.Lockmachine.declared.scene.Scene.{Scene}
 use Rattle.capacts.specs.Lockmachine.Scene.{outside, told_set, wants, target_by}
 use Rattle.capacts.specs.Lockmachine.Rows.{IsInRowOf, IsInRow}
 use Rattle.capacts.specs.Caprules.Finish.{allowed_by, allowed_part, allowed_to, due, issue_row}
-use Rattle.capsteps.specs.Touching.{finished_entry}
+use Rattle.capsteps.specs.Affected.{finished_entry}
 use Rattle.capacts.proofs.Walked.{second_true}
 use Rattle.capacts.specs.Lockmachine.Moves.{is_open, IsQuiet, IsAtRest}
 

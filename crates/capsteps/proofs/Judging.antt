@@ -5,50 +5,50 @@ use Rattle.capacts.specs.Lockmachine.declared.scene.Scene.{Scene}
 use Rattle.capacts.specs.Capevents.declared.event.Event.{Event}
 use Rattle.capbits.specs.declared.refusal.Refusal.{Refusal}
 use Rattle.capacts.specs.Capevents.declared.reply.Reply.{Reply}
-use Rattle.capacts.specs.Caprules.declared.stopped.Stopped.{Stopped}
-use Rattle.capacts.specs.Caprules.declared.stopped.Stopped.TheVariants.{ByTest}
+use Rattle.capacts.specs.Caprules.declared.rejection.Rejection.{Rejection}
+use Rattle.capacts.specs.Caprules.declared.rejection.Rejection.TheVariants.{ByTest}
 use Rattle.capacts.specs.Caprules.State.{State}
 use Rattle.capbits.specs.Refusal.{Test, first_failing}
-use Rattle.capacts.specs.Caprules.Judge.{stop, stop_by, stop_reply, first_denied, judged}
+use Rattle.capacts.specs.Caprules.Judge.{rejection_of, rejection_by, rejection_reply, first_denied, judged}
 use Rattle.capacts.specs.Caprules.Needs.{Need}
 use Rattle.capacts.specs.Caprules.Direct.{Says, effect, effect_unless, IsDirect}
 
-stop_by-stopped : (s : Scene) (o : Option Refusal) (d : Option Need) (l : Option Refusal) (r : Stopped) → stop_by s o d None ≡ Some r → stop_by s o d l ≡ Some r
-stop_by-stopped s (Some x) d l r e = e
-stop_by-stopped s None (Some n) l r e = e
-stop_by-stopped s None None l r e = cc
+rejection_by-rejection : (s : Scene) (o : Option Refusal) (d : Option Need) (l : Option Refusal) (r : Rejection) → rejection_by s o d None ≡ Some r → rejection_by s o d l ≡ Some r
+rejection_by-rejection s (Some x) d l r e = e
+rejection_by-rejection s None (Some n) l r e = e
+rejection_by-rejection s None None l r e = cc
 
 -- what stops a request stops it whatever is still to be tested
-pub stopped : (s : Scene) (tests : List Test) (needed : List Need) (more : List Test) (r : Stopped) → stop s tests needed [] ≡ Some r → stop s tests needed more ≡ Some r
-stopped s tests needed more r e = stop_by-stopped s (first_failing tests) (first_denied s needed) (first_failing more) r e
+pub rejection : (s : Scene) (tests : List Test) (needed : List Need) (more : List Test) (r : Rejection) → rejection_of s tests needed [] ≡ Some r → rejection_of s tests needed more ≡ Some r
+rejection s tests needed more r e = rejection_by-rejection s (first_failing tests) (first_denied s needed) (first_failing more) r e
 
-stop_by-passed : (s : Scene) (o : Option Refusal) (d : Option Need) (l : Option Refusal) → stop_by s o d None ≡ None → stop_by s o d l ≡ option_map ByTest l
-stop_by-passed s (Some x) d l e = cc
-stop_by-passed s None (Some n) l e = cc
-stop_by-passed s None None l e = refl
+rejection_by-passed : (s : Scene) (o : Option Refusal) (d : Option Need) (l : Option Refusal) → rejection_by s o d None ≡ None → rejection_by s o d l ≡ option_map ByTest l
+rejection_by-passed s (Some x) d l e = cc
+rejection_by-passed s None (Some n) l e = cc
+rejection_by-passed s None None l e = refl
 
 -- where nothing stopped it so far, the rest of the tests decides
-pub passed : (s : Scene) (tests : List Test) (needed : List Need) (more : List Test) → stop s tests needed [] ≡ None → stop s tests needed more ≡ option_map ByTest (first_failing more)
-passed s tests needed more e = stop_by-passed s (first_failing tests) (first_denied s needed) (first_failing more) e
+pub passed : (s : Scene) (tests : List Test) (needed : List Need) (more : List Test) → rejection_of s tests needed [] ≡ None → rejection_of s tests needed more ≡ option_map ByTest (first_failing more)
+passed s tests needed more e = rejection_by-passed s (first_failing tests) (first_denied s needed) (first_failing more) e
 
 -- where tests stand before policy alone, the first that fails decides
-pub by_tests : (s : Scene) (failing : Option Refusal) → option_map ByTest failing ≡ stop_by s failing None None
+pub by_tests : (s : Scene) (failing : Option Refusal) → option_map ByTest failing ≡ rejection_by s failing None None
 by_tests s (Some refusal) = refl
 by_tests s None = refl
 
-stop_by-tests : (s : Scene) (o : Option Refusal) (d : Option Need) (l : Option Refusal) → stop_by s o d l ≡ None → o ≡ None
-stop_by-tests s (Some x) d l e = cc
-stop_by-tests s None d l e = refl
+rejection_by-tests : (s : Scene) (o : Option Refusal) (d : Option Need) (l : Option Refusal) → rejection_by s o d l ≡ None → o ≡ None
+rejection_by-tests s (Some x) d l e = cc
+rejection_by-tests s None d l e = refl
 
 -- and no test before policy failed
-pub no_test : (s : Scene) (tests : List Test) (needed : List Need) (more : List Test) → stop s tests needed more ≡ None → first_failing tests ≡ None
-no_test s tests needed more e = stop_by-tests s (first_failing tests) (first_denied s needed) (first_failing more) e
+pub no_test : (s : Scene) (tests : List Test) (needed : List Need) (more : List Test) → rejection_of s tests needed more ≡ None → first_failing tests ≡ None
+no_test s tests needed more e = rejection_by-tests s (first_failing tests) (first_denied s needed) (first_failing more) e
 
 -- ---- the event by itself
 
 -- what stops an event is its answer, and nothing changes
-pub direct-stopped : (old : State) (e : Event) (r : Stopped) → judged old.scene e ≡ Some r → IsDirect old e (stop_reply r) old
-direct-stopped old e r is = record {
+pub direct-rejection : (old : State) (e : Event) (r : Rejection) → judged old.scene e ≡ Some r → IsDirect old e (rejection_reply r) old
+direct-rejection old e r is = record {
   answer_is = ap (λ o. (effect_unless old e o).answer) (sym is);
   state_is = ap (λ o. (effect_unless old e o).state) (sym is);
 }

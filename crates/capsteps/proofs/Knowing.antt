@@ -14,11 +14,11 @@ use Rattle.captable.proofs.ByHolder.{row_found}
 use Rattle.captable.proofs.Searches.{find-map}
 use Rattle.capacts.specs.Lockmachine.declared.scene.Scene.{Scene}
 use Rattle.capacts.specs.Lockmachine.Scene.{told_set}
-use Rattle.capacts.specs.Lockmachine.Told.{is_taken}
+use Rattle.capacts.specs.Lockmachine.Revoked.{is_revoked}
 use Rattle.capacts.proofs.Lockmachine.Told.{has-against, has-told, told-less}
 use Rattle.capacts.specs.Caprules.Judge.{revoked_of}
-use Rattle.capacts.specs.Known.{KnownSets, kept_of, known_in, AreKnown, HaveRoom, is_still_kept, StillKept}
-use Rattle.capsteps.specs.Touching.{Knows}
+use Rattle.capacts.specs.Known.{KnownSets, known_of, known_in, AreKnown, HaveRoom, is_still_known, StillKnown}
+use Rattle.capsteps.specs.Affected.{Knows}
 use Rattle.capsteps.proofs.Revoking.{revoked-found}
 use Rattle.capsteps.proofs.ShownSteps.{told-held}
 
@@ -79,7 +79,7 @@ revoked-known sets s k e known there =
     ∙ same_caps _ _ (λ c.
     has-minus e.held (told_set s (record { holder = k; entry = e })) c
     ∙ ap (λ b. has e.held c && not b) (has-told s (record { holder = k; entry = e }) c)
-    ∙ rest_of (has e.held c) (is_taken s k c)
+    ∙ rest_of (has e.held c) (is_revoked s k c)
     ∙ sym (has-against s (record { holder = k; entry = e }) c))
     ∙ sym (revoked-found s k e there)
 
@@ -87,28 +87,28 @@ revoked-known sets s k e known there =
 
 -- entries of a table of which each was there, where of each the same is kept
 pub still-there : (old new : Table) (was now : KnownSets) → ((k : Holder) (e : Entry) → entry_at new k ≡ Some e → IsSome (entry_at old k))
-    → ((k : Holder) (e : Entry) → entry_at new k ≡ Some e → kept_of now k ≡ kept_of was k) → StillKept old new was now
+    → ((k : Holder) (e : Entry) → entry_at new k ≡ Some e → known_of now k ≡ known_of was k) → StillKnown old new was now
 still-there old new was now there same_kept k e here =
-    elim (entry_at old k) as (λ o. IsSome o → is_still_kept o (kept_of was k) (kept_of now k)) [
+    elim (entry_at old k) as (λ o. IsSome o → is_still_known o (known_of was k) (known_of now k)) [
       | None ↦ λ some. absurd (true≢false (sym some))
       | Some f ↦ λ some. same_kept k e here
     ] (there k e here)
 
 -- a further change that makes no entry
-pub still-then : (old mid new : Table) (was now : KnownSets) → StillKept old mid was now
-    → ((k : Holder) (e : Entry) → entry_at new k ≡ Some e → (f : Entry) × (entry_at mid k ≡ Some f)) → StillKept old new was now
+pub still-then : (old mid new : Table) (was now : KnownSets) → StillKnown old mid was now
+    → ((k : Holder) (e : Entry) → entry_at new k ≡ Some e → (f : Entry) × (entry_at mid k ≡ Some f)) → StillKnown old new was now
 still-then old mid new was now still there k e here = let f = there k e here in still k f.0 f.1
 
-module _ (was now : KnownSets) (old : Scene) (table : Table) (known : AreKnown was old) (still : StillKept old.table table was now) where
+module _ (was now : KnownSets) (old : Scene) (table : Table) (known : AreKnown was old) (still : StillKnown old.table table was now) where
   -- of an entry that was there, what was kept is kept
-  pub still-known : (k : Holder) (e f : Entry) → entry_at table k ≡ Some e → entry_at old.table k ≡ Some f → kept_of now k ≡ Some (told_set old (record { holder = k; entry = f }))
-  still-known k e f here there = subst (λ o. is_still_kept o (kept_of was k) (kept_of now k)) there (still k e here) ∙ known k f there
+  pub still-known : (k : Holder) (e f : Entry) → entry_at table k ≡ Some e → entry_at old.table k ≡ Some f → known_of now k ≡ Some (told_set old (record { holder = k; entry = f }))
+  still-known k e f here there = subst (λ o. is_still_known o (known_of was k) (known_of now k)) there (still k e here) ∙ known k f there
 
   pub still-room : HaveRoom now table
   still-room k e here = by_old (entry_at old.table k) refl
     where
-      by_old : (o : Option Entry) → entry_at old.table k ≡ o → is_some (kept_of now k) ≡ true
-      by_old None none = subst (λ o. is_still_kept o (kept_of was k) (kept_of now k)) none (still k e here)
+      by_old : (o : Option Entry) → entry_at old.table k ≡ o → is_some (known_of now k) ≡ true
+      by_old None none = subst (λ o. is_still_known o (known_of was k) (known_of now k)) none (still k e here)
       by_old (Some f) there = ap is_some (still-known k e f here there)
 
   -- where nobody holds more, it is known of what is left
@@ -127,8 +127,8 @@ module _ (was now : KnownSets) (old : Scene) (table : Table) (known : AreKnown w
           let out : has row.entry.held c ≡ false = false_from_ne_true (has row.entry.held c) (λ h. false≢true (
           sym (has-none c) ∙ ap (λ (o : Option Entry). has (option_map_or (λ (x : Entry). x.held) o no_caps) c) (sym none) ∙ less row.holder row.entry here c h)) in
           has-meet (known_in now row.holder) row.entry.held c ∙ and_right (has (known_in now row.holder) c) (has row.entry.held c) out
-          ∙ sym (has-told old row c ∙ ap (λ b. b && not (is_taken old row.holder c)) out))
+          ∙ sym (has-told old row c ∙ ap (λ b. b && not (is_revoked old row.holder c)) out))
 
 -- where the table stays, all is still known
-pub still-all : (was now : KnownSets) (s : Scene) → AreKnown was s → StillKept s.table s.table was now → AreKnown now s
+pub still-all : (was now : KnownSets) (s : Scene) → AreKnown was s → StillKnown s.table s.table was now → AreKnown now s
 still-all was now s known still k e there = still-known was now s s.table known still k e e there there

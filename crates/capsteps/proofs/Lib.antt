@@ -21,14 +21,14 @@ pub mod StayingSound
 pub mod Strays
 pub mod Stopping
 pub mod SizesOwed
-pub mod Touched
+pub mod EntryRequests
 pub mod Telling
 pub mod Sweeping
 pub mod SoFar
 pub mod ShownSteps
 pub mod NobodyServed
 pub mod Knowing
-pub mod TouchKept
+pub mod EntryKept
 pub use Rattle.capacts.proofs as Capacts
 pub use Rattle.capacts.proofs.Capevents
 pub use Rattle.capacts.proofs.Capnotes

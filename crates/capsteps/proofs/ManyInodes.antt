@@ -21,7 +21,7 @@ use Rattle.captable.specs.Many.{changed_where, remade}
 use Rattle.captable.proofs.OneByOne.{same_holder}
 use Rattle.captable.proofs.Tables.{IsTable-rows}
 use Rattle.capacts.specs.Capnotes.InoSets.{InoSet, IsListOf}
-use Rattle.capacts.specs.Known.{KnownSets, kept_of, KeptAnew}
+use Rattle.capacts.specs.Known.{KnownSets, known_of, KnownAnew}
 use Rattle.capacts.proofs.KeptSets.{kept-nobody, kept-same, kept-then, kept-not, found-stays}
 
 -- the same number
@@ -103,7 +103,7 @@ pub record IsFinishing (g : EntryRow → Entry) (f : EntryRow → Caps) (t : Tab
   pub done : List ℕ
   pub named : done ++ left ≡ all
   pub finished : now ≡ changed_where (on (λ n. list_any (same_number n) done)) g t
-  pub kept : KeptAnew (λ k. list_any (same_number k.ino.0) done) f t was sets
+  pub kept : KnownAnew (λ k. list_any (same_number k.ino.0) done) f t was sets
 
 -- at first none is
 pub none-finished : (g : EntryRow → Entry) (f : EntryRow → Caps) (t : Table) (was : KnownSets) (all : List ℕ) → IsFinishing g f t was all all t was
@@ -135,8 +135,8 @@ next-apart (d ∷ done) k left apart n is =
 pub next-finished : (g : EntryRow → Entry) (f : EntryRow → Caps) (t : Table) (was : KnownSets) (all : List ℕ) (k : ℕ) (left : List ℕ) (mid : Table) (sets : KnownSets)
     (h : EntryRow → Entry) (now : Table) (then : KnownSets)
     → IsDistinct same_number all → IsFinishing g f t was all (k ∷ left) mid sets → now ≡ changed_where (is_of_inode (record { 0 = k })) h mid
-    → ((row : EntryRow) → is_of_inode (record { 0 = k }) row ≡ true → kept_of sets row.holder ≡ kept_of was row.holder → h row ≡ g row)
-    → KeptAnew (λ q. q.ino.0 == k) f mid sets then → IsFinishing g f t was all left now then
+    → ((row : EntryRow) → is_of_inode (record { 0 = k }) row ≡ true → known_of sets row.holder ≡ known_of was row.holder → h row ≡ g row)
+    → KnownAnew (λ q. q.ino.0 == k) f mid sets then → IsFinishing g f t was all left now then
 next-finished g f t was all k left mid sets h now then once so_far step alike kept = record {
   done = so_far.done ++ k ∷ [];
   named = append_assoc so_far.done (k ∷ []) left ∙ so_far.named;
@@ -168,7 +168,7 @@ next-finished g f t was all k left mid sets h now then once so_far step alike ke
 -- at the end all inodes of a set are
 pub all-finished : (g : EntryRow → Entry) (f : EntryRow → Caps) (t : Table) (was : KnownSets) (inos : InoSet) (all : List ℕ) (now : Table) (sets : KnownSets)
     → IsListOf inos all → IsFinishing g f t was all [] now sets
-    → (now ≡ changed_where (on (set.contains inos)) g t) × KeptAnew (λ k. set.contains inos k.ino.0) f t was sets
+    → (now ≡ changed_where (on (set.contains inos)) g t) × KnownAnew (λ k. set.contains inos k.ino.0) f t was sets
 all-finished g f t was inos all now sets lists so_far = (
   so_far.finished ∙ (λ i. changed_where (on (λ n. tests n i)) g t),
   kept-same (λ k. list_any (same_number k.ino.0) so_far.done) (λ k. set.contains inos k.ino.0) f t was sets (λ k. tests k.ino.0) so_far.kept,

@@ -17,7 +17,7 @@ use Rattle.capacts.specs.Capevents.declared.outcome.Ended.{Ended}
 use Rattle.capacts.specs.Finishing.{due_under, told_under}
 use Rattle.capacts.specs.Capnotes.InoSets.{InoSet, IsNext}
 use Rattle.capacts.specs.Known.{KnownSets, OthersHaveAll}
-use Rattle.capacts.specs.Reach.{is_touched}
+use Rattle.capacts.specs.Reach.{is_affected}
 use Rattle.capsteps.specs.Serves.{SettlesWith, EndsAt, EndsWith}
 use Rattle.capacts.specs.Caprules.Settle.{Made, Began, Gathered, Served, MakesAll, ended_in, sized_in}
 use Rattle.capsteps.proofs.Moved.{tree-moved}
@@ -34,22 +34,22 @@ nobody-served first (Served q o ∷ ms) settled made none = absurd (cc)
 
 -- ---- at one inode
 
-none-besides : (ino : ℕ) (touched : InoSet) → IsNext touched 0 None → (other : ℕ) → (other == ino) ≡ false → is_touched ino touched other ≡ false
-none-besides ino touched none other off = ap (λ b. b || set.contains touched other) off ∙ none other (omega arith)
+none-besides : (ino : ℕ) (affected : InoSet) → IsNext affected 0 None → (other : ℕ) → (other == ino) ≡ false → is_affected ino affected other ≡ false
+none-besides ino affected none other off = ap (λ b. b || set.contains affected other) off ∙ none other (omega arith)
 
-module _ (ino : ℕ) (from : ℕ → Bool) (touched : InoSet) (first settled : Scene) (ended : List Ended) (sized : List Ino)
-    (settles : SettlesWith (is_touched ino touched) from first settled ended sized) (nobody : ended ≡ []) where
+module _ (ino : ℕ) (from : ℕ → Bool) (affected : InoSet) (first settled : Scene) (ended : List Ended) (sized : List Ino)
+    (settles : SettlesWith (is_affected ino affected) from first settled ended sized) (nobody : ended ≡ []) where
   moves-none : ended_in settles.moves ≡ []
   moves-none = sym settles.ended_is ∙ nobody
 
   pub tree-stays : settled.tree ≡ first.tree
   tree-stays = let at = settles.settles in let all = at.settles in (nobody-served first settles.moves settled all.made moves-none).1
 
-  -- where no other inode was touched, the locks have settled at this one
-  pub settles-alone : IsNext touched 0 None → SettlesWith (λ other. other == ino) (λ other. other == ino) first settled ended []
+  -- where no other inode was affected, the locks have settled at this one
+  pub settles-alone : IsNext affected 0 None → SettlesWith (λ other. other == ino) (λ other. other == ino) first settled ended []
   settles-alone none = let at = settles.settles in let all = at.settles in record {
     moves = settles.moves;
-    settles = record { settles = all; among = λ other is. is; same = off-wider (is_touched ino touched) (λ other. other == ino) first settled (none-besides ino touched none) at.same };
+    settles = record { settles = all; among = λ other is. is; same = off-wider (is_affected ino affected) (λ other. other == ino) first settled (none-besides ino affected none) at.same };
     ended_is = settles.ended_is;
     sized_is = sym (nobody-served first settles.moves settled all.made moves-none).0;
   }
@@ -65,13 +65,13 @@ still-all_there sets s then k same others j e on apart there =
       all.1 ∙ ap Some (λ i. told_under (permitted s.fs s.tree s.sessions j) (here i) row),
     )
 
-module _ (ino : ℕ) (from : ℕ → Bool) (touched : InoSet) (first settled : Scene) (ended : List Ended) (sized : List Ino)
-    (settles : SettlesWith (is_touched ino touched) from first settled ended sized) (nobody : ended ≡ []) where
+module _ (ino : ℕ) (from : ℕ → Bool) (affected : InoSet) (first settled : Scene) (ended : List Ended) (sized : List Ino)
+    (settles : SettlesWith (is_affected ino affected) from first settled ended sized) (nobody : ended ≡ []) where
   pub others-still : (sets : KnownSets) (k : Holder) → map.get settled.locks.states k.ino.0 ≡ map.get first.locks.states k.ino.0 → OthersHaveAll sets first k → OthersHaveAll sets settled k
   others-still sets k here others =
       let there = settles.settles in
       let same = there.same in
-      let tree = tree-stays ino from touched first settled ended sized settles nobody in
+      let tree = tree-stays ino from affected first settled ended sized settles nobody in
       let whole : record first { locks = settled.locks } ≡ settled =
       λ i. record { fs = sym same.fs i; tree = sym tree i; sessions = sym same.sessions i; table = sym same.table i; locks = settled.locks } in
       subst (λ (s : Scene). OthersHaveAll sets s k) whole (still-all_there sets first settled.locks k here others)

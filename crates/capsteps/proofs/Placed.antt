@@ -21,7 +21,7 @@ use Rattle.capacts.specs.Lockmachine.Scene.{outside, against_lock, against_part,
 use Rattle.capacts.specs.Lockmachine.Rows.{IsInRowOf, IsInRow}
 use Rattle.capacts.specs.Lockmachine.Policy.{permitted}
 use Rattle.capacts.proofs.Walked.{second_true}
-use Rattle.capacts.specs.Caprules.Headline.{IsTakenBack, IsInPlace, AreRevoked}
+use Rattle.capacts.specs.Caprules.Headline.{IsRevoked, IsInPlace, AreRevoked}
 
 -- a row that passes two tests is found by both
 pub any_found : (p q : EntryRow → Bool) (rows : List EntryRow) (row : EntryRow) → Contains rows row → p row ≡ true → q row ≡ true → list_any q (filter p rows) ≡ true
@@ -47,7 +47,7 @@ part_in_all s row part c h = has-union (against_locks s row) (against_policy s r
 
 module _ (s : Scene) (row : EntryRow) (inside : Contains s.table.rows row) (part : Part) where
   -- what is outside the row of a gather's target is being revoked, and keeps the gather open
-  taken_back : (from to : State) → lock_at s.locks row.holder.ino.0 part ≡ Some (Gather from to) → IsTakenBack s row part to
+  taken_back : (from to : State) → lock_at s.locks row.holder.ino.0 part ≡ Some (Gather from to) → IsRevoked s row part to
   taken_back from to is c held out =
       let is_outside : has (outside part to row) c ≡ true = has-minus (of_part part row.entry.held) (row_of part to row.holder.client) c ∙ (λ i. held i && not (out i)) in (
         part_in_all s row part c (ap (λ o. has (against_lock part row o) c) is ∙ is_outside),

@@ -1,4 +1,4 @@
--- Scenes that are the same off the inodes that a step touches: one after another, off more inodes, and back to the old state.
+-- Scenes that are the same off the inodes that a step affects: one after another, off more inodes, and back to the old state.
 use Rattle.std.proofs.Common.{◌≡◌, ℕ, Bool, true, false, List, refl, sym, ap, subst, ◌∙◌, Contains, filter, true≢false, eq-eqb}
 use Rattle.std.specs.List.{list_any}
 use Rattle.std.specs.FinMap as map
@@ -18,7 +18,7 @@ use Rattle.capacts.specs.Lockmachine.declared.scene.Scene.{Scene}
 use Rattle.capacts.proofs.Lockmachine.Finding.{contains-filter, filter-contains}
 use Rattle.capacts.proofs.Lockmachine.PolicyElsewhere.{alike-itself}
 use Rattle.capacts.proofs.Lockmachine.SameOutside.{alike-trans}
-use Rattle.capsteps.specs.Touching.{IsSameOff}
+use Rattle.capsteps.specs.Affected.{IsSameOff}
 
 -- ---- one after another
 

@@ -27,7 +27,7 @@ use Rattle.captable.proofs.Shown.{shown-numbered, shown-less, shown-told}
 use Rattle.captable.proofs.Tables.{same_equiv, same-is}
 use Rattle.capacts.specs.Lockmachine.declared.scene.Scene.{Scene}
 use Rattle.capacts.specs.Lockmachine.Scene.{against, told_set}
-use Rattle.capacts.specs.Lockmachine.Told.{is_taken}
+use Rattle.capacts.specs.Lockmachine.Revoked.{is_revoked}
 use Rattle.capacts.proofs.Lockmachine.Told.{has-against, has-told}
 use Rattle.capacts.proofs.Lockmachine.Exact.{settled as at_rest_settled}
 use Rattle.capacts.specs.Capevents.declared.event.Event.{Event}
@@ -39,14 +39,14 @@ use Rattle.capacts.specs.Capevents.declared.outcome.Message.{Message}
 use Rattle.capacts.specs.Capevents.declared.outcome.Message.TheVariants as message
 use Rattle.capacts.specs.Capevents.declared.reply.Reply.{Reply}
 use Rattle.capacts.specs.Capevents.declared.reply.Reply.TheVariants as reply
-use Rattle.capacts.specs.Caprules.declared.stopped.Stopped.{Stopped}
-use Rattle.capacts.specs.Caprules.declared.stopped.Stopped.TheVariants.{ByPolicy, ByTest}
+use Rattle.capacts.specs.Caprules.declared.rejection.Rejection.{Rejection}
+use Rattle.capacts.specs.Caprules.declared.rejection.Rejection.TheVariants.{ByPolicy, ByTest}
 use Rattle.capacts.specs.Caprules.State.{State}
 use Rattle.capacts.specs.Caprules.Direct.{Direct, Shows, Gives, direct, effect, effect_unless, with_entry, with_opening, with_wanted, reply_of, shown, found, opened_as}
 use Rattle.capacts.specs.Caprules.Finish.{is_sized, owed, sizes_owed, due, issue_row, issue, forget, told_before, number_row}
-use Rattle.capacts.specs.Caprules.Judge.{judged, stop_reply, revoked_of}
+use Rattle.capacts.specs.Caprules.Judge.{judged, rejection_reply, revoked_of}
 use Rattle.capacts.specs.Caprules.Messages.{first_messages, messages_to, after_messages, row_messages, caps_messages, size_message, size_messages, recall_messages, end_message, end_messages, is_caps_of, is_size_of, is_recall_of, told_if, sized_if, unasked_if}
-use Rattle.capacts.specs.Capnotes.Untold.{is_to}
+use Rattle.capacts.specs.Capnotes.DueEndings.{is_to}
 use Rattle.capacts.specs.Caprules.Settle.{Made, Settles, ended_in, sized_in}
 use Rattle.capacts.specs.Caprules.Shown.{AreShown, shown_by, shown_of, shown_opened, shown_less, shown_given, shown_in}
 use Rattle.capacts.specs.Caprules.Sound.{IsSound, IsSoundEntry}
@@ -56,7 +56,7 @@ use Rattle.capsteps.proofs.Finishing.{sound-ends}
 use Rattle.capsteps.proofs.LeftAlone.{found-contains}
 use Rattle.capsteps.proofs.Moved.{moved-all}
 use Rattle.capsteps.proofs.Revoking.{revoked-found}
-use Rattle.capsteps.proofs.Stopping.{no_moves, stopped-only}
+use Rattle.capsteps.proofs.Stopping.{no_moves, rejection-only}
 use Rattle.capsteps.proofs.Telling.{given_fields, given-fields}
 
 abbrev pub at : Holder → Entry → EntryRow
@@ -66,7 +66,7 @@ at k e = record { holder = k; entry = e }
 
 pub told-held : (s : Scene) (k : Holder) (e f : Entry) → f.held ≡ e.held → told_set s (at k f) ≡ told_set s (at k e)
 told-held s k e f held =
-    same_caps _ _ (λ c. has-told s (at k f) c ∙ ap (λ (caps : Caps). has caps c && not (is_taken s k c)) held ∙ sym (has-told s (at k e) c))
+    same_caps _ _ (λ c. has-told s (at k f) c ∙ ap (λ (caps : Caps). has caps c && not (is_revoked s k c)) held ∙ sym (has-told s (at k e) c))
 
 less_than : (h g t : Bool) → ((h && not g) && not t) ≡ ((h && not t) && not g)
 less_than false g t = refl
@@ -78,8 +78,8 @@ less_than true false false = refl
 -- once some was given back
 given-told : (s : Scene) (k : Holder) (e : Entry) (caps : Caps) → told_set s (at k (given_back caps e)) ≡ minus (told_set s (at k e)) caps
 given-told s k e caps = same_caps _ _ (λ c.
-    has-told s (at k (given_back caps e)) c ∙ ap (λ b. b && not (is_taken s k c)) (has-minus e.held caps c)
-    ∙ less_than (has e.held c) (has caps c) (is_taken s k c)
+    has-told s (at k (given_back caps e)) c ∙ ap (λ b. b && not (is_revoked s k c)) (has-minus e.held caps c)
+    ∙ less_than (has e.held c) (has caps c) (is_revoked s k c)
     ∙ sym (has-minus (told_set s (at k e)) caps c ∙ ap (λ b. b && not (has caps c)) (has-told s (at k e) c)))
 
 no_more : (h t : Bool) → ((h && not (h && t)) && not t) ≡ (h && not t)
@@ -91,8 +91,8 @@ no_more true false = refl
 taken-told : (s : Scene) (k : Holder) (e : Entry) → told_set s (at k (taken (against s (at k e)) e)) ≡ told_set s (at k e)
 taken-told s k e = same_caps _ _ (λ c.
     has-told s (at k (taken (against s (at k e)) e)) c
-    ∙ ap (λ b. b && not (is_taken s k c)) (has-minus e.held (against s (at k e)) c ∙ ap (λ b. has e.held c && not b) (has-against s (at k e) c))
-    ∙ no_more (has e.held c) (is_taken s k c) ∙ sym (has-told s (at k e) c))
+    ∙ ap (λ b. b && not (is_revoked s k c)) (has-minus e.held (against s (at k e)) c ∙ ap (λ b. has e.held c && not b) (has-against s (at k e) c))
+    ∙ no_more (has e.held c) (is_revoked s k c) ∙ sym (has-told s (at k e) c))
 
 -- ---- what is known of an entry
 
@@ -540,25 +540,25 @@ module _ (old : State) (sound : IsSound old) (table : IsTable old.scene.table) (
 
 -- ---- a step
 
-opened_stopped : (was : Caps) (x : Stopped) → shown_opened was (stop_reply x) ≡ was
+opened_stopped : (was : Caps) (x : Rejection) → shown_opened was (rejection_reply x) ≡ was
 opened_stopped was (ByPolicy access rules) = refl
 opened_stopped was (ByTest refusal) = refl
 
-less_stopped : (caps was : Caps) (x : Stopped) → shown_less caps was (stop_reply x) ≡ was
+less_stopped : (caps was : Caps) (x : Rejection) → shown_less caps was (rejection_reply x) ≡ was
 less_stopped caps was (ByPolicy access rules) = refl
 less_stopped caps was (ByTest refusal) = refl
 
-given_stopped : (ino : Ino) (was : Caps) (x : Stopped) → shown_given ino was (stop_reply x) ≡ was
+given_stopped : (ino : Ino) (was : Caps) (x : Rejection) → shown_given ino was (rejection_reply x) ≡ was
 given_stopped ino was (ByPolicy access rules) = refl
 given_stopped ino was (ByTest refusal) = refl
 
 -- what is stopped shows nothing
-stop-shows : (k : Holder) (was : Caps) (e : Event) (x : Stopped) → shown_by k was e (stop_reply x) ≡ was
-stop-shows k was (event.Open client ino mode) x = ap (λ c. cond (same k (holder client ino)) c was) (opened_stopped was x) ∙ cond_same (same k (holder client ino)) was
-stop-shows k was (event.Want client ino caps) x = ap (λ c. cond (same k (holder client ino)) c was) (opened_stopped was x) ∙ cond_same (same k (holder client ino)) was
-stop-shows k was (event.Release client ino caps) x = ap (λ c. cond (same k (holder client ino)) c was) (less_stopped caps was x) ∙ cond_same (same k (holder client ino)) was
-stop-shows k was (event.Poll client max) x = ap (λ c. cond (k.client.0 == client.0) c was) (given_stopped k.ino was x) ∙ cond_same (k.client.0 == client.0) was
-stop-shows k was e x = refl
+rejection-shows : (k : Holder) (was : Caps) (e : Event) (x : Rejection) → shown_by k was e (rejection_reply x) ≡ was
+rejection-shows k was (event.Open client ino mode) x = ap (λ c. cond (same k (holder client ino)) c was) (opened_stopped was x) ∙ cond_same (same k (holder client ino)) was
+rejection-shows k was (event.Want client ino caps) x = ap (λ c. cond (same k (holder client ino)) c was) (opened_stopped was x) ∙ cond_same (same k (holder client ino)) was
+rejection-shows k was (event.Release client ino caps) x = ap (λ c. cond (same k (holder client ino)) c was) (less_stopped caps was x) ∙ cond_same (same k (holder client ino)) was
+rejection-shows k was (event.Poll client max) x = ap (λ c. cond (k.client.0 == client.0) c was) (given_stopped k.ino was x) ∙ cond_same (k.client.0 == client.0) was
+rejection-shows k was e x = refl
 
 more-shown : (k : Holder) (rows : List Row) (row : Row) → shown_of k (rows ++ row ∷ []) ≡ shown_by k (shown_of k rows) row.event row.reply
 more-shown k rows row = fold-append _ _ rows (row ∷ [])
@@ -568,13 +568,13 @@ pub step-shown : (old new : State) (rows : List Row) (row : Row) → IsSound old
 step-shown old new rows row sound table was_shown (moves, step) k e there =
     subst (λ (was : Caps). IsShown was (told_set new.scene (at k e)) e) (sym (more-shown k rows row)) (by_judged (judged old.scene row.event) refl)
   where
-    by_judged : (o : Option Stopped) → judged old.scene row.event ≡ o → IsShown (shown_by k (shown_of k rows) row.event row.reply) (told_set new.scene (at k e)) e
+    by_judged : (o : Option Rejection) → judged old.scene row.event ≡ o → IsShown (shown_by k (shown_of k rows) row.event row.reply) (told_set new.scene (at k e)) e
     by_judged (Some x) is =
-        let only = stopped-only old new row.event x row.reply row.ended sound table is (moves, step) in
+        let only = rejection-only old new row.event x row.reply row.ended sound table is (moves, step) in
         let here : entry_at old.scene.table k ≡ Some e = ap (λ (s : State). entry_at s.scene.table k) (sym only.2) ∙ there in
         subst (λ (s : State). IsShown (shown_by k (shown_of k rows) row.event row.reply) (told_set s.scene (at k e)) e) (sym only.2)
         (subst (λ (r : Reply). IsShown (shown_by k (shown_of k rows) row.event r) (told_set old.scene (at k e)) e) (sym only.0)
-        (subst (λ (was : Caps). IsShown was (told_set old.scene (at k e)) e) (sym (stop-shows k (shown_of k rows) row.event x)) (was_shown k e here)))
+        (subst (λ (was : Caps). IsShown was (told_set old.scene (at k e)) e) (sym (rejection-shows k (shown_of k rows) row.event x)) (was_shown k e here)))
     by_judged None free =
         let by_itself : direct old row.event ≡ effect old row.event = ap (effect_unless old row.event) free in
         let d : Direct = effect old row.event in

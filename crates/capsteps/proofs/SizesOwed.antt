@@ -23,17 +23,17 @@ use Rattle.captable.proofs.Searches.{find-map}
 use Rattle.capacts.specs.Lockmachine.Locks.{IsLockMap}
 use Rattle.capacts.specs.Lockmachine.declared.scene.Scene.{Scene}
 use Rattle.capacts.specs.Lockmachine.Scene.{told_set}
-use Rattle.capacts.specs.Caprules.Finish.{is_sized, owed, sizes_owed, issue_row, issue, is_kept, forget, told_before, number_row, number, finished}
+use Rattle.capacts.specs.Caprules.Finish.{is_sized, owed, sizes_owed, issue_row, issue, is_in_use, forget, told_before, number_row, number, finished}
 use Rattle.capacts.specs.Caprules.Headline.{IssuesExactly}
 use Rattle.capacts.specs.Caprules.Settle.{Made, sized_in}
 use Rattle.capacts.specs.Caprules.Sound.{IsSound, AreGiven}
 use Rattle.capacts.specs.Caprules.State.{State}
 use Rattle.capacts.specs.Caprules.Step.{state_at_end}
-use Rattle.capsteps.specs.Touching.{Touches, SettlesAt, Knows, stays, forget_among, told_then, finished_entry, finished_at}
-use Rattle.capacts.specs.Known.{KnownSets, kept_of, AreKnown, kept_anew, KeptAnew}
-use Rattle.capsteps.proofs.EndsThere.{field-renumbered, settled-table, touched-ends, touched-issues, touched-known}
+use Rattle.capsteps.specs.Affected.{Affects, SettlesAt, Knows, stays, forget_among, told_then, finished_entry, finished_at}
+use Rattle.capacts.specs.Known.{KnownSets, known_of, AreKnown, known_anew, KnownAnew}
+use Rattle.capsteps.proofs.EndsThere.{field-renumbered, settled-table, affected-ends, affected-issues, affected-known}
 use Rattle.capsteps.proofs.Knowing.{known-alike, alike-where}
-use Rattle.capsteps.proofs.StayingSound.{sound-touched}
+use Rattle.capsteps.proofs.StayingSound.{sound-affected}
 use Rattle.capsteps.proofs.Telling.{any-map_same, as_told, as_asked, retold, retold_table, retold-sound, retold-issued}
 
 -- no number changes
@@ -96,7 +96,7 @@ module _ (sized : List Ino) (t : Table) where
   same_any : (q : ℕ) (rows : List EntryRow) → list_any (is_of_inode (record { 0 = q })) (map sized_row rows) ≡ list_any (is_of_inode (record { 0 = q })) rows
   same_any q rows = any-map_same (is_of_inode (record { 0 = q })) sized_row (λ row. refl) rows
 
-  same_kept : (x : Scene) (q : ℕ) → is_kept (with_sizes x) q ≡ is_kept x q
+  same_kept : (x : Scene) (q : ℕ) → is_in_use (with_sizes x) q ≡ is_in_use x q
   same_kept x q = ap (λ b. not (is_gone (place x.tree.nodes q)) || b) (same_any q x.table.rows)
 
   -- ---- the end of a step, by the rules
@@ -171,9 +171,9 @@ module _ (sized : List Ino) (t : Table) where
     told_owed row true false = refl
 
     -- it is the same, whether sizes are to be told or not
-    pub sizes-kept : (among : Holder → Bool) (was now : KnownSets) → KeptAnew among (told_then (sizes_owed sized s)) (sizes_owed sized s).table was now
-        → KeptAnew among (told_then s) s.table was now
-    sizes-kept among was now kept k = kept k ∙ ap (λ o. kept_anew (among k) (told_then s) o (kept_of was k)) found ∙ by_row (among k) (find (is_row_of k) s.table.rows)
+    pub sizes-kept : (among : Holder → Bool) (was now : KnownSets) → KnownAnew among (told_then (sizes_owed sized s)) (sizes_owed sized s).table was now
+        → KnownAnew among (told_then s) s.table was now
+    sizes-kept among was now kept k = kept k ∙ ap (λ o. known_anew (among k) (told_then s) o (known_of was k)) found ∙ by_row (among k) (find (is_row_of k) s.table.rows)
       where
         one : EntryRow → EntryRow
         one row = cond (is_sized sized row) (remade owed row) row
@@ -181,7 +181,7 @@ module _ (sized : List Ino) (t : Table) where
         found : find (is_row_of k) (sizes_owed sized s).table.rows ≡ option_map one (find (is_row_of k) s.table.rows)
         found = find-map (is_row_of k) one (λ row. elim (is_sized sized row) as (λ b. is_row_of k (cond b (remade owed row) row) ≡ is_row_of k row) [ true ↦ refl | false ↦ refl ]) s.table.rows
 
-        by_row : (b : Bool) (o : Option EntryRow) → kept_anew b (told_then s) (option_map one o) (kept_of was k) ≡ kept_anew b (told_then s) o (kept_of was k)
+        by_row : (b : Bool) (o : Option EntryRow) → known_anew b (told_then s) (option_map one o) (known_of was k) ≡ known_anew b (told_then s) o (known_of was k)
         by_row true None = refl
         by_row true (Some row) = ap Some (told_owed row (is_sized sized row) (has row.entry.held Fc))
         by_row false None = refl
@@ -189,37 +189,37 @@ module _ (sized : List Ino) (t : Table) where
 
 -- ---- of an event
 
-module _ (at from : ℕ → Bool) (known : Holder → Caps) (old touched : State) (moves : List Made) (settled : Scene) (sound : IsSound old) (tree : IsTree settled.tree) (table : IsTable touched.scene.table)
-    (touches : Touches from old touched) (knows : Knows known old.scene touched.scene.table) (settles : SettlesAt at from moves touched.scene settled) where
+module _ (at from : ℕ → Bool) (known : Holder → Caps) (old affected : State) (moves : List Made) (settled : Scene) (sound : IsSound old) (tree : IsTree settled.tree) (table : IsTable affected.scene.table)
+    (affects : Affects from old affected) (knows : Knows known old.scene affected.scene.table) (settles : SettlesAt at from moves affected.scene settled) where
   table-then : IsTable settled.table
-  table-then = settled-table at from known old touched moves settled sound tree table touches knows settles
+  table-then = settled-table at from known old affected moves settled sound tree table affects knows settles
 
   at_end : finished_at at known (sizes_owed (sized_in moves) settled) ≡ with_sizes (sized_in moves) settled.table (finished_at at known settled)
   at_end = sizes-finished_at (sized_in moves) settled.table table-then settled refl at known
 
-  pub sizes-end : finished old.scene touched.scene (sizes_owed (sized_in moves) settled) ≡ finished_at at known (sizes_owed (sized_in moves) settled)
+  pub sizes-end : finished old.scene affected.scene (sizes_owed (sized_in moves) settled) ≡ finished_at at known (sizes_owed (sized_in moves) settled)
   sizes-end =
-      sizes-finished (sized_in moves) settled.table table-then settled refl old.scene touched.scene
-      ∙ ap (with_sizes (sized_in moves) settled.table) (touched-ends at from known old touched moves settled sound tree table touches knows settles)
+      sizes-finished (sized_in moves) settled.table table-then settled refl old.scene affected.scene
+      ∙ ap (with_sizes (sized_in moves) settled.table) (affected-ends at from known old affected moves settled sound tree table affects knows settles)
       ∙ sym at_end
 
-  pub sizes-sound : IsLockMap touched.scene.locks → IsSound (state_at_end old touched moves (finished_at at known (sizes_owed (sized_in moves) settled)))
+  pub sizes-sound : IsLockMap affected.scene.locks → IsSound (state_at_end old affected moves (finished_at at known (sizes_owed (sized_in moves) settled)))
   sizes-sound order =
-      let ends = sound-touched at from known old touched moves settled sound tree table order touches knows settles in
-      subst (λ (s : Scene). IsSound (state_at_end old touched moves s)) (sym at_end)
-      (retold-sound (state_at_end old touched moves (finished_at at known settled)) as_told (size_as (sized_in moves) settled.table) as_asked
-      (state_at_end old touched moves (finished_at at known settled)).messages ends.messages (λ row below. below) ends)
+      let ends = sound-affected at from known old affected moves settled sound tree table order affects knows settles in
+      subst (λ (s : Scene). IsSound (state_at_end old affected moves s)) (sym at_end)
+      (retold-sound (state_at_end old affected moves (finished_at at known settled)) as_told (size_as (sized_in moves) settled.table) as_asked
+      (state_at_end old affected moves (finished_at at known settled)).messages ends.messages (λ row below. below) ends)
 
-  pub sizes-issues : IssuesExactly touched.scene (finished_at at known (sizes_owed (sized_in moves) settled))
+  pub sizes-issues : IssuesExactly affected.scene (finished_at at known (sizes_owed (sized_in moves) settled))
   sizes-issues =
-      subst (IssuesExactly touched.scene) (sym at_end)
-      (retold-issued (state_at_end old touched moves (finished_at at known settled)) as_told (size_as (sized_in moves) settled.table) as_asked touched.scene
-      (touched-issues at from known old touched moves settled sound tree table touches knows settles))
+      subst (IssuesExactly affected.scene) (sym at_end)
+      (retold-issued (state_at_end old affected moves (finished_at at known settled)) as_told (size_as (sized_in moves) settled.table) as_asked affected.scene
+      (affected-issues at from known old affected moves settled sound tree table affects knows settles))
 
-  pub sizes-given : (count : ℕ) → AreGiven (count + 1) (state_at_end old touched moves (finished_at at known settled))
-      → AreGiven (count + 1) (state_at_end old touched moves (finished_at at known (sizes_owed (sized_in moves) settled)))
+  pub sizes-given : (count : ℕ) → AreGiven (count + 1) (state_at_end old affected moves (finished_at at known settled))
+      → AreGiven (count + 1) (state_at_end old affected moves (finished_at at known (sizes_owed (sized_in moves) settled)))
   sizes-given count given =
-      subst (λ (s : Scene). AreGiven (count + 1) (state_at_end old touched moves s)) (sym at_end)
+      subst (λ (s : Scene). AreGiven (count + 1) (state_at_end old affected moves s)) (sym at_end)
       (record {
         entries = All-map (λ row. row.entry.seq ≤ count + 1) (sized_row (sized_in moves) settled.table) (finished_at at known settled).table.rows given.entries;
         last = given.last;
@@ -227,11 +227,11 @@ module _ (at from : ℕ → Bool) (known : Holder → Caps) (old touched : State
       })
 
   pub sizes-known : (was sets : KnownSets)
-      → ((row : EntryRow) → Contains touched.scene.table.rows row → at row.holder.ino.0 ≡ false → kept_of was row.holder ≡ Some (told_set old.scene row))
-      → KeptAnew (λ k. at k.ino.0) (told_then (sizes_owed (sized_in moves) settled)) (sizes_owed (sized_in moves) settled).table was sets
+      → ((row : EntryRow) → Contains affected.scene.table.rows row → at row.holder.ino.0 ≡ false → known_of was row.holder ≡ Some (told_set old.scene row))
+      → KnownAnew (λ k. at k.ino.0) (told_then (sizes_owed (sized_in moves) settled)) (sizes_owed (sized_in moves) settled).table was sets
       → AreKnown sets (finished_at at known (sizes_owed (sized_in moves) settled))
   sizes-known was sets off_known kept =
-      let ends = touched-known at from known old touched moves settled sound tree table touches knows settles was sets off_known
+      let ends = affected-known at from known old affected moves settled sound tree table affects knows settles was sets off_known
       (sizes-kept (sized_in moves) settled.table table-then settled refl (λ k. at k.ino.0) was sets kept) in
       subst (AreKnown sets) (sym at_end)
       (known-alike sets (finished_at at known settled) (with_sizes (sized_in moves) settled.table (finished_at at known settled)).table

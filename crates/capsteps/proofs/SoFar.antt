@@ -34,51 +34,51 @@ use Rattle.capacts.specs.Capevents.declared.outcome.Ended.{Ended}
 use Rattle.capacts.specs.Capnotes.InoSets.{InoSet}
 use Rattle.capacts.specs.declared.sweep.SweepPlace.{SweepPlace}
 use Rattle.capacts.specs.Served.{is_rename}
-use Rattle.capacts.specs.Reach.{is_touched, Widens, Covers, Reaches}
+use Rattle.capacts.specs.Reach.{is_affected, Widens, Covers, Reaches}
 use Rattle.capsteps.specs.Serves.{Serves, SettlesWith}
 use Rattle.capacts.specs.Capnotes.Changing.{tree_after}
 use Rattle.capacts.specs.Caprules.Settle.{Made, Began, Gathered, Served, Makes, MakesAll, ended_by, ended_in, sized_by, sized_in}
 use Rattle.capsteps.specs.Sweep.{AreStill, GoesOnBehind, IsFirstPlace, IsSwept, IsTurnOfLeast, StandsAt, changed_alone}
-use Rattle.capsteps.specs.Touching.{IsSameOff}
-use Rattle.capsteps.proofs.Among.{untouched, not-touched, more-touched}
+use Rattle.capsteps.specs.Affected.{IsSameOff}
+use Rattle.capsteps.proofs.Among.{unaffected, not-affected, more-affected}
 use Rattle.capsteps.proofs.Moved.{makes-append, one-less}
 use Rattle.capsteps.proofs.OneChange.{alike-apart, place-after}
 use Rattle.capsteps.proofs.SameOff.{off-refl, off-trans, off-wider}
 use Rattle.capsteps.proofs.Sweeping.{still-kept}
 
--- these moves were made and these requests ended; nothing changed but at the inodes that are touched, among which are those of the
+-- these moves were made and these requests ended; nothing changed but at the inodes that are affected, among which are those of the
 -- event; elsewhere nothing moves, and who waits there is held up
-pub record IsSoFar (ino : ℕ) (from : ℕ → Bool) (touched : InoSet) (first now : Scene) (told : List Ended) (sized : List Ino) : Type 0 where
+pub record IsSoFar (ino : ℕ) (from : ℕ → Bool) (affected : InoSet) (first now : Scene) (told : List Ended) (sized : List Ino) : Type 0 where
   pub moves : List Made
   pub made : MakesAll first moves now
   pub ended_is : told ≡ ended_in moves
   pub sized_is : sized ≡ sized_in moves
-  pub among : (other : ℕ) → from other ≡ true → is_touched ino touched other ≡ true
-  pub same : IsSameOff (is_touched ino touched) first now
-  pub states : (other : ℕ) → is_touched ino touched other ≡ false → map.get now.locks.states other ≡ map.get first.locks.states other
-  pub apart : set.contains touched ino ≡ false
-  pub still : AreStill (is_touched ino touched) now
-  pub waits : WaitAt (is_touched ino touched) now
+  pub among : (other : ℕ) → from other ≡ true → is_affected ino affected other ≡ true
+  pub same : IsSameOff (is_affected ino affected) first now
+  pub states : (other : ℕ) → is_affected ino affected other ≡ false → map.get now.locks.states other ≡ map.get first.locks.states other
+  pub apart : set.contains affected ino ≡ false
+  pub still : AreStill (is_affected ino affected) now
+  pub waits : WaitAt (is_affected ino affected) now
   pub count : length told + length now.locks.queue ≡ length first.locks.queue
 
 -- ---- at first
 
-pub so-far-begins : (ino : ℕ) (touched : InoSet) (first : Scene) → IsQuietOutside (is_touched ino touched) first → set.contains touched ino ≡ false
-    → IsSoFar ino (is_touched ino touched) touched first first [] []
-so-far-begins ino touched first quiet apart = record {
+pub so-far-begins : (ino : ℕ) (affected : InoSet) (first : Scene) → IsQuietOutside (is_affected ino affected) first → set.contains affected ino ≡ false
+    → IsSoFar ino (is_affected ino affected) affected first first [] []
+so-far-begins ino affected first quiet apart = record {
   moves = [];
   made = refl;
   ended_is = refl;
   sized_is = refl;
   among = λ other is. is;
-  same = off-refl (is_touched ino touched) first;
+  same = off-refl (is_affected ino affected) first;
   states = λ other off. refl;
   apart = apart;
   still = record {
     ends = λ other part off. ends_not first (other, part) (lock_at first.locks other part) (quiet.each_other other part off);
     begins = λ other part off. begins_not first (other, part) (lock_at first.locks other part) (quiet.each_other other part off);
   };
-  waits = quiet-waits-at (is_touched ino touched) first quiet;
+  waits = quiet-waits-at (is_affected ino affected) first quiet;
   count = omega arith;
 }
 
@@ -95,29 +95,29 @@ turn-of_least at s still ends a least = ends-turn s a ends (λ other part below.
 
 -- ---- where the sweep begins
 
--- where no other inode is touched, who waits elsewhere is held up
-nobody_first : (ino : ℕ) (touched : InoSet) (s : Scene) (at : ℕ) → WaitAt (is_touched ino touched) s → is_touched ino touched at ≡ true
-    → ((other : ℕ) → set.contains touched other ≡ false) → NobodyElsewhere s.locks at
-nobody_first ino touched s at waits here empty =
+-- where no other inode is affected, who waits elsewhere is held up
+nobody_first : (ino : ℕ) (affected : InoSet) (s : Scene) (at : ℕ) → WaitAt (is_affected ino affected) s → is_affected ino affected at ≡ true
+    → ((other : ℕ) → set.contains affected other ≡ false) → NobodyElsewhere s.locks at
+nobody_first ino affected s at waits here empty =
     let is : at ≡ ino = eqb-true at ino (sym (ap (λ b. (at == ino) || b) (empty at) ∙ or-false (at == ino)) ∙ here) in
-    nobody-held s at (waits-wider (is_touched ino touched) (λ other. other == at) s (λ other away. ap (λ b. (other == ino) || b) (empty other) ∙ or-false (other == ino) ∙ ap (λ i. other == i) (sym is) ∙ away) waits)
+    nobody-held s at (waits-wider (is_affected ino affected) (λ other. other == at) s (λ other away. ap (λ b. (other == ino) || b) (empty other) ∙ or-false (other == ino) ∙ ap (λ i. other == i) (sym is) ∙ away) waits)
 
-pub stands-first : (ino : ℕ) (touched : InoSet) (s : Scene) (place : SweepPlace) → IsTurnOfLeast (is_touched ino touched) s → WaitAt (is_touched ino touched) s
-    → IsFirstPlace ino touched place → StandsAt (is_touched ino touched) place s
-stands-first ino touched s place turn waits first = record {
+pub stands-first : (ino : ℕ) (affected : InoSet) (s : Scene) (place : SweepPlace) → IsTurnOfLeast (is_affected ino affected) s → WaitAt (is_affected ino affected) s
+    → IsFirstPlace ino affected place → StandsAt (is_affected ino affected) place s
+stands-first ino affected s place turn waits first = record {
   turn = turn place.at.0 first.least;
   here = first.least.is;
-  alone = λ known. nobody_first ino touched s place.at.0 waits first.least.is (first.alone known);
+  alone = λ known. nobody_first ino affected s place.at.0 waits first.least.is (first.alone known);
 }
 
-module _ (ino : ℕ) (from : ℕ → Bool) (touched : InoSet) (first now : Scene) (told : List Ended) (sized : List Ino) (so : IsSoFar ino from touched first now told sized) where
+module _ (ino : ℕ) (from : ℕ → Bool) (affected : InoSet) (first now : Scene) (told : List Ended) (sized : List Ino) (so : IsSoFar ino from affected first now told sized) where
   -- ---- gathers began and ended
 
-  module _ (new : Scene) (swept : IsSwept (is_touched ino touched) now new) where
+  module _ (new : Scene) (swept : IsSwept (is_affected ino affected) now new) where
     abbrev left : Scene
     left = record now { locks = new.locks }
 
-    swept_off : IsSameOff (is_touched ino touched) now left
+    swept_off : IsSameOff (is_affected ino affected) now left
     swept_off = record {
       fs = refl;
       sessions = refl;
@@ -130,7 +130,7 @@ module _ (ino : ℕ) (from : ℕ → Bool) (touched : InoSet) (first now : Scene
     by_left : (P : Scene → Type 0) → P left → P new
     by_left P is = subst P (sym swept.is) is
 
-    pub so-far-swept : IsSoFar ino from touched first new told sized
+    pub so-far-swept : IsSoFar ino from affected first new told sized
     so-far-swept = record {
       moves = so.moves ++ swept.moves;
       made = makes-append first so.moves now swept.moves new so.made swept.made;
@@ -145,16 +145,16 @@ module _ (ino : ℕ) (from : ℕ → Bool) (touched : InoSet) (first now : Scene
           ∙ ap (λ inos. sized_in so.moves ++ inos) (sym (none-sized swept.moves swept.none))
           ∙ sym (filter_map-append sized_by so.moves swept.moves);
       among = so.among;
-      same = by_left (IsSameOff (is_touched ino touched) first) (off-trans (is_touched ino touched) first now left so.same swept_off);
+      same = by_left (IsSameOff (is_affected ino affected) first) (off-trans (is_affected ino affected) first now left so.same swept_off);
       states = λ other off. swept.states other off ∙ so.states other off;
       apart = so.apart;
-      still = by_left (AreStill (is_touched ino touched)) (still-kept (is_touched ino touched) now new.locks so.still swept.queue swept.states);
+      still = by_left (AreStill (is_affected ino affected)) (still-kept (is_affected ino affected) now new.locks so.still swept.queue swept.states);
       waits = swept.waits;
       count = ap (λ (q : List Request). length told + length q) swept.queue ∙ so.count;
     }
 
   -- and where no move applies, it has settled
-  pub so-far-settled : first_move now ≡ Settled → SettlesWith (is_touched ino touched) from first now told sized
+  pub so-far-settled : first_move now ≡ Settled → SettlesWith (is_affected ino affected) from first now told sized
   so-far-settled rests = record {
     moves = so.moves;
     settles = record {
@@ -169,12 +169,12 @@ module _ (ino : ℕ) (from : ℕ → Bool) (touched : InoSet) (first now : Scene
   -- ---- a request was served
 
   module _ (ticket : Ticket) (ended : Ended) (new : Scene) (kept : InoSet) (order : IsLockMap now.locks) (tree : IsTree now.tree) (move : first_move now ≡ Serve ticket)
-      (serves : Serves now ticket ended new) (reaches : Reaches serves.request ino now.tree new.tree now.table touched kept) where
+      (serves : Serves now ticket ended new) (reaches : Reaches serves.request ino now.tree new.tree now.table affected kept) where
     abbrev q : Request
     q = serves.request
 
-    here : (r : Request) × (request_at now.locks ticket.0 ≡ Some r) × Contains now.locks.queue r × (is_touched ino touched r.ino.0 ≡ true) × (r.ticket ≡ ticket)
-    here = served-at (is_touched ino touched) now ticket order so.waits move
+    here : (r : Request) × (request_at now.locks ticket.0 ≡ Some r) × Contains now.locks.queue r × (is_affected ino affected r.ino.0 ≡ true) × (r.ticket ≡ ticket)
+    here = served-at (is_affected ino affected) now ticket order so.waits move
 
     same_request : here.0 ≡ q
     same_request = (let both : Some here.0 ≡ Some serves.request = sym here.1 ∙ serves.waits in cc)
@@ -182,9 +182,9 @@ module _ (ino : ℕ) (from : ℕ → Bool) (touched : InoSet) (first now : Scene
     inside : Contains now.locks.queue q
     inside = subst (Contains now.locks.queue) same_request here.2
 
-    -- it waited at an inode that was touched
-    at_touched : is_touched ino touched q.ino.0 ≡ true
-    at_touched = ap (λ (r : Request). is_touched ino touched r.ino.0) (sym same_request) ∙ here.3
+    -- it waited at an inode that was affected
+    at_affected : is_affected ino affected q.ino.0 ≡ true
+    at_affected = ap (λ (r : Request). is_affected ino affected r.ino.0) (sym same_request) ∙ here.3
 
     numbered : q.ticket ≡ ticket
     numbered = ap (λ (r : Request). r.ticket) (sym same_request) ∙ here.4
@@ -202,31 +202,31 @@ module _ (ino : ℕ) (from : ℕ → Bool) (touched : InoSet) (first now : Scene
     makes : Makes now (Served q ended.outcome) new
     makes = (move ∙ ap Serve (sym numbered), subst (λ (t : Ticket). request_at now.locks t.0 ≡ Some q) (sym numbered) serves.waits, serves.may, is_after)
 
-    -- ---- which inodes it touches
+    -- ---- which inodes it affects
 
-    abbrev more : Widens ino touched kept
+    abbrev more : Widens ino affected kept
     more = reaches.widens
 
-    not_before : (other : ℕ) → set.contains kept other ≡ false → set.contains touched other ≡ false
-    not_before other none = false_from_ne_true (set.contains touched other) (λ was. true≢false (sym (more.stay other was) ∙ none))
+    not_before : (other : ℕ) → set.contains kept other ≡ false → set.contains affected other ≡ false
+    not_before other none = false_from_ne_true (set.contains affected other) (λ was. true≢false (sym (more.stay other was) ∙ none))
 
-    wider : (other : ℕ) → is_touched ino kept other ≡ false → is_touched ino touched other ≡ false
-    wider other off = (let un = untouched ino kept other off in not-touched ino touched other un.0 (not_before other un.1))
+    wider : (other : ℕ) → is_affected ino kept other ≡ false → is_affected ino affected other ≡ false
+    wider other off = (let un = unaffected ino kept other off in not-affected ino affected other un.0 (not_before other un.1))
 
     apart_now : set.contains kept ino ≡ false
     apart_now = false_from_ne_true (set.contains kept ino) (λ is. more.besides ino so.apart is refl)
 
-    -- an inode that is not touched is another than that of the request
-    another : (other : ℕ) → is_touched ino kept other ≡ false → other ≢ q.ino.0
-    another other off same = true≢false (sym at_touched ∙ ap (is_touched ino touched) (sym same) ∙ wider other off)
+    -- an inode that is not affected is another than that of the request
+    another : (other : ℕ) → is_affected ino kept other ≡ false → other ≢ q.ino.0
+    another other off same = true≢false (sym at_affected ∙ ap (is_affected ino affected) (sym same) ∙ wider other off)
 
     -- ---- what it leaves as it was
 
-    row_alike : (row : EntryRow) → Contains now.table.rows row → is_touched ino kept row.holder.ino.0 ≡ false → IsAlike now.tree (tree_after now.tree q ended.outcome) row.holder.ino.0
+    row_alike : (row : EntryRow) → Contains now.table.rows row → is_affected ino kept row.holder.ino.0 ≡ false → IsAlike now.tree (tree_after now.tree q ended.outcome) row.holder.ino.0
     row_alike row among off = elim reaches.covers [
       | inl left ↦ subst (λ (t : Nodes). IsAlike now.tree t row.holder.ino.0) (sym (sym (ap (λ (s : Scene). s.tree) is_after) ∙ left)) (alike-itself now.tree row.holder.ino.0)
       | inr covers ↦
-          let un = untouched ino kept row.holder.ino.0 off in
+          let un = unaffected ino kept row.holder.ino.0 off in
           alike-apart now q ended.outcome row.holder.ino.0 tree serves.may (another row.holder.ino.0 off) (λ moves. not_within covers moves un.1 un.0)
     ]
       where
@@ -238,7 +238,7 @@ module _ (ino : ℕ) (from : ℕ → Bool) (touched : InoSet) (first now : Scene
     first_same : (other : ℕ) (part : Part) → other ≢ q.ino.0 → first_for after.locks.queue other part ≡ first_for now.locks.queue other part
     first_same other part off = first-moved now.locks q order inside other part off
 
-    served_off : IsSameOff (is_touched ino kept) now after
+    served_off : IsSameOff (is_affected ino kept) now after
     served_off = record {
       fs = refl;
       sessions = refl;
@@ -274,14 +274,14 @@ module _ (ino : ℕ) (from : ℕ → Bool) (touched : InoSet) (first now : Scene
             alike = alike-itself now.tree other;
           }) part
 
-      begin_same : is_touched ino kept other ≡ false → (rows : List EntryRow) → entries_on now.table (record { 0 = other }) ≡ rows → (part : Part) → may_begin after (other, part) ≡ may_begin now (other, part)
+      begin_same : is_affected ino kept other ≡ false → (rows : List EntryRow) → entries_on now.table (record { 0 = other }) ≡ rows → (part : Part) → may_begin after (other, part) ≡ may_begin now (other, part)
       begin_same un [] is part = unwanted_begin is part
       begin_same un (row ∷ rows) is part =
           let found : Contains (entries_on now.table (record { 0 = other })) row = subst (λ (rs : List EntryRow). Contains rs row) (sym is) (0, omega arith, refl) in
           let there : row.holder.ino.0 ≡ other = eqb-true row.holder.ino.0 other (All-contains (λ (r : EntryRow). is_of_inode (record { 0 = other }) r ≡ true) (entries_on now.table (record { 0 = other })) row (filter_passes (is_of_inode (record { 0 = other })) now.table.rows) found) in
-          alike_begin (subst (IsAlike now.tree after.tree) there (row_alike row (contains-filter (is_of_inode (record { 0 = other })) now.table.rows row found) (ap (is_touched ino kept) there ∙ un))) part
+          alike_begin (subst (IsAlike now.tree after.tree) there (row_alike row (contains-filter (is_of_inode (record { 0 = other })) now.table.rows row found) (ap (is_affected ino kept) there ∙ un))) part
 
-    still_after : AreStill (is_touched ino kept) after
+    still_after : AreStill (is_affected ino kept) after
     still_after = record {
       ends = λ other part off. so.still.ends other part (wider other off);
       begins = λ other part off.
@@ -289,11 +289,11 @@ module _ (ino : ℕ) (from : ℕ → Bool) (touched : InoSet) (first now : Scene
     }
 
     -- nothing ends, so that it is the least one's turn again
-    turn_after : IsTurnOfLeast (is_touched ino kept) after
-    turn_after = turn-of_least (is_touched ino kept) after still_after (served-ends now ticket move)
+    turn_after : IsTurnOfLeast (is_affected ino kept) after
+    turn_after = turn-of_least (is_affected ino kept) after still_after (served-ends now ticket move)
 
-    turn_served : IsTurnOfLeast (is_touched ino kept) new
-    turn_served = by_after (IsTurnOfLeast (is_touched ino kept)) turn_after
+    turn_served : IsTurnOfLeast (is_affected ino kept) new
+    turn_served = by_after (IsTurnOfLeast (is_affected ino kept)) turn_after
 
     pub so-far-served : IsSoFar ino from kept first new (told ++ ended ∷ []) (sized ++ sized_in (Served q ended.outcome ∷ []))
     so-far-served = record {
@@ -306,14 +306,14 @@ module _ (ino : ℕ) (from : ℕ → Bool) (touched : InoSet) (first now : Scene
       sized_is =
           ap (λ inos. inos ++ sized_in (Served q ended.outcome ∷ [])) so.sized_is
           ∙ sym (filter_map-append sized_by so.moves (Served q ended.outcome ∷ []));
-      among = λ other is. more-touched ino touched kept more.stay other (so.among other is);
-      same = by_after (IsSameOff (is_touched ino kept) first)
-          (off-trans (is_touched ino kept) first now after (off-wider (is_touched ino touched) (is_touched ino kept) first now wider so.same) served_off);
+      among = λ other is. more-affected ino affected kept more.stay other (so.among other is);
+      same = by_after (IsSameOff (is_affected ino kept) first)
+          (off-trans (is_affected ino kept) first now after (off-wider (is_affected ino affected) (is_affected ino kept) first now wider so.same) served_off);
       states = λ other off. ap (λ (s : Scene). map.get s.locks.states other) is_after ∙ so.states other (wider other off);
       apart = apart_now;
-      still = by_after (AreStill (is_touched ino kept)) still_after;
-      waits = by_after (WaitAt (is_touched ino kept))
-          (waits-wider (is_touched ino touched) (is_touched ino kept) after wider (waits-less-at (is_touched ino touched) now (tree_after now.tree q ended.outcome) q.ticket.0 so.waits));
+      still = by_after (AreStill (is_affected ino kept)) still_after;
+      waits = by_after (WaitAt (is_affected ino kept))
+          (waits-wider (is_affected ino affected) (is_affected ino kept) after wider (waits-less-at (is_affected ino affected) now (tree_after now.tree q ended.outcome) q.ticket.0 so.waits));
       count = (
           let queue : length new.locks.queue ≡ length (without_request now.locks q.ticket.0).queue = ap (λ (s : Scene). length s.locks.queue) is_after in
           let more : length (told ++ ended ∷ []) ≡ length told + 1 = length-append told (ended ∷ []) in
@@ -347,15 +347,15 @@ module _ (ino : ℕ) (from : ℕ → Bool) (touched : InoSet) (first now : Scene
       | false ↦ λ stays is. (stays, cc)
     ] refl is
 
-    pub stands-behind : (place next : SweepPlace) (changed : Option Ino) → StandsAt (is_touched ino touched) place now → changed ≡ changed_alone q
-        → GoesOnBehind place changed ino kept next → StandsAt (is_touched ino kept) next new
+    pub stands-behind : (place next : SweepPlace) (changed : Option Ino) → StandsAt (is_affected ino affected) place now → changed ≡ changed_alone q
+        → GoesOnBehind place changed ino kept next → StandsAt (is_affected ino kept) next new
     stands-behind place next changed stood is goes = elim goes [
       | inl on ↦
           let alone = alone_by on.1.0 (sym is ∙ on.1.1) in
           let before : place.at.0 ≤ q.ino.0 = subst (λ (i : Ino). place.at.0 ≤ i.0) alone.1 on.1.2 in
-          subst (λ (at : SweepPlace). StandsAt (is_touched ino kept) at new) (sym on.0) (by_after (StandsAt (is_touched ino kept) place) (record {
+          subst (λ (at : SweepPlace). StandsAt (is_affected ino kept) at new) (sym on.0) (by_after (StandsAt (is_affected ino kept) place) (record {
             turn = turn_stays place.at.0 alone.0 before stood.turn;
-            here = more-touched ino touched kept more.stay place.at.0 stood.here;
+            here = more-affected ino affected kept more.stay place.at.0 stood.here;
             alone = λ known. alone_stays place.at.0 (stood.alone known);
           }))
       | inr first ↦ stands-first ino kept new next turn_served so-far-served.waits first

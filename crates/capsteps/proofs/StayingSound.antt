@@ -1,4 +1,4 @@
--- A sound state stays sound after the step of an event that touched some inodes.
+-- A sound state stays sound after the step of an event that affected some inodes.
 use Rattle.std.proofs.Common.{◌≡◌, ◌≤◌, ℕ, ◌+◌, ◌==◌, Bool, true, false, ◌||◌, Some, None, is_some, List, refl, sym, ap, subst, ◌∙◌, ◌++◌, Contains, arith}
 use Rattle.std.specs.Prelude.{IsTrue, All, nat_le}
 use Rattle.std.specs.List.{find, list_any}
@@ -37,7 +37,7 @@ use Rattle.capacts.specs.Caprules.Finish.{due, allowed_to}
 use Rattle.capacts.specs.Caprules.Sound.{IsSoundEntry, IsSound, AreGiven}
 use Rattle.capacts.specs.Caprules.Settle.{Made, ended_in}
 use Rattle.capacts.specs.Caprules.Step.{earlier, state_at_end}
-use Rattle.capsteps.specs.Touching.{IsTouchedEntry, Touches, SettlesAt, Knows, finished_at}
+use Rattle.capsteps.specs.Affected.{IsAffectedEntry, Affects, SettlesAt, Knows, finished_at}
 use Rattle.capsteps.proofs.EndsThere.{off_due}
 use Rattle.capsteps.proofs.Telling.{any-map_same}
 use Rattle.capsteps.proofs.IssuedRows.{ended_row, want-ended, told-ended, revoked-ended, seq-ended, effective-ended, holds-due, holds-pin, in_row-ended, on_it, last_row, issued_at, by_place, of_inode-last, rest-issued}
@@ -45,29 +45,29 @@ use Rattle.capsteps.proofs.Placed.{placed-in_row}
 use Rattle.capsteps.proofs.Forgotten.{all_rows, IsSoundBut, sound-forgotten}
 use Rattle.capsteps.proofs.Moved.{IsMoved, moved-all, no_lock-moved, nobody-moved, all-waiting, Waited, ended-waited, nothing-served}
 use Rattle.capsteps.proofs.SameOff.{not-among, row_elsewhere, any_elsewhere, IsSameFrom, from-first}
-use Rattle.capsteps.proofs.Touched.{IsKeptEntry, kept-left}
+use Rattle.capsteps.proofs.EntryRequests.{IsKeptEntry, kept-left}
 
 -- ---- the step
 
 -- all that is known of it
-record IsGiven (at from : ℕ → Bool) (known : Holder → Caps) (old touched : State) (settled : Scene) : Type 0 where
+record IsGiven (at from : ℕ → Bool) (known : Holder → Caps) (old affected : State) (settled : Scene) : Type 0 where
   among : (q : ℕ) → from q ≡ true → at q ≡ true
   sound : IsSound old
   tree : IsTree settled.tree
-  table : IsTable touched.scene.table
+  table : IsTable affected.scene.table
   -- the entries are those that the event left
-  moved : IsMoved touched.scene settled
-  touches : Touches from old touched
+  moved : IsMoved affected.scene settled
+  affects : Affects from old affected
   same : IsSameFrom at old.scene settled
   rests : first_move settled ≡ Settled
   knows : Knows known old.scene settled.table
-  fs : settled.fs ≡ touched.scene.fs
+  fs : settled.fs ≡ affected.scene.fs
   -- where an entry has not its pin yet, the tree is as the event left it
-  calm : (row : EntryRow) → Contains touched.scene.table.rows row → has row.entry.held P ≡ false → settled.tree ≡ touched.scene.tree
+  calm : (row : EntryRow) → Contains affected.scene.table.rows row → has row.entry.held P ≡ false → settled.tree ≡ affected.scene.tree
 
-module _ (at from : ℕ → Bool) (known : Holder → Caps) (old touched : State) (settled : Scene) where
+module _ (at from : ℕ → Bool) (known : Holder → Caps) (old affected : State) (settled : Scene) where
   abbrev first : Scene
-  first = touched.scene
+  first = affected.scene
 
   abbrev last : Scene
   last = issued_at known settled at
@@ -81,20 +81,20 @@ module _ (at from : ℕ → Bool) (known : Holder → Caps) (old touched : State
   abbrev rows : List EntryRow
   rows = settled.table.rows
 
-  module _ (g : IsGiven at from known old touched settled) where
+  module _ (g : IsGiven at from known old affected settled) where
     -- ---- rest
 
     -- who waits, waits for a lock that is there
     wait_at : WaitAtLocks settled
     wait_at i part none =
         let moved = g.moved in
-        let touches = g.touches in
+        let affects = g.affects in
         let was = no_lock-moved first settled moved i part none in
         nobody-moved first settled moved i part (elim (from i) as (λ b. from i ≡ b → first_for first.locks.queue i part ≡ None) [
-          | true ↦ λ is. touches.at_lock i part is was
-          | false ↦ λ off. (let same = touches.same in
+          | true ↦ λ is. affects.at_lock i part is was
+          | false ↦ λ off. (let same = affects.same in
               let sound = g.sound in
-              let before : lock_at old.scene.locks i part ≡ None = sym (ap (λ (states : StateMap). option_map (lock_in part) (map.get states i)) touches.states) ∙ was in
+              let before : lock_at old.scene.locks i part ≡ None = sym (ap (λ (states : StateMap). option_map (lock_in part) (map.get states i)) affects.states) ∙ was in
               same.waiting i part off ∙ subst (IsQuiet old.scene i part) before (sound.at_rest.each i part))
         ] refl)
 
@@ -108,8 +108,8 @@ module _ (at from : ℕ → Bool) (known : Holder → Caps) (old touched : State
 
     old_row : (row : EntryRow) → Contains rows row → from row.holder.ino.0 ≡ false → Contains old.scene.table.rows row
     old_row row inside off =
-        let touches = g.touches in
-        let same = touches.same in
+        let affects = g.affects in
+        let same = affects.same in
         row_elsewhere from old.scene.table first.table same.entries row (first_row row inside) off
 
     of_its_inode : (k : Holder) (row : EntryRow) → is_row_of k row ≡ true → is_of_inode k.ino row ≡ true
@@ -118,8 +118,8 @@ module _ (at from : ℕ → Bool) (known : Holder → Caps) (old touched : State
     old_found : (row : EntryRow) → Contains rows row → from row.holder.ino.0 ≡ false → find (is_row_of row.holder) old.scene.table.rows ≡ Some row
     old_found row inside off =
         let k = row.holder in
-        let touches = g.touches in
-        let same = touches.same in
+        let affects = g.affects in
+        let same = affects.same in
         sym (find-filter_kept (is_row_of k) (is_of_inode k.ino) (of_its_inode k) old.scene.table.rows)
         ∙ ap (find (is_row_of k)) (sym (same.entries k.ino off))
         ∙ find-filter_kept (is_row_of k) (is_of_inode k.ino) (of_its_inode k) first.table.rows ∙ row_found first.table row g.table (first_row row inside)
@@ -139,19 +139,19 @@ module _ (at from : ℕ → Bool) (known : Holder → Caps) (old touched : State
           revoked = was.revoked;
         }
 
-    touched_row : (row : EntryRow) → Contains rows row → IsTouchedEntry first row
-    touched_row row inside =
-        let touches = g.touches in
-        elim (from row.holder.ino.0) as (λ b. from row.holder.ino.0 ≡ b → IsTouchedEntry first row) [
-          | true ↦ λ is. touches.each row (first_row row inside) is
-          | false ↦ λ off. (let same = touches.same in
-              kept-left old.scene first row (ap is_some (same.sessions row (old_row row inside off) off)) touches.states touches.known (kept_row row inside off))
+    affected_row : (row : EntryRow) → Contains rows row → IsAffectedEntry first row
+    affected_row row inside =
+        let affects = g.affects in
+        elim (from row.holder.ino.0) as (λ b. from row.holder.ino.0 ≡ b → IsAffectedEntry first row) [
+          | true ↦ λ is. affects.each row (first_row row inside) is
+          | false ↦ λ off. (let same = affects.same in
+              kept-left old.scene first row (ap is_some (same.sessions row (old_row row inside off) off)) affects.states affects.known (kept_row row inside off))
         ] refl
 
     -- ---- what is held is in its rows
 
     in_row_settled : (row : EntryRow) → Contains rows row → (part : Part) → IsInRow settled row part
-    in_row_settled row inside part = let moved = g.moved in let entry = touched_row row inside in moved.in_rows row part (first_row row inside) (entry.in_row part)
+    in_row_settled row inside part = let moved = g.moved in let entry = affected_row row inside in moved.in_rows row part (first_row row inside) (entry.in_row part)
 
     in_row_last : (row : EntryRow) → Contains rows row → (part : Part) → IsInRow settled (last_of row) part
     in_row_last row inside part =
@@ -171,7 +171,7 @@ module _ (at from : ℕ → Bool) (known : Holder → Caps) (old touched : State
           (λ i. has (effective_want (g.fs i) (g.calm row (first_row row inside) none i) (sessions i) row) P) ∙ due)
     ] refl is
 
-    entry_here : (row : EntryRow) → Contains rows row → IsTouchedEntry first row → IsSoundEntry last (ended_row known settled row)
+    entry_here : (row : EntryRow) → Contains rows row → IsAffectedEntry first row → IsSoundEntry last (ended_row known settled row)
     entry_here row inside entry = let moved = g.moved in record {
       of_session = has_session_still row.holder.client.0 entry.of_session;
       on_inode = moved.nodes row.holder.ino.0 ∙ entry.on_inode;
@@ -191,7 +191,7 @@ module _ (at from : ℕ → Bool) (known : Holder → Caps) (old touched : State
 
     -- the same inodes are there
     there_still : (q : ℕ) → map.contains_key settled.tree.nodes q ≡ map.contains_key old.scene.tree.nodes q
-    there_still q = let moved = g.moved in let touches = g.touches in moved.nodes q ∙ touches.known q
+    there_still q = let moved = g.moved in let affects = g.affects in moved.nodes q ∙ affects.known q
 
     entry_elsewhere : (row : EntryRow) → Contains rows row → on row ≡ false → IsSoundEntry last row
     entry_elsewhere row inside off =
@@ -210,12 +210,12 @@ module _ (at from : ℕ → Bool) (known : Holder → Caps) (old touched : State
 
     entry_last : (row : EntryRow) → Contains rows row → IsSoundEntry last (last_of row)
     entry_last row inside =
-        by_place known settled at (IsSoundEntry last) row (λ here. entry_here row inside (touched_row row inside)) (λ off. entry_elsewhere row inside off)
+        by_place known settled at (IsSoundEntry last) row (λ here. entry_here row inside (affected_row row inside)) (λ off. entry_elsewhere row inside off)
 
     -- ---- inodes
 
     locked_last : (q : ℕ) → map.contains_key settled.locks.states q ≡ map.contains_key settled.tree.nodes q
-    locked_last q = let moved = g.moved in let touches = g.touches in moved.states q ∙ touches.locked q ∙ sym (moved.nodes q)
+    locked_last q = let moved = g.moved in let affects = g.affects in moved.states q ∙ affects.locked q ∙ sym (moved.nodes q)
 
     strays_last : (q : ℕ) → at q ≡ false → place settled.tree.nodes q ≡ Gone → IsTrue (list_any (is_of_inode (record { 0 = q })) last.table.rows)
     strays_last q off gone =
@@ -230,9 +230,9 @@ module _ (at from : ℕ → Bool) (known : Holder → Caps) (old touched : State
     -- who waits has a session
     waiting_last : All (λ q. IsTrue (has_session settled.sessions q.client.0)) settled.locks.queue
     waiting_last =
-        let touches = g.touches in
+        let affects = g.affects in
         all-waiting (λ q. IsTrue (has_session settled.sessions q.client.0)) first settled g.moved
-        (All-weaker (λ q. IsTrue (has_session first.sessions q.client.0)) (λ q. IsTrue (has_session settled.sessions q.client.0)) (λ q. has_session_still q.client.0) first.locks.queue touches.waiting)
+        (All-weaker (λ q. IsTrue (has_session first.sessions q.client.0)) (λ q. IsTrue (has_session settled.sessions q.client.0)) (λ q. has_session_still q.client.0) first.locks.queue affects.waiting)
 
     but_last : (messages : List Ended) → All (λ m. IsTrue (has_session settled.sessions m.client.0)) messages → IsSoundBut at (record { scene = last; messages = messages })
     but_last messages told = record {
@@ -248,56 +248,56 @@ module _ (at from : ℕ → Bool) (known : Holder → Caps) (old touched : State
     sound_last : (messages : List Ended) → All (λ m. IsTrue (has_session settled.sessions m.client.0)) messages → IsSound (record { scene = finished_at at known settled; messages = messages })
     sound_last messages told = sound-forgotten at (record { scene = last; messages = messages }) (but_last messages told) g.tree
 
-module _ (at from : ℕ → Bool) (known : Holder → Caps) (old touched : State) (moves : List Made) (settled : Scene) (sound : IsSound old) (tree : IsTree settled.tree) (table : IsTable touched.scene.table)
-    (order : IsLockMap touched.scene.locks) (touches : Touches from old touched) (knows : Knows known old.scene touched.scene.table) (settles : SettlesAt at from moves touched.scene settled) where
-  moved-there : IsMoved touched.scene settled
-  moved-there = let made = settles.settles in moved-all touched.scene moves settled made.made
+module _ (at from : ℕ → Bool) (known : Holder → Caps) (old affected : State) (moves : List Made) (settled : Scene) (sound : IsSound old) (tree : IsTree settled.tree) (table : IsTable affected.scene.table)
+    (order : IsLockMap affected.scene.locks) (affects : Affects from old affected) (knows : Knows known old.scene affected.scene.table) (settles : SettlesAt at from moves affected.scene settled) where
+  moved-there : IsMoved affected.scene settled
+  moved-there = let made = settles.settles in moved-all affected.scene moves settled made.made
 
-  given-all : IsGiven at from known old touched settled
+  given-all : IsGiven at from known old affected settled
   given-all = let made = settles.settles in record {
     among = settles.among;
     sound = sound;
     tree = tree;
     table = table;
     moved = moved-there;
-    touches = touches;
-    same = from-first at from old.scene touched.scene settled settles.among touches.same settles.same;
+    affects = affects;
+    same = from-first at from old.scene affected.scene settled settles.among affects.same settles.same;
     rests = made.settled;
     knows = subst (λ (t : Table). Knows known old.scene t) (sym (let moved = moved-there in moved.table)) knows;
     fs = (let same = settles.same in same.fs);
-    calm = λ row inside none. (nothing-served touched.scene moves settled order (touches.calm row inside none) made.made).1;
+    calm = λ row inside none. (nothing-served affected.scene moves settled order (affects.calm row inside none) made.made).1;
   }
 
   -- who has a session right after the event, has it at the end
-  connected : (client : ℕ) → IsTrue (has_session touched.scene.sessions client) → IsTrue (has_session settled.sessions client)
+  connected : (client : ℕ) → IsTrue (has_session affected.scene.sessions client) → IsTrue (has_session settled.sessions client)
   connected client is = let moved = moved-there in subst (λ (t : SessionTable). IsTrue (has_session t client)) (sym moved.sessions) is
 
   -- whose requests the moves ended, has a session
   ended-connected : All (λ m. IsTrue (has_session settled.sessions m.client.0)) (ended_in moves)
   ended-connected =
       let made = settles.settles in
-      All-weaker (Waited touched.scene.locks.queue) (λ m. IsTrue (has_session settled.sessions m.client.0))
+      All-weaker (Waited affected.scene.locks.queue) (λ m. IsTrue (has_session settled.sessions m.client.0))
       (λ m w. subst (λ (c : ClientId). IsTrue (has_session settled.sessions c.0)) (sym w.client)
       (connected w.request.client.0
-      (All-contains (λ q. IsTrue (has_session touched.scene.sessions q.client.0)) touched.scene.locks.queue w.request touches.waiting w.inside)))
-      (ended_in moves) (ended-waited touched.scene moves settled made.made)
+      (All-contains (λ q. IsTrue (has_session affected.scene.sessions q.client.0)) affected.scene.locks.queue w.request affects.waiting w.inside)))
+      (ended_in moves) (ended-waited affected.scene moves settled made.made)
 
-  messages-connected : All (λ m. IsTrue (has_session settled.sessions m.client.0)) touched.messages
+  messages-connected : All (λ m. IsTrue (has_session settled.sessions m.client.0)) affected.messages
   messages-connected =
-      All-weaker (λ m. IsTrue (has_session touched.scene.sessions m.client.0)) (λ m. IsTrue (has_session settled.sessions m.client.0)) (λ m. connected m.client.0) touched.messages touches.messages
+      All-weaker (λ m. IsTrue (has_session affected.scene.sessions m.client.0)) (λ m. IsTrue (has_session settled.sessions m.client.0)) (λ m. connected m.client.0) affected.messages affects.messages
 
-  pub sound-touched : IsSound (state_at_end old touched moves (finished_at at known settled))
-  sound-touched =
-      sound_last at from known old touched settled given-all (touched.messages ++ earlier old.scene.locks.last (ended_in moves))
-      (All-append (λ m. IsTrue (has_session settled.sessions m.client.0)) touched.messages (earlier old.scene.locks.last (ended_in moves)) messages-connected
+  pub sound-affected : IsSound (state_at_end old affected moves (finished_at at known settled))
+  sound-affected =
+      sound_last at from known old affected settled given-all (affected.messages ++ earlier old.scene.locks.last (ended_in moves))
+      (All-append (λ m. IsTrue (has_session settled.sessions m.client.0)) affected.messages (earlier old.scene.locks.last (ended_in moves)) messages-connected
       (All-filter (λ m. nat_le m.ticket.0 old.scene.locks.last) (λ m. IsTrue (has_session settled.sessions m.client.0)) (ended_in moves) ended-connected))
 
 -- ---- numbers
 
-module _ (at from : ℕ → Bool) (known : Holder → Caps) (count : ℕ) (old touched : State) (moves : List Made) (settled : Scene) (settles : SettlesAt at from moves touched.scene settled)
-    (numbers : All (λ row. row.entry.seq ≤ count) touched.scene.table.rows) (made : touched.scene.table.made ≤ count + 1) (given : touched.scene.locks.last ≤ count + 1) where
-  moved-so : IsMoved touched.scene settled
-  moved-so = let all = settles.settles in moved-all touched.scene moves settled all.made
+module _ (at from : ℕ → Bool) (known : Holder → Caps) (count : ℕ) (old affected : State) (moves : List Made) (settled : Scene) (settles : SettlesAt at from moves affected.scene settled)
+    (numbers : All (λ row. row.entry.seq ≤ count) affected.scene.table.rows) (made : affected.scene.table.made ≤ count + 1) (given : affected.scene.locks.last ≤ count + 1) where
+  moved-so : IsMoved affected.scene settled
+  moved-so = let all = settles.settles in moved-all affected.scene moves settled all.made
 
   numbers_last : All (λ row. row.entry.seq ≤ count + 1) (issued_at known settled at).table.rows
   numbers_last =
@@ -305,13 +305,13 @@ module _ (at from : ℕ → Bool) (known : Holder → Caps) (count : ℕ) (old t
       All-map (λ row. row.entry.seq ≤ count + 1) (last_row known settled at) settled.table.rows
       (All-weaker (λ row. row.entry.seq ≤ count) (λ row. (last_row known settled at row).entry.seq ≤ count + 1)
       (λ row was. by_place known settled at (λ r. r.entry.seq ≤ count + 1) row (λ here. seq-ended known settled row count was) (λ off. omega (arith, was)))
-      settled.table.rows (All-same (λ row. row.entry.seq ≤ count) settled.table.rows touched.scene.table.rows (ap (λ (t : Table). t.rows) moved.table) numbers))
+      settled.table.rows (All-same (λ row. row.entry.seq ≤ count) settled.table.rows affected.scene.table.rows (ap (λ (t : Table). t.rows) moved.table) numbers))
 
   request_last : settled.locks.last ≤ count + 1
   request_last = let moved = moved-so in let same = moved.last in omega (arith, same, given)
 
   made_last : settled.table.made ≤ count + 1
-  made_last = let moved = moved-so in let same : settled.table.made ≡ touched.scene.table.made = ap (λ (t : Table). t.made) moved.table in omega (arith, same, made)
+  made_last = let moved = moved-so in let same : settled.table.made ≡ affected.scene.table.made = ap (λ (t : Table). t.made) moved.table in omega (arith, same, made)
 
-  pub given-touched : AreGiven (count + 1) (state_at_end old touched moves (finished_at at known settled))
-  given-touched = record { entries = numbers_last; last = request_last; made = made_last }
+  pub given-affected : AreGiven (count + 1) (state_at_end old affected moves (finished_at at known settled))
+  given-affected = record { entries = numbers_last; last = request_last; made = made_last }

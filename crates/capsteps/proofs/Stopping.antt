@@ -8,17 +8,17 @@ use Rattle.capacts.specs.Lockmachine.declared.moves.Move.TheVariants.{Begin, End
 use Rattle.capacts.specs.Capevents.declared.event.Event.{Event}
 use Rattle.capacts.specs.Capevents.declared.outcome.Ended.{Ended}
 use Rattle.capacts.specs.Capevents.declared.reply.Reply.{Reply}
-use Rattle.capacts.specs.Caprules.declared.stopped.Stopped.{Stopped}
+use Rattle.capacts.specs.Caprules.declared.rejection.Rejection.{Rejection}
 use Rattle.capacts.specs.Caprules.State.{State}
-use Rattle.capacts.specs.Caprules.Judge.{judged, stop_reply}
+use Rattle.capacts.specs.Caprules.Judge.{judged, rejection_reply}
 use Rattle.capacts.specs.Caprules.Direct.{Direct, direct, says, effect_unless, reply_of, shown}
 use Rattle.capacts.specs.Caprules.Settle.{Made, Began, Gathered, Served, Makes, MakesAll, Settles, ended_in}
 use Rattle.capacts.specs.Caprules.Step.{Step, all_ended, state_after}
 use Rattle.capacts.specs.Caprules.Sound.{IsSound}
 use Rattle.capsteps.proofs.Finishing.{sound-ends, sound-settles}
 
-pub stopped-step : (old : State) (e : Event) (stopped : Stopped) → IsSound old → IsTable old.scene.table → judged old.scene e ≡ Some stopped → Step old e (stop_reply stopped) [] old
-stopped-step old e stopped sound table is = (
+pub rejection-step : (old : State) (e : Event) (rejection : Rejection) → IsSound old → IsTable old.scene.table → judged old.scene e ≡ Some rejection → Step old e (rejection_reply rejection) [] old
+rejection-step old e rejection sound table is = (
   [],
   record {
     settled = old.scene;
@@ -29,7 +29,7 @@ stopped-step old e stopped sound table is = (
   },
 )
   where
-    by_itself : direct old e ≡ says old (stop_reply stopped)
+    by_itself : direct old e ≡ says old (rejection_reply rejection)
     by_itself = ap (effect_unless old e) is
 
 -- ---- and no other step
@@ -53,9 +53,9 @@ pub no_moves : (old : Scene) (moves : List Made) (new : Scene) → first_move ol
 no_moves old [] new still made = (refl, made)
 no_moves old (m ∷ ms) new still made = absurd (no_move old made.0 m still made.1)
 
-pub stopped-only : (old new : State) (e : Event) (stopped : Stopped) (answer : Reply) (ended : List Ended) → IsSound old → IsTable old.scene.table → judged old.scene e ≡ Some stopped
-    → Step old e answer ended new → (answer ≡ stop_reply stopped) × (ended ≡ []) × (new ≡ old)
-stopped-only old new e stopped answer ended sound table is (moves, step) = (
+pub rejection-only : (old new : State) (e : Event) (rejection : Rejection) (answer : Reply) (ended : List Ended) → IsSound old → IsTable old.scene.table → judged old.scene e ≡ Some rejection
+    → Step old e answer ended new → (answer ≡ rejection_reply rejection) × (ended ≡ []) × (new ≡ old)
+rejection-only old new e rejection answer ended sound table is (moves, step) = (
   step.answer_is ∙ ap (λ (d : Direct). reply_of (state_after old d moves step.settled) (ended_in moves) d.answer) by_itself,
   step.ended_is ∙ ap (λ (d : Direct). all_ended old d moves) by_itself ∙ ap (all_ended old here) none.0,
   step.new_is
@@ -66,9 +66,9 @@ stopped-only old new e stopped answer ended sound table is (moves, step) = (
 )
   where
     here : Direct
-    here = says old (stop_reply stopped)
+    here = says old (rejection_reply rejection)
 
-    by_itself : direct old e ≡ says old (stop_reply stopped)
+    by_itself : direct old e ≡ says old (rejection_reply rejection)
     by_itself = ap (effect_unless old e) is
 
     settles : Settles old.scene moves step.settled

@@ -22,8 +22,8 @@ use Rattle.captable.specs.Calls.{is_of_inode}
 use Rattle.capacts.specs.Lockmachine.Locks.{without_ino}
 use Rattle.capacts.specs.Lockmachine.declared.scene.Scene.{Scene}
 use Rattle.capacts.specs.Capnotes.InoSets.{InoSet, IsListOf}
-use Rattle.capacts.specs.Caprules.Finish.{is_kept}
-use Rattle.capsteps.specs.Touching.{stays, forget_at, forget_among}
+use Rattle.capacts.specs.Caprules.Finish.{is_in_use}
+use Rattle.capsteps.specs.Affected.{stays, forget_at, forget_among}
 use Rattle.capsteps.proofs.Finishing.{same_kept}
 use Rattle.capsteps.proofs.ManyInodes.{same_number}
 
@@ -42,14 +42,14 @@ module _ {V : Type 0} (m : map.FinMap nat_cmp V) (p : ℕ → Bool) (q : ℕ) wh
 -- ---- which inodes stay
 
 -- an inode that somebody has an entry on is kept
-pub kept-held : (s : Scene) (row : EntryRow) → Contains s.table.rows row → is_kept s row.holder.ino.0 ≡ true
+pub kept-held : (s : Scene) (row : EntryRow) → Contains s.table.rows row → is_in_use s row.holder.ino.0 ≡ true
 kept-held s row (k, room, is) =
     or_right (not (is_gone (place s.tree.nodes row.holder.ino.0))) _
     (list_any_at (is_of_inode row.holder.ino) s.table.rows k row room
     (ap (is_of_inode row.holder.ino) is ∙ eq-eqb row.holder.ino.0 row.holder.ino.0 refl))
 
-pub stays-kept : (at : ℕ → Bool) (s : Scene) (q : ℕ) → is_kept s q ≡ true → stays at s q ≡ true
-stays-kept at s q is = or_right (not (at q)) (is_kept s q) is
+pub stays-kept : (at : ℕ → Bool) (s : Scene) (q : ℕ) → is_in_use s q ≡ true → stays at s q ≡ true
+stays-kept at s q is = or_right (not (at q)) (is_in_use s q) is
 
 -- what goes is one of these, and a stray that nobody has an entry on
 pub goes : (at : ℕ → Bool) (s : Scene) (q : ℕ) → stays at s q ≡ false
@@ -109,7 +109,7 @@ module _ (p q : ℕ → Bool) (s : Scene) where
   abbrev one : Scene
   one = forget_among p s
 
-  kept_still : (n : ℕ) → stays p s n ≡ true → is_kept one n ≡ is_kept s n
+  kept_still : (n : ℕ) → stays p s n ≡ true → is_in_use one n ≡ is_in_use s n
   kept_still n is =
       ap (λ (o : Option Node). not (is_gone (place_at (option_map (λ n. n.site) o))) || list_any (is_of_inode (record { 0 = n })) s.table.rows)
       (retained-here s.tree.nodes (stays p s) n is)
@@ -118,7 +118,7 @@ module _ (p q : ℕ → Bool) (s : Scene) where
   twice_kept m = map.same_map nat_cmp_total map.nat_cmp-IsAntisymmetric _ _ (λ n.
       retained (map.retain_keys m (stays p s)) (stays q one) n
       ∙ ap (λ o. cond (stays q one n) o None) (retained m (stays p s) n)
-      ∙ twice_left (p n) (q n) (is_kept s n) (is_kept one n) (map.get m n) (kept_still n)
+      ∙ twice_left (p n) (q n) (is_in_use s n) (is_in_use one n) (map.get m n) (kept_still n)
       ∙ sym (retained m (stays (λ n. p n || q n) s) n))
 
   -- strays of some inodes and then of others go, as if of all at once
@@ -150,10 +150,10 @@ kept_or_removed m p k all = elim (p k) as (λ b. p k ≡ b → map.retain_keys m
 
 module _ (k : ℕ) (s : Scene) where
   others_stay : (q : ℕ) → q ≢ k → stays (λ n. n == k) s q ≡ true
-  others_stay q off = ap (λ b. not b || is_kept s q) (ne_eqb q k off)
+  others_stay q off = ap (λ b. not b || is_in_use s q) (ne_eqb q k off)
 
-  one_left : {V : Type 0} (m : map.FinMap nat_cmp V) → map.retain_keys m (stays (λ n. n == k) s) ≡ cond (is_kept s k) m (map.remove m k)
-  one_left m = kept_or_removed m (stays (λ n. n == k) s) k others_stay ∙ ap (λ b. cond (not b || is_kept s k) m (map.remove m k)) (eq-eqb k k refl)
+  one_left : {V : Type 0} (m : map.FinMap nat_cmp V) → map.retain_keys m (stays (λ n. n == k) s) ≡ cond (is_in_use s k) m (map.remove m k)
+  one_left m = kept_or_removed m (stays (λ n. n == k) s) k others_stay ∙ ap (λ b. cond (not b || is_in_use s k) m (map.remove m k)) (eq-eqb k k refl)
 
   by_kept : (b : Bool) → ◌≡◌ {A = Scene}
       (record s { tree = record s.tree { nodes = cond b s.tree.nodes (map.remove s.tree.nodes k) }; locks = record s.locks { states = cond b s.locks.states (map.remove s.locks.states k) } })
@@ -166,7 +166,7 @@ module _ (k : ℕ) (s : Scene) where
   forget-one = (λ i. record s {
     tree = record s.tree { nodes = one_left s.tree.nodes i };
     locks = record s.locks { states = one_left s.locks.states i };
-  }) ∙ by_kept (is_kept s k)
+  }) ∙ by_kept (is_in_use s k)
 
 -- ---- the inodes of a map
 

@@ -11,7 +11,7 @@ use Rattle.std.proofs.lemmas.Bool.{ltb-true, lt-ltb, le-ltb}
 use Rattle.std.proofs.lemmas.List.Sums.{sum_by-cons}
 use Rattle.capacts.proofs.Lockmachine.Rest.{same_key}
 use Rattle.capacts.specs.Capnotes.InoSets.{InoSet}
-use Rattle.capacts.specs.Reach.{is_touched}
+use Rattle.capacts.specs.Reach.{is_affected}
 use Rattle.capbits.specs.declared.cap.Part.{Part}
 use Rattle.capbits.specs.declared.cap.Part.TheVariants.{A, L, X, F}
 use Rattle.capbits.specs.declared.ids.Ino.{Ino}
@@ -84,20 +84,20 @@ swept-begins at s waits = record {
 -- what changes one of the inodes leaves the locks of all others
 pub same-elsewhere : (at : ℕ → Bool) (old new : LockMap) (here : ℕ) → at here ≡ true → ChangesLocksOf here old new
     → (other : ℕ) → at other ≡ false → map.get new.states other ≡ map.get old.states other
-same-elsewhere at old new here touched changes other off =
-    locks_by_parts old new other (λ part. changes.others other part (off_one at here other touched off))
+same-elsewhere at old new here affected changes other off =
+    locks_by_parts old new other (λ part. changes.others other part (off_one at here other affected off))
 
 -- gathers began and ended at one more of the inodes
 pub swept-on : (at : ℕ → Bool) (first now : Scene) → IsSwept at first now → (here : ℕ) → at here ≡ true → (locks : LockMap)
     → MoveLittle now (record now { locks = locks }) → ChangesLocksOf here now.locks locks → IsSwept at first (record now { locks = locks })
-swept-on at first now is here touched locks (steps, few, runs) changes =
+swept-on at first now is here affected locks (steps, few, runs) changes =
     let more = as_made now steps (record now { locks = locks }) runs in
     record {
       moves = is.moves ++ more.moves;
       made = makes-append first is.moves now more.moves (record now { locks = locks }) is.made more.made;
       none = filter_map-append ended_by is.moves more.moves ∙ ap (λ ms. ms ++ ended_in more.moves) is.none ∙ more.none;
       is = ap (λ (s : Scene). record s { locks = locks }) is.is;
-      states = λ other off. same-elsewhere at now.locks locks here touched changes other off ∙ is.states other off;
+      states = λ other off. same-elsewhere at now.locks locks here affected changes other off ∙ is.states other off;
       queue = changes.queue ∙ is.queue;
       waits = waits-kept-at at now steps (record now { locks = locks }) runs is.waits;
     }
@@ -130,9 +130,9 @@ last-turn at s here still turn done beyond = turn-rests s here turn done (λ oth
 
 -- ---- how many inodes are left
 
--- how many of the touched inodes are behind this one
+-- how many of the affected inodes are behind this one
 abbrev pub behind : ℕ → InoSet → ℕ → ℕ
-behind ino touched here = count_by (nat_lt here) (ino ∷ set.items touched)
+behind ino affected here = count_by (nat_lt here) (ino ∷ set.items affected)
 
 one_no_more : (a b x : ℕ) → a < b → cond (nat_lt b x) 1 0 ≤ cond (nat_lt a x) 1 0
 one_no_more a b x less = elim (nat_lt b x) as (λ p. nat_lt b x ≡ p → cond p 1 0 ≤ cond (nat_lt a x) 1 0) [
@@ -159,9 +159,9 @@ fewer a b less (x ∷ xs) among = elim (eq_by_cmp nat_cmp b x) as (λ e. eq_by_c
 ] refl among
 
 -- with each that is done, there are fewer
-pub fewer_behind : (ino : ℕ) (touched : InoSet) (here : ℕ) (next : Ino) → IsNextOf (is_touched ino touched) here (Some next) → behind ino touched next.0 < behind ino touched here
-fewer_behind ino touched here next (less, is, between) = fewer here next.0 less (ino ∷ set.items touched) (
-    ap (λ b. b || list_any (eq_by_cmp nat_cmp next.0) (set.items touched)) (unsigned_tied next.0 ino)
-    ∙ ap (λ b. (next.0 == ino) || b) (sym (set.contains-items touched next.0))
+pub fewer_behind : (ino : ℕ) (affected : InoSet) (here : ℕ) (next : Ino) → IsNextOf (is_affected ino affected) here (Some next) → behind ino affected next.0 < behind ino affected here
+fewer_behind ino affected here next (less, is, between) = fewer here next.0 less (ino ∷ set.items affected) (
+    ap (λ b. b || list_any (eq_by_cmp nat_cmp next.0) (set.items affected)) (unsigned_tied next.0 ino)
+    ∙ ap (λ b. (next.0 == ino) || b) (sym (set.contains-items affected next.0))
     ∙ is
     )

@@ -35,7 +35,7 @@ use Rattle.capacts.specs.Caprules.Direct.{Answer, Says, Shows, Gives, Awaits, wi
 use Rattle.capacts.specs.Caprules.Finish.{due}
 use Rattle.capacts.specs.Caprules.Headline.{holds, is_due, IssuesExactly, IsInPlace, AreInPlace}
 use Rattle.capacts.specs.Caprules.Messages.{first_messages, after_messages, is_caps_of, is_size_of, is_recall_of, told_if, sized_if, unasked_if}
-use Rattle.capacts.specs.Capnotes.Untold.{is_end_of, is_to}
+use Rattle.capacts.specs.Capnotes.DueEndings.{is_end_of, is_to}
 use Rattle.capacts.specs.Caprules.Sound.{IsSoundEntry, IsSound, AreGiven}
 use Rattle.capsteps.proofs.LeftAlone.{still_quiet}
 

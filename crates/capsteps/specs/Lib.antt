@@ -1,6 +1,6 @@
-pub mod Touch
-pub mod Touching
-pub mod Turn
+pub mod EntryRequest
+pub mod Affected
+pub mod SessionChange
 pub mod Leaving
 pub mod Answered
 pub mod Judged

@@ -11,8 +11,8 @@ use Rattle.capacts.specs.Caprules.Serving.{MayEndAs}
 use Rattle.capacts.specs.Capnotes.Changing.{tree_after}
 use Rattle.capacts.specs.Caprules.Finish.{sizes_owed}
 use Rattle.capacts.specs.Caprules.Settle.{Made, ended_in, sized_in}
-use Rattle.capsteps.specs.Touching.{SettlesAt, told_then, finished_at}
-use Rattle.capacts.specs.Known.{KnownSets, known_in, KeptAnew}
+use Rattle.capsteps.specs.Affected.{SettlesAt, told_then, finished_at}
+use Rattle.capacts.specs.Known.{KnownSets, known_in, KnownAnew}
 
 -- the request with this number is served, ends so and waits no more
 pub record Serves (old : Scene) (ticket : Ticket) (ended : Ended) (new : Scene) : Type 0 where
@@ -30,12 +30,12 @@ pub record SettlesWith (at from : ℕ → Bool) (first settled : Scene) (ended :
   pub ended_is : ended ≡ ended_in moves
   pub sized_is : sized ≡ sized_in moves
 
--- the locks have settled and the sizes of these inodes changed: the step ends at those that it touched
+-- the locks have settled and the sizes of these inodes changed: the step ends at those that it affected
 pub record EndsAt (at : ℕ → Bool) (sized : List Ino) (was now : KnownSets) (settled last : Scene) : Type 0 where
   pub finished : last ≡ finished_at at (known_in was) (sizes_owed sized settled)
-  pub kept : KeptAnew (λ k. at k.ino.0) (told_then (sizes_owed sized settled)) (sizes_owed sized settled).table was now
+  pub kept : KnownAnew (λ k. at k.ino.0) (told_then (sizes_owed sized settled)) (sizes_owed sized settled).table was now
 
--- the event was about these inodes: the locks settle, these requests end, and the step ends at the inodes that it touched. What
+-- the event was about these inodes: the locks settle, these requests end, and the step ends at the inodes that it affected. What
 -- was known of entries is kept in `was`, and what is known of them at the end in `now`
 pub record EndsWith (from : ℕ → Bool) (was now : KnownSets) (first last : Scene) (ended : List Ended) : Type 0 where
   pub at : ℕ → Bool
@@ -44,4 +44,4 @@ pub record EndsWith (from : ℕ → Bool) (was now : KnownSets) (first last : Sc
   pub settles : SettlesWith at from first settled ended sized
   pub tree : IsTree settled.tree
   pub finished : last ≡ finished_at at (known_in was) (sizes_owed sized settled)
-  pub kept : KeptAnew (λ k. at k.ino.0) (told_then (sizes_owed sized settled)) (sizes_owed sized settled).table was now
+  pub kept : KnownAnew (λ k. at k.ino.0) (told_then (sizes_owed sized settled)) (sizes_owed sized settled).table was now

@@ -13,7 +13,7 @@ use Rattle.capacts.specs.Lockmachine.Turns.{IsTurnOf, NobodyElsewhere, WaitAt}
 use Rattle.capacts.specs.Capnotes.InoSets.{InoSet}
 use Rattle.capacts.specs.declared.sweep.SweepPlace.{SweepPlace}
 use Rattle.capacts.specs.Served.{is_rename}
-use Rattle.capacts.specs.Reach.{is_touched}
+use Rattle.capacts.specs.Reach.{is_affected}
 use Rattle.capacts.specs.Caprules.Settle.{Made, MakesAll, ended_in}
 
 -- the least of these inodes
@@ -38,11 +38,11 @@ pub record StandsAt (at : ℕ → Bool) (place : SweepPlace) (s : Scene) : Type 
   pub here : at place.at.0 ≡ true
   pub alone : place.alone ≡ true → NobodyElsewhere s.locks place.at.0
 
--- at the beginning it comes to the least of the touched inodes. It is known that nobody waits elsewhere who may be served, where
--- no other is touched
-pub record IsFirstPlace (ino : ℕ) (touched : InoSet) (place : SweepPlace) : Type 0 where
-  pub least : IsLeastOf (is_touched ino touched) place.at.0
-  pub alone : place.alone ≡ true → (other : ℕ) → set.contains touched other ≡ false
+-- at the beginning it comes to the least of the affected inodes. It is known that nobody waits elsewhere who may be served, where
+-- no other is affected
+pub record IsFirstPlace (ino : ℕ) (affected : InoSet) (place : SweepPlace) : Type 0 where
+  pub least : IsLeastOf (is_affected ino affected) place.at.0
+  pub alone : place.alone ≡ true → (other : ℕ) → set.contains affected other ≡ false
 
 -- the inode that a request changes and no other; none where it moves its inode
 abbrev pub changed_alone : Request → Option Ino
@@ -50,8 +50,8 @@ changed_alone q = if is_rename q.ask then None else Some q.ino
 
 -- behind a serving the sweep goes on where it was, if that changed no inode but one that is not before it; else it begins again
 abbrev pub GoesOnBehind : SweepPlace → Option Ino → ℕ → InoSet → SweepPlace → Type 0
-GoesOnBehind place changed ino touched next =
-    ((next ≡ place) × ((i : Ino) × (changed ≡ Some i) × (place.at.0 ≤ i.0))) ⊎ IsFirstPlace ino touched next
+GoesOnBehind place changed ino affected next =
+    ((next ≡ place) × ((i : Ino) × (changed ≡ Some i) × (place.at.0 ≤ i.0))) ⊎ IsFirstPlace ino affected next
 
 -- at all others no gather may begin or end
 pub record AreStill (at : ℕ → Bool) (s : Scene) : Type 0 where

@@ -6,12 +6,12 @@ ghost use Rattle.captable.specs.Calls.{is_of_client};
 ghost use Rattle.capacts.specs.Lockmachine.declared.request.Request.{Request};
 ghost use Rattle.capacts.specs.Lockmachine.Requests.{is_of_client as is_asked_by};
 ghost use Rattle.capacts.specs.Capnotes.Noted.{HavePlaces};
-ghost use Rattle.capacts.specs.Reach.{is_touched, Widens};
+ghost use Rattle.capacts.specs.Reach.{is_affected, Widens};
 ghost use Rattle.capsteps.specs.Begun.{HaveRoomFor};
-ghost use Rattle.capsteps.specs.Turn.{Notes, ReachesClient, turn_tests, turned_sessions};
+ghost use Rattle.capsteps.specs.SessionChange.{Notes, ReachesClient, session_change_tests, changed_sessions};
 
 use crate::endings::Endings;
-use capacts::leaving::Turn;
+use capacts::leaving::SessionChange;
 use capacts::{ChangeList, InoSet, Locks, Messages, ViewChange};
 use capbits::{ClientId, Ino, Refusal};
 use captable::CapTable;
@@ -31,29 +31,37 @@ pub struct Room {
 // ---- the session
 
 /// The first test that fails.
-pub fn turn_refusal(sessions: &Sessions, client: ClientId, turn: Turn) -> Option<Refusal>
-    ensures { result ≡ first_failing (turn_tests sessions.now client turn.entry) }
+pub fn session_change_refusal(
+    sessions: &Sessions,
+    client: ClientId,
+    change: SessionChange,
+) -> Option<Refusal>
+    ensures { result ≡ first_failing (session_change_tests sessions.now client change.entry) }
 {
-    match turn {
-        Turn::Close => sessions.connected_refusal(client),
-        Turn::Mark(status) => sessions.mark_refusal(client, status),
-        Turn::Regrant(_grants) => sessions.connected_refusal(client),
-        Turn::Evict => sessions.evict_refusal(client),
+    match change {
+        SessionChange::Close => sessions.connected_refusal(client),
+        SessionChange::Mark(status) => sessions.mark_refusal(client, status),
+        SessionChange::Regrant(_grants) => sessions.connected_refusal(client),
+        SessionChange::Evict => sessions.evict_refusal(client),
     }
 }
 
 /// The session ends, or has another status or other grants. An eviction takes memory, and so do grants, which are copied: for
 /// want of it nothing changes.
-pub fn turn_session(sessions: &mut Sessions, client: ClientId, turn: Turn) -> Result<(), AllocError>
-    requires passed { first_failing (turn_tests sessions.old client turn) ≡ None }
-    ensures ok { OnOk result (sessions.new ≡ turned_sessions sessions.old client turn.entry) }
+pub fn apply_session_change(
+    sessions: &mut Sessions,
+    client: ClientId,
+    change: SessionChange,
+) -> Result<(), AllocError>
+    requires passed { first_failing (session_change_tests sessions.old client change) ≡ None }
+    ensures ok { OnOk result (sessions.new ≡ changed_sessions sessions.old client change.entry) }
     ensures err { OnErr result (sessions.new ≡ sessions.old) }
 {
-    match turn {
-        Turn::Close => sessions.close_session_tested(client),
-        Turn::Mark(status) => sessions.mark_tested(client, status),
-        Turn::Regrant(grants) => sessions.regrant_tested(client, grants.copy()?),
-        Turn::Evict => sessions.evict_tested(client)?,
+    match change {
+        SessionChange::Close => sessions.close_session_tested(client),
+        SessionChange::Mark(status) => sessions.mark_tested(client, status),
+        SessionChange::Regrant(grants) => sessions.regrant_tested(client, grants.copy()?),
+        SessionChange::Evict => sessions.evict_tested(client)?,
     }
     Ok(())
 }
@@ -68,20 +76,20 @@ impl Room {
         table: &CapTable,
         locks: &Locks,
         client: ClientId,
-        turn: Turn,
+        change: SessionChange,
         endings: &mut Endings,
     ) -> Result<Room, AllocError>
         ensures reaches { IfOk result (λ room. ReachesClient 1 client table.now locks.now room.others) }
         ensures room { OnOk result (HaveRoomFor (length locks.now.queue) endings.new) }
         ensures dropped { IfOk result (λ room. (room.dropped.items ≡ []) × (length locks.now.queue ≤ room.dropped.room)) }
         ensures places { IfOk result (λ room. HavePlaces endings.new.changes locks.now room.others) }
-        ensures lead { OnOk result (Notes endings.new.changes.items client turn.entry) }
+        ensures lead { OnOk result (Notes endings.new.changes.items client change.entry) }
         ensures judged { OnOk result (endings.new.judged ≡ None) }
     {
         let others = reach_client(alloc, table, locks, client)?;
         let waiting = locks.waiting();
         let places = waiting + others.len() + 2;
-        if let Err(refused) = begin_turn(endings, waiting, places, client, turn) {
+        if let Err(refused) = begin_change(endings, waiting, places, client, change) {
             drop(others);
             return Err(refused);
         }
@@ -96,35 +104,39 @@ impl Room {
 }
 
 // No request that ended, and room for so many; and it is noted what becomes of the session, with room for so many changes.
-fn begin_turn(
+fn begin_change(
     endings: &mut Endings,
     waiting: usize,
     places: usize,
     client: ClientId,
-    turn: Turn,
+    change: SessionChange,
 ) -> Result<(), AllocError>
     requires place { 1 ≤ places }
     ensures room { OnOk result (HaveRoomFor waiting endings.new) }
     ensures places { OnOk result ((length endings.new.changes.items ≤ 1) × (places ≤ endings.new.changes.room)) }
-    ensures lead { OnOk result (Notes endings.new.changes.items client turn.entry) }
+    ensures lead { OnOk result (Notes endings.new.changes.items client change.entry) }
     ensures judged { OnOk result (endings.new.judged ≡ None) }
 {
     endings.begin(waiting, places)?;
-    note_turn(&mut endings.changes, client, turn)
+    note_session_change(&mut endings.changes, client, change)
 }
 
 // Notes what becomes of the session. Other grants are copied, which takes memory.
-fn note_turn(changes: &mut ChangeList, client: ClientId, turn: Turn) -> Result<(), AllocError>
+fn note_session_change(
+    changes: &mut ChangeList,
+    client: ClientId,
+    change: SessionChange,
+) -> Result<(), AllocError>
     requires none { changes.old.items ≡ [] }
     requires place { length changes.old.items < changes.old.room }
-    ensures lead { OnOk result (Notes changes.new.items client turn.entry) }
+    ensures lead { OnOk result (Notes changes.new.items client change.entry) }
     ensures count { length changes.new.items ≤ 1 }
     ensures room { changes.old.room ≤ changes.new.room }
 {
-    match turn {
-        Turn::Close | Turn::Evict => changes.push(ViewChange::Ended { client }),
-        Turn::Mark(_) => {}
-        Turn::Regrant(grants) => changes.push(ViewChange::of_regrant(client, grants)?),
+    match change {
+        SessionChange::Close | SessionChange::Evict => changes.push(ViewChange::Ended { client }),
+        SessionChange::Mark(_) => {}
+        SessionChange::Regrant(grants) => changes.push(ViewChange::of_regrant(client, grants)?),
     }
     Ok(())
 }
@@ -148,7 +160,7 @@ fn reach_client(
 fn reach_entries(table: &CapTable, client: ClientId, others: &mut InoSet) -> Result<(), AllocError>
     ensures widens { Widens 1 others.old others.new }
     ensures reaches { OnOk result ((row : EntryRow) → Contains table.now.rows row → is_of_client client row ≡ true
-        → is_touched 1 others.new row.holder.ino.0 ≡ true) }
+        → is_affected 1 others.new row.holder.ino.0 ≡ true) }
 {
     let mut walk = table.entries_of(client);
     'rows: while let Some(row) = walk.next() {
@@ -161,7 +173,7 @@ fn reach_entries(table: &CapTable, client: ClientId, others: &mut InoSet) -> Res
 fn reach_requests(locks: &Locks, client: ClientId, others: &mut InoSet) -> Result<(), AllocError>
     ensures widens { Widens 1 others.old others.new }
     ensures reaches { OnOk result ((q : Request) → Contains locks.now.queue q → is_asked_by client q ≡ true
-        → is_touched 1 others.new q.ino.0 ≡ true) }
+        → is_affected 1 others.new q.ino.0 ≡ true) }
 {
     for request in locks.requests() {
         if request.client.0 == client.0 {
@@ -174,7 +186,7 @@ fn reach_requests(locks: &Locks, client: ClientId, others: &mut InoSet) -> Resul
 // Adds the inode, if it is not the root.
 fn add_other(ino: Ino, others: &mut InoSet) -> Result<(), AllocError>
     ensures widens { Widens 1 others.old others.new }
-    ensures reaches { OnOk result (is_touched 1 others.new ino.0 ≡ true) }
+    ensures reaches { OnOk result (is_affected 1 others.new ino.0 ≡ true) }
 {
     if ino == ROOT {
         return Ok(());

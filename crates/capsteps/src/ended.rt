@@ -3,7 +3,7 @@ ghost use Rattle.std.specs.Prelude.{◌≡◌, ◌+◌, ◌≤◌, ◌++◌, fal
 ghost use Rattle.std.specs.List.{find};
 ghost use Rattle.capacts.specs.Capevents.Replies.{has_list};
 ghost use Rattle.capacts.specs.Caprules.Direct.{awaited_as};
-ghost use Rattle.capacts.specs.Capnotes.Untold.{is_of_ticket, HaveOwnNumbers, but_for};
+ghost use Rattle.capacts.specs.Capnotes.DueEndings.{is_of_ticket, HaveOwnNumbers, but_for};
 ghost use Rattle.capacts.specs.Capevents.declared.reply.Reply.TheVariants as reply;
 
 use crate::endings::Endings;

@@ -1,4 +1,4 @@
-//! The end of a step at the inodes that it touched.
+//! The end of a step at the inodes that it affected.
 ghost use Rattle.std.specs.Prelude.{◌≡◌, ◌==◌, ◌≤◌, ◌<◌, ◌^◌, ◌-◌, ◌+◌, length, [], false, Some, IsTrue, All, IsSome, IfSome};
 ghost use Rattle.std.specs.List.{find};
 ghost use Rattle.std.specs.FinSet as set;
@@ -12,9 +12,9 @@ ghost use Rattle.captable.specs.Many.{changed_by, changed_where};
 ghost use Rattle.capacts.specs.Lockmachine.declared.scene.Scene.{Scene};
 ghost use Rattle.capacts.specs.Finishing as words;
 ghost use Rattle.capacts.specs.Caprules.Direct.{opened_as};
-ghost use Rattle.capacts.specs.Known.{AreKnown, HaveRoom, KeptAnew, OthersHaveAll, kept_of, known_in};
-ghost use Rattle.capsteps.specs.Touching.{forget_at, forget_among, finished_at, told_then};
-ghost use Rattle.capacts.specs.Reach.{is_touched};
+ghost use Rattle.capacts.specs.Known.{AreKnown, HaveRoom, KnownAnew, OthersHaveAll, known_of, known_in};
+ghost use Rattle.capsteps.specs.Affected.{forget_at, forget_among, finished_at, told_then};
+ghost use Rattle.capacts.specs.Reach.{is_affected};
 ghost use Rattle.capsteps.specs.Begun.{MayEnd};
 ghost use Rattle.capsteps.specs.Serves.{EndsAt};
 ghost use Rattle.capacts.specs.Capnotes.Noted.{LeadOn};
@@ -29,22 +29,22 @@ use captable::{CapTable, EntryRow, Holder};
 use inotree::{Names, Place};
 use sessiontab::{MAX_SESSIONS, Sessions};
 
-// ---- at the touched inodes
+// ---- at the affected inodes
 
-/// Issues what is due on the touched inodes, numbers what clients are to know of, keeps that, and forgets those inodes that are
-/// strays that nobody has an entry on. The locks have settled.
+/// Ends the step at the affected inodes, whose locks have settled: for each entry on them; and those that are strays without an
+/// entry are forgotten.
 pub fn finish(
     scene: &mut Scene,
     known: &mut Known,
     ino: Ino,
-    touched: &InoSet,
+    affected: &InoSet,
     changes: &mut ChangeList,
 )
-    requires apart { set.contains touched.now ino.0 ≡ false }
-    requires places { length changes.old.items + set.len touched.now + 1 ≤ changes.old.room }
+    requires apart { set.contains affected.now ino.0 ≡ false }
+    requires places { length changes.old.items + set.len affected.now + 1 ≤ changes.old.room }
     requires entries { MayEnd known.old.sets scene.old.sessions scene.old.table }
-    ensures finished { scene.new ≡ finished_at (is_touched ino.0 touched.now) (known_in known.old.sets) scene.old }
-    ensures known { KeptAnew (λ k. is_touched ino.0 touched.now k.ino.0) (told_then scene.old) scene.old.table known.old.sets known.new.sets }
+    ensures finished { scene.new ≡ finished_at (is_affected ino.0 affected.now) (known_in known.old.sets) scene.old }
+    ensures known { KnownAnew (λ k. is_affected ino.0 affected.now k.ino.0) (told_then scene.old) scene.old.table known.old.sets known.new.sets }
     ensures queue { scene.new.locks.queue ≡ scene.old.locks.queue }
     ensures lead { LeadOn changes.old.items changes.new.items scene.old.tree scene.new.tree }
 {
@@ -53,15 +53,15 @@ pub fn finish(
         tree: &scene.tree,
         sessions: &scene.sessions,
     };
-    finish_touched(&policy, &mut scene.table, known, &scene.locks, touched);
+    finish_affected(&policy, &mut scene.table, known, &scene.locks, affected);
     let now = scene.locks.of_ino(ino);
     finish_entries(&policy, &mut scene.table, known, ino, &now);
-    forget_touched(scene, touched, changes);
+    forget_affected(scene, affected, changes);
     forget_unheld(scene, ino, changes);
 }
 
-/// The same at the holder's inode alone, where each other entry on it has all that the end of the step would give it: only the
-/// holder's is gone through.
+/// Ends the step at the holder's inode alone, where each other entry on it has all that the end would give it: only the holder's
+/// is gone through.
 pub fn finish_alone(scene: &mut Scene, known: &mut Known, holder: Holder, changes: &mut ChangeList)
     requires others { OthersHaveAll known.old.sets scene.old holder }
     requires place { length changes.old.items < changes.old.room }
@@ -80,22 +80,22 @@ pub fn finish_alone(scene: &mut Scene, known: &mut Known, holder: Holder, change
     forget_unheld(scene, holder.ino, changes);
 }
 
-// Issues what is due on each inode that was touched beside the one, and numbers what its clients are to know of. Each is gone
-// through once, since an entry that was renumbered may have used up its number.
-fn finish_touched(
+// Ends the step for the entries on each inode that was affected beside the one. Each is gone through once, since an entry that
+// was renumbered may have used up its number.
+fn finish_affected(
     policy: &Policy<'_>,
     table: &mut CapTable,
     known: &mut Known,
     locks: &Locks,
-    touched: &InoSet,
+    affected: &InoSet,
 )
     requires entries { MayEnd known.old.sets policy.now.sessions.now table.old }
     ensures table { table.new
-        ≡ changed_where (words.is_on touched.now) (words.entry_by (known_in known.old.sets) policy.now.fs.now policy.now.tree.now policy.now.sessions.now locks.now.states) table.old }
-    ensures known { KeptAnew (λ k. set.contains touched.now k.ino.0) (words.told_by policy.now.fs.now policy.now.tree.now policy.now.sessions.now locks.now.states)
+        ≡ changed_where (words.is_on affected.now) (words.entry_by (known_in known.old.sets) policy.now.fs.now policy.now.tree.now policy.now.sessions.now locks.now.states) table.old }
+    ensures known { KnownAnew (λ k. set.contains affected.now k.ino.0) (words.told_by policy.now.fs.now policy.now.tree.now policy.now.sessions.now locks.now.states)
         table.old known.old.sets known.new.sets }
 {
-    for number in touched.numbers() {
+    for number in affected.numbers() {
         let ino = Ino(*number);
         let now = locks.of_ino(ino);
         finish_entries(policy, table, known, ino, &now);
@@ -103,22 +103,22 @@ fn finish_touched(
 }
 
 // Forgets those that are strays that nobody has an entry on.
-fn forget_touched(scene: &mut Scene, touched: &InoSet, changes: &mut ChangeList)
-    requires places { length changes.old.items + set.len touched.now ≤ changes.old.room }
-    ensures left { scene.new ≡ forget_among (set.contains touched.now) scene.old }
+fn forget_affected(scene: &mut Scene, affected: &InoSet, changes: &mut ChangeList)
+    requires places { length changes.old.items + set.len affected.now ≤ changes.old.room }
+    ensures left { scene.new ≡ forget_among (set.contains affected.now) scene.old }
     ensures queue { scene.new.locks.queue ≡ scene.old.locks.queue }
     ensures lead { LeadOn changes.old.items changes.new.items scene.old.tree scene.new.tree }
-    ensures count { length changes.new.items ≤ length changes.old.items + set.len touched.now }
+    ensures count { length changes.new.items ≤ length changes.old.items + set.len affected.now }
     ensures room { changes.old.room ≤ changes.new.room }
 {
-    for number in touched.numbers() {
+    for number in affected.numbers() {
         forget_unheld(scene, Ino(*number), changes);
     }
 }
 
 // ---- at one inode
 
-// Issues what is due on the inode, which has these locks, numbers what its clients are to know of, and keeps that.
+// Ends the step for each entry on the inode, which has these locks.
 fn finish_entries(
     policy: &Policy<'_>,
     table: &mut CapTable,
@@ -131,7 +131,7 @@ fn finish_entries(
     requires room { HaveRoom known.old.sets table.old }
     ensures table { table.new
         ≡ changed_where (is_of_inode ino) (words.entry_under (known_in known.old.sets) policy.now.fs.now policy.now.tree.now policy.now.sessions.now locks.now) table.old }
-    ensures known { KeptAnew (λ k. k.ino.0 == ino.0) (words.told_at policy.now.fs.now policy.now.tree.now policy.now.sessions.now locks.now)
+    ensures known { KnownAnew (λ k. k.ino.0 == ino.0) (words.told_at policy.now.fs.now policy.now.tree.now policy.now.sessions.now locks.now)
         table.old known.old.sets known.new.sets }
 {
     let clients = clients_on(policy.sessions, table, ino);
@@ -200,7 +200,7 @@ fn forget_unheld(scene: &mut Scene, ino: Ino, changes: &mut ChangeList)
 
 // ---- of one entry
 
-// Issues what is due to the holder, whose inode has these locks, numbers what its client is to know of, and keeps that.
+// Ends the step for the holder's entry, if there is one, by these locks of its inode.
 fn finish_holder(
     policy: &Policy<'_>,
     table: &mut CapTable,
@@ -209,11 +209,11 @@ fn finish_holder(
     locks: &Option<InodeLocks>,
 )
     requires number { IfSome (entry_at table.old holder) (λ entry. entry.seq < 2 ^ 64 - 1) }
-    requires room { IsSome (entry_at table.old holder) → IsSome (kept_of known.old.sets holder) }
+    requires room { IsSome (entry_at table.old holder) → IsSome (known_of known.old.sets holder) }
     ensures sound { IsTable table.old }
     ensures table { table.new
         ≡ changed_by (words.entry_under (known_in known.old.sets) policy.now.fs.now policy.now.tree.now policy.now.sessions.now locks.now) table.old holder }
-    ensures known { KeptAnew (λ k. same k holder) (words.told_at policy.now.fs.now policy.now.tree.now policy.now.sessions.now locks.now) table.old known.old.sets known.new.sets }
+    ensures known { KnownAnew (λ k. same k holder) (words.told_at policy.now.fs.now policy.now.tree.now policy.now.sessions.now locks.now) table.old known.old.sets known.new.sets }
 {
     if let Some(entry) = table.find(holder.client, holder.ino) {
         let mut names = Names::new();
@@ -235,7 +235,7 @@ fn finish_holder(
     }
 }
 
-// The same, where the inode stands so. The place is a guess at where the holder's entry stands.
+// Ends the step for the holder's entry, if there is one. `place` is a guess at where it stands.
 fn finish_entry(
     standing: &Standing<'_, '_>,
     table: &mut CapTable,
@@ -246,10 +246,10 @@ fn finish_entry(
     requires path { option_copied standing.now.path ≡ path_of standing.now.tree.now.nodes holder.ino.0 }
     requires node { option_copied standing.now.node ≡ map.get standing.now.tree.now.nodes holder.ino.0 }
     requires number { IfSome (entry_at table.old holder) (λ entry. entry.seq < 2 ^ 64 - 1) }
-    requires room { IsSome (entry_at table.old holder) → IsSome (kept_of known.old.sets holder) }
+    requires room { IsSome (entry_at table.old holder) → IsSome (known_of known.old.sets holder) }
     ensures table { table.new
         ≡ changed_by (words.entry_in (known_in known.old.sets) standing.now) table.old holder }
-    ensures known { KeptAnew (λ k. same k holder) (words.told_in standing.now) table.old known.old.sets known.new.sets }
+    ensures known { KnownAnew (λ k. same k holder) (words.told_in standing.now) table.old known.old.sets known.new.sets }
 {
     if let Some(entry) = table.find_near(holder.client, holder.ino, place) {
         let row = EntryRow { holder, entry };

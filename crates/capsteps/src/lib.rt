@@ -6,6 +6,7 @@
 pub mod client;
 pub mod ended;
 pub mod endings;
+pub mod entry_request;
 pub mod finish;
 pub mod poll;
 pub mod said;
@@ -13,11 +14,10 @@ pub mod serving_laws;
 pub mod settle;
 pub mod sizes;
 pub mod start;
-pub mod touch;
 
 pub use capacts::{
-    Ask, Bytes, Change, ChangeList, Ended, EndedList, Event, InoSet, Locks, Message, MessageList,
-    Messages, Move, OpenMode, Outcome, PartValues, Policy, Question, Reply, Row, Scene, Stopped,
-    ToldNumbers, Unknown, View, ViewChange, Wants, copy_of_messages, history, judge, known,
-    leaving, serving, stop, wants_on,
+    Ask, Bytes, Change, ChangeList, Ended, EndedList, EndedTickets, Event, InoSet, Locks, Message,
+    MessageList, Messages, Move, OpenMode, Outcome, PartValues, Policy, Question, Rejection, Reply,
+    Row, Scene, Unknown, View, ViewChange, Wants, copy_of_messages, history, judge, known, leaving,
+    serving, stop, wants_on,
 };

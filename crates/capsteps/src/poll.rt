@@ -162,7 +162,7 @@ pub fn give(table: &mut CapTable, client: ClientId, given: &[Message])
     }
 }
 
-// The same of one message.
+// The client is told what this message says, and asked no more where it asks.
 fn give_one(table: &mut CapTable, client: ClientId, message: &Message)
     requires { IsTable table.old }
     ensures { table.new ≡ changed_where (is_of_client client) (after_messages (message.now ∷ [])) table.old }

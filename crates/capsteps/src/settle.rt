@@ -1,4 +1,4 @@
-//! The locks settle at the inodes that a step touches, and who waits for them is served.
+//! The locks settle at the inodes that a step affects, and who waits for them is served.
 ghost use Rattle.std.specs.Prelude.{◌≡◌, ◌==◌, ◌≤◌, ◌<◌, ◌+◌, ◌++◌, ◌∷◌, [], true, false, length, ℕ, List, Some, None, vec_capacity};
 ghost use Rattle.std.specs.FinMap as map;
 ghost use Rattle.std.specs.FinSet as set;
@@ -14,7 +14,7 @@ ghost use Rattle.capacts.specs.Capevents.declared.outcome.Ended.{Ended};
 ghost use Rattle.capacts.specs.Capnotes.InoSets.{IsNext};
 ghost use Rattle.capacts.specs.Known.{OthersHaveAll};
 ghost use Rattle.capacts.specs.Capnotes.Noted.{HavePlaces, LeadOn};
-ghost use Rattle.capacts.specs.Reach.{is_touched, AreWalked, Reaches};
+ghost use Rattle.capacts.specs.Reach.{is_affected, AreWalked, Reaches};
 ghost use Rattle.capsteps.specs.Judged.{IsJudged};
 ghost use Rattle.capsteps.specs.Begun.{HaveRoomFor, MayEnd, MaySettle};
 ghost use Rattle.capsteps.specs.Serves.{Serves, SettlesWith, EndsAt, EndsWith};
@@ -50,7 +50,7 @@ pub fn end_at_one(scene: &mut Scene, known: &mut Known, ino: Ino, endings: &mut 
     end_at(scene, known, ino, others, endings);
 }
 
-/// The same after an event that is about one entry, before which the state was sound.
+/// Lets the locks settle after an event about one entry, before which the state was sound, and ends the step.
 pub fn end_at_entry(scene: &mut Scene, known: &mut Known, holder: Holder, endings: &mut Endings)
     requires settles { MaySettle (λ other. other == holder.ino.0) scene.old }
     requires judged { IsJudged endings.old.judged scene.old }
@@ -67,37 +67,37 @@ pub fn end_at_entry(scene: &mut Scene, known: &mut Known, holder: Holder, ending
 {
     let before = scene.locks.of_ino(holder.ino);
     let others = InoSet::new(endings.alloc());
-    let touched = settle(scene, holder.ino, others, endings);
+    let affected = settle(scene, holder.ino, others, endings);
     // Most steps of such events leave these locks as they were, and by the same locks and the same tree the others have all still.
-    if is_as_before(&scene.locks, holder.ino, &before, &touched, endings) {
+    if is_as_before(&scene.locks, holder.ino, &before, &affected, endings) {
         finish_alone(scene, known, holder, &mut endings.changes);
     } else {
         end_settled(
             scene,
             known,
             holder.ino,
-            &touched,
+            &affected,
             endings.sized.as_slice(),
             &mut endings.changes,
         );
     }
 }
 
-// Whether the settling has left all as it was: nobody was served, by which the tree could have changed, no other inode was touched,
+// Whether the settling has left all as it was: nobody was served, by which the tree could have changed, no other inode was affected,
 // and the inode has the locks from before.
 fn is_as_before(
     locks: &Locks,
     ino: Ino,
     before: &Option<InodeLocks>,
-    touched: &InoSet,
+    affected: &InoSet,
     endings: &Endings,
 ) -> bool
-    ensures { result ≡ true → (endings.now.told.items ≡ []) × (IsNext touched.now 0 None) × (map.get locks.now.states ino.0 ≡ before.now) }
+    ensures { result ≡ true → (endings.now.told.items ≡ []) × (IsNext affected.now 0 None) × (map.get locks.now.states ino.0 ≡ before.now) }
 {
     if !endings.told.as_slice().is_empty() {
         return false;
     }
-    match touched.next(Ino(0)) {
+    match affected.next(Ino(0)) {
         Some(_other) => false,
         None => locks.of_ino(ino) == *before,
     }
@@ -106,94 +106,94 @@ fn is_as_before(
 /// Lets the locks settle after an event, and ends the step. The event was about one inode and the others; the locks of all
 /// besides are quiet.
 pub fn end_at(scene: &mut Scene, known: &mut Known, ino: Ino, others: InoSet, endings: &mut Endings)
-    requires settles { MaySettle (is_touched ino.0 others) scene.old }
+    requires settles { MaySettle (is_affected ino.0 others) scene.old }
     requires judged { IsJudged endings.old.judged scene.old }
     requires apart { set.contains others ino.0 ≡ false }
     requires room { HaveRoomFor (length scene.old.locks.queue) endings.old }
     requires places { HavePlaces endings.old.changes scene.old.locks others }
     requires entries { MayEnd known.old.sets scene.old.sessions scene.old.table }
-    ensures ends { EndsWith (is_touched ino.0 others) known.old.sets known.new.sets scene.old scene.new endings.new.told.items }
+    ensures ends { EndsWith (is_affected ino.0 others) known.old.sets known.new.sets scene.old scene.new endings.new.told.items }
     ensures kept { endings.new.kept.items ≡ endings.new.told.items }
     ensures lead { LeadOn endings.old.changes.items endings.new.changes.items scene.old.tree scene.new.tree }
     // As many waited as wait and have ended.
     ensures count { length endings.new.told.items + length scene.new.locks.queue ≡ length scene.old.locks.queue }
 {
-    let touched = settle(scene, ino, others, endings);
+    let affected = settle(scene, ino, others, endings);
     end_settled(
         scene,
         known,
         ino,
-        &touched,
+        &affected,
         endings.sized.as_slice(),
         &mut endings.changes,
     );
 }
 
-// Ends the step at the inodes that it touched, whose locks have settled, where the sizes of these changed.
+// Ends the step at the inodes that it affected, whose locks have settled, where the sizes of these changed.
 fn end_settled(
     scene: &mut Scene,
     known: &mut Known,
     ino: Ino,
-    touched: &InoSet,
+    affected: &InoSet,
     sized: &[Ino],
     changes: &mut ChangeList,
 )
-    requires apart { set.contains touched.now ino.0 ≡ false }
-    requires places { length changes.old.items + set.len touched.now + 1 ≤ changes.old.room }
+    requires apart { set.contains affected.now ino.0 ≡ false }
+    requires places { length changes.old.items + set.len affected.now + 1 ≤ changes.old.room }
     requires entries { MayEnd known.old.sets scene.old.sessions scene.old.table }
-    ensures ends { EndsAt (is_touched ino.0 touched.now) sized.now known.old.sets known.new.sets
+    ensures ends { EndsAt (is_affected ino.0 affected.now) sized.now known.old.sets known.new.sets
         scene.old scene.new }
     ensures queue { scene.new.locks.queue ≡ scene.old.locks.queue }
     ensures lead { LeadOn changes.old.items changes.new.items scene.old.tree scene.new.tree }
 {
     owe_sizes(&scene.sessions, &mut scene.table, sized);
-    finish(scene, known, ino, touched, changes);
+    finish(scene, known, ino, affected, changes);
 }
 
 // Makes the moves, always the first that applies, until none does. Each request that is served ends, once for its client and
 // once for the history. It answers the other inodes of the event, and those that were moved with one of them.
 fn settle(scene: &mut Scene, ino: Ino, others: InoSet, endings: &mut Endings) -> InoSet
-    requires settles { MaySettle (is_touched ino.0 others) scene.old }
+    requires settles { MaySettle (is_affected ino.0 others) scene.old }
     requires judged { IsJudged endings.old.judged scene.old }
     requires apart { set.contains others ino.0 ≡ false }
     requires room { HaveRoomFor (length scene.old.locks.queue) endings.old }
     requires places { HavePlaces endings.old.changes scene.old.locks others }
-    ensures settles { SettlesWith (is_touched ino.0 result) (is_touched ino.0 others) scene.old scene.new endings.new.told.items endings.new.sized.items }
+    ensures settles { SettlesWith (is_affected ino.0 result) (is_affected ino.0 others) scene.old scene.new endings.new.told.items endings.new.sized.items }
     ensures kept { endings.new.kept.items ≡ endings.new.told.items }
     ensures count { length endings.new.told.items + length scene.new.locks.queue ≡ length scene.old.locks.queue }
     ensures apart { set.contains result ino.0 ≡ false }
     ensures lead { LeadOn endings.old.changes.items endings.new.changes.items scene.old.tree scene.new.tree }
     ensures places { HavePlaces endings.new.changes scene.new.locks result }
 {
-    let mut touched = others;
+    let mut affected = others;
     // The inodes from which a rename has walked over all below.
     let mut walked = InoSet::new(endings.alloc());
-    end_gathers(&scene.table, &mut scene.locks, ino, &touched);
-    let mut place = first_place(&touched, ino);
-    'servings: while let Some(ticket) = sweep(scene, ino, &touched, &mut place) {
-        let changed = serve_next(scene, ino, ticket, &mut walked, &mut touched, endings);
-        place = place_behind(place, changed, &touched, ino);
+    end_gathers(&scene.table, &mut scene.locks, ino, &affected);
+    let mut place = first_place(&affected, ino);
+    'servings: while let Some(ticket) = sweep(scene, ino, &affected, &mut place) {
+        let changed = serve_next(scene, ino, ticket, &mut walked, &mut affected, endings);
+        place = place_behind(place, changed, &affected, ino);
     }
-    touched
+    affected
 }
 
 // ---- moves of locks
 
-// Ends the gathers of the touched inodes that may end, one inode after the other. No gather of another inode may.
-fn end_gathers(table: &CapTable, locks: &mut Locks, ino: Ino, touched: &InoSet)
-    requires elsewhere { (other : ℕ) (part : Part) → is_touched ino.0 touched.now other ≡ false
+// Ends the gathers of the affected inodes that may end, one inode after the other. No gather of another inode may.
+fn end_gathers(table: &CapTable, locks: &mut Locks, ino: Ino, affected: &InoSet)
+    requires elsewhere { (other : ℕ) (part : Part) → is_affected ino.0 affected.now other ≡ false
         → may_end_by table.now locks.old (other, part) ≡ false }
     ensures ends { (other : ℕ) (part : Part) → may_end_by table.now locks.new (other, part) ≡ false }
     // Each is the first move that applies, whatever the tree and the sessions are.
     ensures swept { (fs : List ℕ) (tree : Nodes) (sessions : SessionTable)
-        → WaitAt (is_touched ino.0 touched.now) (scene_of fs tree sessions table.now locks.old)
-        → IsSwept (is_touched ino.0 touched.now) (scene_of fs tree sessions table.now locks.old)
+        → WaitAt (is_affected ino.0 affected.now) (scene_of fs tree sessions table.now locks.old)
+        → IsSwept (is_affected ino.0 affected.now) (scene_of fs tree sessions table.now locks.old)
         (scene_of fs tree sessions table.now locks.new) }
 {
-    let mut at = lowest(touched, ino);
+    let mut at = lowest(affected, ino);
     'inodes: loop {
         locks.end_gathers_at(table, at);
-        let Some(next) = next_touched(touched, ino, at) else {
+        let Some(next) = next_affected(affected, ino, at) else {
             return;
         };
         at = next;
@@ -201,11 +201,11 @@ fn end_gathers(table: &CapTable, locks: &mut Locks, ino: Ino, touched: &InoSet)
 }
 
 // Where a sweep begins.
-fn first_place(touched: &InoSet, ino: Ino) -> SweepPlace
-    ensures { IsFirstPlace ino.0 touched.now result }
+fn first_place(affected: &InoSet, ino: Ino) -> SweepPlace
+    ensures { IsFirstPlace ino.0 affected.now result }
 {
-    let at = lowest(touched, ino);
-    match touched.next(Ino(0)) {
+    let at = lowest(affected, ino);
+    match affected.next(Ino(0)) {
         Some(_other) => SweepPlace { at, alone: false },
         None => SweepPlace { at, alone: true },
     }
@@ -213,30 +213,30 @@ fn first_place(touched: &InoSet, ino: Ino) -> SweepPlace
 
 // Where it goes on behind a serving that changed this inode alone, or that moved inodes: by the first the inodes that it has passed
 // stay as they are.
-fn place_behind(place: SweepPlace, changed: Option<Ino>, touched: &InoSet, ino: Ino) -> SweepPlace
-    ensures { GoesOnBehind place changed ino.0 touched.now result }
+fn place_behind(place: SweepPlace, changed: Option<Ino>, affected: &InoSet, ino: Ino) -> SweepPlace
+    ensures { GoesOnBehind place changed ino.0 affected.now result }
 {
     match changed {
         Some(inode) if place.at.0 <= inode.0 => place,
-        Some(_) | None => first_place(touched, ino),
+        Some(_) | None => first_place(affected, ino),
     }
 }
 
-// Lets the locks of the touched inodes move, one inode after the other, from where the sweep has come to, until a request is to be
+// Lets the locks of the affected inodes move, one inode after the other, from where the sweep has come to, until a request is to be
 // served, whose number it answers, or no move applies.
-fn sweep(scene: &mut Scene, ino: Ino, touched: &InoSet, place: &mut SweepPlace) -> Option<Ticket>
-    requires place { StandsAt (is_touched ino.0 touched.now) place.old scene.old }
-    requires still { AreStill (is_touched ino.0 touched.now) scene.old }
-    requires waits { WaitAt (is_touched ino.0 touched.now) scene.old }
-    ensures swept { IsSwept (is_touched ino.0 touched.now) scene.old scene.new }
+fn sweep(scene: &mut Scene, ino: Ino, affected: &InoSet, place: &mut SweepPlace) -> Option<Ticket>
+    requires place { StandsAt (is_affected ino.0 affected.now) place.old scene.old }
+    requires still { AreStill (is_affected ino.0 affected.now) scene.old }
+    requires waits { WaitAt (is_affected ino.0 affected.now) scene.old }
+    ensures swept { IsSwept (is_affected ino.0 affected.now) scene.old scene.new }
     ensures next { GoesOn scene.new result }
-    ensures place { StandsAt (is_touched ino.0 touched.now) place.new scene.new }
+    ensures place { StandsAt (is_affected ino.0 affected.now) place.new scene.new }
 {
     'inodes: loop {
         if let Some(ticket) = advance(scene, *place) {
             return Some(ticket);
         }
-        match next_touched(touched, ino, place.at) {
+        match next_affected(affected, ino, place.at) {
             // And nobody at all may be served.
             Some(at) => *place = SweepPlace { at, alone: true },
             None => return None,
@@ -244,21 +244,21 @@ fn sweep(scene: &mut Scene, ino: Ino, touched: &InoSet, place: &mut SweepPlace) 
     }
 }
 
-// The least of the touched inodes.
-fn lowest(touched: &InoSet, ino: Ino) -> Ino
-    ensures { IsLeastOf (is_touched ino.0 touched.now) result.0 }
+// The least of the affected inodes.
+fn lowest(affected: &InoSet, ino: Ino) -> Ino
+    ensures { IsLeastOf (is_affected ino.0 affected.now) result.0 }
 {
-    match touched.next(Ino(0)) {
+    match affected.next(Ino(0)) {
         Some(first) if first.0 < ino.0 => first,
         Some(_) | None => ino,
     }
 }
 
 // The next of them behind this one.
-fn next_touched(touched: &InoSet, ino: Ino, at: Ino) -> Option<Ino>
-    ensures { IsNextOf (is_touched ino.0 touched.now) at.0 result }
+fn next_affected(affected: &InoSet, ino: Ino, at: Ino) -> Option<Ino>
+    ensures { IsNextOf (is_affected ino.0 affected.now) at.0 result }
 {
-    match touched.after(at) {
+    match affected.after(at) {
         Some(next) if ino.0 <= at.0 || next.0 < ino.0 => Some(next),
         Some(_) | None if at.0 < ino.0 => Some(ino),
         Some(_) | None => None,
@@ -268,16 +268,16 @@ fn next_touched(touched: &InoSet, ino: Ino, at: Ino) -> Option<Ino>
 // ---- servings
 
 // Serves the request with this number, notes what that changes for readers, and answers the inode that it changes alone. If it moves
-// its inode, each inode but the one that is at or below it and has entries is touched; for want of memory for that it ends so.
+// its inode, each inode but the one that is at or below it and has entries is affected; for want of memory for that it ends so.
 fn serve_next(
     scene: &mut Scene,
     ino: Ino,
     ticket: Ticket,
     walked: &mut InoSet,
-    touched: &mut InoSet,
+    affected: &mut InoSet,
     endings: &mut Endings,
 ) -> Option<Ino>
-    requires walked { AreWalked walked.old ino.0 scene.old.tree scene.old.table touched.old }
+    requires walked { AreWalked walked.old ino.0 scene.old.tree scene.old.table affected.old }
     requires waits { (q : Request) × (request_at scene.old.locks ticket.0 ≡ Some q) }
     requires told { length endings.old.told.items < endings.old.told.room }
     requires kept { length endings.old.kept.items < endings.old.kept.room }
@@ -291,16 +291,16 @@ fn serve_next(
         × ((q : Request) → request_at scene.old.locks ticket.0 ≡ Some q
         → endings.new.sized.items ≡ endings.old.sized.items ++ sized_in (Serving q ended.outcome ∷ [])) }
     ensures reached { (q : Request) → request_at scene.old.locks ticket.0 ≡ Some q
-        → Reaches q ino.0 scene.old.tree scene.new.tree scene.old.table touched.old touched.new }
+        → Reaches q ino.0 scene.old.tree scene.new.tree scene.old.table affected.old affected.new }
     // By the tree of before.
-    ensures walked { AreWalked walked.new ino.0 scene.old.tree scene.old.table touched.new }
+    ensures walked { AreWalked walked.new ino.0 scene.old.tree scene.old.table affected.new }
     ensures changed { (q : Request) → request_at scene.old.locks ticket.0 ≡ Some q → result ≡ changed_alone q }
     ensures room { (endings.old.told.room ≤ endings.new.told.room) × (endings.old.kept.room ≤ endings.new.kept.room)
         × (vec_capacity endings.old.sized ≤ vec_capacity endings.new.sized) }
-    // At most one change is noted, and there is a place more for each inode that is touched besides.
+    // At most one change is noted, and there is a place more for each inode that is affected besides.
     ensures lead { LeadOn endings.old.changes.items endings.new.changes.items scene.old.tree scene.new.tree }
     ensures noted { length endings.new.changes.items ≤ length endings.old.changes.items + 1 }
-    ensures places { endings.old.changes.room + set.len touched.new ≤ endings.new.changes.room + set.len touched.old }
+    ensures places { endings.old.changes.room + set.len affected.new ≤ endings.new.changes.room + set.len affected.old }
 {
     let Some(request) = scene.locks.apply_move(Move::Serve(ticket)) else {
         unreachable!()
@@ -309,7 +309,7 @@ fn serve_next(
     let judged = is_judged(endings.judged, ticket);
     endings.judged = None;
     let (alloc, changes) = (endings.alloc(), &mut endings.changes);
-    let reached = reach(scene, &request, ino, walked, touched, changes);
+    let reached = reach(scene, &request, ino, walked, affected, changes);
     let served = serve(alloc, scene, &request, reached.is_ok(), judged);
     changes.note_served(&scene.tree, &request, &served.outcome);
     let (client, ticket) = (request.client, request.ticket);

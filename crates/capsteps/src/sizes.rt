@@ -20,7 +20,7 @@ pub fn owe_sizes(sessions: &Sessions, table: &mut CapTable, sized: &[Ino])
     }
 }
 
-// The same of one inode.
+// Each client that caches the inode's data is to be told its size.
 fn owe_on(sessions: &Sessions, table: &mut CapTable, ino: Ino)
     requires { All (λ row. IsTrue (has_session sessions.now row.holder.client.0)) table.old.rows }
     ensures { table.new ≡ changed_where (is_of_inode ino) owed table.old }

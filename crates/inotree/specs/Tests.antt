@@ -31,8 +31,8 @@ is_gone place_kind.NoIno = false
 is_gone place_kind.Here = false
 
 -- there is such an inode
-abbrev pub known_test : Nodes → ℕ → Test
-known_test tree ino = refused_if (is_no_ino (place tree.nodes ino)) refusal.NoIno
+abbrev pub exists_test : Nodes → ℕ → Test
+exists_test tree ino = refused_if (is_no_ino (place tree.nodes ino)) refusal.NoIno
 
 -- the inode is no stray
 abbrev pub here_test : Nodes → ℕ → Test
@@ -40,7 +40,7 @@ here_test tree ino = refused_if (is_gone (place tree.nodes ino)) refusal.Gone
 
 -- there is such an inode, and it has a path
 abbrev pub inode_tests : Nodes → ℕ → List Test
-inode_tests tree ino = known_test tree ino ∷ here_test tree ino ∷ []
+inode_tests tree ino = exists_test tree ino ∷ here_test tree ino ∷ []
 
 abbrev pub is_root_site : Option Site → Bool
 is_root_site None = false

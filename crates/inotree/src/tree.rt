@@ -6,7 +6,7 @@ ghost use Rattle.capwords.specs.Paths.{is_name};
 ghost use Rattle.inotree.specs.Inodes.{with_setting, with_attr, with_attribute, without_attribute, with_snapshot, without_snapshot};
 ghost use Rattle.capbits.specs.Refusal.{first_failing};
 ghost use Rattle.inotree.specs.Tree.{IsTree, place, parent, child, follow, path_of, is_directory, is_within, depth, reaches};
-ghost use Rattle.inotree.specs.Tests.{known_test, inode_tests, root_test, file_test, directory_test, childless_test, empty_test, name_tests, new_inode_tests, new_place_tests, setting_tests, test_at, new_attribute_tests, old_attribute_tests, new_snapshot_tests, old_snapshot_tests};
+ghost use Rattle.inotree.specs.Tests.{exists_test, inode_tests, root_test, file_test, directory_test, childless_test, empty_test, name_tests, new_inode_tests, new_place_tests, setting_tests, test_at, new_attribute_tests, old_attribute_tests, new_snapshot_tests, old_snapshot_tests};
 ghost use Rattle.inotree.specs.Tests.{create_tests, unlink_tests, rmdir_tests, detach_tests, rename_tests, set_tests, set_xattr_tests, remove_xattr_tests, snap_add_tests, snap_remove_tests};
 ghost use Rattle.inotree.specs.Calls.{first_tree, with_new, changed, unlinked, moved, forgotten};
 
@@ -254,8 +254,8 @@ impl Tree {
     // ---- what would be refused
 
     /// Why what needs an inode, also a stray, is refused: it is not there.
-    pub fn known_refusal(&self, ino: Ino) -> Option<Refusal>
-        ensures { result ≡ first_failing (known_test self.now ino.0 ∷ []) }
+    pub fn exists_refusal(&self, ino: Ino) -> Option<Refusal>
+        ensures { result ≡ first_failing (exists_test self.now ino.0 ∷ []) }
     {
         match self.place(ino) {
             Place::NoIno => Some(Refusal::NoIno),

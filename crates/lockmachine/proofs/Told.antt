@@ -17,7 +17,7 @@ use Rattle.lockmachine.specs.Locks.{lock_at}
 use Rattle.capgrant.proofs.Pins.{nothing_without_pin}
 use Rattle.lockmachine.specs.Policy.{Subject, subject, question_of, permitted_to, permitted}
 use Rattle.lockmachine.specs.Scene.{Scene, against_lock, against_part, against_locks, against_policy, against, told_set}
-use Rattle.lockmachine.specs.Told.{is_taken_by, is_taken_of, is_taken}
+use Rattle.lockmachine.specs.Revoked.{is_revoked_by, is_revoked_of, is_revoked}
 
 and_false : (h : Bool) → false ≡ (h && false)
 and_false true = refl
@@ -27,7 +27,7 @@ and_more : (h v n : Bool) → ((h && v) && n) ≡ (h && (v && n))
 and_more true v n = refl
 and_more false v n = refl
 
-has-lock : (part : Part) (row : EntryRow) (c : Cap) (o : Option LockState) → has (against_lock part row o) c ≡ (has row.entry.held c && is_taken_by part row.holder.client c o)
+has-lock : (part : Part) (row : EntryRow) (c : Cap) (o : Option LockState) → has (against_lock part row o) c ≡ (has row.entry.held c && is_revoked_by part row.holder.client c o)
 has-lock part row c None = has-none c ∙ and_false (has row.entry.held c)
 has-lock part row c (Some (Stable state)) = has-none c ∙ and_false (has row.entry.held c)
 has-lock part row c (Some (Gather from to)) =
@@ -35,31 +35,31 @@ has-lock part row c (Some (Gather from to)) =
     has-minus (of_part part row.entry.held) (row_of part to row.holder.client) c
     ∙ ap (λ b. b && r) (has-of_part part row.entry.held c) ∙ and_more (has row.entry.held c) (covers c part) r
 
-has-part : (s : Scene) (row : EntryRow) (c : Cap) (part : Part) → has (against_part s row part) c ≡ (has row.entry.held c && is_taken_of s row.holder c part)
+has-part : (s : Scene) (row : EntryRow) (c : Cap) (part : Part) → has (against_part s row part) c ≡ (has row.entry.held c && is_revoked_of s row.holder c part)
 has-part s row c part = has-lock part row c (lock_at s.locks row.holder.ino.0 part)
 
 gathered : (h a l x f n : Bool) → (((h && a) || ((h && l) || ((h && x) || (h && f)))) || (h && n)) ≡ (h && ((a || (l || (x || f))) || n))
 gathered true a l x f n = refl
 gathered false a l x f n = refl
 
-pub has-against : (s : Scene) (row : EntryRow) (c : Cap) → has (against s row) c ≡ (has row.entry.held c && is_taken s row.holder c)
+pub has-against : (s : Scene) (row : EntryRow) (c : Cap) → has (against s row) c ≡ (has row.entry.held c && is_revoked s row.holder c)
 has-against s row c =
     let h : Bool = has row.entry.held c in
     let n : Bool = not (has (permitted s.fs s.tree s.sessions row.holder) c) in
-    let locks : has (against_locks s row) c ≡ ((h && is_taken_of s row.holder c A) || ((h && is_taken_of s row.holder c L) || ((h && is_taken_of s row.holder c X) || (h && is_taken_of s row.holder c F)))) =
+    let locks : has (against_locks s row) c ≡ ((h && is_revoked_of s row.holder c A) || ((h && is_revoked_of s row.holder c L) || ((h && is_revoked_of s row.holder c X) || (h && is_revoked_of s row.holder c F)))) =
     has-union _ _ c ∙ (λ i. has-part s row c A i || has (union (against_part s row L) (union (against_part s row X) (against_part s row F))) c)
-    ∙ ap (λ b. (h && is_taken_of s row.holder c A) || b) (has-union _ _ c ∙ (λ i. has-part s row c L i || has (union (against_part s row X) (against_part s row F)) c)
-    ∙ ap (λ b. (h && is_taken_of s row.holder c L) || b) (has-union _ _ c ∙ (λ i. has-part s row c X i || has-part s row c F i))) in
+    ∙ ap (λ b. (h && is_revoked_of s row.holder c A) || b) (has-union _ _ c ∙ (λ i. has-part s row c L i || has (union (against_part s row X) (against_part s row F)) c)
+    ∙ ap (λ b. (h && is_revoked_of s row.holder c L) || b) (has-union _ _ c ∙ (λ i. has-part s row c X i || has-part s row c F i))) in
     has-union (against_locks s row) (against_policy s row) c ∙ (λ i. locks i || has-minus row.entry.held (permitted s.fs s.tree s.sessions row.holder) c i)
-    ∙ gathered h (is_taken_of s row.holder c A) (is_taken_of s row.holder c L) (is_taken_of s row.holder c X) (is_taken_of s row.holder c F) n
+    ∙ gathered h (is_revoked_of s row.holder c A) (is_revoked_of s row.holder c L) (is_revoked_of s row.holder c X) (is_revoked_of s row.holder c F) n
 
 rest : (h t : Bool) → (h && not (h && t)) ≡ (h && not t)
 rest true t = refl
 rest false t = refl
 
-pub has-told : (s : Scene) (row : EntryRow) (c : Cap) → has (told_set s row) c ≡ (has row.entry.held c && not (is_taken s row.holder c))
+pub has-told : (s : Scene) (row : EntryRow) (c : Cap) → has (told_set s row) c ≡ (has row.entry.held c && not (is_revoked s row.holder c))
 has-told s row c =
-    has-minus row.entry.held (against s row) c ∙ ap (λ b. has row.entry.held c && not b) (has-against s row c) ∙ rest (has row.entry.held c) (is_taken s row.holder c)
+    has-minus row.entry.held (against s row) c ∙ ap (λ b. has row.entry.held c && not b) (has-against s row c) ∙ rest (has row.entry.held c) (is_revoked s row.holder c)
 
 of_less : (h w t : Bool) → (h ≡ true → w ≡ true) → (h && not t) ≡ ((w && not t) && h)
 of_less true true true less = refl
@@ -72,7 +72,7 @@ of_less false false t less = refl
 -- of an entry that holds less
 pub told-less : (s : Scene) (row : EntryRow) (e : Entry) → IsSubset e.held row.entry.held → told_set s (record row { entry = e }) ≡ meet (told_set s row) e.held
 told-less s row e less = same_caps _ _ (λ c.
-    has-told s (record row { entry = e }) c ∙ of_less (has e.held c) (has row.entry.held c) (is_taken s row.holder c) (less c)
+    has-told s (record row { entry = e }) c ∙ of_less (has e.held c) (has row.entry.held c) (is_revoked s row.holder c) (less c)
     ∙ sym (has-meet (told_set s row) e.held c ∙ ap (λ b. b && has e.held c) (has-told s row c)))
 
 -- by the same locks and grants
@@ -89,7 +89,7 @@ lost-all fs None out c = absurd (true≢false (sym (has-caps_in (P ∷ []) P) �
 lost-all fs (Some s) out c = nothing_without_pin (question_of fs s) s.grants out c
 
 -- no lock takes the pin
-pin-of_lock : (part : Part) (client : ClientId) (o : Option LockState) → is_taken_by part client P o ≡ false
+pin-of_lock : (part : Part) (client : ClientId) (o : Option LockState) → is_revoked_by part client P o ≡ false
 pin-of_lock part client None = refl
 pin-of_lock part client (Some (Stable state)) = refl
 pin-of_lock part client (Some (Gather from to)) = ap (λ b. b && not (has (row_of part to client) P)) (pin_covers_none part)
@@ -107,10 +107,10 @@ or_true false = refl
 
 pub pin-takes_all : (s : Scene) (row : EntryRow) → has (against s row) P ≡ true → (c : Cap) → has row.entry.held c ≡ true → has (against s row) c ≡ true
 pin-takes_all s row pin c held =
-    let taken : is_taken s row.holder P ≡ true = (and_parts (has row.entry.held P) (is_taken s row.holder P) (sym (has-against s row P) ∙ pin)).1 in
-    let of : (part : Part) → is_taken_of s row.holder P part ≡ false = λ part. pin-of_lock part row.holder.client (lock_at s.locks row.holder.ino.0 part) in
+    let taken : is_revoked s row.holder P ≡ true = (and_parts (has row.entry.held P) (is_revoked s row.holder P) (sym (has-against s row P) ∙ pin)).1 in
+    let of : (part : Part) → is_revoked_of s row.holder P part ≡ false = λ part. pin-of_lock part row.holder.client (lock_at s.locks row.holder.ino.0 part) in
     let out : has (permitted s.fs s.tree s.sessions row.holder) P ≡ false = not_true _ (true_or _ _ _ _ _ (of A) (of L) (of X) (of F) taken) in
     has-against s row c ∙ (λ i. held i && (
-    (is_taken_of s row.holder c A || (is_taken_of s row.holder c L || (is_taken_of s row.holder c X || is_taken_of s row.holder c F)))
+    (is_revoked_of s row.holder c A || (is_revoked_of s row.holder c L || (is_revoked_of s row.holder c X || is_revoked_of s row.holder c F)))
     || not (lost-all s.fs (subject s.tree s.sessions row.holder) out c i)))
     ∙ or_true _

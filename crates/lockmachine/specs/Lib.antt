@@ -5,7 +5,7 @@ pub mod Codes
 pub mod Policy
 pub mod Wants
 pub mod Scene
-pub mod Told
+pub mod Revoked
 pub mod Moves
 pub mod Waiters
 pub mod Runs

@@ -24,7 +24,7 @@ use crate::policy::Policy;
 use crate::request::{Ask, Request};
 use crate::states::{InodeLocks, States};
 use crate::waiters::{MAX_WAITING, Waiter, Waiters};
-use crate::wants::{Wants, known_or_found, wants_on};
+use crate::wants::{Wants, given_or_found, wants_on};
 use capbits::{ClientId, Ino, Part, Refusal, Ticket};
 use capspec::FsName;
 use captable::CapTable;
@@ -274,7 +274,7 @@ impl Locks {
         if let Some(served) = self.first_among(sought, ino) {
             return Move::Serve(served);
         }
-        let wants = known_or_found(*wanted, policy.fs, policy.tree, policy.sessions, table, ino);
+        let wants = given_or_found(*wanted, policy.fs, policy.tree, policy.sessions, table, ino);
         *wanted = Some(wants);
         self.first_begin(sought.may_wait(), ino, &wants)
             .unwrap_or(Move::Settled)

@@ -50,7 +50,7 @@ pub fn wants_on(fs: &FsName, tree: &Tree, sessions: &Sessions, table: &CapTable,
 }
 
 // What is wanted of an inode, where it may be known.
-pub(crate) fn known_or_found(
+pub(crate) fn given_or_found(
     known: Option<Wants>,
     fs: &FsName,
     tree: &Tree,

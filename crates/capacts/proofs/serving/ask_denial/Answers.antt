@@ -3,9 +3,9 @@ use Rattle.capgrant.specs.declared.access.Access.{Access}
 use Rattle.caprules.specs.Lockmachine.declared.request.Ask.{Ask}
 use Rattle.caprules.specs.Lockmachine.declared.scene.Scene.{Scene}
 use Rattle.caprules.specs.Lockmachine.Scene.{scene}
-use Rattle.caprules.specs.Judge.{stop, denial_of}
+use Rattle.caprules.specs.Judge.{rejection_of, denial_of}
 use Rattle.caprules.specs.Asks.{ask_needs, change_access}
-use Rattle.capacts.proofs.Again.{denial-stop}
+use Rattle.capacts.proofs.Again.{denial-rejection}
 use Rattle.capacts.proofs.serving.ask_denial.Goals as goal
 
 pub returns-in-Alter : goal.returns-in-Alter
@@ -15,5 +15,5 @@ returns-in-Alter c = λ table locks.
     let ino = c.args.holder.ino.0 in
     c.denial-in-Alter.ensures
     ∙ ap (λ (access : Access). denial_of s.fs s.tree s.sessions c.args.holder access) c.change_access.ensures
-    ∙ denial-stop s client ino (change_access c.in-Alter.change)
-    ∙ ap (λ (ask : Ask). stop s [] (ask_needs s client ino ask) []) (sym c.in-Alter.is)
+    ∙ denial-rejection s client ino (change_access c.in-Alter.change)
+    ∙ ap (λ (ask : Ask). rejection_of s [] (ask_needs s client ino ask) []) (sym c.in-Alter.is)

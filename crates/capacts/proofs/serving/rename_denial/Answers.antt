@@ -4,7 +4,7 @@ use Rattle.inotree.specs.Tree.{parent}
 use Rattle.caprules.specs.Lockmachine.declared.scene.Scene.{Scene}
 use Rattle.caprules.specs.Lockmachine.Scene.{scene}
 use Rattle.caprules.specs.Needs.{need, need_if}
-use Rattle.capacts.proofs.Again.{denial-stop, denied-front, granted-front}
+use Rattle.capacts.proofs.Again.{denial-rejection, denied-front, granted-front}
 use Rattle.capacts.proofs.serving.rename_denial.Goals as goal
 
 pub returns-in-Some : goal.returns-in-Some
@@ -19,5 +19,5 @@ returns-in-None c = λ table locks.
     let s : Scene = scene c.args.fs.now c.args.tree.now c.args.sessions.now table locks in
     let client = c.args.holder.client in
     c.denial.ensures
-    ∙ denial-stop s client c.args.dir.0 Write
+    ∙ denial-rejection s client c.args.dir.0 Write
     ∙ sym (granted-front s (need_if client (parent s.tree.nodes c.args.holder.ino.0) Write) (need client c.args.dir.0 Write ∷ []) (sym (c.parent_denial.ensures table locks) ∙ c.in-None.is))

@@ -2,9 +2,9 @@ use Rattle.std.proofs.Common.{[], ap, sym, ◌∙◌}
 use Rattle.capgrant.specs.declared.access.Access.{Access}
 use Rattle.capsteps.specs.Lockmachine.declared.scene.Scene.{Scene}
 use Rattle.capsteps.specs.Lockmachine.Scene.{scene}
-use Rattle.capsteps.specs.Caprules.Judge.{stop, denial_of}
+use Rattle.capsteps.specs.Caprules.Judge.{rejection_of, denial_of}
 use Rattle.capsteps.specs.Caprules.Asks.{ask_needs, change_access}
-use Rattle.capsteps.proofs.Capacts.Again.{denial-stop}
+use Rattle.capsteps.proofs.Capacts.Again.{denial-rejection}
 use Rattle.capcore.specs.declared.asks.Asked.{Asked}
 use Rattle.capcore.specs.Asks.{ask_of}
 use Rattle.capcore.proofs.judging.asking_denial.Goals as goal
@@ -16,5 +16,5 @@ returns-in-Alter c = λ table locks.
     let ino = c.args.holder.ino.0 in
     c.denial-in-Alter.ensures
     ∙ ap (λ (access : Access). denial_of s.fs s.tree s.sessions c.args.holder access) c.change_access.ensures
-    ∙ denial-stop s client ino (change_access c.in-Alter.change.now)
-    ∙ ap (λ (asked : Asked). stop s [] (ask_needs s client ino (ask_of asked)) []) (sym c.in-Alter.is)
+    ∙ denial-rejection s client ino (change_access c.in-Alter.change.now)
+    ∙ ap (λ (asked : Asked). rejection_of s [] (ask_needs s client ino (ask_of asked)) []) (sym c.in-Alter.is)

@@ -1,6 +1,6 @@
 use Rattle.std.proofs.Common.{◌≢◌, sym, ◌∙◌, eq-eqb, true≢false}
 use Rattle.capacts.proofs.InoSets.{widens-tried}
-use Rattle.capsteps.proofs.Among.{touched-tried}
+use Rattle.capsteps.proofs.Among.{affected-tried}
 use Rattle.capsteps.proofs.client.add_other.Goals as goal
 
 pub returns-clause-widens : goal.returns-clause-widens
@@ -9,4 +9,4 @@ returns-clause-widens c =
     widens-tried 1 c.args.ino.0 c.args.others.now c.insert.new.self c.insert.result apart c.insert.ensures.ok c.insert.ensures.err
 
 pub returns-clause-reaches : goal.returns-clause-reaches
-returns-clause-reaches c = touched-tried 1 c.args.ino.0 c.args.others.now c.insert.new.self c.insert.result c.insert.ensures.ok
+returns-clause-reaches c = affected-tried 1 c.args.ino.0 c.args.others.now c.insert.new.self c.insert.result c.insert.ensures.ok

@@ -1,11 +1,11 @@
 use Rattle.std.proofs.Common.{◌≡◌, true}
 use Rattle.std.specs.List.{AllWithin}
 use Rattle.capacts.specs.Lockmachine.Requests.{is_of_client}
-use Rattle.capacts.specs.Reach.{is_touched, Widens}
+use Rattle.capacts.specs.Reach.{is_affected, Widens}
 use Rattle.capsteps.proofs.client.reach_requests.Given as goal
 
 abbrev pub invariant-loop-request : goal.invariant-loop-request
 invariant-loop-request l = record {
   widens : Widens 1 l.fn.others l.others;
-  reached : AllWithin (λ q. is_of_client l.client q ≡ true → is_touched 1 l.others q.ino.0 ≡ true) l.locks.queue 0 l.request-index;
+  reached : AllWithin (λ q. is_of_client l.client q ≡ true → is_affected 1 l.others q.ino.0 ≡ true) l.locks.queue 0 l.request-index;
 }

@@ -3,7 +3,7 @@ use Rattle.std.specs.Prelude.{◌==◌}
 use Rattle.std.proofs.lemmas.List.Sums.{length-filter, count_by-le-length}
 use Rattle.std.specs.List.{count_by}
 use Rattle.capacts.specs.Capevents.declared.outcome.Ended.{Ended}
-use Rattle.capacts.specs.Capnotes.Untold.{but_for}
+use Rattle.capacts.specs.Capnotes.DueEndings.{but_for}
 use Rattle.capsteps.proofs.ended.close_with.Goals as goal
 
 pub append-requires : goal.append-requires

@@ -22,8 +22,8 @@ use Rattle.capacts.specs.Lockmachine.Scene.{scene}
 use Rattle.capacts.specs.Finishing.{told_at, told_by, entry_under, entry_by, is_on}
 use Rattle.capacts.specs.Capnotes.InoSets.{InoSet}
 use Rattle.capacts.specs.Known.{known_in, HaveRoom}
-use Rattle.capacts.specs.Reach.{is_touched}
-use Rattle.capsteps.specs.Touching.{forget_at, forget_among}
+use Rattle.capacts.specs.Reach.{is_affected}
+use Rattle.capsteps.specs.Affected.{forget_at, forget_among}
 use Rattle.capsteps.proofs.AtEnd.{entry-alike, forget-all}
 use Rattle.capacts.proofs.KeptSets.{kept-as, kept-same, kept-then, kept-not, found-stays, room-still}
 use Rattle.capsteps.proofs.ManyInodes.{changed-twice_where, entries_on-stay, holders-stay}
@@ -37,43 +37,43 @@ finish_entries-requires c =
     let f : EntryRow → Caps = told_by c.args.scene.now.fs c.args.scene.now.tree c.args.scene.now.sessions c.args.scene.now.locks.states in
     record {
       numbers = subst (All (λ (row : EntryRow). row.entry.seq < 18446744073709551615))
-          (sym (ap (λ (t : Table). entries_on t c.args.ino) c.finish_touched.ensures.table ∙ entries_on-stay (set.contains c.args.touched.now) g c.args.ino c.requires.apart t))
+          (sym (ap (λ (t : Table). entries_on t c.args.ino) c.finish_affected.ensures.table ∙ entries_on-stay (set.contains c.args.affected.now) g c.args.ino c.requires.apart t))
           (All-filter (is_of_inode c.args.ino) (λ row. row.entry.seq < 18446744073709551615) t.rows c.requires.entries.numbers);
-      clients = subst (λ (t : Table). All (λ row. IsTrue (has_session c.args.scene.now.sessions row.holder.client.0)) t.rows) (sym c.finish_touched.ensures.table)
-          (holders-stay (is_on c.args.touched.now) g (λ h. IsTrue (has_session c.args.scene.now.sessions h.client.0)) t c.requires.entries.clients);
-      room = subst (HaveRoom c.finish_touched.new.known.sets) (sym c.finish_touched.ensures.table)
-          (room-still (λ k. set.contains c.args.touched.now k.ino.0) f t c.args.known.now.sets c.finish_touched.new.known.sets (is_on c.args.touched.now) g c.finish_touched.ensures.known c.requires.entries.room);
+      clients = subst (λ (t : Table). All (λ row. IsTrue (has_session c.args.scene.now.sessions row.holder.client.0)) t.rows) (sym c.finish_affected.ensures.table)
+          (holders-stay (is_on c.args.affected.now) g (λ h. IsTrue (has_session c.args.scene.now.sessions h.client.0)) t c.requires.entries.clients);
+      room = subst (HaveRoom c.finish_affected.new.known.sets) (sym c.finish_affected.ensures.table)
+          (room-still (λ k. set.contains c.args.affected.now k.ino.0) f t c.args.known.now.sets c.finish_affected.new.known.sets (is_on c.args.affected.now) g c.finish_affected.ensures.known c.requires.entries.room);
     }
 
--- an inode that was touched beside the one is another
-beside : (touched : InoSet) (ino n : ℕ) → set.contains touched ino ≡ false → set.contains touched n ≡ true → (n == ino) ≡ false
-beside touched ino n apart there = false_from_ne_true (n == ino) (λ is. true≢false (sym there ∙ ap (set.contains touched) (eqb-true n ino is) ∙ apart))
+-- an inode that was affected beside the one is another
+beside : (affected : InoSet) (ino n : ℕ) → set.contains affected ino ≡ false → set.contains affected n ≡ true → (n == ino) ≡ false
+beside affected ino n apart there = false_from_ne_true (n == ino) (λ is. true≢false (sym there ∙ ap (set.contains affected) (eqb-true n ino is) ∙ apart))
 
-none_here : (touched : InoSet) (ino n : ℕ) → set.contains touched ino ≡ false → (n == ino) ≡ true → set.contains touched n ≡ false
-none_here touched ino n apart is = ap (set.contains touched) (eqb-true n ino is) ∙ apart
+none_here : (affected : InoSet) (ino n : ℕ) → set.contains affected ino ≡ false → (n == ino) ≡ true → set.contains affected n ≡ false
+none_here affected ino n apart is = ap (set.contains affected) (eqb-true n ino is) ∙ apart
 
 pub returns-clause-finished : goal.returns-clause-finished
 returns-clause-finished c =
     let fs = c.args.scene.now.fs in
     let tree = c.args.scene.now.tree in
     let sessions = c.args.scene.now.sessions in
-    let touched = c.args.touched.now in
+    let affected = c.args.affected.now in
     let t : Table = c.args.scene.now.table in
     let g : EntryRow → Entry = entry_by (known_in c.args.known.now.sets) fs tree sessions c.args.scene.now.locks.states in
-    let h : EntryRow → Entry = entry_under (known_in c.finish_touched.new.known.sets) fs tree sessions c.of_ino-now.result in
+    let h : EntryRow → Entry = entry_under (known_in c.finish_affected.new.known.sets) fs tree sessions c.of_ino-now.result in
     let ended : Scene = scene fs tree sessions c.finish_entries.new.table c.args.scene.now.locks in
     c.forget_unheld.ensures.left
-    ∙ ap (forget_at c.args.ino.0) c.forget_touched.ensures.left
-    ∙ forget-all c.args.ino.0 touched ended
-    ∙ ap (λ (t : Table). forget_among (is_touched c.args.ino.0 touched) (scene fs tree sessions t c.args.scene.now.locks))
+    ∙ ap (forget_at c.args.ino.0) c.forget_affected.ensures.left
+    ∙ forget-all c.args.ino.0 affected ended
+    ∙ ap (λ (t : Table). forget_among (is_affected c.args.ino.0 affected) (scene fs tree sessions t c.args.scene.now.locks))
     (c.finish_entries.ensures.table
-    ∙ ap (changed_where (is_of_inode c.args.ino) h) c.finish_touched.ensures.table
-    ∙ changed-twice_where (set.contains touched) (λ n. n == c.args.ino.0) (is_touched c.args.ino.0 touched) g h g (λ n there. beside touched c.args.ino.0 n c.requires.apart there)
-    (λ n. or_comm (set.contains touched n) (n == c.args.ino.0)) (λ row e. refl)
+    ∙ ap (changed_where (is_of_inode c.args.ino) h) c.finish_affected.ensures.table
+    ∙ changed-twice_where (set.contains affected) (λ n. n == c.args.ino.0) (is_affected c.args.ino.0 affected) g h g (λ n there. beside affected c.args.ino.0 n c.requires.apart there)
+    (λ n. or_comm (set.contains affected n) (n == c.args.ino.0)) (λ row e. refl)
     (λ row is.
-    entry-alike (known_in c.finish_touched.new.known.sets) (known_in c.args.known.now.sets) fs tree sessions c.of_ino-now.result c.args.scene.now.locks.states row
+    entry-alike (known_in c.finish_affected.new.known.sets) (known_in c.args.known.now.sets) fs tree sessions c.of_ino-now.result c.args.scene.now.locks.states row
     (ap (λ (o : Option Caps). unwrap_or o no_caps)
-    (kept-not (λ k. set.contains touched k.ino.0) (told_by fs tree sessions c.args.scene.now.locks.states) t c.args.known.now.sets c.finish_touched.new.known.sets c.finish_touched.ensures.known row.holder (none_here touched c.args.ino.0 row.holder.ino.0 c.requires.apart is)))
+    (kept-not (λ k. set.contains affected k.ino.0) (told_by fs tree sessions c.args.scene.now.locks.states) t c.args.known.now.sets c.finish_affected.new.known.sets c.finish_affected.ensures.known row.holder (none_here affected c.args.ino.0 row.holder.ino.0 c.requires.apart is)))
     (c.of_ino-now.ensures ∙ sym (ap (map.get c.args.scene.now.locks.states) (eqb-true row.holder.ino.0 c.args.ino.0 is)))) t)
 
 pub returns-clause-known : goal.returns-clause-known
@@ -81,19 +81,19 @@ returns-clause-known c =
     let fs = c.args.scene.now.fs in
     let tree = c.args.scene.now.tree in
     let sessions = c.args.scene.now.sessions in
-    let touched = c.args.touched.now in
+    let affected = c.args.affected.now in
     let t : Table = c.args.scene.now.table in
     let g : EntryRow → Entry = entry_by (known_in c.args.known.now.sets) fs tree sessions c.args.scene.now.locks.states in
     let f : EntryRow → Caps = told_by fs tree sessions c.args.scene.now.locks.states in
-    kept-same (λ k. set.contains touched k.ino.0 || (k.ino.0 == c.args.ino.0)) (λ k. is_touched c.args.ino.0 touched k.ino.0) f t c.args.known.now.sets c.finish_entries.new.known.sets (λ k. or_comm (set.contains touched k.ino.0) (k.ino.0 == c.args.ino.0))
-    (kept-then (λ k. set.contains touched k.ino.0) (λ k. k.ino.0 == c.args.ino.0) f t c.finish_touched.new.table c.args.known.now.sets c.finish_touched.new.known.sets c.finish_entries.new.known.sets c.finish_touched.ensures.known
-    (kept-as (λ k. k.ino.0 == c.args.ino.0) (told_at fs tree sessions c.of_ino-now.result) f c.finish_touched.new.table c.finish_touched.new.known.sets c.finish_entries.new.known.sets
+    kept-same (λ k. set.contains affected k.ino.0 || (k.ino.0 == c.args.ino.0)) (λ k. is_affected c.args.ino.0 affected k.ino.0) f t c.args.known.now.sets c.finish_entries.new.known.sets (λ k. or_comm (set.contains affected k.ino.0) (k.ino.0 == c.args.ino.0))
+    (kept-then (λ k. set.contains affected k.ino.0) (λ k. k.ino.0 == c.args.ino.0) f t c.finish_affected.new.table c.args.known.now.sets c.finish_affected.new.known.sets c.finish_entries.new.known.sets c.finish_affected.ensures.known
+    (kept-as (λ k. k.ino.0 == c.args.ino.0) (told_at fs tree sessions c.of_ino-now.result) f c.finish_affected.new.table c.finish_affected.new.known.sets c.finish_entries.new.known.sets
     (λ row is. ap (λ (o : Option InodeLocks). told_at fs tree sessions o row) (c.of_ino-now.ensures ∙ sym (ap (map.get c.args.scene.now.locks.states) (eqb-true row.holder.ino.0 c.args.ino.0 is))))
     c.finish_entries.ensures.known)
-    (λ k is. ap (λ (u : Table). find (is_row_of k) u.rows) c.finish_touched.ensures.table
-    ∙ found-stays (is_on touched) g t k (λ row mine. ap (λ (h : Holder). set.contains touched h.ino.0) (sym mine) ∙ none_here touched c.args.ino.0 k.ino.0 c.requires.apart is)))
+    (λ k is. ap (λ (u : Table). find (is_row_of k) u.rows) c.finish_affected.ensures.table
+    ∙ found-stays (is_on affected) g t k (λ row mine. ap (λ (h : Holder). set.contains affected h.ino.0) (sym mine) ∙ none_here affected c.args.ino.0 k.ino.0 c.requires.apart is)))
 
 pub returns-clause-lead : goal.returns-clause-lead
 returns-clause-lead c =
-    leads-then c.args.changes.now.items c.forget_touched.new.changes.items c.forget_unheld.new.changes.items c.args.scene.now.tree c.forget_touched.new.scene.tree c.forget_unheld.new.scene.tree
-    c.forget_touched.ensures.lead c.forget_unheld.ensures.lead
+    leads-then c.args.changes.now.items c.forget_affected.new.changes.items c.forget_unheld.new.changes.items c.args.scene.now.tree c.forget_affected.new.scene.tree c.forget_unheld.new.scene.tree
+    c.forget_affected.ensures.lead c.forget_unheld.ensures.lead

@@ -20,8 +20,8 @@ use Rattle.capacts.specs.Lockmachine.declared.states.InodeLocks.{InodeLocks}
 use Rattle.capacts.specs.Lockmachine.declared.scene.Scene.{Scene}
 use Rattle.capacts.specs.Lockmachine.Scene.{scene, told_set}
 use Rattle.capacts.specs.Finishing.{entry_under, told_at}
-use Rattle.capacts.specs.Known.{known_in, KeptAnew, KnownSets, kept_of, HasAll, OthersHaveAll, kept_anew}
-use Rattle.capsteps.specs.Touching.{forget_among, finished_at, finished_entry, told_then}
+use Rattle.capacts.specs.Known.{known_in, KnownAnew, KnownSets, known_of, HasAll, OthersHaveAll, known_anew}
+use Rattle.capsteps.specs.Affected.{forget_among, finished_at, finished_entry, told_then}
 use Rattle.capsteps.proofs.AtEnd.{entry-on}
 use Rattle.capsteps.proofs.Finishing.{none-sized, each-alike, same-issue_row, same-renumbered}
 use Rattle.capacts.proofs.KeptSets.{kept-as, room-of}
@@ -82,11 +82,11 @@ module _ (sets : KnownSets) (s : Scene) (k : Holder) (others : OthersHaveAll set
       (each-alike (λ row. cond (is_among (k ∷ []) row.holder) (remade last row) row) (λ row. cond (row.holder.ino.0 == k.ino.0) (remade last row) row) s.table.rows row-alike)
 
   -- and to keep anew what the holder's client is to know of, is to keep it of all
-  alone-kept : (now : KnownSets) → KeptAnew (λ j. same j k) (told_then s) s.table sets now → KeptAnew (λ j. j.ino.0 == k.ino.0) (told_then s) s.table sets now
+  alone-kept : (now : KnownSets) → KnownAnew (λ j. same j k) (told_then s) s.table sets now → KnownAnew (λ j. j.ino.0 == k.ino.0) (told_then s) s.table sets now
   alone-kept now kept j = kept j ∙ by_tests (same j k) refl (j.ino.0 == k.ino.0) refl (find (is_row_of j) s.table.rows) refl
     where
       by_tests : (a : Bool) → same j k ≡ a → (b : Bool) → (j.ino.0 == k.ino.0) ≡ b → (o : Option EntryRow) → find (is_row_of j) s.table.rows ≡ o
-          → kept_anew a (told_then s) o (kept_of sets j) ≡ kept_anew b (told_then s) o (kept_of sets j)
+          → known_anew a (told_then s) o (known_of sets j) ≡ known_anew b (told_then s) o (known_of sets j)
       by_tests true is true on o found = refl
       by_tests true is false off o found = absurd (true≢false (sym (on-inode j is) ∙ off))
       by_tests false apart false off o found = refl
@@ -95,7 +95,7 @@ module _ (sets : KnownSets) (s : Scene) (k : Holder) (others : OthersHaveAll set
           let mine : j ≡ row.holder = same-is j row.holder (find_passes (is_row_of j) s.table.rows row found) in
           let all : HasAll sets s row =
           subst (λ (h : Holder). HasAll sets s (record { holder = h; entry = row.entry })) mine (others j row.entry (eqb-true j.ino.0 k.ino.0 on) apart (ap entry_of found)) in
-          ap (kept_of sets) mine ∙ all.1 ∙ ap Some (sym (told-alike sets s row all))
+          ap (known_of sets) mine ∙ all.1 ∙ ap Some (sym (told-alike sets s row all))
 
 pub finish_holder-requires-clause-room : goal.finish_holder-requires-clause-room
 finish_holder-requires-clause-room c = room-of c.args.known.now.sets c.args.scene.now.table c.args.holder c.requires.entries.room
@@ -123,7 +123,7 @@ returns-clause-ends c =
     c.finish_holder.ensures.table
     ∙ ap (λ (o : Option InodeLocks). changed_by (entry_under (known_in was) fs tree sessions o) t k) here
     ∙ alone-changed was settled k c.requires.others table in
-    let kept : KeptAnew (λ j. same j k) (told_then settled) t was c.finish_holder.new.known.sets =
+    let kept : KnownAnew (λ j. same j k) (told_then settled) t was c.finish_holder.new.known.sets =
     kept-as (λ j. same j k) (told_at fs tree sessions c.of_ino-now.result) (told_then settled) t was c.finish_holder.new.known.sets
     (λ row mine. ap (λ (o : Option InodeLocks). told_at fs tree sessions o row) (here ∙ sym (ap (λ (h : Holder). map.get locks.states h.ino.0) (same-is row.holder k mine))))
     c.finish_holder.ensures.known in
@@ -134,6 +134,6 @@ returns-clause-ends c =
           ∙ ap (λ (u : Table). forget_among (λ other. other == k.ino.0) (scene fs tree sessions u locks)) all
           ∙ ap (finished_at (λ other. other == k.ino.0) (known_in was)) (sym (none-sized settled));
       kept =
-          subst (λ (s : Scene). KeptAnew (λ j. j.ino.0 == k.ino.0) (told_then s) s.table was c.finish_holder.new.known.sets) (sym (none-sized settled))
+          subst (λ (s : Scene). KnownAnew (λ j. j.ino.0 == k.ino.0) (told_then s) s.table was c.finish_holder.new.known.sets) (sym (none-sized settled))
           (alone-kept was settled k c.requires.others table c.finish_holder.new.known.sets kept);
     }

@@ -18,7 +18,7 @@ use Rattle.captable.specs.Many.{changed_by}
 use Rattle.captable.proofs.OneByOne.{fold-on_inode}
 use Rattle.captable.proofs.Tables.{same-is}
 use Rattle.capacts.specs.Finishing.{told_at, due_under, numbered_as, entry_under}
-use Rattle.capacts.specs.Known.{kept_of, known_in}
+use Rattle.capacts.specs.Known.{known_of, known_in}
 use Rattle.capsteps.proofs.AtEnd.{entry-on, yet-unchanged, named, named-clients, distinct-on}
 use Rattle.capacts.proofs.KeptSets.{kept-same, kept-then, kept-not, kept-on, kept-nobody, found-as, not-yet, room-of}
 use Rattle.capsteps.proofs.finish.finish_entries.Goals as goal
@@ -70,7 +70,7 @@ finish_entry-requires c =
     ∙ yet-unchanged g t ks i k apart inside
     ∙ ap (entry_at t) here in
     let not_among : is_among (take i ks) k ≡ false = ap (is_among (take i ks)) (sym here) ∙ not-yet ks i k apart inside in
-    let kept : kept_of c.loop-number.known.sets k ≡ kept_of c.args.known.now.sets k = kept-not (is_among (take i ks)) f t c.args.known.now.sets c.loop-number.known.sets c.loop-number.invariant.known k not_among in
+    let kept : known_of c.loop-number.known.sets k ≡ known_of c.args.known.now.sets k = kept-not (is_among (take i ks)) f t c.args.known.now.sets c.loop-number.known.sets c.loop-number.invariant.known k not_among in
     record {
       path = ap option_copied c.then_some-path.ensures ∙ lent-where c.read_path.result _ ∙ sym c.read_path.ensures;
       node = c.node-node.ensures.node;
@@ -99,7 +99,7 @@ loop-number-preserved c =
     ∙ yet-unchanged g t ks i k apart inside
     ∙ ap (entry_at t) here in
     let not_among : is_among (take i ks) k ≡ false = ap (is_among (take i ks)) (sym here) ∙ not-yet ks i k apart inside in
-    let kept : kept_of c.loop-number.known.sets k ≡ kept_of c.args.known.now.sets k = kept-not (is_among (take i ks)) f t c.args.known.now.sets c.loop-number.known.sets c.loop-number.invariant.known k not_among in
+    let kept : known_of c.loop-number.known.sets k ≡ known_of c.args.known.now.sets k = kept-not (is_among (take i ks)) f t c.args.known.now.sets c.loop-number.known.sets c.loop-number.invariant.known k not_among in
     record {
       table =
           c.finish_entry.ensures.table

@@ -1,7 +1,7 @@
 use Rattle.std.proofs.Common.{subst, List}
 use Rattle.capbits.specs.declared.ids.Ino.{Ino}
 use Rattle.capacts.specs.Lockmachine.declared.scene.Scene.{Scene}
-use Rattle.capacts.specs.Reach.{is_touched}
+use Rattle.capacts.specs.Reach.{is_affected}
 use Rattle.capsteps.specs.Begun.{MayEnd}
 use Rattle.capsteps.specs.Serves.{EndsAt}
 use Rattle.capsteps.proofs.NobodyServed.{settled-ends, settled-keeps}
@@ -10,19 +10,19 @@ use Rattle.capsteps.proofs.settle.end_at.Goals as goal
 
 pub returns-clause-ends : goal.returns-clause-ends
 returns-clause-ends c =
-    let at = is_touched c.args.ino.0 c.settle-touched.result in
-    let settled : Scene = c.settle-touched.new.scene in
+    let at = is_affected c.args.ino.0 c.settle-affected.result in
+    let settled : Scene = c.settle-affected.new.scene in
     let last : Scene = c.end_settled.new.scene in
-    settled-ends at (is_touched c.args.ino.0 c.args.others) c.args.known.now.sets c.end_settled.new.known.sets
-    c.args.scene.now settled last c.settle-touched.new.endings.told.items c.settle-touched.new.endings.sized.items c.settle-touched.ensures.settles c.requires.settles.tree
+    settled-ends at (is_affected c.args.ino.0 c.args.others) c.args.known.now.sets c.end_settled.new.known.sets
+    c.args.scene.now settled last c.settle-affected.new.endings.told.items c.settle-affected.new.endings.sized.items c.settle-affected.ensures.settles c.requires.settles.tree
     (subst (λ (sized : List Ino). EndsAt at sized c.args.known.now.sets c.end_settled.new.known.sets settled last) c.as_slice.ensures.value c.end_settled.ensures.ends)
 
 pub returns-clause-lead : goal.returns-clause-lead
 returns-clause-lead c =
-    leads-then c.args.endings.now.changes.items c.settle-touched.new.endings.changes.items c.end_settled.new.changes.items c.args.scene.now.tree c.settle-touched.new.scene.tree c.end_settled.new.scene.tree
-    c.settle-touched.ensures.lead c.end_settled.ensures.lead
+    leads-then c.args.endings.now.changes.items c.settle-affected.new.endings.changes.items c.end_settled.new.changes.items c.args.scene.now.tree c.settle-affected.new.scene.tree c.end_settled.new.scene.tree
+    c.settle-affected.ensures.lead c.end_settled.ensures.lead
 
 -- ---- what ends the step finds the entries and the sessions as they were
 
 pub end_settled-requires-clause-entries : goal.end_settled-requires-clause-entries
-end_settled-requires-clause-entries c = settled-keeps _ _ _ _ _ _ c.settle-touched.ensures.settles (λ table sessions. MayEnd c.args.known.now.sets sessions table) c.requires.entries
+end_settled-requires-clause-entries c = settled-keeps _ _ _ _ _ _ c.settle-affected.ensures.settles (λ table sessions. MayEnd c.args.known.now.sets sessions table) c.requires.entries

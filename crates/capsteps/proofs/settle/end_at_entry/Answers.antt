@@ -4,24 +4,24 @@ use Rattle.std.specs.Ordering.{nat_cmp}
 use Rattle.capbits.specs.declared.ids.Ino.{Ino}
 use Rattle.capacts.specs.Lockmachine.declared.scene.Scene.{Scene}
 use Rattle.capacts.specs.Capnotes.InoSets.{InoSet}
-use Rattle.capacts.specs.Reach.{is_touched}
+use Rattle.capacts.specs.Reach.{is_affected}
 use Rattle.capsteps.specs.Begun.{MayEnd, MaySettle}
 use Rattle.capsteps.specs.Serves.{EndsAt, EndsWith}
-use Rattle.capsteps.proofs.Among.{touched-alone}
+use Rattle.capsteps.proofs.Among.{affected-alone}
 use Rattle.capacts.proofs.InoSets.{none-there}
 use Rattle.capsteps.proofs.NobodyServed.{others-still, settled-ends, settled-keeps, settles-alone}
 use Rattle.capacts.proofs.Capnotes.Noting.{leads-then}
 use Rattle.capsteps.proofs.settle.end_at_entry.Goals as goal
 
-pub settle-touched-requires-clause-settles : goal.settle-touched-requires-clause-settles
-settle-touched-requires-clause-settles c =
-    subst (λ (from : ℕ → Bool). MaySettle from c.args.scene.now) (sym (touched-alone c.args.holder.ino.0 c.new-others.result c.new-others.ensures)) c.requires.settles
+pub settle-affected-requires-clause-settles : goal.settle-affected-requires-clause-settles
+settle-affected-requires-clause-settles c =
+    subst (λ (from : ℕ → Bool). MaySettle from c.args.scene.now) (sym (affected-alone c.args.holder.ino.0 c.new-others.result c.new-others.ensures)) c.requires.settles
 
-pub settle-touched-requires-clause-apart : goal.settle-touched-requires-clause-apart
-settle-touched-requires-clause-apart c = ap (λ (inos : InoSet). set.contains inos c.args.holder.ino.0) c.new-others.ensures ∙ none-there c.args.holder.ino.0
+pub settle-affected-requires-clause-apart : goal.settle-affected-requires-clause-apart
+settle-affected-requires-clause-apart c = ap (λ (inos : InoSet). set.contains inos c.args.holder.ino.0) c.new-others.ensures ∙ none-there c.args.holder.ino.0
 
-pub settle-touched-requires-clause-places : goal.settle-touched-requires-clause-places
-settle-touched-requires-clause-places c =
+pub settle-affected-requires-clause-places : goal.settle-affected-requires-clause-places
+settle-affected-requires-clause-places c =
     let none = ap (λ (inos : InoSet). set.len inos) c.new-others.ensures ∙ set.len-empty nat_cmp in
     omega (arith, none, c.requires.places)
 
@@ -32,49 +32,49 @@ pub finish_alone-requires-clause-others : goal.finish_alone-requires-clause-othe
 finish_alone-requires-clause-others c =
     let ino = c.args.holder.ino.0 in
     let first : Scene = c.args.scene.now in
-    let settled : Scene = c.settle-touched.new.scene in
+    let settled : Scene = c.settle-affected.new.scene in
     let calm = c.is_as_before.ensures c.if-is_as_before.true in
-    others-still ino (is_touched ino c.new-others.result) c.settle-touched.result first settled c.settle-touched.new.endings.told.items c.settle-touched.new.endings.sized.items
-    c.settle-touched.ensures.settles calm.0 c.args.known.now.sets c.args.holder (calm.2 ∙ c.of_ino-before.ensures) c.requires.others
+    others-still ino (is_affected ino c.new-others.result) c.settle-affected.result first settled c.settle-affected.new.endings.told.items c.settle-affected.new.endings.sized.items
+    c.settle-affected.ensures.settles calm.0 c.args.known.now.sets c.args.holder (calm.2 ∙ c.of_ino-before.ensures) c.requires.others
 
 pub finish_alone-requires-clause-entries : goal.finish_alone-requires-clause-entries
-finish_alone-requires-clause-entries c = settled-keeps _ _ _ _ _ _ c.settle-touched.ensures.settles (λ table sessions. MayEnd c.args.known.now.sets sessions table) c.requires.entries
+finish_alone-requires-clause-entries c = settled-keeps _ _ _ _ _ _ c.settle-affected.ensures.settles (λ table sessions. MayEnd c.args.known.now.sets sessions table) c.requires.entries
 
 pub returns-then-is_as_before-clause-ends : goal.returns-then-is_as_before-clause-ends
 returns-then-is_as_before-clause-ends c =
     let ino = c.args.holder.ino.0 in
     let first : Scene = c.args.scene.now in
-    let settled : Scene = c.settle-touched.new.scene in
+    let settled : Scene = c.settle-affected.new.scene in
     let last : Scene = c.finish_alone.new.scene in
     let calm = c.is_as_before.ensures c.if-is_as_before.true in
-    settled-ends (λ other. other == ino) (λ other. other == ino) c.args.known.now.sets c.finish_alone.new.known.sets first settled last c.settle-touched.new.endings.told.items []
-    (settles-alone ino (is_touched ino c.new-others.result) c.settle-touched.result first settled c.settle-touched.new.endings.told.items c.settle-touched.new.endings.sized.items
-    c.settle-touched.ensures.settles calm.0 calm.1)
+    settled-ends (λ other. other == ino) (λ other. other == ino) c.args.known.now.sets c.finish_alone.new.known.sets first settled last c.settle-affected.new.endings.told.items []
+    (settles-alone ino (is_affected ino c.new-others.result) c.settle-affected.result first settled c.settle-affected.new.endings.told.items c.settle-affected.new.endings.sized.items
+    c.settle-affected.ensures.settles calm.0 calm.1)
     c.requires.settles.tree c.finish_alone.ensures.ends
 
 pub returns-then-is_as_before-clause-lead : goal.returns-then-is_as_before-clause-lead
 returns-then-is_as_before-clause-lead c =
-    leads-then c.args.endings.now.changes.items c.settle-touched.new.endings.changes.items c.finish_alone.new.changes.items c.args.scene.now.tree c.settle-touched.new.scene.tree c.finish_alone.new.scene.tree
-    c.settle-touched.ensures.lead c.finish_alone.ensures.lead
+    leads-then c.args.endings.now.changes.items c.settle-affected.new.endings.changes.items c.finish_alone.new.changes.items c.args.scene.now.tree c.settle-affected.new.scene.tree c.finish_alone.new.scene.tree
+    c.settle-affected.ensures.lead c.finish_alone.ensures.lead
 
 -- ---- and not
 
 pub returns-clause-ends : goal.returns-clause-ends
 returns-clause-ends c =
     let ino = c.args.holder.ino.0 in
-    let at = is_touched ino c.settle-touched.result in
+    let at = is_affected ino c.settle-affected.result in
     let first : Scene = c.args.scene.now in
-    let settled : Scene = c.settle-touched.new.scene in
+    let settled : Scene = c.settle-affected.new.scene in
     let last : Scene = c.end_settled.new.scene in
-    subst (λ (from : ℕ → Bool). EndsWith from c.args.known.now.sets c.end_settled.new.known.sets first last c.settle-touched.new.endings.told.items) (touched-alone ino c.new-others.result c.new-others.ensures)
-    (settled-ends at (is_touched ino c.new-others.result) c.args.known.now.sets c.end_settled.new.known.sets first settled last
-    c.settle-touched.new.endings.told.items c.settle-touched.new.endings.sized.items c.settle-touched.ensures.settles c.requires.settles.tree
+    subst (λ (from : ℕ → Bool). EndsWith from c.args.known.now.sets c.end_settled.new.known.sets first last c.settle-affected.new.endings.told.items) (affected-alone ino c.new-others.result c.new-others.ensures)
+    (settled-ends at (is_affected ino c.new-others.result) c.args.known.now.sets c.end_settled.new.known.sets first settled last
+    c.settle-affected.new.endings.told.items c.settle-affected.new.endings.sized.items c.settle-affected.ensures.settles c.requires.settles.tree
     (subst (λ (sized : List Ino). EndsAt at sized c.args.known.now.sets c.end_settled.new.known.sets settled last) c.as_slice.ensures.value c.end_settled.ensures.ends))
 
 pub returns-clause-lead : goal.returns-clause-lead
 returns-clause-lead c =
-    leads-then c.args.endings.now.changes.items c.settle-touched.new.endings.changes.items c.end_settled.new.changes.items c.args.scene.now.tree c.settle-touched.new.scene.tree c.end_settled.new.scene.tree
-    c.settle-touched.ensures.lead c.end_settled.ensures.lead
+    leads-then c.args.endings.now.changes.items c.settle-affected.new.endings.changes.items c.end_settled.new.changes.items c.args.scene.now.tree c.settle-affected.new.scene.tree c.end_settled.new.scene.tree
+    c.settle-affected.ensures.lead c.end_settled.ensures.lead
 
 pub end_settled-requires-clause-entries : goal.end_settled-requires-clause-entries
-end_settled-requires-clause-entries c = settled-keeps _ _ _ _ _ _ c.settle-touched.ensures.settles (λ table sessions. MayEnd c.args.known.now.sets sessions table) c.requires.entries
+end_settled-requires-clause-entries c = settled-keeps _ _ _ _ _ _ c.settle-affected.ensures.settles (λ table sessions. MayEnd c.args.known.now.sets sessions table) c.requires.entries

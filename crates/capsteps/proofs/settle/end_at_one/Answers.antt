@@ -4,12 +4,12 @@ use Rattle.std.specs.Ordering.{nat_cmp}
 use Rattle.capacts.specs.Capnotes.InoSets.{InoSet}
 use Rattle.capsteps.specs.Begun.{MaySettle}
 use Rattle.capsteps.specs.Serves.{EndsWith}
-use Rattle.capsteps.proofs.Among.{touched-alone}
+use Rattle.capsteps.proofs.Among.{affected-alone}
 use Rattle.capacts.proofs.InoSets.{none-there}
 use Rattle.capsteps.proofs.settle.end_at_one.Goals as goal
 
 pub end_at-requires-clause-settles : goal.end_at-requires-clause-settles
-end_at-requires-clause-settles c = subst (λ (from : ℕ → Bool). MaySettle from c.args.scene.now) (sym (touched-alone c.args.ino.0 c.new-others.result c.new-others.ensures)) c.requires.settles
+end_at-requires-clause-settles c = subst (λ (from : ℕ → Bool). MaySettle from c.args.scene.now) (sym (affected-alone c.args.ino.0 c.new-others.result c.new-others.ensures)) c.requires.settles
 
 pub end_at-requires-clause-apart : goal.end_at-requires-clause-apart
 end_at-requires-clause-apart c = ap (λ (inos : InoSet). set.contains inos c.args.ino.0) c.new-others.ensures ∙ none-there c.args.ino.0
@@ -17,7 +17,7 @@ end_at-requires-clause-apart c = ap (λ (inos : InoSet). set.contains inos c.arg
 pub returns-clause-ends : goal.returns-clause-ends
 returns-clause-ends c =
     subst (λ (from : ℕ → Bool). EndsWith from c.args.known.now.sets c.end_at.new.known.sets c.args.scene.now c.end_at.new.scene c.end_at.new.endings.told.items)
-    (touched-alone c.args.ino.0 c.new-others.result c.new-others.ensures) c.end_at.ensures.ends
+    (affected-alone c.args.ino.0 c.new-others.result c.new-others.ensures) c.end_at.ensures.ends
 
 pub end_at-requires-clause-places : goal.end_at-requires-clause-places
 end_at-requires-clause-places c =

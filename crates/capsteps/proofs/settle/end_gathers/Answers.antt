@@ -7,7 +7,7 @@ use Rattle.capacts.specs.Lockmachine.Moves.{may_end_by}
 use Rattle.capacts.specs.Lockmachine.Scene.{scene}
 use Rattle.capacts.specs.Lockmachine.Turns.{WaitAt}
 use Rattle.capacts.proofs.Lockmachine.Ending.{ends-little}
-use Rattle.capacts.specs.Reach.{is_touched}
+use Rattle.capacts.specs.Reach.{is_affected}
 use Rattle.capsteps.specs.Sweep.{IsSwept, IsNextOf}
 use Rattle.capsteps.proofs.Sweeping.{fewer_behind, swept-begins, swept-on, ends-passed, same-elsewhere}
 use Rattle.capsteps.proofs.settle.end_gathers.Goals as goal
@@ -15,7 +15,7 @@ use Rattle.capsteps.proofs.settle.end_gathers.Goals.{After-end_gathers_at}
 
 pub inodes-init : goal.inodes-init
 inodes-init c = let least = c.lowest-at.ensures in record {
-  swept = λ fs tree sessions waits. swept-begins (is_touched c.args.ino.0 c.args.touched.now) (scene fs tree sessions c.args.table.now c.args.locks.now) waits;
+  swept = λ fs tree sessions waits. swept-begins (is_affected c.args.ino.0 c.args.affected.now) (scene fs tree sessions c.args.table.now c.args.locks.now) waits;
   same = λ other off. refl;
   lower = λ other part below. c.requires.elsewhere other part (least.least other below);
   here = least.is;
@@ -26,7 +26,7 @@ end_gathers_at-requires c = record { lower = c.inodes.invariant.lower }
 
 module _ (c : After-end_gathers_at) where
   abbrev at : ℕ → Bool
-  at = is_touched c.args.ino.0 c.args.touched.now
+  at = is_affected c.args.ino.0 c.args.affected.now
 
   swept : (fs : List ℕ) (tree : Nodes) (sessions : SessionTable) → WaitAt at (scene fs tree sessions c.args.table.now c.args.locks.now)
       → IsSwept at (scene fs tree sessions c.args.table.now c.args.locks.now) (scene fs tree sessions c.args.table.now c.end_gathers_at.new.self)
@@ -47,13 +47,13 @@ module _ (c : After-end_gathers_at) where
 
 pub inodes-smaller : goal.inodes-smaller
 inodes-smaller c =
-    fewer_behind c.args.ino.0 c.args.touched.now c.inodes.at.0 c.in-Some.next
-    (subst (IsNextOf (is_touched c.args.ino.0 c.args.touched.now) c.inodes.at.0) c.in-Some.is c.next_touched.ensures)
+    fewer_behind c.args.ino.0 c.args.affected.now c.inodes.at.0 c.in-Some.next
+    (subst (IsNextOf (is_affected c.args.ino.0 c.args.affected.now) c.inodes.at.0) c.in-Some.is c.next_affected.ensures)
 
 pub inodes-preserved : goal.inodes-preserved
 inodes-preserved c =
     let here = (goal.at.inodes-preserved c).After-end_gathers_at in
-    let next = subst (IsNextOf (is_touched c.args.ino.0 c.args.touched.now) c.inodes.at.0) c.in-Some.is c.next_touched.ensures in
+    let next = subst (IsNextOf (is_affected c.args.ino.0 c.args.affected.now) c.inodes.at.0) c.in-Some.is c.next_affected.ensures in
     record {
       swept = swept here;
       same = same here;
@@ -64,7 +64,7 @@ inodes-preserved c =
 pub returns-in_default-clause-ends : goal.returns-in_default-clause-ends
 returns-in_default-clause-ends c =
     let here = (goal.at.returns-in_default-clause-ends c).After-end_gathers_at in
-    let beyond = subst (IsNextOf (is_touched c.args.ino.0 c.args.touched.now) c.inodes.at.0) c.in_default.is c.next_touched.ensures in
+    let beyond = subst (IsNextOf (is_affected c.args.ino.0 c.args.affected.now) c.inodes.at.0) c.in_default.is c.next_affected.ensures in
     λ other part. passed here other part (λ above. beyond other above)
 
 pub returns-in_default-clause-swept : goal.returns-in_default-clause-swept

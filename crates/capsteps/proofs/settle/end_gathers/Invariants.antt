@@ -6,19 +6,19 @@ use Rattle.sessiontab.specs.Table.{SessionTable}
 use Rattle.capacts.specs.Lockmachine.Moves.{may_end_by}
 use Rattle.capacts.specs.Lockmachine.Scene.{scene}
 use Rattle.capacts.specs.Lockmachine.Turns.{WaitAt}
-use Rattle.capacts.specs.Reach.{is_touched}
+use Rattle.capacts.specs.Reach.{is_affected}
 use Rattle.capsteps.specs.Sweep.{IsSwept}
 use Rattle.capsteps.proofs.Sweeping.{behind}
 use Rattle.capsteps.proofs.settle.end_gathers.Given as goal
 
 abbrev pub decreases-inodes : goal.decreases-inodes
-decreases-inodes l = behind l.ino.0 l.touched l.at.0
+decreases-inodes l = behind l.ino.0 l.affected l.at.0
 
 abbrev pub invariant-inodes : goal.invariant-inodes
 invariant-inodes l = record {
-  swept : (fs : List ℕ) (tree : Nodes) (sessions : SessionTable) → WaitAt (is_touched l.ino.0 l.touched) (scene fs tree sessions l.table l.fn.locks)
-      → IsSwept (is_touched l.ino.0 l.touched) (scene fs tree sessions l.table l.fn.locks) (scene fs tree sessions l.table l.locks);
-  same : (other : ℕ) → is_touched l.ino.0 l.touched other ≡ false → map.get l.locks.states other ≡ map.get l.fn.locks.states other;
+  swept : (fs : List ℕ) (tree : Nodes) (sessions : SessionTable) → WaitAt (is_affected l.ino.0 l.affected) (scene fs tree sessions l.table l.fn.locks)
+      → IsSwept (is_affected l.ino.0 l.affected) (scene fs tree sessions l.table l.fn.locks) (scene fs tree sessions l.table l.locks);
+  same : (other : ℕ) → is_affected l.ino.0 l.affected other ≡ false → map.get l.locks.states other ≡ map.get l.fn.locks.states other;
   lower : (other : ℕ) (part : Part) → other < l.at.0 → may_end_by l.table l.locks (other, part) ≡ false;
-  here : is_touched l.ino.0 l.touched l.at.0 ≡ true;
+  here : is_affected l.ino.0 l.affected l.at.0 ≡ true;
 }

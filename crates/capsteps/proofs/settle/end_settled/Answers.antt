@@ -4,10 +4,10 @@ use Rattle.sessiontab.specs.Calls.{has_session}
 use Rattle.captable.specs.Table.{Table}
 use Rattle.capacts.specs.Lockmachine.declared.scene.Scene.{Scene}
 use Rattle.capacts.specs.Caprules.Finish.{is_sized, owed}
-use Rattle.capacts.specs.Reach.{is_touched}
-use Rattle.capacts.specs.Known.{known_in, KeptAnew}
+use Rattle.capacts.specs.Reach.{is_affected}
+use Rattle.capacts.specs.Known.{known_in, KnownAnew}
 use Rattle.capsteps.specs.Begun.{MayEnd}
-use Rattle.capsteps.specs.Touching.{told_then, finished_at}
+use Rattle.capsteps.specs.Affected.{told_then, finished_at}
 use Rattle.capacts.proofs.KeptSets.{was-there}
 use Rattle.capsteps.proofs.ManyInodes.{holders-stay}
 use Rattle.capsteps.proofs.SizesOwed.{owed-numbers}
@@ -25,9 +25,9 @@ finish-requires-clause-entries c =
 
 pub returns-clause-ends : goal.returns-clause-ends
 returns-clause-ends c =
-    let at = is_touched c.args.ino.0 c.args.touched.now in
+    let at = is_affected c.args.ino.0 c.args.affected.now in
     let after : Table → Scene = λ t. record c.args.scene.now { table = t } in
     record {
       finished = c.finish.ensures.finished ∙ ap (λ (t : Table). finished_at at (known_in c.args.known.now.sets) (after t)) c.owe_sizes.ensures;
-      kept = subst (λ (t : Table). KeptAnew (λ k. at k.ino.0) (told_then (after t)) t c.args.known.now.sets c.finish.new.known.sets) c.owe_sizes.ensures c.finish.ensures.known;
+      kept = subst (λ (t : Table). KnownAnew (λ k. at k.ino.0) (told_then (after t)) t c.args.known.now.sets c.finish.new.known.sets) c.owe_sizes.ensures c.finish.ensures.known;
     }

@@ -15,7 +15,7 @@ use Rattle.capacts.specs.Capevents.declared.outcome.Ended.{Ended}
 use Rattle.capacts.specs.Capevents.declared.outcome.Outcome.{Outcome}
 use Rattle.capacts.specs.declared.sweep.SweepPlace.{SweepPlace}
 use Rattle.capacts.specs.Capnotes.Noted.{LeadOn}
-use Rattle.capacts.specs.Reach.{is_touched, AreWalked, Reaches, Covers}
+use Rattle.capacts.specs.Reach.{is_affected, AreWalked, Reaches, Covers}
 use Rattle.capsteps.specs.Serves.{Serves}
 use Rattle.capacts.specs.Caprules.Settle.{Served, sets_size, is_done, sized_in}
 use Rattle.capsteps.specs.Sweep.{GoesOn, GoesOnBehind, IsSwept, StandsAt}
@@ -31,12 +31,12 @@ use Rattle.capacts.specs.Capnotes.Changing.{tree_after}
 use Rattle.capsteps.proofs.settle.settle.Goals as goal
 use Rattle.capsteps.proofs.settle.settle.Goals.{In-Some, After-place_behind-place}
 
--- What a rename walked over in a step is touched until its end.
+-- What a rename walked over in a step is affected until its end.
 
--- when a request was served, what was walked over is touched still: the serving left the tree, or moved nothing but what is touched
-walked-served : (tree after : Nodes) (q : Request) (o : Outcome) (ino : ℕ) (table : Table) (walked touched others : InoSet) → after ≡ tree_after tree q o
-    → Reaches q ino tree after table touched others → AreWalked walked ino tree table others → AreWalked walked ino after table others
-walked-served tree after q o ino table walked touched others is reaches all = elim reaches.covers [
+-- when a request was served, what was walked over is affected still: the serving left the tree, or moved nothing but what is affected
+walked-served : (tree after : Nodes) (q : Request) (o : Outcome) (ino : ℕ) (table : Table) (walked affected others : InoSet) → after ≡ tree_after tree q o
+    → Reaches q ino tree after table affected others → AreWalked walked ino tree table others → AreWalked walked ino after table others
+walked-served tree after q o ino table walked affected others is reaches all = elim reaches.covers [
   | inl same ↦ subst (λ (t : Nodes). AreWalked walked ino t table others) (sym same) all
   | inr covers ↦ subst (λ (t : Nodes). AreWalked walked ino t table others) (sym is) (by_move covers)
 ]
@@ -56,7 +56,7 @@ pub servings-init : goal.servings-init
 servings-init c =
     let first : Scene = c.args.scene.now in
     let now : Scene = record c.args.scene.now { locks = c.end_gathers.new.locks } in
-    let at : ℕ → Bool = is_touched c.args.ino.0 c.args.others in
+    let at : ℕ → Bool = is_affected c.args.ino.0 c.args.others in
     let begun = so-far-begins c.args.ino.0 c.args.others first c.requires.settles.quiet c.requires.apart in
     let swept : IsSwept at first now = c.end_gathers.ensures.swept first.fs first.tree first.sessions begun.waits in
     let so : IsSoFar c.args.ino.0 at c.args.others first now [] [] = so-far-swept c.args.ino.0 at c.args.others first first [] [] begun now swept in
@@ -86,7 +86,7 @@ few-sized sized more q o is = elim (sets_size q.ask && is_done o) as (λ b. more
 
 -- the inodes of the event
 abbrev from : In-Some → ℕ → Bool
-from c = is_touched c.args.ino.0 c.args.others
+from c = is_affected c.args.ino.0 c.args.others
 
 module _ (c : In-Some) where
   abbrev first : Scene
@@ -99,8 +99,8 @@ module _ (c : In-Some) where
   mid = c.sweep.new.scene
 
   -- gathers began and ended
-  swept : IsSoFar c.args.ino.0 (from c) c.servings.touched first mid c.servings.endings.told.items c.servings.endings.sized.items
-  swept = so-far-swept c.args.ino.0 (is_touched c.args.ino.0 c.args.others) c.servings.touched first now c.servings.endings.told.items c.servings.endings.sized.items c.servings.invariant.so_far mid c.sweep.ensures.swept
+  swept : IsSoFar c.args.ino.0 (from c) c.servings.affected first mid c.servings.endings.told.items c.servings.endings.sized.items
+  swept = so-far-swept c.args.ino.0 (is_affected c.args.ino.0 c.args.others) c.servings.affected first now c.servings.endings.told.items c.servings.endings.sized.items c.servings.invariant.so_far mid c.sweep.ensures.swept
 
   -- the moves so far leave the requests in their order, and a tree
   order : IsLockMap mid.locks
@@ -115,9 +115,9 @@ module _ (c : In-Some) where
   move : first_move mid ≡ Serve c.in-Some.ticket
   move = subst (GoesOn mid) c.in-Some.is c.sweep.ensures.next
 
-  here : (r : Request) × (request_at c.sweep.new.scene.locks c.in-Some.ticket.0 ≡ Some r) × Contains c.sweep.new.scene.locks.queue r × (is_touched c.args.ino.0 c.servings.touched r.ino.0 ≡ true)
+  here : (r : Request) × (request_at c.sweep.new.scene.locks c.in-Some.ticket.0 ≡ Some r) × Contains c.sweep.new.scene.locks.queue r × (is_affected c.args.ino.0 c.servings.affected r.ino.0 ≡ true)
       × (r.ticket ≡ c.in-Some.ticket)
-  here = (let so = swept in served-at (is_touched c.args.ino.0 c.servings.touched) mid c.in-Some.ticket order so.waits move)
+  here = (let so = swept in served-at (is_affected c.args.ino.0 c.servings.affected) mid c.in-Some.ticket order so.waits move)
 
   -- somebody waits
   some_wait : 0 < length c.servings.scene.locks.queue
@@ -133,7 +133,7 @@ serve_next-changed-requires-clause-waits c = (let found = here (goal.at.serve_ne
 
 pub serve_next-changed-requires-clause-walked : goal.serve_next-changed-requires-clause-walked
 serve_next-changed-requires-clause-walked c =
-    subst (λ (s : Scene). AreWalked c.servings.walked c.args.ino.0 s.tree s.table c.servings.touched) (sym (stays (goal.at.serve_next-changed-requires-clause-walked c).In-Some)) c.servings.invariant.walked
+    subst (λ (s : Scene). AreWalked c.servings.walked c.args.ino.0 s.tree s.table c.servings.affected) (sym (stays (goal.at.serve_next-changed-requires-clause-walked c).In-Some)) c.servings.invariant.walked
 
 pub serve_next-changed-requires-clause-judged : goal.serve_next-changed-requires-clause-judged
 serve_next-changed-requires-clause-judged c =
@@ -166,18 +166,18 @@ module _ (c : After-place_behind-place) where
   abbrev serves : Serves (mid (before_serving c)) c.in-Some.ticket ended new
   serves = c.serve_next-changed.ensures.served.1
 
-  abbrev reaches : Reaches serves.request c.args.ino.0 c.sweep.new.scene.tree c.serve_next-changed.new.scene.tree c.sweep.new.scene.table c.servings.touched c.serve_next-changed.new.touched
+  abbrev reaches : Reaches serves.request c.args.ino.0 c.sweep.new.scene.tree c.serve_next-changed.new.scene.tree c.sweep.new.scene.table c.servings.affected c.serve_next-changed.new.affected
   reaches = c.serve_next-changed.ensures.reached serves.request serves.waits
 
-  served : IsSoFar c.args.ino.0 (from (before_serving c)) c.serve_next-changed.new.touched (first (before_serving c)) new (c.servings.endings.told.items ++ ended ∷ []) (c.servings.endings.sized.items ++ sized_in (Served serves.request ended.outcome ∷ []))
+  served : IsSoFar c.args.ino.0 (from (before_serving c)) c.serve_next-changed.new.affected (first (before_serving c)) new (c.servings.endings.told.items ++ ended ∷ []) (c.servings.endings.sized.items ++ sized_in (Served serves.request ended.outcome ∷ []))
   served =
-      so-far-served c.args.ino.0 (from (before_serving c)) c.servings.touched (first (before_serving c)) (mid (before_serving c)) c.servings.endings.told.items c.servings.endings.sized.items (swept (before_serving c))
-      c.in-Some.ticket ended new c.serve_next-changed.new.touched (order (before_serving c)) (tree (before_serving c)) (move (before_serving c)) serves reaches
+      so-far-served c.args.ino.0 (from (before_serving c)) c.servings.affected (first (before_serving c)) (mid (before_serving c)) c.servings.endings.told.items c.servings.endings.sized.items (swept (before_serving c))
+      c.in-Some.ticket ended new c.serve_next-changed.new.affected (order (before_serving c)) (tree (before_serving c)) (move (before_serving c)) serves reaches
 
-  stands : (next : SweepPlace) → GoesOnBehind c.sweep.new.place c.serve_next-changed.result c.args.ino.0 c.serve_next-changed.new.touched next → StandsAt (is_touched c.args.ino.0 c.serve_next-changed.new.touched) next new
+  stands : (next : SweepPlace) → GoesOnBehind c.sweep.new.place c.serve_next-changed.result c.args.ino.0 c.serve_next-changed.new.affected next → StandsAt (is_affected c.args.ino.0 c.serve_next-changed.new.affected) next new
   stands next =
-      stands-behind c.args.ino.0 (from (before_serving c)) c.servings.touched (first (before_serving c)) (mid (before_serving c)) c.servings.endings.told.items c.servings.endings.sized.items (swept (before_serving c))
-      c.in-Some.ticket ended new c.serve_next-changed.new.touched (order (before_serving c)) (tree (before_serving c)) (move (before_serving c)) serves reaches
+      stands-behind c.args.ino.0 (from (before_serving c)) c.servings.affected (first (before_serving c)) (mid (before_serving c)) c.servings.endings.told.items c.servings.endings.sized.items (swept (before_serving c))
+      c.in-Some.ticket ended new c.serve_next-changed.new.affected (order (before_serving c)) (tree (before_serving c)) (move (before_serving c)) serves reaches
       c.sweep.new.place next c.serve_next-changed.result c.sweep.ensures.place (c.serve_next-changed.ensures.changed serves.request serves.waits)
 
   one_more : length (c.servings.endings.told.items ++ ended ∷ []) ≡ length c.servings.endings.told.items + 1
@@ -206,12 +206,12 @@ servings-preserved c =
     let is = stays (before_serving c) in
     record {
       so_far =
-          subst (λ (told : List Ended). IsSoFar c.args.ino.0 (from (before_serving c)) c.serve_next-changed.new.touched (first (before_serving c)) (new c) told c.serve_next-changed.new.endings.sized.items) (sym all.2)
-          (subst (IsSoFar c.args.ino.0 (from (before_serving c)) c.serve_next-changed.new.touched (first (before_serving c)) (new c) (c.servings.endings.told.items ++ ended c ∷ [])) (sym sizes) (served c));
+          subst (λ (told : List Ended). IsSoFar c.args.ino.0 (from (before_serving c)) c.serve_next-changed.new.affected (first (before_serving c)) (new c) told c.serve_next-changed.new.endings.sized.items) (sym all.2)
+          (subst (IsSoFar c.args.ino.0 (from (before_serving c)) c.serve_next-changed.new.affected (first (before_serving c)) (new c) (c.servings.endings.told.items ++ ended c ∷ [])) (sym sizes) (served c));
       stands = stands c c.place_behind-place.result c.place_behind-place.ensures;
       walked =
-          subst (λ (t : Table). AreWalked c.serve_next-changed.new.walked c.args.ino.0 (new c).tree t c.serve_next-changed.new.touched) (sym (ap (λ (s : Scene). s.table) (serves c).is))
-          (walked-served c.sweep.new.scene.tree (new c).tree request (ended c).outcome c.args.ino.0 c.sweep.new.scene.table c.serve_next-changed.new.walked c.servings.touched c.serve_next-changed.new.touched
+          subst (λ (t : Table). AreWalked c.serve_next-changed.new.walked c.args.ino.0 (new c).tree t c.serve_next-changed.new.affected) (sym (ap (λ (s : Scene). s.table) (serves c).is))
+          (walked-served c.sweep.new.scene.tree (new c).tree request (ended c).outcome c.args.ino.0 c.sweep.new.scene.table c.serve_next-changed.new.walked c.servings.affected c.serve_next-changed.new.affected
           (ap (λ (s : Scene). s.tree) (serves c).is) (reaches c) c.serve_next-changed.ensures.walked);
       judged = none-judged c.serve_next-changed.new.endings.judged (new c) c.serve_next-changed.ensures.judged;
       same = same;
@@ -228,8 +228,8 @@ returns-clause-settles c =
     let first : Scene = c.args.scene.now in
     let now : Scene = c.servings.scene in
     let last : Scene = c.sweep.new.scene in
-    so-far-settled c.args.ino.0 (is_touched c.args.ino.0 c.args.others) c.servings.touched first last c.servings.endings.told.items c.servings.endings.sized.items
-    (so-far-swept c.args.ino.0 (is_touched c.args.ino.0 c.args.others) c.servings.touched first now c.servings.endings.told.items c.servings.endings.sized.items c.servings.invariant.so_far last c.sweep.ensures.swept)
+    so-far-settled c.args.ino.0 (is_affected c.args.ino.0 c.args.others) c.servings.affected first last c.servings.endings.told.items c.servings.endings.sized.items
+    (so-far-swept c.args.ino.0 (is_affected c.args.ino.0 c.args.others) c.servings.affected first now c.servings.endings.told.items c.servings.endings.sized.items c.servings.invariant.so_far last c.sweep.ensures.swept)
     (subst (GoesOn last) c.in_default.is c.sweep.ensures.next)
 
 pub returns-clause-lead : goal.returns-clause-lead

@@ -1,10 +1,10 @@
 use Rattle.std.proofs.Common.{◌≡◌, ◌≤◌, ◌+◌, length}
 use Rattle.std.specs.Prelude.{vec_capacity}
 use Rattle.capacts.specs.Capnotes.Noted.{HavePlaces, LeadOn}
-use Rattle.capacts.specs.Reach.{is_touched, AreWalked}
+use Rattle.capacts.specs.Reach.{is_affected, AreWalked}
 use Rattle.capsteps.specs.Judged.{IsJudged}
 use Rattle.capsteps.specs.Sweep.{StandsAt}
-use Rattle.capacts.specs.Capnotes.Untold.{HasRoom}
+use Rattle.capacts.specs.Capnotes.DueEndings.{HasRoom}
 use Rattle.capsteps.proofs.SoFar.{IsSoFar}
 use Rattle.capsteps.proofs.settle.settle.Given as goal
 
@@ -13,14 +13,14 @@ decreases-servings l = length l.scene.locks.queue
 
 abbrev pub invariant-servings : goal.invariant-servings
 invariant-servings l = record {
-  so_far : IsSoFar l.ino.0 (is_touched l.ino.0 l.fn.others) l.touched l.fn.scene l.scene l.endings.told.items l.endings.sized.items;
-  stands : StandsAt (is_touched l.ino.0 l.touched) l.place l.scene;
-  walked : AreWalked l.walked l.ino.0 l.scene.tree l.scene.table l.touched;
+  so_far : IsSoFar l.ino.0 (is_affected l.ino.0 l.fn.others) l.affected l.fn.scene l.scene l.endings.told.items l.endings.sized.items;
+  stands : StandsAt (is_affected l.ino.0 l.affected) l.place l.scene;
+  walked : AreWalked l.walked l.ino.0 l.scene.tree l.scene.table l.affected;
   judged : IsJudged l.endings.judged l.scene;
   same : l.endings.kept.items ≡ l.endings.told.items;
   told : HasRoom l.endings.told l.scene.locks;
   kept : HasRoom l.endings.kept l.scene.locks;
   lead : LeadOn l.fn.endings.changes.items l.endings.changes.items l.fn.scene.tree l.scene.tree;
-  places : HavePlaces l.endings.changes l.scene.locks l.touched;
+  places : HavePlaces l.endings.changes l.scene.locks l.affected;
   sized : length l.endings.sized.items + length l.scene.locks.queue ≤ vec_capacity l.endings.sized;
 }

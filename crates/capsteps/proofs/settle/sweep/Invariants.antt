@@ -1,13 +1,13 @@
-use Rattle.capacts.specs.Reach.{is_touched}
+use Rattle.capacts.specs.Reach.{is_affected}
 use Rattle.capsteps.specs.Sweep.{IsSwept, StandsAt}
 use Rattle.capsteps.proofs.Sweeping.{behind}
 use Rattle.capsteps.proofs.settle.sweep.Given as goal
 
 abbrev pub decreases-inodes : goal.decreases-inodes
-decreases-inodes l = behind l.ino.0 l.touched l.place.at.0
+decreases-inodes l = behind l.ino.0 l.affected l.place.at.0
 
 abbrev pub invariant-inodes : goal.invariant-inodes
 invariant-inodes l = record {
-  swept : IsSwept (is_touched l.ino.0 l.touched) l.fn.scene l.scene;
-  stands : StandsAt (is_touched l.ino.0 l.touched) l.place l.scene;
+  swept : IsSwept (is_affected l.ino.0 l.affected) l.fn.scene l.scene;
+  stands : StandsAt (is_affected l.ino.0 l.affected) l.place l.scene;
 }

@@ -1,7 +1,7 @@
 use Rattle.std.proofs.Common.{◌≡◌, Bool, true, false, not, cond, IsSome, OnOk, length, refl, sym, ap, subst, ◌∙◌}
 use Rattle.std.specs.FinMap as map
 use Rattle.capacts.specs.declared.on_inode.OnInode.{OnInode}
-use Rattle.capacts.specs.Known.{kept_of}
+use Rattle.capacts.specs.Known.{known_of}
 use Rattle.capacts.proofs.KeptPlaces.{of_sets, kept-own, kept-others, first-own, added-own, added-others}
 use Rattle.capacts.proofs.known.Known.add.Goals as goal
 use Rattle.capacts.proofs.known.Known.add.Goals.{Then-branch, After-self-in-Some-1}
@@ -44,4 +44,4 @@ pub returns-clause-others : goal.returns-clause-others
 returns-clause-others c = λ k apart.
     kept-others c.add.new.self c.args.holder c.add-in-Some.new.self
     (λ client other. c.add-in-Some.ensures.others client other ∙ ap (λ o. of_sets o client) c.in-Some.ensures.value) k apart
-    ∙ ap (λ sets. kept_of sets k) (stays c)
+    ∙ ap (λ sets. known_of sets k) (stays c)

@@ -1,14 +1,14 @@
 use Rattle.std.proofs.Common.{◌≡◌, ◌≢◌, None, ap, subst, ◌∙◌}
 use Rattle.std.specs.Bool.{OnTrue}
 use Rattle.capbits.specs.declared.ids.ClientId.{ClientId}
-use Rattle.capacts.specs.Known.{kept_of, kept_among, sets_on}
+use Rattle.capacts.specs.Known.{known_of, known_among, sets_on}
 use Rattle.capacts.proofs.KeptPlaces.{of_sets, kept-none, kept-others}
 use Rattle.capacts.proofs.known.Known.remove.Goals as goal
 
 pub returns-then-remove : goal.returns-then-remove
 returns-then-remove c = λ k apart.
-    let alone = subst (λ b. OnTrue b ((other : ClientId) → other ≢ c.args.holder.client → kept_among (sets_on c.remove.new.self) other ≡ None)) c.if-remove.true c.remove.ensures.alone in
-    ap (λ sets. kept_of sets k) c.remove-then-remove.ensures
+    let alone = subst (λ b. OnTrue b ((other : ClientId) → other ≢ c.args.holder.client → known_among (sets_on c.remove.new.self) other ≡ None)) c.if-remove.true c.remove.ensures.alone in
+    ap (λ sets. known_of sets k) c.remove-then-remove.ensures
     ∙ kept-none c.args.self.now.sets c.args.holder c.remove.new.self alone k apart
     ∙ kept-others c.args.self.now.sets c.args.holder c.remove.new.self
     (λ client other. c.remove.ensures.others client other ∙ ap (λ o. of_sets o client) c.in-Some.ensures.value) k apart

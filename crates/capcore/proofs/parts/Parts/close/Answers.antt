@@ -4,7 +4,7 @@ use Rattle.capsteps.specs.Caprules.Direct.{reply_of}
 use Rattle.capsteps.specs.Caprules.State.{State}
 use Rattle.capcore.specs.declared.parts.Answer.{Answer}
 use Rattle.capcore.specs.UnderWay.{HasPlaces, answer_of}
-use Rattle.capcore.proofs.TouchWhole.{no_list-touch, touch-reply}
+use Rattle.capcore.proofs.EntryWhole.{no_list-request, request-reply}
 use Rattle.capcore.proofs.parts.Parts.close.Goals as goal
 
 pub close_dropped-requires-clause-list : goal.close_dropped-requires-clause-list
@@ -16,11 +16,11 @@ close_dropped-requires-clause-list c =
 pub close-requires-in-Touched-clause-list : goal.close-requires-in-Touched-clause-list
 close-requires-in-Touched-clause-list c =
     let s : State = record { scene = c.args.self.now.scene; messages = [] } in
-    ap has_list (c.tell-reply.ensures.reply s refl c.requires.known) ∙ no_list-touch s c.in-Touched.holder c.in-Touched.touch
+    ap has_list (c.show_reply-reply.ensures.reply s refl c.requires.known) ∙ no_list-request s c.in-Touched.holder c.in-Touched.touch
 
 pub returns-in-Touched-clause-reply : goal.returns-in-Touched-clause-reply
 returns-in-Touched-clause-reply c = λ ms.
     let s : State = record { scene = c.args.self.now.scene; messages = ms } in
     let told = c.args.self.now.endings.told.items in
-    c.close-in-Touched.ensures.reply ∙ c.tell-reply.ensures.reply s refl c.requires.known ∙ touch-reply s told c.in-Touched.holder c.in-Touched.touch
+    c.close-in-Touched.ensures.reply ∙ c.show_reply-reply.ensures.reply s refl c.requires.known ∙ request-reply s told c.in-Touched.holder c.in-Touched.touch
     ∙ ap (λ (a : Answer). reply_of s told (answer_of a)) (sym c.in-Touched.is)

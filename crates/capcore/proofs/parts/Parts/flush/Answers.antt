@@ -6,7 +6,7 @@ use Rattle.capsteps.specs.Capevents.declared.event.Event.{Event}
 use Rattle.capsteps.specs.Capevents.declared.event.Event.TheVariants as event
 use Rattle.capsteps.specs.Capevents.declared.reply.Reply.TheVariants as reply
 use Rattle.capsteps.specs.Caprules.Direct.{direct, says, with_flush}
-use Rattle.capsteps.specs.Touching.{TouchesOne}
+use Rattle.capsteps.specs.Affected.{AffectsOne}
 use Rattle.capsteps.proofs.Capnotes.Noting.{changes-all}
 use Rattle.capsteps.proofs.Knowing.{HoldAlike, alike-less, still-there}
 use Rattle.capsteps.proofs.Begun.{room-for}
@@ -16,7 +16,7 @@ use Rattle.capcore.specs.declared.parts.Affected.TheVariants as affected
 use Rattle.capcore.specs.declared.parts.Answer.TheVariants.{Done}
 use Rattle.capcore.specs.UnderWay.{state_of}
 use Rattle.capcore.proofs.Begun.{on_err, one-begun}
-use Rattle.capcore.proofs.Flushed.{below-of_flush, flush-calls, flush-direct, flush-table, flush-touches, flush-tree}
+use Rattle.capcore.proofs.Flushed.{below-of_flush, flush-calls, flush-direct, flush-table, flush-affects, flush-tree}
 use Rattle.capcore.proofs.parts.Parts.flush.Goals as goal
 
 pub alter-requires : goal.alter-requires
@@ -41,7 +41,7 @@ returns-clause-begun c =
     let none = ap length begun.changes.0 in
     let is : q.scene ≡ (with_flush (state_of p) k change).scene = λ i. record p.scene { tree = c.in_ok-alter.ensures.ok i; table = c.touch.ensures i } in
     one-begun p q e k may (says (with_flush (state_of p) k change) reply.Done) by_itself (refl, refl) (λ count given. below-of_flush count (state_of p) k change given) is refl
-    (affected.Inode k) Done refl refl refl refl (subst (TouchesOne k.ino.0 (state_of p)) (sym is) (flush-touches (state_of p) k change may.whole.0 may.table))
+    (affected.Inode k) Done refl refl refl refl (subst (AffectsOne k.ino.0 (state_of p)) (sym is) (flush-affects (state_of p) k change may.whole.0 may.table))
     (subst IsTable (sym c.touch.ensures) (flush-table (state_of p) k change may.table))
     (still-there p.scene.table table p.known.sets p.known.sets (λ j f there. ap is_some (alike j f there).1) (λ j f there. refl)) (alike-less p.scene.table table alike)
     (subst IsTree (sym c.in_ok-alter.ensures.ok) (flush-tree p.scene k change may.passed may.tree)) may.order

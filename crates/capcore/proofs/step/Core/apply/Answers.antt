@@ -6,7 +6,7 @@ use Rattle.capsteps.specs.Answered.{IsAnswered}
 use Rattle.capsteps.specs.Caprules.Direct.{direct}
 use Rattle.capsteps.specs.Caprules.Headline.{ServedDenied, ServedByName, EachServing, AreBounded}
 use Rattle.capsteps.specs.Caprules.Numbers.{rows_of}
-use Rattle.capsteps.specs.Caprules.History.{Told, told, made_row}
+use Rattle.capsteps.specs.Caprules.History.{Recorded, recorded, made_row}
 use Rattle.capcore.specs.Promised.{IsPromised}
 use Rattle.capsteps.specs.Caprules.Shown.{ShowsWhatIsTold}
 use Rattle.capsteps.specs.Caprules.Sound.{IsSound}
@@ -15,7 +15,7 @@ use Rattle.capcore.proofs.Apart.{held-apart}
 use Rattle.capcore.proofs.Bounded.{direct-order, moves-bounded, by-moves}
 use Rattle.capcore.proofs.OtherLocks.{other-locks}
 use Rattle.capcore.proofs.Servings.{served-denied, served-by_name}
-use Rattle.capcore.proofs.Promised.{denied-exactly, denies-by_name, stopped-unchanged}
+use Rattle.capcore.proofs.Promised.{denied-exactly, denies-by_name, rejection-unchanged}
 use Rattle.capcore.proofs.Growing.{more-told, replays-more}
 use Rattle.capsteps.proofs.Placed.{all-revoked}
 use Rattle.capcore.proofs.HeldOn.{takes-only_so}
@@ -58,8 +58,8 @@ invariant_of-self-2 c =
     let row : Row = row_of c in
     let step : Step c.self.inside.world row.event row.reply row.ended c.step.new.self = kept_step c in
     let all = answered_of c in
-    rw (c.add_row.ensures, c.make_room.ensures.items, c.tell.ensures.world, c.tell.ensures.told)
-    (more-told (told c.self.inside.world c.self.inside.rows.items c.self.inside.max_rows c.self.inside.changes.items) row c.step.new.self c.in_ok-reply.field-0.changes.items c.self.invariant step c.in_ok-nth.ensures.number c.in_ok-nth.ensures.room.0
+    rw (c.add_row.ensures, c.make_room.ensures.items, c.keep_changes.ensures.world, c.keep_changes.ensures.told)
+    (more-told (recorded c.self.inside.world c.self.inside.rows.items c.self.inside.max_rows c.self.inside.changes.items) row c.step.new.self c.in_ok-reply.field-0.changes.items c.self.invariant step c.in_ok-nth.ensures.number c.in_ok-nth.ensures.room.0
     c.in_ok-reply.ensures.table all.sound (all.given (length c.self.inside.rows.items) c.self.invariant.given))
 
 shows_told : (c : After-add_row) → ShowsWhatIsTold (c.self.inside.rows.items ++ row_of c ∷ []) c.step.new.self.scene
@@ -68,11 +68,11 @@ shows_told c =
     (step-shown c.self.inside.world c.step.new.self c.self.inside.rows.items (row_of c) c.self.invariant.sound c.in_ok-reply.ensures.table c.self.invariant.shown (kept_step c))
 
 -- what the core was, and what it is with these rows
-abbrev before : After-add_row → Told
-before c = told c.self.inside.world c.self.inside.rows.items c.self.inside.max_rows c.self.inside.changes.items
+abbrev before : After-add_row → Recorded
+before c = recorded c.self.inside.world c.self.inside.rows.items c.self.inside.max_rows c.self.inside.changes.items
 
-abbrev after : After-add_row → List Row → Told
-after c rows = told c.step.new.self rows c.self.inside.max_rows c.in_ok-reply.field-0.changes.items
+abbrev after : After-add_row → List Row → Recorded
+after c rows = recorded c.step.new.self rows c.self.inside.max_rows c.in_ok-reply.field-0.changes.items
 
 promised : (c : After-add_row) → IsPromised (before c) c.args.pass c.args.event c.in_ok-reply.field-0.reply (after c (c.self.inside.rows.items ++ row_of c ∷ []))
 promised c =
@@ -116,13 +116,13 @@ promised c =
       only_so = takes-only_so old event new.scene all.issued;
       sound = sound;
       at_rest = sound.at_rest;
-      unchanged = stopped-unchanged old event reply ended new one c.self.invariant.sound locks table;
+      unchanged = rejection-unchanged old event reply ended new one c.self.invariant.sound locks table;
       legal = λ first past. replays-more first rows old (row_of c) new past (kept_step c);
       changes = c.in_ok-reply.ensures.changes;
     }
 
 pub returns-clause-promised : goal.returns-clause-promised
 returns-clause-promised c =
-    rw (c.tell.ensures.world, c.tell.ensures.told)
-    (subst (λ (t : Told). IsPromised t c.args.pass c.args.event c.in_ok-reply.field-0.reply (after c c.add_row.new.rows.items)) c.self.view_is
+    rw (c.keep_changes.ensures.world, c.keep_changes.ensures.told)
+    (subst (λ (t : Recorded). IsPromised t c.args.pass c.args.event c.in_ok-reply.field-0.reply (after c c.add_row.new.rows.items)) c.self.view_is
     (subst (λ (rows : List Row). IsPromised (before c) c.args.pass c.args.event c.in_ok-reply.field-0.reply (after c rows)) (sym (added c)) (promised c)))

@@ -14,7 +14,7 @@ with_changes-requires c = no_list-direct c.take_list-changes.new.self c.act.new.
 pub returns-clause-answered : goal.returns-clause-answered
 returns-clause-answered c =
     let s = c.args.self.now in
-    alone-answered s (subst IsSound c.self.view_is c.self.invariant.0) c.requires.tree c.args.event.now (c.requires.touches, c.requires.lists, c.requires.turns) c.in_ok-reply.reply c.act.new.self
+    alone-answered s (subst IsSound c.self.view_is c.self.invariant.0) c.requires.tree c.args.event.now (c.requires.affects, c.requires.lists, c.requires.changes_session) c.in_ok-reply.reply c.act.new.self
     (subst (λ (w : State). IsDirect w c.args.event.now c.in_ok-reply.reply c.act.new.self) c.take_list-changes.ensures.same c.in_ok-reply.ensures.direct)
     c.with_changes.result c.requires.table c.with_changes.ensures.reply c.with_changes.ensures.kept c.with_changes.ensures.ended
 

@@ -4,10 +4,10 @@ use Rattle.inotree.specs.Tests.{create_tests}
 use Rattle.inotree.proofs.Passing.{passed-create}
 use Rattle.capsteps.specs.Lockmachine.Locks.{LockMap}
 use Rattle.capsteps.specs.Capacts.Known.{AreKnown}
-use Rattle.capsteps.specs.Capnotes.Untold.{HasRoom}
+use Rattle.capsteps.specs.Capnotes.DueEndings.{HasRoom}
 use Rattle.capsteps.specs.Caprules.State.{State}
 use Rattle.capcore.proofs.Undone.{added-dropped, not_given}
-use Rattle.capcore.proofs.Untouched.{birth-sound, birth-known}
+use Rattle.capcore.proofs.Unaffected.{birth-sound, birth-known}
 use Rattle.capcore.proofs.world.World.add.Goals as goal
 
 pub overflow_add-ino : goal.overflow_add-ino

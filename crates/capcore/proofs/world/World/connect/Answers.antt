@@ -2,7 +2,7 @@ use Rattle.std.proofs.Common.{◌≡◌, None, sym, subst}
 use Rattle.capbits.specs.Refusal.{first_failing}
 use Rattle.sessiontab.specs.Tests.{new_session_tests}
 use Rattle.capsteps.specs.Caprules.State.{State}
-use Rattle.capcore.proofs.Untouched.{session-sound, session-known}
+use Rattle.capcore.proofs.Unaffected.{session-sound, session-known}
 use Rattle.capcore.proofs.world.World.connect.Goals as goal
 
 pub invariant_of-self : goal.invariant_of-self

@@ -6,16 +6,16 @@ use Rattle.capsteps.specs.Caprules.Direct.{owned_by}
 use Rattle.capbits.specs.Refusal.{first_failing}
 use Rattle.inotree.specs.Tests.{inode_tests, new_inode_tests, create_tests}
 use Rattle.capgrant.specs.declared.access.Access.TheVariants.{Write}
-use Rattle.capcore.proofs.Stops.{access-at, inode-passed}
-use Rattle.capcore.proofs.Effects.{birth-stopped, birth-refused, birth-done}
+use Rattle.capcore.proofs.Rejections.{access-at, inode-passed}
+use Rattle.capcore.proofs.Effects.{birth-rejection, birth-refused, birth-done}
 use Rattle.capcore.proofs.world.World.make.Goals as goal
 
 pub returns-in-Some-clause-direct : goal.returns-in-Some-clause-direct
-returns-in-Some-clause-direct c = rw c.into_reply.ensures.reply (birth-stopped c.args.self.now c.args.kind c.args.holder.client c.args.holder.ino c.args.name.now c.args.mode c.in-Some.stopped (access-at _ c.args.self.now c.args.holder.client c.args.holder.ino.0 Write c.access_stop.result c.self.view_is c.access_stop.ensures ∙ c.in-Some.is))
+returns-in-Some-clause-direct c = rw c.into_reply.ensures.reply (birth-rejection c.args.self.now c.args.kind c.args.holder.client c.args.holder.ino c.args.name.now c.args.mode c.in-Some.rejection (access-at _ c.args.self.now c.args.holder.client c.args.holder.ino.0 Write c.access_rejection.result c.self.view_is c.access_rejection.ensures ∙ c.in-Some.is))
 
 pub returns-in-Some-new_inode_refusal-clause-direct : goal.returns-in-Some-new_inode_refusal-clause-direct
 returns-in-Some-new_inode_refusal-clause-direct c =
-    birth-refused c.args.self.now c.args.holder.client c.args.holder.ino c.args.name.now c.args.mode (access-at _ c.args.self.now c.args.holder.client c.args.holder.ino.0 Write c.access_stop.result c.self.view_is c.access_stop.ensures ∙ c.in_default.is) c.args.kind c.in-Some-new_inode_refusal.refusal
+    birth-refused c.args.self.now c.args.holder.client c.args.holder.ino c.args.name.now c.args.mode (access-at _ c.args.self.now c.args.holder.client c.args.holder.ino.0 Write c.access_rejection.result c.self.view_is c.access_rejection.ensures ∙ c.in_default.is) c.args.kind c.in-Some-new_inode_refusal.refusal
     (ap (λ s. first_failing (new_inode_tests s.scene.tree c.args.holder.ino.0 c.args.name.now)) (sym c.self.view_is) ∙ sym c.new_inode_refusal.ensures ∙ c.in-Some-new_inode_refusal.is)
 
 pub add-requires : goal.add-requires
@@ -23,13 +23,13 @@ add-requires c = record {
   passed = subst (λ (s : State). first_failing (create_tests s.scene.tree c.args.holder.ino.0 c.args.name.now) ≡ None) c.self.view_is
       (pass-both (inode_tests c.self.inside.parts.scene.tree c.args.holder.ino.0) (new_inode_tests c.self.inside.parts.scene.tree c.args.holder.ino.0 c.args.name.now)
       (inode-passed c.self.inside.parts.scene c.args.holder.client c.args.holder.ino.0 Write
-      (sym c.access_stop.ensures ∙ c.in_default.is))
+      (sym c.access_rejection.ensures ∙ c.in_default.is))
       (sym c.new_inode_refusal.ensures ∙ c.in_default-new_inode_refusal.is));
 }
 
 pub returns-clause-direct : goal.returns-clause-direct
 returns-clause-direct c =
     rw (c.in_ok-ino.ensures.ok, c.owned_by-attr.ensures ∙ ap (λ (s : State). owned_by (map.get s.scene.sessions.sessions c.args.holder.client.0) c.args.mode) c.self.view_is)
-    (birth-done c.args.self.now c.args.holder.client c.args.holder.ino c.args.name.now c.args.mode (access-at _ c.args.self.now c.args.holder.client c.args.holder.ino.0 Write c.access_stop.result c.self.view_is c.access_stop.ensures ∙ c.in_default.is) c.args.kind c.in_ok-ino.ino
+    (birth-done c.args.self.now c.args.holder.client c.args.holder.ino c.args.name.now c.args.mode (access-at _ c.args.self.now c.args.holder.client c.args.holder.ino.0 Write c.access_rejection.result c.self.view_is c.access_rejection.ensures ∙ c.in_default.is) c.args.kind c.in_ok-ino.ino
     (ap (λ s. first_failing (new_inode_tests s.scene.tree c.args.holder.ino.0 c.args.name.now)) (sym c.self.view_is) ∙ sym c.new_inode_refusal.ensures ∙ c.in_default-new_inode_refusal.is)
     c.in_ok-ino.ensures.ino)

@@ -4,9 +4,9 @@ use Rattle.inotree.specs.Inodes.{with_snapshot}
 use Rattle.capbits.proofs.Tests.{pass-both}
 use Rattle.inotree.specs.Tests.{inode_tests, new_snapshot_tests}
 use Rattle.capgrant.specs.declared.access.Access.TheVariants.{Snapshot}
-use Rattle.capcore.proofs.Stops.{access-at, inode-passed}
-use Rattle.capcore.proofs.Effects.{making-stopped, snapshot-refused}
-use Rattle.capcore.proofs.Untouched.{changed-sound, changed-known}
+use Rattle.capcore.proofs.Rejections.{access-at, inode-passed}
+use Rattle.capcore.proofs.Effects.{making-rejection, snapshot-refused}
+use Rattle.capcore.proofs.Unaffected.{changed-sound, changed-known}
 use Rattle.capsteps.specs.Capview.Sight.{IsLike, Shows}
 use Rattle.capsteps.proofs.Capview.Likeness.{like-unseen, shows-tree}
 use Rattle.capsteps.specs.Caprules.State.{State}
@@ -15,18 +15,18 @@ use Rattle.capsteps.specs.Capnotes.Noted.{view}
 use Rattle.capcore.proofs.world.World.make_snapshot.Goals as goal
 
 pub returns-in-Some-clause-direct : goal.returns-in-Some-clause-direct
-returns-in-Some-clause-direct c = rw c.into_reply.ensures.reply (making-stopped c.args.self.now c.args.client c.args.ino c.args.name.now c.in-Some.stopped (access-at _ c.args.self.now c.args.client c.args.ino.0 Snapshot c.access_stop.result c.self.view_is c.access_stop.ensures ∙ c.in-Some.is))
+returns-in-Some-clause-direct c = rw c.into_reply.ensures.reply (making-rejection c.args.self.now c.args.client c.args.ino c.args.name.now c.in-Some.rejection (access-at _ c.args.self.now c.args.client c.args.ino.0 Snapshot c.access_rejection.result c.self.view_is c.access_rejection.ensures ∙ c.in-Some.is))
 
 pub returns-in-Some-new_snapshot_refusal-clause-direct : goal.returns-in-Some-new_snapshot_refusal-clause-direct
 returns-in-Some-new_snapshot_refusal-clause-direct c =
-    snapshot-refused c.args.self.now c.args.client c.args.ino c.args.name.now (access-at _ c.args.self.now c.args.client c.args.ino.0 Snapshot c.access_stop.result c.self.view_is c.access_stop.ensures ∙ c.in_default.is) c.in-Some-new_snapshot_refusal.refusal
+    snapshot-refused c.args.self.now c.args.client c.args.ino c.args.name.now (access-at _ c.args.self.now c.args.client c.args.ino.0 Snapshot c.access_rejection.result c.self.view_is c.access_rejection.ensures ∙ c.in_default.is) c.in-Some-new_snapshot_refusal.refusal
     (ap (λ s. first_failing (new_snapshot_tests s.scene.tree c.args.ino.0 c.args.name.now)) (sym c.self.view_is) ∙ sym c.new_snapshot_refusal.ensures ∙ c.in-Some-new_snapshot_refusal.is)
 
 pub snap_add_tested-requires : goal.snap_add_tested-requires
 snap_add_tested-requires c = record {
   passed = pass-both (inode_tests c.self.inside.parts.scene.tree c.args.ino.0) (new_snapshot_tests c.self.inside.parts.scene.tree c.args.ino.0 c.args.name.now)
       (inode-passed c.self.inside.parts.scene c.args.client c.args.ino.0 Snapshot
-      (sym c.access_stop.ensures ∙ c.in_default.is))
+      (sym c.access_rejection.ensures ∙ c.in_default.is))
       (sym c.new_snapshot_refusal.ensures ∙ c.in_default-new_snapshot_refusal.is);
 }
 

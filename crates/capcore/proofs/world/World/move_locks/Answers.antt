@@ -9,7 +9,7 @@ use Rattle.capsteps.specs.Answered.{IsAnswered}
 use Rattle.capsteps.specs.Capacts.Known.{AreKnown}
 use Rattle.capsteps.specs.Capevents.declared.event.Event.{Event}
 use Rattle.capsteps.specs.Capevents.declared.outcome.Ended.{Ended}
-use Rattle.capsteps.specs.Capnotes.Untold.{Untold}
+use Rattle.capsteps.specs.Capnotes.DueEndings.{DueEndings}
 use Rattle.capsteps.specs.Capnotes.Noted.{view}
 use Rattle.capsteps.specs.Capview.Changes.{AreChanges}
 use Rattle.capsteps.specs.Caprules.Direct.{shown}
@@ -22,7 +22,7 @@ use Rattle.capcore.specs.declared.parts.Effect.{Effect}
 use Rattle.capcore.specs.UnderWay.{MayBegin, HasBegun, answer_of, earlier_of, event_of, state_of}
 use Rattle.capcore.proofs.Begun.{ended-answered, ended-known, ended-numbers, few-earlier, fewer-places, shown-known, shown-rest}
 use Rattle.capcore.proofs.Closing.{ends-sessions}
-use Rattle.capcore.proofs.Stops.{judged-at, stopped-answered}
+use Rattle.capcore.proofs.Rejections.{judged-at, rejection-answered}
 use Rattle.capcore.proofs.world.World.move_locks.Goals as goal
 use Rattle.capcore.proofs.world.World.move_locks.Goals.{After-end, After-close}
 
@@ -31,8 +31,8 @@ use Rattle.capcore.proofs.world.World.move_locks.Goals.{After-end, After-close}
 pub returns-in-Some-clause-answered : goal.returns-in-Some-clause-answered
 returns-in-Some-clause-answered c =
     let s = c.args.self.now in
-    stopped-answered s (event_of c.args.asking.now) c.in-Some.stopped c.alone.result (subst IsSound c.self.view_is c.self.invariant.0) c.requires.table
-    (judged-at _ s (event_of c.args.asking.now) c.stopped.result c.self.view_is (c.stopped.ensures c.self.invariant.2) ∙ c.in-Some.is)
+    rejection-answered s (event_of c.args.asking.now) c.in-Some.rejection c.alone.result (subst IsSound c.self.view_is c.self.invariant.0) c.requires.table
+    (judged-at _ s (event_of c.args.asking.now) c.rejection.result c.self.view_is (c.rejection.ensures c.self.invariant.2) ∙ c.in-Some.is)
     (c.alone.ensures.reply ∙ c.into_reply.ensures.reply) (c.alone.ensures.kept ∙ sym c.alone.ensures.reply) c.alone.ensures.ended
 
 pub returns-in-Some-clause-changes : goal.returns-in-Some-clause-changes
@@ -48,7 +48,7 @@ begin-requires c = record {
     table = subst (λ (s : State). IsTable s.scene.table) (sym c.self.view_is) c.requires.table;
     order = subst (λ (s : State). IsLockMap s.scene.locks) (sym c.self.view_is) c.requires.locks;
     numbers = subst NumbersLeft (sym c.self.view_is) c.requires.numbers;
-    passed = sym (c.stopped.ensures c.self.invariant.2) ∙ c.in_default.is;
+    passed = sym (c.rejection.ensures c.self.invariant.2) ∙ c.in_default.is;
   };
 }
 
@@ -80,7 +80,7 @@ module _ (c : After-end) where
     table = subst (λ (s : State). IsTable s.scene.table) (sym c.self.view_is) c.requires.table;
     order = subst (λ (s : State). IsLockMap s.scene.locks) (sym c.self.view_is) c.requires.locks;
     numbers = subst NumbersLeft (sym c.self.view_is) c.requires.numbers;
-    passed = sym (c.stopped.ensures c.self.invariant.2) ∙ c.in_default.is;
+    passed = sym (c.rejection.ensures c.self.invariant.2) ∙ c.in_default.is;
   }
 
   begun : HasBegun p e effect q
@@ -92,8 +92,8 @@ module _ (c : After-end) where
 pub close-requires : goal.close-requires
 close-requires g =
     let c = (goal.at.close-requires g).After-end in
-    let left = ap (λ (m : Untold). length m.items) c.end.ensures.messages in
-    let room = ap (λ (m : Untold). m.room) c.end.ensures.messages in
+    let left = ap (λ (m : DueEndings). length m.items) c.end.ensures.messages in
+    let room = ap (λ (m : DueEndings). m.room) c.end.ensures.messages in
     record {
       differ = ended-numbers (p c) (q c) (e c) (effect c) (may c) (begun c) (last c).known.sets (last c).scene (last c).endings.told.items c.end.ensures.ends;
       same = c.end.ensures.kept;
@@ -119,7 +119,7 @@ module _ (g : After-close) where
   closed = record { scene = (last c).scene; messages = left }
 
   items : new.messages.items ≡ left
-  items = g.close.ensures.messages ∙ ap (λ (m : Untold). m.items ++ earlier_of (effect c).answer told) g.end.ensures.messages
+  items = g.close.ensures.messages ∙ ap (λ (m : DueEndings). m.items ++ earlier_of (effect c).answer told) g.end.ensures.messages
 
   new_is : state_of new ≡ shown (answer_of (effect c).answer) closed
   new_is = (λ i. record { scene = new.scene; messages = items i }) ∙ g.close.ensures.shown left
@@ -141,7 +141,7 @@ invariant_of-self-2 g =
     let items = ap length (items g) ∙ length-append (q (c g)).messages.items (earlier_of (effect (c g)).answer (told g)) in
     let few = few-earlier (effect (c g)).answer (told g) in
     let queue = ap (λ (s : Scene). length s.locks.queue) (rest g) in
-    let room = ap (λ (m : Untold). m.room) g.end.ensures.messages in (
+    let room = ap (λ (m : DueEndings). m.room) g.end.ensures.messages in (
       w.sound,
       omega (arith, items, few, queue, room, g.close.ensures.room, g.end.ensures.count, (begun (c g)).room),
       subst (λ (s : Scene). AreKnown g.close.new.self.known.sets s) (sym (ap (λ (s : State). s.scene) (new_is g)))

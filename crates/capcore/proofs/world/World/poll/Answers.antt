@@ -10,15 +10,15 @@ use Rattle.capsteps.specs.Capevents.declared.outcome.Ended.{Ended}
 use Rattle.capsteps.specs.Capevents.declared.outcome.Message.{Message}
 use Rattle.capsteps.specs.Capevents.declared.reply.Reply.TheVariants as reply
 use Rattle.capsteps.specs.declared.said.Said.{Said}
-use Rattle.capsteps.specs.Caprules.declared.stopped.Stopped.TheVariants.{ByTest}
+use Rattle.capsteps.specs.Caprules.declared.rejection.Rejection.TheVariants.{ByTest}
 use Rattle.capsteps.specs.Caprules.State.{State}
 use Rattle.capsteps.specs.Answered.{IsAnswered}
 use Rattle.capsteps.specs.Caprules.Messages.{first_messages, with_given, after_messages}
-use Rattle.capsteps.specs.Capnotes.Untold.{AreEndsOf, is_left}
+use Rattle.capsteps.specs.Capnotes.DueEndings.{AreEndsOf, is_left}
 use Rattle.capsteps.specs.Caprules.Sound.{IsSound}
-use Rattle.capsteps.proofs.Capacts.Again.{stopped-before}
+use Rattle.capsteps.proofs.Capacts.Again.{rejection-before}
 use Rattle.capcore.proofs.Polled.{poll-answered, polled-new}
-use Rattle.capcore.proofs.Stops.{stopped-answered}
+use Rattle.capcore.proofs.Rejections.{rejection-answered}
 use Rattle.capsteps.proofs.Telling.{given-held}
 use Rattle.capsteps.proofs.Knowing.{HoldAlike, known-alike, alike-where}
 use Rattle.capsteps.specs.Capview.Changes.{AreChanges}
@@ -35,8 +35,8 @@ returns-in-Some-clause-answered c =
     let sound : IsSound s = subst IsSound c.self.view_is c.self.invariant.0 in
     let failed : first_failing (session_tests s.scene.sessions c.args.client.0) ≡ Some c.in-Some.refusal =
     ap (λ (w : State). first_failing (session_tests w.scene.sessions c.args.client.0)) (sym c.self.view_is) ∙ sym c.session_refusal.ensures ∙ c.in-Some.is in
-    stopped-answered s (event.Poll c.args.client c.args.max) (ByTest c.in-Some.refusal) c.alone.result sound c.requires.table
-    (stopped-before s.scene (session_tests s.scene.sessions c.args.client.0) [] [] c.in-Some.refusal failed)
+    rejection-answered s (event.Poll c.args.client c.args.max) (ByTest c.in-Some.refusal) c.alone.result sound c.requires.table
+    (rejection-before s.scene (session_tests s.scene.sessions c.args.client.0) [] [] c.in-Some.refusal failed)
     c.alone.ensures.reply (c.alone.ensures.kept ∙ sym c.alone.ensures.reply) c.alone.ensures.ended
 
 -- ---- an open session

@@ -1,4 +1,4 @@
-use Rattle.capcore.proofs.Untouched.{unblocked-sound, unblocked-known}
+use Rattle.capcore.proofs.Unaffected.{unblocked-sound, unblocked-known}
 use Rattle.capcore.proofs.world.World.unblock.Goals as goal
 
 pub invariant_of-self : goal.invariant_of-self

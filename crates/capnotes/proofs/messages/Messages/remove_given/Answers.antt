@@ -1,7 +1,7 @@
 use Rattle.std.proofs.Common.{rules, arith, ap, ◌∙◌}
 use Rattle.std.specs.Prelude.{not, ◌&&◌, length, filter}
 use Rattle.std.proofs.lemmas.Fn.{filter_same}
-use Rattle.capnotes.specs.Untold.{is_left, is_to, Untold}
+use Rattle.capnotes.specs.DueEndings.{is_left, is_to, DueEndings}
 use Rattle.capnotes.proofs.EndNumbers.{all_left}
 use Rattle.capnotes.proofs.messages.Messages.remove_given.Goals as goal
 
@@ -10,7 +10,7 @@ returns-clause-items c =
     λ given ends. filter_same _ (is_left c.args.client given) _
     (λ x b f' k. let found = ap (λ told. not (is_to c.args.client x && told)) (ends x.ticket) in search rules)
     _ _ c.retain.ensures.filtered
-    ∙ ap (λ (u : Untold). filter (is_left c.args.client given) u.items) c.self.view_is
+    ∙ ap (λ (u : DueEndings). filter (is_left c.args.client given) u.items) c.self.view_is
 
 pub returns-in-empty-clause-items : goal.returns-in-empty-clause-items
 returns-in-empty-clause-items c =

@@ -1,7 +1,7 @@
 use Rattle.std.proofs.Common.{◌≡◌, Some, sym, ap, subst, ◌∙◌}
 use Rattle.std.specs.List.{find, position, remove}
 use Rattle.capevents.proofs.Lockmachine.Positions.{no_position}
-use Rattle.capnotes.specs.Untold.{is_of_ticket, Untold, HaveOwnNumbers, but_for}
+use Rattle.capnotes.specs.DueEndings.{is_of_ticket, DueEndings, HaveOwnNumbers, but_for}
 use Rattle.capnotes.proofs.Taking.{taken, none_taken}
 use Rattle.capnotes.proofs.messages.Messages.take.Goals as goal
 use Rattle.capnotes.proofs.messages.Messages.take.Goals.{After-remove}
@@ -18,16 +18,16 @@ module _ (c : After-remove) where
   both : (find (is_of_ticket c.args.ticket) c.self.inside.items.items ≡ Some c.remove.result)
       × (remove c.self.inside.items.items c.in_ok-place.place ≡ but_for c.args.ticket c.self.inside.items.items)
   both =
-      let at = ap (λ (u : Untold). position (is_of_ticket c.args.ticket) u.items) c.self.view_is ∙ sym c.place_of.ensures ∙ c.in_ok-place.was in
-      let differ : HaveOwnNumbers c.self.inside.items.items = subst (λ (u : Untold). HaveOwnNumbers u.items) (sym c.self.view_is) c.requires.differ in
+      let at = ap (λ (u : DueEndings). position (is_of_ticket c.args.ticket) u.items) c.self.view_is ∙ sym c.place_of.ensures ∙ c.in_ok-place.was in
+      let differ : HaveOwnNumbers c.self.inside.items.items = subst (λ (u : DueEndings). HaveOwnNumbers u.items) (sym c.self.view_is) c.requires.differ in
       taken c.self.inside.items.items c.args.ticket c.in_ok-place.place c.remove.result differ at c.remove.ensures.value
 
 pub returns-clause-left : goal.returns-clause-left
 returns-clause-left c =
     let b = both c in
-    c.remove.ensures.items ∙ b.1 ∙ ap (λ (u : Untold). but_for c.args.ticket u.items) c.self.view_is
+    c.remove.ensures.items ∙ b.1 ∙ ap (λ (u : DueEndings). but_for c.args.ticket u.items) c.self.view_is
 
 pub returns-clause-taken : goal.returns-clause-taken
 returns-clause-taken c =
     let b = both c in
-    sym b.0 ∙ ap (λ (u : Untold). find (is_of_ticket c.args.ticket) u.items) c.self.view_is
+    sym b.0 ∙ ap (λ (u : DueEndings). find (is_of_ticket c.args.ticket) u.items) c.self.view_is

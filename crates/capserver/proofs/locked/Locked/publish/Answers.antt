@@ -1,6 +1,6 @@
 use Rattle.std.proofs.Common.{Option, MatchOption, ap, sym, subst}
 use mathlib.Core.List.{IsPrefix}
-use Rattle.capcore.specs.Caprules.History.{Told}
+use Rattle.capcore.specs.Caprules.History.{Recorded}
 use Rattle.onecall.specs.Cappass.Published.Publishing.{Publishing}
 use Rattle.capserver.specs.Held.{IsHeld}
 use Rattle.capserver.proofs.Holding.{held_of, legal_of, room_of, held_mended, ready_of, all_of}
@@ -43,4 +43,4 @@ returns-clause-all g c =
     let calls = c.self.inside.calls.total in
     let mended = held_mended core calls c.self.inside.publisher c.take.result c.in-Some.publisher c.mend.new.self c.history.result.now (record { tree = c.tree.result.now; sessions = c.sessions.result.now.sessions })
     c.self.invariant.3 c.take.ensures.value c.in-Some.is c.history.ensures.rows (λ i. record { tree = c.tree.ensures i; sessions = (c.sessions.ensures i).sessions }) c.mend.ensures.begins c.mend.ensures.kept c.mend.ensures.rows c.mend.ensures.view in
-    all_of c.mend.new.self core.rows c.args.self.now.rows c.publish-publisher.result.1 mended.whole (ap (λ (t : Told). t.rows) c.self.view_is) c.publish-publisher.ensures.all
+    all_of c.mend.new.self core.rows c.args.self.now.rows c.publish-publisher.result.1 mended.whole (ap (λ (t : Recorded). t.rows) c.self.view_is) c.publish-publisher.ensures.all

@@ -3,7 +3,7 @@ use Rattle.std.specs.Option.{option_copied_mut}
 use mathlib.Core.List.{IsPrefix}
 use Rattle.capcore.specs.Capview.declared.change.ViewChange.{ViewChange}
 use Rattle.capcore.specs.Capview.Changes.{AreChanges}
-use Rattle.capcore.specs.Caprules.History.{Told}
+use Rattle.capcore.specs.Caprules.History.{Recorded}
 use Rattle.capcore.specs.Caprules.Noted.{view_of}
 use Rattle.capcore.specs.Promised.{IsPromised}
 use Rattle.onecall.specs.Cappass.Published.Publishing.{Publishing}
@@ -15,7 +15,7 @@ use Rattle.capserver.proofs.locked.Locked.step.Goals as goal
 -- it is promised of the core. Under the lock the same is said of the value that contracts see
 pub returns-clause-promised : goal.returns-clause-promised
 returns-clause-promised g c =
-    subst (λ (t : Told). IsPromised t (pass_id c.args.pass.now) c.args.event c.in_ok-reply.reply c.make.new.core) c.self.view_is c.in_ok-reply.ensures.promised
+    subst (λ (t : Recorded). IsPromised t (pass_id c.args.pass.now) c.args.event c.in_ok-reply.reply c.make.new.core) c.self.view_is c.in_ok-reply.ensures.promised
 
 -- ---- what is published next
 

@@ -1,0 +1,56 @@
+-- An event that is stopped is answered so; and which inode an event affects that waits for a lock.
+use Rattle.std.proofs.Common.{◌≡◌, ℕ, List, Option, Some, None, [], ◌∷◌, sym, ap, subst, ◌∙◌}
+use Rattle.capbits.specs.declared.ids.ClientId.{ClientId}
+use Rattle.capgrant.specs.declared.access.Access.{Access}
+use Rattle.capbits.specs.Refusal.{first_failing}
+use Rattle.capbits.proofs.Tests.{passed-both}
+use Rattle.inotree.specs.Tests.{inode_tests}
+use Rattle.sessiontab.specs.Tests.{session_tests}
+use Rattle.capsteps.specs.Lockmachine.declared.scene.Scene.{Scene}
+use Rattle.capsteps.proofs.Judging.{no_test}
+use Rattle.captable.specs.Table.{IsTable}
+use Rattle.capsteps.specs.Capevents.declared.event.Event.{Event}
+use Rattle.capsteps.specs.Capevents.declared.outcome.Ended.{Ended}
+use Rattle.capsteps.specs.Capevents.declared.reply.Reply.{Reply}
+use Rattle.capsteps.specs.declared.said.Said.{Said}
+use Rattle.capsteps.specs.Caprules.declared.rejection.Rejection.{Rejection}
+use Rattle.capsteps.specs.Caprules.State.{State}
+use Rattle.capsteps.specs.Answered.{IsAnswered}
+use Rattle.capsteps.specs.Caprules.Direct.{Direct, direct, effect_unless, says}
+use Rattle.capsteps.specs.Caprules.Headline.{IssuesExactly}
+use Rattle.capsteps.specs.Caprules.Judge.{judged, rejection_of, rejection_reply, asked_tests}
+use Rattle.capsteps.specs.Caprules.Needs.{need}
+use Rattle.capsteps.specs.Caprules.Sound.{IsSound}
+use Rattle.capsteps.specs.Caprules.Step.{Step}
+use Rattle.capcore.proofs.Promised.{has-due}
+use Rattle.capcore.proofs.Sounding.{later-given}
+use Rattle.capsteps.proofs.Stopping.{rejection-step}
+
+-- ---- what is stopped
+
+-- it is a step that changes nothing
+pub rejection-answered : (old : State) (e : Event) (rejection : Rejection) (said : Said) → IsSound old → IsTable old.scene.table → judged old.scene e ≡ Some rejection
+    → said.reply ≡ rejection_reply rejection → said.kept ≡ said.reply → said.ended ≡ [] → IsAnswered old e said old
+rejection-answered old e rejection said sound table is answers kept none = record {
+  step = subst (λ (ended : List Ended). Step old e said.reply ended old) (sym none) (subst (λ (r : Reply). Step old e r [] old) (sym answers) (rejection-step old e rejection sound table is));
+  kept = kept;
+  sound = sound;
+  issued = subst (λ (d : Direct). IssuesExactly d.state.scene old.scene) (sym by_itself) (has-due old sound);
+  given = λ count given. later-given count old given;
+}
+  where
+    by_itself : direct old e ≡ says old (rejection_reply rejection)
+    by_itself = ap (effect_unless old e) is
+
+-- what stops an event by its parts, read before it was known which state they make up
+pub judged-at : (old now : State) (e : Event) (o : Option Rejection) → old ≡ now → o ≡ judged old.scene e → judged now.scene e ≡ o
+judged-at old now e o view is = ap (λ (s : State). judged s.scene e) (sym view) ∙ sym is
+
+pub access-at : (old now : State) (client : ClientId) (ino : ℕ) (access : Access) (o : Option Rejection) → old ≡ now
+    → o ≡ rejection_of old.scene (asked_tests old.scene client ino) (need client ino access ∷ []) [] → rejection_of now.scene (asked_tests now.scene client ino) (need client ino access ∷ []) [] ≡ o
+access-at old now client ino access o view is = ap (λ (s : State). rejection_of s.scene (asked_tests s.scene client ino) (need client ino access ∷ []) []) (sym view) ∙ sym is
+
+-- the tests of an inode passed where nothing stops a request at it
+pub inode-passed : (s : Scene) (client : ClientId) (ino : ℕ) (access : Access) → rejection_of s (asked_tests s client ino) (need client ino access ∷ []) [] ≡ None → first_failing (inode_tests s.tree ino) ≡ None
+inode-passed s client ino access free =
+    (passed-both (session_tests s.sessions client.0) (inode_tests s.tree ino) (no_test s (asked_tests s client ino) (need client ino access ∷ []) [] free)).1

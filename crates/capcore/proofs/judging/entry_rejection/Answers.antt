@@ -1,0 +1,22 @@
+use Rattle.std.proofs.Common.{sym, ap, ◌∙◌}
+use Rattle.std.specs.Option.{option_map}
+use Rattle.capbits.specs.Refusal.{first_failing}
+use Rattle.capsteps.specs.Lockmachine.declared.scene.Scene.{Scene}
+use Rattle.capsteps.specs.Capevents.declared.event.Event.{Event}
+use Rattle.capsteps.specs.Capevents.declared.event.Event.TheVariants.{Ack}
+use Rattle.capsteps.specs.Caprules.declared.rejection.Rejection.TheVariants.{ByTest}
+use Rattle.capsteps.specs.declared.entry_request.EntryRequest.{EntryRequest}
+use Rattle.capsteps.specs.Caprules.Judge.{before, judged}
+use Rattle.capsteps.specs.EntryRequest.{entry_event}
+use Rattle.capsteps.proofs.Judging.{by_tests}
+use Rattle.capcore.proofs.judging.entry_rejection.Goals as goal
+
+pub returns-in-Ack : goal.returns-in-Ack
+returns-in-Ack c = λ known.
+    let s : Scene = c.args.scene.now in
+    let k = c.args.holder in
+    let e : Event = Ack k.client k.ino c.in-Ack.seq in
+    c.by_test-in-Ack.ensures
+    ∙ ap (option_map ByTest) (c.ack_refusal.ensures s.fs s.locks known)
+    ∙ by_tests s (first_failing (before s e))
+    ∙ ap (λ (request : EntryRequest). judged s (entry_event k.client k.ino request)) (sym c.in-Ack.is)

@@ -1,0 +1,89 @@
+use Rattle.std.proofs.Common.{Contains, Some, is_some, ◌≡◌, ◌+◌, ◌∷◌, [], length, None, refl, sym, ap, subst, ◌∙◌, arith}
+use Rattle.std.proofs.lemmas.List.{length-append}
+use Rattle.std.proofs.lemmas.List.Elements.{Contains-push}
+use Rattle.captable.specs.declared.entry.Holder.{Holder}
+use Rattle.capsteps.specs.Lockmachine.declared.request.Ask.{Ask}
+use Rattle.capbits.specs.declared.ids.Ticket.{Ticket}
+use Rattle.capsteps.specs.Lockmachine.declared.request.Request.{Request}
+use Rattle.capsteps.specs.Lockmachine.declared.scene.Scene.{Scene}
+use Rattle.capsteps.specs.Lockmachine.Locks.{LockMap, IsLockMap, next_request, request_at, with_request}
+use Rattle.capsteps.proofs.Lockmachine.Queue.{found_by_number}
+use Rattle.capsteps.specs.Caprules.Serving.{judged_again}
+use Rattle.capsteps.specs.Judged.{IsJudged}
+use Rattle.capsteps.specs.Capevents.declared.event.Event.{Event}
+use Rattle.capsteps.specs.Caprules.Asks.{ask_needs}
+use Rattle.capsteps.specs.Caprules.Direct.{Awaits, direct, asks}
+use Rattle.capsteps.specs.Caprules.Judge.{rejection_of, asking_tests, waiting_tests}
+use Rattle.capsteps.specs.Caprules.Noted.{view_of}
+use Rattle.capsteps.specs.Affected.{AffectsOne}
+use Rattle.capsteps.proofs.Capnotes.Noting.{changes-still}
+use Rattle.capsteps.proofs.Knowing.{alike-less, still-there}
+use Rattle.capcore.specs.Asks.{ask_of, asked_event}
+use Rattle.capsteps.proofs.Begun.{room-for}
+use Rattle.capcore.specs.declared.parts.Parts.{Parts}
+use Rattle.capcore.specs.declared.parts.Affected.TheVariants as affected
+use Rattle.capcore.specs.declared.parts.Answer.TheVariants.{Awaited}
+use Rattle.capcore.specs.UnderWay.{state_of}
+use Rattle.capcore.proofs.Asked.{asked-for, asking-again, asking-direct, asking-rejection, asking-affects, below-of_ask, order-of_ask, room-left}
+use Rattle.capcore.proofs.Begun.{one-begun}
+use Rattle.capcore.proofs.parts.Parts.lock_request.Goals as goal
+
+pub enqueue_tested-ticket-requires-clause-room : goal.enqueue_tested-ticket-requires-clause-room
+enqueue_tested-ticket-requires-clause-room c =
+    let s = c.args.self.now.scene in
+    let k : Holder = c.args.holder in
+    let ask : Ask = ask_of c.args.asked in
+    let free : rejection_of s (asking_tests s k.client k.ino.0 ask) (ask_needs s k.client k.ino.0 ask) (waiting_tests s k.ino.0 ask) ≡ None =
+    sym (asking-rejection (asked_event k.client k.ino c.args.asked) k ask s (asked-for k.client k.ino c.args.asked)) ∙ c.requires.may.passed in
+    room-left s k ask free
+
+pub enqueue_tested-ticket-requires-clause-numbers : goal.enqueue_tested-ticket-requires-clause-numbers
+enqueue_tested-ticket-requires-clause-numbers c =
+    let left = c.requires.may.numbers in
+    let given = left.1 in
+    omega (arith, given.last, left.2)
+
+-- it is judged on the tree of its arrival
+judged_once : (s : Scene) (k : Holder) (ask : Ask) (locks : LockMap) → locks ≡ with_request s.locks k.client k.ino ask → IsLockMap locks
+    → rejection_of s (asking_tests s k.client k.ino.0 ask) (ask_needs s k.client k.ino.0 ask) (waiting_tests s k.ino.0 ask) ≡ None
+    → (ticket : Ticket) → ticket.0 ≡ s.locks.last + 1 → IsJudged (Some ticket) (record s { locks = locks })
+judged_once s k ask locks queued order free ticket next = λ t q own there.
+    let request : Request = next_request s.locks k.client k.ino ask in
+    let same : ticket ≡ t = cc in
+    let found = found_by_number locks request order (subst (λ (l : LockMap). Contains l.queue request) (sym queued) (Contains-push s.locks.queue request)) in
+    let both : Some request ≡ Some q = sym found ∙ ap (request_at locks) (sym next ∙ ap (λ (n : Ticket). n.0) same) ∙ there in
+    let itself : request ≡ q = cc in
+    subst (λ (r : Request). judged_again (record s { locks = locks }) r ≡ None) itself (asking-again s k ask free)
+
+pub returns-clause-begun : goal.returns-clause-begun
+returns-clause-begun c =
+    let p : Parts = c.args.self.now in
+    let k : Holder = c.args.holder in
+    let ask : Ask = ask_of c.args.asked in
+    let e : Event = asked_event k.client k.ino c.args.asked in
+    let may = c.requires.may in
+    let locks : LockMap = c.enqueue_tested-ticket.new.self in
+    let ticket = c.enqueue_tested-ticket.result in
+    let q : Parts = record { scene = record p.scene { locks = locks }; known = p.known; messages = c.reserve.new.self; endings = record c.begin.new.self { judged = Some ticket } } in
+    let queued : locks ≡ with_request p.scene.locks k.client k.ino ask = c.enqueue_tested-ticket.ensures.queued ∙ ap (with_request p.scene.locks k.client k.ino) c.in_ok-ask.ensures in
+    let by_itself : direct (state_of p) e ≡ asks (state_of p) k.client k.ino ask = asking-direct (state_of p) e k ask (asked-for k.client k.ino c.args.asked) may.passed in
+    let free : rejection_of p.scene (asking_tests p.scene k.client k.ino.0 ask) (ask_needs p.scene k.client k.ino.0 ask) (waiting_tests p.scene k.ino.0 ask) ≡ None =
+    sym (asking-rejection e k ask p.scene (asked-for k.client k.ino c.args.asked)) ∙ may.passed in
+    let next = c.enqueue_tested-ticket.ensures.ticket in
+    let queue : length locks.queue ≡ length p.scene.locks.queue + 1 =
+    ap (λ (l : LockMap). length l.queue) queued ∙ length-append p.scene.locks.queue (next_request p.scene.locks k.client k.ino ask ∷ []) in
+    let order : IsLockMap locks = subst IsLockMap (sym queued) (order-of_ask p.scene k ask may.order free) in
+    let begun = c.in_ok-begin.ensures in
+    let none = ap length begun.changes.0 in
+    let left = ap length c.reserve.ensures.items in
+    one-begun p q e k may (asks (state_of p) k.client k.ino ask) by_itself (refl, refl) (λ count given. below-of_ask count (state_of p) k ask given)
+    (λ i. record p.scene { locks = queued i }) c.reserve.ensures.items
+    (affected.Inode k) (Awaited ticket) refl (ap (λ n. Awaits (record { 0 = n })) next) refl (next, ap (λ (l : LockMap). l.last) queued)
+    (subst (λ (l : LockMap). AffectsOne k.ino.0 (state_of p) (record p.scene { locks = l })) (sym queued) (asking-affects (state_of p) k ask may.whole.0 may.table free)) may.table
+    (still-there p.scene.table p.scene.table p.known.sets p.known.sets (λ j f there. ap is_some there) (λ j f there. refl)) (alike-less p.scene.table p.scene.table (λ j f there. (f, there, refl))) may.tree
+    order
+    (room-for c.begin.new.self q.endings.changes (Some ticket) (c.waiting-waiting.result + 1) (length locks.queue) begun.room (omega (arith, queue, c.waiting-waiting.ensures.waiting)))
+    (judged_once p.scene k ask locks queued order free ticket next)
+    (omega (arith, none, queue, begun.changes.1, c.waiting-waiting.ensures.waiting))
+    (omega (arith, queue, left, c.in_default.ensures.ok, c.waiting-waiting.ensures.waiting))
+    tt (changes-still q.endings.changes.items (view_of (state_of p)) begun.changes.0)

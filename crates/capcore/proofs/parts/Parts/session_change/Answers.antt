@@ -1,0 +1,42 @@
+use Rattle.std.proofs.Common.{◌≡◌, ◌≤◌, ◌++◌, length, sym, ap, subst, ◌∙◌, arith}
+use Rattle.sessiontab.specs.Table.{SessionTable}
+use Rattle.capsteps.specs.Lockmachine.declared.scene.Scene.{Scene}
+use Rattle.capsteps.specs.Capacts.Left.{is_end, dropped_by}
+use Rattle.capsteps.specs.Capview.Changes.{AreChanges}
+use Rattle.capsteps.specs.Capnotes.Noted.{view}
+use Rattle.capsteps.specs.Caprules.Noted.{view_of}
+use Rattle.capsteps.specs.SessionChange.{session_changed}
+use Rattle.capsteps.proofs.Begun.{room-for}
+use Rattle.capsteps.proofs.Judged.{none-judged}
+use Rattle.capcore.specs.declared.parts.Parts.{Parts}
+use Rattle.capcore.specs.UnderWay.{state_of}
+use Rattle.capcore.proofs.SessionStep.{few-waiting, few-messages, change-begun}
+use Rattle.capcore.proofs.parts.Parts.session_change.Goals as goal
+
+-- for want of memory all is as it was
+pub returns-in-Err-clause-whole : goal.returns-in-Err-clause-whole
+returns-in-Err-clause-whole c = rw c.in-Err.ensures.err c.requires.may.whole
+
+pub returns-clause-begun : goal.returns-clause-begun
+returns-clause-begun c =
+    let p : Parts = c.args.self.now in
+    let client = c.args.client in
+    let change = c.args.change in
+    let ends = is_end change in
+    let room = c.in_ok-room.ensures in
+    let others = c.in_ok-room.room.others in
+    let q : Parts = record { scene = c.leave.new.scene; known = c.leave.new.known; messages = c.leave.new.messages; endings = c.new.new.endings } in
+    let is : q.scene ≡ (session_changed (state_of p) client change).scene =
+    c.leave.ensures.rest ∙ (λ i. record p.scene { sessions = c.in_default.ensures.ok i; table = c.leave.ensures.table i; locks = c.leave.ensures.locks i }) in
+    let fewer : length q.scene.locks.queue ≤ length p.scene.locks.queue = rw c.leave.ensures.locks (few-waiting ends p.scene.locks client) in
+    let few = few-messages ends p.messages.items client in
+    let left = ap length c.leave.ensures.messages in
+    change-begun p q client change c.requires.may is c.leave.ensures.messages others room.reaches c.leave.ensures.known
+    c.leave.new.dropped (c.leave.ensures.dropped ∙ ap (λ ms. ms ++ dropped_by ends p.scene.locks client) room.dropped.0)
+    (room-for q.endings q.endings.changes q.endings.judged (length p.scene.locks.queue) (length q.scene.locks.queue) room.room fewer) (none-judged q.endings.judged q.scene room.judged)
+    (omega (arith, fewer, room.places))
+    (omega (arith, few, left, fewer, c.leave.ensures.left, c.requires.may.whole.1))
+    c.leave.ensures.room
+    (subst (λ (s : Scene). AreChanges q.endings.changes.items (view_of (state_of p)) (view s.tree s.sessions.sessions)) (sym c.leave.ensures.rest)
+    (subst (λ (t : SessionTable). AreChanges q.endings.changes.items (view_of (state_of p)) (view p.scene.tree t.sessions)) (sym c.in_default.ensures.ok)
+    (let notes = room.lead in notes.lead p.scene.tree p.scene.sessions)))

@@ -1,5 +1,0 @@
-use Rattle.capcore.proofs.TouchStep.{one-step}
-use Rattle.capcore.proofs.touch_laws.an_event_is_a_step_once_it_has_ended.Goals as goal
-
-pub returns : goal.returns
-returns c = λ old new e moves settled last answer settles ends answers is. one-step old e moves settled last settles ends answer new answers is

@@ -1,0 +1,95 @@
+//! Which requests some messages tell of.
+ghost use Rattle.std.specs.Prelude.{◌≡◌, ◌==◌, ◌||◌, true, IfOk, OnOk};
+ghost use Rattle.std.specs.List.{list_any};
+ghost use Rattle.capnotes.specs.DueEndings.{AreEndsOf, is_end_of};
+
+use capbits::Ticket;
+use capevents::Message;
+use std::alloc::{AllocError, Global};
+use std::marker::Model;
+
+/// The numbers of the requests of whose ends some messages tell, the smallest first, so that one is found by a search.
+pub struct EndedTickets {
+    sorted: Vec<u64>,
+}
+
+// By hand, so that whoever lets one go has one call to prove.
+impl Drop for EndedTickets {
+    fn drop(self) {
+        let EndedTickets { sorted: _ } = self;
+    }
+}
+
+impl Model for EndedTickets {
+    ghost use Rattle.std.specs.Prelude.{ℕ, List};
+    ghost use Rattle.std.specs.List.Sorted.{IsNonDecreasing};
+
+    ghost Value = { List ℕ };
+
+    ghost view = { λ t. t.sorted.items };
+
+    ghost invariant = { λ t. IsNonDecreasing t.sorted.items };
+}
+
+impl EndedTickets {
+    /// Those of these messages.
+    pub fn of(alloc: Global, messages: &[Message]) -> Result<EndedTickets, AllocError>
+        ensures { IfOk result (λ told. AreEndsOf messages.now told) }
+    {
+        let mut sorted = ended_numbers(alloc, messages)?;
+        sorted.as_mut_slice().sort_unstable();
+        Ok(EndedTickets { sorted })
+    }
+
+    /// The numbers.
+    pub fn as_slice(&self) -> &[u64]
+        ensures { result.now ≡ self.now }
+    {
+        self.sorted.as_slice()
+    }
+
+    /// Whether the request with this number is among them. Out of line, as most requests that are looked at are another client's.
+    #[inline(never)]
+    pub fn contains(&self, ticket: Ticket) -> bool
+        ensures { result ≡ list_any (λ number. number == ticket.0) self.now }
+    {
+        if self.is_where_guessed(ticket) {
+            return true;
+        }
+        self.sorted.as_slice().binary_search(&ticket.0).is_ok()
+    }
+
+    // Whether it stands where it would if the numbers had no gaps, as those of a client that asks alone have none.
+    fn is_where_guessed(&self, ticket: Ticket) -> bool
+        ensures { result ≡ true → list_any (λ number. number == ticket.0) self.now ≡ true }
+    {
+        let first = self.sorted.first().copied().unwrap_or(0);
+        let place = ticket.0.saturating_sub(first) as usize;
+        match self.sorted.get(place) {
+            Some(number) => *number == ticket.0,
+            None => false,
+        }
+    }
+}
+
+// The numbers of the requests of whose ends the messages tell, in the order of the messages.
+fn ended_numbers(alloc: Global, messages: &[Message]) -> Result<Vec<u64>, AllocError>
+    ensures { IfOk result (λ numbers. AreEndsOf messages.now numbers.items) }
+{
+    let mut numbers = Vec::new(alloc);
+    for message in messages {
+        add_number(&mut numbers, message)?;
+    }
+    Ok(numbers)
+}
+
+// Adds the number of the request of whose end a message tells, if it does.
+fn add_number(numbers: &mut Vec<u64>, message: &Message) -> Result<(), AllocError>
+    ensures { OnOk result ((ticket : Ticket)
+        → list_any (λ number. number == ticket.0) numbers.new.items ≡ (list_any (λ number. number == ticket.0) numbers.old.items || is_end_of ticket message.now)) }
+{
+    if let Message::Ended { ticket, .. } = message {
+        numbers.push(ticket.0)?;
+    }
+    Ok(())
+}

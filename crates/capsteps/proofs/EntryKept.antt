@@ -1,0 +1,132 @@
+-- What an event about one entry leaves of what is kept of entries.
+use Rattle.std.proofs.Common.{◌≡◌, ◌≢◌, Bool, true, false, cond, not, ◌&&◌, Option, Some, None, is_some, IsSome, [], ◌∷◌, refl, sym, ap, subst, ◌∙◌, true≢false}
+use Rattle.std.specs.Option.{option_map_or}
+use Rattle.std.proofs.lemmas.List.Elements.{All-contains}
+use Rattle.capbits.specs.declared.cap.Cap.{Cap}
+use Rattle.capbits.specs.declared.cap.Cap.TheVariants.{P}
+use Rattle.capbits.specs.Caps.{Caps, has}
+use Rattle.capbits.specs.Sets.{no_caps, caps_in, union, IsSubset, has-none, has-minus, and_parts}
+use Rattle.captable.specs.declared.entry.Entry.{Entry}
+use Rattle.captable.specs.declared.entry.EntryRow.{EntryRow}
+use Rattle.captable.specs.declared.entry.Holder.{Holder}
+use Rattle.captable.specs.Table.{Table, same, is_row_of, entry_at}
+use Rattle.captable.specs.Calls.{new_entry, opened, changed, wanting, taken, given_back, without}
+use Rattle.captable.proofs.ByHolder.{entry_at-changed_other, entry_at-opened, entry_at-opened_other, entry_at-acked_other, entry_at-released_other, row_of-entry}
+use Rattle.captable.proofs.Tables.{same-is}
+use Rattle.capsteps.specs.declared.entry_request.EntryRequest.{EntryRequest}
+use Rattle.capsteps.specs.declared.entry_request.EntryRequest.TheVariants.{Open, Want, Ack, Release}
+use Rattle.capacts.specs.Caprules.Direct.{opening_wants, with_entry, with_opening}
+use Rattle.capacts.specs.Known.{KnownSets, known_of, is_still_known, AreKnown, StillKnown, OthersHaveAll}
+use Rattle.capacts.specs.Caprules.Sound.{IsSound, IsSoundEntry}
+use Rattle.capacts.specs.Caprules.State.{State}
+use Rattle.capsteps.specs.EntryRequest.{table_after}
+use Rattle.capsteps.proofs.Knowing.{held_at, HoldAlike, still-known}
+use Rattle.capsteps.proofs.LeftAlone.{found-contains}
+use Rattle.capsteps.proofs.ShownSteps.{IsOf, apart-of, changed-as}
+
+-- ---- a new entry
+
+-- where the holder has no entry, all that is kept of others is kept
+pub still-but : (t : Table) (h : Holder) (was now : KnownSets) → entry_at t h ≡ None → ((k : Holder) → k ≢ h → known_of now k ≡ known_of was k) → StillKnown t t was now
+still-but t h was now none others k e there =
+    subst (λ o. is_still_known o (known_of was k) (known_of now k)) (sym there)
+    (others k (λ is. let gone : entry_at t k ≡ None = ap (entry_at t) is ∙ none in absurd (cc)))
+
+-- of the new one something is kept
+pub still-opened : (t : Table) (h : Holder) (was now : KnownSets) → entry_at t h ≡ None → IsSome (known_of now h) → ((k : Holder) → k ≢ h → known_of now k ≡ known_of was k)
+    → StillKnown t (opened t h) was now
+still-opened t h was now none some others k e there = by_same (same k h) refl
+  where
+    by_same : (b : Bool) → same k h ≡ b → is_still_known (entry_at t k) (known_of was k) (known_of now k)
+    by_same true on =
+        let is : k ≡ h = same-is k h on in
+        subst (λ o. is_still_known o (known_of was k) (known_of now k)) (sym (ap (entry_at t) is ∙ none)) (subst (λ q. IsSome (known_of now q)) (sym is) some)
+    by_same false off =
+        let apart = apart-of k h off in
+        subst (λ o. is_still_known o (known_of was k) (known_of now k)) (sym (sym (entry_at-opened_other t h k apart) ∙ there)) (others k apart)
+
+-- where nothing changes, all is
+pub still-itself : (t : Table) (sets : KnownSets) → StillKnown t t sets sets
+still-itself t sets k e there = subst (λ o. is_still_known o (known_of sets k) (known_of sets k)) (sym there) refl
+
+-- ---- entries that were there
+
+-- the holder has an entry in the other table too
+abbrev pub WasThere : Table → Table → Type 0
+WasThere old new = (k : Holder) (e : Entry) → entry_at new k ≡ Some e → (f : Entry) × (entry_at old k ≡ Some f)
+
+pub there-changed : (gone : Bool) (t : Table) (j : Holder) (g : Entry → Entry) → WasThere t (cond gone (without t j) (changed t j g))
+there-changed gone t j g k e there = let m = changed-as gone t j g k e there in (m.before, m.there)
+
+-- where what is held stays, all hold alike
+pub alike-changed : (t : Table) (j : Holder) (g : Entry → Entry) → ((e : Entry) → (g e).held ≡ e.held) → HoldAlike t (changed t j g)
+alike-changed t j g same_held k e there = let m = changed-as false t j g k e there in (m.before, m.there, by_same m (same k j) refl)
+  where
+    by_same : (m : IsOf t j g k e) (b : Bool) → same k j ≡ b → e.held ≡ m.before.held
+    by_same m true on = ap (λ (x : Entry). x.held) (m.own on) ∙ same_held m.before
+    by_same m false off = ap (λ (x : Entry). x.held) (m.other off)
+
+-- ---- nobody holds more
+
+abbrev HoldsLess : Table → Table → Type 0
+HoldsLess old new = (k : Holder) (e : Entry) → entry_at new k ≡ Some e → IsSubset e.held (held_at old k)
+
+as_before : (t : Table) (k : Holder) (f : Entry) (e : Entry) → entry_at t k ≡ Some f → IsSubset e.held f.held → IsSubset e.held (held_at t k)
+as_before t k f e there less c held = ap (λ (o : Option Entry). has (option_map_or (λ (x : Entry). x.held) o no_caps) c) there ∙ less c held
+
+less-changed : (gone : Bool) (t : Table) (j : Holder) (g : Entry → Entry) → ((e : Entry) → IsSubset (g e).held e.held) → HoldsLess t (cond gone (without t j) (changed t j g))
+less-changed gone t j g less k e there =
+    let m = changed-as gone t j g k e there in
+    as_before t k m.before e m.there (by_same m (same k j) refl)
+  where
+    by_same : (m : IsOf t j g k e) (b : Bool) → same k j ≡ b → IsSubset e.held m.before.held
+    by_same m true on c held = less m.before c (ap (λ (x : Entry). has x.held c) (sym (m.own on)) ∙ held)
+    by_same m false off c held = ap (λ (x : Entry). has x.held c) (sym (m.other off)) ∙ held
+
+less-minus : (caps held : Caps) (c : Cap) → (has held c && not (has caps c)) ≡ true → has held c ≡ true
+less-minus caps held c is = (and_parts (has held c) (not (has caps c)) is).0
+
+-- a new entry holds nothing
+less-entry : (t : Table) (j : Holder) → HoldsLess t (with_entry t j)
+less-entry t j k e there = by_entry (entry_at t j) refl there
+  where
+    by_entry : (o : Option Entry) → entry_at t j ≡ o → entry_at (cond (is_some o) t (opened t j)) k ≡ Some e → IsSubset e.held (held_at t k)
+    by_entry (Some f) was now = as_before t k e e now (λ c held. held)
+    by_entry None none now = by_same (same k j) refl
+      where
+        by_same : (b : Bool) → same k j ≡ b → IsSubset e.held (held_at t k)
+        by_same true on c held =
+            let made : entry_at (opened t j) k ≡ Some new_entry = ap (entry_at (opened t j)) (same-is k j on) ∙ entry_at-opened t j none in
+            let new : e ≡ new_entry = cc in
+            absurd (true≢false (sym held ∙ ap (λ (x : Entry). has x.held c) new ∙ has-none c))
+        by_same false off c held = as_before t k e e (sym (entry_at-opened_other t j k (apart-of k j off)) ∙ now) (λ _ still. still) c held
+
+less-alike : (t mid new : Table) → HoldsLess t mid → HoldAlike mid new → HoldsLess t new
+less-alike t mid new less alike k e there c held = let was = alike k e there in less k was.0 was.1 c (ap (λ caps. has caps c) (sym was.2) ∙ held)
+
+pub request-less : (t : Table) (k : Holder) (revoked : Caps) (request : EntryRequest) → HoldsLess t (table_after t k revoked request)
+request-less t k revoked (Open mode) = less-alike t (with_entry t k) (with_opening t k mode) (less-entry t k) (alike-changed (with_entry t k) k (λ e. wanting (union e.want (opening_wants mode)) e) (λ e. refl))
+request-less t k revoked (Want caps) = less-changed false t k (λ e. wanting (union caps (caps_in (P ∷ []))) e) (λ e c held. held)
+request-less t k revoked (Ack seq) = less-changed (has revoked P) t k (taken revoked) (λ e c held. less-minus revoked e.held c (sym (has-minus e.held revoked c) ∙ held))
+request-less t k revoked (Release caps) = less-changed (has caps P) t k (given_back caps) (λ e c held. less-minus caps e.held c (sym (has-minus e.held caps c) ∙ held))
+
+-- ---- the other entries
+
+-- each is as it was
+request-others : (t : Table) (k : Holder) (revoked : Caps) (request : EntryRequest) (j : Holder) → j ≢ k → entry_at (table_after t k revoked request) j ≡ entry_at t j
+request-others t k revoked (Open mode) j apart =
+    entry_at-changed_other (with_entry t k) k j (λ e. wanting (union e.want (opening_wants mode)) e) apart
+    ∙ elim (is_some (entry_at t k)) as (λ b. entry_at (cond b t (opened t k)) j ≡ entry_at t j) [ true ↦ refl | false ↦ entry_at-opened_other t k j apart ]
+request-others t k revoked (Want caps) j apart = entry_at-changed_other t k j (λ e. wanting (union caps (caps_in (P ∷ []))) e) apart
+request-others t k revoked (Ack seq) j apart = entry_at-acked_other t k j revoked apart
+request-others t k revoked (Release caps) j apart = entry_at-released_other t k j caps apart
+
+-- and where the old state was sound, each has all still
+pub others-have_all : (was now : KnownSets) (old : State) (new : Table) (k : Holder) (revoked : Caps) (request : EntryRequest) → IsSound old → AreKnown was old.scene
+    → new ≡ table_after old.scene.table k revoked request → StillKnown old.scene.table new was now → OthersHaveAll now (record old.scene { table = new }) k
+others-have_all was now old new k revoked request sound known is still j e on apart there =
+    let before : entry_at old.scene.table j ≡ Some e =
+    sym (request-others old.scene.table k revoked request j (apart-of j k apart)) ∙ sym (ap (λ (t : Table). entry_at t j) is) ∙ there in
+    let row : EntryRow = record { holder = j; entry = e } in
+    let entry = All-contains (IsSoundEntry old.scene) old.scene.table.rows row sound.entries (found-contains (is_row_of j) old.scene.table.rows row (row_of-entry old.scene.table j e before)) in
+    (entry.has_due, still-known was now old.scene new known still j e e there before)

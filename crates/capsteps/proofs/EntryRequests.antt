@@ -1,0 +1,528 @@
+-- An event about one entry, by itself: it changes entries of its inode alone, and leaves of each what every state keeps, but that
+-- what is due is held. It drops no request and leaves the messages.
+use Rattle.std.proofs.Common.{◌≡◌, ◌≢◌, ◌≤◌, ℕ, ◌+◌, Bool, true, false, cond, not, ◌&&◌, ◌||◌, Option, Some, None, is_some, List, [], ◌∷◌, ◌++◌, filter, refl, sym, ap, subst, ◌∙◌, Contains, true≢false, arith}
+use Rattle.std.specs.Prelude.{IsTrue, All}
+use Rattle.std.specs.List.{find, list_any}
+use Rattle.std.proofs.lemmas.Bool.{and_from, not-false, or_right}
+use Rattle.std.proofs.lemmas.List.Folds.{list_any-append}
+use Rattle.std.specs.Option.{option_map}
+use Rattle.std.specs.FinMap as map
+use Rattle.std.proofs.lemmas.List.Elements.{All-cons, All-head, All-tail, All-push, All-contains, All-contains_itself, All-weaker, All-filter, All-same, filter-append}
+use Rattle.capbits.specs.declared.cap.Cap.TheVariants.{P, Fs, Fx, Fc, Fr, Fw, Fb}
+use Rattle.capbits.specs.declared.cap.Part.{Part}
+use Rattle.capbits.specs.declared.ids.ClientId.{ClientId}
+use Rattle.capbits.specs.declared.ids.Ino.{Ino}
+use Rattle.capbits.specs.declared.refusal.Refusal.{Refusal}
+use Rattle.capbits.specs.declared.refusal.Refusal.TheVariants as refusal
+use Rattle.capbits.specs.Caps.{Caps, has}
+use Rattle.capbits.specs.Sets.{no_caps, caps_in, union, meet, minus, of_part, covers, is_empty, IsSubset, has-none, has-caps_in, has-union, has-meet, has-minus, has-of_part, and_parts}
+use Rattle.capbits.specs.Refusal.{first_failing}
+use Rattle.capbits.proofs.Tests.{passed-if, passed-both}
+use Rattle.capgrant.specs.declared.access.Access.TheVariants as access
+use Rattle.capgrant.proofs.Pins.{pin_of_read, pin_of_write}
+use Rattle.inotree.specs.declared.node.Node.{Node}
+use Rattle.inotree.specs.Tree.{place, place_at}
+use Rattle.inotree.specs.Tests.{is_no_ino, inode_tests, file_test}
+use Rattle.sessiontab.specs.Table.{SessionTable}
+use Rattle.sessiontab.specs.Calls.{has_session, status_of}
+use Rattle.sessiontab.specs.Tests.{is_open as is_open_status, session_tests}
+use Rattle.locktable.specs.declared.states.State.{State as LockGoal}
+use Rattle.locktable.specs.declared.states.LockState.{LockState}
+use Rattle.locktable.specs.Rows.{row_of}
+use Rattle.captable.specs.declared.entry.Entry.{Entry}
+use Rattle.captable.specs.declared.entry.EntryRow.{EntryRow}
+use Rattle.captable.specs.declared.entry.Holder.{Holder}
+use Rattle.captable.specs.Table.{Table, IsTable, holder, is_row_of, entry_of, entry_at}
+use Rattle.captable.specs.Calls.{new_entry, opened, change_rows, changed, without, wanting, taken, given_back, is_of_inode, entries_on, acked, released}
+use Rattle.captable.specs.Tests.{open_tests, entry_test, ack_tests, release_tests}
+use Rattle.captable.proofs.Tables.{same_equiv, IsTable-changed, IsTable-opened, IsTable-released, IsTable-without}
+use Rattle.captable.proofs.Moves.{IsTable-touched}
+use Rattle.captable.proofs.ByHolder.{row_found}
+use Rattle.captable.proofs.ByInode.{entries_on-changed, entries_on-opened, entries_on-released, entries_on-without}
+use Rattle.capacts.specs.Lockmachine.Inodes.{StateMap, lock_in}
+use Rattle.capacts.specs.Lockmachine.Locks.{lock_at}
+use Rattle.capacts.specs.Lockmachine.Policy.{Subject, subject, question_of, is_granted_to, permitted, permitted_to}
+use Rattle.capacts.specs.Lockmachine.Rows.{IsInRowOf, IsInRow}
+use Rattle.capacts.specs.Lockmachine.Requests.{part_of_ask}
+use Rattle.capacts.specs.Lockmachine.declared.scene.Scene.{Scene}
+use Rattle.capacts.specs.Lockmachine.Scene.{outside}
+use Rattle.capacts.specs.Lockmachine.Turns.{WaitAt}
+use Rattle.capacts.specs.Lockmachine.Moves.{present_state, is_open, IsQuiet}
+use Rattle.capacts.specs.Lockmachine.Wants.{effective_want}
+use Rattle.capacts.proofs.Lockmachine.SameBut.{same-entries}
+use Rattle.capacts.specs.Capevents.declared.event.Event.{Event}
+use Rattle.capacts.specs.Capevents.declared.event.Event.TheVariants as event
+use Rattle.capacts.specs.Capevents.declared.event.OpenMode.{OpenMode}
+use Rattle.capacts.specs.Capevents.declared.event.OpenMode.TheVariants as opening
+use Rattle.capsteps.specs.declared.entry_request.EntryRequest.{EntryRequest}
+use Rattle.capsteps.specs.declared.entry_request.EntryRequest.TheVariants.{Open, Want, Ack, Release}
+use Rattle.capacts.specs.Caprules.State.{State}
+use Rattle.capacts.specs.Caprules.Judge.{judged, before, needs, after, rejection_by, first_denied, is_met, opening_needs, is_writing, revoked_of, connected_tests, asked_tests, room_for}
+use Rattle.capacts.specs.Caprules.Needs.{Need, need}
+use Rattle.capacts.specs.Caprules.Direct.{Direct, direct, effect, effect_unless, opening_wants, with_entry, with_table}
+use Rattle.capsteps.specs.EntryRequest.{entry_event, entry_request_tests, table_after}
+use Rattle.capsteps.specs.Affected.{IsAffectedEntry, AffectsOne}
+use Rattle.capacts.specs.Caprules.Sound.{IsSound, IsSoundEntry, AreGiven}
+use Rattle.capsteps.proofs.Judging.{no_test}
+use Rattle.capsteps.proofs.Moved.{sound-waits}
+use Rattle.capsteps.proofs.Placed.{placed-in_row}
+
+-- ---- the tests of an event that nothing stops
+
+rejection_by-after : (s : Scene) (o : Option Refusal) (d : Option Need) (l : Option Refusal) → rejection_by s o d l ≡ None → l ≡ None
+rejection_by-after s (Some x) d l e = cc
+rejection_by-after s None (Some n) l e = cc
+rejection_by-after s None None (Some x) e = cc
+rejection_by-after s None None None e = refl
+
+pub before-passed : (s : Scene) (e : Event) → judged s e ≡ None → first_failing (before s e) ≡ None
+before-passed s e free = no_test s (before s e) (needs s e) (after s e) free
+
+pub after-passed : (s : Scene) (e : Event) → judged s e ≡ None → first_failing (after s e) ≡ None
+after-passed s e free = rejection_by-after s (first_failing (before s e)) (first_denied s (needs s e)) (first_failing (after s e)) free
+
+-- what the table tests was passed
+pub affected-tests : (s : Scene) (client : ClientId) (ino : Ino) (request : EntryRequest) → judged s (entry_event client ino request) ≡ None
+    → first_failing (entry_request_tests s.table (holder client ino) (revoked_of s (holder client ino)) request) ≡ None
+affected-tests s client ino (Open mode) free =
+    (passed-both (cond (is_writing mode) (file_test s.tree ino.0 ∷ []) []) (room_for s.table (holder client ino)) (after-passed s (event.Open client ino mode) free)).1
+affected-tests s client ino (Want caps) free =
+    (passed-both (asked_tests s client ino.0) (entry_test s.table (holder client ino) ∷ []) (before-passed s (event.Want client ino caps) free)).1
+affected-tests s client ino (Ack seq) free =
+    (passed-both (connected_tests s client ino.0) (ack_tests s.table (holder client ino) seq (revoked_of s (holder client ino))) (before-passed s (event.Ack client ino seq) free)).1
+affected-tests s client ino (Release caps) free =
+    (passed-both (connected_tests s client ino.0) (release_tests s.table (holder client ino) caps) (before-passed s (event.Release client ino caps) free)).1
+
+effect-affected : (old : State) (client : ClientId) (ino : Ino) (request : EntryRequest)
+    → (effect old (entry_event client ino request)).state ≡ with_table old (table_after old.scene.table (holder client ino) (revoked_of old.scene (holder client ino)) request)
+effect-affected old client ino (Open mode) = refl
+effect-affected old client ino (Want caps) = refl
+effect-affected old client ino (Ack seq) = refl
+effect-affected old client ino (Release caps) = refl
+
+-- and the entry is touched
+pub affected-state : (old : State) (client : ClientId) (ino : Ino) (request : EntryRequest) → judged old.scene (entry_event client ino request) ≡ None
+    → (direct old (entry_event client ino request)).state ≡ with_table old (table_after old.scene.table (holder client ino) (revoked_of old.scene (holder client ino)) request)
+affected-state old client ino request free =
+    ap (λ o. (effect_unless old (entry_event client ino request) o).state) free ∙ effect-affected old client ino request
+
+-- ---- rows
+
+-- what a change of any row keeps holds of all rows behind it
+All-change : (Fact : EntryRow → Type 0) (rows : List EntryRow) (k : Holder) (f : Entry → Entry) → ((row : EntryRow) → Fact row → Fact (record row { entry = f row.entry }))
+    → All Fact rows → All Fact (change_rows rows k f)
+All-change Fact [] k f keeps all = all
+All-change Fact (row ∷ rows) k f keeps all =
+    elim (is_row_of k row) as (λ b. All Fact (cond b (record row { entry = f row.entry } ∷ rows) (row ∷ change_rows rows k f))) [
+      | true ↦ All-cons Fact (record row { entry = f row.entry }) rows (keeps row (All-head Fact row rows all)) (All-tail Fact row rows all)
+      | false ↦ All-cons Fact row (change_rows rows k f) (All-head Fact row rows all) (All-change Fact rows k f keeps (All-tail Fact row rows all))
+    ]
+
+-- the row of a holder, with this entry
+abbrev row_with : Holder → Entry → EntryRow
+row_with k e = record { holder = k; entry = e }
+
+-- where a holder had no row, it is its new one that changes
+change-new : (rows : List EntryRow) (k : Holder) (f : Entry → Entry) (e : Entry) → entry_of (find (is_row_of k) rows) ≡ None
+    → change_rows (rows ++ row_with k e ∷ []) k f ≡ rows ++ row_with k (f e) ∷ []
+change-new [] k f e none = ap (λ b. cond b (row_with k (f e) ∷ []) (row_with k e ∷ [])) (same_equiv.refl k)
+change-new (row ∷ rows) k f e none =
+    elim (is_row_of k row) as (λ b. entry_of (cond b (Some row) (find (is_row_of k) rows)) ≡ None
+    → cond b (record row { entry = f row.entry } ∷ (rows ++ row_with k e ∷ [])) (row ∷ change_rows (rows ++ row_with k e ∷ []) k f) ≡ row ∷ (rows ++ row_with k (f e) ∷ [])) [
+      | true ↦ λ none. absurd (cc)
+      | false ↦ λ none. ap (λ rest. row ∷ rest) (change-new rows k f e none)
+    ] none
+
+-- ---- the table
+
+module _ (t : Table) (k : Holder) (is : IsTable t) where
+  table-entry : first_failing (room_for t k) ≡ None → (o : Option Entry) → entry_at t k ≡ o → IsTable (cond (is_some o) t (opened t k))
+  table-entry room (Some e) at = is
+  table-entry room None at = IsTable-opened t k at (ap (λ o. first_failing (cond (is_some o) [] (open_tests t))) (sym at) ∙ room) is
+
+  pub table-affected : (revoked : Caps) (request : EntryRequest) → first_failing (entry_request_tests t k revoked request) ≡ None → IsTable (table_after t k revoked request)
+  table-affected revoked (Open mode) passed =
+      let f : Entry → Entry = λ e. wanting (union e.want (opening_wants mode)) e in
+      IsTable-touched (changed (with_entry t k) k f) k (IsTable-changed (with_entry t k) k f (table-entry passed (entry_at t k) refl))
+  table-affected revoked (Want caps) passed =
+      let f : Entry → Entry = λ e. wanting (union caps (caps_in (P ∷ []))) e in
+      IsTable-touched (changed t k f) k (IsTable-changed t k f is)
+  table-affected revoked (Ack seq) passed =
+      elim (has revoked P) as (λ b. IsTable (cond b (without t k) (changed t k (taken revoked)))) [ true ↦ IsTable-without t k is | false ↦ IsTable-changed t k (taken revoked) is ]
+  table-affected revoked (Release caps) passed = IsTable-released t k caps is
+
+-- the entries on another inode stay
+module _ (t : Table) (k : Holder) (ino : Ino) (apart : ino ≢ k.ino) where
+  others-entry : (b : Bool) → entries_on (cond b t (opened t k)) ino ≡ entries_on t ino
+  others-entry true = refl
+  others-entry false = entries_on-opened t k ino apart
+
+  others-affected : (revoked : Caps) (request : EntryRequest) → entries_on (table_after t k revoked request) ino ≡ entries_on t ino
+  others-affected revoked (Open mode) =
+      entries_on-changed (with_entry t k) k (λ e. wanting (union e.want (opening_wants mode)) e) ino apart ∙ others-entry (is_some (entry_at t k))
+  others-affected revoked (Want caps) = entries_on-changed t k (λ e. wanting (union caps (caps_in (P ∷ []))) e) ino apart
+  others-affected revoked (Ack seq) =
+      elim (has revoked P) as (λ b. entries_on (cond b (without t k) (changed t k (taken revoked))) ino ≡ entries_on t ino) [ true ↦ entries_on-without t k ino apart | false ↦ entries_on-changed t k (taken revoked) ino apart ]
+  others-affected revoked (Release caps) = entries_on-released t k caps ino apart
+
+-- no number rises, and at most one entry is made
+module _ (count : ℕ) (k : Holder) where
+  abbrev IsBelow : EntryRow → Type 0
+  IsBelow row = row.entry.seq ≤ count
+
+  below-entry : (t : Table) → All IsBelow t.rows → (b : Bool) → All IsBelow (cond b t (opened t k)).rows
+  below-entry t all true = all
+  below-entry t all false = All-push IsBelow t.rows (row_with k new_entry) all (omega arith)
+
+  below-less : (t : Table) (f : Entry → Entry) → ((e : Entry) → (f e).seq ≡ e.seq) → All IsBelow t.rows → (b : Bool) → All IsBelow (cond b (without t k) (changed t k f)).rows
+  below-less t f same all true = All-filter (λ row. not (is_row_of k row)) IsBelow t.rows all
+  below-less t f same all false = All-change IsBelow t.rows k f (λ row is. rw (same row.entry) is) all
+
+  pub below-affected : (t : Table) (revoked : Caps) (request : EntryRequest) → All IsBelow t.rows → All IsBelow (table_after t k revoked request).rows
+  below-affected t revoked (Open mode) all =
+      All-change IsBelow (with_entry t k).rows k (λ e. wanting (union e.want (opening_wants mode)) e) (λ row is. is) (below-entry t all (is_some (entry_at t k)))
+  below-affected t revoked (Want caps) all = All-change IsBelow t.rows k (λ e. wanting (union caps (caps_in (P ∷ []))) e) (λ row is. is) all
+  below-affected t revoked (Ack seq) all = below-less t (taken revoked) (λ e. refl) all (has revoked P)
+  below-affected t revoked (Release caps) all = below-less t (given_back caps) (λ e. refl) all (has caps P)
+
+  made-entry : (t : Table) → t.made ≤ count → (b : Bool) → (cond b t (opened t k)).made ≤ count + 1
+  made-entry t made true = omega (arith, made)
+  made-entry t made false = omega (arith, made)
+
+  made-less : (t : Table) (f : Entry → Entry) → t.made ≤ count → (b : Bool) → (cond b (without t k) (changed t k f)).made ≤ count + 1
+  made-less t f made true = omega (arith, made)
+  made-less t f made false = omega (arith, made)
+
+  pub made-affected : (t : Table) (revoked : Caps) (request : EntryRequest) → t.made ≤ count → (table_after t k revoked request).made ≤ count + 1
+  made-affected t revoked (Open mode) made = made-entry t made (is_some (entry_at t k))
+  made-affected t revoked (Want caps) made = omega (arith, made)
+  made-affected t revoked (Ack seq) made = made-less t (taken revoked) made (has revoked P)
+  made-affected t revoked (Release caps) made = made-less t (given_back caps) made (has caps P)
+
+-- ---- sets of capabilities
+
+in-union_left : (a b : Caps) → has a P ≡ true → has (union a b) P ≡ true
+in-union_left a b is = has-union a b P ∙ ap (λ x. x || has b P) is
+
+in-union_right : (a b : Caps) → has b P ≡ true → has (union a b) P ≡ true
+in-union_right a b is = has-union a b P ∙ or_right (has a P) (has b P) is
+
+minus-less : (a b : Caps) → IsSubset (minus a b) a
+minus-less a b c in_it = (and_parts (has a c) (not (has b c)) (sym (has-minus a b c) ∙ in_it)).0
+
+in-minus : (a b : Caps) → has b P ≡ false → has a P ≡ true → has (minus a b) P ≡ true
+in-minus a b out is = has-minus a b P ∙ and_from (has a P) (not (has b P)) is (ap not out)
+
+part-less : (part : Part) (a b : Caps) → IsSubset a b → IsSubset (of_part part a) (of_part part b)
+part-less part a b less c in_it =
+    let both = and_parts (has a c) (covers c part) (sym (has-of_part part a c) ∙ in_it) in
+    has-of_part part b c ∙ and_from (has b c) (covers c part) (less c both.0) both.1
+
+part-none : (part : Part) (more : Caps) → IsSubset (of_part part no_caps) more
+part-none part more c in_it = absurd (true≢false (sym in_it ∙ has-of_part part no_caps c ∙ ap (λ b. b && covers c part) (has-none c)))
+
+wants-pin : (mode : OpenMode) → has (opening_wants mode) P ≡ true
+wants-pin opening.Read = has-caps_in (P ∷ Fs ∷ Fc ∷ Fr ∷ []) P
+wants-pin opening.Write = has-caps_in (P ∷ Fx ∷ Fw ∷ Fb ∷ []) P
+wants-pin opening.ReadWrite = has-caps_in (P ∷ Fs ∷ Fx ∷ Fc ∷ Fr ∷ Fw ∷ Fb ∷ []) P
+
+-- the pin is permitted where something may be read or written
+read-pin : (fs : List ℕ) (o : Option Subject) → is_granted_to fs o access.Read ≡ true → has (permitted_to fs o) P ≡ true
+read-pin fs None may = has-caps_in (P ∷ []) P
+read-pin fs (Some s) may = pin_of_read (question_of fs s) s.grants may
+
+write-pin : (fs : List ℕ) (o : Option Subject) → is_granted_to fs o access.Write ≡ true → has (permitted_to fs o) P ≡ true
+write-pin fs None may = has-caps_in (P ∷ []) P
+write-pin fs (Some s) may = pin_of_write (question_of fs s) s.grants may
+
+rejection_by-denied : (s : Scene) (o : Option Refusal) (d : Option Need) (l : Option Refusal) → rejection_by s o d l ≡ None → d ≡ None
+rejection_by-denied s (Some x) d l e = cc
+rejection_by-denied s None (Some n) l e = cc
+rejection_by-denied s None None l e = refl
+
+met-first : (s : Scene) (n : Need) (rest : List Need) → first_denied s (n ∷ rest) ≡ None → is_met s n ≡ true
+met-first s n rest none = by_test (is_met s n) none
+  where
+    by_test : (b : Bool) → cond (not b) (Some n) (first_denied s rest) ≡ None → b ≡ true
+    by_test true e = refl
+    by_test false e = absurd (cc)
+
+-- so it is for whom an opening is not stopped
+opening-pin : (s : Scene) (client : ClientId) (ino : Ino) (mode : OpenMode) → judged s (event.Open client ino mode) ≡ None → has (permitted s.fs s.tree s.sessions (holder client ino)) P ≡ true
+opening-pin s client ino mode free = by_mode mode (rejection_by-denied s _ _ _ free)
+  where
+    by_mode : (m : OpenMode) → first_denied s (opening_needs client ino.0 m) ≡ None → has (permitted s.fs s.tree s.sessions (holder client ino)) P ≡ true
+    by_mode opening.Read none = read-pin s.fs (subject s.tree s.sessions (holder client ino)) (met-first s (need client ino.0 access.Read) [] none)
+    by_mode opening.Write none = write-pin s.fs (subject s.tree s.sessions (holder client ino)) (met-first s (need client ino.0 access.Write) [] none)
+    by_mode opening.ReadWrite none = read-pin s.fs (subject s.tree s.sessions (holder client ino)) (met-first s (need client ino.0 access.Read) (need client ino.0 access.Write ∷ []) none)
+
+-- ---- an entry whose pin is held
+
+-- what every state keeps of an entry, but that what is due is held
+pub record IsKeptEntry (s : Scene) (row : EntryRow) : Type 0 where
+  pub of_session : IsTrue (has_session s.sessions row.holder.client.0)
+  pub on_inode : IsTrue (map.contains_key s.tree.nodes row.holder.ino.0)
+  pub wants_pin : IsTrue (has row.entry.want P)
+  pub holds_pin : IsTrue (has row.entry.held P)
+  pub in_row : (part : Part) → IsInRow s row part
+  pub told : row.entry.told_seq ≤ row.entry.seq
+  pub revoked : row.entry.revoke_seq ≤ row.entry.seq
+
+-- so an event may leave it, where its client has a session still, and the same inodes and locks are there
+pub kept-left : (s new : Scene) (row : EntryRow) → has_session new.sessions row.holder.client.0 ≡ has_session s.sessions row.holder.client.0 → new.locks.states ≡ s.locks.states
+    → ((ino : ℕ) → map.contains_key new.tree.nodes ino ≡ map.contains_key s.tree.nodes ino) → IsKeptEntry s row → IsAffectedEntry new row
+kept-left s new row sessions states known is = record {
+  of_session = sessions ∙ is.of_session;
+  on_inode = known row.holder.ino.0 ∙ is.on_inode;
+  wants_pin = is.wants_pin;
+  pin = ap (λ b. b || has (effective_want new.fs new.tree new.sessions row) P) is.holds_pin;
+  in_row = λ part. subst (λ (m : StateMap). IsInRowOf row part (option_map (lock_in part) (map.get m row.holder.ino.0))) (sym states) (is.in_row part);
+  told = is.told;
+  revoked = is.revoked;
+}
+
+kept-affected : (s : Scene) (t : Table) (row : EntryRow) → IsKeptEntry s row → IsAffectedEntry (record s { table = t }) row
+kept-affected s t row is = kept-left s (record s { table = t }) row refl refl (λ ino. refl) is
+
+-- and every state keeps it
+pub sound-kept : (old : State) → IsSound old → IsTable old.scene.table → All (IsKeptEntry old.scene) old.scene.table.rows
+sound-kept old sound table =
+    All-weaker (Contains old.scene.table.rows) (IsKeptEntry old.scene) each old.scene.table.rows (All-contains_itself old.scene.table.rows)
+  where
+    each : (row : EntryRow) → Contains old.scene.table.rows row → IsKeptEntry old.scene row
+    each row inside = let was = All-contains (IsSoundEntry old.scene) old.scene.table.rows row sound.entries inside in record {
+      of_session = was.of_session;
+      on_inode = was.on_inode;
+      wants_pin = was.wants_pin;
+      holds_pin = was.holds_pin;
+      in_row = λ part. placed-in_row old.scene row part (lock_at old.scene.locks row.holder.ino.0 part) (sound.in_place row part (row_found old.scene.table row table inside));
+      told = was.told;
+      revoked = was.revoked;
+    }
+
+-- so all are left, where the same sessions, inodes and locks are there
+pub all-left : (old : State) (new : Scene) → IsSound old → IsTable old.scene.table → new.sessions ≡ old.scene.sessions → new.locks.states ≡ old.scene.locks.states
+    → ((ino : ℕ) → map.contains_key new.tree.nodes ino ≡ map.contains_key old.scene.tree.nodes ino) → All (IsAffectedEntry new) old.scene.table.rows
+all-left old new sound table sessions states known =
+    All-weaker (IsKeptEntry old.scene) (IsAffectedEntry new) (λ row. kept-left old.scene new row (ap (λ (t : SessionTable). has_session t row.holder.client.0) sessions) states known) old.scene.table.rows
+    (sound-kept old sound table)
+
+-- what holds less is where it was
+less-in_row : (row : EntryRow) (e : Entry) (part : Part) (o : Option LockState) → IsSubset e.held row.entry.held → IsInRowOf row part o → IsInRowOf (record row { entry = e }) part o
+less-in_row row e part None less is = λ c held. is c (part-less part e.held row.entry.held less c held)
+less-in_row row e part (Some lock) less is = λ c held. is c (part-less part e.held row.entry.held less c held)
+
+-- an entry that holds no more than it did, and still the pin
+less-kept : (s : Scene) (row : EntryRow) (e : Entry) → IsSubset e.held row.entry.held → IsTrue (has e.held P) → IsTrue (has e.want P)
+    → e.seq ≡ row.entry.seq → e.told_seq ≡ row.entry.told_seq → e.revoke_seq ≡ row.entry.revoke_seq → IsKeptEntry s row → IsKeptEntry s (record row { entry = e })
+less-kept s row e less held wanted seq told revoked was = record {
+  of_session = was.of_session;
+  on_inode = was.on_inode;
+  wants_pin = wanted;
+  holds_pin = held;
+  in_row = λ part. less-in_row row e part (lock_at s.locks row.holder.ino.0 part) less (was.in_row part);
+  told = rw (seq, told) was.told;
+  revoked = rw (seq, revoked) was.revoked;
+}
+
+module _ (s : Scene) (k : Holder) where
+  abbrev IsKept : EntryRow → Type 0
+  IsKept row = IsKeptEntry s row
+
+  -- where more is wanted
+  want-kept : (rows : List EntryRow) (f : Caps → Caps) → ((want : Caps) → has want P ≡ true → has (f want) P ≡ true) → All IsKept rows
+      → All IsKept (change_rows rows k (λ e. wanting (f e.want) e))
+  want-kept rows f keeps all =
+      All-change IsKept rows k (λ e. wanting (f e.want) e)
+      (λ row was. less-kept s row (wanting (f row.entry.want) row.entry) (λ c held. held) was.holds_pin (keeps row.entry.want was.wants_pin) refl refl refl was) all
+
+  -- where these are held no more, and wanted no more than this makes of it; with the pin the entry goes
+  lost-kept : (t : Table) (caps : Caps) (wanted : Caps → Caps) → ((want : Caps) → has caps P ≡ false → has want P ≡ true → has (wanted want) P ≡ true) → (b : Bool) → has caps P ≡ b → All IsKept t.rows
+      → All IsKept (cond b (without t k) (changed t k (λ e. record e { held = minus e.held caps; want = wanted e.want }))).rows
+  lost-kept t caps wanted keeps true pin all = All-filter (λ row. not (is_row_of k row)) IsKept t.rows all
+  lost-kept t caps wanted keeps false no_pin all =
+      All-change IsKept t.rows k (λ e. record e { held = minus e.held caps; want = wanted e.want })
+      (λ row was. less-kept s row (record row.entry { held = minus row.entry.held caps; want = wanted row.entry.want }) (minus-less row.entry.held caps) (in-minus row.entry.held caps no_pin was.holds_pin)
+      (keeps row.entry.want no_pin was.wants_pin) refl refl refl was) all
+
+  acked-kept : (t : Table) (caps : Caps) → All IsKept t.rows → All IsKept (acked t k caps).rows
+  acked-kept t caps = lost-kept t caps (λ want. want) (λ want no_pin is. is) (has caps P) refl
+
+  released-kept : (t : Table) (caps : Caps) → All IsKept t.rows → All IsKept (released t k caps).rows
+  released-kept t caps = lost-kept t caps (λ want. minus want caps) (λ want. in-minus want caps) (has caps P) refl
+
+-- ---- an entry that an opening makes
+
+not_false : (b : Bool) → not b ≡ false → b ≡ true
+not_false true is = refl
+not_false false is = sym is
+
+there : (o : Option Node) → is_no_ino (place_at (option_map (λ n. n.site) o)) ≡ false → is_some o ≡ true
+there None known = sym known
+there (Some node) known = refl
+
+module _ (s : Scene) (client : ClientId) (ino : Ino) (asked : first_failing (asked_tests s client ino.0) ≡ None) where
+  both : (first_failing (session_tests s.sessions client.0) ≡ None) × (first_failing (inode_tests s.tree ino.0) ≡ None)
+  both = passed-both (session_tests s.sessions client.0) (inode_tests s.tree ino.0) asked
+
+  pub asked-session : has_session s.sessions client.0 ≡ true
+  asked-session = not-false (has_session s.sessions client.0) (passed-if _ refusal.NoSession _ both.0).0
+
+  asked-open : is_open_status (status_of s.sessions client.0) ≡ true
+  asked-open =
+      not_false (is_open_status (status_of s.sessions client.0))
+      (passed-if (not (is_open_status (status_of s.sessions client.0))) refusal.SessionStale None (passed-if (not (has_session s.sessions client.0)) refusal.NoSession _ both.0).1).0
+
+  pub asked-there : map.contains_key s.tree.nodes ino.0 ≡ true
+  asked-there = there (map.get s.tree.nodes ino.0) (passed-if (is_no_ino (place s.tree.nodes ino.0)) refusal.NoIno _ both.1).0
+
+  none_in_row : (row : EntryRow) (part : Part) (o : Option LockState) → row.entry.held ≡ no_caps → IsInRowOf row part o
+  none_in_row row part None none = subst (λ caps. IsSubset (of_part part caps) no_caps) (sym none) (part-none part no_caps)
+  none_in_row row part (Some lock) none =
+      let allowed : Caps = row_of part (present_state (Some lock)) row.holder.client in
+      subst (λ caps. IsSubset (of_part part caps) allowed) (sym none) (part-none part allowed)
+
+  -- it holds nothing, and wants what the opening takes: the pin is due
+  new-affected : has (permitted s.fs s.tree s.sessions (holder client ino)) P ≡ true → (t : Table) (want : Caps) → has want P ≡ true → IsAffectedEntry (record s { table = t }) (row_with (holder client ino) (wanting want new_entry))
+  new-affected may t want wanted = record {
+    of_session = asked-session;
+    on_inode = asked-there;
+    wants_pin = wanted;
+    pin = or_right (has no_caps P) _ pin_due;
+    in_row = λ part. none_in_row (row_with (holder client ino) (wanting want new_entry)) part (lock_at s.locks ino.0 part) refl;
+    told = omega arith;
+    revoked = omega arith;
+  }
+    where
+      pin_due : has (effective_want s.fs s.tree s.sessions (row_with (holder client ino) (wanting want new_entry))) P ≡ true
+      pin_due =
+          ap (λ b. has (cond b (meet want (permitted s.fs s.tree s.sessions (holder client ino))) no_caps) P) asked-open
+          ∙ has-meet want (permitted s.fs s.tree s.sessions (holder client ino)) P
+          ∙ and_from _ _ wanted may
+
+-- ---- the entries, as the event leaves them
+
+-- what is outside of a state is not changed by what is wanted, nor by one entry more
+any-changed : (p q : EntryRow → Bool) (k : Holder) (f : Entry → Entry) → ((row : EntryRow) → p (record row { entry = f row.entry }) ≡ p row) → ((row : EntryRow) → q (record row { entry = f row.entry }) ≡ q row)
+    → (rows : List EntryRow) → list_any p (filter q (change_rows rows k f)) ≡ list_any p (filter q rows)
+any-changed p q k f same_p same_q [] = refl
+any-changed p q k f same_p same_q (row ∷ rows) = elim (is_row_of k row) as (λ b. list_any p (filter q (cond b (record row { entry = f row.entry } ∷ rows) (row ∷ change_rows rows k f))) ≡ list_any p (filter q (row ∷ rows))) [
+  | true ↦ ap (λ b. list_any p (cond b (record row { entry = f row.entry } ∷ filter q rows) (filter q rows))) (same_q row)
+      ∙ (elim (q row) as (λ b. list_any p (cond b (record row { entry = f row.entry } ∷ filter q rows) (filter q rows)) ≡ list_any p (cond b (row ∷ filter q rows) (filter q rows))) [
+        | true ↦ ap (λ b. b || list_any p (filter q rows)) (same_p row)
+        | false ↦ refl
+      ])
+  | false ↦ elim (q row) as (λ b. list_any p (cond b (row ∷ filter q (change_rows rows k f)) (filter q (change_rows rows k f))) ≡ list_any p (cond b (row ∷ filter q rows) (filter q rows))) [
+    | true ↦ ap (λ b. p row || b) (any-changed p q k f same_p same_q rows)
+    | false ↦ any-changed p q k f same_p same_q rows
+  ]
+]
+
+any-more : (p q : EntryRow → Bool) (rows more : List EntryRow) → list_any p (filter q rows) ≡ true → list_any p (filter q (rows ++ more)) ≡ true
+any-more p q rows more is = ap (list_any p) (filter-append q rows more) ∙ list_any-append p (filter q rows) (filter q more) ∙ ap (λ b. b || list_any p (filter q more)) is
+
+any-entry : (p q : EntryRow → Bool) (t : Table) (k : Holder) → list_any p (filter q t.rows) ≡ true → list_any p (filter q (with_entry t k).rows) ≡ true
+any-entry p q t k is = elim (is_some (entry_at t k)) as (λ b. list_any p (filter q (cond b t (opened t k)).rows) ≡ true) [ true ↦ is | false ↦ any-more p q t.rows (row_with k new_entry ∷ []) is ]
+
+module _ (old : State) (client : ClientId) (ino : Ino) (sound : IsSound old) (table : IsTable old.scene.table) where
+  pinned : (rows : List EntryRow) → All (IsKeptEntry old.scene) rows → (row : EntryRow) → Contains rows row → has row.entry.held P ≡ false → ⊥
+  pinned rows all row inside none = let kept = All-contains (IsKeptEntry old.scene) rows row all inside in true≢false (sym kept.holds_pin ∙ none)
+
+  abbrev k : Holder
+  k = holder client ino
+
+  abbrev t : Table
+  t = old.scene.table
+
+  abbrev Left : Table → EntryRow → Type 0
+  Left new row = IsAffectedEntry (record old.scene { table = new }) row
+
+  all_kept : All (IsKeptEntry old.scene) t.rows
+  all_kept = sound-kept old sound table
+
+  left : (new : Table) (rows : List EntryRow) → All (IsKeptEntry old.scene) rows → All (Left new) rows
+  left new rows all = All-weaker (IsKeptEntry old.scene) (Left new) (λ row. kept-affected old.scene new row) rows all
+
+  left-opening : (mode : OpenMode) (new : Table) → has (permitted old.scene.fs old.scene.tree old.scene.sessions (holder client ino)) P ≡ true → first_failing (asked_tests old.scene client ino.0) ≡ None → (o : Option Entry) → entry_at t k ≡ o
+      → All (Left new) (change_rows (cond (is_some o) t (opened t k)).rows k (λ e. wanting (union e.want (opening_wants mode)) e))
+  left-opening mode new may asked (Some e) at =
+      left new _ (want-kept old.scene k t.rows (λ want. union want (opening_wants mode)) (λ want is. in-union_left want (opening_wants mode) is) all_kept)
+  left-opening mode new may asked None at =
+      All-same (Left new) _ _ (change-new t.rows k (λ e. wanting (union e.want (opening_wants mode)) e) new_entry at)
+      (All-push (Left new) t.rows _ (left new t.rows all_kept) (new-affected old.scene client ino asked may new (union no_caps (opening_wants mode)) (in-union_right no_caps (opening_wants mode) (wants-pin mode))))
+
+  left-affected : (request : EntryRequest) (new : Table) → judged old.scene (entry_event client ino request) ≡ None → All (Left new) (table_after t k (revoked_of old.scene k) request).rows
+  left-affected (Open mode) new free = left-opening mode new (opening-pin old.scene client ino mode free) (before-passed old.scene (event.Open client ino mode) free) (entry_at t k) refl
+  left-affected (Want caps) new free =
+      left new _ (want-kept old.scene k t.rows (λ want. union caps (caps_in (P ∷ []))) (λ want is. in-union_right caps (caps_in (P ∷ [])) (has-caps_in (P ∷ []) P)) all_kept)
+  left-affected (Ack seq) new free = left new _ (acked-kept old.scene k t (revoked_of old.scene k) all_kept)
+  left-affected (Release caps) new free = left new _ (released-kept old.scene k t caps all_kept)
+
+  -- ---- who waits
+
+  -- of all rows but a new one the pin is held
+  calm-affected : (request : EntryRequest) → (row : EntryRow) → Contains (table_after t k (revoked_of old.scene k) request).rows row → has row.entry.held P ≡ false
+      → WaitAt (λ q. false) (record old.scene { table = table_after t k (revoked_of old.scene k) request })
+  calm-affected (Open mode) row inside none = λ q waits off.
+      let held = sound-waits old sound q waits off in
+      record { from = held.from; to = held.to; gathers = held.gathers; is_held = opened-open mode q.ino.0 (part_of_ask q.ask) held.to held.is_held }
+    where
+      opened-open : (m : OpenMode) (i : ℕ) (part : Part) (to : LockGoal) → is_open old.scene i part to ≡ true → is_open (record old.scene { table = table_after t k (revoked_of old.scene k) (Open m) }) i part to ≡ true
+      opened-open m i part to is =
+          any-changed (λ r. not (is_empty (outside part to r))) (is_of_inode (record { 0 = i })) k (λ e. wanting (union e.want (opening_wants m)) e) (λ r. refl) (λ r. refl) (with_entry t k).rows
+          ∙ any-entry (λ r. not (is_empty (outside part to r))) (is_of_inode (record { 0 = i })) t k is
+  calm-affected (Want caps) row inside none =
+      absurd (pinned _ (want-kept old.scene k t.rows (λ want. union caps (caps_in (P ∷ []))) (λ want is. in-union_right caps (caps_in (P ∷ [])) (has-caps_in (P ∷ []) P)) all_kept) row inside none)
+  calm-affected (Ack seq) row inside none = absurd (pinned _ (acked-kept old.scene k t (revoked_of old.scene k) all_kept) row inside none)
+  calm-affected (Release caps) row inside none = absurd (pinned _ (released-kept old.scene k t caps all_kept) row inside none)
+
+-- ---- the event
+
+pub affects-affected : (old : State) (k : Holder) (request : EntryRequest) → IsSound old → IsTable old.scene.table → judged old.scene (entry_event k.client k.ino request) ≡ None
+    → AffectsOne k.ino.0 old (direct old (entry_event k.client k.ino request)).state.scene
+affects-affected old k request sound table free =
+    subst (λ (s : State). AffectsOne k.ino.0 old s.scene) (sym (affected-state old k.client k.ino request free)) (record {
+      same = same-entries k.ino.0 old.scene (table_after old.scene.table k (revoked_of old.scene k) request)
+          (λ other apart. others-affected old.scene.table k other (λ same. apart (ap (λ (i : Ino). i.0) same)) (revoked_of old.scene k) request);
+      states = refl;
+      known = λ other. refl;
+      locked = sound.locked;
+      waiting = sound.waiting;
+      at_lock = λ part none. subst (IsQuiet old.scene k.ino.0 part) none (sound.at_rest.each k.ino.0 part);
+      each =
+          All-filter (is_of_inode (record { 0 = k.ino.0 })) (IsAffectedEntry (record old.scene { table = table_after old.scene.table k (revoked_of old.scene k) request }))
+          (table_after old.scene.table k (revoked_of old.scene k) request).rows
+          (left-affected old k.client k.ino sound table request (table_after old.scene.table k (revoked_of old.scene k) request) free);
+      calm = calm-affected old k.client k.ino sound table request;
+    })
+
+-- ---- what it leaves of numbers, and what it leaves out
+
+-- no entry has a higher number, and at most one more entry is made and one more request numbered
+abbrev pub AreBelow : ℕ → State → Type 0
+AreBelow count s = All (λ row. row.entry.seq ≤ count) s.scene.table.rows × (s.scene.table.made ≤ count + 1) × (s.scene.locks.last ≤ count + 1)
+
+-- no request is dropped, and the messages stay
+abbrev pub Keeps : State → Direct → Type 0
+Keeps old d = (d.dropped ≡ []) × (d.state.messages ≡ old.messages)
+
+pub table-of_request : (old : State) (k : Holder) (request : EntryRequest) → IsTable old.scene.table → judged old.scene (entry_event k.client k.ino request) ≡ None
+    → IsTable (direct old (entry_event k.client k.ino request)).state.scene.table
+table-of_request old k request table free =
+    subst (λ (s : State). IsTable s.scene.table) (sym (affected-state old k.client k.ino request free))
+    (table-affected old.scene.table k table (revoked_of old.scene k) request (affected-tests old.scene k.client k.ino request free))
+
+pub below-of_request : (count : ℕ) (old : State) (k : Holder) (request : EntryRequest) → AreGiven count old → AreBelow count (effect old (entry_event k.client k.ino request)).state
+below-of_request count old k request given =
+    let last = given.last in
+    subst (AreBelow count) (sym (effect-affected old k.client k.ino request))
+    (below-affected count k old.scene.table (revoked_of old.scene k) request given.entries, made-affected count k old.scene.table (revoked_of old.scene k) request given.made, omega (arith, last))
+
+pub keeps-of_request : (old : State) (k : Holder) (request : EntryRequest) → Keeps old (effect old (entry_event k.client k.ino request))
+keeps-of_request old k (Open mode) = (refl, refl)
+keeps-of_request old k (Want caps) = (refl, refl)
+keeps-of_request old k (Ack seq) = (refl, refl)
+keeps-of_request old k (Release caps) = (refl, refl)
+
+pub locks-of_request : (old : State) (k : Holder) (request : EntryRequest) → (effect old (entry_event k.client k.ino request)).state.scene.locks ≡ old.scene.locks
+locks-of_request old k request = ap (λ (s : State). s.scene.locks) (effect-affected old k.client k.ino request)

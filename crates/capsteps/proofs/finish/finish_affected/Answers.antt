@@ -1,0 +1,89 @@
+use Rattle.std.proofs.Common.{◌≡◌, ◌==◌, ◌++◌, eq-eqb, ℕ, ◌<◌, List, [], ◌∷◌, Option, refl, sym, ap, subst, ◌∙◌}
+use Rattle.std.specs.Prelude.{IsTrue, All}
+use Rattle.std.specs.FinMap as map
+use Rattle.std.specs.List.{list_any, IsDistinct}
+use Rattle.std.specs.Option.{unwrap_or}
+use Rattle.std.specs.Map.Iter.{deref}
+use Rattle.std.proofs.lemmas.Bool.{eqb-true}
+use Rattle.std.proofs.lemmas.List.Elements.{All-filter}
+use Rattle.std.proofs.lemmas.Map.Iter.{rest_more, rest_all}
+use Rattle.capbits.specs.Caps.{Caps}
+use Rattle.capbits.specs.Sets.{no_caps}
+use Rattle.sessiontab.specs.Calls.{has_session}
+use Rattle.captable.specs.declared.entry.Entry.{Entry}
+use Rattle.captable.specs.declared.entry.EntryRow.{EntryRow}
+use Rattle.captable.specs.Table.{Table}
+use Rattle.captable.specs.Calls.{is_of_inode, entries_on}
+use Rattle.capacts.specs.Lockmachine.declared.states.InodeLocks.{InodeLocks}
+use Rattle.capacts.specs.Finishing.{told_at, told_by, entry_under, entry_by}
+use Rattle.capacts.specs.Capnotes.InoSets.{InoSet, IsListOf}
+use Rattle.capacts.specs.Known.{known_in, HaveRoom}
+use Rattle.capsteps.proofs.AtEnd.{entry-alike}
+use Rattle.capacts.proofs.KeptSets.{kept-as, room-still}
+use Rattle.capsteps.proofs.ManyInodes.{same_number, on, IsFinishing, none-finished, next-finished, next-apart, all-finished, holders-stay, entries_on-stay}
+use Rattle.capsteps.proofs.finish.finish_affected.Goals as goal
+
+pub loop-number-init : goal.loop-number-init
+loop-number-init c =
+    let g : EntryRow → Entry = entry_by (known_in c.args.known.now.sets) c.args.policy.now.fs.now c.args.policy.now.tree.now c.args.policy.now.sessions.now c.args.locks.now.states in
+    let f : EntryRow → Caps = told_by c.args.policy.now.fs.now c.args.policy.now.tree.now c.args.policy.now.sessions.now c.args.locks.now.states in
+    record { so_far = none-finished g f c.args.table.now c.args.known.now.sets c.into_iter-number-iterator.result }
+
+pub finish_entries-requires : goal.finish_entries-requires
+finish_entries-requires c =
+    let t : Table = c.args.table.now in
+    let g : EntryRow → Entry = entry_by (known_in c.args.known.now.sets) c.args.policy.now.fs.now c.args.policy.now.tree.now c.args.policy.now.sessions.now c.args.locks.now.states in
+    let f : EntryRow → Caps = told_by c.args.policy.now.fs.now c.args.policy.now.tree.now c.args.policy.now.sessions.now c.args.locks.now.states in
+    let k : ℕ = c.in-Some.number.now in
+    let ks : List ℕ = c.next.new.self in
+    let rest : c.loop-number.number-iterator ≡ k ∷ ks = rest_more deref _ _ _ _ c.in-Some.is c.next.ensures.steps in
+    let s = c.loop-number.invariant.so_far in
+    let all : List ℕ = c.into_iter-number-iterator.result in
+    let lists : IsListOf c.args.affected.now all = subst (IsListOf c.args.affected.now) (sym c.into_iter-number-iterator.ensures.into_iter_gives) c.numbers-number-items.ensures.list in
+    let apart = next-apart s.done k ks (subst (IsDistinct same_number) (sym s.named ∙ ap (λ left. s.done ++ left) rest) lists.once) in
+    record {
+      numbers = subst (All (λ (row : EntryRow). row.entry.seq < 18446744073709551615))
+          (sym (ap (λ (u : Table). entries_on u (record { 0 = k })) s.finished ∙ entries_on-stay (λ n. list_any (same_number n) s.done) g (record { 0 = k }) (apart k (eq-eqb k k refl)) t))
+          (All-filter (is_of_inode (record { 0 = k })) (λ row. row.entry.seq < 18446744073709551615) t.rows c.requires.entries.numbers);
+      clients = subst (λ (u : Table). All (λ row. IsTrue (has_session c.args.policy.now.sessions.now row.holder.client.0)) u.rows) (sym s.finished)
+          (holders-stay (on (λ n. list_any (same_number n) s.done)) g (λ h. IsTrue (has_session c.args.policy.now.sessions.now h.client.0)) t c.requires.entries.clients);
+      room = subst (HaveRoom c.loop-number.known.sets) (sym s.finished)
+          (room-still (λ q. list_any (same_number q.ino.0) s.done) f t c.args.known.now.sets c.loop-number.known.sets (on (λ n. list_any (same_number n) s.done)) g s.kept c.requires.entries.room);
+    }
+
+pub loop-number-preserved : goal.loop-number-preserved
+loop-number-preserved c =
+    let t : Table = c.args.table.now in
+    let g : EntryRow → Entry = entry_by (known_in c.args.known.now.sets) c.args.policy.now.fs.now c.args.policy.now.tree.now c.args.policy.now.sessions.now c.args.locks.now.states in
+    let f : EntryRow → Caps = told_by c.args.policy.now.fs.now c.args.policy.now.tree.now c.args.policy.now.sessions.now c.args.locks.now.states in
+    let k : ℕ = c.in-Some.number.now in
+    let ks : List ℕ = c.next.new.self in
+    let rest : c.loop-number.number-iterator ≡ k ∷ ks = rest_more deref _ _ _ _ c.in-Some.is c.next.ensures.steps in
+    let all : List ℕ = c.into_iter-number-iterator.result in
+    let lists : IsListOf c.args.affected.now all = subst (IsListOf c.args.affected.now) (sym c.into_iter-number-iterator.ensures.into_iter_gives) c.numbers-number-items.ensures.list in
+    let h : EntryRow → Entry = entry_under (known_in c.loop-number.known.sets) c.args.policy.now.fs.now c.args.policy.now.tree.now c.args.policy.now.sessions.now c.of_ino-now.result in
+    record {
+      so_far =
+          next-finished g f t c.args.known.now.sets all k ks c.loop-number.table c.loop-number.known.sets h c.finish_entries.new.table c.finish_entries.new.known.sets
+          lists.once
+          (subst (λ (left : List ℕ). IsFinishing g f t c.args.known.now.sets all left c.loop-number.table c.loop-number.known.sets) rest c.loop-number.invariant.so_far)
+          c.finish_entries.ensures.table
+          (λ row is kept.
+          entry-alike (known_in c.loop-number.known.sets) (known_in c.args.known.now.sets) c.args.policy.now.fs.now c.args.policy.now.tree.now c.args.policy.now.sessions.now c.of_ino-now.result c.args.locks.now.states row
+          (ap (λ (o : Option Caps). unwrap_or o no_caps) kept) (c.of_ino-now.ensures ∙ sym (ap (map.get c.args.locks.now.states) (eqb-true row.holder.ino.0 k is))))
+          (kept-as (λ q. q.ino.0 == k) (told_at c.args.policy.now.fs.now c.args.policy.now.tree.now c.args.policy.now.sessions.now c.of_ino-now.result) f c.loop-number.table c.loop-number.known.sets c.finish_entries.new.known.sets
+          (λ row is. ap (λ (o : Option InodeLocks). told_at c.args.policy.now.fs.now c.args.policy.now.tree.now c.args.policy.now.sessions.now o row) (c.of_ino-now.ensures ∙ sym (ap (map.get c.args.locks.now.states) (eqb-true row.holder.ino.0 k is))))
+          c.finish_entries.ensures.known);
+    }
+
+pub returns : goal.returns
+returns c =
+    let g : EntryRow → Entry = entry_by (known_in c.args.known.now.sets) c.args.policy.now.fs.now c.args.policy.now.tree.now c.args.policy.now.sessions.now c.args.locks.now.states in
+    let f : EntryRow → Caps = told_by c.args.policy.now.fs.now c.args.policy.now.tree.now c.args.policy.now.sessions.now c.args.locks.now.states in
+    let inos : InoSet = c.args.affected.now in
+    let all : List ℕ = c.into_iter-number-iterator.result in
+    let lists : IsListOf inos all = subst (IsListOf inos) (sym c.into_iter-number-iterator.ensures.into_iter_gives) c.numbers-number-items.ensures.list in
+    let none : c.loop-number.number-iterator ≡ [] = rest_all deref _ _ _ c.in-None.is c.next.ensures.steps in
+    let done = all-finished g f c.args.table.now c.args.known.now.sets inos all c.loop-number.table c.loop-number.known.sets lists
+    (subst (λ (left : List ℕ). IsFinishing g f c.args.table.now c.args.known.now.sets all left c.loop-number.table c.loop-number.known.sets) none c.loop-number.invariant.so_far) in
+    record { table = done.0; known = done.1 }

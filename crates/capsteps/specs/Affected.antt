@@ -1,0 +1,212 @@
+-- Events that are about one inode or about many, and how their steps end.
+use Rattle.std.specs.Prelude.{◌≡◌, ◌≤◌, ℕ, Bool, true, false, not, ◌||◌, List, Option, Some, None, Contains, IsTrue, All, if◌then◌else◌}
+use Rattle.std.specs.FinMap as map
+use Rattle.capbits.specs.declared.cap.Cap.TheVariants.{P}
+use Rattle.capbits.specs.declared.cap.Part.{Part}
+use Rattle.capbits.specs.declared.ids.ClientId.{ClientId}
+use Rattle.capbits.specs.Caps.{Caps, has}
+use Rattle.capbits.specs.Sets.{meet}
+use Rattle.inotree.specs.Calls.{forgotten}
+use Rattle.inotree.specs.Tree.{place}
+use Rattle.inotree.specs.Alike.{IsAlike}
+use Rattle.sessiontab.specs.Calls.{has_session}
+use Rattle.captable.specs.declared.entry.Entry.{Entry}
+use Rattle.captable.specs.declared.entry.EntryRow.{EntryRow}
+use Rattle.captable.specs.declared.entry.Holder.{Holder}
+use Rattle.captable.specs.Table.{Table, holder}
+use Rattle.captable.specs.Calls.{entries_on, renumbered}
+use Rattle.captable.specs.Many.{changed_where}
+use Rattle.capacts.specs.Lockmachine.declared.request.Ask.{Ask}
+use Rattle.capacts.specs.Lockmachine.declared.request.Ask.TheVariants.{Get, Alter, Unlink, Rmdir, Rename}
+use Rattle.capacts.specs.Lockmachine.Elsewhere.{IsSameBut, IsSameOutside}
+use Rattle.capacts.specs.Lockmachine.Wants.{effective_want}
+use Rattle.capacts.specs.Lockmachine.Requests.{first_for}
+use Rattle.capacts.specs.Lockmachine.Locks.{lock_at, without_ino}
+use Rattle.capacts.specs.Lockmachine.declared.scene.Scene.{Scene}
+use Rattle.capacts.specs.Lockmachine.Scene.{told_set}
+use Rattle.capacts.specs.Lockmachine.Rows.{IsInRow}
+use Rattle.capacts.specs.Lockmachine.Turns.{WaitAt}
+use Rattle.capacts.specs.Capevents.declared.event.Event.{Event}
+use Rattle.capacts.specs.Capevents.declared.event.Event.TheVariants as event
+use Rattle.capacts.specs.Caprules.Finish.{issue_row, is_in_use}
+use Rattle.capacts.specs.Caprules.Settle.{Made, Settles}
+use Rattle.capacts.specs.Caprules.State.{State}
+
+-- what an event is about
+pub data Scope : Type 0 where
+  -- a new session, a new inode, or what nobody holds
+  Alone : Scope
+  -- whose session it ends or marks, or whose grants it replaces
+  OfClient : ClientId → Scope
+  -- who asks, and of which inode, where it is about the entry on it
+  OnEntry : Holder → Scope
+  -- and where it may wait for a lock of the inode, what it asks for
+  Waiting : Holder → Ask → Scope
+  -- it is answered with a list: of messages, or of who is asked to give back
+  Listing : Scope
+
+abbrev pub scope : Event → Scope
+scope (event.Session client caller grants) = Alone
+scope (event.CloseSession client) = OfClient client
+scope (event.Mark client status) = OfClient client
+scope (event.Regrant client grants) = OfClient client
+scope (event.Evict client) = OfClient client
+scope (event.Unblock client) = Alone
+scope (event.Recall count) = Listing
+scope (event.Lookup client dir name) = Alone
+scope (event.Create client dir name mode) = Alone
+scope (event.Mkdir client dir name mode) = Alone
+scope (event.MakeSnapshot client ino name) = Alone
+scope (event.RemoveSnapshot client ino name) = Alone
+scope (event.Open client ino mode) = OnEntry (holder client ino)
+scope (event.Want client ino caps) = OnEntry (holder client ino)
+scope (event.Ack client ino seq) = OnEntry (holder client ino)
+scope (event.Release client ino caps) = OnEntry (holder client ino)
+scope (event.Get client ino part) = Waiting (holder client ino) (Get part)
+scope (event.Alter client ino change) = Waiting (holder client ino) (Alter change)
+scope (event.Unlink client ino) = Waiting (holder client ino) Unlink
+scope (event.Rmdir client ino) = Waiting (holder client ino) Rmdir
+scope (event.Rename client ino dir name) = Waiting (holder client ino) (Rename dir name)
+scope (event.Flush client ino change) = OnEntry (holder client ino)
+scope (event.Poll client max) = Listing
+
+abbrev pub affected_in : Scope → Option Holder
+affected_in Alone = None
+affected_in (OfClient client) = None
+affected_in (OnEntry k) = Some k
+affected_in (Waiting k ask) = Some k
+affected_in Listing = None
+
+-- who asks, and of which inode, where the event is about one that is there already: about an entry on it, or about what it keeps
+abbrev pub affected_by : Event → Option Holder
+affected_by e = affected_in (scope e)
+
+abbrev pub session_changed_in : Scope → Option ClientId
+session_changed_in Alone = None
+session_changed_in (OfClient client) = Some client
+session_changed_in (OnEntry k) = None
+session_changed_in (Waiting k ask) = None
+session_changed_in Listing = None
+
+-- whose session an event ends or marks, or whose grants it replaces
+abbrev pub session_changed_by : Event → Option ClientId
+session_changed_by e = session_changed_in (scope e)
+
+abbrev pub asks_in : Scope → Option (Holder × Ask)
+asks_in Alone = None
+asks_in (OfClient client) = None
+asks_in (OnEntry k) = None
+asks_in (Waiting k ask) = Some (k, ask)
+asks_in Listing = None
+
+-- of an event that waits for a lock, who asks, of which inode, and what
+abbrev pub asks_for : Event → Option (Holder × Ask)
+asks_for e = asks_in (scope e)
+
+abbrev pub lists_in : Scope → Bool
+lists_in Alone = false
+lists_in (OfClient client) = false
+lists_in (OnEntry k) = false
+lists_in (Waiting k ask) = false
+lists_in Listing = true
+
+-- the event is answered with a list: of messages, or of who is asked to give back
+abbrev pub is_listing : Event → Bool
+is_listing e = lists_in (scope e)
+
+-- ---- what they leave
+
+-- an entry on the inode, as the event leaves it: all that every state keeps of one, but that what is due need not be held yet; the
+-- pin, where it is not held, is due
+pub record IsAffectedEntry (s : Scene) (row : EntryRow) : Type 0 where
+  pub of_session : IsTrue (has_session s.sessions row.holder.client.0)
+  pub on_inode : IsTrue (map.contains_key s.tree.nodes row.holder.ino.0)
+  pub wants_pin : IsTrue (has row.entry.want P)
+  pub pin : IsTrue (has row.entry.held P || has (effective_want s.fs s.tree s.sessions row) P)
+  pub in_row : (part : Part) → IsInRow s row part
+  pub told : row.entry.told_seq ≤ row.entry.seq
+  pub revoked : row.entry.revoke_seq ≤ row.entry.seq
+
+-- right after the event the state differs from the old one at these inodes alone: in their entries, in who waits for their locks,
+-- in what they are, in the sessions of clients that have no entry on another, and in what clients are still to be told
+pub record Affects (from : ℕ → Bool) (old affected : State) : Type 0 where
+  pub same : IsSameOutside from old.scene affected.scene
+  -- no lock has moved yet
+  pub states : affected.scene.locks.states ≡ old.scene.locks.states
+  -- the same inodes are there, each with its locks and no others
+  pub known : (other : ℕ) → map.contains_key affected.scene.tree.nodes other ≡ map.contains_key old.scene.tree.nodes other
+  pub locked : (other : ℕ) → map.contains_key affected.scene.locks.states other ≡ map.contains_key affected.scene.tree.nodes other
+  -- who waits or is still to be told has a session, and who waits at one of these, waits for a lock that is there
+  pub waiting : All (λ q. IsTrue (has_session affected.scene.sessions q.client.0)) affected.scene.locks.queue
+  pub messages : All (λ m. IsTrue (has_session affected.scene.sessions m.client.0)) affected.messages
+  pub at_lock : (ino : ℕ) (part : Part) → from ino ≡ true → lock_at affected.scene.locks ino part ≡ None →
+      first_for affected.scene.locks.queue ino part ≡ None
+  pub each : (row : EntryRow) → Contains affected.scene.table.rows row → from row.holder.ino.0 ≡ true → IsAffectedEntry affected.scene row
+  -- where an entry has not its pin yet, all who wait are held up, so that nobody is served before it has
+  pub calm : (row : EntryRow) → Contains affected.scene.table.rows row → has row.entry.held P ≡ false → WaitAt (λ ino. false) affected.scene
+
+-- the event is about one inode: it leaves sessions and messages, and leads to this scene
+pub record AffectsOne (ino : ℕ) (old : State) (first : Scene) : Type 0 where
+  pub same : IsSameBut ino old.scene first
+  pub states : first.locks.states ≡ old.scene.locks.states
+  pub known : (other : ℕ) → map.contains_key first.tree.nodes other ≡ map.contains_key old.scene.tree.nodes other
+  pub locked : (other : ℕ) → map.contains_key first.locks.states other ≡ map.contains_key first.tree.nodes other
+  pub waiting : All (λ q. IsTrue (has_session first.sessions q.client.0)) first.locks.queue
+  pub at_lock : (part : Part) → lock_at first.locks ino part ≡ None → first_for first.locks.queue ino part ≡ None
+  pub each : All (IsAffectedEntry first) (entries_on first.table (record { 0 = ino }))
+  pub calm : (row : EntryRow) → Contains first.table.rows row → has row.entry.held P ≡ false → WaitAt (λ ino. false) first
+
+-- ---- how their steps end
+
+-- The inodes that a step affects are those of its event and, where some were moved, those at or below them that somebody has an
+-- entry on.
+
+-- off these inodes the locks are the same in both scenes, so is where inodes stand, and so is of each that somebody has an entry
+-- on its path, its owner, its group and its mode. Entries and sessions are as they were
+pub record IsSameOff (at : ℕ → Bool) (old new : Scene) : Type 0 where
+  pub fs : new.fs ≡ old.fs
+  pub sessions : new.sessions ≡ old.sessions
+  pub table : new.table ≡ old.table
+  pub locks : (other : ℕ) (part : Part) → at other ≡ false → lock_at new.locks other part ≡ lock_at old.locks other part
+  pub places : (other : ℕ) → at other ≡ false → place new.tree.nodes other ≡ place old.tree.nodes other
+  pub alike : (row : EntryRow) → Contains old.table.rows row → at row.holder.ino.0 ≡ false → IsAlike old.tree new.tree row.holder.ino.0
+
+-- by these moves the locks have settled, and nothing has changed but at these inodes, among which are those of the event
+pub record SettlesAt (at from : ℕ → Bool) (moves : List Made) (first settled : Scene) : Type 0 where
+  pub settles : Settles first moves settled
+  pub among : (ino : ℕ) → from ino ≡ true → at ino ≡ true
+  pub same : IsSameOff at first settled
+
+-- what was known of these entries when the event came, so far as they still hold it
+abbrev pub Knows : (Holder → Caps) → Scene → Table → Type 0
+Knows known old table = (row : EntryRow) → Contains table.rows row → meet (known row.holder) row.entry.held ≡ told_set old row
+
+-- what the entry's client is to know of at the end
+abbrev pub told_then : Scene → EntryRow → Caps
+told_then settled row = told_set settled (issue_row settled row)
+
+-- the entry at the end: it gains what is due, and has a new number if its client is to know of another set than was known when
+-- the event came, so far as it still held that right after the event
+abbrev pub finished_entry : (Holder → Caps) → Scene → EntryRow → Entry
+finished_entry known settled row =
+    renumbered (meet (known row.holder) row.entry.held) (told_then settled row) (issue_row settled row).entry
+
+-- the inode goes with its locks, if it is a stray that nobody has an entry on
+abbrev pub forget_at : ℕ → Scene → Scene
+forget_at ino s = if is_in_use s ino then s else record s { tree = forgotten s.tree ino; locks = without_ino s.locks ino }
+
+-- the inode is none of these, or it is kept
+abbrev pub stays : (ℕ → Bool) → Scene → ℕ → Bool
+stays at s ino = not (at ino) || is_in_use s ino
+
+-- so goes each of these, all at once
+abbrev pub forget_among : (ℕ → Bool) → Scene → Scene
+forget_among at s = record s {
+  tree = record s.tree { nodes = map.retain_keys s.tree.nodes (stays at s) };
+  locks = record s.locks { states = map.retain_keys s.locks.states (stays at s) };
+}
+
+-- the end of the step, at these inodes alone
+abbrev pub finished_at : (ℕ → Bool) → (Holder → Caps) → Scene → Scene
+finished_at at known settled =
+    forget_among at (record settled { table = changed_where (λ row. at row.holder.ino.0) (finished_entry known settled) settled.table })

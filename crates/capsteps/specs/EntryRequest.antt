@@ -1,0 +1,45 @@
+-- What an event asks of one entry.
+use Rattle.std.specs.Prelude.{List, [], ◌∷◌}
+use Rattle.capbits.specs.declared.ids.ClientId.{ClientId}
+use Rattle.capbits.specs.declared.ids.Ino.{Ino}
+use Rattle.capbits.specs.Caps.{Caps}
+use Rattle.capbits.specs.Refusal.{Test}
+use Rattle.captable.specs.declared.entry.Holder.{Holder}
+use Rattle.captable.specs.Table.{Table}
+use Rattle.captable.specs.Calls.{acked, released}
+use Rattle.captable.specs.Tests.{entry_test, ack_tests, release_tests}
+use Rattle.capacts.specs.Capevents.declared.event.Event.{Event}
+use Rattle.capacts.specs.Capevents.declared.event.Event.TheVariants as event
+use Rattle.capacts.specs.Capevents.declared.reply.Reply.TheVariants as reply
+use Rattle.capsteps.specs.declared.entry_request.EntryRequest.{EntryRequest}
+use Rattle.capsteps.specs.declared.entry_request.EntryRequest.TheVariants.{Open, Want, Ack, Release}
+use Rattle.capacts.specs.Caprules.Judge.{room_for}
+use Rattle.capacts.specs.Caprules.Direct.{Answer, Says, Shows, with_opening, with_wanted}
+
+-- the event that asks it of the client's entry on the inode
+abbrev pub entry_event : ClientId → Ino → EntryRequest → Event
+entry_event client ino (Open mode) = event.Open client ino mode
+entry_event client ino (Want caps) = event.Want client ino caps
+entry_event client ino (Ack seq) = event.Ack client ino seq
+entry_event client ino (Release caps) = event.Release client ino caps
+
+-- what the table tests of it
+abbrev pub entry_request_tests : Table → Holder → Caps → EntryRequest → List Test
+entry_request_tests table k revoked (Open mode) = room_for table k
+entry_request_tests table k revoked (Want caps) = entry_test table k ∷ []
+entry_request_tests table k revoked (Ack seq) = ack_tests table k seq revoked
+entry_request_tests table k revoked (Release caps) = release_tests table k caps
+
+-- the table, once it was done
+abbrev pub table_after : Table → Holder → Caps → EntryRequest → Table
+table_after table k revoked (Open mode) = with_opening table k mode
+table_after table k revoked (Want caps) = with_wanted table k caps
+table_after table k revoked (Ack seq) = acked table k revoked
+table_after table k revoked (Release caps) = released table k caps
+
+-- what is answered
+abbrev pub entry_answer : Holder → EntryRequest → Answer
+entry_answer k (Open mode) = Shows k
+entry_answer k (Want caps) = Shows k
+entry_answer k (Ack seq) = Says reply.Done
+entry_answer k (Release caps) = Says reply.Done

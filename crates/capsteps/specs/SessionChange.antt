@@ -1,0 +1,71 @@
+-- What becomes of a client's session, and what goes with it.
+use Rattle.std.specs.Prelude.{◌≡◌, ℕ, true, false, List, [], ◌∷◌, Contains}
+use Rattle.std.specs.FinSet as set
+use Rattle.capbits.specs.declared.ids.ClientId.{ClientId}
+use Rattle.capbits.specs.Refusal.{Test}
+use Rattle.inotree.specs.Tree.{Nodes}
+use Rattle.sessiontab.specs.Table.{SessionTable}
+use Rattle.sessiontab.specs.Calls.{without_session, with_status, with_grants, with_evicted}
+use Rattle.sessiontab.specs.Tests.{connected_test, mark_tests, evict_tests}
+use Rattle.captable.specs.declared.entry.EntryRow.{EntryRow}
+use Rattle.captable.specs.Table.{Table}
+use Rattle.captable.specs.Calls.{is_of_client}
+use Rattle.capacts.specs.Lockmachine.declared.request.Request.{Request}
+use Rattle.capacts.specs.Lockmachine.Locks.{LockMap}
+use Rattle.capacts.specs.Lockmachine.Requests.{is_of_client as is_asked_by}
+use Rattle.capacts.specs.Capview.declared.change.ViewChange.{ViewChange}
+use Rattle.capacts.specs.Capview.Changes.{AreChanges}
+use Rattle.capacts.specs.declared.leaving.SessionChange.{SessionChange}
+use Rattle.capacts.specs.declared.leaving.SessionChange.TheVariants.{Close, Mark, Regrant, Evict}
+use Rattle.capacts.specs.Capevents.declared.event.Event.{Event}
+use Rattle.capacts.specs.Capevents.declared.event.Event.TheVariants as event
+use Rattle.capacts.specs.Capnotes.InoSets.{InoSet}
+use Rattle.capacts.specs.Capnotes.Noted.{view}
+use Rattle.capacts.specs.Left.{is_end, table_left, locks_left, messages_left}
+use Rattle.capacts.specs.Reach.{is_affected}
+use Rattle.capacts.specs.Caprules.State.{State}
+
+-- the event by which it does
+abbrev pub session_event : ClientId → SessionChange → Event
+session_event client Close = event.CloseSession client
+session_event client (Mark status) = event.Mark client status
+session_event client (Regrant grants) = event.Regrant client grants.now
+session_event client Evict = event.Evict client
+
+-- what is tested
+abbrev pub session_change_tests : SessionTable → ClientId → SessionChange → List Test
+session_change_tests sessions client Close = connected_test sessions client.0 ∷ []
+session_change_tests sessions client (Mark status) = mark_tests sessions client.0 status
+session_change_tests sessions client (Regrant grants) = connected_test sessions client.0 ∷ []
+session_change_tests sessions client Evict = evict_tests sessions client.0
+
+-- the sessions then
+abbrev pub changed_sessions : SessionTable → ClientId → SessionChange → SessionTable
+changed_sessions sessions client Close = without_session sessions client.0
+changed_sessions sessions client (Mark status) = with_status sessions client.0 status
+changed_sessions sessions client (Regrant grants) = with_grants sessions client.0 grants.now
+changed_sessions sessions client Evict = with_evicted sessions client.0
+
+-- these changes tell readers of it, whatever the tree
+pub record Notes (changes : List ViewChange) (client : ClientId) (change : SessionChange) : Type 0 where
+  pub lead : (tree : Nodes) (sessions : SessionTable)
+      → AreChanges changes (view tree sessions.sessions) (view tree (changed_sessions sessions client change).sessions)
+
+-- the state then
+abbrev pub session_changed : State → ClientId → SessionChange → State
+session_changed s client change = record {
+  scene = record s.scene {
+    sessions = changed_sessions s.scene.sessions client change;
+    table = table_left (is_end change) s.scene.table client;
+    locks = locks_left (is_end change) s.scene.locks client;
+  };
+  messages = messages_left (is_end change) s.messages client;
+}
+
+-- ---- where the client is
+
+-- each inode that the client has an entry on or waits for is this one, or one of the others; this one is none of them
+pub record ReachesClient (ino : ℕ) (client : ClientId) (table : Table) (locks : LockMap) (others : InoSet) : Type 0 where
+  pub entries : (row : EntryRow) → Contains table.rows row → is_of_client client row ≡ true → is_affected ino others row.holder.ino.0 ≡ true
+  pub requests : (q : Request) → Contains locks.queue q → is_asked_by client q ≡ true → is_affected ino others q.ino.0 ≡ true
+  pub apart : set.contains others ino ≡ false
