@@ -1,33 +1,18 @@
 -- What different clients hold of one inode has no conflict, where it is in place.
-use Rattle.std.proofs.Common.{◌≡◌, ◌≢◌, Bool, true, false, ◌||◌, ◌==◌, Option, Some, None, refl, sym, ap, subst, ◌∙◌, true≢false}
-use Rattle.std.specs.Prelude.{IsTrue}
-use Rattle.std.specs.List.{find, list_any}
-use Rattle.std.specs.Option.{option_map_or}
-use Rattle.std.specs.Cmp.{nat_eq_equiv}
+use Rattle.std.proofs.Common.{◌≡◌, ◌≢◌, Bool, true, false, ◌||◌, ◌==◌, Option, Some, None, refl, sym, ap, subst, ◌∙◌, true≢false, IsTrue}
+use Rattle.capcore.proofs.Common.{find, option_map_or, nat_eq_equiv, Cap, P, Part, ClientId, Ino, IsSubset, LockState, Stable, Gather, EntryRow, Holder, is_row_of, lock_at, Scene, present_state, State, IsSound}
+use Rattle.std.specs.List.{list_any}
 use Rattle.std.proofs.lemmas.Bool.{and_from}
-use Rattle.capbits.specs.declared.cap.Cap.{Cap}
-use Rattle.capbits.specs.declared.cap.Cap.TheVariants.{P, As, Ax, Ls, Lx, Xs, Xx, Fs, Fx, Fc, Fr, Fw, Fb, Fa, Fl}
-use Rattle.capbits.specs.declared.cap.Part.{Part}
+use Rattle.capbits.specs.declared.cap.Cap.TheVariants.{As, Ax, Ls, Lx, Xs, Xx, Fs, Fx, Fc, Fr, Fw, Fb, Fa, Fl}
 use Rattle.capbits.specs.declared.cap.Part.TheVariants.{A, L, X, F}
-use Rattle.capbits.specs.declared.ids.ClientId.{ClientId}
-use Rattle.capbits.specs.declared.ids.Ino.{Ino}
 use Rattle.capbits.specs.Caps.{has}
-use Rattle.capbits.specs.Sets.{IsSubset, of_part, covers, same_cap, all_in, has-of_part, has-none}
-use Rattle.locktable.specs.declared.states.LockState.{LockState}
-use Rattle.locktable.specs.declared.states.LockState.TheVariants.{Stable, Gather}
+use Rattle.capbits.specs.Sets.{of_part, covers, same_cap, all_in, has-of_part, has-none}
 use Rattle.locktable.specs.Rows.{row_of}
 use Rattle.locktable.specs.Conflicts.{conflict, barred_by, rows_apart}
-use Rattle.captable.specs.declared.entry.EntryRow.{EntryRow}
-use Rattle.captable.specs.declared.entry.Holder.{Holder}
 use Rattle.captable.proofs.Tables.{same-is}
-use Rattle.captable.specs.Table.{same, is_row_of}
+use Rattle.captable.specs.Table.{same}
 use Rattle.captable.proofs.Searches.{find_passes}
-use Rattle.capsteps.specs.Lockmachine.Locks.{lock_at}
-use Rattle.capsteps.specs.Lockmachine.declared.scene.Scene.{Scene}
-use Rattle.capsteps.specs.Lockmachine.Moves.{present_state}
-use Rattle.capsteps.specs.Caprules.State.{State}
 use Rattle.capsteps.specs.Caprules.Headline.{IsInPlace, AreInPlace, NoneConflict}
-use Rattle.capsteps.specs.Caprules.Sound.{IsSound}
 
 -- ---- capabilities that conflict are of one part
 

@@ -1,48 +1,23 @@
 -- An event that asks for something, by itself: its request comes to wait behind the others, and nothing else changes.
-use Rattle.std.proofs.Common.{◌≡◌, ℕ, ◌<◌, cond, true, Option, Some, None, is_some, [], ◌∷◌, length, refl, sym, ap, subst, ◌∙◌, true≢false, arith}
-use Rattle.std.specs.Prelude.{IsTrue, nat_le}
-use Rattle.std.specs.Option.{option_map}
+use Rattle.std.proofs.Common.{◌≡◌, ℕ, ◌<◌, cond, true, Option, Some, None, is_some, [], ◌∷◌, length, refl, sym, ap, subst, ◌∙◌, true≢false, arith, IsTrue, nat_le}
+use Rattle.capcore.proofs.Common.{option_map, none-some, All-filter, Part, ClientId, Ino, Refusal, passed-both, pass-both, inode_tests, has_session, session_tests, Holder, IsTable, holder, is_of_inode, Ask, Get, Alter, Unlink, Rmdir, Rename, Request, InodeLocks, IsLockMap, next_request, with_request, Scene, Event, State, ask_needs, ask_after, judged, asked_tests, asking_tests, waiting_tests, rejection_of, rejection_by, first_denied, Need, direct, effect, effect_unless, asks, judged_again, IsSound, AreGiven, IsAffectedEntry, AffectsOne, sound-pinned, ask_of, asked_event, AreBelow}
 use Rattle.std.specs.FinMap as map
 use Rattle.std.proofs.lemmas.Bool.{leb-false, lt-leb}
-use Rattle.std.proofs.lemmas.Option.{none-some}
-use Rattle.std.proofs.lemmas.List.Elements.{All-push, All-filter}
-use Rattle.capbits.specs.declared.cap.Part.{Part}
-use Rattle.capbits.specs.declared.ids.ClientId.{ClientId}
-use Rattle.capbits.specs.declared.ids.Ino.{Ino}
-use Rattle.capbits.specs.declared.refusal.Refusal.{Refusal}
+use Rattle.std.proofs.lemmas.List.Elements.{All-push}
 use Rattle.capbits.specs.declared.refusal.Refusal.TheVariants as refusal
 use Rattle.capbits.specs.Refusal.{first_failing}
-use Rattle.capbits.proofs.Tests.{passed-if, passed-both, pass-both}
-use Rattle.inotree.specs.Tests.{inode_tests, root_test}
-use Rattle.sessiontab.specs.Calls.{has_session}
-use Rattle.sessiontab.specs.Tests.{session_tests}
-use Rattle.captable.specs.declared.entry.Holder.{Holder}
-use Rattle.captable.specs.Table.{IsTable, holder}
-use Rattle.captable.specs.Calls.{is_of_inode}
-use Rattle.capsteps.specs.Lockmachine.declared.request.Ask.{Ask}
-use Rattle.capsteps.specs.Lockmachine.declared.request.Ask.TheVariants.{Get, Alter, Unlink, Rmdir, Rename}
-use Rattle.capsteps.specs.Lockmachine.declared.request.Request.{Request}
-use Rattle.capsteps.specs.Lockmachine.declared.states.InodeLocks.{InodeLocks}
+use Rattle.capbits.proofs.Tests.{passed-if}
+use Rattle.inotree.specs.Tests.{root_test}
 use Rattle.capsteps.specs.Lockmachine.Inodes.{lock_in}
-use Rattle.capsteps.specs.Lockmachine.Locks.{IsLockMap, queue_tests, next_request, with_request}
-use Rattle.capsteps.specs.Lockmachine.declared.scene.Scene.{Scene}
+use Rattle.capsteps.specs.Lockmachine.Locks.{queue_tests}
 use Rattle.capsteps.proofs.Lockmachine.Queue.{with_request-kept}
 use Rattle.capsteps.proofs.Lockmachine.SameBut.{same-request}
-use Rattle.capsteps.specs.Capevents.declared.event.Event.{Event}
 use Rattle.capsteps.specs.Capevents.declared.event.Event.TheVariants as event
-use Rattle.capsteps.specs.Caprules.State.{State}
-use Rattle.capsteps.specs.Caprules.Asks.{ask_before, ask_needs, ask_after}
-use Rattle.capsteps.specs.Caprules.Judge.{judged, asked_tests, asking_tests, waiting_tests, rejection_of, rejection_by, first_denied}
-use Rattle.capsteps.specs.Caprules.Needs.{Need}
-use Rattle.capsteps.specs.Caprules.Direct.{direct, effect, effect_unless, asks}
-use Rattle.capsteps.specs.Caprules.Serving.{judged_again}
-use Rattle.capsteps.specs.Caprules.Sound.{IsSound, AreGiven}
-use Rattle.capsteps.specs.Affected.{asks_for, IsAffectedEntry, AffectsOne}
-use Rattle.capsteps.proofs.Moved.{sound-pinned}
-use Rattle.capcore.specs.Asks.{ask_of, asked_event}
+use Rattle.capsteps.specs.Caprules.Asks.{ask_before}
+use Rattle.capsteps.specs.Affected.{asks_for}
 use Rattle.capcore.specs.declared.asks.Asked.{Asked}
 use Rattle.capcore.specs.declared.asks.Asked.TheVariants as asked_kind
-use Rattle.capsteps.proofs.EntryRequests.{all-left, asked-session, asked-there, AreBelow}
+use Rattle.capsteps.proofs.EntryRequests.{all-left, asked-session, asked-there}
 
 -- ---- which events ask, and what
 

@@ -1,45 +1,19 @@
 -- What an event that may move locks leaves by itself, and what its step comes to in the end.
-use Rattle.std.proofs.Common.{◌≡◌, ◌≤◌, ℕ, ◌+◌, ◌++◌, ◌==◌, Bool, not, Some, List, [], length, Result, Ok, Err, OnErr, refl, sym, ap, subst, ◌∙◌, arith}
-use Rattle.std.specs.Prelude.{All}
+use Rattle.std.proofs.Common.{◌≡◌, ◌≤◌, ℕ, ◌+◌, ◌++◌, ◌==◌, Bool, not, Some, List, [], length, Result, Ok, Err, OnErr, refl, sym, ap, subst, ◌∙◌, arith, All}
+use Rattle.capcore.proofs.Common.{length-filter, count_by-le-length, IsSubset, Ino, IsTree, Entry, Holder, IsTable, entry_at, IsLockMap, Scene, Event, Ended, AreChanges, KnownSets, known_in, AreKnown, StillKnown, HasRoom, HaveOwnNumbers, but_for, State, Direct, direct, reply_of, shown, sizes_owed, view_of, sized_in, AreGiven, earlier, all_ended, state_at_end, Said, IsAnswered, IsJudged, SettlesWith, EndsWith, EntryRequest, Ack, Affects, AffectsOne, Knows, finished_at, known-alike, AreBelow, Parts, MayBegin, answer_of, GivesOne, HasBegun}
 use Rattle.std.specs.List.{count_by}
-use Rattle.std.proofs.lemmas.List.Sums.{length-filter, count_by-le-length}
-use Rattle.capbits.specs.Sets.{IsSubset}
-use Rattle.capbits.specs.declared.ids.Ino.{Ino}
-use Rattle.inotree.specs.Tree.{IsTree}
-use Rattle.captable.specs.declared.entry.Entry.{Entry}
-use Rattle.captable.specs.declared.entry.Holder.{Holder}
-use Rattle.captable.specs.Table.{IsTable, entry_at}
-use Rattle.capsteps.specs.Lockmachine.Locks.{IsLockMap}
-use Rattle.capsteps.specs.Lockmachine.declared.scene.Scene.{Scene}
-use Rattle.capsteps.specs.Capevents.declared.event.Event.{Event}
-use Rattle.capsteps.specs.Capevents.declared.outcome.Ended.{Ended}
-use Rattle.capsteps.specs.Capview.Changes.{AreChanges}
-use Rattle.capsteps.specs.Capacts.Known.{KnownSets, known_in, AreKnown, StillKnown}
-use Rattle.capsteps.specs.Capnotes.DueEndings.{HasRoom, HaveOwnNumbers, but_for}
-use Rattle.capsteps.specs.Caprules.State.{State}
-use Rattle.capsteps.specs.Caprules.Direct.{Direct, direct, reply_of, shown}
-use Rattle.capsteps.specs.Caprules.Finish.{sizes_owed}
-use Rattle.capsteps.specs.Caprules.Noted.{view_of}
-use Rattle.capsteps.specs.Caprules.Settle.{sized_in}
-use Rattle.capsteps.specs.Caprules.Sound.{AreGiven, NumbersLeft}
-use Rattle.capsteps.specs.Caprules.Step.{earlier, all_ended, state_at_end}
-use Rattle.capsteps.specs.declared.said.Said.{Said}
-use Rattle.capsteps.specs.Answered.{IsAnswered}
+use Rattle.capsteps.specs.Caprules.Sound.{NumbersLeft}
 use Rattle.capsteps.specs.Begun.{MaySettle, MayEnd, HaveRoomFor}
-use Rattle.capsteps.specs.Judged.{IsJudged}
-use Rattle.capsteps.specs.Serves.{SettlesWith, EndsWith}
-use Rattle.capsteps.specs.declared.entry_request.EntryRequest.{EntryRequest}
-use Rattle.capsteps.specs.declared.entry_request.EntryRequest.TheVariants.{Open, Want, Ack, Release}
+use Rattle.capsteps.specs.declared.entry_request.EntryRequest.TheVariants.{Open, Want, Release}
 use Rattle.capsteps.specs.EntryRequest.{entry_answer}
-use Rattle.capsteps.specs.Affected.{Affects, AffectsOne, SettlesAt, Knows, finished_at}
-use Rattle.capsteps.proofs.Knowing.{held_at, known-alike, still-room, still-knows}
-use Rattle.capsteps.proofs.EntryRequests.{AreBelow, Keeps}
-use Rattle.capcore.specs.declared.parts.Parts.{Parts}
+use Rattle.capsteps.specs.Affected.{SettlesAt}
+use Rattle.capsteps.proofs.Knowing.{held_at, still-room, still-knows}
+use Rattle.capsteps.proofs.EntryRequests.{Keeps}
 use Rattle.capcore.specs.declared.parts.Effect.{Effect}
 use Rattle.capcore.specs.declared.parts.Affected.{Affected}
 use Rattle.capcore.specs.declared.parts.Answer.{Answer}
 use Rattle.capcore.specs.declared.parts.Answer.TheVariants.{Done, Dropped, Touched, Awaited}
-use Rattle.capcore.specs.UnderWay.{state_of, MayBegin, among, answer_of, dropped_of, earlier_of, IsNumbered, HasPlaces, GivesOne, MayEndAt, HasBegun}
+use Rattle.capcore.specs.UnderWay.{state_of, among, dropped_of, earlier_of, IsNumbered, HasPlaces, MayEndAt}
 use Rattle.capcore.proofs.Closing.{told-own_numbers, told-all, told-but_own, ends-table, affects-settles, affects-ends, affects-one}
 use Rattle.capcore.proofs.Concluded.{IsConcluded, concluded}
 use Rattle.capcore.proofs.EndKnown.{ends-known}

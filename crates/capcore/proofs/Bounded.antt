@@ -1,24 +1,11 @@
 -- How many requests a step serves, and how often its locks move between two servings.
 use Rattle.std.proofs.Common.{◌≡◌, ◌++◌, ℕ, List, [], ◌∷◌, Option, Some, None, map, refl, sym, subst, arith}
-use Rattle.inotree.specs.Tree.{child}
-use Rattle.captable.specs.Table.{holder}
-use Rattle.capsteps.specs.Lockmachine.declared.request.Ask.TheVariants.{Get, Alter, Unlink, Rmdir, Rename}
-use Rattle.capsteps.specs.Lockmachine.Locks.{IsLockMap}
+use Rattle.capcore.proofs.Common.{child, holder, Get, Alter, Unlink, Rmdir, Rename, IsLockMap, Scene, Event, Ended, Reply, Rejection, State, direct, effect, effect_unless, found, judged, Made, Began, Gathered, Served, MakesAll, ended_in, Step}
 use Rattle.capsteps.specs.Lockmachine.Runs.{Runs}
-use Rattle.capsteps.specs.Lockmachine.declared.scene.Scene.{Scene}
 use Rattle.capsteps.proofs.Lockmachine.Ending.{few}
 use Rattle.capsteps.proofs.Lockmachine.Queue.{without_requests_of-kept}
-use Rattle.capsteps.specs.Capevents.declared.event.Event.{Event}
 use Rattle.capsteps.specs.Capevents.declared.event.Event.TheVariants as event
-use Rattle.capsteps.specs.Capevents.declared.outcome.Ended.{Ended}
-use Rattle.capsteps.specs.Capevents.declared.reply.Reply.{Reply}
-use Rattle.capsteps.specs.Caprules.declared.rejection.Rejection.{Rejection}
-use Rattle.capsteps.specs.Caprules.State.{State}
-use Rattle.capsteps.specs.Caprules.Direct.{direct, effect, effect_unless, found}
 use Rattle.capsteps.specs.Caprules.Headline.{ByMoves, AreBounded, move_of}
-use Rattle.capsteps.specs.Caprules.Judge.{judged}
-use Rattle.capsteps.specs.Caprules.Settle.{Made, Began, Gathered, Served, MakesAll, ended_in}
-use Rattle.capsteps.specs.Caprules.Step.{Step}
 use Rattle.capsteps.proofs.Moved.{served-count}
 use Rattle.capcore.proofs.Asked.{order-of_ask}
 

@@ -1,37 +1,16 @@
 -- What the calls of the step of an event about one inode come to.
-use Rattle.std.proofs.Common.{◌≡◌, ◌≤◌, ◌<◌, ◌^◌, ◌-◌, ℕ, ◌+◌, ◌==◌, Bool, true, false, is_some, List, Contains, refl, sym, ap, subst, ◌∙◌, arith}
-use Rattle.std.specs.Prelude.{IsTrue, All}
-use Rattle.std.proofs.lemmas.Bool.{eqb-true}
-use Rattle.std.proofs.lemmas.List.Elements.{All-weaker, All-contains}
-use Rattle.inotree.specs.Tree.{IsTree}
-use Rattle.sessiontab.specs.Table.{SessionTable}
-use Rattle.sessiontab.specs.Calls.{has_session}
-use Rattle.captable.specs.declared.entry.EntryRow.{EntryRow}
-use Rattle.captable.specs.Table.{IsTable}
-use Rattle.captable.specs.Calls.{is_of_inode, entries_on}
-use Rattle.capsteps.specs.Lockmachine.Locks.{IsLockMap, lock_at}
-use Rattle.capsteps.specs.Lockmachine.Requests.{first_for}
-use Rattle.capsteps.specs.Lockmachine.declared.scene.Scene.{Scene}
+use Rattle.std.proofs.Common.{◌≡◌, ◌≤◌, ◌<◌, ◌^◌, ◌-◌, ℕ, ◌+◌, ◌==◌, Bool, true, false, is_some, List, Contains, refl, sym, ap, subst, ◌∙◌, arith, IsTrue, All}
+use Rattle.capcore.proofs.Common.{eqb-true, All-weaker, All-contains, IsTree, SessionTable, has_session, EntryRow, IsTable, is_of_inode, IsLockMap, lock_at, first_for, Scene, Ino, Ticket, Ended, State, with_scene, SettlesWith, EndsWith, sizes_owed, MakesAll, IsSoundEntry, IsSound, earlier, IsAffectedEntry, Affects, AffectsOne, KnownSets, known_in, HaveOwnNumbers, but_for, moved-all}
+use Rattle.captable.specs.Calls.{entries_on}
 use Rattle.capsteps.proofs.Lockmachine.Finding.{filter-contains}
 use Rattle.capsteps.proofs.Lockmachine.SameOutside.{outside-one, rest-outside}
-use Rattle.capbits.specs.declared.ids.Ino.{Ino}
-use Rattle.capbits.specs.declared.ids.Ticket.{Ticket}
-use Rattle.capsteps.specs.Capevents.declared.outcome.Ended.{Ended}
-use Rattle.capsteps.specs.Caprules.State.{State}
-use Rattle.capsteps.specs.Caprules.Direct.{with_scene}
 use Rattle.capsteps.specs.Begun.{MayEnd, MaySettle}
-use Rattle.capsteps.specs.Serves.{SettlesWith, EndsWith}
-use Rattle.capsteps.specs.Caprules.Finish.{is_sized, owed, sizes_owed}
-use Rattle.capsteps.specs.Caprules.Settle.{MakesAll}
-use Rattle.capsteps.specs.Caprules.Sound.{IsSoundEntry, IsSound}
-use Rattle.capsteps.specs.Caprules.Step.{earlier}
-use Rattle.capsteps.specs.Affected.{IsAffectedEntry, Affects, AffectsOne, finished_entry}
-use Rattle.capsteps.specs.Capacts.Known.{KnownSets, HaveRoom, known_in}
-use Rattle.capsteps.specs.Capnotes.DueEndings.{HaveOwnNumbers, but_for}
+use Rattle.capsteps.specs.Caprules.Finish.{is_sized, owed}
+use Rattle.capsteps.specs.Affected.{finished_entry}
+use Rattle.capsteps.specs.Capacts.Known.{HaveRoom}
 use Rattle.capcore.proofs.EndedIn.{earlier-all, earlier-but_own, own-numbers}
 use Rattle.capsteps.proofs.Forgotten.{all_rows}
 use Rattle.capsteps.proofs.ManyInodes.{table-where}
-use Rattle.capsteps.proofs.Moved.{moved-all}
 use Rattle.capsteps.proofs.SameOff.{row_elsewhere}
 
 -- ---- the numbers of those that a settling ends

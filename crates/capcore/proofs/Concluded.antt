@@ -1,27 +1,10 @@
 -- The step of an event that affected some inodes, all together: it is a step of the rules, leaves the state sound, issues what is due
 -- and gives at most one number.
 use Rattle.std.proofs.Common.{◌≡◌, ℕ, ◌+◌, Bool, List, sym, subst}
-use Rattle.inotree.specs.Tree.{IsTree}
-use Rattle.capbits.specs.Caps.{Caps}
-use Rattle.captable.specs.declared.entry.Holder.{Holder}
-use Rattle.captable.specs.Table.{IsTable}
-use Rattle.capsteps.specs.Lockmachine.Locks.{IsLockMap}
-use Rattle.capsteps.specs.Lockmachine.declared.scene.Scene.{Scene}
-use Rattle.capsteps.specs.Capevents.declared.event.Event.{Event}
-use Rattle.capsteps.specs.Capevents.declared.outcome.Ended.{Ended}
-use Rattle.capsteps.specs.Capevents.declared.reply.Reply.{Reply}
-use Rattle.capsteps.specs.Caprules.State.{State}
-use Rattle.capsteps.specs.Caprules.Direct.{direct, reply_of, shown}
-use Rattle.capsteps.specs.Caprules.Headline.{IssuesExactly}
-use Rattle.capsteps.specs.Caprules.Finish.{sizes_owed}
-use Rattle.capsteps.specs.Caprules.Settle.{Made, ended_in, sized_in}
-use Rattle.capsteps.specs.Caprules.Sound.{IsSound, AreGiven}
-use Rattle.capsteps.specs.Caprules.Step.{Step, all_ended, state_at_end}
-use Rattle.capsteps.specs.Affected.{Affects, SettlesAt, Knows, finished_at}
+use Rattle.capcore.proofs.Common.{IsTree, Caps, Holder, IsTable, IsLockMap, Scene, Event, Ended, Reply, State, direct, reply_of, shown, IssuesExactly, sizes_owed, Made, ended_in, sized_in, IsSound, AreGiven, Step, all_ended, state_at_end, Affects, Knows, finished_at, shown-sound, shown-issued, shown-given, GivesOne}
+use Rattle.capsteps.specs.Affected.{SettlesAt}
 use Rattle.capsteps.proofs.SizesOwed.{sizes-end, sizes-sound, sizes-issues, sizes-given}
 use Rattle.capsteps.proofs.StayingSound.{given-affected}
-use Rattle.capsteps.proofs.Telling.{shown-sound, shown-issued, shown-given}
-use Rattle.capcore.specs.UnderWay.{GivesOne}
 use Rattle.capcore.proofs.EntryStep.{one-step}
 
 -- what is promised of a step

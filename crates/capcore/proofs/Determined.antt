@@ -1,48 +1,29 @@
 -- Two steps from one state with the same event are the same where the same requests find no memory: so where all find it, and so
 -- where their rows say the same.
-use Rattle.std.proofs.Common.{◌≡◌, ◌≢◌, ◌⊎◌, ◌↔◌, ◌≤◌, ℕ, zero, suc, not, cond, List, [], ◌∷◌, Option, Some, None, refl, sym, ap, subst, ◌∙◌, inl, inr, All, Contains, arith}
-use Rattle.std.specs.Prelude.{nat_le, unwrap_or, filter}
-use Rattle.std.specs.List.{find}
-use Rattle.std.specs.Cmp.{nat_eq_equiv}
+use Rattle.std.proofs.Common.{◌≡◌, ◌≢◌, ◌⊎◌, ◌↔◌, ◌≤◌, ℕ, zero, suc, not, cond, List, [], ◌∷◌, Option, Some, None, refl, sym, ap, subst, ◌∙◌, inl, inr, All, Contains, arith, nat_le, unwrap_or, filter}
+use Rattle.capcore.proofs.Common.{find, nat_eq_equiv, All-weaker, All-filter, All-contains, ClientId, Ino, Ticket, child, Ask, Get, Alter, Unlink, Rmdir, Rename, Request, IsLockMap, next_request, Scene, Event, Ended, Outcome, Reply, Rejection, Direct, Answer, Says, Shows, Gives, Awaits, direct, effect, effect_unless, asks, found, reply_of, shown, HaveOwnNumbers, sizes_owed, finished, judged, MayEndAs, As_judged, Without_memory, Made, Began, Gathered, Served, Makes, MakesAll, ended_in, sized_in, State, Step, earlier, state_after, all_ended, moved-all}
 use Rattle.std.proofs.lemmas.Bool.{le-leb, ne_eqb}
 use Rattle.std.proofs.lemmas.List.{append_cancel_left}
 use Rattle.std.proofs.lemmas.Option.{same_Some}
-use Rattle.std.proofs.lemmas.List.Elements.{All-weaker, All-push, All-filter, All-contains, Contains-append_right}
-use Rattle.capbits.specs.declared.ids.ClientId.{ClientId}
-use Rattle.capbits.specs.declared.ids.Ino.{Ino}
-use Rattle.capbits.specs.declared.ids.Ticket.{Ticket}
-use Rattle.inotree.specs.Tree.{child}
+use Rattle.std.proofs.lemmas.List.Elements.{All-push, Contains-append_right}
 use Rattle.capsteps.specs.Lockmachine.declared.moves.Move.TheVariants.{Begin, End, Serve, Settled}
-use Rattle.capsteps.specs.Lockmachine.declared.request.Ask.{Ask}
-use Rattle.capsteps.specs.Lockmachine.declared.request.Ask.TheVariants.{Get, Alter, Unlink, Rmdir, Rename}
-use Rattle.capsteps.specs.Lockmachine.declared.request.Request.{Request}
 use Rattle.capsteps.specs.Lockmachine.Requests.{is_of_client}
-use Rattle.capsteps.specs.Lockmachine.Locks.{IsLockMap, next_request, request_at}
+use Rattle.capsteps.specs.Lockmachine.Locks.{request_at}
 use Rattle.capsteps.specs.Lockmachine.Moves.{first_move, with_moved}
-use Rattle.capsteps.specs.Lockmachine.declared.scene.Scene.{Scene}
 use Rattle.capsteps.proofs.Lockmachine.Finding.{contains-filter, filter-contains}
-use Rattle.capsteps.specs.Capevents.declared.event.Event.{Event}
 use Rattle.capsteps.specs.Capevents.declared.event.Event.TheVariants as event
-use Rattle.capsteps.specs.Capevents.declared.outcome.Ended.{Ended}
-use Rattle.capsteps.specs.Capevents.declared.outcome.Outcome.{Outcome}
 use Rattle.capsteps.specs.Capevents.declared.outcome.Outcome.TheVariants as outcome
-use Rattle.capsteps.specs.Capevents.declared.reply.Reply.{Reply}
 use Rattle.capsteps.specs.Capevents.declared.reply.Reply.TheVariants as reply
-use Rattle.capsteps.specs.Caprules.declared.rejection.Rejection.{Rejection}
 use Rattle.capsteps.specs.Capevents.Replies.{outcome_reply}
-use Rattle.capsteps.specs.Caprules.Direct.{Direct, Answer, Says, Shows, Gives, Awaits, direct, effect, effect_unless, asks, found, reply_of, shown, awaited_as}
-use Rattle.capsteps.specs.Capnotes.DueEndings.{is_of_ticket, HaveOwnNumbers}
-use Rattle.capsteps.specs.Caprules.Finish.{sizes_owed, finished}
+use Rattle.capsteps.specs.Caprules.Direct.{awaited_as}
+use Rattle.capsteps.specs.Capnotes.DueEndings.{is_of_ticket}
 use Rattle.capsteps.specs.Caprules.Headline.{move_of}
-use Rattle.capsteps.specs.Caprules.Judge.{judged}
 use Rattle.capcore.specs.SameEvents.{FoundMemory}
-use Rattle.capsteps.specs.Caprules.Serving.{MayEndAs, As_judged, Without_memory, served}
-use Rattle.capsteps.specs.Caprules.Settle.{Made, Began, Gathered, Served, Makes, MakesAll, ended_in, sized_in}
-use Rattle.capsteps.specs.Caprules.State.{State}
-use Rattle.capsteps.specs.Caprules.Step.{Step, StepBy, earlier, state_after, all_ended}
+use Rattle.capsteps.specs.Caprules.Serving.{served}
+use Rattle.capsteps.specs.Caprules.Step.{StepBy}
 use Rattle.capcore.proofs.Bounded.{direct-order}
 use Rattle.capcore.proofs.EndedIn.{own-numbers}
-use Rattle.capsteps.proofs.Moved.{Waited, ended-waited, moved-all}
+use Rattle.capsteps.proofs.Moved.{Waited, ended-waited}
 use Rattle.capsteps.proofs.Stopping.{no_moves}
 use Rattle.capsteps.proofs.Capnotes.Taking.{own-head, own-tail}
 

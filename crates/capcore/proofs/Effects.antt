@@ -1,27 +1,17 @@
 -- What each event by itself comes to, from what the calls below answered.
 use Rattle.std.proofs.Common.{◌≡◌, ℕ, ◌+◌, List, [], ◌∷◌, Option, Some, None, refl, ap, ◌∙◌}
-use Rattle.std.specs.Option.{option_map}
+use Rattle.capcore.proofs.Common.{option_map, ClientId, Ino, Refusal, Snapshot, child, Directory, Event, Reply, Rejection, ByTest, State, rejection_of, judged, asked_tests, Need, need, Says, IsDirect, direct, effect_unless, found}
 use Rattle.std.specs.FinMap as map
-use Rattle.capbits.specs.declared.ids.ClientId.{ClientId}
-use Rattle.capbits.specs.declared.ids.Ino.{Ino}
 use Rattle.capbits.specs.declared.mode.Mode.{Mode}
-use Rattle.capbits.specs.declared.refusal.Refusal.{Refusal}
 use Rattle.capbits.specs.Refusal.{Test, first_failing}
-use Rattle.capgrant.specs.declared.access.Access.TheVariants.{Write, Snapshot}
-use Rattle.inotree.specs.Tree.{child}
+use Rattle.capgrant.specs.declared.access.Access.TheVariants.{Write}
 use Rattle.inotree.specs.declared.node.Kind.{Kind}
-use Rattle.inotree.specs.declared.node.Kind.TheVariants.{Directory, File}
+use Rattle.inotree.specs.declared.node.Kind.TheVariants.{File}
 use Rattle.inotree.specs.Tests.{new_inode_tests, new_snapshot_tests, old_snapshot_tests}
-use Rattle.capsteps.specs.Capevents.declared.event.Event.{Event}
 use Rattle.capsteps.specs.Capevents.declared.event.Event.TheVariants as event
-use Rattle.capsteps.specs.Capevents.declared.reply.Reply.{Reply}
 use Rattle.capsteps.specs.Capevents.declared.reply.Reply.TheVariants as reply
-use Rattle.capsteps.specs.Caprules.declared.rejection.Rejection.{Rejection}
-use Rattle.capsteps.specs.Caprules.declared.rejection.Rejection.TheVariants.{ByTest}
-use Rattle.capsteps.specs.Caprules.State.{State}
-use Rattle.capsteps.specs.Caprules.Judge.{rejection_of, rejection_reply, judged, asked_tests}
-use Rattle.capsteps.specs.Caprules.Needs.{Need, need}
-use Rattle.capsteps.specs.Caprules.Direct.{Says, IsDirect, direct, effect_unless, found, with_birth, owned_by, made_event}
+use Rattle.capsteps.specs.Caprules.Judge.{rejection_reply}
+use Rattle.capsteps.specs.Caprules.Direct.{with_birth, owned_by, made_event}
 use Rattle.capsteps.proofs.Judging.{rejection, passed, direct-rejection, direct-passed}
 
 -- the tests behind policy, where what stands before them stops nothing

@@ -1,19 +1,12 @@
 -- At the end of a step that affected some inodes it is known of each entry what its client is to know of.
 use Rattle.std.proofs.Common.{◌≡◌, ℕ, Bool, true, false, Some, List, Contains, sym, ap, subst, ◌∙◌, true≢false}
+use Rattle.capcore.proofs.Common.{Ino, EntryRow, IsTable, Scene, Ended, State, sizes_owed, KnownSets, known_in, AreKnown, StillKnown, SettlesWith, EndsWith, IsSound, Affects, Knows, finished_at}
 use Rattle.std.proofs.lemmas.Bool.{false_from_ne_true}
-use Rattle.capbits.specs.declared.ids.Ino.{Ino}
-use Rattle.captable.specs.declared.entry.EntryRow.{EntryRow}
-use Rattle.captable.specs.Table.{IsTable, entry_of}
+use Rattle.captable.specs.Table.{entry_of}
 use Rattle.captable.proofs.ByHolder.{row_found}
-use Rattle.capsteps.specs.Lockmachine.declared.scene.Scene.{Scene}
 use Rattle.capsteps.specs.Lockmachine.Scene.{told_set}
-use Rattle.capsteps.specs.Capevents.declared.outcome.Ended.{Ended}
-use Rattle.capsteps.specs.Caprules.State.{State}
-use Rattle.capsteps.specs.Caprules.Finish.{sizes_owed}
-use Rattle.capsteps.specs.Capacts.Known.{KnownSets, known_of, known_in, AreKnown, StillKnown, KnownAnew}
-use Rattle.capsteps.specs.Serves.{SettlesWith, EndsWith}
-use Rattle.capsteps.specs.Caprules.Sound.{IsSound}
-use Rattle.capsteps.specs.Affected.{Affects, Knows, told_then, finished_at}
+use Rattle.capsteps.specs.Capacts.Known.{known_of, KnownAnew}
+use Rattle.capsteps.specs.Affected.{told_then}
 use Rattle.capsteps.proofs.Knowing.{still-known}
 use Rattle.capsteps.proofs.SameOff.{row_elsewhere}
 use Rattle.capsteps.proofs.SizesOwed.{sizes-known}

@@ -1,19 +1,10 @@
 -- The numbers of the requests that a settling ends.
-use Rattle.std.proofs.Common.{◌≡◌, ◌≢◌, ◌≤◌, ℕ, ◌+◌, ◌==◌, Bool, true, false, not, cond, List, [], ◌∷◌, refl, sym, ap, subst, ◌∙◌, All, Contains, arith, true≢false}
-use Rattle.std.specs.Prelude.{nat_le, filter}
-use Rattle.std.specs.Cmp.{nat_eq_equiv}
-use Rattle.std.proofs.lemmas.Bool.{eqb-true, eqb-false, le-leb, lt-leb}
+use Rattle.std.proofs.Common.{◌≡◌, ◌≢◌, ◌≤◌, ℕ, ◌+◌, ◌==◌, Bool, true, false, not, cond, List, [], ◌∷◌, refl, sym, ap, subst, ◌∙◌, All, Contains, arith, true≢false, nat_le, filter}
+use Rattle.capcore.proofs.Common.{nat_eq_equiv, eqb-true, All-weaker, All-contains, Ticket, Request, IsLockMap, Scene, Ended, Made, Began, Gathered, Served, Makes, MakesAll, ended_in, earlier, HaveOwnNumbers, but_for}
+use Rattle.std.proofs.lemmas.Bool.{eqb-false, le-leb, lt-leb}
 use Rattle.std.proofs.lemmas.List.Kept.{AllPairs-cons}
-use Rattle.std.proofs.lemmas.List.Elements.{All-head, All-tail, All-weaker, All-contains, filter_passes}
-use Rattle.capbits.specs.declared.ids.Ticket.{Ticket}
-use Rattle.capsteps.specs.Lockmachine.declared.request.Request.{Request}
+use Rattle.std.proofs.lemmas.List.Elements.{All-head, All-tail, filter_passes}
 use Rattle.capsteps.specs.Lockmachine.Requests.{is_numbered}
-use Rattle.capsteps.specs.Lockmachine.Locks.{IsLockMap}
-use Rattle.capsteps.specs.Lockmachine.declared.scene.Scene.{Scene}
-use Rattle.capsteps.specs.Capevents.declared.outcome.Ended.{Ended}
-use Rattle.capsteps.specs.Caprules.Settle.{Made, Began, Gathered, Served, Makes, MakesAll, ended_in}
-use Rattle.capsteps.specs.Caprules.Step.{earlier}
-use Rattle.capsteps.specs.Capnotes.DueEndings.{HaveOwnNumbers, but_for}
 use Rattle.capsteps.proofs.Moved.{Waited, ended-waited}
 
 -- ---- lists that are filtered alike

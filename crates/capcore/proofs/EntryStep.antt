@@ -1,13 +1,6 @@
 -- An event is a whole step, when the locks have settled and the step has ended.
 use Rattle.std.proofs.Common.{◌≡◌, List, ◌++◌, refl, sym, ap, ◌∙◌}
-use Rattle.capsteps.specs.Lockmachine.declared.scene.Scene.{Scene}
-use Rattle.capsteps.specs.Capevents.declared.event.Event.{Event}
-use Rattle.capsteps.specs.Capevents.declared.reply.Reply.{Reply}
-use Rattle.capsteps.specs.Caprules.State.{State}
-use Rattle.capsteps.specs.Caprules.Direct.{direct, reply_of, shown}
-use Rattle.capsteps.specs.Caprules.Settle.{Made, Settles, ended_in, sized_in}
-use Rattle.capsteps.specs.Caprules.Finish.{sizes_owed, finished}
-use Rattle.capsteps.specs.Caprules.Step.{Step, earlier, all_ended, state_after, state_at_end}
+use Rattle.capcore.proofs.Common.{Scene, Event, Reply, State, direct, reply_of, shown, Made, Settles, ended_in, sized_in, sizes_owed, finished, Step, earlier, all_ended, state_after, state_at_end}
 
 module _ (old : State) (e : Event) (moves : List Made) (settled last : Scene) (settles : Settles (direct old e).state.scene moves settled)
     (ends : finished old.scene (direct old e).state.scene (sizes_owed (sized_in moves) settled) ≡ last) where

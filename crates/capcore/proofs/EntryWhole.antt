@@ -1,21 +1,10 @@
 -- What the calls of the step of an event about one entry come to.
 use Rattle.std.proofs.Common.{◌≡◌, false, [], List, Option, Some, None, refl}
-use Rattle.std.specs.List.{find}
-use Rattle.capbits.specs.declared.ids.ClientId.{ClientId}
-use Rattle.capbits.specs.declared.ids.Ino.{Ino}
-use Rattle.captable.specs.declared.entry.EntryRow.{EntryRow}
-use Rattle.captable.specs.declared.entry.Holder.{Holder}
-use Rattle.captable.specs.Table.{holder, is_row_of}
+use Rattle.capcore.proofs.Common.{find, ClientId, Ino, EntryRow, Holder, holder, is_row_of, Scene, EntryRequest, Ack, Ended, State, has_list, effect, reply_of, shown, entry_event, HoldAlike}
 use Rattle.captable.specs.Calls.{told}
-use Rattle.capsteps.specs.Lockmachine.declared.scene.Scene.{Scene}
-use Rattle.capsteps.specs.declared.entry_request.EntryRequest.{EntryRequest}
-use Rattle.capsteps.specs.declared.entry_request.EntryRequest.TheVariants.{Open, Want, Ack, Release}
-use Rattle.capsteps.specs.Capevents.declared.outcome.Ended.{Ended}
-use Rattle.capsteps.specs.Caprules.State.{State}
-use Rattle.capsteps.specs.Capevents.Replies.{has_list}
-use Rattle.capsteps.specs.Caprules.Direct.{effect, reply_of, shown, opened_as}
-use Rattle.capsteps.specs.EntryRequest.{entry_event, entry_answer}
-use Rattle.capsteps.proofs.Knowing.{HoldAlike}
+use Rattle.capsteps.specs.declared.entry_request.EntryRequest.TheVariants.{Open, Want, Release}
+use Rattle.capsteps.specs.Caprules.Direct.{opened_as}
+use Rattle.capsteps.specs.EntryRequest.{entry_answer}
 use Rattle.capsteps.proofs.EntryKept.{alike-changed}
 
 no_list-opened : (s : Scene) (o : Option EntryRow) → has_list (opened_as s o) ≡ false

@@ -1,39 +1,27 @@
 -- A flush that nothing stops, by itself: it changes its inode alone, and of the entries only the order of recall.
 use Rattle.std.proofs.Common.{◌≡◌, ◌≢◌, ℕ, [], ◌∷◌, None, refl, sym, ap, subst, ◌∙◌, arith}
+use Rattle.capcore.proofs.Common.{All-filter, passed-both, inode_tests, IsTree, Nodes, session_tests, Holder, IsTable, is_of_inode, IsQuiet, Scene, State, judged, direct, effect_unless, says, IsSound, AreGiven, IsAffectedEntry, AffectsOne, sound-pinned, AreBelow}
 use Rattle.std.specs.FinMap as map
-use Rattle.std.proofs.lemmas.List.Elements.{All-filter}
 use Rattle.capbits.specs.Refusal.{first_failing}
 use Rattle.capbits.specs.Sets.{caps_in}
-use Rattle.capbits.proofs.Tests.{passed-both}
-use Rattle.inotree.specs.Tests.{inode_tests}
-use Rattle.inotree.specs.Tree.{IsTree, Nodes, place}
+use Rattle.inotree.specs.Tree.{place}
 use Rattle.inotree.proofs.OneInode.{known-changed, place-other}
-use Rattle.sessiontab.specs.Tests.{session_tests}
-use Rattle.captable.specs.declared.entry.Holder.{Holder}
-use Rattle.captable.specs.Table.{IsTable}
-use Rattle.captable.specs.Calls.{is_of_inode, touched}
+use Rattle.captable.specs.Calls.{touched}
 use Rattle.captable.specs.Tests.{release_tests}
 use Rattle.captable.proofs.Moves.{IsTable-touched}
 use Rattle.capsteps.specs.Lockmachine.declared.request.Change.{Change}
 use Rattle.capsteps.specs.Lockmachine.Elsewhere.{IsSameBut}
-use Rattle.capsteps.specs.Lockmachine.Moves.{IsQuiet}
 use Rattle.capsteps.specs.Lockmachine.Requests.{part_of_change}
-use Rattle.capsteps.specs.Lockmachine.declared.scene.Scene.{Scene}
 use Rattle.capsteps.proofs.Lockmachine.SameBut.{same-trans, same-tree, same-entries}
 use Rattle.capsteps.specs.Capevents.declared.event.Event.TheVariants as event
 use Rattle.capsteps.specs.Capevents.declared.reply.Reply.TheVariants as reply
-use Rattle.capsteps.specs.Caprules.State.{State}
 use Rattle.capsteps.specs.Caprules.Asks.{change_tests, exclusive}
 use Rattle.capsteps.specs.Capnotes.Changing.{tree_changed}
-use Rattle.capsteps.specs.Caprules.Judge.{judged}
-use Rattle.capsteps.specs.Caprules.Direct.{direct, effect_unless, says, with_flush}
+use Rattle.capsteps.specs.Caprules.Direct.{with_flush}
 use Rattle.capsteps.specs.Capacts.Served.{change_call_tests}
-use Rattle.capsteps.specs.Caprules.Sound.{IsSound, AreGiven}
-use Rattle.capsteps.specs.Affected.{IsAffectedEntry, AffectsOne}
 use Rattle.capsteps.proofs.Capacts.Again.{change-passed}
 use Rattle.capsteps.proofs.OneChange.{by_change, alike_change, sound_change}
-use Rattle.capsteps.proofs.Moved.{sound-pinned}
-use Rattle.capsteps.proofs.EntryRequests.{all-left, before-passed, after-passed, AreBelow}
+use Rattle.capsteps.proofs.EntryRequests.{all-left, before-passed, after-passed}
 
 known_change : (tree : Nodes) (ino : ℕ) (change : Change) (other : ℕ) → map.contains_key (tree_changed tree ino change).nodes other ≡ map.contains_key tree.nodes other
 known_change tree ino change other =

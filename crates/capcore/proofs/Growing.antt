@@ -1,16 +1,9 @@
 -- A legal history goes on by one row.
 use Rattle.std.proofs.Common.{◌≡◌, ℕ, ◌+◌, ◌<◌, ◌≤◌, List, [], ◌∷◌, ◌++◌, length, Some, None, refl, sym, ap, subst, ◌∙◌, arith}
-use Rattle.inotree.specs.Tree.{Nodes}
-use Rattle.captable.specs.Table.{IsTable, entry_at}
+use Rattle.capcore.proofs.Common.{Nodes, IsTable, entry_at, Row, State, Step, IsSound, AreGiven, rows_of, IsOpening, HasNoStray, step-shown}
 use Rattle.capsteps.specs.Capview.declared.change.ViewChange.{ViewChange}
-use Rattle.capsteps.specs.Capevents.declared.row.Row.{Row}
-use Rattle.capsteps.specs.Caprules.State.{State}
-use Rattle.capsteps.specs.Caprules.Step.{Step}
-use Rattle.capsteps.specs.Caprules.Sound.{IsSound, AreGiven}
-use Rattle.capsteps.specs.Caprules.Numbers.{rows_of}
-use Rattle.capsteps.specs.Caprules.History.{Recorded, recorded, IsRecorded, IsOpening, HasNoStray, Replays}
+use Rattle.capsteps.specs.Caprules.History.{Recorded, recorded, IsRecorded, Replays}
 use Rattle.capsteps.proofs.Capacts.Numbered.{numbered-nil, numbered-snoc}
-use Rattle.capsteps.proofs.ShownSteps.{step-shown}
 use Rattle.capcore.proofs.Sounding.{opening-sound, opening-given}
 
 pub replays-more : (first : State) (rows : List Row) (old : State) (row : Row) (new : State) → Replays first rows old → Step old row.event row.reply row.ended new → Replays first (rows ++ row ∷ []) new

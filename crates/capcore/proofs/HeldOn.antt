@@ -1,28 +1,17 @@
 -- What was held is held on, but for what the event may take.
 use Rattle.std.proofs.Common.{◌≡◌, ℕ, ◌==◌, Bool, true, false, cond, ◌&&◌, ◌||◌, Option, Some, None, is_some, take, refl, sym, ap, subst, ◌∙◌, true≢false}
-use Rattle.std.specs.Option.{option_map}
+use Rattle.capcore.proofs.Common.{option_map, Cap, P, ClientId, Caps, child, Entry, Holder, Table, holder, entry_at, without_client, Scene, Event, Rejection, State, Direct, direct, effect, effect_unless, found, IssuesExactly, judged, revoked_of}
 use Rattle.std.proofs.lemmas.Bool.{or_parts, true_from_ne_false}
-use Rattle.capbits.specs.declared.cap.Cap.{Cap}
-use Rattle.capbits.specs.declared.cap.Cap.TheVariants.{P}
-use Rattle.capbits.specs.declared.ids.ClientId.{ClientId}
-use Rattle.capbits.specs.Caps.{Caps, has}
+use Rattle.capbits.specs.Caps.{has}
 use Rattle.capbits.specs.Sets.{has-minus}
-use Rattle.inotree.specs.Tree.{child}
-use Rattle.captable.specs.declared.entry.Entry.{Entry}
-use Rattle.captable.specs.declared.entry.Holder.{Holder}
-use Rattle.captable.specs.Table.{Table, holder, same, is_among, entry_at}
-use Rattle.captable.specs.Calls.{opened, changed, acked, given_back, released, recalled, with_asked, without_client}
+use Rattle.captable.specs.Table.{same, is_among}
+use Rattle.captable.specs.Calls.{opened, changed, acked, given_back, released, recalled, with_asked}
 use Rattle.captable.proofs.ByHolder.{entry_at-changed, entry_at-changed_other, entry_at-without_client_other, entry_at-acked_other, entry_at-released, entry_at-released_other, entry_at-recalled, entry_at-recalled_other}
 use Rattle.captable.proofs.Tables.{same-is}
-use Rattle.capsteps.specs.Lockmachine.declared.scene.Scene.{Scene}
-use Rattle.capsteps.specs.Capevents.declared.event.Event.{Event}
 use Rattle.capsteps.specs.Capevents.declared.event.Event.TheVariants as event
 use Rattle.capsteps.specs.Capevents.declared.event.OpenMode.{OpenMode}
-use Rattle.capsteps.specs.Caprules.declared.rejection.Rejection.{Rejection}
-use Rattle.capsteps.specs.Caprules.State.{State}
-use Rattle.capsteps.specs.Caprules.Direct.{Direct, direct, effect, effect_unless, found, with_entry, with_opening}
-use Rattle.capsteps.specs.Caprules.Headline.{holds, is_due, IssuesExactly}
-use Rattle.capsteps.specs.Caprules.Judge.{judged, revoked_of}
+use Rattle.capsteps.specs.Caprules.Direct.{with_entry, with_opening}
+use Rattle.capsteps.specs.Caprules.Headline.{holds, is_due}
 use Rattle.capsteps.specs.Caprules.Shown.{may_take, TakesOnlySo}
 use Rattle.capsteps.proofs.ShownSteps.{apart-of, apart_client, entry_at-entry_other}
 use Rattle.capcore.proofs.ShownWords.{holds-entry, holds-found, gone_is}

@@ -1,3 +1,4 @@
+pub mod Common
 pub mod Apart
 pub mod Bounded
 pub mod OtherLocks

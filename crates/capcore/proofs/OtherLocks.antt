@@ -1,26 +1,15 @@
 -- Locks change by the moves of a step alone: each other lock that is there at its end is as it was right after the event.
 use Rattle.std.proofs.Common.{◌≡◌, ℕ, Bool, true, false, Some, List, [], ◌∷◌, refl, sym, ap, ◌∙◌, true≢false}
+use Rattle.capcore.proofs.Common.{option_map, Part, LockState, Stable, Gather, LockMap, lock_at, present_state, Scene, Event, Ended, Reply, Answer, Says, Shows, Gives, Awaits, direct, shown, sizes_owed, Made, Began, Gathered, Served, Makes, MakesAll, sized_in, State, Step, state_after}
 use Rattle.std.specs.List.{list_any}
-use Rattle.std.specs.Option.{option_map}
 use Rattle.std.specs.FinMap as map
 use Rattle.std.proofs.lemmas.Bool.{or_parts}
-use Rattle.capbits.specs.declared.cap.Part.{Part}
-use Rattle.locktable.specs.declared.states.LockState.{LockState}
-use Rattle.locktable.specs.declared.states.LockState.TheVariants.{Stable, Gather}
 use Rattle.capsteps.specs.Lockmachine.Inodes.{lock_in}
-use Rattle.capsteps.specs.Lockmachine.Locks.{LockMap, lock_at, with_lock}
-use Rattle.capsteps.specs.Lockmachine.Moves.{LockPlace, present_state, coming_state}
-use Rattle.capsteps.specs.Lockmachine.declared.scene.Scene.{Scene}
+use Rattle.capsteps.specs.Lockmachine.Locks.{with_lock}
+use Rattle.capsteps.specs.Lockmachine.Moves.{LockPlace, coming_state}
 use Rattle.capsteps.proofs.Lockmachine.Moving.{is_at, with_lock-each}
-use Rattle.capsteps.specs.Capevents.declared.event.Event.{Event}
-use Rattle.capsteps.specs.Capevents.declared.outcome.Ended.{Ended}
-use Rattle.capsteps.specs.Capevents.declared.reply.Reply.{Reply}
-use Rattle.capsteps.specs.Caprules.Direct.{Answer, Says, Shows, Gives, Awaits, direct, shown}
-use Rattle.capsteps.specs.Caprules.Finish.{is_in_use, issue, sizes_owed}
+use Rattle.capsteps.specs.Caprules.Finish.{is_in_use, issue}
 use Rattle.capsteps.specs.Caprules.Headline.{ByMoves, OtherLocksStay, is_of_lock_at}
-use Rattle.capsteps.specs.Caprules.Settle.{Made, Began, Gathered, Served, Makes, MakesAll, sized_in}
-use Rattle.capsteps.specs.Caprules.State.{State}
-use Rattle.capsteps.specs.Caprules.Step.{Step, state_after}
 use Rattle.capsteps.proofs.Strays.{retained-here, retained-gone}
 
 -- ---- the moves

@@ -1,46 +1,29 @@
 -- A request that is served in the step that brought it is never denied or refused: it was let wait, and nothing is served before
 -- it, so that the tree is as it was.
-use Rattle.std.proofs.Common.{◌≡◌, ℕ, Bool, true, false, ◌&&◌, ◌==◌, cond, Option, Some, None, List, [], ◌∷◌, ◌++◌, refl, sym, ap, subst, ◌∙◌, Contains, true≢false}
-use Rattle.std.specs.Prelude.{unwrap_or}
-use Rattle.std.specs.List.{find}
-use Rattle.std.specs.Option.{option_map_or, option_or}
+use Rattle.std.proofs.Common.{◌≡◌, ℕ, Bool, true, false, ◌&&◌, ◌==◌, cond, Option, Some, None, List, [], ◌∷◌, ◌++◌, refl, sym, ap, subst, ◌∙◌, Contains, true≢false, unwrap_or}
+use Rattle.capcore.proofs.Common.{find, option_map_or, nat_eq_equiv, eqb-true, Part, ClientId, Ino, Ticket, Node, LockState, Stable, Gather, Ask, Get, Alter, Unlink, Rmdir, Rename, Request, first_for, LockMap, IsLockMap, lock_at, next_request, with_request, Scene, present_state, IsQuiet, Outcome, Reply, Rejection, judged_again, MayEndAs, As_judged, Without_memory, Made, Began, Gathered, Served, MakesAll, ended_in}
+use Rattle.std.specs.Option.{option_or}
 use Rattle.std.specs.FinMap as map
-use Rattle.std.specs.Cmp.{nat_eq_equiv}
-use Rattle.std.proofs.lemmas.Bool.{eqb-true, true_from_ne_false}
+use Rattle.std.proofs.lemmas.Bool.{true_from_ne_false}
 use Rattle.std.proofs.lemmas.List.Elements.{Contains-push}
 use Rattle.std.proofs.lemmas.List.Folds.{find-append}
-use Rattle.capbits.specs.declared.cap.Part.{Part}
-use Rattle.capbits.specs.declared.ids.ClientId.{ClientId}
-use Rattle.capbits.specs.declared.ids.Ino.{Ino}
-use Rattle.capbits.specs.declared.ids.Ticket.{Ticket}
 use Rattle.capbits.specs.Sets.{and_parts}
-use Rattle.inotree.specs.declared.node.Node.{Node}
-use Rattle.locktable.specs.declared.states.LockState.{LockState}
-use Rattle.locktable.specs.declared.states.LockState.TheVariants.{Stable, Gather}
 use Rattle.capsteps.specs.Lockmachine.declared.moves.Move.TheVariants.{Begin, End, Serve}
-use Rattle.capsteps.specs.Lockmachine.declared.request.Ask.{Ask}
-use Rattle.capsteps.specs.Lockmachine.declared.request.Ask.TheVariants.{Get, Alter, Unlink, Rmdir, Rename}
-use Rattle.capsteps.specs.Lockmachine.declared.request.Request.{Request}
-use Rattle.capsteps.specs.Lockmachine.Requests.{part_place, same_part, part_of_ask, head_of, is_for, first_for, is_numbered}
-use Rattle.capsteps.specs.Lockmachine.Locks.{LockMap, IsLockMap, lock_at, with_lock, next_request, with_request}
-use Rattle.capsteps.specs.Lockmachine.declared.scene.Scene.{Scene}
+use Rattle.capsteps.specs.Lockmachine.Requests.{part_place, same_part, part_of_ask, head_of, is_for, is_numbered}
+use Rattle.capsteps.specs.Lockmachine.Locks.{with_lock}
 use Rattle.capsteps.specs.Lockmachine.Scene.{wanted_in_all}
 use Rattle.locktable.specs.Targets as table_of_targets
-use Rattle.capsteps.specs.Lockmachine.Moves.{LockPlace, may_end, may_begin, may_serve, is_first, is_servable, present_state, coming_state, first_move, begun_locks, gathered_locks, IsQuiet, IsAtRest}
+use Rattle.capsteps.specs.Lockmachine.Moves.{LockPlace, may_end, may_begin, may_serve, is_first, is_servable, coming_state, first_move, begun_locks, gathered_locks, IsAtRest}
 use Rattle.capsteps.proofs.Lockmachine.Exact.{ends_not, begins_not, serves_not, settled}
 use Rattle.capsteps.proofs.Lockmachine.Moving.{IsMove, first_is, is_at, with_lock-each}
 use Rattle.capsteps.proofs.Lockmachine.Queue.{least_served, found_by_number, moved-kept}
 use Rattle.capsteps.proofs.Lockmachine.Rest.{same_part_is}
-use Rattle.capsteps.specs.Capevents.declared.outcome.Outcome.{Outcome}
-use Rattle.capsteps.specs.Capevents.declared.reply.Reply.{Reply}
 use Rattle.capsteps.specs.Capevents.declared.reply.Reply.TheVariants as reply
-use Rattle.capsteps.specs.Caprules.declared.rejection.Rejection.{Rejection}
 use Rattle.capsteps.specs.Capevents.Replies.{outcome_reply}
 use Rattle.capsteps.specs.Caprules.Direct.{awaited_as}
 use Rattle.capsteps.specs.Capnotes.DueEndings.{is_of_ticket}
 use Rattle.capsteps.specs.Caprules.Headline.{is_rejection}
-use Rattle.capsteps.specs.Caprules.Serving.{judged_again, values_outcome, passed_as, outcome_unless, MayEndAs, As_judged, Without_memory}
-use Rattle.capsteps.specs.Caprules.Settle.{Made, Began, Gathered, Served, MakesAll, ended_in}
+use Rattle.capsteps.specs.Caprules.Serving.{values_outcome, passed_as, outcome_unless}
 use Rattle.capsteps.proofs.Stopping.{no_moves}
 
 -- ---- how a request ends that nothing stops

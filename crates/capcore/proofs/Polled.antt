@@ -1,33 +1,16 @@
 -- A poll is a whole step: no lock moves, and nothing is left to do but to give the messages.
 use Rattle.std.proofs.Common.{◌≡◌, ℕ, ◌+◌, Option, Some, None, List, [], filter, refl, sym, ap, subst, ◌∙◌, append-nil}
-use Rattle.capbits.specs.declared.ids.ClientId.{ClientId}
+use Rattle.capcore.proofs.Common.{ClientId, session_tests, Table, IsTable, is_of_client, Event, Ended, Reply, Said, Rejection, State, IsAnswered, judged, rejection_by, first_denied, Direct, Gives, direct, effect_unless, reply_of, shown, IssuesExactly, Settles, IsSound, AreGiven, Step, all_ended, state_after, sound-settles, shown-sound, shown-given, shown-issued}
 use Rattle.capbits.specs.Refusal.{first_failing}
-use Rattle.sessiontab.specs.Tests.{session_tests}
-use Rattle.captable.specs.Table.{Table, IsTable}
-use Rattle.captable.specs.Calls.{is_of_client}
 use Rattle.captable.specs.Many.{changed_where}
-use Rattle.capsteps.specs.Capevents.declared.event.Event.{Event}
 use Rattle.capsteps.specs.Capevents.declared.event.Event.TheVariants as event
-use Rattle.capsteps.specs.Capevents.declared.outcome.Ended.{Ended}
 use Rattle.capsteps.specs.Capevents.declared.outcome.Message.{Message}
-use Rattle.capsteps.specs.Capevents.declared.reply.Reply.{Reply}
 use Rattle.capsteps.specs.Capevents.declared.reply.Reply.TheVariants as reply
-use Rattle.capsteps.specs.declared.said.Said.{Said}
-use Rattle.capsteps.specs.Caprules.declared.rejection.Rejection.{Rejection}
-use Rattle.capsteps.specs.Caprules.State.{State}
-use Rattle.capsteps.specs.Answered.{IsAnswered}
-use Rattle.capsteps.specs.Caprules.Judge.{judged, rejection_by, first_denied}
-use Rattle.capsteps.specs.Caprules.Direct.{Direct, Gives, direct, effect_unless, reply_of, shown}
-use Rattle.capsteps.specs.Caprules.Headline.{IssuesExactly}
 use Rattle.capsteps.specs.Caprules.Messages.{first_messages, with_given, after_messages}
 use Rattle.capsteps.specs.Capnotes.DueEndings.{is_left}
-use Rattle.capsteps.specs.Caprules.Settle.{Settles}
-use Rattle.capsteps.specs.Caprules.Sound.{IsSound, AreGiven}
-use Rattle.capsteps.specs.Caprules.Step.{Step, all_ended, state_after}
-use Rattle.capsteps.proofs.Finishing.{sound-ends, sound-settles}
+use Rattle.capsteps.proofs.Finishing.{sound-ends}
 use Rattle.capcore.proofs.Promised.{has-due}
 use Rattle.capcore.proofs.Sounding.{later-given}
-use Rattle.capsteps.proofs.Telling.{shown-sound, shown-given, shown-issued}
 
 module _ (old : State) (sound : IsSound old) (table : IsTable old.scene.table) (client : ClientId) (max : ℕ) where
   abbrev poll : Event

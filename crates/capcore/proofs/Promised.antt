@@ -1,45 +1,21 @@
 -- The main promise, from what a step is.
-use Rattle.std.proofs.Common.{◌≡◌, ℕ, Bool, true, false, ◌||◌, List, Option, Some, None, refl, sym, ap, subst, ◌∙◌, true≢false}
-use Rattle.std.specs.Prelude.{IsTrue}
-use Rattle.std.specs.List.{find}
-use Rattle.std.specs.Option.{option_map_or}
-use Rattle.std.proofs.lemmas.Option.{none-some}
-use Rattle.std.proofs.lemmas.List.Elements.{All-contains}
+use Rattle.std.proofs.Common.{◌≡◌, ℕ, Bool, true, false, ◌||◌, List, Option, Some, None, refl, sym, ap, subst, ◌∙◌, true≢false, IsTrue}
+use Rattle.capcore.proofs.Common.{find, option_map_or, none-some, All-contains, Access, EntryRow, Holder, IsTable, holder, is_row_of, child, Ask, Get, Alter, Unlink, Rmdir, Rename, IsLockMap, Scene, Event, Refusal, Reply, State, judged, before, needs, after, first_denied, rejection_by, Need, Ended, Rejection, ByTest, Direct, effect, effect_unless, found, direct, reply_of, IsDirect, Made, MakesAll, ended_in, Step, state_after, IsSoundEntry, IsSound, IssuesExactly}
 use Rattle.capbits.specs.Caps.{has}
-use Rattle.capgrant.specs.declared.access.Access.{Access}
 use Rattle.capgrant.specs.declared.rule.Rule.{Rule}
-use Rattle.captable.specs.declared.entry.EntryRow.{EntryRow}
-use Rattle.captable.specs.declared.entry.Holder.{Holder}
-use Rattle.captable.specs.Table.{IsTable, holder, is_row_of}
-use Rattle.inotree.specs.Tree.{child}
-use Rattle.capsteps.specs.Lockmachine.declared.request.Ask.{Ask}
-use Rattle.capsteps.specs.Lockmachine.declared.request.Ask.TheVariants.{Get, Alter, Unlink, Rmdir, Rename}
-use Rattle.capsteps.specs.Lockmachine.Locks.{IsLockMap}
-use Rattle.capsteps.specs.Lockmachine.declared.scene.Scene.{Scene}
 use Rattle.capsteps.specs.Lockmachine.Policy.{failures}
-use Rattle.capsteps.specs.Capevents.declared.event.Event.{Event}
 use Rattle.capsteps.specs.Capevents.declared.event.Event.TheVariants as event
-use Rattle.capbits.specs.declared.refusal.Refusal.{Refusal}
-use Rattle.capsteps.specs.Capevents.declared.reply.Reply.{Reply}
 use Rattle.capsteps.specs.Capevents.declared.reply.Reply.TheVariants as reply
-use Rattle.capsteps.specs.Caprules.State.{State}
 use Rattle.capbits.specs.Refusal.{first_failing}
-use Rattle.capsteps.specs.Caprules.Judge.{judged, before, needs, after, first_denied, rejection_by}
-use Rattle.capsteps.specs.Caprules.Needs.{Need}
-use Rattle.capsteps.specs.Capevents.declared.outcome.Ended.{Ended}
-use Rattle.capsteps.specs.Caprules.declared.rejection.Rejection.{Rejection}
-use Rattle.capsteps.specs.Caprules.declared.rejection.Rejection.TheVariants.{ByPolicy, ByTest}
-use Rattle.capsteps.specs.Caprules.Direct.{Direct, effect, effect_unless, found, direct, opened_as, reply_of, IsDirect}
-use Rattle.capsteps.specs.Caprules.Settle.{Made, MakesAll, ended_in}
+use Rattle.capsteps.specs.Caprules.declared.rejection.Rejection.TheVariants.{ByPolicy}
+use Rattle.capsteps.specs.Caprules.Direct.{opened_as}
 use Rattle.capsteps.specs.Affected.{asks_for}
 use Rattle.capcore.proofs.Asked.{asking, asking-rejection, asking-direct, asking-again, order-of_ask}
 use Rattle.capcore.proofs.OwnServed.{own-not_stopped}
-use Rattle.capsteps.specs.Caprules.Step.{Step, state_after}
 use Rattle.capsteps.proofs.Stopping.{rejection-only}
 use Rattle.capsteps.specs.Caprules.Finish.{due}
-use Rattle.capsteps.specs.Caprules.Sound.{IsSoundEntry, IsSound}
 use Rattle.capsteps.proofs.LeftAlone.{found-contains}
-use Rattle.capsteps.specs.Caprules.Headline.{DeniedExactly, DeniesByName, IssuesExactly, is_rejection}
+use Rattle.capsteps.specs.Caprules.Headline.{DeniedExactly, DeniesByName, is_rejection}
 
 -- ---- an event that nothing stops
 

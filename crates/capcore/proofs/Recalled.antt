@@ -1,22 +1,15 @@
 -- A recall is a whole step: it marks entries as asked for, by which nothing is judged, moved or issued.
 use Rattle.std.proofs.Common.{◌≡◌, ◌≤◌, ℕ, ◌+◌, Bool, true, false, cond, ◌||◌, List, [], map, take, refl, sym, subst}
+use Rattle.capcore.proofs.Common.{EntryRow, Holder, Table, IsTable, Said, State, KnownSets, AreKnown, IsAnswered, finished, IsSound, AreGiven, HoldAlike, known-alike}
 use Rattle.std.proofs.lemmas.List.Elements.{All-map}
-use Rattle.captable.specs.declared.entry.EntryRow.{EntryRow}
-use Rattle.captable.specs.declared.entry.Holder.{Holder}
-use Rattle.captable.specs.Table.{Table, IsTable, is_among}
+use Rattle.captable.specs.Table.{is_among}
 use Rattle.captable.specs.Calls.{recalled, with_asked}
 use Rattle.captable.proofs.Tables.{IsTable-recalled}
 use Rattle.capsteps.specs.Capevents.declared.event.Event.TheVariants as event
 use Rattle.capsteps.specs.Capevents.declared.reply.Reply.TheVariants as reply
-use Rattle.capsteps.specs.declared.said.Said.{Said}
-use Rattle.capsteps.specs.Caprules.State.{State}
-use Rattle.capsteps.specs.Capacts.Known.{KnownSets, AreKnown}
-use Rattle.capsteps.specs.Answered.{IsAnswered}
 use Rattle.capsteps.specs.Caprules.Direct.{with_table}
-use Rattle.capsteps.specs.Caprules.Finish.{finished}
-use Rattle.capsteps.specs.Caprules.Sound.{IsSound, AreGiven}
 use Rattle.capsteps.proofs.Finishing.{same-finished}
-use Rattle.capsteps.proofs.Knowing.{HoldAlike, known-alike, alike-where}
+use Rattle.capsteps.proofs.Knowing.{alike-where}
 use Rattle.capcore.proofs.Sounding.{later-given}
 use Rattle.capcore.proofs.Steps.{direct-answered}
 use Rattle.capsteps.proofs.Telling.{as_told, as_sized, retold, retold_table, retold-sound}

@@ -1,27 +1,9 @@
 -- An event that is stopped is answered so; and which inode an event affects that waits for a lock.
 use Rattle.std.proofs.Common.{◌≡◌, ℕ, List, Option, Some, None, [], ◌∷◌, sym, ap, subst, ◌∙◌}
-use Rattle.capbits.specs.declared.ids.ClientId.{ClientId}
-use Rattle.capgrant.specs.declared.access.Access.{Access}
+use Rattle.capcore.proofs.Common.{ClientId, Access, passed-both, inode_tests, session_tests, Scene, IsTable, Event, Ended, Reply, Said, Rejection, State, IsAnswered, Direct, direct, effect_unless, says, IssuesExactly, judged, rejection_of, asked_tests, need, IsSound, Step}
 use Rattle.capbits.specs.Refusal.{first_failing}
-use Rattle.capbits.proofs.Tests.{passed-both}
-use Rattle.inotree.specs.Tests.{inode_tests}
-use Rattle.sessiontab.specs.Tests.{session_tests}
-use Rattle.capsteps.specs.Lockmachine.declared.scene.Scene.{Scene}
 use Rattle.capsteps.proofs.Judging.{no_test}
-use Rattle.captable.specs.Table.{IsTable}
-use Rattle.capsteps.specs.Capevents.declared.event.Event.{Event}
-use Rattle.capsteps.specs.Capevents.declared.outcome.Ended.{Ended}
-use Rattle.capsteps.specs.Capevents.declared.reply.Reply.{Reply}
-use Rattle.capsteps.specs.declared.said.Said.{Said}
-use Rattle.capsteps.specs.Caprules.declared.rejection.Rejection.{Rejection}
-use Rattle.capsteps.specs.Caprules.State.{State}
-use Rattle.capsteps.specs.Answered.{IsAnswered}
-use Rattle.capsteps.specs.Caprules.Direct.{Direct, direct, effect_unless, says}
-use Rattle.capsteps.specs.Caprules.Headline.{IssuesExactly}
-use Rattle.capsteps.specs.Caprules.Judge.{judged, rejection_of, rejection_reply, asked_tests}
-use Rattle.capsteps.specs.Caprules.Needs.{need}
-use Rattle.capsteps.specs.Caprules.Sound.{IsSound}
-use Rattle.capsteps.specs.Caprules.Step.{Step}
+use Rattle.capsteps.specs.Caprules.Judge.{rejection_reply}
 use Rattle.capcore.proofs.Promised.{has-due}
 use Rattle.capcore.proofs.Sounding.{later-given}
 use Rattle.capsteps.proofs.Stopping.{rejection-step}

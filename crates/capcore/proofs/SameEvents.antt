@@ -1,20 +1,12 @@
 -- The rows of a history lead to one state; and where no request finds no memory, its events say all that is in it.
 use Rattle.std.proofs.Common.{◌≡◌, ◌≤◌, ◌+◌, ℕ, length, List, [], ◌∷◌, ◌++◌, refl, sym, ap, subst, ◌∙◌, All, append_assoc, arith}
+use Rattle.capcore.proofs.Common.{Nodes, Request, IsLockMap, Event, Row, Ended, Reply, rows_of, IsOpening, State, Step}
 use Rattle.std.proofs.lemmas.List.Elements.{All-nil, All-head, All-tail}
 use Rattle.capbits.specs.declared.ids.PassId.{PassId}
-use Rattle.inotree.specs.Tree.{Nodes}
-use Rattle.capsteps.specs.Lockmachine.declared.request.Request.{Request}
 use Rattle.capsteps.specs.Lockmachine.Requests.{AreTicketsRising}
-use Rattle.capsteps.specs.Lockmachine.Locks.{IsLockMap}
-use Rattle.capsteps.specs.Capevents.declared.event.Event.{Event}
-use Rattle.capsteps.specs.Capevents.declared.row.Row.{Row}
-use Rattle.capsteps.specs.Capevents.declared.outcome.Ended.{Ended}
-use Rattle.capsteps.specs.Capevents.declared.reply.Reply.{Reply}
-use Rattle.capsteps.specs.Caprules.Numbers.{AreNumbered, rows_of}
-use Rattle.capsteps.specs.Caprules.History.{IsOpening, Replays}
+use Rattle.capsteps.specs.Caprules.Numbers.{AreNumbered}
+use Rattle.capsteps.specs.Caprules.History.{Replays}
 use Rattle.capcore.specs.SameEvents.{FoundMemory, AllFoundMemory, events_of, ends_of, passes_of}
-use Rattle.capsteps.specs.Caprules.State.{State}
-use Rattle.capsteps.specs.Caprules.Step.{Step}
 use Rattle.capcore.proofs.Determined.{step-once, row-once, step-order}
 
 -- rows lead to one state

@@ -1,24 +1,13 @@
 -- Requests that are served among the moves of a step.
 use Rattle.std.proofs.Common.{◌≡◌, ◌≢◌, List, [], ◌∷◌, ◌++◌, Option, Some, None, refl, sym, subst, ◌∙◌, ℕ}
+use Rattle.capcore.proofs.Common.{Access, Node, Part, Ask, Get, Alter, Unlink, Rmdir, Rename, Request, Scene, Outcome, Refusal, first_denied, rejection_by, Need, MayEndAs, As_judged, Without_memory, ask_needs, ask_after, Made, Began, Gathered, Served, Makes, MakesAll}
 use Rattle.std.specs.FinMap as map
-use Rattle.capgrant.specs.declared.access.Access.{Access}
 use Rattle.capgrant.specs.declared.rule.Rule.{Rule}
-use Rattle.inotree.specs.declared.node.Node.{Node}
-use Rattle.capbits.specs.declared.cap.Part.{Part}
-use Rattle.capsteps.specs.Lockmachine.declared.request.Ask.{Ask}
-use Rattle.capsteps.specs.Lockmachine.declared.request.Ask.TheVariants.{Get, Alter, Unlink, Rmdir, Rename}
-use Rattle.capsteps.specs.Lockmachine.declared.request.Request.{Request}
 use Rattle.capsteps.specs.Lockmachine.Policy.{failures}
-use Rattle.capsteps.specs.Lockmachine.declared.scene.Scene.{Scene}
-use Rattle.capsteps.specs.Capevents.declared.outcome.Outcome.{Outcome}
 use Rattle.capsteps.specs.Capevents.declared.outcome.Outcome.TheVariants as outcome
-use Rattle.capbits.specs.declared.refusal.Refusal.{Refusal}
 use Rattle.capbits.specs.Refusal.{first_failing}
-use Rattle.capsteps.specs.Caprules.Judge.{first_denied, rejection_by}
-use Rattle.capsteps.specs.Caprules.Needs.{Need}
-use Rattle.capsteps.specs.Caprules.Serving.{MayEndAs, As_judged, Without_memory, values_outcome, passed_as, outcome_unless}
-use Rattle.capsteps.specs.Caprules.Asks.{ask_before, ask_needs, ask_after}
-use Rattle.capsteps.specs.Caprules.Settle.{Made, Began, Gathered, Served, Makes, MakesAll}
+use Rattle.capsteps.specs.Caprules.Serving.{values_outcome, passed_as, outcome_unless}
+use Rattle.capsteps.specs.Caprules.Asks.{ask_before}
 use Rattle.capsteps.specs.Caprules.Headline.{ServedDenied, ServedByName, EachServing}
 
 -- ---- one serving

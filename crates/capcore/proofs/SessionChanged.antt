@@ -1,45 +1,27 @@
 -- A client's session ends, is marked or has other grants, by itself: it affects the inodes where the client is.
-use Rattle.std.proofs.Common.{◌≡◌, ◌≢◌, ◌≤◌, ℕ, zero, suc, ◌==◌, Bool, true, false, not, cond, Option, Some, None, is_some, List, [], ◌∷◌, refl, sym, ap, subst, ◌∙◌, Contains, true≢false, arith, eq-eqb, nat_eq}
-use Rattle.std.specs.Prelude.{IsTrue, All, filter}
-use Rattle.std.specs.Option.{option_map}
+use Rattle.std.proofs.Common.{◌≡◌, ◌≢◌, ◌≤◌, ℕ, zero, suc, ◌==◌, Bool, true, false, not, cond, Option, Some, None, is_some, List, [], ◌∷◌, refl, sym, ap, subst, ◌∙◌, Contains, true≢false, arith, eq-eqb, nat_eq, IsTrue, All, filter}
+use Rattle.capcore.proofs.Common.{option_map, eqb-true, All-weaker, All-contains, All-filter, Part, ClientId, Ino, SessionTable, has_session, EntryRow, Table, IsTable, is_of_client, is_of_inode, without_client, Request, LockMap, lock_at, first_for, IsQuiet, Scene, State, Direct, Says, direct, effect, effect_unless, judged, IsSound, Affects, IsAffectedEntry, is_end, dropped_by, session_changed, sound-pinned}
 use Rattle.std.specs.FinMap as map
-use Rattle.std.proofs.lemmas.Bool.{eqb-true, not-true, false_from_ne_true}
-use Rattle.std.proofs.lemmas.List.Elements.{All-weaker, All-contains, All-contains_itself, All-filter, filter_passes}
-use Rattle.capbits.specs.declared.cap.Part.{Part}
-use Rattle.capbits.specs.declared.ids.ClientId.{ClientId}
-use Rattle.capbits.specs.declared.ids.Ino.{Ino}
+use Rattle.std.proofs.lemmas.Bool.{not-true, false_from_ne_true}
+use Rattle.std.proofs.lemmas.List.Elements.{All-contains_itself, filter_passes}
 use Rattle.sessiontab.specs.declared.session.Session.{Session}
 use Rattle.sessiontab.specs.Connected.{SessionMap, change_session}
-use Rattle.sessiontab.specs.Table.{SessionTable}
-use Rattle.sessiontab.specs.Calls.{has_session}
 use Rattle.numbered.proofs.Maps.{remove-at, change-at}
-use Rattle.captable.specs.declared.entry.EntryRow.{EntryRow}
-use Rattle.captable.specs.Table.{Table, IsTable}
-use Rattle.captable.specs.Calls.{is_of_client, is_of_inode, entries_on, without_client}
+use Rattle.captable.specs.Calls.{entries_on}
 use Rattle.captable.proofs.ByInode.{entries_on-without_client}
 use Rattle.captable.proofs.Tables.{IsTable-without_client}
-use Rattle.capsteps.specs.Lockmachine.declared.request.Request.{Request}
 use Rattle.capsteps.specs.Lockmachine.Inodes.{StateMap}
-use Rattle.capsteps.specs.Lockmachine.Locks.{LockMap, lock_at}
-use Rattle.capsteps.specs.Lockmachine.Requests.{is_of_client as is_asked_by, first_for, is_for}
+use Rattle.capsteps.specs.Lockmachine.Requests.{is_of_client as is_asked_by, is_for}
 use Rattle.capsteps.specs.Lockmachine.Elsewhere.{IsSameOutside}
-use Rattle.capsteps.specs.Lockmachine.Moves.{IsQuiet}
-use Rattle.capsteps.specs.Lockmachine.declared.scene.Scene.{Scene}
 use Rattle.capsteps.proofs.Lockmachine.PolicyElsewhere.{alike-itself}
 use Rattle.capsteps.proofs.Lockmachine.Finding.{contains-filter, fails_at, find_none}
 use Rattle.capsteps.proofs.Lockmachine.SameOutside.{outside-itself, outside-then, outside-dropped}
 use Rattle.capsteps.specs.Capacts.declared.leaving.SessionChange.{SessionChange}
 use Rattle.capsteps.specs.Capacts.declared.leaving.SessionChange.TheVariants.{Close, Mark, Regrant, Evict}
 use Rattle.capsteps.specs.Capevents.declared.reply.Reply.TheVariants as reply
-use Rattle.capsteps.specs.Caprules.State.{State}
-use Rattle.capsteps.specs.Caprules.Direct.{Direct, Says, direct, effect, effect_unless}
-use Rattle.capsteps.specs.Caprules.Judge.{judged}
 use Rattle.capsteps.specs.Capnotes.DueEndings.{is_to}
-use Rattle.capsteps.specs.Caprules.Sound.{IsSound}
-use Rattle.capsteps.specs.Affected.{Affects, IsAffectedEntry}
-use Rattle.capsteps.specs.Capacts.Left.{is_end, table_left, locks_left, messages_left, dropped_by}
-use Rattle.capsteps.specs.SessionChange.{session_event, changed_sessions, session_changed}
-use Rattle.capsteps.proofs.Moved.{sound-pinned}
+use Rattle.capsteps.specs.Capacts.Left.{table_left, locks_left, messages_left}
+use Rattle.capsteps.specs.SessionChange.{session_event, changed_sessions}
 use Rattle.capsteps.proofs.EntryRequests.{IsKeptEntry, kept-left, sound-kept}
 
 -- ---- the event

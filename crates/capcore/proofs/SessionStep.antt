@@ -1,50 +1,27 @@
 -- What the step of a client's session leaves by itself.
-use Rattle.std.proofs.Common.{◌==◌, ◌≡◌, ◌≤◌, ◌-◌, ℕ, ◌+◌, true, false, not, Bool, Some, None, is_some, List, [], length, refl, sym, ap, subst, ◌∙◌, arith}
-use Rattle.std.specs.Prelude.{All}
-use Rattle.std.specs.Option.{option_map}
-use Rattle.std.proofs.lemmas.Bool.{eqb-true}
-use Rattle.std.proofs.lemmas.List.Sums.{length-filter, count_by-le-length}
-use Rattle.capbits.specs.declared.ids.ClientId.{ClientId}
+use Rattle.std.proofs.Common.{◌==◌, ◌≡◌, ◌≤◌, ◌-◌, ℕ, ◌+◌, true, false, not, Bool, Some, None, is_some, List, [], length, refl, sym, ap, subst, ◌∙◌, arith, All}
+use Rattle.capcore.proofs.Common.{option_map, eqb-true, length-filter, count_by-le-length, ClientId, IsTree, Entry, Holder, without_client, Table, IsTable, entry_at, Request, LockMap, IsLockMap, Scene, HasRoom, AreChanges, Event, Ended, ByTest, State, Direct, direct, judged, rejection_of, view_of, StillKnown, is_end, dropped_by, IsJudged, Affects, session_changed, HoldAlike, alike-less, still-there, Parts, MayBegin, GivesOne, HasBegun}
 use Rattle.capbits.specs.Refusal.{first_failing}
-use Rattle.inotree.specs.Tree.{IsTree}
-use Rattle.captable.specs.declared.entry.Entry.{Entry}
-use Rattle.captable.specs.declared.entry.Holder.{Holder}
-use Rattle.captable.specs.Calls.{without_client}
-use Rattle.captable.specs.Table.{Table, IsTable, entry_at}
 use Rattle.captable.proofs.ByHolder.{entry_at-without_client, entry_at-without_client_other}
-use Rattle.capsteps.specs.Lockmachine.declared.request.Request.{Request}
-use Rattle.capsteps.specs.Lockmachine.Locks.{LockMap, IsLockMap}
 use Rattle.capsteps.specs.Lockmachine.Requests.{is_of_client}
-use Rattle.capsteps.specs.Lockmachine.declared.scene.Scene.{Scene}
 use Rattle.capsteps.proofs.Lockmachine.Queue.{without_requests_of-kept}
 use Rattle.capsteps.specs.Capnotes.InoSets.{InoSet}
 use Rattle.capsteps.specs.Capnotes.Noted.{HavePlaces}
-use Rattle.capsteps.specs.Capnotes.DueEndings.{DueEndings, HasRoom, is_to}
-use Rattle.capsteps.specs.Capview.Changes.{AreChanges}
+use Rattle.capsteps.specs.Capnotes.DueEndings.{DueEndings, is_to}
 use Rattle.capsteps.specs.Capacts.declared.leaving.SessionChange.{SessionChange}
 use Rattle.capsteps.specs.Capacts.declared.leaving.SessionChange.TheVariants.{Close, Mark, Regrant, Evict}
-use Rattle.capsteps.specs.Capevents.declared.event.Event.{Event}
-use Rattle.capsteps.specs.Capevents.declared.outcome.Ended.{Ended}
-use Rattle.capsteps.specs.Caprules.declared.rejection.Rejection.TheVariants.{ByTest}
-use Rattle.capsteps.specs.Caprules.State.{State}
-use Rattle.capsteps.specs.Caprules.Direct.{Direct, direct}
-use Rattle.capsteps.specs.Caprules.Judge.{judged, rejection_of}
-use Rattle.capsteps.specs.Caprules.Noted.{view_of}
 use Rattle.capsteps.specs.Capacts.Reach.{is_affected}
-use Rattle.capsteps.specs.Capacts.Known.{known_of, StillKnown}
-use Rattle.capsteps.specs.Capacts.Left.{is_end, table_left, locks_left, messages_left, dropped_by}
+use Rattle.capsteps.specs.Capacts.Known.{known_of}
+use Rattle.capsteps.specs.Capacts.Left.{table_left, locks_left, messages_left}
 use Rattle.capsteps.specs.Begun.{HaveRoomFor}
-use Rattle.capsteps.specs.Judged.{IsJudged}
-use Rattle.capsteps.specs.Affected.{Affects}
-use Rattle.capsteps.specs.SessionChange.{ReachesClient, session_event, session_change_tests, session_changed}
+use Rattle.capsteps.specs.SessionChange.{ReachesClient, session_event, session_change_tests}
 use Rattle.capcore.proofs.Closing.{affects-settles}
-use Rattle.capsteps.proofs.Knowing.{HoldAlike, alike-less, still-knows, still-there}
+use Rattle.capsteps.proofs.Knowing.{still-knows}
 use Rattle.capsteps.proofs.Judging.{by_tests}
 use Rattle.capsteps.proofs.ShownSteps.{apart_client}
-use Rattle.capcore.specs.declared.parts.Parts.{Parts}
 use Rattle.capcore.specs.declared.parts.Affected.TheVariants.{Others}
 use Rattle.capcore.specs.declared.parts.Answer.TheVariants.{Dropped}
-use Rattle.capcore.specs.UnderWay.{state_of, MayBegin, GivesOne, HasBegun}
+use Rattle.capcore.specs.UnderWay.{state_of}
 use Rattle.capcore.proofs.Begun.{begun-entries}
 use Rattle.capcore.proofs.SessionChanged.{session_direct, direct-session_changed, session_changed-affects, session_changed-table, session_changed-below, session_changed-made, session_changed-last}
 

@@ -1,40 +1,21 @@
 -- What numbers say of what was shown, in the words of users.
 use Rattle.std.proofs.Common.{◌≡◌, ◌≤◌, ℕ, nat_lt, Bool, true, false, cond, not, ◌&&◌, Contains, List, Option, Some, None, refl, sym, ap, subst, ◌∙◌, true≢false, arith}
+use Rattle.capcore.proofs.Common.{All-contains, find, option_map, option_map_or, Cap, ClientId, Ino, P, Caps, Entry, EntryRow, Holder, Table, holder, is_row_of, entry_at, Scene, Event, Rejection, Ack, Direct, direct, effect_unless, judged, revoked_of, Row, State, IsSound, IsSoundEntry}
 use Rattle.std.proofs.lemmas.Bool.{ltb-false}
-use Rattle.std.proofs.lemmas.List.Elements.{All-contains}
-use Rattle.std.specs.List.{find}
-use Rattle.std.specs.Option.{option_map, option_map_or}
-use Rattle.capbits.specs.declared.cap.Cap.{Cap}
-use Rattle.capbits.specs.declared.ids.ClientId.{ClientId}
-use Rattle.capbits.specs.declared.ids.Ino.{Ino}
 use Rattle.capbits.specs.declared.refusal.Refusal.TheVariants as refusal
-use Rattle.capbits.specs.declared.cap.Cap.TheVariants.{P}
-use Rattle.capbits.specs.Caps.{Caps, has}
+use Rattle.capbits.specs.Caps.{has}
 use Rattle.capbits.specs.Sets.{has-minus}
 use Rattle.capbits.proofs.Tests.{passed-if}
-use Rattle.captable.specs.declared.entry.Entry.{Entry}
-use Rattle.captable.specs.declared.entry.EntryRow.{EntryRow}
-use Rattle.captable.specs.declared.entry.Holder.{Holder}
-use Rattle.captable.specs.Table.{Table, holder, is_row_of, entry_of, entry_at}
+use Rattle.captable.specs.Table.{entry_of}
 use Rattle.captable.specs.Calls.{taken, changed, without}
 use Rattle.captable.specs.Tests.{last_revocation}
-use Rattle.captable.proofs.ByHolder.{entry_at-changed}
-use Rattle.captable.proofs.ByHolder.{row_of-entry}
-use Rattle.capsteps.specs.Lockmachine.declared.scene.Scene.{Scene}
+use Rattle.captable.proofs.ByHolder.{entry_at-changed, row_of-entry}
 use Rattle.capsteps.specs.Lockmachine.Scene.{against}
 use Rattle.capsteps.specs.Lockmachine.Revoked.{is_revoked}
 use Rattle.capsteps.proofs.Lockmachine.Told.{has-against, has-told, pin-takes_all}
-use Rattle.capsteps.specs.Capevents.declared.event.Event.{Event}
 use Rattle.capsteps.specs.Capevents.declared.event.Event.TheVariants as event
-use Rattle.capsteps.specs.Caprules.declared.rejection.Rejection.{Rejection}
-use Rattle.capsteps.specs.declared.entry_request.EntryRequest.TheVariants.{Ack}
-use Rattle.capsteps.specs.Caprules.Direct.{Direct, direct, effect_unless}
 use Rattle.capsteps.specs.Caprules.Headline.{holds}
-use Rattle.capsteps.specs.Caprules.Judge.{judged, revoked_of}
-use Rattle.capsteps.specs.Capevents.declared.row.Row.{Row}
-use Rattle.capsteps.specs.Caprules.State.{State}
 use Rattle.capsteps.specs.Caprules.Shown.{AreShown, ShowsWhatIsTold, ShowsOnlyPermitted, TakesUnshown, shown_of}
-use Rattle.capsteps.specs.Caprules.Sound.{IsSound, IsSoundEntry}
 use Rattle.capsteps.proofs.LeftAlone.{found-contains}
 use Rattle.capsteps.proofs.Placed.{told-permitted}
 use Rattle.capsteps.proofs.Revoking.{revoked-found}

@@ -1,23 +1,11 @@
 -- States that are sound.
-use Rattle.std.proofs.Common.{◌≡◌, ◌≤◌, ℕ, ◌+◌, List, [], Option, Some, None, sym, ap, ◌∙◌, is_some, arith}
-use Rattle.std.specs.Prelude.{IsTrue}
-use Rattle.std.specs.Option.{option_map}
-use Rattle.std.specs.List.{find}
+use Rattle.std.proofs.Common.{◌≡◌, ◌≤◌, ℕ, ◌+◌, List, [], Option, Some, None, sym, ap, ◌∙◌, is_some, arith, IsTrue}
+use Rattle.capcore.proofs.Common.{option_map, find, All-weaker, Node, Nodes, has_session, EntryRow, is_row_of, InodeLocks, in_sync, first_for, State, HasNoStray, IsOpening, IsSoundEntry, IsSound, AreGiven}
 use Rattle.std.specs.FinMap as map
-use Rattle.std.proofs.lemmas.List.Elements.{All-nil, All-same, All-weaker}
-use Rattle.inotree.specs.declared.node.Node.{Node}
-use Rattle.inotree.specs.Tree.{Nodes, place}
-use Rattle.sessiontab.specs.Calls.{has_session}
-use Rattle.captable.specs.declared.entry.EntryRow.{EntryRow}
-use Rattle.captable.specs.Table.{is_row_of}
-use Rattle.capsteps.specs.Lockmachine.declared.states.InodeLocks.{InodeLocks}
-use Rattle.capsteps.specs.Lockmachine.Inodes.{in_sync}
-use Rattle.capsteps.specs.Lockmachine.Requests.{first_for}
+use Rattle.std.proofs.lemmas.List.Elements.{All-nil, All-same}
+use Rattle.inotree.specs.Tree.{place}
 use Rattle.capsteps.proofs.Lockmachine.Idle.{InSync, idle}
 use Rattle.capsteps.proofs.Lockmachine.Rest.{at_rest}
-use Rattle.capsteps.specs.Caprules.State.{State}
-use Rattle.capsteps.specs.Caprules.History.{HasNoStray, IsOpening}
-use Rattle.capsteps.specs.Caprules.Sound.{IsSoundEntry, IsSound, AreGiven}
 use Rattle.capsteps.proofs.LeftAlone.{some_same}
 
 -- ---- numbers

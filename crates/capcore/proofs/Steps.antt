@@ -1,33 +1,16 @@
 -- A session, a lookup, a new inode or a snapshot by itself is a whole step: it leaves alone all that entries and requests depend on.
 use Rattle.std.proofs.Common.{◌≡◌, ℕ, ◌+◌, Bool, true, false, List, [], ◌++◌, Option, Some, None, refl, sym, ap, subst, ◌∙◌, append-nil, true≢false}
-use Rattle.std.proofs.lemmas.Option.{none-some}
+use Rattle.capcore.proofs.Common.{none-some, IsTree, child, new_session_tests, IsTable, Event, Ended, Reply, Said, Rejection, ByTest, State, IsAnswered, Directory, judged, has_list, Answer, Says, Shows, Gives, Awaits, Direct, direct, effect, effect_unless, found, reply_of, shown, with_scene, IsDirect, Settles, sizes_owed, finished, IsSound, AreGiven, Step, state_after, sound-settles, kept-sound}
 use Rattle.capbits.specs.Refusal.{first_failing}
 use Rattle.inotree.specs.Inodes.{with_snapshot, without_snapshot}
-use Rattle.inotree.specs.Tree.{IsTree, child}
-use Rattle.sessiontab.specs.Tests.{new_session_tests}
-use Rattle.captable.specs.Table.{IsTable}
-use Rattle.capsteps.specs.Capevents.declared.event.Event.{Event}
 use Rattle.capsteps.specs.Capevents.declared.event.Event.TheVariants as event
-use Rattle.capsteps.specs.Capevents.declared.outcome.Ended.{Ended}
-use Rattle.capsteps.specs.Capevents.declared.reply.Reply.{Reply}
-use Rattle.capsteps.specs.declared.said.Said.{Said}
-use Rattle.capsteps.specs.Caprules.declared.rejection.Rejection.{Rejection}
-use Rattle.capsteps.specs.Caprules.declared.rejection.Rejection.TheVariants.{ByPolicy, ByTest}
-use Rattle.capsteps.specs.Caprules.State.{State}
-use Rattle.capsteps.specs.Answered.{IsAnswered}
-use Rattle.inotree.specs.declared.node.Kind.TheVariants.{Directory, File}
-use Rattle.capsteps.specs.Caprules.Judge.{judged}
-use Rattle.capsteps.specs.Capevents.Replies.{has_list}
-use Rattle.capsteps.specs.Caprules.Direct.{Answer, Says, Shows, Gives, Awaits, Direct, direct, effect, effect_unless, found, reply_of, shown, with_scene, IsDirect}
-use Rattle.capsteps.specs.Caprules.Settle.{Settles}
-use Rattle.capsteps.specs.Caprules.Finish.{sizes_owed, finished}
+use Rattle.capsteps.specs.Caprules.declared.rejection.Rejection.TheVariants.{ByPolicy}
+use Rattle.inotree.specs.declared.node.Kind.TheVariants.{File}
 use Rattle.capsteps.specs.Leaving.{with_parts, LeavesEntries}
-use Rattle.capsteps.specs.Caprules.Sound.{IsSound, AreGiven}
-use Rattle.capsteps.specs.Caprules.Step.{Step, state_after}
 use Rattle.capsteps.specs.Affected.{affected_by, session_changed_by, is_listing}
-use Rattle.capsteps.proofs.Finishing.{none-sized, sound-settles}
+use Rattle.capsteps.proofs.Finishing.{none-sized}
 use Rattle.capsteps.proofs.Judging.{no_test}
-use Rattle.capsteps.proofs.LeftAlone.{kept-sound, kept-finished}
+use Rattle.capsteps.proofs.LeftAlone.{kept-finished}
 use Rattle.capcore.proofs.Promised.{issues-exactly}
 use Rattle.capcore.proofs.Sounding.{later-given}
 use Rattle.capcore.proofs.Unaffected.{nothing-leaves, session-leaves, unblocked-leaves, changed-leaves, birth-leaves}

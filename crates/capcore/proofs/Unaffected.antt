@@ -1,41 +1,30 @@
 -- New sessions, clients that come off the blocklist, new inodes and snapshots leave alone all that entries and requests depend on.
 use Rattle.std.proofs.Common.{◌≡◌, ℕ, ◌+◌, Bool, true, false, cond, Option, Some, None, is_some, List, refl, sym, ap, ◌∙◌}
-use Rattle.std.specs.Option.{option_map}
-use Rattle.std.specs.Cmp.{nat_cmp_total}
+use Rattle.capcore.proofs.Common.{option_map, nat_cmp_total, KnownSets, AreKnown, All-weaker, Node, Nodes, IsTree, SessionTable, new_session_tests, EntryRow, InodeLocks, in_sync, State, with_scene, IsSoundEntry, IsSound, kept-sound}
 use Rattle.std.specs.Ordering.{nat_cmp, eq_by_cmp}
 use Rattle.std.specs.FinMap as map
-use Rattle.capsteps.specs.Capacts.Known.{KnownSets, AreKnown}
 use Rattle.std.specs.FinSet as set
 use Rattle.std.specs.FinSet.{FinSet}
-use Rattle.std.proofs.lemmas.List.Elements.{All-weaker}
 use Rattle.capbits.specs.declared.caller.Caller.{Caller}
 use Rattle.capbits.specs.Refusal.{first_failing}
 use Rattle.capspec.specs.declared.grant.Grant.{Grant}
 use Rattle.capgrant.specs.declared.access.Attr.{Attr}
 use Rattle.inotree.specs.declared.node.Kind.{Kind}
-use Rattle.inotree.specs.declared.node.Node.{Node}
 use Rattle.inotree.specs.declared.node.Place.TheVariants.{Gone}
 use Rattle.capbits.specs.Maps.{change_at}
-use Rattle.inotree.specs.Tree.{Nodes, IsTree, place_at}
+use Rattle.inotree.specs.Tree.{place_at}
 use Rattle.inotree.specs.Calls.{with_new, new_node, changed}
 use Rattle.numbered.proofs.Maps.{insert-other}
 use Rattle.inotree.proofs.Elsewhere.{field-changed, not_next}
-use Rattle.sessiontab.specs.Table.{SessionTable}
 use Rattle.sessiontab.specs.Calls.{with_session, without_blocked}
-use Rattle.sessiontab.specs.Tests.{new_session_tests}
 use Rattle.sessiontab.proofs.Elsewhere.{session-kept}
-use Rattle.captable.specs.declared.entry.EntryRow.{EntryRow}
-use Rattle.capsteps.specs.Lockmachine.declared.states.InodeLocks.{InodeLocks}
-use Rattle.capsteps.specs.Lockmachine.Inodes.{in_sync}
 use Rattle.capsteps.specs.Lockmachine.Locks.{with_ino}
 use Rattle.capsteps.specs.Lockmachine.Policy.{permitted}
 use Rattle.capsteps.specs.Lockmachine.Wants.{effective_want}
 use Rattle.capsteps.proofs.Lockmachine.PolicyElsewhere.{permitted-session, permitted-new, permitted-changed, want-session, want-new, want-changed}
-use Rattle.capsteps.specs.Caprules.State.{State}
-use Rattle.capsteps.specs.Caprules.Direct.{with_scene, with_tree, with_birth}
-use Rattle.capsteps.specs.Caprules.Sound.{IsSoundEntry, IsSound}
+use Rattle.capsteps.specs.Caprules.Direct.{with_tree, with_birth}
 use Rattle.capsteps.specs.Leaving.{LeavesEntries}
-use Rattle.capsteps.proofs.LeftAlone.{kept-sound, none_if, some_same, no_locks, kept-known}
+use Rattle.capsteps.proofs.LeftAlone.{none_if, some_same, no_locks, kept-known}
 
 -- the locks that an inode begins with, where there is an inode
 abbrev first_of : Option Node → Option InodeLocks

@@ -1,14 +1,11 @@
 -- Locks that were added and are dropped again.
 use Rattle.std.proofs.Common.{◌≡◌, ℕ, ◌+◌, None, ap, arith}
-use Rattle.std.specs.Cmp.{nat_cmp_total}
+use Rattle.capcore.proofs.Common.{nat_cmp_total, IsTree, in_sync, LockMap, State, IsSound}
 use Rattle.std.specs.FinMap as map
 use Rattle.std.specs.Option.{is_some}
-use Rattle.inotree.specs.Tree.{IsTree}
 use Rattle.numbered.proofs.Maps.{put_back}
-use Rattle.capsteps.specs.Lockmachine.Inodes.{StateMap, in_sync}
-use Rattle.capsteps.specs.Lockmachine.Locks.{LockMap, with_ino, without_ino}
-use Rattle.capsteps.specs.Caprules.State.{State}
-use Rattle.capsteps.specs.Caprules.Sound.{IsSound}
+use Rattle.capsteps.specs.Lockmachine.Inodes.{StateMap}
+use Rattle.capsteps.specs.Lockmachine.Locks.{with_ino, without_ino}
 use Rattle.capsteps.proofs.LeftAlone.{no_locks}
 
 pub added-dropped : (locks : LockMap) (ino : ℕ) → map.get locks.states ino ≡ None → without_ino (with_ino locks ino) ino ≡ locks

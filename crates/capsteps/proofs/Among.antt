@@ -1,12 +1,9 @@
 -- Which inodes a step affects: that of its event, and the others.
 use Rattle.std.proofs.Common.{◌≡◌, ◌≢◌, ℕ, true, false, ◌||◌, ◌==◌, inl, inr, ap, ◌∙◌, ◌⊎◌, Result, Ok, Err, OnOk, List, [], ◌∷◌, Contains, zero, suc, refl, subst, arith}
-use Rattle.captable.specs.declared.entry.EntryRow.{EntryRow}
+use Rattle.capsteps.proofs.Common.{EntryRow, or-false, or_right, false_from_ne_true, InoSet, is_affected, Widens, none-there}
 use Rattle.std.specs.FinSet as set
-use Rattle.std.proofs.Math.Bool.{or-false}
-use Rattle.std.proofs.lemmas.Bool.{eqb-false, ne_eqb, or_cases, or_from, or_left, or_parts, or_right, false_from_ne_true}
-use Rattle.capacts.specs.Capnotes.InoSets.{InoSet}
-use Rattle.capacts.specs.Reach.{is_affected, Widens}
-use Rattle.capacts.proofs.InoSets.{none-there, added}
+use Rattle.std.proofs.lemmas.Bool.{eqb-false, ne_eqb, or_cases, or_from, or_left, or_parts}
+use Rattle.capacts.proofs.InoSets.{added}
 
 -- an inode that is not affected is another, and none of the others
 pub unaffected : (ino : ℕ) (affected : InoSet) (other : ℕ) → is_affected ino affected other ≡ false → (other ≢ ino) × (set.contains affected other ≡ false)

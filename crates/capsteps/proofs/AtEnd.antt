@@ -1,41 +1,20 @@
 -- The end of a step: the entries on an inode one by one, and all inodes that it affected.
-use Rattle.std.proofs.Common.{◌≡◌, ℕ, zero, suc, ◌<◌, Bool, true, false, cond, Option, Some, None, List, [], ◌∷◌, length, filter, take, get_or, refl, sym, ap, ◌∙◌, arith, eq-eqb, true≢false, ◌≤◌, ◌||◌, map as each, is_some, subst}
-use Rattle.std.specs.Prelude.{All, IfSome, ◌==◌, IsTrue}
-use Rattle.std.specs.List.{fold, AllByRecursion, IsDistinct, list_any}
+use Rattle.std.proofs.Common.{◌≡◌, ℕ, zero, suc, ◌<◌, Bool, true, false, cond, Option, Some, None, List, [], ◌∷◌, length, filter, take, get_or, refl, sym, ap, ◌∙◌, arith, eq-eqb, true≢false, ◌≤◌, ◌||◌, map as each, is_some, subst, All, IfSome, ◌==◌, IsTrue}
+use Rattle.capsteps.proofs.Common.{fold, AllByRecursion, list_any, All-contains, All-map, All-filter, nat_cmp, eq_by_cmp, nat_cmp_total, eqb-true, false_from_ne_true, length-map, ClientId, Ino, Caps, Nodes, SessionTable, has_session, Entry, EntryRow, Holder, Table, same, holder, is_row_of, entry_at, IsTable, holders_of_rows, is_of_inode, entries_on, changed_by, same_equiv, entry_at-changed_other, row_of-entry, InodeLocks, StateMap, Scene, due_under, told_at, entry_under, entry_by, clients_of, InoSet, forget_at, forget_among, is_affected}
+use Rattle.std.specs.List.{IsDistinct}
 use Rattle.std.specs.FinMap as map
 use Rattle.std.specs.FinSet as set
 use Rattle.std.proofs.Math.Bool.{or_comm}
-use Rattle.std.proofs.lemmas.List.Elements.{All-contains, All-from_recursion, recursion_from_All, All-map, All-filter}
+use Rattle.std.proofs.lemmas.List.Elements.{All-from_recursion, recursion_from_All}
 use Rattle.std.proofs.lemmas.Map.Keys.{apart_from_distinct}
-use Rattle.std.specs.Ordering.{nat_cmp, eq_by_cmp}
-use Rattle.std.specs.Cmp.{nat_cmp_total, eq_by_cmp_equiv}
+use Rattle.std.specs.Cmp.{eq_by_cmp_equiv}
 use Rattle.std.specs.FinMap.Entries.{is_some-find}
-use Rattle.std.proofs.lemmas.Bool.{eqb-true, false_from_ne_true}
-use Rattle.std.proofs.lemmas.List.{length-map}
 use Rattle.std.proofs.lemmas.Map.Made.{is_some-lookup}
 use Rattle.std.proofs.lemmas.Map.Steps.{length-le_from_keys}
-use Rattle.capbits.specs.declared.ids.ClientId.{ClientId}
-use Rattle.capbits.specs.declared.ids.Ino.{Ino}
-use Rattle.capbits.specs.Caps.{Caps}
-use Rattle.inotree.specs.Tree.{Nodes}
-use Rattle.sessiontab.specs.Table.{SessionTable, IsSound}
+use Rattle.sessiontab.specs.Table.{IsSound}
 use Rattle.sessiontab.specs.declared.table.TheConstants.{MAX_SESSIONS}
-use Rattle.sessiontab.specs.Calls.{has_session}
-use Rattle.captable.specs.declared.entry.Entry.{Entry}
-use Rattle.captable.specs.declared.entry.EntryRow.{EntryRow}
-use Rattle.captable.specs.declared.entry.Holder.{Holder}
-use Rattle.captable.specs.Table.{Table, same, holder, is_row_of, entry_at, IsTable, holders_of_rows}
-use Rattle.captable.specs.Calls.{is_of_inode, entries_on}
-use Rattle.captable.specs.Many.{changed_by}
-use Rattle.captable.proofs.Tables.{same_equiv, holders-filter, distinct-filter}
-use Rattle.captable.proofs.ByHolder.{entry_at-changed_other, row_of-entry}
-use Rattle.capacts.specs.Lockmachine.declared.states.InodeLocks.{InodeLocks}
-use Rattle.capacts.specs.Lockmachine.Inodes.{StateMap}
-use Rattle.capacts.specs.Lockmachine.declared.scene.Scene.{Scene}
-use Rattle.capacts.specs.Finishing.{due_under, told_at, numbered_as, entry_under, entry_by, clients_of}
-use Rattle.capacts.specs.Capnotes.InoSets.{InoSet}
-use Rattle.capsteps.specs.Affected.{forget_at, forget_among}
-use Rattle.capacts.specs.Reach.{is_affected}
+use Rattle.captable.proofs.Tables.{holders-filter, distinct-filter}
+use Rattle.capacts.specs.Finishing.{numbered_as}
 use Rattle.capacts.proofs.Lockmachine.Rest.{same_key}
 use Rattle.capsteps.proofs.LeftAlone.{found-contains}
 use Rattle.capsteps.proofs.Strays.{forget-one, forget-twice}

@@ -1,6 +1,6 @@
 -- Room for the requests that a step ends.
 use Rattle.std.proofs.Common.{◌≤◌, ℕ, Option, arith}
-use Rattle.capbits.specs.declared.ids.Ticket.{Ticket}
+use Rattle.capsteps.proofs.Common.{Ticket}
 use Rattle.capacts.specs.Capnotes.Noted.{Noted}
 use Rattle.capsteps.specs.declared.endings.Endings.{Endings}
 use Rattle.capsteps.specs.Begun.{HaveRoomFor}

@@ -1,43 +1,13 @@
 -- The step of an event ends at the inodes that it affected.
 use Rattle.std.proofs.Common.{◌≡◌, ℕ, ◌+◌, ◌==◌, Bool, true, false, cond, not, ◌||◌, Option, Some, None, List, [], ◌∷◌, map, refl, sym, ap, subst, ◌∙◌, Contains}
-use Rattle.std.specs.List.{find, list_any}
-use Rattle.std.specs.Option.{option_map, option_map_or}
-use Rattle.std.specs.Ordering.{nat_cmp}
+use Rattle.capsteps.proofs.Common.{find, list_any, option_map, option_map_or, nat_cmp, map-map, All-contains, Cap, P, Part, A, L, X, F, Caps, IsSubset, has-union, IsTree, place, is_gone, Entry, EntryRow, Holder, Table, IsTable, same, is_row_of, entry_of, entry_at, is_of_inode, renumbered, remade, row_found, find-map, same-is, lock_at, effective_want, permitted, Scene, told_set, lock_in, State, allowed_by, due, issue_row, issue, is_in_use, forget, told_before, number_row, finished, IssuesExactly, IsSound, IsSoundEntry, Made, Affects, SettlesAt, Knows, stays, told_then, finished_entry, finished_at, KnownSets, known_of, AreKnown, known_anew, KnownAnew}
 use Rattle.std.specs.FinMap as finite
-use Rattle.std.proofs.lemmas.Simd.{map-map}
-use Rattle.std.proofs.lemmas.List.Elements.{All-contains}
-use Rattle.capbits.specs.declared.cap.Cap.{Cap}
-use Rattle.capbits.specs.declared.cap.Cap.TheVariants.{P}
-use Rattle.capbits.specs.declared.cap.Part.{Part}
-use Rattle.capbits.specs.declared.cap.Part.TheVariants.{A, L, X, F}
-use Rattle.capbits.specs.Caps.{Caps, has}
-use Rattle.capbits.specs.Sets.{caps_in, union, minus, meet, is_empty, IsSubset, has-union}
-use Rattle.inotree.specs.Tree.{IsTree, place}
-use Rattle.inotree.specs.Tests.{is_gone}
-use Rattle.captable.specs.declared.entry.Entry.{Entry}
-use Rattle.captable.specs.declared.entry.EntryRow.{EntryRow}
-use Rattle.captable.specs.declared.entry.Holder.{Holder}
-use Rattle.captable.specs.Table.{Table, IsTable, same, is_row_of, entry_of, entry_at}
-use Rattle.captable.specs.Calls.{is_of_inode, renumbered}
-use Rattle.captable.specs.Many.{remade}
-use Rattle.captable.proofs.ByHolder.{row_found}
-use Rattle.captable.proofs.Searches.{find-map, find_passes}
-use Rattle.captable.proofs.Tables.{same-is}
-use Rattle.capacts.specs.Lockmachine.Locks.{lock_at}
-use Rattle.capacts.specs.Lockmachine.Wants.{effective_want}
-use Rattle.capacts.specs.Lockmachine.Policy.{permitted}
-use Rattle.capacts.specs.Lockmachine.declared.scene.Scene.{Scene}
-use Rattle.capacts.specs.Lockmachine.Scene.{told_set}
-use Rattle.capacts.specs.Lockmachine.Inodes.{lock_in}
+use Rattle.capbits.specs.Caps.{has}
+use Rattle.capbits.specs.Sets.{caps_in, union, minus, meet, is_empty}
+use Rattle.captable.proofs.Searches.{find_passes}
 use Rattle.capacts.proofs.Lockmachine.PolicyElsewhere.{permitted-kept, want-kept}
 use Rattle.capacts.proofs.Lockmachine.Told.{told-same}
-use Rattle.capacts.specs.Caprules.State.{State}
-use Rattle.capacts.specs.Caprules.Finish.{allowed_by, due, issue_row, issue, is_in_use, forget, told_before, number_row, finished}
-use Rattle.capacts.specs.Caprules.Headline.{holds, IssuesExactly}
-use Rattle.capacts.specs.Caprules.Sound.{IsSound, IsSoundEntry}
-use Rattle.capacts.specs.Caprules.Settle.{Made}
-use Rattle.capsteps.specs.Affected.{Affects, SettlesAt, Knows, stays, told_then, finished_entry, finished_at}
-use Rattle.capacts.specs.Known.{KnownSets, known_of, AreKnown, known_anew, KnownAnew}
+use Rattle.capacts.specs.Caprules.Headline.{holds}
 use Rattle.capacts.proofs.Held.{or_inside}
 use Rattle.capsteps.proofs.Finishing.{each-alike, same-issue_row, same-renumbered, kept_by}
 use Rattle.capsteps.proofs.Forgotten.{due-left}

@@ -1,25 +1,12 @@
 -- What an event about one entry leaves of what is kept of entries.
 use Rattle.std.proofs.Common.{◌≡◌, ◌≢◌, Bool, true, false, cond, not, ◌&&◌, Option, Some, None, is_some, IsSome, [], ◌∷◌, refl, sym, ap, subst, ◌∙◌, true≢false}
-use Rattle.std.specs.Option.{option_map_or}
-use Rattle.std.proofs.lemmas.List.Elements.{All-contains}
-use Rattle.capbits.specs.declared.cap.Cap.{Cap}
-use Rattle.capbits.specs.declared.cap.Cap.TheVariants.{P}
-use Rattle.capbits.specs.Caps.{Caps, has}
-use Rattle.capbits.specs.Sets.{no_caps, caps_in, union, IsSubset, has-none, has-minus, and_parts}
-use Rattle.captable.specs.declared.entry.Entry.{Entry}
-use Rattle.captable.specs.declared.entry.EntryRow.{EntryRow}
-use Rattle.captable.specs.declared.entry.Holder.{Holder}
-use Rattle.captable.specs.Table.{Table, same, is_row_of, entry_at}
-use Rattle.captable.specs.Calls.{new_entry, opened, changed, wanting, taken, given_back, without}
-use Rattle.captable.proofs.ByHolder.{entry_at-changed_other, entry_at-opened, entry_at-opened_other, entry_at-acked_other, entry_at-released_other, row_of-entry}
-use Rattle.captable.proofs.Tables.{same-is}
+use Rattle.capsteps.proofs.Common.{option_map_or, All-contains, Cap, P, Caps, IsSubset, has-none, has-minus, and_parts, Entry, EntryRow, Holder, Table, same, is_row_of, entry_at, new_entry, opened, changed, wanting, taken, given_back, without, entry_at-changed_other, row_of-entry, same-is, opening_wants, with_entry, with_opening, KnownSets, known_of, AreKnown, StillKnown, OthersHaveAll, IsSound, IsSoundEntry, State, table_after}
+use Rattle.capbits.specs.Caps.{has}
+use Rattle.capbits.specs.Sets.{no_caps, caps_in, union}
+use Rattle.captable.proofs.ByHolder.{entry_at-opened, entry_at-opened_other, entry_at-acked_other, entry_at-released_other}
 use Rattle.capsteps.specs.declared.entry_request.EntryRequest.{EntryRequest}
 use Rattle.capsteps.specs.declared.entry_request.EntryRequest.TheVariants.{Open, Want, Ack, Release}
-use Rattle.capacts.specs.Caprules.Direct.{opening_wants, with_entry, with_opening}
-use Rattle.capacts.specs.Known.{KnownSets, known_of, is_still_known, AreKnown, StillKnown, OthersHaveAll}
-use Rattle.capacts.specs.Caprules.Sound.{IsSound, IsSoundEntry}
-use Rattle.capacts.specs.Caprules.State.{State}
-use Rattle.capsteps.specs.EntryRequest.{table_after}
+use Rattle.capacts.specs.Known.{is_still_known}
 use Rattle.capsteps.proofs.Knowing.{held_at, HoldAlike, still-known}
 use Rattle.capsteps.proofs.LeftAlone.{found-contains}
 use Rattle.capsteps.proofs.ShownSteps.{IsOf, apart-of, changed-as}

@@ -1,68 +1,41 @@
 -- An event about one entry, by itself: it changes entries of its inode alone, and leaves of each what every state keeps, but that
 -- what is due is held. It drops no request and leaves the messages.
-use Rattle.std.proofs.Common.{◌≡◌, ◌≢◌, ◌≤◌, ℕ, ◌+◌, Bool, true, false, cond, not, ◌&&◌, ◌||◌, Option, Some, None, is_some, List, [], ◌∷◌, ◌++◌, filter, refl, sym, ap, subst, ◌∙◌, Contains, true≢false, arith}
-use Rattle.std.specs.Prelude.{IsTrue, All}
-use Rattle.std.specs.List.{find, list_any}
-use Rattle.std.proofs.lemmas.Bool.{and_from, not-false, or_right}
-use Rattle.std.proofs.lemmas.List.Folds.{list_any-append}
-use Rattle.std.specs.Option.{option_map}
+use Rattle.std.proofs.Common.{◌≡◌, ◌≢◌, ◌≤◌, ℕ, ◌+◌, Bool, true, false, cond, not, ◌&&◌, ◌||◌, Option, Some, None, is_some, List, [], ◌∷◌, ◌++◌, filter, refl, sym, ap, subst, ◌∙◌, Contains, true≢false, arith, IsTrue, All}
+use Rattle.capsteps.proofs.Common.{find, list_any, or_right, list_any-append, option_map, All-cons, All-contains, All-contains_itself, All-weaker, All-filter, P, Fc, Part, ClientId, Ino, Caps, IsSubset, has-none, has-union, has-meet, has-minus, and_parts, Node, place, place_at, SessionTable, has_session, LockGoal, LockState, Entry, EntryRow, Holder, Table, IsTable, holder, is_row_of, entry_of, entry_at, new_entry, opened, changed, without, wanting, taken, given_back, is_of_inode, entries_on, same_equiv, row_found, StateMap, lock_in, lock_at, permitted, IsInRowOf, IsInRow, Scene, outside, WaitAt, is_open, IsQuiet, effective_want, Event, OpenMode, State, judged, revoked_of, Direct, direct, effect, effect_unless, opening_wants, with_entry, table_after, IsSound, IsSoundEntry, AreGiven}
+use Rattle.std.proofs.lemmas.Bool.{and_from, not-false}
 use Rattle.std.specs.FinMap as map
-use Rattle.std.proofs.lemmas.List.Elements.{All-cons, All-head, All-tail, All-push, All-contains, All-contains_itself, All-weaker, All-filter, All-same, filter-append}
-use Rattle.capbits.specs.declared.cap.Cap.TheVariants.{P, Fs, Fx, Fc, Fr, Fw, Fb}
-use Rattle.capbits.specs.declared.cap.Part.{Part}
-use Rattle.capbits.specs.declared.ids.ClientId.{ClientId}
-use Rattle.capbits.specs.declared.ids.Ino.{Ino}
+use Rattle.std.proofs.lemmas.List.Elements.{All-head, All-tail, All-push, All-same, filter-append}
+use Rattle.capbits.specs.declared.cap.Cap.TheVariants.{Fs, Fx, Fr, Fw, Fb}
 use Rattle.capbits.specs.declared.refusal.Refusal.{Refusal}
 use Rattle.capbits.specs.declared.refusal.Refusal.TheVariants as refusal
-use Rattle.capbits.specs.Caps.{Caps, has}
-use Rattle.capbits.specs.Sets.{no_caps, caps_in, union, meet, minus, of_part, covers, is_empty, IsSubset, has-none, has-caps_in, has-union, has-meet, has-minus, has-of_part, and_parts}
+use Rattle.capbits.specs.Caps.{has}
+use Rattle.capbits.specs.Sets.{no_caps, caps_in, union, meet, minus, of_part, covers, is_empty, has-caps_in, has-of_part}
 use Rattle.capbits.specs.Refusal.{first_failing}
 use Rattle.capbits.proofs.Tests.{passed-if, passed-both}
 use Rattle.capgrant.specs.declared.access.Access.TheVariants as access
 use Rattle.capgrant.proofs.Pins.{pin_of_read, pin_of_write}
-use Rattle.inotree.specs.declared.node.Node.{Node}
-use Rattle.inotree.specs.Tree.{place, place_at}
 use Rattle.inotree.specs.Tests.{is_no_ino, inode_tests, file_test}
-use Rattle.sessiontab.specs.Table.{SessionTable}
-use Rattle.sessiontab.specs.Calls.{has_session, status_of}
+use Rattle.sessiontab.specs.Calls.{status_of}
 use Rattle.sessiontab.specs.Tests.{is_open as is_open_status, session_tests}
-use Rattle.locktable.specs.declared.states.State.{State as LockGoal}
-use Rattle.locktable.specs.declared.states.LockState.{LockState}
 use Rattle.locktable.specs.Rows.{row_of}
-use Rattle.captable.specs.declared.entry.Entry.{Entry}
-use Rattle.captable.specs.declared.entry.EntryRow.{EntryRow}
-use Rattle.captable.specs.declared.entry.Holder.{Holder}
-use Rattle.captable.specs.Table.{Table, IsTable, holder, is_row_of, entry_of, entry_at}
-use Rattle.captable.specs.Calls.{new_entry, opened, change_rows, changed, without, wanting, taken, given_back, is_of_inode, entries_on, acked, released}
+use Rattle.captable.specs.Calls.{change_rows, acked, released}
 use Rattle.captable.specs.Tests.{open_tests, entry_test, ack_tests, release_tests}
-use Rattle.captable.proofs.Tables.{same_equiv, IsTable-changed, IsTable-opened, IsTable-released, IsTable-without}
+use Rattle.captable.proofs.Tables.{IsTable-changed, IsTable-opened, IsTable-released, IsTable-without}
 use Rattle.captable.proofs.Moves.{IsTable-touched}
-use Rattle.captable.proofs.ByHolder.{row_found}
 use Rattle.captable.proofs.ByInode.{entries_on-changed, entries_on-opened, entries_on-released, entries_on-without}
-use Rattle.capacts.specs.Lockmachine.Inodes.{StateMap, lock_in}
-use Rattle.capacts.specs.Lockmachine.Locks.{lock_at}
-use Rattle.capacts.specs.Lockmachine.Policy.{Subject, subject, question_of, is_granted_to, permitted, permitted_to}
-use Rattle.capacts.specs.Lockmachine.Rows.{IsInRowOf, IsInRow}
+use Rattle.capacts.specs.Lockmachine.Policy.{Subject, subject, question_of, is_granted_to, permitted_to}
 use Rattle.capacts.specs.Lockmachine.Requests.{part_of_ask}
-use Rattle.capacts.specs.Lockmachine.declared.scene.Scene.{Scene}
-use Rattle.capacts.specs.Lockmachine.Scene.{outside}
-use Rattle.capacts.specs.Lockmachine.Turns.{WaitAt}
-use Rattle.capacts.specs.Lockmachine.Moves.{present_state, is_open, IsQuiet}
-use Rattle.capacts.specs.Lockmachine.Wants.{effective_want}
+use Rattle.capacts.specs.Lockmachine.Moves.{present_state}
 use Rattle.capacts.proofs.Lockmachine.SameBut.{same-entries}
-use Rattle.capacts.specs.Capevents.declared.event.Event.{Event}
 use Rattle.capacts.specs.Capevents.declared.event.Event.TheVariants as event
-use Rattle.capacts.specs.Capevents.declared.event.OpenMode.{OpenMode}
 use Rattle.capacts.specs.Capevents.declared.event.OpenMode.TheVariants as opening
 use Rattle.capsteps.specs.declared.entry_request.EntryRequest.{EntryRequest}
 use Rattle.capsteps.specs.declared.entry_request.EntryRequest.TheVariants.{Open, Want, Ack, Release}
-use Rattle.capacts.specs.Caprules.State.{State}
-use Rattle.capacts.specs.Caprules.Judge.{judged, before, needs, after, rejection_by, first_denied, is_met, opening_needs, is_writing, revoked_of, connected_tests, asked_tests, room_for}
+use Rattle.capacts.specs.Caprules.Judge.{before, needs, after, rejection_by, first_denied, is_met, opening_needs, is_writing, connected_tests, asked_tests, room_for}
 use Rattle.capacts.specs.Caprules.Needs.{Need, need}
-use Rattle.capacts.specs.Caprules.Direct.{Direct, direct, effect, effect_unless, opening_wants, with_entry, with_table}
-use Rattle.capsteps.specs.EntryRequest.{entry_event, entry_request_tests, table_after}
+use Rattle.capacts.specs.Caprules.Direct.{with_table}
+use Rattle.capsteps.specs.EntryRequest.{entry_event, entry_request_tests}
 use Rattle.capsteps.specs.Affected.{IsAffectedEntry, AffectsOne}
-use Rattle.capacts.specs.Caprules.Sound.{IsSound, IsSoundEntry, AreGiven}
 use Rattle.capsteps.proofs.Judging.{no_test}
 use Rattle.capsteps.proofs.Moved.{sound-waits}
 use Rattle.capsteps.proofs.Placed.{placed-in_row}

@@ -1,33 +1,16 @@
 -- In a sound state the end of a step changes nothing.
-use Rattle.std.proofs.Common.{◌≡◌, ℕ, suc, Bool, true, cond, not, ◌||◌, Some, None, List, [], ◌∷◌, refl, sym, ap, ◌∙◌, Contains, arith}
-use Rattle.std.specs.Prelude.{map}
-use Rattle.std.specs.List.{find}
-use Rattle.std.specs.Cmp.{nat_cmp_total}
-use Rattle.std.specs.Ordering.{nat_cmp}
+use Rattle.std.proofs.Common.{◌≡◌, ℕ, suc, Bool, true, cond, not, ◌||◌, Some, None, List, [], ◌∷◌, refl, sym, ap, ◌∙◌, Contains, arith, map}
+use Rattle.capsteps.proofs.Common.{find, nat_cmp_total, nat_cmp, map-id, All-contains, Caps, same_caps, IsSubset, has-union, has-minus, has-none, NoIno, Gone, place, is_gone, Entry, EntryRow, IsTable, is_row_of, renumbered, row_found, Scene, told_set, State, Settles, sizes_owed, due, issue_row, issue, is_in_use, forget, told_before, number_row, finished, IsSound, IsSoundEntry}
 use Rattle.std.specs.FinMap as finite
-use Rattle.std.proofs.lemmas.List.{map-id}
 use Rattle.std.proofs.Math.Bool.{and-not_self}
-use Rattle.std.proofs.lemmas.List.Elements.{All-contains}
-use Rattle.capbits.specs.Caps.{Caps, has}
-use Rattle.capbits.specs.Sets.{no_caps, union, minus, same_caps, IsSubset, has-union, has-minus, has-none, is_empty}
+use Rattle.capbits.specs.Caps.{has}
+use Rattle.capbits.specs.Sets.{no_caps, union, minus, is_empty}
 use Rattle.capbits.proofs.Emptiness.{is_empty-no_caps}
 use Rattle.inotree.specs.declared.node.Place.{Place}
-use Rattle.inotree.specs.declared.node.Place.TheVariants.{NoIno, Gone, Here}
-use Rattle.inotree.specs.Tree.{place}
-use Rattle.inotree.specs.Tests.{is_gone}
-use Rattle.captable.specs.declared.entry.Entry.{Entry}
-use Rattle.captable.specs.declared.entry.EntryRow.{EntryRow}
-use Rattle.captable.specs.Table.{IsTable, is_row_of}
-use Rattle.captable.specs.Calls.{renumbered}
-use Rattle.captable.proofs.ByHolder.{row_found}
-use Rattle.capacts.specs.Lockmachine.declared.scene.Scene.{Scene}
-use Rattle.capacts.specs.Lockmachine.Scene.{told_set}
+use Rattle.inotree.specs.declared.node.Place.TheVariants.{Here}
 use Rattle.capacts.proofs.Lockmachine.Exact.{settled}
 use Rattle.capacts.proofs.Held.{or_inside}
-use Rattle.capacts.specs.Caprules.State.{State}
-use Rattle.capacts.specs.Caprules.Settle.{Settles}
-use Rattle.capacts.specs.Caprules.Finish.{sizes_owed, due, issue_row, issue, is_in_use, forget, told_before, number_row, number, finished}
-use Rattle.capacts.specs.Caprules.Sound.{IsSound, IsSoundEntry}
+use Rattle.capacts.specs.Caprules.Finish.{number}
 
 -- ---- lists of rows that stay
 

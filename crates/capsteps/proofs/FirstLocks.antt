@@ -1,16 +1,11 @@
 -- The locks of a tree that are added one number after another.
-use Rattle.std.proofs.Common.{◌≡◌, ◌⊎◌, ℕ, ◌+◌, ◌<◌, ◌≤◌, [], Option, Some, None, is_some, refl, sym, ap, subst, ◌∙◌, inl, inr, arith}
-use Rattle.std.specs.Prelude.{if◌then◌else◌}
-use Rattle.std.specs.Cmp.{nat_cmp_total}
+use Rattle.std.proofs.Common.{◌≡◌, ◌⊎◌, ℕ, ◌+◌, ◌<◌, ◌≤◌, [], Option, Some, None, is_some, refl, sym, ap, subst, ◌∙◌, inl, inr, arith, if◌then◌else◌}
+use Rattle.capsteps.proofs.Common.{nat_cmp_total, option_map, Nodes, IsTree, Node, InodeLocks, LockMap}
 use Rattle.std.specs.FinMap as map
-use Rattle.std.specs.Option.{option_map}
 use Rattle.inotree.specs.Inodes.{InodeMap}
-use Rattle.inotree.specs.Tree.{Nodes, IsTree}
-use Rattle.inotree.specs.declared.node.Node.{Node}
 use Rattle.numbered.proofs.Maps.{insert-here, insert-other}
-use Rattle.capacts.specs.Lockmachine.declared.states.InodeLocks.{InodeLocks}
 use Rattle.capacts.specs.Lockmachine.Inodes.{in_sync}
-use Rattle.capacts.specs.Lockmachine.Locks.{LockMap, with_ino, no_locks}
+use Rattle.capacts.specs.Lockmachine.Locks.{with_ino, no_locks}
 
 -- the locks that an inode begins with, where there is an inode
 abbrev first_of : Option Node → Option InodeLocks

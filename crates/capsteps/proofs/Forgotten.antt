@@ -1,37 +1,10 @@
 -- A state that is sound but for strays is sound once these are forgotten.
-use Rattle.std.proofs.Common.{◌≡◌, ℕ, Bool, true, false, not, cond, ◌||◌, Option, Some, None, is_some, List, [], ◌∷◌, refl, sym, ap, subst, ◌∙◌, Contains, true≢false}
-use Rattle.std.specs.Prelude.{IsTrue, All, filter}
-use Rattle.std.specs.List.{list_any}
-use Rattle.std.specs.Option.{option_map}
+use Rattle.std.proofs.Common.{◌≡◌, ℕ, Bool, true, false, not, cond, ◌||◌, Option, Some, None, is_some, List, [], ◌∷◌, refl, sym, ap, subst, ◌∙◌, Contains, true≢false, IsTrue, All, filter}
+use Rattle.capsteps.proofs.Common.{list_any, option_map, All-contains, All-contains_itself, All-weaker, P, Part, A, L, X, F, Caps, IsSubset, NoIno, Gone, IsTree, place, place_at, has_session, LockState, Stable, Gather, EntryRow, is_row_of, is_of_inode, lock_in, lock_at, first_for, effective_want, in_all, Scene, target_by, outside, IsQuiet, IsAtRest, IsInRowOf, IsInRow, State, with_scene, allowed_by, due, is_in_use, IsSoundEntry, IsSound, stays, forget_among}
 use Rattle.std.specs.FinMap as map
-use Rattle.std.proofs.lemmas.List.Elements.{All-contains, All-contains_itself, All-weaker}
-use Rattle.capbits.specs.declared.cap.Cap.TheVariants.{P}
-use Rattle.capbits.specs.declared.cap.Part.{Part}
-use Rattle.capbits.specs.declared.cap.Part.TheVariants.{A, L, X, F}
-use Rattle.capbits.specs.Caps.{Caps}
-use Rattle.capbits.specs.Sets.{caps_in, union, meet, is_empty, IsSubset}
-use Rattle.inotree.specs.declared.node.Place.TheVariants.{NoIno, Gone}
-use Rattle.inotree.specs.Tree.{IsTree, place, place_at}
-use Rattle.sessiontab.specs.Calls.{has_session}
-use Rattle.locktable.specs.declared.states.LockState.{LockState}
-use Rattle.locktable.specs.declared.states.LockState.TheVariants.{Stable, Gather}
-use Rattle.captable.specs.declared.entry.EntryRow.{EntryRow}
-use Rattle.captable.specs.Table.{is_row_of}
-use Rattle.captable.specs.Calls.{is_of_inode}
-use Rattle.capacts.specs.Lockmachine.Inodes.{lock_in}
-use Rattle.capacts.specs.Lockmachine.Locks.{lock_at}
-use Rattle.capacts.specs.Lockmachine.Requests.{first_for}
-use Rattle.capacts.specs.Lockmachine.Wants.{Want, effective_want, in_all}
-use Rattle.capacts.specs.Lockmachine.declared.scene.Scene.{Scene}
-use Rattle.capacts.specs.Lockmachine.Scene.{target_by, outside}
-use Rattle.capacts.specs.Lockmachine.Moves.{IsQuiet, IsAtRest}
-use Rattle.capacts.specs.Lockmachine.Rows.{IsInRowOf, IsInRow}
+use Rattle.capbits.specs.Sets.{caps_in, union, meet, is_empty}
+use Rattle.capacts.specs.Lockmachine.Wants.{Want}
 use Rattle.capacts.proofs.Lockmachine.PolicyElsewhere.{want-kept, wants-kept}
-use Rattle.capacts.specs.Caprules.State.{State}
-use Rattle.capacts.specs.Caprules.Direct.{with_scene}
-use Rattle.capacts.specs.Caprules.Finish.{allowed_by, due, is_in_use}
-use Rattle.capacts.specs.Caprules.Sound.{IsSoundEntry, IsSound}
-use Rattle.capsteps.specs.Affected.{stays, forget_among}
 use Rattle.capsteps.proofs.LeftAlone.{found-contains}
 use Rattle.capsteps.proofs.Placed.{placed}
 use Rattle.capsteps.proofs.Strays.{retained, retained-here, retained-gone, kept-held, stays-kept, goes, stays-held, alike-retained}

@@ -1,40 +1,18 @@
 -- What the end of a step makes of an entry on an inode that it affected: it gains what is due, which its locks allow, and its number may rise.
-use Rattle.std.proofs.Common.{◌≡◌, ◌≤◌, ℕ, ◌+◌, Bool, true, false, not, cond, ◌&&◌, ◌||◌, Option, Some, None, List, [], ◌∷◌, refl, sym, ap, subst, ◌∙◌, true≢false, ◌⊎◌, inl, inr, arith, ◌==◌, map as each, filter}
-use Rattle.std.specs.Prelude.{if◌then◌else◌}
-use Rattle.std.proofs.lemmas.Bool.{and_from, or_cases, or_left, eqb-true}
-use Rattle.std.specs.List.{list_any}
-use Rattle.std.proofs.lemmas.Simd.{map-map}
-use Rattle.capbits.specs.declared.cap.Cap.{Cap}
-use Rattle.capbits.specs.declared.cap.Cap.TheVariants.{P}
-use Rattle.capbits.specs.declared.cap.Part.{Part}
-use Rattle.capbits.specs.declared.cap.Part.TheVariants.{A, L, X, F}
-use Rattle.capbits.specs.Caps.{Caps, has}
-use Rattle.capbits.specs.Sets.{no_caps, is_empty, union, meet, minus, of_part, covers, same_caps, and_parts, has-none, has-caps_in, has-union, has-meet, has-minus, has-of_part}
+use Rattle.std.proofs.Common.{◌≡◌, ◌≤◌, ℕ, ◌+◌, Bool, true, false, not, cond, ◌&&◌, ◌||◌, Option, Some, None, List, [], ◌∷◌, refl, sym, ap, subst, ◌∙◌, true≢false, ◌⊎◌, inl, inr, arith, ◌==◌, map as each, filter, if◌then◌else◌}
+use Rattle.capsteps.proofs.Common.{eqb-true, list_any, map-map, Cap, P, Part, A, L, X, F, Caps, same_caps, and_parts, has-none, has-union, has-meet, has-minus, Nodes, SessionTable, LockState, Stable, Gather, Entry, EntryRow, Holder, renumbered, is_of_inode, remade, changed_where, lock_at, permitted, effective_want, want_of, in_all, Scene, outside, told_set, wants, target_by, IsInRowOf, IsInRow, allowed_by, due, issue_row, finished_entry, is_open, IsQuiet, IsAtRest}
+use Rattle.std.proofs.lemmas.Bool.{and_from, or_cases, or_left}
+use Rattle.capbits.specs.Caps.{has}
+use Rattle.capbits.specs.Sets.{no_caps, is_empty, union, meet, minus, of_part, covers, has-caps_in, has-of_part}
 use Rattle.capbits.proofs.Covering.{one_part, same_cap-pin}
-use Rattle.inotree.specs.Tree.{Nodes}
-use Rattle.sessiontab.specs.Table.{SessionTable}
 use Rattle.sessiontab.specs.Calls.{status_of}
 use Rattle.sessiontab.specs.Tests.{is_open as is_open_status}
 use Rattle.locktable.specs.declared.states.State.{State}
-use Rattle.locktable.specs.declared.states.LockState.{LockState}
-use Rattle.locktable.specs.declared.states.LockState.TheVariants.{Stable, Gather}
 use Rattle.locktable.specs.Rows.{row_of, allowed_of, allowed_covers}
-use Rattle.captable.specs.declared.entry.Entry.{Entry}
-use Rattle.captable.specs.declared.entry.EntryRow.{EntryRow}
-use Rattle.captable.specs.declared.entry.Holder.{Holder}
-use Rattle.captable.specs.Calls.{renumbered, is_of_inode}
-use Rattle.captable.specs.Many.{remade, changed_where}
 use Rattle.captable.proofs.Searches.{filter-map}
-use Rattle.capacts.specs.Lockmachine.Locks.{lock_at}
-use Rattle.capacts.specs.Lockmachine.Policy.{permitted}
-use Rattle.capacts.specs.Lockmachine.Wants.{effective_want, Want, want_of, in_all}
-use Rattle.capacts.specs.Lockmachine.declared.scene.Scene.{Scene}
-use Rattle.capacts.specs.Lockmachine.Scene.{outside, told_set, wants, target_by}
-use Rattle.capacts.specs.Lockmachine.Rows.{IsInRowOf, IsInRow}
-use Rattle.capacts.specs.Caprules.Finish.{allowed_by, allowed_part, allowed_to, due, issue_row}
-use Rattle.capsteps.specs.Affected.{finished_entry}
+use Rattle.capacts.specs.Lockmachine.Wants.{Want}
+use Rattle.capacts.specs.Caprules.Finish.{allowed_part, allowed_to}
 use Rattle.capacts.proofs.Walked.{second_true}
-use Rattle.capacts.specs.Lockmachine.Moves.{is_open, IsQuiet, IsAtRest}
 
 -- ---- what the locks allow of a part
 

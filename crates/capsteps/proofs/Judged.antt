@@ -1,11 +1,6 @@
 -- The request that was judged when it came.
 use Rattle.std.proofs.Common.{◌≡◌, Option, None, Some, sym, ap, ◌∙◌}
-use Rattle.std.specs.List.{find}
-use Rattle.capbits.specs.declared.ids.Ticket.{Ticket}
-use Rattle.capacts.specs.Lockmachine.Requests.{is_numbered}
-use Rattle.capacts.specs.Lockmachine.Locks.{LockMap}
-use Rattle.capacts.specs.Lockmachine.declared.scene.Scene.{Scene}
-use Rattle.capsteps.specs.Judged.{IsJudged}
+use Rattle.capsteps.proofs.Common.{find, Ticket, is_numbered, LockMap, Scene, IsJudged}
 
 pub none-judged : (judged : Option Ticket) (s : Scene) → judged ≡ None → IsJudged judged s
 none-judged judged s none = λ ticket q own there. let no : ◌≡◌ {A = Option Ticket} None (Some ticket) = sym none ∙ own in absurd (cc)

@@ -1,17 +1,12 @@
 -- What stops a request, test by test.
 use Rattle.std.proofs.Common.{◌≡◌, List, [], Option, Some, None, refl, sym, ap, ◌∙◌}
-use Rattle.std.specs.Option.{option_map}
-use Rattle.capacts.specs.Lockmachine.declared.scene.Scene.{Scene}
-use Rattle.capacts.specs.Capevents.declared.event.Event.{Event}
+use Rattle.capsteps.proofs.Common.{option_map, Scene, Event, Reply, Rejection, State, rejection_reply, judged, effect, effect_unless}
 use Rattle.capbits.specs.declared.refusal.Refusal.{Refusal}
-use Rattle.capacts.specs.Capevents.declared.reply.Reply.{Reply}
-use Rattle.capacts.specs.Caprules.declared.rejection.Rejection.{Rejection}
 use Rattle.capacts.specs.Caprules.declared.rejection.Rejection.TheVariants.{ByTest}
-use Rattle.capacts.specs.Caprules.State.{State}
 use Rattle.capbits.specs.Refusal.{Test, first_failing}
-use Rattle.capacts.specs.Caprules.Judge.{rejection_of, rejection_by, rejection_reply, first_denied, judged}
+use Rattle.capacts.specs.Caprules.Judge.{rejection_of, rejection_by, first_denied}
 use Rattle.capacts.specs.Caprules.Needs.{Need}
-use Rattle.capacts.specs.Caprules.Direct.{Says, effect, effect_unless, IsDirect}
+use Rattle.capacts.specs.Caprules.Direct.{Says, IsDirect}
 
 rejection_by-rejection : (s : Scene) (o : Option Refusal) (d : Option Need) (l : Option Refusal) (r : Rejection) → rejection_by s o d None ≡ Some r → rejection_by s o d l ≡ Some r
 rejection_by-rejection s (Some x) d l r e = e

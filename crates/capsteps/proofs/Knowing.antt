@@ -1,24 +1,12 @@
 -- What is kept of each entry from the end of the last step, as events leave it.
 use Rattle.std.proofs.Common.{◌≡◌, Bool, true, false, cond, not, ◌&&◌, Option, Some, None, is_some, IsSome, refl, sym, ap, subst, ◌∙◌, true≢false}
-use Rattle.std.specs.List.{find}
-use Rattle.std.specs.Option.{option_map, option_map_or, unwrap_or}
-use Rattle.std.proofs.lemmas.Bool.{and_right, false_from_ne_true, false≢true}
-use Rattle.capbits.specs.Caps.{Caps, has}
-use Rattle.capbits.specs.Sets.{no_caps, minus, meet, IsSubset, same_caps, has-none, has-meet, has-minus}
-use Rattle.captable.specs.declared.entry.Entry.{Entry}
-use Rattle.captable.specs.declared.entry.EntryRow.{EntryRow}
-use Rattle.captable.specs.declared.entry.Holder.{Holder}
-use Rattle.captable.specs.Table.{Table, IsTable, is_row_of, entry_of, entry_at}
-use Rattle.captable.specs.Many.{changed_where, remade}
-use Rattle.captable.proofs.ByHolder.{row_found}
-use Rattle.captable.proofs.Searches.{find-map}
-use Rattle.capacts.specs.Lockmachine.declared.scene.Scene.{Scene}
-use Rattle.capacts.specs.Lockmachine.Scene.{told_set}
+use Rattle.capsteps.proofs.Common.{find, option_map, option_map_or, unwrap_or, false_from_ne_true, Caps, IsSubset, same_caps, has-none, has-meet, has-minus, Entry, EntryRow, Holder, Table, IsTable, is_row_of, entry_of, entry_at, changed_where, remade, row_found, find-map, Scene, told_set, revoked_of, KnownSets, known_of, known_in, AreKnown, HaveRoom, StillKnown, Knows}
+use Rattle.std.proofs.lemmas.Bool.{and_right, false≢true}
+use Rattle.capbits.specs.Caps.{has}
+use Rattle.capbits.specs.Sets.{no_caps, minus, meet}
 use Rattle.capacts.specs.Lockmachine.Revoked.{is_revoked}
 use Rattle.capacts.proofs.Lockmachine.Told.{has-against, has-told, told-less}
-use Rattle.capacts.specs.Caprules.Judge.{revoked_of}
-use Rattle.capacts.specs.Known.{KnownSets, known_of, known_in, AreKnown, HaveRoom, is_still_known, StillKnown}
-use Rattle.capsteps.specs.Affected.{Knows}
+use Rattle.capacts.specs.Known.{is_still_known}
 use Rattle.capsteps.proofs.Revoking.{revoked-found}
 use Rattle.capsteps.proofs.ShownSteps.{told-held}
 

@@ -1,45 +1,19 @@
 -- What leaves alone all that entries, requests and locks depend on keeps a sound state sound, and leaves nothing to do.
-use Rattle.std.proofs.Common.{◌≡◌, ℕ, suc, ◌==◌, Bool, true, false, cond, Option, Some, None, is_some, List, [], ◌∷◌, filter, map as map_rows, refl, sym, ap, subst, ◌∙◌, Contains, arith}
-use Rattle.std.specs.Prelude.{IsTrue}
-use Rattle.std.specs.List.{find}
-use Rattle.std.specs.Option.{option_map}
+use Rattle.std.proofs.Common.{◌≡◌, ℕ, suc, ◌==◌, Bool, true, false, cond, Option, Some, None, is_some, List, [], ◌∷◌, filter, map as map_rows, refl, sym, ap, subst, ◌∙◌, Contains, arith, IsTrue}
+use Rattle.capsteps.proofs.Common.{find, option_map, eqb-true, false_from_ne_true, All-contains, All-contains_itself, All-weaker, Part, A, L, X, F, IsSubset, LockState, Stable, Gather, LockGoal, Node, Nodes, SessionTable, has_session, EntryRow, IsTable, same, is_row_of, is_of_inode, row_of-entry, StateMap, lock_in, lock_at, permitted, first_for, effective_want, want_of, in_all, Scene, against, wants, target_by, IsQuiet, is_open, State, KnownSets, AreKnown, with_scene, due, finished, IsInPlace, IsSoundEntry, IsSound}
 use Rattle.std.specs.FinMap as map
-use Rattle.std.proofs.lemmas.Bool.{eqb-true, false_from_ne_true, true≢false}
-use Rattle.std.proofs.lemmas.List.Elements.{All-contains, All-contains_itself, All-weaker}
-use Rattle.capbits.specs.declared.cap.Part.{Part}
-use Rattle.capbits.specs.declared.cap.Part.TheVariants.{A, L, X, F}
+use Rattle.std.proofs.lemmas.Bool.{true≢false}
 use Rattle.capbits.specs.Caps.{has, caps_where}
-use Rattle.capbits.specs.Sets.{no_caps, union, minus, meet, IsSubset}
+use Rattle.capbits.specs.Sets.{no_caps, union, minus, meet}
 use Rattle.locktable.specs.declared.states.State.TheVariants.{Sync}
-use Rattle.locktable.specs.declared.states.LockState.{LockState}
-use Rattle.locktable.specs.declared.states.LockState.TheVariants.{Stable, Gather}
 use Rattle.locktable.specs.declared.targets.Head.TheVariants.{Empty}
 use Rattle.locktable.specs.Targets.{target_of}
-use Rattle.locktable.specs.declared.states.State.{State as LockGoal}
-use Rattle.inotree.specs.declared.node.Node.{Node}
-use Rattle.inotree.specs.Tree.{Nodes}
-use Rattle.sessiontab.specs.Table.{SessionTable}
-use Rattle.sessiontab.specs.Calls.{has_session}
-use Rattle.captable.specs.declared.entry.EntryRow.{EntryRow}
-use Rattle.captable.specs.Table.{IsTable, same, is_row_of}
-use Rattle.captable.specs.Calls.{is_of_inode}
-use Rattle.captable.proofs.ByHolder.{row_of-entry}
-use Rattle.capacts.specs.Lockmachine.Inodes.{StateMap, lock_in, in_sync}
-use Rattle.capacts.specs.Lockmachine.Locks.{lock_at}
-use Rattle.capacts.specs.Lockmachine.Policy.{permitted}
-use Rattle.capacts.specs.Lockmachine.Requests.{first_for, head_of}
-use Rattle.capacts.specs.Lockmachine.Wants.{effective_want, want_of, loner_of, union_of, in_all}
-use Rattle.capacts.specs.Lockmachine.declared.scene.Scene.{Scene}
-use Rattle.capacts.specs.Lockmachine.Scene.{rows_on, loner, wanted, against, wants, target_by}
-use Rattle.capacts.specs.Lockmachine.Moves.{IsQuiet, is_open}
+use Rattle.capacts.specs.Lockmachine.Inodes.{in_sync}
+use Rattle.capacts.specs.Lockmachine.Requests.{head_of}
+use Rattle.capacts.specs.Lockmachine.Wants.{loner_of, union_of}
+use Rattle.capacts.specs.Lockmachine.Scene.{rows_on, loner, wanted}
 use Rattle.capacts.proofs.Lockmachine.PolicyElsewhere.{wants-kept}
-use Rattle.capacts.specs.Caprules.State.{State}
-use Rattle.capacts.specs.Known.{KnownSets, AreKnown}
-use Rattle.capacts.specs.Caprules.Direct.{with_scene}
-use Rattle.capacts.specs.Caprules.Finish.{due, finished}
 use Rattle.capacts.specs.Finishing.{against_under, allowed_under}
-use Rattle.capacts.specs.Caprules.Headline.{IsInPlace}
-use Rattle.capacts.specs.Caprules.Sound.{IsSoundEntry, IsSound}
 use Rattle.capsteps.specs.Leaving.{with_parts, LeavesEntries}
 use Rattle.capsteps.proofs.Finishing.{same-finished}
 

@@ -1,3 +1,4 @@
+pub mod Common
 pub mod Among
 pub mod AtEnd
 pub mod Begun

@@ -1,28 +1,11 @@
 -- The end of a step at several inodes: one after another, each once, they are finished as if all at once.
-use Rattle.std.proofs.Common.{◌≡◌, ℕ, Bool, true, false, cond, ◌||◌, List, [], ◌∷◌, filter, map as each, ◌++◌, append-nil, append_assoc, eq-eqb, refl, sym, ap, subst, ◌∙◌, true≢false}
-use Rattle.std.specs.Prelude.{All, ◌==◌}
-use Rattle.std.specs.Cmp.{unsigned_tied}
+use Rattle.std.proofs.Common.{◌≡◌, ℕ, Bool, true, false, cond, ◌||◌, List, [], ◌∷◌, filter, map as each, ◌++◌, append-nil, append_assoc, eq-eqb, refl, sym, ap, subst, ◌∙◌, true≢false, All, ◌==◌}
+use Rattle.capsteps.proofs.Common.{unsigned_tied, find, list_any, AllByRecursion, nat_cmp, eq_by_cmp, map-id, or-false, eqb-true, false_from_ne_true, All-map, All-weaker, Ino, Entry, EntryRow, Holder, Table, IsTable, holders_of_rows, is_row_of, Caps, list_any-append, is_of_inode, entries_on, changed_where, remade, InoSet, IsListOf, KnownSets, known_of, KnownAnew, kept-same, kept-then, kept-not}
 use Rattle.std.specs.FinSet as set
-use Rattle.std.specs.List.{find, list_any, AllByRecursion, IsDistinct}
-use Rattle.std.specs.Ordering.{nat_cmp, eq_by_cmp}
-use Rattle.std.proofs.lemmas.List.{map-id}
-use Rattle.std.proofs.Math.Bool.{or-false}
-use Rattle.std.proofs.lemmas.Bool.{eqb-true, false_from_ne_true}
-use Rattle.std.proofs.lemmas.List.Elements.{All-map, All-weaker}
-use Rattle.capbits.specs.declared.ids.Ino.{Ino}
-use Rattle.captable.specs.declared.entry.Entry.{Entry}
-use Rattle.captable.specs.declared.entry.EntryRow.{EntryRow}
-use Rattle.captable.specs.declared.entry.Holder.{Holder}
-use Rattle.captable.specs.Table.{Table, IsTable, holders_of_rows, is_row_of}
-use Rattle.capbits.specs.Caps.{Caps}
-use Rattle.std.proofs.lemmas.List.Folds.{list_any-append}
-use Rattle.captable.specs.Calls.{is_of_inode, entries_on}
-use Rattle.captable.specs.Many.{changed_where, remade}
+use Rattle.std.specs.List.{IsDistinct}
 use Rattle.captable.proofs.OneByOne.{same_holder}
 use Rattle.captable.proofs.Tables.{IsTable-rows}
-use Rattle.capacts.specs.Capnotes.InoSets.{InoSet, IsListOf}
-use Rattle.capacts.specs.Known.{KnownSets, known_of, KnownAnew}
-use Rattle.capacts.proofs.KeptSets.{kept-nobody, kept-same, kept-then, kept-not, found-stays}
+use Rattle.capacts.proofs.KeptSets.{kept-nobody, found-stays}
 
 -- the same number
 abbrev pub same_number : ℕ → ℕ → Bool

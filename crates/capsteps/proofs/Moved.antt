@@ -1,46 +1,26 @@
 -- What moves leave as it is: the entries, which inodes are there and which have locks, the last number, and the rows in which what
 -- is held lies. Who waits then, waited before.
-use Rattle.std.proofs.Common.{◌≡◌, ℕ, Bool, not, Option, Some, None, is_some, List, [], ◌∷◌, ◌++◌, refl, sym, subst, ◌∙◌, Contains, true≢false, ◌+◌, length, ap, arith, false}
-use Rattle.std.specs.Prelude.{All}
-use Rattle.std.specs.Option.{option_map}
+use Rattle.std.proofs.Common.{◌≡◌, ℕ, Bool, not, Option, Some, None, is_some, List, [], ◌∷◌, ◌++◌, refl, sym, subst, ◌∙◌, Contains, true≢false, ◌+◌, length, ap, arith, false, All}
+use Rattle.capsteps.proofs.Common.{option_map, All-contains, All-contains_itself, All-cons, All-weaker, length-append, Part, A, P, IsTree, Nodes, LockState, Stable, Gather, EntryRow, Table, Serve, Settled, Request, lock_in, is_numbered, first_for, LockMap, IsLockMap, lock_at, Scene, IsInRow, contains-filter, Outcome, Ended, tree_after, Made, Began, Gathered, Served, Makes, MakesAll, ended_in, WaitAt, served-at, State, IsSound, IsSoundEntry}
 use Rattle.std.specs.FinMap as map
-use Rattle.std.proofs.lemmas.List.Elements.{All-contains, All-contains_itself, All-cons, All-nil, All-weaker}
-use Rattle.std.proofs.lemmas.List.{length-append}
-use Rattle.capbits.specs.declared.cap.Part.{Part}
-use Rattle.capbits.specs.declared.cap.Part.TheVariants.{A}
-use Rattle.capbits.specs.declared.cap.Cap.TheVariants.{P}
+use Rattle.std.proofs.lemmas.List.Elements.{All-nil}
 use Rattle.capbits.specs.Caps.{has}
-use Rattle.inotree.specs.Tree.{IsTree, Nodes}
 use Rattle.inotree.proofs.OneInode.{known-changed}
-use Rattle.locktable.specs.declared.states.LockState.{LockState}
-use Rattle.locktable.specs.declared.states.LockState.TheVariants.{Stable, Gather}
-use Rattle.captable.specs.declared.entry.EntryRow.{EntryRow}
-use Rattle.captable.specs.Table.{Table}
 use Rattle.capacts.specs.Lockmachine.declared.moves.Move.{Move}
-use Rattle.capacts.specs.Lockmachine.declared.moves.Move.TheVariants.{Begin, End, Serve, Settled}
+use Rattle.capacts.specs.Lockmachine.declared.moves.Move.TheVariants.{Begin, End}
 use Rattle.capacts.specs.Lockmachine.declared.request.Ask.{Ask}
-use Rattle.capacts.specs.Lockmachine.declared.request.Request.{Request}
-use Rattle.capacts.specs.Lockmachine.Inodes.{lock_in}
-use Rattle.capacts.specs.Lockmachine.Requests.{is_numbered, first_for, is_for}
-use Rattle.capacts.specs.Lockmachine.Locks.{LockMap, IsLockMap, lock_at, with_lock, without_request}
-use Rattle.capacts.specs.Lockmachine.declared.scene.Scene.{Scene}
+use Rattle.capacts.specs.Lockmachine.Requests.{is_for}
+use Rattle.capacts.specs.Lockmachine.Locks.{with_lock, without_request}
 use Rattle.capacts.specs.Lockmachine.Moves.{LockPlace, present_state, coming_state, first_move, moved, with_moved}
 use Rattle.capacts.specs.Lockmachine.Runs.{Runs}
-use Rattle.capacts.specs.Lockmachine.Rows.{IsInRow}
-use Rattle.capacts.proofs.Lockmachine.Finding.{contains-filter, fails_at, find_none}
+use Rattle.capacts.proofs.Lockmachine.Finding.{fails_at, find_none}
 use Rattle.capacts.proofs.Lockmachine.InRows.{one_keeps}
 use Rattle.capacts.proofs.Lockmachine.Moving.{with_lock-each}
 use Rattle.capacts.proofs.Lockmachine.Queue.{moved-kept, taken_alone}
-use Rattle.capacts.specs.Capevents.declared.outcome.Outcome.{Outcome}
 use Rattle.capacts.specs.Capevents.declared.outcome.Outcome.TheVariants as outcome
-use Rattle.capacts.specs.Capevents.declared.outcome.Ended.{Ended}
 use Rattle.capacts.specs.Caprules.Serving.{served}
-use Rattle.capacts.specs.Capnotes.Changing.{tree_with, tree_after}
-use Rattle.capacts.specs.Caprules.Settle.{Made, Began, Gathered, Served, Makes, MakesAll, ended_in}
-use Rattle.capacts.specs.Lockmachine.Turns.{WaitAt}
-use Rattle.capacts.proofs.Lockmachine.Waiting.{waits-kept-at, served-at, quiet-waits-at}
-use Rattle.capacts.specs.Caprules.State.{State}
-use Rattle.capacts.specs.Caprules.Sound.{IsSound, IsSoundEntry}
+use Rattle.capacts.specs.Capnotes.Changing.{tree_with}
+use Rattle.capacts.proofs.Lockmachine.Waiting.{waits-kept-at, quiet-waits-at}
 use Rattle.capsteps.proofs.LeftAlone.{found-contains}
 use Rattle.capsteps.proofs.OneChange.{by_ask, sound-after}
 

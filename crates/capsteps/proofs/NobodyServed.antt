@@ -1,25 +1,11 @@
 -- A settling that served nobody: the tree stays, and where the locks of an inode do too, whoever had all there has it still.
 use Rattle.std.proofs.Common.{◌≡◌, ℕ, ◌==◌, Bool, false, ◌||◌, None, Some, List, [], ◌∷◌, refl, sym, ap, subst, ◌∙◌, arith}
+use Rattle.capsteps.proofs.Common.{Ino, Caps, IsSubset, IsTree, SessionTable, EntryRow, Holder, Table, LockMap, permitted, Scene, Ended, due_under, InoSet, KnownSets, OthersHaveAll, is_affected, EndsAt, EndsWith, Made, Began, Gathered, Served, MakesAll, ended_in, sized_in}
 use Rattle.std.specs.FinMap as map
 use Rattle.std.specs.FinSet as set
-use Rattle.capbits.specs.declared.ids.Ino.{Ino}
-use Rattle.capbits.specs.Caps.{Caps}
-use Rattle.capbits.specs.Sets.{IsSubset}
-use Rattle.inotree.specs.Tree.{IsTree}
-use Rattle.sessiontab.specs.Table.{SessionTable}
-use Rattle.captable.specs.declared.entry.EntryRow.{EntryRow}
-use Rattle.captable.specs.declared.entry.Holder.{Holder}
-use Rattle.captable.specs.Table.{Table}
-use Rattle.capacts.specs.Lockmachine.Locks.{LockMap}
-use Rattle.capacts.specs.Lockmachine.Policy.{permitted}
-use Rattle.capacts.specs.Lockmachine.declared.scene.Scene.{Scene}
-use Rattle.capacts.specs.Capevents.declared.outcome.Ended.{Ended}
-use Rattle.capacts.specs.Finishing.{due_under, told_under}
-use Rattle.capacts.specs.Capnotes.InoSets.{InoSet, IsNext}
-use Rattle.capacts.specs.Known.{KnownSets, OthersHaveAll}
-use Rattle.capacts.specs.Reach.{is_affected}
-use Rattle.capsteps.specs.Serves.{SettlesWith, EndsAt, EndsWith}
-use Rattle.capacts.specs.Caprules.Settle.{Made, Began, Gathered, Served, MakesAll, ended_in, sized_in}
+use Rattle.capacts.specs.Finishing.{told_under}
+use Rattle.capacts.specs.Capnotes.InoSets.{IsNext}
+use Rattle.capsteps.specs.Serves.{SettlesWith}
 use Rattle.capsteps.proofs.Moved.{tree-moved}
 use Rattle.capsteps.proofs.SameOff.{off-wider}
 

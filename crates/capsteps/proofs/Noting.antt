@@ -1,12 +1,11 @@
 -- What becomes of a session is noted.
 use Rattle.std.proofs.Common.{◌≡◌, List, [], ◌∷◌, ◌++◌, ◌⊎◌, inl, inr, Bor, refl, sym, ap, subst}
+use Rattle.capsteps.proofs.Common.{ClientId, SessionTable}
 use Rattle.std.specs.FinMap as map
-use Rattle.capbits.specs.declared.ids.ClientId.{ClientId}
 use Rattle.capspec.specs.declared.grant.Grant.{Grant}
 use Rattle.sessiontab.specs.declared.session.Status.{Status}
 use Rattle.sessiontab.specs.Calls.{with_status}
 use Rattle.sessiontab.specs.Connected.{SessionMap}
-use Rattle.sessiontab.specs.Table.{SessionTable}
 use Rattle.capacts.specs.Capview.declared.change.ViewChange.{ViewChange}
 use Rattle.capacts.specs.Capview.declared.change.ViewChange.TheVariants as view_change
 use Rattle.capacts.specs.Capview.Changes.{AreChanges}

@@ -1,14 +1,13 @@
 -- What a request that is served leaves of the tree.
 use Rattle.std.proofs.Common.{◌≡◌, ◌≢◌, ℕ, true, false, None, ◌⊎◌, inl, inr, refl, subst}
+use Rattle.capsteps.proofs.Common.{Node, Nodes, IsTree, place, IsAlike, Request, Scene, alike-itself, Outcome, tree_after}
 use Rattle.std.specs.FinMap as map
 use Rattle.capbits.specs.Refusal.{first_failing}
 use Rattle.capbits.proofs.Tests.{pass-both}
-use Rattle.inotree.specs.declared.node.Node.{Node}
 use Rattle.inotree.specs.declared.node.Site.TheVariants.{Under, Stray}
 use Rattle.inotree.specs.Inodes.{with_setting, with_attribute, without_attribute, with_site}
-use Rattle.inotree.specs.Tree.{Nodes, IsTree, is_within, place}
+use Rattle.inotree.specs.Tree.{is_within}
 use Rattle.inotree.specs.Calls.{changed}
-use Rattle.inotree.specs.Alike.{IsAlike}
 use Rattle.inotree.proofs.Changes.{setting_site}
 use Rattle.inotree.proofs.Elsewhere.{alike-changed}
 use Rattle.inotree.proofs.Moving.{moved-alike, moved-tree, moved-within, changed-within}
@@ -17,13 +16,9 @@ use Rattle.capacts.specs.Lockmachine.declared.request.Change.{Change}
 use Rattle.capacts.specs.Lockmachine.declared.request.Change.TheVariants.{Set, SetXattr, RemoveXattr}
 use Rattle.capacts.specs.Lockmachine.declared.request.Ask.{Ask}
 use Rattle.capacts.specs.Lockmachine.declared.request.Ask.TheVariants.{Get, Alter, Unlink, Rmdir, Rename}
-use Rattle.capacts.specs.Lockmachine.declared.request.Request.{Request}
-use Rattle.capacts.specs.Lockmachine.declared.scene.Scene.{Scene}
-use Rattle.capacts.proofs.Lockmachine.PolicyElsewhere.{alike-itself}
-use Rattle.capacts.specs.Capevents.declared.outcome.Outcome.{Outcome}
 use Rattle.capacts.specs.Capevents.declared.outcome.Outcome.TheVariants as outcome
 use Rattle.capacts.specs.Caprules.Serving.{MayEndAs}
-use Rattle.capacts.specs.Capnotes.Changing.{tree_after, tree_with, tree_changed}
+use Rattle.capacts.specs.Capnotes.Changing.{tree_with, tree_changed}
 use Rattle.capacts.specs.Caprules.Asks.{ask_before, ask_needs, ask_after, change_tests}
 use Rattle.capacts.specs.Served.{is_rename}
 use Rattle.capacts.proofs.Again.{leaves-or-makes, passed-all}

@@ -1,27 +1,15 @@
 -- What an entry holds is in place, where it is in its row: what is outside the row of a gather's target is being revoked, by
 -- what revoking is.
 use Rattle.std.proofs.Common.{◌≡◌, zero, suc, Bool, true, false, not, cond, ◌||◌, ◌&&◌, Option, Some, None, List, [], ◌∷◌, filter, refl, sym, ap, ◌∙◌, Contains, arith, true≢false}
-use Rattle.std.specs.List.{list_any}
-use Rattle.std.specs.Cmp.{nat_eq_equiv}
-use Rattle.capbits.specs.declared.cap.Cap.{Cap}
-use Rattle.capbits.specs.declared.cap.Part.{Part}
-use Rattle.capbits.specs.declared.cap.Part.TheVariants.{A, L, X, F}
+use Rattle.capsteps.proofs.Common.{list_any, nat_eq_equiv, Cap, Part, A, L, X, F, has-union, has-minus, LockState, Stable, Gather, EntryRow, is_of_inode, lock_at, Scene, outside, against, told_set, IsInRowOf, IsInRow, permitted, IsInPlace}
 use Rattle.capbits.specs.Caps.{has}
-use Rattle.capbits.specs.Sets.{is_empty, union, of_part, has-union, has-minus}
+use Rattle.capbits.specs.Sets.{is_empty, union, of_part}
 use Rattle.capbits.proofs.Emptiness.{has-is_empty}
 use Rattle.locktable.specs.declared.states.State.{State}
-use Rattle.locktable.specs.declared.states.LockState.{LockState}
-use Rattle.locktable.specs.declared.states.LockState.TheVariants.{Stable, Gather}
 use Rattle.locktable.specs.Rows.{row_of}
-use Rattle.captable.specs.declared.entry.EntryRow.{EntryRow}
-use Rattle.captable.specs.Calls.{is_of_inode}
-use Rattle.capacts.specs.Lockmachine.Locks.{lock_at}
-use Rattle.capacts.specs.Lockmachine.declared.scene.Scene.{Scene}
-use Rattle.capacts.specs.Lockmachine.Scene.{outside, against_lock, against_part, against_locks, against_policy, against, told_set}
-use Rattle.capacts.specs.Lockmachine.Rows.{IsInRowOf, IsInRow}
-use Rattle.capacts.specs.Lockmachine.Policy.{permitted}
+use Rattle.capacts.specs.Lockmachine.Scene.{against_lock, against_part, against_locks, against_policy}
 use Rattle.capacts.proofs.Walked.{second_true}
-use Rattle.capacts.specs.Caprules.Headline.{IsRevoked, IsInPlace, AreRevoked}
+use Rattle.capacts.specs.Caprules.Headline.{IsRevoked, AreRevoked}
 
 -- a row that passes two tests is found by both
 pub any_found : (p q : EntryRow → Bool) (rows : List EntryRow) (row : EntryRow) → Contains rows row → p row ≡ true → q row ≡ true → list_any q (filter p rows) ≡ true

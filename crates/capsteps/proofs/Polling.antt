@@ -1,34 +1,14 @@
 -- The messages that a walk over a client's entries lists, and what giving them leaves.
-use Rattle.std.proofs.Common.{Contains, Option, ◌≡◌, ◌≤◌, ◌-◌, ℕ, zero, suc, Bool, true, false, cond, ◌&&◌, ◌||◌, List, [], ◌∷◌, ◌++◌, length, take, filter, map, refl, sym, ap, subst, ◌∙◌, append_assoc, append-nil, arith}
-use Rattle.std.specs.Prelude.{◌==◌, nat_lt}
-use Rattle.std.specs.List.{list_any, flat_map, IsDistinct}
-use Rattle.std.specs.Cmp.{nat_eq_equiv}
+use Rattle.std.proofs.Common.{Contains, Option, ◌≡◌, ◌≤◌, ◌-◌, ℕ, zero, suc, Bool, true, false, cond, ◌&&◌, ◌||◌, List, [], ◌∷◌, ◌++◌, length, take, filter, map, refl, sym, ap, subst, ◌∙◌, append_assoc, append-nil, arith, ◌==◌, nat_lt}
+use Rattle.capsteps.proofs.Common.{list_any, nat_eq_equiv, unwrap_or, map-map, or-false, KnownSets, known_in, AreKnown, take_all, map-id, list_any-append, ClientId, Ino, Caps, Entry, EntryRow, Table, IsTable, holder, same, is_among, entry_of, entry_at, row_found, is_of_client, is_due, changed, told, with_size_due, changed_where, remade, fold-changed_by, Scene, told_set, Ended, Message, State, first_messages, end_messages, after_messages, is_caps_of, is_size_of, is_recall_of, told_if, sized_if, unasked_if}
+use Rattle.std.specs.List.{flat_map, IsDistinct}
 use Rattle.std.specs.FinMap as finite
-use Rattle.std.specs.Option.{unwrap_or}
-use Rattle.std.proofs.lemmas.Simd.{map-map}
-use Rattle.std.proofs.Math.Bool.{or-false}
 use Rattle.capbits.specs.Sets.{no_caps}
-use Rattle.capacts.specs.Known.{KnownSets, known_in, AreKnown}
 use Rattle.std.proofs.lemmas.Bool.{or_parts}
-use Rattle.std.proofs.lemmas.List.{take-append-le, take_all, map-id}
-use Rattle.std.proofs.lemmas.List.Folds.{list_any-append}
-use Rattle.capbits.specs.declared.ids.ClientId.{ClientId}
-use Rattle.capbits.specs.declared.ids.Ino.{Ino}
-use Rattle.capbits.specs.Caps.{Caps}
-use Rattle.captable.specs.declared.entry.Entry.{Entry}
-use Rattle.captable.specs.declared.entry.EntryRow.{EntryRow}
-use Rattle.captable.specs.Table.{Table, IsTable, holder, same, is_among, entry_of, entry_at}
-use Rattle.captable.proofs.ByHolder.{row_found}
-use Rattle.captable.specs.Calls.{is_of_client, is_due, changed, told, with_asked, with_size_due}
-use Rattle.captable.specs.Many.{changed_where, remade}
-use Rattle.captable.proofs.OneByOne.{fold-changed_by}
-use Rattle.capacts.specs.Lockmachine.declared.scene.Scene.{Scene}
-use Rattle.capacts.specs.Lockmachine.Scene.{told_set}
-use Rattle.capacts.specs.Capevents.declared.outcome.Ended.{Ended}
-use Rattle.capacts.specs.Capevents.declared.outcome.Message.{Message}
+use Rattle.std.proofs.lemmas.List.{take-append-le}
+use Rattle.captable.specs.Calls.{with_asked}
 use Rattle.capacts.specs.Capevents.declared.outcome.Message.TheVariants as message
-use Rattle.capacts.specs.Caprules.State.{State}
-use Rattle.capacts.specs.Caprules.Messages.{row_messages, size_message, first_messages, end_messages, after_messages, is_caps_of, is_size_of, is_recall_of, told_if, sized_if, unasked_if}
+use Rattle.capacts.specs.Caprules.Messages.{row_messages, size_message}
 use Rattle.capsteps.proofs.Telling.{given_fields, given-fields}
 
 -- ---- the first of a list

@@ -1,20 +1,10 @@
 -- What is being revoked of a holder's entry, by what is found of it, and the tests that stand behind others.
-use Rattle.std.proofs.Common.{◌≡◌, Option, Some, None, List, [], ◌∷◌, ◌++◌, refl, ap, ◌∙◌}
-use Rattle.std.specs.Prelude.{if◌then◌else◌}
-use Rattle.std.specs.List.{find}
-use Rattle.std.specs.Option.{option_map_or}
+use Rattle.std.proofs.Common.{◌≡◌, Option, Some, None, List, [], ◌∷◌, ◌++◌, refl, ap, ◌∙◌, if◌then◌else◌}
+use Rattle.capsteps.proofs.Common.{find, option_map_or, Entry, EntryRow, Holder, is_row_of, entry_at, row_of-entry, Scene, against, revoked_of}
 use Rattle.capbits.specs.Refusal.{Test, first_failing}
 use Rattle.capbits.specs.Sets.{no_caps}
 use Rattle.capbits.proofs.Tests.{passed-if}
-use Rattle.captable.specs.declared.entry.Entry.{Entry}
-use Rattle.captable.specs.declared.entry.EntryRow.{EntryRow}
-use Rattle.captable.specs.declared.entry.Holder.{Holder}
-use Rattle.captable.specs.Table.{is_row_of, entry_at}
 use Rattle.captable.proofs.Changes.{no_entry}
-use Rattle.captable.proofs.ByHolder.{row_of-entry}
-use Rattle.capacts.specs.Lockmachine.declared.scene.Scene.{Scene}
-use Rattle.capacts.specs.Lockmachine.Scene.{against}
-use Rattle.capacts.specs.Caprules.Judge.{revoked_of}
 
 -- where it has one
 pub revoked-found : (s : Scene) (k : Holder) (e : Entry) → entry_at s.table k ≡ Some e → revoked_of s k ≡ against s (record { holder = k; entry = e })

@@ -1,22 +1,9 @@
 -- Scenes that are the same off the inodes that a step affects: one after another, off more inodes, and back to the old state.
 use Rattle.std.proofs.Common.{◌≡◌, ℕ, Bool, true, false, List, refl, sym, ap, subst, ◌∙◌, Contains, filter, true≢false, eq-eqb}
-use Rattle.std.specs.List.{list_any}
+use Rattle.capsteps.proofs.Common.{list_any, false_from_ne_true, Part, Ino, place, IsAlike, EntryRow, is_of_inode, entries_on, Table, SessionTable, lock_at, Scene, contains-filter, filter-contains, alike-itself}
 use Rattle.std.specs.FinMap as map
-use Rattle.std.proofs.lemmas.Bool.{false_from_ne_true}
 use Rattle.std.proofs.lemmas.Map.Views.{any-filter_same}
-use Rattle.capbits.specs.declared.cap.Part.{Part}
-use Rattle.capbits.specs.declared.ids.Ino.{Ino}
-use Rattle.inotree.specs.Tree.{place}
-use Rattle.inotree.specs.Alike.{IsAlike}
-use Rattle.captable.specs.declared.entry.EntryRow.{EntryRow}
-use Rattle.captable.specs.Calls.{is_of_inode, entries_on}
-use Rattle.captable.specs.Table.{Table}
-use Rattle.sessiontab.specs.Table.{SessionTable}
 use Rattle.capacts.specs.Lockmachine.Elsewhere.{IsSameOutside}
-use Rattle.capacts.specs.Lockmachine.Locks.{lock_at}
-use Rattle.capacts.specs.Lockmachine.declared.scene.Scene.{Scene}
-use Rattle.capacts.proofs.Lockmachine.Finding.{contains-filter, filter-contains}
-use Rattle.capacts.proofs.Lockmachine.PolicyElsewhere.{alike-itself}
 use Rattle.capacts.proofs.Lockmachine.SameOutside.{alike-trans}
 use Rattle.capsteps.specs.Affected.{IsSameOff}
 

@@ -1,55 +1,28 @@
 -- A step shows clients what it tells them, and its numbers say so.
-use Rattle.std.proofs.Common.{◌≡◌, ◌≢◌, ◌≤◌, ◌+◌, ◌==◌, ℕ, Bool, true, false, cond, not, ◌&&◌, ◌||◌, Option, Some, None, is_some, List, [], ◌∷◌, ◌++◌, map, take, refl, sym, ap, subst, ◌∙◌, Contains, true≢false, append-nil, eq-eqb, arith}
-use Rattle.std.specs.Prelude.{All, filter, nat_lt}
-use Rattle.std.specs.List.{find, list_any, fold, flat_map}
-use Rattle.std.specs.Option.{option_map}
+use Rattle.std.proofs.Common.{◌≡◌, ◌≢◌, ◌≤◌, ◌+◌, ◌==◌, ℕ, Bool, true, false, cond, not, ◌&&◌, ◌||◌, Option, Some, None, is_some, List, [], ◌∷◌, ◌++◌, map, take, refl, sym, ap, subst, ◌∙◌, Contains, true≢false, append-nil, eq-eqb, arith, All, filter, nat_lt}
+use Rattle.capsteps.proofs.Common.{find, list_any, fold, option_map, eqb-true, All-contains, All-contains_itself, All-cons, All-filter, All-weaker, fold-append, P, Fc, ClientId, Ino, Caps, same_caps, has-minus, Node, Entry, EntryRow, Holder, Table, IsTable, holder, same, is_row_of, is_among, entry_of, entry_at, opened, changed, without, taken, given_back, told, renumbered, with_size_due, is_of_client, remade, entry_at-changed_other, row_found, row_of-entry, find-map, same_equiv, same-is, Scene, against, told_set, Event, OpenMode, Ended, Message, Reply, Rejection, State, Direct, direct, effect, effect_unless, with_entry, with_opening, shown, is_sized, owed, sizes_owed, due, issue_row, issue, forget, told_before, number_row, judged, rejection_reply, revoked_of, first_messages, after_messages, end_messages, is_caps_of, is_size_of, is_recall_of, told_if, sized_if, unasked_if, Made, Settles, ended_in, sized_in, IsSound, IsSoundEntry}
+use Rattle.std.specs.List.{flat_map}
 use Rattle.std.specs.FinMap as finite
-use Rattle.std.proofs.lemmas.Bool.{eqb-true}
-use Rattle.std.proofs.lemmas.List.Elements.{All-contains, All-contains_itself, All-nil, All-cons, All-head, All-tail, All-append, All-take, All-filter, All-weaker, filter_passes}
-use Rattle.std.proofs.lemmas.List.Sums.{fold-append}
-use Rattle.capbits.specs.declared.cap.Cap.TheVariants.{P, Fc}
-use Rattle.capbits.specs.declared.ids.ClientId.{ClientId}
-use Rattle.capbits.specs.declared.ids.Ino.{Ino}
-use Rattle.capbits.specs.Caps.{Caps, has}
-use Rattle.capbits.specs.Sets.{minus, same_caps, has-minus}
-use Rattle.inotree.specs.declared.node.Node.{Node}
+use Rattle.std.proofs.lemmas.List.Elements.{All-nil, All-head, All-tail, All-append, All-take, filter_passes}
+use Rattle.capbits.specs.Caps.{has}
+use Rattle.capbits.specs.Sets.{minus}
 use Rattle.inotree.specs.Tree.{child}
-use Rattle.captable.specs.declared.entry.Entry.{Entry}
-use Rattle.captable.specs.declared.entry.EntryRow.{EntryRow}
-use Rattle.captable.specs.declared.entry.Holder.{Holder}
-use Rattle.captable.specs.Table.{Table, IsTable, holder, same, is_row_of, is_among, entry_of, entry_at}
-use Rattle.captable.specs.Calls.{opened, changed, without, issued, taken, given_back, acked, released, touched, told, recalled, renumbered, with_asked, with_size_due, without_client, is_of_client}
-use Rattle.captable.specs.Many.{remade}
+use Rattle.captable.specs.Calls.{issued, acked, released, touched, recalled, with_asked, without_client}
 use Rattle.captable.specs.Shown.{IsShown}
-use Rattle.captable.proofs.ByHolder.{entry_at-changed, entry_at-changed_other, entry_at-opened_other, entry_at-without, entry_at-without_client, entry_at-without_client_other, entry_at-recalled, entry_at-recalled_other, row_found, row_of-entry, entry_at-without_other}
-use Rattle.captable.proofs.Searches.{find-map}
+use Rattle.captable.proofs.ByHolder.{entry_at-changed, entry_at-opened_other, entry_at-without, entry_at-without_client, entry_at-without_client_other, entry_at-recalled, entry_at-recalled_other, entry_at-without_other}
 use Rattle.captable.proofs.Shown.{shown-numbered, shown-less, shown-told}
-use Rattle.captable.proofs.Tables.{same_equiv, same-is}
-use Rattle.capacts.specs.Lockmachine.declared.scene.Scene.{Scene}
-use Rattle.capacts.specs.Lockmachine.Scene.{against, told_set}
 use Rattle.capacts.specs.Lockmachine.Revoked.{is_revoked}
 use Rattle.capacts.proofs.Lockmachine.Told.{has-against, has-told}
 use Rattle.capacts.proofs.Lockmachine.Exact.{settled as at_rest_settled}
-use Rattle.capacts.specs.Capevents.declared.event.Event.{Event}
 use Rattle.capacts.specs.Capevents.declared.event.Event.TheVariants as event
-use Rattle.capacts.specs.Capevents.declared.event.OpenMode.{OpenMode}
 use Rattle.capacts.specs.Capevents.declared.row.Row.{Row}
-use Rattle.capacts.specs.Capevents.declared.outcome.Ended.{Ended}
-use Rattle.capacts.specs.Capevents.declared.outcome.Message.{Message}
 use Rattle.capacts.specs.Capevents.declared.outcome.Message.TheVariants as message
-use Rattle.capacts.specs.Capevents.declared.reply.Reply.{Reply}
 use Rattle.capacts.specs.Capevents.declared.reply.Reply.TheVariants as reply
-use Rattle.capacts.specs.Caprules.declared.rejection.Rejection.{Rejection}
 use Rattle.capacts.specs.Caprules.declared.rejection.Rejection.TheVariants.{ByPolicy, ByTest}
-use Rattle.capacts.specs.Caprules.State.{State}
-use Rattle.capacts.specs.Caprules.Direct.{Direct, Shows, Gives, direct, effect, effect_unless, with_entry, with_opening, with_wanted, reply_of, shown, found, opened_as}
-use Rattle.capacts.specs.Caprules.Finish.{is_sized, owed, sizes_owed, due, issue_row, issue, forget, told_before, number_row}
-use Rattle.capacts.specs.Caprules.Judge.{judged, rejection_reply, revoked_of}
-use Rattle.capacts.specs.Caprules.Messages.{first_messages, messages_to, after_messages, row_messages, caps_messages, size_message, size_messages, recall_messages, end_message, end_messages, is_caps_of, is_size_of, is_recall_of, told_if, sized_if, unasked_if}
+use Rattle.capacts.specs.Caprules.Direct.{Shows, Gives, with_wanted, reply_of, found, opened_as}
+use Rattle.capacts.specs.Caprules.Messages.{messages_to, row_messages, caps_messages, size_message, size_messages, recall_messages, end_message}
 use Rattle.capacts.specs.Capnotes.DueEndings.{is_to}
-use Rattle.capacts.specs.Caprules.Settle.{Made, Settles, ended_in, sized_in}
 use Rattle.capacts.specs.Caprules.Shown.{AreShown, shown_by, shown_of, shown_opened, shown_less, shown_given, shown_in}
-use Rattle.capacts.specs.Caprules.Sound.{IsSound, IsSoundEntry}
 use Rattle.capacts.specs.Caprules.Step.{Step, state_after}
 use Rattle.capsteps.proofs.EndsThere.{held-renumbered}
 use Rattle.capsteps.proofs.Finishing.{sound-ends}

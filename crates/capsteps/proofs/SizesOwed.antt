@@ -1,36 +1,11 @@
 -- A size that is to be told changes one field of entries, which the end of a step doesn't read.
-use Rattle.std.proofs.Common.{◌≡◌, ◌≤◌, ℕ, suc, ◌+◌, Bool, true, false, not, cond, ◌&&◌, ◌||◌, Option, Some, None, List, [], ◌∷◌, map, refl, sym, ap, subst, ◌∙◌, Contains, arith}
-use Rattle.std.specs.Prelude.{All}
+use Rattle.std.proofs.Common.{◌≡◌, ◌≤◌, ℕ, suc, ◌+◌, Bool, true, false, not, cond, ◌&&◌, ◌||◌, Option, Some, None, List, [], ◌∷◌, map, refl, sym, ap, subst, ◌∙◌, Contains, arith, All}
+use Rattle.capsteps.proofs.Common.{find, list_any, option_map, option_map_or, map-map, All-map, All-weaker, Fc, Ino, Caps, IsTree, place, is_gone, Entry, EntryRow, Holder, Table, IsTable, is_row_of, is_of_inode, renumbered, with_size_due, changed_where, remade, row_found, find-map, IsLockMap, Scene, told_set, is_sized, owed, sizes_owed, issue_row, issue, is_in_use, forget, told_before, number_row, finished, IssuesExactly, Made, sized_in, IsSound, AreGiven, State, Affects, SettlesAt, Knows, stays, forget_among, told_then, finished_entry, finished_at, KnownSets, known_of, AreKnown, known_anew, KnownAnew}
 use Rattle.std.specs.FinMap as finite
-use Rattle.std.specs.List.{find, list_any}
-use Rattle.std.specs.Option.{option_map, option_map_or}
-use Rattle.std.proofs.lemmas.Simd.{map-map}
-use Rattle.std.proofs.lemmas.List.Elements.{All-map, All-weaker}
-use Rattle.capbits.specs.declared.cap.Cap.TheVariants.{Fc}
-use Rattle.capbits.specs.declared.ids.Ino.{Ino}
-use Rattle.capbits.specs.Caps.{Caps, has}
+use Rattle.capbits.specs.Caps.{has}
 use Rattle.capbits.specs.Sets.{is_empty, minus, meet}
-use Rattle.inotree.specs.Tree.{IsTree, place}
-use Rattle.inotree.specs.Tests.{is_gone}
-use Rattle.captable.specs.declared.entry.Entry.{Entry}
-use Rattle.captable.specs.declared.entry.EntryRow.{EntryRow}
-use Rattle.captable.specs.declared.entry.Holder.{Holder}
-use Rattle.captable.specs.Table.{Table, IsTable, is_row_of}
-use Rattle.captable.specs.Calls.{is_of_inode, renumbered, with_size_due}
-use Rattle.captable.specs.Many.{changed_where, remade}
-use Rattle.captable.proofs.ByHolder.{row_found}
-use Rattle.captable.proofs.Searches.{find-map}
-use Rattle.capacts.specs.Lockmachine.Locks.{IsLockMap}
-use Rattle.capacts.specs.Lockmachine.declared.scene.Scene.{Scene}
-use Rattle.capacts.specs.Lockmachine.Scene.{told_set}
-use Rattle.capacts.specs.Caprules.Finish.{is_sized, owed, sizes_owed, issue_row, issue, is_in_use, forget, told_before, number_row, number, finished}
-use Rattle.capacts.specs.Caprules.Headline.{IssuesExactly}
-use Rattle.capacts.specs.Caprules.Settle.{Made, sized_in}
-use Rattle.capacts.specs.Caprules.Sound.{IsSound, AreGiven}
-use Rattle.capacts.specs.Caprules.State.{State}
+use Rattle.capacts.specs.Caprules.Finish.{number}
 use Rattle.capacts.specs.Caprules.Step.{state_at_end}
-use Rattle.capsteps.specs.Affected.{Affects, SettlesAt, Knows, stays, forget_among, told_then, finished_entry, finished_at}
-use Rattle.capacts.specs.Known.{KnownSets, known_of, AreKnown, known_anew, KnownAnew}
 use Rattle.capsteps.proofs.EndsThere.{field-renumbered, settled-table, affected-ends, affected-issues, affected-known}
 use Rattle.capsteps.proofs.Knowing.{known-alike, alike-where}
 use Rattle.capsteps.proofs.StayingSound.{sound-affected}

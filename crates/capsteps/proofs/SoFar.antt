@@ -1,44 +1,26 @@
 -- Where the settling of a step has come to, between two servings.
 use Rattle.std.proofs.Common.{◌≡◌, ◌≢◌, ◌+◌, ◌≤◌, ◌==◌, ◌||◌, ◌&&◌, not, cond, ℕ, Bool, true, false, inl, inr, Option, None, Some, List, [], ◌∷◌, ◌++◌, length, map as each, refl, sym, ap, subst, ◌∙◌, Contains, append-nil, arith, true≢false}
-use Rattle.std.specs.Option.{option_map, option_map_or}
+use Rattle.capsteps.proofs.Common.{option_map, option_map_or, or-false, eqb-true, false_from_ne_true, length-append, All-contains, Part, Ino, Ticket, Nodes, IsTree, IsAlike, EntryRow, is_of_inode, entries_on, Request, Serve, Settled, lock_in, first_for, is_numbered, IsLockMap, lock_at, want_of, in_all, Scene, WaitAt, contains-filter, alike-itself, served-at, Ended, InoSet, is_affected, Widens, Serves, tree_after, Made, Began, Gathered, Served, Makes, MakesAll, ended_in, sized_in, AreStill, IsSwept, StandsAt}
 use Rattle.std.specs.FinMap as map
 use Rattle.std.specs.FinSet as set
-use Rattle.std.proofs.Math.Bool.{or-false}
-use Rattle.std.proofs.lemmas.Bool.{eqb-true, eqb-false, false_from_ne_true}
-use Rattle.std.proofs.lemmas.List.{length-append}
-use Rattle.std.proofs.lemmas.List.Elements.{All-contains, filter_map-append, filter_passes}
-use Rattle.capbits.specs.declared.cap.Part.{Part}
-use Rattle.capbits.specs.declared.ids.Ino.{Ino}
-use Rattle.capbits.specs.declared.ids.Ticket.{Ticket}
-use Rattle.inotree.specs.Tree.{Nodes, IsTree, is_within}
-use Rattle.inotree.specs.Alike.{IsAlike}
-use Rattle.captable.specs.declared.entry.EntryRow.{EntryRow}
-use Rattle.captable.specs.Calls.{is_of_inode, entries_on}
-use Rattle.capacts.specs.Lockmachine.declared.request.Request.{Request}
-use Rattle.capacts.specs.Lockmachine.declared.moves.Move.TheVariants.{Serve, Settled}
-use Rattle.capacts.specs.Lockmachine.Inodes.{lock_in}
-use Rattle.capacts.specs.Lockmachine.Requests.{first_for, is_numbered, part_of_ask}
-use Rattle.capacts.specs.Lockmachine.Locks.{IsLockMap, lock_at, request_at, without_request}
-use Rattle.capacts.specs.Lockmachine.Wants.{want_of, in_all}
-use Rattle.capacts.specs.Lockmachine.declared.scene.Scene.{Scene}
+use Rattle.std.proofs.lemmas.Bool.{eqb-false}
+use Rattle.std.proofs.lemmas.List.Elements.{filter_map-append, filter_passes}
+use Rattle.inotree.specs.Tree.{is_within}
+use Rattle.capacts.specs.Lockmachine.Requests.{part_of_ask}
+use Rattle.capacts.specs.Lockmachine.Locks.{request_at, without_request}
 use Rattle.capacts.specs.Lockmachine.Moves.{may_begin, may_begin_in, is_servable, first_move, IsQuietOutside}
-use Rattle.capacts.specs.Lockmachine.Turns.{IsTurnOf, NobodyElsewhere, NothingEnds, WaitAt}
+use Rattle.capacts.specs.Lockmachine.Turns.{IsTurnOf, NobodyElsewhere, NothingEnds}
 use Rattle.capacts.proofs.Lockmachine.Alone.{nobody-held, served-alone}
 use Rattle.capacts.proofs.Lockmachine.Exact.{ends_not, begins_not}
-use Rattle.capacts.proofs.Lockmachine.Finding.{contains-filter}
-use Rattle.capacts.proofs.Lockmachine.PolicyElsewhere.{alike-itself}
 use Rattle.capacts.proofs.Lockmachine.SameBut.{begin-alike, first-moved}
 use Rattle.capacts.proofs.Lockmachine.Turns.{served-ends, ends-turn}
-use Rattle.capacts.proofs.Lockmachine.Waiting.{quiet-waits-at, waits-wider, waits-less-at, served-at}
-use Rattle.capacts.specs.Capevents.declared.outcome.Ended.{Ended}
-use Rattle.capacts.specs.Capnotes.InoSets.{InoSet}
+use Rattle.capacts.proofs.Lockmachine.Waiting.{quiet-waits-at, waits-wider, waits-less-at}
 use Rattle.capacts.specs.declared.sweep.SweepPlace.{SweepPlace}
 use Rattle.capacts.specs.Served.{is_rename}
-use Rattle.capacts.specs.Reach.{is_affected, Widens, Covers, Reaches}
-use Rattle.capsteps.specs.Serves.{Serves, SettlesWith}
-use Rattle.capacts.specs.Capnotes.Changing.{tree_after}
-use Rattle.capacts.specs.Caprules.Settle.{Made, Began, Gathered, Served, Makes, MakesAll, ended_by, ended_in, sized_by, sized_in}
-use Rattle.capsteps.specs.Sweep.{AreStill, GoesOnBehind, IsFirstPlace, IsSwept, IsTurnOfLeast, StandsAt, changed_alone}
+use Rattle.capacts.specs.Reach.{Covers, Reaches}
+use Rattle.capsteps.specs.Serves.{SettlesWith}
+use Rattle.capacts.specs.Caprules.Settle.{ended_by, sized_by}
+use Rattle.capsteps.specs.Sweep.{GoesOnBehind, IsFirstPlace, IsTurnOfLeast, changed_alone}
 use Rattle.capsteps.specs.Affected.{IsSameOff}
 use Rattle.capsteps.proofs.Among.{unaffected, not-affected, more-affected}
 use Rattle.capsteps.proofs.Moved.{makes-append, one-less}

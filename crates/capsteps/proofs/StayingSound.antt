@@ -1,43 +1,16 @@
 -- A sound state stays sound after the step of an event that affected some inodes.
-use Rattle.std.proofs.Common.{◌≡◌, ◌≤◌, ℕ, ◌+◌, ◌==◌, Bool, true, false, ◌||◌, Some, None, is_some, List, refl, sym, ap, subst, ◌∙◌, ◌++◌, Contains, arith}
-use Rattle.std.specs.Prelude.{IsTrue, All, nat_le}
-use Rattle.std.specs.List.{find, list_any}
-use Rattle.std.specs.Option.{option_map}
-use Rattle.std.specs.Cmp.{nat_eq_equiv}
+use Rattle.std.proofs.Common.{◌≡◌, ◌≤◌, ℕ, ◌+◌, ◌==◌, Bool, true, false, ◌||◌, Some, None, is_some, List, refl, sym, ap, subst, ◌∙◌, ◌++◌, Contains, arith, IsTrue, All, nat_le}
+use Rattle.capsteps.proofs.Common.{find, list_any, option_map, nat_eq_equiv, All-contains, All-filter, All-map, All-weaker, P, Part, ClientId, Caps, IsSubset, Gone, IsTree, place, SessionTable, has_session, EntryRow, Holder, Table, IsTable, is_row_of, is_of_inode, row_found, same-is, Settled, StateMap, lock_in, IsLockMap, lock_at, first_for, Scene, IsQuiet, IsAtRest, IsInRow, effective_want, Ended, State, due, IsSoundEntry, IsSound, AreGiven, Made, ended_in, Affects, SettlesAt, Knows, finished_at}
 use Rattle.std.specs.FinMap as map
-use Rattle.std.proofs.lemmas.List.Elements.{All-append, All-contains, All-filter, All-map, All-same, All-weaker}
-use Rattle.capbits.specs.declared.cap.Cap.TheVariants.{P}
-use Rattle.capbits.specs.declared.cap.Part.{Part}
-use Rattle.capbits.specs.declared.ids.ClientId.{ClientId}
-use Rattle.capbits.specs.Caps.{Caps, has}
-use Rattle.capbits.specs.Sets.{meet, IsSubset}
-use Rattle.inotree.specs.declared.node.Place.TheVariants.{Gone}
-use Rattle.inotree.specs.Tree.{IsTree, place}
-use Rattle.sessiontab.specs.Table.{SessionTable}
-use Rattle.sessiontab.specs.Calls.{has_session}
-use Rattle.captable.specs.declared.entry.EntryRow.{EntryRow}
-use Rattle.captable.specs.declared.entry.Holder.{Holder}
-use Rattle.captable.specs.Table.{Table, IsTable, is_row_of}
-use Rattle.captable.specs.Calls.{is_of_inode}
-use Rattle.captable.proofs.ByHolder.{row_found}
+use Rattle.std.proofs.lemmas.List.Elements.{All-append, All-same}
+use Rattle.capbits.specs.Caps.{has}
+use Rattle.capbits.specs.Sets.{meet}
 use Rattle.captable.proofs.Searches.{find-filter_kept}
-use Rattle.captable.proofs.Tables.{same-is}
-use Rattle.capacts.specs.Lockmachine.declared.moves.Move.TheVariants.{Settled}
-use Rattle.capacts.specs.Lockmachine.Inodes.{StateMap, lock_in}
-use Rattle.capacts.specs.Lockmachine.Locks.{IsLockMap, lock_at}
-use Rattle.capacts.specs.Lockmachine.Requests.{first_for}
-use Rattle.capacts.specs.Lockmachine.declared.scene.Scene.{Scene}
-use Rattle.capacts.specs.Lockmachine.Moves.{first_move, IsQuiet, IsAtRest, WaitAtLocks}
-use Rattle.capacts.specs.Lockmachine.Rows.{IsInRow}
-use Rattle.capacts.specs.Lockmachine.Wants.{effective_want}
+use Rattle.capacts.specs.Lockmachine.Moves.{first_move, WaitAtLocks}
 use Rattle.capacts.proofs.Lockmachine.Rest.{at_rest}
-use Rattle.capacts.specs.Capevents.declared.outcome.Ended.{Ended}
-use Rattle.capacts.specs.Caprules.State.{State}
-use Rattle.capacts.specs.Caprules.Finish.{due, allowed_to}
-use Rattle.capacts.specs.Caprules.Sound.{IsSoundEntry, IsSound, AreGiven}
-use Rattle.capacts.specs.Caprules.Settle.{Made, ended_in}
+use Rattle.capacts.specs.Caprules.Finish.{allowed_to}
 use Rattle.capacts.specs.Caprules.Step.{earlier, state_at_end}
-use Rattle.capsteps.specs.Affected.{IsAffectedEntry, Affects, SettlesAt, Knows, finished_at}
+use Rattle.capsteps.specs.Affected.{IsAffectedEntry}
 use Rattle.capsteps.proofs.EndsThere.{off_due}
 use Rattle.capsteps.proofs.Telling.{any-map_same}
 use Rattle.capsteps.proofs.IssuedRows.{ended_row, want-ended, told-ended, revoked-ended, seq-ended, effective-ended, holds-due, holds-pin, in_row-ended, on_it, last_row, issued_at, by_place, of_inode-last, rest-issued}

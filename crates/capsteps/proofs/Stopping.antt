@@ -1,20 +1,11 @@
 -- In a sound state an event that is stopped has one step alone, which changes nothing.
 use Rattle.std.proofs.Common.{◌≡◌, Some, List, [], ◌∷◌, refl, sym, ap, subst, ◌∙◌, append-nil}
-use Rattle.captable.specs.Table.{IsTable}
-use Rattle.capacts.specs.Lockmachine.declared.scene.Scene.{Scene}
+use Rattle.capsteps.proofs.Common.{IsTable, Scene, Serve, Settled, Event, Ended, Reply, Rejection, State, judged, rejection_reply, Direct, direct, effect_unless, shown, Made, Began, Gathered, Served, Makes, MakesAll, Settles, ended_in, IsSound}
 use Rattle.capacts.proofs.Lockmachine.Exact.{settled}
 use Rattle.capacts.specs.Lockmachine.Moves.{first_move}
-use Rattle.capacts.specs.Lockmachine.declared.moves.Move.TheVariants.{Begin, End, Serve, Settled}
-use Rattle.capacts.specs.Capevents.declared.event.Event.{Event}
-use Rattle.capacts.specs.Capevents.declared.outcome.Ended.{Ended}
-use Rattle.capacts.specs.Capevents.declared.reply.Reply.{Reply}
-use Rattle.capacts.specs.Caprules.declared.rejection.Rejection.{Rejection}
-use Rattle.capacts.specs.Caprules.State.{State}
-use Rattle.capacts.specs.Caprules.Judge.{judged, rejection_reply}
-use Rattle.capacts.specs.Caprules.Direct.{Direct, direct, says, effect_unless, reply_of, shown}
-use Rattle.capacts.specs.Caprules.Settle.{Made, Began, Gathered, Served, Makes, MakesAll, Settles, ended_in}
+use Rattle.capacts.specs.Lockmachine.declared.moves.Move.TheVariants.{Begin, End}
+use Rattle.capacts.specs.Caprules.Direct.{says, reply_of}
 use Rattle.capacts.specs.Caprules.Step.{Step, all_ended, state_after}
-use Rattle.capacts.specs.Caprules.Sound.{IsSound}
 use Rattle.capsteps.proofs.Finishing.{sound-ends, sound-settles}
 
 pub rejection-step : (old : State) (e : Event) (rejection : Rejection) → IsSound old → IsTable old.scene.table → judged old.scene e ≡ Some rejection → Step old e (rejection_reply rejection) [] old

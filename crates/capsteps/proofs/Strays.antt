@@ -1,29 +1,17 @@
 -- Strays that are forgotten: one after another they go as if all at once, and no other inode is read through them.
 use Rattle.std.proofs.Common.{◌≡◌, ◌≢◌, ℕ, Bool, true, false, cond, not, ◌||◌, ◌==◌, Option, None, List, [], ◌∷◌, refl, sym, ap, ◌∙◌, Contains, inl, inr, eq-eqb, true≢false}
-use Rattle.std.specs.Cmp.{nat_cmp_total, unsigned_tied}
-use Rattle.std.specs.List.{fold, list_any}
-use Rattle.std.specs.Option.{option_map}
-use Rattle.std.specs.Ordering.{nat_cmp}
+use Rattle.capsteps.proofs.Common.{nat_cmp_total, unsigned_tied, fold, list_any, option_map, nat_cmp, or_right, Node, NoIno, Gone, IsAlike, is_gone, Nodes, IsTree, place, place_at, EntryRow, is_of_inode, Scene, InoSet, IsListOf, is_in_use, stays, forget_at, forget_among}
 use Rattle.std.specs.FinMap as map
 use Rattle.std.specs.FinSet as set
-use Rattle.std.proofs.lemmas.Bool.{or_right, ne_eqb, true_from_ne_false}
+use Rattle.std.proofs.lemmas.Bool.{ne_eqb, true_from_ne_false}
 use Rattle.std.proofs.lemmas.List.Folds.{list_any_at}
-use Rattle.inotree.specs.declared.node.Node.{Node}
 use Rattle.inotree.specs.declared.node.Place.{Place}
-use Rattle.inotree.specs.declared.node.Place.TheVariants.{NoIno, Gone, Here}
-use Rattle.inotree.specs.Alike.{IsAlike}
+use Rattle.inotree.specs.declared.node.Place.TheVariants.{Here}
 use Rattle.inotree.specs.Calls.{forgotten}
-use Rattle.inotree.specs.Tests.{is_gone}
-use Rattle.inotree.specs.Tree.{Nodes, IsTree, IsUnder, place, place_at}
+use Rattle.inotree.specs.Tree.{IsUnder}
 use Rattle.inotree.proofs.Elsewhere.{path_of-kept}
 use Rattle.numbered.proofs.Maps.{same_or_other, remove-here, remove-other}
-use Rattle.captable.specs.declared.entry.EntryRow.{EntryRow}
-use Rattle.captable.specs.Calls.{is_of_inode}
 use Rattle.capacts.specs.Lockmachine.Locks.{without_ino}
-use Rattle.capacts.specs.Lockmachine.declared.scene.Scene.{Scene}
-use Rattle.capacts.specs.Capnotes.InoSets.{InoSet, IsListOf}
-use Rattle.capacts.specs.Caprules.Finish.{is_in_use}
-use Rattle.capsteps.specs.Affected.{stays, forget_at, forget_among}
 use Rattle.capsteps.proofs.Finishing.{same_kept}
 use Rattle.capsteps.proofs.ManyInodes.{same_number}
 

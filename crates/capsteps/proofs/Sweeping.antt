@@ -1,37 +1,20 @@
 -- How the locks of several inodes settle between two servings.
 use Rattle.std.proofs.Common.{◌≡◌, ◌≢◌, ◌<◌, ◌≤◌, ◌+◌, ℕ, Bool, true, false, cond, ◌||◌, ◌==◌, nat_lt, count_by, Option, Some, None, List, [], ◌∷◌, ◌++◌, refl, sym, ap, subst, ◌∙◌, true≢false, arith}
-use Rattle.std.specs.List.{list_any}
-use Rattle.std.specs.Ordering.{nat_cmp, eq_by_cmp}
-use Rattle.std.specs.Cmp.{unsigned_tied}
-use Rattle.std.specs.Option.{option_map}
+use Rattle.capsteps.proofs.Common.{list_any, nat_cmp, eq_by_cmp, unsigned_tied, option_map, InoSet, is_affected, Part, A, L, X, F, Ino, LockState, Request, InodeLocks, lock_in, LockMap, lock_at, Scene, may_end_by, Settled, WaitAt, Table, ended_in, AreStill, IsSwept, IsNextOf}
 use Rattle.std.specs.FinMap as map
 use Rattle.std.specs.FinSet as set
 use Rattle.std.proofs.lemmas.List.Elements.{filter_map-append}
 use Rattle.std.proofs.lemmas.Bool.{ltb-true, lt-ltb, le-ltb}
 use Rattle.std.proofs.lemmas.List.Sums.{sum_by-cons}
 use Rattle.capacts.proofs.Lockmachine.Rest.{same_key}
-use Rattle.capacts.specs.Capnotes.InoSets.{InoSet}
-use Rattle.capacts.specs.Reach.{is_affected}
-use Rattle.capbits.specs.declared.cap.Part.{Part}
-use Rattle.capbits.specs.declared.cap.Part.TheVariants.{A, L, X, F}
-use Rattle.capbits.specs.declared.ids.Ino.{Ino}
-use Rattle.locktable.specs.declared.states.LockState.{LockState}
-use Rattle.capacts.specs.Lockmachine.declared.request.Request.{Request}
-use Rattle.capacts.specs.Lockmachine.declared.states.InodeLocks.{InodeLocks}
-use Rattle.capacts.specs.Lockmachine.Inodes.{lock_in}
-use Rattle.capacts.specs.Lockmachine.Locks.{LockMap, lock_at}
-use Rattle.capacts.specs.Lockmachine.declared.scene.Scene.{Scene}
 use Rattle.capacts.specs.Lockmachine.Scene.{wanted_in_all}
-use Rattle.capacts.specs.Lockmachine.Moves.{may_end_by, may_end_in, may_begin_in, first_move}
-use Rattle.capacts.specs.Lockmachine.declared.moves.Move.TheVariants.{Settled}
+use Rattle.capacts.specs.Lockmachine.Moves.{may_end_in, may_begin_in, first_move}
 use Rattle.capacts.specs.Lockmachine.Runs.{MoveLittle, ChangesLocksOf}
-use Rattle.capacts.specs.Lockmachine.Turns.{IsTurnOf, IsDoneAt, WaitAt}
+use Rattle.capacts.specs.Lockmachine.Turns.{IsTurnOf, IsDoneAt}
 use Rattle.capacts.proofs.Lockmachine.Turns.{turn-passes, turn-rests}
 use Rattle.capacts.proofs.Lockmachine.Finding.{by_number}
 use Rattle.capacts.proofs.Lockmachine.Waiting.{waits-kept-at}
-use Rattle.captable.specs.Table.{Table}
-use Rattle.capacts.specs.Caprules.Settle.{ended_by, ended_in}
-use Rattle.capsteps.specs.Sweep.{AreStill, IsSwept, IsNextOf}
+use Rattle.capacts.specs.Caprules.Settle.{ended_by}
 use Rattle.capsteps.proofs.Moved.{as_made, makes-append}
 
 -- ---- the locks of an inode

@@ -1,42 +1,15 @@
 -- What a client is told changes three fields of entries, by which nothing is judged, moved or issued.
-use Rattle.std.proofs.Common.{◌≡◌, ◌≤◌, ℕ, Bool, true, false, cond, not, ◌&&◌, ◌||◌, Option, Some, None, List, [], ◌∷◌, filter, map, refl, sym, ap, subst, ◌∙◌, arith}
-use Rattle.std.specs.Prelude.{IsTrue, All}
-use Rattle.std.specs.List.{find, list_any, IsDistinct, AllByRecursion}
-use Rattle.std.specs.Option.{option_map, option_map_or}
-use Rattle.std.proofs.lemmas.Simd.{map-map}
-use Rattle.std.proofs.lemmas.List.Elements.{All-map, All-weaker, All-filter, All-from_recursion, recursion_from_All}
-use Rattle.capbits.specs.declared.cap.Cap.{Cap}
-use Rattle.capbits.specs.declared.cap.Part.{Part}
-use Rattle.capbits.specs.declared.ids.ClientId.{ClientId}
-use Rattle.capbits.specs.declared.ids.Ino.{Ino}
+use Rattle.std.proofs.Common.{◌≡◌, ◌≤◌, ℕ, Bool, true, false, cond, not, ◌&&◌, ◌||◌, Option, Some, None, List, [], ◌∷◌, filter, map, refl, sym, ap, subst, ◌∙◌, arith, IsTrue, All}
+use Rattle.capsteps.proofs.Common.{find, list_any, AllByRecursion, option_map, option_map_or, map-map, All-map, All-weaker, All-filter, Cap, Part, ClientId, Ino, LockGoal, LockState, Stable, Gather, has_session, Entry, EntryRow, Holder, Table, IsTable, same, is_row_of, is_among, is_of_client, is_of_inode, changed, told, changed_where, remade, fold-changed_by, find-map, lock_at, want_of, Scene, wants, outside, is_open, Ended, Message, State, with_scene, shown, due, IssuesExactly, IsInPlace, first_messages, after_messages, is_caps_of, is_size_of, is_recall_of, told_if, sized_if, unasked_if, IsSoundEntry, IsSound, AreGiven}
+use Rattle.std.specs.List.{IsDistinct}
+use Rattle.std.proofs.lemmas.List.Elements.{All-from_recursion, recursion_from_All}
 use Rattle.capbits.specs.Caps.{has}
 use Rattle.capbits.specs.Sets.{is_empty}
-use Rattle.locktable.specs.declared.states.State.{State as LockGoal}
-use Rattle.locktable.specs.declared.states.LockState.{LockState}
-use Rattle.locktable.specs.declared.states.LockState.TheVariants.{Stable, Gather}
-use Rattle.sessiontab.specs.Calls.{has_session}
-use Rattle.captable.specs.declared.entry.Entry.{Entry}
-use Rattle.captable.specs.declared.entry.EntryRow.{EntryRow}
-use Rattle.captable.specs.declared.entry.Holder.{Holder}
-use Rattle.captable.specs.Table.{Table, IsTable, same, is_row_of, is_among}
-use Rattle.captable.specs.Calls.{is_of_client, is_of_inode, change_rows, changed, told}
-use Rattle.captable.specs.Many.{changed_where, remade}
-use Rattle.captable.proofs.OneByOne.{fold-changed_by}
-use Rattle.captable.proofs.Searches.{find-map, filter-map}
-use Rattle.capacts.specs.Lockmachine.Locks.{lock_at}
-use Rattle.capacts.specs.Lockmachine.Wants.{want_of}
-use Rattle.capacts.specs.Lockmachine.declared.scene.Scene.{Scene}
-use Rattle.capacts.specs.Lockmachine.Scene.{wants, outside}
-use Rattle.capacts.specs.Lockmachine.Moves.{is_open}
-use Rattle.capacts.specs.Capevents.declared.outcome.Ended.{Ended}
-use Rattle.capacts.specs.Capevents.declared.outcome.Message.{Message}
-use Rattle.capacts.specs.Caprules.State.{State}
-use Rattle.capacts.specs.Caprules.Direct.{Answer, Says, Shows, Gives, Awaits, with_scene, shown}
-use Rattle.capacts.specs.Caprules.Finish.{due}
-use Rattle.capacts.specs.Caprules.Headline.{holds, is_due, IssuesExactly, IsInPlace, AreInPlace}
-use Rattle.capacts.specs.Caprules.Messages.{first_messages, after_messages, is_caps_of, is_size_of, is_recall_of, told_if, sized_if, unasked_if}
+use Rattle.captable.specs.Calls.{change_rows}
+use Rattle.captable.proofs.Searches.{filter-map}
+use Rattle.capacts.specs.Caprules.Direct.{Answer, Says, Shows, Gives, Awaits}
+use Rattle.capacts.specs.Caprules.Headline.{holds, is_due, AreInPlace}
 use Rattle.capacts.specs.Capnotes.DueEndings.{is_end_of, is_to}
-use Rattle.capacts.specs.Caprules.Sound.{IsSoundEntry, IsSound, AreGiven}
 use Rattle.capsteps.proofs.LeftAlone.{still_quiet}
 
 -- ---- lists that are mapped

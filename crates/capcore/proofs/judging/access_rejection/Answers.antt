@@ -1,8 +1,6 @@
 use Rattle.std.proofs.Common.{[], ◌∷◌, None, sym, ap, ◌∙◌}
-use Rattle.capsteps.specs.Lockmachine.declared.scene.Scene.{Scene}
-use Rattle.capsteps.specs.Caprules.Judge.{asked_tests, first_denied, rejection_by}
-use Rattle.capsteps.specs.Caprules.Needs.{need}
-use Rattle.capsteps.proofs.Capacts.Again.{denial-rejection, rejection-before}
+use Rattle.capcore.proofs.Common.{Scene, asked_tests, first_denied, rejection_by, need, rejection-before}
+use Rattle.capsteps.proofs.Capacts.Again.{denial-rejection}
 use Rattle.capcore.proofs.judging.access_rejection.Goals as goal
 
 pub returns-in-Some : goal.returns-in-Some

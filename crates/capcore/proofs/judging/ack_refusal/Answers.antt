@@ -1,10 +1,9 @@
 use Rattle.std.proofs.Common.{refl, sym, ap, ◌∙◌}
+use Rattle.capcore.proofs.Common.{Scene, revoked_of, passed-front}
 use Rattle.capbits.specs.Refusal.{first_failing}
 use Rattle.captable.specs.Tests.{ack_tests}
-use Rattle.capsteps.specs.Lockmachine.declared.scene.Scene.{Scene}
 use Rattle.capsteps.specs.Lockmachine.Scene.{scene}
-use Rattle.capsteps.specs.Caprules.Judge.{connected_tests, revoked_of}
-use Rattle.capsteps.proofs.Revoking.{passed-front}
+use Rattle.capsteps.specs.Caprules.Judge.{connected_tests}
 use Rattle.capcore.proofs.judging.ack_refusal.Goals as goal
 
 pub returns-in-None : goal.returns-in-None

@@ -1,12 +1,10 @@
 use Rattle.std.proofs.Common.{[], ap, sym, ◌∙◌}
-use Rattle.capgrant.specs.declared.access.Access.{Access}
-use Rattle.capsteps.specs.Lockmachine.declared.scene.Scene.{Scene}
+use Rattle.capcore.proofs.Common.{Access, Scene, rejection_of, ask_needs, ask_of}
 use Rattle.capsteps.specs.Lockmachine.Scene.{scene}
-use Rattle.capsteps.specs.Caprules.Judge.{rejection_of, denial_of}
-use Rattle.capsteps.specs.Caprules.Asks.{ask_needs, change_access}
+use Rattle.capsteps.specs.Caprules.Judge.{denial_of}
+use Rattle.capsteps.specs.Caprules.Asks.{change_access}
 use Rattle.capsteps.proofs.Capacts.Again.{denial-rejection}
 use Rattle.capcore.specs.declared.asks.Asked.{Asked}
-use Rattle.capcore.specs.Asks.{ask_of}
 use Rattle.capcore.proofs.judging.asking_denial.Goals as goal
 
 pub returns-in-Alter : goal.returns-in-Alter

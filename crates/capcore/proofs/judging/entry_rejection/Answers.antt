@@ -1,13 +1,7 @@
 use Rattle.std.proofs.Common.{sym, ap, ◌∙◌}
-use Rattle.std.specs.Option.{option_map}
+use Rattle.capcore.proofs.Common.{option_map, Scene, Event, ByTest, EntryRequest, before, judged, entry_event}
 use Rattle.capbits.specs.Refusal.{first_failing}
-use Rattle.capsteps.specs.Lockmachine.declared.scene.Scene.{Scene}
-use Rattle.capsteps.specs.Capevents.declared.event.Event.{Event}
 use Rattle.capsteps.specs.Capevents.declared.event.Event.TheVariants.{Ack}
-use Rattle.capsteps.specs.Caprules.declared.rejection.Rejection.TheVariants.{ByTest}
-use Rattle.capsteps.specs.declared.entry_request.EntryRequest.{EntryRequest}
-use Rattle.capsteps.specs.Caprules.Judge.{before, judged}
-use Rattle.capsteps.specs.EntryRequest.{entry_event}
 use Rattle.capsteps.proofs.Judging.{by_tests}
 use Rattle.capcore.proofs.judging.entry_rejection.Goals as goal
 

@@ -1,14 +1,11 @@
 use Rattle.std.proofs.Common.{sym, ap, ◌∙◌, [], ◌∷◌, ◌++◌}
-use Rattle.capbits.specs.Caps.{Caps}
+use Rattle.capcore.proofs.Common.{Caps, Cap, Table, passed-front}
 use Rattle.capbits.specs.Refusal.{first_failing}
 use Rattle.capbits.specs.Sets.{caps_in}
-use Rattle.capbits.specs.declared.cap.Cap.{Cap}
 use Rattle.capbits.proofs.Tests.{failing-front}
 use Rattle.captable.specs.Tests.{release_tests}
-use Rattle.captable.specs.Table.{Table}
 use Rattle.capsteps.specs.Lockmachine.Requests.{part_of_change}
 use Rattle.capsteps.specs.Caprules.Asks.{change_tests, exclusive}
-use Rattle.capsteps.proofs.Revoking.{passed-front}
 use Rattle.capcore.proofs.judging.flush_refusal.Goals as goal
 
 pub returns-in-Some : goal.returns-in-Some

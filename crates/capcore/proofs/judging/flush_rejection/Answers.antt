@@ -1,12 +1,6 @@
 use Rattle.std.proofs.Common.{◌≡◌, [], ◌∷◌, refl, sym, ap, ◌∙◌}
-use Rattle.std.specs.Option.{option_map}
-use Rattle.capgrant.specs.declared.access.Access.{Access}
-use Rattle.capsteps.specs.Lockmachine.declared.scene.Scene.{Scene}
-use Rattle.capsteps.specs.Capevents.declared.event.Event.{Event}
+use Rattle.capcore.proofs.Common.{option_map, Access, Scene, Event, ByTest, rejection_of, asked_tests, before, needs, after, need}
 use Rattle.capsteps.specs.Capevents.declared.event.Event.TheVariants.{Flush}
-use Rattle.capsteps.specs.Caprules.declared.rejection.Rejection.TheVariants.{ByTest}
-use Rattle.capsteps.specs.Caprules.Judge.{rejection_of, asked_tests, before, needs, after}
-use Rattle.capsteps.specs.Caprules.Needs.{need}
 use Rattle.capsteps.proofs.Judging.{rejection, passed}
 use Rattle.capcore.proofs.judging.flush_rejection.Goals as goal
 use Rattle.capcore.proofs.judging.flush_rejection.Goals.{After-access_rejection}

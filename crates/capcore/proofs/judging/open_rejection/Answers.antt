@@ -1,10 +1,6 @@
 use Rattle.std.proofs.Common.{refl, sym, ap, ◌∙◌}
-use Rattle.std.specs.Option.{option_map}
-use Rattle.capsteps.specs.Lockmachine.declared.scene.Scene.{Scene}
-use Rattle.capsteps.specs.Capevents.declared.event.Event.{Event}
+use Rattle.capcore.proofs.Common.{option_map, Scene, Event, ByTest, before, needs, after}
 use Rattle.capsteps.specs.Capevents.declared.event.Event.TheVariants.{Open}
-use Rattle.capsteps.specs.Caprules.declared.rejection.Rejection.TheVariants.{ByTest}
-use Rattle.capsteps.specs.Caprules.Judge.{before, needs, after}
 use Rattle.capsteps.proofs.Capacts.Again.{rejection-policy, rejection-after}
 use Rattle.capcore.proofs.judging.open_rejection.Goals as goal
 

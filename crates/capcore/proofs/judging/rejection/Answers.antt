@@ -1,9 +1,5 @@
 use Rattle.std.proofs.Common.{sym, ap, ◌∙◌}
-use Rattle.std.specs.Option.{option_map}
-use Rattle.capsteps.specs.Lockmachine.declared.scene.Scene.{Scene}
-use Rattle.capsteps.specs.Caprules.declared.rejection.Rejection.TheVariants.{ByTest}
-use Rattle.capsteps.specs.Caprules.Judge.{judged}
-use Rattle.capcore.specs.Asks.{ask_of, asked_event}
+use Rattle.capcore.proofs.Common.{option_map, Scene, ByTest, judged, ask_of, asked_event}
 use Rattle.capcore.specs.declared.parts.Asking.{Asking}
 use Rattle.capcore.specs.UnderWay.{event_of}
 use Rattle.capcore.proofs.Asked.{asked-for, asking-rejection}

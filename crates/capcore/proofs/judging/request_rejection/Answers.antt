@@ -1,11 +1,6 @@
 use Rattle.std.proofs.Common.{refl, sym, ap, ◌∙◌}
-use Rattle.std.specs.Option.{option_map}
-use Rattle.capsteps.specs.Lockmachine.declared.scene.Scene.{Scene}
-use Rattle.capsteps.specs.Caprules.declared.rejection.Rejection.TheVariants.{ByTest}
-use Rattle.capsteps.specs.Caprules.Asks.{ask_needs}
-use Rattle.capsteps.specs.Caprules.Judge.{asking_tests, waiting_tests}
-use Rattle.capsteps.proofs.Capacts.Again.{rejection-before, rejection-policy, rejection-after}
-use Rattle.capcore.specs.Asks.{ask_of}
+use Rattle.capcore.proofs.Common.{option_map, Scene, ByTest, ask_needs, asking_tests, waiting_tests, rejection-before, ask_of}
+use Rattle.capsteps.proofs.Capacts.Again.{rejection-policy, rejection-after}
 use Rattle.capcore.proofs.judging.request_rejection.Goals as goal
 
 pub returns-in-Some : goal.returns-in-Some

@@ -1,10 +1,8 @@
 use Rattle.std.proofs.Common.{sym, ap, ◌∙◌, ◌++◌}
+use Rattle.capcore.proofs.Common.{LockMap, ask_after, passed-front, ask_of}
 use Rattle.capbits.specs.Refusal.{first_failing}
 use Rattle.capbits.proofs.Tests.{failing-front}
-use Rattle.capsteps.specs.Lockmachine.Locks.{LockMap, queue_tests}
-use Rattle.capsteps.specs.Caprules.Asks.{ask_after}
-use Rattle.capsteps.proofs.Revoking.{passed-front}
-use Rattle.capcore.specs.Asks.{ask_of}
+use Rattle.capsteps.specs.Lockmachine.Locks.{queue_tests}
 use Rattle.capcore.proofs.judging.waiting_refusal.Goals as goal
 
 pub returns-in-Some : goal.returns-in-Some

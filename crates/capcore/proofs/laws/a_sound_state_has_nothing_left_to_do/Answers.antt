@@ -1,4 +1,5 @@
-use Rattle.capsteps.proofs.Finishing.{sound-settles, sound-finished}
+use Rattle.capsteps.proofs.Finishing.{sound-finished}
+use Rattle.capcore.proofs.Common.{sound-settles}
 use Rattle.capcore.proofs.laws.a_sound_state_has_nothing_left_to_do.Goals as goal
 
 pub returns-clause-settles : goal.returns-clause-settles

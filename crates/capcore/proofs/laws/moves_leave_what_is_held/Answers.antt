@@ -1,4 +1,4 @@
-use Rattle.capsteps.proofs.Moved.{moved-all}
+use Rattle.capcore.proofs.Common.{moved-all}
 use Rattle.capcore.proofs.laws.moves_leave_what_is_held.Goals as goal
 
 pub returns : goal.returns

@@ -1,7 +1,6 @@
-use Rattle.capsteps.specs.Caprules.Direct.{with_scene}
+use Rattle.capcore.proofs.Common.{with_scene, sound-settles, kept-sound}
 use Rattle.capsteps.specs.Leaving.{with_parts}
-use Rattle.capsteps.proofs.Finishing.{sound-settles}
-use Rattle.capsteps.proofs.LeftAlone.{kept-sound, kept-finished}
+use Rattle.capsteps.proofs.LeftAlone.{kept-finished}
 use Rattle.capcore.proofs.laws.what_leaves_entries_alone_leaves_nothing_to_do.Goals as goal
 
 pub returns-clause-sound : goal.returns-clause-sound

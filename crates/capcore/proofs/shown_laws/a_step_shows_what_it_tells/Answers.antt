@@ -1,4 +1,4 @@
-use Rattle.capsteps.proofs.ShownSteps.{step-shown}
+use Rattle.capcore.proofs.Common.{step-shown}
 use Rattle.capcore.proofs.shown_laws.a_step_shows_what_it_tells.Goals as goal
 
 pub returns : goal.returns

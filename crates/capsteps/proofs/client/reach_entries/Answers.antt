@@ -1,7 +1,5 @@
 use Rattle.std.proofs.Common.{Contains, List, suc, sym, subst, arith}
-use Rattle.captable.specs.declared.entry.EntryRow.{EntryRow}
-use Rattle.captable.specs.Calls.{is_of_client}
-use Rattle.capacts.proofs.Lockmachine.Finding.{contains-filter, filter-contains}
+use Rattle.capsteps.proofs.Common.{EntryRow, is_of_client, contains-filter, filter-contains}
 use Rattle.capacts.proofs.InoSets.{widens-none, widens-then}
 use Rattle.capsteps.proofs.Among.{first-reached, more-reached, all-reached}
 use Rattle.capsteps.proofs.client.reach_entries.Goals as goal

@@ -1,10 +1,8 @@
 use Rattle.std.proofs.Common.{is_some, refl, sym, ap, subst, ◌∙◌}
-use Rattle.capbits.specs.declared.cap.Cap.TheVariants.{P}
+use Rattle.capsteps.proofs.Common.{P, taken, given_back, wanting, table_after}
 use Rattle.capbits.specs.Caps.{has}
 use Rattle.capbits.specs.Sets.{union}
-use Rattle.captable.specs.Calls.{taken, given_back, wanting}
 use Rattle.capacts.specs.Caprules.Direct.{with_want}
-use Rattle.capsteps.specs.EntryRequest.{table_after}
 use Rattle.capsteps.proofs.Knowing.{still-there}
 use Rattle.capsteps.proofs.EntryKept.{WasThere, there-changed}
 use Rattle.capsteps.proofs.entry_request.apply_request.Goals as goal

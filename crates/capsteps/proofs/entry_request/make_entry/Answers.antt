@@ -1,6 +1,5 @@
 use Rattle.std.proofs.Common.{sym, subst, ◌∙◌}
-use Rattle.captable.specs.Table.{Table}
-use Rattle.capacts.specs.Known.{StillKnown}
+use Rattle.capsteps.proofs.Common.{Table, StillKnown}
 use Rattle.capsteps.proofs.EntryKept.{still-but, still-opened}
 use Rattle.capsteps.proofs.entry_request.make_entry.Goals as goal
 

@@ -1,14 +1,10 @@
 use Rattle.std.proofs.Common.{◌≡◌, Some, None, sym, ap, subst, ◌∙◌, Option, is_some, cond, refl}
+use Rattle.capsteps.proofs.Common.{entry_at, Table, wanting, new_entry, opened, Entry, Holder, opening_wants, with_opening, StillKnown, OpenMode}
 use Rattle.capbits.specs.Sets.{union, no_caps}
-use Rattle.captable.specs.Table.{entry_at, Table}
-use Rattle.captable.specs.Calls.{wanting, new_entry, opened, touched}
-use Rattle.captable.specs.declared.entry.Entry.{Entry}
-use Rattle.captable.specs.declared.entry.Holder.{Holder}
+use Rattle.captable.specs.Calls.{touched}
 use Rattle.captable.proofs.Changes.{put_found}
 use Rattle.captable.proofs.ByHolder.{entry_at-opened}
-use Rattle.capacts.specs.Caprules.Direct.{opening_wants, with_want, with_opening}
-use Rattle.capacts.specs.Known.{StillKnown}
-use Rattle.capacts.specs.Capevents.declared.event.OpenMode.{OpenMode}
+use Rattle.capacts.specs.Caprules.Direct.{with_want}
 use Rattle.capsteps.proofs.Knowing.{still-then}
 use Rattle.capsteps.proofs.EntryKept.{WasThere, still-itself, there-changed}
 use Rattle.capsteps.proofs.entry_request.open.Goals as goal

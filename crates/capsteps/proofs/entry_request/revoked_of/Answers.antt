@@ -1,7 +1,6 @@
 use Rattle.std.proofs.Common.{◌≡◌, Some, None, sym, ap, ◌∙◌}
+use Rattle.capsteps.proofs.Common.{Holder, entry_at}
 use Rattle.capbits.specs.Sets.{minus}
-use Rattle.captable.specs.declared.entry.Holder.{Holder}
-use Rattle.captable.specs.Table.{entry_at}
 use Rattle.capsteps.proofs.Knowing.{revoked-known}
 use Rattle.capsteps.proofs.Revoking.{revoked-none}
 use Rattle.capsteps.proofs.entry_request.revoked_of.Goals as goal

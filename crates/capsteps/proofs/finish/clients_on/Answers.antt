@@ -1,8 +1,5 @@
 use Rattle.std.proofs.Common.{◌≡◌, ◌≤◌, ◌<◌, sym, List, ◌∷◌, ◌++◌, length, ap, ◌∙◌, arith, length-append}
-use Rattle.std.proofs.lemmas.List.{length-map}
-use Rattle.captable.specs.declared.entry.EntryRow.{EntryRow}
-use Rattle.captable.specs.Calls.{entries_on}
-use Rattle.capacts.specs.Finishing.{clients_of}
+use Rattle.capsteps.proofs.Common.{length-map, EntryRow, entries_on, clients_of}
 use Rattle.capsteps.proofs.AtEnd.{few-entries}
 use Rattle.capsteps.proofs.finish.clients_on.Goals as goal
 

@@ -1,5 +1,5 @@
 use Rattle.std.proofs.Common.{◌≡◌, ◌++◌, length}
-use Rattle.capacts.specs.Finishing.{clients_of}
+use Rattle.capsteps.proofs.Common.{clients_of}
 use Rattle.capsteps.proofs.finish.clients_on.Given as goal
 
 abbrev pub decreases-rows : goal.decreases-rows

@@ -1,33 +1,13 @@
-use Rattle.std.proofs.Common.{◌≡◌, ◌<◌, ◌||◌, ◌==◌, ℕ, true, false, Option, sym, refl, ap, subst, ◌∙◌, true≢false}
-use Rattle.std.specs.Prelude.{IsTrue, All}
+use Rattle.std.proofs.Common.{◌≡◌, ◌<◌, ◌||◌, ◌==◌, ℕ, true, false, Option, sym, refl, ap, subst, ◌∙◌, true≢false, IsTrue, All}
+use Rattle.capsteps.proofs.Common.{find, unwrap_or, eqb-true, false_from_ne_true, All-filter, Caps, has_session, Entry, EntryRow, Holder, Table, is_row_of, is_of_inode, entries_on, changed_where, InodeLocks, Scene, scene, told_at, told_by, entry_under, entry_by, InoSet, known_in, HaveRoom, is_affected, forget_at, forget_among, kept-as, kept-same, kept-then, kept-not, leads-then}
 use Rattle.std.specs.FinMap as map
 use Rattle.std.specs.FinSet as set
-use Rattle.std.specs.List.{find}
-use Rattle.std.specs.Option.{unwrap_or}
 use Rattle.std.proofs.Math.Bool.{or_comm}
-use Rattle.std.proofs.lemmas.Bool.{eqb-true, false_from_ne_true}
-use Rattle.std.proofs.lemmas.List.Elements.{All-filter}
-use Rattle.capbits.specs.Caps.{Caps}
 use Rattle.capbits.specs.Sets.{no_caps}
-use Rattle.sessiontab.specs.Calls.{has_session}
-use Rattle.captable.specs.declared.entry.Entry.{Entry}
-use Rattle.captable.specs.declared.entry.EntryRow.{EntryRow}
-use Rattle.captable.specs.declared.entry.Holder.{Holder}
-use Rattle.captable.specs.Table.{Table, is_row_of}
-use Rattle.captable.specs.Calls.{is_of_inode, entries_on}
-use Rattle.captable.specs.Many.{changed_where}
-use Rattle.capacts.specs.Lockmachine.declared.states.InodeLocks.{InodeLocks}
-use Rattle.capacts.specs.Lockmachine.declared.scene.Scene.{Scene}
-use Rattle.capacts.specs.Lockmachine.Scene.{scene}
-use Rattle.capacts.specs.Finishing.{told_at, told_by, entry_under, entry_by, is_on}
-use Rattle.capacts.specs.Capnotes.InoSets.{InoSet}
-use Rattle.capacts.specs.Known.{known_in, HaveRoom}
-use Rattle.capacts.specs.Reach.{is_affected}
-use Rattle.capsteps.specs.Affected.{forget_at, forget_among}
+use Rattle.capacts.specs.Finishing.{is_on}
 use Rattle.capsteps.proofs.AtEnd.{entry-alike, forget-all}
-use Rattle.capacts.proofs.KeptSets.{kept-as, kept-same, kept-then, kept-not, found-stays, room-still}
+use Rattle.capacts.proofs.KeptSets.{found-stays, room-still}
 use Rattle.capsteps.proofs.ManyInodes.{changed-twice_where, entries_on-stay, holders-stay}
-use Rattle.capacts.proofs.Capnotes.Noting.{leads-then}
 use Rattle.capsteps.proofs.finish.finish.Goals as goal
 
 pub finish_entries-requires : goal.finish_entries-requires

@@ -1,25 +1,12 @@
-use Rattle.std.proofs.Common.{◌≡◌, ◌==◌, ◌++◌, eq-eqb, ℕ, ◌<◌, List, [], ◌∷◌, Option, refl, sym, ap, subst, ◌∙◌}
-use Rattle.std.specs.Prelude.{IsTrue, All}
+use Rattle.std.proofs.Common.{◌≡◌, ◌==◌, ◌++◌, eq-eqb, ℕ, ◌<◌, List, [], ◌∷◌, Option, refl, sym, ap, subst, ◌∙◌, IsTrue, All}
+use Rattle.capsteps.proofs.Common.{list_any, unwrap_or, eqb-true, All-filter, Caps, has_session, Entry, EntryRow, Table, is_of_inode, entries_on, InodeLocks, told_at, told_by, entry_under, entry_by, InoSet, IsListOf, known_in, HaveRoom, kept-as}
 use Rattle.std.specs.FinMap as map
-use Rattle.std.specs.List.{list_any, IsDistinct}
-use Rattle.std.specs.Option.{unwrap_or}
+use Rattle.std.specs.List.{IsDistinct}
 use Rattle.std.specs.Map.Iter.{deref}
-use Rattle.std.proofs.lemmas.Bool.{eqb-true}
-use Rattle.std.proofs.lemmas.List.Elements.{All-filter}
 use Rattle.std.proofs.lemmas.Map.Iter.{rest_more, rest_all}
-use Rattle.capbits.specs.Caps.{Caps}
 use Rattle.capbits.specs.Sets.{no_caps}
-use Rattle.sessiontab.specs.Calls.{has_session}
-use Rattle.captable.specs.declared.entry.Entry.{Entry}
-use Rattle.captable.specs.declared.entry.EntryRow.{EntryRow}
-use Rattle.captable.specs.Table.{Table}
-use Rattle.captable.specs.Calls.{is_of_inode, entries_on}
-use Rattle.capacts.specs.Lockmachine.declared.states.InodeLocks.{InodeLocks}
-use Rattle.capacts.specs.Finishing.{told_at, told_by, entry_under, entry_by}
-use Rattle.capacts.specs.Capnotes.InoSets.{InoSet, IsListOf}
-use Rattle.capacts.specs.Known.{known_in, HaveRoom}
 use Rattle.capsteps.proofs.AtEnd.{entry-alike}
-use Rattle.capacts.proofs.KeptSets.{kept-as, room-still}
+use Rattle.capacts.proofs.KeptSets.{room-still}
 use Rattle.capsteps.proofs.ManyInodes.{same_number, on, IsFinishing, none-finished, next-finished, next-apart, all-finished, holders-stay, entries_on-stay}
 use Rattle.capsteps.proofs.finish.finish_affected.Goals as goal
 

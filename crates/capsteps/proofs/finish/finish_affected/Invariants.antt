@@ -1,5 +1,4 @@
-use Rattle.capacts.specs.Finishing.{told_by, entry_by}
-use Rattle.capacts.specs.Known.{known_in}
+use Rattle.capsteps.proofs.Common.{told_by, entry_by, known_in}
 use Rattle.capsteps.proofs.ManyInodes.{IsFinishing}
 use Rattle.capsteps.proofs.finish.finish_affected.Given as goal
 

@@ -1,30 +1,13 @@
 use Rattle.std.proofs.Common.{◌≡◌, ◌<◌, ◌==◌, Option, sym, ap, subst, ◌∙◌, Bool, true, false, cond, ◌||◌, Some, None, List, [], ◌∷◌, refl, Contains, eq-eqb, true≢false}
-use Rattle.capbits.specs.Caps.{Caps}
+use Rattle.capsteps.proofs.Common.{Caps, All-filter, find, unwrap_or, eqb-true, Entry, EntryRow, Holder, Table, IsTable, same, is_row_of, is_among, entry_of, same-is, is_of_inode, renumbered, changed_by, changed_where, remade, row_found, fold-changed_by, InodeLocks, Scene, scene, told_set, entry_under, told_at, known_in, KnownAnew, KnownSets, known_of, OthersHaveAll, known_anew, forget_among, finished_at, finished_entry, told_then, kept-as}
 use Rattle.capbits.specs.Sets.{no_caps, meet}
 use Rattle.std.specs.FinMap as map
-use Rattle.std.proofs.lemmas.List.Elements.{All-filter}
-use Rattle.std.specs.List.{find, IsDistinct}
-use Rattle.std.specs.Option.{unwrap_or}
-use Rattle.std.proofs.lemmas.Bool.{eqb-true}
-use Rattle.captable.specs.declared.entry.Entry.{Entry}
-use Rattle.captable.specs.declared.entry.EntryRow.{EntryRow}
-use Rattle.captable.specs.declared.entry.Holder.{Holder}
-use Rattle.captable.specs.Table.{Table, IsTable, same, is_row_of, is_among, entry_of}
-use Rattle.captable.proofs.Tables.{same-is}
-use Rattle.captable.specs.Calls.{is_of_inode, renumbered}
-use Rattle.captable.specs.Many.{changed_by, changed_where, remade}
-use Rattle.captable.proofs.ByHolder.{row_found}
-use Rattle.captable.proofs.OneByOne.{fold-changed_by}
+use Rattle.std.specs.List.{IsDistinct}
 use Rattle.captable.proofs.Searches.{find_passes}
-use Rattle.capacts.specs.Lockmachine.declared.states.InodeLocks.{InodeLocks}
-use Rattle.capacts.specs.Lockmachine.declared.scene.Scene.{Scene}
-use Rattle.capacts.specs.Lockmachine.Scene.{scene, told_set}
-use Rattle.capacts.specs.Finishing.{entry_under, told_at}
-use Rattle.capacts.specs.Known.{known_in, KnownAnew, KnownSets, known_of, HasAll, OthersHaveAll, known_anew}
-use Rattle.capsteps.specs.Affected.{forget_among, finished_at, finished_entry, told_then}
+use Rattle.capacts.specs.Known.{HasAll}
 use Rattle.capsteps.proofs.AtEnd.{entry-on}
 use Rattle.capsteps.proofs.Finishing.{none-sized, each-alike, same-issue_row, same-renumbered}
-use Rattle.capacts.proofs.KeptSets.{kept-as, room-of}
+use Rattle.capacts.proofs.KeptSets.{room-of}
 use Rattle.capacts.proofs.Lockmachine.Told.{told-less}
 use Rattle.capsteps.proofs.Strays.{forget-one}
 use Rattle.capsteps.proofs.finish.finish_alone.Goals as goal

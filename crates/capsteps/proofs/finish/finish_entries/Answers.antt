@@ -1,26 +1,15 @@
-use Rattle.std.proofs.Common.{◌≡◌, ◌<◌, ◌≤◌, ℕ, ◌+◌, false, ◌||◌, Option, is_some, List, [], ◌∷◌, ◌++◌, length, take, get_or, refl, sym, ap, subst, ◌∙◌, arith}
-use Rattle.std.specs.Prelude.{IfSome}
-use Rattle.std.specs.List.{fold, IsDistinct}
-use Rattle.std.specs.Option.{unwrap_or, option_copied}
-use Rattle.std.proofs.lemmas.List.{length-map, nil_from_length, get_or-map, take_more, take_all}
-use Rattle.std.proofs.lemmas.Bool.{eqb-true}
+use Rattle.std.proofs.Common.{◌≡◌, ◌<◌, ◌≤◌, ℕ, ◌+◌, false, ◌||◌, Option, is_some, List, [], ◌∷◌, ◌++◌, length, take, get_or, refl, sym, ap, subst, ◌∙◌, arith, IfSome}
+use Rattle.capsteps.proofs.Common.{fold, unwrap_or, length-map, nil_from_length, take_more, take_all, eqb-true, fold-append, Caps, Entry, EntryRow, Holder, Table, same, holder, is_among, entry_at, holders_of_rows, changed, entries_on, changed_by, same-is, told_at, due_under, entry_under, known_of, known_in, kept-same, kept-then, kept-not}
+use Rattle.std.specs.List.{IsDistinct}
+use Rattle.std.specs.Option.{option_copied}
+use Rattle.std.proofs.lemmas.List.{get_or-map}
 use Rattle.std.proofs.lemmas.List.Folds.{list_any_more}
-use Rattle.std.proofs.lemmas.List.Sums.{fold-append}
-use Rattle.capbits.specs.Caps.{Caps}
 use Rattle.capbits.specs.Sets.{no_caps}
 use Rattle.inotree.proofs.Lent.{lent-where}
-use Rattle.captable.specs.declared.entry.Entry.{Entry}
-use Rattle.captable.specs.declared.entry.EntryRow.{EntryRow}
-use Rattle.captable.specs.declared.entry.Holder.{Holder}
-use Rattle.captable.specs.Table.{Table, same, holder, is_among, entry_at, holders_of_rows}
-use Rattle.captable.specs.Calls.{changed, entries_on}
-use Rattle.captable.specs.Many.{changed_by}
 use Rattle.captable.proofs.OneByOne.{fold-on_inode}
-use Rattle.captable.proofs.Tables.{same-is}
-use Rattle.capacts.specs.Finishing.{told_at, due_under, numbered_as, entry_under}
-use Rattle.capacts.specs.Known.{known_of, known_in}
+use Rattle.capacts.specs.Finishing.{numbered_as}
 use Rattle.capsteps.proofs.AtEnd.{entry-on, yet-unchanged, named, named-clients, distinct-on}
-use Rattle.capacts.proofs.KeptSets.{kept-same, kept-then, kept-not, kept-on, kept-nobody, found-as, not-yet, room-of}
+use Rattle.capacts.proofs.KeptSets.{kept-on, kept-nobody, found-as, not-yet, room-of}
 use Rattle.capsteps.proofs.finish.finish_entries.Goals as goal
 
 -- nobody has an entry on the inode

@@ -1,9 +1,5 @@
 use Rattle.std.proofs.Common.{◌≡◌, take}
-use Rattle.std.specs.List.{fold}
-use Rattle.captable.specs.Table.{is_among}
-use Rattle.captable.specs.Many.{changed_by}
-use Rattle.capacts.specs.Finishing.{told_at, entry_under}
-use Rattle.capacts.specs.Known.{known_in, KnownAnew}
+use Rattle.capsteps.proofs.Common.{fold, is_among, changed_by, told_at, entry_under, known_in, KnownAnew}
 use Rattle.capsteps.proofs.AtEnd.{named}
 use Rattle.capsteps.proofs.finish.finish_entries.Given as goal
 

@@ -1,10 +1,6 @@
-use Rattle.std.proofs.Common.{◌≡◌, ◌<◌, Option, Some, None, is_some, refl, ap, subst}
-use Rattle.std.specs.Prelude.{IfSome}
-use Rattle.captable.specs.declared.entry.Entry.{Entry}
-use Rattle.captable.specs.Table.{entry_at}
-use Rattle.captable.proofs.Changes.{none_found}
+use Rattle.std.proofs.Common.{◌≡◌, ◌<◌, Option, Some, None, is_some, refl, ap, subst, IfSome}
+use Rattle.capsteps.proofs.Common.{Entry, entry_at, none_found, known_in}
 use Rattle.capacts.specs.Finishing as words
-use Rattle.capacts.specs.Known.{known_in}
 use Rattle.capacts.proofs.KeptSets.{kept-none}
 use Rattle.capsteps.proofs.finish.finish_entry.Goals as goal
 

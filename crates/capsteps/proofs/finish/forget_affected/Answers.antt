@@ -1,10 +1,8 @@
 use Rattle.std.proofs.Common.{◌≡◌, length, ℕ, List, [], ◌∷◌, refl, sym, ap, subst, ◌∙◌, arith}
-use Rattle.std.specs.List.{fold}
+use Rattle.capsteps.proofs.Common.{fold, Scene, IsListOf, leads-then}
 use Rattle.std.specs.Map.Iter.{deref}
 use Rattle.std.proofs.lemmas.Map.Iter.{rest_more, rest_all}
-use Rattle.capacts.specs.Lockmachine.declared.scene.Scene.{Scene}
-use Rattle.capacts.specs.Capnotes.InoSets.{IsListOf}
-use Rattle.capacts.proofs.Capnotes.Noting.{leads-none, leads-then}
+use Rattle.capacts.proofs.Capnotes.Noting.{leads-none}
 use Rattle.capsteps.proofs.Strays.{forget_on, forget-all_of}
 use Rattle.capsteps.proofs.finish.forget_affected.Goals as goal
 

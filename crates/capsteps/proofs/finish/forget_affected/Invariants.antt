@@ -1,7 +1,6 @@
 use Rattle.std.proofs.Common.{◌≡◌, ◌≤◌, ◌+◌, length}
+use Rattle.capsteps.proofs.Common.{fold, LeadOn}
 use Rattle.std.specs.FinSet as set
-use Rattle.std.specs.List.{fold}
-use Rattle.capacts.specs.Capnotes.Noted.{LeadOn}
 use Rattle.capsteps.proofs.Strays.{forget_on}
 use Rattle.capsteps.proofs.finish.forget_affected.Given as goal
 

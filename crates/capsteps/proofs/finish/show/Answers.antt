@@ -1,12 +1,8 @@
 use Rattle.std.proofs.Common.{◌≡◌, Option, Some, sym, ap, ◌∙◌}
-use Rattle.std.specs.Option.{unwrap_or}
-use Rattle.capbits.specs.Caps.{Caps}
+use Rattle.capsteps.proofs.Common.{unwrap_or, Caps, Holder, Table, entry_at, row_of-entry}
 use Rattle.capbits.specs.Sets.{no_caps}
-use Rattle.captable.specs.declared.entry.Holder.{Holder}
-use Rattle.captable.specs.Table.{Table, entry_at}
 use Rattle.capacts.specs.Capevents.declared.reply.Reply.TheVariants.{Opened}
 use Rattle.capacts.specs.Caprules.Direct.{opened_as}
-use Rattle.captable.proofs.ByHolder.{row_of-entry}
 use Rattle.capsteps.proofs.finish.show.Goals as goal
 
 pub returns-in-Some-clause-answer : goal.returns-in-Some-clause-answer

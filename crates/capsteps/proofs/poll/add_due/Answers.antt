@@ -1,6 +1,5 @@
 use Rattle.std.proofs.Common.{◌≡◌, ◌++◌, List, [], ◌∷◌, take, sym, ap, ◌∙◌, append_assoc, if◌then◌else◌}
-use Rattle.captable.specs.declared.entry.EntryRow.{EntryRow}
-use Rattle.capacts.specs.Capevents.declared.outcome.Message.{Message}
+use Rattle.capsteps.proofs.Common.{EntryRow, Message}
 use Rattle.capacts.specs.Capevents.declared.outcome.Message.TheVariants.{Recall}
 use Rattle.capacts.specs.Caprules.Messages.{caps_messages, size_messages, recall_messages}
 use Rattle.capsteps.proofs.Polling.{take-take_append}

@@ -1,11 +1,5 @@
-use Rattle.std.proofs.Common.{◌≡◌, ◌≤◌, ◌<◌, [], ◌++◌, ◌||◌, append-nil, Contains, zero, suc, take, length, filter, refl, sym, ap, subst, ◌∙◌, arith}
-use Rattle.std.specs.Prelude.{List}
-use Rattle.std.proofs.lemmas.List.{nil_from_length}
-use Rattle.captable.specs.declared.entry.EntryRow.{EntryRow}
-use Rattle.captable.specs.Calls.{is_of_client, is_due}
-use Rattle.capacts.proofs.Lockmachine.Finding.{contains-filter, filter-contains}
-use Rattle.capacts.specs.Capevents.declared.outcome.Message.{Message}
-use Rattle.capacts.specs.Caprules.Messages.{end_messages}
+use Rattle.std.proofs.Common.{◌≡◌, ◌≤◌, ◌<◌, [], ◌++◌, ◌||◌, append-nil, Contains, zero, suc, take, length, filter, refl, sym, ap, subst, ◌∙◌, arith, List}
+use Rattle.capsteps.proofs.Common.{nil_from_length, EntryRow, is_of_client, is_due, contains-filter, filter-contains, Message, end_messages}
 use Rattle.capsteps.proofs.Polling.{IsListed, due_of, take-take_append, few-more, listed-more, listed-all, listed-full, listed-first, listed-done, left-behind, known-row}
 use Rattle.capsteps.proofs.poll.due_messages.Goals as goal
 

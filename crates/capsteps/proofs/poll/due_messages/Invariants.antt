@@ -1,9 +1,5 @@
 use Rattle.std.proofs.Common.{◌≡◌, ◌≤◌, true, Contains, filter, length}
-use Rattle.captable.specs.declared.entry.EntryRow.{EntryRow}
-use Rattle.captable.specs.Calls.{is_due}
-use Rattle.capacts.specs.Lockmachine.declared.scene.Scene.{Scene}
-use Rattle.capacts.specs.Known.{AreKnown}
-use Rattle.capacts.specs.Caprules.Messages.{end_messages}
+use Rattle.capsteps.proofs.Common.{EntryRow, is_due, Scene, AreKnown, end_messages}
 use Rattle.capsteps.proofs.Polling.{IsListed}
 use Rattle.capsteps.proofs.poll.due_messages.Given as goal
 

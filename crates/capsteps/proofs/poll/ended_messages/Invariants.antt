@@ -1,5 +1,5 @@
 use Rattle.std.proofs.Common.{◌≡◌, take}
-use Rattle.capacts.specs.Caprules.Messages.{end_messages}
+use Rattle.capsteps.proofs.Common.{end_messages}
 use Rattle.capsteps.proofs.poll.ended_messages.Given as goal
 
 abbrev pub invariant-loop-one : goal.invariant-loop-one

@@ -1,9 +1,5 @@
 use Rattle.std.proofs.Common.{◌≡◌, ◌+◌, ◌++◌, [], ◌∷◌, take, ap, sym, subst, ◌∙◌}
-use Rattle.std.proofs.lemmas.List.{take_more, take_all}
-use Rattle.captable.specs.Table.{IsTable}
-use Rattle.captable.specs.Calls.{is_of_client}
-use Rattle.captable.specs.Many.{changed_where}
-use Rattle.capacts.specs.Caprules.Messages.{after_messages}
+use Rattle.capsteps.proofs.Common.{take_more, take_all, IsTable, is_of_client, changed_where, after_messages}
 use Rattle.capsteps.proofs.ManyInodes.{table-where}
 use Rattle.capsteps.proofs.Polling.{given-none, given-more}
 use Rattle.capsteps.proofs.poll.give.Goals as goal

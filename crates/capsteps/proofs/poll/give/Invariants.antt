@@ -1,7 +1,5 @@
 use Rattle.std.proofs.Common.{◌≡◌, take}
-use Rattle.captable.specs.Calls.{is_of_client}
-use Rattle.captable.specs.Many.{changed_where}
-use Rattle.capacts.specs.Caprules.Messages.{after_messages}
+use Rattle.capsteps.proofs.Common.{is_of_client, changed_where, after_messages}
 use Rattle.capsteps.proofs.poll.give.Given as goal
 
 abbrev pub invariant-loop-message : goal.invariant-loop-message

@@ -1,11 +1,6 @@
 use Rattle.std.proofs.Common.{subst, List}
-use Rattle.capbits.specs.declared.ids.Ino.{Ino}
-use Rattle.capacts.specs.Lockmachine.declared.scene.Scene.{Scene}
-use Rattle.capacts.specs.Reach.{is_affected}
-use Rattle.capsteps.specs.Begun.{MayEnd}
-use Rattle.capsteps.specs.Serves.{EndsAt}
+use Rattle.capsteps.proofs.Common.{Ino, Scene, is_affected, MayEnd, EndsAt, leads-then}
 use Rattle.capsteps.proofs.NobodyServed.{settled-ends, settled-keeps}
-use Rattle.capacts.proofs.Capnotes.Noting.{leads-then}
 use Rattle.capsteps.proofs.settle.end_at.Goals as goal
 
 pub returns-clause-ends : goal.returns-clause-ends

@@ -1,16 +1,9 @@
 use Rattle.std.proofs.Common.{◌==◌, ℕ, Bool, List, [], sym, ap, subst, ◌∙◌, arith}
+use Rattle.capsteps.proofs.Common.{nat_cmp, Ino, Scene, InoSet, is_affected, MayEnd, EndsAt, EndsWith, none-there, leads-then}
 use Rattle.std.specs.FinSet as set
-use Rattle.std.specs.Ordering.{nat_cmp}
-use Rattle.capbits.specs.declared.ids.Ino.{Ino}
-use Rattle.capacts.specs.Lockmachine.declared.scene.Scene.{Scene}
-use Rattle.capacts.specs.Capnotes.InoSets.{InoSet}
-use Rattle.capacts.specs.Reach.{is_affected}
-use Rattle.capsteps.specs.Begun.{MayEnd, MaySettle}
-use Rattle.capsteps.specs.Serves.{EndsAt, EndsWith}
+use Rattle.capsteps.specs.Begun.{MaySettle}
 use Rattle.capsteps.proofs.Among.{affected-alone}
-use Rattle.capacts.proofs.InoSets.{none-there}
 use Rattle.capsteps.proofs.NobodyServed.{others-still, settled-ends, settled-keeps, settles-alone}
-use Rattle.capacts.proofs.Capnotes.Noting.{leads-then}
 use Rattle.capsteps.proofs.settle.end_at_entry.Goals as goal
 
 pub settle-affected-requires-clause-settles : goal.settle-affected-requires-clause-settles

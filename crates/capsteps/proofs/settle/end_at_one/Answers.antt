@@ -1,11 +1,8 @@
 use Rattle.std.proofs.Common.{ℕ, Bool, sym, ap, subst, ◌∙◌, arith}
+use Rattle.capsteps.proofs.Common.{nat_cmp, InoSet, EndsWith, none-there}
 use Rattle.std.specs.FinSet as set
-use Rattle.std.specs.Ordering.{nat_cmp}
-use Rattle.capacts.specs.Capnotes.InoSets.{InoSet}
 use Rattle.capsteps.specs.Begun.{MaySettle}
-use Rattle.capsteps.specs.Serves.{EndsWith}
 use Rattle.capsteps.proofs.Among.{affected-alone}
-use Rattle.capacts.proofs.InoSets.{none-there}
 use Rattle.capsteps.proofs.settle.end_at_one.Goals as goal
 
 pub end_at-requires-clause-settles : goal.end_at-requires-clause-settles

@@ -1,14 +1,7 @@
 use Rattle.std.proofs.Common.{◌≡◌, ◌<◌, ℕ, Bool, List, false, refl, subst, ◌∙◌}
+use Rattle.capsteps.proofs.Common.{Part, Nodes, SessionTable, may_end_by, scene, WaitAt, is_affected, IsSwept, IsNextOf}
 use Rattle.std.specs.FinMap as map
-use Rattle.capbits.specs.declared.cap.Part.{Part}
-use Rattle.inotree.specs.Tree.{Nodes}
-use Rattle.sessiontab.specs.Table.{SessionTable}
-use Rattle.capacts.specs.Lockmachine.Moves.{may_end_by}
-use Rattle.capacts.specs.Lockmachine.Scene.{scene}
-use Rattle.capacts.specs.Lockmachine.Turns.{WaitAt}
 use Rattle.capacts.proofs.Lockmachine.Ending.{ends-little}
-use Rattle.capacts.specs.Reach.{is_affected}
-use Rattle.capsteps.specs.Sweep.{IsSwept, IsNextOf}
 use Rattle.capsteps.proofs.Sweeping.{fewer_behind, swept-begins, swept-on, ends-passed, same-elsewhere}
 use Rattle.capsteps.proofs.settle.end_gathers.Goals as goal
 use Rattle.capsteps.proofs.settle.end_gathers.Goals.{After-end_gathers_at}

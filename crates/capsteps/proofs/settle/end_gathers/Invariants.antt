@@ -1,13 +1,6 @@
 use Rattle.std.proofs.Common.{◌≡◌, ◌<◌, ℕ, List, true, false}
+use Rattle.capsteps.proofs.Common.{Part, Nodes, SessionTable, may_end_by, scene, WaitAt, is_affected, IsSwept}
 use Rattle.std.specs.FinMap as map
-use Rattle.capbits.specs.declared.cap.Part.{Part}
-use Rattle.inotree.specs.Tree.{Nodes}
-use Rattle.sessiontab.specs.Table.{SessionTable}
-use Rattle.capacts.specs.Lockmachine.Moves.{may_end_by}
-use Rattle.capacts.specs.Lockmachine.Scene.{scene}
-use Rattle.capacts.specs.Lockmachine.Turns.{WaitAt}
-use Rattle.capacts.specs.Reach.{is_affected}
-use Rattle.capsteps.specs.Sweep.{IsSwept}
 use Rattle.capsteps.proofs.Sweeping.{behind}
 use Rattle.capsteps.proofs.settle.end_gathers.Given as goal
 

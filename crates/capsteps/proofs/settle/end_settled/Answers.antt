@@ -1,13 +1,5 @@
-use Rattle.std.proofs.Common.{◌<◌, sym, ap, subst, ◌∙◌}
-use Rattle.std.specs.Prelude.{IsTrue}
-use Rattle.sessiontab.specs.Calls.{has_session}
-use Rattle.captable.specs.Table.{Table}
-use Rattle.capacts.specs.Lockmachine.declared.scene.Scene.{Scene}
-use Rattle.capacts.specs.Caprules.Finish.{is_sized, owed}
-use Rattle.capacts.specs.Reach.{is_affected}
-use Rattle.capacts.specs.Known.{known_in, KnownAnew}
-use Rattle.capsteps.specs.Begun.{MayEnd}
-use Rattle.capsteps.specs.Affected.{told_then, finished_at}
+use Rattle.std.proofs.Common.{◌<◌, sym, ap, subst, ◌∙◌, IsTrue}
+use Rattle.capsteps.proofs.Common.{has_session, Table, Scene, is_sized, owed, is_affected, known_in, KnownAnew, MayEnd, told_then, finished_at}
 use Rattle.capacts.proofs.KeptSets.{was-there}
 use Rattle.capsteps.proofs.ManyInodes.{holders-stay}
 use Rattle.capsteps.proofs.SizesOwed.{owed-numbers}

@@ -1,12 +1,8 @@
 use Rattle.std.proofs.Common.{length, sym, ◌∙◌, ◌≡◌, true, Option, Some, None, refl, ap, true≢false}
-use Rattle.capacts.specs.Lockmachine.declared.states.InodeLocks.{InodeLocks}
-use Rattle.locktable.specs.declared.states.LockState.{LockState}
-use Rattle.locktable.specs.declared.states.LockState.TheVariants.{Stable, Gather}
+use Rattle.capsteps.proofs.Common.{InodeLocks, LockState, Stable, Gather, and_parts, eqb-true, nil_from_length}
 use Rattle.locktable.specs.declared.states.State.{State}
 use Rattle.locktable.specs.declared.states.State.TheVariants.{Sync, Lock, Mix, Excl}
-use Rattle.capbits.specs.Sets.{true_eq, and_parts}
-use Rattle.std.proofs.lemmas.Bool.{eqb-true}
-use Rattle.std.proofs.lemmas.List.{nil_from_length}
+use Rattle.capbits.specs.Sets.{true_eq}
 use Rattle.std.specs.Option.{option_eq}
 use Rattle.capsteps.proofs.settle.is_as_before.Goals as goal
 use Rattle.locktable.specs.contracts.states.LockStatePartialEq.TheImpl as lock_states

@@ -1,6 +1,5 @@
 use Rattle.std.proofs.Common.{ℕ, Option, Some, ap, ◌∙◌}
-use Rattle.std.proofs.lemmas.Bool.{eqb-true}
-use Rattle.capbits.specs.declared.ids.Ticket.{Ticket}
+use Rattle.capsteps.proofs.Common.{eqb-true, Ticket}
 use Rattle.capsteps.proofs.settle.is_judged.Goals as goal
 
 pub returns-in-Some : goal.returns-in-Some

@@ -1,11 +1,7 @@
 use Rattle.std.proofs.Common.{◌≡◌, ◌++◌, ◌∷◌, [], Option, Some, refl, sym, ap, ◌∙◌}
+use Rattle.capsteps.proofs.Common.{Ino, Request, Ended, Outcome, Served, Serves}
 use Rattle.std.specs.List.{filter_map}
-use Rattle.capbits.specs.declared.ids.Ino.{Ino}
-use Rattle.capacts.specs.Lockmachine.declared.request.Request.{Request}
-use Rattle.capacts.specs.Capevents.declared.outcome.Ended.{Ended}
-use Rattle.capacts.specs.Capevents.declared.outcome.Outcome.{Outcome}
-use Rattle.capacts.specs.Caprules.Settle.{Served, sized_by}
-use Rattle.capsteps.specs.Serves.{Serves}
+use Rattle.capacts.specs.Caprules.Settle.{sized_by}
 use Rattle.capsteps.proofs.settle.serve_next.Goals as goal
 
 pub serve-served-requires-clause-judged : goal.serve-served-requires-clause-judged

@@ -1,33 +1,19 @@
 use Rattle.std.proofs.Common.{◌≡◌, ◌<◌, ◌≤◌, ◌+◌, ◌++◌, ◌∷◌, [], ℕ, Bool, true, false, cond, ◌&&◌, length, List, Option, Some, None, Contains, sym, ap, subst, ◌∙◌, arith, inl, inr}
+use Rattle.capsteps.proofs.Common.{length-append, Ino, IsTree, Nodes, Table, Request, Serve, IsLockMap, lock_at, Scene, served-at, Ended, Outcome, LeadOn, is_affected, Serves, Served, sized_in, IsSwept, StandsAt, leads-then, IsJudged, InoSet, tree_after}
 use Rattle.std.specs.List.{filter_map}
-use Rattle.std.proofs.lemmas.List.{length-append}
-use Rattle.capbits.specs.declared.ids.Ino.{Ino}
-use Rattle.inotree.specs.Tree.{IsTree, Nodes}
-use Rattle.captable.specs.Table.{Table}
-use Rattle.capacts.specs.Lockmachine.declared.request.Request.{Request}
-use Rattle.capacts.specs.Lockmachine.declared.moves.Move.TheVariants.{Serve}
-use Rattle.capacts.specs.Lockmachine.Locks.{IsLockMap, lock_at, request_at}
+use Rattle.capacts.specs.Lockmachine.Locks.{request_at}
 use Rattle.capacts.specs.Lockmachine.Moves.{first_move}
-use Rattle.capacts.specs.Lockmachine.declared.scene.Scene.{Scene}
 use Rattle.capacts.proofs.Lockmachine.Exact.{ends_not}
-use Rattle.capacts.proofs.Lockmachine.Waiting.{served-at}
-use Rattle.capacts.specs.Capevents.declared.outcome.Ended.{Ended}
-use Rattle.capacts.specs.Capevents.declared.outcome.Outcome.{Outcome}
 use Rattle.capacts.specs.declared.sweep.SweepPlace.{SweepPlace}
-use Rattle.capacts.specs.Capnotes.Noted.{LeadOn}
-use Rattle.capacts.specs.Reach.{is_affected, AreWalked, Reaches, Covers}
-use Rattle.capsteps.specs.Serves.{Serves}
-use Rattle.capacts.specs.Caprules.Settle.{Served, sets_size, is_done, sized_in}
-use Rattle.capsteps.specs.Sweep.{GoesOn, GoesOnBehind, IsSwept, StandsAt}
-use Rattle.capacts.proofs.Capnotes.Noting.{leads-none, leads-then}
-use Rattle.capsteps.specs.Judged.{IsJudged}
+use Rattle.capacts.specs.Reach.{AreWalked, Reaches, Covers}
+use Rattle.capacts.specs.Caprules.Settle.{sets_size, is_done}
+use Rattle.capsteps.specs.Sweep.{GoesOn, GoesOnBehind}
+use Rattle.capacts.proofs.Capnotes.Noting.{leads-none}
 use Rattle.capsteps.proofs.Judged.{none-judged, still-judged}
 use Rattle.capsteps.proofs.Moved.{moved-all, tree-moved}
 use Rattle.capsteps.proofs.SoFar.{IsSoFar, so-far-begins, so-far-served, so-far-settled, so-far-swept, stands-behind, stands-first, turn-of_least}
 use Rattle.capsteps.proofs.OneChange.{within-after}
 use Rattle.capacts.proofs.Walked.{none-walked}
-use Rattle.capacts.specs.Capnotes.InoSets.{InoSet}
-use Rattle.capacts.specs.Capnotes.Changing.{tree_after}
 use Rattle.capsteps.proofs.settle.settle.Goals as goal
 use Rattle.capsteps.proofs.settle.settle.Goals.{In-Some, After-place_behind-place}
 

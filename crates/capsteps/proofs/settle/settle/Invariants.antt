@@ -1,9 +1,7 @@
-use Rattle.std.proofs.Common.{◌≡◌, ◌≤◌, ◌+◌, length}
-use Rattle.std.specs.Prelude.{vec_capacity}
-use Rattle.capacts.specs.Capnotes.Noted.{HavePlaces, LeadOn}
-use Rattle.capacts.specs.Reach.{is_affected, AreWalked}
-use Rattle.capsteps.specs.Judged.{IsJudged}
-use Rattle.capsteps.specs.Sweep.{StandsAt}
+use Rattle.std.proofs.Common.{◌≡◌, ◌≤◌, ◌+◌, length, vec_capacity}
+use Rattle.capsteps.proofs.Common.{LeadOn, is_affected, IsJudged, StandsAt}
+use Rattle.capacts.specs.Capnotes.Noted.{HavePlaces}
+use Rattle.capacts.specs.Reach.{AreWalked}
 use Rattle.capacts.specs.Capnotes.DueEndings.{HasRoom}
 use Rattle.capsteps.proofs.SoFar.{IsSoFar}
 use Rattle.capsteps.proofs.settle.settle.Given as goal

@@ -1,10 +1,8 @@
 use Rattle.std.proofs.Common.{sym, subst}
-use Rattle.capacts.specs.Lockmachine.declared.scene.Scene.{Scene}
+use Rattle.capsteps.proofs.Common.{Scene, is_affected, AreStill, IsNextOf, IsSwept, StandsAt}
 use Rattle.capacts.specs.Lockmachine.Runs.{MoveLittle}
 use Rattle.capacts.specs.Lockmachine.Turns.{IsDue}
 use Rattle.capacts.proofs.Lockmachine.Alone.{nobody-done, nobody-kept}
-use Rattle.capacts.specs.Reach.{is_affected}
-use Rattle.capsteps.specs.Sweep.{AreStill, IsNextOf, IsSwept, StandsAt}
 use Rattle.capsteps.proofs.Sweeping.{fewer_behind, last-turn, next-turn, still-kept, swept-on}
 use Rattle.capsteps.proofs.settle.sweep.Goals as goal
 use Rattle.capsteps.proofs.settle.sweep.Goals.{After-advance}

@@ -1,5 +1,4 @@
-use Rattle.capacts.specs.Reach.{is_affected}
-use Rattle.capsteps.specs.Sweep.{IsSwept, StandsAt}
+use Rattle.capsteps.proofs.Common.{is_affected, IsSwept, StandsAt}
 use Rattle.capsteps.proofs.Sweeping.{behind}
 use Rattle.capsteps.proofs.settle.sweep.Given as goal
 

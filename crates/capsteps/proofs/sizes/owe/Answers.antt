@@ -1,12 +1,7 @@
 use Rattle.std.proofs.Common.{◌≡◌, true, false, cond, Some, None, sym, ap, ◌∙◌}
-use Rattle.capbits.specs.declared.cap.Cap.TheVariants.{Fc}
+use Rattle.capsteps.proofs.Common.{Fc, Entry, Holder, Table, entry_at, with_size_due, none_found, owed}
 use Rattle.capbits.specs.Caps.{has}
-use Rattle.captable.specs.declared.entry.Entry.{Entry}
-use Rattle.captable.specs.declared.entry.Holder.{Holder}
-use Rattle.captable.specs.Table.{Table, entry_at}
-use Rattle.captable.specs.Calls.{with_size_due}
-use Rattle.captable.proofs.Changes.{same_found, left_found, none_found}
-use Rattle.capacts.specs.Caprules.Finish.{owed}
+use Rattle.captable.proofs.Changes.{same_found, left_found}
 use Rattle.capsteps.proofs.sizes.owe.Goals as goal
 
 abbrev owed_of : Holder → Entry → Entry

@@ -1,13 +1,7 @@
 use Rattle.std.proofs.Common.{◌≡◌, ◌<◌, ◌≤◌, ℕ, ◌+◌, List, [], ◌∷◌, ◌++◌, length, take, get_or, sym, ap, ◌∙◌, arith}
-use Rattle.std.specs.List.{fold}
-use Rattle.std.proofs.lemmas.List.{length-map, get_or-map, take_more, take_all}
-use Rattle.std.proofs.lemmas.List.Sums.{fold-append}
-use Rattle.captable.specs.declared.entry.Holder.{Holder}
-use Rattle.captable.specs.Table.{Table, holder, holders_of_rows}
-use Rattle.captable.specs.Calls.{entries_on}
-use Rattle.captable.specs.Many.{changed_by}
+use Rattle.capsteps.proofs.Common.{fold, length-map, take_more, take_all, fold-append, Holder, Table, holder, holders_of_rows, entries_on, changed_by, owed}
+use Rattle.std.proofs.lemmas.List.{get_or-map}
 use Rattle.captable.proofs.OneByOne.{fold-on_inode}
-use Rattle.capacts.specs.Caprules.Finish.{owed}
 use Rattle.capsteps.proofs.AtEnd.{named, named-clients}
 use Rattle.capsteps.proofs.sizes.owe_on.Goals as goal
 

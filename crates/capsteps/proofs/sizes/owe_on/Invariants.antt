@@ -1,7 +1,5 @@
 use Rattle.std.proofs.Common.{◌≡◌, take}
-use Rattle.std.specs.List.{fold}
-use Rattle.captable.specs.Many.{changed_by}
-use Rattle.capacts.specs.Caprules.Finish.{owed}
+use Rattle.capsteps.proofs.Common.{fold, changed_by, owed}
 use Rattle.capsteps.proofs.AtEnd.{named}
 use Rattle.capsteps.proofs.sizes.owe_on.Given as goal
 

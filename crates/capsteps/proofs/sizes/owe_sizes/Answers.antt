@@ -1,17 +1,6 @@
-use Rattle.std.proofs.Common.{◌≡◌, ◌+◌, ◌++◌, List, [], ◌∷◌, take, get_or, sym, ap, subst, ◌∙◌, Bool, true, false, cond, ◌||◌, map, refl}
-use Rattle.std.specs.Prelude.{IsTrue, All}
-use Rattle.std.proofs.lemmas.List.{take_more, take_all, map-id}
-use Rattle.std.proofs.lemmas.List.Folds.{list_any-append}
-use Rattle.capbits.specs.declared.ids.Ino.{Ino}
-use Rattle.capbits.specs.declared.cap.Cap.TheVariants.{Fc}
+use Rattle.std.proofs.Common.{◌≡◌, ◌+◌, ◌++◌, List, [], ◌∷◌, take, get_or, sym, ap, subst, ◌∙◌, Bool, true, false, cond, ◌||◌, map, refl, IsTrue, All}
+use Rattle.capsteps.proofs.Common.{take_more, take_all, map-id, list_any-append, Ino, Fc, has_session, Table, is_of_inode, with_size_due, changed_where, remade, Entry, EntryRow, is_sized, owed}
 use Rattle.capbits.specs.Caps.{has}
-use Rattle.sessiontab.specs.Calls.{has_session}
-use Rattle.captable.specs.Table.{Table}
-use Rattle.captable.specs.Calls.{is_of_inode, with_size_due}
-use Rattle.captable.specs.Many.{changed_where, remade}
-use Rattle.captable.specs.declared.entry.Entry.{Entry}
-use Rattle.captable.specs.declared.entry.EntryRow.{EntryRow}
-use Rattle.capacts.specs.Caprules.Finish.{is_sized, owed}
 use Rattle.capsteps.proofs.ManyInodes.{holders-stay}
 use Rattle.capsteps.proofs.sizes.owe_sizes.Goals as goal
 

@@ -1,8 +1,5 @@
-use Rattle.std.proofs.Common.{◌≡◌, take}
-use Rattle.std.specs.Prelude.{IsTrue, All}
-use Rattle.sessiontab.specs.Calls.{has_session}
-use Rattle.captable.specs.Many.{changed_where}
-use Rattle.capacts.specs.Caprules.Finish.{is_sized, owed}
+use Rattle.std.proofs.Common.{◌≡◌, take, IsTrue, All}
+use Rattle.capsteps.proofs.Common.{has_session, changed_where, is_sized, owed}
 use Rattle.capsteps.proofs.sizes.owe_sizes.Given as goal
 
 abbrev pub invariant-loop-ino : goal.invariant-loop-ino

@@ -1,9 +1,7 @@
 use Rattle.std.proofs.Common.{length, [], refl, sym, ap, subst, ◌∙◌, arith}
-use Rattle.capsteps.specs.Capevents.Replies.{has_list}
-use Rattle.capsteps.specs.Caprules.Direct.{reply_of}
-use Rattle.capsteps.specs.Caprules.State.{State}
+use Rattle.capcore.proofs.Common.{has_list, reply_of, State, answer_of}
 use Rattle.capcore.specs.declared.parts.Answer.{Answer}
-use Rattle.capcore.specs.UnderWay.{HasPlaces, answer_of}
+use Rattle.capcore.specs.UnderWay.{HasPlaces}
 use Rattle.capcore.proofs.EntryWhole.{no_list-request, request-reply}
 use Rattle.capcore.proofs.parts.Parts.close.Goals as goal
 

@@ -1,26 +1,10 @@
 use Rattle.std.proofs.Common.{Some, ◌≡◌, length, refl, sym, ap, subst, ◌∙◌, arith}
-use Rattle.capbits.specs.Caps.{Caps}
+use Rattle.capcore.proofs.Common.{Caps, IsSubset, Entry, Holder, Table, IsTable, entry_at, Scene, StillKnown, Event, State, Direct, direct, effect, effect_unless, revoked_of, AffectsOne, view_of, entry_event, changes-still, room-for, none-judged, Parts}
 use Rattle.capbits.specs.Refusal.{first_failing}
-use Rattle.capbits.specs.Sets.{IsSubset}
-use Rattle.captable.specs.declared.entry.Entry.{Entry}
-use Rattle.captable.specs.declared.entry.Holder.{Holder}
-use Rattle.captable.specs.Table.{Table, IsTable, entry_at}
-use Rattle.capsteps.specs.Lockmachine.declared.scene.Scene.{Scene}
-use Rattle.capsteps.specs.Capacts.Known.{StillKnown}
-use Rattle.capsteps.specs.Capevents.declared.event.Event.{Event}
-use Rattle.capsteps.specs.Caprules.State.{State}
-use Rattle.capsteps.specs.Caprules.Direct.{Direct, direct, effect, effect_unless}
-use Rattle.capsteps.specs.Caprules.Judge.{revoked_of}
-use Rattle.capsteps.specs.Affected.{AffectsOne}
-use Rattle.capsteps.specs.Caprules.Noted.{view_of}
-use Rattle.capsteps.specs.EntryRequest.{entry_event, table_after}
-use Rattle.capsteps.proofs.Capnotes.Noting.{changes-still}
+use Rattle.capsteps.specs.EntryRequest.{table_after}
 use Rattle.capsteps.proofs.Knowing.{held_at, still-all}
 use Rattle.capsteps.proofs.EntryKept.{request-less, others-have_all}
 use Rattle.capsteps.proofs.EntryRequests.{below-of_request, keeps-of_request, table-of_request, affected-state, affected-tests, affects-affected}
-use Rattle.capsteps.proofs.Begun.{room-for}
-use Rattle.capsteps.proofs.Judged.{none-judged}
-use Rattle.capcore.specs.declared.parts.Parts.{Parts}
 use Rattle.capcore.specs.declared.parts.Affected.TheVariants as affected
 use Rattle.capcore.specs.declared.parts.Answer.TheVariants.{Touched}
 use Rattle.capcore.specs.UnderWay.{IsWhole, state_of}

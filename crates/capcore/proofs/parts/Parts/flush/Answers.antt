@@ -1,17 +1,9 @@
 use Rattle.std.proofs.Common.{is_some, ◌≡◌, length, refl, sym, ap, subst, arith}
-use Rattle.inotree.specs.Tree.{IsTree}
-use Rattle.captable.specs.declared.entry.Holder.{Holder}
-use Rattle.captable.specs.Table.{Table, IsTable}
-use Rattle.capsteps.specs.Capevents.declared.event.Event.{Event}
+use Rattle.capcore.proofs.Common.{IsTree, Holder, Table, IsTable, Event, direct, says, AffectsOne, HoldAlike, alike-less, still-there, room-for, none-judged, Parts}
 use Rattle.capsteps.specs.Capevents.declared.event.Event.TheVariants as event
 use Rattle.capsteps.specs.Capevents.declared.reply.Reply.TheVariants as reply
-use Rattle.capsteps.specs.Caprules.Direct.{direct, says, with_flush}
-use Rattle.capsteps.specs.Affected.{AffectsOne}
+use Rattle.capsteps.specs.Caprules.Direct.{with_flush}
 use Rattle.capsteps.proofs.Capnotes.Noting.{changes-all}
-use Rattle.capsteps.proofs.Knowing.{HoldAlike, alike-less, still-there}
-use Rattle.capsteps.proofs.Begun.{room-for}
-use Rattle.capsteps.proofs.Judged.{none-judged}
-use Rattle.capcore.specs.declared.parts.Parts.{Parts}
 use Rattle.capcore.specs.declared.parts.Affected.TheVariants as affected
 use Rattle.capcore.specs.declared.parts.Answer.TheVariants.{Done}
 use Rattle.capcore.specs.UnderWay.{state_of}

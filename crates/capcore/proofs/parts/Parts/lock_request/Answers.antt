@@ -1,26 +1,9 @@
 use Rattle.std.proofs.Common.{Contains, Some, is_some, ◌≡◌, ◌+◌, ◌∷◌, [], length, None, refl, sym, ap, subst, ◌∙◌, arith}
+use Rattle.capcore.proofs.Common.{Holder, Ask, Ticket, Request, Scene, LockMap, IsLockMap, next_request, with_request, judged_again, IsJudged, Event, ask_needs, Awaits, direct, asks, rejection_of, asking_tests, waiting_tests, view_of, AffectsOne, changes-still, alike-less, still-there, ask_of, asked_event, room-for, Parts}
 use Rattle.std.proofs.lemmas.List.{length-append}
 use Rattle.std.proofs.lemmas.List.Elements.{Contains-push}
-use Rattle.captable.specs.declared.entry.Holder.{Holder}
-use Rattle.capsteps.specs.Lockmachine.declared.request.Ask.{Ask}
-use Rattle.capbits.specs.declared.ids.Ticket.{Ticket}
-use Rattle.capsteps.specs.Lockmachine.declared.request.Request.{Request}
-use Rattle.capsteps.specs.Lockmachine.declared.scene.Scene.{Scene}
-use Rattle.capsteps.specs.Lockmachine.Locks.{LockMap, IsLockMap, next_request, request_at, with_request}
+use Rattle.capsteps.specs.Lockmachine.Locks.{request_at}
 use Rattle.capsteps.proofs.Lockmachine.Queue.{found_by_number}
-use Rattle.capsteps.specs.Caprules.Serving.{judged_again}
-use Rattle.capsteps.specs.Judged.{IsJudged}
-use Rattle.capsteps.specs.Capevents.declared.event.Event.{Event}
-use Rattle.capsteps.specs.Caprules.Asks.{ask_needs}
-use Rattle.capsteps.specs.Caprules.Direct.{Awaits, direct, asks}
-use Rattle.capsteps.specs.Caprules.Judge.{rejection_of, asking_tests, waiting_tests}
-use Rattle.capsteps.specs.Caprules.Noted.{view_of}
-use Rattle.capsteps.specs.Affected.{AffectsOne}
-use Rattle.capsteps.proofs.Capnotes.Noting.{changes-still}
-use Rattle.capsteps.proofs.Knowing.{alike-less, still-there}
-use Rattle.capcore.specs.Asks.{ask_of, asked_event}
-use Rattle.capsteps.proofs.Begun.{room-for}
-use Rattle.capcore.specs.declared.parts.Parts.{Parts}
 use Rattle.capcore.specs.declared.parts.Affected.TheVariants as affected
 use Rattle.capcore.specs.declared.parts.Answer.TheVariants.{Awaited}
 use Rattle.capcore.specs.UnderWay.{state_of}

@@ -1,14 +1,5 @@
 use Rattle.std.proofs.Common.{◌≡◌, ◌≤◌, ◌++◌, length, sym, ap, subst, ◌∙◌, arith}
-use Rattle.sessiontab.specs.Table.{SessionTable}
-use Rattle.capsteps.specs.Lockmachine.declared.scene.Scene.{Scene}
-use Rattle.capsteps.specs.Capacts.Left.{is_end, dropped_by}
-use Rattle.capsteps.specs.Capview.Changes.{AreChanges}
-use Rattle.capsteps.specs.Capnotes.Noted.{view}
-use Rattle.capsteps.specs.Caprules.Noted.{view_of}
-use Rattle.capsteps.specs.SessionChange.{session_changed}
-use Rattle.capsteps.proofs.Begun.{room-for}
-use Rattle.capsteps.proofs.Judged.{none-judged}
-use Rattle.capcore.specs.declared.parts.Parts.{Parts}
+use Rattle.capcore.proofs.Common.{SessionTable, Scene, is_end, dropped_by, AreChanges, view, view_of, session_changed, room-for, none-judged, Parts}
 use Rattle.capcore.specs.UnderWay.{state_of}
 use Rattle.capcore.proofs.SessionStep.{few-waiting, few-messages, change-begun}
 use Rattle.capcore.proofs.parts.Parts.session_change.Goals as goal

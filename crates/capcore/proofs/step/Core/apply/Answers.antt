@@ -1,16 +1,9 @@
 use Rattle.std.proofs.Common.{◌≡◌, ◌+◌, ◌++◌, ◌∷◌, [], List, length, refl, ap, sym, subst, ◌∙◌}
-use Rattle.capsteps.specs.Caprules.State.{State}
-use Rattle.capsteps.specs.Capevents.declared.row.Row.{Row}
-use Rattle.capsteps.specs.Capevents.declared.reply.Reply.{Reply}
-use Rattle.capsteps.specs.Answered.{IsAnswered}
-use Rattle.capsteps.specs.Caprules.Direct.{direct}
+use Rattle.capcore.proofs.Common.{State, Row, Reply, IsAnswered, direct, rows_of, IsSound, Step, step-shown}
 use Rattle.capsteps.specs.Caprules.Headline.{ServedDenied, ServedByName, EachServing, AreBounded}
-use Rattle.capsteps.specs.Caprules.Numbers.{rows_of}
 use Rattle.capsteps.specs.Caprules.History.{Recorded, recorded, made_row}
 use Rattle.capcore.specs.Promised.{IsPromised}
 use Rattle.capsteps.specs.Caprules.Shown.{ShowsWhatIsTold}
-use Rattle.capsteps.specs.Caprules.Sound.{IsSound}
-use Rattle.capsteps.specs.Caprules.Step.{Step}
 use Rattle.capcore.proofs.Apart.{held-apart}
 use Rattle.capcore.proofs.Bounded.{direct-order, moves-bounded, by-moves}
 use Rattle.capcore.proofs.OtherLocks.{other-locks}
@@ -19,7 +12,6 @@ use Rattle.capcore.proofs.Promised.{denied-exactly, denies-by_name, rejection-un
 use Rattle.capcore.proofs.Growing.{more-told, replays-more}
 use Rattle.capsteps.proofs.Placed.{all-revoked}
 use Rattle.capcore.proofs.HeldOn.{takes-only_so}
-use Rattle.capsteps.proofs.ShownSteps.{step-shown}
 use Rattle.capcore.proofs.ShownWords.{shows-told, shows-permitted, all-takes_unshown}
 use Rattle.capcore.proofs.step.Core.apply.Goals as goal
 use Rattle.capcore.proofs.step.Core.apply.Goals.{After-add_row}

@@ -1,12 +1,9 @@
 use Rattle.std.proofs.Common.{sym, ap, subst, ◌∙◌}
+use Rattle.capcore.proofs.Common.{Event, State, IsDirect, direct, view_of, changes-still}
 use Rattle.std.proofs.lemmas.Result.{on_ok_weaker}
-use Rattle.capsteps.specs.Capevents.declared.event.Event.{Event}
 use Rattle.capsteps.specs.Capevents.declared.event.Event.TheVariants as event
-use Rattle.capsteps.specs.Caprules.State.{State}
-use Rattle.capsteps.specs.Caprules.Direct.{IsDirect, direct}
 use Rattle.capcore.proofs.Effects.{looked-up}
-use Rattle.capsteps.specs.Caprules.Noted.{view_of}
-use Rattle.capsteps.proofs.Capnotes.Noting.{changes-still, changes-unseen}
+use Rattle.capsteps.proofs.Capnotes.Noting.{changes-unseen}
 use Rattle.capcore.proofs.world.World.act.Goals as goal
 
 pub returns-in-Unblock-clause-changes : goal.returns-in-Unblock-clause-changes

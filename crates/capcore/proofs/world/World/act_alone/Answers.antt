@@ -1,10 +1,6 @@
 use Rattle.std.proofs.Common.{sym, subst}
-use Rattle.capsteps.specs.Caprules.State.{State}
-use Rattle.capsteps.specs.Caprules.Direct.{IsDirect}
-use Rattle.capsteps.specs.Caprules.Sound.{IsSound}
+use Rattle.capcore.proofs.Common.{State, IsDirect, IsSound, AreChanges, view_of}
 use Rattle.capcore.proofs.Steps.{alone-answered, no_list-direct}
-use Rattle.capsteps.specs.Capview.Changes.{AreChanges}
-use Rattle.capsteps.specs.Caprules.Noted.{view_of}
 use Rattle.capsteps.specs.Capnotes.Noted.{Noted}
 use Rattle.capcore.proofs.world.World.act_alone.Goals as goal
 

@@ -1,11 +1,8 @@
 use Rattle.std.proofs.Common.{◌≡◌, ◌+◌, None, refl, sym, subst, arith}
+use Rattle.capcore.proofs.Common.{LockMap, AreKnown, HasRoom, State}
 use Rattle.capbits.specs.Refusal.{first_failing}
 use Rattle.inotree.specs.Tests.{create_tests}
 use Rattle.inotree.proofs.Passing.{passed-create}
-use Rattle.capsteps.specs.Lockmachine.Locks.{LockMap}
-use Rattle.capsteps.specs.Capacts.Known.{AreKnown}
-use Rattle.capsteps.specs.Capnotes.DueEndings.{HasRoom}
-use Rattle.capsteps.specs.Caprules.State.{State}
 use Rattle.capcore.proofs.Undone.{added-dropped, not_given}
 use Rattle.capcore.proofs.Unaffected.{birth-sound, birth-known}
 use Rattle.capcore.proofs.world.World.add.Goals as goal

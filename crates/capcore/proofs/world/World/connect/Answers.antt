@@ -1,7 +1,6 @@
 use Rattle.std.proofs.Common.{◌≡◌, None, sym, subst}
+use Rattle.capcore.proofs.Common.{new_session_tests, State}
 use Rattle.capbits.specs.Refusal.{first_failing}
-use Rattle.sessiontab.specs.Tests.{new_session_tests}
-use Rattle.capsteps.specs.Caprules.State.{State}
 use Rattle.capcore.proofs.Unaffected.{session-sound, session-known}
 use Rattle.capcore.proofs.world.World.connect.Goals as goal
 

@@ -1,10 +1,9 @@
 use Rattle.std.proofs.Common.{◌≡◌, None, ap, sym, subst, ◌∙◌}
+use Rattle.capcore.proofs.Common.{pass-both, State, inode_tests}
 use Rattle.std.specs.FinMap as map
-use Rattle.capbits.proofs.Tests.{pass-both}
-use Rattle.capsteps.specs.Caprules.State.{State}
 use Rattle.capsteps.specs.Caprules.Direct.{owned_by}
 use Rattle.capbits.specs.Refusal.{first_failing}
-use Rattle.inotree.specs.Tests.{inode_tests, new_inode_tests, create_tests}
+use Rattle.inotree.specs.Tests.{new_inode_tests, create_tests}
 use Rattle.capgrant.specs.declared.access.Access.TheVariants.{Write}
 use Rattle.capcore.proofs.Rejections.{access-at, inode-passed}
 use Rattle.capcore.proofs.Effects.{birth-rejection, birth-refused, birth-done}

@@ -1,17 +1,13 @@
 use Rattle.std.proofs.Common.{ap, sym, subst, ◌∙◌, refl}
+use Rattle.capcore.proofs.Common.{pass-both, inode_tests, Snapshot, State, view_of, view}
 use Rattle.capbits.specs.Refusal.{first_failing}
 use Rattle.inotree.specs.Inodes.{with_snapshot}
-use Rattle.capbits.proofs.Tests.{pass-both}
-use Rattle.inotree.specs.Tests.{inode_tests, new_snapshot_tests}
-use Rattle.capgrant.specs.declared.access.Access.TheVariants.{Snapshot}
+use Rattle.inotree.specs.Tests.{new_snapshot_tests}
 use Rattle.capcore.proofs.Rejections.{access-at, inode-passed}
 use Rattle.capcore.proofs.Effects.{making-rejection, snapshot-refused}
 use Rattle.capcore.proofs.Unaffected.{changed-sound, changed-known}
 use Rattle.capsteps.specs.Capview.Sight.{IsLike, Shows}
 use Rattle.capsteps.proofs.Capview.Likeness.{like-unseen, shows-tree}
-use Rattle.capsteps.specs.Caprules.State.{State}
-use Rattle.capsteps.specs.Caprules.Noted.{view_of}
-use Rattle.capsteps.specs.Capnotes.Noted.{view}
 use Rattle.capcore.proofs.world.World.make_snapshot.Goals as goal
 
 pub returns-in-Some-clause-direct : goal.returns-in-Some-clause-direct

@@ -1,25 +1,10 @@
 use Rattle.std.proofs.Common.{◌≡◌, ◌+◌, ◌++◌, List, length, sym, ap, subst, ◌∙◌, arith}
+use Rattle.capcore.proofs.Common.{IsTree, SessionTable, IsTable, IsLockMap, Scene, IsAnswered, AreKnown, Event, Ended, view, AreChanges, shown, view_of, IsSound, State, changes-still, Parts, MayBegin, HasBegun, answer_of}
 use Rattle.std.proofs.lemmas.List.{length-append}
-use Rattle.inotree.specs.Tree.{IsTree}
-use Rattle.sessiontab.specs.Table.{SessionTable}
-use Rattle.captable.specs.Table.{IsTable}
-use Rattle.capsteps.specs.Lockmachine.Locks.{IsLockMap}
-use Rattle.capsteps.specs.Lockmachine.declared.scene.Scene.{Scene}
-use Rattle.capsteps.specs.Answered.{IsAnswered}
-use Rattle.capsteps.specs.Capacts.Known.{AreKnown}
-use Rattle.capsteps.specs.Capevents.declared.event.Event.{Event}
-use Rattle.capsteps.specs.Capevents.declared.outcome.Ended.{Ended}
 use Rattle.capsteps.specs.Capnotes.DueEndings.{DueEndings}
-use Rattle.capsteps.specs.Capnotes.Noted.{view}
-use Rattle.capsteps.specs.Capview.Changes.{AreChanges}
-use Rattle.capsteps.specs.Caprules.Direct.{shown}
-use Rattle.capsteps.specs.Caprules.Noted.{view_of}
-use Rattle.capsteps.specs.Caprules.Sound.{IsSound, NumbersLeft}
-use Rattle.capsteps.specs.Caprules.State.{State}
-use Rattle.capsteps.proofs.Capnotes.Noting.{changes-still}
-use Rattle.capcore.specs.declared.parts.Parts.{Parts}
+use Rattle.capsteps.specs.Caprules.Sound.{NumbersLeft}
 use Rattle.capcore.specs.declared.parts.Effect.{Effect}
-use Rattle.capcore.specs.UnderWay.{MayBegin, HasBegun, answer_of, earlier_of, event_of, state_of}
+use Rattle.capcore.specs.UnderWay.{earlier_of, event_of, state_of}
 use Rattle.capcore.proofs.Begun.{ended-answered, ended-known, ended-numbers, few-earlier, fewer-places, shown-known, shown-rest}
 use Rattle.capcore.proofs.Closing.{ends-sessions}
 use Rattle.capcore.proofs.Rejections.{judged-at, rejection-answered}

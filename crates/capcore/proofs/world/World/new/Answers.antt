@@ -1,9 +1,5 @@
 use Rattle.std.proofs.Common.{◌≡◌, None, ap, rules}
-use Rattle.captable.specs.declared.entry.Holder.{Holder}
-use Rattle.captable.specs.Table.{Table, entry_at}
-use Rattle.capsteps.specs.Caprules.State.{State}
-use Rattle.capsteps.specs.Caprules.History.{IsOpening}
-use Rattle.capsteps.specs.Capnotes.DueEndings.{HasRoom}
+use Rattle.capcore.proofs.Common.{Holder, Table, entry_at, State, IsOpening, HasRoom}
 use Rattle.capcore.proofs.Sounding.{opening-sound}
 use Rattle.capcore.proofs.world.World.new.Goals as goal
 

@@ -1,8 +1,6 @@
 use Rattle.std.proofs.Common.{◌++◌, ◌∷◌, [], sym, ap, subst, ◌∙◌}
+use Rattle.capcore.proofs.Common.{AreChanges, State, view_of}
 use Rattle.capsteps.specs.Capview.declared.change.ViewChange.TheVariants as change
-use Rattle.capsteps.specs.Capview.Changes.{AreChanges}
-use Rattle.capsteps.specs.Caprules.State.{State}
-use Rattle.capsteps.specs.Caprules.Noted.{view_of}
 use Rattle.capsteps.proofs.Capnotes.Noting.{changes-one}
 use Rattle.capcore.proofs.world.World.open_session.Goals as goal
 

@@ -1,29 +1,16 @@
 use Rattle.std.proofs.Common.{◌≡◌, ◌≤◌, [], List, length, filter, Some, refl, sym, ap, subst, ◌∙◌, arith}
-use Rattle.std.proofs.lemmas.List.Sums.{length-filter, count_by-le-length}
+use Rattle.capcore.proofs.Common.{length-filter, count_by-le-length, session_tests, IsTable, is_of_client, Ended, Said, ByTest, State, IsAnswered, IsSound, rejection-before, HoldAlike, known-alike, AreChanges, view_of, changes-still}
 use Rattle.capbits.specs.Refusal.{first_failing}
-use Rattle.sessiontab.specs.Tests.{session_tests}
-use Rattle.captable.specs.Table.{IsTable}
-use Rattle.captable.specs.Calls.{is_of_client}
 use Rattle.captable.specs.Many.{changed_where}
 use Rattle.capsteps.specs.Capevents.declared.event.Event.TheVariants as event
-use Rattle.capsteps.specs.Capevents.declared.outcome.Ended.{Ended}
 use Rattle.capsteps.specs.Capevents.declared.outcome.Message.{Message}
 use Rattle.capsteps.specs.Capevents.declared.reply.Reply.TheVariants as reply
-use Rattle.capsteps.specs.declared.said.Said.{Said}
-use Rattle.capsteps.specs.Caprules.declared.rejection.Rejection.TheVariants.{ByTest}
-use Rattle.capsteps.specs.Caprules.State.{State}
-use Rattle.capsteps.specs.Answered.{IsAnswered}
 use Rattle.capsteps.specs.Caprules.Messages.{first_messages, with_given, after_messages}
 use Rattle.capsteps.specs.Capnotes.DueEndings.{AreEndsOf, is_left}
-use Rattle.capsteps.specs.Caprules.Sound.{IsSound}
-use Rattle.capsteps.proofs.Capacts.Again.{rejection-before}
 use Rattle.capcore.proofs.Polled.{poll-answered, polled-new}
 use Rattle.capcore.proofs.Rejections.{rejection-answered}
 use Rattle.capsteps.proofs.Telling.{given-held}
-use Rattle.capsteps.proofs.Knowing.{HoldAlike, known-alike, alike-where}
-use Rattle.capsteps.specs.Capview.Changes.{AreChanges}
-use Rattle.capsteps.specs.Caprules.Noted.{view_of}
-use Rattle.capsteps.proofs.Capnotes.Noting.{changes-still}
+use Rattle.capsteps.proofs.Knowing.{alike-where}
 use Rattle.capcore.proofs.world.World.poll.Goals as goal
 use Rattle.capcore.proofs.world.World.poll.Goals.{After-drop-told}
 

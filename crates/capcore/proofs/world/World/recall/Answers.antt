@@ -1,14 +1,9 @@
 use Rattle.std.proofs.Common.{sym, ap, subst}
+use Rattle.capcore.proofs.Common.{Said, State, IsAnswered, AreChanges, view_of, changes-still}
 use Rattle.capsteps.specs.Capevents.declared.event.Event.TheVariants as event
 use Rattle.capsteps.specs.Capevents.declared.reply.Reply.TheVariants as reply
-use Rattle.capsteps.specs.declared.said.Said.{Said}
-use Rattle.capsteps.specs.Caprules.State.{State}
-use Rattle.capsteps.specs.Answered.{IsAnswered}
 use Rattle.capsteps.specs.Caprules.Direct.{with_table}
 use Rattle.capcore.proofs.Recalled.{recalled-sound, recalled-known, recall-answered}
-use Rattle.capsteps.specs.Capview.Changes.{AreChanges}
-use Rattle.capsteps.specs.Caprules.Noted.{view_of}
-use Rattle.capsteps.proofs.Capnotes.Noting.{changes-still}
 use Rattle.capcore.proofs.world.World.recall.Goals as goal
 use Rattle.capcore.proofs.world.World.recall.Goals.{After-new-2}
 
