@@ -175,8 +175,8 @@ module _ (known : Holder → Caps) (s : Scene) (at : ℕ → Bool) where
   issued_at = record s { table = changed_where on_it (finished_entry known s) s.table }
 
   -- what holds of a row on one of them at the end, and of each other as it is, holds of each at the end
-  pub by_place : (P : EntryRow → Type 0) (row : EntryRow) → (on_it row ≡ true → P (ended_row known s row)) → (on_it row ≡ false → P row) → P (last_row row)
-  by_place P row here elsewhere = elim (on_it row) as (λ b. on_it row ≡ b → P (cond b (ended_row known s row) row)) [ true ↦ here | false ↦ elsewhere ] refl
+  pub by_place : (Fact : EntryRow → Type 0) (row : EntryRow) → (on_it row ≡ true → Fact (ended_row known s row)) → (on_it row ≡ false → Fact row) → Fact (last_row row)
+  by_place Fact row here elsewhere = elim (on_it row) as (λ b. on_it row ≡ b → Fact (cond b (ended_row known s row) row)) [ true ↦ here | false ↦ elsewhere ] refl
 
   pub holder-last : (row : EntryRow) → (last_row row).holder ≡ row.holder
   holder-last row = by_place (λ r. r.holder ≡ row.holder) row (λ e. refl) (λ e. refl)

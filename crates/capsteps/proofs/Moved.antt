@@ -107,9 +107,9 @@ queue-moved locks (Serve ticket) q inside = contains-filter (λ r. not (is_numbe
 queue-moved locks Settled q inside = inside
 
 -- what all who waited have, all who wait have
-pub all-waiting : (P : Request → Type 0) (first now : Scene) → IsMoved first now → All P first.locks.queue → All P now.locks.queue
-all-waiting P first now is all =
-    All-weaker (Contains now.locks.queue) P (λ q inside. All-contains P first.locks.queue q all (is.queue q inside)) now.locks.queue (All-contains_itself now.locks.queue)
+pub all-waiting : (Fact : Request → Type 0) (first now : Scene) → IsMoved first now → All Fact first.locks.queue → All Fact now.locks.queue
+all-waiting Fact first now is all =
+    All-weaker (Contains now.locks.queue) Fact (λ q inside. All-contains Fact first.locks.queue q all (is.queue q inside)) now.locks.queue (All-contains_itself now.locks.queue)
 
 -- ---- which inodes are there
 

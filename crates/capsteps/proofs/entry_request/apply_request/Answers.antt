@@ -1,4 +1,4 @@
-use Rattle.std.proofs.Common.{is_some, refl, sym, ap, subst, ◌∙◌}
+use Rattle.std.proofs.Common.{false, is_some, refl, sym, ap, subst, ◌∙◌}
 use Rattle.capsteps.proofs.Common.{P, taken, given_back, wanting, table_after}
 use Rattle.capbits.specs.Caps.{has}
 use Rattle.capbits.specs.Sets.{union}

@@ -1,4 +1,4 @@
-use Rattle.std.proofs.Common.{◌≡◌, Some, None, sym, ap, subst, ◌∙◌, Option, is_some, cond, refl}
+use Rattle.std.proofs.Common.{false, ◌≡◌, Some, None, sym, ap, subst, ◌∙◌, Option, is_some, cond, refl}
 use Rattle.capsteps.proofs.Common.{entry_at, Table, wanting, new_entry, opened, Entry, Holder, opening_wants, with_opening, StillKnown, OpenMode}
 use Rattle.capbits.specs.Sets.{union, no_caps}
 use Rattle.captable.specs.Calls.{touched}
