@@ -14,11 +14,11 @@ close_dropped-requires-clause-list c =
 pub close-requires-in-Touched-clause-list : goal.close-requires-in-Touched-clause-list
 close-requires-in-Touched-clause-list c =
     let s : State = record { scene = c.args.self.now.scene; messages = [] } in
-    ap has_list (c.show_reply-reply.ensures.reply s refl c.requires.known) ∙ no_list-request s c.in-Touched.holder c.in-Touched.touch
+    ap has_list (c.show_reply-reply.ensures.reply s refl c.requires.known) ∙ no_list-request s c.in-Touched.holder c.in-Touched.request
 
 pub returns-in-Touched-clause-reply : goal.returns-in-Touched-clause-reply
 returns-in-Touched-clause-reply c = λ ms.
     let s : State = record { scene = c.args.self.now.scene; messages = ms } in
     let told = c.args.self.now.endings.told.items in
-    c.close-in-Touched.ensures.reply ∙ c.show_reply-reply.ensures.reply s refl c.requires.known ∙ request-reply s told c.in-Touched.holder c.in-Touched.touch
+    c.close-in-Touched.ensures.reply ∙ c.show_reply-reply.ensures.reply s refl c.requires.known ∙ request-reply s told c.in-Touched.holder c.in-Touched.request
     ∙ ap (λ (a : Answer). reply_of s told (answer_of a)) (sym c.in-Touched.is)
