@@ -3,7 +3,7 @@ use Rattle.std.proofs.Common.{◌≡◌, ◌≢◌, ℕ, Bool, true, false, not,
 use Rattle.std.specs.Prelude.{◌==◌}
 use Rattle.std.specs.FinSet as set
 use Rattle.std.specs.List.{list_any, AllWithin}
-use Rattle.std.proofs.lemmas.Bool.{eqb-true}
+use Rattle.std.proofs.lemmas.Bool.{eqb-true, not-false}
 use Rattle.std.proofs.lemmas.List.{get_or_default}
 use Rattle.std.proofs.lemmas.List.Elements.{AllWithin-more}
 use Rattle.capbits.specs.declared.ids.Ino.{Ino}
@@ -15,11 +15,7 @@ pub differ : (a b : ℕ) → not (a == b) ≡ true → a ≢ b
 differ a b e = λ same. true≢false (sym e ∙ ap not (eq-eqb a b same))
 
 pub same-one : (a b : ℕ) → not (a == b) ≡ false → a ≡ b
-same-one a b e = by_test (a == b) refl e
-  where
-    by_test : (t : Bool) → (a == b) ≡ t → not t ≡ false → a ≡ b
-    by_test true is e = eqb-true a b is
-    by_test false is e = absurd (true≢false e)
+same-one a b e = eqb-true a b (not-false (a == b) e)
 
 -- unless it is this one, the inode is among them, if somebody has an entry on it
 abbrev pub IsAdded : List EntryRow → ℕ → InoSet → Ino → Type 0

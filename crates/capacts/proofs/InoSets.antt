@@ -23,30 +23,13 @@ module _ (k : ℕ) (old new : InoSet) (is : new ≡ set.insert old k) where
 
   -- and besides it none comes
   pub widens-added : (ino : ℕ) → k ≢ ino → Widens ino old new
-  widens-added ino apart = record { stay = stay; besides = besides }
-    where
-      either : (a b : Bool) → b ≡ true → (a || b) ≡ true
-      either true b there = refl
-      either false b there = there
-
-      stay : (other : ℕ) → set.contains old other ≡ true → set.contains new other ≡ true
-      stay other there = at_more other ∙ either (eq_by_cmp nat_cmp other k) (set.contains old other) there
-
-      by_test : (other : ℕ) → set.contains old other ≡ false → (b : Bool) → eq_by_cmp nat_cmp other k ≡ b → (b || set.contains old other) ≡ true → other ≢ ino
-      by_test other out true e there = λ same. apart (sym (eqb-true other k (sym (unsigned_tied other k) ∙ e)) ∙ same)
-      by_test other out false e there = absurd (true≢false (sym there ∙ out))
-
-      besides : (other : ℕ) → set.contains old other ≡ false → set.contains new other ≡ true → other ≢ ino
-      besides other out there = by_test other out (eq_by_cmp nat_cmp other k) refl (sym (at_more other) ∙ there)
+  widens-added ino apart = grind (arith, at_more, eqb-true, unsigned_tied)
 
 -- ---- more of them
 
 -- no more come
 pub widens-none : (ino : ℕ) (inos : InoSet) → Widens ino inos inos
-widens-none ino inos = record {
-  stay = λ other there. there;
-  besides = λ other out there. absurd (true≢false (sym there ∙ out));
-}
+widens-none ino inos = grind arith
 
 -- some come, and then some more
 pub widens-then : (ino : ℕ) (a b c : InoSet) → Widens ino a b → Widens ino b c → Widens ino a c
@@ -61,8 +44,7 @@ widens-then ino a b c first then = record {
 
 -- whether or not there was memory for one more
 pub widens-tried : {A E : Type 0} (ino k : ℕ) (old new : InoSet) (r : Result A E) → k ≢ ino → OnOk r (new ≡ set.insert old k) → OnErr r (new ≡ old) → Widens ino old new
-widens-tried ino k old new (Ok x) apart ok err = widens-added k old new ok ino apart
-widens-tried ino k old new (Err e) apart ok err = subst (Widens ino old) (sym err) (widens-none ino old)
+widens-tried ino k old new r apart ok err = grind (arith, widens-added, widens-none)
 
 -- and there is one more at most
 pub few-tried : {A E : Type 0} (k : ℕ) (old new : InoSet) (r : Result A E) → OnOk r (new ≡ set.insert old k) → OnErr r (new ≡ old) → set.len new ≤ set.len old + 1

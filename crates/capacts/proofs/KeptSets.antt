@@ -1,13 +1,17 @@
 -- The sets that are kept of entries, renewed of one holder after another, and so of one inode after another.
-use Rattle.std.proofs.Common.{◌≡◌, ◌≢◌, ℕ, zero, suc, ◌<◌, Bool, true, false, cond, ◌&&◌, ◌||◌, ◌==◌, Option, Some, None, IsSome, List, [], ◌∷◌, length, take, get_or, refl, sym, ap, subst, ◌∙◌, arith, true≢false}
+use Rattle.std.proofs.Common.{◌≡◌, ◌≢◌, ℕ, zero, suc, ◌<◌, Bool, true, false, cond, ◌&&◌, ◌||◌, ◌==◌, Option, Some, None, IsSome, List, [], ◌∷◌, length, take, get_or, refl, sym, ap, ◌∙◌, arith, true≢false}
 use Rattle.std.specs.List.{find, IsDistinct}
 use Rattle.std.specs.Option.{option_map}
+use Rattle.std.specs.Prelude.{unwrap_or}
 use Rattle.std.proofs.lemmas.Map.Keys.{apart_from_distinct}
 use Rattle.capbits.specs.declared.ids.Ino.{Ino}
 use Rattle.capbits.specs.Caps.{Caps}
+use Rattle.capbits.specs.Sets.{no_caps}
 use Rattle.captable.specs.declared.entry.Entry.{Entry}
 use Rattle.captable.specs.declared.entry.EntryRow.{EntryRow}
 use Rattle.captable.specs.declared.entry.Holder.{Holder}
+use Rattle.captable.specs.declared.on_inode.Sets.{Sets}
+use Rattle.captable.specs.Known.{no_sets}
 use Rattle.captable.specs.Table.{Table, same, is_row_of, is_among, holders_of_rows, entry_of, entry_at}
 use Rattle.captable.specs.Calls.{entries_on}
 use Rattle.captable.specs.Many.{changed_where, remade}
@@ -16,6 +20,20 @@ use Rattle.captable.proofs.Changes.{no_entry}
 use Rattle.captable.proofs.Searches.{find_passes, find-map}
 use Rattle.captable.proofs.Tables.{same_equiv, same-is, holders-filter, among-filter}
 use Rattle.capacts.specs.Known.{KnownSets, known_of, HaveRoom, known_anew, KnownAnew}
+
+-- ---- of the sets of a holder, one
+
+pub some-mapped : {A B : Type 0} (f : A → B) (o : Option A) → IsSome (option_map f o) → IsSome o
+some-mapped f None some = some
+some-mapped f (Some x) some = refl
+
+pub told-or : (o : Option Sets) → (unwrap_or o no_sets).told ≡ unwrap_or (option_map (λ (s : Sets). s.told) o) no_caps
+told-or None = refl
+told-or (Some s) = refl
+
+-- another holder
+pub other-holder : (j k : Holder) → same j k ≡ false → j ≢ k
+other-holder j k off is = true≢false (sym (same_equiv.refl j) ∙ ap (same j) is ∙ off)
 
 -- ---- one holder
 
@@ -28,7 +46,7 @@ module _ (f : EntryRow → Caps) (t : Table) (was now : KnownSets) (h : Holder) 
       by_same true on =
           let is : k ≡ h = same-is k h on in
           ap (known_of now) is ∙ own ∙ sym (ap (λ q. known_anew true f (find (is_row_of q) t.rows) (known_of was k)) is ∙ ap (λ o. known_anew true f o (known_of was k)) (row_of-entry t h e there))
-      by_same false off = others k (λ is. true≢false (sym (same_equiv.refl k) ∙ ap (same k) is ∙ off))
+      by_same false off = others k (other-holder k h off)
 
   -- and where it has none
   pub kept-none : entry_at t h ≡ None → ((k : Holder) → known_of now k ≡ known_of was k) → KnownAnew (λ k. same k h) f t was now
@@ -85,15 +103,6 @@ kept-then p q f t later was mid now first then alike k = then k ∙ by_second (q
 pub kept-not : (p : Holder → Bool) (f : EntryRow → Caps) (t : Table) (was now : KnownSets) → KnownAnew p f t was now → (k : Holder) → p k ≡ false → known_of now k ≡ known_of was k
 kept-not p f t was now kept k off = kept k ∙ ap (λ b. known_anew b f (find (is_row_of k) t.rows) (known_of was k)) off
 
--- where something was kept, something is
-pub kept-some : (p : Holder → Bool) (f : EntryRow → Caps) (t : Table) (was now : KnownSets) → KnownAnew p f t was now → (k : Holder) → IsSome (known_of was k) → IsSome (known_of now k)
-kept-some p f t was now kept k some = subst IsSome (sym (kept k)) (by_case (p k) (find (is_row_of k) t.rows))
-  where
-    by_case : (b : Bool) (o : Option EntryRow) → IsSome (known_anew b f o (known_of was k))
-    by_case true None = some
-    by_case true (Some row) = refl
-    by_case false o = some
-
 -- whoever has an entry, has room
 pub room-of : (sets : KnownSets) (t : Table) (k : Holder) → HaveRoom sets t → IsSome (entry_at t k) → IsSome (known_of sets k)
 room-of sets t k room some = by_entry (entry_at t k) refl some
@@ -135,11 +144,6 @@ was-there passes g t k e there = by_row (find (is_row_of k) t.rows) refl
     by_row None none = let gone : entry_at (changed_where passes g t) k ≡ None = ap entry_of (found_made passes g t k ∙ ap (option_map (made passes g)) none) in absurd (cc)
     by_row (Some row) found = (row.entry, ap entry_of found)
 
--- so there is room still
-pub room-still : (p : Holder → Bool) (f : EntryRow → Caps) (t : Table) (was now : KnownSets) (passes : EntryRow → Bool) (g : EntryRow → Entry)
-    → KnownAnew p f t was now → HaveRoom was t → HaveRoom now (changed_where passes g t)
-room-still p f t was now passes g kept room k e there = let before = was-there passes g t k e there in kept-some p f t was now kept k (room k before.0 before.1)
-
 -- ---- all holders on an inode
 
 -- of holders that differ, those before one are not it
@@ -151,7 +155,7 @@ not-yet (k ∷ ks) (suc i) d apart inside =
     let differ : same k (get_or ks i d) ≡ false = apart_from_distinct same (k ∷ ks) 0 (suc i) d apart (omega arith) inside in
     ap (λ b. b || is_among (take i ks) (get_or ks i d)) (same_equiv.symm (get_or ks i d) k ∙ differ) ∙ not-yet ks i d apart.1 (omega arith)
 
-among_rows : (k : Holder) (rows : List EntryRow) (row : EntryRow) → find (is_row_of k) rows ≡ Some row → is_among (holders_of_rows rows) k ≡ true
+pub among_rows : (k : Holder) (rows : List EntryRow) (row : EntryRow) → find (is_row_of k) rows ≡ Some row → is_among (holders_of_rows rows) k ≡ true
 among_rows k [] row found = absurd (cc)
 among_rows k (r ∷ rows) row found =
     elim (same k r.holder) as (λ b. cond b (Some r) (find (is_row_of k) rows) ≡ Some row → (b || is_among (holders_of_rows rows) k) ≡ true) [

@@ -3,12 +3,11 @@ pub mod Memory
 pub mod InoSets
 pub mod Adding
 pub mod Numbered
-pub mod Verdicts
 pub mod Dropped
 pub mod Walked
-pub mod KeptPlaces
 pub mod KeptSets
 pub mod Held
+pub mod Renewed
 pub use Rattle.caprules.proofs.Capevents
 pub use Rattle.caprules.proofs.Capnotes
 pub use Rattle.caprules.proofs.Capview

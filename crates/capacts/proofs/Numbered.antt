@@ -48,7 +48,6 @@ module _ {X : Type 0} (p : X → Bool) where
       let l = found.2 in
       let n = counts_one_more x xs (p x) refl in
       let m = counts_one_more x l.earlier (p x) refl in
-      let k = l.counts in
       inr (
         found.0,
         found_from_end x xs ∙ ap (λ o. option_or o (cond (p x) (Some x) None)) found.1,
@@ -61,17 +60,11 @@ module _ {X : Type 0} (p : X → Bool) where
 
   -- none is found: none passes
   none_passes : (xs : List X) → find p (reverse xs) ≡ None → count_by p xs ≡ 0
-  none_passes xs none = elim (last_of xs) as (λ _. count_by p xs ≡ 0) [
-    | inl at_none ↦ at_none.1
-    | inr found ↦ absurd (none-some found.0 (sym none ∙ found.1))
-  ]
+  none_passes xs none = grind (arith, last_of)
 
   -- one is found: it is the last that passes
   is_last : (xs : List X) (x : X) → find p (reverse xs) ≡ Some x → IsLast p xs x
-  is_last xs x e = elim (last_of xs) as (λ _. IsLast p xs x) [
-    | inl at_none ↦ absurd (none-some x (sym at_none.0 ∙ e))
-    | inr found ↦ subst (IsLast p xs) (same_Some found.0 x (sym found.1 ∙ e)) found.2
-  ]
+  is_last xs x e = grind (arith, last_of, same_Some)
 
 -- ---- the rows of a pass
 
@@ -108,7 +101,7 @@ split_push (w ∷ xs) x (z ∷ zs) later y e =
     let rest : xs ++ x ∷ [] ≡ zs ++ y ∷ later = cc in
     elim (split_push xs x zs later y rest) as (λ _. ((z ∷ zs ≡ w ∷ xs) × (y ≡ x)) ⊎ IsBefore (w ∷ xs) (z ∷ zs) y) [
       | inl at_end ↦ let first = at_end.0 in inl (cc, at_end.1)
-      | inr before ↦ let further = before.splits in inr (record { between = before.between; splits = cc })
+      | inr before ↦ inr (record { between = before.between; splits = cc })
     ]
 
 pub numbered-nil : AreNumbered []

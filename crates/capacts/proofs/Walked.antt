@@ -15,8 +15,7 @@ use Rattle.capacts.specs.Reach.{AreWalked, CoversBelow, Widens}
 use Rattle.capacts.proofs.InoSets.{at_more, none-there}
 
 pub second_true : (a b : Bool) → b ≡ true → (a || b) ≡ true
-second_true true b e = refl
-second_true false b e = e
+second_true a b e = grind arith
 
 any_of : (p : EntryRow → Bool) (rows : List EntryRow) (row : EntryRow) → Contains rows row → p row ≡ true → list_any p rows ≡ true
 any_of p [] row (k, room, is) passes = absurd (omega arith)

@@ -1,14 +1,9 @@
 -- What an entry becomes at the end of a step, by the locks of its inode alone.
-use Rattle.std.specs.Prelude.{ℕ, Bool, List, [], ◌∷◌, Option, map as each}
-use Rattle.std.specs.Option.{option_map}
+use Rattle.std.specs.Prelude.{ℕ, Bool, List, Option, map as each}
 use Rattle.std.specs.FinMap as map
 use Rattle.std.specs.FinSet as set
-use Rattle.capbits.specs.declared.cap.Cap.TheVariants.{P}
-use Rattle.capbits.specs.declared.cap.Part.{Part}
-use Rattle.capbits.specs.declared.cap.Part.TheVariants.{A, L, X, F}
 use Rattle.capbits.specs.Caps.{Caps}
-use Rattle.capbits.specs.Sets.{caps_in, union, meet, minus}
-use Rattle.locktable.specs.declared.states.LockState.{LockState}
+use Rattle.capbits.specs.Sets.{meet}
 use Rattle.inotree.specs.Tree.{Nodes}
 use Rattle.sessiontab.specs.Table.{SessionTable}
 use Rattle.captable.specs.declared.entry.Entry.{Entry}
@@ -16,38 +11,16 @@ use Rattle.captable.specs.declared.entry.EntryRow.{EntryRow}
 use Rattle.captable.specs.declared.entry.Holder.{Holder}
 use Rattle.captable.specs.Calls.{issued, renumbered}
 use Rattle.caprules.specs.Lockmachine.declared.states.InodeLocks.{InodeLocks}
-use Rattle.caprules.specs.Lockmachine.Inodes.{StateMap, lock_in}
-use Rattle.caprules.specs.Lockmachine.Scene.{against_lock}
+use Rattle.caprules.specs.Lockmachine.Inodes.{StateMap}
 use Rattle.caprules.specs.Lockmachine.Policy.{permitted}
+pub use Rattle.caprules.specs.Lockmachine.Under.{against_under, allowed_under, told_under}
 use Rattle.caprules.specs.Lockmachine.Wants.{effective_want}
-use Rattle.caprules.specs.Finish.{allowed_by}
 use Rattle.caprules.specs.Capnotes.InoSets.{InoSet}
 use Rattle.capacts.specs.declared.finishing.Standing.{Standing}
 
 -- the clients of these entries
 abbrev pub clients_of : List EntryRow → List ℕ
 clients_of rows = each (λ row. row.holder.client.0) rows
-
--- the lock of a part, where the inode has locks
-abbrev pub lock_under : Option InodeLocks → Part → Option LockState
-lock_under locks part = option_map (lock_in part) locks
-
--- what these locks of its inode revoke of the entry
-abbrev pub against_under : Option InodeLocks → EntryRow → Caps
-against_under locks row =
-    union (against_lock A row (lock_under locks A))
-    (union (against_lock L row (lock_under locks L)) (union (against_lock X row (lock_under locks X)) (against_lock F row (lock_under locks F))))
-
--- what its client is to know that it holds, where it is permitted these capabilities
-abbrev pub told_under : Caps → Option InodeLocks → EntryRow → Caps
-told_under permitted locks row = minus row.entry.held (union (against_under locks row) (minus row.entry.held permitted))
-
--- what the locks let its client hold, and the pin always
-abbrev pub allowed_under : Option InodeLocks → EntryRow → Caps
-allowed_under locks row =
-    union (caps_in (P ∷ []))
-    (union (allowed_by A row (lock_under locks A))
-    (union (allowed_by L row (lock_under locks L)) (union (allowed_by X row (lock_under locks X)) (allowed_by F row (lock_under locks F)))))
 
 -- the entry, with more held
 abbrev pub with_issued : Caps → EntryRow → EntryRow

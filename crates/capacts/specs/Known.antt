@@ -1,11 +1,6 @@
 -- What is kept of each entry from the end of the last step: the set that its client is to know of.
-use Rattle.std.specs.Prelude.{◌≡◌, ◌==◌, Bool, List, true, false, ◌∷◌, Option, Some, None, IsSome, unwrap_or}
-use Rattle.std.specs.FinMap as map
-use Rattle.std.specs.FinMap.{FinMap}
+use Rattle.std.specs.Prelude.{◌≡◌, Bool, true, false, Option, Some, None, IsSome, unwrap_or}
 use Rattle.std.specs.List.{find}
-use Rattle.std.specs.Option.{option_and_then, option_map}
-use Rattle.std.specs.Ordering.{nat_cmp}
-use Rattle.capbits.specs.declared.ids.ClientId.{ClientId}
 use Rattle.capbits.specs.Caps.{Caps}
 use Rattle.capbits.specs.Sets.{no_caps, IsSubset}
 use Rattle.captable.specs.declared.entry.Entry.{Entry}
@@ -15,29 +10,9 @@ use Rattle.captable.specs.Table.{Table, same, is_row_of, entry_at}
 use Rattle.caprules.specs.Lockmachine.declared.scene.Scene.{Scene}
 use Rattle.caprules.specs.Lockmachine.Scene.{told_set}
 use Rattle.caprules.specs.Finish.{due}
-use Rattle.capacts.specs.declared.on_inode.OnInode.{OnInode}
+pub use Rattle.captable.specs.Known.{KnownSets, sets_of, known_of, permitted_of}
 
--- what is kept on each inode
-abbrev pub KnownSets : Type 0
-KnownSets = FinMap nat_cmp OnInode
-
--- the sets that are kept on one, each with its client
-abbrev pub sets_on : OnInode → List (ClientId × Caps)
-sets_on on = on.first ∷ on.others.items
-
--- a set is this client's
-abbrev pub is_of : ClientId → ClientId × Caps → Bool
-is_of client kept = kept.0.0 == client.0
-
--- what is kept of a client among those on one inode, where something is
-abbrev pub known_among : List (ClientId × Caps) → ClientId → Option Caps
-known_among sets client = option_map (λ (kept : ClientId × Caps). kept.1) (find (is_of client) sets)
-
--- what is kept of a holder, where something is
-abbrev pub known_of : KnownSets → Holder → Option Caps
-known_of sets k = option_and_then (λ (on : OnInode). known_among (sets_on on) k.client) (map.get sets k.ino.0)
-
--- the same, and nothing where nothing is
+-- what is kept of a holder, and nothing where nothing is
 abbrev pub known_in : KnownSets → Holder → Caps
 known_in sets k = unwrap_or (known_of sets k) no_caps
 

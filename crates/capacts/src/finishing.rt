@@ -1,65 +1,76 @@
 //! The end of a step at one entry.
-ghost use Rattle.std.specs.Prelude.{◌≡◌, ◌<◌, ◌^◌, ◌-◌, Some, IsSome};
-ghost use Rattle.std.specs.FinMap as map;
-ghost use Rattle.std.specs.Option.{option_copied};
-ghost use Rattle.inotree.specs.Tree.{path_of};
+ghost use Rattle.std.specs.Prelude.{◌≡◌, ◌≢◌, ◌<◌, ◌^◌, ◌-◌, Some};
+ghost use Rattle.capbits.specs.Sets.{meet};
+ghost use Rattle.captable.specs.declared.entry.Holder.{Holder};
 ghost use Rattle.captable.specs.Table.{same, entry_at};
 ghost use Rattle.captable.specs.Calls.{changed};
 ghost use Rattle.captable.specs.Many.{changed_by};
-ghost use Rattle.caprules.specs.Finish.{allowed_by};
 ghost use Rattle.capacts.specs.Finishing as words;
-ghost use Rattle.capacts.specs.Known.{KnownAnew, known_of, known_in};
+ghost use Rattle.caprules.specs.Lockmachine.Policy.{permitted};
+ghost use Rattle.caprules.specs.Lockmachine.Wants.{want_of_permitted};
+ghost use Rattle.capacts.specs.Known.{KnownAnew, known_in, permitted_of, sets_of};
 
-use crate::known::Known;
-use crate::told::{lock_under, told_under};
-use capbits::{Cap, CapSet, Part};
-use caprules::{InodeLocks, permitted_and_wanted};
+use capbits::CapSet;
+use caprules::{InodeLocks, allowed_under, told_under, want_of_permitted};
 use capspec::FsName;
-use captable::{CapTable, Entry, EntryRow};
-use inotree::{Names, Node, Tree};
-use locktable::allowed;
+use captable::{CapTable, Entry, EntryRow, Holder, Known, Sets};
+use inotree::Tree;
 use sessiontab::Sessions;
 
-/// How an inode stands at the end of a step, and by what the entries on it are judged: the parts of the policy, the path and the
-/// node that the inode has in the tree, and its locks.
+/// How an inode stands at the end of a step, and by what the entries on it are judged: the parts of the policy, and its locks.
 #[derive(Clone, Copy)]
-pub struct Standing<'t, 'n> {
+pub struct Standing<'t> {
     pub fs: &'t FsName,
     pub tree: &'t Tree,
     pub sessions: &'t Sessions,
-    pub path: Option<&'n Names<'t>>,
-    pub node: Option<&'t Node>,
     pub locks: Option<InodeLocks>,
 }
 
-/// Ends the step for one entry, which is there: issues due caps, raises `seq` if the told set changed, and notes the told set.
+/// Ends the step for one entry, which is there, by what it is known to be permitted: issues due caps, raises `seq` if the told set
+/// changed, and notes the told set. `place` is a guess at how many entries on the inode were made before it.
 pub fn finish_row(
-    standing: &Standing<'_, '_>,
+    standing: &Standing<'_>,
     table: &mut CapTable,
     known: &mut Known,
     row: EntryRow,
+    place: usize,
 )
     requires there { entry_at table.old row.holder ≡ Some row.entry }
-    requires path { option_copied standing.now.path ≡ path_of standing.now.tree.now.nodes row.holder.ino.0 }
-    requires node { option_copied standing.now.node ≡ map.get standing.now.tree.now.nodes row.holder.ino.0 }
+    requires permitted { permitted_of known.old.sets row.holder
+        ≡ Some (permitted standing.now.fs.now standing.now.tree.now standing.now.sessions.now row.holder) }
     requires number { row.entry.seq < 2 ^ 64 - 1 }
-    requires room { IsSome (known_of known.old.sets row.holder) }
     ensures table { table.new
         ≡ changed_by (words.entry_in (known_in known.old.sets) standing.now) table.old row.holder }
     ensures known { KnownAnew (λ k. same k row.holder) (words.told_in standing.now)
         table.old known.old.sets known.new.sets }
+    ensures permitted { (k : Holder) → permitted_of known.new.sets k ≡ permitted_of known.old.sets k }
 {
-    let (permitted, wanted) = permitted_and_wanted(
-        standing.fs,
-        standing.sessions,
-        row,
-        standing.path,
-        standing.node,
-    );
-    let due = wanted.meet(allowed_under(&row, &standing.locks));
+    let kept = known.of(row.holder, place);
+    let (before, permitted) = (kept.told, kept.permitted);
+    let due = due_in(standing, &row, permitted);
     let told = told_under(&with_issued(&row, due), permitted, &standing.locks);
-    let before = known.put(row.holder, told);
+    let sets = Sets { told, permitted };
+    keep_told(known, row.holder, before, sets, place);
     issue(table, &row, due, before, told);
+}
+
+// What its client wants, is permitted of these, and the locks allow.
+fn due_in(standing: &Standing<'_>, row: &EntryRow, permitted: CapSet) -> CapSet
+    ensures { result ≡ meet (want_of_permitted standing.now.sessions.now permitted row.now) (words.allowed_under standing.now.locks row.now) }
+{
+    let wanted = want_of_permitted(standing.sessions, *row, permitted);
+    wanted.meet(allowed_under(row, &standing.locks))
+}
+
+// Keeps these of the holder, of which what is told was this before. Most told sets of an inode stay as they are.
+fn keep_told(known: &mut Known, holder: Holder, before: CapSet, sets: Sets, place: usize)
+    requires before { sets_of known.old.sets holder ≡ Some (record sets { told = before }) }
+    ensures own { sets_of known.new.sets holder ≡ Some sets }
+    ensures others { (k : Holder) → k ≢ holder → sets_of known.new.sets k ≡ sets_of known.old.sets k }
+{
+    if sets.told != before {
+        known.put(holder, sets, place);
+    }
 }
 
 // Issues this to the entry's client, and numbers what it is to know of, where that is told now and was known before the event.
@@ -86,25 +97,4 @@ fn with_issued(row: &EntryRow, due: CapSet) -> EntryRow
     let held = row.entry.held.union(due);
     let entry = Entry { held, ..row.entry };
     EntryRow { entry, ..*row }
-}
-
-// What these locks of the inode let the client hold, and the pin always.
-fn allowed_under(row: &EntryRow, locks: &Option<InodeLocks>) -> CapSet
-    ensures { result ≡ words.allowed_under locks.now row.now }
-{
-    let auth = allowed_part(Part::A, row, locks);
-    let link = allowed_part(Part::L, row, locks);
-    let xattr = allowed_part(Part::X, row, locks);
-    let file = allowed_part(Part::F, row, locks);
-    CapSet::of(&[Cap::P]).union(auth.union(link.union(xattr.union(file))))
-}
-
-// What they let the client hold of a part.
-fn allowed_part(part: Part, row: &EntryRow, locks: &Option<InodeLocks>) -> CapSet
-    ensures { result ≡ allowed_by part row.now (words.lock_under locks.now part) }
-{
-    match lock_under(locks, part) {
-        Some(lock) => allowed(part, lock, row.holder.client),
-        None => CapSet::empty(),
-    }
 }

@@ -4,15 +4,15 @@ ghost use Rattle.captable.specs.declared.entry.Entry.{Entry};
 ghost use Rattle.captable.specs.declared.entry.Holder.{Holder};
 ghost use Rattle.captable.specs.Table.{entry_at};
 ghost use Rattle.caprules.specs.Lockmachine.Locks.{requests_of, without_requests_of};
-ghost use Rattle.capacts.specs.Known.{known_of};
+ghost use Rattle.capacts.specs.Known.{sets_of};
 ghost use Rattle.capacts.specs.Left.{is_end};
 ghost use Rattle.capacts.specs.Left as words;
 ghost use Rattle.caprules.specs.Serving.{dropped_of};
 
-use crate::known::Known;
 use capbits::ClientId;
 use caprules::{Ended, Locks, Messages, Outcome, Scene};
 use capspec::Grants;
+use captable::Known;
 use sessiontab::Status;
 
 /// What becomes of a client's session.
@@ -39,7 +39,7 @@ pub fn leave(
 )
     requires room { length dropped.old.items + length scene.old.locks.queue ≤ dropped.old.room }
     ensures table { scene.new.table ≡ words.table_left (is_end change.entry) scene.old.table client }
-    ensures known { (k : Holder) (e : Entry) → entry_at scene.new.table k ≡ Some e → known_of known.new.sets k ≡ known_of known.old.sets k }
+    ensures known { (k : Holder) (e : Entry) → entry_at scene.new.table k ≡ Some e → sets_of known.new.sets k ≡ sets_of known.old.sets k }
     ensures locks { scene.new.locks ≡ words.locks_left (is_end change.entry) scene.old.locks client }
     ensures rest { scene.new ≡ record scene.old { table = scene.new.table; locks = scene.new.locks } }
     ensures messages { messages.new.items ≡ words.messages_left (is_end change.entry) messages.old.items client }

@@ -7,18 +7,16 @@
 pub mod finishing;
 pub mod history;
 pub mod judge;
-pub mod known;
 pub mod leaving;
-mod on_inode;
 pub mod reach;
+pub mod renewing;
 pub mod serving;
 pub mod stop;
 pub mod sweep;
-pub mod told;
 
 pub use caprules::{
     Ask, Bytes, Change, ChangeList, Ended, EndedList, EndedTickets, Event, InoSet, InodeLocks,
     Locks, Message, MessageList, Messages, Move, OpenMode, Outcome, PartValues, Policy, Question,
     Rejection, Reply, Request, Row, Scene, Unknown, View, ViewChange, Wants, copy_of_messages,
-    copy_of_outcome, copy_of_reply, wants_on,
+    copy_of_outcome, copy_of_reply, permitted, wants_on,
 };

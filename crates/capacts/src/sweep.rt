@@ -1,10 +1,12 @@
 //! Where a sweep over inodes has come to, and what it does there.
 ghost use Rattle.std.specs.Prelude.{◌≡◌, true};
+ghost use Rattle.caprules.specs.Lockmachine.Policy.{ArePermittedOn};
 ghost use Rattle.caprules.specs.Lockmachine.Runs.{MoveLittle, ChangesLocksOf};
 ghost use Rattle.caprules.specs.Lockmachine.Turns.{IsTurnOf, IsDue, NobodyElsewhere};
 
 use capbits::{Ino, Ticket};
 use caprules::{Policy, Scene};
+use captable::Known;
 
 /// Where a sweep over the affected inodes has come to.
 #[derive(Clone, Copy)]
@@ -17,8 +19,9 @@ pub struct SweepPlace {
 
 /// Lets the locks of the inode that the sweep has come to move, until a request is to be served, whose number it answers, or the
 /// inode is done. Where nobody who waits at another may be served, the requests for others need not be looked at.
-pub fn advance(scene: &mut Scene, place: SweepPlace) -> Option<Ticket>
+pub fn advance(scene: &mut Scene, known: &Known, place: SweepPlace) -> Option<Ticket>
     requires turn { IsTurnOf scene.old place.at.0 }
+    requires permitted { ArePermittedOn known.now.sets scene.old.fs scene.old.tree scene.old.sessions scene.old.table place.at.0 }
     requires alone { place.alone ≡ true → NobodyElsewhere scene.old.locks place.at.0 }
     ensures moves { MoveLittle scene.old scene.new }
     ensures due { IsDue scene.new place.at.0 result }
@@ -33,5 +36,5 @@ pub fn advance(scene: &mut Scene, place: SweepPlace) -> Option<Ticket>
     };
     scene
         .locks
-        .advance_at(&policy, &scene.table, place.at, place.alone)
+        .advance_at(&policy, &scene.table, known, place.at, place.alone)
 }

@@ -1,5 +1,5 @@
 -- What different clients hold of one inode has no conflict, where it is in place.
-use Rattle.std.proofs.Common.{◌≡◌, ◌≢◌, Bool, true, false, ◌||◌, ◌==◌, Option, Some, None, refl, sym, ap, subst, ◌∙◌, true≢false, IsTrue}
+use Rattle.std.proofs.Common.{◌≡◌, ◌≢◌, Bool, true, false, ◌||◌, ◌==◌, Option, Some, None, refl, sym, ap, subst, ◌∙◌, true≢false, IsTrue, arith}
 use Rattle.capcore.proofs.Common.{find, option_map_or, nat_eq_equiv, Cap, P, Part, ClientId, Ino, IsSubset, LockState, Stable, Gather, EntryRow, Holder, is_row_of, lock_at, Scene, present_state, State, IsSound}
 use Rattle.std.specs.List.{list_any}
 use Rattle.std.proofs.lemmas.Bool.{and_from}
@@ -20,34 +20,13 @@ use Rattle.capsteps.specs.Caprules.Headline.{IsInPlace, AreInPlace, NoneConflict
 abbrev OnePart : Cap → Cap → Type 0
 OnePart c d = (part : Part) × IsTrue (covers c part) × IsTrue (covers d part)
 
-barred_part : (c d : Cap) → IsTrue (list_any (same_cap d) (barred_by c)) → OnePart c d
-barred_part P d h = absurd (true≢false (sym h))
-barred_part As d h = absurd (true≢false (sym h))
-barred_part Ax d h = (A, refl, all_in (λ d. covers d A) (barred_by Ax) refl d h)
-barred_part Ls d h = absurd (true≢false (sym h))
-barred_part Lx d h = (L, refl, all_in (λ d. covers d L) (barred_by Lx) refl d h)
-barred_part Xs d h = absurd (true≢false (sym h))
-barred_part Xx d h = (X, refl, all_in (λ d. covers d X) (barred_by Xx) refl d h)
-barred_part Fs d h = (F, refl, all_in (λ d. covers d F) (barred_by Fs) refl d h)
-barred_part Fx d h = (F, refl, all_in (λ d. covers d F) (barred_by Fx) refl d h)
-barred_part Fc d h = (F, refl, all_in (λ d. covers d F) (barred_by Fc) refl d h)
-barred_part Fr d h = absurd (true≢false (sym h))
-barred_part Fw d h = (F, refl, all_in (λ d. covers d F) (barred_by Fw) refl d h)
-barred_part Fb d h = (F, refl, all_in (λ d. covers d F) (barred_by Fb) refl d h)
-barred_part Fa d h = absurd (true≢false (sym h))
-barred_part Fl d h = absurd (true≢false (sym h))
-
 conflict_part : (c d : Cap) (a b : Bool) → list_any (same_cap d) (barred_by c) ≡ a → list_any (same_cap c) (barred_by d) ≡ b → IsTrue (a || b) → OnePart c d
-conflict_part c d true b first second h = barred_part c d first
-conflict_part c d false true first second h = (let o = barred_part d c second in (o.0, o.2, o.1))
-conflict_part c d false false first second h = absurd (true≢false (sym h))
+conflict_part c d a b first second h = grind arith
 
 -- ---- what is held of a part is in the row of its lock
 
 in_row : (s : Scene) (row : EntryRow) (part : Part) (lock : Option LockState) → IsInPlace s row part lock → IsSubset (of_part part row.entry.held) (row_of part (present_state lock) row.holder.client)
-in_row s row part None place = λ c h. absurd (true≢false (sym (place c h) ∙ has-none c))
-in_row s row part (Some (Stable state)) place = place
-in_row s row part (Some (Gather from to)) place = place.0
+in_row s row part lock place = grind (arith, has-none)
 
 in_row_of : (s : Scene) (row : EntryRow) (c : Cap) (part : Part) → AreInPlace s → find (is_row_of row.holder) s.table.rows ≡ Some row → IsTrue (has row.entry.held c) → IsTrue (covers c part)
     → IsTrue (has (row_of part (present_state (lock_at s.locks row.holder.ino.0 part)) row.holder.client) c)
@@ -64,10 +43,7 @@ record HeldBy (s : Scene) (k : Holder) (c : Cap) : Type 0 where
   held : IsTrue (has row.entry.held c)
 
 held_by : (s : Scene) (k : Holder) (c : Cap) (o : Option EntryRow) → find (is_row_of k) s.table.rows ≡ o → IsTrue (option_map_or (λ row. has row.entry.held c) o false) → HeldBy s k c
-held_by s k c None found held = absurd (true≢false (sym held))
-held_by s k c (Some row) found held =
-    let is = same-is k row.holder (find_passes (is_row_of k) s.table.rows row found) in
-    record { row = row; is = is; found = subst (λ (h : Holder). find (is_row_of h) s.table.rows ≡ Some row) is found; held = held }
+held_by s k c o found held = grind (arith, find_passes)
 
 pub held-apart : (s : State) → IsSound s → NoneConflict s.scene
 held-apart s sound a b c d differ same_ino has_a has_b =

@@ -27,9 +27,7 @@ pub record IsAsking (k : Holder) (ask : Ask) (e : Event) : Type 0 where
   pub judged_is : (s : Scene) → judged s e ≡ rejection_of s (asking_tests s k.client k.ino.0 ask) (ask_needs s k.client k.ino.0 ask) (waiting_tests s k.ino.0 ask)
 
 same_asking : (k other : Holder) (ask more : Ask) (e : Event) → ◌≡◌ {A = Option (Holder × Ask)} (Some (k, ask)) (Some (other, more)) → IsAsking k ask e → IsAsking other more e
-same_asking k other ask more e is asking =
-    let same : ◌≡◌ {A = Holder × Ask} (k, ask) (other, more) = cc in
-    subst (λ (p : Holder × Ask). IsAsking p.0 p.1 e) same asking
+same_asking k other ask more e is asking = grind arith
 
 pub asking : (e : Event) (k : Holder) (ask : Ask) → asks_for e ≡ Some (k, ask) → IsAsking k ask e
 asking (event.Get client ino part) k ask is =
@@ -56,18 +54,11 @@ asking-direct old e k ask is free = let a = asking e k ask is in ap (effect_unle
 -- ---- what a request that nothing stops has passed
 
 inode_passed : (s : Scene) (ino : ℕ) (ask : Ask) → first_failing (ask_before s ino ask) ≡ None → first_failing (inode_tests s.tree ino) ≡ None
-inode_passed s ino (Get part) passed = passed
-inode_passed s ino (Alter change) passed = passed
-inode_passed s ino Unlink passed = (passed-both (inode_tests s.tree ino) (root_test s.tree ino ∷ []) passed).0
-inode_passed s ino Rmdir passed = (passed-both (inode_tests s.tree ino) (root_test s.tree ino ∷ []) passed).0
-inode_passed s ino (Rename dir name) passed = (passed-both (inode_tests s.tree ino) (root_test s.tree ino ∷ inode_tests s.tree dir.0) passed).0
+inode_passed s ino ask passed = grind arith
 
 -- where nothing stops a request, no test fails and nothing is denied
 all_passed : (s : Scene) (o : Option Refusal) (d : Option Need) (l : Option Refusal) → rejection_by s o d l ≡ None → (o ≡ None) × (d ≡ None) × (l ≡ None)
-all_passed s (Some r) d l free = absurd (cc)
-all_passed s None (Some n) l free = absurd (cc)
-all_passed s None None (Some r) free = absurd (cc)
-all_passed s None None None free = (refl, refl, refl)
+all_passed s o d l free = grind arith
 
 module _ (s : Scene) (k : Holder) (ask : Ask) (free : rejection_of s (asking_tests s k.client k.ino.0 ask) (ask_needs s k.client k.ino.0 ask) (waiting_tests s k.ino.0 ask) ≡ None) where
   all_three : (first_failing (asking_tests s k.client k.ino.0 ask) ≡ None) × (first_denied s (ask_needs s k.client k.ino.0 ask) ≡ None) × (first_failing (waiting_tests s k.ino.0 ask) ≡ None)
@@ -95,15 +86,12 @@ module _ (s : Scene) (k : Holder) (ask : Ask) (free : rejection_of s (asking_tes
 
   -- and nothing would stop it, were it served now
   pub asking-again : judged_again s (next_request s.locks k.client k.ino ask) ≡ None
-  asking-again =
-      ap (λ o. rejection_by s o (first_denied s (ask_needs s k.client k.ino.0 ask)) (first_failing (ask_after s k.ino.0 ask))) before_passed.1
-      ∙ (λ i. rejection_by s None (all_three.1 i) (after_passed.0 i))
+  asking-again = grind (arith, all_three, after_passed)
 
 -- ---- the event
 
 no_lock : (part : Part) (o : Option InodeLocks) → is_some o ≡ true → option_map (lock_in part) o ≡ None → ⊥
-no_lock part None there none = true≢false (sym there)
-no_lock part (Some locks) there none = none-some (lock_in part locks) (sym none)
+no_lock part o there none = grind arith
 
 module _ (old : State) (k : Holder) (ask : Ask) (sound : IsSound old) (table : IsTable old.scene.table)
     (free : rejection_of old.scene (asking_tests old.scene k.client k.ino.0 ask) (ask_needs old.scene k.client k.ino.0 ask) (waiting_tests old.scene k.ino.0 ask) ≡ None) where
@@ -113,9 +101,7 @@ module _ (old : State) (k : Holder) (ask : Ask) (sound : IsSound old) (table : I
   pub asking-affects : AffectsOne k.ino.0 old first
   asking-affects = record {
     same = same-request old.scene k.client k.ino ask;
-    states = refl;
-    known = λ other. refl;
-    locked = sound.locked;
+    states = refl; known = λ other. refl; locked = sound.locked;
     waiting =
         All-push (λ (q : Request). IsTrue (has_session old.scene.sessions q.client.0)) old.scene.locks.queue (next_request old.scene.locks k.client k.ino ask) sound.waiting
         (asking-session old.scene k ask free);
@@ -125,7 +111,7 @@ module _ (old : State) (k : Holder) (ask : Ask) (sound : IsSound old) (table : I
   }
 
 pub below-of_ask : (count : ℕ) (old : State) (k : Holder) (ask : Ask) → AreGiven count old → AreBelow count (asks old k.client k.ino ask).state
-below-of_ask count old k ask given = let made = given.made in let last = given.last in (given.entries, omega (arith, made), omega (arith, last))
+below-of_ask count old k ask given = (given.entries, omega (arith, given.made), omega (arith, given.last))
 
 pub order-of_ask : (s : Scene) (k : Holder) (ask : Ask) → IsLockMap s.locks
     → rejection_of s (asking_tests s k.client k.ino.0 ask) (ask_needs s k.client k.ino.0 ask) (waiting_tests s k.ino.0 ask) ≡ None → IsLockMap (with_request s.locks k.client k.ino ask)
@@ -139,8 +125,4 @@ room-left s k ask free = ap (λ b. cond b (Some refusal.Limit) None) (lt-leb 102
 -- ---- what the call is handed
 
 pub asked-for : (client : ClientId) (ino : Ino) (asked : Asked) → asks_for (asked_event client ino asked) ≡ Some (holder client ino, ask_of asked)
-asked-for client ino (asked_kind.Get part) = refl
-asked-for client ino (asked_kind.Alter change) = refl
-asked-for client ino asked_kind.Unlink = refl
-asked-for client ino asked_kind.Rmdir = refl
-asked-for client ino (asked_kind.Rename dir name) = refl
+asked-for client ino asked = grind arith

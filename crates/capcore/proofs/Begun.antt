@@ -1,39 +1,38 @@
 -- What an event that may move locks leaves by itself, and what its step comes to in the end.
 use Rattle.std.proofs.Common.{◌≡◌, ◌≤◌, ℕ, ◌+◌, ◌++◌, ◌==◌, Bool, not, Some, List, [], length, Result, Ok, Err, OnErr, refl, sym, ap, subst, ◌∙◌, arith, All}
-use Rattle.capcore.proofs.Common.{length-filter, count_by-le-length, IsSubset, Ino, IsTree, Entry, Holder, IsTable, entry_at, IsLockMap, Scene, Event, Ended, AreChanges, KnownSets, known_in, AreKnown, StillKnown, HasRoom, HaveOwnNumbers, but_for, State, Direct, direct, reply_of, shown, sizes_owed, view_of, sized_in, AreGiven, earlier, all_ended, state_at_end, Said, IsAnswered, IsJudged, SettlesWith, EndsWith, EntryRequest, Ack, Affects, AffectsOne, Knows, finished_at, known-alike, AreBelow, Parts, MayBegin, answer_of, GivesOne, HasBegun}
+use Rattle.capcore.proofs.Common.{length-filter, count_by-le-length, IsSubset, Ino, IsTree, Entry, Holder, IsTable, entry_at, IsLockMap, Scene, Event, Ended, AreChanges, KnownSets, known_in, AreKnown, StillKnown, HasRoom, HaveOwnNumbers, but_for, State, Direct, direct, reply_of, shown, sizes_owed, view_of, sized_in, AreGiven, earlier, all_ended, state_at_end, Said, IsAnswered, IsJudged, SettlesWith, EndsWith, EntryRequest, Ack, Affects, AffectsOne, Knows, finished_at, AreBelow, Parts, MayBegin, answer_of, GivesOne, HasBegun}
 use Rattle.std.specs.List.{count_by}
 use Rattle.capsteps.specs.Caprules.Sound.{NumbersLeft}
-use Rattle.capsteps.specs.Begun.{MaySettle, MayEnd, HaveRoomFor}
+use Rattle.capsteps.specs.Begun.{ArePermittedIn, MaySettle, MayEnd, HaveRoomFor}
 use Rattle.capsteps.specs.declared.entry_request.EntryRequest.TheVariants.{Open, Want, Release}
 use Rattle.capsteps.specs.EntryRequest.{entry_answer}
 use Rattle.capsteps.specs.Affected.{SettlesAt}
-use Rattle.capsteps.proofs.Knowing.{held_at, still-room, still-knows}
+use Rattle.capsteps.proofs.Knowing.{held_at, still-knows}
 use Rattle.capsteps.proofs.EntryRequests.{Keeps}
 use Rattle.capcore.specs.declared.parts.Effect.{Effect}
 use Rattle.capcore.specs.declared.parts.Affected.{Affected}
 use Rattle.capcore.specs.declared.parts.Answer.{Answer}
 use Rattle.capcore.specs.declared.parts.Answer.TheVariants.{Done, Dropped, Touched, Awaited}
-use Rattle.capcore.specs.UnderWay.{state_of, among, dropped_of, earlier_of, IsNumbered, HasPlaces, MayEndAt}
+use Rattle.capcore.specs.UnderWay.{AreKept, state_of, among, dropped_of, earlier_of, IsNumbered, HasPlaces, MayEndAt}
 use Rattle.capcore.proofs.Closing.{told-own_numbers, told-all, told-but_own, ends-table, affects-settles, affects-ends, affects-one}
 use Rattle.capcore.proofs.Concluded.{IsConcluded, concluded}
 use Rattle.capcore.proofs.EndKnown.{ends-known}
 use Rattle.capcore.proofs.EntryWhole.{show_reply-alike}
+use Rattle.capcore.proofs.Unaffected.{alike-kept}
 
 -- each entry has a number left then
 pub begun-entries : (p q : Parts) (e : Event) (from : ℕ → Bool) → MayBegin p e → state_of q ≡ (direct (state_of p) e).state → Affects from (state_of p) (state_of q) → GivesOne (state_of p) e
-    → StillKnown p.scene.table q.scene.table p.known.sets q.known.sets → MayEnd q.known.sets q.scene.sessions q.scene.table
-begun-entries p q e from may is affects gives still = by_count may.numbers
+    → ArePermittedIn q.known.sets q.scene → MayEnd q.known.sets q.scene
+begun-entries p q e from may is affects gives permitted = by_count may.numbers
   where
-    by_count : NumbersLeft (state_of p) → MayEnd q.known.sets q.scene.sessions q.scene.table
+    by_count : NumbersLeft (state_of p) → MayEnd q.known.sets q.scene
     by_count (count, given, less) =
         affects-ends from (state_of p) (state_of q) may.whole.0 affects q.known.sets count less
-        (subst (λ (s : State). All (λ row. row.entry.seq ≤ count) s.scene.table.rows) (sym is) (gives count given).0)
-        (still-room p.known.sets q.known.sets p.scene q.scene.table may.whole.2 still)
+        (subst (λ (s : State). All (λ row. row.entry.seq ≤ count) s.scene.table.rows) (sym is) (gives count given).0) permitted
 
 -- what holds whatever the result is, holds where it is an error
 pub on_err : {T E P : Type 0} (r : Result T E) → P → OnErr r P
-on_err (Ok v) p = tt
-on_err (Err e) p = p
+on_err r p = grind arith
 
 -- ---- an event about one inode
 
@@ -52,11 +51,11 @@ module _ (p q : Parts) (e : Event) (k : Holder) (may : MayBegin p e) (d : Direct
   one-gives count given = subst (λ (x : Direct). AreBelow count x.state) (sym by_itself) (below count given)
 
   pub one-begun : (affected : Affected) (answer : Answer) → among affected ≡ from → answer_of answer ≡ d.answer → dropped_of answer ≡ []
-      → IsNumbered answer p.scene.locks.last q.scene.locks.last → AffectsOne k.ino.0 old q.scene → IsTable q.scene.table → StillKnown p.scene.table q.scene.table p.known.sets q.known.sets
+      → IsNumbered answer p.scene.locks.last q.scene.locks.last → AffectsOne k.ino.0 old q.scene → IsTable q.scene.table → StillKnown p.scene.table q.scene.table p.known.sets q.known.sets → ArePermittedIn q.known.sets q.scene
       → ((j : Holder) (f : Entry) → entry_at q.scene.table j ≡ Some f → IsSubset f.held (held_at p.scene.table j)) → IsTree q.scene.tree → IsLockMap q.scene.locks
       → HaveRoomFor (length q.scene.locks.queue) q.endings → IsJudged q.endings.judged q.scene → MayEndAt affected q → HasRoom q.messages q.scene.locks → HasPlaces answer (length q.scene.locks.queue)
       → AreChanges q.endings.changes.items (view_of old) (view_of (state_of q)) → HasBegun p e (record { affected = affected; answer = answer }) q
-  one-begun affected answer same answers none number one table still less tree order room judged at left_room places noted =
+  one-begun affected answer same answers none number one table still permitted less tree order room judged at left_room places noted =
       let affects : Affects from old (state_of q) =
       subst (λ (ms : List Ended). Affects from old (record { scene = q.scene; messages = ms })) (sym left) (affects-one k.ino.0 old q.scene may.whole.0 one) in
       record {
@@ -68,57 +67,40 @@ module _ (p q : Parts) (e : Event) (k : Holder) (may : MayBegin p e) (d : Direct
         table = table;
         gives = one-gives;
         still = still;
-        knows = still-knows p.known.sets q.known.sets p.scene q.scene.table may.whole.2 still table less;
+        knows = still-knows p.known.sets q.known.sets p.scene q.scene.table may.whole.2.0 still table less;
         ready = record {
           settles = subst (λ (at : ℕ → Bool). MaySettle at q.scene) (sym same) (affects-settles from old (state_of q) may.whole.0 affects tree order);
           judged = judged;
-          entries = begun-entries p q e from may one-state affects one-gives still;
+          entries = begun-entries p q e from may one-state affects one-gives permitted;
           room = room;
           at = at;
         };
-        room = left_room;
-        places = places;
-        noted = noted;
+        room = left_room; places = places; noted = noted;
       }
 
 -- ---- what is shown
 
 -- it changes what is kept beside entries alone
 request-rest : (k : Holder) (request : EntryRequest) (s : State) → (shown (entry_answer k request) s).scene ≡ record s.scene { table = (shown (entry_answer k request) s).scene.table }
-request-rest k (Open mode) s = refl
-request-rest k (Want caps) s = refl
-request-rest k (Ack seq) s = refl
-request-rest k (Release caps) s = refl
+request-rest k request s = grind arith
 
 pub shown-rest : (a : Answer) (s : State) → (shown (answer_of a) s).scene ≡ record s.scene { table = (shown (answer_of a) s).scene.table }
-shown-rest Done s = refl
-shown-rest (Dropped dropped) s = refl
-shown-rest (Touched k request) s = request-rest k request s
-shown-rest (Awaited ticket) s = refl
+shown-rest a s = grind arith
 
-pub shown-known : (a : Answer) (s : State) (sets : KnownSets) → AreKnown sets s.scene → AreKnown sets (shown (answer_of a) s).scene
-shown-known Done s sets known = known
-shown-known (Dropped dropped) s sets known = known
-shown-known (Touched k request) s sets known =
-    subst (AreKnown sets) (sym (request-rest k request s)) (known-alike sets s.scene (shown (entry_answer k request) s).scene.table (show_reply-alike s k request) known)
-shown-known (Awaited ticket) s sets known = known
+pub shown-kept : (a : Answer) (s : State) (sets : KnownSets) → AreKept sets s.scene → AreKept sets (shown (answer_of a) s).scene
+shown-kept Done s sets kept = kept
+shown-kept (Dropped dropped) s sets kept = kept
+shown-kept (Touched k request) s sets kept =
+    subst (AreKept sets) (sym (request-rest k request s)) (alike-kept sets s.scene (shown (entry_answer k request) s).scene.table (show_reply-alike s k request) kept)
+shown-kept (Awaited ticket) s sets kept = kept
 
 -- where there is room for some, there is for fewer
 pub fewer-places : (a : Answer) (n m : ℕ) → m ≤ n → HasPlaces a n → HasPlaces a m
-fewer-places Done n m few places = places
-fewer-places (Dropped dropped) n m few places = omega (arith, few, places)
-fewer-places (Touched k request) n m few places = places
-fewer-places (Awaited ticket) n m few places = places
+fewer-places a n m few places = grind arith
 
 -- those of earlier steps are no more than all
 pub few-earlier : (a : Answer) (told : List Ended) → length (earlier_of a told) ≤ length told
-few-earlier (Awaited ticket) told =
-    let few : length (but_for ticket told) ≡ count_by (λ (m : Ended). not (m.ticket.0 == ticket.0)) told = length-filter (λ (m : Ended). not (m.ticket.0 == ticket.0)) told in
-    let most = count_by-le-length (λ (m : Ended). not (m.ticket.0 == ticket.0)) told in
-    omega (arith, few, most)
-few-earlier Done told = omega arith
-few-earlier (Dropped dropped) told = omega arith
-few-earlier (Touched k request) told = omega arith
+few-earlier a told = grind (arith, length-filter, count_by-le-length)
 
 -- ---- the end of the step
 
@@ -138,7 +120,7 @@ module _ (p q : Parts) (e : Event) (effect : Effect) (may : MayBegin p e) (begun
 
   pub ended-known : AreKnown now last
   ended-known =
-      ends-known p.known.sets q.known.sets now (among effect.affected) before affected may.whole.0 may.table begun.table begun.affects may.whole.2 begun.still begun.knows last told ends
+      ends-known p.known.sets q.known.sets now (among effect.affected) before affected may.whole.0 may.table begun.table begun.affects may.whole.2.0 begun.still begun.knows last told ends
 
   pub ended-numbers : HaveOwnNumbers told
   ended-numbers = told-own_numbers ends.at (among effect.affected) q.scene ends.settled told ends.sized settles
@@ -147,10 +129,8 @@ module _ (p q : Parts) (e : Event) (effect : Effect) (may : MayBegin p e) (begun
   all same = subst (λ n. earlier n told ≡ told) same (told-all ends.at (among effect.affected) q.scene ends.settled told ends.sized settles order)
 
   by_answer : (a : Answer) → IsNumbered a p.scene.locks.last q.scene.locks.last → earlier p.scene.locks.last told ≡ earlier_of a told
-  by_answer Done same = all same
-  by_answer (Dropped dropped) same = all same
-  by_answer (Touched k request) same = all same
   by_answer (Awaited ticket) (own, next) = told-but_own ends.at (among effect.affected) q.scene ends.settled told ends.sized settles order p.scene.locks.last ticket own next
+  by_answer a same = all same
 
   others : earlier p.scene.locks.last told ≡ earlier_of effect.answer told
   others = by_answer effect.answer begun.number
@@ -163,10 +143,7 @@ module _ (p q : Parts) (e : Event) (effect : Effect) (may : MayBegin p e) (begun
   by_the_rules = state_at_end before (direct before e).state settles.moves (finished_at ends.at (known_in q.known.sets) (sizes_owed (sized_in settles.moves) ends.settled))
 
   same_state : closed ≡ by_the_rules
-  same_state =
-      (λ i. record { scene = ends.finished i; messages = q.messages.items ++ (sym others ∙ ap (earlier p.scene.locks.last) settles.ended_is) i })
-      ∙ ap (λ (sized : List Ino). state_at_end before affected settles.moves (finished_at ends.at (known_in q.known.sets) (sizes_owed sized ends.settled))) settles.sized_is
-      ∙ ap (λ (s : State). state_at_end before s settles.moves (finished_at ends.at (known_in q.known.sets) (sizes_owed (sized_in settles.moves) ends.settled))) begun.is
+  same_state = grind (arith, others)
 
   pub ended-answered : (said : Said) (new : State) → said.reply ≡ reply_of closed told (answer_of effect.answer) → said.kept ≡ said.reply
       → said.ended ≡ dropped_of effect.answer ++ earlier_of effect.answer told → new ≡ shown (answer_of effect.answer) closed → IsAnswered before e said new

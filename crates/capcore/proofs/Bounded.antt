@@ -12,8 +12,7 @@ use Rattle.capcore.proofs.Asked.{order-of_ask}
 -- ---- the queue stays in order, whatever the event
 
 found-order : (s : State) (o : Option ℕ) → IsLockMap s.scene.locks → IsLockMap (found s o).state.scene.locks
-found-order s None order = order
-found-order s (Some ino) order = order
+found-order s o order = grind arith
 
 -- who comes to wait, comes last
 effect-order : (old : State) (e : Event) → judged old.scene e ≡ None → IsLockMap old.scene.locks → IsLockMap (effect old e).state.scene.locks
@@ -66,4 +65,4 @@ moves-bounded s ms t order made = record {
 -- what is so of all moves that are made, is so of those of a step
 pub by-moves : (Fact : Scene → List Made → Type 0) (old : State) (e : Event) (answer : Reply) (ended : List Ended) (new : State) → Step old e answer ended new
     → ((ms : List Made) (t : Scene) → MakesAll (direct old e).state.scene ms t → Fact (direct old e).state.scene ms) → ByMoves Fact old e answer ended new
-by-moves Fact old e answer ended new (moves, by) fact = (let settles = by.settles in (moves, by, fact moves by.settled settles.made))
+by-moves Fact old e answer ended new (moves, by) fact = (moves, by, fact moves by.settled by.settles.made)

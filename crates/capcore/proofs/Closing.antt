@@ -4,10 +4,9 @@ use Rattle.capcore.proofs.Common.{eqb-true, All-weaker, All-contains, IsTree, Se
 use Rattle.captable.specs.Calls.{entries_on}
 use Rattle.capsteps.proofs.Lockmachine.Finding.{filter-contains}
 use Rattle.capsteps.proofs.Lockmachine.SameOutside.{outside-one, rest-outside}
-use Rattle.capsteps.specs.Begun.{MayEnd, MaySettle}
+use Rattle.capsteps.specs.Begun.{ArePermittedIn, MayEnd, MaySettle}
 use Rattle.capsteps.specs.Caprules.Finish.{is_sized, owed}
 use Rattle.capsteps.specs.Affected.{finished_entry}
-use Rattle.capsteps.specs.Capacts.Known.{HaveRoom}
 use Rattle.capcore.proofs.EndedIn.{earlier-all, earlier-but_own, own-numbers}
 use Rattle.capsteps.proofs.Forgotten.{all_rows}
 use Rattle.capsteps.proofs.ManyInodes.{table-where}
@@ -17,15 +16,13 @@ use Rattle.capsteps.proofs.SameOff.{row_elsewhere}
 
 module _ (at from : ℕ → Bool) (first settled : Scene) (told : List Ended) (sized : List Ino) (settles : SettlesWith at from first settled told sized) where
   made : MakesAll first settles.moves settled
-  made = let at_them = settles.settles in let all = at_them.settles in all.made
+  made = settles.settles.settles.made
 
   pub told-own_numbers : HaveOwnNumbers told
-  told-own_numbers =
-      subst HaveOwnNumbers (sym settles.ended_is) (own-numbers first settles.moves settled made)
+  told-own_numbers = subst HaveOwnNumbers (sym settles.ended_is) (own-numbers first settles.moves settled made)
 
   pub told-all : IsLockMap first.locks → earlier first.locks.last told ≡ told
-  told-all order =
-      subst (λ (ms : List Ended). earlier first.locks.last ms ≡ ms) (sym settles.ended_is) (earlier-all first settled settles.moves made order)
+  told-all order = subst (λ (ms : List Ended). earlier first.locks.last ms ≡ ms) (sym settles.ended_is) (earlier-all first settled settles.moves made order)
 
   pub told-but_own : IsLockMap first.locks → (last : ℕ) (own : Ticket) → own.0 ≡ last + 1 → first.locks.last ≡ last + 1 → earlier last told ≡ but_for own told
   told-but_own order last own next given =
@@ -34,16 +31,12 @@ module _ (at from : ℕ → Bool) (first settled : Scene) (told : List Ended) (s
 -- ---- at the end the sessions are as they were, and each entry has one row still
 
 pub ends-sessions : (from : ℕ → Bool) (was now : KnownSets) (first last : Scene) (told : List Ended) → EndsWith from was now first last told → last.sessions ≡ first.sessions
-ends-sessions from was now first last told ends =
-    let settles = ends.settles in
-    let moved = moved-all first settles.moves ends.settled (made ends.at from first ends.settled told ends.sized settles) in
-    ap (λ (s : Scene). s.sessions) ends.finished ∙ moved.sessions
+ends-sessions from was now first last told ends = grind arith
 
 pub ends-table : (from : ℕ → Bool) (was now : KnownSets) (first last : Scene) (told : List Ended) → EndsWith from was now first last told → IsTable first.table → IsTable last.table
 ends-table from was now first last told ends table =
-    let settles = ends.settles in
     let then = sizes_owed ends.sized ends.settled in
-    let moved = moved-all first settles.moves ends.settled (made ends.at from first ends.settled told ends.sized settles) in
+    let moved = moved-all first ends.settles.moves ends.settled (made ends.at from first ends.settled told ends.sized ends.settles) in
     subst (λ (s : Scene). IsTable s.table) (sym ends.finished)
     (table-where (λ row. ends.at row.holder.ino.0) (finished_entry (known_in was) then) then.table
     (table-where (is_sized ends.sized) owed ends.settled.table (subst IsTable (sym moved.table) table)))
@@ -62,36 +55,31 @@ module _ (from : ℕ → Bool) (old affected : State) (sound : IsSound old) (aff
       by_test : (row : EntryRow) → Contains rows row → (b : Bool) → from row.holder.ino.0 ≡ b → Q row
       by_test row inside true on = here row (affects.each row inside on)
       by_test row inside false off =
-          let same = affects.same in
-          let was = row_elsewhere from old.scene.table affected.scene.table same.entries row inside off in
+          let was = row_elsewhere from old.scene.table affected.scene.table affects.same.entries row inside off in
           elsewhere row was off (All-contains (IsSoundEntry old.scene) old.scene.table.rows row sound.entries was)
 
   affects-clients : All (λ row. IsTrue (has_session affected.scene.sessions row.holder.client.0)) rows
   affects-clients =
       affects-all (λ row. IsTrue (has_session affected.scene.sessions row.holder.client.0)) (λ row entry. entry.of_session)
-      (λ row was off entry. let same = affects.same in ap is_some (same.sessions row was off) ∙ entry.of_session)
+      (λ row was off entry. ap is_some (affects.same.sessions row was off) ∙ entry.of_session)
 
   -- so the locks may settle behind it and the step may end
   pub affects-settles : IsTree affected.scene.tree → IsLockMap affected.scene.locks → MaySettle from affected.scene
   affects-settles tree order = record { quiet = rest-outside from old.scene affected.scene sound.at_rest affects.same; tree = tree; order = order }
 
-  pub affects-ends : (was : KnownSets) (count : ℕ) → count < 2 ^ 32 → All (λ row. row.entry.seq ≤ count) rows → HaveRoom was affected.scene.table → MayEnd was affected.scene.sessions affected.scene.table
-  affects-ends was count less given room = record {
+  pub affects-ends : (sets : KnownSets) (count : ℕ) → count < 2 ^ 32 → All (λ row. row.entry.seq ≤ count) rows → ArePermittedIn sets affected.scene → MayEnd sets affected.scene
+  affects-ends sets count less given permitted = record {
     numbers = All-weaker (λ (row : EntryRow). row.entry.seq ≤ count) (λ (row : EntryRow). row.entry.seq < 2 ^ 64 - 1) (λ row few. omega (arith, few, less)) rows given;
     clients = affects-clients;
-    room = room;
+    permitted = permitted;
   }
 
 -- it affects the inodes of which there is but this one
 pub affects-one : (ino : ℕ) (old : State) (first : Scene) → IsSound old → AffectsOne ino old first → Affects (λ other. other == ino) old (with_scene old first)
 affects-one ino old first sound one = record {
   same = outside-one ino old.scene first one.same;
-  states = one.states;
-  known = one.known;
-  locked = one.locked;
-  waiting = one.waiting;
-  messages = (let same = one.same in
-      subst (λ (t : SessionTable). All (λ m. IsTrue (has_session t m.client.0)) old.messages) (sym same.sessions) sound.messages);
+  states = one.states; known = one.known; locked = one.locked; waiting = one.waiting;
+  messages = subst (λ (t : SessionTable). All (λ m. IsTrue (has_session t m.client.0)) old.messages) (sym one.same.sessions) sound.messages;
   at_lock = λ i part is none.
       ap (λ i. first_for first.locks.queue i part) (eqb-true i ino is)
       ∙ one.at_lock part (ap (λ i. lock_at first.locks i part) (sym (eqb-true i ino is)) ∙ none);

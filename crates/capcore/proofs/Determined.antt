@@ -44,9 +44,7 @@ ends-once s q o x (Without_memory nothing takes) (As_judged) alike = sym (alike.
 ends-once s q o x (Without_memory nothing takes) (Without_memory nothing' takes') alike = refl
 
 made-first : (s : Scene) (m : Made) (t : Scene) → Makes s m t → first_move s ≡ move_of m
-made-first s (Began i p to) t made = made.0
-made-first s (Gathered i p) t made = made.0
-made-first s (Served q o) t made = made.0
+made-first s m t made = grind arith
 
 -- there is one move that may be made
 made-once : (s : Scene) (m n : Made) (ms ns : List Made) (t u : Scene) → Makes s m t → Makes s n u → Agree (ended_in (m ∷ ms)) (ended_in (n ∷ ns)) → (m ≡ n) × (t ≡ u)
@@ -64,9 +62,8 @@ made-once s (Served q o) (Served r x) ms ns t u (first, waits, may, is) (other, 
 made-once s m n ms ns t u one other agree = (let same : move_of m ≡ move_of n = sym (made-first s m t one) ∙ made-first s n u other in absurd (cc))
 
 among-behind : (m : Made) (ms : List Made) (e : Ended) → Contains (ended_in ms) e → Contains (ended_in (m ∷ ms)) e
-among-behind (Began i p to) ms e inside = inside
-among-behind (Gathered i p) ms e inside = inside
 among-behind (Served q o) ms e inside = Contains-append_right (end_of q o ∷ []) (ended_in ms) e inside
+among-behind m ms e inside = inside
 
 -- so one list of moves settles
 settled-once : (s : Scene) (ms ns : List Made) (t u : Scene) → MakesAll s ms t → first_move t ≡ Settled → MakesAll s ns u → first_move u ≡ Settled → Agree (ended_in ms) (ended_in ns) → (ms ≡ ns) × (t ≡ u)
@@ -90,8 +87,7 @@ module _ (old : State) (order : IsLockMap old.scene.locks) where
   all-fit d = All-weaker (λ (q : Request). (1 ≤ q.ticket.0) × (q.ticket.0 ≤ old.scene.locks.last)) (Fits old d) (λ q given. inl given.1) old.scene.locks.queue order.given
 
   found-fits : (o : Option ℕ) → All (Fits old (found old o)) (found old o).state.scene.locks.queue
-  found-fits None = all-fit (found old None)
-  found-fits (Some ino) = all-fit (found old (Some ino))
+  found-fits o = grind arith
 
   left-fits : (d : Direct) (client : ClientId) → All (Fits old d) (filter (λ q. not (is_of_client client q)) old.scene.locks.queue)
   left-fits d client = All-filter (λ q. not (is_of_client client q)) (Fits old d) old.scene.locks.queue (all-fit d)
@@ -122,8 +118,7 @@ module _ (old : State) (order : IsLockMap old.scene.locks) where
 found-own : (m : Ended) (ms : List Ended) → HaveOwnNumbers ms → Contains ms m → find (is_of_ticket m.ticket) ms ≡ Some m
 found-own m [] differ (k, room, at) = absurd (omega arith)
 found-own m (x ∷ xs) differ (zero, room, at) =
-    let e : x ≡ m = at in
-    rw e (ap (λ b. cond b (Some m) (find (is_of_ticket m.ticket) xs)) (nat_eq_equiv.refl m.ticket.0))
+    let e : x ≡ m = at in rw e (ap (λ b. cond b (Some m) (find (is_of_ticket m.ticket) xs)) (nat_eq_equiv.refl m.ticket.0))
 found-own m (x ∷ xs) differ (suc k, room, at) =
     let inside : Contains xs m = (k, omega arith, at) in
     let other = All-contains (λ (y : Ended). y.ticket.0 ≢ x.ticket.0) xs m (own-head x xs differ) inside in
@@ -136,8 +131,7 @@ own-one m n ms differ inside inside' same =
 
 -- one that is answered as out of memory ended so
 short-answer : (t : Ticket) (o : Outcome) → unwrap_or (outcome_reply o) (reply.Waiting t) ≡ reply.OutOfMemory → o ≡ outcome.OutOfMemory
-short-answer t outcome.OutOfMemory is = refl
-short-answer t o is = absurd (cc)
+short-answer t o is = grind arith
 
 -- ---- the step
 
@@ -228,10 +222,7 @@ module _ (old : State) (e : Event) (order : IsLockMap old.scene.locks) where
       (same.0, same.3)
 
   shown-order : (a : Answer) (last : State) → IsLockMap last.scene.locks → IsLockMap (shown a last).scene.locks
-  shown-order (Says answer) last kept = kept
-  shown-order (Shows k) last kept = kept
-  shown-order (Gives client max) last kept = kept
-  shown-order (Awaits ticket) last kept = kept
+  shown-order a last kept = grind arith
 
   -- and leaves the requests in order
   pub step-order : (a : Reply) (xs : List Ended) (new : State) → Step old e a xs new → IsLockMap new.scene.locks

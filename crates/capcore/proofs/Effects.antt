@@ -1,5 +1,5 @@
 -- What each event by itself comes to, from what the calls below answered.
-use Rattle.std.proofs.Common.{◌≡◌, ℕ, ◌+◌, List, [], ◌∷◌, Option, Some, None, refl, ap, ◌∙◌}
+use Rattle.std.proofs.Common.{◌≡◌, ℕ, ◌+◌, List, [], ◌∷◌, Option, Some, None, refl, ap, ◌∙◌, arith}
 use Rattle.capcore.proofs.Common.{option_map, ClientId, Ino, Refusal, Snapshot, child, Directory, Event, Reply, Rejection, ByTest, State, rejection_of, judged, asked_tests, Need, need, Says, IsDirect, direct, effect_unless, found}
 use Rattle.std.specs.FinMap as map
 use Rattle.capbits.specs.declared.mode.Mode.{Mode}
@@ -22,9 +22,6 @@ module _ (old : State) (e : Event) (tests more : List Test) (needed : List Need)
   refused : (r : Refusal) → first_failing more ≡ Some r → IsDirect old e (reply.Refused r) old
   refused r is = direct-rejection old e (ByTest r) (rest ∙ ap (option_map ByTest) is)
 
-  nothing : first_failing more ≡ None → judged old.scene e ≡ None
-  nothing none = rest ∙ ap (option_map ByTest) none
-
 module _ (old : State) (client : ClientId) (ino : Ino) (name : List ℕ) (free : rejection_of old.scene (asked_tests old.scene client ino.0) (need client ino.0 Snapshot ∷ []) [] ≡ None) where
   pub snapshot-refused : (r : Refusal) → first_failing (new_snapshot_tests old.scene.tree ino.0 name) ≡ Some r → IsDirect old (event.MakeSnapshot client ino name) (reply.Refused r) old
   snapshot-refused r is = refused old (event.MakeSnapshot client ino name) (asked_tests old.scene client ino.0) (new_snapshot_tests old.scene.tree ino.0 name) (need client ino.0 Snapshot ∷ []) refl free r is
@@ -39,21 +36,11 @@ module _ (old : State) (client : ClientId) (dir : Ino) (name : List ℕ) (mode :
 
   pub birth-done : (kind : Kind) (ino : Ino) → first_failing (new_inode_tests old.scene.tree dir.0 name) ≡ None → ino.0 ≡ old.scene.tree.last + 1 →
       IsDirect old (made_event kind client dir name mode) (reply.Ino ino) (with_birth old kind dir.0 name (owned_by (map.get old.scene.sessions.sessions client.0) mode))
-  birth-done File ino none is =
-      let d = direct-passed old (event.Create client dir name mode) (reply.Ino (record { 0 = old.scene.tree.last + 1 })) refl (nothing old (event.Create client dir name mode) (asked_tests old.scene client dir.0) (new_inode_tests old.scene.tree dir.0 name) (need client dir.0 Write ∷ []) refl free none) in
-      record { answer_is = (λ i. Says (reply.Ino (record { 0 = is i }))) ∙ d.answer_is; state_is = d.state_is }
-  birth-done Directory ino none is =
-      let d = direct-passed old (event.Mkdir client dir name mode) (reply.Ino (record { 0 = old.scene.tree.last + 1 })) refl (nothing old (event.Mkdir client dir name mode) (asked_tests old.scene client dir.0) (new_inode_tests old.scene.tree dir.0 name) (need client dir.0 Write ∷ []) refl free none) in
-      record { answer_is = (λ i. Says (reply.Ino (record { 0 = is i }))) ∙ d.answer_is; state_is = d.state_is }
+  birth-done kind ino none is = grind arith
 
 -- a lookup changes nothing, whatever it answers
-found-still : (s : State) (ino : Option ℕ) → s ≡ (found s ino).state
-found-still s None = refl
-found-still s (Some ino) = refl
-
 lookup-still : (s : State) (client : ClientId) (dir : Ino) (name : List ℕ) (o : Option Rejection) → s ≡ (effect_unless s (event.Lookup client dir name) o).state
-lookup-still s client dir name None = found-still s (child s.scene.tree.nodes dir.0 name)
-lookup-still s client dir name (Some rejection) = refl
+lookup-still s client dir name o = grind arith
 
 pub looked-up : (old : State) (client : ClientId) (dir : Ino) (name : List ℕ) (answer : Reply) → Says answer ≡ (direct old (event.Lookup client dir name)).answer
     → IsDirect old (event.Lookup client dir name) answer old
@@ -61,10 +48,7 @@ looked-up old client dir name answer says = record { answer_is = says; state_is 
 
 -- what stops a request at the inode that it names stops the event
 pub birth-rejection : (old : State) (kind : Kind) (client : ClientId) (dir : Ino) (name : List ℕ) (mode : Mode) (r : Rejection) → rejection_of old.scene (asked_tests old.scene client dir.0) (need client dir.0 Write ∷ []) [] ≡ Some r → IsDirect old (made_event kind client dir name mode) (rejection_reply r) old
-birth-rejection old File client dir name mode r is =
-    direct-rejection old (event.Create client dir name mode) r (rejection old.scene (asked_tests old.scene client dir.0) (need client dir.0 Write ∷ []) (new_inode_tests old.scene.tree dir.0 name) r is)
-birth-rejection old Directory client dir name mode r is =
-    direct-rejection old (event.Mkdir client dir name mode) r (rejection old.scene (asked_tests old.scene client dir.0) (need client dir.0 Write ∷ []) (new_inode_tests old.scene.tree dir.0 name) r is)
+birth-rejection old kind client dir name mode r is = grind (arith, direct-rejection, rejection)
 
 pub making-rejection : (old : State) (client : ClientId) (ino : Ino) (name : List ℕ) (r : Rejection) → rejection_of old.scene (asked_tests old.scene client ino.0) (need client ino.0 Snapshot ∷ []) [] ≡ Some r → IsDirect old (event.MakeSnapshot client ino name) (rejection_reply r) old
 making-rejection old client ino name r is =

@@ -20,13 +20,12 @@ module _ (before was now : KnownSets) (from : ℕ → Bool) (old affected : Stat
   -- elsewhere entries are as they were
   elsewhere : (row : EntryRow) → Contains affected.scene.table.rows row → from row.holder.ino.0 ≡ false → known_of was row.holder ≡ Some (told_set old.scene row)
   elsewhere row inside off =
-      let same_from = affects.same in
-      let inside_old : Contains old.scene.table.rows row = row_elsewhere from old.scene.table affected.scene.table same_from.entries row inside off in
+      let inside_old : Contains old.scene.table.rows row = row_elsewhere from old.scene.table affected.scene.table affects.same.entries row inside off in
       still-known before was old.scene affected.scene.table known still row.holder row.entry row.entry
       (ap entry_of (row_found affected.scene.table row table inside)) (ap entry_of (row_found old.scene.table row old_table inside_old))
 
   off_from : (row : EntryRow) → ends.at row.holder.ino.0 ≡ false → from row.holder.ino.0 ≡ false
-  off_from row off = false_from_ne_true (from row.holder.ino.0) (λ is. let all = settles.settles in true≢false (sym (all.among row.holder.ino.0 is) ∙ off))
+  off_from row off = false_from_ne_true (from row.holder.ino.0) (λ is. true≢false (sym (settles.settles.among row.holder.ino.0 is) ∙ off))
 
   pub ends-known : AreKnown now last
   ends-known =

@@ -1,5 +1,5 @@
 -- The numbers of the requests that a settling ends.
-use Rattle.std.proofs.Common.{◌≡◌, ◌≢◌, ◌≤◌, ℕ, ◌+◌, ◌==◌, Bool, true, false, not, cond, List, [], ◌∷◌, refl, sym, ap, subst, ◌∙◌, All, Contains, arith, true≢false, nat_le, filter}
+use Rattle.std.proofs.Common.{◌≡◌, ◌≢◌, ◌≤◌, ℕ, suc, ◌+◌, ◌==◌, Bool, true, false, not, cond, List, [], ◌∷◌, refl, sym, ap, subst, ◌∙◌, All, Contains, arith, true≢false, nat_le, filter}
 use Rattle.capcore.proofs.Common.{nat_eq_equiv, eqb-true, All-weaker, All-contains, Ticket, Request, IsLockMap, Scene, Ended, Made, Began, Gathered, Served, Makes, MakesAll, ended_in, earlier, HaveOwnNumbers, but_for}
 use Rattle.std.proofs.lemmas.Bool.{eqb-false, le-leb, lt-leb}
 use Rattle.std.proofs.lemmas.List.Kept.{AllPairs-cons}
@@ -15,9 +15,11 @@ same-filter p q (m ∷ ms) all =
     ap (λ b. cond b (m ∷ filter p ms) (filter p ms)) (All-head (λ m. p m ≡ q m) m ms all)
     ∙ ap (λ rest. cond (q m) (m ∷ rest) rest) (same-filter p q ms (All-tail (λ m. p m ≡ q m) m ms all))
 
-kept-all : (ms : List Ended) → filter (λ _. true) ms ≡ ms
-kept-all [] = refl
-kept-all (m ∷ ms) = ap (λ rest. m ∷ rest) (kept-all ms)
+pub all_pass : {X : Type 0} (p : X → Bool) (xs : List X) → ((x : X) → Contains xs x → p x ≡ true) → filter p xs ≡ xs
+all_pass p [] passes = refl
+all_pass p (x ∷ xs) passes =
+    ap (λ b. cond b (x ∷ filter p xs) (filter p xs)) (passes x (0, omega arith, refl))
+    ∙ ap (λ rest. x ∷ rest) (all_pass p xs (λ y (inside : Contains xs y). passes y (suc inside.0, omega (arith, inside.1), inside.2)))
 
 -- ---- all were given
 
@@ -35,21 +37,12 @@ module _ (first settled : Scene) (moves : List Made) (made : MakesAll first move
   -- so where the step gave none, all are of earlier steps
   pub earlier-all : earlier first.locks.last (ended_in moves) ≡ ended_in moves
   earlier-all =
-      same-filter (λ m. nat_le m.ticket.0 first.locks.last) (λ _. true) (ended_in moves)
-      (All-weaker (λ m. m.ticket.0 ≤ first.locks.last) (λ m. nat_le m.ticket.0 first.locks.last ≡ true) (λ m less. le-leb m.ticket.0 first.locks.last less) (ended_in moves) below)
-      ∙ kept-all (ended_in moves)
+      all_pass (λ m. nat_le m.ticket.0 first.locks.last) (ended_in moves)
+      (λ m inside. le-leb m.ticket.0 first.locks.last (All-contains (λ m. m.ticket.0 ≤ first.locks.last) (ended_in moves) m below inside))
 
   -- and where it gave one, all but that
   pub earlier-but_own : (last : ℕ) (own : Ticket) → own.0 ≡ last + 1 → first.locks.last ≡ last + 1 → earlier last (ended_in moves) ≡ but_for own (ended_in moves)
-  earlier-but_own last own next given =
-      same-filter (λ m. nat_le m.ticket.0 last) (λ m. not (m.ticket.0 == own.0)) (ended_in moves)
-      (All-weaker (λ m. m.ticket.0 ≤ first.locks.last) (λ m. nat_le m.ticket.0 last ≡ not (m.ticket.0 == own.0)) one (ended_in moves) below)
-    where
-      one : (m : Ended) → m.ticket.0 ≤ first.locks.last → nat_le m.ticket.0 last ≡ not (m.ticket.0 == own.0)
-      one m less = elim (m.ticket.0 == own.0) as (λ b. (m.ticket.0 == own.0) ≡ b → nat_le m.ticket.0 last ≡ not b) [
-        | true ↦ λ e. lt-leb m.ticket.0 last (let same = eqb-true m.ticket.0 own.0 e in omega (arith, same, next))
-        | false ↦ λ e. le-leb m.ticket.0 last (let other = eqb-false m.ticket.0 own.0 e in omega (arith, other, next, given, less))
-      ] refl
+  earlier-but_own last own next given = grind (arith, same-filter, All-weaker, below, lt-leb, eqb-true, le-leb, eqb-false)
 
 -- ---- no two have the same number
 
@@ -58,8 +51,6 @@ own-numbers s [] t is = λ i j d less room. absurd (omega arith)
 own-numbers s (m ∷ ms) t (mid, one, rest) = by_move m one (own-numbers mid ms t rest)
   where
     by_move : (m : Made) → Makes s m mid → HaveOwnNumbers (ended_in ms) → HaveOwnNumbers (ended_in (m ∷ ms))
-    by_move (Began ino part to) one others = others
-    by_move (Gathered ino part) one others = others
     by_move (Served q o) (first, found, may, is) others =
         AllPairs-cons (λ (earlier later : Ended). later.ticket.0 ≢ earlier.ticket.0) (record { client = q.client; ticket = q.ticket; outcome = o }) (ended_in ms)
         (All-weaker (Waited mid.locks.queue) (λ other. other.ticket.0 ≢ q.ticket.0) other_number (ended_in ms) (ended-waited mid ms t rest)) others
@@ -75,3 +66,4 @@ own-numbers s (m ∷ ms) t (mid, one, rest) = by_move m one (own-numbers mid ms 
             (filter_passes (λ r. not (is_numbered q.ticket.0 r)) s.locks.queue) (subst (λ (rs : List Request). Contains rs waited.request) queue waited.inside) in
             let number : other.ticket.0 ≡ waited.request.ticket.0 = ap (λ (t : Ticket). t.0) waited.ticket in
             λ same. number_not waited.request passes (sym number ∙ same)
+    by_move m one others = others

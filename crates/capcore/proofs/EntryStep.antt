@@ -13,8 +13,7 @@ module _ (old : State) (e : Event) (moves : List Made) (settled last : Scene) (s
   one-step answer new answers is = (
     moves,
     record {
-      settled = settled;
-      settles = settles;
+      settled = settled; settles = settles;
       answer_is = answers ∙ sym (ap (λ (s : State). reply_of s (ended_in moves) (direct old e).answer) ended_at);
       new_is = is ∙ sym (ap (shown (direct old e).answer) ended_at);
       ended_is = refl;

@@ -57,7 +57,7 @@ pub flush-table : (old : State) (k : Holder) (change : Change) → IsTable old.s
 flush-table old k change table = IsTable-touched old.scene.table k table
 
 pub below-of_flush : (count : ℕ) (old : State) (k : Holder) (change : Change) → AreGiven count old → AreBelow count (with_flush old k change)
-below-of_flush count old k change given = let made = given.made in let last = given.last in (given.entries, omega (arith, made), omega (arith, last))
+below-of_flush count old k change given = (given.entries, omega (arith, given.made), omega (arith, given.last))
 
 -- ---- what nothing stops
 
@@ -69,10 +69,7 @@ flush_passed s k change free =
 
 -- and so has the call that makes it
 pub flush-calls : (s : Scene) (k : Holder) (change : Change) → judged s (event.Flush k.client k.ino change) ≡ None → first_failing (change_call_tests s.tree k.ino.0 change) ≡ None
-flush-calls s k change free =
-    change-passed s k.ino.0 change
-    (passed-both (session_tests s.sessions k.client.0) (inode_tests s.tree k.ino.0) (before-passed s (event.Flush k.client k.ino change) free)).1
-    (flush_passed s k change free)
+flush-calls s k change free = grind (arith, passed-both, before-passed, flush_passed)
 
 -- it leaves a tree
 pub flush-tree : (s : Scene) (k : Holder) (change : Change) → judged s (event.Flush k.client k.ino change) ≡ None → IsTree s.tree → IsTree (tree_changed s.tree k.ino.0 change)

@@ -1,7 +1,7 @@
 -- What was held is held on, but for what the event may take.
-use Rattle.std.proofs.Common.{◌≡◌, ℕ, ◌==◌, Bool, true, false, cond, ◌&&◌, ◌||◌, Option, Some, None, is_some, take, refl, sym, ap, subst, ◌∙◌, true≢false}
+use Rattle.std.proofs.Common.{◌≡◌, ℕ, ◌==◌, Bool, true, false, cond, ◌&&◌, ◌||◌, inl, inr, Option, Some, None, is_some, take, refl, sym, ap, subst, ◌∙◌, true≢false, arith}
 use Rattle.capcore.proofs.Common.{option_map, Cap, P, ClientId, Caps, child, Entry, Holder, Table, holder, entry_at, without_client, Scene, Event, Rejection, State, Direct, direct, effect, effect_unless, found, IssuesExactly, judged, revoked_of}
-use Rattle.std.proofs.lemmas.Bool.{or_parts, true_from_ne_false}
+use Rattle.std.proofs.lemmas.Bool.{cases_Bool, or_parts, true_from_ne_false}
 use Rattle.capbits.specs.Caps.{has}
 use Rattle.capbits.specs.Sets.{has-minus}
 use Rattle.captable.specs.Table.{same, is_among}
@@ -28,30 +28,22 @@ same-keeps : (before after : Table) (k : Holder) → entry_at after k ≡ entry_
 same-keeps before after k is e there = (e, is ∙ there, refl)
 
 changed-keeps : (t : Table) (j k : Holder) (g : Entry → Entry) → ((e : Entry) → (g e).held ≡ e.held) → KeepsAt t (changed t j g) k
-changed-keeps t j k g held e there = by_same (same k j) refl
-  where
-    by_same : (b : Bool) → same k j ≡ b → HoldsOn (changed t j g) k e.held
-    by_same false off = (e, entry_at-changed_other t j k g (apart-of k j off) ∙ there, refl)
-    by_same true on =
-        let is : k ≡ j = same-is k j on in
-        (g e, ap (entry_at (changed t j g)) is ∙ entry_at-changed t j g ∙ ap (option_map g) (ap (entry_at t) (sym is) ∙ there), held e)
+changed-keeps t j k g held e there = elim (cases_Bool (same k j)) [
+  | inr off ↦ (e, entry_at-changed_other t j k g (apart-of k j off) ∙ there, refl)
+  | inl on ↦
+      let is : k ≡ j = same-is k j on in
+      (g e, ap (entry_at (changed t j g)) is ∙ entry_at-changed t j g ∙ ap (option_map g) (ap (entry_at t) (sym is) ∙ there), held e)
+]
 
 -- an opening makes no other entry than was there
 entry-kept : (t : Table) (j k : Holder) (e : Entry) → entry_at t k ≡ Some e → entry_at (with_entry t j) k ≡ Some e
-entry-kept t j k e there = by_same (same k j) refl
-  where
-    by_same : (b : Bool) → same k j ≡ b → entry_at (with_entry t j) k ≡ Some e
-    by_same false off = entry_at-entry_other t j k (apart-of k j off) ∙ there
-    by_same true on =
-        let is : k ≡ j = same-is k j on in
-        ap (λ (o : Option Entry). entry_at (cond (is_some o) t (opened t j)) k) (ap (entry_at t) (sym is) ∙ there) ∙ there
+entry-kept t j k e there = grind (arith, entry_at-entry_other, apart-of, same-is)
 
 recalled-keeps : (t : Table) (n : ℕ) (k : Holder) → KeepsAt t (recalled t n) k
-recalled-keeps t n k e there = by_test (is_among (take n t.recall) k) refl
-  where
-    by_test : (b : Bool) → is_among (take n t.recall) k ≡ b → HoldsOn (recalled t n) k e.held
-    by_test false off = (e, entry_at-recalled_other t n k off ∙ there, refl)
-    by_test true on = (with_asked true e, entry_at-recalled t n k on ∙ ap (option_map (with_asked true)) there, refl)
+recalled-keeps t n k e there = elim (cases_Bool (is_among (take n t.recall) k)) [
+  | inr off ↦ (e, entry_at-recalled_other t n k off ∙ there, refl)
+  | inl on ↦ (with_asked true e, entry_at-recalled t n k on ∙ ap (option_map (with_asked true)) there, refl)
+]
 
 -- ---- by event
 
@@ -65,10 +57,7 @@ module _ (old : State) (k : Holder) (cap : Cap) (held : holds old.scene k cap �
 
   -- what an entry holds on, did not go
   no_loss : (first : Scene) → KeepsAt t first.table k → holds first k cap ≡ false → ⊥
-  no_loss first keeps gone =
-      let found_it = holds-entry old.scene k cap held in
-      let left = keeps found_it.0 found_it.1 in
-      true≢false (sym found_it.2 ∙ ap (λ (caps : Caps). has caps cap) (sym left.2) ∙ sym (holds-found first k cap left.0 left.1) ∙ gone)
+  no_loss first keeps gone = grind (arith, holds-found)
 
   takes-nothing : (e : Event) (first : Scene) → KeepsAt t first.table k → Takes e first
   takes-nothing e first keeps gone = absurd (no_loss first keeps gone)
@@ -86,16 +75,7 @@ module _ (old : State) (k : Holder) (cap : Cap) (held : holds old.scene k cap �
 
   -- with the pin all that was held was given back
   given-own : (j : Holder) (caps : Caps) (first : Scene) → first.table ≡ released t j caps → k ≡ j → holds first k cap ≡ false → (has caps P || has caps cap) ≡ true
-  given-own j caps first left is gone = by_pin (has caps P) refl
-    where
-      by_pin : (b : Bool) → has caps P ≡ b → (b || has caps cap) ≡ true
-      by_pin true pin = refl
-      by_pin false no_pin =
-          let found_it = holds-entry old.scene k cap held in
-          let e : Entry = found_it.0 in
-          let now : entry_at first.table k ≡ Some (given_back caps e) =
-          ap (λ (u : Table). entry_at u k) left ∙ ap (entry_at (released t j caps)) is ∙ entry_at-released t j caps no_pin ∙ ap (option_map (given_back caps)) (ap (entry_at t) (sym is) ∙ found_it.1) in
-          gone_is (has e.held cap) (has caps cap) found_it.2 (sym (holds-found first k cap (given_back caps e) now ∙ has-minus e.held caps cap) ∙ gone)
+  given-own j caps first left is gone = grind (arith, holds-entry, entry_at-released, gone_is, holds-found, has-minus)
 
   released-own : (j : Holder) (caps : Caps) (first : Scene) → first.table ≡ released t j caps → holds first k cap ≡ false → (same k j && (has caps P || has caps cap)) ≡ true
   released-own j caps first left gone = by_same (same k j) refl
@@ -108,8 +88,7 @@ module _ (old : State) (k : Holder) (cap : Cap) (held : holds old.scene k cap �
   same_table first is = same-keeps t first.table k is
 
   looked_up : (e : Event) (o : Option ℕ) → Takes e (found old o).state.scene
-  looked_up e None = takes-nothing e old.scene (same_table old.scene refl)
-  looked_up e (Some ino) = takes-nothing e old.scene (same_table old.scene refl)
+  looked_up e o = grind arith
 
   -- the scene that the event leads to by itself
   abbrev first_of : Event → Scene

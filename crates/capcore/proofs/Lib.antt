@@ -27,6 +27,7 @@ pub mod Closing
 pub mod Begun
 pub mod SessionChanged
 pub mod SessionStep
+pub mod Granted
 pub mod ShownWords
 pub mod HeldOn
 pub mod EndKnown

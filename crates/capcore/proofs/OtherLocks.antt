@@ -1,5 +1,5 @@
 -- Locks change by the moves of a step alone: each other lock that is there at its end is as it was right after the event.
-use Rattle.std.proofs.Common.{◌≡◌, ℕ, Bool, true, false, Some, List, [], ◌∷◌, refl, sym, ap, ◌∙◌, true≢false}
+use Rattle.std.proofs.Common.{◌≡◌, ℕ, Bool, true, false, Some, List, [], ◌∷◌, refl, sym, ap, ◌∙◌, true≢false, arith}
 use Rattle.capcore.proofs.Common.{option_map, Part, LockState, Stable, Gather, LockMap, lock_at, present_state, Scene, Event, Ended, Reply, Answer, Says, Shows, Gives, Awaits, direct, shown, sizes_owed, Made, Began, Gathered, Served, Makes, MakesAll, sized_in, State, Step, state_after}
 use Rattle.std.specs.List.{list_any}
 use Rattle.std.specs.FinMap as map
@@ -22,11 +22,9 @@ other_lock locks ino part lock =
 
 one_stays : (s t : Scene) (m : Made) (ino : ℕ) (part : Part) → Makes s m t → is_of_lock_at ino part m ≡ false → lock_at t.locks ino part ≡ lock_at s.locks ino part
 one_stays s t (Began i p to) ino part (first, is) off =
-    ap (λ (s : Scene). lock_at s.locks ino part) is
-    ∙ other_lock s.locks i.0 p (Gather (present_state (lock_at s.locks i.0 p)) to) (ino, part) off
+    ap (λ (s : Scene). lock_at s.locks ino part) is ∙ other_lock s.locks i.0 p (Gather (present_state (lock_at s.locks i.0 p)) to) (ino, part) off
 one_stays s t (Gathered i p) ino part (first, is) off =
-    ap (λ (s : Scene). lock_at s.locks ino part) is
-    ∙ other_lock s.locks i.0 p (Stable (coming_state (lock_at s.locks i.0 p))) (ino, part) off
+    ap (λ (s : Scene). lock_at s.locks ino part) is ∙ other_lock s.locks i.0 p (Stable (coming_state (lock_at s.locks i.0 p))) (ino, part) off
 one_stays s t (Served q o) ino part (first, found, may, is) off = ap (λ (s : Scene). lock_at s.locks ino part) is
 
 all_stay : (s : Scene) (moves : List Made) (t : Scene) (ino : ℕ) (part : Part) → MakesAll s moves t → list_any (is_of_lock_at ino part) moves ≡ false
@@ -40,18 +38,12 @@ all_stay s (m ∷ moves) t ino part (mid, one, made) off =
 
 -- what a client is told leaves the locks
 shown_locks : (a : Answer) (s : State) → (shown a s).scene.locks ≡ s.scene.locks
-shown_locks (Says reply) s = refl
-shown_locks (Shows k) s = refl
-shown_locks (Gives client max) s = refl
-shown_locks (Awaits ticket) s = refl
+shown_locks a s = grind arith
 
 -- a lock that is there at the end was so once the locks had settled
 lock_before : (s : Scene) (kept : ℕ → Bool) (ino : ℕ) (part : Part) (lock : LockState)
     → option_map (lock_in part) (map.get (map.retain_keys s.locks.states kept) ino) ≡ Some lock → lock_at s.locks ino part ≡ Some lock
-lock_before s kept ino part lock there = elim (kept ino) as (λ b. kept ino ≡ b → lock_at s.locks ino part ≡ Some lock) [
-  | true ↦ λ e. sym (ap (option_map (lock_in part)) (retained-here s.locks.states kept ino e)) ∙ there
-  | false ↦ λ e. (let gone = ap (option_map (lock_in part)) (retained-gone s.locks.states kept ino e) in cc)
-] refl
+lock_before s kept ino part lock there = grind (arith, retained-here, retained-gone)
 
 -- locks change by the moves of the step alone
 pub other-locks : (old : State) (e : Event) (answer : Reply) (ended : List Ended) (new : State) → Step old e answer ended new
@@ -60,10 +52,9 @@ other-locks old e answer ended new (moves, by) = (
   moves,
   by,
   λ ino part lock off there.
-      let settles = by.settles in
       let last = state_after old (direct old e) moves by.settled in
       let at_end : lock_at last.scene.locks ino part ≡ Some lock =
       sym (ap (λ (s : State). lock_at s.scene.locks ino part) by.new_is ∙ ap (λ (locks : LockMap). lock_at locks ino part) (shown_locks (direct old e).answer last)) ∙ there in
-      sym (all_stay (direct old e).state.scene moves by.settled ino part settles.made off)
+      sym (all_stay (direct old e).state.scene moves by.settled ino part by.settles.made off)
       ∙ lock_before by.settled (is_in_use (issue (sizes_owed (sized_in moves) by.settled))) ino part lock at_end,
 )

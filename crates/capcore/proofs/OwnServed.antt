@@ -1,6 +1,6 @@
 -- A request that is served in the step that brought it is never denied or refused: it was let wait, and nothing is served before
 -- it, so that the tree is as it was.
-use Rattle.std.proofs.Common.{◌≡◌, ℕ, Bool, true, false, ◌&&◌, ◌==◌, cond, Option, Some, None, List, [], ◌∷◌, ◌++◌, refl, sym, ap, subst, ◌∙◌, Contains, true≢false, unwrap_or}
+use Rattle.std.proofs.Common.{◌≡◌, ℕ, Bool, true, false, ◌&&◌, ◌==◌, cond, Option, Some, None, List, [], ◌∷◌, ◌++◌, refl, sym, ap, subst, ◌∙◌, Contains, true≢false, unwrap_or, arith}
 use Rattle.capcore.proofs.Common.{find, option_map_or, nat_eq_equiv, eqb-true, Part, ClientId, Ino, Ticket, Node, LockState, Stable, Gather, Ask, Get, Alter, Unlink, Rmdir, Rename, Request, first_for, LockMap, IsLockMap, lock_at, next_request, with_request, Scene, present_state, IsQuiet, Outcome, Reply, Rejection, judged_again, MayEndAs, As_judged, Without_memory, Made, Began, Gathered, Served, MakesAll, ended_in}
 use Rattle.std.specs.Option.{option_or}
 use Rattle.std.specs.FinMap as map
@@ -32,16 +32,8 @@ module _ (ticket : Ticket) where
   abbrev answered : Outcome → Reply
   answered o = unwrap_or (outcome_reply o) (reply.Waiting ticket)
 
-  told-unstopped : (part : Part) (o : Option Node) → is_rejection (answered (values_outcome part o)) ≡ false
-  told-unstopped part None = refl
-  told-unstopped part (Some node) = refl
-
   passed-unstopped : (s : Scene) (ino : ℕ) (ask : Ask) → is_rejection (answered (passed_as s ino ask)) ≡ false
-  passed-unstopped s ino (Get part) = told-unstopped part (map.get s.tree.nodes ino)
-  passed-unstopped s ino (Alter change) = refl
-  passed-unstopped s ino Unlink = refl
-  passed-unstopped s ino Rmdir = refl
-  passed-unstopped s ino (Rename dir name) = refl
+  passed-unstopped s ino ask = grind arith
 
   -- it is neither denied nor refused
   unstopped : (s : Scene) (q : Request) (o : Outcome) → judged_again s q ≡ None → MayEndAs s q o → is_rejection (answered o) ≡ false
@@ -79,54 +71,24 @@ module _ (old : Scene) (client : ClientId) (inode : Ino) (ask : Ask) (rest : IsA
 
   -- ---- who is first for a lock
 
-  -- it waits for its own lock
-  for_its_own : is_for ino part q ≡ true
-  for_its_own = ap (λ b. b && same_part part part) (nat_eq_equiv.refl ino) ∙ nat_eq_equiv.refl (part_place part)
-
   -- and for no other
   for_no_other : (place : LockPlace) → is_at ino part place ≡ false → is_for place.0 place.1 q ≡ false
-  for_no_other place off = elim (is_for place.0 place.1 q) as (λ b. is_for place.0 place.1 q ≡ b → b ≡ false) [
-    | true ↦ λ e. (let both = and_parts (ino == place.0) (same_part part place.1) e in
-        let inos : ino ≡ place.0 = eqb-true ino place.0 both.0 in
-        let parts : part ≡ place.1 = same_part_is part place.1 both.1 in
-        absurd (true≢false (sym (here place inos parts) ∙ off)))
-    | false ↦ λ e. refl
-  ] refl
-    where
-      here : (place : LockPlace) → ino ≡ place.0 → part ≡ place.1 → is_at ino part place ≡ true
-      here place inos parts = (λ i. (sym inos i == ino) && same_part (sym parts i) part) ∙ ap (λ b. b && same_part part part) (nat_eq_equiv.refl ino) ∙ nat_eq_equiv.refl (part_place part)
+  for_no_other place off = (λ i. nat_eq_equiv.symm ino place.0 i && nat_eq_equiv.symm (part_place part) (part_place place.1) i) ∙ off
 
-  no_more : (o : Option Request) → option_or o None ≡ o
-  no_more None = refl
-  no_more (Some r) = refl
+  its_place : (i : ℕ) (p : Part) → is_at ino part (i, p) ≡ true → (i ≡ ino) × (p ≡ part)
+  its_place i p here = let both = and_parts (i == ino) (same_part p part) here in (eqb-true i ino both.0, same_part_is p part both.1)
 
   first_elsewhere : (place : LockPlace) → is_at ino part place ≡ false → first_for queue place.0 place.1 ≡ first_for old.locks.queue place.0 place.1
-  first_elsewhere place off =
-      find-append (is_for place.0 place.1) old.locks.queue (q ∷ [])
-      ∙ ap (λ b. option_or (first_for old.locks.queue place.0 place.1) (cond b (Some q) None)) (for_no_other place off)
-      ∙ no_more (first_for old.locks.queue place.0 place.1)
+  first_elsewhere place off = grind (arith, find-append, for_no_other)
 
   first_here : first_for old.locks.queue ino part ≡ None → first_for queue ino part ≡ Some q
-  first_here nobody =
-      find-append (is_for ino part) old.locks.queue (q ∷ [])
-      ∙ (λ i. option_or (nobody i) (cond (for_its_own i) (Some q) None))
+  first_here nobody = grind (arith, find-append)
 
   -- ---- every other lock is quiet
 
-  quiet-by : (place : LockPlace) (locks : LockMap) → first_for locks.queue place.0 place.1 ≡ first_for old.locks.queue place.0 place.1
-      → (o : Option LockState) → IsQuiet old place.0 place.1 o → IsQuiet (now locks) place.0 place.1 o
-  quiet-by place locks same None quiet = same ∙ quiet
-  quiet-by place locks same (Some (Stable state)) quiet = (
-    ap (λ (o : Option Request). table_of_targets.target_of place.1 state (head_of o) (wanted_in_all old place.0).loner (wanted_in_all old place.0).wanted) same ∙ quiet.0,
-    same ∙ quiet.1,
-  )
-  quiet-by place locks same (Some (Gather from to)) quiet = quiet
-
   module _ (locks : LockMap) (alone : IsAlone locks) where
     quiet-other : (place : LockPlace) → is_at ino part place ≡ false → IsQuiet (now locks) place.0 place.1 (lock_at locks place.0 place.1)
-    quiet-other place off =
-        subst (IsQuiet (now locks) place.0 place.1) (sym (alone.others place off))
-        (quiet-by place locks (ap (λ rs. first_for rs place.0 place.1) alone.same_queue ∙ first_elsewhere place off) (lock_at old.locks place.0 place.1) (rest.each place.0 place.1))
+    quiet-other place off = grind (arith, first_elsewhere)
 
     -- so what moves is its own
     only_here : (p : LockPlace → Bool) → ((place : LockPlace) → is_at ino part place ≡ false → p place ≡ false) → (place : LockPlace) → p place ≡ true → is_at ino part place ≡ true
@@ -140,18 +102,10 @@ module _ (old : Scene) (client : ClientId) (inode : Ino) (ask : Ask) (rest : IsA
 
     -- and a move of it leaves it alone
     still_alone : (i : ℕ) (p : Part) (lock : LockState) → is_at ino part (i, p) ≡ true → IsLockMap (with_lock locks i p lock) → IsAlone (with_lock locks i p lock)
-    still_alone i p lock here order = record {
-      same_queue = alone.same_queue;
-      others = λ place off. kept place off ∙ alone.others place off;
-      order = order;
-    }
+    still_alone i p lock here order = record { same_queue = alone.same_queue; others = λ place off. kept place off ∙ alone.others place off; order = order }
       where
         same_place : (place : LockPlace) → is_at i p place ≡ is_at ino part place
-        same_place place =
-            let both = and_parts (i == ino) (same_part p part) here in
-            let inos : i ≡ ino = eqb-true i ino both.0 in
-            let parts : p ≡ part = same_part_is p part both.1 in
-            λ k. is_at (inos k) (parts k) place
+        same_place place = let same = its_place i p here in λ k. is_at (same.0 k) (same.1 k) place
 
         kept : (place : LockPlace) → is_at ino part place ≡ false → lock_at (with_lock locks i p lock) place.0 place.1 ≡ lock_at locks place.0 place.1
         kept place off =
@@ -167,25 +121,18 @@ module _ (old : Scene) (client : ClientId) (inode : Ino) (ask : Ask) (rest : IsA
 
       its_number : (r : Request) → may_serve locks r ≡ true → q.ticket.0 ≡ r.ticket.0
       its_number r may =
-          let here = and_parts (r.ino.0 == ino) (same_part (part_of_ask r.ask) part) (of_it r may) in
-          let inos : r.ino.0 ≡ ino = eqb-true r.ino.0 ino here.0 in
-          let parts : part_of_ask r.ask ≡ part = same_part_is (part_of_ask r.ask) part here.1 in
+          let same = its_place r.ino.0 (part_of_ask r.ask) (of_it r may) in
           let first = (and_parts (is_first locks.queue r) (is_servable locks r) may).0 in
           eqb-true q.ticket.0 r.ticket.0
           (sym
           (ap (λ rs. option_map_or (is_numbered r.ticket.0) (first_for rs r.ino.0 (part_of_ask r.ask)) false) alone.same_queue
-          ∙ (λ k. option_map_or (is_numbered r.ticket.0) (first_for queue (inos k) (parts k)) false)
+          ∙ (λ k. option_map_or (is_numbered r.ticket.0) (first_for queue (same.0 k) (same.1 k)) false)
           ∙ ap (λ o. option_map_or (is_numbered r.ticket.0) o false) (first_here nobody))
           ∙ first)
 
       -- it is the request itself
       served-itself : (r : Request) → first_move (now locks) ≡ Serve r.ticket → find (is_numbered r.ticket.0) locks.queue ≡ Some r → Contains locks.queue q → r ≡ q
-      served-itself r first found inside =
-          let least = least_served (now locks) r.ticket alone.order first in
-          let may = least.2.may in
-          let number : q.ticket.0 ≡ r.ticket.0 = its_number least.0 may ∙ ap (λ (t : Ticket). t.0) least.1 in
-          let both : ◌≡◌ {A = Option Request} (Some r) (Some q) = sym found ∙ ap (λ n. find (is_numbered n) locks.queue) (sym number) ∙ found_by_number locks q alone.order inside in
-          cc
+      served-itself r first found inside = grind (arith, least_served, its_number, found_by_number)
 
   -- ---- the step
 
@@ -223,10 +170,8 @@ module _ (old : Scene) (client : ClientId) (inode : Ino) (ask : Ask) (rest : IsA
     rests-on : IsQuiet (now waiting) ino part (lock_at waiting ino part) → IsAtRest (now waiting)
     rests-on here = record {
       each = λ i p. elim (is_at ino part (i, p)) as (λ b. is_at ino part (i, p) ≡ b → IsQuiet (now waiting) i p (lock_at waiting i p)) [
-        | true ↦ λ e. (let both = and_parts (i == ino) (same_part p part) e in
-            let inos : ino ≡ i = sym (eqb-true i ino both.0) in
-            let parts : part ≡ p = sym (same_part_is p part both.1) in
-            subst (λ (place : LockPlace). IsQuiet (now waiting) place.0 place.1 (lock_at waiting place.0 place.1)) (λ k. (inos k, parts k)) here)
+        | true ↦ λ e. (let same = its_place i p e in
+            subst (λ (place : LockPlace). IsQuiet (now waiting) place.0 place.1 (lock_at waiting place.0 place.1)) (λ k. (sym same.0 k, sym same.1 k)) here)
         | false ↦ λ off. quiet-other waiting alone-first (i, p) off
       ] refl;
     }

@@ -1,5 +1,5 @@
 -- A poll is a whole step: no lock moves, and nothing is left to do but to give the messages.
-use Rattle.std.proofs.Common.{◌≡◌, ℕ, ◌+◌, Option, Some, None, List, [], filter, refl, sym, ap, subst, ◌∙◌, append-nil}
+use Rattle.std.proofs.Common.{◌≡◌, ℕ, ◌+◌, Option, Some, None, List, [], filter, refl, sym, ap, subst, ◌∙◌, append-nil, arith}
 use Rattle.capcore.proofs.Common.{ClientId, session_tests, Table, IsTable, is_of_client, Event, Ended, Reply, Said, Rejection, State, IsAnswered, judged, rejection_by, first_denied, Direct, Gives, direct, effect_unless, reply_of, shown, IssuesExactly, Settles, IsSound, AreGiven, Step, all_ended, state_after, sound-settles, shown-sound, shown-given, shown-issued}
 use Rattle.capbits.specs.Refusal.{first_failing}
 use Rattle.captable.specs.Many.{changed_where}
@@ -18,8 +18,7 @@ module _ (old : State) (sound : IsSound old) (table : IsTable old.scene.table) (
 
   -- by itself it changes nothing
   same_state : (o : Option Rejection) → (effect_unless old poll o).state ≡ old
-  same_state (Some rejection) = refl
-  same_state None = refl
+  same_state o = grind arith
 
   -- ---- where the client has an open session
 
@@ -72,10 +71,4 @@ module _ (old : State) (sound : IsSound old) (table : IsTable old.scene.table) (
   pub polled-new : (given : List Message) (left : Table) (due : List Ended) → given ≡ first_messages old client max → left ≡ changed_where (is_of_client client) (after_messages given) old.scene.table
       → due ≡ filter (is_left client given) old.messages
       → with_given old client (first_messages old client max) ≡ record { scene = record old.scene { table = left }; messages = due }
-  polled-new given left due is changed kept = λ i. record { scene = record old.scene { table = tables i }; messages = messages i }
-    where
-      messages : filter (is_left client (first_messages old client max)) old.messages ≡ due
-      messages = ap (λ given. filter (is_left client given) old.messages) (sym is) ∙ sym kept
-
-      tables : changed_where (is_of_client client) (after_messages (first_messages old client max)) old.scene.table ≡ left
-      tables = ap (λ given. changed_where (is_of_client client) (after_messages given) old.scene.table) (sym is) ∙ sym changed
+  polled-new given left due is changed kept = grind arith

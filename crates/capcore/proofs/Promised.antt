@@ -1,5 +1,5 @@
 -- The main promise, from what a step is.
-use Rattle.std.proofs.Common.{◌≡◌, ℕ, Bool, true, false, ◌||◌, List, Option, Some, None, refl, sym, ap, subst, ◌∙◌, true≢false, IsTrue}
+use Rattle.std.proofs.Common.{◌≡◌, ℕ, Bool, true, false, ◌||◌, List, Option, Some, None, refl, sym, ap, subst, ◌∙◌, true≢false, IsTrue, arith}
 use Rattle.capcore.proofs.Common.{find, option_map_or, none-some, All-contains, Access, EntryRow, Holder, IsTable, holder, is_row_of, child, Ask, Get, Alter, Unlink, Rmdir, Rename, IsLockMap, Scene, Event, Refusal, Reply, State, judged, before, needs, after, first_denied, rejection_by, Need, Ended, Rejection, ByTest, Direct, effect, effect_unless, found, direct, reply_of, IsDirect, Made, MakesAll, ended_in, Step, state_after, IsSoundEntry, IsSound, IssuesExactly}
 use Rattle.capbits.specs.Caps.{has}
 use Rattle.capgrant.specs.declared.rule.Rule.{Rule}
@@ -24,25 +24,9 @@ module _ (old last : State) (ended : List Ended) where
   abbrev read_off : Direct → Reply
   read_off d = reply_of last ended d.answer
 
-  lookup-not_rejected : (o : Option ℕ) → is_rejection (read_off (found old o)) ≡ false
-  lookup-not_rejected None = refl
-  lookup-not_rejected (Some ino) = refl
-
-  opened-not_rejected : (o : Option EntryRow) → is_rejection (opened_as last.scene o) ≡ false
-  opened-not_rejected None = refl
-  opened-not_rejected (Some row) = refl
-
   -- one that waits for no lock
   effect-not_rejected : (e : Event) → asks_for e ≡ None → is_rejection (read_off (effect old e)) ≡ false
-  effect-not_rejected (event.Lookup client dir name) none = lookup-not_rejected (child old.scene.tree.nodes dir.0 name)
-  effect-not_rejected (event.Open client ino mode) none = opened-not_rejected (find (is_row_of (holder client ino)) last.scene.table.rows)
-  effect-not_rejected (event.Want client ino caps) none = opened-not_rejected (find (is_row_of (holder client ino)) last.scene.table.rows)
-  effect-not_rejected (event.Get client ino part) none = absurd (none-some (holder client ino, Get part) (sym none))
-  effect-not_rejected (event.Alter client ino change) none = absurd (none-some (holder client ino, Alter change) (sym none))
-  effect-not_rejected (event.Unlink client ino) none = absurd (none-some (holder client ino, Unlink) (sym none))
-  effect-not_rejected (event.Rmdir client ino) none = absurd (none-some (holder client ino, Rmdir) (sym none))
-  effect-not_rejected (event.Rename client ino dir name) none = absurd (none-some (holder client ino, Rename dir name) (sym none))
-  effect-not_rejected e none = refl
+  effect-not_rejected e none = grind arith
 
 -- one that waits for a lock: if it is served in the step, then on the tree and the sessions on which it came
 asking-not_rejected : (old last : State) (e : Event) (k : Holder) (ask : Ask) (moves : List Made) (s : Scene) → IsSound old → IsLockMap old.scene.locks → asks_for e ≡ Some (k, ask) → judged old.scene e ≡ None
@@ -69,26 +53,16 @@ module _ (old last : State) (ended : List Ended) (e : Event) where
 
   cause : (o : Option Refusal) (d : Option Need) (l : Option Refusal) (access : Access) (rules : List Rule) → IsFree o d l → answered_by o d l ≡ reply.Denied access rules → Cause o d access rules
   unfolding answered_by Cause IsFree
-  cause (Some r) d l access rules free is = cc
-  cause None (Some n) l access rules free is =
-      let accesses : n.access ≡ access = cc in
-      let rs : failures old.scene.fs old.scene.tree old.scene.sessions n.holder n.access ≡ rules = cc in
-      (n, refl, refl, sym accesses, sym rs)
-  cause None None (Some r) access rules free is = cc
-  cause None None None access rules free is = absurd (true≢false (sym (ap is_rejection is) ∙ free refl))
+  cause o d l access rules free is = grind arith
 
   effect_of : (o : Option Refusal) (d : Option Need) (l : Option Refusal) (n : Need) → o ≡ None → d ≡ Some n → (access : Access) × (rules : List Rule) × (answered_by o d l ≡ reply.Denied access rules)
   unfolding answered_by
-  effect_of (Some r) d l n none some = cc
-  effect_of None None l n none some = cc
   effect_of None (Some m) l n none some = (m.access, failures old.scene.fs old.scene.tree old.scene.sessions m.holder m.access, refl)
+  effect_of o d l n none some = cc
 
   stops : (o : Option Refusal) (d : Option Need) (l : Option Refusal) → IsFree o d l → is_rejection (answered_by o d l) ≡ true → (rejection : Rejection) × (rejection_by old.scene o d l ≡ Some rejection)
   unfolding answered_by IsFree
-  stops (Some r) d l free is = (ByTest r, refl)
-  stops None (Some n) l free is = (ByPolicy n.access (failures old.scene.fs old.scene.tree old.scene.sessions n.holder n.access), refl)
-  stops None None (Some r) free is = (ByTest r, refl)
-  stops None None None free is = absurd (true≢false (sym is ∙ free refl))
+  stops o d l free is = grind arith
 
 module _ (old : State) (e : Event) (answer : Reply) (done : List Ended) (new : State) (step : Step old e answer done new) (sound : IsSound old) (order : IsLockMap old.scene.locks) where
   o : Option Refusal
@@ -114,10 +88,7 @@ module _ (old : State) (e : Event) (answer : Reply) (done : List Ended) (new : S
   not_rejected-by : (a : Option (Holder × Ask)) → asks_for e ≡ a → judged old.scene e ≡ None → is_rejection (read_off old last ended (effect old e)) ≡ false
   unfolding ended
   not_rejected-by None is none = effect-not_rejected old last ended e is
-  not_rejected-by (Some (k, ask)) is none =
-      let by = step.1 in
-      let settles = by.settles in
-      asking-not_rejected old last e k ask step.0 by.settled sound order is none settles.made
+  not_rejected-by (Some (k, ask)) is none = let by = step.1 in asking-not_rejected old last e k ask step.0 by.settled sound order is none by.settles.made
 
   free : IsFree old last ended e o d l
   unfolding IsFree o d l
@@ -144,9 +115,7 @@ module _ (old : State) (e : Event) (answer : Reply) (done : List Ended) (new : S
 -- ---- caps
 
 held_due : (held due : Bool) → (IsTrue due → IsTrue held) → held ≡ (held || due)
-held_due true due all = refl
-held_due false false all = refl
-held_due false true all = all refl
+held_due held due all = grind arith
 
 -- in a sound state all that is due is held
 pub has-due : (s : State) → IsSound s → IssuesExactly s.scene s.scene

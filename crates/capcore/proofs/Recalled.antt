@@ -1,6 +1,6 @@
 -- A recall is a whole step: it marks entries as asked for, by which nothing is judged, moved or issued.
-use Rattle.std.proofs.Common.{◌≡◌, ◌≤◌, ℕ, ◌+◌, Bool, true, false, cond, ◌||◌, List, [], map, take, refl, sym, subst}
-use Rattle.capcore.proofs.Common.{EntryRow, Holder, Table, IsTable, Said, State, KnownSets, AreKnown, IsAnswered, finished, IsSound, AreGiven, HoldAlike, known-alike}
+use Rattle.std.proofs.Common.{◌≡◌, ◌≤◌, ℕ, ◌+◌, Bool, true, false, cond, ◌||◌, List, [], map, take, refl, sym, subst, arith}
+use Rattle.capcore.proofs.Common.{EntryRow, Holder, Table, IsTable, Said, State, KnownSets, IsAnswered, finished, IsSound, AreGiven, HoldAlike, AreKnown, known-alike}
 use Rattle.std.proofs.lemmas.List.Elements.{All-map}
 use Rattle.captable.specs.Table.{is_among}
 use Rattle.captable.specs.Calls.{recalled, with_asked}
@@ -11,22 +11,17 @@ use Rattle.capsteps.specs.Caprules.Direct.{with_table}
 use Rattle.capsteps.proofs.Finishing.{same-finished}
 use Rattle.capsteps.proofs.Knowing.{alike-where}
 use Rattle.capcore.proofs.Sounding.{later-given}
+use Rattle.capcore.specs.UnderWay.{AreKept}
 use Rattle.capcore.proofs.Steps.{direct-answered}
+use Rattle.capcore.proofs.Unaffected.{alike-kept}
 use Rattle.capsteps.proofs.Telling.{as_told, as_sized, retold, retold_table, retold-sound}
 
 -- who was named is asked, and who was asked before
 abbrev asked_too : List Holder → EntryRow → Bool
 asked_too named row = is_among named row.holder || row.entry.asked
 
-row_asked : (row : EntryRow) (b : Bool) → cond b (record row { entry = with_asked true row.entry }) row
-    ≡ record row { entry = record row.entry { told_seq = row.entry.told_seq; asked = b || row.entry.asked; size_due = row.entry.size_due } }
-row_asked row true = refl
-row_asked row false = refl
-
 recalled-retold : (t : Table) (n : ℕ) → recalled t n ≡ retold_table as_told as_sized (asked_too (take n t.recall)) t
-recalled-retold t n =
-    let named : List Holder = take n t.recall in
-    λ i. record t { rows = map (λ row. row_asked row (is_among named row.holder) i) t.rows }
+recalled-retold t n = grind arith
 
 module _ (old : State) (sound : IsSound old) (count : ℕ) where
   abbrev named : List Holder
@@ -58,8 +53,8 @@ module _ (old : State) (sound : IsSound old) (count : ℕ) where
       recalled-sound (recalled-finished table) said recalled-given answers kept none
 
   -- each entry holds what it held
-  pub recalled-known : (sets : KnownSets) → AreKnown sets old.scene → AreKnown sets (with_table old (recalled old.scene.table count)).scene
-  recalled-known sets known =
-      known-alike sets old.scene (recalled old.scene.table count)
+  pub recalled-kept : (sets : KnownSets) → AreKept sets old.scene → AreKept sets (with_table old (recalled old.scene.table count)).scene
+  recalled-kept sets kept =
+      alike-kept sets old.scene (recalled old.scene.table count)
       (subst (HoldAlike old.scene.table) (sym (recalled-retold old.scene.table count))
-      (alike-where (λ row. true) (λ row. (retold as_told as_sized (asked_too named) row).entry) old.scene.table (λ row. refl))) known
+      (alike-where (λ row. true) (λ row. (retold as_told as_sized (asked_too named) row).entry) old.scene.table (λ row. refl))) kept

@@ -1,5 +1,5 @@
 -- An event that is stopped is answered so; and which inode an event affects that waits for a lock.
-use Rattle.std.proofs.Common.{◌≡◌, ℕ, List, Option, Some, None, [], ◌∷◌, sym, ap, subst, ◌∙◌}
+use Rattle.std.proofs.Common.{◌≡◌, ℕ, List, Option, Some, None, [], ◌∷◌, sym, ap, subst, ◌∙◌, arith}
 use Rattle.capcore.proofs.Common.{ClientId, Access, passed-both, inode_tests, session_tests, Scene, IsTable, Event, Ended, Reply, Said, Rejection, State, IsAnswered, Direct, direct, effect_unless, says, IssuesExactly, judged, rejection_of, asked_tests, need, IsSound, Step}
 use Rattle.capbits.specs.Refusal.{first_failing}
 use Rattle.capsteps.proofs.Judging.{no_test}
@@ -13,16 +13,7 @@ use Rattle.capsteps.proofs.Stopping.{rejection-step}
 -- it is a step that changes nothing
 pub rejection-answered : (old : State) (e : Event) (rejection : Rejection) (said : Said) → IsSound old → IsTable old.scene.table → judged old.scene e ≡ Some rejection
     → said.reply ≡ rejection_reply rejection → said.kept ≡ said.reply → said.ended ≡ [] → IsAnswered old e said old
-rejection-answered old e rejection said sound table is answers kept none = record {
-  step = subst (λ (ended : List Ended). Step old e said.reply ended old) (sym none) (subst (λ (r : Reply). Step old e r [] old) (sym answers) (rejection-step old e rejection sound table is));
-  kept = kept;
-  sound = sound;
-  issued = subst (λ (d : Direct). IssuesExactly d.state.scene old.scene) (sym by_itself) (has-due old sound);
-  given = λ count given. later-given count old given;
-}
-  where
-    by_itself : direct old e ≡ says old (rejection_reply rejection)
-    by_itself = ap (effect_unless old e) is
+rejection-answered old e rejection said sound table is answers kept none = grind (arith, rejection-step, has-due, later-given)
 
 -- what stops an event by its parts, read before it was known which state they make up
 pub judged-at : (old now : State) (e : Event) (o : Option Rejection) → old ≡ now → o ≡ judged old.scene e → judged now.scene e ≡ o

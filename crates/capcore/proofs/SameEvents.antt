@@ -20,8 +20,6 @@ rows-once first last end (r ∷ rs) order (mid, (moves, by), rest) (mid', (other
 pub same-ends : (first last end : State) (rows others : List Row) → IsLockMap first.scene.locks → Replays first rows last → Replays first others end → events_of rows ≡ events_of others
     → AllFoundMemory rows → AllFoundMemory others → (ends_of rows ≡ ends_of others) × (last ≡ end)
 same-ends first last end [] [] order is at same finds again = (refl, is ∙ sym at)
-same-ends first last end [] (q ∷ qs) order is at same finds again = absurd (cc)
-same-ends first last end (r ∷ rs) [] order is at same finds again = absurd (cc)
 same-ends first last end (r ∷ rs) (q ∷ qs) order (mid, step, rest) (mid', step', rest') same finds again =
     let event : r.event ≡ q.event = cc in
     let behind : events_of rs ≡ events_of qs = cc in
@@ -31,13 +29,12 @@ same-ends first last end (r ∷ rs) (q ∷ qs) order (mid, step, rest) (mid', st
     same-ends mid' last end rs qs (step-order first q.event order q.reply q.ended mid' step') (subst (λ (s : State). Replays s rs last) once.2 rest) rest' behind
     (All-tail found r rs finds) (All-tail found q qs again) in
     ((λ i. (once.0 i, once.1 i) ∷ more.0 i), more.1)
+same-ends first last end rows others order is at same finds again = absurd (cc)
 
 -- rows that are numbered behind the same rows are the same where what they say and who called is
 pub same-rows : (before rows others : List Row) → AreNumbered (before ++ rows) → AreNumbered (before ++ others) → passes_of rows ≡ passes_of others → events_of rows ≡ events_of others
     → ends_of rows ≡ ends_of others → rows ≡ others
 same-rows before [] [] numbered again passes events ends = refl
-same-rows before [] (q ∷ qs) numbered again passes events ends = absurd (cc)
-same-rows before (r ∷ rs) [] numbered again passes events ends = absurd (cc)
 same-rows before (r ∷ rs) (q ∷ qs) numbered again passes events ends =
     let pass : r.pass ≡ q.pass = cc in
     let event : r.event ≡ q.event = cc in
@@ -48,13 +45,8 @@ same-rows before (r ∷ rs) (q ∷ qs) numbered again passes events ends =
     same-rows (before ++ q ∷ []) rs qs (subst AreNumbered (ap (λ (x : Row). before ++ x ∷ rs) row ∙ sym (append_assoc before (q ∷ []) rs)) numbered)
     (subst AreNumbered (sym (append_assoc before (q ∷ []) qs)) again) (cc) (cc) (cc) in
     λ i. row i ∷ more i
+same-rows before rows others numbered again passes events ends = absurd (cc)
 
 -- nobody waits at an opening
 pub opening-order : (fs : List ℕ) (tree : Nodes) (s : State) → IsOpening fs tree s → IsLockMap s.scene.locks
-opening-order fs tree s is = record {
-  rising = subst AreTicketsRising (sym is.queue_is) (λ i j d less room. absurd (omega arith));
-  given =
-      subst (All (λ (q : Request). (1 ≤ q.ticket.0) × (q.ticket.0 ≤ s.scene.locks.last))) (sym is.queue_is)
-      (All-nil (λ (q : Request). (1 ≤ q.ticket.0) × (q.ticket.0 ≤ s.scene.locks.last)));
-  room = subst (λ (qs : List Request). length qs ≤ 1024) (sym is.queue_is) (omega arith);
-}
+opening-order fs tree s is = grind arith

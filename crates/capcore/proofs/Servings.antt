@@ -1,5 +1,5 @@
 -- Requests that are served among the moves of a step.
-use Rattle.std.proofs.Common.{◌≡◌, ◌≢◌, List, [], ◌∷◌, ◌++◌, Option, Some, None, refl, sym, subst, ◌∙◌, ℕ}
+use Rattle.std.proofs.Common.{◌≡◌, ◌≢◌, List, [], ◌∷◌, ◌++◌, Option, Some, None, refl, sym, subst, ◌∙◌, ℕ, arith}
 use Rattle.capcore.proofs.Common.{Access, Node, Part, Ask, Get, Alter, Unlink, Rmdir, Rename, Request, Scene, Outcome, Refusal, first_denied, rejection_by, Need, MayEndAs, As_judged, Without_memory, ask_needs, ask_after, Made, Began, Gathered, Served, Makes, MakesAll}
 use Rattle.std.specs.FinMap as map
 use Rattle.capgrant.specs.declared.rule.Rule.{Rule}
@@ -12,18 +12,6 @@ use Rattle.capsteps.specs.Caprules.Headline.{ServedDenied, ServedByName, EachSer
 
 -- ---- one serving
 
--- a request that nothing stops is not denied
-told-not_denied : (part : Part) (o : Option Node) (access : Access) (rules : List Rule) → values_outcome part o ≢ outcome.Denied access rules
-told-not_denied part None access rules is = absurd (cc)
-told-not_denied part (Some node) access rules is = absurd (cc)
-
-passed-not_denied : (s : Scene) (ino : ℕ) (ask : Ask) (access : Access) (rules : List Rule) → passed_as s ino ask ≢ outcome.Denied access rules
-passed-not_denied s ino (Get part) access rules is = told-not_denied part (map.get s.tree.nodes ino) access rules is
-passed-not_denied s ino (Alter change) access rules is = absurd (cc)
-passed-not_denied s ino Unlink access rules is = absurd (cc)
-passed-not_denied s ino Rmdir access rules is = absurd (cc)
-passed-not_denied s ino (Rename dir name) access rules is = absurd (cc)
-
 module _ (s : Scene) (q : Request) where
   abbrev ended_by : Option Refusal → Option Need → Option Refusal → Outcome
   ended_by o d l = outcome_unless s q (rejection_by s o d l)
@@ -33,23 +21,14 @@ module _ (s : Scene) (q : Request) where
   Cause o d access rules = (n : Need) × ((o ≡ None) × (d ≡ Some n)) × (access ≡ n.access) × (rules ≡ failures s.fs s.tree s.sessions n.holder n.access)
 
   cause : (o : Option Refusal) (d : Option Need) (l : Option Refusal) (access : Access) (rules : List Rule) → ended_by o d l ≡ outcome.Denied access rules → Cause o d access rules
-  cause (Some r) d l access rules is = absurd (cc)
-  cause None (Some n) l access rules is =
-      let accesses : n.access ≡ access = cc in
-      let rs : failures s.fs s.tree s.sessions n.holder n.access ≡ rules = cc in
-      (n, (refl, refl), sym accesses, sym rs)
-  cause None None (Some r) access rules is = absurd (cc)
-  cause None None None access rules is = absurd (passed-not_denied s q.ino.0 q.ask access rules is)
+  cause o d l access rules is = grind arith
 
   effect_of : (o : Option Refusal) (d : Option Need) (l : Option Refusal) (n : Need) → o ≡ None → d ≡ Some n → (access : Access) × (rules : List Rule) × (ended_by o d l ≡ outcome.Denied access rules)
-  effect_of (Some r) d l n none some = absurd (cc)
-  effect_of None None l n none some = absurd (cc)
   effect_of None (Some m) l n none some = (m.access, failures s.fs s.tree s.sessions m.holder m.access, refl)
+  effect_of o d l n none some = absurd (cc)
 
   unstopped : (o : Option Refusal) (d : Option Need) (l : Option Refusal) (n : Need) → rejection_by s o d l ≡ None → o ≡ None → d ≡ Some n → ⊥
-  unstopped (Some r) d l n free none some = absurd (cc)
-  unstopped None None l n free none some = absurd (cc)
-  unstopped None (Some m) l n free none some = absurd (cc)
+  unstopped o d l n free none some = grind arith
 
   tests : Option Refusal
   tests = first_failing (ask_before s q.ino.0 q.ask)
@@ -62,14 +41,8 @@ module _ (s : Scene) (q : Request) where
 
   denied-one : (o : Outcome) → MayEndAs s q o → ServedDenied s q o
   unfolding tests denied more
-  denied-one o (As_judged) = (
-    (λ h. let c = cause tests denied more h.0 h.1 h.2 in (c.0, c.1)),
-    (λ h. effect_of tests denied more h.0 h.1.0 h.1.1),
-  )
-  denied-one o (Without_memory free takes) = (
-    (λ h. absurd (cc (h.2))),
-    (λ h. absurd (unstopped tests denied more h.0 free h.1.0 h.1.1)),
-  )
+  denied-one o (As_judged) = ((λ h. let c = cause tests denied more h.0 h.1 h.2 in (c.0, c.1)), (λ h. effect_of tests denied more h.0 h.1.0 h.1.1))
+  denied-one o (Without_memory free takes) = ((λ h. absurd (cc (h.2))), (λ h. absurd (unstopped tests denied more h.0 free h.1.0 h.1.1)))
 
   by_name-one : (o : Outcome) → MayEndAs s q o → ServedByName s q o
   unfolding tests denied more
@@ -79,9 +52,7 @@ module _ (s : Scene) (q : Request) where
 -- ---- each among the moves
 
 same_next : (old a b : Scene) (m : Made) → Makes old m a → Makes old m b → a ≡ b
-same_next old a b (Began ino part to) x y = x.1 ∙ sym y.1
-same_next old a b (Gathered ino part) x y = x.1 ∙ sym y.1
-same_next old a b (Served q o) x y = x.3 ∙ sym y.3
+same_next old a b m x y = grind arith
 
 -- each serving was made on the scene to which the moves before it lead
 may_end : (first last s : Scene) (moves earlier later : List Made) (q : Request) (o : Outcome) →

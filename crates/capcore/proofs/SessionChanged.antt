@@ -1,8 +1,8 @@
 -- A client's session ends, is marked or has other grants, by itself: it affects the inodes where the client is.
-use Rattle.std.proofs.Common.{◌≡◌, ◌≢◌, ◌≤◌, ℕ, zero, suc, ◌==◌, Bool, true, false, not, cond, Option, Some, None, is_some, List, [], ◌∷◌, refl, sym, ap, subst, ◌∙◌, Contains, true≢false, arith, eq-eqb, nat_eq, IsTrue, All, filter}
+use Rattle.std.proofs.Common.{◌≡◌, ◌≢◌, ◌≤◌, ℕ, ◌==◌, Bool, true, false, not, cond, Option, Some, None, is_some, List, [], ◌∷◌, refl, sym, ap, subst, ◌∙◌, Contains, true≢false, arith, eq-eqb, nat_eq, IsTrue, All, filter}
 use Rattle.capcore.proofs.Common.{option_map, eqb-true, All-weaker, All-contains, All-filter, Part, ClientId, Ino, SessionTable, has_session, EntryRow, Table, IsTable, is_of_client, is_of_inode, without_client, Request, LockMap, lock_at, first_for, IsQuiet, Scene, State, Direct, Says, direct, effect, effect_unless, judged, IsSound, Affects, IsAffectedEntry, is_end, dropped_by, session_changed, sound-pinned}
 use Rattle.std.specs.FinMap as map
-use Rattle.std.proofs.lemmas.Bool.{not-true, false_from_ne_true}
+use Rattle.std.proofs.lemmas.Bool.{not-true, false_from_ne_true, ne_eqb, eqb-false}
 use Rattle.std.proofs.lemmas.List.Elements.{All-contains_itself, filter_passes}
 use Rattle.sessiontab.specs.declared.session.Session.{Session}
 use Rattle.sessiontab.specs.Connected.{SessionMap, change_session}
@@ -23,6 +23,7 @@ use Rattle.capsteps.specs.Capnotes.DueEndings.{is_to}
 use Rattle.capsteps.specs.Capacts.Left.{table_left, locks_left, messages_left}
 use Rattle.capsteps.specs.SessionChange.{session_event, changed_sessions}
 use Rattle.capsteps.proofs.EntryRequests.{IsKeptEntry, kept-left, sound-kept}
+use Rattle.capcore.proofs.EndedIn.{all_pass}
 
 -- ---- the event
 
@@ -30,10 +31,7 @@ abbrev pub session_direct : State → ClientId → SessionChange → Direct
 session_direct old client change = record { state = session_changed old client change; answer = Says reply.Done; dropped = dropped_by (is_end change) old.scene.locks client }
 
 effect-session_changed : (old : State) (client : ClientId) (change : SessionChange) → effect old (session_event client change) ≡ session_direct old client change
-effect-session_changed old client Close = refl
-effect-session_changed old client (Mark status) = refl
-effect-session_changed old client (Regrant grants) = refl
-effect-session_changed old client Evict = refl
+effect-session_changed old client change = grind arith
 
 pub direct-session_changed : (old : State) (client : ClientId) (change : SessionChange) → judged old.scene (session_event client change) ≡ None → direct old (session_event client change) ≡ session_direct old client change
 direct-session_changed old client change free = ap (effect_unless old (session_event client change)) free ∙ effect-session_changed old client change
@@ -41,41 +39,26 @@ direct-session_changed old client change free = ap (effect_unless old (session_e
 -- ---- the sessions of others
 
 module _ (sessions : SessionMap) (client other : ℕ) where
-  by_key : (b : Bool) → nat_eq client other ≡ b → other ≢ client → (new : Option Session) → cond b new (map.get sessions other) ≡ map.get sessions other
-  by_key true is off new = absurd (off (sym (eqb-true client other is)))
-  by_key false is off new = refl
-
   removed-other : other ≢ client → map.get (map.remove sessions client) other ≡ map.get sessions other
-  removed-other off = remove-at sessions client other ∙ by_key (nat_eq client other) refl off None
+  removed-other off = remove-at sessions client other ∙ ap (λ b. cond b None (map.get sessions other)) (ne_eqb client other (λ is. off (sym is)))
 
   changed-other : (f : Session → Session) → other ≢ client → map.get (change_session f sessions client) other ≡ map.get sessions other
-  changed-other f off = change-at sessions client other f ∙ by_key (nat_eq client other) refl off (option_map f (map.get sessions other))
+  changed-other f off = change-at sessions client other f ∙ ap (λ b. cond b (option_map f (map.get sessions other)) (map.get sessions other)) (ne_eqb client other (λ is. off (sym is)))
 
   -- who has a session has one still, if one is changed
   changed-has : (f : Session → Session) → map.contains_key (change_session f sessions client) other ≡ map.contains_key sessions other
-  changed-has f = ap is_some (change-at sessions client other f) ∙ still (nat_eq client other) (map.get sessions other)
-    where
-      still : (b : Bool) (o : Option Session) → is_some (cond b (option_map f o) o) ≡ is_some o
-      still true None = refl
-      still true (Some session) = refl
-      still false o = refl
+  changed-has f = grind (arith, change-at)
 
 pub session_changed-other : (t : SessionTable) (client : ClientId) (change : SessionChange) (other : ℕ) → other ≢ client.0 → map.get (changed_sessions t client change).sessions other ≡ map.get t.sessions other
-session_changed-other t client Close other off = removed-other t.sessions client.0 other off
-session_changed-other t client (Mark status) other off = changed-other t.sessions client.0 other (λ session. record session { status = status }) off
-session_changed-other t client (Regrant grants) other off = changed-other t.sessions client.0 other (λ session. record session { grants = grants.now }) off
-session_changed-other t client Evict other off = removed-other t.sessions client.0 other off
+session_changed-other t client change other off = grind (arith, changed-other, removed-other)
 
 -- where the session does not end, it is there
 session_changed-has : (t : SessionTable) (client : ClientId) (change : SessionChange) (other : ℕ) → is_end change ≡ false → has_session (changed_sessions t client change) other ≡ has_session t other
-session_changed-has t client Close other still = absurd (true≢false still)
-session_changed-has t client (Mark status) other still = changed-has t.sessions client.0 other (λ session. record session { status = status })
-session_changed-has t client (Regrant grants) other still = changed-has t.sessions client.0 other (λ session. record session { grants = grants.now })
-session_changed-has t client Evict other still = absurd (true≢false still)
+session_changed-has t client change other still = grind (arith, changed-has)
 
 -- whose session ends is left nowhere
 
-apart : (a b : ℕ) → (a == b) ≡ false → a ≢ b
+pub apart : (a b : ℕ) → (a == b) ≡ false → a ≢ b
 apart a b off same = true≢false (sym (eq-eqb a b same) ∙ off)
 
 -- ---- what is left
@@ -97,8 +80,7 @@ module _ (old : State) (client : ClientId) (change : SessionChange) (sound : IsS
 
   -- the session of another client, or any where none ends
   has_by : (b : Bool) → is_end change ≡ b → (other : ℕ) → (b ≡ true → (other == client.0) ≡ false) → has_session sessions other ≡ has_session old.scene.sessions other
-  has_by true is other off = ap is_some (session_changed-other old.scene.sessions client change other (apart other client.0 (off refl)))
-  has_by false is other off = session_changed-has old.scene.sessions client change other is
+  has_by b is other off = grind (arith, session_changed-other, eqb-false, session_changed-has)
 
   -- ---- outside of where the client is
 
@@ -111,15 +93,7 @@ module _ (old : State) (client : ClientId) (change : SessionChange) (sound : IsS
     not_mine row inside off = false_from_ne_true (is_of_client client row) (λ mine. true≢false (sym (entries row inside mine) ∙ off))
 
     outside-sessions : IsSameOutside from old.scene with_theirs
-    outside-sessions = record {
-      fs = refl;
-      sessions = λ row inside off. session_changed-other old.scene.sessions client change row.holder.client.0 (apart row.holder.client.0 client.0 (not_mine row inside off));
-      entries = λ other off. refl;
-      locks = λ other part off. refl;
-      waiting = λ other part off. refl;
-      places = λ other off. refl;
-      alike = λ other off. alike-itself old.scene.tree other;
-    }
+    outside-sessions = grind (arith, session_changed-other, eqb-false, not_mine, alike-itself)
 
     -- of those on another inode none is the client's
     others-left : (other : Ino) → from other.0 ≡ false → entries_on (without_client old.scene.table client) other ≡ entries_on old.scene.table other
@@ -129,33 +103,14 @@ module _ (old : State) (client : ClientId) (change : SessionChange) (sound : IsS
         (λ row inside.
         let on = All-contains (λ row. is_of_inode other row ≡ true) (entries_on old.scene.table other) row (filter_passes (is_of_inode other) old.scene.table.rows) inside in
         ap not (not_mine row (contains-filter (is_of_inode other) old.scene.table.rows row inside) (ap from (eqb-true row.holder.ino.0 other.0 on) ∙ off)))
-      where
-        all_pass : (p : EntryRow → Bool) (rows : List EntryRow) → ((row : EntryRow) → Contains rows row → p row ≡ true) → filter p rows ≡ rows
-        all_pass p [] passes = refl
-        all_pass p (row ∷ rows) passes =
-            ap (λ b. cond b (row ∷ filter p rows) (filter p rows)) (passes row (zero, omega arith, refl))
-            ∙ ap (λ rest. row ∷ rest) (all_pass p rows (λ r (inside : Contains rows r). passes r (suc inside.0, omega (arith, inside.1), inside.2)))
 
     outside-left : (b : Bool) → IsSameOutside from with_theirs (record with_theirs { table = table_left b old.scene.table client; locks = locks_left b old.scene.locks client })
-    outside-left false = outside-itself from with_theirs
-    outside-left true =
-        outside-then from with_theirs (record with_theirs { table = without_client old.scene.table client }) _
-        (record {
-          fs = refl;
-          sessions = λ row inside off. refl;
-          entries = others-left;
-          locks = λ other part off. refl;
-          waiting = λ other part off. refl;
-          places = λ other off. refl;
-          alike = λ other off. alike-itself old.scene.tree other;
-        })
-        (outside-dropped from (record with_theirs { table = without_client old.scene.table client }) client requests)
+    outside-left b = grind (arith, outside-itself, outside-then, others-left, alike-itself, outside-dropped)
 
     -- ---- what is left there
 
     left-states : (b : Bool) → (locks_left b old.scene.locks client).states ≡ old.scene.locks.states
-    left-states false = refl
-    left-states true = refl
+    left-states b = grind arith
 
     abbrev HasSession : ClientId → Type 0
     HasSession other = IsTrue (has_session sessions other.0)
@@ -183,8 +138,7 @@ module _ (old : State) (client : ClientId) (change : SessionChange) (sound : IsS
         (λ q inside. fails_at (is_for ino part) old.scene.locks.queue none q (contains-filter kept old.scene.locks.queue q inside))
 
     left-lock : (b : Bool) (ino : ℕ) (part : Part) → lock_at (locks_left b old.scene.locks client) ino part ≡ lock_at old.scene.locks ino part
-    left-lock false ino part = refl
-    left-lock true ino part = refl
+    left-lock b ino part = grind arith
 
     -- each entry is left as it was
     abbrev first : Scene
@@ -216,7 +170,7 @@ module _ (old : State) (client : ClientId) (change : SessionChange) (sound : IsS
       messages = left-messages (is_end change) refl;
       at_lock = λ ino part on none.
           left-none (is_end change) ino part
-          (subst (IsQuiet old.scene ino part) (sym (left-lock (is_end change) ino part) ∙ none) (let rest = sound.at_rest in rest.each ino part));
+          (subst (IsQuiet old.scene ino part) (sym (left-lock (is_end change) ino part) ∙ none) (sound.at_rest.each ino part));
       each = λ row inside on. All-contains (IsAffectedEntry first) first.table.rows row (left-entries (is_end change) refl) inside;
       calm = λ row inside none. absurd (sound-pinned old sound row (was-row (is_end change) row inside) none);
     }
@@ -232,9 +186,7 @@ session_changed-below count false t client all = all
 session_changed-below count true t client all = All-filter (λ row. not (is_of_client client row)) (λ row. row.entry.seq ≤ count) t.rows all
 
 pub session_changed-made : (b : Bool) (t : Table) (client : ClientId) → (table_left b t client).made ≡ t.made
-session_changed-made false t client = refl
-session_changed-made true t client = refl
+session_changed-made b t client = grind arith
 
 pub session_changed-last : (b : Bool) (locks : LockMap) (client : ClientId) → (locks_left b locks client).last ≡ locks.last
-session_changed-last false locks client = refl
-session_changed-last true locks client = refl
+session_changed-last b locks client = grind arith

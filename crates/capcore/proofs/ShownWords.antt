@@ -40,28 +40,16 @@ shows-permitted rows s shows k e cap there none_due was =
 -- ---- an acknowledgement
 
 pub holds-entry : (s : Scene) (k : Holder) (cap : Cap) → holds s k cap ≡ true → (e : Entry) × (entry_at s.table k ≡ Some e) × (has e.held cap ≡ true)
-holds-entry s k cap held = by_row (find (is_row_of k) s.table.rows) refl held
-  where
-    by_row : (o : Option EntryRow) → find (is_row_of k) s.table.rows ≡ o → option_map_or (λ row. has row.entry.held cap) o false ≡ true → (e : Entry) × (entry_at s.table k ≡ Some e) × (has e.held cap ≡ true)
-    by_row None found none = absurd (true≢false (sym none))
-    by_row (Some row) found it = (row.entry, ap entry_of found, it)
+holds-entry s k cap held = grind arith
 
 pub holds-found : (s : Scene) (k : Holder) (cap : Cap) (e : Entry) → entry_at s.table k ≡ Some e → holds s k cap ≡ has e.held cap
 holds-found s k cap e there = ap (λ o. option_map_or (λ (row : EntryRow). has row.entry.held cap) o false) (row_of-entry s.table k e there)
 
 not_shown : (s h t : Bool) → (s ≡ true → (h && not t) ≡ true) → (h && t) ≡ true → s ≡ false
-not_shown false h t inside taken = refl
-not_shown true h t inside taken = absurd (apart h t (inside refl) taken)
-  where
-    apart : (h t : Bool) → (h && not t) ≡ true → (h && t) ≡ true → ⊥
-    apart true true a b = true≢false (sym a)
-    apart true false a b = true≢false (sym b)
-    apart false t a b = true≢false (sym a)
+not_shown s h t inside taken = grind arith
 
 pub gone_is : (h g : Bool) → h ≡ true → (h && not g) ≡ false → g ≡ true
-gone_is true true held out = refl
-gone_is true false held out = sym out
-gone_is false g held out = absurd (true≢false (sym held))
+gone_is h g held out = grind arith
 
 module _ (rows : List Row) (old : State) (sound : IsSound old) (was : AreShown rows old.scene) (client : ClientId) (ino : Ino) (seq : ℕ) where
   abbrev k : Holder
@@ -79,21 +67,12 @@ module _ (rows : List Row) (old : State) (sound : IsSound old) (was : AreShown r
 
     -- the number is that of the last revocation at least, and the client was told of it
     was_told : e.revoke_seq ≤ e.told_seq
-    was_told =
-        let tests = affected-tests old.scene client ino (Ack seq) free in
-        let one = passed-if _ refusal.NoEntry _ tests in
-        let two = passed-if _ refusal.NothingToAck _ one.1 in
-        let three = passed-if _ refusal.BadSeq _ two.1 in
-        let four = passed-if _ (refusal.OldSeq (last_revocation t k)) _ three.1 in
-        let above : seq ≤ e.told_seq = ltb-false e.told_seq seq (ap (λ (o : Option Entry). option_map_or (λ x. nat_lt x.told_seq seq) o false) (sym there) ∙ three.0) in
-        let below : e.revoke_seq ≤ seq = ltb-false seq e.revoke_seq (ap (λ (o : Option Entry). nat_lt seq (option_map_or (λ x. x.revoke_seq) o 0)) (sym there) ∙ four.0) in
-        omega (arith, above, below)
+    was_told = grind arith
 
     -- what is held no more was being revoked
     revoked_is : (cap : Cap) → has e.held cap ≡ true → holds (direct old ack).state.scene k cap ≡ false → has (against old.scene (at k e)) cap ≡ true
     revoked_is cap held gone =
-        by_pin (has (revoked_of old.scene k) P) refl
-        (subst (λ (d : Direct). holds d.state.scene k cap ≡ false) (ap (effect_unless old ack) free) gone)
+        by_pin (has (revoked_of old.scene k) P) refl (subst (λ (d : Direct). holds d.state.scene k cap ≡ false) (ap (effect_unless old ack) free) gone)
       where
         by_pin : (b : Bool) → has (revoked_of old.scene k) P ≡ b → holds (record old.scene { table = cond b (without t k) (changed t k (taken (revoked_of old.scene k))) }) k cap ≡ false
             → has (against old.scene (at k e)) cap ≡ true
@@ -113,14 +92,7 @@ module _ (rows : List Row) (old : State) (sound : IsSound old) (was : AreShown r
         (sym (has-against old.scene (at k e) cap) ∙ revoked_is cap held gone)
 
   takes-unshown : (cap : Cap) → holds old.scene k cap ≡ true → holds (direct old ack).state.scene k cap ≡ false → has (shown_of k rows) cap ≡ false
-  takes-unshown cap held gone = by_judged (judged old.scene ack) refl
-    where
-      by_judged : (o : Option Rejection) → judged old.scene ack ≡ o → has (shown_of k rows) cap ≡ false
-      by_judged (Some x) is =
-          let same : holds (direct old ack).state.scene k cap ≡ holds old.scene k cap = ap (λ (d : Direct). holds d.state.scene k cap) (ap (effect_unless old ack) is) in
-          absurd (true≢false (sym held ∙ sym same ∙ gone))
-      by_judged None free = let found = holds-entry old.scene k cap held in taken_unshown found.0 found.1 free cap found.2 gone
+  takes-unshown cap held gone = grind (arith, holds-entry, taken_unshown)
 
 pub all-takes_unshown : (rows : List Row) (old : State) (e : Event) → IsSound old → AreShown rows old.scene → TakesUnshown rows old.scene e (direct old e).state.scene
-all-takes_unshown rows old (event.Ack client ino seq) sound was = λ cap held gone. takes-unshown rows old sound was client ino seq cap held gone
-all-takes_unshown rows old e sound was = tt
+all-takes_unshown rows old e sound was = grind (arith, takes-unshown)

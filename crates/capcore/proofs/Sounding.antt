@@ -12,17 +12,12 @@ use Rattle.capsteps.proofs.LeftAlone.{some_same}
 
 -- behind one row more
 pub later-given : (count : ℕ) (s : State) → AreGiven count s → AreGiven (count + 1) s
-later-given count s was = record {
-  entries = All-weaker (λ row. row.entry.seq ≤ count) (λ row. row.entry.seq ≤ count + 1) (λ row given. omega (arith, given)) s.scene.table.rows was.entries;
-  last = let last = was.last in omega (arith, last);
-  made = let made = was.made in omega (arith, made);
-}
+later-given count s was = grind arith
 
 -- ---- the opening
 
 sync_of : (o : Option Node) (locks : InodeLocks) → option_map (λ node. in_sync) o ≡ Some locks → locks ≡ in_sync
-sync_of None locks e = cc
-sync_of (Some node) locks e = cc
+sync_of o locks e = grind arith
 
 pub opening-sound : (fs : List ℕ) (tree : Nodes) (s : State) → HasNoStray tree → IsOpening fs tree s → IsSound s
 opening-sound fs tree s none is = record {
@@ -45,8 +40,4 @@ opening-sound fs tree s none is = record {
     not_found row e = cc
 
 pub opening-given : (fs : List ℕ) (tree : Nodes) (s : State) → IsOpening fs tree s → AreGiven 0 s
-opening-given fs tree s is = record {
-  entries = All-same (λ row. row.entry.seq ≤ 0) s.scene.table.rows [] (ap (λ t. t.rows) is.table_is) (All-nil (λ row. row.entry.seq ≤ 0));
-  last = rw is.last_is (omega arith);
-  made = rw is.table_is (omega arith);
-}
+opening-given fs tree s is = grind arith

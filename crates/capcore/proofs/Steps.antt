@@ -1,5 +1,5 @@
 -- A session, a lookup, a new inode or a snapshot by itself is a whole step: it leaves alone all that entries and requests depend on.
-use Rattle.std.proofs.Common.{◌≡◌, ℕ, ◌+◌, Bool, true, false, List, [], ◌++◌, Option, Some, None, refl, sym, ap, subst, ◌∙◌, append-nil, true≢false}
+use Rattle.std.proofs.Common.{◌≡◌, ℕ, ◌+◌, Bool, true, false, List, [], ◌++◌, Option, Some, None, refl, sym, ap, subst, ◌∙◌, append-nil, true≢false, arith}
 use Rattle.capcore.proofs.Common.{none-some, IsTree, child, new_session_tests, IsTable, Event, Ended, Reply, Said, Rejection, ByTest, State, IsAnswered, Directory, judged, has_list, Answer, Says, Shows, Gives, Awaits, Direct, direct, effect, effect_unless, found, reply_of, shown, with_scene, IsDirect, Settles, sizes_owed, finished, IsSound, AreGiven, Step, state_after, sound-settles, kept-sound}
 use Rattle.capbits.specs.Refusal.{first_failing}
 use Rattle.inotree.specs.Inodes.{with_snapshot, without_snapshot}
@@ -21,19 +21,8 @@ IsAlone e = (affected_by e ≡ None) × (is_listing e ≡ false) × (session_cha
 
 -- ---- the event by itself
 
-none_dropped-effect : (old : State) (e : Event) → session_changed_by e ≡ None → (effect old e).dropped ≡ []
-none_dropped-effect old (event.CloseSession client) is = absurd (none-some client (sym is))
-none_dropped-effect old (event.Evict client) is = absurd (none-some client (sym is))
-none_dropped-effect old (event.Lookup client dir name) is = by_found (child old.scene.tree.nodes dir.0 name)
-  where
-    by_found : (o : Option ℕ) → (found old o).dropped ≡ []
-    by_found None = refl
-    by_found (Some ino) = refl
-none_dropped-effect old e is = refl
-
 none_dropped : (old : State) (e : Event) → session_changed_by e ≡ None → (o : Option Rejection) → (effect_unless old e o).dropped ≡ []
-none_dropped old e is (Some r) = refl
-none_dropped old e is None = none_dropped-effect old e is
+none_dropped old e is o = grind arith
 
 -- ---- a whole step
 
@@ -80,20 +69,8 @@ lists (Shows k) = false
 lists (Gives client max) = true
 lists (Awaits ticket) = false
 
-found-plain : (s : State) (o : Option ℕ) → lists (found s o).answer ≡ false
-found-plain s None = refl
-found-plain s (Some ino) = refl
-
-effect-plain : (s : State) (e : Event) → is_listing e ≡ false → lists (effect s e).answer ≡ false
-effect-plain s (event.Recall count) plain = absurd (true≢false plain)
-effect-plain s (event.Lookup client dir name) plain = found-plain s (child s.scene.tree.nodes dir.0 name)
-effect-plain s (event.Poll client max) plain = absurd (true≢false plain)
-effect-plain s e plain = refl
-
 plain_unless : (s : State) (e : Event) → is_listing e ≡ false → (o : Option Rejection) → lists (effect_unless s e o).answer ≡ false
-plain_unless s e plain (Some (ByPolicy access rules)) = refl
-plain_unless s e plain (Some (ByTest refusal)) = refl
-plain_unless s e plain None = effect-plain s e plain
+plain_unless s e plain o = grind arith
 
 pub no_list-direct : (old new : State) (e : Event) (answer : Reply) → is_listing e ≡ false → IsDirect old e answer new → has_list answer ≡ false
 no_list-direct old new e answer plain is = ap lists is.answer_is ∙ plain_unless old e plain (judged old.scene e)
@@ -110,26 +87,22 @@ module _ (old : State) (sound : IsSound old) (tree : IsTree old.scene.tree) wher
   same-left = record { leaves = nothing-leaves old sound; is = refl }
 
   found-left : (o : Option ℕ) → IsLeft old (found old o).state
-  found-left None = same-left
-  found-left (Some ino) = same-left
+  found-left o = grind arith
 
   effect-left : (e : Event) → IsAlone e → judged old.scene e ≡ None → IsLeft old (effect old e).state
   effect-left (event.Session client caller grants) alone none =
       let passed : first_failing (new_session_tests old.scene.sessions client.0) ≡ None = no_test old.scene (new_session_tests old.scene.sessions client.0) [] [] none in
       record { leaves = session-leaves old sound client.0 caller grants passed; is = refl }
   effect-left (event.Unblock client) alone none = record { leaves = unblocked-leaves old sound client.0; is = refl }
-  effect-left (event.Recall count) alone none = absurd (true≢false alone.1)
   effect-left (event.Lookup client dir name) alone none = found-left (child old.scene.tree.nodes dir.0 name)
   effect-left (event.Create client dir name mode) alone none = record { leaves = birth-leaves old sound File dir.0 name _ tree; is = refl }
   effect-left (event.Mkdir client dir name mode) alone none = record { leaves = birth-leaves old sound Directory dir.0 name _ tree; is = refl }
   effect-left (event.MakeSnapshot client ino name) alone none = record { leaves = changed-leaves old sound (with_snapshot name) ino.0 (λ n. refl) (λ n. refl); is = refl }
   effect-left (event.RemoveSnapshot client ino name) alone none = record { leaves = changed-leaves old sound (without_snapshot name) ino.0 (λ n. refl) (λ n. refl); is = refl }
-  effect-left (event.Poll client max) alone none = absurd (true≢false alone.1)
   effect-left e (unaffected, unlisted, unturned) none = absurd (cc)
 
   left_unless : (e : Event) → IsAlone e → (o : Option Rejection) → judged old.scene e ≡ o → IsLeft old (effect_unless old e o).state
-  left_unless e alone (Some rejection) is = same-left
-  left_unless e alone None is = effect-left e alone is
+  left_unless e alone o is = grind (arith, same-left, effect-left)
 
   -- ---- and so the state after it is sound, and nothing is left to do
 

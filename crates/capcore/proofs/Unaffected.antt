@@ -1,6 +1,6 @@
 -- New sessions, clients that come off the blocklist, new inodes and snapshots leave alone all that entries and requests depend on.
-use Rattle.std.proofs.Common.{◌≡◌, ℕ, ◌+◌, Bool, true, false, cond, Option, Some, None, is_some, List, refl, sym, ap, ◌∙◌}
-use Rattle.capcore.proofs.Common.{option_map, nat_cmp_total, KnownSets, AreKnown, All-weaker, Node, Nodes, IsTree, SessionTable, new_session_tests, EntryRow, InodeLocks, in_sync, State, with_scene, IsSoundEntry, IsSound, kept-sound}
+use Rattle.std.proofs.Common.{◌≡◌, ℕ, ◌+◌, Bool, true, false, cond, Option, Some, None, is_some, List, refl, sym, ap, ◌∙◌, Contains, arith}
+use Rattle.capcore.proofs.Common.{option_map, nat_cmp_total, KnownSets, HoldAlike, known-alike, Scene, Table, All-contains, All-weaker, Node, Nodes, IsTree, SessionTable, new_session_tests, EntryRow, is_row_of, InodeLocks, in_sync, State, IsSoundEntry, IsSound, kept-sound, Parts, AreKnown, with_scene}
 use Rattle.std.specs.Ordering.{nat_cmp, eq_by_cmp}
 use Rattle.std.specs.FinMap as map
 use Rattle.std.specs.FinSet as set
@@ -18,21 +18,23 @@ use Rattle.numbered.proofs.Maps.{insert-other}
 use Rattle.inotree.proofs.Elsewhere.{field-changed, not_next}
 use Rattle.sessiontab.specs.Calls.{with_session, without_blocked}
 use Rattle.sessiontab.proofs.Elsewhere.{session-kept}
+use Rattle.captable.proofs.ByHolder.{row_of-entry}
+use Rattle.capsteps.specs.Lockmachine.Inodes.{StateMap}
 use Rattle.capsteps.specs.Lockmachine.Locks.{with_ino}
 use Rattle.capsteps.specs.Lockmachine.Policy.{permitted}
 use Rattle.capsteps.specs.Lockmachine.Wants.{effective_want}
 use Rattle.capsteps.proofs.Lockmachine.PolicyElsewhere.{permitted-session, permitted-new, permitted-changed, want-session, want-new, want-changed}
-use Rattle.capsteps.specs.Caprules.Direct.{with_tree, with_birth}
-use Rattle.capsteps.specs.Leaving.{LeavesEntries}
-use Rattle.capsteps.proofs.LeftAlone.{none_if, some_same, no_locks, kept-known}
+use Rattle.capsteps.specs.Caprules.Direct.{with_birth}
+use Rattle.capsteps.specs.Leaving.{LeavesEntries, with_parts}
+use Rattle.capsteps.proofs.LeftAlone.{found-contains, none_if, some_same, no_locks, kept-known}
+use Rattle.capcore.specs.UnderWay.{AreKept, IsWhole, state_of}
 
 -- the locks that an inode begins with, where there is an inode
 abbrev first_of : Option Node → Option InodeLocks
 first_of o = option_map (λ node. in_sync) o
 
 through : (b : Bool) (node : Node) (o : Option Node) → first_of (cond b (Some node) o) ≡ cond b (Some in_sync) (first_of o)
-through true node o = refl
-through false node o = refl
+through b node o = grind arith
 
 module _ (s : State) (sound : IsSound s) where
   none_new : (ino : ℕ) → map.contains_key s.scene.tree.nodes ino ≡ false → map.get s.scene.locks.states ino ≡ first_of (map.get s.scene.tree.nodes ino)
@@ -48,15 +50,7 @@ module _ (s : State) (sound : IsSound s) where
 
   -- whoever is on the blocklist
   blocked-leaves : (blocked : FinSet nat_cmp) → LeavesEntries s.scene s.scene.tree (record s.scene.sessions { blocked = blocked }) s.scene.locks.states
-  blocked-leaves blocked = record {
-    connected = λ client has. has;
-    there = λ ino here. here;
-    locks = λ ino here. refl;
-    new_locks = none_new;
-    strays = λ ino gone. gone;
-    permits = All-weaker (IsSoundEntry s.scene) (SameMay s.scene.tree (record s.scene.sessions { blocked = blocked })) (λ row entry. refl) s.scene.table.rows sound.entries;
-    wants = All-weaker (IsSoundEntry s.scene) (SameWant s.scene.tree (record s.scene.sessions { blocked = blocked })) (λ row entry. refl) s.scene.table.rows sound.entries;
-  }
+  blocked-leaves blocked = grind arith
 
   pub nothing-leaves : LeavesEntries s.scene s.scene.tree s.scene.sessions s.scene.locks.states
   nothing-leaves = blocked-leaves s.scene.sessions.blocked
@@ -66,35 +60,12 @@ module _ (s : State) (sound : IsSound s) where
 
   pub session-leaves : (client : ℕ) (caller : Caller) (grants : List Grant) → first_failing (new_session_tests s.scene.sessions client) ≡ None
       → LeavesEntries s.scene s.scene.tree (with_session s.scene.sessions client caller grants) s.scene.locks.states
-  session-leaves client caller grants passed = record {
-    connected = λ other has. ap is_some (session-kept s.scene.sessions client caller grants other passed has) ∙ has;
-    there = λ ino here. here;
-    locks = λ ino here. refl;
-    new_locks = none_new;
-    strays = λ ino gone. gone;
-    permits = All-weaker (IsSoundEntry s.scene) (SameMay s.scene.tree (with_session s.scene.sessions client caller grants))
-        (λ row entry. permitted-session s.scene.fs s.scene.tree s.scene.sessions client caller grants passed row.holder entry.of_session) s.scene.table.rows sound.entries;
-    wants = All-weaker (IsSoundEntry s.scene) (SameWant s.scene.tree (with_session s.scene.sessions client caller grants))
-        (λ row entry. want-session s.scene.fs s.scene.tree s.scene.sessions client caller grants passed row entry.of_session) s.scene.table.rows sound.entries;
-  }
+  session-leaves client caller grants passed = grind (arith, session-kept, All-weaker, permitted-session, want-session)
 
   -- an inode changes, and stays where it stands and whose it is
   pub changed-leaves : (f : Node → Node) (ino : ℕ) → ((n : Node) → (f n).site ≡ n.site) → ((n : Node) → (f n).attr ≡ n.attr)
       → LeavesEntries s.scene (changed f s.scene.tree ino) s.scene.sessions s.scene.locks.states
-  changed-leaves f ino site attr = record {
-    connected = λ client has. has;
-    there = λ q here. sym (some_same (map.get (change_at f s.scene.tree.nodes ino) q)) ∙ ap is_some (same_first q) ∙ some_same (map.get s.scene.tree.nodes q) ∙ here;
-    locks = λ q here. refl;
-    new_locks = λ q out. none_new q out ∙ sym (same_first q);
-    strays = λ q gone. ap place_at (sym (field-changed f (λ n. n.site) site s.scene.tree.nodes ino q)) ∙ gone;
-    permits = All-weaker (IsSoundEntry s.scene) (SameMay (changed f s.scene.tree ino) s.scene.sessions)
-        (λ row entry. permitted-changed s.scene.fs s.scene.tree s.scene.sessions f ino site attr row.holder) s.scene.table.rows sound.entries;
-    wants = All-weaker (IsSoundEntry s.scene) (SameWant (changed f s.scene.tree ino) s.scene.sessions)
-        (λ row entry. want-changed s.scene.fs s.scene.tree s.scene.sessions f ino site attr row) s.scene.table.rows sound.entries;
-  }
-    where
-      same_first : (q : ℕ) → first_of (map.get (change_at f s.scene.tree.nodes ino) q) ≡ first_of (map.get s.scene.tree.nodes q)
-      same_first q = field-changed f (λ n. in_sync) (λ n. refl) s.scene.tree.nodes ino q
+  changed-leaves f ino site attr = grind (arith, none_new, field-changed, All-weaker, permitted-changed, want-changed)
 
   -- a new inode, with its locks
   pub birth-leaves : (kind : Kind) (dir : ℕ) (name : List ℕ) (attr : Attr) → IsTree s.scene.tree
@@ -120,43 +91,42 @@ module _ (s : State) (sound : IsSound s) where
       node = new_node kind dir name attr
 
       by_test : (q : ℕ) (b : Bool) → place_at (option_map (λ n. n.site) (cond b (Some node) (map.get s.scene.tree.nodes q))) ≡ Gone → place_at (option_map (λ n. n.site) (map.get s.scene.tree.nodes q)) ≡ Gone
-      by_test q true gone = cc
-      by_test q false gone = gone
+      by_test q b gone = grind arith
 
--- ---- so they keep a sound state sound
+-- ---- what is kept of entries
 
-module _ {s : State} (sound : IsSound s) where
-  pub session-sound : (client : ℕ) (caller : Caller) (grants : List Grant) → first_failing (new_session_tests s.scene.sessions client) ≡ None
-      → IsSound (with_scene s (record s.scene { sessions = with_session s.scene.sessions client caller grants }))
-  session-sound client caller grants passed =
-      kept-sound s sound s.scene.tree (with_session s.scene.sessions client caller grants) s.scene.locks.states (session-leaves s sound client caller grants passed)
+-- it is kept where they hold alike
+pub alike-kept : (sets : KnownSets) (s : Scene) (new : Table) → HoldAlike s.table new → AreKept sets s → AreKept sets (record s { table = new })
+alike-kept sets s new alike kept = (known-alike sets s new alike kept.0, λ k e there. let was = alike k e there in kept.1 k was.0 was.1)
 
-  pub unblocked-sound : (client : ℕ) → IsSound (with_scene s (record s.scene { sessions = without_blocked s.scene.sessions client }))
-  unblocked-sound client = kept-sound s sound s.scene.tree (without_blocked s.scene.sessions client) s.scene.locks.states (unblocked-leaves s sound client)
+-- ---- so they keep all that holds between two steps
 
-  pub changed-sound : (f : Node → Node) (ino : ℕ) → ((n : Node) → (f n).site ≡ n.site) → ((n : Node) → (f n).attr ≡ n.attr)
-      → IsSound (with_tree s (changed f s.scene.tree ino))
-  changed-sound f ino site attr = kept-sound s sound (changed f s.scene.tree ino) s.scene.sessions s.scene.locks.states (changed-leaves s sound f ino site attr)
+module _ (p : Parts) (whole : IsWhole p) where
+  left-whole : (tree : Nodes) (sessions : SessionTable) (states : StateMap) → LeavesEntries p.scene tree sessions states → IsWhole (record p { scene = with_parts p.scene tree sessions states })
+  left-whole tree sessions states leaves = (
+    kept-sound (state_of p) whole.0 tree sessions states leaves,
+    whole.1,
+    (
+      kept-known (state_of p) whole.0 tree sessions states leaves p.known.sets whole.2.0,
+      λ k e there.
+          let row : EntryRow = record { holder = k; entry = e } in
+          let inside : Contains p.scene.table.rows row = found-contains (is_row_of k) p.scene.table.rows row (row_of-entry p.scene.table k e there) in
+          whole.2.1 k e there ∙ ap Some (sym (All-contains (SameMay (state_of p) whole.0 tree sessions) p.scene.table.rows row leaves.permits inside)),
+    ),
+  )
 
-  pub birth-sound : (kind : Kind) (dir : ℕ) (name : List ℕ) (attr : Attr) → IsTree s.scene.tree → IsSound (with_birth s kind dir name attr)
-  birth-sound kind dir name attr tree =
-      kept-sound s sound (with_new s.scene.tree kind dir name attr) s.scene.sessions (with_ino s.scene.locks (s.scene.tree.last + 1)).states (birth-leaves s sound kind dir name attr tree)
+  pub session-whole : (client : ℕ) (caller : Caller) (grants : List Grant) → first_failing (new_session_tests p.scene.sessions client) ≡ None
+      → IsWhole (record p { scene = record p.scene { sessions = with_session p.scene.sessions client caller grants } })
+  session-whole client caller grants passed =
+      left-whole p.scene.tree (with_session p.scene.sessions client caller grants) p.scene.locks.states (session-leaves (state_of p) whole.0 client caller grants passed)
 
--- ---- and what is known of entries
+  pub unblocked-whole : (client : ℕ) → IsWhole (record p { scene = record p.scene { sessions = without_blocked p.scene.sessions client } })
+  unblocked-whole client = left-whole p.scene.tree (without_blocked p.scene.sessions client) p.scene.locks.states (unblocked-leaves (state_of p) whole.0 client)
 
-module _ {s : State} (sound : IsSound s) (sets : KnownSets) (known : AreKnown sets s.scene) where
-  pub session-known : (client : ℕ) (caller : Caller) (grants : List Grant) → first_failing (new_session_tests s.scene.sessions client) ≡ None
-      → AreKnown sets (record s.scene { sessions = with_session s.scene.sessions client caller grants })
-  session-known client caller grants passed =
-      kept-known s sound s.scene.tree (with_session s.scene.sessions client caller grants) s.scene.locks.states (session-leaves s sound client caller grants passed) sets known
+  pub changed-whole : (f : Node → Node) (ino : ℕ) → ((n : Node) → (f n).site ≡ n.site) → ((n : Node) → (f n).attr ≡ n.attr)
+      → IsWhole (record p { scene = record p.scene { tree = changed f p.scene.tree ino } })
+  changed-whole f ino site attr = left-whole (changed f p.scene.tree ino) p.scene.sessions p.scene.locks.states (changed-leaves (state_of p) whole.0 f ino site attr)
 
-  pub unblocked-known : (client : ℕ) → AreKnown sets (record s.scene { sessions = without_blocked s.scene.sessions client })
-  unblocked-known client = kept-known s sound s.scene.tree (without_blocked s.scene.sessions client) s.scene.locks.states (unblocked-leaves s sound client) sets known
-
-  pub changed-known : (f : Node → Node) (ino : ℕ) → ((n : Node) → (f n).site ≡ n.site) → ((n : Node) → (f n).attr ≡ n.attr)
-      → AreKnown sets (with_tree s (changed f s.scene.tree ino)).scene
-  changed-known f ino site attr = kept-known s sound (changed f s.scene.tree ino) s.scene.sessions s.scene.locks.states (changed-leaves s sound f ino site attr) sets known
-
-  pub birth-known : (kind : Kind) (dir : ℕ) (name : List ℕ) (attr : Attr) → IsTree s.scene.tree → AreKnown sets (with_birth s kind dir name attr).scene
-  birth-known kind dir name attr tree =
-      kept-known s sound (with_new s.scene.tree kind dir name attr) s.scene.sessions (with_ino s.scene.locks (s.scene.tree.last + 1)).states (birth-leaves s sound kind dir name attr tree) sets known
+  pub birth-whole : (kind : Kind) (dir : ℕ) (name : List ℕ) (attr : Attr) → IsTree p.scene.tree → IsWhole (record p { scene = (with_birth (state_of p) kind dir name attr).scene })
+  birth-whole kind dir name attr tree =
+      left-whole (with_new p.scene.tree kind dir name attr) p.scene.sessions (with_ino p.scene.locks (p.scene.tree.last + 1)).states (birth-leaves (state_of p) whole.0 kind dir name attr tree)

@@ -3,6 +3,7 @@ use Rattle.std.specs.Prelude.{◌≡◌, ◌≤◌, ◌+◌, ◌==◌, ℕ, Bool
 use Rattle.std.specs.FinSet as set
 use Rattle.inotree.specs.Tree.{IsTree}
 use Rattle.captable.specs.Table.{IsTable}
+use Rattle.capsteps.specs.Lockmachine.declared.scene.Scene.{Scene}
 use Rattle.capsteps.specs.Lockmachine.Locks.{IsLockMap}
 use Rattle.capsteps.specs.Capevents.declared.event.Event.{Event}
 use Rattle.capsteps.specs.Capevents.declared.event.Event.TheVariants as event
@@ -11,7 +12,7 @@ use Rattle.capsteps.specs.Capevents.declared.reply.Reply.TheVariants as reply
 use Rattle.capsteps.specs.Capview.Changes.{AreChanges}
 use Rattle.capsteps.specs.Capnotes.Noted.{HavePlaces}
 use Rattle.capsteps.specs.Capnotes.DueEndings.{HasRoom, but_for}
-use Rattle.capsteps.specs.Capacts.Known.{known_in, AreKnown, StillKnown, OthersHaveAll}
+use Rattle.capsteps.specs.Capacts.Known.{KnownSets, known_in, AreKnown, StillKnown, OthersHaveAll}
 use Rattle.capsteps.specs.Capacts.Reach.{is_affected}
 use Rattle.capsteps.specs.Caprules.State.{State}
 use Rattle.capsteps.specs.Caprules.Direct as rules
@@ -19,7 +20,7 @@ use Rattle.capsteps.specs.Caprules.Direct.{direct}
 use Rattle.capsteps.specs.Caprules.Judge.{judged}
 use Rattle.capsteps.specs.Caprules.Noted.{view_of}
 use Rattle.capsteps.specs.Caprules.Sound.{IsSound, AreGiven, NumbersLeft}
-use Rattle.capsteps.specs.Begun.{MaySettle, MayEnd, HaveRoomFor}
+use Rattle.capsteps.specs.Begun.{ArePermittedIn, MaySettle, MayEnd, HaveRoomFor}
 use Rattle.capsteps.specs.Judged.{IsJudged}
 use Rattle.capsteps.specs.EntryRequest.{entry_event, entry_answer}
 use Rattle.capsteps.specs.Affected.{Affects, Knows}
@@ -37,10 +38,13 @@ use Rattle.capcore.specs.declared.parts.Answer.TheVariants.{Done, Dropped, Touch
 abbrev pub state_of : Parts → State
 state_of p = record { scene = p.scene; messages = p.messages.items }
 
--- what the parts are between two steps: sound, with room for each message that is to come, and of each entry it is known what its
--- client is to know of
+-- of each entry it is kept what its client is to know of, and what it is permitted
+abbrev pub AreKept : KnownSets → Scene → Type 0
+AreKept sets s = AreKnown sets s × ArePermittedIn sets s
+
+-- what the parts are between two steps: sound, with room for each message that is to come, and with these of each entry
 abbrev pub IsWhole : Parts → Type 0
-IsWhole p = IsSound (state_of p) × HasRoom p.messages p.scene.locks × AreKnown p.known.sets p.scene
+IsWhole p = IsSound (state_of p) × HasRoom p.messages p.scene.locks × AreKept p.known.sets p.scene
 
 -- ---- the event
 
@@ -120,7 +124,7 @@ MayEndAt (Others others) p = HavePlaces p.endings.changes p.scene.locks others �
 pub record IsReady (affected : Affected) (p : Parts) : Type 0 where
   pub settles : MaySettle (among affected) p.scene
   pub judged : IsJudged p.endings.judged p.scene
-  pub entries : MayEnd p.known.sets p.scene.sessions p.scene.table
+  pub entries : MayEnd p.known.sets p.scene
   pub room : HaveRoomFor (length p.scene.locks.queue) p.endings
   pub at : MayEndAt affected p
 

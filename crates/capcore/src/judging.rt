@@ -26,12 +26,11 @@ use capspec::FsName;
 use capsteps::client::session_change_refusal;
 use capsteps::entry_request::{EntryRequest, revoked_of};
 use capsteps::judge::{by_test, denial};
-use capsteps::known::Known;
 use capsteps::serving::{
     ask_denial, before_refusal, change_access, change_refusal, places_refusal, rename_denial,
 };
 use capsteps::{Ask, Change, Locks, OpenMode, Rejection, Scene};
-use captable::{CapTable, Holder};
+use captable::{CapTable, Holder, Known};
 use inotree::Tree;
 use sessiontab::Sessions;
 

@@ -1,6 +1,8 @@
 //! The pieces of a step that may move locks: its event by itself, the settling of locks with the end of the step, and what it says.
 ghost use Rattle.std.specs.Prelude.{◌≡◌, ◌+◌, ◌≤◌, ◌++◌, List, length, IfOk, OnErr};
-ghost use Rattle.capsteps.specs.Capacts.Known.{AreKnown};
+ghost use Rattle.captable.specs.declared.entry.Holder.{Holder};
+ghost use Rattle.captable.specs.Known.{known_of};
+ghost use Rattle.capsteps.specs.Capacts.Known.{AreKnown, HaveRoom};
 ghost use Rattle.capsteps.specs.Capevents.declared.outcome.Ended.{Ended};
 ghost use Rattle.capsteps.specs.Capnotes.Noted.{LeadOn};
 ghost use Rattle.capsteps.specs.Capnotes.DueEndings.{HaveOwnNumbers};
@@ -8,7 +10,8 @@ ghost use Rattle.capsteps.specs.Caprules.Direct.{reply_of, shown};
 ghost use Rattle.capsteps.specs.Caprules.State.{State};
 ghost use Rattle.capsteps.specs.Serves.{EndsWith};
 ghost use Rattle.capsteps.specs.EntryRequest.{entry_event};
-ghost use Rattle.capsteps.specs.SessionChange.{session_event};
+ghost use Rattle.capsteps.specs.Begun.{ArePermittedIn};
+ghost use Rattle.capsteps.specs.SessionChange.{session_changed, session_event};
 ghost use Rattle.capsteps.specs.Capevents.declared.event.Event.TheVariants as event;
 ghost use Rattle.capcore.specs.Asks.{asked_event};
 ghost use Rattle.capcore.specs.UnderWay.{HasBegun, HasPlaces, IsReady, IsWhole, MayBegin, among, answer_of, dropped_of, earlier_of, event_of, state_of};
@@ -20,11 +23,12 @@ use capsteps::client::{Room, apply_session_change};
 use capsteps::ended::{close, close_dropped, close_with};
 use capsteps::entry_request::{EntryRequest, apply_request, revoked_by, show_reply};
 use capsteps::leaving::{SessionChange, leave};
+use capsteps::renewing::{renew_changed, renew_client};
 use capsteps::said::Said;
 use capsteps::serving::alter;
 use capsteps::settle::{end_at, end_at_entry, end_at_one};
-use capsteps::{Change, Reply};
-use captable::Holder;
+use capsteps::{Change, Policy, Reply, Scene};
+use captable::{Holder, Known};
 use inotree::ROOT;
 use std::alloc::AllocError;
 
@@ -55,8 +59,13 @@ impl Parts {
         let waiting = self.scene.locks.waiting();
         self.endings.begin(waiting, waiting + 1)?;
         let revoked = revoked_by(&self.scene.table, &self.known, holder, &request);
+        let policy = Policy {
+            fs: &self.scene.fs,
+            tree: &self.scene.tree,
+            sessions: &self.scene.sessions,
+        };
         let (table, known) = (&mut self.scene.table, &mut self.known);
-        apply_request(table, known, holder, revoked, &request)?;
+        apply_request(&policy, table, known, holder, revoked, &request)?;
         Ok(Effect {
             affected: Affected::Entry(holder),
             answer: Answer::Touched(holder, request),
@@ -100,6 +109,12 @@ impl Parts {
         self.endings
             .changes
             .note_change(&self.scene.tree, ino, change);
+        let policy = Policy {
+            fs: &self.scene.fs,
+            tree: &self.scene.tree,
+            sessions: &self.scene.sessions,
+        };
+        renew_changed(&policy, &self.scene.table, &mut self.known, ino, change);
         self.scene.table.touch(holder.client, ino);
         Ok(Effect {
             affected: Affected::Inode(holder),
@@ -128,6 +143,7 @@ impl Parts {
         }
         let (scene, known, messages) = (&mut self.scene, &mut self.known, &mut self.messages);
         leave(scene, known, messages, client, change, &mut room.dropped);
+        renew_granted(&self.scene, &mut self.known, client, change);
         let Room { others, dropped } = room;
         Ok(Effect {
             affected: Affected::Others(others),
@@ -182,5 +198,28 @@ impl Parts {
             }
             Answer::Awaited(ticket) => close_with(messages, ticket, endings),
         }
+    }
+}
+
+// Where the client has other grants, what it is permitted is kept anew.
+fn renew_granted(scene: &Scene, known: &mut Known, client: ClientId, change: SessionChange)
+    requires room { HaveRoom known.old.sets scene.now.table }
+    ensures permitted { (old : State) → scene.now ≡ (session_changed old client change.entry).scene
+        → ArePermittedIn known.old.sets (record old.scene { table = scene.now.table }) → ArePermittedIn known.new.sets scene.now }
+    ensures told { (k : Holder) → known_of known.new.sets k ≡ known_of known.old.sets k }
+{
+    match change {
+        SessionChange::Regrant(_) => {
+            let policy = Policy {
+                fs: &scene.fs,
+                tree: &scene.tree,
+                sessions: &scene.sessions,
+            };
+            renew_client(&policy, &scene.table, known, client);
+        }
+        // Policy reads no status.
+        SessionChange::Mark(_) => {}
+        // No entry of the client is left.
+        SessionChange::Close | SessionChange::Evict => {}
     }
 }

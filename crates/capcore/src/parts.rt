@@ -4,10 +4,9 @@ use crate::asks::Asked;
 use capbits::{ClientId, Ticket};
 use capsteps::endings::Endings;
 use capsteps::entry_request::EntryRequest;
-use capsteps::known::Known;
 use capsteps::leaving::SessionChange;
 use capsteps::{Change, InoSet, Messages, Scene};
-use captable::Holder;
+use captable::{Holder, Known};
 
 // Tree, sessions, entries and locks, what clients are still to be told, and what a step needs beside them.
 #[derive(Debug)]

@@ -32,7 +32,6 @@ use capspec::{FsName, Grants};
 use capsteps::endings::Endings;
 use capsteps::entry_request::EntryRequest;
 use capsteps::judge::denial;
-use capsteps::known::Known;
 use capsteps::leaving::SessionChange;
 use capsteps::poll::{due_messages, give};
 use capsteps::said::Said;
@@ -41,7 +40,7 @@ use capsteps::{
     ChangeList, EndedList, EndedTickets, Event, Messages, Reply, Scene, ViewChange,
     copy_of_messages,
 };
-use captable::{CapTable, Holder};
+use captable::{CapTable, Holder, Known};
 use inotree::{Kind, Tree};
 use sessiontab::Sessions;
 use std::alloc::{AllocError, Global};

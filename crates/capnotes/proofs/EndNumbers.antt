@@ -35,8 +35,7 @@ found numbers x (Err i) rise ends =
 
 -- what is of some client, and not told, is left
 not_told : (b : Bool) → not (b && false) ≡ true
-not_told true = refl
-not_told false = refl
+not_told b = grind arith
 
 -- where no number is told, all are left
 pub all_left : (client : ClientId) (given : List Message) (numbers : List ℕ) (items : List Ended) → length numbers < 1 → AreEndsOf given numbers

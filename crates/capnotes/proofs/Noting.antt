@@ -1,5 +1,5 @@
 -- What was noted leads on, change by change.
-use Rattle.std.proofs.Common.{◌≡◌, ℕ, ◌+◌, Bool, true, false, List, [], ◌∷◌, ◌++◌, ◌⊎◌, inl, inr, Option, Some, None, refl, sym, ap, subst, ◌∙◌}
+use Rattle.std.proofs.Common.{◌≡◌, ℕ, ◌+◌, Bool, true, false, List, [], ◌∷◌, ◌++◌, ◌⊎◌, inl, inr, Option, Some, None, refl, sym, ap, subst, ◌∙◌, arith}
 use Rattle.std.specs.Cmp.{nat_cmp_total}
 use Rattle.std.specs.FinMap as map
 use Rattle.std.specs.FinSet as set
@@ -44,28 +44,16 @@ leads-then a b c first mid last one two = record { on = λ view sessions told. t
 
 -- what was noted leads to all that looks the same
 pub leads-alike : (a b : List ViewChange) (first mid last : Nodes) → LeadOn a b first mid → IsLike mid last → LeadOn a b first last
-leads-alike a b first mid last leads like = record {
-  on = λ from sessions told. changes-alike b from (view mid sessions) (view last sessions) (leads.on from sessions told) (shows-tree mid last sessions like);
-}
+leads-alike a b first mid last leads like = grind (arith, changes-alike, shows-tree)
 
 -- ---- one change more
 
-module _ (items : List ViewChange) (before : Nodes) (ino : Ino) where
-  pub leads-born : (dir : Ino) (name : List ℕ) (attr : Attr) (is_dir : Bool)
-      → LeadOn items (items ++ change.Born ino dir name attr is_dir ∷ []) before (tree_by before (change.Born ino dir name attr is_dir))
-  leads-born dir name attr is_dir = record { on = λ first sessions told. changes-more items first (view before sessions) (change.Born ino dir name attr is_dir) told }
+module _ (items : List ViewChange) (before : Nodes) where
+  leads-more : (c : ViewChange) → ((sessions : SessionMap) → view_by (view before sessions) c ≡ view (tree_by before c) sessions) → LeadOn items (items ++ c ∷ []) before (tree_by before c)
+  leads-more c shows = record { on = λ first sessions told. subst (AreChanges (items ++ c ∷ []) first) (shows sessions) (changes-more items first (view before sessions) c told) }
 
-  pub leads-moved : (dir : Ino) (name : List ℕ) → LeadOn items (items ++ change.Moved ino dir name ∷ []) before (tree_by before (change.Moved ino dir name))
-  leads-moved dir name = record { on = λ first sessions told. changes-more items first (view before sessions) (change.Moved ino dir name) told }
-
-  pub leads-removed : LeadOn items (items ++ change.Removed ino ∷ []) before (tree_by before (change.Removed ino))
-  leads-removed = record { on = λ first sessions told. changes-more items first (view before sessions) (change.Removed ino) told }
-
-  pub leads-forgotten : LeadOn items (items ++ change.Forgotten ino ∷ []) before (tree_by before (change.Forgotten ino))
-  leads-forgotten = record { on = λ first sessions told. changes-more items first (view before sessions) (change.Forgotten ino) told }
-
-  pub leads-settled : (attr : Attr) → LeadOn items (items ++ change.Settled ino attr ∷ []) before (tree_by before (change.Settled ino attr))
-  leads-settled attr = record { on = λ first sessions told. changes-more items first (view before sessions) (change.Settled ino attr) told }
+  pub leads-forgotten : (ino : Ino) → LeadOn items (items ++ change.Forgotten ino ∷ []) before (tree_by before (change.Forgotten ino))
+  leads-forgotten ino = leads-more (change.Forgotten ino) (λ sessions. refl)
 
 -- ---- an inode, as it is read off the tree after the change
 
@@ -105,7 +93,7 @@ module _ (items : List ViewChange) (before after : Nodes) (ino : Ino) where
   leads-attr f kinds sites is node here =
       let told : List ViewChange = items ++ change.Settled ino node.attr ∷ [] in
       subst (LeadOn items told before) (sym is)
-      (leads-alike items told before (changed (with_attr node.attr) before ino.0) (changed f before ino.0) (leads-settled items before ino node.attr)
+      (leads-alike items told before (changed (with_attr node.attr) before ino.0) (changed f before ino.0) (leads-more items before (change.Settled ino node.attr) (λ sessions. refl))
       (like-settled before f ino.0 node.attr kinds sites (ap (option_map (λ (n : Node). n.attr)) (ap (λ (t : Nodes). map.get t.nodes ino.0) (sym is) ∙ here))))
 
   -- what no reader sees was changed
@@ -121,7 +109,7 @@ module _ (items : List ViewChange) (before after : Nodes) (ino : Ino) where
       → LeadOn items (items ++ change.Moved ino d n ∷ []) before after
   leads-place dir name is node here d n site =
       let told : List ViewChange = items ++ change.Moved ino d n ∷ [] in
-      subst (LeadOn items told before) (ap (λ (s : Site). changed (λ m. record m { site = s }) before ino.0) (sym site ∙ stands dir name is node here) ∙ sym is) (leads-moved items before ino d n)
+      subst (LeadOn items told before) (ap (λ (s : Site). changed (λ m. record m { site = s }) before ino.0) (sym site ∙ stands dir name is node here) ∙ sym is) (leads-more items before (change.Moved ino d n) (λ sessions. refl))
 
   -- it was made
   module _ (kind : Kind) (dir : ℕ) (name : List ℕ) (attr : Attr) (is : after ≡ with_new before kind dir name attr) (next : ino.0 ≡ before.last + 1) where
@@ -143,7 +131,7 @@ module _ (items : List ViewChange) (before after : Nodes) (ino : Ino) where
         λ i. record { kind = of_kind i; site = at i; attr = by i; size = 0; time = 0; attributes = map.empty; snapshots = set.empty } in
         let tree : tree_by before (change.Born ino d n node.attr is_dir) ≡ with_new before kind dir name attr =
         λ i. record { nodes = map.insert before.nodes (next i) (made i); last = next i } in
-        subst (LeadOn items told before) (tree ∙ sym is) (leads-born items before ino d n node.attr is_dir)
+        subst (LeadOn items told before) (tree ∙ sym is) (leads-more items before (change.Born ino d n node.attr is_dir) (λ sessions. refl))
 
 -- ---- what a client changed, or asked for
 
@@ -152,29 +140,17 @@ module _ (items : List ViewChange) (before after : Nodes) (ino : Ino) where
   pub leads-set : (c : Change) → sets_attr c ≡ true → after ≡ tree_changed before ino.0 c → (more : List ViewChange)
       → ((f : Node → Node) → ((node : Node) → (f node).kind ≡ node.kind) → ((node : Node) → (f node).site ≡ node.site) → after ≡ changed f before ino.0 → LeadOn items more before after)
       → LeadOn items more before after
-  leads-set (Set (Mode mode)) seen is more lead = lead (with_setting (Mode mode)) (λ node. refl) (λ node. refl) is
-  leads-set (Set (Uid uid)) seen is more lead = lead (with_setting (Uid uid)) (λ node. refl) (λ node. refl) is
-  leads-set (Set (Gid gid)) seen is more lead = lead (with_setting (Gid gid)) (λ node. refl) (λ node. refl) is
-  leads-set (Set (Size size)) seen is more lead = absurd (cc)
-  leads-set (Set (Time time)) seen is more lead = absurd (cc)
-  leads-set (SetXattr name value) seen is more lead = absurd (cc)
-  leads-set (RemoveXattr name) seen is more lead = absurd (cc)
+  leads-set c seen is more lead = grind arith
 
   -- anything else
   pub leads-not_set : (c : Change) → sets_attr c ≡ false → after ≡ tree_changed before ino.0 c → LeadOn items items before after
-  leads-not_set (Set (Mode mode)) seen is = absurd (cc)
-  leads-not_set (Set (Uid uid)) seen is = absurd (cc)
-  leads-not_set (Set (Gid gid)) seen is = absurd (cc)
-  leads-not_set (Set (Size size)) seen is = leads-unseen items before after ino (with_setting (Size size)) (λ node. refl) is
-  leads-not_set (Set (Time time)) seen is = leads-unseen items before after ino (with_setting (Time time)) (λ node. refl) is
-  leads-not_set (SetXattr name value) seen is = leads-unseen items before after ino (with_attribute name value) (λ node. refl) is
-  leads-not_set (RemoveXattr name) seen is = leads-unseen items before after ino (without_attribute name) (λ node. refl) is
+  leads-not_set c seen is = grind (arith, leads-unseen)
 
 -- an inode that was unlinked, or removed, is a stray
 pub leads-unlinked : (items : List ViewChange) (before after : Nodes) (q : Request) (o : Outcome) → o ≡ Done → (q.ask ≡ Unlink) ⊎ (q.ask ≡ Rmdir) → after ≡ tree_after before q o
     → LeadOn items (items ++ change.Removed q.ino ∷ []) before after
 leads-unlinked items before after q o done asked is =
-    subst (LeadOn items (items ++ change.Removed q.ino ∷ []) before) (sym (is ∙ ap (tree_after before q) done ∙ by asked)) (leads-removed items before q.ino)
+    subst (LeadOn items (items ++ change.Removed q.ino ∷ []) before) (sym (is ∙ ap (tree_after before q) done ∙ by asked)) (leads-more items before (change.Removed q.ino) (λ sessions. refl))
   where
     by : (q.ask ≡ Unlink) ⊎ (q.ask ≡ Rmdir) → tree_with before q.ino.0 q.ask ≡ unlinked before q.ino.0
     by (inl e) = ap (tree_with before q.ino.0) e

@@ -270,8 +270,8 @@ impl ChangeList {
     }
 }
 
-// Whether the change sets an owner, a group or a mode.
-fn sets_attr(change: &Change) -> bool
+/// Whether the change sets an owner, a group or a mode.
+pub fn sets_attr(change: &Change) -> bool
     ensures { result ≡ sets_attr change.now }
 {
     match change {

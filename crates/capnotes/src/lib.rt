@@ -10,11 +10,12 @@ mod messages;
 
 pub use capevents::{
     Ask, Bytes, Change, Ended, EndedList, Event, InodeLocks, Locks, Message, MessageList, Move,
-    OpenMode, Outcome, PartValues, Policy, Reply, Request, Row, Scene, Wants, copy_of_messages,
-    copy_of_outcome, copy_of_reply, copy_of_rules, permitted_and_wanted, wants_on,
+    OpenMode, Outcome, PartValues, Policy, Reply, Request, Row, Scene, Wants, allowed_under,
+    copy_of_messages, copy_of_outcome, copy_of_reply, copy_of_rules, permitted, permitted_on,
+    told_under, verdict_on, want_of_permitted, wants_on,
 };
 pub use capview::{Question, Unknown, View, ViewChange};
-pub use changes::ChangeList;
+pub use changes::{ChangeList, sets_attr};
 pub use ended_tickets::EndedTickets;
 pub use ino_set::InoSet;
 pub use messages::Messages;

@@ -9,8 +9,6 @@ use Rattle.capbits.specs.declared.ids.Ino.{Ino}
 use Rattle.capbits.specs.declared.cap.Part.TheVariants.{A, L, X, F}
 use Rattle.capbits.specs.Caps.{Caps, has}
 use Rattle.capbits.specs.Sets.{no_caps, caps_in, union, meet}
-use Rattle.locktable.specs.declared.states.LockState.{LockState}
-use Rattle.locktable.specs.Rows.{allowed_of}
 use Rattle.inotree.specs.Tree.{place}
 use Rattle.captable.specs.declared.entry.Entry.{Entry}
 use Rattle.captable.specs.declared.entry.EntryRow.{EntryRow}
@@ -21,6 +19,7 @@ use Rattle.capnotes.specs.Lockmachine.Locks.{lock_at}
 use Rattle.capnotes.specs.Lockmachine.Wants.{effective_want}
 use Rattle.capnotes.specs.Lockmachine.declared.scene.Scene.{Scene}
 use Rattle.capnotes.specs.Lockmachine.Scene.{told_set}
+pub use Rattle.capnotes.specs.Lockmachine.Under.{allowed_by}
 use Rattle.inotree.specs.Tests.{is_gone}
 
 -- ---- sizes
@@ -39,10 +38,6 @@ abbrev pub sizes_owed : List Ino → Scene → Scene
 sizes_owed sized s = record s { table = changed_where (is_sized sized) owed s.table }
 
 -- ---- issue
-
-abbrev pub allowed_by : Part → EntryRow → Option LockState → Caps
-allowed_by part row None = no_caps
-allowed_by part row (Some lock) = allowed_of part lock row.holder.client
 
 abbrev pub allowed_part : Scene → EntryRow → Part → Caps
 allowed_part s row part = allowed_by part row (lock_at s.locks row.holder.ino.0 part)

@@ -7,23 +7,15 @@ use Rattle.capacts.proofs.InoSets.{added}
 
 -- an inode that is not affected is another, and none of the others
 pub unaffected : (ino : ℕ) (affected : InoSet) (other : ℕ) → is_affected ino affected other ≡ false → (other ≢ ino) × (set.contains affected other ≡ false)
-unaffected ino affected other off =
-    let both = or_parts (other == ino) (set.contains affected other) off in (eqb-false other ino both.0, both.1)
+unaffected ino affected other off = let both = or_parts (other == ino) (set.contains affected other) off in (eqb-false other ino both.0, both.1)
 
 pub not-affected : (ino : ℕ) (affected : InoSet) (other : ℕ) → other ≢ ino → set.contains affected other ≡ false → is_affected ino affected other ≡ false
 not-affected ino affected other off none = or_from (other == ino) (set.contains affected other) (ne_eqb other ino off) none
 
--- each of the others is affected
-pub other-affected : (ino : ℕ) (others : InoSet) (other : ℕ) → set.contains others other ≡ true → is_affected ino others other ≡ true
-other-affected ino others other there = or_right (other == ino) (set.contains others other) there
-
 -- and where there are more others, more are
 pub more-affected : (ino : ℕ) (affected kept : InoSet) → ((other : ℕ) → set.contains affected other ≡ true → set.contains kept other ≡ true)
     → (other : ℕ) → is_affected ino affected other ≡ true → is_affected ino kept other ≡ true
-more-affected ino affected kept more other is = elim (or_cases (other == ino) (set.contains affected other) is) as (λ _. is_affected ino kept other ≡ true) [
-  | inl here ↦ or_left (other == ino) (set.contains kept other) here
-  | inr there ↦ other-affected ino kept other (more other there)
-]
+more-affected ino affected kept more other is = grind arith
 
 -- where there are no others, it is the one that is affected
 pub affected-alone : (ino : ℕ) (others : InoSet) → others ≡ set.empty → is_affected ino others ≡ (λ other. other == ino)
@@ -43,31 +35,15 @@ first-reached ino others all row inside = inl inside
 
 pub more-reached : (ino : ℕ) (a b : InoSet) (all left rest : List EntryRow) (row : EntryRow) → left ≡ row ∷ rest → Widens ino a b
     → is_affected ino b row.holder.ino.0 ≡ true → AreReached ino a all left → AreReached ino b all rest
-more-reached ino a b all left rest row is widens reached so_far other inside = elim (so_far other inside) as (λ _. (Contains rest other) ⊎ (is_affected ino b other.holder.ino.0 ≡ true)) [
-  | inl still ↦ of_rest (subst (λ (rows : List EntryRow). Contains rows other) is still)
-  | inr done ↦ inr (affected-still ino a b widens other.holder.ino.0 done)
-]
-  where
-    of_rest : Contains (row ∷ rest) other → (Contains rest other) ⊎ (is_affected ino b other.holder.ino.0 ≡ true)
-    of_rest (zero, room, at) = (let e : row ≡ other = at in inr (subst (λ (r : EntryRow). is_affected ino b r.holder.ino.0 ≡ true) e reached))
-    of_rest (suc k, room, at) = inl (k, omega arith, at)
+more-reached ino a b all left rest row is widens reached so_far = grind (arith, affected-still)
 
 pub all-reached : (ino : ℕ) (others : InoSet) (all left : List EntryRow) → left ≡ [] → AreReached ino others all left → (row : EntryRow) → Contains all row → is_affected ino others row.holder.ino.0 ≡ true
-all-reached ino others all left none so_far row inside = elim (so_far row inside) as (λ _. is_affected ino others row.holder.ino.0 ≡ true) [
-  | inl still ↦ absurd (nothing (subst (λ (rows : List EntryRow). Contains rows row) none still))
-  | inr done ↦ done
-]
-  where
-    nothing : Contains [] row → ⊥
-    nothing (k, room, at) = omega arith
+all-reached ino others all left none so_far row inside = grind arith
 
 -- where there were none at first, this one is none of them
 pub none-of_it : (ino : ℕ) (none others : InoSet) → none ≡ set.empty → Widens ino none others → set.contains others ino ≡ false
-none-of_it ino none others is widens =
-    let out : set.contains none ino ≡ false = ap (λ (inos : InoSet). set.contains inos ino) is ∙ none-there ino in
-    false_from_ne_true (set.contains others ino) (λ there. widens.besides ino out there refl)
+none-of_it ino none others is widens = grind (arith, none-there)
 
 -- where there was memory for one more, it is affected
 pub affected-tried : {A E : Type 0} (ino k : ℕ) (old new : InoSet) (r : Result A E) → OnOk r (new ≡ set.insert old k) → OnOk r (is_affected ino new k ≡ true)
-affected-tried ino k old new (Ok x) ok = other-affected ino new k (added k old new ok)
-affected-tried ino k old new (Err e) ok = tt
+affected-tried ino k old new r ok = grind (arith, added)

@@ -66,10 +66,7 @@ distinct-on t ino is =
 
 -- who differs on one inode has another number
 other_number : (ino : Ino) (c x : ℕ) → same (holder (record { 0 = c }) ino) (holder (record { 0 = x }) ino) ≡ false → same_number c x ≡ false
-other_number ino c x apart = false_from_ne_true (same_number c x) (λ e.
-    let k : Holder = holder (record { 0 = c }) ino in
-    let is : same k k ≡ false = subst (λ y. same k (holder (record { 0 = y }) ino) ≡ false) (same_key c x e) apart in
-    true≢false (sym (same_equiv.refl k) ∙ is))
+other_number ino c x apart = grind arith
 
 other_numbers : (ino : Ino) (c : ℕ) (cs : List ℕ) → AllByRecursion (λ h. same (holder (record { 0 = c }) ino) h ≡ false) (named ino cs) → AllByRecursion (λ x. same_number c x ≡ false) cs
 other_numbers ino c [] apart = tt

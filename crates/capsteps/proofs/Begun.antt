@@ -7,11 +7,4 @@ use Rattle.capsteps.specs.Begun.{HaveRoomFor}
 
 -- room for some is room for fewer, whatever changes are noted and whoever was judged
 pub room-for : (e : Endings) (changes : Noted) (judged : Option Ticket) (n m : ℕ) → HaveRoomFor n e → m ≤ n → HaveRoomFor m (record e { changes = changes; judged = judged })
-room-for e changes judged n m room fewer = record {
-  told = room.told;
-  kept = room.kept;
-  sized = room.sized;
-  told_room = omega (arith, room.told_room);
-  kept_room = omega (arith, room.kept_room);
-  sized_room = omega (arith, room.sized_room);
-}
+room-for e changes judged n m room fewer = grind arith

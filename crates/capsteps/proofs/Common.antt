@@ -24,11 +24,11 @@ pub use Rattle.capacts.specs.Caprules.Sound.{AreGiven, IsSound, IsSoundEntry}
 pub use Rattle.capacts.specs.Caprules.State.{State}
 pub use Rattle.capacts.specs.Caprules.declared.rejection.Rejection.{Rejection}
 pub use Rattle.capacts.specs.Finishing.{clients_of, due_under, entry_by, entry_under, told_at, told_by}
-pub use Rattle.capacts.specs.Known.{AreKnown, HaveRoom, KnownAnew, KnownSets, OthersHaveAll, StillKnown, known_anew, known_in, known_of}
+pub use Rattle.capacts.specs.Known.{AreKnown, HaveRoom, KnownAnew, KnownSets, OthersHaveAll, StillKnown, known_anew, known_in, known_of, permitted_of, sets_of}
 pub use Rattle.capacts.specs.Lockmachine.Inodes.{StateMap, lock_in}
 pub use Rattle.capacts.specs.Lockmachine.Locks.{IsLockMap, LockMap, lock_at}
 pub use Rattle.capacts.specs.Lockmachine.Moves.{IsAtRest, IsQuiet, is_open, may_end_by}
-pub use Rattle.capacts.specs.Lockmachine.Policy.{permitted}
+pub use Rattle.capacts.specs.Lockmachine.Policy.{ArePermitted, permitted}
 pub use Rattle.capacts.specs.Lockmachine.Requests.{first_for, is_numbered}
 pub use Rattle.capacts.specs.Lockmachine.Rows.{IsInRow, IsInRowOf}
 pub use Rattle.capacts.specs.Lockmachine.Scene.{against, outside, scene, target_by, told_set, wants}
@@ -49,8 +49,8 @@ pub use Rattle.capbits.specs.declared.ids.ClientId.{ClientId}
 pub use Rattle.capbits.specs.declared.ids.Ino.{Ino}
 pub use Rattle.capbits.specs.declared.ids.Ticket.{Ticket}
 pub use Rattle.capsteps.specs.Affected.{Affects, Knows, SettlesAt, finished_at, finished_entry, forget_among, forget_at, stays, told_then}
-pub use Rattle.capsteps.specs.Begun.{MayEnd}
-pub use Rattle.capsteps.specs.EntryRequest.{table_after}
+pub use Rattle.capsteps.specs.Begun.{ArePermittedIn, MayEnd}
+pub use Rattle.capsteps.specs.EntryRequest.{StillKept, table_after}
 pub use Rattle.capsteps.specs.Judged.{IsJudged}
 pub use Rattle.capsteps.specs.Serves.{EndsAt, EndsWith, Serves}
 pub use Rattle.capsteps.specs.Sweep.{AreStill, IsNextOf, IsSwept, StandsAt}
@@ -65,6 +65,7 @@ pub use Rattle.captable.specs.Table.{IsTable, Table, entry_at, entry_of, holder,
 pub use Rattle.captable.specs.declared.entry.Entry.{Entry}
 pub use Rattle.captable.specs.declared.entry.EntryRow.{EntryRow}
 pub use Rattle.captable.specs.declared.entry.Holder.{Holder}
+pub use Rattle.captable.specs.declared.on_inode.Sets.{Sets}
 pub use Rattle.inotree.specs.Alike.{IsAlike}
 pub use Rattle.inotree.specs.Tests.{is_gone}
 pub use Rattle.inotree.specs.Tree.{IsTree, Nodes, place, place_at}

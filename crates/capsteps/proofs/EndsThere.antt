@@ -1,5 +1,5 @@
 -- The step of an event ends at the inodes that it affected.
-use Rattle.std.proofs.Common.{◌≡◌, ℕ, ◌+◌, ◌==◌, Bool, true, false, cond, not, ◌||◌, Option, Some, None, List, [], ◌∷◌, map, refl, sym, ap, subst, ◌∙◌, Contains}
+use Rattle.std.proofs.Common.{◌≡◌, ℕ, ◌+◌, ◌==◌, Bool, true, false, cond, not, ◌||◌, Option, Some, None, List, [], ◌∷◌, map, refl, sym, ap, subst, ◌∙◌, Contains, arith}
 use Rattle.capsteps.proofs.Common.{find, list_any, option_map, option_map_or, nat_cmp, map-map, All-contains, Cap, P, Part, A, L, X, F, Caps, IsSubset, has-union, IsTree, place, is_gone, Entry, EntryRow, Holder, Table, IsTable, same, is_row_of, entry_of, entry_at, is_of_inode, renumbered, remade, row_found, find-map, same-is, lock_at, effective_want, permitted, Scene, told_set, lock_in, State, allowed_by, due, issue_row, issue, is_in_use, forget, told_before, number_row, finished, IssuesExactly, IsSound, IsSoundEntry, Made, Affects, SettlesAt, Knows, stays, told_then, finished_entry, finished_at, KnownSets, known_of, AreKnown, known_anew, KnownAnew}
 use Rattle.std.specs.FinMap as finite
 use Rattle.capbits.specs.Caps.{has}
@@ -22,11 +22,7 @@ use Rattle.capsteps.proofs.Strays.{retained-here, kept-held, goes, alike-retaine
 -- a new number changes no other field
 pub field-renumbered : {V : Type 0} (field : Entry → V) → ((e : Entry) (seq revoked : ℕ) → field (record e { seq = seq; revoke_seq = revoked }) ≡ field e)
     → (before after : Caps) (e : Entry) → field (renumbered before after e) ≡ field e
-field-renumbered field same before after e =
-    elim (not (is_empty (minus before after))) as (λ lost. field (cond lost (record e { seq = e.seq + 1; revoke_seq = e.seq + 1 }) (cond (not (is_empty (minus after before))) (record e { seq = e.seq + 1 }) e)) ≡ field e) [
-      | true ↦ same e (e.seq + 1) (e.seq + 1)
-      | false ↦ elim (not (is_empty (minus after before))) as (λ more. field (cond more (record e { seq = e.seq + 1 }) e) ≡ field e) [ true ↦ same e (e.seq + 1) e.revoke_seq | false ↦ refl ]
-    ]
+field-renumbered field same before after e = grind arith
 
 pub held-renumbered : (before after : Caps) (e : Entry) → (renumbered before after e).held ≡ e.held
 held-renumbered = field-renumbered (λ e. e.held) (λ e seq revoked. refl)
@@ -58,23 +54,11 @@ module _ (at : ℕ → Bool) (known : Holder → Caps) (old : State) (now : Scen
   elsewhere : (other : ℕ) (part : Part) → at other ≡ false → lock_at now.locks other part ≡ lock_at old.scene.locks other part
   elsewhere = same_from.locks
 
-  off_want : (row : EntryRow) → Contains now.table.rows row → at row.holder.ino.0 ≡ false → effective_want now.fs now.tree now.sessions row ≡ effective_want old.scene.fs old.scene.tree old.scene.sessions row
-  off_want row inside off =
-      ap (λ fs. effective_want fs now.tree now.sessions row) same_from.fs
-      ∙ want-kept old.scene.fs old.scene.tree now.tree old.scene.sessions now.sessions row (same_from.alike row inside off) (same_from.sessions row inside off)
-
   pub off_due : (row : EntryRow) → Contains now.table.rows row → at row.holder.ino.0 ≡ false → due now row ≡ due old.scene row
-  off_due row inside off = λ i.
-      meet (off_want row inside off i)
-      (union (caps_in (P ∷ []))
-      (union (allowed_by A row (elsewhere row.holder.ino.0 A off i))
-      (union (allowed_by L row (elsewhere row.holder.ino.0 L off i))
-      (union (allowed_by X row (elsewhere row.holder.ino.0 X off i)) (allowed_by F row (elsewhere row.holder.ino.0 F off i))))))
+  off_due row inside off = grind arith
 
   off_may : (row : EntryRow) → Contains now.table.rows row → at row.holder.ino.0 ≡ false → permitted now.fs now.tree now.sessions row.holder ≡ permitted old.scene.fs old.scene.tree old.scene.sessions row.holder
-  off_may row inside off =
-      ap (λ fs. permitted fs now.tree now.sessions row.holder) same_from.fs
-      ∙ permitted-kept old.scene.fs old.scene.tree now.tree old.scene.sessions now.sessions row.holder (same_from.alike row inside off) (same_from.sessions row inside off)
+  off_may row inside off = grind arith
 
   pub off_told : (row : EntryRow) → Contains now.table.rows row → at row.holder.ino.0 ≡ false → told_set now row ≡ told_set old.scene row
   off_told row inside off = told-same now old.scene row (λ part. elsewhere row.holder.ino.0 part off) (off_may row inside off)
@@ -110,10 +94,7 @@ module _ (at : ℕ → Bool) (known : Holder → Caps) (old : State) (now : Scen
 
   -- and all others are
   stays_so : (q : ℕ) → is_in_use (issue now) q ≡ stays at numbered q
-  stays_so q = elim (at q) as (λ b. at q ≡ b → is_in_use (issue now) q ≡ (not b || is_in_use numbered q)) [
-    | true ↦ λ is. kept_issued q ∙ sym (kept_numbered q)
-    | false ↦ λ off. kept_elsewhere q off
-  ] refl
+  stays_so q = grind (arith, kept_issued, kept_numbered, kept_elsewhere)
 
   kept_map : {V : Type 0} (m : finite.FinMap nat_cmp V) → finite.retain_keys m (is_in_use (issue now)) ≡ finite.retain_keys m (stays at numbered)
   kept_map m = λ i. finite.retain_keys m (λ q. stays_so q i)
@@ -125,8 +106,7 @@ module _ (at : ℕ → Bool) (known : Holder → Caps) (old : State) (now : Scen
 
   -- an inode that somebody has an entry on keeps its locks
   locks_kept : (row : EntryRow) → Contains now.table.rows row → finite.get last.locks.states row.holder.ino.0 ≡ finite.get now.locks.states row.holder.ino.0
-  locks_kept row inside =
-      retained-here now.locks.states (is_in_use (issue now)) row.holder.ino.0 (kept_row row inside)
+  locks_kept row inside = retained-here now.locks.states (is_in_use (issue now)) row.holder.ino.0 (kept_row row inside)
 
   -- and what is permitted there, as what is forgotten is another inode
   may_last : (row : EntryRow) → Contains now.table.rows row → permitted last.fs last.tree last.sessions row.holder ≡ permitted now.fs now.tree now.sessions row.holder
@@ -145,18 +125,10 @@ module _ (at : ℕ → Bool) (known : Holder → Caps) (old : State) (now : Scen
 
   -- elsewhere none has another number
   off_numbered : (row : EntryRow) → Contains now.table.rows row → at row.holder.ino.0 ≡ false → number_row old.scene now last (issue_row now row) ≡ row
-  off_numbered row inside off =
-      let before : told_before old.scene (find (is_row_of row.holder) now.table.rows) ≡ told_set old.scene row = ap (told_before old.scene) (row_found now.table row is_table inside) in
-      let after : told_set last row ≡ told_set old.scene row = told_last row inside row.entry ∙ off_told row inside off in
-      ap (λ (r : EntryRow). record row { entry = renumbered (told_before old.scene (find (is_row_of row.holder) now.table.rows)) (told_set last r) r.entry }) (same-issue_row now row (off_held row inside off))
-      ∙ ap (λ (e : Entry). record row { entry = e }) (same-renumbered _ _ row.entry (before ∙ sym after))
+  off_numbered row inside off = grind (arith, row_found, told_last, same-issue_row, off_held, same-renumbered)
 
   one_row : (row : EntryRow) → Contains now.table.rows row → number_row old.scene now last (issue_row now row) ≡ ended row
-  one_row row inside = elim (at row.holder.ino.0) as (λ b. at row.holder.ino.0 ≡ b
-      → number_row old.scene now last (issue_row now row) ≡ cond b (remade (finished_entry known now) row) row) [
-        | true ↦ λ e. numbered_row row inside
-        | false ↦ λ e. off_numbered row inside e
-      ] refl
+  one_row row inside = grind (arith, numbered_row, off_numbered)
 
   -- ---- all together
 
@@ -233,9 +205,7 @@ module _ (at : ℕ → Bool) (known : Holder → Caps) (old : State) (now : Scen
     by_row cap k (Some row) e = held_last row cap (found-contains (is_row_of k) now.table.rows row e)
 
     pub issues_there : IssuesExactly now (finished_at at known now)
-    issues_there k cap =
-        ap (held_of cap) (found_last k) ∙ by_row cap k (find (is_row_of k) now.table.rows) refl
-        ∙ sym (ap (λ o. holds now k cap || due_of cap o) (found_last k))
+    issues_there = grind (arith, found_last, by_row)
 
 -- ---- of an event
 
@@ -243,7 +213,7 @@ module _ (at from : ℕ → Bool) (known : Holder → Caps) (old affected : Stat
     (affects : Affects from old affected) (knows : Knows known old.scene affected.scene.table) (settles : SettlesAt at from moves affected.scene settled) where
   -- moves leave the entries
   pub same-table : settled.table ≡ affected.scene.table
-  same-table = let made = settles.settles in (moved-all affected.scene moves settled made.made).table
+  same-table = (moved-all affected.scene moves settled settles.settles.made).table
 
   pub settled-table : IsTable settled.table
   settled-table = subst IsTable (sym same-table) table

@@ -1,46 +1,74 @@
 -- What an event about one entry leaves of what is kept of entries.
-use Rattle.std.proofs.Common.{◌≡◌, ◌≢◌, Bool, true, false, cond, not, ◌&&◌, Option, Some, None, is_some, IsSome, [], ◌∷◌, refl, sym, ap, subst, ◌∙◌, true≢false}
-use Rattle.capsteps.proofs.Common.{option_map_or, All-contains, Cap, P, Caps, IsSubset, has-none, has-minus, and_parts, Entry, EntryRow, Holder, Table, same, is_row_of, entry_at, new_entry, opened, changed, wanting, taken, given_back, without, entry_at-changed_other, row_of-entry, same-is, opening_wants, with_entry, with_opening, KnownSets, known_of, AreKnown, StillKnown, OthersHaveAll, IsSound, IsSoundEntry, State, table_after}
+use Rattle.std.proofs.Common.{◌≡◌, ◌≢◌, ◌⊎◌, inl, inr, Bool, true, false, cond, not, ◌&&◌, Option, Some, None, is_some, IsSome, [], ◌∷◌, refl, sym, ap, subst, ◌∙◌, true≢false}
+use Rattle.capsteps.proofs.Common.{option_map, option_map_or, All-contains, Cap, P, Caps, IsSubset, has-none, has-minus, and_parts, Entry, EntryRow, Holder, Table, same, is_row_of, entry_at, new_entry, opened, changed, wanting, taken, given_back, without, entry_at-changed_other, row_of-entry, same-is, opening_wants, with_entry, with_opening, KnownSets, Sets, sets_of, known_of, permitted_of, permitted, AreKnown, StillKnown, OthersHaveAll, IsSound, IsSoundEntry, State, table_after}
 use Rattle.capbits.specs.Caps.{has}
 use Rattle.capbits.specs.Sets.{no_caps, caps_in, union}
 use Rattle.captable.proofs.ByHolder.{entry_at-opened, entry_at-opened_other, entry_at-acked_other, entry_at-released_other}
 use Rattle.capsteps.specs.declared.entry_request.EntryRequest.{EntryRequest}
 use Rattle.capsteps.specs.declared.entry_request.EntryRequest.TheVariants.{Open, Want, Ack, Release}
 use Rattle.capacts.specs.Known.{is_still_known}
+use Rattle.capacts.specs.Lockmachine.declared.policy.Policy.{Policy}
+use Rattle.capsteps.specs.EntryRequest.{StillKept}
+use Rattle.capacts.proofs.Renewed.{kept-is}
 use Rattle.capsteps.proofs.Knowing.{held_at, HoldAlike, still-known}
 use Rattle.capsteps.proofs.LeftAlone.{found-contains}
 use Rattle.capsteps.proofs.ShownSteps.{IsOf, apart-of, changed-as}
 
--- ---- a new entry
+-- ---- what is kept of each
 
--- where the holder has no entry, all that is kept of others is kept
-pub still-but : (t : Table) (h : Holder) (was now : KnownSets) → entry_at t h ≡ None → ((k : Holder) → k ≢ h → known_of now k ≡ known_of was k) → StillKnown t t was now
-still-but t h was now none others k e there =
-    subst (λ o. is_still_known o (known_of was k) (known_of now k)) (sym there)
-    (others k (λ is. let gone : entry_at t k ≡ None = ap (entry_at t) is ∙ none in absurd (cc)))
+-- the entry was there, and the same is kept of it; or it is new, and it is kept what its client is permitted
+abbrev IsKept : Policy → Table → KnownSets → KnownSets → Holder → Type 0
+IsKept policy old was now k =
+    ((f : Entry) × (entry_at old k ≡ Some f) × (sets_of now k ≡ sets_of was k))
+    ⊎ ((entry_at old k ≡ None) × (permitted_of now k ≡ Some (permitted policy.fs.now policy.tree.now policy.sessions.now k)))
 
--- of the new one something is kept
-pub still-opened : (t : Table) (h : Holder) (was now : KnownSets) → entry_at t h ≡ None → IsSome (known_of now h) → ((k : Holder) → k ≢ h → known_of now k ≡ known_of was k)
-    → StillKnown t (opened t h) was now
-still-opened t h was now none some others k e there = by_same (same k h) refl
-  where
-    by_same : (b : Bool) → same k h ≡ b → is_still_known (entry_at t k) (known_of was k) (known_of now k)
-    by_same true on =
-        let is : k ≡ h = same-is k h on in
-        subst (λ o. is_still_known o (known_of was k) (known_of now k)) (sym (ap (entry_at t) is ∙ none)) (subst (λ q. IsSome (known_of now q)) (sym is) some)
-    by_same false off =
-        let apart = apart-of k h off in
-        subst (λ o. is_still_known o (known_of was k) (known_of now k)) (sym (sym (entry_at-opened_other t h k apart) ∙ there)) (others k apart)
-
--- where nothing changes, all is
-pub still-itself : (t : Table) (sets : KnownSets) → StillKnown t t sets sets
-still-itself t sets k e there = subst (λ o. is_still_known o (known_of sets k) (known_of sets k)) (sym there) refl
-
--- ---- entries that were there
+pub still-kept : (policy : Policy) (old new : Table) (was now : KnownSets) → ((k : Holder) (e : Entry) → entry_at new k ≡ Some e → IsKept policy old was now k)
+    → StillKept policy old new was now
+still-kept policy old new was now each = record {
+  known = λ k e here. elim (each k e here) [
+    | inl there ↦ subst (λ o. is_still_known o (known_of was k) (known_of now k)) (sym there.1) (ap (option_map (λ (s : Sets). s.told)) there.2)
+    | inr made ↦ subst (λ o. is_still_known o (known_of was k) (known_of now k)) (sym made.0) (ap (λ o. is_some (option_map (λ (s : Sets). s.told) o)) (kept-is (sets_of now k) _ made.1).0)
+  ];
+  permitted = λ all k e here. elim (each k e here) [
+    | inl there ↦ ap (option_map (λ (s : Sets). s.permitted)) there.2 ∙ all k there.0 there.1
+    | inr made ↦ made.1
+  ];
+}
 
 -- the holder has an entry in the other table too
 abbrev pub WasThere : Table → Table → Type 0
 WasThere old new = (k : Holder) (e : Entry) → entry_at new k ≡ Some e → (f : Entry) × (entry_at old k ≡ Some f)
+
+-- a further change that makes no entry
+pub kept-on : (policy : Policy) (old mid new : Table) (was now : KnownSets) → StillKept policy old mid was now → WasThere mid new → StillKept policy old new was now
+kept-on policy old mid new was now kept there = record {
+  known = λ k e here. let f = there k e here in kept.known k f.0 f.1;
+  permitted = λ all k e here. let f = there k e here in kept.permitted all k f.0 f.1;
+}
+
+-- where nothing changes, all is
+pub kept-itself : (policy : Policy) (t : Table) (sets : KnownSets) → StillKept policy t t sets sets
+kept-itself policy t sets = still-kept policy t t sets sets (λ k e here. inl (e, here, refl))
+
+-- ---- a new entry
+
+module _ (policy : Policy) (t : Table) (h : Holder) (was now : KnownSets) (none : entry_at t h ≡ None) (others : (k : Holder) → k ≢ h → sets_of now k ≡ sets_of was k) where
+  another : (k : Holder) (e : Entry) → entry_at t k ≡ Some e → k ≢ h
+  another k e there is = let gone : entry_at t k ≡ None = ap (entry_at t) is ∙ none in absurd (cc)
+
+  -- where the holder has no entry, all that is kept of others is kept
+  pub kept-but : StillKept policy t t was now
+  kept-but = still-kept policy t t was now (λ k e there. inl (e, there, others k (another k e there)))
+
+  -- of the new one it is kept what is permitted
+  pub kept-opened : permitted_of now h ≡ Some (permitted policy.fs.now policy.tree.now policy.sessions.now h) → StillKept policy t (opened t h) was now
+  kept-opened own = still-kept policy t (opened t h) was now (λ k e there. by_same k e there (same k h) refl)
+    where
+      by_same : (k : Holder) (e : Entry) → entry_at (opened t h) k ≡ Some e → (b : Bool) → same k h ≡ b → IsKept policy t was now k
+      by_same k e there true on = subst (IsKept policy t was now) (sym (same-is k h on)) (inr (none, own))
+      by_same k e there false off = let apart = apart-of k h off in inl (e, sym (entry_at-opened_other t h k apart) ∙ there, others k apart)
+
+-- ---- entries that were there
 
 pub there-changed : (gone : Bool) (t : Table) (j : Holder) (g : Entry → Entry) → WasThere t (cond gone (without t j) (changed t j g))
 there-changed gone t j g k e there = let m = changed-as gone t j g k e there in (m.before, m.there)

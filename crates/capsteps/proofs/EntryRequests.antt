@@ -43,10 +43,7 @@ use Rattle.capsteps.proofs.Placed.{placed-in_row}
 -- ---- the tests of an event that nothing stops
 
 rejection_by-after : (s : Scene) (o : Option Refusal) (d : Option Need) (l : Option Refusal) → rejection_by s o d l ≡ None → l ≡ None
-rejection_by-after s (Some x) d l e = cc
-rejection_by-after s None (Some n) l e = cc
-rejection_by-after s None None (Some x) e = cc
-rejection_by-after s None None None e = refl
+rejection_by-after s o d l e = grind arith
 
 pub before-passed : (s : Scene) (e : Event) → judged s e ≡ None → first_failing (before s e) ≡ None
 before-passed s e free = no_test s (before s e) (needs s e) (after s e) free
@@ -57,21 +54,11 @@ after-passed s e free = rejection_by-after s (first_failing (before s e)) (first
 -- what the table tests was passed
 pub affected-tests : (s : Scene) (client : ClientId) (ino : Ino) (request : EntryRequest) → judged s (entry_event client ino request) ≡ None
     → first_failing (entry_request_tests s.table (holder client ino) (revoked_of s (holder client ino)) request) ≡ None
-affected-tests s client ino (Open mode) free =
-    (passed-both (cond (is_writing mode) (file_test s.tree ino.0 ∷ []) []) (room_for s.table (holder client ino)) (after-passed s (event.Open client ino mode) free)).1
-affected-tests s client ino (Want caps) free =
-    (passed-both (asked_tests s client ino.0) (entry_test s.table (holder client ino) ∷ []) (before-passed s (event.Want client ino caps) free)).1
-affected-tests s client ino (Ack seq) free =
-    (passed-both (connected_tests s client ino.0) (ack_tests s.table (holder client ino) seq (revoked_of s (holder client ino))) (before-passed s (event.Ack client ino seq) free)).1
-affected-tests s client ino (Release caps) free =
-    (passed-both (connected_tests s client ino.0) (release_tests s.table (holder client ino) caps) (before-passed s (event.Release client ino caps) free)).1
+affected-tests s client ino request free = grind arith
 
 effect-affected : (old : State) (client : ClientId) (ino : Ino) (request : EntryRequest)
     → (effect old (entry_event client ino request)).state ≡ with_table old (table_after old.scene.table (holder client ino) (revoked_of old.scene (holder client ino)) request)
-effect-affected old client ino (Open mode) = refl
-effect-affected old client ino (Want caps) = refl
-effect-affected old client ino (Ack seq) = refl
-effect-affected old client ino (Release caps) = refl
+effect-affected old client ino request = grind arith
 
 -- and the entry is touched
 pub affected-state : (old : State) (client : ClientId) (ino : Ino) (request : EntryRequest) → judged old.scene (entry_event client ino request) ≡ None
@@ -118,8 +105,7 @@ module _ (t : Table) (k : Holder) (is : IsTable t) where
       let f : Entry → Entry = λ e. wanting (union e.want (opening_wants mode)) e in
       IsTable-touched (changed (with_entry t k) k f) k (IsTable-changed (with_entry t k) k f (table-entry passed (entry_at t k) refl))
   table-affected revoked (Want caps) passed =
-      let f : Entry → Entry = λ e. wanting (union caps (caps_in (P ∷ []))) e in
-      IsTable-touched (changed t k f) k (IsTable-changed t k f is)
+      let f : Entry → Entry = λ e. wanting (union caps (caps_in (P ∷ []))) e in IsTable-touched (changed t k f) k (IsTable-changed t k f is)
   table-affected revoked (Ack seq) passed =
       elim (has revoked P) as (λ b. IsTable (cond b (without t k) (changed t k (taken revoked)))) [ true ↦ IsTable-without t k is | false ↦ IsTable-changed t k (taken revoked) is ]
   table-affected revoked (Release caps) passed = IsTable-released t k caps is
@@ -127,16 +113,10 @@ module _ (t : Table) (k : Holder) (is : IsTable t) where
 -- the entries on another inode stay
 module _ (t : Table) (k : Holder) (ino : Ino) (apart : ino ≢ k.ino) where
   others-entry : (b : Bool) → entries_on (cond b t (opened t k)) ino ≡ entries_on t ino
-  others-entry true = refl
-  others-entry false = entries_on-opened t k ino apart
+  others-entry b = grind (arith, entries_on-opened)
 
   others-affected : (revoked : Caps) (request : EntryRequest) → entries_on (table_after t k revoked request) ino ≡ entries_on t ino
-  others-affected revoked (Open mode) =
-      entries_on-changed (with_entry t k) k (λ e. wanting (union e.want (opening_wants mode)) e) ino apart ∙ others-entry (is_some (entry_at t k))
-  others-affected revoked (Want caps) = entries_on-changed t k (λ e. wanting (union caps (caps_in (P ∷ []))) e) ino apart
-  others-affected revoked (Ack seq) =
-      elim (has revoked P) as (λ b. entries_on (cond b (without t k) (changed t k (taken revoked))) ino ≡ entries_on t ino) [ true ↦ entries_on-without t k ino apart | false ↦ entries_on-changed t k (taken revoked) ino apart ]
-  others-affected revoked (Release caps) = entries_on-released t k caps ino apart
+  others-affected revoked request = grind (arith, entries_on-changed, others-entry, entries_on-without)
 
 -- no number rises, and at most one entry is made
 module _ (count : ℕ) (k : Holder) where
@@ -158,20 +138,6 @@ module _ (count : ℕ) (k : Holder) where
   below-affected t revoked (Ack seq) all = below-less t (taken revoked) (λ e. refl) all (has revoked P)
   below-affected t revoked (Release caps) all = below-less t (given_back caps) (λ e. refl) all (has caps P)
 
-  made-entry : (t : Table) → t.made ≤ count → (b : Bool) → (cond b t (opened t k)).made ≤ count + 1
-  made-entry t made true = omega (arith, made)
-  made-entry t made false = omega (arith, made)
-
-  made-less : (t : Table) (f : Entry → Entry) → t.made ≤ count → (b : Bool) → (cond b (without t k) (changed t k f)).made ≤ count + 1
-  made-less t f made true = omega (arith, made)
-  made-less t f made false = omega (arith, made)
-
-  pub made-affected : (t : Table) (revoked : Caps) (request : EntryRequest) → t.made ≤ count → (table_after t k revoked request).made ≤ count + 1
-  made-affected t revoked (Open mode) made = made-entry t made (is_some (entry_at t k))
-  made-affected t revoked (Want caps) made = omega (arith, made)
-  made-affected t revoked (Ack seq) made = made-less t (taken revoked) made (has revoked P)
-  made-affected t revoked (Release caps) made = made-less t (given_back caps) made (has caps P)
-
 -- ---- sets of capabilities
 
 in-union_left : (a b : Caps) → has a P ≡ true → has (union a b) P ≡ true
@@ -187,47 +153,30 @@ in-minus : (a b : Caps) → has b P ≡ false → has a P ≡ true → has (minu
 in-minus a b out is = has-minus a b P ∙ and_from (has a P) (not (has b P)) is (ap not out)
 
 part-less : (part : Part) (a b : Caps) → IsSubset a b → IsSubset (of_part part a) (of_part part b)
-part-less part a b less c in_it =
-    let both = and_parts (has a c) (covers c part) (sym (has-of_part part a c) ∙ in_it) in
-    has-of_part part b c ∙ and_from (has b c) (covers c part) (less c both.0) both.1
+part-less part a b less = grind (arith, and_parts, has-of_part)
 
 part-none : (part : Part) (more : Caps) → IsSubset (of_part part no_caps) more
 part-none part more c in_it = absurd (true≢false (sym in_it ∙ has-of_part part no_caps c ∙ ap (λ b. b && covers c part) (has-none c)))
 
 wants-pin : (mode : OpenMode) → has (opening_wants mode) P ≡ true
-wants-pin opening.Read = has-caps_in (P ∷ Fs ∷ Fc ∷ Fr ∷ []) P
-wants-pin opening.Write = has-caps_in (P ∷ Fx ∷ Fw ∷ Fb ∷ []) P
-wants-pin opening.ReadWrite = has-caps_in (P ∷ Fs ∷ Fx ∷ Fc ∷ Fr ∷ Fw ∷ Fb ∷ []) P
+wants-pin mode = grind (arith, has-caps_in)
 
 -- the pin is permitted where something may be read or written
 read-pin : (fs : List ℕ) (o : Option Subject) → is_granted_to fs o access.Read ≡ true → has (permitted_to fs o) P ≡ true
-read-pin fs None may = has-caps_in (P ∷ []) P
-read-pin fs (Some s) may = pin_of_read (question_of fs s) s.grants may
+read-pin fs o may = grind (arith, pin_of_read)
 
 write-pin : (fs : List ℕ) (o : Option Subject) → is_granted_to fs o access.Write ≡ true → has (permitted_to fs o) P ≡ true
-write-pin fs None may = has-caps_in (P ∷ []) P
-write-pin fs (Some s) may = pin_of_write (question_of fs s) s.grants may
+write-pin fs o may = grind (arith, pin_of_write)
 
 rejection_by-denied : (s : Scene) (o : Option Refusal) (d : Option Need) (l : Option Refusal) → rejection_by s o d l ≡ None → d ≡ None
-rejection_by-denied s (Some x) d l e = cc
-rejection_by-denied s None (Some n) l e = cc
-rejection_by-denied s None None l e = refl
+rejection_by-denied s o d l e = grind arith
 
 met-first : (s : Scene) (n : Need) (rest : List Need) → first_denied s (n ∷ rest) ≡ None → is_met s n ≡ true
-met-first s n rest none = by_test (is_met s n) none
-  where
-    by_test : (b : Bool) → cond (not b) (Some n) (first_denied s rest) ≡ None → b ≡ true
-    by_test true e = refl
-    by_test false e = absurd (cc)
+met-first s n rest none = grind arith
 
 -- so it is for whom an opening is not stopped
 opening-pin : (s : Scene) (client : ClientId) (ino : Ino) (mode : OpenMode) → judged s (event.Open client ino mode) ≡ None → has (permitted s.fs s.tree s.sessions (holder client ino)) P ≡ true
-opening-pin s client ino mode free = by_mode mode (rejection_by-denied s _ _ _ free)
-  where
-    by_mode : (m : OpenMode) → first_denied s (opening_needs client ino.0 m) ≡ None → has (permitted s.fs s.tree s.sessions (holder client ino)) P ≡ true
-    by_mode opening.Read none = read-pin s.fs (subject s.tree s.sessions (holder client ino)) (met-first s (need client ino.0 access.Read) [] none)
-    by_mode opening.Write none = write-pin s.fs (subject s.tree s.sessions (holder client ino)) (met-first s (need client ino.0 access.Write) [] none)
-    by_mode opening.ReadWrite none = read-pin s.fs (subject s.tree s.sessions (holder client ino)) (met-first s (need client ino.0 access.Read) (need client ino.0 access.Write ∷ []) none)
+opening-pin s client ino mode free = grind (arith, rejection_by-denied, read-pin, met-first, write-pin)
 
 -- ---- an entry whose pin is held
 
@@ -258,32 +207,30 @@ kept-affected : (s : Scene) (t : Table) (row : EntryRow) → IsKeptEntry s row �
 kept-affected s t row is = kept-left s (record s { table = t }) row refl refl (λ ino. refl) is
 
 -- and every state keeps it
+pub kept-row : (old : State) → IsSound old → (row : EntryRow) → Contains old.scene.table.rows row → find (is_row_of row.holder) old.scene.table.rows ≡ Some row → IsKeptEntry old.scene row
+kept-row old sound row inside found = let was = All-contains (IsSoundEntry old.scene) old.scene.table.rows row sound.entries inside in record {
+  of_session = was.of_session;
+  on_inode = was.on_inode;
+  wants_pin = was.wants_pin;
+  holds_pin = was.holds_pin;
+  told = was.told;
+  revoked = was.revoked;
+  in_row = λ part. placed-in_row old.scene row part (lock_at old.scene.locks row.holder.ino.0 part) (sound.in_place row part found);
+}
+
 pub sound-kept : (old : State) → IsSound old → IsTable old.scene.table → All (IsKeptEntry old.scene) old.scene.table.rows
 sound-kept old sound table =
-    All-weaker (Contains old.scene.table.rows) (IsKeptEntry old.scene) each old.scene.table.rows (All-contains_itself old.scene.table.rows)
-  where
-    each : (row : EntryRow) → Contains old.scene.table.rows row → IsKeptEntry old.scene row
-    each row inside = let was = All-contains (IsSoundEntry old.scene) old.scene.table.rows row sound.entries inside in record {
-      of_session = was.of_session;
-      on_inode = was.on_inode;
-      wants_pin = was.wants_pin;
-      holds_pin = was.holds_pin;
-      in_row = λ part. placed-in_row old.scene row part (lock_at old.scene.locks row.holder.ino.0 part) (sound.in_place row part (row_found old.scene.table row table inside));
-      told = was.told;
-      revoked = was.revoked;
-    }
+    All-weaker (Contains old.scene.table.rows) (IsKeptEntry old.scene) (λ row inside. kept-row old sound row inside (row_found old.scene.table row table inside)) old.scene.table.rows
+    (All-contains_itself old.scene.table.rows)
 
 -- so all are left, where the same sessions, inodes and locks are there
 pub all-left : (old : State) (new : Scene) → IsSound old → IsTable old.scene.table → new.sessions ≡ old.scene.sessions → new.locks.states ≡ old.scene.locks.states
     → ((ino : ℕ) → map.contains_key new.tree.nodes ino ≡ map.contains_key old.scene.tree.nodes ino) → All (IsAffectedEntry new) old.scene.table.rows
-all-left old new sound table sessions states known =
-    All-weaker (IsKeptEntry old.scene) (IsAffectedEntry new) (λ row. kept-left old.scene new row (ap (λ (t : SessionTable). has_session t row.holder.client.0) sessions) states known) old.scene.table.rows
-    (sound-kept old sound table)
+all-left old new sound table sessions states known = grind (arith, kept-left, sound-kept)
 
 -- what holds less is where it was
 less-in_row : (row : EntryRow) (e : Entry) (part : Part) (o : Option LockState) → IsSubset e.held row.entry.held → IsInRowOf row part o → IsInRowOf (record row { entry = e }) part o
-less-in_row row e part None less is = λ c held. is c (part-less part e.held row.entry.held less c held)
-less-in_row row e part (Some lock) less is = λ c held. is c (part-less part e.held row.entry.held less c held)
+less-in_row row e part o less is = grind (arith, part-less)
 
 -- an entry that holds no more than it did, and still the pin
 less-kept : (s : Scene) (row : EntryRow) (e : Entry) → IsSubset e.held row.entry.held → IsTrue (has e.held P) → IsTrue (has e.want P)
@@ -326,13 +273,8 @@ module _ (s : Scene) (k : Holder) where
 
 -- ---- an entry that an opening makes
 
-not_false : (b : Bool) → not b ≡ false → b ≡ true
-not_false true is = refl
-not_false false is = sym is
-
 there : (o : Option Node) → is_no_ino (place_at (option_map (λ n. n.site) o)) ≡ false → is_some o ≡ true
-there None known = sym known
-there (Some node) known = refl
+there o known = grind arith
 
 module _ (s : Scene) (client : ClientId) (ino : Ino) (asked : first_failing (asked_tests s client ino.0) ≡ None) where
   both : (first_failing (session_tests s.sessions client.0) ≡ None) × (first_failing (inode_tests s.tree ino.0) ≡ None)
@@ -342,9 +284,7 @@ module _ (s : Scene) (client : ClientId) (ino : Ino) (asked : first_failing (ask
   asked-session = not-false (has_session s.sessions client.0) (passed-if _ refusal.NoSession _ both.0).0
 
   asked-open : is_open_status (status_of s.sessions client.0) ≡ true
-  asked-open =
-      not_false (is_open_status (status_of s.sessions client.0))
-      (passed-if (not (is_open_status (status_of s.sessions client.0))) refusal.SessionStale None (passed-if (not (has_session s.sessions client.0)) refusal.NoSession _ both.0).1).0
+  asked-open = grind arith
 
   pub asked-there : map.contains_key s.tree.nodes ino.0 ≡ true
   asked-there = there (map.get s.tree.nodes ino.0) (passed-if (is_no_ino (place s.tree.nodes ino.0)) refusal.NoIno _ both.1).0
@@ -357,21 +297,7 @@ module _ (s : Scene) (client : ClientId) (ino : Ino) (asked : first_failing (ask
 
   -- it holds nothing, and wants what the opening takes: the pin is due
   new-affected : has (permitted s.fs s.tree s.sessions (holder client ino)) P ≡ true → (t : Table) (want : Caps) → has want P ≡ true → IsAffectedEntry (record s { table = t }) (row_with (holder client ino) (wanting want new_entry))
-  new-affected may t want wanted = record {
-    of_session = asked-session;
-    on_inode = asked-there;
-    wants_pin = wanted;
-    pin = or_right (has no_caps P) _ pin_due;
-    in_row = λ part. none_in_row (row_with (holder client ino) (wanting want new_entry)) part (lock_at s.locks ino.0 part) refl;
-    told = omega arith;
-    revoked = omega arith;
-  }
-    where
-      pin_due : has (effective_want s.fs s.tree s.sessions (row_with (holder client ino) (wanting want new_entry))) P ≡ true
-      pin_due =
-          ap (λ b. has (cond b (meet want (permitted s.fs s.tree s.sessions (holder client ino))) no_caps) P) asked-open
-          ∙ has-meet want (permitted s.fs s.tree s.sessions (holder client ino)) P
-          ∙ and_from _ _ wanted may
+  new-affected may t want wanted = grind (arith, asked-session, asked-there, or_right, none_in_row, asked-open, has-meet, and_from)
 
 -- ---- the entries, as the event leaves them
 
@@ -486,16 +412,7 @@ table-of_request old k request table free =
     (table-affected old.scene.table k table (revoked_of old.scene k) request (affected-tests old.scene k.client k.ino request free))
 
 pub below-of_request : (count : ℕ) (old : State) (k : Holder) (request : EntryRequest) → AreGiven count old → AreBelow count (effect old (entry_event k.client k.ino request)).state
-below-of_request count old k request given =
-    let last = given.last in
-    subst (AreBelow count) (sym (effect-affected old k.client k.ino request))
-    (below-affected count k old.scene.table (revoked_of old.scene k) request given.entries, made-affected count k old.scene.table (revoked_of old.scene k) request given.made, omega (arith, last))
+below-of_request count old k request given = grind (arith, effect-affected, below-affected)
 
 pub keeps-of_request : (old : State) (k : Holder) (request : EntryRequest) → Keeps old (effect old (entry_event k.client k.ino request))
-keeps-of_request old k (Open mode) = (refl, refl)
-keeps-of_request old k (Want caps) = (refl, refl)
-keeps-of_request old k (Ack seq) = (refl, refl)
-keeps-of_request old k (Release caps) = (refl, refl)
-
-pub locks-of_request : (old : State) (k : Holder) (request : EntryRequest) → (effect old (entry_event k.client k.ino request)).state.scene.locks ≡ old.scene.locks
-locks-of_request old k request = ap (λ (s : State). s.scene.locks) (effect-affected old k.client k.ino request)
+keeps-of_request old k request = grind arith

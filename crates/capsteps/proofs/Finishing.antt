@@ -50,9 +50,7 @@ same-number_row old s row found told = ap (λ (e : Entry). record row { entry = 
 -- ---- strays
 
 pub kept_by : (p : Place) (rest : Bool) → (p ≡ Gone → rest ≡ true) → (not (is_gone p) || rest) ≡ true
-kept_by NoIno rest held = refl
-kept_by Here rest held = refl
-kept_by Gone rest held = held refl
+kept_by p rest held = grind arith
 
 pub same_kept : {X : Type 0} (m : finite.FinMap nat_cmp X) (p : ℕ → Bool) → ((q : ℕ) → p q ≡ true) → finite.retain_keys m p ≡ m
 same_kept m p all = finite.same_map nat_cmp_total finite.nat_cmp-IsAntisymmetric _ _ (λ q.
@@ -69,13 +67,7 @@ module _ (s : State) (sound : IsSound s) (table : IsTable s.scene.table) where
       has_due row inside = let entry = All-contains (IsSoundEntry s.scene) s.scene.table.rows row sound.entries inside in entry.has_due
 
   same-forget : forget s.scene ≡ s.scene
-  same-forget = λ i. record s.scene {
-    tree = record s.scene.tree { nodes = same_kept s.scene.tree.nodes (is_in_use s.scene) kept i };
-    locks = record s.scene.locks { states = same_kept s.scene.locks.states (is_in_use s.scene) kept i };
-  }
-    where
-      kept : (ino : ℕ) → is_in_use s.scene ino ≡ true
-      kept ino = kept_by (place s.scene.tree.nodes ino) _ (sound.strays ino)
+  same-forget = grind (arith, same_kept)
 
   -- where the clients are to know what they were to know on an older scene
   module _ (old : Scene) (told : (row : EntryRow) → Contains s.scene.table.rows row → told_set old row ≡ told_set s.scene row) where

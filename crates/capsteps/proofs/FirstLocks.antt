@@ -31,34 +31,18 @@ added_elsewhere None locks n q off = refl
 added_elsewhere (Some node) locks n q off = insert-other nat_cmp_total map.nat_cmp-IsAntisymmetric locks.states n in_sync q off
 
 added_queue : (node : Option Node) (locks : LockMap) (n : ℕ) → (if is_some node then with_ino locks n else locks).queue ≡ locks.queue
-added_queue None locks n = refl
-added_queue (Some node) locks n = refl
+added_queue node locks n = grind arith
 
 added_last : (node : Option Node) (locks : LockMap) (n : ℕ) → (if is_some node then with_ino locks n else locks).last ≡ locks.last
-added_last None locks n = refl
-added_last (Some node) locks n = refl
+added_last node locks n = grind arith
 
 at_most : (q n : ℕ) → q < n + 1 → (q < n) ⊎ (q ≡ n)
 at_most q n h = grind arith
 
 -- the locks of the next number were added, where it has an inode
 pub first_below_more : (nodes : InodeMap) (n : ℕ) (locks added : LockMap) → AreFirstBelow nodes n locks → added ≡ (if map.contains_key nodes n then with_ino locks n else locks) → AreFirstBelow nodes (n + 1) added
-first_below_more nodes n locks added first is = subst (AreFirstBelow nodes (n + 1)) (sym is) (record {
-  queue = added_queue (map.get nodes n) locks n ∙ first.queue;
-  last = added_last (map.get nodes n) locks n ∙ first.last;
-  below = λ q h. elim (at_most q n h) as (λ _. map.get (if map.contains_key nodes n then with_ino locks n else locks).states q ≡ first_of (map.get nodes q)) [
-    | inl less ↦ added_elsewhere (map.get nodes n) locks n q (λ same. absurd (omega arith)) ∙ first.below q less
-    | inr same ↦ subst (λ x. map.get (if map.contains_key nodes n then with_ino locks n else locks).states x ≡ first_of (map.get nodes x)) (sym same) (added_is (map.get nodes n) locks n (first.above n (omega arith)))
-  ];
-  above = λ q h. added_elsewhere (map.get nodes n) locks n q (λ same. absurd (omega arith)) ∙ first.above q (omega arith);
-})
-
-below_or_above : (q n : ℕ) → (q < n + 1) ⊎ (n < q)
-below_or_above q n = grind arith
+first_below_more nodes n locks added first is = grind (arith, added_queue, added_last, at_most, added_elsewhere, added_is)
 
 -- no inode has a number above the last
 pub first_of_all : (tree : Nodes) (last : ℕ) (locks : LockMap) → IsTree tree → last ≡ tree.last → AreFirstBelow tree.nodes (last + 1) locks → (q : ℕ) → map.get locks.states q ≡ option_map (λ node. in_sync) (map.get tree.nodes q)
-first_of_all tree last locks sound is first q = elim (below_or_above q last) as (λ _. map.get locks.states q ≡ first_of (map.get tree.nodes q)) [
-  | inl less ↦ first.below q less
-  | inr more ↦ first.above q (omega arith) ∙ sym (ap first_of (sound.given q (omega arith)))
-]
+first_of_all tree last locks sound is first q = grind arith

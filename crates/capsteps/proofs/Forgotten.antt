@@ -1,5 +1,5 @@
 -- A state that is sound but for strays is sound once these are forgotten.
-use Rattle.std.proofs.Common.{◌≡◌, ℕ, Bool, true, false, not, cond, ◌||◌, Option, Some, None, is_some, List, [], ◌∷◌, refl, sym, ap, subst, ◌∙◌, Contains, true≢false, IsTrue, All, filter}
+use Rattle.std.proofs.Common.{◌≡◌, ℕ, Bool, true, false, not, cond, ◌||◌, Option, Some, None, is_some, List, [], ◌∷◌, refl, sym, ap, subst, ◌∙◌, Contains, true≢false, IsTrue, All, filter, arith}
 use Rattle.capsteps.proofs.Common.{list_any, option_map, All-contains, All-contains_itself, All-weaker, P, Part, A, L, X, F, Caps, IsSubset, NoIno, Gone, IsTree, place, place_at, has_session, LockState, Stable, Gather, EntryRow, is_row_of, is_of_inode, lock_in, lock_at, first_for, effective_want, in_all, Scene, target_by, outside, IsQuiet, IsAtRest, IsInRowOf, IsInRow, State, with_scene, allowed_by, due, is_in_use, IsSoundEntry, IsSound, stays, forget_among}
 use Rattle.std.specs.FinMap as map
 use Rattle.capbits.specs.Sets.{caps_in, union, meet, is_empty}
@@ -7,7 +7,7 @@ use Rattle.capacts.specs.Lockmachine.Wants.{Want}
 use Rattle.capacts.proofs.Lockmachine.PolicyElsewhere.{want-kept, wants-kept}
 use Rattle.capsteps.proofs.LeftAlone.{found-contains}
 use Rattle.capsteps.proofs.Placed.{placed}
-use Rattle.capsteps.proofs.Strays.{retained, retained-here, retained-gone, kept-held, stays-kept, goes, stays-held, alike-retained}
+use Rattle.capsteps.proofs.Strays.{retained, retained-here, retained-gone, kept-held, stays-kept, goes, alike-retained}
 
 -- ---- what is due
 
@@ -37,10 +37,7 @@ nothing_on p (x ∷ xs) none = elim (p x) as (λ b. (b || list_any p xs) ≡ fal
 
 nobody_waits : (s : Scene) (ino : ℕ) (part : Part) (o : Option LockState) → list_any (is_of_inode (record { 0 = ino })) s.table.rows ≡ false → IsQuiet s ino part o
     → first_for s.locks.queue ino part ≡ None
-nobody_waits s ino part None nobody quiet = quiet
-nobody_waits s ino part (Some (Stable state)) nobody quiet = quiet.1
-nobody_waits s ino part (Some (Gather from to)) nobody quiet =
-    absurd (true≢false (sym quiet ∙ ap (list_any (λ row. not (is_empty (outside part to row)))) (nothing_on (is_of_inode (record { 0 = ino })) s.table.rows nobody)))
+nobody_waits s ino part o nobody quiet = grind (arith, nothing_on)
 
 -- the state is sound, but that nobody need have an entry on those of these inodes that are strays
 pub record IsSoundBut (at : ℕ → Bool) (s : State) : Type 0 where
@@ -69,9 +66,7 @@ module _ (at : ℕ → Bool) (s : Scene) where
   no_lock q part is = ap (option_map (lock_in part)) (retained-gone s.locks.states keeps q is)
 
   want_left : IsTree s.tree → (row : EntryRow) → is_in_use s row.holder.ino.0 ≡ true → effective_want s.fs left.tree s.sessions row ≡ effective_want s.fs s.tree s.sessions row
-  want_left tree row kept =
-      want-kept s.fs s.tree left.tree s.sessions s.sessions row
-      (alike-retained s.tree keeps tree (λ q gone. (goes at s q gone).1) row.holder.ino.0 (stays-kept at s row.holder.ino.0 kept)) refl
+  want_left tree row kept = grind (arith, alike-retained, stays-kept)
 
   -- the same is due on an inode that is kept
   pub due-left : IsTree s.tree → (row : EntryRow) → is_in_use s row.holder.ino.0 ≡ true → due left row ≡ due s row
@@ -88,48 +83,24 @@ module _ (at : ℕ → Bool) (s : State) (sound : IsSoundBut at s) (tree : IsTre
   row_stays row inside = stays-kept at s.scene row.holder.ino.0 (kept-held s.scene row inside)
 
   entry_left : (row : EntryRow) → Contains s.scene.table.rows row → IsSoundEntry after row
-  entry_left row inside =
-      let was = All-contains (IsSoundEntry s.scene) s.scene.table.rows row sound.entries inside in
-      record {
-        of_session = was.of_session;
-        on_inode = ap is_some (retained-here s.scene.tree.nodes stay row.holder.ino.0 (row_stays row inside)) ∙ was.on_inode;
-        holds_pin = was.holds_pin;
-        wants_pin = was.wants_pin;
-        has_due = subst (λ caps. IsSubset caps row.entry.held) (sym (due-left at s.scene tree row (kept-held s.scene row inside))) was.has_due;
-        told = was.told;
-        revoked = was.revoked;
-      }
+  entry_left row inside = grind (arith, All-contains, retained-here, row_stays, due-left, kept-held)
 
   in_row_left : (row : EntryRow) → Contains s.scene.table.rows row → (part : Part) → IsInRow after row part
-  in_row_left row inside part =
-      subst (IsInRowOf row part) (sym (same_lock at s.scene row.holder.ino.0 part (row_stays row inside)))
-      (All-contains (λ row. (part : Part) → IsInRow s.scene row part) s.scene.table.rows row sound.in_rows inside part)
+  in_row_left row inside part = grind (arith, same_lock, row_stays)
 
   locked_left : (q : ℕ) → map.contains_key after.locks.states q ≡ map.contains_key after.tree.nodes q
-  locked_left q = ap is_some (retained s.scene.locks.states stay q) ∙ both (stay q) ∙ sym (ap is_some (retained s.scene.tree.nodes stay q))
-    where
-      both : (b : Bool) → is_some (cond b (map.get s.scene.locks.states q) None) ≡ is_some (cond b (map.get s.scene.tree.nodes q) None)
-      both true = sound.locked q
-      both false = refl
+  locked_left q = grind (arith, retained)
 
   strays_left : (q : ℕ) → place after.tree.nodes q ≡ Gone → IsTrue (list_any (is_of_inode (record { 0 = q })) s.scene.table.rows)
-  strays_left q gone = elim (stay q) as (λ b. stay q ≡ b → list_any (is_of_inode (record { 0 = q })) s.scene.table.rows ≡ true) [
-    | true ↦ λ e. (let was : place s.scene.tree.nodes q ≡ Gone = ap (λ o. place_at (option_map (λ n. n.site) o)) (sym (retained-here s.scene.tree.nodes stay q e)) ∙ gone in
-        elim (at q) as (λ b. at q ≡ b → list_any (is_of_inode (record { 0 = q })) s.scene.table.rows ≡ true) [
-          | true ↦ λ is. stays-held at s.scene q e is was
-          | false ↦ λ off. sound.strays q off was
-        ] refl)
-    | false ↦ λ e. (let none : place after.tree.nodes q ≡ NoIno = ap (λ o. place_at (option_map (λ n. n.site) o)) (retained-gone s.scene.tree.nodes stay q e) in absurd (cc))
-  ] refl
+  strays_left q gone = grind (arith, retained-here, retained-gone)
 
   quiet_left : (q : ℕ) (part : Part) (o : Option LockState) → IsQuiet s.scene q part o → IsQuiet after q part o
-  quiet_left q part None quiet = quiet
   quiet_left q part (Some (Stable state)) quiet = (
     ap (λ (ws : List Want). target_by s.scene.locks.queue (in_all ws) q part state)
         (wants-kept s.scene after.tree s.scene.sessions q (all_rows _ s.scene.table.rows (λ row inside. want_left at s.scene tree row (kept-held s.scene row inside)))) ∙ quiet.0,
     quiet.1,
   )
-  quiet_left q part (Some (Gather from to)) quiet = quiet
+  quiet_left q part o quiet = quiet
 
   rest_left : IsAtRest after
   rest_left = record {

@@ -17,11 +17,7 @@ use Rattle.capacts.proofs.Walked.{second_true}
 -- ---- what the locks allow of a part
 
 part_covers : (s : Scene) (row : EntryRow) (part : Part) (c : Cap) → has (allowed_part s row part) c ≡ true → covers c part ≡ true
-part_covers s row part c h = by_lock (lock_at s.locks row.holder.ino.0 part) h
-  where
-    by_lock : (o : Option LockState) → has (allowed_by part row o) c ≡ true → covers c part ≡ true
-    by_lock None h = absurd (true≢false (sym h ∙ has-none c))
-    by_lock (Some lock) h = allowed_covers part lock row.holder.client c h
+part_covers s row part c h = grind (arith, has-none, allowed_covers)
 
 -- what is allowed of a part is allowed by its lock
 allowed_here : (s : Scene) (row : EntryRow) (part : Part) (c : Cap) → covers c part ≡ true → has (allowed_to s row) c ≡ true → has (allowed_part s row part) c ≡ true
@@ -32,10 +28,7 @@ allowed_here s row part c cov h =
         | inl a ↦ here A a
         | inr rest ↦ elim (or_cases _ _ (sym (has-union _ _ c) ∙ rest)) [
           | inl l ↦ here L l
-          | inr rest ↦ elim (or_cases _ _ (sym (has-union _ _ c) ∙ rest)) [
-            | inl x ↦ here X x
-            | inr f ↦ here F f
-          ]
+          | inr rest ↦ elim (or_cases _ _ (sym (has-union _ _ c) ∙ rest)) [ inl x ↦ here X x | inr f ↦ here F f ]
         ]
       ]
     ]
@@ -49,15 +42,6 @@ pin_allowed s row = has-union _ _ P ∙ or_left _ _ (has-caps_in (P ∷ []) P)
 
 -- ---- numbers
 
--- what holds of the entry with each number that it may get holds of it
-numbered : (Q : Entry → Type 0) (before after : Caps) (e : Entry)
-    → Q (record e { seq = e.seq + 1; revoke_seq = e.seq + 1 }) → Q (record e { seq = e.seq + 1 }) → Q e → Q (renumbered before after e)
-numbered Q before after e lost gained same =
-    elim (not (is_empty (minus before after))) as (λ b. Q (cond b (record e { seq = e.seq + 1; revoke_seq = e.seq + 1 }) (cond (not (is_empty (minus after before))) (record e { seq = e.seq + 1 }) e))) [
-      | true ↦ lost
-      | false ↦ elim (not (is_empty (minus after before))) as (λ b. Q (cond b (record e { seq = e.seq + 1 }) e)) [ true ↦ gained | false ↦ same ]
-    ]
-
 -- ---- the entry at the end
 
 abbrev pub ended_row : (Holder → Caps) → Scene → EntryRow → EntryRow
@@ -66,11 +50,7 @@ ended_row known s row = remade (finished_entry known s) row
 module _ (known : Holder → Caps) (s : Scene) (row : EntryRow) where
   pub ended : (Q : Entry → Type 0) → ((seq revoke_seq : ℕ) → row.entry.seq ≤ seq → seq ≤ row.entry.seq + 1 → revoke_seq ≤ row.entry.revoke_seq ⊎ (revoke_seq ≡ seq)
       → Q (record row.entry { held = union row.entry.held (due s row); seq = seq; revoke_seq = revoke_seq })) → Q (finished_entry known s row)
-  ended Q each =
-      numbered Q (meet (known row.holder) row.entry.held) (told_set s (issue_row s row)) (issue_row s row).entry
-      (each (row.entry.seq + 1) (row.entry.seq + 1) (omega arith) (omega arith) (inr refl))
-      (each (row.entry.seq + 1) row.entry.revoke_seq (omega arith) (omega arith) (inl (omega arith)))
-      (each row.entry.seq row.entry.revoke_seq (omega arith) (omega arith) (inl (omega arith)))
+  ended Q each = grind arith
 
   pub held-ended : (finished_entry known s row).held ≡ union row.entry.held (due s row)
   held-ended = ended (λ e. e.held ≡ union row.entry.held (due s row)) (λ seq revoke_seq least most revoked. refl)
@@ -82,10 +62,7 @@ module _ (known : Holder → Caps) (s : Scene) (row : EntryRow) where
   told-ended was = ended (λ e. e.told_seq ≤ e.seq) (λ seq revoke_seq least most revoked. omega (arith, was, least))
 
   pub revoked-ended : row.entry.revoke_seq ≤ row.entry.seq → (finished_entry known s row).revoke_seq ≤ (finished_entry known s row).seq
-  revoked-ended was = ended (λ e. e.revoke_seq ≤ e.seq) (λ seq revoke_seq least most revoked. elim revoked as (λ _. revoke_seq ≤ seq) [
-    | inl before ↦ omega (arith, was, least, before)
-    | inr now ↦ omega (arith, now)
-  ])
+  revoked-ended was = grind arith
 
   pub seq-ended : (count : ℕ) → row.entry.seq ≤ count → (finished_entry known s row).seq ≤ count + 1
   seq-ended count was = ended (λ e. e.seq ≤ count + 1) (λ seq revoke_seq least most revoked. omega (arith, was, most))
@@ -104,10 +81,7 @@ module _ (known : Holder → Caps) (s : Scene) (row : EntryRow) where
 
   -- it holds the pin, where the pin was held or is wanted
   pub holds-pin : (has row.entry.held P || has (effective_want s.fs s.tree s.sessions row) P) ≡ true → has (finished_entry known s row).held P ≡ true
-  holds-pin h = elim (or_cases _ _ h) [
-    | inl held ↦ holds-held P held
-    | inr wanted ↦ holds-due P (has-meet _ _ P ∙ and_from _ _ wanted (pin_allowed s row))
-  ]
+  holds-pin h = grind (arith, holds-held, holds-due, has-meet, pin_allowed)
 
   -- what is due of a part is allowed by its lock
   due_here : (part : Part) (c : Cap) → has (due s row) c ≡ true → covers c part ≡ true → has (allowed_part s row part) c ≡ true
@@ -116,28 +90,12 @@ module _ (known : Holder → Caps) (s : Scene) (row : EntryRow) where
   -- what it holds of a part it held, or it is due
   held_or_due : (part : Part) (c : Cap) → has (of_part part (finished_entry known s row).held) c ≡ true
       → (has (of_part part row.entry.held) c ≡ true) ⊎ (has (allowed_part s row part) c ≡ true)
-  held_or_due part c h =
-      let parts = and_parts (has (finished_entry known s row).held c) (covers c part) (sym (has-of_part part (finished_entry known s row).held c) ∙ h) in
-      elim (or_cases (has row.entry.held c) (has (due s row) c) (sym (ap (λ caps. has caps c) held-ended ∙ has-union row.entry.held (due s row) c) ∙ parts.0)) as (λ _. (has (of_part part row.entry.held) c ≡ true) ⊎ (has (allowed_part s row part) c ≡ true)) [
-        | inl held ↦ inl (has-of_part part row.entry.held c ∙ and_from _ _ held parts.1)
-        | inr is_due ↦ inr (due_here part c is_due parts.1)
-      ]
+  held_or_due part c h = grind (arith, and_parts, has-of_part, held-ended, has-union, due_here)
 
   -- it stays in the row of the lock
   pub in_row-ended : (part : Part) → IsInRow s row part → IsInRow s (ended_row known s row) part
   unfolding allowed_of
-  in_row-ended part was = by_lock (lock_at s.locks row.holder.ino.0 part) refl was
-    where
-      allowed_by_it : (o : Option LockState) (c : Cap) → lock_at s.locks row.holder.ino.0 part ≡ o → has (allowed_part s row part) c ≡ true → has (allowed_by part row o) c ≡ true
-      allowed_by_it o c is h = ap (λ o. has (allowed_by part row o) c) (sym is) ∙ h
-
-      by_lock : (o : Option LockState) → lock_at s.locks row.holder.ino.0 part ≡ o → IsInRowOf row part o → IsInRowOf (ended_row known s row) part o
-      by_lock None is was = λ c h. elim (held_or_due part c h) as (λ _. has no_caps c ≡ true) [ inl held ↦ was c held | inr allowed ↦ allowed_by_it None c is allowed ]
-      by_lock (Some (Stable state)) is was = λ c h. elim (held_or_due part c h) as (λ _. has (row_of part state row.holder.client) c ≡ true) [ inl held ↦ was c held | inr allowed ↦ allowed_by_it (Some (Stable state)) c is allowed ]
-      by_lock (Some (Gather from to)) is was = λ c h. elim (held_or_due part c h) as (λ _. has (row_of part from row.holder.client) c ≡ true) [
-        | inl held ↦ was c held
-        | inr allowed ↦ (and_parts _ _ (sym (has-meet (row_of part from row.holder.client) (row_of part to row.holder.client) c) ∙ allowed_by_it (Some (Gather from to)) c is allowed)).0
-      ]
+  in_row-ended part was = grind (arith, held_or_due, and_parts, has-meet)
 
   -- what is outside of a gather's target stays so
   pub outside-ended : (part : Part) (from to : State) → lock_at s.locks row.holder.ino.0 part ≡ Some (Gather from to) → outside part to (ended_row known s row) ≡ outside part to row
@@ -153,10 +111,8 @@ module _ (known : Holder → Caps) (s : Scene) (row : EntryRow) where
           (and_parts (has (row_of part from row.holder.client) c) (has (row_of part to row.holder.client) c) (sym (has-meet (row_of part from row.holder.client) (row_of part to row.holder.client) c) ∙ allowed)).1
 
       absorbed : (h d v r : Bool) → (d ≡ true → v ≡ true → r ≡ true) → (((h || d) && v) && not r) ≡ ((h && v) && not r)
-      absorbed true d v r e = refl
-      absorbed false false v r e = refl
-      absorbed false true false r e = refl
       absorbed false true true r e = ap not (e refl refl)
+      absorbed h d v r e = refl
 
 -- ---- the end of a step keeps the locks at rest: it gives only what is in the rows of both states of a gather, and no want looks
 -- at what is held
@@ -184,14 +140,8 @@ module _ (known : Holder → Caps) (s : Scene) (at : ℕ → Bool) where
   pub of_inode-last : (i : ℕ) (row : EntryRow) → is_of_inode (record { 0 = i }) (last_row row) ≡ is_of_inode (record { 0 = i }) row
   of_inode-last i row = ap (λ (h : Holder). h.ino.0 == i) (holder-last row)
 
-  want-last : (row : EntryRow) → want_of s.fs s.tree s.sessions (last_row row) ≡ want_of s.fs s.tree s.sessions row
-  want-last row = by_place (λ r. want_of s.fs s.tree s.sessions r ≡ want_of s.fs s.tree s.sessions row) row (λ e i. (row.holder.client, effective-ended known s row s.fs s.tree s.sessions i)) (λ e. refl)
-
   wants-last : (i : ℕ) → wants issued_at i ≡ wants s i
-  wants-last i =
-      ap (each (want_of s.fs s.tree s.sessions)) (filter-map (is_of_inode (record { 0 = i })) last_row (of_inode-last i) s.table.rows)
-      ∙ map-map (want_of s.fs s.tree s.sessions) last_row (filter (is_of_inode (record { 0 = i })) s.table.rows)
-      ∙ (λ j. each (λ row. want-last row j) (filter (is_of_inode (record { 0 = i })) s.table.rows))
+  wants-last i = grind (arith, filter-map, map-map)
 
   -- ---- a gather stays open
 
@@ -221,9 +171,7 @@ module _ (known : Holder → Caps) (s : Scene) (at : ℕ → Bool) where
   -- ---- rest
 
   quiet-last : (i : ℕ) (part : Part) (o : Option LockState) → lock_at s.locks i part ≡ o → IsQuiet s i part o → IsQuiet issued_at i part o
-  quiet-last i part None is quiet = quiet
-  quiet-last i part (Some (Stable state)) is quiet = (ap (λ (ws : List Want). target_by s.locks.queue (in_all ws) i part state) (wants-last i) ∙ quiet.0, quiet.1)
-  quiet-last i part (Some (Gather from to)) is quiet = open-last i part from to is ∙ quiet
+  quiet-last i part o is quiet = grind (arith, wants-last, open-last)
 
   pub rest-issued : IsAtRest s → IsAtRest issued_at
   rest-issued rest = record { each = λ i part. quiet-last i part (lock_at s.locks i part) refl (rest.each i part) }

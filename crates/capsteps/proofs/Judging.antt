@@ -1,5 +1,5 @@
 -- What stops a request, test by test.
-use Rattle.std.proofs.Common.{◌≡◌, List, [], Option, Some, None, refl, sym, ap, ◌∙◌}
+use Rattle.std.proofs.Common.{◌≡◌, List, [], Option, Some, None, refl, sym, ap, ◌∙◌, arith}
 use Rattle.capsteps.proofs.Common.{option_map, Scene, Event, Reply, Rejection, State, rejection_reply, judged, effect, effect_unless}
 use Rattle.capbits.specs.declared.refusal.Refusal.{Refusal}
 use Rattle.capacts.specs.Caprules.declared.rejection.Rejection.TheVariants.{ByTest}
@@ -9,18 +9,14 @@ use Rattle.capacts.specs.Caprules.Needs.{Need}
 use Rattle.capacts.specs.Caprules.Direct.{Says, IsDirect}
 
 rejection_by-rejection : (s : Scene) (o : Option Refusal) (d : Option Need) (l : Option Refusal) (r : Rejection) → rejection_by s o d None ≡ Some r → rejection_by s o d l ≡ Some r
-rejection_by-rejection s (Some x) d l r e = e
-rejection_by-rejection s None (Some n) l r e = e
-rejection_by-rejection s None None l r e = cc
+rejection_by-rejection s o d l r e = grind arith
 
 -- what stops a request stops it whatever is still to be tested
 pub rejection : (s : Scene) (tests : List Test) (needed : List Need) (more : List Test) (r : Rejection) → rejection_of s tests needed [] ≡ Some r → rejection_of s tests needed more ≡ Some r
 rejection s tests needed more r e = rejection_by-rejection s (first_failing tests) (first_denied s needed) (first_failing more) r e
 
 rejection_by-passed : (s : Scene) (o : Option Refusal) (d : Option Need) (l : Option Refusal) → rejection_by s o d None ≡ None → rejection_by s o d l ≡ option_map ByTest l
-rejection_by-passed s (Some x) d l e = cc
-rejection_by-passed s None (Some n) l e = cc
-rejection_by-passed s None None l e = refl
+rejection_by-passed s o d l e = grind arith
 
 -- where nothing stopped it so far, the rest of the tests decides
 pub passed : (s : Scene) (tests : List Test) (needed : List Need) (more : List Test) → rejection_of s tests needed [] ≡ None → rejection_of s tests needed more ≡ option_map ByTest (first_failing more)
@@ -28,12 +24,10 @@ passed s tests needed more e = rejection_by-passed s (first_failing tests) (firs
 
 -- where tests stand before policy alone, the first that fails decides
 pub by_tests : (s : Scene) (failing : Option Refusal) → option_map ByTest failing ≡ rejection_by s failing None None
-by_tests s (Some refusal) = refl
-by_tests s None = refl
+by_tests s failing = grind arith
 
 rejection_by-tests : (s : Scene) (o : Option Refusal) (d : Option Need) (l : Option Refusal) → rejection_by s o d l ≡ None → o ≡ None
-rejection_by-tests s (Some x) d l e = cc
-rejection_by-tests s None d l e = refl
+rejection_by-tests s o d l e = grind arith
 
 -- and no test before policy failed
 pub no_test : (s : Scene) (tests : List Test) (needed : List Need) (more : List Test) → rejection_of s tests needed more ≡ None → first_failing tests ≡ None
@@ -43,14 +37,8 @@ no_test s tests needed more e = rejection_by-tests s (first_failing tests) (firs
 
 -- what stops an event is its answer, and nothing changes
 pub direct-rejection : (old : State) (e : Event) (r : Rejection) → judged old.scene e ≡ Some r → IsDirect old e (rejection_reply r) old
-direct-rejection old e r is = record {
-  answer_is = ap (λ o. (effect_unless old e o).answer) (sym is);
-  state_is = ap (λ o. (effect_unless old e o).state) (sym is);
-}
+direct-rejection old e r is = grind arith
 
 -- an event that nothing stops has its effect
 pub direct-passed : (old : State) (e : Event) (answer : Reply) → Says answer ≡ (effect old e).answer → judged old.scene e ≡ None → IsDirect old e answer (effect old e).state
-direct-passed old e answer says is = record {
-  answer_is = says ∙ ap (λ o. (effect_unless old e o).answer) (sym is);
-  state_is = ap (λ o. (effect_unless old e o).state) (sym is);
-}
+direct-passed old e answer says is = grind arith

@@ -1,6 +1,6 @@
 -- What is kept of each entry from the end of the last step, as events leave it.
-use Rattle.std.proofs.Common.{◌≡◌, Bool, true, false, cond, not, ◌&&◌, Option, Some, None, is_some, IsSome, refl, sym, ap, subst, ◌∙◌, true≢false}
-use Rattle.capsteps.proofs.Common.{find, option_map, option_map_or, unwrap_or, false_from_ne_true, Caps, IsSubset, same_caps, has-none, has-meet, has-minus, Entry, EntryRow, Holder, Table, IsTable, is_row_of, entry_of, entry_at, changed_where, remade, row_found, find-map, Scene, told_set, revoked_of, KnownSets, known_of, known_in, AreKnown, HaveRoom, StillKnown, Knows}
+use Rattle.std.proofs.Common.{◌≡◌, ℕ, List, Bool, true, false, cond, not, ◌&&◌, Option, Some, None, is_some, IsSome, refl, sym, ap, subst, ◌∙◌, true≢false}
+use Rattle.capsteps.proofs.Common.{find, option_map, option_map_or, unwrap_or, false_from_ne_true, Nodes, SessionTable, Caps, IsSubset, same_caps, has-none, has-meet, has-minus, Entry, EntryRow, Holder, Table, IsTable, is_row_of, entry_of, entry_at, changed_where, remade, row_found, find-map, Scene, told_set, revoked_of, KnownSets, known_of, known_in, permitted_of, permitted, AreKnown, ArePermitted, StillKnown, Knows}
 use Rattle.std.proofs.lemmas.Bool.{and_right, false≢true}
 use Rattle.capbits.specs.Caps.{has}
 use Rattle.capbits.specs.Sets.{no_caps, minus, meet}
@@ -71,6 +71,17 @@ revoked-known sets s k e known there =
     ∙ sym (has-against s (record { holder = k; entry = e }) c))
     ∙ sym (revoked-found s k e there)
 
+-- ---- what is permitted
+
+-- it is kept of whoever has an entry
+pub permitted-some : (sets : KnownSets) (fs : List ℕ) (tree : Nodes) (sessions : SessionTable) (t : Table) (k : Holder) → ArePermitted sets fs tree sessions t → IsSome (entry_at t k)
+    → permitted_of sets k ≡ Some (permitted fs tree sessions k)
+permitted-some sets fs tree sessions t k all some = by_entry (entry_at t k) refl some
+  where
+    by_entry : (o : Option Entry) → entry_at t k ≡ o → IsSome o → permitted_of sets k ≡ Some (permitted fs tree sessions k)
+    by_entry None none some = absurd (true≢false (sym some))
+    by_entry (Some e) here some = all k e here
+
 -- ---- what an event leaves by itself
 
 -- entries of a table of which each was there, where of each the same is kept
@@ -82,22 +93,10 @@ still-there old new was now there same_kept k e here =
       | Some f ↦ λ some. same_kept k e here
     ] (there k e here)
 
--- a further change that makes no entry
-pub still-then : (old mid new : Table) (was now : KnownSets) → StillKnown old mid was now
-    → ((k : Holder) (e : Entry) → entry_at new k ≡ Some e → (f : Entry) × (entry_at mid k ≡ Some f)) → StillKnown old new was now
-still-then old mid new was now still there k e here = let f = there k e here in still k f.0 f.1
-
 module _ (was now : KnownSets) (old : Scene) (table : Table) (known : AreKnown was old) (still : StillKnown old.table table was now) where
   -- of an entry that was there, what was kept is kept
   pub still-known : (k : Holder) (e f : Entry) → entry_at table k ≡ Some e → entry_at old.table k ≡ Some f → known_of now k ≡ Some (told_set old (record { holder = k; entry = f }))
   still-known k e f here there = subst (λ o. is_still_known o (known_of was k) (known_of now k)) there (still k e here) ∙ known k f there
-
-  pub still-room : HaveRoom now table
-  still-room k e here = by_old (entry_at old.table k) refl
-    where
-      by_old : (o : Option Entry) → entry_at old.table k ≡ o → is_some (known_of now k) ≡ true
-      by_old None none = subst (λ o. is_still_known o (known_of was k) (known_of now k)) none (still k e here)
-      by_old (Some f) there = ap is_some (still-known k e f here there)
 
   -- where nobody holds more, it is known of what is left
   pub still-knows : IsTable table → ((k : Holder) (f : Entry) → entry_at table k ≡ Some f → IsSubset f.held (held_at old.table k)) → Knows (known_in now) old table

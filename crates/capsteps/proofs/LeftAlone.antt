@@ -14,27 +14,16 @@ use Rattle.capacts.specs.Lockmachine.Wants.{loner_of, union_of}
 use Rattle.capacts.specs.Lockmachine.Scene.{rows_on, loner, wanted}
 use Rattle.capacts.proofs.Lockmachine.PolicyElsewhere.{wants-kept}
 use Rattle.capacts.specs.Finishing.{against_under, allowed_under}
+pub use Rattle.capacts.proofs.Renewed.{found-contains}
 use Rattle.capsteps.specs.Leaving.{with_parts, LeavesEntries}
 use Rattle.capsteps.proofs.Finishing.{same-finished}
 
 -- a quiet lock stays quiet where the same requests wait, clients want the same of its inode, and its gather is as open
 pub still_quiet : (old new : Scene) (ino : ℕ) (part : Part) → new.locks.queue ≡ old.locks.queue → wants new ino ≡ wants old ino
     → ((goal : LockGoal) → is_open new ino part goal ≡ is_open old ino part goal) → (lock : Option LockState) → IsQuiet old ino part lock → IsQuiet new ino part lock
-still_quiet old new ino part queue wanted as_open None quiet = ap (λ q. first_for q ino part) queue ∙ quiet
-still_quiet old new ino part queue wanted as_open (Some (Stable state)) quiet = (
-  ap (λ q. target_by q (in_all (wants new ino)) ino part state) queue ∙ ap (λ each. target_by old.locks.queue (in_all each) ino part state) wanted ∙ quiet.0,
-  ap (λ q. first_for q ino part) queue ∙ quiet.1,
-)
-still_quiet old new ino part queue wanted as_open (Some (Gather from goal)) quiet = as_open goal ∙ quiet
+still_quiet old new ino part queue wanted as_open lock quiet = grind arith
 
 -- ---- lists of rows
-
-pub found-contains : {T : Type 0} (p : T → Bool) (rows : List T) (row : T) → find p rows ≡ Some row → Contains rows row
-found-contains p [] row found = cc
-found-contains p (x ∷ xs) row found = elim (p x) as (λ b. cond b (Some x) (find p xs) ≡ Some row → Contains (x ∷ xs) row) [
-  | true ↦ λ found. let same : x ≡ row = cc in (0, omega arith, same)
-  | false ↦ λ found. let inside = found-contains p xs row found in (suc inside.0, omega (arith, inside.1), inside.2)
-] found
 
 none_passes : (p : EntryRow → Bool) (rows : List EntryRow) → ((row : EntryRow) → Contains rows row → p row ≡ false) → filter p rows ≡ []
 none_passes p [] fails = refl
@@ -45,25 +34,17 @@ none_passes p (x ∷ xs) fails =
 -- ---- a lock of a new inode
 
 each_in_sync : (part : Part) → lock_in part in_sync ≡ Stable Sync
-each_in_sync A = refl
-each_in_sync L = refl
-each_in_sync X = refl
-each_in_sync F = refl
+each_in_sync part = grind arith
 
 unwanted : (part : Part) → target_of part Sync Empty None no_caps ≡ Sync
 unfolding target_of no_caps has caps_where
-unwanted A = refl
-unwanted L = refl
-unwanted X = refl
-unwanted F = refl
+unwanted part = grind arith
 
 pub none_if : {X : Type 0} (o : Option X) → is_some o ≡ false → o ≡ None
-none_if None out = refl
-none_if (Some x) out = cc
+none_if o out = grind arith
 
 pub some_same : (o : Option Node) → is_some (option_map (λ node. in_sync) o) ≡ is_some o
-some_same None = refl
-some_same (Some node) = refl
+some_same o = grind arith
 
 module _ (s : State) (sound : IsSound s) where
   -- an inode that is not there has no locks, nobody waits there, and nobody has an entry on it
@@ -71,17 +52,13 @@ module _ (s : State) (sound : IsSound s) where
   no_locks ino out = none_if (map.get s.scene.locks.states ino) (sound.locked ino ∙ out)
 
   nobody_waits : (ino : ℕ) (part : Part) → map.contains_key s.scene.tree.nodes ino ≡ false → first_for s.scene.locks.queue ino part ≡ None
-  nobody_waits ino part out =
-      subst (λ o. IsQuiet s.scene ino part (option_map (lock_in part) o)) (no_locks ino out) (sound.at_rest.each ino part)
+  nobody_waits ino part out = subst (λ o. IsQuiet s.scene ino part (option_map (lock_in part) o)) (no_locks ino out) (sound.at_rest.each ino part)
 
   sound_row : (row : EntryRow) → Contains s.scene.table.rows row → IsSoundEntry s.scene row
   sound_row row inside = All-contains (IsSoundEntry s.scene) s.scene.table.rows row sound.entries inside
 
   no_rows : (ino : ℕ) → map.contains_key s.scene.tree.nodes ino ≡ false → rows_on s.scene ino ≡ []
-  no_rows ino out = none_passes (is_of_inode (record { 0 = ino })) s.scene.table.rows (λ row inside. false_from_ne_true (row.holder.ino.0 == ino) (λ e.
-      let entry = sound_row row inside in
-      let here : map.contains_key s.scene.tree.nodes ino ≡ true = subst (λ q. map.contains_key s.scene.tree.nodes q ≡ true) (eqb-true row.holder.ino.0 ino e) entry.on_inode in
-      true≢false (sym here ∙ out)))
+  no_rows ino out = grind (arith, none_passes)
 
 -- ---- what is left alone
 
@@ -93,55 +70,26 @@ module _ (s : State) (sound : IsSound s) (tree : Nodes) (sessions : SessionTable
   same_locks row inside = let entry = sound_row s sound row inside in leaves.locks row.holder.ino.0 entry.on_inode
 
   same_against : (row : EntryRow) → Contains s.scene.table.rows row → against new row ≡ against s.scene row
-  same_against row inside =
-      let may = All-contains (λ row. permitted s.scene.fs tree sessions row.holder ≡ permitted s.scene.fs s.scene.tree s.scene.sessions row.holder) s.scene.table.rows row leaves.permits inside in
-      λ i. union (against_under (same_locks row inside i) row) (minus row.entry.held (may i))
-
-  same_due : (row : EntryRow) → Contains s.scene.table.rows row → due new row ≡ due s.scene row
-  same_due row inside =
-      let want = All-contains (λ row. effective_want s.scene.fs tree sessions row ≡ effective_want s.scene.fs s.scene.tree s.scene.sessions row) s.scene.table.rows row leaves.wants inside in
-      λ i. meet (want i) (allowed_under (same_locks row inside i) row)
+  same_against row inside = grind arith
 
   entry_kept : (row : EntryRow) → Contains s.scene.table.rows row → IsSoundEntry new row
-  entry_kept row inside = let was = sound_row s sound row inside in record {
-    of_session = leaves.connected row.holder.client.0 was.of_session;
-    on_inode = leaves.there row.holder.ino.0 was.on_inode;
-    holds_pin = was.holds_pin;
-    wants_pin = was.wants_pin;
-    has_due = subst (λ caps. IsSubset caps row.entry.held) (sym (same_due row inside)) was.has_due;
-    told = was.told;
-    revoked = was.revoked;
-  }
+  entry_kept row inside = grind arith
 
   -- ---- locks
 
   quiet_new : (ino : ℕ) (part : Part) → map.contains_key s.scene.tree.nodes ino ≡ false → (o : Option Node) → IsQuiet new ino part (option_map (lock_in part) (option_map (λ node. in_sync) o))
-  quiet_new ino part out None = nobody_waits s sound ino part out
-  quiet_new ino part out (Some node) = subst (λ lock. IsQuiet new ino part (Some lock)) (sym (each_in_sync part)) (stays, nobody_waits s sound ino part out)
-    where
-      stays : target_of part Sync (head_of (first_for s.scene.locks.queue ino part)) (loner new ino) (wanted new ino) ≡ Sync
-      stays =
-          ap (λ q. target_of part Sync (head_of q) (loner new ino) (wanted new ino)) (nobody_waits s sound ino part out)
-          ∙ ap (λ rows. let each = map_rows (want_of s.scene.fs tree sessions) rows in target_of part Sync Empty (loner_of each) (union_of each)) (no_rows s sound ino out)
-          ∙ unwanted part
+  quiet_new ino part out o = grind (arith, nobody_waits, each_in_sync, no_rows, unwanted)
 
   quiet_at : (ino : ℕ) (part : Part) (b : Bool) → map.contains_key s.scene.tree.nodes ino ≡ b → IsQuiet new ino part (option_map (lock_in part) (map.get states ino))
-  quiet_at ino part true here =
-      subst (λ o. IsQuiet new ino part (option_map (lock_in part) o)) (sym (leaves.locks ino here)) (still_quiet s.scene new ino part refl (wants-kept s.scene tree sessions ino leaves.wants) (λ goal. refl) (lock_at s.scene.locks ino part) (sound.at_rest.each ino part))
-  quiet_at ino part false out =
-      subst (λ o. IsQuiet new ino part (option_map (lock_in part) o)) (sym (leaves.new_locks ino out)) (quiet_new ino part out (map.get tree.nodes ino))
+  quiet_at ino part b here = grind (arith, wants-kept, quiet_new)
 
   locked_at : (ino : ℕ) (b : Bool) → map.contains_key s.scene.tree.nodes ino ≡ b → map.contains_key states ino ≡ map.contains_key tree.nodes ino
-  locked_at ino true here = ap is_some (leaves.locks ino here) ∙ sound.locked ino ∙ here ∙ sym (leaves.there ino here)
-  locked_at ino false out = ap is_some (leaves.new_locks ino out) ∙ some_same (map.get tree.nodes ino)
+  locked_at ino b here = grind arith
 
   -- ---- what is held
 
   place_kept : (row : EntryRow) (part : Part) → against new row ≡ against s.scene row → (o : Option LockState) → IsInPlace s.scene row part o → IsInPlace new row part o
-  place_kept row part same None placed = placed
-  place_kept row part same (Some (Stable state)) placed = placed
-  place_kept row part same (Some (Gather from to)) placed =
-      (placed.0, λ cap held out. let taken = placed.1 cap held out in (ap (λ caps. has caps cap) same ∙ taken.0, taken.1))
+  place_kept row part same o placed = grind arith
 
   in_place : (row : EntryRow) (part : Part) → Contains s.scene.table.rows row → IsInPlace s.scene row part (lock_at s.scene.locks row.holder.ino.0 part)
       → IsInPlace new row part (option_map (lock_in part) (map.get states row.holder.ino.0))

@@ -1,5 +1,5 @@
 -- The end of a step at several inodes: one after another, each once, they are finished as if all at once.
-use Rattle.std.proofs.Common.{◌≡◌, ℕ, Bool, true, false, cond, ◌||◌, List, [], ◌∷◌, filter, map as each, ◌++◌, append-nil, append_assoc, eq-eqb, refl, sym, ap, subst, ◌∙◌, true≢false, All, ◌==◌}
+use Rattle.std.proofs.Common.{◌≡◌, ℕ, Bool, true, false, cond, ◌||◌, List, [], ◌∷◌, filter, map as each, ◌++◌, append-nil, append_assoc, eq-eqb, refl, sym, ap, subst, ◌∙◌, true≢false, All, ◌==◌, arith}
 use Rattle.capsteps.proofs.Common.{unsigned_tied, find, list_any, AllByRecursion, nat_cmp, eq_by_cmp, map-id, or-false, eqb-true, false_from_ne_true, All-map, All-weaker, Ino, Entry, EntryRow, Holder, Table, IsTable, holders_of_rows, is_row_of, Caps, list_any-append, is_of_inode, entries_on, changed_where, remade, InoSet, IsListOf, KnownSets, known_of, KnownAnew, kept-same, kept-then, kept-not}
 use Rattle.std.specs.FinSet as set
 use Rattle.std.specs.List.{IsDistinct}
@@ -152,10 +152,4 @@ next-finished g f t was all k left mid sets h now then once so_far step alike ke
 pub all-finished : (g : EntryRow → Entry) (f : EntryRow → Caps) (t : Table) (was : KnownSets) (inos : InoSet) (all : List ℕ) (now : Table) (sets : KnownSets)
     → IsListOf inos all → IsFinishing g f t was all [] now sets
     → (now ≡ changed_where (on (set.contains inos)) g t) × KnownAnew (λ k. set.contains inos k.ino.0) f t was sets
-all-finished g f t was inos all now sets lists so_far = (
-  so_far.finished ∙ (λ i. changed_where (on (λ n. tests n i)) g t),
-  kept-same (λ k. list_any (same_number k.ino.0) so_far.done) (λ k. set.contains inos k.ino.0) f t was sets (λ k. tests k.ino.0) so_far.kept,
-)
-  where
-    tests : (n : ℕ) → list_any (same_number n) so_far.done ≡ set.contains inos n
-    tests n = ap (list_any (same_number n)) (sym (append-nil so_far.done) ∙ so_far.named) ∙ sym (lists.among n)
+all-finished g f t was inos all now sets lists so_far = grind (arith, append-nil)

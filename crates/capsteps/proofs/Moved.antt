@@ -37,16 +37,7 @@ pub record IsMoved (first now : Scene) : Type 0 where
 -- ---- one after another
 
 pub not-moved : (s : Scene) → IsMoved s s
-not-moved s = record {
-  table = refl;
-  sessions = refl;
-  nodes = λ q. refl;
-  states = λ q. refl;
-  queue = λ q inside. inside;
-  last = refl;
-  order = λ is. is;
-  in_rows = λ row part inside was. was;
-}
+not-moved s = grind arith
 
 pub moved-twice : (a b c : Scene) → IsMoved a b → IsMoved b c → IsMoved a c
 moved-twice a b c one two = record {
@@ -63,8 +54,7 @@ moved-twice a b c one two = record {
 -- ---- which inodes have locks
 
 some-mapped : {X Y : Type 0} (f : X → Y) (o : Option X) → is_some (option_map f o) ≡ is_some o
-some-mapped f None = refl
-some-mapped f (Some x) = refl
+some-mapped f o = grind arith
 
 abbrev HasLock : LockMap → ℕ → Bool
 HasLock locks q = is_some (lock_at locks q A)
@@ -76,22 +66,11 @@ lock-kept locks ino part lock q =
 lock-moved : (locks : LockMap) (step : Move) (q : ℕ) → HasLock (moved locks step) q ≡ HasLock locks q
 lock-moved locks (Begin ino part to) q = lock-kept locks ino.0 part (Gather (present_state (lock_at locks ino.0 part)) to) q
 lock-moved locks (End ino part) q = lock-kept locks ino.0 part (Stable (coming_state (lock_at locks ino.0 part))) q
-lock-moved locks (Serve ticket) q = refl
-lock-moved locks Settled q = refl
+lock-moved locks step q = refl
 
 keys-moved : (locks : LockMap) (step : Move) (q : ℕ) → map.contains_key (moved locks step).states q ≡ map.contains_key locks.states q
 keys-moved locks step q =
     sym (some-mapped (lock_in A) (map.get (moved locks step).states q)) ∙ lock-moved locks step q ∙ some-mapped (lock_in A) (map.get locks.states q)
-
--- a lock that is not there now was not there
-none-mapped : {X Y : Type 0} (f g : X → Y) (o p : Option X) → is_some o ≡ is_some p → option_map f o ≡ None → option_map g p ≡ None
-none-mapped f g o None same none = refl
-none-mapped f g None (Some x) same none = absurd (true≢false (sym same))
-none-mapped f g (Some y) (Some x) same none = absurd (cc)
-
-pub no_lock-moved : (first now : Scene) → IsMoved first now → (ino : ℕ) (part : Part) → lock_at now.locks ino part ≡ None → lock_at first.locks ino part ≡ None
-no_lock-moved first now is ino part none =
-    none-mapped (lock_in part) (lock_in part) (map.get now.locks.states ino) (map.get first.locks.states ino) (is.states ino) none
 
 -- ---- who waits
 
@@ -101,10 +80,8 @@ nobody-moved first now is ino part none =
     find_none (is_for ino part) now.locks.queue (λ q inside. fails_at (is_for ino part) first.locks.queue none q (is.queue q inside))
 
 queue-moved : (locks : LockMap) (step : Move) (q : Request) → Contains (moved locks step).queue q → Contains locks.queue q
-queue-moved locks (Begin ino part to) q inside = inside
-queue-moved locks (End ino part) q inside = inside
 queue-moved locks (Serve ticket) q inside = contains-filter (λ r. not (is_numbered ticket.0 r)) locks.queue q inside
-queue-moved locks Settled q inside = inside
+queue-moved locks step q inside = inside
 
 -- what all who waited have, all who wait have
 pub all-waiting : (Fact : Request → Type 0) (first now : Scene) → IsMoved first now → All Fact first.locks.queue → All Fact now.locks.queue
@@ -117,12 +94,7 @@ nodes-with : (tree : Nodes) (ino : ℕ) (ask : Ask) (q : ℕ) → map.contains_k
 nodes-with tree ino ask q = by_ask tree ino (λ t. map.contains_key t.nodes q ≡ map.contains_key tree.nodes q) refl (λ f. known-changed tree f ino q) ask
 
 nodes-after : (tree : Nodes) (r : Request) (o : Outcome) (q : ℕ) → map.contains_key (tree_after tree r o).nodes q ≡ map.contains_key tree.nodes q
-nodes-after tree r outcome.Done q = nodes-with tree r.ino.0 r.ask q
-nodes-after tree r (outcome.Values shown) q = refl
-nodes-after tree r (outcome.Denied access rules) q = refl
-nodes-after tree r (outcome.Refused refusal) q = refl
-nodes-after tree r outcome.OutOfMemory q = refl
-nodes-after tree r outcome.Dropped q = refl
+nodes-after tree r o q = grind (arith, nodes-with)
 
 -- ---- the moves
 
@@ -139,10 +111,7 @@ moved-step s step first = record {
 }
   where
     last-moved : (step : Move) → (moved s.locks step).last ≡ s.locks.last
-    last-moved (Begin ino part to) = refl
-    last-moved (End ino part) = refl
-    last-moved (Serve ticket) = refl
-    last-moved Settled = refl
+    last-moved step = grind arith
 
 moved-served : (s : Scene) (q : Request) (o : Outcome) → first_move s ≡ Serve q.ticket → IsMoved s (served s q o)
 moved-served s q o first =
@@ -190,11 +159,10 @@ ended-waited s (m ∷ ms) t (mid, one, rest) =
     by_move m one (All-weaker (Waited mid.locks.queue) (Waited s.locks.queue) (waited-moved s mid (moved-made s m mid one)) (ended_in ms) (ended-waited mid ms t rest))
   where
     by_move : (m : Made) → Makes s m mid → All (Waited s.locks.queue) (ended_in ms) → All (Waited s.locks.queue) (ended_in (m ∷ ms))
-    by_move (Began ino part to) one all = all
-    by_move (Gathered ino part) one all = all
     by_move (Served q o) (first, found, may, is) all =
         All-cons (Waited s.locks.queue) (record { client = q.client; ticket = q.ticket; outcome = o }) (ended_in ms)
         (record { request = q; inside = found-contains (is_numbered q.ticket.0) s.locks.queue q found; client = refl; ticket = refl }) all
+    by_move m one all = all
 
 -- ---- moves of locks, as the step names them
 
@@ -228,8 +196,7 @@ one-less locks q order inside =
 -- as many have ended as fewer wait
 pub served-count : (s : Scene) (ms : List Made) (t : Scene) → IsLockMap s.locks → MakesAll s ms t → length (ended_in ms) + length t.locks.queue ≡ length s.locks.queue
 served-count s [] t order is = (let same : length t.locks.queue ≡ length s.locks.queue = ap (λ (u : Scene). length u.locks.queue) is in omega (arith, same))
-served-count s (m ∷ ms) t order (mid, one, rest) =
-    by_move m one (let moved = moved-made s m mid one in served-count mid ms t (moved.order order) rest)
+served-count s (m ∷ ms) t order (mid, one, rest) = by_move m one (let moved = moved-made s m mid one in served-count mid ms t (moved.order order) rest)
   where
     by_move : (m : Made) → Makes s m mid → length (ended_in ms) + length t.locks.queue ≡ length mid.locks.queue → length (ended_in (m ∷ ms)) + length t.locks.queue ≡ length s.locks.queue
     by_move (Began ino part to) (first, is) more = more ∙ ap (λ (u : Scene). length u.locks.queue) is

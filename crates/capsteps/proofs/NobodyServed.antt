@@ -1,13 +1,18 @@
 -- A settling that served nobody: the tree stays, and where the locks of an inode do too, whoever had all there has it still.
-use Rattle.std.proofs.Common.{◌≡◌, ℕ, ◌==◌, Bool, false, ◌||◌, None, Some, List, [], ◌∷◌, refl, sym, ap, subst, ◌∙◌, arith}
-use Rattle.capsteps.proofs.Common.{Ino, Caps, IsSubset, IsTree, SessionTable, EntryRow, Holder, Table, LockMap, permitted, Scene, Ended, due_under, InoSet, KnownSets, OthersHaveAll, is_affected, EndsAt, EndsWith, Made, Began, Gathered, Served, MakesAll, ended_in, sized_in}
+use Rattle.std.proofs.Common.{◌≡◌, ◌<◌, ℕ, ◌==◌, Bool, false, ◌||◌, None, Some, List, [], ◌∷◌, refl, sym, ap, subst, ◌∙◌, arith, All, Contains, IsTrue}
+use Rattle.capsteps.proofs.Common.{find, unwrap_or, Ino, Caps, IsSubset, IsTree, SessionTable, has_session, EntryRow, Holder, Table, is_row_of, row_of-entry, changed_where, LockMap, permitted, Scene, Ended, is_sized, owed, sizes_owed, due_under, InoSet, KnownSets, known_anew, known_in, known_of, permitted_of, ArePermittedIn, OthersHaveAll, is_affected, MayEnd, EndsAt, EndsWith, finished_at, finished_entry, forget_among, stays, told_then, Made, Began, Gathered, Served, MakesAll, ended_in, sized_in}
 use Rattle.std.specs.FinMap as map
 use Rattle.std.specs.FinSet as set
+use Rattle.capbits.specs.Sets.{no_caps}
 use Rattle.capacts.specs.Finishing.{told_under}
+use Rattle.capacts.proofs.KeptSets.{was-there}
+use Rattle.capacts.proofs.Lockmachine.PolicyElsewhere.{permitted-kept}
 use Rattle.capacts.specs.Capnotes.InoSets.{IsNext}
 use Rattle.capsteps.specs.Serves.{SettlesWith}
+use Rattle.capsteps.proofs.LeftAlone.{found-contains}
 use Rattle.capsteps.proofs.Moved.{tree-moved}
 use Rattle.capsteps.proofs.SameOff.{off-wider}
+use Rattle.capsteps.proofs.Strays.{alike-retained, goes, kept-held, stays-kept}
 
 -- moves that end no request serve nobody: they change no size, and leave the tree
 nobody-served : (first : Scene) (moves : List Made) (settled : Scene) → MakesAll first moves settled → ended_in moves ≡ [] → (sized_in moves ≡ []) × (settled.tree ≡ first.tree)
@@ -29,58 +34,85 @@ module _ (ino : ℕ) (from : ℕ → Bool) (affected : InoSet) (first settled : 
   moves-none = sym settles.ended_is ∙ nobody
 
   pub tree-stays : settled.tree ≡ first.tree
-  tree-stays = let at = settles.settles in let all = at.settles in (nobody-served first settles.moves settled all.made moves-none).1
+  tree-stays = (nobody-served first settles.moves settled settles.settles.settles.made moves-none).1
 
   -- where no other inode was affected, the locks have settled at this one
   pub settles-alone : IsNext affected 0 None → SettlesWith (λ other. other == ino) (λ other. other == ino) first settled ended []
-  settles-alone none = let at = settles.settles in let all = at.settles in record {
+  settles-alone none = record {
     moves = settles.moves;
-    settles = record { settles = all; among = λ other is. is; same = off-wider (is_affected ino affected) (λ other. other == ino) first settled (none-besides ino affected none) at.same };
+    settles = record { settles = settles.settles.settles; among = λ other is. is; same = off-wider (is_affected ino affected) (λ other. other == ino) first settled (none-besides ino affected none) settles.settles.same };
     ended_is = settles.ended_is;
-    sized_is = sym (nobody-served first settles.moves settled all.made moves-none).0;
+    sized_is = sym (nobody-served first settles.moves settled settles.settles.settles.made moves-none).0;
   }
 
+-- of each client as much is kept that it is to know of
+abbrev AreToldAlike : KnownSets → KnownSets → Type 0
+AreToldAlike was now = (k : Holder) → known_of now k ≡ known_of was k
+
 -- whoever has all there by some locks, has it by others that are the same at the inode
-still-all_there : (sets : KnownSets) (s : Scene) (then : LockMap) (k : Holder) → map.get then.states k.ino.0 ≡ map.get s.locks.states k.ino.0 → OthersHaveAll sets s k
-    → OthersHaveAll sets (record s { locks = then }) k
-still-all_there sets s then k same others j e on apart there =
+still-all_there : (was now : KnownSets) (s : Scene) (then : LockMap) (k : Holder) → AreToldAlike was now → map.get then.states k.ino.0 ≡ map.get s.locks.states k.ino.0 → OthersHaveAll was s k
+    → OthersHaveAll now (record s { locks = then }) k
+still-all_there was now s then k told same others j e on apart there =
     let row : EntryRow = record { holder = j; entry = e } in
     let all = others j e on apart there in
     let here : map.get s.locks.states j.ino.0 ≡ map.get then.states j.ino.0 = ap (map.get s.locks.states) on ∙ sym same ∙ sym (ap (map.get then.states) on) in (
       subst (λ (caps : Caps). IsSubset caps e.held) (λ i. due_under s.fs s.tree s.sessions (here i) row) all.0,
-      all.1 ∙ ap Some (λ i. told_under (permitted s.fs s.tree s.sessions j) (here i) row),
+      told j ∙ all.1 ∙ ap Some (λ i. told_under (permitted s.fs s.tree s.sessions j) (here i) row),
     )
 
 module _ (ino : ℕ) (from : ℕ → Bool) (affected : InoSet) (first settled : Scene) (ended : List Ended) (sized : List Ino)
     (settles : SettlesWith (is_affected ino affected) from first settled ended sized) (nobody : ended ≡ []) where
-  pub others-still : (sets : KnownSets) (k : Holder) → map.get settled.locks.states k.ino.0 ≡ map.get first.locks.states k.ino.0 → OthersHaveAll sets first k → OthersHaveAll sets settled k
-  others-still sets k here others =
+  pub others-still : (was now : KnownSets) (k : Holder) → AreToldAlike was now → map.get settled.locks.states k.ino.0 ≡ map.get first.locks.states k.ino.0 → OthersHaveAll was first k → OthersHaveAll now settled k
+  others-still was now k told here others =
       let there = settles.settles in
       let same = there.same in
       let tree = tree-stays ino from affected first settled ended sized settles nobody in
       let whole : record first { locks = settled.locks } ≡ settled =
       λ i. record { fs = sym same.fs i; tree = sym tree i; sessions = sym same.sessions i; table = sym same.table i; locks = settled.locks } in
-      subst (λ (s : Scene). OthersHaveAll sets s k) whole (still-all_there sets first settled.locks k here others)
+      subst (λ (s : Scene). OthersHaveAll now s k) whole (still-all_there was now first settled.locks k told here others)
 
 -- ---- the step
 
--- the locks settle, and what holds of the entries and the sessions holds still
-pub settled-keeps : (at from : ℕ → Bool) (first settled : Scene) (ended : List Ended) (sized : List Ino) → SettlesWith at from first settled ended sized
-    → (P : Table → SessionTable → Type 0) → P first.table first.sessions → P settled.table settled.sessions
-settled-keeps at from first settled ended sized settles P was =
+-- the locks settle, and the step may end still, where it is kept what is permitted then
+pub settled-may : (at from : ℕ → Bool) (was now : KnownSets) (first settled : Scene) (ended : List Ended) (sized : List Ino) → SettlesWith at from first settled ended sized
+    → ArePermittedIn now settled → MayEnd was first → MayEnd now settled
+settled-may at from was now first settled ended sized settles permitted may =
     let there = settles.settles in
     let same = there.same in
-    subst (λ (t : Table). P t settled.sessions) (sym same.table) (subst (λ (s : SessionTable). P first.table s) (sym same.sessions) was)
+    record {
+      numbers = subst (λ (t : Table). All (λ row. row.entry.seq < 18446744073709551615) t.rows) (sym same.table) may.numbers;
+      clients = subst (λ (t : Table). All (λ row. IsTrue (has_session settled.sessions row.holder.client.0)) t.rows) (sym same.table)
+          (subst (λ (s : SessionTable). All (λ row. IsTrue (has_session s row.holder.client.0)) first.table.rows) (sym same.sessions) may.clients);
+      permitted = permitted;
+    }
+
+-- the end of a step makes no entry and forgets nothing that somebody has one on, so what is permitted stays so
+finished-permitted : (at : ℕ → Bool) (known : Holder → Caps) (sized : List Ino) (s : Scene) (was now : KnownSets) → IsTree s.tree → ((k : Holder) → permitted_of now k ≡ permitted_of was k)
+    → ArePermittedIn was s → ArePermittedIn now (finished_at at known (sizes_owed sized s))
+finished-permitted at known sized s was now tree kept all k e here =
+    let told : Scene = sizes_owed sized s in
+    let passes : EntryRow → Bool = λ row. at row.holder.ino.0 in
+    let left : Scene = record told { table = changed_where passes (finished_entry known told) told.table } in
+    let before = was-there passes (finished_entry known told) told.table k e here in
+    let first = was-there (is_sized sized) owed s.table k before.0 before.1 in
+    let inside : Contains left.table.rows (record { holder = k; entry = e }) = found-contains (is_row_of k) left.table.rows (record { holder = k; entry = e }) (row_of-entry left.table k e here) in
+    kept k ∙ all k first.0 first.1
+    ∙ ap Some (sym (permitted-kept s.fs s.tree (forget_among at left).tree s.sessions s.sessions k
+    (alike-retained s.tree (stays at left) tree (λ q gone. (goes at left q gone).1) k.ino.0 (stays-kept at left k.ino.0 (kept-held left (record { holder = k; entry = e }) inside))) refl))
 
 -- the locks settle and then the step ends
-pub settled-ends : (at from : ℕ → Bool) (was now : KnownSets) (first settled last : Scene) (ended : List Ended) (sized : List Ino)
-    → SettlesWith at from first settled ended sized → IsTree first.tree → EndsAt at sized was now settled last → EndsWith from was now first last ended
-settled-ends at from was now first settled last ended sized settles tree ends = record {
+pub settled-ends : (at from : ℕ → Bool) (was mid now : KnownSets) (first settled last : Scene) (ended : List Ended) (sized : List Ino)
+    → SettlesWith at from first settled ended sized → IsTree first.tree → AreToldAlike was mid → ArePermittedIn mid settled → EndsAt at sized mid now settled last → EndsWith from was now first last ended
+settled-ends at from was mid now first settled last ended sized settles tree told permitted ends = record {
   at = at;
   settled = settled;
   sized = sized;
   settles = settles;
-  tree = (let there = settles.settles in let all = there.settles in tree-moved first settles.moves settled all.made tree);
-  finished = ends.finished;
-  kept = ends.kept;
+  tree = sound;
+  finished = ends.finished ∙ (λ i. finished_at at (λ k. unwrap_or (told k i) no_caps) (sizes_owed sized settled));
+  kept = λ k. ends.kept k ∙ ap (known_anew (at k.ino.0) (told_then (sizes_owed sized settled)) (find (is_row_of k) (sizes_owed sized settled).table.rows)) (told k);
+  permitted = subst (ArePermittedIn now) (sym ends.finished) (finished-permitted at (known_in mid) sized settled mid now sound ends.permitted permitted);
 }
+  where
+    sound : IsTree settled.tree
+    sound = let there = settles.settles in let all = there.settles in tree-moved first settles.moves settled all.made tree

@@ -1,5 +1,5 @@
 -- What a request that is served leaves of the tree.
-use Rattle.std.proofs.Common.{◌≡◌, ◌≢◌, ℕ, true, false, None, ◌⊎◌, inl, inr, refl, subst}
+use Rattle.std.proofs.Common.{◌≡◌, ◌≢◌, ℕ, true, false, None, ◌⊎◌, inl, inr, refl, subst, arith}
 use Rattle.capsteps.proofs.Common.{Node, Nodes, IsTree, place, IsAlike, Request, Scene, alike-itself, Outcome, tree_after}
 use Rattle.std.specs.FinMap as map
 use Rattle.capbits.specs.Refusal.{first_failing}
@@ -9,9 +9,8 @@ use Rattle.inotree.specs.Inodes.{with_setting, with_attribute, without_attribute
 use Rattle.inotree.specs.Tree.{is_within}
 use Rattle.inotree.specs.Calls.{changed}
 use Rattle.inotree.proofs.Changes.{setting_site}
-use Rattle.inotree.proofs.Elsewhere.{alike-changed}
 use Rattle.inotree.proofs.Moving.{moved-alike, moved-tree, moved-within, changed-within}
-use Rattle.inotree.proofs.OneInode.{known-changed, place-other, alike-but, alike-unlinked, childless-file, childless-empty, sound-setting, sound-attribute, sound-no-attribute, sound-unlink, sound-rmdir}
+use Rattle.inotree.proofs.OneInode.{known-changed, place-other, alike-unlinked, childless-file, childless-empty, sound-setting, sound-attribute, sound-no-attribute, sound-unlink, sound-rmdir}
 use Rattle.capacts.specs.Lockmachine.declared.request.Change.{Change}
 use Rattle.capacts.specs.Lockmachine.declared.request.Change.TheVariants.{Set, SetXattr, RemoveXattr}
 use Rattle.capacts.specs.Lockmachine.declared.request.Ask.{Ask}
@@ -22,29 +21,21 @@ use Rattle.capacts.specs.Capnotes.Changing.{tree_with, tree_changed}
 use Rattle.capacts.specs.Caprules.Asks.{ask_before, ask_needs, ask_after, change_tests}
 use Rattle.capacts.specs.Served.{is_rename}
 use Rattle.capacts.proofs.Again.{leaves-or-makes, passed-all}
+pub use Rattle.capacts.proofs.Renewed.{alike_change}
 
 -- ---- whatever is asked for
 
 -- the tree with what is asked for is that of before, or a change of its inode
 module _ (tree : Nodes) (ino : ℕ) (P : Nodes → Type 0) (same : P tree) (each : (f : Node → Node) → P (changed f tree ino)) where
   pub by_change : (change : Change) → P (tree_changed tree ino change)
-  by_change (Set setting) = each (with_setting setting)
-  by_change (SetXattr name value) = each (with_attribute name value)
-  by_change (RemoveXattr name) = each (without_attribute name)
+  by_change change = grind arith
 
   pub by_ask : (ask : Ask) → P (tree_with tree ino ask)
-  by_ask (Get part) = same
-  by_ask (Alter change) = by_change change
-  by_ask Unlink = each (with_site Stray)
-  by_ask Rmdir = each (with_site Stray)
-  by_ask (Rename dir name) = each (with_site (Under (record { 0 = dir.0 }) name))
+  by_ask ask = grind arith
 
 module _ (s : Scene) (q : Request) (o : Outcome) (ends : MayEndAs s q o) where
   after_any : (P : Nodes → Type 0) → P s.tree → ((f : Node → Node) → P (changed f s.tree q.ino.0)) → P (tree_after s.tree q o)
-  after_any P same each = elim (leaves-or-makes s q o ends) [
-    | inl left ↦ subst P left same
-    | inr made ↦ subst P made.1 (by_ask s.tree q.ino.0 P same each q.ask)
-  ]
+  after_any P same each = grind (arith, leaves-or-makes, by_ask)
 
   pub known-after : (ino : ℕ) → map.contains_key (tree_after s.tree q o).nodes ino ≡ map.contains_key s.tree.nodes ino
   known-after ino = after_any (λ t. map.contains_key t.nodes ino ≡ map.contains_key s.tree.nodes ino) refl (λ f. known-changed s.tree f q.ino.0 ino)
@@ -56,11 +47,6 @@ module _ (s : Scene) (q : Request) (o : Outcome) (ends : MayEndAs s q o) where
   last-after = after_any (λ t. t.last ≡ s.tree.last) refl (λ f. refl)
 
 -- ---- by what is asked for
-
-pub alike_change : (tree : Nodes) (ino other : ℕ) (change : Change) → (other ≡ ino → ⊥) → IsAlike tree (tree_changed tree ino change) other
-alike_change tree ino other (Set setting) off = alike-but (with_setting setting) (setting_site setting) tree ino other off
-alike_change tree ino other (SetXattr name value) off = alike-changed tree (with_attribute name value) ino (λ n. refl) (λ n. refl) other
-alike_change tree ino other (RemoveXattr name) off = alike-changed tree (without_attribute name) ino (λ n. refl) (λ n. refl) other
 
 -- what is not below the inode, where that moves
 alike_ask : (s : Scene) (ino other : ℕ) (ask : Ask) → IsTree s.tree → first_failing (ask_after s ino ask) ≡ None → (other ≡ ino → ⊥)
@@ -88,30 +74,13 @@ sound_ask s ino (Rename dir name) sound one more =
 abbrev Lay : Nodes → ℕ → Ask → ℕ → ℕ → Type 0
 Lay tree ino ask other above = (is_within tree.nodes other above ≡ true) ⊎ ((is_rename ask ≡ true) × (is_within tree.nodes other ino ≡ true))
 
-within_change : (tree : Nodes) (ino other above : ℕ) (change : Change) → is_within (tree_changed tree ino change).nodes other above ≡ true → is_within tree.nodes other above ≡ true
-within_change tree ino other above (Set setting) below = changed-within (with_setting setting) (λ n. inl (setting_site setting n)) tree ino other above below
-within_change tree ino other above (SetXattr name value) below = changed-within (with_attribute name value) (λ n. inl refl) tree ino other above below
-within_change tree ino other above (RemoveXattr name) below = changed-within (without_attribute name) (λ n. inl refl) tree ino other above below
-
 within_ask : (tree : Nodes) (ino other above : ℕ) (ask : Ask) → is_within (tree_with tree ino ask).nodes other above ≡ true → Lay tree ino ask other above
-within_ask tree ino other above (Get part) below = inl below
-within_ask tree ino other above (Alter change) below = inl (within_change tree ino other above change below)
-within_ask tree ino other above Unlink below = inl (changed-within (with_site Stray) (λ n. inr refl) tree ino other above below)
-within_ask tree ino other above Rmdir below = inl (changed-within (with_site Stray) (λ n. inr refl) tree ino other above below)
-within_ask tree ino other above (Rename dir name) below = elim (moved-within tree ino dir.0 name other above below) [
-  | inl lay ↦ inl lay
-  | inr moved ↦ inr (refl, moved)
-]
+within_ask tree ino other above ask below = grind (arith, moved-within, changed-within)
 
 -- ---- however it ends
 
 pub within-after : (tree : Nodes) (q : Request) (o : Outcome) (other above : ℕ) → is_within (tree_after tree q o).nodes other above ≡ true → Lay tree q.ino.0 q.ask other above
-within-after tree q outcome.Done other above below = within_ask tree q.ino.0 other above q.ask below
-within-after tree q (outcome.Values shown) other above below = inl below
-within-after tree q (outcome.Denied access rules) other above below = inl below
-within-after tree q (outcome.Refused refusal) other above below = inl below
-within-after tree q outcome.OutOfMemory other above below = inl below
-within-after tree q outcome.Dropped other above below = inl below
+within-after tree q o other above below = grind (arith, within_ask)
 
 pub alike-apart : (s : Scene) (q : Request) (o : Outcome) (ino : ℕ) → IsTree s.tree → MayEndAs s q o → ino ≢ q.ino.0
     → (is_rename q.ask ≡ true → is_within s.tree.nodes ino q.ino.0 ≡ false) → IsAlike s.tree (tree_after s.tree q o) ino

@@ -25,10 +25,7 @@ any_found p q (x ∷ xs) row (suc k, room, is) on passes = later (p x) (any_foun
 
 -- what a lock takes is being revoked
 by_locks : (s : Scene) (row : EntryRow) (part : Part) (c : Cap) → has (against_part s row part) c ≡ true → has (against_locks s row) c ≡ true
-by_locks s row A c h = has-union _ _ c ∙ ap (λ b. b || has (union (against_part s row L) (union (against_part s row X) (against_part s row F))) c) h
-by_locks s row L c h = has-union _ _ c ∙ second_true _ _ (has-union _ _ c ∙ ap (λ b. b || has (union (against_part s row X) (against_part s row F)) c) h)
-by_locks s row X c h = has-union _ _ c ∙ second_true _ _ (has-union _ _ c ∙ second_true _ _ (has-union _ _ c ∙ ap (λ b. b || has (against_part s row F) c) h))
-by_locks s row F c h = has-union _ _ c ∙ second_true _ _ (has-union _ _ c ∙ second_true _ _ (has-union _ _ c ∙ second_true _ _ h))
+by_locks s row part c h = grind (arith, has-union)
 
 part_in_all : (s : Scene) (row : EntryRow) (part : Part) (c : Cap) → has (against_part s row part) c ≡ true → has (against s row) c ≡ true
 part_in_all s row part c h = has-union (against_locks s row) (against_policy s row) c ∙ ap (λ b. b || has (against_policy s row) c) (by_locks s row part c h)
@@ -47,37 +44,24 @@ module _ (s : Scene) (row : EntryRow) (inside : Contains s.table.rows row) (part
       not_empty true e h = absurd (true≢false (sym h ∙ has-is_empty (outside part to row) e c))
 
   by_lock : (o : Option LockState) → lock_at s.locks row.holder.ino.0 part ≡ o → IsInRowOf row part o → IsInPlace s row part o
-  by_lock None is in_row = in_row
-  by_lock (Some (Stable state)) is in_row = in_row
   by_lock (Some (Gather from to)) is in_row = (in_row, taken_back from to is)
+  by_lock o is in_row = in_row
 
   pub placed : IsInRow s row part → IsInPlace s row part (lock_at s.locks row.holder.ino.0 part)
   placed in_row = by_lock (lock_at s.locks row.holder.ino.0 part) refl in_row
 
 -- and what is in place is in its row
 pub placed-in_row : (s : Scene) (row : EntryRow) (part : Part) (o : Option LockState) → IsInPlace s row part o → IsInRowOf row part o
-placed-in_row s row part None place = place
-placed-in_row s row part (Some (Stable state)) place = place
-placed-in_row s row part (Some (Gather from to)) place = place.0
+placed-in_row s row part o place = grind arith
 
 -- ---- what is not permitted
 
 revoked-lost : (s : Scene) (row : EntryRow) (cap : Cap) → has row.entry.held cap ≡ true → has (permitted s.fs s.tree s.sessions row.holder) cap ≡ false → has (against s row) cap ≡ true
-revoked-lost s row cap held out =
-    has-union (against_locks s row) (against_policy s row) cap
-    ∙ second_true _ _ (has-minus row.entry.held (permitted s.fs s.tree s.sessions row.holder) cap ∙ (λ i. held i && not (out i)))
+revoked-lost s row cap held out = grind (arith, has-union, second_true, has-minus)
 
 pub all-revoked : (s : Scene) → AreRevoked s
 all-revoked s row cap found = revoked-lost s row cap
 
 -- so what a client is to know that it holds is permitted
 pub told-permitted : (s : Scene) (row : EntryRow) (cap : Cap) → has (told_set s row) cap ≡ true → has (permitted s.fs s.tree s.sessions row.holder) cap ≡ true
-told-permitted s row cap told = by_test (has (permitted s.fs s.tree s.sessions row.holder) cap) (has row.entry.held cap) refl refl
-  where
-    is : (has row.entry.held cap && not (has (against s row) cap)) ≡ true
-    is = sym (has-minus row.entry.held (against s row) cap) ∙ told
-
-    by_test : (p h : Bool) → has (permitted s.fs s.tree s.sessions row.holder) cap ≡ p → has row.entry.held cap ≡ h → p ≡ true
-    by_test true h may held = refl
-    by_test false true out held = absurd (true≢false (sym is ∙ (λ i. held i && not (revoked-lost s row cap held out i))))
-    by_test false false out held = absurd (true≢false (sym is ∙ ap (λ b. b && not (has (against s row) cap)) held))
+told-permitted s row cap told = grind (arith, has-minus, revoked-lost)

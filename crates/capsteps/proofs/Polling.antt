@@ -9,19 +9,17 @@ use Rattle.std.proofs.lemmas.List.{take-append-le}
 use Rattle.captable.specs.Calls.{with_asked}
 use Rattle.capacts.specs.Capevents.declared.outcome.Message.TheVariants as message
 use Rattle.capacts.specs.Caprules.Messages.{row_messages, size_message}
-use Rattle.capsteps.proofs.Telling.{given_fields, given-fields}
+use Rattle.capsteps.proofs.Telling.{retold, told_given, size_given, asked_given, given_table}
 
 -- ---- the first of a list
 
 pub take-take_append : {X : Type 0} (n : ℕ) (xs ys : List X) → take n (take n xs ++ ys) ≡ take n (xs ++ ys)
-take-take_append zero xs ys = refl
-take-take_append (suc n) [] ys = refl
 take-take_append (suc n) (x ∷ xs) ys = ap (λ zs. x ∷ zs) (take-take_append n xs ys)
+take-take_append n xs ys = refl
 
 length-take_le : {X : Type 0} (n : ℕ) (xs : List X) → length (take n xs) ≤ n
-length-take_le zero xs = omega arith
-length-take_le (suc n) [] = omega arith
 length-take_le (suc n) (x ∷ xs) = omega (arith, length-take_le n xs)
+length-take_le n xs = omega arith
 
 -- ---- the messages that are listed
 
@@ -36,16 +34,7 @@ pub record IsListed (max : ℕ) (s : Scene) (first : List Message) (rows : List 
 -- one entry more
 pub listed-more : (max : ℕ) (s : Scene) (first : List Message) (rows left : List EntryRow) (listed more : List Message) (row : EntryRow)
     → more ≡ take max (listed ++ row_messages s row) → IsListed max s first rows listed (row ∷ left) → IsListed max s first rows more left
-listed-more max s first rows left listed more row is so_far = record {
-  is =
-      ap (λ xs. take max (xs ++ due_of s left)) is
-      ∙ take-take_append max (listed ++ one) (due_of s left)
-      ∙ ap (take max) (append_assoc listed one (due_of s left))
-      ∙ so_far.is;
-}
-  where
-    one : List Message
-    one = row_messages s row
+listed-more max s first rows left listed more row is so_far = grind (arith, take-take_append, append_assoc)
 
 pub few-more : (max : ℕ) (xs more : List Message) → more ≡ take max xs → length more ≤ max
 few-more max xs more is = subst (λ (ys : List Message). length ys ≤ max) (sym is) (length-take_le max xs)
@@ -61,9 +50,7 @@ listed-full max s first rows left listed few full so_far = sym (take_all max lis
 -- and so the first that are due to a client
 first-due : (s : State) (client : ClientId) (max : ℕ) (t : Table) (ended : List Ended) → s.scene.table ≡ t → s.messages ≡ ended
     → first_messages s client max ≡ take max (end_messages client ended ++ due_of s.scene (filter (is_of_client client) t.rows))
-first-due s client max t ended table messages =
-    ap (λ ms. take max (end_messages client ms ++ due_of s.scene (filter (is_of_client client) s.scene.table.rows))) messages
-    ∙ ap (λ (t : Table). take max (end_messages client ended ++ due_of s.scene (filter (is_of_client client) t.rows))) table
+first-due s client max t ended table messages = grind arith
 
 -- entries that are not due add no message
 due-rows : (s : Scene) (rows : List EntryRow) → due_of s (filter is_due rows) ≡ due_of s rows
@@ -86,11 +73,7 @@ listed-done max s first rows left listed none so_far = record { is = ap (λ ms. 
 
 -- how many are due behind one
 pub left-behind : (row : EntryRow) (rows : List EntryRow) (n : ℕ) → n ≡ length (filter is_due (row ∷ rows)) → cond (is_due row) (n - 1) n ≡ length (filter is_due rows)
-left-behind row rows n is = by_test (is_due row) is
-  where
-    by_test : (b : Bool) → n ≡ length (cond b (row ∷ filter is_due rows) (filter is_due rows)) → cond b (n - 1) n ≡ length (filter is_due rows)
-    by_test true is = omega (arith, is)
-    by_test false is = is
+left-behind row rows n is = grind arith
 
 -- what a walk over those of the client's entries that are due has listed
 pub listed-first : (s : State) (client : ClientId) (max : ℕ) (t : Table) (ended : List Ended) (rows : List EntryRow) (listed : List Message) → filter is_due rows ≡ filter is_due (filter (is_of_client client) t.rows) → s.scene.table ≡ t → s.messages ≡ ended
@@ -106,104 +89,58 @@ known-row sets s t same_table is known row inside =
 -- ---- what giving them leaves
 
 module _ (client : ClientId) where
-  -- the row, once its client was given these, if it is this client
-  abbrev given_to : List Message → EntryRow → EntryRow
-  given_to given row = cond (is_of_client client row) (remade (after_messages given) row) row
-
   given-row_none : (row : EntryRow) (own : Bool) → cond own (remade (after_messages []) row) row ≡ row
-  given-row_none row true = refl
-  given-row_none row false = refl
+  given-row_none row own = grind arith
 
   pub given-none : (t : Table) → t ≡ changed_where (is_of_client client) (after_messages []) t
   given-none t = λ i. record t { rows = sym ((λ j. map (λ row. given-row_none row (is_of_client client row) j) t.rows) ∙ map-id t.rows) i }
 
   -- given once more
-  seq_twice : (seq told_seq : ℕ) (b more : Bool) → cond more seq (cond b seq told_seq) ≡ cond (b || more) seq told_seq
-  seq_twice seq told_seq true true = refl
-  seq_twice seq told_seq true false = refl
-  seq_twice seq told_seq false more = refl
+  given_twice : {V : Type 0} (own : Bool) (is : Message → Bool) (done more : List Message) (to was : V)
+      → cond (own && list_any is more) to (cond (own && list_any is done) to was) ≡ cond (own && list_any is (done ++ more)) to was
+  given_twice own is done more to was = grind (arith, list_any-append)
 
-  flag_twice : (flag b more : Bool) → cond more false (cond b false flag) ≡ cond (b || more) false flag
-  flag_twice flag true true = refl
-  flag_twice flag true false = refl
-  flag_twice flag false more = refl
-
-  twice : (e : Entry) (caps size recall more_caps more_size more_recall : Bool)
-      → unasked_if more_recall (sized_if more_size (told_if more_caps (unasked_if recall (sized_if size (told_if caps e))))) ≡ unasked_if (recall || more_recall) (sized_if (size || more_size) (told_if (caps || more_caps) e))
-  twice e caps size recall more_caps more_size more_recall =
-      ap (λ (e : Entry). unasked_if more_recall (sized_if more_size (told_if more_caps e))) (given-fields e caps size recall)
-      ∙ given-fields (given_fields caps size recall e) more_caps more_size more_recall
-      ∙ (λ i. record e {
-        told_seq = seq_twice e.seq e.told_seq caps more_caps i;
-        asked = flag_twice e.asked recall more_recall i;
-        size_due = flag_twice e.size_due size more_size i;
-      })
-      ∙ sym (given-fields e (caps || more_caps) (size || more_size) (recall || more_recall))
-
-  given-row_more : (done more : List Message) (row : EntryRow) (own : Bool) → is_of_client client row ≡ own → given_to more (given_to done row) ≡ given_to (done ++ more) row
-  given-row_more done more row true is =
-      ap (λ b. given_to more (cond b (remade (after_messages done) row) row)) is
-      ∙ ap (λ b. cond b (remade (after_messages more) (remade (after_messages done) row)) (remade (after_messages done) row)) is
-      ∙ (λ i. record row { entry = both i })
-      ∙ sym (ap (λ b. cond b (remade (after_messages (done ++ more)) row) row) is)
-    where
-      both : after_messages more (remade (after_messages done) row) ≡ after_messages (done ++ more) row
-      both =
-          twice row.entry (list_any (is_caps_of row.holder.ino) done) (list_any (is_size_of row.holder.ino) done) (list_any (is_recall_of row.holder.ino) done)
-          (list_any (is_caps_of row.holder.ino) more) (list_any (is_size_of row.holder.ino) more) (list_any (is_recall_of row.holder.ino) more)
-          ∙ sym (λ i. unasked_if (list_any-append (is_recall_of row.holder.ino) done more i)
-          (sized_if (list_any-append (is_size_of row.holder.ino) done more i) (told_if (list_any-append (is_caps_of row.holder.ino) done more i) row.entry)))
-  given-row_more done more row false is =
-      ap (λ b. given_to more (cond b (remade (after_messages done) row) row)) is
-      ∙ ap (λ b. cond b (remade (after_messages more) row) row) is
-      ∙ sym (ap (λ b. cond b (remade (after_messages (done ++ more)) row) row) is)
+  abbrev given_to : List Message → EntryRow → EntryRow
+  given_to given = retold (told_given client given) (size_given client given) (asked_given client given)
 
   pub given-more : (done more : List Message) (t : Table)
       → changed_where (is_of_client client) (after_messages more) (changed_where (is_of_client client) (after_messages done) t) ≡ changed_where (is_of_client client) (after_messages (done ++ more)) t
   given-more done more t =
-      ap (λ (rows : List EntryRow). record t { rows = rows })
-      (map-map (given_to more) (given_to done) t.rows ∙ (λ i. map (λ row. given-row_more done more row (is_of_client client row) refl i) t.rows))
+      given_table client more (changed_where (is_of_client client) (after_messages done) t)
+      ∙ ap (λ (u : Table). record u { rows = map (given_to more) u.rows }) (given_table client done t)
+      ∙ (λ i. record t { rows = (map-map (given_to more) (given_to done) t.rows ∙ (λ j. map (λ row. one row j) t.rows)) i })
+      ∙ sym (given_table client (done ++ more) t)
+    where
+      one : (row : EntryRow) → given_to more (given_to done row) ≡ given_to (done ++ more) row
+      one row = λ i. record row {
+        entry = record row.entry {
+          told_seq = given_twice (is_of_client client row) (is_caps_of row.holder.ino) done more row.entry.seq row.entry.told_seq i;
+          asked = given_twice (is_of_client client row) (is_recall_of row.holder.ino) done more false row.entry.asked i;
+          size_due = given_twice (is_of_client client row) (is_size_of row.holder.ino) done more false row.entry.size_due i;
+        };
+      }
 
 -- ---- one message
 
 -- the holder is the client on the inode
 
-and_symm : (a b c d : ℕ) → ((a == b) && (c == d)) ≡ ((a == b) && (d == c))
-and_symm a b c d = λ i. (a == b) && nat_eq_equiv.symm c d i
-
 module _ (g : EntryRow → Entry) (given : List Message) (client : ClientId) (ino : Ino)
     (does : (row : EntryRow) → after_messages given row ≡ cond (ino.0 == row.holder.ino.0) (g row) row.entry) where
-  one_row : (row : EntryRow) (own there : Bool) → cond (own && there) (record row { entry = g row }) row ≡ cond own (record row { entry = cond there (g row) row.entry }) row
-  one_row row true true = refl
-  one_row row true false = refl
-  one_row row false there = refl
-
-  named : (row : EntryRow) → is_among (holder client ino ∷ []) row.holder ≡ (is_of_client client row && (ino.0 == row.holder.ino.0))
-  named row = or-false (same row.holder (holder client ino)) ∙ and_symm row.holder.client.0 client.0 row.holder.ino.0 ino.0
-
   each_row : (row : EntryRow) → cond (is_among (holder client ino ∷ []) row.holder) (remade g row) row ≡ cond (is_of_client client row) (remade (after_messages given) row) row
-  each_row row =
-      ap (λ b. cond b (remade g row) row) (named row)
-      ∙ one_row row (is_of_client client row) (ino.0 == row.holder.ino.0)
-      ∙ ap (λ (e : Entry). cond (is_of_client client row) (record row { entry = e }) row) (sym (does row))
+  each_row row = grind arith
 
   one-given : (t : Table) → IsTable t → changed t (holder client ino) (λ e. g (record { holder = holder client ino; entry = e })) ≡ changed_where (is_of_client client) (after_messages given) t
   unfolding IsDistinct
-  one-given t is =
-      fold-changed_by g t (holder client ino ∷ []) is (tt, tt)
-      ∙ (λ i. record t { rows = map (λ row. each_row row i) t.rows })
+  one-given t is = fold-changed_by g t (holder client ino ∷ []) is (tt, tt) ∙ (λ i. record t { rows = map (λ row. each_row row i) t.rows })
 
 caps_if : (e : Entry) (b : Bool) → unasked_if false (sized_if false (told_if (b || false) e)) ≡ cond b (told e) e
-caps_if e true = refl
-caps_if e false = refl
+caps_if e b = grind arith
 
 size_if : (e : Entry) (b : Bool) → unasked_if false (sized_if (b || false) (told_if false e)) ≡ cond b (with_size_due false e) e
-size_if e true = refl
-size_if e false = refl
+size_if e b = grind arith
 
 recall_if : (e : Entry) (b : Bool) → unasked_if (b || false) (sized_if false (told_if false e)) ≡ cond b (with_asked false e) e
-recall_if e true = refl
-recall_if e false = refl
+recall_if e b = grind arith
 
 pub caps-given : (client : ClientId) (ino : Ino) (seq : ℕ) (caps : Caps) (t : Table) → IsTable t
     → changed t (holder client ino) told ≡ changed_where (is_of_client client) (after_messages (message.Caps ino seq caps ∷ [])) t

@@ -1,5 +1,5 @@
 -- Scenes that are the same off the inodes that a step affects: one after another, off more inodes, and back to the old state.
-use Rattle.std.proofs.Common.{◌≡◌, ℕ, Bool, true, false, List, refl, sym, ap, subst, ◌∙◌, Contains, filter, true≢false, eq-eqb}
+use Rattle.std.proofs.Common.{◌≡◌, ℕ, Bool, true, false, List, refl, sym, ap, subst, ◌∙◌, Contains, filter, true≢false, eq-eqb, arith}
 use Rattle.capsteps.proofs.Common.{list_any, false_from_ne_true, Part, Ino, place, IsAlike, EntryRow, is_of_inode, entries_on, Table, SessionTable, lock_at, Scene, contains-filter, filter-contains, alike-itself}
 use Rattle.std.specs.FinMap as map
 use Rattle.std.proofs.lemmas.Map.Views.{any-filter_same}
@@ -10,14 +10,7 @@ use Rattle.capsteps.specs.Affected.{IsSameOff}
 -- ---- one after another
 
 pub off-refl : (at : ℕ → Bool) (s : Scene) → IsSameOff at s s
-off-refl at s = record {
-  fs = refl;
-  sessions = refl;
-  table = refl;
-  locks = λ other part off. refl;
-  places = λ other off. refl;
-  alike = λ row inside off. alike-itself s.tree row.holder.ino.0;
-}
+off-refl at s = grind arith
 
 pub off-trans : (at : ℕ → Bool) (a b c : Scene) → IsSameOff at a b → IsSameOff at b c → IsSameOff at a c
 off-trans at a b c first then = record {

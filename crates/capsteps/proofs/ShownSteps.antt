@@ -1,7 +1,8 @@
 -- A step shows clients what it tells them, and its numbers say so.
-use Rattle.std.proofs.Common.{◌≡◌, ◌≢◌, ◌≤◌, ◌+◌, ◌==◌, ℕ, Bool, true, false, cond, not, ◌&&◌, ◌||◌, Option, Some, None, is_some, List, [], ◌∷◌, ◌++◌, map, take, refl, sym, ap, subst, ◌∙◌, Contains, true≢false, append-nil, eq-eqb, arith, All, filter, nat_lt}
+use Rattle.std.proofs.Common.{◌≡◌, ◌≢◌, ◌≤◌, ◌+◌, ◌==◌, ℕ, Bool, true, false, cond, not, ◌&&◌, ◌||◌, inl, inr, Option, Some, None, is_some, List, [], ◌∷◌, ◌++◌, map, take, refl, sym, ap, subst, ◌∙◌, Contains, true≢false, append-nil, eq-eqb, arith, All, filter, nat_lt}
 use Rattle.capsteps.proofs.Common.{find, list_any, fold, option_map, eqb-true, All-contains, All-contains_itself, All-cons, All-filter, All-weaker, fold-append, P, Fc, ClientId, Ino, Caps, same_caps, has-minus, Node, Entry, EntryRow, Holder, Table, IsTable, holder, same, is_row_of, is_among, entry_of, entry_at, opened, changed, without, taken, given_back, told, renumbered, with_size_due, is_of_client, remade, entry_at-changed_other, row_found, row_of-entry, find-map, same_equiv, same-is, Scene, against, told_set, Event, OpenMode, Ended, Message, Reply, Rejection, State, Direct, direct, effect, effect_unless, with_entry, with_opening, shown, is_sized, owed, sizes_owed, due, issue_row, issue, forget, told_before, number_row, judged, rejection_reply, revoked_of, first_messages, after_messages, end_messages, is_caps_of, is_size_of, is_recall_of, told_if, sized_if, unasked_if, Made, Settles, ended_in, sized_in, IsSound, IsSoundEntry}
 use Rattle.std.specs.List.{flat_map}
+use Rattle.std.proofs.lemmas.Bool.{cases_Bool}
 use Rattle.std.specs.FinMap as finite
 use Rattle.std.proofs.lemmas.List.Elements.{All-nil, All-head, All-tail, All-append, All-take, filter_passes}
 use Rattle.capbits.specs.Caps.{has}
@@ -42,11 +43,7 @@ told-held s k e f held =
     same_caps _ _ (λ c. has-told s (at k f) c ∙ ap (λ (caps : Caps). has caps c && not (is_revoked s k c)) held ∙ sym (has-told s (at k e) c))
 
 less_than : (h g t : Bool) → ((h && not g) && not t) ≡ ((h && not t) && not g)
-less_than false g t = refl
-less_than true true true = refl
-less_than true true false = refl
-less_than true false true = refl
-less_than true false false = refl
+less_than h g t = grind arith
 
 -- once some was given back
 given-told : (s : Scene) (k : Holder) (e : Entry) (caps : Caps) → told_set s (at k (given_back caps e)) ≡ minus (told_set s (at k e)) caps
@@ -56,9 +53,7 @@ given-told s k e caps = same_caps _ _ (λ c.
     ∙ sym (has-minus (told_set s (at k e)) caps c ∙ ap (λ b. b && not (has caps c)) (has-told s (at k e) c)))
 
 no_more : (h t : Bool) → ((h && not (h && t)) && not t) ≡ (h && not t)
-no_more false t = refl
-no_more true true = refl
-no_more true false = refl
+no_more h t = grind arith
 
 -- and once what is being revoked was taken
 taken-told : (s : Scene) (k : Holder) (e : Entry) → told_set s (at k (taken (against s (at k e)) e)) ≡ told_set s (at k e)
@@ -74,22 +69,15 @@ record IsKnown (s : Scene) (k : Holder) (was : Caps) (e : Entry) : Type 0 where
   below : e.told_seq ≤ e.seq
 
 same-numbers : (was now : Caps) (e f : Entry) → f.seq ≡ e.seq → f.revoke_seq ≡ e.revoke_seq → f.told_seq ≡ e.told_seq → IsShown was now e → IsShown was now f
-same-numbers was now e f seq revoked told_of is = record {
-  current = λ same. is.current (sym told_of ∙ same ∙ seq);
-  none_lost = λ over. is.none_lost (omega (arith, over, revoked, told_of));
-}
+same-numbers was now e f seq revoked told_of is = grind arith
 
 known-same : (s : Scene) (k : Holder) (was : Caps) (e f : Entry) → f.held ≡ e.held → f.seq ≡ e.seq → f.revoke_seq ≡ e.revoke_seq → f.told_seq ≡ e.told_seq → IsKnown s k was e → IsKnown s k was f
-known-same s k was e f held seq revoked told_of is = let below = is.below in record {
-  says = subst (λ (now : Caps). IsShown was now f) (sym (told-held s k e f held)) (same-numbers was (told_set s (at k e)) e f seq revoked told_of is.says);
-  below = omega (arith, below, seq, told_of);
-}
+known-same s k was e f held seq revoked told_of is = grind (arith, told-held, same-numbers)
 
 -- ---- entries by their holders
 
 mapped : (g : Entry → Entry) (o : Option Entry) (f : Entry) → option_map g o ≡ Some f → (e : Entry) × (o ≡ Some e) × (f ≡ g e)
-mapped g None f is = absurd (cc)
-mapped g (Some e) f is = let now : f ≡ g e = cc in (e, refl, now)
+mapped g o f is = grind arith
 
 pub apart-of : (k j : Holder) → same k j ≡ false → k ≢ j
 apart-of k j off is = true≢false (sym (same_equiv.refl k) ∙ ap (same k) is ∙ off)
@@ -105,19 +93,7 @@ pub record IsOf (t : Table) (j : Holder) (g : Entry → Entry) (k : Holder) (e :
   pub own : same k j ≡ true → e ≡ g before
 
 pub changed-as : (gone : Bool) (t : Table) (j : Holder) (g : Entry → Entry) (k : Holder) (e : Entry) → entry_at (cond gone (without t j) (changed t j g)) k ≡ Some e → IsOf t j g k e
-changed-as gone t j g k e there = by_same (same k j) refl gone there
-  where
-    stays : (b : Bool) → same k j ≡ false → entry_at (cond b (without t j) (changed t j g)) k ≡ entry_at t k
-    stays true off = entry_at-without_other t j k (apart-of k j off)
-    stays false off = entry_at-changed_other t j k g (apart-of k j off)
-
-    by_same : (s : Bool) → same k j ≡ s → (b : Bool) → entry_at (cond b (without t j) (changed t j g)) k ≡ Some e → IsOf t j g k e
-    by_same true on true here = let none : entry_at (without t j) k ≡ None = ap (entry_at (without t j)) (same-is k j on) ∙ entry_at-without t j in absurd (cc)
-    by_same true on false here =
-        let is : k ≡ j = same-is k j on in
-        let m = mapped g (entry_at t k) e (ap (λ (q : Holder). option_map g (entry_at t q)) is ∙ sym (entry_at-changed t j g) ∙ sym (ap (entry_at (changed t j g)) is) ∙ here) in
-        record { before = m.0; there = m.1; other = λ off. absurd (true≢false (sym on ∙ off)); own = λ _. m.2 }
-    by_same false off b here = record { before = e; there = sym (stays b off) ∙ here; other = λ _. refl; own = λ on. absurd (true≢false (sym on ∙ off)) }
+changed-as gone t j g k e there = grind (arith, entry_at-without_other, apart-of, entry_at-changed_other, same-is, entry_at-without, mapped, entry_at-changed)
 
 -- what an opening leaves of all others
 pub entry_at-entry_other : (t : Table) (j k : Holder) → k ≢ j → entry_at (with_entry t j) k ≡ entry_at t k
@@ -127,25 +103,19 @@ entry_at-entry_other t j k apart =
 -- a size that is to be told changes no other field
 field-owed : {V : Type 0} (field : Entry → V) → ((e : Entry) → field (with_size_due true e) ≡ field e) → (row : EntryRow) (b h : Bool)
     → field (cond b (record row { entry = cond h (with_size_due true row.entry) row.entry }) row).entry ≡ field row.entry
-field-owed field same row false h = refl
-field-owed field same row true true = same row.entry
-field-owed field same row true false = refl
+field-owed field same row b h = grind arith
 
 -- ---- messages that show an inode
 
 cond_same : (b : Bool) (x : Caps) → cond b x x ≡ x
-cond_same true x = refl
-cond_same false x = refl
+cond_same b x = grind arith
 
 -- the message, if it shows the inode, shows this
 abbrev Says : Ino → Caps → Message → Type 0
 Says ino told_of m = is_caps_of ino m ≡ true → (was : Caps) → shown_in ino was m ≡ told_of
 
 skipped : (ino : Ino) (was : Caps) (m : Message) → is_caps_of ino m ≡ false → shown_in ino was m ≡ was
-skipped ino was (message.Ended ticket outcome) off = refl
-skipped ino was (message.Caps i seq caps) off = ap (λ b. cond b caps was) off
-skipped ino was (message.Size i size) off = refl
-skipped ino was (message.Recall i) off = refl
+skipped ino was m off = grind arith
 
 -- where all that show it, show the same, this is shown, if one does
 shown_all : (ino : Ino) (told_of was : Caps) (ms : List Message) → All (Says ino told_of) ms → fold (shown_in ino) was ms ≡ cond (list_any (is_caps_of ino) ms) told_of was
@@ -168,25 +138,7 @@ rows_say ino told_of f (row ∷ rows) all =
     All-append (Says ino told_of) (f row) (flat_map f rows) (All-head Fact row rows all) (rows_say ino told_of f rows (All-tail Fact row rows all))
 
 row_says : (s : Scene) (ino : Ino) (told_of : Caps) (row : EntryRow) → ((row.holder.ino.0 == ino.0) ≡ true → told_set s row ≡ told_of) → All (Says ino told_of) (row_messages s row)
-row_says s ino told_of row its =
-    All-append (Says ino told_of) (caps_messages s row ++ size_messages s row) (recall_messages row)
-    (All-append (Says ino told_of) (caps_messages s row) (size_messages s row)
-    (elim (nat_lt row.entry.told_seq row.entry.seq) as (λ b. All (Says ino told_of) (cond b (message.Caps row.holder.ino row.entry.seq (told_set s row) ∷ []) [])) [
-      | true ↦ All-cons (Says ino told_of) (message.Caps row.holder.ino row.entry.seq (told_set s row)) [] (λ on was. ap (λ b. cond b (told_set s row) was) on ∙ its on) (All-nil (Says ino told_of))
-      | false ↦ All-nil (Says ino told_of)
-    ])
-    (elim row.entry.size_due as (λ b. All (Says ino told_of) (cond b (size_message row.holder.ino (finite.get s.tree.nodes row.holder.ino.0)) [])) [
-      | true ↦ size_says (finite.get s.tree.nodes row.holder.ino.0)
-      | false ↦ All-nil (Says ino told_of)
-    ]))
-    (elim row.entry.asked as (λ b. All (Says ino told_of) (cond b (message.Recall row.holder.ino ∷ []) [])) [
-      | true ↦ All-cons (Says ino told_of) (message.Recall row.holder.ino) [] (λ is. absurd (true≢false (sym is))) (All-nil (Says ino told_of))
-      | false ↦ All-nil (Says ino told_of)
-    ])
-  where
-    size_says : (o : Option Node) → All (Says ino told_of) (size_message row.holder.ino o)
-    size_says None = All-nil (Says ino told_of)
-    size_says (Some node) = All-cons (Says ino told_of) (message.Size row.holder.ino node.size) [] (λ is. absurd (true≢false (sym is))) (All-nil (Says ino told_of))
+row_says s ino told_of row its = grind (arith, All-append, All-cons, All-nil)
 
 -- ---- an event by itself
 
@@ -201,32 +153,26 @@ module _ (old : State) (sound : IsSound old) (table : IsTable old.scene.table) (
   before k = shown_of k rows
 
   known-old : Left t before
-  known-old k e there =
-      let inside : Contains t.rows (at k e) = found-contains (is_row_of k) t.rows (at k e) (row_of-entry t k e there) in
-      let entry = All-contains (IsSoundEntry old.scene) t.rows (at k e) sound.entries inside in
-      record { says = was_shown k e there; below = entry.told }
+  known-old = grind (arith, found-contains, row_of-entry, All-contains)
 
   left-same : (first : Table) → ((k : Holder) → entry_at first k ≡ entry_at t k) → Left first before
   left-same first same_entries k f there = known-old k f (sym (same_entries k) ∙ there)
 
   left-recalled : (n : ℕ) → Left (recalled t n) before
-  left-recalled n k f there = by_test (is_among (take n t.recall) k) refl
-    where
-      by_test : (b : Bool) → is_among (take n t.recall) k ≡ b → IsKnown old.scene k (before k) f
-      by_test false off = known-old k f (sym (entry_at-recalled_other t n k off) ∙ there)
-      by_test true on =
-          let found = mapped (with_asked true) (entry_at t k) f (sym (entry_at-recalled t n k on) ∙ there) in
-          subst (IsKnown old.scene k (before k)) (sym found.2) (known-same old.scene k (before k) found.0 (with_asked true found.0) refl refl refl refl (known-old k found.0 found.1))
+  left-recalled n k f there = elim (cases_Bool (is_among (take n t.recall) k)) [
+    | inr off ↦ known-old k f (sym (entry_at-recalled_other t n k off) ∙ there)
+    | inl on ↦
+        let found = mapped (with_asked true) (entry_at t k) f (sym (entry_at-recalled t n k on) ∙ there) in
+        subst (IsKnown old.scene k (before k)) (sym found.2) (known-same old.scene k (before k) found.0 (with_asked true found.0) refl refl refl refl (known-old k found.0 found.1))
+  ]
 
   left-dropped : (client : ClientId) → Left (without_client t client) before
-  left-dropped client k f there = by_test (k.client.0 == client.0) refl
-    where
-      by_test : (b : Bool) → (k.client.0 == client.0) ≡ b → IsKnown old.scene k (before k) f
-      by_test false off = known-old k f (sym (entry_at-without_client_other t client k (apart_client k.client client off)) ∙ there)
-      by_test true on =
-          let number = eqb-true k.client.0 client.0 on in
-          let none : entry_at (without_client t client) k ≡ None = entry_at-without_client t client k (λ i. record { 0 = number i }) in
-          absurd (cc)
+  left-dropped client k f there = elim (cases_Bool (k.client.0 == client.0)) [
+    | inr off ↦ known-old k f (sym (entry_at-without_client_other t client k (apart_client k.client client off)) ∙ there)
+    | inl on ↦
+        let none : entry_at (without_client t client) k ≡ None = entry_at-without_client t client k (λ i. record { 0 = eqb-true k.client.0 client.0 on i }) in
+        absurd (cc)
+  ]
 
   -- what an opening or a want leaves of all others
   abbrev LeftBut : Table → Holder → Type 0
@@ -234,8 +180,7 @@ module _ (old : State) (sound : IsSound old) (table : IsTable old.scene.table) (
 
   left-opened : (j : Holder) (mode : OpenMode) → LeftBut (with_opening t j mode) j
   left-opened j mode k f off there =
-      let apart = apart-of k j off in
-      known-old k f (sym (entry_at-changed_other (with_entry t j) j k _ apart ∙ entry_at-entry_other t j k apart) ∙ there)
+      let apart = apart-of k j off in known-old k f (sym (entry_at-changed_other (with_entry t j) j k _ apart ∙ entry_at-entry_other t j k apart) ∙ there)
 
   left-wanted : (j : Holder) (caps : Caps) → LeftBut (with_wanted t j caps) j
   left-wanted j caps k f off there = known-old k f (sym (entry_at-changed_other t j k _ (apart-of k j off)) ∙ there)
@@ -256,22 +201,20 @@ module _ (old : State) (sound : IsSound old) (table : IsTable old.scene.table) (
 
   -- what an acknowledgement leaves
   left-acked : (j : Holder) → Left (acked t j (revoked_of old.scene j)) before
-  left-acked j k f there = by_same (same k j) refl
-    where
-      m : IsOf t j (taken (revoked_of old.scene j)) k f
-      m = changed-as (has (revoked_of old.scene j) P) t j (taken (revoked_of old.scene j)) k f there
-
-      by_same : (b : Bool) → same k j ≡ b → IsKnown old.scene k (before k) f
-      by_same false off = subst (IsKnown old.scene k (before k)) (sym (m.other off)) (known-old k m.before m.there)
-      by_same true on =
-          let e : Entry = m.before in
-          let known = known-old k e m.there in
-          let all : revoked_of old.scene j ≡ against old.scene (at k e) = ap (revoked_of old.scene) (sym (same-is k j on)) ∙ revoked-found old.scene k e m.there in
-          subst (IsKnown old.scene k (before k)) (sym (m.own on ∙ ap (λ (caps : Caps). taken caps e) all)) (record {
-            says = subst (λ (told_of : Caps). IsShown (before k) told_of (taken (against old.scene (at k e)) e)) (sym (taken-told old.scene k e))
-                (same-numbers (before k) (told_set old.scene (at k e)) e (taken (against old.scene (at k e)) e) refl refl refl known.says);
-            below = known.below;
-          })
+  left-acked j k f there =
+      let m = changed-as (has (revoked_of old.scene j) P) t j (taken (revoked_of old.scene j)) k f there in
+      let e : Entry = m.before in
+      let known = known-old k e m.there in
+      elim (cases_Bool (same k j)) [
+        | inr off ↦ subst (IsKnown old.scene k (before k)) (sym (m.other off)) known
+        | inl on ↦
+            let all : revoked_of old.scene j ≡ against old.scene (at k e) = ap (revoked_of old.scene) (sym (same-is k j on)) ∙ revoked-found old.scene k e m.there in
+            subst (IsKnown old.scene k (before k)) (sym (m.own on ∙ ap (λ (caps : Caps). taken caps e) all)) (record {
+              says = subst (λ (told_of : Caps). IsShown (before k) told_of (taken (against old.scene (at k e)) e)) (sym (taken-told old.scene k e))
+                  (same-numbers (before k) (told_set old.scene (at k e)) e (taken (against old.scene (at k e)) e) refl refl refl known.says);
+              below = known.below;
+            })
+      ]
 
   -- ---- the end of the step
 
@@ -325,9 +268,7 @@ module _ (old : State) (sound : IsSound old) (table : IsTable old.scene.table) (
         (ap (λ (e : Entry). e.told_seq) w.2 ∙ field-owed (λ e. e.told_seq) (λ e. refl) (at k g) b h) (known g w.1)
 
     found_last : (k : Holder) → find (is_row_of k) st.scene.table.rows ≡ option_map (number_row old.scene first ended) (option_map (issue_row owing) (find (is_row_of k) owing.table.rows))
-    found_last k =
-        find-map (is_row_of k) (number_row old.scene first ended) (λ row. refl) (map (issue_row owing) owing.table.rows)
-        ∙ ap (option_map (number_row old.scene first ended)) (find-map (is_row_of k) (issue_row owing) (λ row. refl) owing.table.rows)
+    found_last k = grind (arith, find-map)
 
     abbrev more : Holder → Entry → Entry
     more k f = issued (due owing (at k f)) f
@@ -371,9 +312,7 @@ module _ (old : State) (sound : IsSound old) (table : IsTable old.scene.table) (
         by_row (Some row) found_it = (row.entry, ap entry_of found_it)
 
     by_number : (was : Holder → Caps) → Left first.table was → (k : Holder) (e : Entry) → entry_at st.scene.table k ≡ Some e → IsShown (was k) (told_set st.scene (at k e)) e
-    by_number was left k e last =
-        let there = was_there k e last in
-        numbered k there.0 there.1 (was k) (known-then k (was k) there.0 there.1 (left k)) e last
+    by_number was left k e last = let there = was_there k e last in numbered k there.0 there.1 (was k) (known-then k (was k) there.0 there.1 (left k)) e last
 
     -- where it is shown to one holder
     by_show : (j : Holder) → LeftBut first.table j → (k : Holder) (e : Entry) → entry_at (shown (Shows j) st).scene.table k ≡ Some e
@@ -514,24 +453,17 @@ module _ (old : State) (sound : IsSound old) (table : IsTable old.scene.table) (
 -- ---- a step
 
 opened_stopped : (was : Caps) (x : Rejection) → shown_opened was (rejection_reply x) ≡ was
-opened_stopped was (ByPolicy access rules) = refl
-opened_stopped was (ByTest refusal) = refl
+opened_stopped was x = grind arith
 
 less_stopped : (caps was : Caps) (x : Rejection) → shown_less caps was (rejection_reply x) ≡ was
-less_stopped caps was (ByPolicy access rules) = refl
-less_stopped caps was (ByTest refusal) = refl
+less_stopped caps was x = grind arith
 
 given_stopped : (ino : Ino) (was : Caps) (x : Rejection) → shown_given ino was (rejection_reply x) ≡ was
-given_stopped ino was (ByPolicy access rules) = refl
-given_stopped ino was (ByTest refusal) = refl
+given_stopped ino was x = grind arith
 
 -- what is stopped shows nothing
 rejection-shows : (k : Holder) (was : Caps) (e : Event) (x : Rejection) → shown_by k was e (rejection_reply x) ≡ was
-rejection-shows k was (event.Open client ino mode) x = ap (λ c. cond (same k (holder client ino)) c was) (opened_stopped was x) ∙ cond_same (same k (holder client ino)) was
-rejection-shows k was (event.Want client ino caps) x = ap (λ c. cond (same k (holder client ino)) c was) (opened_stopped was x) ∙ cond_same (same k (holder client ino)) was
-rejection-shows k was (event.Release client ino caps) x = ap (λ c. cond (same k (holder client ino)) c was) (less_stopped caps was x) ∙ cond_same (same k (holder client ino)) was
-rejection-shows k was (event.Poll client max) x = ap (λ c. cond (k.client.0 == client.0) c was) (given_stopped k.ino was x) ∙ cond_same (k.client.0 == client.0) was
-rejection-shows k was e x = refl
+rejection-shows k was e x = grind (arith, opened_stopped, cond_same, less_stopped, given_stopped)
 
 more-shown : (k : Holder) (rows : List Row) (row : Row) → shown_of k (rows ++ row ∷ []) ≡ shown_by k (shown_of k rows) row.event row.reply
 more-shown k rows row = fold-append _ _ rows (row ∷ [])

@@ -7,6 +7,7 @@ use Rattle.capbits.specs.Sets.{is_empty, minus, meet}
 use Rattle.capacts.specs.Caprules.Finish.{number}
 use Rattle.capacts.specs.Caprules.Step.{state_at_end}
 use Rattle.capsteps.proofs.EndsThere.{field-renumbered, settled-table, affected-ends, affected-issues, affected-known}
+use Rattle.capsteps.proofs.Finishing.{each-alike}
 use Rattle.capsteps.proofs.Knowing.{known-alike, alike-where}
 use Rattle.capsteps.proofs.StayingSound.{sound-affected}
 use Rattle.capsteps.proofs.Telling.{any-map_same, as_told, as_asked, retold, retold_table, retold-sound, retold-issued}
@@ -18,20 +19,7 @@ owed-numbers passes Q t all =
     (All-weaker (λ row. Q row.entry.seq) (λ row. Q (cond (passes row) (remade owed row) row).entry.seq) (λ row h. subst Q (sym (same_seq row (passes row) (has row.entry.held Fc))) h) t.rows all)
   where
     same_seq : (row : EntryRow) (b h : Bool) → (cond b (record row { entry = cond h (with_size_due true row.entry) row.entry }) row).entry.seq ≡ row.entry.seq
-    same_seq row false h = refl
-    same_seq row true true = refl
-    same_seq row true false = refl
-
--- an entry is numbered alike, whether a size is to be told or not
-flag-renumbered : (before after : Caps) (e : Entry) (size_due : Bool) → renumbered before after (record e { size_due = size_due }) ≡ record (renumbered before after e) { size_due = size_due }
-flag-renumbered before after e size_due =
-    elim (not (is_empty (minus before after))) as (λ lost.
-    cond lost (record e { size_due = size_due; seq = e.seq + 1; revoke_seq = e.seq + 1 }) (cond (not (is_empty (minus after before))) (record e { size_due = size_due; seq = e.seq + 1 }) (record e { size_due = size_due }))
-    ≡ record (cond lost (record e { seq = e.seq + 1; revoke_seq = e.seq + 1 }) (cond (not (is_empty (minus after before))) (record e { seq = e.seq + 1 }) e)) { size_due = size_due }) [
-      | true ↦ refl
-      | false ↦ elim (not (is_empty (minus after before))) as (λ more. cond more (record e { size_due = size_due; seq = e.seq + 1 }) (record e { size_due = size_due })
-          ≡ record (cond more (record e { seq = e.seq + 1 }) e) { size_due = size_due }) [ true ↦ refl | false ↦ refl ]
-    ]
+    same_seq row b h = grind arith
 
 -- ---- who is to be told
 
@@ -51,22 +39,12 @@ module _ (sized : List Ino) (t : Table) where
   abbrev pub with_sizes : Scene → Scene
   with_sizes x = record x { table = retold_table as_told size_as as_asked x.table }
 
-  one_owed : (row : EntryRow) (b h : Bool) → cond b (record row { entry = cond h (with_size_due true row.entry) row.entry }) row ≡ record row { entry = record row.entry { size_due = (b && h) || row.entry.size_due } }
-  one_owed row true true = refl
-  one_owed row true false = refl
-  one_owed row false h = refl
-
   owed-row : IsTable t → (row : EntryRow) → Contains t.rows row → cond (is_sized sized row) (remade owed row) row ≡ sized_row row
-  owed-row table row inside =
-      one_owed row (is_sized sized row) (has row.entry.held Fc)
-      ∙ ap (λ o. record row { entry = record row.entry { size_due = owes_of o || row.entry.size_due } }) (sym (row_found t row table inside))
+  owed-row table row inside = grind (arith, row_found)
 
   -- the same entry once it is numbered
   numbered : (before after : Caps) (row : EntryRow) → renumbered before after (sized_row row).entry ≡ (sized_row (record row { entry = renumbered before after row.entry })).entry
-  numbered before after row =
-      flag-renumbered before after row.entry (size_as row)
-      ∙ ap (λ size_due. record (renumbered before after row.entry) { size_due = owes_of (find (is_row_of row.holder) t.rows) || size_due })
-      (sym (field-renumbered (λ e. e.size_due) (λ e seq revoked. refl) before after row.entry))
+  numbered before after row = grind arith
 
   same_any : (q : ℕ) (rows : List EntryRow) → list_any (is_of_inode (record { 0 = q })) (map sized_row rows) ≡ list_any (is_of_inode (record { 0 = q })) rows
   same_any q rows = any-map_same (is_of_inode (record { 0 = q })) sized_row (λ row. refl) rows
@@ -77,21 +55,13 @@ module _ (sized : List Ino) (t : Table) where
   -- ---- the end of a step, by the rules
 
   sizes-forgotten : (x : Scene) → forget (with_sizes x) ≡ with_sizes (forget x)
-  sizes-forgotten x = λ i. record (with_sizes x) {
-    tree = record x.tree { nodes = finite.retain_keys x.tree.nodes (λ q. same_kept x q i) };
-    locks = record x.locks { states = finite.retain_keys x.locks.states (λ q. same_kept x q i) };
-  }
+  sizes-forgotten x = grind (arith, same_kept)
 
   module _ (table : IsTable t) (s : Scene) (same : s.table ≡ t) where
     rows-owed : map (λ row. cond (is_sized sized row) (remade owed row) row) s.table.rows ≡ map sized_row s.table.rows
     rows-owed =
         subst (λ (u : Table). map (λ row. cond (is_sized sized row) (remade owed row) row) u.rows ≡ map sized_row u.rows) (sym same)
-        (alike t.rows (owed-row table))
-      where
-        alike : (rows : List EntryRow) → ((row : EntryRow) → Contains rows row → cond (is_sized sized row) (remade owed row) row ≡ sized_row row)
-            → map (λ row. cond (is_sized sized row) (remade owed row) row) rows ≡ map sized_row rows
-        alike [] each = refl
-        alike (row ∷ rows) each = λ i. each row (0, omega arith, refl) i ∷ alike rows (λ x inside. each x (suc inside.0, omega (arith, inside.1), inside.2)) i
+        (each-alike (λ row. cond (is_sized sized row) (remade owed row) row) sized_row t.rows (owed-row table))
 
     sizes-owed : sizes_owed sized s ≡ with_sizes s
     sizes-owed = ap (λ (rows : List EntryRow). record s { table = record s.table { rows = rows } }) rows-owed
@@ -141,26 +111,12 @@ module _ (sized : List Ino) (t : Table) where
     -- ---- what is kept of entries
 
     told_owed : (row : EntryRow) (b h : Bool) → told_then s (cond b (record row { entry = cond h (with_size_due true row.entry) row.entry }) row) ≡ told_then s row
-    told_owed row false h = refl
-    told_owed row true true = refl
-    told_owed row true false = refl
+    told_owed row b h = grind arith
 
     -- it is the same, whether sizes are to be told or not
     pub sizes-kept : (among : Holder → Bool) (was now : KnownSets) → KnownAnew among (told_then (sizes_owed sized s)) (sizes_owed sized s).table was now
         → KnownAnew among (told_then s) s.table was now
-    sizes-kept among was now kept k = kept k ∙ ap (λ o. known_anew (among k) (told_then s) o (known_of was k)) found ∙ by_row (among k) (find (is_row_of k) s.table.rows)
-      where
-        one : EntryRow → EntryRow
-        one row = cond (is_sized sized row) (remade owed row) row
-
-        found : find (is_row_of k) (sizes_owed sized s).table.rows ≡ option_map one (find (is_row_of k) s.table.rows)
-        found = find-map (is_row_of k) one (λ row. elim (is_sized sized row) as (λ b. is_row_of k (cond b (remade owed row) row) ≡ is_row_of k row) [ true ↦ refl | false ↦ refl ]) s.table.rows
-
-        by_row : (b : Bool) (o : Option EntryRow) → known_anew b (told_then s) (option_map one o) (known_of was k) ≡ known_anew b (told_then s) o (known_of was k)
-        by_row true None = refl
-        by_row true (Some row) = ap Some (told_owed row (is_sized sized row) (has row.entry.held Fc))
-        by_row false None = refl
-        by_row false (Some row) = refl
+    sizes-kept among was now kept = grind (arith, find-map, told_owed)
 
 -- ---- of an event
 

@@ -86,11 +86,7 @@ nobody_first ino affected s at waits here empty =
 
 pub stands-first : (ino : ℕ) (affected : InoSet) (s : Scene) (place : SweepPlace) → IsTurnOfLeast (is_affected ino affected) s → WaitAt (is_affected ino affected) s
     → IsFirstPlace ino affected place → StandsAt (is_affected ino affected) place s
-stands-first ino affected s place turn waits first = record {
-  turn = turn place.at.0 first.least;
-  here = first.least.is;
-  alone = λ known. nobody_first ino affected s place.at.0 waits first.least.is (first.alone known);
-}
+stands-first ino affected s place turn waits first = grind (arith, nobody_first)
 
 module _ (ino : ℕ) (from : ℕ → Bool) (affected : InoSet) (first now : Scene) (told : List Ended) (sized : List Ino) (so : IsSoFar ino from affected first now told sized) where
   -- ---- gathers began and ended
@@ -100,53 +96,17 @@ module _ (ino : ℕ) (from : ℕ → Bool) (affected : InoSet) (first now : Scen
     left = record now { locks = new.locks }
 
     swept_off : IsSameOff (is_affected ino affected) now left
-    swept_off = record {
-      fs = refl;
-      sessions = refl;
-      table = refl;
-      locks = λ other part off. ap (option_map (lock_in part)) (swept.states other off);
-      places = λ other off. refl;
-      alike = λ row inside off. alike-itself now.tree row.holder.ino.0;
-    }
+    swept_off = grind (arith, alike-itself)
 
     by_left : (P : Scene → Type 0) → P left → P new
     by_left P is = subst P (sym swept.is) is
 
     pub so-far-swept : IsSoFar ino from affected first new told sized
-    so-far-swept = record {
-      moves = so.moves ++ swept.moves;
-      made = makes-append first so.moves now swept.moves new so.made swept.made;
-      ended_is =
-          so.ended_is
-          ∙ sym (append-nil (ended_in so.moves))
-          ∙ ap (λ ms. ended_in so.moves ++ ms) (sym swept.none)
-          ∙ sym (filter_map-append ended_by so.moves swept.moves);
-      sized_is =
-          so.sized_is
-          ∙ sym (append-nil (sized_in so.moves))
-          ∙ ap (λ inos. sized_in so.moves ++ inos) (sym (none-sized swept.moves swept.none))
-          ∙ sym (filter_map-append sized_by so.moves swept.moves);
-      among = so.among;
-      same = by_left (IsSameOff (is_affected ino affected) first) (off-trans (is_affected ino affected) first now left so.same swept_off);
-      states = λ other off. swept.states other off ∙ so.states other off;
-      apart = so.apart;
-      still = by_left (AreStill (is_affected ino affected)) (still-kept (is_affected ino affected) now new.locks so.still swept.queue swept.states);
-      waits = swept.waits;
-      count = ap (λ (q : List Request). length told + length q) swept.queue ∙ so.count;
-    }
+    so-far-swept = grind (arith, makes-append, append-nil, filter_map-append, none-sized, by_left, off-trans, swept_off, still-kept)
 
   -- and where no move applies, it has settled
   pub so-far-settled : first_move now ≡ Settled → SettlesWith (is_affected ino affected) from first now told sized
-  so-far-settled rests = record {
-    moves = so.moves;
-    settles = record {
-      settles = record { made = so.made; settled = rests };
-      among = so.among;
-      same = so.same;
-    };
-    ended_is = so.ended_is;
-    sized_is = so.sized_is;
-  }
+  so-far-settled rests = grind arith
 
   -- ---- a request was served
 
@@ -244,17 +204,7 @@ module _ (ino : ℕ) (from : ℕ → Bool) (affected : InoSet) (first now : Scen
       })
 
       unwanted_begin : entries_on now.table (record { 0 = other }) ≡ [] → (part : Part) → may_begin after (other, part) ≡ may_begin now (other, part)
-      unwanted_begin none part =
-          ap (λ rows. may_begin_in after.locks.queue (in_all (each (want_of now.fs after.tree now.sessions) rows)) (other, part) (lock_at now.locks other part)) none
-          ∙ sym (ap (λ rows. may_begin_in after.locks.queue (in_all (each (want_of now.fs now.tree now.sessions) rows)) (other, part) (lock_at now.locks other part)) none)
-          ∙ begin-alike other now (record now { locks = after.locks }) (record {
-            fs = refl;
-            sessions = refl;
-            entries = refl;
-            locks = λ part. refl;
-            waiting = λ part. first_same other part off;
-            alike = alike-itself now.tree other;
-          }) part
+      unwanted_begin none part = grind (arith, begin-alike, first_same, alike-itself)
 
       begin_same : is_affected ino kept other ≡ false → (rows : List EntryRow) → entries_on now.table (record { 0 = other }) ≡ rows → (part : Part) → may_begin after (other, part) ≡ may_begin now (other, part)
       begin_same un [] is part = unwanted_begin is part
@@ -300,8 +250,7 @@ module _ (ino : ℕ) (from : ℕ → Bool) (affected : InoSet) (first now : Scen
           let queue : length new.locks.queue ≡ length (without_request now.locks q.ticket.0).queue = ap (λ (s : Scene). length s.locks.queue) is_after in
           let more : length (told ++ ended ∷ []) ≡ length told + 1 = length-append told (ended ∷ []) in
           let less = one-less now.locks q order inside in
-          let was = so.count in
-          omega (arith, queue, more, less, was)
+          omega (arith, queue, more, less, so.count)
           );
     }
 
@@ -324,10 +273,7 @@ module _ (ino : ℕ) (from : ℕ → Bool) (affected : InoSet) (first now : Scen
         ∙ nobody r was away
 
     alone_by : (i : Ino) → changed_alone q ≡ Some i → (is_rename q.ask ≡ false) × (i ≡ q.ino)
-    alone_by i is = elim (is_rename q.ask) as (λ b. is_rename q.ask ≡ b → cond b None (Some q.ino) ≡ Some i → (is_rename q.ask ≡ false) × (i ≡ q.ino)) [
-      | true ↦ λ moves is. absurd (cc)
-      | false ↦ λ stays is. (stays, cc)
-    ] refl is
+    alone_by i is = grind arith
 
     pub stands-behind : (place next : SweepPlace) (changed : Option Ino) → StandsAt (is_affected ino affected) place now → changed ≡ changed_alone q
         → GoesOnBehind place changed ino kept next → StandsAt (is_affected ino kept) next new

@@ -14,11 +14,10 @@ use Rattle.capsteps.specs.Affected.{IsAffectedEntry}
 use Rattle.capsteps.proofs.EndsThere.{off_due}
 use Rattle.capsteps.proofs.Telling.{any-map_same}
 use Rattle.capsteps.proofs.IssuedRows.{ended_row, want-ended, told-ended, revoked-ended, seq-ended, effective-ended, holds-due, holds-pin, in_row-ended, on_it, last_row, issued_at, by_place, of_inode-last, rest-issued}
-use Rattle.capsteps.proofs.Placed.{placed-in_row}
 use Rattle.capsteps.proofs.Forgotten.{all_rows, IsSoundBut, sound-forgotten}
-use Rattle.capsteps.proofs.Moved.{IsMoved, moved-all, no_lock-moved, nobody-moved, all-waiting, Waited, ended-waited, nothing-served}
+use Rattle.capsteps.proofs.Moved.{IsMoved, moved-all, nobody-moved, all-waiting, Waited, ended-waited, nothing-served}
 use Rattle.capsteps.proofs.SameOff.{not-among, row_elsewhere, any_elsewhere, IsSameFrom, from-first}
-use Rattle.capsteps.proofs.EntryRequests.{IsKeptEntry, kept-left}
+use Rattle.capsteps.proofs.EntryRequests.{IsKeptEntry, kept-left, kept-row}
 
 -- ---- the step
 
@@ -59,17 +58,7 @@ module _ (at from : ℕ → Bool) (known : Holder → Caps) (old affected : Stat
 
     -- who waits, waits for a lock that is there
     wait_at : WaitAtLocks settled
-    wait_at i part none =
-        let moved = g.moved in
-        let affects = g.affects in
-        let was = no_lock-moved first settled moved i part none in
-        nobody-moved first settled moved i part (elim (from i) as (λ b. from i ≡ b → first_for first.locks.queue i part ≡ None) [
-          | true ↦ λ is. affects.at_lock i part is was
-          | false ↦ λ off. (let same = affects.same in
-              let sound = g.sound in
-              let before : lock_at old.scene.locks i part ≡ None = sym (ap (λ (states : StateMap). option_map (lock_in part) (map.get states i)) affects.states) ∙ was in
-              same.waiting i part off ∙ subst (IsQuiet old.scene i part) before (sound.at_rest.each i part))
-        ] refl)
+    wait_at = grind (arith, nobody-moved)
 
     rest_last : IsAtRest last
     rest_last = rest-issued known settled at (at_rest settled wait_at g.rests)
@@ -77,54 +66,32 @@ module _ (at from : ℕ → Bool) (known : Holder → Caps) (old affected : Stat
     -- ---- rows of other inodes are those of the old state
 
     first_row : (row : EntryRow) → Contains rows row → Contains first.table.rows row
-    first_row row inside = let moved = g.moved in subst (λ (t : Table). Contains t.rows row) moved.table inside
+    first_row row inside = subst (λ (t : Table). Contains t.rows row) g.moved.table inside
 
     old_row : (row : EntryRow) → Contains rows row → from row.holder.ino.0 ≡ false → Contains old.scene.table.rows row
-    old_row row inside off =
-        let affects = g.affects in
-        let same = affects.same in
-        row_elsewhere from old.scene.table first.table same.entries row (first_row row inside) off
+    old_row row inside off = row_elsewhere from old.scene.table first.table g.affects.same.entries row (first_row row inside) off
 
     of_its_inode : (k : Holder) (row : EntryRow) → is_row_of k row ≡ true → is_of_inode k.ino row ≡ true
     of_its_inode k row is = ap (λ (h : Holder). h.ino.0 == k.ino.0) (sym (same-is k row.holder is)) ∙ nat_eq_equiv.refl k.ino.0
 
     old_found : (row : EntryRow) → Contains rows row → from row.holder.ino.0 ≡ false → find (is_row_of row.holder) old.scene.table.rows ≡ Some row
-    old_found row inside off =
-        let k = row.holder in
-        let affects = g.affects in
-        let same = affects.same in
-        sym (find-filter_kept (is_row_of k) (is_of_inode k.ino) (of_its_inode k) old.scene.table.rows)
-        ∙ ap (find (is_row_of k)) (sym (same.entries k.ino off))
-        ∙ find-filter_kept (is_row_of k) (is_of_inode k.ino) (of_its_inode k) first.table.rows ∙ row_found first.table row g.table (first_row row inside)
+    old_found row inside off = grind (arith, find-filter_kept, of_its_inode, row_found, first_row)
 
     -- what every state keeps of such a row, it keeps; so by itself the event leaves each row as one of its inode
     kept_row : (row : EntryRow) → Contains rows row → from row.holder.ino.0 ≡ false → IsKeptEntry old.scene row
-    kept_row row inside off =
-        let sound = g.sound in
-        let was = All-contains (IsSoundEntry old.scene) old.scene.table.rows row sound.entries (old_row row inside off) in
-        record {
-          of_session = was.of_session;
-          on_inode = was.on_inode;
-          wants_pin = was.wants_pin;
-          holds_pin = was.holds_pin;
-          in_row = λ part. placed-in_row old.scene row part (lock_at old.scene.locks row.holder.ino.0 part) (sound.in_place row part (old_found row inside off));
-          told = was.told;
-          revoked = was.revoked;
-        }
+    kept_row row inside off = kept-row old g.sound row (old_row row inside off) (old_found row inside off)
 
     affected_row : (row : EntryRow) → Contains rows row → IsAffectedEntry first row
     affected_row row inside =
-        let affects = g.affects in
         elim (from row.holder.ino.0) as (λ b. from row.holder.ino.0 ≡ b → IsAffectedEntry first row) [
-          | true ↦ λ is. affects.each row (first_row row inside) is
-          | false ↦ λ off. (let same = affects.same in
-              kept-left old.scene first row (ap is_some (same.sessions row (old_row row inside off) off)) affects.states affects.known (kept_row row inside off))
+          | true ↦ λ is. g.affects.each row (first_row row inside) is
+          | false ↦ λ off. kept-left old.scene first row (ap is_some (g.affects.same.sessions row (old_row row inside off) off)) g.affects.states g.affects.known (kept_row row inside off)
         ] refl
 
     -- ---- what is held is in its rows
 
     in_row_settled : (row : EntryRow) → Contains rows row → (part : Part) → IsInRow settled row part
-    in_row_settled row inside part = let moved = g.moved in let entry = affected_row row inside in moved.in_rows row part (first_row row inside) (entry.in_row part)
+    in_row_settled row inside part = g.moved.in_rows row part (first_row row inside) ((affected_row row inside).in_row part)
 
     in_row_last : (row : EntryRow) → Contains rows row → (part : Part) → IsInRow settled (last_of row) part
     in_row_last row inside part =
@@ -133,25 +100,19 @@ module _ (at from : ℕ → Bool) (known : Holder → Caps) (old affected : Stat
     -- ---- entries
 
     has_session_still : (client : ℕ) → IsTrue (has_session first.sessions client) → IsTrue (has_session settled.sessions client)
-    has_session_still client is = let moved = g.moved in subst (λ (t : SessionTable). IsTrue (has_session t client)) (sym moved.sessions) is
+    has_session_still client is = subst (λ (t : SessionTable). IsTrue (has_session t client)) (sym g.moved.sessions) is
 
     -- the pin is held, or it is wanted as it was, since nobody was served
     pin_still : (row : EntryRow) → Contains rows row → IsTrue (has row.entry.held P || has (effective_want first.fs first.tree first.sessions row) P) → IsTrue (has row.entry.held P || has (effective_want settled.fs settled.tree settled.sessions row) P)
-    pin_still row inside is = elim (has row.entry.held P) as (λ b. has row.entry.held P ≡ b → (b || has (effective_want first.fs first.tree first.sessions row) P) ≡ true → (b || has (effective_want settled.fs settled.tree settled.sessions row) P) ≡ true) [
-      | true ↦ λ held due. refl
-      | false ↦ λ none due. (let moved = g.moved in
-          let sessions : settled.sessions ≡ first.sessions = moved.sessions in
-          (λ i. has (effective_want (g.fs i) (g.calm row (first_row row inside) none i) (sessions i) row) P) ∙ due)
-    ] refl is
+    pin_still row inside is = grind arith
 
     entry_here : (row : EntryRow) → Contains rows row → IsAffectedEntry first row → IsSoundEntry last (ended_row known settled row)
-    entry_here row inside entry = let moved = g.moved in record {
+    entry_here row inside entry = record {
       of_session = has_session_still row.holder.client.0 entry.of_session;
-      on_inode = moved.nodes row.holder.ino.0 ∙ entry.on_inode;
+      on_inode = g.moved.nodes row.holder.ino.0 ∙ entry.on_inode;
       holds_pin = holds-pin known settled row (pin_still row inside entry.pin);
       wants_pin = ap (λ caps. has caps P) (want-ended known settled row) ∙ entry.wants_pin;
-      has_due = λ c is_due. holds-due known settled row c
-          (ap (λ caps. has caps c) (sym due_as_before) ∙ is_due);
+      has_due = λ c is_due. holds-due known settled row c (ap (λ caps. has caps c) (sym due_as_before) ∙ is_due);
       told = told-ended known settled row entry.told;
       revoked = revoked-ended known settled row entry.revoked;
     }
@@ -160,23 +121,21 @@ module _ (at from : ℕ → Bool) (known : Holder → Caps) (old affected : Stat
         due_as_before = λ i. meet (effective-ended known settled row settled.fs settled.tree settled.sessions i) (allowed_to settled row)
 
     settled_table : IsTable settled.table
-    settled_table = let moved = g.moved in subst IsTable (sym moved.table) g.table
+    settled_table = subst IsTable (sym g.moved.table) g.table
 
     -- the same inodes are there
     there_still : (q : ℕ) → map.contains_key settled.tree.nodes q ≡ map.contains_key old.scene.tree.nodes q
-    there_still q = let moved = g.moved in let affects = g.affects in moved.nodes q ∙ affects.known q
+    there_still q = g.moved.nodes q ∙ g.affects.known q
 
     entry_elsewhere : (row : EntryRow) → Contains rows row → on row ≡ false → IsSoundEntry last row
     entry_elsewhere row inside off =
-        let sound = g.sound in
-        let same = g.same in
-        let was = All-contains (IsSoundEntry old.scene) old.scene.table.rows row sound.entries (old_row row inside (not-among from at g.among row.holder.ino.0 off)) in
+        let was = All-contains (IsSoundEntry old.scene) old.scene.table.rows row g.sound.entries (old_row row inside (not-among from at g.among row.holder.ino.0 off)) in
         record {
-          of_session = ap is_some (same.sessions row inside off) ∙ was.of_session;
+          of_session = ap is_some (g.same.sessions row inside off) ∙ was.of_session;
           on_inode = there_still row.holder.ino.0 ∙ was.on_inode;
           holds_pin = was.holds_pin;
           wants_pin = was.wants_pin;
-          has_due = subst (λ caps. IsSubset caps row.entry.held) (sym (off_due at known old settled sound settled_table same g.tree g.knows row inside off)) was.has_due;
+          has_due = subst (λ caps. IsSubset caps row.entry.held) (sym (off_due at known old settled g.sound settled_table g.same g.tree g.knows row inside off)) was.has_due;
           told = was.told;
           revoked = was.revoked;
         }
@@ -188,24 +147,21 @@ module _ (at from : ℕ → Bool) (known : Holder → Caps) (old affected : Stat
     -- ---- inodes
 
     locked_last : (q : ℕ) → map.contains_key settled.locks.states q ≡ map.contains_key settled.tree.nodes q
-    locked_last q = let moved = g.moved in let affects = g.affects in moved.states q ∙ affects.locked q ∙ sym (moved.nodes q)
+    locked_last q = g.moved.states q ∙ g.affects.locked q ∙ sym (g.moved.nodes q)
 
     strays_last : (q : ℕ) → at q ≡ false → place settled.tree.nodes q ≡ Gone → IsTrue (list_any (is_of_inode (record { 0 = q })) last.table.rows)
     strays_last q off gone =
-        let sound = g.sound in
-        let same = g.same in
         let of_it = is_of_inode (record { 0 = q }) in
         any-map_same of_it last_of (of_inode-last known settled at q) rows
-        ∙ any_elsewhere at old.scene.table settled.table same.entries q off ∙ sound.strays q (sym (same.places q off) ∙ gone)
+        ∙ any_elsewhere at old.scene.table settled.table g.same.entries q off ∙ g.sound.strays q (sym (g.same.places q off) ∙ gone)
 
     -- ---- all together
 
     -- who waits has a session
     waiting_last : All (λ q. IsTrue (has_session settled.sessions q.client.0)) settled.locks.queue
     waiting_last =
-        let affects = g.affects in
         all-waiting (λ q. IsTrue (has_session settled.sessions q.client.0)) first settled g.moved
-        (All-weaker (λ q. IsTrue (has_session first.sessions q.client.0)) (λ q. IsTrue (has_session settled.sessions q.client.0)) (λ q. has_session_still q.client.0) first.locks.queue affects.waiting)
+        (All-weaker (λ q. IsTrue (has_session first.sessions q.client.0)) (λ q. IsTrue (has_session settled.sessions q.client.0)) (λ q. has_session_still q.client.0) first.locks.queue g.affects.waiting)
 
     but_last : (messages : List Ended) → All (λ m. IsTrue (has_session settled.sessions m.client.0)) messages → IsSoundBut at (record { scene = last; messages = messages })
     but_last messages told = record {
@@ -224,10 +180,10 @@ module _ (at from : ℕ → Bool) (known : Holder → Caps) (old affected : Stat
 module _ (at from : ℕ → Bool) (known : Holder → Caps) (old affected : State) (moves : List Made) (settled : Scene) (sound : IsSound old) (tree : IsTree settled.tree) (table : IsTable affected.scene.table)
     (order : IsLockMap affected.scene.locks) (affects : Affects from old affected) (knows : Knows known old.scene affected.scene.table) (settles : SettlesAt at from moves affected.scene settled) where
   moved-there : IsMoved affected.scene settled
-  moved-there = let made = settles.settles in moved-all affected.scene moves settled made.made
+  moved-there = moved-all affected.scene moves settled settles.settles.made
 
   given-all : IsGiven at from known old affected settled
-  given-all = let made = settles.settles in record {
+  given-all = record {
     among = settles.among;
     sound = sound;
     tree = tree;
@@ -235,25 +191,24 @@ module _ (at from : ℕ → Bool) (known : Holder → Caps) (old affected : Stat
     moved = moved-there;
     affects = affects;
     same = from-first at from old.scene affected.scene settled settles.among affects.same settles.same;
-    rests = made.settled;
-    knows = subst (λ (t : Table). Knows known old.scene t) (sym (let moved = moved-there in moved.table)) knows;
-    fs = (let same = settles.same in same.fs);
-    calm = λ row inside none. (nothing-served affected.scene moves settled order (affects.calm row inside none) made.made).1;
+    rests = settles.settles.settled;
+    knows = subst (λ (t : Table). Knows known old.scene t) (sym moved-there.table) knows;
+    fs = settles.same.fs;
+    calm = λ row inside none. (nothing-served affected.scene moves settled order (affects.calm row inside none) settles.settles.made).1;
   }
 
   -- who has a session right after the event, has it at the end
   connected : (client : ℕ) → IsTrue (has_session affected.scene.sessions client) → IsTrue (has_session settled.sessions client)
-  connected client is = let moved = moved-there in subst (λ (t : SessionTable). IsTrue (has_session t client)) (sym moved.sessions) is
+  connected client is = subst (λ (t : SessionTable). IsTrue (has_session t client)) (sym moved-there.sessions) is
 
   -- whose requests the moves ended, has a session
   ended-connected : All (λ m. IsTrue (has_session settled.sessions m.client.0)) (ended_in moves)
   ended-connected =
-      let made = settles.settles in
       All-weaker (Waited affected.scene.locks.queue) (λ m. IsTrue (has_session settled.sessions m.client.0))
       (λ m w. subst (λ (c : ClientId). IsTrue (has_session settled.sessions c.0)) (sym w.client)
       (connected w.request.client.0
       (All-contains (λ q. IsTrue (has_session affected.scene.sessions q.client.0)) affected.scene.locks.queue w.request affects.waiting w.inside)))
-      (ended_in moves) (ended-waited affected.scene moves settled made.made)
+      (ended_in moves) (ended-waited affected.scene moves settled settles.settles.made)
 
   messages-connected : All (λ m. IsTrue (has_session settled.sessions m.client.0)) affected.messages
   messages-connected =
@@ -270,21 +225,20 @@ module _ (at from : ℕ → Bool) (known : Holder → Caps) (old affected : Stat
 module _ (at from : ℕ → Bool) (known : Holder → Caps) (count : ℕ) (old affected : State) (moves : List Made) (settled : Scene) (settles : SettlesAt at from moves affected.scene settled)
     (numbers : All (λ row. row.entry.seq ≤ count) affected.scene.table.rows) (made : affected.scene.table.made ≤ count + 1) (given : affected.scene.locks.last ≤ count + 1) where
   moved-so : IsMoved affected.scene settled
-  moved-so = let all = settles.settles in moved-all affected.scene moves settled all.made
+  moved-so = moved-all affected.scene moves settled settles.settles.made
 
   numbers_last : All (λ row. row.entry.seq ≤ count + 1) (issued_at known settled at).table.rows
   numbers_last =
-      let moved = moved-so in
       All-map (λ row. row.entry.seq ≤ count + 1) (last_row known settled at) settled.table.rows
       (All-weaker (λ row. row.entry.seq ≤ count) (λ row. (last_row known settled at row).entry.seq ≤ count + 1)
       (λ row was. by_place known settled at (λ r. r.entry.seq ≤ count + 1) row (λ here. seq-ended known settled row count was) (λ off. omega (arith, was)))
-      settled.table.rows (All-same (λ row. row.entry.seq ≤ count) settled.table.rows affected.scene.table.rows (ap (λ (t : Table). t.rows) moved.table) numbers))
+      settled.table.rows (All-same (λ row. row.entry.seq ≤ count) settled.table.rows affected.scene.table.rows (ap (λ (t : Table). t.rows) moved-so.table) numbers))
 
   request_last : settled.locks.last ≤ count + 1
-  request_last = let moved = moved-so in let same = moved.last in omega (arith, same, given)
+  request_last = omega (arith, moved-so.last, given)
 
   made_last : settled.table.made ≤ count + 1
-  made_last = let moved = moved-so in let same : settled.table.made ≡ affected.scene.table.made = ap (λ (t : Table). t.made) moved.table in omega (arith, same, made)
+  made_last = let same : settled.table.made ≡ affected.scene.table.made = ap (λ (t : Table). t.made) moved-so.table in omega (arith, same, made)
 
   pub given-affected : AreGiven (count + 1) (state_at_end old affected moves (finished_at at known settled))
   given-affected = record { entries = numbers_last; last = request_last; made = made_last }

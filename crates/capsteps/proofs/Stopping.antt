@@ -1,5 +1,5 @@
 -- In a sound state an event that is stopped has one step alone, which changes nothing.
-use Rattle.std.proofs.Common.{◌≡◌, Some, List, [], ◌∷◌, refl, sym, ap, subst, ◌∙◌, append-nil}
+use Rattle.std.proofs.Common.{◌≡◌, Some, List, [], ◌∷◌, refl, sym, ap, subst, ◌∙◌, append-nil, arith}
 use Rattle.capsteps.proofs.Common.{IsTable, Scene, Serve, Settled, Event, Ended, Reply, Rejection, State, judged, rejection_reply, Direct, direct, effect_unless, shown, Made, Began, Gathered, Served, Makes, MakesAll, Settles, ended_in, IsSound}
 use Rattle.capacts.proofs.Lockmachine.Exact.{settled}
 use Rattle.capacts.specs.Lockmachine.Moves.{first_move}
@@ -27,18 +27,7 @@ rejection-step old e rejection sound table is = (
 
 -- no move is made where none applies
 no_move : (old mid : Scene) (m : Made) → first_move old ≡ Settled → Makes old m mid → ⊥
-no_move old mid (Began ino part to) still made = differs (sym still ∙ made.0)
-  where
-    differs : Settled ≡ Begin ino part to → ⊥
-    differs e = cc
-no_move old mid (Gathered ino part) still made = differs (sym still ∙ made.0)
-  where
-    differs : Settled ≡ End ino part → ⊥
-    differs e = cc
-no_move old mid (Served q o) still made = differs (sym still ∙ made.0)
-  where
-    differs : Settled ≡ Serve q.ticket → ⊥
-    differs e = cc
+no_move old mid m still made = grind arith
 
 pub no_moves : (old : Scene) (moves : List Made) (new : Scene) → first_move old ≡ Settled → MakesAll old moves new → (moves ≡ []) × (new ≡ old)
 no_moves old [] new still made = (refl, made)

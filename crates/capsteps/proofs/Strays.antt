@@ -1,5 +1,5 @@
 -- Strays that are forgotten: one after another they go as if all at once, and no other inode is read through them.
-use Rattle.std.proofs.Common.{◌≡◌, ◌≢◌, ℕ, Bool, true, false, cond, not, ◌||◌, ◌==◌, Option, None, List, [], ◌∷◌, refl, sym, ap, ◌∙◌, Contains, inl, inr, eq-eqb, true≢false}
+use Rattle.std.proofs.Common.{◌≡◌, ◌≢◌, ℕ, Bool, true, false, cond, not, ◌||◌, ◌==◌, Option, None, List, [], ◌∷◌, refl, sym, ap, ◌∙◌, Contains, inl, inr, eq-eqb, true≢false, arith}
 use Rattle.capsteps.proofs.Common.{nat_cmp_total, unsigned_tied, fold, list_any, option_map, nat_cmp, or_right, Node, NoIno, Gone, IsAlike, is_gone, Nodes, IsTree, place, place_at, EntryRow, is_of_inode, Scene, InoSet, IsListOf, is_in_use, stays, forget_at, forget_among}
 use Rattle.std.specs.FinMap as map
 use Rattle.std.specs.FinSet as set
@@ -31,10 +31,7 @@ module _ {V : Type 0} (m : map.FinMap nat_cmp V) (p : ℕ → Bool) (q : ℕ) wh
 
 -- an inode that somebody has an entry on is kept
 pub kept-held : (s : Scene) (row : EntryRow) → Contains s.table.rows row → is_in_use s row.holder.ino.0 ≡ true
-kept-held s row (k, room, is) =
-    or_right (not (is_gone (place s.tree.nodes row.holder.ino.0))) _
-    (list_any_at (is_of_inode row.holder.ino) s.table.rows k row room
-    (ap (is_of_inode row.holder.ino) is ∙ eq-eqb row.holder.ino.0 row.holder.ino.0 refl))
+kept-held s row is = grind (arith, list_any_at)
 
 pub stays-kept : (at : ℕ → Bool) (s : Scene) (q : ℕ) → is_in_use s q ≡ true → stays at s q ≡ true
 stays-kept at s q is = or_right (not (at q)) (is_in_use s q) is
@@ -42,24 +39,7 @@ stays-kept at s q is = or_right (not (at q)) (is_in_use s q) is
 -- what goes is one of these, and a stray that nobody has an entry on
 pub goes : (at : ℕ → Bool) (s : Scene) (q : ℕ) → stays at s q ≡ false
     → (at q ≡ true) × (place s.tree.nodes q ≡ Gone) × (list_any (is_of_inode (record { 0 = q })) s.table.rows ≡ false)
-goes at s q = by_parts (at q) (place s.tree.nodes q) (list_any (is_of_inode (record { 0 = q })) s.table.rows)
-  where
-    by_parts : (a : Bool) (p : Place) (held : Bool) → (not a || (not (is_gone p) || held)) ≡ false → (a ≡ true) × (p ≡ Gone) × (held ≡ false)
-    by_parts false p held e = absurd (true≢false e)
-    by_parts true NoIno held e = absurd (true≢false e)
-    by_parts true Here held e = absurd (true≢false e)
-    by_parts true Gone held e = (refl, refl, e)
-
--- and on a stray among these that stays, somebody has an entry
-pub stays-held : (at : ℕ → Bool) (s : Scene) (q : ℕ) → stays at s q ≡ true → at q ≡ true → place s.tree.nodes q ≡ Gone
-    → list_any (is_of_inode (record { 0 = q })) s.table.rows ≡ true
-stays-held at s q = by_parts (at q) (place s.tree.nodes q) (list_any (is_of_inode (record { 0 = q })) s.table.rows)
-  where
-    by_parts : (a : Bool) (p : Place) (held : Bool) → (not a || (not (is_gone p) || held)) ≡ true → a ≡ true → p ≡ Gone → held ≡ true
-    by_parts false p held e is gone = absurd (true≢false (sym is))
-    by_parts true NoIno held e is gone = cc
-    by_parts true Here held e is gone = cc
-    by_parts true Gone held e is gone = e
+goes at s q out = grind arith
 
 -- ---- what is read of the others
 
@@ -78,29 +58,17 @@ alike-retained tree p sound strays ino here = record {
 
 -- ---- one after another
 
-either_none : {V : Type 0} (b : Bool) → ◌≡◌ {A = Option V} (cond b None None) None
-either_none true = refl
-either_none false = refl
-
 -- what is left of the one and then of the others
 twice_left : {V : Type 0} (p q kept later : Bool) (o : Option V) → ((not p || kept) ≡ true → later ≡ kept)
     → cond (not q || later) (cond (not p || kept) o None) None ≡ cond (not (p || q) || kept) o None
-twice_left false q kept later o same = ap (λ k. cond (not q || k) o None) (same refl)
-twice_left true q false later o same = either_none (not q || later)
-twice_left true q true later o same = ap (λ k. cond (not q || k) o None) (same refl) ∙ always q
-  where
-    always : (q : Bool) → cond (not q || true) o None ≡ o
-    always true = refl
-    always false = refl
+twice_left p q kept later o same = grind arith
 
 module _ (p q : ℕ → Bool) (s : Scene) where
   abbrev one : Scene
   one = forget_among p s
 
   kept_still : (n : ℕ) → stays p s n ≡ true → is_in_use one n ≡ is_in_use s n
-  kept_still n is =
-      ap (λ (o : Option Node). not (is_gone (place_at (option_map (λ n. n.site) o))) || list_any (is_of_inode (record { 0 = n })) s.table.rows)
-      (retained-here s.tree.nodes (stays p s) n is)
+  kept_still n is = grind (arith, retained-here)
 
   twice_kept : {V : Type 0} (m : map.FinMap nat_cmp V) → map.retain_keys (map.retain_keys m (stays p s)) (stays q one) ≡ map.retain_keys m (stays (λ n. p n || q n) s)
   twice_kept m = map.same_map nat_cmp_total map.nat_cmp-IsAntisymmetric _ _ (λ n.
@@ -111,25 +79,16 @@ module _ (p q : ℕ → Bool) (s : Scene) where
 
   -- strays of some inodes and then of others go, as if of all at once
   pub forget-twice : forget_among q (forget_among p s) ≡ forget_among (λ n. p n || q n) s
-  forget-twice = λ i. record s {
-    tree = record s.tree { nodes = twice_kept s.tree.nodes i };
-    locks = record s.locks { states = twice_kept s.locks.states i };
-  }
+  forget-twice = grind (arith, twice_kept)
 
 forget_none : (s : Scene) → forget_among (λ n. false) s ≡ s
-forget_none s = λ i. record s {
-  tree = record s.tree { nodes = same_kept s.tree.nodes (stays (λ n. false) s) (λ n. refl) i };
-  locks = record s.locks { states = same_kept s.locks.states (stays (λ n. false) s) (λ n. refl) i };
-}
+forget_none s = grind (arith, same_kept)
 
 -- where all keys but one are kept, that one goes or none
 kept_or_removed : {V : Type 0} (m : map.FinMap nat_cmp V) (p : ℕ → Bool) (k : ℕ) → ((q : ℕ) → q ≢ k → p q ≡ true)
     → map.retain_keys m p ≡ cond (p k) m (map.remove m k)
 kept_or_removed m p k all = elim (p k) as (λ b. p k ≡ b → map.retain_keys m p ≡ cond b m (map.remove m k)) [
-  | true ↦ λ kept. same_kept m p (λ q. elim (same_or_other nat_cmp_total map.nat_cmp-IsAntisymmetric q k) [
-    | inl is ↦ ap p is ∙ kept
-    | inr off ↦ all q off
-  ])
+  | true ↦ λ kept. same_kept m p (λ q. elim (same_or_other nat_cmp_total map.nat_cmp-IsAntisymmetric q k) [ inl is ↦ ap p is ∙ kept | inr off ↦ all q off ])
   | false ↦ λ gone. map.same_map nat_cmp_total map.nat_cmp-IsAntisymmetric _ _ (λ q. elim (same_or_other nat_cmp_total map.nat_cmp-IsAntisymmetric q k) [
     | inl is ↦ retained-gone m p q (ap p is ∙ gone) ∙ sym (ap (map.get (map.remove m k)) is ∙ remove-here nat_cmp_total map.nat_cmp-IsAntisymmetric m k)
     | inr off ↦ retained-here m p q (all q off) ∙ sym (remove-other nat_cmp_total map.nat_cmp-IsAntisymmetric m k q off)
@@ -143,18 +102,9 @@ module _ (k : ℕ) (s : Scene) where
   one_left : {V : Type 0} (m : map.FinMap nat_cmp V) → map.retain_keys m (stays (λ n. n == k) s) ≡ cond (is_in_use s k) m (map.remove m k)
   one_left m = kept_or_removed m (stays (λ n. n == k) s) k others_stay ∙ ap (λ b. cond (not b || is_in_use s k) m (map.remove m k)) (eq-eqb k k refl)
 
-  by_kept : (b : Bool) → ◌≡◌ {A = Scene}
-      (record s { tree = record s.tree { nodes = cond b s.tree.nodes (map.remove s.tree.nodes k) }; locks = record s.locks { states = cond b s.locks.states (map.remove s.locks.states k) } })
-      (cond b s (record s { tree = forgotten s.tree k; locks = without_ino s.locks k }))
-  by_kept true = refl
-  by_kept false = refl
-
   -- of one inode alone
   pub forget-one : forget_among (λ n. n == k) s ≡ forget_at k s
-  forget-one = (λ i. record s {
-    tree = record s.tree { nodes = one_left s.tree.nodes i };
-    locks = record s.locks { states = one_left s.locks.states i };
-  }) ∙ by_kept (is_in_use s k)
+  forget-one = grind (arith, one_left)
 
 -- ---- the inodes of a map
 

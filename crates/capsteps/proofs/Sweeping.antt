@@ -27,9 +27,8 @@ some_same x y is = cc
 
 by_parts : (one two : Option InodeLocks) → ((part : Part) → option_map (lock_in part) one ≡ option_map (lock_in part) two) → one ≡ two
 by_parts None None same = refl
-by_parts None (Some two) same = (let no = same A in absurd (cc))
-by_parts (Some one) None same = (let no = same A in absurd (cc))
 by_parts (Some one) (Some two) same = ap Some (all_parts one two (λ part. some_same (lock_in part one) (lock_in part two) (same part)))
+by_parts one two same = (let no = same A in absurd (cc))
 
 -- where each lock of an inode is as it was, so are they together
 pub locks_by_parts : (old new : LockMap) (ino : ℕ) → ((part : Part) → lock_at new ino part ≡ lock_at old ino part) → map.get new.states ino ≡ map.get old.states ino
@@ -40,13 +39,7 @@ locks_by_parts old new ino same = by_parts (map.get new.states ino) (map.get old
 -- inodes whose locks are as they were are still, as long as the queue is the same
 pub still-kept : (at : ℕ → Bool) (s : Scene) (locks : LockMap) → AreStill at s → locks.queue ≡ s.locks.queue
     → ((other : ℕ) → at other ≡ false → map.get locks.states other ≡ map.get s.locks.states other) → AreStill at (record s { locks = locks })
-still-kept at s locks still queue same = record {
-  ends = λ other part off. ap (may_end_in s.table (other, part)) (ap (option_map (lock_in part)) (same other off)) ∙ still.ends other part off;
-  begins = λ other part off.
-      ap (λ (o : Option LockState). may_begin_in locks.queue (wanted_in_all (record s { locks = locks }) other) (other, part) o) (ap (option_map (lock_in part)) (same other off))
-      ∙ ap (λ (q : List Request). may_begin_in q (wanted_in_all s other) (other, part) (lock_at s.locks other part)) queue
-      ∙ still.begins other part off;
-}
+still-kept at s locks still queue same = grind arith
 
 -- ---- from inode to inode
 
@@ -54,15 +47,7 @@ off_one : (at : ℕ → Bool) (one other : ℕ) → at one ≡ true → at other
 off_one at one other is off same = true≢false (sym is ∙ ap at (sym same) ∙ off)
 
 pub swept-begins : (at : ℕ → Bool) (s : Scene) → WaitAt at s → IsSwept at s s
-swept-begins at s waits = record {
-  moves = [];
-  made = refl;
-  none = refl;
-  is = refl;
-  states = λ other off. refl;
-  queue = refl;
-  waits = waits;
-}
+swept-begins at s waits = grind arith
 
 -- what changes one of the inodes leaves the locks of all others
 pub same-elsewhere : (at : ℕ → Bool) (old new : LockMap) (here : ℕ) → at here ≡ true → ChangesLocksOf here old new
@@ -94,12 +79,7 @@ pub ends-passed : (at : ℕ → Bool) (t : Table) (first old new : LockMap) (her
     → ((other : ℕ) (part : Part) → other < here → may_end_by t old (other, part) ≡ false)
     → ChangesLocksOf here old new → ((part : Part) → may_end_by t new (here, part) ≡ false)
     → (other : ℕ) (part : Part) → (here < other → at other ≡ false) → may_end_by t new (other, part) ≡ false
-ends-passed at t first old new here elsewhere same lower changes done other part above =
-    by_number other here (may_end_by t new (other, part) ≡ false)
-    (λ below. (let off : other ≢ here = λ is. omega (arith, below, is) in
-    ap (may_end_in t (other, part)) (changes.others other part off) ∙ lower other part below))
-    (λ is. subst (λ i. may_end_by t new (i, part) ≡ false) (sym is) (done part))
-    (λ behind. (let off = above behind in ap (λ (locks : Option InodeLocks). may_end_in t (other, part) (option_map (lock_in part) locks)) (same other off) ∙ elsewhere other part off))
+ends-passed at t first old new here elsewhere same lower changes done other part above = grind arith
 
 -- ---- turns
 
@@ -118,10 +98,7 @@ abbrev pub behind : ℕ → InoSet → ℕ → ℕ
 behind ino affected here = count_by (nat_lt here) (ino ∷ set.items affected)
 
 one_no_more : (a b x : ℕ) → a < b → cond (nat_lt b x) 1 0 ≤ cond (nat_lt a x) 1 0
-one_no_more a b x less = elim (nat_lt b x) as (λ p. nat_lt b x ≡ p → cond p 1 0 ≤ cond (nat_lt a x) 1 0) [
-  | true ↦ λ above. subst (λ p. 1 ≤ cond p 1 0) (sym (lt-ltb a x (omega (arith, less, ltb-true b x above)))) (omega arith)
-  | false ↦ λ above. omega arith
-] refl
+one_no_more a b x less = grind arith
 
 counted : (a x : ℕ) (xs : List ℕ) → count_by (nat_lt a) (x ∷ xs) ≡ cond (nat_lt a x) 1 0 + count_by (nat_lt a) xs
 counted a x xs = sum_by-cons (λ k. cond (nat_lt a k) 1 0) x xs

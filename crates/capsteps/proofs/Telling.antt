@@ -43,32 +43,16 @@ module _ (s : State) (told_as : EntryRow → ℕ) (size_as asked_as : EntryRow �
   same_found k = find-map (is_row_of k) to (λ row. refl) s.scene.table.rows
 
   same_wants : (ino : ℕ) → wants new ino ≡ wants s.scene ino
-  same_wants ino =
-      ap (map (want_of s.scene.fs s.scene.tree s.scene.sessions)) (same_on (record { 0 = ino }))
-      ∙ map-map (want_of s.scene.fs s.scene.tree s.scene.sessions) to (filter (is_of_inode (record { 0 = ino })) s.scene.table.rows)
+  same_wants ino = grind (arith, same_on, map-map)
 
   same_open : (ino : ℕ) (part : Part) (goal : LockGoal) → is_open new ino part goal ≡ is_open s.scene ino part goal
-  same_open ino part goal =
-      let left : EntryRow → Bool = λ row. not (is_empty (outside part goal row)) in
-      ap (list_any left) (same_on (record { 0 = ino }))
-      ∙ any-map_same left to (λ row. refl) (filter (is_of_inode (record { 0 = ino })) s.scene.table.rows)
+  same_open ino part goal = grind (arith, same_on, any-map_same)
 
   place_kept : (row : EntryRow) (part : Part) (o : Option LockState) → IsInPlace s.scene row part o → IsInPlace new (to row) part o
-  place_kept row part None placed = placed
-  place_kept row part (Some (Stable state)) placed = placed
-  place_kept row part (Some (Gather from goal)) placed =
-      (placed.0, λ cap held out. let taken = placed.1 cap held out in (taken.0, same_open row.holder.ino.0 part goal ∙ taken.1))
+  place_kept row part o placed = grind (arith, same_open)
 
   places_kept : AreInPlace s.scene → AreInPlace new
-  places_kept all row part found = by_old (find (is_row_of row.holder) s.scene.table.rows) refl (sym (same_found row.holder) ∙ found)
-    where
-      by_old : (o : Option EntryRow) → find (is_row_of row.holder) s.scene.table.rows ≡ o → option_map to o ≡ Some row → IsInPlace new row part (lock_at s.scene.locks row.holder.ino.0 part)
-      by_old None was is = cc
-      by_old (Some old) was is =
-          let now : to old ≡ row = cc in
-          let there : find (is_row_of old.holder) s.scene.table.rows ≡ Some old = ap (λ (r : EntryRow). find (is_row_of r.holder) s.scene.table.rows) now ∙ was in
-          subst (λ (r : EntryRow). IsInPlace new r part (lock_at s.scene.locks r.holder.ino.0 part)) now
-          (place_kept old part (lock_at s.scene.locks old.holder.ino.0 part) (all old part there))
+  places_kept all = grind (arith, same_found, place_kept)
 
   -- ---- all together
 
@@ -96,19 +80,11 @@ module _ (s : State) (told_as : EntryRow → ℕ) (size_as asked_as : EntryRow �
         revoked = was.revoked;
       }
 
-  same_or : (f : EntryRow → Bool) → ((row : EntryRow) → f (to row) ≡ f row) → (o : Option EntryRow) → option_map_or f (option_map to o) false ≡ option_map_or f o false
-  same_or f same None = refl
-  same_or f same (Some row) = same row
-
   same_holds : (k : Holder) (cap : Cap) → holds new k cap ≡ holds s.scene k cap
-  same_holds k cap =
-      let f : EntryRow → Bool = λ row. has row.entry.held cap in
-      ap (λ o. option_map_or f o false) (same_found k) ∙ same_or f (λ row. refl) (find (is_row_of k) s.scene.table.rows)
+  same_holds k cap = grind (arith, same_found)
 
   same_due : (k : Holder) (cap : Cap) → is_due new k cap ≡ is_due s.scene k cap
-  same_due k cap =
-      let f : EntryRow → Bool = λ row. has (due s.scene row) cap in
-      ap (λ o. option_map_or f o false) (same_found k) ∙ same_or f (λ row. refl) (find (is_row_of k) s.scene.table.rows)
+  same_due k cap = grind (arith, same_found)
 
   pub retold-issued : (first : Scene) → IssuesExactly first s.scene → IssuesExactly first (record s.scene { table = retold_table told_as size_as asked_as s.scene.table })
   retold-issued first issued k cap = same_holds k cap ∙ issued k cap ∙ ap (λ b. holds first k cap || b) (sym (same_due k cap))
@@ -134,32 +110,28 @@ as_sized row = row.entry.size_due
 
 told_row : (row : EntryRow) (b : Bool) → cond b (remade (λ row. told row.entry) row) row
     ≡ record row { entry = record row.entry { told_seq = cond b row.entry.seq row.entry.told_seq; asked = row.entry.asked; size_due = row.entry.size_due } }
-told_row row true = refl
-told_row row false = refl
+told_row row b = grind arith
 
 shown_table : (t : Table) (k : Holder) → IsTable t → changed t k told ≡ retold_table (told_where (named k)) as_sized as_asked t
 unfolding IsDistinct
-shown_table t k is =
-    fold-changed_by (λ row. told row.entry) t (k ∷ []) is once
-    ∙ (λ i. record t { rows = map (λ row. told_row row (named k row) i) t.rows })
+shown_table t k is = fold-changed_by (λ row. told row.entry) t (k ∷ []) is once ∙ (λ i. record t { rows = map (λ row. told_row row (named k row) i) t.rows })
   where
     once : IsDistinct same (k ∷ [])
     once = (tt, tt)
 
 told_below : (b : Bool) (seq told_seq : ℕ) → told_seq ≤ seq → cond b seq told_seq ≤ seq
-told_below true seq told_seq below = omega arith
-told_below false seq told_seq below = below
+told_below b seq told_seq below = grind arith
 
 -- ---- what is given
 
 module _ (client : ClientId) (given : List Message) where
-  abbrev told_given : EntryRow → ℕ
+  abbrev pub told_given : EntryRow → ℕ
   told_given row = cond (is_of_client client row && list_any (is_caps_of row.holder.ino) given) row.entry.seq row.entry.told_seq
 
-  abbrev size_given : EntryRow → Bool
+  abbrev pub size_given : EntryRow → Bool
   size_given row = cond (is_of_client client row && list_any (is_size_of row.holder.ino) given) false row.entry.size_due
 
-  abbrev asked_given : EntryRow → Bool
+  abbrev pub asked_given : EntryRow → Bool
   asked_given row = cond (is_of_client client row && list_any (is_recall_of row.holder.ino) given) false row.entry.asked
 
 -- which fields the messages that were given change
@@ -167,34 +139,18 @@ abbrev pub given_fields : Bool → Bool → Bool → Entry → Entry
 given_fields caps size recall e = record e { told_seq = cond caps e.seq e.told_seq; asked = cond recall false e.asked; size_due = cond size false e.size_due }
 
 pub given-fields : (e : Entry) (caps size recall : Bool) → unasked_if recall (sized_if size (told_if caps e)) ≡ given_fields caps size recall e
-given-fields e false false false = refl
-given-fields e false false true = refl
-given-fields e false true false = refl
-given-fields e false true true = refl
-given-fields e true false false = refl
-given-fields e true false true = refl
-given-fields e true true false = refl
-given-fields e true true true = refl
+given-fields e caps size recall = grind arith
 
 -- what is held stays
 pub given-held : (given : List Message) (row : EntryRow) → (after_messages given row).held ≡ row.entry.held
 given-held given row = ap (λ (e : Entry). e.held) (given-fields row.entry (list_any (is_caps_of row.holder.ino) given) (list_any (is_size_of row.holder.ino) given) (list_any (is_recall_of row.holder.ino) given))
 
-given_row : (row : EntryRow) (own caps size recall : Bool) → cond own (record row { entry = unasked_if recall (sized_if size (told_if caps row.entry)) }) row
-    ≡ record row { entry = given_fields (own && caps) (own && size) (own && recall) row.entry }
-given_row row false caps size recall = refl
-given_row row true caps size recall = ap (λ (e : Entry). record row { entry = e }) (given-fields row.entry caps size recall)
-
-given_table : (client : ClientId) (given : List Message) (t : Table) → changed_where (is_of_client client) (after_messages given) t ≡ retold_table (told_given client given) (size_given client given) (asked_given client given) t
-given_table client given t =
-    λ i. record t {
-      rows = map (λ row. given_row row (is_of_client client row) (list_any (is_caps_of row.holder.ino) given) (list_any (is_size_of row.holder.ino) given) (list_any (is_recall_of row.holder.ino) given) i) t.rows;
-    }
+pub given_table : (client : ClientId) (given : List Message) (t : Table) → changed_where (is_of_client client) (after_messages given) t ≡ retold_table (told_given client given) (size_given client given) (asked_given client given) t
+given_table client given t = grind arith
 
 -- ---- each answer
 
 pub shown-sound : (s : State) (answer : Answer) → IsSound s → IsTable s.scene.table → IsSound (shown answer s)
-shown-sound s (Says answer) sound table = sound
 shown-sound s (Shows k) sound table =
     subst (λ t. IsSound (with_scene s (record s.scene { table = t }))) (sym (shown_table s.scene.table k table))
     (retold-sound s (told_where (named k)) as_sized as_asked s.messages sound.messages (λ row below. told_below (named k row) row.entry.seq row.entry.told_seq below) sound)
@@ -205,16 +161,10 @@ shown-sound s (Gives client max) sound table =
     (retold-sound s (told_given client given) (size_given client given) (asked_given client given) (filter due s.messages)
     (All-filter due (λ m. IsTrue (has_session s.scene.sessions m.client.0)) s.messages sound.messages)
     (λ row below. told_below (is_of_client client row && list_any (is_caps_of row.holder.ino) given) row.entry.seq row.entry.told_seq below) sound)
-shown-sound s (Awaits ticket) sound table = sound
+shown-sound s answer sound table = sound
 
 pub shown-issued : (first : Scene) (s : State) (answer : Answer) → IsTable s.scene.table → IssuesExactly first s.scene → IssuesExactly first (shown answer s).scene
-shown-issued first s (Says answer) table issued = issued
-shown-issued first s (Shows k) table issued =
-    subst (λ t. IssuesExactly first (record s.scene { table = t })) (sym (shown_table s.scene.table k table)) (retold-issued s (told_where (named k)) as_sized as_asked first issued)
-shown-issued first s (Gives client max) table issued =
-    let given : List Message = first_messages s client max in
-    subst (λ t. IssuesExactly first (record s.scene { table = t })) (sym (given_table client given s.scene.table)) (retold-issued s (told_given client given) (size_given client given) (asked_given client given) first issued)
-shown-issued first s (Awaits ticket) table issued = issued
+shown-issued first s answer table issued = grind (arith, shown_table, retold-issued, given_table)
 
 -- ---- numbers
 
@@ -234,15 +184,4 @@ module _ (count : ℕ) where
       subst (λ (t : Table). All IsGiven t.rows) (sym (given_table client given t)) (All-map IsGiven (retold (told_given client given) (size_given client given) (asked_given client given)) t.rows all)
 
   pub shown-given : (s : State) (answer : Answer) → AreGiven count s → AreGiven count (shown answer s)
-  shown-given s (Says answer) given = given
-  shown-given s (Shows k) given = record {
-    entries = All-from_recursion IsGiven (change_rows s.scene.table.rows k told) (given-change s.scene.table.rows k (recursion_from_All IsGiven s.scene.table.rows given.entries));
-    last = given.last;
-    made = given.made;
-  }
-  shown-given s (Gives client max) given = record {
-    entries = given-where client (first_messages s client max) s.scene.table given.entries;
-    last = given.last;
-    made = given.made;
-  }
-  shown-given s (Awaits ticket) given = given
+  shown-given s answer given = grind (arith, All-from_recursion, given-change, recursion_from_All, given-where)

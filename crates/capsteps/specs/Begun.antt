@@ -1,13 +1,12 @@
 -- What there has to be behind an event, before the locks settle and the step ends.
 use Rattle.std.specs.Prelude.{◌≡◌, ◌≤◌, ◌<◌, ◌^◌, ◌-◌, ℕ, Bool, [], All, IsTrue, vec_capacity}
 use Rattle.inotree.specs.Tree.{IsTree}
-use Rattle.sessiontab.specs.Table.{SessionTable}
 use Rattle.sessiontab.specs.Calls.{has_session}
-use Rattle.captable.specs.Table.{Table}
 use Rattle.capacts.specs.Lockmachine.Locks.{IsLockMap}
 use Rattle.capacts.specs.Lockmachine.Moves.{IsQuietOutside}
+use Rattle.capacts.specs.Lockmachine.Policy.{ArePermitted}
 use Rattle.capacts.specs.Lockmachine.declared.scene.Scene.{Scene}
-use Rattle.capacts.specs.Known.{KnownSets, HaveRoom}
+use Rattle.capacts.specs.Known.{KnownSets}
 use Rattle.capsteps.specs.declared.endings.Endings.{Endings}
 
 -- the event was about these inodes: the locks of all others are quiet, the inodes are a tree, and requests wait in order
@@ -16,11 +15,15 @@ pub record MaySettle (from : ℕ → Bool) (s : Scene) : Type 0 where
   pub tree : IsTree s.tree
   pub order : IsLockMap s.locks
 
--- each entry has a number left, its client a session, and room where it is kept what the client is to know of
-pub record MayEnd (known : KnownSets) (sessions : SessionTable) (table : Table) : Type 0 where
-  pub numbers : All (λ row. row.entry.seq < 2 ^ 64 - 1) table.rows
-  pub clients : All (λ row. IsTrue (has_session sessions row.holder.client.0)) table.rows
-  pub room : HaveRoom known table
+-- of each entry it is kept what its client is permitted
+abbrev pub ArePermittedIn : KnownSets → Scene → Type 0
+ArePermittedIn sets s = ArePermitted sets s.fs s.tree s.sessions s.table
+
+-- so it is, and each entry has a number left, and its client a session
+pub record MayEnd (known : KnownSets) (s : Scene) : Type 0 where
+  pub numbers : All (λ row. row.entry.seq < 2 ^ 64 - 1) s.table.rows
+  pub clients : All (λ row. IsTrue (has_session s.sessions row.holder.client.0)) s.table.rows
+  pub permitted : ArePermittedIn known s
 
 -- no request has ended and no size was changed yet, and there is room for so many
 pub record HaveRoomFor (waiting : ℕ) (endings : Endings) : Type 0 where

@@ -8,6 +8,9 @@ use Rattle.captable.specs.declared.entry.Holder.{Holder}
 use Rattle.captable.specs.Table.{Table}
 use Rattle.captable.specs.Calls.{acked, released}
 use Rattle.captable.specs.Tests.{entry_test, ack_tests, release_tests}
+use Rattle.capacts.specs.Known.{KnownSets, StillKnown}
+use Rattle.capacts.specs.Lockmachine.declared.policy.Policy.{Policy}
+use Rattle.capacts.specs.Lockmachine.Policy.{ArePermitted}
 use Rattle.capacts.specs.Capevents.declared.event.Event.{Event}
 use Rattle.capacts.specs.Capevents.declared.event.Event.TheVariants as event
 use Rattle.capacts.specs.Capevents.declared.reply.Reply.TheVariants as reply
@@ -43,3 +46,8 @@ entry_answer k (Open mode) = Shows k
 entry_answer k (Want caps) = Shows k
 entry_answer k (Ack seq) = Says reply.Done
 entry_answer k (Release caps) = Says reply.Done
+
+-- what is known of each entry is kept still; and where it was kept what their clients are permitted, it is of a new one too
+pub record StillKept (policy : Policy) (old new : Table) (was now : KnownSets) : Type 0 where
+  pub known : StillKnown old new was now
+  pub permitted : ArePermitted was policy.fs.now policy.tree.now policy.sessions.now old → ArePermitted now policy.fs.now policy.tree.now policy.sessions.now new

@@ -3,6 +3,7 @@ use Rattle.std.specs.Prelude.{◌≡◌, ℕ, Bool, List, Some}
 use Rattle.capbits.specs.declared.ids.Ino.{Ino}
 use Rattle.capbits.specs.declared.ids.Ticket.{Ticket}
 use Rattle.inotree.specs.Tree.{IsTree}
+use Rattle.captable.specs.declared.entry.Holder.{Holder}
 use Rattle.capacts.specs.Lockmachine.declared.request.Request.{Request}
 use Rattle.capacts.specs.Lockmachine.Locks.{request_at, without_request}
 use Rattle.capacts.specs.Lockmachine.declared.scene.Scene.{Scene}
@@ -12,7 +13,8 @@ use Rattle.capacts.specs.Capnotes.Changing.{tree_after}
 use Rattle.capacts.specs.Caprules.Finish.{sizes_owed}
 use Rattle.capacts.specs.Caprules.Settle.{Made, ended_in, sized_in}
 use Rattle.capsteps.specs.Affected.{SettlesAt, told_then, finished_at}
-use Rattle.capacts.specs.Known.{KnownSets, known_in, KnownAnew}
+use Rattle.capacts.specs.Known.{KnownSets, known_in, permitted_of, KnownAnew}
+use Rattle.capsteps.specs.Begun.{ArePermittedIn}
 
 -- the request with this number is served, ends so and waits no more
 pub record Serves (old : Scene) (ticket : Ticket) (ended : Ended) (new : Scene) : Type 0 where
@@ -30,13 +32,14 @@ pub record SettlesWith (at from : ℕ → Bool) (first settled : Scene) (ended :
   pub ended_is : ended ≡ ended_in moves
   pub sized_is : sized ≡ sized_in moves
 
--- the locks have settled and the sizes of these inodes changed: the step ends at those that it affected
+-- the locks have settled and the sizes of these inodes changed: the step ends at those that it affected. What is permitted is kept
 pub record EndsAt (at : ℕ → Bool) (sized : List Ino) (was now : KnownSets) (settled last : Scene) : Type 0 where
   pub finished : last ≡ finished_at at (known_in was) (sizes_owed sized settled)
   pub kept : KnownAnew (λ k. at k.ino.0) (told_then (sizes_owed sized settled)) (sizes_owed sized settled).table was now
+  pub permitted : (k : Holder) → permitted_of now k ≡ permitted_of was k
 
 -- the event was about these inodes: the locks settle, these requests end, and the step ends at the inodes that it affected. What
--- was known of entries is kept in `was`, and what is known of them at the end in `now`
+-- was known of entries is kept in `was`, and what is known of them at the end in `now`, and what their clients are permitted
 pub record EndsWith (from : ℕ → Bool) (was now : KnownSets) (first last : Scene) (ended : List Ended) : Type 0 where
   pub at : ℕ → Bool
   pub settled : Scene
@@ -45,3 +48,4 @@ pub record EndsWith (from : ℕ → Bool) (was now : KnownSets) (first last : Sc
   pub tree : IsTree settled.tree
   pub finished : last ≡ finished_at at (known_in was) (sizes_owed sized settled)
   pub kept : KnownAnew (λ k. at k.ino.0) (told_then (sizes_owed sized settled)) (sizes_owed sized settled).table was now
+  pub permitted : ArePermittedIn now last

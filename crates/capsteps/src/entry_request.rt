@@ -6,17 +6,16 @@ ghost use Rattle.capacts.specs.Lockmachine.declared.scene.Scene.{Scene};
 ghost use Rattle.captable.specs.Table.{entry_at};
 ghost use Rattle.captable.specs.Calls.{opened};
 ghost use Rattle.captable.specs.Tests.{open_tests};
-ghost use Rattle.capacts.specs.Known.{AreKnown, StillKnown};
+ghost use Rattle.capacts.specs.Known.{AreKnown};
 ghost use Rattle.capacts.specs.Caprules.State.{State};
 ghost use Rattle.capacts.specs.Caprules.Direct.{reply_of, shown, with_table};
 ghost use Rattle.capacts.specs.Caprules.Direct as effects;
 ghost use Rattle.capsteps.specs.EntryRequest as words;
 
 use crate::finish::show;
-use capacts::known::Known;
-use capacts::{OpenMode, Reply};
+use capacts::{OpenMode, Policy, Reply, permitted};
 use capbits::{Cap, CapSet};
-use captable::{CapTable, Holder};
+use captable::{CapTable, Holder, Known, Sets};
 use std::alloc::AllocError;
 
 /// What is asked of a client's entry on an inode.
@@ -37,7 +36,7 @@ pub fn revoked_of(table: &CapTable, known: &Known, holder: Holder) -> CapSet
     ensures { (s : Scene) → s.table ≡ table.now → AreKnown known.now.sets s → result ≡ revoked_of s holder }
 {
     match table.find(holder.client, holder.ino) {
-        Some(entry) => entry.held.minus(known.of(holder)),
+        Some(entry) => entry.held.minus(known.of(holder, 0).told),
         None => CapSet::empty(),
     }
 }
@@ -58,6 +57,7 @@ pub fn revoked_by(table: &CapTable, known: &Known, holder: Holder, request: &Ent
 /// Applies the request to the holder's entry; `revoked` are its caps that are being revoked, where the request takes them. An
 /// opening alone takes memory: for want of it nothing changes.
 pub fn apply_request(
+    policy: &Policy<'_>,
     table: &mut CapTable,
     known: &mut Known,
     holder: Holder,
@@ -68,10 +68,10 @@ pub fn apply_request(
     requires passed { first_failing (words.entry_request_tests table.old holder revoked request.now) ≡ None }
     ensures ok { OnOk result (table.new ≡ words.table_after table.old holder revoked request.now) }
     ensures err { OnErr result (table.new ≡ table.old) }
-    ensures known { StillKnown table.old table.new known.old.sets known.new.sets }
+    ensures kept { words.StillKept policy.now table.old table.new known.old.sets known.new.sets }
 {
     match request {
-        EntryRequest::Open(mode) => open(table, known, holder, *mode)?,
+        EntryRequest::Open(mode) => open(policy, table, known, holder, *mode)?,
         EntryRequest::Want(caps) => want(table, holder, caps.union(CapSet::of(&[Cap::P]))),
         EntryRequest::Ack(seq) => {
             table.ack_tested(holder.client, holder.ino, *seq, revoked);
@@ -87,6 +87,7 @@ pub fn apply_request(
 
 // The holder has an entry, made where there is none, which wants what the opening takes too.
 fn open(
+    policy: &Policy<'_>,
     table: &mut CapTable,
     known: &mut Known,
     holder: Holder,
@@ -96,12 +97,12 @@ fn open(
     requires passed { first_failing (room_for table.old holder) ≡ None }
     ensures ok { OnOk result (table.new ≡ effects.with_opening table.old holder mode) }
     ensures err { OnErr result (table.new ≡ table.old) }
-    ensures known { StillKnown table.old table.new known.old.sets known.new.sets }
+    ensures kept { words.StillKept policy.now table.old table.new known.old.sets known.new.sets }
 {
     let wanted = match table.find(holder.client, holder.ino) {
         Some(entry) => entry.want,
         None => {
-            make_entry(table, known, holder)?;
+            make_entry(policy, table, known, holder)?;
             CapSet::empty()
         }
     };
@@ -109,18 +110,34 @@ fn open(
     Ok(())
 }
 
-// Makes the holder's entry, of which nothing is known yet. For want of memory nothing changes.
-fn make_entry(table: &mut CapTable, known: &mut Known, holder: Holder) -> Result<(), AllocError>
+// Makes the holder's entry, of which nothing is known yet, and judges what it is permitted. For want of memory nothing changes.
+fn make_entry(
+    policy: &Policy<'_>,
+    table: &mut CapTable,
+    known: &mut Known,
+    holder: Holder,
+) -> Result<(), AllocError>
     requires new { entry_at table.old holder ≡ None }
     requires made { table.old.made < 2 ^ 64 - 1 }
     requires passed { first_failing (open_tests table.old) ≡ None }
     ensures ok { OnOk result (table.new ≡ opened table.old holder) }
     ensures err { OnErr result (table.new ≡ table.old) }
-    ensures known { StillKnown table.old table.new known.old.sets known.new.sets }
+    ensures kept { words.StillKept policy.now table.old table.new known.old.sets known.new.sets }
 {
     known.add(holder)?;
     match table.open_entry_tested(holder.client, holder.ino) {
-        Ok(()) => Ok(()),
+        Ok(()) => {
+            let told = CapSet::empty();
+            let permitted = permitted(
+                policy.fs,
+                policy.tree,
+                policy.sessions,
+                holder.client,
+                holder.ino,
+            );
+            known.put(holder, Sets { told, permitted }, 0);
+            Ok(())
+        }
         Err(refused) => {
             known.remove(holder);
             Err(refused)

@@ -2,17 +2,18 @@
 ghost use Rattle.std.specs.Prelude.{◌≡◌, ◌==◌, ◌≤◌, ◌<◌, ◌^◌, ◌-◌, ◌+◌, length, [], false, Some, IsTrue, All, IsSome, IfSome};
 ghost use Rattle.std.specs.List.{find};
 ghost use Rattle.std.specs.FinSet as set;
-ghost use Rattle.std.specs.FinMap as map;
-ghost use Rattle.std.specs.Option.{option_copied};
-ghost use Rattle.inotree.specs.Tree.{path_of};
 ghost use Rattle.sessiontab.specs.Calls.{has_session};
+ghost use Rattle.captable.specs.declared.entry.Holder.{Holder};
+ghost use Rattle.captable.specs.Known.{permitted_of};
 ghost use Rattle.captable.specs.Table.{IsTable, same, is_row_of, entry_at};
 ghost use Rattle.captable.specs.Calls.{told, changed, is_of_inode, entries_on};
 ghost use Rattle.captable.specs.Many.{changed_by, changed_where};
 ghost use Rattle.capacts.specs.Lockmachine.declared.scene.Scene.{Scene};
+ghost use Rattle.capacts.specs.Lockmachine.Scene.{scene_by};
+ghost use Rattle.capacts.specs.Lockmachine.Policy.{ArePermitted, permitted};
 ghost use Rattle.capacts.specs.Finishing as words;
 ghost use Rattle.capacts.specs.Caprules.Direct.{opened_as};
-ghost use Rattle.capacts.specs.Known.{AreKnown, HaveRoom, KnownAnew, OthersHaveAll, known_of, known_in};
+ghost use Rattle.capacts.specs.Known.{AreKnown, KnownAnew, OthersHaveAll, known_in};
 ghost use Rattle.capsteps.specs.Affected.{forget_at, forget_among, finished_at, told_then};
 ghost use Rattle.capacts.specs.Reach.{is_affected};
 ghost use Rattle.capsteps.specs.Begun.{MayEnd};
@@ -21,12 +22,11 @@ ghost use Rattle.capacts.specs.Capnotes.Noted.{LeadOn};
 
 use arrayvec::ArrayVec;
 use capacts::finishing::{Standing, finish_row};
-use capacts::known::Known;
 use capacts::reach::is_held;
 use capacts::{ChangeList, InoSet, InodeLocks, Locks, Policy, Reply, Scene, ViewChange};
 use capbits::{ClientId, Ino};
-use captable::{CapTable, EntryRow, Holder};
-use inotree::{Names, Place};
+use captable::{CapTable, EntryRow, Holder, Known};
+use inotree::Place;
 use sessiontab::{MAX_SESSIONS, Sessions};
 
 // ---- at the affected inodes
@@ -42,9 +42,10 @@ pub fn finish(
 )
     requires apart { set.contains affected.now ino.0 ≡ false }
     requires places { length changes.old.items + set.len affected.now + 1 ≤ changes.old.room }
-    requires entries { MayEnd known.old.sets scene.old.sessions scene.old.table }
+    requires entries { MayEnd known.old.sets scene.old }
     ensures finished { scene.new ≡ finished_at (is_affected ino.0 affected.now) (known_in known.old.sets) scene.old }
     ensures known { KnownAnew (λ k. is_affected ino.0 affected.now k.ino.0) (told_then scene.old) scene.old.table known.old.sets known.new.sets }
+    ensures permitted { (k : Holder) → permitted_of known.new.sets k ≡ permitted_of known.old.sets k }
     ensures queue { scene.new.locks.queue ≡ scene.old.locks.queue }
     ensures lead { LeadOn changes.old.items changes.new.items scene.old.tree scene.new.tree }
 {
@@ -65,7 +66,7 @@ pub fn finish(
 pub fn finish_alone(scene: &mut Scene, known: &mut Known, holder: Holder, changes: &mut ChangeList)
     requires others { OthersHaveAll known.old.sets scene.old holder }
     requires place { length changes.old.items < changes.old.room }
-    requires entries { MayEnd known.old.sets scene.old.sessions scene.old.table }
+    requires entries { MayEnd known.old.sets scene.old }
     ensures ends { EndsAt (λ other. other == holder.ino.0) [] known.old.sets known.new.sets scene.old scene.new }
     ensures queue { scene.new.locks.queue ≡ scene.old.locks.queue }
     ensures lead { LeadOn changes.old.items changes.new.items scene.old.tree scene.new.tree }
@@ -89,11 +90,12 @@ fn finish_affected(
     locks: &Locks,
     affected: &InoSet,
 )
-    requires entries { MayEnd known.old.sets policy.now.sessions.now table.old }
+    requires entries { MayEnd known.old.sets (scene_by policy.now table.old locks.now) }
     ensures table { table.new
         ≡ changed_where (words.is_on affected.now) (words.entry_by (known_in known.old.sets) policy.now.fs.now policy.now.tree.now policy.now.sessions.now locks.now.states) table.old }
     ensures known { KnownAnew (λ k. set.contains affected.now k.ino.0) (words.told_by policy.now.fs.now policy.now.tree.now policy.now.sessions.now locks.now.states)
         table.old known.old.sets known.new.sets }
+    ensures permitted { (k : Holder) → permitted_of known.new.sets k ≡ permitted_of known.old.sets k }
 {
     for number in affected.numbers() {
         let ino = Ino(*number);
@@ -128,35 +130,32 @@ fn finish_entries(
 )
     requires numbers { All (λ row. row.entry.seq < 2 ^ 64 - 1) (entries_on table.old ino) }
     requires clients { All (λ row. IsTrue (has_session policy.now.sessions.now row.holder.client.0)) table.old.rows }
-    requires room { HaveRoom known.old.sets table.old }
+    requires permitted { ArePermitted known.old.sets policy.now.fs.now policy.now.tree.now policy.now.sessions.now table.old }
     ensures table { table.new
         ≡ changed_where (is_of_inode ino) (words.entry_under (known_in known.old.sets) policy.now.fs.now policy.now.tree.now policy.now.sessions.now locks.now) table.old }
     ensures known { KnownAnew (λ k. k.ino.0 == ino.0) (words.told_at policy.now.fs.now policy.now.tree.now policy.now.sessions.now locks.now)
         table.old known.old.sets known.new.sets }
+    ensures permitted { (k : Holder) → permitted_of known.new.sets k ≡ permitted_of known.old.sets k }
 {
     let clients = clients_on(policy.sessions, table, ino);
     let numbers = clients.as_slice();
     if numbers.is_empty() {
         return;
     }
-    // The names from the root are looked up once, and not for each entry.
-    let mut names = Names::new();
-    let path = policy.tree.read_path(ino, &mut names).then_some(&names);
-    let node = policy.tree.node(ino);
     let standing = Standing {
         fs: policy.fs,
         tree: policy.tree,
         sessions: policy.sessions,
-        path,
-        node,
         locks: *locks,
     };
     let mut place = table.first_place(ino);
+    let mut nth: usize = 0;
     for number in numbers {
         let client = ClientId(*number);
         let holder = Holder { client, ino };
-        finish_entry(&standing, table, known, holder, place);
+        finish_entry(&standing, table, known, holder, place, nth);
         place = table.place_after(place);
+        nth = nth.wrapping_add(1);
     }
 }
 
@@ -209,51 +208,47 @@ fn finish_holder(
     locks: &Option<InodeLocks>,
 )
     requires number { IfSome (entry_at table.old holder) (λ entry. entry.seq < 2 ^ 64 - 1) }
-    requires room { IsSome (entry_at table.old holder) → IsSome (known_of known.old.sets holder) }
+    requires permitted { IsSome (entry_at table.old holder)
+        → permitted_of known.old.sets holder ≡ Some (permitted policy.now.fs.now policy.now.tree.now policy.now.sessions.now holder) }
     ensures sound { IsTable table.old }
     ensures table { table.new
         ≡ changed_by (words.entry_under (known_in known.old.sets) policy.now.fs.now policy.now.tree.now policy.now.sessions.now locks.now) table.old holder }
     ensures known { KnownAnew (λ k. same k holder) (words.told_at policy.now.fs.now policy.now.tree.now policy.now.sessions.now locks.now) table.old known.old.sets known.new.sets }
+    ensures permitted { (k : Holder) → permitted_of known.new.sets k ≡ permitted_of known.old.sets k }
 {
     if let Some(entry) = table.find(holder.client, holder.ino) {
-        let mut names = Names::new();
-        let path = policy
-            .tree
-            .read_path(holder.ino, &mut names)
-            .then_some(&names);
-        let node = policy.tree.node(holder.ino);
         let standing = Standing {
             fs: policy.fs,
             tree: policy.tree,
             sessions: policy.sessions,
-            path,
-            node,
             locks: *locks,
         };
         let row = EntryRow { holder, entry };
-        finish_row(&standing, table, known, row);
+        finish_row(&standing, table, known, row, 0);
     }
 }
 
-// Ends the step for the holder's entry, if there is one. `place` is a guess at where it stands.
+// Ends the step for the holder's entry, if there is one. `place` is a guess at where it stands, and `nth` at how many on the inode
+// were made before it.
 fn finish_entry(
-    standing: &Standing<'_, '_>,
+    standing: &Standing<'_>,
     table: &mut CapTable,
     known: &mut Known,
     holder: Holder,
     place: usize,
+    nth: usize,
 )
-    requires path { option_copied standing.now.path ≡ path_of standing.now.tree.now.nodes holder.ino.0 }
-    requires node { option_copied standing.now.node ≡ map.get standing.now.tree.now.nodes holder.ino.0 }
     requires number { IfSome (entry_at table.old holder) (λ entry. entry.seq < 2 ^ 64 - 1) }
-    requires room { IsSome (entry_at table.old holder) → IsSome (known_of known.old.sets holder) }
+    requires permitted { IsSome (entry_at table.old holder)
+        → permitted_of known.old.sets holder ≡ Some (permitted standing.now.fs.now standing.now.tree.now standing.now.sessions.now holder) }
     ensures table { table.new
         ≡ changed_by (words.entry_in (known_in known.old.sets) standing.now) table.old holder }
     ensures known { KnownAnew (λ k. same k holder) (words.told_in standing.now) table.old known.old.sets known.new.sets }
+    ensures permitted { (k : Holder) → permitted_of known.new.sets k ≡ permitted_of known.old.sets k }
 {
     if let Some(entry) = table.find_near(holder.client, holder.ino, place) {
         let row = EntryRow { holder, entry };
-        finish_row(standing, table, known, row);
+        finish_row(standing, table, known, row, nth);
     }
 }
 
@@ -268,7 +263,7 @@ pub fn show(table: &mut CapTable, known: &Known, holder: Holder) -> Reply
     match table.tell(holder.client, holder.ino) {
         Some(entry) => Reply::Opened {
             seq: entry.seq,
-            caps: known.of(holder),
+            caps: known.of(holder, 0).told,
         },
         None => Reply::Done,
     }

@@ -18,6 +18,6 @@ pub mod start;
 pub use capacts::{
     Ask, Bytes, Change, ChangeList, Ended, EndedList, EndedTickets, Event, InoSet, Locks, Message,
     MessageList, Messages, Move, OpenMode, Outcome, PartValues, Policy, Question, Rejection, Reply,
-    Row, Scene, Unknown, View, ViewChange, Wants, copy_of_messages, history, judge, known, leaving,
-    serving, stop, wants_on,
+    Row, Scene, Unknown, View, ViewChange, Wants, copy_of_messages, history, judge, leaving,
+    renewing, serving, stop, wants_on,
 };

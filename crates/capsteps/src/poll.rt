@@ -9,10 +9,9 @@ ghost use Rattle.capacts.specs.Known.{AreKnown, known_in};
 ghost use Rattle.capacts.specs.Caprules.Messages.{after_messages, caps_messages, end_messages, first_messages, row_messages, size_messages};
 ghost use Rattle.capacts.specs.Caprules.State.{State};
 
-use capacts::known::Known;
 use capacts::{Ended, Message, MessageList, Scene, copy_of_outcome};
 use capbits::ClientId;
-use captable::{CapTable, EntryRow};
+use captable::{CapTable, EntryRow, Known};
 use inotree::Tree;
 use std::alloc::{AllocError, Global};
 
@@ -118,7 +117,7 @@ fn add_caps(
     let ino = row.holder.ino;
     if row.entry.told_seq < row.entry.seq {
         let seq = row.entry.seq;
-        let caps = known.of(row.holder);
+        let caps = known.of(row.holder, 0).told;
         add(list, max, Message::Caps { ino, seq, caps })?;
     }
     Ok(())

@@ -3,8 +3,10 @@ ghost use Rattle.std.specs.Prelude.{◌≡◌, ◌==◌, ◌≤◌, ◌<◌, ◌
 ghost use Rattle.std.specs.FinMap as map;
 ghost use Rattle.std.specs.FinSet as set;
 ghost use Rattle.capbits.specs.declared.cap.Part.{Part};
-ghost use Rattle.inotree.specs.Tree.{Nodes};
+ghost use Rattle.inotree.specs.Tree.{IsTree, Nodes};
 ghost use Rattle.sessiontab.specs.Table.{SessionTable};
+ghost use Rattle.captable.specs.declared.entry.Holder.{Holder};
+ghost use Rattle.captable.specs.Known.{known_of};
 ghost use Rattle.capacts.specs.Lockmachine.declared.request.Request.{Request};
 ghost use Rattle.capacts.specs.Lockmachine.Locks.{request_at};
 ghost use Rattle.capacts.specs.Lockmachine.Scene.{scene as scene_of};
@@ -16,7 +18,7 @@ ghost use Rattle.capacts.specs.Known.{OthersHaveAll};
 ghost use Rattle.capacts.specs.Capnotes.Noted.{HavePlaces, LeadOn};
 ghost use Rattle.capacts.specs.Reach.{is_affected, AreWalked, Reaches};
 ghost use Rattle.capsteps.specs.Judged.{IsJudged};
-ghost use Rattle.capsteps.specs.Begun.{HaveRoomFor, MayEnd, MaySettle};
+ghost use Rattle.capsteps.specs.Begun.{ArePermittedIn, HaveRoomFor, MayEnd, MaySettle};
 ghost use Rattle.capsteps.specs.Serves.{Serves, SettlesWith, EndsAt, EndsWith};
 ghost use Rattle.capacts.specs.Caprules.Settle.{Served as Serving, sized_by, sized_in};
 ghost use Rattle.capsteps.specs.Sweep.{AreStill, GoesOn, GoesOnBehind, IsFirstPlace, IsLeastOf, IsNextOf, IsSwept, StandsAt, changed_alone};
@@ -24,13 +26,13 @@ ghost use Rattle.capsteps.specs.Sweep.{AreStill, GoesOn, GoesOnBehind, IsFirstPl
 use crate::endings::Endings;
 use crate::finish::{finish, finish_alone};
 use crate::sizes::owe_sizes;
-use capacts::known::Known;
 use capacts::reach::reach;
+use capacts::renewing::renew_served;
 use capacts::serving::{Served, serve};
 use capacts::sweep::{SweepPlace, advance};
 use capacts::{Ask, Change, ChangeList, InoSet, InodeLocks, Locks, Move, Outcome, Request, Scene};
 use capbits::{Ino, Ticket};
-use captable::{CapTable, Holder};
+use captable::{CapTable, Holder, Known};
 use inotree::Setting;
 
 /// Lets the locks settle after an event about one inode, and ends the step. The locks of every other inode are quiet.
@@ -39,7 +41,7 @@ pub fn end_at_one(scene: &mut Scene, known: &mut Known, ino: Ino, endings: &mut 
     requires judged { IsJudged endings.old.judged scene.old }
     requires room { HaveRoomFor (length scene.old.locks.queue) endings.old }
     requires places { length endings.old.changes.items + length scene.old.locks.queue + 1 ≤ endings.old.changes.room }
-    requires entries { MayEnd known.old.sets scene.old.sessions scene.old.table }
+    requires entries { MayEnd known.old.sets scene.old }
     ensures ends { EndsWith (λ other. other == ino.0) known.old.sets known.new.sets scene.old scene.new endings.new.told.items }
     ensures kept { endings.new.kept.items ≡ endings.new.told.items }
     ensures lead { LeadOn endings.old.changes.items endings.new.changes.items scene.old.tree scene.new.tree }
@@ -58,7 +60,7 @@ pub fn end_at_entry(scene: &mut Scene, known: &mut Known, holder: Holder, ending
     requires others { OthersHaveAll known.old.sets scene.old holder }
     requires room { HaveRoomFor (length scene.old.locks.queue) endings.old }
     requires places { length endings.old.changes.items + length scene.old.locks.queue + 1 ≤ endings.old.changes.room }
-    requires entries { MayEnd known.old.sets scene.old.sessions scene.old.table }
+    requires entries { MayEnd known.old.sets scene.old }
     ensures ends { EndsWith (λ other. other == holder.ino.0) known.old.sets known.new.sets scene.old scene.new endings.new.told.items }
     ensures kept { endings.new.kept.items ≡ endings.new.told.items }
     ensures lead { LeadOn endings.old.changes.items endings.new.changes.items scene.old.tree scene.new.tree }
@@ -67,7 +69,7 @@ pub fn end_at_entry(scene: &mut Scene, known: &mut Known, holder: Holder, ending
 {
     let before = scene.locks.of_ino(holder.ino);
     let others = InoSet::new(endings.alloc());
-    let affected = settle(scene, holder.ino, others, endings);
+    let affected = settle(scene, known, holder.ino, others, endings);
     // Most steps of such events leave these locks as they were, and by the same locks and the same tree the others have all still.
     if is_as_before(&scene.locks, holder.ino, &before, &affected, endings) {
         finish_alone(scene, known, holder, &mut endings.changes);
@@ -111,14 +113,14 @@ pub fn end_at(scene: &mut Scene, known: &mut Known, ino: Ino, others: InoSet, en
     requires apart { set.contains others ino.0 ≡ false }
     requires room { HaveRoomFor (length scene.old.locks.queue) endings.old }
     requires places { HavePlaces endings.old.changes scene.old.locks others }
-    requires entries { MayEnd known.old.sets scene.old.sessions scene.old.table }
+    requires entries { MayEnd known.old.sets scene.old }
     ensures ends { EndsWith (is_affected ino.0 others) known.old.sets known.new.sets scene.old scene.new endings.new.told.items }
     ensures kept { endings.new.kept.items ≡ endings.new.told.items }
     ensures lead { LeadOn endings.old.changes.items endings.new.changes.items scene.old.tree scene.new.tree }
     // As many waited as wait and have ended.
     ensures count { length endings.new.told.items + length scene.new.locks.queue ≡ length scene.old.locks.queue }
 {
-    let affected = settle(scene, ino, others, endings);
+    let affected = settle(scene, known, ino, others, endings);
     end_settled(
         scene,
         known,
@@ -140,7 +142,7 @@ fn end_settled(
 )
     requires apart { set.contains affected.now ino.0 ≡ false }
     requires places { length changes.old.items + set.len affected.now + 1 ≤ changes.old.room }
-    requires entries { MayEnd known.old.sets scene.old.sessions scene.old.table }
+    requires entries { MayEnd known.old.sets scene.old }
     ensures ends { EndsAt (is_affected ino.0 affected.now) sized.now known.old.sets known.new.sets
         scene.old scene.new }
     ensures queue { scene.new.locks.queue ≡ scene.old.locks.queue }
@@ -152,29 +154,52 @@ fn end_settled(
 
 // Makes the moves, always the first that applies, until none does. Each request that is served ends, once for its client and
 // once for the history. It answers the other inodes of the event, and those that were moved with one of them.
-fn settle(scene: &mut Scene, ino: Ino, others: InoSet, endings: &mut Endings) -> InoSet
+fn settle(
+    scene: &mut Scene,
+    known: &mut Known,
+    ino: Ino,
+    others: InoSet,
+    endings: &mut Endings,
+) -> InoSet
     requires settles { MaySettle (is_affected ino.0 others) scene.old }
     requires judged { IsJudged endings.old.judged scene.old }
     requires apart { set.contains others ino.0 ≡ false }
     requires room { HaveRoomFor (length scene.old.locks.queue) endings.old }
     requires places { HavePlaces endings.old.changes scene.old.locks others }
+    requires permitted { ArePermittedIn known.old.sets scene.old }
     ensures settles { SettlesWith (is_affected ino.0 result) (is_affected ino.0 others) scene.old scene.new endings.new.told.items endings.new.sized.items }
     ensures kept { endings.new.kept.items ≡ endings.new.told.items }
     ensures count { length endings.new.told.items + length scene.new.locks.queue ≡ length scene.old.locks.queue }
     ensures apart { set.contains result ino.0 ≡ false }
     ensures lead { LeadOn endings.old.changes.items endings.new.changes.items scene.old.tree scene.new.tree }
     ensures places { HavePlaces endings.new.changes scene.new.locks result }
+    ensures told { (k : Holder) → known_of known.new.sets k ≡ known_of known.old.sets k }
+    ensures permitted { ArePermittedIn known.new.sets scene.new }
 {
-    let mut affected = others;
-    // The inodes from which a rename has walked over all below.
-    let mut walked = InoSet::new(endings.alloc());
-    end_gathers(&scene.table, &mut scene.locks, ino, &affected);
-    let mut place = first_place(&affected, ino);
-    'servings: while let Some(ticket) = sweep(scene, ino, &affected, &mut place) {
-        let changed = serve_next(scene, ino, ticket, &mut walked, &mut affected, endings);
-        place = place_behind(place, changed, &affected, ino);
+    end_gathers(&scene.table, &mut scene.locks, ino, &others);
+    let mut place = first_place(&others, ino);
+    let walked = InoSet::new(endings.alloc());
+    let mut reached = Reached {
+        affected: others,
+        walked,
+    };
+    'servings: while let Some(ticket) = sweep(scene, known, ino, &reached.affected, &mut place) {
+        let changed = serve_next(scene, known, ino, ticket, &mut reached, endings);
+        place = place_behind(place, changed, &reached.affected, ino);
     }
+    let Reached {
+        affected,
+        walked: _,
+    } = reached;
     affected
+}
+
+// What a settling has reached, beside the inode of its event.
+struct Reached {
+    // The other inodes that are affected.
+    affected: InoSet,
+    // Those from which a rename has walked over all below.
+    walked: InoSet,
 }
 
 // ---- moves of locks
@@ -224,16 +249,23 @@ fn place_behind(place: SweepPlace, changed: Option<Ino>, affected: &InoSet, ino:
 
 // Lets the locks of the affected inodes move, one inode after the other, from where the sweep has come to, until a request is to be
 // served, whose number it answers, or no move applies.
-fn sweep(scene: &mut Scene, ino: Ino, affected: &InoSet, place: &mut SweepPlace) -> Option<Ticket>
+fn sweep(
+    scene: &mut Scene,
+    known: &Known,
+    ino: Ino,
+    affected: &InoSet,
+    place: &mut SweepPlace,
+) -> Option<Ticket>
     requires place { StandsAt (is_affected ino.0 affected.now) place.old scene.old }
     requires still { AreStill (is_affected ino.0 affected.now) scene.old }
     requires waits { WaitAt (is_affected ino.0 affected.now) scene.old }
+    requires permitted { ArePermittedIn known.now.sets scene.old }
     ensures swept { IsSwept (is_affected ino.0 affected.now) scene.old scene.new }
     ensures next { GoesOn scene.new result }
     ensures place { StandsAt (is_affected ino.0 affected.now) place.new scene.new }
 {
     'inodes: loop {
-        if let Some(ticket) = advance(scene, *place) {
+        if let Some(ticket) = advance(scene, known, *place) {
             return Some(ticket);
         }
         match next_affected(affected, ino, place.at) {
@@ -271,13 +303,15 @@ fn next_affected(affected: &InoSet, ino: Ino, at: Ino) -> Option<Ino>
 // its inode, each inode but the one that is at or below it and has entries is affected; for want of memory for that it ends so.
 fn serve_next(
     scene: &mut Scene,
+    known: &mut Known,
     ino: Ino,
     ticket: Ticket,
-    walked: &mut InoSet,
-    affected: &mut InoSet,
+    reached: &mut Reached,
     endings: &mut Endings,
 ) -> Option<Ino>
-    requires walked { AreWalked walked.old ino.0 scene.old.tree scene.old.table affected.old }
+    requires tree { IsTree scene.old.tree }
+    requires permitted { ArePermittedIn known.old.sets scene.old }
+    requires walked { AreWalked reached.old.walked ino.0 scene.old.tree scene.old.table reached.old.affected }
     requires waits { (q : Request) × (request_at scene.old.locks ticket.0 ≡ Some q) }
     requires told { length endings.old.told.items < endings.old.told.room }
     requires kept { length endings.old.kept.items < endings.old.kept.room }
@@ -291,16 +325,18 @@ fn serve_next(
         × ((q : Request) → request_at scene.old.locks ticket.0 ≡ Some q
         → endings.new.sized.items ≡ endings.old.sized.items ++ sized_in (Serving q ended.outcome ∷ [])) }
     ensures reached { (q : Request) → request_at scene.old.locks ticket.0 ≡ Some q
-        → Reaches q ino.0 scene.old.tree scene.new.tree scene.old.table affected.old affected.new }
+        → Reaches q ino.0 scene.old.tree scene.new.tree scene.old.table reached.old.affected reached.new.affected }
     // By the tree of before.
-    ensures walked { AreWalked walked.new ino.0 scene.old.tree scene.old.table affected.new }
+    ensures walked { AreWalked reached.new.walked ino.0 scene.old.tree scene.old.table reached.new.affected }
     ensures changed { (q : Request) → request_at scene.old.locks ticket.0 ≡ Some q → result ≡ changed_alone q }
     ensures room { (endings.old.told.room ≤ endings.new.told.room) × (endings.old.kept.room ≤ endings.new.kept.room)
         × (vec_capacity endings.old.sized ≤ vec_capacity endings.new.sized) }
     // At most one change is noted, and there is a place more for each inode that is affected besides.
     ensures lead { LeadOn endings.old.changes.items endings.new.changes.items scene.old.tree scene.new.tree }
     ensures noted { length endings.new.changes.items ≤ length endings.old.changes.items + 1 }
-    ensures places { endings.old.changes.room + set.len affected.new ≤ endings.new.changes.room + set.len affected.old }
+    ensures places { endings.old.changes.room + set.len reached.new.affected ≤ endings.new.changes.room + set.len reached.old.affected }
+    ensures told { (k : Holder) → known_of known.new.sets k ≡ known_of known.old.sets k }
+    ensures permitted { ArePermittedIn known.new.sets scene.new }
 {
     let Some(request) = scene.locks.apply_move(Move::Serve(ticket)) else {
         unreachable!()
@@ -309,9 +345,11 @@ fn serve_next(
     let judged = is_judged(endings.judged, ticket);
     endings.judged = None;
     let (alloc, changes) = (endings.alloc(), &mut endings.changes);
-    let reached = reach(scene, &request, ino, walked, affected, changes);
-    let served = serve(alloc, scene, &request, reached.is_ok(), judged);
+    let (walked, affected) = (&mut reached.walked, &mut reached.affected);
+    let room = reach(scene, &request, ino, walked, affected, changes);
+    let served = serve(alloc, scene, &request, room.is_ok(), judged);
     changes.note_served(&scene.tree, &request, &served.outcome);
+    renew_served(scene, known, &request, &served.outcome, ino, affected);
     let (client, ticket) = (request.client, request.ticket);
     let (sized, changed) = (sized_by(&request, &served), changed_alone(&request));
     // The request goes before its end is told, so that the proof has to follow it but once.

@@ -7,6 +7,7 @@ pub mod Counted
 pub mod Empty
 pub mod Keeping
 pub mod Keyed
+pub mod KnownPlaces
 pub mod Moves
 pub mod NodesAt
 pub mod Numbers
@@ -15,6 +16,7 @@ pub mod Opening
 pub mod Orders
 pub mod Placed
 pub mod Polled
+pub mod Positions
 pub mod Quiet
 pub mod QuietKeys
 pub mod Reading

@@ -5,8 +5,10 @@
 
 mod entry;
 mod holders;
+mod known;
 mod laws;
 mod nodes;
+mod on_inode;
 mod places;
 mod polls;
 mod table;
@@ -15,9 +17,11 @@ mod walk;
 pub use cap_arena::AddError;
 pub use entry::{Entry, EntryRow, Holder, Slot};
 pub use holders::Holders;
+pub use known::{Known, KnownOn};
 pub use laws::{
     a_table_stays_a_table, entries_are_of_their_holders, inodes_change_by_themselves,
     numbers_say_what_was_shown, one_by_one_is_at_once,
 };
+pub use on_inode::Sets;
 pub use table::{CapTable, MAX_ENTRIES};
 pub use walk::Walk;

@@ -1,4 +1,4 @@
-pub mod Positions
+pub use Rattle.captable.proofs.Positions
 pub mod Idle
 pub mod Rest
 pub mod Exact
@@ -17,7 +17,8 @@ pub mod Waiting
 pub mod SameBut
 pub mod Told
 pub mod Turns
-pub mod OneInode
 pub mod Alone
 pub mod ByLock
 pub mod FirstServed
+pub mod KnownWants
+pub mod Verdicts

@@ -1,5 +1,5 @@
 -- What the grants of a client say of an inode, on a tree and with the sessions of one moment.
-use Rattle.std.specs.Prelude.{ℕ, Bool, false, List, [], ◌∷◌, Option, Some, None}
+use Rattle.std.specs.Prelude.{◌≡◌, ℕ, Bool, false, List, [], ◌∷◌, Option, Some, None}
 use Rattle.std.specs.FinMap as map
 use Rattle.capbits.specs.declared.caller.Caller.{Caller}
 use Rattle.capbits.specs.declared.cap.Cap.TheVariants.{P}
@@ -17,6 +17,10 @@ use Rattle.sessiontab.specs.Table.{SessionTable}
 use Rattle.inotree.specs.declared.node.Node.{Node}
 use Rattle.inotree.specs.Tree.{Nodes, path_of}
 use Rattle.captable.specs.declared.entry.Holder.{Holder}
+use Rattle.captable.specs.declared.entry.Entry.{Entry}
+use Rattle.captable.specs.Table.{Table, entry_at}
+use Rattle.captable.specs.Known as known
+use Rattle.captable.specs.Known.{KnownSets}
 
 -- all that a verdict reads: who asks, with which grants, and of the inode its path and whose it is
 pub record Subject : Type 0 where
@@ -64,3 +68,15 @@ permitted_to fs (Some s) = permitted_of (question_of fs s) s.grants
 -- what the grants permit the client to hold
 abbrev pub permitted : List ℕ → Nodes → SessionTable → Holder → Caps
 permitted fs tree sessions k = permitted_to fs (subject tree sessions k)
+
+-- ---- what is known of it
+
+-- of each entry is known what its client is permitted
+abbrev pub ArePermitted : KnownSets → List ℕ → Nodes → SessionTable → Table → Type 0
+ArePermitted sets fs tree sessions table =
+    (k : Holder) (e : Entry) → entry_at table k ≡ Some e → known.permitted_of sets k ≡ Some (permitted fs tree sessions k)
+
+-- and so of each on one inode
+abbrev pub ArePermittedOn : KnownSets → List ℕ → Nodes → SessionTable → Table → ℕ → Type 0
+ArePermittedOn sets fs tree sessions table ino =
+    (k : Holder) (e : Entry) → k.ino.0 ≡ ino → entry_at table k ≡ Some e → known.permitted_of sets k ≡ Some (permitted fs tree sessions k)

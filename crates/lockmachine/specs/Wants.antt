@@ -1,7 +1,6 @@
 -- What clients want of an inode, so far as it counts.
 use Rattle.std.specs.Prelude.{ℕ, Bool, not, List, [], ◌∷◌, Option, Some, None, filter, map as each, if◌then◌else◌}
 use Rattle.std.specs.List.{fold}
-use Rattle.std.specs.FinMap as map
 use Rattle.capbits.specs.declared.cap.Cap.TheVariants.{P}
 use Rattle.capbits.specs.declared.ids.ClientId.{ClientId}
 use Rattle.capbits.specs.declared.ids.Ino.{Ino}
@@ -10,15 +9,15 @@ use Rattle.capbits.specs.Sets.{no_caps, caps_in, is_empty, union, meet, minus}
 use Rattle.sessiontab.specs.Table.{SessionTable}
 use Rattle.sessiontab.specs.Calls.{status_of}
 use Rattle.sessiontab.specs.Tests.{is_open}
-use Rattle.inotree.specs.declared.node.Node.{Node}
 use Rattle.inotree.specs.Tree.{Nodes}
 use Rattle.captable.specs.declared.entry.EntryRow.{EntryRow}
 use Rattle.captable.specs.Table.{Table}
 use Rattle.captable.specs.Calls.{entries_on}
 use Rattle.lockmachine.specs.declared.wants.Wants.{Wants}
+use Rattle.lockmachine.specs.declared.wants.Tally.{Tally}
 use Rattle.lockmachine.specs.declared.wants.Wanting.{Wanting}
 use Rattle.lockmachine.specs.declared.wants.Wanting.TheVariants.{Nobody, One, Several}
-use Rattle.lockmachine.specs.Policy.{permitted, permitted_to, subject_of}
+use Rattle.lockmachine.specs.Policy.{permitted}
 
 -- what the entry's client wants of these, which it is permitted, if its session is open
 abbrev pub want_of_permitted : SessionTable → Caps → EntryRow → Caps
@@ -38,11 +37,6 @@ want_of fs tree sessions row = (row.holder.client, effective_want fs tree sessio
 -- what the clients with an entry on an inode effectively want of it
 abbrev pub wants_on : List ℕ → Nodes → SessionTable → Table → Ino → List Want
 wants_on fs tree sessions table ino = each (want_of fs tree sessions) (entries_on table ino)
-
--- the same of an entry on an inode with this path, of which the tree keeps this
-abbrev pub want_by : List ℕ → SessionTable → Option (List (List ℕ)) → Option Node → EntryRow → Want
-want_by fs sessions path node row =
-    (row.holder.client, want_of_permitted sessions (permitted_to fs (subject_of (map.get sessions.sessions row.holder.client.0) path node)) row)
 
 -- what somebody wants, of these
 abbrev pub union_of : List Want → Caps
@@ -71,3 +65,7 @@ abbrev pub loner_with : Wanting → List Want → Option Want
 loner_with Nobody rest = only rest
 loner_with (One client want) rest = only ((client, want) ∷ rest)
 loner_with Several rest = None
+
+-- what is wanted in all, where these were counted and those of a list are wanted too
+abbrev pub in_all_with : Tally → List Want → Wants
+in_all_with tally rest = record { wanted = fold (λ caps want. union caps want.1) tally.wanted rest; loner = loner_with tally.wanting (filter (λ want. is_more want.1) rest) }

@@ -11,6 +11,7 @@ mod policy;
 mod request;
 mod scene;
 mod states;
+mod under;
 mod waiters;
 mod wants;
 
@@ -21,11 +22,10 @@ pub use laws::{
 };
 pub use locks::Locks;
 pub use moves::Move;
-pub use policy::Policy;
+pub use policy::{Policy, verdict_on};
 pub use request::{Ask, Change, Request};
 pub use scene::Scene;
 pub use states::InodeLocks;
+pub use under::{allowed_under, told_under};
 pub use waiters::MAX_WAITING;
-pub use wants::{
-    Wants, effective_want, permitted, permitted_and_wanted, want_of_permitted, wants_on,
-};
+pub use wants::{Wants, effective_want, permitted, permitted_on, want_of_permitted, wants_on};

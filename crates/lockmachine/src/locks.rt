@@ -13,13 +13,14 @@ ghost use Rattle.lockmachine.specs.Locks as words;
 ghost use Rattle.lockmachine.specs.Requests as requests;
 ghost use Rattle.lockmachine.specs.Requests.{waits_for};
 ghost use Rattle.lockmachine.specs.Scene.{wanted_in_all, scene, scene_by, head_in, target_by};
+ghost use Rattle.lockmachine.specs.Policy.{ArePermittedOn};
 ghost use Rattle.lockmachine.specs.Waiters as waiting;
 ghost use Rattle.lockmachine.specs.Moves as moves;
 ghost use Rattle.lockmachine.specs.Moves.{first_move, moved, handed};
 ghost use Rattle.lockmachine.specs.Runs.{MoveLittle, EndLittle, ChangesLocksOf};
 ghost use Rattle.lockmachine.specs.Turns.{IsTurnOf, IsNextAt, IsDue, NobodyElsewhere, Suffices};
 
-use crate::moves::{Move, Sought};
+use crate::moves::{Move, Sought, Turn};
 use crate::policy::Policy;
 use crate::request::{Ask, Request};
 use crate::states::{InodeLocks, States};
@@ -27,7 +28,7 @@ use crate::waiters::{MAX_WAITING, Waiter, Waiters};
 use crate::wants::{Wants, given_or_found, wants_on};
 use capbits::{ClientId, Ino, Part, Refusal, Ticket};
 use capspec::FsName;
-use captable::CapTable;
+use captable::{CapTable, Known};
 use inotree::Tree;
 use locktable::{Head, LockState, State, serves, target};
 use onelock::{is_off_target, may_end};
@@ -235,46 +236,31 @@ impl Locks {
         self.first_begin_of_all(fs, tree, sessions, table)
     }
 
-    /// What is next where it is an inode's turn: a move at this inode, or a request that is served, by the first move that
-    /// applies to all; or else nothing, at this inode. It looks at the entries of this inode alone.
-    pub fn next_move_at(
-        &self,
-        table: &CapTable,
-        sessions: &Sessions,
-        tree: &Tree,
-        fs: &FsName,
-        ino: Ino,
-    ) -> Move
-        requires turn { IsTurnOf (scene fs.now tree.now sessions.now table.now self.now) ino.0 }
-        ensures { IsNextAt (scene fs.now tree.now sessions.now table.now self.now) ino.0 result }
-    {
-        let policy = Policy { fs, tree, sessions };
-        self.next_move_by(&policy, table, ino, Sought::Everybody, &mut None)
-    }
-
-    // The same, where who may be served is found among those who are sought, and it may be known what is wanted of the inode. That is
-    // found where a gather may begin, and kept.
+    // What is next where it is an inode's turn: a move at this inode, or a request that is served, by the first move that applies to
+    // all; or else nothing, at this inode. It may be known what is wanted of it. That is found where a gather may begin, and kept.
     fn next_move_by(
         &self,
         policy: &Policy<'_>,
         table: &CapTable,
-        ino: Ino,
-        sought: Sought,
+        known: &Known,
+        turn: Turn,
         wanted: &mut Option<Wants>,
     ) -> Move
-        requires turn { IsTurnOf (scene_by policy.now table.now self.now) ino.0 }
-        requires sought { Suffices sought self.now ino.0 }
-        requires known { IfSome wanted.old (λ wants. wants ≡ wanted_in_all (scene_by policy.now table.now self.now) ino.0) }
-        ensures next { IsNextAt (scene_by policy.now table.now self.now) ino.0 result }
-        ensures known { IfSome wanted.new (λ wants. wants ≡ wanted_in_all (scene_by policy.now table.now self.now) ino.0) }
+        requires turn { IsTurnOf (scene_by policy.now table.now self.now) turn.ino.0 }
+        requires sought { Suffices turn.sought self.now turn.ino.0 }
+        requires permitted { ArePermittedOn known.now.sets policy.now.fs.now policy.now.tree.now policy.now.sessions.now table.now turn.ino.0 }
+        requires wanted { IfSome wanted.old (λ wants. wants ≡ wanted_in_all (scene_by policy.now table.now self.now) turn.ino.0) }
+        ensures next { IsNextAt (scene_by policy.now table.now self.now) turn.ino.0 result }
+        ensures wanted { IfSome wanted.new (λ wants. wants ≡ wanted_in_all (scene_by policy.now table.now self.now) turn.ino.0) }
     {
+        let Turn { ino, sought } = turn;
         if let Some(part) = self.first_end(table, ino) {
             return Move::End { ino, part };
         }
         if let Some(served) = self.first_among(sought, ino) {
             return Move::Serve(served);
         }
-        let wants = given_or_found(*wanted, policy.fs, policy.tree, policy.sessions, table, ino);
+        let wants = given_or_found(*wanted, policy, table, known, ino);
         *wanted = Some(wants);
         self.first_begin(sought.may_wait(), ino, &wants)
             .unwrap_or(Move::Settled)
@@ -555,10 +541,12 @@ impl Locks {
         &mut self,
         policy: &Policy<'_>,
         table: &CapTable,
+        known: &Known,
         ino: Ino,
         alone: bool,
     ) -> Option<Ticket>
         requires turn { IsTurnOf (scene_by policy.now table.now self.old) ino.0 }
+        requires permitted { ArePermittedOn known.now.sets policy.now.fs.now policy.now.tree.now policy.now.sessions.now table.now ino.0 }
         requires alone { alone ≡ true → NobodyElsewhere self.old ino.0 }
 
         // Each lock begins at most one gather and ends at most two.
@@ -572,8 +560,9 @@ impl Locks {
         // waits.
         let mut wanted = None;
         let sought = self.sought_at(ino, alone);
+        let turn = Turn { ino, sought };
         'moves: loop {
-            match self.next_move_by(policy, table, ino, sought, &mut wanted) {
+            match self.next_move_by(policy, table, known, turn, &mut wanted) {
                 Move::Settled => return None,
                 Move::Serve(ticket) => return Some(ticket),
                 step => self.make(step),

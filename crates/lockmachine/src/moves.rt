@@ -40,6 +40,13 @@ pub(crate) enum Sought {
     Nobody,
 }
 
+// Whose turn it is, and among whom one who may be served is sought then.
+#[derive(Clone, Copy)]
+pub(crate) struct Turn {
+    pub(crate) ino: Ino,
+    pub(crate) sought: Sought,
+}
+
 impl Sought {
     // Whether one may wait at the inode.
     pub(crate) fn may_wait(self) -> bool

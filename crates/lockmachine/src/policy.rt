@@ -1,7 +1,14 @@
-//! By what it is judged what a client is permitted.
+//! By what a client is judged, and what its grants say.
+ghost use Rattle.std.specs.Prelude.{◌≡◌, []};
+ghost use Rattle.capgrant.specs.Verdict.{is_allowed, IfDenied};
+ghost use Rattle.capgrant.specs.declared.answer.Verdict.TheVariants as verdict_kind;
+ghost use Rattle.lockmachine.specs.Policy.{is_granted, failures};
 
+use arrayvec::ArrayVec;
+use capgrant::{Access, Rules, Verdict, verdict};
 use capspec::FsName;
-use inotree::Tree;
+use captable::Holder;
+use inotree::{Names, Tree};
 use sessiontab::Sessions;
 
 /// By what it is judged what a client is permitted: the name of the file system, the tree, and the sessions with their grants.
@@ -10,4 +17,37 @@ pub struct Policy<'a> {
     pub fs: &'a FsName,
     pub tree: &'a Tree,
     pub sessions: &'a Sessions,
+}
+
+/// What the client's grants say of an access to an inode. Without a session or a path no grant allows it.
+pub fn verdict_on(
+    fs: &FsName,
+    tree: &Tree,
+    sessions: &Sessions,
+    holder: Holder,
+    access: Access,
+) -> Verdict
+    ensures allowed { is_allowed result ≡ is_granted fs.now tree.now sessions.now holder access }
+    ensures rules { IfDenied result (λ rules. rules ≡ failures fs.now tree.now sessions.now holder access) }
+{
+    let (client, ino) = (holder.client, holder.ino);
+    let Some(session) = sessions.session(client) else {
+        return no_grant();
+    };
+    let mut names = Names::new();
+    let path = tree.read_path(ino, &mut names).then_some(&names);
+    let (Some(path), Some(node)) = (path, tree.node(ino)) else {
+        return no_grant();
+    };
+    let (grants, caller) = (session.grants.grants(), &session.caller);
+    verdict(grants, fs, caller, path.as_slice(), &node.attr, access)
+}
+
+// The verdict of no grant.
+fn no_grant() -> Verdict
+    ensures { result ≡ verdict_kind.Denied [] }
+{
+    Verdict::Denied {
+        rules: Rules::from(ArrayVec::new()),
+    }
 }

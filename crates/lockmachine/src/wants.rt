@@ -3,12 +3,14 @@ ghost use Rattle.std.specs.Prelude.{◌≡◌, Some, IfSome, List, [], ◌∷◌
 ghost use Rattle.std.specs.Option.{option_copied};
 ghost use Rattle.std.specs.FinMap as map;
 ghost use Rattle.captable.specs.Table.{holder};
-ghost use Rattle.lockmachine.specs.Policy as policy;
+ghost use Rattle.lockmachine.specs.Policy as verdicts;
+ghost use Rattle.lockmachine.specs.Policy.{ArePermittedOn};
 ghost use Rattle.lockmachine.specs.Wants as words;
 
+use crate::policy::Policy;
 use capbits::{Cap, CapSet, ClientId, Ino};
 use capspec::FsName;
-use captable::{CapTable, EntryRow};
+use captable::{CapTable, EntryRow, Known};
 use inotree::{Names, Node, Tree};
 use onelock::wanted_while;
 use sessiontab::{Session, Sessions};
@@ -22,48 +24,58 @@ pub struct Wants {
     pub loner: Option<(ClientId, CapSet)>,
 }
 
-/// What is wanted of an inode, found in one walk over its entries.
+/// What is wanted of an inode, by what the grants say now of each client with an entry there.
 pub fn wants_on(fs: &FsName, tree: &Tree, sessions: &Sessions, table: &CapTable, ino: Ino) -> Wants
     ensures { result ≡ words.in_all (words.wants_on fs.now tree.now sessions.now table.now ino) }
 {
-    let mut wanted = CapSet::empty();
-    let mut wanting = Wanting::Nobody;
+    let mut tally = Tally::new();
     let mut walk = table.holders_of(ino);
-    if walk.is_done() {
-        let loner = wanting.loner();
-        return Wants { wanted, loner };
-    }
-    // The names from the root are looked up once, and not for each entry.
-    let mut names = Names::new();
-    let path = tree.read_path(ino, &mut names).then_some(&names);
-    let node = tree.node(ino);
     'rows: while let Some(row) = walk.next() {
         let client = row.holder.client;
-        let (_permitted, want) = permitted_and_wanted(fs, sessions, row, path, node);
-        wanted = wanted.union(want);
-        if is_more(want) {
-            wanting = wanting.and(client, want);
-        }
+        tally = tally.and(client, effective_want(fs, tree, sessions, row));
     }
-    let loner = wanting.loner();
-    Wants { wanted, loner }
+    tally.wants()
 }
 
-// What is wanted of an inode, where it may be known.
-pub(crate) fn given_or_found(
-    known: Option<Wants>,
-    fs: &FsName,
-    tree: &Tree,
-    sessions: &Sessions,
+// The same, by what each client is known to be permitted, found in one walk.
+pub(crate) fn wants_by_known(
+    policy: &Policy<'_>,
     table: &CapTable,
+    known: &Known,
     ino: Ino,
 ) -> Wants
-    requires { IfSome known (λ wants. wants ≡ words.in_all (words.wants_on fs.now tree.now sessions.now table.now ino)) }
-    ensures { result ≡ words.in_all (words.wants_on fs.now tree.now sessions.now table.now ino) }
+    requires { ArePermittedOn known.now.sets policy.now.fs.now policy.now.tree.now policy.now.sessions.now table.now ino.0 }
+    ensures { result ≡ words.in_all (words.wants_on policy.now.fs.now policy.now.tree.now policy.now.sessions.now table.now ino) }
 {
-    match known {
+    let mut tally = Tally::new();
+    let mut walk = table.holders_of(ino);
+    let known_on = known.on(ino);
+    let mut place: usize = 0;
+    'rows: while let Some(row) = walk.next() {
+        let client = row.holder.client;
+        let permitted = known_on.of(client, place).permitted;
+        let want = want_of_permitted(policy.sessions, row, permitted);
+        tally = tally.and(client, want);
+        place = place.wrapping_add(1);
+    }
+    tally.wants()
+}
+
+// What is wanted of an inode, where it may have been found already.
+pub(crate) fn given_or_found(
+    found: Option<Wants>,
+    policy: &Policy<'_>,
+    table: &CapTable,
+    known: &Known,
+    ino: Ino,
+) -> Wants
+    requires found { IfSome found (λ wants. wants ≡ words.in_all (words.wants_on policy.now.fs.now policy.now.tree.now policy.now.sessions.now table.now ino)) }
+    requires permitted { ArePermittedOn known.now.sets policy.now.fs.now policy.now.tree.now policy.now.sessions.now table.now ino.0 }
+    ensures { result ≡ words.in_all (words.wants_on policy.now.fs.now policy.now.tree.now policy.now.sessions.now table.now ino) }
+{
+    match found {
         Some(wants) => wants,
-        None => wants_on(fs, tree, sessions, table, ino),
+        None => wants_by_known(policy, table, known, ino),
     }
 }
 
@@ -90,34 +102,28 @@ pub fn permitted(
     client: ClientId,
     ino: Ino,
 ) -> CapSet
-    ensures { result ≡ policy.permitted fs.now tree.now sessions.now (holder client ino) }
+    ensures { result ≡ verdicts.permitted fs.now tree.now sessions.now (holder client ino) }
 {
-    let Some(session) = sessions.session(client) else {
-        return CapSet::of(&[Cap::P]);
-    };
     let mut names = Names::new();
     let path = tree.read_path(ino, &mut names).then_some(&names);
-    permitted_for(fs, session, path, tree.node(ino))
+    permitted_on(fs, sessions, client, path, tree.node(ino))
 }
 
-/// What the entry's client is permitted to hold, and what it effectively wants, by the path of the inode and what the tree keeps of
-/// it. The client's session is looked up once.
-pub fn permitted_and_wanted(
+/// What the client is permitted to hold of an inode with this path, of which the tree keeps this. Without a session or a path, the pin
+/// alone.
+pub fn permitted_on(
     fs: &FsName,
     sessions: &Sessions,
-    row: EntryRow,
+    client: ClientId,
     path: Option<&Names<'_>>,
     node: Option<&Node>,
-) -> (CapSet, CapSet)
-    ensures permitted { result.0 ≡ policy.permitted_to fs.now (policy.subject_of (map.get sessions.now.sessions row.holder.client.0) (option_copied path.entry) (option_copied node.entry)) }
-    ensures wanted { result.1 ≡ words.want_of_permitted sessions.now result.0 row }
+) -> CapSet
+    ensures { result ≡ verdicts.permitted_to fs.now (verdicts.subject_of (map.get sessions.now.sessions client.0) (option_copied path.entry) (option_copied node.entry)) }
 {
-    let Some(session) = sessions.session(row.holder.client) else {
-        return (CapSet::of(&[Cap::P]), CapSet::empty());
-    };
-    let permitted = permitted_for(fs, session, path, node);
-    let wanted = wanted_while(Some(session.status), row, permitted);
-    (permitted, wanted)
+    match sessions.session(client) {
+        Some(session) => permitted_for(fs, session, path, node),
+        None => CapSet::of(&[Cap::P]),
+    }
 }
 
 // What the client of a session is permitted to hold.
@@ -127,7 +133,7 @@ fn permitted_for(
     path: Option<&Names<'_>>,
     node: Option<&Node>,
 ) -> CapSet
-    ensures { result ≡ policy.permitted_to fs.now (policy.subject_of (Some session.now) (option_copied path.entry) (option_copied node.entry)) }
+    ensures { result ≡ verdicts.permitted_to fs.now (verdicts.subject_of (Some session.now) (option_copied path.entry) (option_copied node.entry)) }
 {
     let (Some(path), Some(node)) = (path, node) else {
         return CapSet::of(&[Cap::P]);
@@ -162,6 +168,48 @@ impl Wanting {
         match self {
             Wanting::One(client, want) => Some((client, want)),
             Wanting::Nobody | Wanting::Several => None,
+        }
+    }
+}
+
+// What is wanted by the clients that a walk came by.
+#[derive(Clone, Copy)]
+pub(crate) struct Tally {
+    pub(crate) wanted: CapSet,
+    pub(crate) wanting: Wanting,
+}
+
+impl Tally {
+    // Nothing, by nobody.
+    fn new() -> Tally
+        ensures { (wants : List words.Want) → words.in_all_with result wants ≡ words.in_all wants }
+    {
+        Tally {
+            wanted: CapSet::empty(),
+            wanting: Wanting::Nobody,
+        }
+    }
+
+    // The same with one client more, which wants this.
+    fn and(self, client: ClientId, want: CapSet) -> Tally
+        ensures { (rest : List words.Want) → words.in_all_with result rest ≡ words.in_all_with self ((client, want) ∷ rest) }
+    {
+        let Tally { wanted, wanting } = self;
+        let wanted = wanted.union(want);
+        if !is_more(want) {
+            return Tally { wanted, wanting };
+        }
+        let wanting = wanting.and(client, want);
+        Tally { wanted, wanting }
+    }
+
+    // What is wanted in all.
+    fn wants(self) -> Wants
+        ensures { result ≡ words.in_all_with self [] }
+    {
+        Wants {
+            wanted: self.wanted,
+            loner: self.wanting.loner(),
         }
     }
 }

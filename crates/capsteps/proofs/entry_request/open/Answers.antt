@@ -1,12 +1,11 @@
 use Rattle.std.proofs.Common.{false, ◌≡◌, Some, None, sym, ap, subst, ◌∙◌, Option, is_some, cond, refl}
-use Rattle.capsteps.proofs.Common.{entry_at, Table, wanting, new_entry, opened, Entry, Holder, opening_wants, with_opening, StillKnown, OpenMode}
+use Rattle.capsteps.proofs.Common.{entry_at, Table, wanting, new_entry, opened, Entry, Holder, opening_wants, with_opening, StillKept, OpenMode}
 use Rattle.capbits.specs.Sets.{union, no_caps}
 use Rattle.captable.specs.Calls.{touched}
 use Rattle.captable.proofs.Changes.{put_found}
 use Rattle.captable.proofs.ByHolder.{entry_at-opened}
 use Rattle.capacts.specs.Caprules.Direct.{with_want}
-use Rattle.capsteps.proofs.Knowing.{still-then}
-use Rattle.capsteps.proofs.EntryKept.{WasThere, still-itself, there-changed}
+use Rattle.capsteps.proofs.EntryKept.{WasThere, kept-itself, kept-on, there-changed}
 use Rattle.capsteps.proofs.entry_request.open.Goals as goal
 use Rattle.capsteps.proofs.entry_request.open.Goals.{in-Some, in-None+in_ok-make_entry-in-None}
 
@@ -49,11 +48,11 @@ returns-clause-ok c =
           )
     ]
 
-pub returns-clause-known : goal.returns-clause-known
-returns-clause-known c =
+pub returns-clause-kept : goal.returns-clause-kept
+returns-clause-kept c =
     let there : WasThere c.match-find.table c.want.new.table = subst (WasThere c.match-find.table) (sym c.want.ensures) (there-changed false c.match-find.table c.args.holder (λ e. wanting c.union.result e)) in
-    still-then c.args.table.now c.match-find.table c.want.new.table c.args.known.now.sets c.match-find.known.sets
-    (elim c.match-find.branch as (λ _. StillKnown c.args.table.now c.match-find.table c.args.known.now.sets c.match-find.known.sets) [
-      | in-Some w ↦ rw (w.table-is, w.known-is) (still-itself c.args.table.now c.args.known.now.sets)
-      | in-None+in_ok-make_entry-in-None w ↦ rw (w.table-is, w.known-is) w.make_entry.ensures.known
+    kept-on c.args.policy.now c.args.table.now c.match-find.table c.want.new.table c.args.known.now.sets c.match-find.known.sets
+    (elim c.match-find.branch as (λ _. StillKept c.args.policy.now c.args.table.now c.match-find.table c.args.known.now.sets c.match-find.known.sets) [
+      | in-Some w ↦ rw (w.table-is, w.known-is) (kept-itself c.args.policy.now c.args.table.now c.args.known.now.sets)
+      | in-None+in_ok-make_entry-in-None w ↦ rw (w.table-is, w.known-is) w.make_entry.ensures.kept
     ]) there

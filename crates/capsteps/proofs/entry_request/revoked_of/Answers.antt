@@ -1,6 +1,7 @@
 use Rattle.std.proofs.Common.{◌≡◌, Some, None, sym, ap, ◌∙◌}
-use Rattle.capsteps.proofs.Common.{Holder, entry_at}
+use Rattle.capsteps.proofs.Common.{Holder, Sets, sets_of, entry_at}
 use Rattle.capbits.specs.Sets.{minus}
+use Rattle.capacts.proofs.KeptSets.{told-or}
 use Rattle.capsteps.proofs.Knowing.{revoked-known}
 use Rattle.capsteps.proofs.Revoking.{revoked-none}
 use Rattle.capsteps.proofs.entry_request.revoked_of.Goals as goal
@@ -10,7 +11,7 @@ returns-in-Some c =
     let k : Holder = c.args.holder in
     let found : entry_at c.args.table.now k ≡ Some c.in-Some.entry = cc in
     λ s table known.
-    c.minus.ensures ∙ ap (minus c.in-Some.entry.held) c.of.ensures
+    c.minus.ensures ∙ ap (minus c.in-Some.entry.held) (ap (λ (sets : Sets). sets.told) c.of.ensures ∙ told-or (sets_of c.args.known.now.sets k))
     ∙ revoked-known c.args.known.now.sets s k c.in-Some.entry known (ap (λ t. entry_at t k) table ∙ found)
 
 pub returns-in-None : goal.returns-in-None

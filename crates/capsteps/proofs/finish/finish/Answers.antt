@@ -1,12 +1,12 @@
 use Rattle.std.proofs.Common.{◌≡◌, ◌<◌, ◌||◌, ◌==◌, ℕ, true, false, Option, sym, refl, ap, subst, ◌∙◌, true≢false, IsTrue, All}
-use Rattle.capsteps.proofs.Common.{find, unwrap_or, eqb-true, false_from_ne_true, All-filter, Caps, has_session, Entry, EntryRow, Holder, Table, is_row_of, is_of_inode, entries_on, changed_where, InodeLocks, Scene, scene, told_at, told_by, entry_under, entry_by, InoSet, known_in, HaveRoom, is_affected, forget_at, forget_among, kept-as, kept-same, kept-then, kept-not, leads-then}
+use Rattle.capsteps.proofs.Common.{find, unwrap_or, eqb-true, false_from_ne_true, All-filter, Caps, has_session, Entry, EntryRow, Holder, Table, is_row_of, is_of_inode, entries_on, changed_where, InodeLocks, Scene, scene, told_at, told_by, entry_under, entry_by, InoSet, known_in, ArePermittedIn, is_affected, forget_at, forget_among, kept-as, kept-same, kept-then, kept-not, leads-then}
 use Rattle.std.specs.FinMap as map
 use Rattle.std.specs.FinSet as set
 use Rattle.std.proofs.Math.Bool.{or_comm}
 use Rattle.capbits.specs.Sets.{no_caps}
 use Rattle.capacts.specs.Finishing.{is_on}
 use Rattle.capsteps.proofs.AtEnd.{entry-alike, forget-all}
-use Rattle.capacts.proofs.KeptSets.{found-stays, room-still}
+use Rattle.capacts.proofs.KeptSets.{found-stays, was-there}
 use Rattle.capsteps.proofs.ManyInodes.{changed-twice_where, entries_on-stay, holders-stay}
 use Rattle.capsteps.proofs.finish.finish.Goals as goal
 
@@ -14,15 +14,14 @@ pub finish_entries-requires : goal.finish_entries-requires
 finish_entries-requires c =
     let t : Table = c.args.scene.now.table in
     let g : EntryRow → Entry = entry_by (known_in c.args.known.now.sets) c.args.scene.now.fs c.args.scene.now.tree c.args.scene.now.sessions c.args.scene.now.locks.states in
-    let f : EntryRow → Caps = told_by c.args.scene.now.fs c.args.scene.now.tree c.args.scene.now.sessions c.args.scene.now.locks.states in
     record {
       numbers = subst (All (λ (row : EntryRow). row.entry.seq < 18446744073709551615))
           (sym (ap (λ (t : Table). entries_on t c.args.ino) c.finish_affected.ensures.table ∙ entries_on-stay (set.contains c.args.affected.now) g c.args.ino c.requires.apart t))
           (All-filter (is_of_inode c.args.ino) (λ row. row.entry.seq < 18446744073709551615) t.rows c.requires.entries.numbers);
       clients = subst (λ (t : Table). All (λ row. IsTrue (has_session c.args.scene.now.sessions row.holder.client.0)) t.rows) (sym c.finish_affected.ensures.table)
           (holders-stay (is_on c.args.affected.now) g (λ h. IsTrue (has_session c.args.scene.now.sessions h.client.0)) t c.requires.entries.clients);
-      room = subst (HaveRoom c.finish_affected.new.known.sets) (sym c.finish_affected.ensures.table)
-          (room-still (λ k. set.contains c.args.affected.now k.ino.0) f t c.args.known.now.sets c.finish_affected.new.known.sets (is_on c.args.affected.now) g c.finish_affected.ensures.known c.requires.entries.room);
+      permitted = subst (λ (t : Table). ArePermittedIn c.finish_affected.new.known.sets (record c.args.scene.now { table = t })) (sym c.finish_affected.ensures.table)
+          (λ k e there. let was = was-there (is_on c.args.affected.now) g t k e there in c.finish_affected.ensures.permitted k ∙ c.requires.entries.permitted k was.0 was.1);
     }
 
 -- an inode that was affected beside the one is another
@@ -72,6 +71,9 @@ returns-clause-known c =
     c.finish_entries.ensures.known)
     (λ k is. ap (λ (u : Table). find (is_row_of k) u.rows) c.finish_affected.ensures.table
     ∙ found-stays (is_on affected) g t k (λ row mine. ap (λ (h : Holder). set.contains affected h.ino.0) (sym mine) ∙ none_here affected c.args.ino.0 k.ino.0 c.requires.apart is)))
+
+pub returns-clause-permitted : goal.returns-clause-permitted
+returns-clause-permitted c = λ k. c.finish_entries.ensures.permitted k ∙ c.finish_affected.ensures.permitted k
 
 pub returns-clause-lead : goal.returns-clause-lead
 returns-clause-lead c =

@@ -1,12 +1,12 @@
 use Rattle.std.proofs.Common.{◌≡◌, ◌==◌, ◌++◌, eq-eqb, ℕ, ◌<◌, List, [], ◌∷◌, Option, refl, sym, ap, subst, ◌∙◌, IsTrue, All}
-use Rattle.capsteps.proofs.Common.{list_any, unwrap_or, eqb-true, All-filter, Caps, has_session, Entry, EntryRow, Table, is_of_inode, entries_on, InodeLocks, told_at, told_by, entry_under, entry_by, InoSet, IsListOf, known_in, HaveRoom, kept-as}
+use Rattle.capsteps.proofs.Common.{list_any, unwrap_or, eqb-true, All-filter, Caps, has_session, Entry, EntryRow, Table, is_of_inode, entries_on, InodeLocks, told_at, told_by, entry_under, entry_by, InoSet, IsListOf, known_in, ArePermitted, kept-as}
 use Rattle.std.specs.FinMap as map
 use Rattle.std.specs.List.{IsDistinct}
 use Rattle.std.specs.Map.Iter.{deref}
 use Rattle.std.proofs.lemmas.Map.Iter.{rest_more, rest_all}
 use Rattle.capbits.specs.Sets.{no_caps}
 use Rattle.capsteps.proofs.AtEnd.{entry-alike}
-use Rattle.capacts.proofs.KeptSets.{room-still}
+use Rattle.capacts.proofs.KeptSets.{was-there}
 use Rattle.capsteps.proofs.ManyInodes.{same_number, on, IsFinishing, none-finished, next-finished, next-apart, all-finished, holders-stay, entries_on-stay}
 use Rattle.capsteps.proofs.finish.finish_affected.Goals as goal
 
@@ -14,13 +14,12 @@ pub loop-number-init : goal.loop-number-init
 loop-number-init c =
     let g : EntryRow → Entry = entry_by (known_in c.args.known.now.sets) c.args.policy.now.fs.now c.args.policy.now.tree.now c.args.policy.now.sessions.now c.args.locks.now.states in
     let f : EntryRow → Caps = told_by c.args.policy.now.fs.now c.args.policy.now.tree.now c.args.policy.now.sessions.now c.args.locks.now.states in
-    record { so_far = none-finished g f c.args.table.now c.args.known.now.sets c.into_iter-number-iterator.result }
+    record { so_far = none-finished g f c.args.table.now c.args.known.now.sets c.into_iter-number-iterator.result; permitted = λ k. refl }
 
 pub finish_entries-requires : goal.finish_entries-requires
 finish_entries-requires c =
     let t : Table = c.args.table.now in
     let g : EntryRow → Entry = entry_by (known_in c.args.known.now.sets) c.args.policy.now.fs.now c.args.policy.now.tree.now c.args.policy.now.sessions.now c.args.locks.now.states in
-    let f : EntryRow → Caps = told_by c.args.policy.now.fs.now c.args.policy.now.tree.now c.args.policy.now.sessions.now c.args.locks.now.states in
     let k : ℕ = c.in-Some.number.now in
     let ks : List ℕ = c.next.new.self in
     let rest : c.loop-number.number-iterator ≡ k ∷ ks = rest_more deref _ _ _ _ c.in-Some.is c.next.ensures.steps in
@@ -34,8 +33,8 @@ finish_entries-requires c =
           (All-filter (is_of_inode (record { 0 = k })) (λ row. row.entry.seq < 18446744073709551615) t.rows c.requires.entries.numbers);
       clients = subst (λ (u : Table). All (λ row. IsTrue (has_session c.args.policy.now.sessions.now row.holder.client.0)) u.rows) (sym s.finished)
           (holders-stay (on (λ n. list_any (same_number n) s.done)) g (λ h. IsTrue (has_session c.args.policy.now.sessions.now h.client.0)) t c.requires.entries.clients);
-      room = subst (HaveRoom c.loop-number.known.sets) (sym s.finished)
-          (room-still (λ q. list_any (same_number q.ino.0) s.done) f t c.args.known.now.sets c.loop-number.known.sets (on (λ n. list_any (same_number n) s.done)) g s.kept c.requires.entries.room);
+      permitted = subst (ArePermitted c.loop-number.known.sets c.args.policy.now.fs.now c.args.policy.now.tree.now c.args.policy.now.sessions.now) (sym s.finished)
+          (λ h e there. let was = was-there (on (λ n. list_any (same_number n) s.done)) g t h e there in c.loop-number.invariant.permitted h ∙ c.requires.entries.permitted h was.0 was.1);
     }
 
 pub loop-number-preserved : goal.loop-number-preserved
@@ -61,6 +60,7 @@ loop-number-preserved c =
           (kept-as (λ q. q.ino.0 == k) (told_at c.args.policy.now.fs.now c.args.policy.now.tree.now c.args.policy.now.sessions.now c.of_ino-now.result) f c.loop-number.table c.loop-number.known.sets c.finish_entries.new.known.sets
           (λ row is. ap (λ (o : Option InodeLocks). told_at c.args.policy.now.fs.now c.args.policy.now.tree.now c.args.policy.now.sessions.now o row) (c.of_ino-now.ensures ∙ sym (ap (map.get c.args.locks.now.states) (eqb-true row.holder.ino.0 k is))))
           c.finish_entries.ensures.known);
+      permitted = λ q. c.finish_entries.ensures.permitted q ∙ c.loop-number.invariant.permitted q;
     }
 
 pub returns : goal.returns
@@ -73,4 +73,4 @@ returns c =
     let none : c.loop-number.number-iterator ≡ [] = rest_all deref _ _ _ c.in-None.is c.next.ensures.steps in
     let done = all-finished g f c.args.table.now c.args.known.now.sets inos all c.loop-number.table c.loop-number.known.sets lists
     (subst (λ (left : List ℕ). IsFinishing g f c.args.table.now c.args.known.now.sets all left c.loop-number.table c.loop-number.known.sets) none c.loop-number.invariant.so_far) in
-    record { table = done.0; known = done.1 }
+    record { table = done.0; known = done.1; permitted = c.loop-number.invariant.permitted }

@@ -7,8 +7,8 @@ use Rattle.captable.proofs.Searches.{find_passes}
 use Rattle.capacts.specs.Known.{HasAll}
 use Rattle.capsteps.proofs.AtEnd.{entry-on}
 use Rattle.capsteps.proofs.Finishing.{none-sized, each-alike, same-issue_row, same-renumbered}
-use Rattle.capacts.proofs.KeptSets.{room-of}
 use Rattle.capacts.proofs.Lockmachine.Told.{told-less}
+use Rattle.capsteps.proofs.Knowing.{permitted-some}
 use Rattle.capsteps.proofs.Strays.{forget-one}
 use Rattle.capsteps.proofs.finish.finish_alone.Goals as goal
 
@@ -80,8 +80,9 @@ module _ (sets : KnownSets) (s : Scene) (k : Holder) (others : OthersHaveAll set
           subst (λ (h : Holder). HasAll sets s (record { holder = h; entry = row.entry })) mine (others j row.entry (eqb-true j.ino.0 k.ino.0 on) apart (ap entry_of found)) in
           ap (known_of sets) mine ∙ all.1 ∙ ap Some (sym (told-alike sets s row all))
 
-pub finish_holder-requires-clause-room : goal.finish_holder-requires-clause-room
-finish_holder-requires-clause-room c = room-of c.args.known.now.sets c.args.scene.now.table c.args.holder c.requires.entries.room
+pub finish_holder-requires-clause-permitted : goal.finish_holder-requires-clause-permitted
+finish_holder-requires-clause-permitted c =
+    permitted-some c.args.known.now.sets c.args.scene.now.fs c.args.scene.now.tree c.args.scene.now.sessions c.args.scene.now.table c.args.holder c.requires.entries.permitted
 
 pub finish_holder-requires-clause-number : goal.finish_holder-requires-clause-number
 finish_holder-requires-clause-number c =
@@ -119,4 +120,5 @@ returns-clause-ends c =
       kept =
           subst (λ (s : Scene). KnownAnew (λ j. j.ino.0 == k.ino.0) (told_then s) s.table was c.finish_holder.new.known.sets) (sym (none-sized settled))
           (alone-kept was settled k c.requires.others table c.finish_holder.new.known.sets kept);
+      permitted = c.finish_holder.ensures.permitted;
     }

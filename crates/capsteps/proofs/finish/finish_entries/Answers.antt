@@ -1,15 +1,14 @@
 use Rattle.std.proofs.Common.{◌≡◌, ◌<◌, ◌≤◌, ℕ, ◌+◌, false, ◌||◌, Option, is_some, List, [], ◌∷◌, ◌++◌, length, take, get_or, refl, sym, ap, subst, ◌∙◌, arith, IfSome}
 use Rattle.capsteps.proofs.Common.{fold, unwrap_or, length-map, nil_from_length, take_more, take_all, eqb-true, fold-append, Caps, Entry, EntryRow, Holder, Table, same, holder, is_among, entry_at, holders_of_rows, changed, entries_on, changed_by, same-is, told_at, due_under, entry_under, known_of, known_in, kept-same, kept-then, kept-not}
 use Rattle.std.specs.List.{IsDistinct}
-use Rattle.std.specs.Option.{option_copied}
 use Rattle.std.proofs.lemmas.List.{get_or-map}
 use Rattle.std.proofs.lemmas.List.Folds.{list_any_more}
 use Rattle.capbits.specs.Sets.{no_caps}
-use Rattle.inotree.proofs.Lent.{lent-where}
 use Rattle.captable.proofs.OneByOne.{fold-on_inode}
 use Rattle.capacts.specs.Finishing.{numbered_as}
 use Rattle.capsteps.proofs.AtEnd.{entry-on, yet-unchanged, named, named-clients, distinct-on}
-use Rattle.capacts.proofs.KeptSets.{kept-on, kept-nobody, found-as, not-yet, room-of}
+use Rattle.capacts.proofs.KeptSets.{kept-on, kept-nobody, found-as, not-yet}
+use Rattle.capsteps.proofs.Knowing.{permitted-some}
 use Rattle.capsteps.proofs.finish.finish_entries.Goals as goal
 
 -- nobody has an entry on the inode
@@ -37,6 +36,7 @@ pub loop-number-init : goal.loop-number-init
 loop-number-init c = record {
   table = refl;
   known = kept-nobody (told_at c.args.policy.now.fs.now c.args.policy.now.tree.now c.args.policy.now.sessions.now c.args.locks.now) c.args.table.now c.args.known.now.sets;
+  permitted = λ k. refl;
 }
 
 pub finish_entry-requires : goal.finish_entry-requires
@@ -46,7 +46,6 @@ finish_entry-requires c =
     let cs : List ℕ = c.as_slice-numbers.result.now in
     let ks : List Holder = named c.args.ino cs in
     let g : EntryRow → Entry = entry_under (known_in c.args.known.now.sets) c.args.policy.now.fs.now c.args.policy.now.tree.now c.args.policy.now.sessions.now c.args.locks.now in
-    let f : EntryRow → Caps = told_at c.args.policy.now.fs.now c.args.policy.now.tree.now c.args.policy.now.sessions.now c.args.locks.now in
     let k : Holder = holder (record { 0 = get_or cs i 0 }) c.args.ino in
     let all : ks ≡ holders_of_rows (entries_on t c.args.ino) =
     ap (named c.args.ino) (c.as_slice-numbers.ensures.value ∙ c.clients_on-clients.ensures.clients) ∙ named-clients c.args.ino t.rows in
@@ -58,13 +57,10 @@ finish_entry-requires c =
     ∙ ap (entry_at (fold (changed_by g) t (take i ks))) (sym here)
     ∙ yet-unchanged g t ks i k apart inside
     ∙ ap (entry_at t) here in
-    let not_among : is_among (take i ks) k ≡ false = ap (is_among (take i ks)) (sym here) ∙ not-yet ks i k apart inside in
-    let kept : known_of c.loop-number.known.sets k ≡ known_of c.args.known.now.sets k = kept-not (is_among (take i ks)) f t c.args.known.now.sets c.loop-number.known.sets c.loop-number.invariant.known k not_among in
     record {
-      path = ap option_copied c.then_some-path.ensures ∙ lent-where c.read_path.result _ ∙ sym c.read_path.ensures;
-      node = c.node-node.ensures.node;
       number = subst (λ (o : Option Entry). IfSome o (λ e. e.seq < 18446744073709551615)) (sym was) (entry-on (λ e. e.seq < 18446744073709551615) t k.client c.args.ino c.requires.numbers);
-      room = λ there. ap is_some kept ∙ room-of c.args.known.now.sets t k c.requires.room (sym (ap is_some was) ∙ there);
+      permitted = λ there. c.loop-number.invariant.permitted k
+          ∙ permitted-some c.args.known.now.sets c.args.policy.now.fs.now c.args.policy.now.tree.now c.args.policy.now.sessions.now t k c.requires.permitted (sym (ap is_some was) ∙ there);
     }
 
 pub loop-number-preserved : goal.loop-number-preserved
@@ -101,6 +97,7 @@ loop-number-preserved c =
           (λ j. sym (list_any_more (same j) ks i k inside ∙ ap (λ h. is_among (take i ks) j || same j h) here))
           (kept-then (is_among (take i ks)) (λ j. same j k) f t c.loop-number.table c.args.known.now.sets c.loop-number.known.sets c.finish_entry.new.known.sets c.loop-number.invariant.known c.finish_entry.ensures.known
           (λ j on. let is : j ≡ k = same-is j k on in found-as t c.loop-number.table j (ap (entry_at c.loop-number.table) is ∙ was ∙ ap (entry_at t) (sym is))));
+      permitted = λ j. c.finish_entry.ensures.permitted j ∙ c.loop-number.invariant.permitted j;
     }
 
 pub returns : goal.returns
@@ -119,4 +116,5 @@ returns c =
       known =
           kept-on c.args.ino f t c.args.known.now.sets c.loop-number.known.sets
           (kept-same (is_among (take c.loop-number.number-index ks)) (is_among (holders_of_rows (entries_on t c.args.ino))) f t c.args.known.now.sets c.loop-number.known.sets (λ j. ap (λ (hs : List Holder). is_among hs j) each) c.loop-number.invariant.known);
+      permitted = c.loop-number.invariant.permitted;
     }

@@ -1,5 +1,5 @@
 use Rattle.std.proofs.Common.{◌≡◌, take}
-use Rattle.capsteps.proofs.Common.{fold, is_among, changed_by, told_at, entry_under, known_in, KnownAnew}
+use Rattle.capsteps.proofs.Common.{fold, Holder, permitted_of, is_among, changed_by, told_at, entry_under, known_in, KnownAnew}
 use Rattle.capsteps.proofs.AtEnd.{named}
 use Rattle.capsteps.proofs.finish.finish_entries.Given as goal
 
@@ -7,4 +7,5 @@ abbrev pub invariant-loop-number : goal.invariant-loop-number
 invariant-loop-number l = record {
   table : l.table ≡ fold (changed_by (entry_under (known_in l.fn.known.sets) l.policy.fs.now l.policy.tree.now l.policy.sessions.now l.locks)) l.fn.table (take l.number-index (named l.ino l.numbers));
   known : KnownAnew (is_among (take l.number-index (named l.ino l.numbers))) (told_at l.policy.fs.now l.policy.tree.now l.policy.sessions.now l.locks) l.fn.table l.fn.known.sets l.known.sets;
+  permitted : (k : Holder) → permitted_of l.known.sets k ≡ permitted_of l.fn.known.sets k;
 }

@@ -9,10 +9,8 @@ finish_row-requires c =
     let found : entry_at c.args.table.now c.args.holder ≡ Some c.in-Some.entry = cc in
     record {
       there = found;
-      path = c.requires.path;
-      node = c.requires.node;
+      permitted = c.requires.permitted (ap is_some found);
       number = subst (λ (o : Option Entry). IfSome o (λ e. e.seq < 18446744073709551615)) found c.requires.number;
-      room = c.requires.room (ap is_some found);
     }
 
 pub returns-in_default-clause-table : goal.returns-in_default-clause-table

@@ -1,7 +1,5 @@
-use Rattle.std.proofs.Common.{◌≡◌, ◌<◌, Option, Some, None, is_some, refl, sym, ap, subst, ◌∙◌, IfSome}
+use Rattle.std.proofs.Common.{◌≡◌, ◌<◌, Option, Some, None, is_some, refl, ap, subst, IfSome}
 use Rattle.capsteps.proofs.Common.{Entry, entry_at, none_found, known_in}
-use Rattle.std.specs.Option.{option_copied}
-use Rattle.inotree.proofs.Lent.{lent-where}
 use Rattle.capacts.specs.Finishing as words
 use Rattle.capacts.proofs.KeptSets.{kept-none}
 use Rattle.capsteps.proofs.finish.finish_holder.Goals as goal
@@ -11,10 +9,8 @@ finish_row-requires c =
     let found : entry_at c.args.table.now c.args.holder ≡ Some c.in-Some.entry = cc in
     record {
       there = found;
-      path = ap option_copied c.then_some-path.ensures ∙ lent-where c.read_path.result _ ∙ sym c.read_path.ensures;
-      node = c.node-node.ensures.node;
+      permitted = c.requires.permitted (ap is_some found);
       number = subst (λ (o : Option Entry). IfSome o (λ e. e.seq < 18446744073709551615)) found c.requires.number;
-      room = c.requires.room (ap is_some found);
     }
 
 pub returns-in_default-clause-table : goal.returns-in_default-clause-table

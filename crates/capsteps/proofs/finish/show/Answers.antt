@@ -1,8 +1,9 @@
 use Rattle.std.proofs.Common.{◌≡◌, Option, Some, sym, ap, ◌∙◌}
-use Rattle.capsteps.proofs.Common.{unwrap_or, Caps, Holder, Table, entry_at, row_of-entry}
+use Rattle.capsteps.proofs.Common.{unwrap_or, Caps, Holder, Table, Sets, sets_of, entry_at, row_of-entry}
 use Rattle.capbits.specs.Sets.{no_caps}
 use Rattle.capacts.specs.Capevents.declared.reply.Reply.TheVariants.{Opened}
 use Rattle.capacts.specs.Caprules.Direct.{opened_as}
+use Rattle.capacts.proofs.KeptSets.{told-or}
 use Rattle.capsteps.proofs.finish.show.Goals as goal
 
 pub returns-in-Some-clause-answer : goal.returns-in-Some-clause-answer
@@ -11,5 +12,5 @@ returns-in-Some-clause-answer c = λ s table known.
     let k : Holder = c.args.holder in
     let found : entry_at t k ≡ Some c.in-Some.entry = cc in
     ap (λ (caps : Caps). Opened c.in-Some.entry.seq caps)
-    (c.of.ensures ∙ ap (λ (o : Option Caps). unwrap_or o no_caps) (known k c.in-Some.entry (ap (λ (u : Table). entry_at u k) table ∙ found)))
+    (ap (λ (sets : Sets). sets.told) c.of.ensures ∙ told-or (sets_of c.args.known.now.sets k) ∙ ap (λ (o : Option Caps). unwrap_or o no_caps) (known k c.in-Some.entry (ap (λ (u : Table). entry_at u k) table ∙ found)))
     ∙ sym (ap (opened_as s) (row_of-entry t k c.in-Some.entry found))

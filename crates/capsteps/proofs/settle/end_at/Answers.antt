@@ -1,6 +1,6 @@
 use Rattle.std.proofs.Common.{subst, List}
-use Rattle.capsteps.proofs.Common.{Ino, Scene, is_affected, MayEnd, EndsAt, leads-then}
-use Rattle.capsteps.proofs.NobodyServed.{settled-ends, settled-keeps}
+use Rattle.capsteps.proofs.Common.{Ino, Scene, is_affected, EndsAt, leads-then}
+use Rattle.capsteps.proofs.NobodyServed.{settled-ends, settled-may}
 use Rattle.capsteps.proofs.settle.end_at.Goals as goal
 
 pub returns-clause-ends : goal.returns-clause-ends
@@ -8,9 +8,10 @@ returns-clause-ends c =
     let at = is_affected c.args.ino.0 c.settle-affected.result in
     let settled : Scene = c.settle-affected.new.scene in
     let last : Scene = c.end_settled.new.scene in
-    settled-ends at (is_affected c.args.ino.0 c.args.others) c.args.known.now.sets c.end_settled.new.known.sets
+    settled-ends at (is_affected c.args.ino.0 c.args.others) c.args.known.now.sets c.settle-affected.new.known.sets c.end_settled.new.known.sets
     c.args.scene.now settled last c.settle-affected.new.endings.told.items c.settle-affected.new.endings.sized.items c.settle-affected.ensures.settles c.requires.settles.tree
-    (subst (λ (sized : List Ino). EndsAt at sized c.args.known.now.sets c.end_settled.new.known.sets settled last) c.as_slice.ensures.value c.end_settled.ensures.ends)
+    c.settle-affected.ensures.told c.settle-affected.ensures.permitted
+    (subst (λ (sized : List Ino). EndsAt at sized c.settle-affected.new.known.sets c.end_settled.new.known.sets settled last) c.as_slice.ensures.value c.end_settled.ensures.ends)
 
 pub returns-clause-lead : goal.returns-clause-lead
 returns-clause-lead c =
@@ -20,4 +21,4 @@ returns-clause-lead c =
 -- ---- what ends the step finds the entries and the sessions as they were
 
 pub end_settled-requires-clause-entries : goal.end_settled-requires-clause-entries
-end_settled-requires-clause-entries c = settled-keeps _ _ _ _ _ _ c.settle-affected.ensures.settles (λ table sessions. MayEnd c.args.known.now.sets sessions table) c.requires.entries
+end_settled-requires-clause-entries c = settled-may _ _ _ _ _ _ _ _ c.settle-affected.ensures.settles c.settle-affected.ensures.permitted c.requires.entries

@@ -1,9 +1,9 @@
 use Rattle.std.proofs.Common.{◌==◌, ℕ, Bool, List, [], sym, ap, subst, ◌∙◌, arith}
-use Rattle.capsteps.proofs.Common.{nat_cmp, Ino, Scene, InoSet, is_affected, MayEnd, EndsAt, EndsWith, none-there, leads-then}
+use Rattle.capsteps.proofs.Common.{nat_cmp, Ino, Scene, InoSet, is_affected, EndsAt, EndsWith, none-there, leads-then}
 use Rattle.std.specs.FinSet as set
 use Rattle.capsteps.specs.Begun.{MaySettle}
 use Rattle.capsteps.proofs.Among.{affected-alone}
-use Rattle.capsteps.proofs.NobodyServed.{others-still, settled-ends, settled-keeps, settles-alone}
+use Rattle.capsteps.proofs.NobodyServed.{others-still, settled-ends, settled-may, settles-alone}
 use Rattle.capsteps.proofs.settle.end_at_entry.Goals as goal
 
 pub settle-affected-requires-clause-settles : goal.settle-affected-requires-clause-settles
@@ -28,10 +28,10 @@ finish_alone-requires-clause-others c =
     let settled : Scene = c.settle-affected.new.scene in
     let calm = c.is_as_before.ensures c.if-is_as_before.true in
     others-still ino (is_affected ino c.new-others.result) c.settle-affected.result first settled c.settle-affected.new.endings.told.items c.settle-affected.new.endings.sized.items
-    c.settle-affected.ensures.settles calm.0 c.args.known.now.sets c.args.holder (calm.2 ∙ c.of_ino-before.ensures) c.requires.others
+    c.settle-affected.ensures.settles calm.0 c.args.known.now.sets c.settle-affected.new.known.sets c.args.holder c.settle-affected.ensures.told (calm.2 ∙ c.of_ino-before.ensures) c.requires.others
 
 pub finish_alone-requires-clause-entries : goal.finish_alone-requires-clause-entries
-finish_alone-requires-clause-entries c = settled-keeps _ _ _ _ _ _ c.settle-affected.ensures.settles (λ table sessions. MayEnd c.args.known.now.sets sessions table) c.requires.entries
+finish_alone-requires-clause-entries c = settled-may _ _ _ _ _ _ _ _ c.settle-affected.ensures.settles c.settle-affected.ensures.permitted c.requires.entries
 
 pub returns-then-is_as_before-clause-ends : goal.returns-then-is_as_before-clause-ends
 returns-then-is_as_before-clause-ends c =
@@ -40,10 +40,10 @@ returns-then-is_as_before-clause-ends c =
     let settled : Scene = c.settle-affected.new.scene in
     let last : Scene = c.finish_alone.new.scene in
     let calm = c.is_as_before.ensures c.if-is_as_before.true in
-    settled-ends (λ other. other == ino) (λ other. other == ino) c.args.known.now.sets c.finish_alone.new.known.sets first settled last c.settle-affected.new.endings.told.items []
+    settled-ends (λ other. other == ino) (λ other. other == ino) c.args.known.now.sets c.settle-affected.new.known.sets c.finish_alone.new.known.sets first settled last c.settle-affected.new.endings.told.items []
     (settles-alone ino (is_affected ino c.new-others.result) c.settle-affected.result first settled c.settle-affected.new.endings.told.items c.settle-affected.new.endings.sized.items
     c.settle-affected.ensures.settles calm.0 calm.1)
-    c.requires.settles.tree c.finish_alone.ensures.ends
+    c.requires.settles.tree c.settle-affected.ensures.told c.settle-affected.ensures.permitted c.finish_alone.ensures.ends
 
 pub returns-then-is_as_before-clause-lead : goal.returns-then-is_as_before-clause-lead
 returns-then-is_as_before-clause-lead c =
@@ -60,9 +60,10 @@ returns-clause-ends c =
     let settled : Scene = c.settle-affected.new.scene in
     let last : Scene = c.end_settled.new.scene in
     subst (λ (from : ℕ → Bool). EndsWith from c.args.known.now.sets c.end_settled.new.known.sets first last c.settle-affected.new.endings.told.items) (affected-alone ino c.new-others.result c.new-others.ensures)
-    (settled-ends at (is_affected ino c.new-others.result) c.args.known.now.sets c.end_settled.new.known.sets first settled last
+    (settled-ends at (is_affected ino c.new-others.result) c.args.known.now.sets c.settle-affected.new.known.sets c.end_settled.new.known.sets first settled last
     c.settle-affected.new.endings.told.items c.settle-affected.new.endings.sized.items c.settle-affected.ensures.settles c.requires.settles.tree
-    (subst (λ (sized : List Ino). EndsAt at sized c.args.known.now.sets c.end_settled.new.known.sets settled last) c.as_slice.ensures.value c.end_settled.ensures.ends))
+    c.settle-affected.ensures.told c.settle-affected.ensures.permitted
+    (subst (λ (sized : List Ino). EndsAt at sized c.settle-affected.new.known.sets c.end_settled.new.known.sets settled last) c.as_slice.ensures.value c.end_settled.ensures.ends))
 
 pub returns-clause-lead : goal.returns-clause-lead
 returns-clause-lead c =
@@ -70,4 +71,4 @@ returns-clause-lead c =
     c.settle-affected.ensures.lead c.end_settled.ensures.lead
 
 pub end_settled-requires-clause-entries : goal.end_settled-requires-clause-entries
-end_settled-requires-clause-entries c = settled-keeps _ _ _ _ _ _ c.settle-affected.ensures.settles (λ table sessions. MayEnd c.args.known.now.sets sessions table) c.requires.entries
+end_settled-requires-clause-entries c = settled-may _ _ _ _ _ _ _ _ c.settle-affected.ensures.settles c.settle-affected.ensures.permitted c.requires.entries

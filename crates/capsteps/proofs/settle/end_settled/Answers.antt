@@ -9,10 +9,10 @@ pub finish-requires-clause-entries : goal.finish-requires-clause-entries
 finish-requires-clause-entries c =
     let sized = is_sized c.args.sized.now in
     let was = c.args.scene.now.table in
-    subst (MayEnd c.args.known.now.sets c.args.scene.now.sessions) (sym c.owe_sizes.ensures) (record {
+    subst (λ (t : Table). MayEnd c.args.known.now.sets (record c.args.scene.now { table = t })) (sym c.owe_sizes.ensures) (record {
       numbers = owed-numbers sized (λ seq. seq < 18446744073709551615) was c.requires.entries.numbers;
       clients = holders-stay sized owed (λ h. IsTrue (has_session c.args.scene.now.sessions h.client.0)) was c.requires.entries.clients;
-      room = λ k e there. let row = was-there sized owed was k e there in c.requires.entries.room k row.0 row.1;
+      permitted = λ k e there. let row = was-there sized owed was k e there in c.requires.entries.permitted k row.0 row.1;
     })
 
 pub returns-clause-ends : goal.returns-clause-ends
@@ -22,4 +22,5 @@ returns-clause-ends c =
     record {
       finished = c.finish.ensures.finished ∙ ap (λ (t : Table). finished_at at (known_in c.args.known.now.sets) (after t)) c.owe_sizes.ensures;
       kept = subst (λ (t : Table). KnownAnew (λ k. at k.ino.0) (told_then (after t)) t c.args.known.now.sets c.finish.new.known.sets) c.owe_sizes.ensures c.finish.ensures.known;
+      permitted = c.finish.ensures.permitted;
     }

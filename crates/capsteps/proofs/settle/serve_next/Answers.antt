@@ -1,7 +1,11 @@
-use Rattle.std.proofs.Common.{◌≡◌, ◌++◌, ◌∷◌, [], Option, Some, refl, sym, ap, ◌∙◌}
-use Rattle.capsteps.proofs.Common.{Ino, Request, Ended, Outcome, Served, Serves}
+use Rattle.std.proofs.Common.{◌≡◌, ◌++◌, ◌∷◌, [], ◌⊎◌, inl, inr, false, Option, Some, Result, Ok, Err, is_ok, OnOk, refl, sym, ap, subst, ◌∙◌}
+use Rattle.capsteps.proofs.Common.{Ino, Nodes, IsAlike, Table, Scene, Request, HaveRoom, ArePermitted, InoSet, Ended, Outcome, Served, Serves}
 use Rattle.std.specs.List.{filter_map}
 use Rattle.capacts.specs.Caprules.Settle.{sized_by}
+use Rattle.capacts.specs.Reach.{Covers}
+use Rattle.capacts.specs.Renewing.{ServedFrom}
+use Rattle.capacts.proofs.Renewed.{room-permitted}
+use Rattle.capsteps.proofs.OneChange.{alike-apart}
 use Rattle.capsteps.proofs.settle.serve_next.Goals as goal
 
 pub serve-served-requires-clause-judged : goal.serve-served-requires-clause-judged
@@ -31,3 +35,32 @@ returns-clause-served c =
           ∙ ap (λ (sized : Option Ino). c.args.endings.now.sized.items ++ filter_map (λ (ino : Option Ino). ino) (sized ∷ []))
           (c.sized_by-sized.ensures ∙ ap (λ (r : Request). sized_by (Served r outcome)) same),
     )
+
+-- it was covered what the request moves, or the tree stayed as it was
+covered : {T E X Y : Type 0} (r : Result T E) → OnOk r Y → (is_ok r ≡ false → X) → X ⊎ Y
+covered (Ok done) covers stays = inr covers
+covered (Err refused) covers stays = inl (stays refl)
+
+pub renew_served-requires : goal.renew_served-requires
+renew_served-requires c = let old : Scene = c.args.scene.now in record {
+  room = subst (HaveRoom c.args.known.now.sets) (sym (ap (λ (s : Scene). s.table) c.serve-served.ensures.rest))
+      (room-permitted c.args.known.now.sets old.fs old.tree old.sessions old.table c.requires.permitted);
+}
+
+pub returns-clause-permitted : goal.returns-clause-permitted
+returns-clause-permitted c =
+    let old : Scene = c.args.scene.now in
+    let request : Request = c.in-Some.request in
+    let outcome : Outcome = c.serve-served.result.outcome in
+    let affected : InoSet = c.reach-room.new.affected in
+    let is = c.serve-served.ensures.rest in
+    let after = c.serve-served.ensures.tree in
+    let from : ServedFrom old.tree request outcome c.args.ino.0 affected c.serve-served.new.scene = record {
+      after = after;
+      alike = λ other apart below. subst (λ (t : Nodes). IsAlike old.tree t other) (sym after)
+          (alike-apart old request outcome other c.requires.tree (c.serve-served.ensures.ends old.table old.locks) apart below);
+      covers = subst (λ (t : Table). (c.serve-served.new.scene.tree ≡ old.tree) ⊎ Covers request c.args.ino.0 old.tree t affected) (sym (ap (λ (s : Scene). s.table) is))
+          (covered c.reach-room.result c.reach-room.ensures.covers (λ failed. c.serve-served.ensures.stays (c.is_ok.ensures.value ∙ failed)));
+    } in
+    c.renew_served.ensures.permitted old.tree from
+    (subst (λ (s : Scene). ArePermitted c.args.known.now.sets s.fs old.tree s.sessions s.table) (sym is) c.requires.permitted)

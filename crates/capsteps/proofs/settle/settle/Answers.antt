@@ -1,5 +1,5 @@
-use Rattle.std.proofs.Common.{◌≡◌, ◌<◌, ◌≤◌, ◌+◌, ◌++◌, ◌∷◌, [], ℕ, Bool, true, false, cond, ◌&&◌, length, List, Option, Some, None, Contains, sym, ap, subst, ◌∙◌, arith, inl, inr}
-use Rattle.capsteps.proofs.Common.{length-append, Ino, IsTree, Nodes, Table, Request, Serve, IsLockMap, lock_at, Scene, served-at, Ended, Outcome, LeadOn, is_affected, Serves, Served, sized_in, IsSwept, StandsAt, leads-then, IsJudged, InoSet, tree_after}
+use Rattle.std.proofs.Common.{◌≡◌, ◌<◌, ◌≤◌, ◌+◌, ◌++◌, ◌∷◌, [], ℕ, Bool, true, false, cond, ◌&&◌, length, List, Option, Some, None, Contains, refl, sym, ap, subst, ◌∙◌, arith, inl, inr}
+use Rattle.capsteps.proofs.Common.{length-append, ArePermittedIn, Ino, IsTree, Nodes, Table, Request, Serve, IsLockMap, lock_at, Scene, served-at, Ended, Outcome, LeadOn, is_affected, Serves, Served, sized_in, IsSwept, StandsAt, leads-then, IsJudged, InoSet, tree_after}
 use Rattle.std.specs.List.{filter_map}
 use Rattle.capacts.specs.Lockmachine.Locks.{request_at}
 use Rattle.capacts.specs.Lockmachine.Moves.{first_move}
@@ -58,6 +58,8 @@ servings-init c =
       same = c.requires.room.kept ∙ sym c.requires.room.told;
       lead = leads-none c.args.endings.now.changes.items c.args.scene.now.tree;
       places = omega (arith, queue, c.requires.places);
+      known = λ k. refl;
+      permitted = c.requires.permitted;
       told = omega (arith, queue, ap length room.told, room.told_room);
       kept = omega (arith, queue, ap length room.kept, room.kept_room);
       sized = omega (arith, queue, ap length room.sized, room.sized_room);
@@ -85,8 +87,8 @@ module _ (c : In-Some) where
   mid = c.sweep.new.scene
 
   -- gathers began and ended
-  swept : IsSoFar c.args.ino.0 (from c) c.servings.affected first mid c.servings.endings.told.items c.servings.endings.sized.items
-  swept = so-far-swept c.args.ino.0 (is_affected c.args.ino.0 c.args.others) c.servings.affected first now c.servings.endings.told.items c.servings.endings.sized.items c.servings.invariant.so_far mid c.sweep.ensures.swept
+  swept : IsSoFar c.args.ino.0 (from c) c.servings.reached.affected first mid c.servings.endings.told.items c.servings.endings.sized.items
+  swept = so-far-swept c.args.ino.0 (is_affected c.args.ino.0 c.args.others) c.servings.reached.affected first now c.servings.endings.told.items c.servings.endings.sized.items c.servings.invariant.so_far mid c.sweep.ensures.swept
 
   -- the moves so far leave the requests in their order, and a tree
   order : IsLockMap mid.locks
@@ -101,9 +103,9 @@ module _ (c : In-Some) where
   move : first_move mid ≡ Serve c.in-Some.ticket
   move = subst (GoesOn mid) c.in-Some.is c.sweep.ensures.next
 
-  here : (r : Request) × (request_at c.sweep.new.scene.locks c.in-Some.ticket.0 ≡ Some r) × Contains c.sweep.new.scene.locks.queue r × (is_affected c.args.ino.0 c.servings.affected r.ino.0 ≡ true)
+  here : (r : Request) × (request_at c.sweep.new.scene.locks c.in-Some.ticket.0 ≡ Some r) × Contains c.sweep.new.scene.locks.queue r × (is_affected c.args.ino.0 c.servings.reached.affected r.ino.0 ≡ true)
       × (r.ticket ≡ c.in-Some.ticket)
-  here = (let so = swept in served-at (is_affected c.args.ino.0 c.servings.affected) mid c.in-Some.ticket order so.waits move)
+  here = (let so = swept in served-at (is_affected c.args.ino.0 c.servings.reached.affected) mid c.in-Some.ticket order so.waits move)
 
   -- somebody waits
   some_wait : 0 < length c.servings.scene.locks.queue
@@ -119,7 +121,14 @@ serve_next-changed-requires-clause-waits c = (let found = here (goal.at.serve_ne
 
 pub serve_next-changed-requires-clause-walked : goal.serve_next-changed-requires-clause-walked
 serve_next-changed-requires-clause-walked c =
-    subst (λ (s : Scene). AreWalked c.servings.walked c.args.ino.0 s.tree s.table c.servings.affected) (sym (stays (goal.at.serve_next-changed-requires-clause-walked c).In-Some)) c.servings.invariant.walked
+    subst (λ (s : Scene). AreWalked c.servings.reached.walked c.args.ino.0 s.tree s.table c.servings.reached.affected) (sym (stays (goal.at.serve_next-changed-requires-clause-walked c).In-Some)) c.servings.invariant.walked
+
+pub serve_next-changed-requires-clause-tree : goal.serve_next-changed-requires-clause-tree
+serve_next-changed-requires-clause-tree c = tree (goal.at.serve_next-changed-requires-clause-tree c).In-Some
+
+pub serve_next-changed-requires-clause-permitted : goal.serve_next-changed-requires-clause-permitted
+serve_next-changed-requires-clause-permitted c =
+    subst (ArePermittedIn c.servings.known.sets) (sym (stays (goal.at.serve_next-changed-requires-clause-permitted c).In-Some)) c.servings.invariant.permitted
 
 pub serve_next-changed-requires-clause-judged : goal.serve_next-changed-requires-clause-judged
 serve_next-changed-requires-clause-judged c =
@@ -152,18 +161,18 @@ module _ (c : After-place_behind-place) where
   abbrev serves : Serves (mid (before_serving c)) c.in-Some.ticket ended new
   serves = c.serve_next-changed.ensures.served.1
 
-  abbrev reaches : Reaches serves.request c.args.ino.0 c.sweep.new.scene.tree c.serve_next-changed.new.scene.tree c.sweep.new.scene.table c.servings.affected c.serve_next-changed.new.affected
+  abbrev reaches : Reaches serves.request c.args.ino.0 c.sweep.new.scene.tree c.serve_next-changed.new.scene.tree c.sweep.new.scene.table c.servings.reached.affected c.serve_next-changed.new.reached.affected
   reaches = c.serve_next-changed.ensures.reached serves.request serves.waits
 
-  served : IsSoFar c.args.ino.0 (from (before_serving c)) c.serve_next-changed.new.affected (first (before_serving c)) new (c.servings.endings.told.items ++ ended ∷ []) (c.servings.endings.sized.items ++ sized_in (Served serves.request ended.outcome ∷ []))
+  served : IsSoFar c.args.ino.0 (from (before_serving c)) c.serve_next-changed.new.reached.affected (first (before_serving c)) new (c.servings.endings.told.items ++ ended ∷ []) (c.servings.endings.sized.items ++ sized_in (Served serves.request ended.outcome ∷ []))
   served =
-      so-far-served c.args.ino.0 (from (before_serving c)) c.servings.affected (first (before_serving c)) (mid (before_serving c)) c.servings.endings.told.items c.servings.endings.sized.items (swept (before_serving c))
-      c.in-Some.ticket ended new c.serve_next-changed.new.affected (order (before_serving c)) (tree (before_serving c)) (move (before_serving c)) serves reaches
+      so-far-served c.args.ino.0 (from (before_serving c)) c.servings.reached.affected (first (before_serving c)) (mid (before_serving c)) c.servings.endings.told.items c.servings.endings.sized.items (swept (before_serving c))
+      c.in-Some.ticket ended new c.serve_next-changed.new.reached.affected (order (before_serving c)) (tree (before_serving c)) (move (before_serving c)) serves reaches
 
-  stands : (next : SweepPlace) → GoesOnBehind c.sweep.new.place c.serve_next-changed.result c.args.ino.0 c.serve_next-changed.new.affected next → StandsAt (is_affected c.args.ino.0 c.serve_next-changed.new.affected) next new
+  stands : (next : SweepPlace) → GoesOnBehind c.sweep.new.place c.serve_next-changed.result c.args.ino.0 c.serve_next-changed.new.reached.affected next → StandsAt (is_affected c.args.ino.0 c.serve_next-changed.new.reached.affected) next new
   stands next =
-      stands-behind c.args.ino.0 (from (before_serving c)) c.servings.affected (first (before_serving c)) (mid (before_serving c)) c.servings.endings.told.items c.servings.endings.sized.items (swept (before_serving c))
-      c.in-Some.ticket ended new c.serve_next-changed.new.affected (order (before_serving c)) (tree (before_serving c)) (move (before_serving c)) serves reaches
+      stands-behind c.args.ino.0 (from (before_serving c)) c.servings.reached.affected (first (before_serving c)) (mid (before_serving c)) c.servings.endings.told.items c.servings.endings.sized.items (swept (before_serving c))
+      c.in-Some.ticket ended new c.serve_next-changed.new.reached.affected (order (before_serving c)) (tree (before_serving c)) (move (before_serving c)) serves reaches
       c.sweep.new.place next c.serve_next-changed.result c.sweep.ensures.place (c.serve_next-changed.ensures.changed serves.request serves.waits)
 
   one_more : length (c.servings.endings.told.items ++ ended ∷ []) ≡ length c.servings.endings.told.items + 1
@@ -192,18 +201,20 @@ servings-preserved c =
     let is = stays (before_serving c) in
     record {
       so_far =
-          subst (λ (told : List Ended). IsSoFar c.args.ino.0 (from (before_serving c)) c.serve_next-changed.new.affected (first (before_serving c)) (new c) told c.serve_next-changed.new.endings.sized.items) (sym all.2)
-          (subst (IsSoFar c.args.ino.0 (from (before_serving c)) c.serve_next-changed.new.affected (first (before_serving c)) (new c) (c.servings.endings.told.items ++ ended c ∷ [])) (sym sizes) (served c));
+          subst (λ (told : List Ended). IsSoFar c.args.ino.0 (from (before_serving c)) c.serve_next-changed.new.reached.affected (first (before_serving c)) (new c) told c.serve_next-changed.new.endings.sized.items) (sym all.2)
+          (subst (IsSoFar c.args.ino.0 (from (before_serving c)) c.serve_next-changed.new.reached.affected (first (before_serving c)) (new c) (c.servings.endings.told.items ++ ended c ∷ [])) (sym sizes) (served c));
       stands = stands c c.place_behind-place.result c.place_behind-place.ensures;
       walked =
-          subst (λ (t : Table). AreWalked c.serve_next-changed.new.walked c.args.ino.0 (new c).tree t c.serve_next-changed.new.affected) (sym (ap (λ (s : Scene). s.table) (serves c).is))
-          (walked-served c.sweep.new.scene.tree (new c).tree request (ended c).outcome c.args.ino.0 c.sweep.new.scene.table c.serve_next-changed.new.walked c.servings.affected c.serve_next-changed.new.affected
+          subst (λ (t : Table). AreWalked c.serve_next-changed.new.reached.walked c.args.ino.0 (new c).tree t c.serve_next-changed.new.reached.affected) (sym (ap (λ (s : Scene). s.table) (serves c).is))
+          (walked-served c.sweep.new.scene.tree (new c).tree request (ended c).outcome c.args.ino.0 c.sweep.new.scene.table c.serve_next-changed.new.reached.walked c.servings.reached.affected c.serve_next-changed.new.reached.affected
           (ap (λ (s : Scene). s.tree) (serves c).is) (reaches c) c.serve_next-changed.ensures.walked);
       judged = none-judged c.serve_next-changed.new.endings.judged (new c) c.serve_next-changed.ensures.judged;
       same = same;
       lead = leads-then c.args.endings.now.changes.items c.servings.endings.changes.items c.serve_next-changed.new.endings.changes.items c.args.scene.now.tree c.sweep.new.scene.tree (new c).tree
           (subst (λ (s : Scene). LeadOn c.args.endings.now.changes.items c.servings.endings.changes.items c.args.scene.now.tree s.tree) (sym is) c.servings.invariant.lead) c.serve_next-changed.ensures.lead;
       places = omega (arith, less, c.serve_next-changed.ensures.noted, c.serve_next-changed.ensures.places, c.servings.invariant.places);
+      known = λ k. c.serve_next-changed.ensures.told k ∙ c.servings.invariant.known k;
+      permitted = c.serve_next-changed.ensures.permitted;
       told = omega (arith, more, less, room.0, c.servings.invariant.told);
       kept = omega (arith, kept_more, less, room.1, c.servings.invariant.kept);
       sized = omega (arith, few_sizes, less, room.2, c.servings.invariant.sized);
@@ -214,14 +225,17 @@ returns-clause-settles c =
     let first : Scene = c.args.scene.now in
     let now : Scene = c.servings.scene in
     let last : Scene = c.sweep.new.scene in
-    so-far-settled c.args.ino.0 (is_affected c.args.ino.0 c.args.others) c.servings.affected first last c.servings.endings.told.items c.servings.endings.sized.items
-    (so-far-swept c.args.ino.0 (is_affected c.args.ino.0 c.args.others) c.servings.affected first now c.servings.endings.told.items c.servings.endings.sized.items c.servings.invariant.so_far last c.sweep.ensures.swept)
+    so-far-settled c.args.ino.0 (is_affected c.args.ino.0 c.args.others) c.servings.reached.affected first last c.servings.endings.told.items c.servings.endings.sized.items
+    (so-far-swept c.args.ino.0 (is_affected c.args.ino.0 c.args.others) c.servings.reached.affected first now c.servings.endings.told.items c.servings.endings.sized.items c.servings.invariant.so_far last c.sweep.ensures.swept)
     (subst (GoesOn last) c.in_default.is c.sweep.ensures.next)
 
 pub returns-clause-lead : goal.returns-clause-lead
 returns-clause-lead c =
     let swept = c.sweep.ensures.swept in
     subst (λ (s : Scene). LeadOn c.args.endings.now.changes.items c.servings.endings.changes.items c.args.scene.now.tree s.tree) (sym swept.is) c.servings.invariant.lead
+
+pub returns-clause-permitted : goal.returns-clause-permitted
+returns-clause-permitted c = let swept = c.sweep.ensures.swept in subst (ArePermittedIn c.servings.known.sets) (sym swept.is) c.servings.invariant.permitted
 
 pub returns-clause-places : goal.returns-clause-places
 returns-clause-places c =

@@ -1,5 +1,5 @@
 use Rattle.std.proofs.Common.{sym, subst}
-use Rattle.capsteps.proofs.Common.{Scene, is_affected, AreStill, IsNextOf, IsSwept, StandsAt}
+use Rattle.capsteps.proofs.Common.{Scene, ArePermittedIn, is_affected, AreStill, IsNextOf, IsSwept, StandsAt}
 use Rattle.capacts.specs.Lockmachine.Runs.{MoveLittle}
 use Rattle.capacts.specs.Lockmachine.Turns.{IsDue}
 use Rattle.capacts.proofs.Lockmachine.Alone.{nobody-done, nobody-kept}
@@ -79,4 +79,5 @@ pub advance-requires : goal.advance-requires
 advance-requires c = record {
   turn = c.inodes.invariant.stands.turn;
   alone = c.inodes.invariant.stands.alone;
+  permitted = λ k e on here. (let swept = c.inodes.invariant.swept in subst (ArePermittedIn c.args.known.now.sets) (sym swept.is) c.requires.permitted) k e here;
 }

@@ -1,6 +1,7 @@
 use Rattle.std.proofs.Common.{Some, ◌≡◌, length, refl, sym, ap, subst, ◌∙◌, arith}
 use Rattle.capcore.proofs.Common.{Caps, IsSubset, Entry, Holder, Table, IsTable, entry_at, Scene, StillKnown, Event, State, Direct, direct, effect, effect_unless, revoked_of, AffectsOne, view_of, entry_event, changes-still, room-for, none-judged, Parts}
 use Rattle.capbits.specs.Refusal.{first_failing}
+use Rattle.capsteps.specs.Begun.{ArePermittedIn}
 use Rattle.capsteps.specs.EntryRequest.{table_after}
 use Rattle.capsteps.proofs.Knowing.{held_at, still-all}
 use Rattle.capsteps.proofs.EntryKept.{request-less, others-have_all}
@@ -16,7 +17,7 @@ pub apply_request-requires-clause-passed : goal.apply_request-requires-clause-pa
 apply_request-requires-clause-passed c =
     let s : Scene = c.args.self.now.scene in
     let may = c.requires.may in
-    ap first_failing (c.revoked_by-revoked.ensures.tests s refl may.whole.2) ∙ affected-tests s c.args.holder.client c.args.holder.ino c.args.request may.passed
+    ap first_failing (c.revoked_by-revoked.ensures.tests s refl may.whole.2.0) ∙ affected-tests s c.args.holder.client c.args.holder.ino c.args.request may.passed
 
 pub apply_request-requires-clause-made : goal.apply_request-requires-clause-made
 apply_request-requires-clause-made c =
@@ -30,8 +31,15 @@ returns-in_err-apply_request-clause-whole c =
     let p : Parts = c.args.self.now in
     let whole = c.requires.may.whole in
     let still : StillKnown p.scene.table p.scene.table p.known.sets c.apply_request.new.known.sets =
-    subst (λ (t : Table). StillKnown p.scene.table t p.known.sets c.apply_request.new.known.sets) c.in_err-apply_request.ensures.err c.apply_request.ensures.known in
-    let all : IsWhole (record p { known = c.apply_request.new.known }) = (whole.0, whole.1, still-all p.known.sets c.apply_request.new.known.sets p.scene whole.2 still) in
+    subst (λ (t : Table). StillKnown p.scene.table t p.known.sets c.apply_request.new.known.sets) c.in_err-apply_request.ensures.err c.apply_request.ensures.kept.known in
+    let all : IsWhole (record p { known = c.apply_request.new.known }) = (
+      whole.0,
+      whole.1,
+      (
+        still-all p.known.sets c.apply_request.new.known.sets p.scene whole.2.0 still,
+        subst (λ (t : Table). ArePermittedIn c.apply_request.new.known.sets (record p.scene { table = t })) c.in_err-apply_request.ensures.err (c.apply_request.ensures.kept.permitted whole.2.1),
+      ),
+    ) in
     rw c.in_err-apply_request.ensures.err (on_err _ all)
 
 pub returns-clause-begun : goal.returns-clause-begun
@@ -43,7 +51,7 @@ returns-clause-begun c =
     let table : Table = c.apply_request.new.table in
     let q : Parts = record { scene = record p.scene { table = table }; known = c.apply_request.new.known; messages = p.messages; endings = c.begin.new.self } in
     let revoked : Caps = revoked_of p.scene k in
-    let made : table ≡ table_after p.scene.table k revoked request = c.in_ok-apply_request.ensures.ok ∙ c.revoked_by-revoked.ensures.takes p.scene refl may.whole.2 in
+    let made : table ≡ table_after p.scene.table k revoked request = c.in_ok-apply_request.ensures.ok ∙ c.revoked_by-revoked.ensures.takes p.scene refl may.whole.2.0 in
     let old : State = state_of p in
     let e : Event = entry_event k.client k.ino request in
     let is : q.scene ≡ (direct old e).state.scene =
@@ -53,11 +61,11 @@ returns-clause-begun c =
     let none = ap length begun.changes.0 in
     one-begun p q e k may (effect old e) by_itself (keeps-of_request old k request) (λ count given. below-of_request count old k request given) (is ∙ ap (λ (d : Direct). d.state.scene) by_itself) refl
     (affected.Entry k) (Touched k request) refl (sym (effect-answer old k.client k.ino request)) refl refl (subst (AffectsOne k.ino.0 old) (sym is) (affects-affected old k request may.whole.0 may.table may.passed))
-    (subst (λ (s : Scene). IsTable s.table) (sym is) (table-of_request old k request may.table may.passed)) c.apply_request.ensures.known
+    (subst (λ (s : Scene). IsTable s.table) (sym is) (table-of_request old k request may.table may.passed)) c.apply_request.ensures.kept.known (c.apply_request.ensures.kept.permitted may.whole.2.1)
     (subst (λ (t : Table). (j : Holder) (f : Entry) → entry_at t j ≡ Some f → IsSubset f.held (held_at p.scene.table j)) (sym made) (request-less p.scene.table k revoked request)) may.tree may.order
     (room-for q.endings q.endings.changes q.endings.judged c.waiting-waiting.result (length p.scene.locks.queue) begun.room (omega (arith, c.waiting-waiting.ensures.waiting)))
     (none-judged q.endings.judged q.scene begun.judged) (
       omega (arith, none, begun.changes.1, c.waiting-waiting.ensures.waiting),
-      others-have_all p.known.sets q.known.sets old table k revoked request may.whole.0 may.whole.2 made c.apply_request.ensures.known,
+      others-have_all p.known.sets q.known.sets old table k revoked request may.whole.0 may.whole.2.0 made c.apply_request.ensures.kept.known,
     )
     may.whole.1 tt (changes-still q.endings.changes.items (view_of old) begun.changes.0)

@@ -14,6 +14,9 @@ use Rattle.capcore.proofs.parts.Parts.flush.Goals as goal
 pub alter-requires : goal.alter-requires
 alter-requires c = record { passed = flush-calls c.args.self.now.scene c.args.holder c.args.change.now c.requires.may.passed }
 
+pub renew_changed-requires : goal.renew_changed-requires
+renew_changed-requires c = record { room = λ k e there. ap is_some (c.requires.may.whole.2.0 k e there) }
+
 -- for want of memory all is as it was
 pub returns-in_err-alter-clause-whole : goal.returns-in_err-alter-clause-whole
 returns-in_err-alter-clause-whole c = rw c.in_err-alter.ensures.err (on_err _ c.requires.may.whole)
@@ -26,7 +29,7 @@ returns-clause-begun c =
     let e : Event = event.Flush k.client k.ino change in
     let may = c.requires.may in
     let table : Table = c.touch.new.self in
-    let q : Parts = record { scene = record p.scene { tree = c.alter.new.tree; table = table }; known = p.known; messages = p.messages; endings = record c.begin.new.self { changes = c.note_change.new.self } } in
+    let q : Parts = record { scene = record p.scene { tree = c.alter.new.tree; table = table }; known = c.renew_changed.new.known; messages = p.messages; endings = record c.begin.new.self { changes = c.note_change.new.self } } in
     let by_itself : direct (state_of p) e ≡ says (with_flush (state_of p) k change) reply.Done = flush-direct (state_of p) k change may.passed in
     let alike : HoldAlike p.scene.table table = subst (HoldAlike p.scene.table) (sym c.touch.ensures) (λ j f there. (f, there, refl)) in
     let begun = c.in_ok-begin.ensures in
@@ -35,7 +38,8 @@ returns-clause-begun c =
     one-begun p q e k may (says (with_flush (state_of p) k change) reply.Done) by_itself (refl, refl) (λ count given. below-of_flush count (state_of p) k change given) is refl
     (affected.Inode k) Done refl refl refl refl (subst (AffectsOne k.ino.0 (state_of p)) (sym is) (flush-affects (state_of p) k change may.whole.0 may.table))
     (subst IsTable (sym c.touch.ensures) (flush-table (state_of p) k change may.table))
-    (still-there p.scene.table table p.known.sets p.known.sets (λ j f there. ap is_some (alike j f there).1) (λ j f there. refl)) (alike-less p.scene.table table alike)
+    (still-there p.scene.table table p.known.sets q.known.sets (λ j f there. ap is_some (alike j f there).1) (λ j f there. c.renew_changed.ensures.told j))
+    (λ j f there. let was = alike j f there in c.renew_changed.ensures.permitted p.scene.tree c.in_ok-alter.ensures.ok may.whole.2.1 j was.0 was.1) (alike-less p.scene.table table alike)
     (subst IsTree (sym c.in_ok-alter.ensures.ok) (flush-tree p.scene k change may.passed may.tree)) may.order
     (room-for c.begin.new.self q.endings.changes q.endings.judged c.waiting-waiting.result (length p.scene.locks.queue) begun.room (omega (arith, c.waiting-waiting.ensures.waiting)))
     (none-judged q.endings.judged q.scene begun.judged)

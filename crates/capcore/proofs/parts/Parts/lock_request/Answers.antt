@@ -63,7 +63,7 @@ returns-clause-begun c =
     (λ i. record p.scene { locks = queued i }) c.reserve.ensures.items
     (affected.Inode k) (Awaited ticket) refl (ap (λ n. Awaits (record { 0 = n })) next) refl (next, ap (λ (l : LockMap). l.last) queued)
     (subst (λ (l : LockMap). AffectsOne k.ino.0 (state_of p) (record p.scene { locks = l })) (sym queued) (asking-affects (state_of p) k ask may.whole.0 may.table free)) may.table
-    (still-there p.scene.table p.scene.table p.known.sets p.known.sets (λ j f there. ap is_some there) (λ j f there. refl)) (alike-less p.scene.table p.scene.table (λ j f there. (f, there, refl))) may.tree
+    (still-there p.scene.table p.scene.table p.known.sets p.known.sets (λ j f there. ap is_some there) (λ j f there. refl)) may.whole.2.1 (alike-less p.scene.table p.scene.table (λ j f there. (f, there, refl))) may.tree
     order
     (room-for c.begin.new.self q.endings.changes (Some ticket) (c.waiting-waiting.result + 1) (length locks.queue) begun.room (omega (arith, queue, c.waiting-waiting.ensures.waiting)))
     (judged_once p.scene k ask locks queued order free ticket next)

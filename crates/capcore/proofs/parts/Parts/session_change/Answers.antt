@@ -1,12 +1,23 @@
 use Rattle.std.proofs.Common.{◌≡◌, ◌≤◌, ◌++◌, length, sym, ap, subst, ◌∙◌, arith}
-use Rattle.capcore.proofs.Common.{SessionTable, Scene, is_end, dropped_by, AreChanges, view, view_of, session_changed, room-for, none-judged, Parts}
+use Rattle.capcore.proofs.Common.{option_map, SessionTable, Scene, is_end, dropped_by, AreChanges, view, view_of, session_changed, room-for, none-judged, Parts}
+use Rattle.captable.specs.declared.on_inode.Sets.{Sets}
+use Rattle.capsteps.proofs.Capacts.Renewed.{room-permitted}
 use Rattle.capcore.specs.UnderWay.{state_of}
+use Rattle.capcore.proofs.Granted.{left-permitted}
 use Rattle.capcore.proofs.SessionStep.{few-waiting, few-messages, change-begun}
 use Rattle.capcore.proofs.parts.Parts.session_change.Goals as goal
 
 -- for want of memory all is as it was
 pub returns-in-Err-clause-whole : goal.returns-in-Err-clause-whole
 returns-in-Err-clause-whole c = rw c.in-Err.ensures.err c.requires.may.whole
+
+pub renew_granted-requires : goal.renew_granted-requires
+renew_granted-requires c =
+    let p : Parts = c.args.self.now in
+    record {
+      room = room-permitted c.leave.new.known.sets p.scene.fs p.scene.tree p.scene.sessions c.leave.new.scene.table
+          (left-permitted p.known.sets c.leave.new.known.sets p.scene (is_end c.args.change) c.args.client c.leave.new.scene.table c.leave.ensures.table c.leave.ensures.known c.requires.may.whole.2.1);
+    }
 
 pub returns-clause-begun : goal.returns-clause-begun
 returns-clause-begun c =
@@ -16,13 +27,15 @@ returns-clause-begun c =
     let ends = is_end change in
     let room = c.in_ok-room.ensures in
     let others = c.in_ok-room.room.others in
-    let q : Parts = record { scene = c.leave.new.scene; known = c.leave.new.known; messages = c.leave.new.messages; endings = c.new.new.endings } in
+    let q : Parts = record { scene = c.leave.new.scene; known = c.renew_granted.new.known; messages = c.leave.new.messages; endings = c.new.new.endings } in
     let is : q.scene ≡ (session_changed (state_of p) client change).scene =
     c.leave.ensures.rest ∙ (λ i. record p.scene { sessions = c.in_default.ensures.ok i; table = c.leave.ensures.table i; locks = c.leave.ensures.locks i }) in
     let fewer : length q.scene.locks.queue ≤ length p.scene.locks.queue = rw c.leave.ensures.locks (few-waiting ends p.scene.locks client) in
     let few = few-messages ends p.messages.items client in
     let left = ap length c.leave.ensures.messages in
-    change-begun p q client change c.requires.may is c.leave.ensures.messages others room.reaches c.leave.ensures.known
+    change-begun p q client change c.requires.may is c.leave.ensures.messages others room.reaches
+    (λ k f there. c.renew_granted.ensures.told k ∙ ap (option_map (λ (sets : Sets). sets.told)) (c.leave.ensures.known k f there)) (c.renew_granted.ensures.permitted (state_of p) is
+    (left-permitted p.known.sets c.leave.new.known.sets p.scene ends client q.scene.table c.leave.ensures.table c.leave.ensures.known c.requires.may.whole.2.1))
     c.leave.new.dropped (c.leave.ensures.dropped ∙ ap (λ ms. ms ++ dropped_by ends p.scene.locks client) room.dropped.0)
     (room-for q.endings q.endings.changes q.endings.judged (length p.scene.locks.queue) (length q.scene.locks.queue) room.room fewer) (none-judged q.endings.judged q.scene room.judged)
     (omega (arith, fewer, room.places))

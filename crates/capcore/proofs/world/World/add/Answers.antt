@@ -1,10 +1,11 @@
 use Rattle.std.proofs.Common.{◌≡◌, ◌+◌, None, refl, sym, subst, arith}
-use Rattle.capcore.proofs.Common.{LockMap, AreKnown, HasRoom, State}
+use Rattle.capcore.proofs.Common.{LockMap, State}
 use Rattle.capbits.specs.Refusal.{first_failing}
 use Rattle.inotree.specs.Tests.{create_tests}
 use Rattle.inotree.proofs.Passing.{passed-create}
+use Rattle.capcore.specs.UnderWay.{IsWhole}
 use Rattle.capcore.proofs.Undone.{added-dropped, not_given}
-use Rattle.capcore.proofs.Unaffected.{birth-sound, birth-known}
+use Rattle.capcore.proofs.Unaffected.{birth-whole}
 use Rattle.capcore.proofs.world.World.add.Goals as goal
 
 pub overflow_add-ino : goal.overflow_add-ino
@@ -17,12 +18,7 @@ overflow_add-ino c =
 
 pub invariant_of-self-in-Ok : goal.invariant_of-self-in-Ok
 invariant_of-self-in-Ok c =
-    let sound = c.self.invariant.0 in
-    rw (c.in-Ok.ensures.ok, c.in_ok-add_ino.ensures.ok, c.last.ensures.last) (
-      birth-sound sound c.args.kind c.args.dir.0 c.args.name.now c.args.attr c.last.ensures.sound,
-      c.self.invariant.1,
-      birth-known sound c.self.inside.parts.known.sets c.self.invariant.2 c.args.kind c.args.dir.0 c.args.name.now c.args.attr c.last.ensures.sound,
-    )
+    rw (c.in-Ok.ensures.ok, c.in_ok-add_ino.ensures.ok, c.last.ensures.last) (birth-whole c.self.inside.parts c.self.invariant c.args.kind c.args.dir.0 c.args.name.now c.args.attr c.last.ensures.sound)
 
 pub invariant_of-self : goal.invariant_of-self
 invariant_of-self c = rw c.in_err-add_ino.ensures.err c.self.invariant
@@ -30,11 +26,8 @@ invariant_of-self c = rw c.in_err-add_ino.ensures.err c.self.invariant
 pub invariant_of-self-in-Err : goal.invariant_of-self-in-Err
 invariant_of-self-in-Err c =
     let undone = added-dropped c.self.inside.parts.scene.locks (c.self.inside.parts.scene.tree.last + 1) (not_given c.self.invariant.0 c.last.ensures.sound) in
-    let locks : c.drop_ino.new.self ≡ c.self.inside.parts.scene.locks = rw (c.drop_ino.ensures, c.in_ok-add_ino.ensures.ok, c.last.ensures.last, undone) refl in (
-      rw (c.in-Err.ensures.err, c.drop_ino.ensures, c.in_ok-add_ino.ensures.ok, c.last.ensures.last, undone) c.self.invariant.0,
-      subst (HasRoom c.self.inside.parts.messages) (sym locks) c.self.invariant.1,
-      rw c.in-Err.ensures.err (subst (λ (l : LockMap). AreKnown c.self.inside.parts.known.sets (record { fs = c.self.inside.parts.scene.fs; tree = c.self.inside.parts.scene.tree; sessions = c.self.inside.parts.scene.sessions; table = c.self.inside.parts.scene.table; locks = l })) (sym locks) c.self.invariant.2),
-    )
+    let locks : c.drop_ino.new.self ≡ c.self.inside.parts.scene.locks = rw (c.drop_ino.ensures, c.in_ok-add_ino.ensures.ok, c.last.ensures.last, undone) refl in
+    rw c.in-Err.ensures.err (subst (λ (l : LockMap). IsWhole (record c.self.inside.parts { scene = record c.self.inside.parts.scene { locks = l } })) (sym locks) c.self.invariant)
 
 pub returns-in-Err-clause-err : goal.returns-in-Err-clause-err
 returns-in-Err-clause-err c =

@@ -1,7 +1,7 @@
 use Rattle.std.proofs.Common.{◌≡◌, None, sym, subst}
 use Rattle.capcore.proofs.Common.{new_session_tests, State}
 use Rattle.capbits.specs.Refusal.{first_failing}
-use Rattle.capcore.proofs.Unaffected.{session-sound, session-known}
+use Rattle.capcore.proofs.Unaffected.{session-whole}
 use Rattle.capcore.proofs.world.World.connect.Goals as goal
 
 pub invariant_of-self : goal.invariant_of-self
@@ -11,9 +11,4 @@ pub invariant_of-self-2 : goal.invariant_of-self-2
 invariant_of-self-2 c =
     let passed : first_failing (new_session_tests c.self.inside.parts.scene.sessions c.args.client.0) ≡ None =
     subst (λ (s : State). first_failing (new_session_tests s.scene.sessions c.args.client.0) ≡ None) (sym c.self.view_is) c.requires.passed in
-    let sound = c.self.invariant.0 in
-    rw c.in_ok-open_session_tested.ensures.ok (
-      session-sound sound c.args.client.0 c.copy-2.result c.in_ok-grants.grants passed,
-      c.self.invariant.1,
-      session-known sound c.self.inside.parts.known.sets c.self.invariant.2 c.args.client.0 c.copy-2.result c.in_ok-grants.grants passed,
-    )
+    rw c.in_ok-open_session_tested.ensures.ok (session-whole c.self.inside.parts c.self.invariant c.args.client.0 c.copy-2.result c.in_ok-grants.grants passed)

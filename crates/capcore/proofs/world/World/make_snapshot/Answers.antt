@@ -5,7 +5,7 @@ use Rattle.inotree.specs.Inodes.{with_snapshot}
 use Rattle.inotree.specs.Tests.{new_snapshot_tests}
 use Rattle.capcore.proofs.Rejections.{access-at, inode-passed}
 use Rattle.capcore.proofs.Effects.{making-rejection, snapshot-refused}
-use Rattle.capcore.proofs.Unaffected.{changed-sound, changed-known}
+use Rattle.capcore.proofs.Unaffected.{changed-whole}
 use Rattle.capsteps.specs.Capview.Sight.{IsLike, Shows}
 use Rattle.capsteps.proofs.Capview.Likeness.{like-unseen, shows-tree}
 use Rattle.capcore.proofs.world.World.make_snapshot.Goals as goal
@@ -26,14 +26,11 @@ snap_add_tested-requires c = record {
       (sym c.new_snapshot_refusal.ensures ∙ c.in_default-new_snapshot_refusal.is);
 }
 
+pub invariant_of-self : goal.invariant_of-self
+invariant_of-self c = rw c.in_err-snap_add_tested.ensures.err c.self.invariant
+
 pub invariant_of-self-2 : goal.invariant_of-self-2
-invariant_of-self-2 c =
-    let sound = c.self.invariant.0 in
-    rw c.in_ok-snap_add_tested.ensures.ok (
-      changed-sound sound (with_snapshot c.args.name.now) c.args.ino.0 (λ n. refl) (λ n. refl),
-      c.self.invariant.1,
-      changed-known sound c.self.inside.parts.known.sets c.self.invariant.2 (with_snapshot c.args.name.now) c.args.ino.0 (λ n. refl) (λ n. refl),
-    )
+invariant_of-self-2 c = rw c.in_ok-snap_add_tested.ensures.ok (changed-whole c.self.inside.parts c.self.invariant (with_snapshot c.args.name.now) c.args.ino.0 (λ n. refl) (λ n. refl))
 
 pub returns-clause-seen : goal.returns-clause-seen
 returns-clause-seen c =

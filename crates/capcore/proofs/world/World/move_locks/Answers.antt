@@ -1,11 +1,11 @@
 use Rattle.std.proofs.Common.{◌≡◌, ◌+◌, ◌++◌, List, length, sym, ap, subst, ◌∙◌, arith}
-use Rattle.capcore.proofs.Common.{IsTree, SessionTable, IsTable, IsLockMap, Scene, IsAnswered, AreKnown, Event, Ended, view, AreChanges, shown, view_of, IsSound, State, changes-still, Parts, MayBegin, HasBegun, answer_of}
+use Rattle.capcore.proofs.Common.{IsTree, SessionTable, IsTable, IsLockMap, Scene, IsAnswered, Event, Ended, view, AreChanges, shown, view_of, IsSound, State, changes-still, Parts, MayBegin, HasBegun, answer_of}
 use Rattle.std.proofs.lemmas.List.{length-append}
 use Rattle.capsteps.specs.Capnotes.DueEndings.{DueEndings}
 use Rattle.capsteps.specs.Caprules.Sound.{NumbersLeft}
 use Rattle.capcore.specs.declared.parts.Effect.{Effect}
-use Rattle.capcore.specs.UnderWay.{earlier_of, event_of, state_of}
-use Rattle.capcore.proofs.Begun.{ended-answered, ended-known, ended-numbers, few-earlier, fewer-places, shown-known, shown-rest}
+use Rattle.capcore.specs.UnderWay.{AreKept, earlier_of, event_of, state_of}
+use Rattle.capcore.proofs.Begun.{ended-answered, ended-known, ended-numbers, few-earlier, fewer-places, shown-kept, shown-rest}
 use Rattle.capcore.proofs.Closing.{ends-sessions}
 use Rattle.capcore.proofs.Rejections.{judged-at, rejection-answered}
 use Rattle.capcore.proofs.world.World.move_locks.Goals as goal
@@ -17,7 +17,7 @@ pub returns-in-Some-clause-answered : goal.returns-in-Some-clause-answered
 returns-in-Some-clause-answered c =
     let s = c.args.self.now in
     rejection-answered s (event_of c.args.asking.now) c.in-Some.rejection c.alone.result (subst IsSound c.self.view_is c.self.invariant.0) c.requires.table
-    (judged-at _ s (event_of c.args.asking.now) c.rejection.result c.self.view_is (c.rejection.ensures c.self.invariant.2) ∙ c.in-Some.is)
+    (judged-at _ s (event_of c.args.asking.now) c.rejection.result c.self.view_is (c.rejection.ensures c.self.invariant.2.0) ∙ c.in-Some.is)
     (c.alone.ensures.reply ∙ c.into_reply.ensures.reply) (c.alone.ensures.kept ∙ sym c.alone.ensures.reply) c.alone.ensures.ended
 
 pub returns-in-Some-clause-changes : goal.returns-in-Some-clause-changes
@@ -33,7 +33,7 @@ begin-requires c = record {
     table = subst (λ (s : State). IsTable s.scene.table) (sym c.self.view_is) c.requires.table;
     order = subst (λ (s : State). IsLockMap s.scene.locks) (sym c.self.view_is) c.requires.locks;
     numbers = subst NumbersLeft (sym c.self.view_is) c.requires.numbers;
-    passed = sym (c.rejection.ensures c.self.invariant.2) ∙ c.in_default.is;
+    passed = sym (c.rejection.ensures c.self.invariant.2.0) ∙ c.in_default.is;
   };
 }
 
@@ -65,14 +65,14 @@ module _ (c : After-end) where
     table = subst (λ (s : State). IsTable s.scene.table) (sym c.self.view_is) c.requires.table;
     order = subst (λ (s : State). IsLockMap s.scene.locks) (sym c.self.view_is) c.requires.locks;
     numbers = subst NumbersLeft (sym c.self.view_is) c.requires.numbers;
-    passed = sym (c.rejection.ensures c.self.invariant.2) ∙ c.in_default.is;
+    passed = sym (c.rejection.ensures c.self.invariant.2.0) ∙ c.in_default.is;
   }
 
   begun : HasBegun p e effect q
   begun = c.in_ok-affected.ensures.begun
 
-  known : AreKnown last.known.sets last.scene
-  known = ended-known p q e effect may begun last.known.sets last.scene last.endings.told.items c.end.ensures.ends
+  kept : AreKept last.known.sets last.scene
+  kept = let ends = c.end.ensures.ends in (ended-known p q e effect may begun last.known.sets last.scene last.endings.told.items ends, ends.permitted)
 
 pub close-requires : goal.close-requires
 close-requires g =
@@ -84,7 +84,7 @@ close-requires g =
       same = c.end.ensures.kept;
       room = omega (arith, left, room, c.end.ensures.count, (begun c).room);
       places = fewer-places (effect c).answer (length (q c).scene.locks.queue) (length (last c).endings.told.items) (omega (arith, c.end.ensures.count)) (begun c).places;
-      known = known c;
+      known = (kept c).0;
     }
 
 module _ (g : After-close) where
@@ -129,8 +129,8 @@ invariant_of-self-2 g =
     let room = ap (λ (m : DueEndings). m.room) g.end.ensures.messages in (
       w.sound,
       omega (arith, items, few, queue, room, g.close.ensures.room, g.end.ensures.count, (begun (c g)).room),
-      subst (λ (s : Scene). AreKnown g.close.new.self.known.sets s) (sym (ap (λ (s : State). s.scene) (new_is g)))
-          (rw g.close.ensures.known (shown-known (effect (c g)).answer (closed g) (last (c g)).known.sets (known (c g)))),
+      subst (λ (s : Scene). AreKept g.close.new.self.known.sets s) (sym (ap (λ (s : State). s.scene) (new_is g)))
+          (rw g.close.ensures.known (shown-kept (effect (c g)).answer (closed g) (last (c g)).known.sets (kept (c g)))),
     )
 
 pub returns-clause-changes : goal.returns-clause-changes

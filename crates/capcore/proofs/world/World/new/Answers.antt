@@ -12,4 +12,4 @@ invariant_of-result c =
     let opening : IsOpening c.args.fs c.args.tree s = search rules in
     let room : HasRoom c.new-4.result c.in_ok-locks.locks = search rules in
     let none : (k : Holder) → entry_at c.in-Ok-Ok.table k ≡ None = λ k. ap (λ (t : Table). entry_at t k) opening.table_is in
-    (opening-sound c.args.fs c.args.tree s c.requires.strays opening, room, λ k e there. let gone = none k in absurd (cc))
+    (opening-sound c.args.fs c.args.tree s c.requires.strays opening, room, (λ k e there. let gone = none k in absurd (cc), λ k e there. let gone = none k in absurd (cc)))

@@ -1,5 +1,5 @@
 use Rattle.std.proofs.Common.{◌≡◌, ◌≤◌, [], List, length, filter, Some, refl, sym, ap, subst, ◌∙◌, arith}
-use Rattle.capcore.proofs.Common.{length-filter, count_by-le-length, session_tests, IsTable, is_of_client, Ended, Said, ByTest, State, IsAnswered, IsSound, rejection-before, HoldAlike, known-alike, AreChanges, view_of, changes-still}
+use Rattle.capcore.proofs.Common.{length-filter, count_by-le-length, session_tests, IsTable, is_of_client, Ended, Said, ByTest, State, IsAnswered, IsSound, rejection-before, HoldAlike, AreChanges, view_of, changes-still}
 use Rattle.capbits.specs.Refusal.{first_failing}
 use Rattle.captable.specs.Many.{changed_where}
 use Rattle.capsteps.specs.Capevents.declared.event.Event.TheVariants as event
@@ -9,6 +9,7 @@ use Rattle.capsteps.specs.Caprules.Messages.{first_messages, with_given, after_m
 use Rattle.capsteps.specs.Capnotes.DueEndings.{AreEndsOf, is_left}
 use Rattle.capcore.proofs.Polled.{poll-answered, polled-new}
 use Rattle.capcore.proofs.Rejections.{rejection-answered}
+use Rattle.capcore.proofs.Unaffected.{alike-kept}
 use Rattle.capsteps.proofs.Telling.{given-held}
 use Rattle.capsteps.proofs.Knowing.{alike-where}
 use Rattle.capcore.proofs.world.World.poll.Goals as goal
@@ -41,7 +42,7 @@ module _ (c : After-drop-told) where
   said = record { reply = reply.Messages c.in_ok-given.given; kept = reply.Messages c.in_ok-kept.kept; ended = c.new.result; changes = c.new-2.result }
 
   first : c.in_ok-given.given ≡ first_messages old c.args.client c.args.max
-  first = c.in_ok-given.ensures old refl refl c.self.invariant.2 (sym c.as_slice-ended.ensures)
+  first = c.in_ok-given.ensures old refl refl c.self.invariant.2.0 (sym c.as_slice-ended.ensures)
 
   same : c.in_ok-kept.kept ≡ c.in_ok-given.given
   same = c.in_ok-kept.ensures ∙ c.as_slice.ensures
@@ -72,7 +73,7 @@ invariant_of-self c =
     (omega (arith, length-filter (is_left c.args.client c.in_ok-given.given) items, count_by-le-length (is_left c.args.client c.in_ok-given.given) items)) in (
       w.sound,
       omega (arith, few, c.remove_given.ensures.room, c.self.invariant.1),
-      known-alike c.self.inside.parts.known.sets (old c).scene c.skip_quiet.new.self
+      alike-kept c.self.inside.parts.known.sets (old c).scene c.skip_quiet.new.self
           (subst (HoldAlike (old c).scene.table) (sym (told c)) (alike-where (is_of_client c.args.client) (after_messages c.in_ok-given.given) (old c).scene.table (given-held c.in_ok-given.given))) c.self.invariant.2,
     )
 

@@ -3,7 +3,7 @@ use Rattle.capcore.proofs.Common.{Said, State, IsAnswered, AreChanges, view_of, 
 use Rattle.capsteps.specs.Capevents.declared.event.Event.TheVariants as event
 use Rattle.capsteps.specs.Capevents.declared.reply.Reply.TheVariants as reply
 use Rattle.capsteps.specs.Caprules.Direct.{with_table}
-use Rattle.capcore.proofs.Recalled.{recalled-sound, recalled-known, recall-answered}
+use Rattle.capcore.proofs.Recalled.{recalled-sound, recalled-kept, recall-answered}
 use Rattle.capcore.proofs.world.World.recall.Goals as goal
 use Rattle.capcore.proofs.world.World.recall.Goals.{After-new-2}
 
@@ -28,7 +28,7 @@ pub invariant_of-self : goal.invariant_of-self
 invariant_of-self c = rw c.in_err-named.ensures.err c.self.invariant
 
 pub invariant_of-self-2 : goal.invariant_of-self-2
-invariant_of-self-2 c = rw c.in_ok-named.ensures.ok (recalled-sound _ c.self.invariant.0 c.args.count, c.self.invariant.1, recalled-known _ c.self.invariant.0 c.args.count c.self.inside.parts.known.sets c.self.invariant.2)
+invariant_of-self-2 c = rw c.in_ok-named.ensures.ok (recalled-sound _ c.self.invariant.0 c.args.count, c.self.invariant.1, recalled-kept _ c.self.invariant.0 c.args.count c.self.inside.parts.known.sets c.self.invariant.2)
 
 pub returns-clause-answered : goal.returns-clause-answered
 returns-clause-answered c = subst (λ (s : State). IsAnswered s (event.Recall c.args.count) (said c) (new c)) c.self.view_is (whole c)

@@ -5,7 +5,7 @@ use Rattle.inotree.specs.Inodes.{without_snapshot}
 use Rattle.inotree.specs.Tests.{old_snapshot_tests}
 use Rattle.capcore.proofs.Rejections.{access-at, inode-passed}
 use Rattle.capcore.proofs.Effects.{removing-rejection, snapshot-kept}
-use Rattle.capcore.proofs.Unaffected.{changed-sound, changed-known}
+use Rattle.capcore.proofs.Unaffected.{changed-whole}
 use Rattle.capsteps.specs.Capview.Sight.{IsLike, Shows}
 use Rattle.capsteps.proofs.Capview.Likeness.{like-unseen, shows-tree}
 use Rattle.capcore.proofs.world.World.remove_snapshot.Goals as goal
@@ -27,13 +27,7 @@ snap_remove_tested-requires c = record {
 }
 
 pub invariant_of-self : goal.invariant_of-self
-invariant_of-self c =
-    let sound = c.self.invariant.0 in
-    rw c.snap_remove_tested.ensures (
-      changed-sound sound (without_snapshot c.args.name.now) c.args.ino.0 (λ n. refl) (λ n. refl),
-      c.self.invariant.1,
-      changed-known sound c.self.inside.parts.known.sets c.self.invariant.2 (without_snapshot c.args.name.now) c.args.ino.0 (λ n. refl) (λ n. refl),
-    )
+invariant_of-self c = rw c.snap_remove_tested.ensures (changed-whole c.self.inside.parts c.self.invariant (without_snapshot c.args.name.now) c.args.ino.0 (λ n. refl) (λ n. refl))
 
 pub returns-clause-seen : goal.returns-clause-seen
 returns-clause-seen c =

@@ -1,0 +1,289 @@
+-- What clients are permitted, kept anew of one holder after another.
+use Rattle.std.proofs.Common.{◌≡◌, ◌≢◌, ℕ, Bool, true, false, ◌&&◌, ◌||◌, ◌==◌, cond, Option, Some, None, IsSome, is_some, List, [], ◌∷◌, suc, Contains, inl, inr, filter, refl, sym, ap, subst, ◌∙◌, true≢false, arith}
+use Rattle.std.specs.Prelude.{unwrap_or}
+use Rattle.std.specs.FinSet as set
+use Rattle.std.specs.Cmp.{unsigned_tied}
+use Rattle.std.specs.List.{find, list_any}
+use Rattle.std.specs.Option.{option_map}
+use Rattle.std.specs.Ordering.{nat_cmp, eq_by_cmp}
+use Rattle.std.proofs.lemmas.Bool.{and_parts, or_parts, eqb-false, false_from_ne_true}
+use Rattle.capbits.specs.Caps.{Caps}
+use Rattle.inotree.specs.Tree.{Nodes, is_within}
+use Rattle.inotree.specs.Alike.{IsAlike}
+use Rattle.inotree.specs.declared.node.Setting.TheVariants.{Mode, Uid, Gid, Size, Time}
+use Rattle.inotree.specs.Inodes.{with_setting, with_attribute, without_attribute}
+use Rattle.inotree.proofs.Changes.{setting_site}
+use Rattle.inotree.proofs.Elsewhere.{alike-changed}
+use Rattle.inotree.proofs.Growing.{off_here}
+use Rattle.inotree.proofs.OneInode.{alike-but}
+use Rattle.sessiontab.specs.Table.{SessionTable}
+use Rattle.captable.specs.declared.entry.Entry.{Entry}
+use Rattle.captable.specs.declared.entry.EntryRow.{EntryRow}
+use Rattle.captable.specs.declared.entry.Holder.{Holder}
+use Rattle.captable.specs.declared.on_inode.Sets.{Sets}
+use Rattle.captable.specs.Known.{no_sets}
+use Rattle.captable.specs.Table.{Table, same, is_row_of, is_among, holders_of_rows, entry_at}
+use Rattle.captable.proofs.ByHolder.{row_of-entry}
+use Rattle.captable.proofs.Tables.{same_equiv, same-is, holders-filter, among-filter, no_row}
+use Rattle.caprules.specs.Lockmachine.declared.request.Change.{Change}
+use Rattle.caprules.specs.Lockmachine.declared.request.Change.TheVariants.{Set, SetXattr, RemoveXattr}
+use Rattle.caprules.specs.Lockmachine.declared.request.Request.{Request}
+use Rattle.caprules.specs.Lockmachine.declared.scene.Scene.{Scene}
+use Rattle.caprules.specs.Lockmachine.Policy.{permitted, ArePermitted}
+use Rattle.caprules.proofs.Lockmachine.PolicyElsewhere.{permitted-kept, alike-itself}
+use Rattle.caprules.specs.Capevents.declared.outcome.Outcome.{Outcome}
+use Rattle.caprules.specs.Capnotes.Changing.{tree_changed}
+use Rattle.caprules.specs.Capnotes.InoSets.{InoSet}
+use Rattle.caprules.specs.Capnotes.Noted.{sets_attr}
+use Rattle.capacts.specs.Known.{KnownSets, sets_of, known_of, permitted_of, HaveRoom}
+use Rattle.capacts.specs.Reach.{is_affected}
+use Rattle.capacts.specs.Renewing.{Renews, ServedFrom, has_entry}
+use Rattle.capacts.specs.Served.{is_rename}
+use Rattle.capacts.proofs.KeptSets.{among_rows, room-of, other-holder}
+use Rattle.capacts.proofs.Walked.{second_true}
+
+-- ---- what is kept of a holder that is known to be permitted this
+
+pub kept-is : (o : Option Sets) (may : Caps) → option_map (λ (s : Sets). s.permitted) o ≡ Some may → (o ≡ Some (unwrap_or o no_sets)) × ((unwrap_or o no_sets).permitted ≡ may)
+kept-is None may is = absurd (cc)
+kept-is (Some s) may is = (refl, cc)
+
+some_told : (o : Option Sets) (may : Caps) → option_map (λ (s : Sets). s.permitted) o ≡ Some may → IsSome (option_map (λ (s : Sets). s.told) o)
+some_told None may is = absurd (cc)
+some_told (Some s) may is = refl
+
+pub room-permitted : (sets : KnownSets) (fs : List ℕ) (tree : Nodes) (sessions : SessionTable) (table : Table) → ArePermitted sets fs tree sessions table → HaveRoom sets table
+room-permitted sets fs tree sessions table are k e there = some_told (sets_of sets k) (permitted fs tree sessions k) (are k e there)
+
+-- what was told of it is told again
+pub told-again : (o : Option Sets) (kept : Sets) → kept ≡ unwrap_or o no_sets → IsSome o → Some kept.told ≡ option_map (λ (s : Sets). s.told) o
+told-again None kept is some = absurd (true≢false (sym some))
+told-again (Some s) kept is some = ap (λ (s : Sets). Some s.told) is
+
+-- ---- some after others
+
+-- of those of all that are not left it is kept
+pub record Along (may : Holder → Caps) (all left : Holder → Bool) (was now : KnownSets) : Type 0 where
+  pub anew : (k : Holder) → all k ≡ true → left k ≡ false → permitted_of now k ≡ Some (may k)
+  pub others : (k : Holder) → all k ≡ false → permitted_of now k ≡ permitted_of was k
+  pub told : (k : Holder) → known_of now k ≡ known_of was k
+
+pub along-begins : (may : Holder → Caps) (all : Holder → Bool) (sets : KnownSets) → Along may all all sets sets
+along-begins may all sets = record {
+  anew = λ k among none. absurd (true≢false (sym among ∙ none));
+  others = λ k none. refl;
+  told = λ k. refl;
+}
+
+pub along-more : (may : Holder → Caps) (all left one rest : Holder → Bool) (was mid now : KnownSets) → Along may all left was mid → Renews one may mid now
+    → ((k : Holder) → one k ≡ true → all k ≡ true) → ((k : Holder) → left k ≡ (one k || rest k)) → Along may all rest was now
+along-more may all left one rest was mid now along then inside parts = record {
+  anew = λ k among none. by_one k among none (one k) refl;
+  others = λ k off. then.others k (false_from_ne_true (one k) (λ is. true≢false (sym (inside k is) ∙ off))) ∙ along.others k off;
+  told = λ k. then.told k ∙ along.told k;
+}
+  where
+    by_one : (k : Holder) → all k ≡ true → rest k ≡ false → (b : Bool) → one k ≡ b → permitted_of now k ≡ Some (may k)
+    by_one k among none true on = then.anew k on
+    by_one k among none false off =
+        then.others k off ∙ along.anew k among (parts k ∙ (λ i. off i || none i))
+
+pub along-ends : (may : Holder → Caps) (all left : Holder → Bool) (was now : KnownSets) → Along may all left was now → ((k : Holder) → left k ≡ false) → Renews all may was now
+along-ends may all left was now along none = record { anew = λ k among. along.anew k among (none k); others = along.others; told = along.told }
+
+-- the same holders, by another test
+pub renews-same : (p q : Holder → Bool) (may : Holder → Caps) (was now : KnownSets) → ((k : Holder) → q k ≡ p k) → Renews p may was now → Renews q may was now
+renews-same p q may was now alike renews = record {
+  anew = λ k on. renews.anew k (sym (alike k) ∙ on);
+  others = λ k off. renews.others k (sym (alike k) ∙ off);
+  told = renews.told;
+}
+
+-- nobody
+pub renews-nobody : (p : Holder → Bool) (may : Holder → Caps) (sets : KnownSets) → ((k : Holder) → p k ≡ false) → Renews p may sets sets
+renews-nobody p may sets none = record {
+  anew = λ k on. absurd (true≢false (sym on ∙ none k));
+  others = λ k off. refl;
+  told = λ k. refl;
+}
+
+-- ---- who has an entry
+
+module _ (passes : Holder → Bool) (t : Table) where
+  -- the holders of the rows that pass are those who pass and have an entry
+  pub among-passing : (k : Holder) → is_among (holders_of_rows (filter (λ row. passes row.holder) t.rows)) k ≡ (passes k && has_entry t k)
+  among-passing k =
+      ap (λ hs. is_among hs k) (holders-filter passes t.rows) ∙ among-filter passes (holders_of_rows t.rows) k ∙ ap (λ b. passes k && b) (by_entry (entry_at t k) refl)
+    where
+      by_entry : (o : Option Entry) → entry_at t k ≡ o → is_among (holders_of_rows t.rows) k ≡ is_some o
+      by_entry None none = no_row t.rows k none
+      by_entry (Some e) there = among_rows k t.rows (record { holder = k; entry = e }) (row_of-entry t k e there)
+
+  module _ (rows : List EntryRow) (are : rows ≡ filter (λ row. passes row.holder) t.rows) where
+    pub holders-passing : (k : Holder) → is_among (holders_of_rows rows) k ≡ (passes k && has_entry t k)
+    holders-passing k = ap (λ (rs : List EntryRow). is_among (holders_of_rows rs) k) are ∙ among-passing k
+
+    pub holder-passes : (k : Holder) → is_among (holders_of_rows rows) k ≡ true → passes k ≡ true
+    holder-passes k among = (and_parts _ _ (sym (holders-passing k) ∙ among)).0
+
+    pub holder-room : (sets : KnownSets) → HaveRoom sets t → (k : Holder) → is_among (holders_of_rows rows) k ≡ true → IsSome (known_of sets k)
+    holder-room sets room k among = room-of sets t k room (and_parts _ _ (sym (holders-passing k) ∙ among)).1
+
+-- who is known to be told the same, has room still
+pub room-told : (t : Table) (was now : KnownSets) → ((k : Holder) → known_of now k ≡ known_of was k) → HaveRoom was t → HaveRoom now t
+room-told t was now told room k e there = ap is_some (told k) ∙ room k e there
+
+-- ---- the rows of a walk
+
+-- what is left of it is of it, and the others were renewed
+pub record Walked (may : Holder → Caps) (rows left : List EntryRow) (was now : KnownSets) : Type 0 where
+  pub inside : (k : Holder) → is_among (holders_of_rows left) k ≡ true → is_among (holders_of_rows rows) k ≡ true
+  pub along : Along may (is_among (holders_of_rows rows)) (is_among (holders_of_rows left)) was now
+
+pub walked-begins : (may : Holder → Caps) (rows : List EntryRow) (sets : KnownSets) → Walked may rows rows sets sets
+walked-begins may rows sets = record { inside = λ k among. among; along = along-begins may (is_among (holders_of_rows rows)) sets }
+
+module _ (may : Holder → Caps) (rows left rest : List EntryRow) (row : EntryRow) (was mid : KnownSets) (walked : Walked may rows left was mid) (first : left ≡ row ∷ rest) where
+  parts : (k : Holder) → is_among (holders_of_rows left) k ≡ (same k row.holder || is_among (holders_of_rows rest) k)
+  parts k = ap (λ (rs : List EntryRow). is_among (holders_of_rows rs) k) first
+
+  pub walked-first : is_among (holders_of_rows rows) row.holder ≡ true
+  walked-first = walked.inside row.holder (parts row.holder ∙ ap (λ b. b || is_among (holders_of_rows rest) row.holder) (same_equiv.refl row.holder))
+
+  pub walked-more : (now : KnownSets) → permitted_of now row.holder ≡ Some (may row.holder) → ((k : Holder) → k ≢ row.holder → permitted_of now k ≡ permitted_of mid k) → ((k : Holder) → known_of now k ≡ known_of mid k)
+      → Walked may rows rest was now
+  walked-more now own others told = record {
+    inside = λ k among. walked.inside k (parts k ∙ second_true (same k row.holder) (is_among (holders_of_rows rest) k) among);
+    along =
+        along-more may (is_among (holders_of_rows rows)) (is_among (holders_of_rows left)) (λ k. same k row.holder) (is_among (holders_of_rows rest)) was mid now walked.along
+        (record {
+          anew = λ k on. let is : k ≡ row.holder = same-is k row.holder on in ap (permitted_of now) is ∙ own ∙ ap (λ h. Some (may h)) (sym is);
+          others = λ k off. others k (other-holder k row.holder off);
+          told = told;
+        })
+        (λ k on. ap (is_among (holders_of_rows rows)) (same-is k row.holder on) ∙ walked-first) parts;
+  }
+
+pub walked-ends : (may : Holder → Caps) (rows left : List EntryRow) (was now : KnownSets) → Walked may rows left was now → left ≡ [] → Renews (is_among (holders_of_rows rows)) may was now
+walked-ends may rows left was now walked ended =
+    along-ends may (is_among (holders_of_rows rows)) (is_among (holders_of_rows left)) was now walked.along (λ k. ap (λ (rs : List EntryRow). is_among (holders_of_rows rs) k) ended)
+
+-- ---- inodes, one after another
+
+-- the holder has an entry, and its inode is one of these
+abbrev pub is_at : Table → List ℕ → Holder → Bool
+is_at t numbers k = list_any (eq_by_cmp nat_cmp k.ino.0) numbers && has_entry t k
+
+either_held : (a b h : Bool) → ((a || b) && h) ≡ false → (a && h) ≡ false
+either_held true b h off = off
+either_held false b h off = refl
+
+last_held : (a b h : Bool) → ((a || b) && h) ≡ true → (b && h) ≡ false → (a && h) ≡ true
+last_held true b h on off = on
+last_held false b h on off = absurd (true≢false (sym on ∙ off))
+
+both_held : (a b h : Bool) → ((a || b) && h) ≡ ((a && h) || (b && h))
+both_held true b true = refl
+both_held true true false = refl
+both_held true false false = refl
+both_held false b h = refl
+
+module _ (may : Holder → Caps) (t : Table) (ino : ℕ) (affected : InoSet) (all : List ℕ) (among : (k : ℕ) → set.contains affected k ≡ list_any (eq_by_cmp nat_cmp k) all) where
+  -- the one inode is done
+  pub inodes-begin : (was mid : KnownSets) → Renews (λ k. (k.ino.0 == ino) && has_entry t k) may was mid → Along may (λ k. is_affected ino affected k.ino.0 && has_entry t k) (is_at t all) was mid
+  inodes-begin was mid first = record {
+    anew = λ k on off. first.anew k (last_held (k.ino.0 == ino) (set.contains affected k.ino.0) (has_entry t k) on (ap (λ b. b && has_entry t k) (among k.ino.0) ∙ off));
+    others = λ k off. first.others k (either_held (k.ino.0 == ino) (set.contains affected k.ino.0) (has_entry t k) off);
+    told = first.told;
+  }
+
+  -- and one more
+  pub inodes-more : (n : ℕ) (rest left : List ℕ) (was mid now : KnownSets) → left ≡ n ∷ rest → ((k : ℕ) → list_any (eq_by_cmp nat_cmp k) left ≡ true → set.contains affected k ≡ true)
+      → Along may (λ k. is_affected ino affected k.ino.0 && has_entry t k) (is_at t left) was mid → Renews (λ k. (k.ino.0 == n) && has_entry t k) may mid now
+      → Along may (λ k. is_affected ino affected k.ino.0 && has_entry t k) (is_at t rest) was now
+  inodes-more n rest left was mid now first inside along then =
+      along-more may (λ k. is_affected ino affected k.ino.0 && has_entry t k) (is_at t left) (λ k. (k.ino.0 == n) && has_entry t k) (is_at t rest) was mid now along then
+      (λ k on.
+      let both = and_parts _ _ on in
+      let here : set.contains affected k.ino.0 ≡ true = inside k.ino.0 (listed k ∙ ap (λ b. b || list_any (eq_by_cmp nat_cmp k.ino.0) rest) both.0) in
+      (λ i. second_true (k.ino.0 == ino) (set.contains affected k.ino.0) here i && both.1 i))
+      (λ k. ap (λ b. b && has_entry t k) (listed k) ∙ both_held (k.ino.0 == n) (list_any (eq_by_cmp nat_cmp k.ino.0) rest) (has_entry t k))
+    where
+      listed : (k : Holder) → list_any (eq_by_cmp nat_cmp k.ino.0) left ≡ ((k.ino.0 == n) || list_any (eq_by_cmp nat_cmp k.ino.0) rest)
+      listed k = ap (λ (ns : List ℕ). list_any (eq_by_cmp nat_cmp k.ino.0) ns) first ∙ ap (λ b. b || list_any (eq_by_cmp nat_cmp k.ino.0) rest) (unsigned_tied k.ino.0 n)
+
+-- what a search finds is there
+pub found-contains : {T : Type 0} (p : T → Bool) (rows : List T) (row : T) → find p rows ≡ Some row → Contains rows row
+found-contains p [] row found = cc
+found-contains p (x ∷ xs) row found = elim (p x) as (λ b. cond b (Some x) (find p xs) ≡ Some row → Contains (x ∷ xs) row) [
+  | true ↦ λ found. let same : x ≡ row = cc in (0, omega arith, same)
+  | false ↦ λ found. let inside = found-contains p xs row found in (suc inside.0, omega (arith, inside.1), inside.2)
+] found
+
+-- what does not lie at or below an inode is another
+off_within : (tree : Nodes) (i k : ℕ) → is_within tree.nodes i k ≡ false → i ≢ k
+unfolding is_within
+off_within tree i k out = off_here 32 tree.nodes i k out
+
+-- ---- where nothing that policy looks at changed
+
+module _ (fs : List ℕ) (old new : Nodes) (before after : SessionTable) (t : Table) (was now : KnownSets) where
+  pub permitted-anew : (among : Holder → Bool) → Renews (λ k. among k && has_entry t k) (permitted fs new after) was now
+      → ((k : Holder) (e : Entry) → entry_at t k ≡ Some e → among k ≡ false → permitted fs new after k ≡ permitted fs old before k)
+      → ArePermitted was fs old before t → ArePermitted now fs new after t
+  permitted-anew among renews alike are k e there = by_test (among k) refl
+    where
+      by_test : (b : Bool) → among k ≡ b → permitted_of now k ≡ Some (permitted fs new after k)
+      by_test true on = renews.anew k (λ i. on i && is_some (there i))
+      by_test false off =
+          renews.others k (ap (λ b. b && has_entry t k) off) ∙ are k e there ∙ ap Some (sym (alike k e there off))
+
+-- the sessions are the same, and each inode that they are not on is alike
+pub permitted-on : (fs : List ℕ) (old new : Nodes) (sessions : SessionTable) (t : Table) (was now : KnownSets) (at : ℕ → Bool) → Renews (λ k. at k.ino.0 && has_entry t k) (permitted fs new sessions) was now
+    → ((k : Holder) (e : Entry) → entry_at t k ≡ Some e → at k.ino.0 ≡ false → IsAlike old new k.ino.0) → ArePermitted was fs old sessions t → ArePermitted now fs new sessions t
+permitted-on fs old new sessions t was now at renews alike =
+    permitted-anew fs old new sessions sessions t was now (λ k. at k.ino.0) renews (λ k e there off. permitted-kept fs old new sessions sessions k (alike k e there off) refl)
+
+-- nothing changed anywhere
+pub permitted-still : (fs : List ℕ) (old new : Nodes) (sessions : SessionTable) (t : Table) (sets : KnownSets) → ((ino : ℕ) → IsAlike old new ino) → ArePermitted sets fs old sessions t → ArePermitted sets fs new sessions t
+permitted-still fs old new sessions t sets alike are k e there = are k e there ∙ ap Some (sym (permitted-kept fs old new sessions sessions k (alike k.ino.0) refl))
+
+-- policy looks at the owner, the group and the mode alone
+pub alike-unset : (tree : Nodes) (ino other : ℕ) (change : Change) → sets_attr change ≡ false → IsAlike tree (tree_changed tree ino change) other
+alike-unset tree ino other (Set (Size size)) none = alike-changed tree (with_setting (Size size)) ino (λ n. refl) (λ n. refl) other
+alike-unset tree ino other (Set (Time time)) none = alike-changed tree (with_setting (Time time)) ino (λ n. refl) (λ n. refl) other
+alike-unset tree ino other (Set (Mode mode)) none = absurd (true≢false none)
+alike-unset tree ino other (Set (Uid uid)) none = absurd (true≢false none)
+alike-unset tree ino other (Set (Gid gid)) none = absurd (true≢false none)
+alike-unset tree ino other (SetXattr name value) none = alike-changed tree (with_attribute name value) ino (λ n. refl) (λ n. refl) other
+alike-unset tree ino other (RemoveXattr name) none = alike-changed tree (without_attribute name) ino (λ n. refl) (λ n. refl) other
+
+-- nor does the change of an inode change another
+pub alike_change : (tree : Nodes) (ino other : ℕ) (change : Change) → (other ≡ ino → ⊥) → IsAlike tree (tree_changed tree ino change) other
+alike_change tree ino other (Set setting) off = alike-but (with_setting setting) (setting_site setting) tree ino other off
+alike_change tree ino other (SetXattr name value) off = alike-changed tree (with_attribute name value) ino (λ n. refl) (λ n. refl) other
+alike_change tree ino other (RemoveXattr name) off = alike-changed tree (without_attribute name) ino (λ n. refl) (λ n. refl) other
+
+-- another number
+pub other-number : (a b : ℕ) → (a == b) ≡ false → a ≢ b
+other-number a b off = eqb-false a b off
+
+-- ---- where a request was served
+
+module _ (tree : Nodes) (q : Request) (o : Outcome) (ino : ℕ) (others : InoSet) (s : Scene) (served : ServedFrom tree q o ino others s) where
+  -- it is not to move its inode: the others are alike
+  pub alike-off : is_rename q.ask ≡ false → (k : Holder) → (k.ino.0 == q.ino.0) ≡ false → IsAlike tree s.tree k.ino.0
+  alike-off stays k off = served.alike k.ino.0 (other-number k.ino.0 q.ino.0 off) (λ moves. absurd (true≢false (sym moves ∙ stays)))
+
+  -- it is: so are those that are not affected and that somebody has an entry on
+  pub alike-far : is_rename q.ask ≡ true → (k : Holder) (e : Entry) → entry_at s.table k ≡ Some e → is_affected ino others k.ino.0 ≡ false → IsAlike tree s.tree k.ino.0
+  alike-far moves k e there off = elim served.covers [
+    | inl left ↦ subst (λ (t : Nodes). IsAlike tree t k.ino.0) (sym left) (alike-itself tree k.ino.0)
+    | inr covers ↦
+        let apart = or_parts (k.ino.0 == ino) (set.contains others k.ino.0) off in
+        let row : EntryRow = record { holder = k; entry = e } in
+        let among = found-contains (is_row_of k) s.table.rows row (row_of-entry s.table k e there) in
+        let out : is_within tree.nodes k.ino.0 q.ino.0 ≡ false =
+        false_from_ne_true (is_within tree.nodes k.ino.0 q.ino.0) (λ below. true≢false (sym (covers moves row among (other-number k.ino.0 ino apart.0) below) ∙ apart.1)) in
+        served.alike k.ino.0 (off_within tree k.ino.0 q.ino.0 out) (λ _. out)
+  ]

@@ -1,0 +1,10 @@
+use Rattle.std.proofs.Common.{length}
+use Rattle.caprules.specs.Lockmachine.Policy.{permitted}
+use Rattle.capacts.proofs.Renewed.{Walked}
+use Rattle.capacts.proofs.renewing.renew_client.Given as goal
+
+abbrev pub decreases-rows : goal.decreases-rows
+decreases-rows l = length l.walk
+
+abbrev pub invariant-rows : goal.invariant-rows
+invariant-rows l = Walked (permitted l.policy.fs.now l.policy.tree.now l.policy.sessions.now) l.initial.walk l.walk l.fn.known.sets l.known.sets

@@ -1,0 +1,88 @@
+-- What each client is permitted, where the session of one has ended or changed.
+use Rattle.std.proofs.Common.{◌≡◌, ◌==◌, ◌⊎◌, inl, inr, ℕ, Bool, true, false, cond, Option, Some, None, List, refl, sym, ap, subst, ◌∙◌, nat_eq}
+use Rattle.capcore.proofs.Common.{option_map, eqb-true, ClientId, Node, KnownSets, Entry, Holder, without_client, Table, entry_at, Scene, State, is_end, session_changed}
+use Rattle.std.specs.FinMap as map
+use Rattle.std.proofs.lemmas.Bool.{false_from_ne_true}
+use Rattle.sessiontab.specs.declared.session.Session.{Session}
+use Rattle.sessiontab.specs.declared.session.Status.{Status}
+use Rattle.inotree.specs.Tree.{path_of}
+use Rattle.numbered.proofs.Maps.{change-at}
+use Rattle.captable.specs.Known.{permitted_of, sets_of}
+use Rattle.captable.specs.declared.on_inode.Sets.{Sets}
+use Rattle.captable.proofs.ByHolder.{entry_at-without_client, entry_at-without_client_other}
+use Rattle.capsteps.specs.Lockmachine.Policy.{permitted, permitted_to, subject_of}
+use Rattle.capsteps.proofs.Lockmachine.PolicyElsewhere.{alike-itself, permitted-kept}
+use Rattle.capsteps.specs.Capacts.declared.leaving.SessionChange.{SessionChange}
+use Rattle.capsteps.specs.Capacts.declared.leaving.SessionChange.TheVariants.{Close, Mark, Evict}
+use Rattle.capsteps.specs.Capacts.Left.{table_left}
+use Rattle.capsteps.specs.Begun.{ArePermittedIn}
+use Rattle.capsteps.specs.SessionChange.{changed_sessions}
+use Rattle.capsteps.proofs.ShownSteps.{apart_client}
+use Rattle.capcore.proofs.SessionChanged.{apart, session_changed-other}
+
+-- ---- who is left
+
+-- where a session ended, another client
+left-other : (t : Table) (client : ClientId) (k : Holder) (e : Entry) → entry_at (without_client t client) k ≡ Some e → (k.client.0 == client.0) ≡ false
+left-other t client k e there = false_from_ne_true (k.client.0 == client.0) (λ mine.
+    let none : entry_at (without_client t client) k ≡ None = entry_at-without_client t client k (ap (λ n. record { 0 = n }) (eqb-true k.client.0 client.0 mine)) in absurd (cc))
+
+-- and who had that entry
+pub left-was : (b : Bool) (t : Table) (client : ClientId) (k : Holder) (e : Entry) → entry_at (table_left b t client) k ≡ Some e → entry_at t k ≡ Some e
+left-was false t client k e there = there
+left-was true t client k e there = sym (entry_at-without_client_other t client k (apart_client k.client client (left-other t client k e there))) ∙ there
+
+-- so where of each the same is kept, it is kept what was permitted
+module _ (was now : KnownSets) (s : Scene) (b : Bool) (client : ClientId) (table : Table) (left : table ≡ table_left b s.table client)
+    (kept : (k : Holder) (e : Entry) → entry_at table k ≡ Some e → sets_of now k ≡ sets_of was k) where
+  had : (k : Holder) (e : Entry) → entry_at table k ≡ Some e → entry_at s.table k ≡ Some e
+  had k e there = left-was b s.table client k e (ap (λ (t : Table). entry_at t k) (sym left) ∙ there)
+
+  pub left-permitted : ArePermittedIn was s → ArePermittedIn now (record s { table = table })
+  left-permitted may k e there = ap (option_map (λ (sets : Sets). sets.permitted)) (kept k e there) ∙ may k e (had k e there)
+
+-- ---- what is permitted
+
+-- policy reads no status
+marked : (status : Status) (b : Bool) (o : Option Session) (path : Option (List (List ℕ))) (node : Option Node)
+    → subject_of (cond b (option_map (λ (session : Session). record session { status = status }) o) o) path node ≡ subject_of o path node
+marked status false o path inode = refl
+marked status true None path inode = refl
+marked status true (Some session) None inode = refl
+marked status true (Some session) (Some path) None = refl
+marked status true (Some session) (Some path) (Some node) = refl
+
+module _ (sets : KnownSets) (old : State) (client : ClientId) (change : SessionChange) (now : Scene) (is : now ≡ (session_changed old client change).scene)
+    (was : ArePermittedIn sets (record old.scene { table = now.table })) where
+  -- what is kept of an entry is so still, where the same is permitted
+  same-permitted : (k : Holder) (e : Entry) → entry_at now.table k ≡ Some e
+      → permitted old.scene.fs old.scene.tree (changed_sessions old.scene.sessions client change) k ≡ permitted old.scene.fs old.scene.tree old.scene.sessions k
+      → permitted_of sets k ≡ Some (permitted now.fs now.tree now.sessions k)
+  same-permitted k e there same = was k e there ∙ ap Some (sym same) ∙ ap (λ (s : Scene). Some (permitted s.fs s.tree s.sessions k)) (sym is)
+
+  -- as it is to other clients
+  pub other-permitted : (k : Holder) (e : Entry) → entry_at now.table k ≡ Some e → (k.client.0 == client.0) ≡ false → permitted_of sets k ≡ Some (permitted now.fs now.tree now.sessions k)
+  other-permitted k e there off =
+      same-permitted k e there
+      (permitted-kept old.scene.fs old.scene.tree old.scene.tree old.scene.sessions (changed_sessions old.scene.sessions client change) k (alike-itself old.scene.tree k.ino.0)
+      (session_changed-other old.scene.sessions client change k.client.0 (apart k.client.0 client.0 off)))
+
+  pub ended-permitted : (change ≡ Close) ⊎ (change ≡ Evict) → ArePermittedIn sets now
+  ended-permitted ends k e there =
+      other-permitted k e there
+      (left-other old.scene.table client k e
+      (subst (λ b. entry_at (table_left b old.scene.table client) k ≡ Some e) (is-end ends) (ap (λ (s : Scene). entry_at s.table k) (sym is) ∙ there)))
+    where
+      is-end : (change ≡ Close) ⊎ (change ≡ Evict) → is_end change ≡ true
+      is-end (inl closed) = ap is_end closed
+      is-end (inr evicted) = ap is_end evicted
+
+  pub marked-permitted : (status : Status) → change ≡ Mark status → ArePermittedIn sets now
+  marked-permitted status mark k e there =
+      let sessions = old.scene.sessions.sessions in
+      let path = path_of old.scene.tree.nodes k.ino.0 in
+      let node = map.get old.scene.tree.nodes k.ino.0 in
+      same-permitted k e there
+      (ap (λ (c : SessionChange). permitted old.scene.fs old.scene.tree (changed_sessions old.scene.sessions client c) k) mark
+      ∙ ap (λ (o : Option Session). permitted_to old.scene.fs (subject_of o path node)) (change-at sessions client.0 k.client.0 (λ (session : Session). record session { status = status }))
+      ∙ ap (permitted_to old.scene.fs) (marked status (nat_eq client.0 k.client.0) (map.get sessions k.client.0) path node))

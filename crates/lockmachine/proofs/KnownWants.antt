@@ -1,0 +1,47 @@
+-- What is wanted of an inode, by what is known that each client is permitted there.
+use Rattle.std.proofs.Common.{◌≡◌, zero, suc, Bool, true, false, cond, Option, Some, None, List, [], ◌∷◌, filter, map as each, unwrap_or, refl, sym, ap, ◌∙◌, Contains, ℕ, arith}
+use Rattle.std.specs.FinMap as map
+use Rattle.std.specs.Option.{option_map}
+use Rattle.std.proofs.lemmas.Bool.{eqb-true}
+use Rattle.capbits.specs.declared.ids.Ino.{Ino}
+use Rattle.capbits.specs.Caps.{Caps}
+use Rattle.sessiontab.specs.Table.{SessionTable}
+use Rattle.inotree.specs.Tree.{Nodes}
+use Rattle.captable.specs.declared.entry.EntryRow.{EntryRow}
+use Rattle.captable.specs.declared.on_inode.KnownRow.{KnownRow}
+use Rattle.captable.specs.declared.on_inode.Sets.{Sets}
+use Rattle.captable.specs.Table.{Table, IsTable, entry_of}
+use Rattle.captable.specs.Calls.{is_of_inode, entries_on}
+use Rattle.captable.specs.Known.{KnownSets, no_sets, sets_on}
+use Rattle.captable.proofs.ByHolder.{row_found}
+use Rattle.lockmachine.specs.Policy.{ArePermittedOn}
+use Rattle.lockmachine.specs.Wants.{Want, want_of, want_of_permitted}
+
+-- what the entry's client wants of what it is known to be permitted, by what is known on its inode
+abbrev pub known_want : Option (List KnownRow) → SessionTable → EntryRow → Want
+known_want on sessions row = (row.holder.client, want_of_permitted sessions (unwrap_or (sets_on on row.holder.client) no_sets).permitted row)
+
+each_same : {A B : Type 0} (f g : A → B) (p : A → Bool) (xs : List A) → ((x : A) → Contains xs x → p x ≡ true → f x ≡ g x) → each f (filter p xs) ≡ each g (filter p xs)
+each_same f g p [] same = refl
+each_same f g p (x ∷ xs) same =
+    let rest = each_same f g p xs (λ y (inside : Contains xs y). same y (suc inside.0, omega (arith, inside.1), inside.2)) in
+    elim (p x) as (λ b. p x ≡ b → each f (cond b (x ∷ filter p xs) (filter p xs)) ≡ each g (cond b (x ∷ filter p xs) (filter p xs))) [
+      | true ↦ λ is i. same x (zero, omega arith, refl) is i ∷ rest i
+      | false ↦ λ is. rest
+    ] refl
+
+known_permitted : (o : Option Sets) (caps : Caps) → option_map (λ sets. sets.permitted) o ≡ Some caps → (unwrap_or o no_sets).permitted ≡ caps
+known_permitted None caps is = absurd (cc)
+known_permitted (Some sets) caps is = cc
+
+module _ (sets : KnownSets) (fs : List ℕ) (tree : Nodes) (sessions : SessionTable) (table : Table) (ino : Ino) where
+  pub same_wants : (on : Option (List KnownRow)) → on ≡ map.get sets ino.0 → IsTable table → ArePermittedOn sets fs tree sessions table ino.0
+      → each (known_want on sessions) (entries_on table ino) ≡ each (want_of fs tree sessions) (entries_on table ino)
+  same_wants on is sound permitted = each_same (known_want on sessions) (want_of fs tree sessions) (is_of_inode ino) table.rows same_want
+    where
+      same_want : (row : EntryRow) → Contains table.rows row → is_of_inode ino row ≡ true → known_want on sessions row ≡ want_of fs tree sessions row
+      same_want row inside here =
+          let same : row.holder.ino.0 ≡ ino.0 = eqb-true row.holder.ino.0 ino.0 here in
+          let known = ap (λ rows. option_map (λ sets. sets.permitted) (sets_on rows row.holder.client)) (is ∙ ap (map.get sets) (sym same))
+          ∙ permitted row.holder row.entry same (ap entry_of (row_found table row sound inside)) in
+          ap (λ caps. (row.holder.client, want_of_permitted sessions caps row)) (known_permitted (sets_on on row.holder.client) _ known)

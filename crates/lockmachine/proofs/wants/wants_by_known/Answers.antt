@@ -1,0 +1,14 @@
+use Rattle.std.proofs.Common.{ap, sym, ◌∙◌, List, map as each}
+use Rattle.std.specs.Option.{option_copied}
+use Rattle.captable.specs.declared.entry.EntryRow.{EntryRow}
+use Rattle.lockmachine.specs.Wants.{Want, in_all, in_all_with}
+use Rattle.lockmachine.proofs.KnownWants.{known_want, same_wants}
+use Rattle.lockmachine.proofs.wants.wants_by_known.Goals as goal
+
+pub returns : goal.returns
+returns c =
+    let policy = c.args.policy.now in
+    let wants : List EntryRow → List Want = each (known_want (option_copied c.on-known_on.result.on) policy.sessions.now) in
+    c.wants.ensures ∙ ap (λ walk. in_all_with c.rows.tally (wants walk)) (sym c.in_default.ensures.none.0) ∙ c.rows.invariant
+    ∙ ap (λ rows. in_all (wants rows)) c.holders_of-walk.ensures.rows
+    ∙ ap in_all (same_wants c.args.known.now.sets policy.fs.now policy.tree.now policy.sessions.now c.args.table.now c.args.ino _ c.on-known_on.ensures c.holders_of-walk.ensures.sound c.requires)
