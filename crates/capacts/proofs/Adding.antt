@@ -1,15 +1,7 @@
 -- Inodes that are taken in one after another.
-use Rattle.std.proofs.Common.{◌≡◌, ◌≢◌, ℕ, Bool, true, false, not, List, ◌+◌, ◌<◌, length, get_or, refl, ap, subst, sym, ◌∙◌, eq-eqb, true≢false}
-use Rattle.std.specs.Prelude.{◌==◌}
+use Rattle.std.{proofs.Common.{◌≡◌, ◌≢◌, ℕ, true, false, not, List, ◌+◌, ◌<◌, length, get_or, ap, subst, sym, ◌∙◌, eq-eqb, true≢false, ◌==◌}, proofs.lemmas.Bool.{eqb-true, not-false}, proofs.lemmas.List.{get_or_default}, proofs.lemmas.List.Elements.{AllWithin-more}, specs.List.{list_any, AllWithin}}
 use Rattle.std.specs.FinSet as set
-use Rattle.std.specs.List.{list_any, AllWithin}
-use Rattle.std.proofs.lemmas.Bool.{eqb-true, not-false}
-use Rattle.std.proofs.lemmas.List.{get_or_default}
-use Rattle.std.proofs.lemmas.List.Elements.{AllWithin-more}
-use Rattle.capbits.specs.declared.ids.Ino.{Ino}
-use Rattle.captable.specs.declared.entry.EntryRow.{EntryRow}
-use Rattle.captable.specs.Calls.{is_of_inode}
-use Rattle.caprules.specs.Capnotes.InoSets.{InoSet}
+use Rattle.capacts.proofs.Common.{EntryRow, Ino, InoSet, is_of_inode}
 
 pub differ : (a b : ℕ) → not (a == b) ≡ true → a ≢ b
 differ a b e = λ same. true≢false (sym e ∙ ap not (eq-eqb a b same))

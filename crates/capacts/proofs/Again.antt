@@ -1,33 +1,9 @@
 -- What stops a request, from what stops its parts.
-use Rattle.std.proofs.Common.{◌≡◌, ◌⊎◌, inl, inr, ℕ, Bool, true, false, not, cond, List, [], ◌∷◌, ◌++◌, Option, Some, None, refl, sym, ap, subst, ◌∙◌, arith}
-use Rattle.std.specs.Prelude.{if◌then◌else◌}
-use Rattle.std.specs.Option.{option_map}
-use Rattle.std.specs.FinMap as map
-use Rattle.capbits.specs.declared.ids.ClientId.{ClientId}
-use Rattle.capbits.specs.declared.cap.Part.{Part}
-use Rattle.capbits.specs.declared.refusal.Refusal.{Refusal}
-use Rattle.capbits.specs.Refusal.{Test, first_failing}
-use Rattle.capbits.proofs.Tests.{pass-both}
-use Rattle.capgrant.specs.declared.access.Access.{Access}
+use Rattle.std.{proofs.Common.{◌≡◌, ◌⊎◌, inl, inr, ℕ, Bool, true, not, cond, List, [], ◌∷◌, ◌++◌, Option, Some, None, refl, sym, ap, subst, ◌∙◌, arith}, specs.Option.{option_map}}
+use Rattle.capbits.{proofs.Tests.{pass-both}, specs.Refusal.{Test, first_failing}, specs.declared.cap.Part.{Part}, specs.declared.refusal.Refusal.{Refusal}}
 use Rattle.inotree.specs.declared.node.Node.{Node}
-use Rattle.inotree.specs.Tree.{Nodes}
-use Rattle.caprules.specs.Lockmachine.declared.request.Change.{Change}
-use Rattle.caprules.specs.Lockmachine.declared.request.Change.TheVariants.{Set, SetXattr, RemoveXattr}
-use Rattle.caprules.specs.Lockmachine.declared.request.Ask.{Ask}
-use Rattle.caprules.specs.Lockmachine.declared.request.Ask.TheVariants.{Get, Alter, Unlink, Rmdir, Rename}
-use Rattle.caprules.specs.Lockmachine.declared.request.Request.{Request}
-use Rattle.caprules.specs.Lockmachine.Policy.{failures}
-use Rattle.caprules.specs.Lockmachine.declared.scene.Scene.{Scene}
-use Rattle.caprules.specs.Capevents.declared.outcome.Outcome.{Outcome}
-use Rattle.caprules.specs.Capevents.declared.outcome.Outcome.TheVariants as outcome
-use Rattle.caprules.specs.declared.rejection.Rejection.{Rejection}
-use Rattle.caprules.specs.declared.rejection.Rejection.TheVariants.{ByPolicy, ByTest}
-use Rattle.caprules.specs.Judge.{is_met, first_denied, rejection_by, rejection_of, denial_of}
-use Rattle.caprules.specs.Needs.{Need, need}
-use Rattle.caprules.specs.Serving.{MayEndAs, As_judged, Without_memory, judged_again, passed_as, values_outcome, rejection_outcome, outcome_unless, takes_memory}
-use Rattle.caprules.specs.Capnotes.Changing.{tree_after, tree_with}
-use Rattle.caprules.specs.Asks.{ask_before, ask_needs, ask_after, change_tests}
-use Rattle.capacts.specs.Served.{call_tests, change_call_tests}
+use Rattle.caprules.specs.{Asks.{change_tests}, Judge.{is_met, first_denied, rejection_by}, Lockmachine.declared.request.Ask.TheVariants.{Alter}, Needs.{Need}, Serving.{MayEndAs, As_judged, Without_memory, judged_again, passed_as, values_outcome, rejection_outcome, outcome_unless}, declared.rejection.Rejection.{Rejection}}
+use Rattle.capacts.{proofs.Common.{Access, Ask, ask_after, ask_before, ByTest, Change, ClientId, denial_of, need, Nodes, Outcome, rejection_of, Request, Scene, takes_memory, tree_after, tree_with}, specs.Served.{call_tests, change_call_tests}}
 
 -- ---- policy alone
 
@@ -95,7 +71,7 @@ ends-rejection s q rejection o is ends = subst (MayEndAs s q) (sym (ends ∙ ap 
 pub ends-passed : (s : Scene) (q : Request) (o : Outcome) → judged_again s q ≡ None → o ≡ passed_as s q.ino.0 q.ask → MayEndAs s q o
 ends-passed s q o free ends = subst (MayEndAs s q) (sym (ends ∙ ap (outcome_unless s q) (sym free))) As_judged
 
-pub ends-without_memory : (s : Scene) (q : Request) (o : Outcome) → judged_again s q ≡ None → takes_memory q.ask ≡ true → o ≡ outcome.OutOfMemory → MayEndAs s q o
+pub ends-without_memory : (s : Scene) (q : Request) (o : Outcome) → judged_again s q ≡ None → takes_memory q.ask ≡ true → o ≡ Outcome.OutOfMemory → MayEndAs s q o
 ends-without_memory s q o free takes ends = subst (MayEndAs s q) (sym ends) (Without_memory free takes)
 
 -- ---- the tree that it leaves

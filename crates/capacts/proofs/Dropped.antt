@@ -1,12 +1,7 @@
 -- The requests of a client are dropped.
-use Rattle.std.proofs.Common.{◌≡◌, ℕ, ◌+◌, ◌≤◌, true, false, not, cond, List, [], ◌∷◌, length, take, refl, arith}
-use Rattle.std.specs.Prelude.{map as each, filter}
-use Rattle.std.proofs.lemmas.List.{length-take-le}
-use Rattle.capbits.specs.declared.ids.ClientId.{ClientId}
-use Rattle.caprules.specs.Lockmachine.declared.request.Request.{Request}
-use Rattle.caprules.specs.Lockmachine.Requests.{is_of_client}
-use Rattle.caprules.specs.Capevents.declared.outcome.Ended.{Ended}
-use Rattle.caprules.specs.Serving.{dropped_of}
+use Rattle.std.{proofs.Common.{◌≡◌, ℕ, ◌+◌, ◌≤◌, true, false, not, cond, List, [], ◌∷◌, length, take, refl, arith, filter}, proofs.lemmas.List.{length-take-le}, specs.Prelude.{map as each}}
+use Rattle.caprules.specs.{Capevents.declared.outcome.Ended.{Ended}, Serving.{dropped_of}}
+use Rattle.capacts.proofs.Common.{ClientId, is_of_client, Request}
 
 -- those of a client among these requests, dropped
 abbrev pub dropped_among : ClientId → List Request → List Ended

@@ -1,6 +1,5 @@
 -- What is held already.
-use Rattle.std.proofs.Common.{◌≡◌, Bool, true, false, ◌||◌, refl, sym, arith}
-use Rattle.std.specs.Prelude.{IsTrue}
+use Rattle.std.proofs.Common.{◌≡◌, Bool, ◌||◌, arith, IsTrue}
 
 pub or_inside : (h d : Bool) → (IsTrue d → IsTrue h) → (h || d) ≡ h
 or_inside h d e = grind arith

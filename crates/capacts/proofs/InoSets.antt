@@ -1,12 +1,8 @@
 -- Sets of inodes: what the numbers of a tree set say of the set that they make, the least from a number on, and what an inode more
 -- makes of it.
-use Rattle.std.proofs.Common.{◌≡◌, ◌≢◌, ℕ, ◌≤◌, ◌+◌, Bool, true, false, cond, ◌||◌, Result, Ok, Err, OnOk, OnErr, refl, sym, ap, subst, ◌∙◌, true≢false, arith}
-use Rattle.std.specs.Cmp.{nat_cmp_total, unsigned_tied, eq_by_cmp_equiv}
+use Rattle.std.{proofs.Common.{◌≡◌, ◌≢◌, ℕ, ◌≤◌, ◌+◌, Bool, true, false, cond, ◌||◌, Result, Ok, Err, OnOk, OnErr, refl, ap, ◌∙◌, arith}, proofs.lemmas.Bool.{eqb-true}, specs.Cmp.{nat_cmp_total, unsigned_tied, eq_by_cmp_equiv}, specs.Ordering.{nat_cmp, eq_by_cmp}}
 use Rattle.std.specs.FinSet as set
-use Rattle.std.specs.Ordering.{nat_cmp, eq_by_cmp}
-use Rattle.std.proofs.lemmas.Bool.{eqb-true}
-use Rattle.caprules.specs.Capnotes.InoSets.{InoSet}
-use Rattle.capacts.specs.Reach.{Widens}
+use Rattle.capacts.{proofs.Common.{InoSet}, specs.Reach.{Widens}}
 
 -- ---- one more
 

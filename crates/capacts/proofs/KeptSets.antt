@@ -1,25 +1,7 @@
 -- The sets that are kept of entries, renewed of one holder after another, and so of one inode after another.
-use Rattle.std.proofs.Common.{◌≡◌, ◌≢◌, ℕ, zero, suc, ◌<◌, Bool, true, false, cond, ◌&&◌, ◌||◌, ◌==◌, Option, Some, None, IsSome, List, [], ◌∷◌, length, take, get_or, refl, sym, ap, ◌∙◌, arith, true≢false}
-use Rattle.std.specs.List.{find, IsDistinct}
-use Rattle.std.specs.Option.{option_map}
-use Rattle.std.specs.Prelude.{unwrap_or}
-use Rattle.std.proofs.lemmas.Map.Keys.{apart_from_distinct}
-use Rattle.capbits.specs.declared.ids.Ino.{Ino}
-use Rattle.capbits.specs.Caps.{Caps}
-use Rattle.capbits.specs.Sets.{no_caps}
-use Rattle.captable.specs.declared.entry.Entry.{Entry}
-use Rattle.captable.specs.declared.entry.EntryRow.{EntryRow}
-use Rattle.captable.specs.declared.entry.Holder.{Holder}
-use Rattle.captable.specs.declared.on_inode.Sets.{Sets}
-use Rattle.captable.specs.Known.{no_sets}
-use Rattle.captable.specs.Table.{Table, same, is_row_of, is_among, holders_of_rows, entry_of, entry_at}
-use Rattle.captable.specs.Calls.{entries_on}
-use Rattle.captable.specs.Many.{changed_where, remade}
-use Rattle.captable.proofs.ByHolder.{row_of-entry}
-use Rattle.captable.proofs.Changes.{no_entry}
-use Rattle.captable.proofs.Searches.{find_passes, find-map}
-use Rattle.captable.proofs.Tables.{same_equiv, same-is, holders-filter, among-filter}
-use Rattle.capacts.specs.Known.{KnownSets, known_of, HaveRoom, known_anew, KnownAnew}
+use Rattle.std.{proofs.Common.{◌≡◌, ◌≢◌, ℕ, zero, suc, ◌<◌, Bool, true, false, cond, ◌&&◌, ◌||◌, ◌==◌, Option, Some, None, IsSome, List, [], ◌∷◌, length, take, get_or, refl, sym, ap, ◌∙◌, arith, true≢false, unwrap_or}, proofs.lemmas.Map.Keys.{apart_from_distinct}, specs.List.{find, IsDistinct}, specs.Option.{option_map}}
+use Rattle.captable.{proofs.Changes.{no_entry}, proofs.Searches.{find_passes, find-map}, specs.Calls.{entries_on}, specs.Many.{changed_where, remade}, specs.Table.{entry_of}}
+use Rattle.capacts.{proofs.Common.{among-filter, Caps, Entry, entry_at, EntryRow, Holder, holders-filter, holders_of_rows, Ino, is_among, is_row_of, no_caps, no_sets, row_of-entry, same, same-is, same_equiv, Sets, Table}, specs.Known.{KnownSets, known_of, HaveRoom, known_anew, KnownAnew}}
 
 -- ---- of the sets of a holder, one
 

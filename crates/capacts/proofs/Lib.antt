@@ -1,3 +1,4 @@
+mod Common
 pub mod Again
 pub mod Memory
 pub mod InoSets

@@ -1,15 +1,8 @@
 -- The numbers of rows: the last row of a pass tells how many rows the pass has.
-use Rattle.std.proofs.Common.{◌≡◌, ◌⊎◌, ◌+◌, ◌≤◌, ◌==◌, Bool, true, false, cond, List, [], ◌∷◌, ◌++◌, length, reverse, Some, None, refl, sym, ap, subst, ◌∙◌, inl, inr, arith}
-use Rattle.std.specs.List.{count_by, find}
-use Rattle.std.specs.Option.{option_or}
-use Rattle.std.proofs.lemmas.Bool.{eqb-true}
-use Rattle.std.proofs.lemmas.List.{reverse-append}
-use Rattle.std.proofs.lemmas.List.Folds.{find-append}
-use Rattle.std.proofs.lemmas.List.Sums.{sum_by-cons, count_by-le-length}
-use Rattle.std.proofs.lemmas.Option.{same_Some, none-some}
+use Rattle.std.{proofs.Common.{◌≡◌, ◌⊎◌, ◌+◌, ◌≤◌, ◌==◌, Bool, true, false, cond, List, [], ◌∷◌, ◌++◌, length, reverse, Some, None, refl, sym, ap, ◌∙◌, inl, inr, arith}, proofs.lemmas.Bool.{eqb-true}, proofs.lemmas.List.{reverse-append}, proofs.lemmas.List.Folds.{find-append}, proofs.lemmas.List.Sums.{sum_by-cons, count_by-le-length}, proofs.lemmas.Option.{same_Some}, specs.List.{count_by, find}, specs.Option.{option_or}}
 use Rattle.capbits.specs.declared.ids.PassId.{PassId}
-use Rattle.caprules.specs.Capevents.declared.row.Row.{Row}
-use Rattle.caprules.specs.Numbers.{rows_of, AreNumbered}
+use Rattle.caprules.specs.Numbers.{AreNumbered}
+use Rattle.capacts.proofs.Common.{Row, rows_of}
 
 -- ---- the last element that passes a test
 

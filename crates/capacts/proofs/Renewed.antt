@@ -1,46 +1,11 @@
 -- What clients are permitted, kept anew of one holder after another.
-use Rattle.std.proofs.Common.{◌≡◌, ◌≢◌, ℕ, Bool, true, false, ◌&&◌, ◌||◌, ◌==◌, cond, Option, Some, None, IsSome, is_some, List, [], ◌∷◌, suc, Contains, inl, inr, filter, refl, sym, ap, subst, ◌∙◌, true≢false, arith}
-use Rattle.std.specs.Prelude.{unwrap_or}
+use Rattle.std.{proofs.Common.{◌≡◌, ◌≢◌, ℕ, Bool, true, false, ◌&&◌, ◌||◌, ◌==◌, cond, Option, Some, None, IsSome, is_some, List, [], ◌∷◌, suc, Contains, inl, inr, filter, refl, sym, ap, subst, ◌∙◌, true≢false, arith, unwrap_or}, proofs.lemmas.Bool.{and_parts, or_parts, eqb-false, false_from_ne_true}, specs.Cmp.{unsigned_tied}, specs.List.{find, list_any}, specs.Option.{option_map}, specs.Ordering.{nat_cmp, eq_by_cmp}}
 use Rattle.std.specs.FinSet as set
-use Rattle.std.specs.Cmp.{unsigned_tied}
-use Rattle.std.specs.List.{find, list_any}
-use Rattle.std.specs.Option.{option_map}
-use Rattle.std.specs.Ordering.{nat_cmp, eq_by_cmp}
-use Rattle.std.proofs.lemmas.Bool.{and_parts, or_parts, eqb-false, false_from_ne_true}
-use Rattle.capbits.specs.Caps.{Caps}
-use Rattle.inotree.specs.Tree.{Nodes, is_within}
-use Rattle.inotree.specs.Alike.{IsAlike}
-use Rattle.inotree.specs.declared.node.Setting.TheVariants.{Mode, Uid, Gid, Size, Time}
-use Rattle.inotree.specs.Inodes.{with_setting, with_attribute, without_attribute}
-use Rattle.inotree.proofs.Changes.{setting_site}
-use Rattle.inotree.proofs.Elsewhere.{alike-changed}
-use Rattle.inotree.proofs.Growing.{off_here}
-use Rattle.inotree.proofs.OneInode.{alike-but}
+use Rattle.inotree.{proofs.Changes.{setting_site}, proofs.Elsewhere.{alike-changed}, proofs.Growing.{off_here}, proofs.OneInode.{alike-but}, specs.Inodes.{with_setting, with_attribute, without_attribute}, specs.Tree.{is_within}, specs.declared.node.Setting.TheVariants.{Mode, Uid, Gid, Size, Time}}
+use Rattle.captable.proofs.Tables.{no_row}
 use Rattle.sessiontab.specs.Table.{SessionTable}
-use Rattle.captable.specs.declared.entry.Entry.{Entry}
-use Rattle.captable.specs.declared.entry.EntryRow.{EntryRow}
-use Rattle.captable.specs.declared.entry.Holder.{Holder}
-use Rattle.captable.specs.declared.on_inode.Sets.{Sets}
-use Rattle.captable.specs.Known.{no_sets}
-use Rattle.captable.specs.Table.{Table, same, is_row_of, is_among, holders_of_rows, entry_at}
-use Rattle.captable.proofs.ByHolder.{row_of-entry}
-use Rattle.captable.proofs.Tables.{same_equiv, same-is, holders-filter, among-filter, no_row}
-use Rattle.caprules.specs.Lockmachine.declared.request.Change.{Change}
-use Rattle.caprules.specs.Lockmachine.declared.request.Change.TheVariants.{Set, SetXattr, RemoveXattr}
-use Rattle.caprules.specs.Lockmachine.declared.request.Request.{Request}
-use Rattle.caprules.specs.Lockmachine.declared.scene.Scene.{Scene}
-use Rattle.caprules.specs.Lockmachine.Policy.{permitted, ArePermitted}
-use Rattle.caprules.proofs.Lockmachine.PolicyElsewhere.{permitted-kept, alike-itself}
-use Rattle.caprules.specs.Capevents.declared.outcome.Outcome.{Outcome}
-use Rattle.caprules.specs.Capnotes.Changing.{tree_changed}
-use Rattle.caprules.specs.Capnotes.InoSets.{InoSet}
-use Rattle.caprules.specs.Capnotes.Noted.{sets_attr}
-use Rattle.capacts.specs.Known.{KnownSets, sets_of, known_of, permitted_of, HaveRoom}
-use Rattle.capacts.specs.Reach.{is_affected}
-use Rattle.capacts.specs.Renewing.{Renews, ServedFrom, has_entry}
-use Rattle.capacts.specs.Served.{is_rename}
-use Rattle.capacts.proofs.KeptSets.{among_rows, room-of, other-holder}
-use Rattle.capacts.proofs.Walked.{second_true}
+use Rattle.caprules.{proofs.Lockmachine.PolicyElsewhere.{permitted-kept, alike-itself}, specs.Capnotes.Changing.{tree_changed}, specs.Capnotes.Noted.{sets_attr}, specs.Lockmachine.declared.request.Change.TheVariants.{Set, SetXattr, RemoveXattr}}
+use Rattle.capacts.{proofs.Common.{among-filter, ArePermitted, Caps, Change, Entry, entry_at, EntryRow, Holder, holders-filter, holders_of_rows, InoSet, is_among, is_row_of, IsAlike, no_sets, Nodes, Outcome, permitted, Request, row_of-entry, same, same-is, same_equiv, Scene, Sets, Table}, proofs.KeptSets.{among_rows, room-of, other-holder}, proofs.Walked.{second_true}, specs.Known.{KnownSets, sets_of, known_of, permitted_of, HaveRoom}, specs.Reach.{is_affected}, specs.Renewing.{Renews, ServedFrom, has_entry}, specs.Served.{is_rename}}
 
 -- ---- what is kept of a holder that is known to be permitted this
 

@@ -1,18 +1,8 @@
 -- What a rename walked over in a step is affected until its end.
-use Rattle.std.proofs.Common.{◌≡◌, ◌≢◌, ℕ, zero, suc, eq-eqb, arith, List, [], ◌∷◌, Contains, Bool, true, false, ◌||◌, Result, Ok, Err, OnOk, OnErr, refl, sym, ap, subst, ◌∙◌, true≢false}
+use Rattle.std.{proofs.Common.{◌≡◌, ◌≢◌, ℕ, zero, suc, eq-eqb, arith, List, [], ◌∷◌, Contains, Bool, true, false, ◌||◌, Result, Ok, Err, OnOk, OnErr, refl, sym, ap, subst, ◌∙◌, true≢false}, proofs.lemmas.Bool.{eqb-true}, specs.Cmp.{unsigned_tied}, specs.List.{list_any}, specs.Ordering.{nat_cmp, eq_by_cmp}}
 use Rattle.std.specs.FinSet as set
-use Rattle.std.specs.Cmp.{unsigned_tied}
-use Rattle.std.specs.Ordering.{nat_cmp, eq_by_cmp}
-use Rattle.std.proofs.lemmas.Bool.{eqb-true}
-use Rattle.std.specs.List.{list_any}
-use Rattle.capbits.specs.declared.ids.Ino.{Ino}
-use Rattle.captable.specs.declared.entry.EntryRow.{EntryRow}
-use Rattle.captable.specs.Table.{Table}
-use Rattle.captable.specs.Calls.{is_of_inode}
-use Rattle.inotree.specs.Tree.{Nodes, is_within}
-use Rattle.caprules.specs.Capnotes.InoSets.{InoSet}
-use Rattle.capacts.specs.Reach.{AreWalked, CoversBelow, Widens}
-use Rattle.capacts.proofs.InoSets.{at_more, none-there}
+use Rattle.inotree.specs.Tree.{is_within}
+use Rattle.capacts.{proofs.Common.{EntryRow, Ino, InoSet, is_of_inode, Nodes, Table}, proofs.InoSets.{at_more, none-there}, specs.Reach.{AreWalked, CoversBelow, Widens}}
 
 pub second_true : (a b : Bool) → b ≡ true → (a || b) ≡ true
 second_true a b e = grind arith

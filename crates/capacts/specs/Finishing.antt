@@ -2,20 +2,14 @@
 use Rattle.std.specs.Prelude.{ℕ, Bool, List, Option, map as each}
 use Rattle.std.specs.FinMap as map
 use Rattle.std.specs.FinSet as set
-use Rattle.capbits.specs.Caps.{Caps}
-use Rattle.capbits.specs.Sets.{meet}
+use Rattle.capbits.specs.{Caps.{Caps}, Sets.{meet}}
 use Rattle.inotree.specs.Tree.{Nodes}
+use Rattle.captable.specs.{Calls.{issued, renumbered}, declared.entry.Entry.{Entry}, declared.entry.EntryRow.{EntryRow}, declared.entry.Holder.{Holder}}
 use Rattle.sessiontab.specs.Table.{SessionTable}
-use Rattle.captable.specs.declared.entry.Entry.{Entry}
-use Rattle.captable.specs.declared.entry.EntryRow.{EntryRow}
-use Rattle.captable.specs.declared.entry.Holder.{Holder}
-use Rattle.captable.specs.Calls.{issued, renumbered}
-use Rattle.caprules.specs.Lockmachine.declared.states.InodeLocks.{InodeLocks}
-use Rattle.caprules.specs.Lockmachine.Inodes.{StateMap}
-use Rattle.caprules.specs.Lockmachine.Policy.{permitted}
+use Rattle.caprules.specs.Lockmachine.{Inodes.{StateMap}, Policy.{permitted}, declared.states.InodeLocks.{InodeLocks}}
 pub use Rattle.caprules.specs.Lockmachine.Under.{against_under, allowed_under, told_under}
+use Rattle.inotree.specs.InoSets.{InoSet}
 use Rattle.caprules.specs.Lockmachine.Wants.{effective_want}
-use Rattle.caprules.specs.Capnotes.InoSets.{InoSet}
 use Rattle.capacts.specs.declared.finishing.Standing.{Standing}
 
 -- the clients of these entries

@@ -1,15 +1,8 @@
 -- What is kept of each entry from the end of the last step: the set that its client is to know of.
-use Rattle.std.specs.Prelude.{◌≡◌, Bool, true, false, Option, Some, None, IsSome, unwrap_or}
-use Rattle.std.specs.List.{find}
-use Rattle.capbits.specs.Caps.{Caps}
-use Rattle.capbits.specs.Sets.{no_caps, IsSubset}
-use Rattle.captable.specs.declared.entry.Entry.{Entry}
-use Rattle.captable.specs.declared.entry.EntryRow.{EntryRow}
-use Rattle.captable.specs.declared.entry.Holder.{Holder}
-use Rattle.captable.specs.Table.{Table, same, is_row_of, entry_at}
-use Rattle.caprules.specs.Lockmachine.declared.scene.Scene.{Scene}
-use Rattle.caprules.specs.Lockmachine.Scene.{told_set}
-use Rattle.caprules.specs.Finish.{due}
+use Rattle.std.specs.{List.{find}, Prelude.{◌≡◌, Bool, true, false, Option, Some, None, IsSome, unwrap_or}}
+use Rattle.capbits.specs.{Caps.{Caps}, Sets.{no_caps, IsSubset}}
+use Rattle.captable.specs.{Table.{Table, same, is_row_of, entry_at}, declared.entry.Entry.{Entry}, declared.entry.EntryRow.{EntryRow}, declared.entry.Holder.{Holder}}
+use Rattle.caprules.specs.{Finish.{due}, Lockmachine.Scene.{told_set}, Lockmachine.declared.scene.Scene.{Scene}}
 pub use Rattle.captable.specs.Known.{KnownSets, sets_of, known_of, permitted_of}
 
 -- what is kept of a holder, and nothing where nothing is

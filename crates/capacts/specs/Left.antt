@@ -1,14 +1,9 @@
 -- What goes with a client's session where it ends, and what is left.
 use Rattle.std.specs.Prelude.{Bool, true, false, not, List, [], map as each, filter, if◌then◌else◌}
 use Rattle.capbits.specs.declared.ids.ClientId.{ClientId}
-use Rattle.captable.specs.Table.{Table}
-use Rattle.captable.specs.Calls.{without_client}
-use Rattle.caprules.specs.Lockmachine.Locks.{LockMap, requests_of, without_requests_of}
-use Rattle.caprules.specs.Capevents.declared.outcome.Ended.{Ended}
-use Rattle.caprules.specs.Capnotes.DueEndings.{is_to}
-use Rattle.caprules.specs.Serving.{dropped_of}
-use Rattle.capacts.specs.declared.leaving.SessionChange.{SessionChange}
-use Rattle.capacts.specs.declared.leaving.SessionChange.TheVariants.{Close, Evict}
+use Rattle.captable.specs.{Calls.{without_client}, Table.{Table}}
+use Rattle.caprules.specs.{Capevents.declared.outcome.Ended.{Ended}, Capnotes.DueEndings.{is_to}, Lockmachine.Locks.{LockMap, requests_of, without_requests_of}, Serving.{dropped_of}}
+use Rattle.capacts.specs.declared.{leaving.SessionChange.{SessionChange}, leaving.SessionChange.TheVariants.{Close, Evict}}
 
 -- the session ends
 abbrev pub is_end : SessionChange → Bool

@@ -1,11 +1,9 @@
 -- The inodes that a step affects, and those that a rename in it reaches.
 use Rattle.std.specs.Prelude.{◌≡◌, ◌≢◌, ℕ, Bool, true, false, ◌||◌, ◌==◌, ◌⊎◌, Contains}
 use Rattle.std.specs.FinSet as set
-use Rattle.inotree.specs.Tree.{Nodes, is_within}
-use Rattle.captable.specs.declared.entry.EntryRow.{EntryRow}
-use Rattle.captable.specs.Table.{Table}
+use Rattle.inotree.specs.{InoSets.{InoSet}, Tree.{Nodes, is_within}}
+use Rattle.captable.specs.{Table.{Table}, declared.entry.EntryRow.{EntryRow}}
 use Rattle.caprules.specs.Lockmachine.declared.request.Request.{Request}
-use Rattle.caprules.specs.Capnotes.InoSets.{InoSet}
 use Rattle.capacts.specs.Served.{is_rename}
 
 -- the inode, or one of the others: another of the event, or one that was moved

@@ -1,18 +1,10 @@
 -- What clients are permitted, kept anew.
 use Rattle.std.specs.Prelude.{◌≡◌, ◌≢◌, ℕ, Bool, true, false, Some, is_some, ◌⊎◌}
 use Rattle.capbits.specs.Caps.{Caps}
-use Rattle.inotree.specs.Tree.{Nodes, is_within}
-use Rattle.inotree.specs.Alike.{IsAlike}
-use Rattle.captable.specs.declared.entry.Holder.{Holder}
-use Rattle.captable.specs.Table.{Table, entry_at}
-use Rattle.caprules.specs.Lockmachine.declared.request.Request.{Request}
-use Rattle.caprules.specs.Lockmachine.declared.scene.Scene.{Scene}
-use Rattle.caprules.specs.Capevents.declared.outcome.Outcome.{Outcome}
-use Rattle.caprules.specs.Capnotes.Changing.{tree_after}
-use Rattle.caprules.specs.Capnotes.InoSets.{InoSet}
-use Rattle.capacts.specs.Known.{KnownSets, known_of, permitted_of}
-use Rattle.capacts.specs.Reach.{Covers}
-use Rattle.capacts.specs.Served.{is_rename}
+use Rattle.inotree.specs.{Alike.{IsAlike}, InoSets.{InoSet}, Tree.{Nodes, is_within}}
+use Rattle.captable.specs.{Table.{Table, entry_at}, declared.entry.Holder.{Holder}}
+use Rattle.caprules.specs.{Capevents.declared.outcome.Outcome.{Outcome}, Capnotes.Changing.{tree_after}, Lockmachine.declared.request.Request.{Request}, Lockmachine.declared.scene.Scene.{Scene}}
+use Rattle.capacts.specs.{Known.{KnownSets, known_of, permitted_of}, Reach.{Covers}, Served.{is_rename}}
 
 -- the holder has an entry
 abbrev pub has_entry : Table → Holder → Bool

@@ -1,12 +1,8 @@
 -- What the tests of a request ask of the tree before it does what it asks for.
 use Rattle.std.specs.Prelude.{ℕ, Bool, true, false, List}
 use Rattle.capbits.specs.Refusal.{Test}
-use Rattle.inotree.specs.Tree.{Nodes}
-use Rattle.inotree.specs.Tests.{inode_tests, unlink_tests, rmdir_tests, rename_tests, set_tests, set_xattr_tests, remove_xattr_tests}
-use Rattle.caprules.specs.Lockmachine.declared.request.Change.{Change}
-use Rattle.caprules.specs.Lockmachine.declared.request.Change.TheVariants.{Set, SetXattr, RemoveXattr}
-use Rattle.caprules.specs.Lockmachine.declared.request.Ask.{Ask}
-use Rattle.caprules.specs.Lockmachine.declared.request.Ask.TheVariants.{Get, Alter, Unlink, Rmdir, Rename}
+use Rattle.inotree.specs.{Tests.{inode_tests, unlink_tests, rmdir_tests, rename_tests, set_tests, set_xattr_tests, remove_xattr_tests}, Tree.{Nodes}}
+use Rattle.caprules.specs.Lockmachine.{declared.request.Ask.{Ask}, declared.request.Ask.TheVariants.{Get, Alter, Unlink, Rmdir, Rename}, declared.request.Change.{Change}, declared.request.Change.TheVariants.{Set, SetXattr, RemoveXattr}}
 
 -- the tests of the call that makes a change
 abbrev pub change_call_tests : Nodes → ℕ → Change → List Test

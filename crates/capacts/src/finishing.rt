@@ -1,14 +1,10 @@
 //! The end of a step at one entry.
 ghost use Rattle.std.specs.Prelude.{◌≡◌, ◌≢◌, ◌<◌, ◌^◌, ◌-◌, Some};
 ghost use Rattle.capbits.specs.Sets.{meet};
-ghost use Rattle.captable.specs.declared.entry.Holder.{Holder};
-ghost use Rattle.captable.specs.Table.{same, entry_at};
-ghost use Rattle.captable.specs.Calls.{changed};
-ghost use Rattle.captable.specs.Many.{changed_by};
-ghost use Rattle.capacts.specs.Finishing as words;
-ghost use Rattle.caprules.specs.Lockmachine.Policy.{permitted};
-ghost use Rattle.caprules.specs.Lockmachine.Wants.{want_of_permitted};
+ghost use Rattle.captable.specs.{Calls.{changed}, Many.{changed_by}, Table.{same, entry_at}, declared.entry.Holder.{Holder}};
+ghost use Rattle.caprules.specs.Lockmachine.{Policy.{permitted}, Wants.{want_of_permitted}};
 ghost use Rattle.capacts.specs.Known.{KnownAnew, known_in, permitted_of, sets_of};
+ghost use Rattle.capacts.specs.Finishing as words;
 
 use capbits::CapSet;
 use caprules::{InodeLocks, allowed_under, told_under, want_of_permitted};

@@ -1,6 +1,5 @@
 //! What grants say of an access, and what stops a request.
-ghost use Rattle.std.specs.Prelude.{◌≡◌};
-ghost use Rattle.std.specs.Option.{option_map};
+ghost use Rattle.std.specs.{Option.{option_map}, Prelude.{◌≡◌}};
 ghost use Rattle.caprules.specs.Judge.{denial_of};
 ghost use Rattle.caprules.specs.declared.rejection.Rejection.TheVariants as rejection_kind;
 

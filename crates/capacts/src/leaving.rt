@@ -1,13 +1,9 @@
 //! What goes with a client's session where it ends.
 ghost use Rattle.std.specs.Prelude.{Some, ◌≡◌, ◌+◌, ◌≤◌, ◌++◌, length, map as each};
-ghost use Rattle.captable.specs.declared.entry.Entry.{Entry};
-ghost use Rattle.captable.specs.declared.entry.Holder.{Holder};
-ghost use Rattle.captable.specs.Table.{entry_at};
-ghost use Rattle.caprules.specs.Lockmachine.Locks.{requests_of, without_requests_of};
-ghost use Rattle.capacts.specs.Known.{sets_of};
-ghost use Rattle.capacts.specs.Left.{is_end};
+ghost use Rattle.captable.specs.{Table.{entry_at}, declared.entry.Entry.{Entry}, declared.entry.Holder.{Holder}};
+ghost use Rattle.caprules.specs.{Lockmachine.Locks.{requests_of, without_requests_of}, Serving.{dropped_of}};
+ghost use Rattle.capacts.specs.{Known.{sets_of}, Left.{is_end}};
 ghost use Rattle.capacts.specs.Left as words;
-ghost use Rattle.caprules.specs.Serving.{dropped_of};
 
 use capbits::ClientId;
 use caprules::{Ended, Locks, Messages, Outcome, Scene};

@@ -15,8 +15,8 @@ pub mod stop;
 pub mod sweep;
 
 pub use caprules::{
-    Ask, Bytes, Change, ChangeList, Ended, EndedList, EndedTickets, Event, InoSet, InodeLocks,
-    Locks, Message, MessageList, Messages, Move, OpenMode, Outcome, PartValues, Policy, Question,
+    Ask, Bytes, Change, ChangeList, Ended, EndedList, EndedTickets, Event, InodeLocks, Locks,
+    Message, MessageList, Messages, Move, OpenMode, Outcome, PartValues, Policy, Question,
     Rejection, Reply, Request, Row, Scene, Unknown, View, ViewChange, Wants, copy_of_messages,
     copy_of_outcome, copy_of_reply, permitted, wants_on,
 };

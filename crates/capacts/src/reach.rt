@@ -1,14 +1,13 @@
 //! What a request that moves its inode reaches: the inodes below that somebody has an entry on.
-ghost use Rattle.std.specs.Prelude.{◌≡◌, ◌≢◌, ◌≤◌, ◌+◌, true, Contains, OnOk, OnErr};
-ghost use Rattle.std.specs.List.{list_any};
+ghost use Rattle.std.specs.{List.{list_any}, Prelude.{◌≡◌, ◌≢◌, ◌≤◌, ◌+◌, true, Contains, OnOk, OnErr}};
 ghost use Rattle.std.specs.FinSet as set;
 ghost use Rattle.captable.specs.Calls.{is_of_inode};
-ghost use Rattle.capacts.specs.Served.{is_rename};
-ghost use Rattle.capacts.specs.Reach.{AreWalked, Covers, CoversBelow, Widens};
+ghost use Rattle.capacts.specs.{Reach.{AreWalked, Covers, CoversBelow, Widens}, Served.{is_rename}};
 
 use capbits::Ino;
-use caprules::{Ask, ChangeList, InoSet, Request, Scene};
+use caprules::{Ask, ChangeList, Request, Scene};
 use captable::CapTable;
+use inotree::InoSet;
 use std::alloc::AllocError;
 
 /// If the request moves its inode, adds every inode at or below it that somebody has an entry on, but for this one, with a place

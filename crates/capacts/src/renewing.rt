@@ -1,19 +1,14 @@
 //! What clients are permitted is kept anew where the tree or the grants have changed.
-ghost use Rattle.std.specs.Prelude.{◌≡◌, ◌≢◌, ◌==◌, ◌&&◌, Some, IsSome, false, true};
+ghost use Rattle.std.specs.Prelude.{◌≡◌, ◌≢◌, ◌==◌, ◌&&◌, Some, IsSome};
 ghost use Rattle.inotree.specs.Tree.{Nodes};
 ghost use Rattle.captable.specs.declared.entry.Holder.{Holder};
-ghost use Rattle.caprules.specs.Lockmachine.Policy.{ArePermitted, permitted};
-ghost use Rattle.caprules.specs.Capnotes.Changing.{tree_changed};
-ghost use Rattle.capacts.specs.Known.{HaveRoom, known_of, permitted_of};
-ghost use Rattle.capacts.specs.Reach.{is_affected};
-ghost use Rattle.capacts.specs.Renewing.{Renews, ServedFrom, has_entry};
+ghost use Rattle.caprules.specs.{Capnotes.Changing.{tree_changed}, Lockmachine.Policy.{ArePermitted, permitted}};
+ghost use Rattle.capacts.specs.{Known.{HaveRoom, known_of, permitted_of}, Reach.{is_affected}, Renewing.{Renews, ServedFrom, has_entry}};
 
 use capbits::{CapSet, ClientId, Ino};
-use caprules::{
-    Ask, Change, InoSet, Outcome, Policy, Request, Scene, permitted, permitted_on, sets_attr,
-};
+use caprules::{Ask, Change, Outcome, Policy, Request, Scene, permitted, permitted_on, sets_attr};
 use captable::{CapTable, Holder, Known, Sets};
-use inotree::Names;
+use inotree::{InoSet, Names};
 
 /// After a request was served that ended so, keeps anew what is permitted on all inodes where that may have changed: on its own, or
 /// on the affected ones if it has moved that.

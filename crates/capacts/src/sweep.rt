@@ -1,8 +1,6 @@
 //! Where a sweep over inodes has come to, and what it does there.
 ghost use Rattle.std.specs.Prelude.{◌≡◌, true};
-ghost use Rattle.caprules.specs.Lockmachine.Policy.{ArePermittedOn};
-ghost use Rattle.caprules.specs.Lockmachine.Runs.{MoveLittle, ChangesLocksOf};
-ghost use Rattle.caprules.specs.Lockmachine.Turns.{IsTurnOf, IsDue, NobodyElsewhere};
+ghost use Rattle.caprules.specs.Lockmachine.{Policy.{ArePermittedOn}, Runs.{MoveLittle, ChangesLocksOf}, Turns.{IsTurnOf, IsDue, NobodyElsewhere}};
 
 use capbits::{Ino, Ticket};
 use caprules::{Policy, Scene};

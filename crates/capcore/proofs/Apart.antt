@@ -1,18 +1,10 @@
 -- What different clients hold of one inode has no conflict, where it is in place.
-use Rattle.std.proofs.Common.{◌≡◌, ◌≢◌, Bool, true, false, ◌||◌, ◌==◌, Option, Some, None, refl, sym, ap, subst, ◌∙◌, true≢false, IsTrue, arith}
-use Rattle.capcore.proofs.Common.{find, option_map_or, nat_eq_equiv, Cap, P, Part, ClientId, Ino, IsSubset, LockState, Stable, Gather, EntryRow, Holder, is_row_of, lock_at, Scene, present_state, State, IsSound}
-use Rattle.std.specs.List.{list_any}
-use Rattle.std.proofs.lemmas.Bool.{and_from}
-use Rattle.capbits.specs.declared.cap.Cap.TheVariants.{As, Ax, Ls, Lx, Xs, Xx, Fs, Fx, Fc, Fr, Fw, Fb, Fa, Fl}
-use Rattle.capbits.specs.declared.cap.Part.TheVariants.{A, L, X, F}
-use Rattle.capbits.specs.Caps.{has}
-use Rattle.capbits.specs.Sets.{of_part, covers, same_cap, all_in, has-of_part, has-none}
-use Rattle.locktable.specs.Rows.{row_of}
-use Rattle.locktable.specs.Conflicts.{conflict, barred_by, rows_apart}
-use Rattle.captable.proofs.Tables.{same-is}
-use Rattle.captable.specs.Table.{same}
+use Rattle.std.{proofs.Common.{◌≡◌, ◌≢◌, Bool, true, false, ◌||◌, ◌==◌, Option, Some, refl, sym, ap, subst, ◌∙◌, true≢false, IsTrue, arith}, proofs.lemmas.Bool.{and_from}, specs.Cmp.{nat_eq_equiv}, specs.List.{find, list_any}, specs.Option.{option_map_or}}
+use Rattle.capbits.specs.Sets.{of_part, covers, same_cap, has-of_part, has-none}
 use Rattle.captable.proofs.Searches.{find_passes}
+use Rattle.locktable.specs.{Conflicts.{conflict, barred_by, rows_apart}, Rows.{row_of}}
 use Rattle.capsteps.specs.Caprules.Headline.{IsInPlace, AreInPlace, NoneConflict}
+use Rattle.capcore.proofs.Common.{Cap, ClientId, EntryRow, has, Holder, Ino, is_row_of, IsSound, IsSubset, lock_at, LockState, Part, present_state, same, Scene, State}
 
 -- ---- capabilities that conflict are of one part
 

@@ -1,23 +1,9 @@
 -- An event that asks for something, by itself: its request comes to wait behind the others, and nothing else changes.
-use Rattle.std.proofs.Common.{◌≡◌, ℕ, ◌<◌, cond, true, Option, Some, None, is_some, [], ◌∷◌, length, refl, sym, ap, subst, ◌∙◌, true≢false, arith, IsTrue, nat_le}
-use Rattle.capcore.proofs.Common.{option_map, none-some, All-filter, Part, ClientId, Ino, Refusal, passed-both, pass-both, inode_tests, has_session, session_tests, Holder, IsTable, holder, is_of_inode, Ask, Get, Alter, Unlink, Rmdir, Rename, Request, InodeLocks, IsLockMap, next_request, with_request, Scene, Event, State, ask_needs, ask_after, judged, asked_tests, asking_tests, waiting_tests, rejection_of, rejection_by, first_denied, Need, direct, effect, effect_unless, asks, judged_again, IsSound, AreGiven, IsAffectedEntry, AffectsOne, sound-pinned, ask_of, asked_event, AreBelow}
+use Rattle.std.{proofs.Common.{◌≡◌, ℕ, ◌<◌, cond, true, Option, Some, None, is_some, length, refl, ap, ◌∙◌, arith, IsTrue, nat_le}, proofs.lemmas.Bool.{leb-false, lt-leb}, proofs.lemmas.List.Elements.{All-filter, All-push}, proofs.lemmas.Option.{none-some}, specs.Option.{option_map}}
 use Rattle.std.specs.FinMap as map
-use Rattle.std.proofs.lemmas.Bool.{leb-false, lt-leb}
-use Rattle.std.proofs.lemmas.List.Elements.{All-push}
-use Rattle.capbits.specs.declared.refusal.Refusal.TheVariants as refusal
-use Rattle.capbits.specs.Refusal.{first_failing}
 use Rattle.capbits.proofs.Tests.{passed-if}
-use Rattle.inotree.specs.Tests.{root_test}
-use Rattle.capsteps.specs.Lockmachine.Inodes.{lock_in}
-use Rattle.capsteps.specs.Lockmachine.Locks.{queue_tests}
-use Rattle.capsteps.proofs.Lockmachine.Queue.{with_request-kept}
-use Rattle.capsteps.proofs.Lockmachine.SameBut.{same-request}
-use Rattle.capsteps.specs.Capevents.declared.event.Event.TheVariants as event
-use Rattle.capsteps.specs.Caprules.Asks.{ask_before}
-use Rattle.capsteps.specs.Affected.{asks_for}
-use Rattle.capcore.specs.declared.asks.Asked.{Asked}
-use Rattle.capcore.specs.declared.asks.Asked.TheVariants as asked_kind
-use Rattle.capsteps.proofs.EntryRequests.{all-left, asked-session, asked-there}
+use Rattle.capsteps.proofs.{EntryRequests.{asked-session, asked-there}, Lockmachine.Queue.{with_request-kept}, Lockmachine.SameBut.{same-request}}
+use Rattle.capcore.{proofs.Common.{AffectsOne, all-left, Alter, AreBelow, AreGiven, Ask, ask_after, ask_before, ask_needs, asked_tests, asking_tests, asks, asks_for, ClientId, direct, effect, effect_unless, Event, first_denied, first_failing, Get, has_session, Holder, holder, Ino, inode_tests, InodeLocks, is_of_inode, IsAffectedEntry, IsLockMap, IsSound, IsTable, judged, judged_again, lock_in, Need, next_request, Part, pass-both, passed-both, queue_tests, Refusal, rejection_by, rejection_of, Rename, Request, Rmdir, Scene, session_tests, sound-pinned, State, Unlink, waiting_tests, with_request}, specs.Asks.{ask_of, asked_event}, specs.declared.asks.Asked.{Asked}}
 
 -- ---- which events ask, and what
 
@@ -30,16 +16,16 @@ same_asking : (k other : Holder) (ask more : Ask) (e : Event) → ◌≡◌ {A =
 same_asking k other ask more e is asking = grind arith
 
 pub asking : (e : Event) (k : Holder) (ask : Ask) → asks_for e ≡ Some (k, ask) → IsAsking k ask e
-asking (event.Get client ino part) k ask is =
-    same_asking (holder client ino) k (Get part) ask (event.Get client ino part) is (record { effect_is = λ s. refl; judged_is = λ s. refl })
-asking (event.Alter client ino change) k ask is =
-    same_asking (holder client ino) k (Alter change) ask (event.Alter client ino change) is (record { effect_is = λ s. refl; judged_is = λ s. refl })
-asking (event.Unlink client ino) k ask is =
-    same_asking (holder client ino) k Unlink ask (event.Unlink client ino) is (record { effect_is = λ s. refl; judged_is = λ s. refl })
-asking (event.Rmdir client ino) k ask is =
-    same_asking (holder client ino) k Rmdir ask (event.Rmdir client ino) is (record { effect_is = λ s. refl; judged_is = λ s. refl })
-asking (event.Rename client ino dir name) k ask is =
-    same_asking (holder client ino) k (Rename dir name) ask (event.Rename client ino dir name) is (record { effect_is = λ s. refl; judged_is = λ s. refl })
+asking (Event.Get client ino part) k ask is =
+    same_asking (holder client ino) k (Get part) ask (Event.Get client ino part) is (record { effect_is = λ s. refl; judged_is = λ s. refl })
+asking (Event.Alter client ino change) k ask is =
+    same_asking (holder client ino) k (Alter change) ask (Event.Alter client ino change) is (record { effect_is = λ s. refl; judged_is = λ s. refl })
+asking (Event.Unlink client ino) k ask is =
+    same_asking (holder client ino) k Unlink ask (Event.Unlink client ino) is (record { effect_is = λ s. refl; judged_is = λ s. refl })
+asking (Event.Rmdir client ino) k ask is =
+    same_asking (holder client ino) k Rmdir ask (Event.Rmdir client ino) is (record { effect_is = λ s. refl; judged_is = λ s. refl })
+asking (Event.Rename client ino dir name) k ask is =
+    same_asking (holder client ino) k (Rename dir name) ask (Event.Rename client ino dir name) is (record { effect_is = λ s. refl; judged_is = λ s. refl })
 asking e k ask is = absurd (none-some (k, ask) is)
 
 -- what stops the event is what stops the request
@@ -82,7 +68,7 @@ module _ (s : Scene) (k : Holder) (ask : Ask) (free : rejection_of s (asking_tes
 
   -- there is room for it
   pub asking-room : length s.locks.queue < 1024
-  asking-room = let fits = (passed-if (nat_le 1024 (length s.locks.queue)) refusal.Limit None after_passed.1).0 in omega (arith, leb-false 1024 (length s.locks.queue) fits)
+  asking-room = let fits = (passed-if (nat_le 1024 (length s.locks.queue)) Refusal.Limit None after_passed.1).0 in omega (arith, leb-false 1024 (length s.locks.queue) fits)
 
   -- and nothing would stop it, were it served now
   pub asking-again : judged_again s (next_request s.locks k.client k.ino ask) ≡ None
@@ -101,7 +87,9 @@ module _ (old : State) (k : Holder) (ask : Ask) (sound : IsSound old) (table : I
   pub asking-affects : AffectsOne k.ino.0 old first
   asking-affects = record {
     same = same-request old.scene k.client k.ino ask;
-    states = refl; known = λ other. refl; locked = sound.locked;
+    states = refl;
+    known = λ other. refl;
+    locked = sound.locked;
     waiting =
         All-push (λ (q : Request). IsTrue (has_session old.scene.sessions q.client.0)) old.scene.locks.queue (next_request old.scene.locks k.client k.ino ask) sound.waiting
         (asking-session old.scene k ask free);
@@ -120,7 +108,7 @@ order-of_ask s k ask order free = with_request-kept s.locks k.client k.ino ask o
 -- one more may wait
 pub room-left : (s : Scene) (k : Holder) (ask : Ask)
     → rejection_of s (asking_tests s k.client k.ino.0 ask) (ask_needs s k.client k.ino.0 ask) (waiting_tests s k.ino.0 ask) ≡ None → first_failing (queue_tests s.locks) ≡ None
-room-left s k ask free = ap (λ b. cond b (Some refusal.Limit) None) (lt-leb 1024 (length s.locks.queue) (asking-room s k ask free))
+room-left s k ask free = ap (λ b. cond b (Some Refusal.Limit) None) (lt-leb 1024 (length s.locks.queue) (asking-room s k ask free))
 
 -- ---- what the call is handed
 

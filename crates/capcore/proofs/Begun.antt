@@ -1,24 +1,7 @@
 -- What an event that may move locks leaves by itself, and what its step comes to in the end.
-use Rattle.std.proofs.Common.{◌≡◌, ◌≤◌, ℕ, ◌+◌, ◌++◌, ◌==◌, Bool, not, Some, List, [], length, Result, Ok, Err, OnErr, refl, sym, ap, subst, ◌∙◌, arith, All}
-use Rattle.capcore.proofs.Common.{length-filter, count_by-le-length, IsSubset, Ino, IsTree, Entry, Holder, IsTable, entry_at, IsLockMap, Scene, Event, Ended, AreChanges, KnownSets, known_in, AreKnown, StillKnown, HasRoom, HaveOwnNumbers, but_for, State, Direct, direct, reply_of, shown, sizes_owed, view_of, sized_in, AreGiven, earlier, all_ended, state_at_end, Said, IsAnswered, IsJudged, SettlesWith, EndsWith, EntryRequest, Ack, Affects, AffectsOne, Knows, finished_at, AreBelow, Parts, MayBegin, answer_of, GivesOne, HasBegun}
-use Rattle.std.specs.List.{count_by}
-use Rattle.capsteps.specs.Caprules.Sound.{NumbersLeft}
-use Rattle.capsteps.specs.Begun.{ArePermittedIn, MaySettle, MayEnd, HaveRoomFor}
-use Rattle.capsteps.specs.declared.entry_request.EntryRequest.TheVariants.{Open, Want, Release}
-use Rattle.capsteps.specs.EntryRequest.{entry_answer}
-use Rattle.capsteps.specs.Affected.{SettlesAt}
-use Rattle.capsteps.proofs.Knowing.{held_at, still-knows}
+use Rattle.std.proofs.{Common.{◌≡◌, ◌≤◌, ℕ, ◌+◌, ◌++◌, ◌==◌, Bool, Some, List, [], length, Result, OnErr, sym, ap, subst, ◌∙◌, arith, All}, lemmas.List.Sums.{length-filter, count_by-le-length}}
 use Rattle.capsteps.proofs.EntryRequests.{Keeps}
-use Rattle.capcore.specs.declared.parts.Effect.{Effect}
-use Rattle.capcore.specs.declared.parts.Affected.{Affected}
-use Rattle.capcore.specs.declared.parts.Answer.{Answer}
-use Rattle.capcore.specs.declared.parts.Answer.TheVariants.{Done, Dropped, Touched, Awaited}
-use Rattle.capcore.specs.UnderWay.{AreKept, state_of, among, dropped_of, earlier_of, IsNumbered, HasPlaces, MayEndAt}
-use Rattle.capcore.proofs.Closing.{told-own_numbers, told-all, told-but_own, ends-table, affects-settles, affects-ends, affects-one}
-use Rattle.capcore.proofs.Concluded.{IsConcluded, concluded}
-use Rattle.capcore.proofs.EndKnown.{ends-known}
-use Rattle.capcore.proofs.EntryWhole.{show_reply-alike}
-use Rattle.capcore.proofs.Unaffected.{alike-kept}
+use Rattle.capcore.{proofs.Closing.{told-own_numbers, told-all, told-but_own, ends-table, affects-settles, affects-ends, affects-one}, proofs.Common.{Affects, AffectsOne, all_ended, AreBelow, AreChanges, AreGiven, AreKnown, ArePermittedIn, Direct, direct, earlier, Ended, EndsWith, Entry, entry_answer, entry_at, EntryRequest, Event, finished_at, HasRoom, HaveOwnNumbers, HaveRoomFor, held_at, Holder, IsAnswered, IsJudged, IsLockMap, IsSubset, IsTable, IsTree, known_in, KnownSets, Knows, MayEnd, MaySettle, NumbersLeft, reply_of, Said, Scene, SettlesAt, SettlesWith, shown, sized_in, sizes_owed, State, state_at_end, still-knows, StillKnown, view_of}, proofs.Concluded.{IsConcluded, concluded}, proofs.EndKnown.{ends-known}, proofs.EntryWhole.{show_reply-alike}, proofs.Unaffected.{alike-kept}, specs.UnderWay.{MayBegin, answer_of, GivesOne, HasBegun, AreKept, state_of, among, dropped_of, earlier_of, IsNumbered, HasPlaces, MayEndAt}, specs.declared.parts.Affected.{Affected}, specs.declared.parts.Answer.{Answer}, specs.declared.parts.Answer.TheVariants.{Done, Dropped, Touched, Awaited}, specs.declared.parts.Effect.{Effect}, specs.declared.parts.Parts.{Parts}}
 
 -- each entry has a number left then
 pub begun-entries : (p q : Parts) (e : Event) (from : ℕ → Bool) → MayBegin p e → state_of q ≡ (direct (state_of p) e).state → Affects from (state_of p) (state_of q) → GivesOne (state_of p) e
@@ -75,7 +58,9 @@ module _ (p q : Parts) (e : Event) (k : Holder) (may : MayBegin p e) (d : Direct
           room = room;
           at = at;
         };
-        room = left_room; places = places; noted = noted;
+        room = left_room;
+        places = places;
+        noted = noted;
       }
 
 -- ---- what is shown

@@ -1,13 +1,7 @@
 -- How many requests a step serves, and how often its locks move between two servings.
 use Rattle.std.proofs.Common.{◌≡◌, ◌++◌, ℕ, List, [], ◌∷◌, Option, Some, None, map, refl, sym, subst, arith}
-use Rattle.capcore.proofs.Common.{child, holder, Get, Alter, Unlink, Rmdir, Rename, IsLockMap, Scene, Event, Ended, Reply, Rejection, State, direct, effect, effect_unless, found, judged, Made, Began, Gathered, Served, MakesAll, ended_in, Step}
-use Rattle.capsteps.specs.Lockmachine.Runs.{Runs}
-use Rattle.capsteps.proofs.Lockmachine.Ending.{few}
-use Rattle.capsteps.proofs.Lockmachine.Queue.{without_requests_of-kept}
-use Rattle.capsteps.specs.Capevents.declared.event.Event.TheVariants as event
-use Rattle.capsteps.specs.Caprules.Headline.{ByMoves, AreBounded, move_of}
-use Rattle.capsteps.proofs.Moved.{served-count}
-use Rattle.capcore.proofs.Asked.{order-of_ask}
+use Rattle.capsteps.{proofs.Lockmachine.Ending.{few}, specs.Lockmachine.Runs.{Runs}}
+use Rattle.capcore.proofs.{Asked.{order-of_ask}, Common.{Alter, AreBounded, Began, ByMoves, child, direct, effect, effect_unless, Ended, ended_in, Event, found, Gathered, Get, holder, IsLockMap, judged, Made, MakesAll, move_of, Rejection, Rename, Reply, Rmdir, Scene, Served, served-count, State, Step, Unlink, without_requests_of-kept}}
 
 -- ---- the queue stays in order, whatever the event
 
@@ -16,16 +10,16 @@ found-order s o order = grind arith
 
 -- who comes to wait, comes last
 effect-order : (old : State) (e : Event) → judged old.scene e ≡ None → IsLockMap old.scene.locks → IsLockMap (effect old e).state.scene.locks
-effect-order old (event.CloseSession client) free order = without_requests_of-kept old.scene.locks client order
-effect-order old (event.Evict client) free order = without_requests_of-kept old.scene.locks client order
-effect-order old (event.Lookup client dir name) free order = found-order old (child old.scene.tree.nodes dir.0 name) order
-effect-order old (event.Create client dir name mode) free order = record { rising = order.rising; given = order.given; room = order.room }
-effect-order old (event.Mkdir client dir name mode) free order = record { rising = order.rising; given = order.given; room = order.room }
-effect-order old (event.Get client ino part) free order = order-of_ask old.scene (holder client ino) (Get part) order free
-effect-order old (event.Alter client ino change) free order = order-of_ask old.scene (holder client ino) (Alter change) order free
-effect-order old (event.Unlink client ino) free order = order-of_ask old.scene (holder client ino) Unlink order free
-effect-order old (event.Rmdir client ino) free order = order-of_ask old.scene (holder client ino) Rmdir order free
-effect-order old (event.Rename client ino dir name) free order = order-of_ask old.scene (holder client ino) (Rename dir name) order free
+effect-order old (Event.CloseSession client) free order = without_requests_of-kept old.scene.locks client order
+effect-order old (Event.Evict client) free order = without_requests_of-kept old.scene.locks client order
+effect-order old (Event.Lookup client dir name) free order = found-order old (child old.scene.tree.nodes dir.0 name) order
+effect-order old (Event.Create client dir name mode) free order = record { rising = order.rising; given = order.given; room = order.room }
+effect-order old (Event.Mkdir client dir name mode) free order = record { rising = order.rising; given = order.given; room = order.room }
+effect-order old (Event.Get client ino part) free order = order-of_ask old.scene (holder client ino) (Get part) order free
+effect-order old (Event.Alter client ino change) free order = order-of_ask old.scene (holder client ino) (Alter change) order free
+effect-order old (Event.Unlink client ino) free order = order-of_ask old.scene (holder client ino) Unlink order free
+effect-order old (Event.Rmdir client ino) free order = order-of_ask old.scene (holder client ino) Rmdir order free
+effect-order old (Event.Rename client ino dir name) free order = order-of_ask old.scene (holder client ino) (Rename dir name) order free
 effect-order old e free order = order
 
 pub direct-order : (old : State) (e : Event) → IsLockMap old.scene.locks → IsLockMap (direct old e).state.scene.locks

@@ -1,16 +1,7 @@
 -- What the calls of the step of an event about one inode come to.
-use Rattle.std.proofs.Common.{◌≡◌, ◌≤◌, ◌<◌, ◌^◌, ◌-◌, ℕ, ◌+◌, ◌==◌, Bool, true, false, is_some, List, Contains, refl, sym, ap, subst, ◌∙◌, arith, IsTrue, All}
-use Rattle.capcore.proofs.Common.{eqb-true, All-weaker, All-contains, IsTree, SessionTable, has_session, EntryRow, IsTable, is_of_inode, IsLockMap, lock_at, first_for, Scene, Ino, Ticket, Ended, State, with_scene, SettlesWith, EndsWith, sizes_owed, MakesAll, IsSoundEntry, IsSound, earlier, IsAffectedEntry, Affects, AffectsOne, KnownSets, known_in, HaveOwnNumbers, but_for, moved-all}
-use Rattle.captable.specs.Calls.{entries_on}
-use Rattle.capsteps.proofs.Lockmachine.Finding.{filter-contains}
-use Rattle.capsteps.proofs.Lockmachine.SameOutside.{outside-one, rest-outside}
-use Rattle.capsteps.specs.Begun.{ArePermittedIn, MayEnd, MaySettle}
-use Rattle.capsteps.specs.Caprules.Finish.{is_sized, owed}
-use Rattle.capsteps.specs.Affected.{finished_entry}
-use Rattle.capcore.proofs.EndedIn.{earlier-all, earlier-but_own, own-numbers}
-use Rattle.capsteps.proofs.Forgotten.{all_rows}
-use Rattle.capsteps.proofs.ManyInodes.{table-where}
-use Rattle.capsteps.proofs.SameOff.{row_elsewhere}
+use Rattle.std.proofs.{Common.{◌≡◌, ◌≤◌, ◌<◌, ◌^◌, ◌-◌, ℕ, ◌+◌, ◌==◌, Bool, true, false, is_some, List, Contains, refl, sym, ap, subst, ◌∙◌, arith, IsTrue, All}, lemmas.Bool.{eqb-true}, lemmas.List.Elements.{All-weaker, All-contains}}
+use Rattle.capsteps.{proofs.Forgotten.{all_rows}, proofs.Lockmachine.SameOutside.{outside-one, rest-outside}, proofs.ManyInodes.{table-where}, specs.Affected.{finished_entry}, specs.Caprules.Finish.{is_sized, owed}}
+use Rattle.capcore.proofs.{Common.{Affects, AffectsOne, ArePermittedIn, but_for, earlier, Ended, EndsWith, entries_on, EntryRow, filter-contains, first_for, has_session, HaveOwnNumbers, Ino, is_of_inode, IsAffectedEntry, IsLockMap, IsSound, IsSoundEntry, IsTable, IsTree, known_in, KnownSets, lock_at, MakesAll, MayEnd, MaySettle, moved-all, row_elsewhere, Scene, SessionTable, SettlesWith, sizes_owed, State, Ticket, with_scene}, EndedIn.{earlier-all, earlier-but_own, own-numbers}}
 
 -- ---- the numbers of those that a settling ends
 
@@ -78,7 +69,10 @@ module _ (from : ℕ → Bool) (old affected : State) (sound : IsSound old) (aff
 pub affects-one : (ino : ℕ) (old : State) (first : Scene) → IsSound old → AffectsOne ino old first → Affects (λ other. other == ino) old (with_scene old first)
 affects-one ino old first sound one = record {
   same = outside-one ino old.scene first one.same;
-  states = one.states; known = one.known; locked = one.locked; waiting = one.waiting;
+  states = one.states;
+  known = one.known;
+  locked = one.locked;
+  waiting = one.waiting;
   messages = subst (λ (t : SessionTable). All (λ m. IsTrue (has_session t m.client.0)) old.messages) (sym one.same.sessions) sound.messages;
   at_lock = λ i part is none.
       ap (λ i. first_for first.locks.queue i part) (eqb-true i ino is)

@@ -1,11 +1,8 @@
 -- The step of an event that affected some inodes, all together: it is a step of the rules, leaves the state sound, issues what is due
 -- and gives at most one number.
 use Rattle.std.proofs.Common.{◌≡◌, ℕ, ◌+◌, Bool, List, sym, subst}
-use Rattle.capcore.proofs.Common.{IsTree, Caps, Holder, IsTable, IsLockMap, Scene, Event, Ended, Reply, State, direct, reply_of, shown, IssuesExactly, sizes_owed, Made, ended_in, sized_in, IsSound, AreGiven, Step, all_ended, state_at_end, Affects, Knows, finished_at, shown-sound, shown-issued, shown-given, GivesOne}
-use Rattle.capsteps.specs.Affected.{SettlesAt}
-use Rattle.capsteps.proofs.SizesOwed.{sizes-end, sizes-sound, sizes-issues, sizes-given}
-use Rattle.capsteps.proofs.StayingSound.{given-affected}
-use Rattle.capcore.proofs.EntryStep.{one-step}
+use Rattle.capsteps.proofs.{SizesOwed.{sizes-end, sizes-sound, sizes-issues, sizes-given}, StayingSound.{given-affected}}
+use Rattle.capcore.{proofs.Common.{Affects, all_ended, AreGiven, Caps, direct, Ended, ended_in, Event, finished_at, Holder, IsLockMap, IsSound, IssuesExactly, IsTable, IsTree, Knows, Made, Reply, reply_of, Scene, SettlesAt, shown, shown-given, shown-issued, shown-sound, sized_in, sizes_owed, State, state_at_end, Step}, proofs.EntryStep.{one-step}, specs.UnderWay.{GivesOne}}
 
 -- what is promised of a step
 pub record IsConcluded (old : State) (e : Event) (answer : Reply) (ended : List Ended) (new : State) : Type 0 where

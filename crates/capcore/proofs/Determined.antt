@@ -1,43 +1,20 @@
 -- Two steps from one state with the same event are the same where the same requests find no memory: so where all find it, and so
 -- where their rows say the same.
-use Rattle.std.proofs.Common.{◌≡◌, ◌≢◌, ◌⊎◌, ◌↔◌, ◌≤◌, ℕ, zero, suc, not, cond, List, [], ◌∷◌, Option, Some, None, refl, sym, ap, subst, ◌∙◌, inl, inr, All, Contains, arith, nat_le, unwrap_or, filter}
-use Rattle.capcore.proofs.Common.{find, nat_eq_equiv, All-weaker, All-filter, All-contains, ClientId, Ino, Ticket, child, Ask, Get, Alter, Unlink, Rmdir, Rename, Request, IsLockMap, next_request, Scene, Event, Ended, Outcome, Reply, Rejection, Direct, Answer, Says, Shows, Gives, Awaits, direct, effect, effect_unless, asks, found, reply_of, shown, HaveOwnNumbers, sizes_owed, finished, judged, MayEndAs, As_judged, Without_memory, Made, Began, Gathered, Served, Makes, MakesAll, ended_in, sized_in, State, Step, earlier, state_after, all_ended, moved-all}
-use Rattle.std.proofs.lemmas.Bool.{le-leb, ne_eqb}
-use Rattle.std.proofs.lemmas.List.{append_cancel_left}
-use Rattle.std.proofs.lemmas.Option.{same_Some}
-use Rattle.std.proofs.lemmas.List.Elements.{All-push, Contains-append_right}
-use Rattle.capsteps.specs.Lockmachine.declared.moves.Move.TheVariants.{Begin, End, Serve, Settled}
-use Rattle.capsteps.specs.Lockmachine.Requests.{is_of_client}
-use Rattle.capsteps.specs.Lockmachine.Locks.{request_at}
-use Rattle.capsteps.specs.Lockmachine.Moves.{first_move, with_moved}
-use Rattle.capsteps.proofs.Lockmachine.Finding.{contains-filter, filter-contains}
-use Rattle.capsteps.specs.Capevents.declared.event.Event.TheVariants as event
-use Rattle.capsteps.specs.Capevents.declared.outcome.Outcome.TheVariants as outcome
-use Rattle.capsteps.specs.Capevents.declared.reply.Reply.TheVariants as reply
-use Rattle.capsteps.specs.Capevents.Replies.{outcome_reply}
-use Rattle.capsteps.specs.Caprules.Direct.{awaited_as}
-use Rattle.capsteps.specs.Capnotes.DueEndings.{is_of_ticket}
-use Rattle.capsteps.specs.Caprules.Headline.{move_of}
-use Rattle.capcore.specs.SameEvents.{FoundMemory}
-use Rattle.capsteps.specs.Caprules.Serving.{served}
-use Rattle.capsteps.specs.Caprules.Step.{StepBy}
-use Rattle.capcore.proofs.Bounded.{direct-order}
-use Rattle.capcore.proofs.EndedIn.{own-numbers}
-use Rattle.capsteps.proofs.Moved.{Waited, ended-waited}
-use Rattle.capsteps.proofs.Stopping.{no_moves}
-use Rattle.capsteps.proofs.Capnotes.Taking.{own-head, own-tail}
+use Rattle.std.{proofs.Common.{◌≡◌, ◌≢◌, ◌⊎◌, ◌↔◌, ◌≤◌, ℕ, zero, suc, not, cond, List, [], ◌∷◌, Option, Some, None, refl, sym, ap, subst, ◌∙◌, inl, inr, All, Contains, arith, nat_le, unwrap_or, filter}, proofs.lemmas.Bool.{le-leb, ne_eqb}, proofs.lemmas.List.{append_cancel_left}, proofs.lemmas.List.Elements.{All-weaker, All-filter, All-contains, All-push, Contains-append_right}, proofs.lemmas.Option.{same_Some}, specs.Cmp.{nat_eq_equiv}, specs.List.{find}}
+use Rattle.capsteps.{proofs.Capnotes.Taking.{own-head, own-tail}, specs.Caprules.Serving.{served}, specs.Caprules.Step.{StepBy}, specs.Lockmachine.Moves.{with_moved}, specs.Lockmachine.Requests.{is_of_client}, specs.Lockmachine.declared.moves.Move.TheVariants.{Settled}}
+use Rattle.capcore.{proofs.Bounded.{direct-order}, proofs.Common.{all_ended, Alter, Answer, As_judged, Ask, asks, awaited_as, Awaits, Began, Begin, child, ClientId, contains-filter, Direct, direct, earlier, effect, effect_unless, End, Ended, ended-waited, ended_in, Event, filter-contains, finished, first_move, found, Gathered, Get, HaveOwnNumbers, Ino, is_of_ticket, IsLockMap, judged, Made, Makes, MakesAll, MayEndAs, move_of, moved-all, next_request, no_moves, Outcome, outcome_reply, Rejection, Rename, Reply, reply_of, Request, request_at, Rmdir, Scene, Serve, Served, shown, sized_in, sizes_owed, State, state_after, Step, Ticket, Unlink, Waited, Without_memory}, proofs.EndedIn.{own-numbers}, specs.SameEvents.{FoundMemory}}
 
 -- ---- moves
 
 -- a request that ended in both found no memory in both, or in neither
 abbrev Agree : List Ended → List Ended → Type 0
-Agree ms ns = (m n : Ended) → Contains ms m → Contains ns n → m.ticket ≡ n.ticket → (m.outcome ≡ outcome.OutOfMemory) ↔ (n.outcome ≡ outcome.OutOfMemory)
+Agree ms ns = (m n : Ended) → Contains ms m → Contains ns n → m.ticket ≡ n.ticket → (m.outcome ≡ Outcome.OutOfMemory) ↔ (n.outcome ≡ Outcome.OutOfMemory)
 
 abbrev end_of : Request → Outcome → Ended
 end_of q o = record { client = q.client; ticket = q.ticket; outcome = o }
 
 -- who finds memory ends as it is judged, and who finds none in one way
-ends-once : (s : Scene) (q : Request) (o x : Outcome) → MayEndAs s q o → MayEndAs s q x → (o ≡ outcome.OutOfMemory) ↔ (x ≡ outcome.OutOfMemory) → o ≡ x
+ends-once : (s : Scene) (q : Request) (o x : Outcome) → MayEndAs s q o → MayEndAs s q x → (o ≡ Outcome.OutOfMemory) ↔ (x ≡ Outcome.OutOfMemory) → o ≡ x
 ends-once s q o x (As_judged) (As_judged) alike = refl
 ends-once s q o x (As_judged) (Without_memory nothing takes) alike = alike.1 refl
 ends-once s q o x (Without_memory nothing takes) (As_judged) alike = sym (alike.0 refl)
@@ -97,14 +74,14 @@ module _ (old : State) (order : IsLockMap old.scene.locks) where
       All-push (Fits old (asks old client ino ask)) old.scene.locks.queue (next_request old.scene.locks client ino ask) (all-fit (asks old client ino ask)) (inr refl)
 
   effect-fits : (e : Event) → All (Fits old (effect old e)) (effect old e).state.scene.locks.queue
-  effect-fits (event.CloseSession client) = left-fits (effect old (event.CloseSession client)) client
-  effect-fits (event.Evict client) = left-fits (effect old (event.Evict client)) client
-  effect-fits (event.Lookup client dir name) = found-fits (child old.scene.tree.nodes dir.0 name)
-  effect-fits (event.Get client ino part) = asked-fits client ino (Get part)
-  effect-fits (event.Alter client ino change) = asked-fits client ino (Alter change)
-  effect-fits (event.Unlink client ino) = asked-fits client ino Unlink
-  effect-fits (event.Rmdir client ino) = asked-fits client ino Rmdir
-  effect-fits (event.Rename client ino dir name) = asked-fits client ino (Rename dir name)
+  effect-fits (Event.CloseSession client) = left-fits (effect old (Event.CloseSession client)) client
+  effect-fits (Event.Evict client) = left-fits (effect old (Event.Evict client)) client
+  effect-fits (Event.Lookup client dir name) = found-fits (child old.scene.tree.nodes dir.0 name)
+  effect-fits (Event.Get client ino part) = asked-fits client ino (Get part)
+  effect-fits (Event.Alter client ino change) = asked-fits client ino (Alter change)
+  effect-fits (Event.Unlink client ino) = asked-fits client ino Unlink
+  effect-fits (Event.Rmdir client ino) = asked-fits client ino Rmdir
+  effect-fits (Event.Rename client ino dir name) = asked-fits client ino (Rename dir name)
   effect-fits e = all-fit (effect old e)
 
   direct-fits : (e : Event) → All (Fits old (direct old e)) (direct old e).state.scene.locks.queue
@@ -130,7 +107,7 @@ own-one m n ms differ inside inside' same =
     same_Some m n (sym (found-own m ms differ inside) ∙ ap (λ (t : Ticket). find (is_of_ticket t) ms) same ∙ found-own n ms differ inside')
 
 -- one that is answered as out of memory ended so
-short-answer : (t : Ticket) (o : Outcome) → unwrap_or (outcome_reply o) (reply.Waiting t) ≡ reply.OutOfMemory → o ≡ outcome.OutOfMemory
+short-answer : (t : Ticket) (o : Outcome) → unwrap_or (outcome_reply o) (Reply.Waiting t) ≡ Reply.OutOfMemory → o ≡ Outcome.OutOfMemory
 short-answer t o is = grind arith
 
 -- ---- the step
@@ -165,19 +142,19 @@ module _ (old : State) (e : Event) (order : IsLockMap old.scene.locks) where
         by.answer_is ∙ ap (reply_of (state_after old d moves by.settled) (ended_in moves)) awaits ∙ ap (awaited_as m.ticket) (found-own m (ended_in moves) have-own inside)
 
     -- where the answer and the row say that memory was found, each that was served found it
-    all-found : FoundMemory answer dead → (m : Ended) → Contains (ended_in moves) m → m.outcome ≢ outcome.OutOfMemory
+    all-found : FoundMemory answer dead → (m : Ended) → Contains (ended_in moves) m → m.outcome ≢ Outcome.OutOfMemory
     all-found finds m inside =
-        elim (told-where m inside) as (λ _. m.outcome ≢ outcome.OutOfMemory) [
-          | inl kept ↦ All-contains (λ (x : Ended). x.outcome ≢ outcome.OutOfMemory) dead m finds.each
+        elim (told-where m inside) as (λ _. m.outcome ≢ Outcome.OutOfMemory) [
+          | inl kept ↦ All-contains (λ (x : Ended). x.outcome ≢ Outcome.OutOfMemory) dead m finds.each
               (subst (λ (xs : List Ended). Contains xs m) (sym by.ended_is) (Contains-append_right d.dropped (named moves) m kept))
-          | inr awaits ↦ λ bad. finds.answered (told-as m inside awaits ∙ ap (λ (o : Outcome). unwrap_or (outcome_reply o) (reply.Waiting m.ticket)) bad)
+          | inr awaits ↦ λ bad. finds.answered (told-as m inside awaits ∙ ap (λ (o : Outcome). unwrap_or (outcome_reply o) (Reply.Waiting m.ticket)) bad)
         ]
 
   -- what found no memory in a step found none in one with the same row
   short-too : (moves others : List Made) (answer : Reply) (dead : List Ended) (new other : State) → StepBy old e moves answer dead new → StepBy old e others answer dead other
-      → (m n : Ended) → Contains (ended_in moves) m → Contains (ended_in others) n → m.ticket ≡ n.ticket → m.outcome ≡ outcome.OutOfMemory → n.outcome ≡ outcome.OutOfMemory
+      → (m n : Ended) → Contains (ended_in moves) m → Contains (ended_in others) n → m.ticket ≡ n.ticket → m.outcome ≡ Outcome.OutOfMemory → n.outcome ≡ Outcome.OutOfMemory
   short-too moves others answer dead new other by by' m n inside inside' same bad =
-      elim (told-where moves answer dead new by m inside) as (λ _. n.outcome ≡ outcome.OutOfMemory) [
+      elim (told-where moves answer dead new by m inside) as (λ _. n.outcome ≡ Outcome.OutOfMemory) [
         | inl kept ↦ (let alike : named moves ≡ named others = append_cancel_left d.dropped (named moves) (named others) (sym by.ended_is ∙ by'.ended_is) in
             let there : Contains (ended_in others) m =
             contains-filter (λ (x : Ended). nat_le x.ticket.0 old.scene.locks.last) (ended_in others) m (subst (λ (xs : List Ended). Contains xs m) alike kept) in
@@ -185,7 +162,7 @@ module _ (old : State) (e : Event) (order : IsLockMap old.scene.locks) where
         | inr awaits ↦ short-answer n.ticket n.outcome
             (sym (told-as others answer dead other by' n inside' (awaits ∙ ap Awaits same))
             ∙ told-as moves answer dead new by m inside awaits
-            ∙ ap (λ (o : Outcome). unwrap_or (outcome_reply o) (reply.Waiting m.ticket)) bad)
+            ∙ ap (λ (o : Outcome). unwrap_or (outcome_reply o) (Reply.Waiting m.ticket)) bad)
       ]
 
   -- so a step has the same moves and the same end

@@ -1,11 +1,6 @@
 -- The numbers of the requests that a settling ends.
-use Rattle.std.proofs.Common.{◌≡◌, ◌≢◌, ◌≤◌, ℕ, suc, ◌+◌, ◌==◌, Bool, true, false, not, cond, List, [], ◌∷◌, refl, sym, ap, subst, ◌∙◌, All, Contains, arith, true≢false, nat_le, filter}
-use Rattle.capcore.proofs.Common.{nat_eq_equiv, eqb-true, All-weaker, All-contains, Ticket, Request, IsLockMap, Scene, Ended, Made, Began, Gathered, Served, Makes, MakesAll, ended_in, earlier, HaveOwnNumbers, but_for}
-use Rattle.std.proofs.lemmas.Bool.{eqb-false, le-leb, lt-leb}
-use Rattle.std.proofs.lemmas.List.Kept.{AllPairs-cons}
-use Rattle.std.proofs.lemmas.List.Elements.{All-head, All-tail, filter_passes}
-use Rattle.capsteps.specs.Lockmachine.Requests.{is_numbered}
-use Rattle.capsteps.proofs.Moved.{Waited, ended-waited}
+use Rattle.std.{proofs.Common.{◌≡◌, ◌≢◌, ◌≤◌, ℕ, suc, ◌+◌, ◌==◌, Bool, true, false, not, cond, List, [], ◌∷◌, refl, sym, ap, subst, ◌∙◌, All, Contains, arith, true≢false, nat_le, filter}, proofs.lemmas.Bool.{eqb-true, eqb-false, le-leb, lt-leb}, proofs.lemmas.List.Elements.{All-weaker, All-contains, All-head, All-tail, filter_passes}, proofs.lemmas.List.Kept.{AllPairs-cons}, specs.Cmp.{nat_eq_equiv}}
+use Rattle.capcore.proofs.Common.{but_for, earlier, Ended, ended-waited, ended_in, HaveOwnNumbers, is_numbered, IsLockMap, Made, Makes, MakesAll, Request, Scene, Served, Ticket, Waited}
 
 -- ---- lists that are filtered alike
 

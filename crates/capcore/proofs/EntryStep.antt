@@ -1,6 +1,6 @@
 -- An event is a whole step, when the locks have settled and the step has ended.
 use Rattle.std.proofs.Common.{◌≡◌, List, ◌++◌, refl, sym, ap, ◌∙◌}
-use Rattle.capcore.proofs.Common.{Scene, Event, Reply, State, direct, reply_of, shown, Made, Settles, ended_in, sized_in, sizes_owed, finished, Step, earlier, all_ended, state_after, state_at_end}
+use Rattle.capcore.proofs.Common.{all_ended, direct, earlier, ended_in, Event, finished, Made, Reply, reply_of, Scene, Settles, shown, sized_in, sizes_owed, State, state_after, state_at_end, Step}
 
 module _ (old : State) (e : Event) (moves : List Made) (settled last : Scene) (settles : Settles (direct old e).state.scene moves settled)
     (ends : finished old.scene (direct old e).state.scene (sizes_owed (sized_in moves) settled) ≡ last) where
@@ -13,7 +13,8 @@ module _ (old : State) (e : Event) (moves : List Made) (settled last : Scene) (s
   one-step answer new answers is = (
     moves,
     record {
-      settled = settled; settles = settles;
+      settled = settled;
+      settles = settles;
       answer_is = answers ∙ sym (ap (λ (s : State). reply_of s (ended_in moves) (direct old e).answer) ended_at);
       new_is = is ∙ sym (ap (shown (direct old e).answer) ended_at);
       ended_is = refl;

@@ -1,11 +1,8 @@
 -- What the calls of the step of an event about one entry come to.
-use Rattle.std.proofs.Common.{◌≡◌, false, [], List, Option, Some, None, refl, arith}
-use Rattle.capcore.proofs.Common.{find, ClientId, Ino, EntryRow, Holder, holder, is_row_of, Scene, EntryRequest, Ack, Ended, State, has_list, effect, reply_of, shown, entry_event, HoldAlike}
+use Rattle.std.proofs.Common.{◌≡◌, false, [], List, refl, arith}
 use Rattle.captable.specs.Calls.{told}
-use Rattle.capsteps.specs.declared.entry_request.EntryRequest.TheVariants.{Open, Want, Release}
-use Rattle.capsteps.specs.Caprules.Direct.{opened_as}
-use Rattle.capsteps.specs.EntryRequest.{entry_answer}
-use Rattle.capsteps.proofs.EntryKept.{alike-changed}
+use Rattle.capsteps.{proofs.EntryKept.{alike-changed}, specs.declared.entry_request.EntryRequest.TheVariants.{Release}}
+use Rattle.capcore.proofs.Common.{Ack, ClientId, effect, Ended, entry_answer, entry_event, EntryRequest, has_list, HoldAlike, Holder, holder, Ino, reply_of, shown, State}
 
 pub effect-answer : (old : State) (client : ClientId) (ino : Ino) (request : EntryRequest) → (effect old (entry_event client ino request)).answer ≡ entry_answer (holder client ino) request
 effect-answer old client ino request = grind arith

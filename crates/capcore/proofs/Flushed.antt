@@ -1,27 +1,10 @@
 -- A flush that nothing stops, by itself: it changes its inode alone, and of the entries only the order of recall.
-use Rattle.std.proofs.Common.{◌≡◌, ◌≢◌, ℕ, [], ◌∷◌, None, refl, sym, ap, subst, ◌∙◌, arith}
-use Rattle.capcore.proofs.Common.{All-filter, passed-both, inode_tests, IsTree, Nodes, session_tests, Holder, IsTable, is_of_inode, IsQuiet, Scene, State, judged, direct, effect_unless, says, IsSound, AreGiven, IsAffectedEntry, AffectsOne, sound-pinned, AreBelow}
+use Rattle.std.proofs.{Common.{◌≡◌, ◌≢◌, ℕ, [], ◌∷◌, None, refl, sym, ap, subst, ◌∙◌, arith}, lemmas.List.Elements.{All-filter}}
 use Rattle.std.specs.FinMap as map
-use Rattle.capbits.specs.Refusal.{first_failing}
-use Rattle.capbits.specs.Sets.{caps_in}
-use Rattle.inotree.specs.Tree.{place}
 use Rattle.inotree.proofs.OneInode.{known-changed, place-other}
-use Rattle.captable.specs.Calls.{touched}
-use Rattle.captable.specs.Tests.{release_tests}
-use Rattle.captable.proofs.Moves.{IsTable-touched}
-use Rattle.capsteps.specs.Lockmachine.declared.request.Change.{Change}
-use Rattle.capsteps.specs.Lockmachine.Elsewhere.{IsSameBut}
-use Rattle.capsteps.specs.Lockmachine.Requests.{part_of_change}
-use Rattle.capsteps.proofs.Lockmachine.SameBut.{same-trans, same-tree, same-entries}
-use Rattle.capsteps.specs.Capevents.declared.event.Event.TheVariants as event
-use Rattle.capsteps.specs.Capevents.declared.reply.Reply.TheVariants as reply
-use Rattle.capsteps.specs.Caprules.Asks.{change_tests, exclusive}
-use Rattle.capsteps.specs.Capnotes.Changing.{tree_changed}
-use Rattle.capsteps.specs.Caprules.Direct.{with_flush}
-use Rattle.capsteps.specs.Capacts.Served.{change_call_tests}
-use Rattle.capsteps.proofs.Capacts.Again.{change-passed}
-use Rattle.capsteps.proofs.OneChange.{by_change, alike_change, sound_change}
-use Rattle.capsteps.proofs.EntryRequests.{all-left, before-passed, after-passed}
+use Rattle.captable.{proofs.Moves.{IsTable-touched}, specs.Calls.{touched}}
+use Rattle.capsteps.{proofs.EntryRequests.{before-passed, after-passed}, proofs.Lockmachine.SameBut.{same-trans, same-tree, same-entries}, proofs.OneChange.{by_change, alike_change, sound_change}, specs.Capacts.Served.{change_call_tests}, specs.Capnotes.Changing.{tree_changed}, specs.Lockmachine.Elsewhere.{IsSameBut}, specs.Lockmachine.declared.request.Change.{Change}}
+use Rattle.capcore.proofs.Common.{AffectsOne, all-left, AreBelow, AreGiven, caps_in, change_tests, direct, effect_unless, Event, exclusive, first_failing, Holder, is_of_inode, IsAffectedEntry, IsQuiet, IsSound, IsTable, IsTree, judged, Nodes, part_of_change, passed-both, place, release_tests, Reply, says, Scene, sound-pinned, State, with_flush}
 
 known_change : (tree : Nodes) (ino : ℕ) (change : Change) (other : ℕ) → map.contains_key (tree_changed tree ino change).nodes other ≡ map.contains_key tree.nodes other
 known_change tree ino change other =
@@ -62,20 +45,20 @@ below-of_flush count old k change given = (given.entries, omega (arith, given.ma
 -- ---- what nothing stops
 
 -- the change has passed its tests
-flush_passed : (s : Scene) (k : Holder) (change : Change) → judged s (event.Flush k.client k.ino change) ≡ None → first_failing (change_tests s k.ino.0 change) ≡ None
+flush_passed : (s : Scene) (k : Holder) (change : Change) → judged s (Event.Flush k.client k.ino change) ≡ None → first_failing (change_tests s k.ino.0 change) ≡ None
 flush_passed s k change free =
     (passed-both (release_tests s.table k (caps_in (exclusive (part_of_change change) ∷ []))) (change_tests s k.ino.0 change)
-    (after-passed s (event.Flush k.client k.ino change) free)).1
+    (after-passed s (Event.Flush k.client k.ino change) free)).1
 
 -- and so has the call that makes it
-pub flush-calls : (s : Scene) (k : Holder) (change : Change) → judged s (event.Flush k.client k.ino change) ≡ None → first_failing (change_call_tests s.tree k.ino.0 change) ≡ None
+pub flush-calls : (s : Scene) (k : Holder) (change : Change) → judged s (Event.Flush k.client k.ino change) ≡ None → first_failing (change_call_tests s.tree k.ino.0 change) ≡ None
 flush-calls s k change free = grind (arith, passed-both, before-passed, flush_passed)
 
 -- it leaves a tree
-pub flush-tree : (s : Scene) (k : Holder) (change : Change) → judged s (event.Flush k.client k.ino change) ≡ None → IsTree s.tree → IsTree (tree_changed s.tree k.ino.0 change)
+pub flush-tree : (s : Scene) (k : Holder) (change : Change) → judged s (Event.Flush k.client k.ino change) ≡ None → IsTree s.tree → IsTree (tree_changed s.tree k.ino.0 change)
 flush-tree s k change free tree = sound_change s k.ino.0 change tree (flush_passed s k change free)
 
 -- the change is all that it comes to by itself
-pub flush-direct : (old : State) (k : Holder) (change : Change) → judged old.scene (event.Flush k.client k.ino change) ≡ None
-    → direct old (event.Flush k.client k.ino change) ≡ says (with_flush old k change) reply.Done
-flush-direct old k change free = ap (effect_unless old (event.Flush k.client k.ino change)) free
+pub flush-direct : (old : State) (k : Holder) (change : Change) → judged old.scene (Event.Flush k.client k.ino change) ≡ None
+    → direct old (Event.Flush k.client k.ino change) ≡ says (with_flush old k change) Reply.Done
+flush-direct old k change free = ap (effect_unless old (Event.Flush k.client k.ino change)) free

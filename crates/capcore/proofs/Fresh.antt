@@ -1,15 +1,9 @@
 -- A tree that has its root alone has no stray.
-use Rattle.std.proofs.Common.{◌≡◌, Bool, true, false, cond, Some, sym, ap, subst, ◌∙◌}
-use Rattle.capcore.proofs.Common.{option_map, nat_cmp_total, Directory, Node, Nodes, HasNoStray}
-use Rattle.std.specs.Ordering.{nat_cmp, eq_by_cmp}
+use Rattle.std.{proofs.Common.{◌≡◌, Bool, true, false, cond, Some, sym, ap, subst, ◌∙◌}, specs.Cmp.{nat_cmp_total}, specs.Option.{option_map}, specs.Ordering.{nat_cmp, eq_by_cmp}}
 use Rattle.std.specs.FinMap as map
 use Rattle.std.specs.FinSet as set
-use Rattle.capgrant.specs.declared.access.Attr.{Attr}
-use Rattle.inotree.specs.declared.node.Place.TheVariants.{Gone}
-use Rattle.inotree.specs.declared.node.Site.TheVariants.{Root}
-use Rattle.inotree.specs.Inodes.{InodeMap}
-use Rattle.inotree.specs.Tree.{place_at}
-use Rattle.inotree.specs.Calls.{first_tree}
+use Rattle.inotree.specs.{Calls.{first_tree}, Inodes.{InodeMap}, declared.node.Site.TheVariants.{Root}}
+use Rattle.capcore.proofs.Common.{Attr, Directory, Gone, HasNoStray, Node, Nodes, place_at}
 
 no_stray : (attr : Attr) → HasNoStray (first_tree attr)
 no_stray attr q gone = by_test (eq_by_cmp nat_cmp q 1) (ap (λ o. place_at (option_map (λ n. n.site) o)) (sym (map.get-insert nat_cmp_total none 1 root q)) ∙ gone)

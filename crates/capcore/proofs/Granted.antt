@@ -1,24 +1,11 @@
 -- What each client is permitted, where the session of one has ended or changed.
-use Rattle.std.proofs.Common.{◌≡◌, ◌==◌, ◌⊎◌, inl, inr, ℕ, Bool, true, false, cond, Option, Some, None, List, refl, sym, ap, subst, ◌∙◌, nat_eq}
-use Rattle.capcore.proofs.Common.{option_map, eqb-true, ClientId, Node, KnownSets, Entry, Holder, without_client, Table, entry_at, Scene, State, is_end, session_changed}
+use Rattle.std.{proofs.Common.{◌≡◌, ◌==◌, ◌⊎◌, inl, inr, ℕ, Bool, true, false, cond, Option, Some, None, List, refl, sym, ap, subst, ◌∙◌, nat_eq}, proofs.lemmas.Bool.{eqb-true, false_from_ne_true}, specs.Option.{option_map}}
 use Rattle.std.specs.FinMap as map
-use Rattle.std.proofs.lemmas.Bool.{false_from_ne_true}
-use Rattle.sessiontab.specs.declared.session.Session.{Session}
-use Rattle.sessiontab.specs.declared.session.Status.{Status}
 use Rattle.inotree.specs.Tree.{path_of}
-use Rattle.numbered.proofs.Maps.{change-at}
-use Rattle.captable.specs.Known.{permitted_of, sets_of}
-use Rattle.captable.specs.declared.on_inode.Sets.{Sets}
-use Rattle.captable.proofs.ByHolder.{entry_at-without_client, entry_at-without_client_other}
-use Rattle.capsteps.specs.Lockmachine.Policy.{permitted, permitted_to, subject_of}
-use Rattle.capsteps.proofs.Lockmachine.PolicyElsewhere.{alike-itself, permitted-kept}
-use Rattle.capsteps.specs.Capacts.declared.leaving.SessionChange.{SessionChange}
-use Rattle.capsteps.specs.Capacts.declared.leaving.SessionChange.TheVariants.{Close, Mark, Evict}
-use Rattle.capsteps.specs.Capacts.Left.{table_left}
-use Rattle.capsteps.specs.Begun.{ArePermittedIn}
-use Rattle.capsteps.specs.SessionChange.{changed_sessions}
-use Rattle.capsteps.proofs.ShownSteps.{apart_client}
-use Rattle.capcore.proofs.SessionChanged.{apart, session_changed-other}
+use Rattle.captable.{proofs.ByHolder.{entry_at-without_client}, specs.Known.{sets_of}}
+use Rattle.sessiontab.specs.declared.session.Status.{Status}
+use Rattle.capsteps.{proofs.Lockmachine.PolicyElsewhere.{permitted-kept}, specs.Capacts.declared.leaving.SessionChange.TheVariants.{Close, Mark, Evict}, specs.Lockmachine.Policy.{permitted_to, subject_of}}
+use Rattle.capcore.proofs.{Common.{alike-itself, apart_client, ArePermittedIn, change-at, changed_sessions, ClientId, Entry, entry_at, entry_at-without_client_other, Holder, is_end, KnownSets, Node, permitted, permitted_of, Scene, Session, session_changed, SessionChange, Sets, State, Table, table_left, without_client}, SessionChanged.{apart, session_changed-other}}
 
 -- ---- who is left
 

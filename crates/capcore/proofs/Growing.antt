@@ -1,10 +1,7 @@
 -- A legal history goes on by one row.
 use Rattle.std.proofs.Common.{◌≡◌, ℕ, ◌+◌, ◌<◌, ◌≤◌, List, [], ◌∷◌, ◌++◌, length, Some, None, refl, sym, ap, subst, ◌∙◌, arith}
-use Rattle.capcore.proofs.Common.{Nodes, IsTable, entry_at, Row, State, Step, IsSound, AreGiven, rows_of, IsOpening, HasNoStray, step-shown}
-use Rattle.capsteps.specs.Capview.declared.change.ViewChange.{ViewChange}
-use Rattle.capsteps.specs.Caprules.History.{Recorded, recorded, IsRecorded, Replays}
-use Rattle.capsteps.proofs.Capacts.Numbered.{numbered-nil, numbered-snoc}
-use Rattle.capcore.proofs.Sounding.{opening-sound, opening-given}
+use Rattle.capsteps.{proofs.Capacts.Numbered.{numbered-nil, numbered-snoc}, specs.Caprules.History.{IsRecorded}}
+use Rattle.capcore.proofs.{Common.{AreGiven, entry_at, HasNoStray, IsOpening, IsSound, IsTable, Nodes, Recorded, recorded, Replays, Row, rows_of, State, Step, step-shown, ViewChange}, Sounding.{opening-sound, opening-given}}
 
 pub replays-more : (first : State) (rows : List Row) (old : State) (row : Row) (new : State) → Replays first rows old → Step old row.event row.reply row.ended new → Replays first (rows ++ row ∷ []) new
 replays-more first [] old row new is step = (new, subst (λ s. Step s row.event row.reply row.ended new) is step, refl)
@@ -17,7 +14,11 @@ length-more (r ∷ rows) row = let more = length-more rows row in omega (arith, 
 -- a new core has the empty history
 pub first-told : (fs : List ℕ) (tree : Nodes) (s : State) (max_rows : ℕ) (changes : List ViewChange) → HasNoStray tree → IsOpening fs tree s → IsRecorded (recorded s [] max_rows changes)
 first-told fs tree s max_rows changes none is = record {
-  fs = fs; tree = tree; no_strays = none; opening = s; is_opening = is;
+  fs = fs;
+  tree = tree;
+  no_strays = none;
+  opening = s;
+  is_opening = is;
   legal = record { replays = refl; numbered = numbered-nil };
   room = omega (arith);
   sound = opening-sound fs tree s none is;
@@ -32,7 +33,11 @@ given-more rows row new = subst (λ n. AreGiven n new) (sym (length-more rows ro
 pub more-told : (t : Recorded) (row : Row) (new : State) (changes : List ViewChange) → IsRecorded t → Step t.state row.event row.reply row.ended new → row.nth ≡ rows_of row.pass t.rows + 1 → length t.rows < t.max_rows → IsTable t.state.scene.table → IsSound new → AreGiven (length t.rows + 1) new →
     IsRecorded (recorded new (t.rows ++ row ∷ []) t.max_rows changes)
 more-told t row new changes is step nth less table sound given = record {
-  fs = is.fs; tree = is.tree; no_strays = is.no_strays; opening = is.opening; is_opening = is.is_opening;
+  fs = is.fs;
+  tree = is.tree;
+  no_strays = is.no_strays;
+  opening = is.opening;
+  is_opening = is.is_opening;
   legal = record { replays = replays-more is.opening t.rows t.state row new is.legal.replays step; numbered = numbered-snoc t.rows row is.legal.numbered nth };
   room = subst (λ n. n ≤ t.max_rows) (sym (length-more t.rows row)) (omega (arith, less));
   sound = sound;

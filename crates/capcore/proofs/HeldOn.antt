@@ -1,20 +1,8 @@
 -- What was held is held on, but for what the event may take.
-use Rattle.std.proofs.Common.{◌≡◌, ℕ, ◌==◌, Bool, true, false, cond, ◌&&◌, ◌||◌, inl, inr, Option, Some, None, is_some, take, refl, sym, ap, subst, ◌∙◌, true≢false, arith}
-use Rattle.capcore.proofs.Common.{option_map, Cap, P, ClientId, Caps, child, Entry, Holder, Table, holder, entry_at, without_client, Scene, Event, Rejection, State, Direct, direct, effect, effect_unless, found, IssuesExactly, judged, revoked_of}
-use Rattle.std.proofs.lemmas.Bool.{cases_Bool, or_parts, true_from_ne_false}
-use Rattle.capbits.specs.Caps.{has}
-use Rattle.capbits.specs.Sets.{has-minus}
-use Rattle.captable.specs.Table.{same, is_among}
-use Rattle.captable.specs.Calls.{opened, changed, acked, given_back, released, recalled, with_asked}
-use Rattle.captable.proofs.ByHolder.{entry_at-changed, entry_at-changed_other, entry_at-without_client_other, entry_at-acked_other, entry_at-released, entry_at-released_other, entry_at-recalled, entry_at-recalled_other}
-use Rattle.captable.proofs.Tables.{same-is}
-use Rattle.capsteps.specs.Capevents.declared.event.Event.TheVariants as event
-use Rattle.capsteps.specs.Capevents.declared.event.OpenMode.{OpenMode}
-use Rattle.capsteps.specs.Caprules.Direct.{with_entry, with_opening}
-use Rattle.capsteps.specs.Caprules.Headline.{holds, is_due}
-use Rattle.capsteps.specs.Caprules.Shown.{may_take, TakesOnlySo}
-use Rattle.capsteps.proofs.ShownSteps.{apart-of, apart_client, entry_at-entry_other}
-use Rattle.capcore.proofs.ShownWords.{holds-entry, holds-found, gone_is}
+use Rattle.std.{proofs.Common.{◌≡◌, ℕ, ◌==◌, Bool, true, false, ◌&&◌, ◌||◌, inl, inr, Option, Some, None, take, refl, sym, ap, subst, ◌∙◌, true≢false, arith}, proofs.lemmas.Bool.{cases_Bool, or_parts, true_from_ne_false}, specs.Option.{option_map}}
+use Rattle.captable.{proofs.ByHolder.{entry_at-changed_other, entry_at-acked_other, entry_at-released, entry_at-released_other, entry_at-recalled, entry_at-recalled_other}, proofs.Tables.{same-is}, specs.Calls.{acked, released, with_asked}}
+use Rattle.capsteps.{proofs.ShownSteps.{apart-of, entry_at-entry_other}, specs.Capevents.declared.event.OpenMode.{OpenMode}, specs.Caprules.Direct.{with_entry, with_opening}, specs.Caprules.Headline.{is_due}, specs.Caprules.Shown.{may_take, TakesOnlySo}}
+use Rattle.capcore.proofs.{Common.{apart_client, Cap, Caps, changed, child, ClientId, Direct, direct, effect, effect_unless, Entry, entry_at, entry_at-changed, entry_at-without_client_other, Event, found, has, has-minus, Holder, holder, holds, is_among, IssuesExactly, judged, P, recalled, Rejection, revoked_of, same, Scene, State, Table, without_client}, ShownWords.{holds-entry, holds-found, gone_is}}
 
 -- the holder has an entry that holds as much
 abbrev HoldsOn : Table → Holder → Caps → Type 0
@@ -98,15 +86,15 @@ module _ (old : State) (k : Holder) (cap : Cap) (held : holds old.scene k cap �
   keeps_all e is = takes-nothing e (first_of e) (same_table (first_of e) is)
 
   by_event : (e : Event) → Takes e (first_of e)
-  by_event (event.CloseSession client) = client-gone client (first_of (event.CloseSession client)) refl
-  by_event (event.Evict client) = client-gone client (first_of (event.Evict client)) refl
-  by_event (event.Recall count) = takes-nothing (event.Recall count) (first_of (event.Recall count)) (recalled-keeps t count k)
-  by_event (event.Lookup client dir name) = looked_up (event.Lookup client dir name) (child old.scene.tree.nodes dir.0 name)
-  by_event (event.Open client ino mode) = takes-nothing (event.Open client ino mode) (first_of (event.Open client ino mode)) (opened-keeps (holder client ino) mode)
-  by_event (event.Want client ino caps) =
-      takes-nothing (event.Want client ino caps) (first_of (event.Want client ino caps)) (changed-keeps t (holder client ino) k _ (λ f. refl))
-  by_event (event.Ack client ino seq) = acked-own (holder client ino) (first_of (event.Ack client ino seq)) refl
-  by_event (event.Release client ino caps) = released-own (holder client ino) caps (first_of (event.Release client ino caps)) refl
+  by_event (Event.CloseSession client) = client-gone client (first_of (Event.CloseSession client)) refl
+  by_event (Event.Evict client) = client-gone client (first_of (Event.Evict client)) refl
+  by_event (Event.Recall count) = takes-nothing (Event.Recall count) (first_of (Event.Recall count)) (recalled-keeps t count k)
+  by_event (Event.Lookup client dir name) = looked_up (Event.Lookup client dir name) (child old.scene.tree.nodes dir.0 name)
+  by_event (Event.Open client ino mode) = takes-nothing (Event.Open client ino mode) (first_of (Event.Open client ino mode)) (opened-keeps (holder client ino) mode)
+  by_event (Event.Want client ino caps) =
+      takes-nothing (Event.Want client ino caps) (first_of (Event.Want client ino caps)) (changed-keeps t (holder client ino) k _ (λ f. refl))
+  by_event (Event.Ack client ino seq) = acked-own (holder client ino) (first_of (Event.Ack client ino seq)) refl
+  by_event (Event.Release client ino caps) = released-own (holder client ino) caps (first_of (Event.Release client ino caps)) refl
   by_event e = keeps_all e refl
 
 -- ---- a step

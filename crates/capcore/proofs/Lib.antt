@@ -1,4 +1,4 @@
-pub mod Common
+mod Common
 pub mod Apart
 pub mod Bounded
 pub mod OtherLocks

@@ -1,16 +1,8 @@
 -- Locks change by the moves of a step alone: each other lock that is there at its end is as it was right after the event.
-use Rattle.std.proofs.Common.{◌≡◌, ℕ, Bool, true, false, Some, List, [], ◌∷◌, refl, sym, ap, ◌∙◌, true≢false, arith}
-use Rattle.capcore.proofs.Common.{option_map, Part, LockState, Stable, Gather, LockMap, lock_at, present_state, Scene, Event, Ended, Reply, Answer, Says, Shows, Gives, Awaits, direct, shown, sizes_owed, Made, Began, Gathered, Served, Makes, MakesAll, sized_in, State, Step, state_after}
-use Rattle.std.specs.List.{list_any}
+use Rattle.std.{proofs.Common.{◌≡◌, ℕ, Bool, true, false, Some, List, [], ◌∷◌, refl, sym, ap, ◌∙◌, true≢false, arith}, proofs.lemmas.Bool.{or_parts}, specs.List.{list_any}, specs.Option.{option_map}}
 use Rattle.std.specs.FinMap as map
-use Rattle.std.proofs.lemmas.Bool.{or_parts}
-use Rattle.capsteps.specs.Lockmachine.Inodes.{lock_in}
-use Rattle.capsteps.specs.Lockmachine.Locks.{with_lock}
-use Rattle.capsteps.specs.Lockmachine.Moves.{LockPlace, coming_state}
-use Rattle.capsteps.proofs.Lockmachine.Moving.{is_at, with_lock-each}
-use Rattle.capsteps.specs.Caprules.Finish.{is_in_use, issue}
-use Rattle.capsteps.specs.Caprules.Headline.{ByMoves, OtherLocksStay, is_of_lock_at}
-use Rattle.capsteps.proofs.Strays.{retained-here, retained-gone}
+use Rattle.capsteps.{proofs.Strays.{retained-here, retained-gone}, specs.Caprules.Finish.{is_in_use, issue}, specs.Caprules.Headline.{OtherLocksStay, is_of_lock_at}}
+use Rattle.capcore.proofs.Common.{Answer, Began, ByMoves, coming_state, direct, Ended, Event, Gather, Gathered, is_at, lock_at, lock_in, LockMap, LockPlace, LockState, Made, Makes, MakesAll, Part, present_state, Reply, Scene, Served, shown, sized_in, sizes_owed, Stable, State, state_after, Step, with_lock, with_lock-each}
 
 -- ---- the moves
 

@@ -1,36 +1,15 @@
 -- A request that is served in the step that brought it is never denied or refused: it was let wait, and nothing is served before
 -- it, so that the tree is as it was.
-use Rattle.std.proofs.Common.{◌≡◌, ℕ, Bool, true, false, ◌&&◌, ◌==◌, cond, Option, Some, None, List, [], ◌∷◌, ◌++◌, refl, sym, ap, subst, ◌∙◌, Contains, true≢false, unwrap_or, arith}
-use Rattle.capcore.proofs.Common.{find, option_map_or, nat_eq_equiv, eqb-true, Part, ClientId, Ino, Ticket, Node, LockState, Stable, Gather, Ask, Get, Alter, Unlink, Rmdir, Rename, Request, first_for, LockMap, IsLockMap, lock_at, next_request, with_request, Scene, present_state, IsQuiet, Outcome, Reply, Rejection, judged_again, MayEndAs, As_judged, Without_memory, Made, Began, Gathered, Served, MakesAll, ended_in}
-use Rattle.std.specs.Option.{option_or}
-use Rattle.std.specs.FinMap as map
-use Rattle.std.proofs.lemmas.Bool.{true_from_ne_false}
-use Rattle.std.proofs.lemmas.List.Elements.{Contains-push}
-use Rattle.std.proofs.lemmas.List.Folds.{find-append}
+use Rattle.std.{proofs.Common.{◌≡◌, ℕ, Bool, true, false, ◌&&◌, ◌==◌, cond, Option, Some, None, List, [], ◌∷◌, ◌++◌, refl, sym, ap, subst, ◌∙◌, Contains, true≢false, unwrap_or, arith}, proofs.lemmas.Bool.{eqb-true, true_from_ne_false}, proofs.lemmas.List.Elements.{Contains-push}, proofs.lemmas.List.Folds.{find-append}, specs.Cmp.{nat_eq_equiv}, specs.List.{find}, specs.Option.{option_map_or}}
 use Rattle.capbits.specs.Sets.{and_parts}
-use Rattle.capsteps.specs.Lockmachine.declared.moves.Move.TheVariants.{Begin, End, Serve}
-use Rattle.capsteps.specs.Lockmachine.Requests.{part_place, same_part, part_of_ask, head_of, is_for, is_numbered}
-use Rattle.capsteps.specs.Lockmachine.Locks.{with_lock}
-use Rattle.capsteps.specs.Lockmachine.Scene.{wanted_in_all}
-use Rattle.locktable.specs.Targets as table_of_targets
-use Rattle.capsteps.specs.Lockmachine.Moves.{LockPlace, may_end, may_begin, may_serve, is_first, is_servable, coming_state, first_move, begun_locks, gathered_locks, IsAtRest}
-use Rattle.capsteps.proofs.Lockmachine.Exact.{ends_not, begins_not, serves_not, settled}
-use Rattle.capsteps.proofs.Lockmachine.Moving.{IsMove, first_is, is_at, with_lock-each}
-use Rattle.capsteps.proofs.Lockmachine.Queue.{least_served, found_by_number, moved-kept}
-use Rattle.capsteps.proofs.Lockmachine.Rest.{same_part_is}
-use Rattle.capsteps.specs.Capevents.declared.reply.Reply.TheVariants as reply
-use Rattle.capsteps.specs.Capevents.Replies.{outcome_reply}
-use Rattle.capsteps.specs.Caprules.Direct.{awaited_as}
-use Rattle.capsteps.specs.Capnotes.DueEndings.{is_of_ticket}
-use Rattle.capsteps.specs.Caprules.Headline.{is_rejection}
-use Rattle.capsteps.specs.Caprules.Serving.{values_outcome, passed_as, outcome_unless}
-use Rattle.capsteps.proofs.Stopping.{no_moves}
+use Rattle.capsteps.{proofs.Lockmachine.Exact.{ends_not, begins_not, serves_not, settled}, proofs.Lockmachine.Moving.{IsMove, first_is}, proofs.Lockmachine.Queue.{least_served, moved-kept}, proofs.Lockmachine.Rest.{same_part_is}, specs.Caprules.Serving.{passed_as}, specs.Lockmachine.Moves.{may_end, may_begin, may_serve, is_first, is_servable, begun_locks, gathered_locks, IsAtRest}, specs.Lockmachine.Requests.{part_place, same_part, part_of_ask}}
+use Rattle.capcore.proofs.Common.{As_judged, Ask, awaited_as, Began, Begin, ClientId, coming_state, End, ended_in, first_for, first_move, found_by_number, Gather, Gathered, Ino, is_at, is_for, is_numbered, is_of_ticket, is_rejection, IsLockMap, IsQuiet, judged_again, lock_at, LockMap, LockPlace, LockState, Made, MakesAll, MayEndAs, next_request, no_moves, Outcome, outcome_reply, outcome_unless, Part, present_state, Rejection, Reply, Request, Scene, Serve, Served, Stable, Ticket, with_lock, with_lock-each, with_request, Without_memory}
 
 -- ---- how a request ends that nothing stops
 
 module _ (ticket : Ticket) where
   abbrev answered : Outcome → Reply
-  answered o = unwrap_or (outcome_reply o) (reply.Waiting ticket)
+  answered o = unwrap_or (outcome_reply o) (Reply.Waiting ticket)
 
   passed-unstopped : (s : Scene) (ino : ℕ) (ask : Ask) → is_rejection (answered (passed_as s ino ask)) ≡ false
   passed-unstopped s ino ask = grind arith

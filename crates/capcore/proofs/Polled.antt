@@ -1,20 +1,11 @@
 -- A poll is a whole step: no lock moves, and nothing is left to do but to give the messages.
-use Rattle.std.proofs.Common.{◌≡◌, ℕ, ◌+◌, Option, Some, None, List, [], filter, refl, sym, ap, subst, ◌∙◌, append-nil, arith}
-use Rattle.capcore.proofs.Common.{ClientId, session_tests, Table, IsTable, is_of_client, Event, Ended, Reply, Said, Rejection, State, IsAnswered, judged, rejection_by, first_denied, Direct, Gives, direct, effect_unless, reply_of, shown, IssuesExactly, Settles, IsSound, AreGiven, Step, all_ended, state_after, sound-settles, shown-sound, shown-given, shown-issued}
-use Rattle.capbits.specs.Refusal.{first_failing}
-use Rattle.captable.specs.Many.{changed_where}
-use Rattle.capsteps.specs.Capevents.declared.event.Event.TheVariants as event
-use Rattle.capsteps.specs.Capevents.declared.outcome.Message.{Message}
-use Rattle.capsteps.specs.Capevents.declared.reply.Reply.TheVariants as reply
-use Rattle.capsteps.specs.Caprules.Messages.{first_messages, with_given, after_messages}
-use Rattle.capsteps.specs.Capnotes.DueEndings.{is_left}
+use Rattle.std.proofs.Common.{◌≡◌, ℕ, ◌+◌, Option, None, List, [], filter, sym, ap, subst, ◌∙◌, append-nil, arith}
 use Rattle.capsteps.proofs.Finishing.{sound-ends}
-use Rattle.capcore.proofs.Promised.{has-due}
-use Rattle.capcore.proofs.Sounding.{later-given}
+use Rattle.capcore.proofs.{Common.{after_messages, all_ended, AreGiven, changed_where, ClientId, Direct, direct, effect_unless, Ended, Event, first_denied, first_failing, first_messages, Gives, is_left, is_of_client, IsAnswered, IsSound, IssuesExactly, IsTable, judged, Message, Rejection, rejection_by, Reply, reply_of, Said, session_tests, Settles, shown, shown-given, shown-issued, shown-sound, sound-settles, State, state_after, Step, Table, with_given}, Promised.{has-due}, Sounding.{later-given}}
 
 module _ (old : State) (sound : IsSound old) (table : IsTable old.scene.table) (client : ClientId) (max : ℕ) where
   abbrev poll : Event
-  poll = event.Poll client max
+  poll = Event.Poll client max
 
   -- by itself it changes nothing
   same_state : (o : Option Rejection) → (effect_unless old poll o).state ≡ old
@@ -35,13 +26,13 @@ module _ (old : State) (sound : IsSound old) (table : IsTable old.scene.table) (
   polled-issued : IssuesExactly (direct old poll).state.scene new.scene
   polled-issued = subst (λ (s : State). IssuesExactly s.scene new.scene) (sym (same_state (judged old.scene poll))) (shown-issued old.scene old (Gives client max) table (has-due old sound))
 
-  polled-step : first_failing (session_tests old.scene.sessions client.0) ≡ None → Step old poll (reply.Messages (first_messages old client max)) [] new
+  polled-step : first_failing (session_tests old.scene.sessions client.0) ≡ None → Step old poll (Reply.Messages (first_messages old client max)) [] new
   polled-step is = (
     [],
     record {
       settled = old.scene;
       settles = subst (λ (d : Direct). Settles d.state.scene [] old.scene) (sym by_itself) (sound-settles old sound);
-      answer_is = sym (ap (λ (d : Direct). reply_of (state_after old d [] old.scene) [] d.answer) by_itself ∙ ap (λ (s : State). reply.Messages (first_messages s client max)) nothing_left);
+      answer_is = sym (ap (λ (d : Direct). reply_of (state_after old d [] old.scene) [] d.answer) by_itself ∙ ap (λ (s : State). Reply.Messages (first_messages s client max)) nothing_left);
       new_is = sym (ap (λ (d : Direct). shown d.answer (state_after old d [] old.scene)) by_itself ∙ ap (shown (Gives client max)) nothing_left);
       ended_is = ap (λ (d : Direct). all_ended old d []) (sym by_itself);
     },
@@ -57,8 +48,8 @@ module _ (old : State) (sound : IsSound old) (table : IsTable old.scene.table) (
       nothing_left = λ i. record old { scene = sound-ends old sound table i; messages = append-nil old.messages i }
 
   pub poll-answered : (said : Said) → first_failing (session_tests old.scene.sessions client.0) ≡ None
-      → said.reply ≡ reply.Messages (first_messages old client max) → said.kept ≡ said.reply → said.ended ≡ []
-      → IsAnswered old (event.Poll client max) said (with_given old client (first_messages old client max))
+      → said.reply ≡ Reply.Messages (first_messages old client max) → said.kept ≡ said.reply → said.ended ≡ []
+      → IsAnswered old (Event.Poll client max) said (with_given old client (first_messages old client max))
   poll-answered said is answers kept none = record {
     step = subst (λ (ended : List Ended). Step old poll said.reply ended new) (sym none) (subst (λ (r : Reply). Step old poll r [] new) (sym answers) (polled-step is));
     kept = kept;

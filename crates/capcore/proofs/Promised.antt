@@ -1,21 +1,7 @@
 -- The main promise, from what a step is.
-use Rattle.std.proofs.Common.{◌≡◌, ℕ, Bool, true, false, ◌||◌, List, Option, Some, None, refl, sym, ap, subst, ◌∙◌, true≢false, IsTrue, arith}
-use Rattle.capcore.proofs.Common.{find, option_map_or, none-some, All-contains, Access, EntryRow, Holder, IsTable, holder, is_row_of, child, Ask, Get, Alter, Unlink, Rmdir, Rename, IsLockMap, Scene, Event, Refusal, Reply, State, judged, before, needs, after, first_denied, rejection_by, Need, Ended, Rejection, ByTest, Direct, effect, effect_unless, found, direct, reply_of, IsDirect, Made, MakesAll, ended_in, Step, state_after, IsSoundEntry, IsSound, IssuesExactly}
-use Rattle.capbits.specs.Caps.{has}
-use Rattle.capgrant.specs.declared.rule.Rule.{Rule}
-use Rattle.capsteps.specs.Lockmachine.Policy.{failures}
-use Rattle.capsteps.specs.Capevents.declared.event.Event.TheVariants as event
-use Rattle.capsteps.specs.Capevents.declared.reply.Reply.TheVariants as reply
-use Rattle.capbits.specs.Refusal.{first_failing}
-use Rattle.capsteps.specs.Caprules.declared.rejection.Rejection.TheVariants.{ByPolicy}
-use Rattle.capsteps.specs.Caprules.Direct.{opened_as}
-use Rattle.capsteps.specs.Affected.{asks_for}
-use Rattle.capcore.proofs.Asked.{asking, asking-rejection, asking-direct, asking-again, order-of_ask}
-use Rattle.capcore.proofs.OwnServed.{own-not_stopped}
-use Rattle.capsteps.proofs.Stopping.{rejection-only}
-use Rattle.capsteps.specs.Caprules.Finish.{due}
-use Rattle.capsteps.proofs.LeftAlone.{found-contains}
-use Rattle.capsteps.specs.Caprules.Headline.{DeniedExactly, DeniesByName, is_rejection}
+use Rattle.std.{proofs.Common.{◌≡◌, Bool, true, false, ◌||◌, List, Option, Some, None, refl, sym, ap, subst, ◌∙◌, IsTrue, arith}, proofs.lemmas.List.Elements.{All-contains}, specs.List.{find}, specs.Option.{option_map_or}}
+use Rattle.capsteps.specs.Caprules.{Finish.{due}, Headline.{DeniedExactly, DeniesByName}}
+use Rattle.capcore.proofs.{Asked.{asking, asking-rejection, asking-direct, asking-again, order-of_ask}, Common.{Access, after, Ask, asks_for, before, Direct, direct, effect, effect_unless, Ended, ended_in, EntryRow, Event, failures, first_denied, first_failing, found, found-contains, has, Holder, holder, is_rejection, is_row_of, IsDirect, IsLockMap, IsSound, IsSoundEntry, IssuesExactly, IsTable, judged, Made, MakesAll, Need, needs, Refusal, Rejection, rejection-only, rejection_by, Reply, reply_of, Rule, Scene, State, state_after, Step}, OwnServed.{own-not_stopped}}
 
 -- ---- an event that nothing stops
 
@@ -51,11 +37,11 @@ module _ (old last : State) (ended : List Ended) (e : Event) where
   Cause : Option Refusal → Option Need → Access → List Rule → Type 0
   Cause o d access rules = (n : Need) × (o ≡ None) × (d ≡ Some n) × (access ≡ n.access) × (rules ≡ failures old.scene.fs old.scene.tree old.scene.sessions n.holder n.access)
 
-  cause : (o : Option Refusal) (d : Option Need) (l : Option Refusal) (access : Access) (rules : List Rule) → IsFree o d l → answered_by o d l ≡ reply.Denied access rules → Cause o d access rules
+  cause : (o : Option Refusal) (d : Option Need) (l : Option Refusal) (access : Access) (rules : List Rule) → IsFree o d l → answered_by o d l ≡ Reply.Denied access rules → Cause o d access rules
   unfolding answered_by Cause IsFree
   cause o d l access rules free is = grind arith
 
-  effect_of : (o : Option Refusal) (d : Option Need) (l : Option Refusal) (n : Need) → o ≡ None → d ≡ Some n → (access : Access) × (rules : List Rule) × (answered_by o d l ≡ reply.Denied access rules)
+  effect_of : (o : Option Refusal) (d : Option Need) (l : Option Refusal) (n : Need) → o ≡ None → d ≡ Some n → (access : Access) × (rules : List Rule) × (answered_by o d l ≡ Reply.Denied access rules)
   unfolding answered_by
   effect_of None (Some m) l n none some = (m.access, failures old.scene.fs old.scene.tree old.scene.sessions m.holder m.access, refl)
   effect_of o d l n none some = cc

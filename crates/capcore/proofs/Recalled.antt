@@ -1,20 +1,8 @@
 -- A recall is a whole step: it marks entries as asked for, by which nothing is judged, moved or issued.
-use Rattle.std.proofs.Common.{◌≡◌, ◌≤◌, ℕ, ◌+◌, Bool, true, false, cond, ◌||◌, List, [], map, take, refl, sym, subst, arith}
-use Rattle.capcore.proofs.Common.{EntryRow, Holder, Table, IsTable, Said, State, KnownSets, IsAnswered, finished, IsSound, AreGiven, HoldAlike, AreKnown, known-alike}
-use Rattle.std.proofs.lemmas.List.Elements.{All-map}
-use Rattle.captable.specs.Table.{is_among}
-use Rattle.captable.specs.Calls.{recalled, with_asked}
+use Rattle.std.proofs.{Common.{◌≡◌, ◌≤◌, ℕ, ◌+◌, Bool, true, ◌||◌, List, [], take, refl, sym, subst, arith}, lemmas.List.Elements.{All-map}}
 use Rattle.captable.proofs.Tables.{IsTable-recalled}
-use Rattle.capsteps.specs.Capevents.declared.event.Event.TheVariants as event
-use Rattle.capsteps.specs.Capevents.declared.reply.Reply.TheVariants as reply
-use Rattle.capsteps.specs.Caprules.Direct.{with_table}
-use Rattle.capsteps.proofs.Finishing.{same-finished}
-use Rattle.capsteps.proofs.Knowing.{alike-where}
-use Rattle.capcore.proofs.Sounding.{later-given}
-use Rattle.capcore.specs.UnderWay.{AreKept}
-use Rattle.capcore.proofs.Steps.{direct-answered}
-use Rattle.capcore.proofs.Unaffected.{alike-kept}
-use Rattle.capsteps.proofs.Telling.{as_told, as_sized, retold, retold_table, retold-sound}
+use Rattle.capsteps.proofs.{Finishing.{same-finished}, Telling.{as_told, as_sized, retold, retold_table, retold-sound}}
+use Rattle.capcore.{proofs.Common.{alike-where, AreGiven, EntryRow, Event, finished, HoldAlike, Holder, is_among, IsAnswered, IsSound, IsTable, KnownSets, recalled, Reply, Said, State, Table, with_table}, proofs.Sounding.{later-given}, proofs.Steps.{direct-answered}, proofs.Unaffected.{alike-kept}, specs.UnderWay.{AreKept}}
 
 -- who was named is asked, and who was asked before
 abbrev asked_too : List Holder → EntryRow → Bool
@@ -45,11 +33,11 @@ module _ (old : State) (sound : IsSound old) (count : ℕ) where
   pub recalled-finished : IsTable old.scene.table → finished old.scene (with_table old (recalled old.scene.table count)).scene (with_table old (recalled old.scene.table count)).scene ≡ (with_table old (recalled old.scene.table count)).scene
   recalled-finished table = same-finished new recalled-sound (IsTable-recalled old.scene.table count table) old.scene (λ row inside. refl)
 
-  pub recall-answered : (said : Said) → IsTable old.scene.table → said.reply ≡ reply.Recalled (take count old.scene.table.recall)
-      → said.kept ≡ reply.Recalled (take count old.scene.table.recall) → said.ended ≡ []
-      → IsAnswered old (event.Recall count) said (with_table old (recalled old.scene.table count))
+  pub recall-answered : (said : Said) → IsTable old.scene.table → said.reply ≡ Reply.Recalled (take count old.scene.table.recall)
+      → said.kept ≡ Reply.Recalled (take count old.scene.table.recall) → said.ended ≡ []
+      → IsAnswered old (Event.Recall count) said (with_table old (recalled old.scene.table count))
   recall-answered said table answers kept none =
-      direct-answered old new (event.Recall count) refl (reply.Recalled (take count old.scene.table.recall)) (record { answer_is = refl; state_is = refl })
+      direct-answered old new (Event.Recall count) refl (Reply.Recalled (take count old.scene.table.recall)) (record { answer_is = refl; state_is = refl })
       recalled-sound (recalled-finished table) said recalled-given answers kept none
 
   -- each entry holds what it held

@@ -1,12 +1,6 @@
 -- An event that is stopped is answered so; and which inode an event affects that waits for a lock.
-use Rattle.std.proofs.Common.{◌≡◌, ℕ, List, Option, Some, None, [], ◌∷◌, sym, ap, subst, ◌∙◌, arith}
-use Rattle.capcore.proofs.Common.{ClientId, Access, passed-both, inode_tests, session_tests, Scene, IsTable, Event, Ended, Reply, Said, Rejection, State, IsAnswered, Direct, direct, effect_unless, says, IssuesExactly, judged, rejection_of, asked_tests, need, IsSound, Step}
-use Rattle.capbits.specs.Refusal.{first_failing}
-use Rattle.capsteps.proofs.Judging.{no_test}
-use Rattle.capsteps.specs.Caprules.Judge.{rejection_reply}
-use Rattle.capcore.proofs.Promised.{has-due}
-use Rattle.capcore.proofs.Sounding.{later-given}
-use Rattle.capsteps.proofs.Stopping.{rejection-step}
+use Rattle.std.proofs.Common.{◌≡◌, ℕ, Option, Some, None, [], ◌∷◌, sym, ap, ◌∙◌, arith}
+use Rattle.capcore.proofs.{Common.{Access, asked_tests, ClientId, Event, first_failing, inode_tests, IsAnswered, IsSound, IsTable, judged, need, no_test, passed-both, Rejection, rejection-step, rejection_of, rejection_reply, Said, Scene, session_tests, State}, Promised.{has-due}, Sounding.{later-given}}
 
 -- ---- what is stopped
 

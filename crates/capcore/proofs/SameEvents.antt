@@ -1,13 +1,8 @@
 -- The rows of a history lead to one state; and where no request finds no memory, its events say all that is in it.
-use Rattle.std.proofs.Common.{◌≡◌, ◌≤◌, ◌+◌, ℕ, length, List, [], ◌∷◌, ◌++◌, refl, sym, ap, subst, ◌∙◌, All, append_assoc, arith}
-use Rattle.capcore.proofs.Common.{Nodes, Request, IsLockMap, Event, Row, Ended, Reply, rows_of, IsOpening, State, Step}
-use Rattle.std.proofs.lemmas.List.Elements.{All-nil, All-head, All-tail}
+use Rattle.std.proofs.{Common.{◌≡◌, ◌+◌, ℕ, List, [], ◌∷◌, ◌++◌, refl, sym, ap, subst, ◌∙◌, append_assoc, arith}, lemmas.List.Elements.{All-head, All-tail}}
 use Rattle.capbits.specs.declared.ids.PassId.{PassId}
-use Rattle.capsteps.specs.Lockmachine.Requests.{AreTicketsRising}
 use Rattle.capsteps.specs.Caprules.Numbers.{AreNumbered}
-use Rattle.capsteps.specs.Caprules.History.{Replays}
-use Rattle.capcore.specs.SameEvents.{FoundMemory, AllFoundMemory, events_of, ends_of, passes_of}
-use Rattle.capcore.proofs.Determined.{step-once, row-once, step-order}
+use Rattle.capcore.{proofs.Common.{Ended, Event, IsLockMap, IsOpening, Nodes, Replays, Reply, Row, rows_of, State, Step}, proofs.Determined.{step-once, row-once, step-order}, specs.SameEvents.{FoundMemory, AllFoundMemory, events_of, ends_of, passes_of}}
 
 -- rows lead to one state
 pub rows-once : (first last end : State) (rows : List Row) → IsLockMap first.scene.locks → Replays first rows last → Replays first rows end → last ≡ end

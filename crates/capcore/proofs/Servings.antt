@@ -1,14 +1,6 @@
 -- Requests that are served among the moves of a step.
-use Rattle.std.proofs.Common.{◌≡◌, ◌≢◌, List, [], ◌∷◌, ◌++◌, Option, Some, None, refl, sym, subst, ◌∙◌, ℕ, arith}
-use Rattle.capcore.proofs.Common.{Access, Node, Part, Ask, Get, Alter, Unlink, Rmdir, Rename, Request, Scene, Outcome, Refusal, first_denied, rejection_by, Need, MayEndAs, As_judged, Without_memory, ask_needs, ask_after, Made, Began, Gathered, Served, Makes, MakesAll}
-use Rattle.std.specs.FinMap as map
-use Rattle.capgrant.specs.declared.rule.Rule.{Rule}
-use Rattle.capsteps.specs.Lockmachine.Policy.{failures}
-use Rattle.capsteps.specs.Capevents.declared.outcome.Outcome.TheVariants as outcome
-use Rattle.capbits.specs.Refusal.{first_failing}
-use Rattle.capsteps.specs.Caprules.Serving.{values_outcome, passed_as, outcome_unless}
-use Rattle.capsteps.specs.Caprules.Asks.{ask_before}
-use Rattle.capsteps.specs.Caprules.Headline.{ServedDenied, ServedByName, EachServing}
+use Rattle.std.proofs.Common.{◌≡◌, List, [], ◌∷◌, ◌++◌, Option, Some, None, refl, sym, subst, arith}
+use Rattle.capcore.proofs.Common.{Access, As_judged, ask_after, ask_before, ask_needs, EachServing, failures, first_denied, first_failing, Made, Makes, MakesAll, MayEndAs, Need, Outcome, outcome_unless, Refusal, rejection_by, Request, Rule, Scene, Served, ServedByName, ServedDenied, Without_memory}
 
 -- ---- one serving
 
@@ -20,10 +12,10 @@ module _ (s : Scene) (q : Request) where
   abbrev Cause : Option Refusal → Option Need → Access → List Rule → Type 0
   Cause o d access rules = (n : Need) × ((o ≡ None) × (d ≡ Some n)) × (access ≡ n.access) × (rules ≡ failures s.fs s.tree s.sessions n.holder n.access)
 
-  cause : (o : Option Refusal) (d : Option Need) (l : Option Refusal) (access : Access) (rules : List Rule) → ended_by o d l ≡ outcome.Denied access rules → Cause o d access rules
+  cause : (o : Option Refusal) (d : Option Need) (l : Option Refusal) (access : Access) (rules : List Rule) → ended_by o d l ≡ Outcome.Denied access rules → Cause o d access rules
   cause o d l access rules is = grind arith
 
-  effect_of : (o : Option Refusal) (d : Option Need) (l : Option Refusal) (n : Need) → o ≡ None → d ≡ Some n → (access : Access) × (rules : List Rule) × (ended_by o d l ≡ outcome.Denied access rules)
+  effect_of : (o : Option Refusal) (d : Option Need) (l : Option Refusal) (n : Need) → o ≡ None → d ≡ Some n → (access : Access) × (rules : List Rule) × (ended_by o d l ≡ Outcome.Denied access rules)
   effect_of None (Some m) l n none some = (m.access, failures s.fs s.tree s.sessions m.holder m.access, refl)
   effect_of o d l n none some = absurd (cc)
 

@@ -1,34 +1,16 @@
 -- A client's session ends, is marked or has other grants, by itself: it affects the inodes where the client is.
-use Rattle.std.proofs.Common.{◌≡◌, ◌≢◌, ◌≤◌, ℕ, ◌==◌, Bool, true, false, not, cond, Option, Some, None, is_some, List, [], ◌∷◌, refl, sym, ap, subst, ◌∙◌, Contains, true≢false, arith, eq-eqb, nat_eq, IsTrue, All, filter}
-use Rattle.capcore.proofs.Common.{option_map, eqb-true, All-weaker, All-contains, All-filter, Part, ClientId, Ino, SessionTable, has_session, EntryRow, Table, IsTable, is_of_client, is_of_inode, without_client, Request, LockMap, lock_at, first_for, IsQuiet, Scene, State, Direct, Says, direct, effect, effect_unless, judged, IsSound, Affects, IsAffectedEntry, is_end, dropped_by, session_changed, sound-pinned}
+use Rattle.std.{proofs.Common.{◌≡◌, ◌≢◌, ◌≤◌, ℕ, ◌==◌, Bool, true, false, not, cond, None, List, refl, sym, ap, subst, ◌∙◌, Contains, true≢false, arith, eq-eqb, IsTrue, All, filter}, proofs.lemmas.Bool.{eqb-true, not-true, false_from_ne_true, ne_eqb, eqb-false}, proofs.lemmas.List.Elements.{All-weaker, All-contains, All-filter, All-contains_itself, filter_passes}, specs.Option.{option_map}}
 use Rattle.std.specs.FinMap as map
-use Rattle.std.proofs.lemmas.Bool.{not-true, false_from_ne_true, ne_eqb, eqb-false}
-use Rattle.std.proofs.lemmas.List.Elements.{All-contains_itself, filter_passes}
-use Rattle.sessiontab.specs.declared.session.Session.{Session}
+use Rattle.numbered.proofs.Maps.{remove-at}
+use Rattle.captable.proofs.{ByInode.{entries_on-without_client}, Tables.{IsTable-without_client}}
 use Rattle.sessiontab.specs.Connected.{SessionMap, change_session}
-use Rattle.numbered.proofs.Maps.{remove-at, change-at}
-use Rattle.captable.specs.Calls.{entries_on}
-use Rattle.captable.proofs.ByInode.{entries_on-without_client}
-use Rattle.captable.proofs.Tables.{IsTable-without_client}
-use Rattle.capsteps.specs.Lockmachine.Inodes.{StateMap}
-use Rattle.capsteps.specs.Lockmachine.Requests.{is_of_client as is_asked_by, is_for}
-use Rattle.capsteps.specs.Lockmachine.Elsewhere.{IsSameOutside}
-use Rattle.capsteps.proofs.Lockmachine.PolicyElsewhere.{alike-itself}
-use Rattle.capsteps.proofs.Lockmachine.Finding.{contains-filter, fails_at, find_none}
-use Rattle.capsteps.proofs.Lockmachine.SameOutside.{outside-itself, outside-then, outside-dropped}
-use Rattle.capsteps.specs.Capacts.declared.leaving.SessionChange.{SessionChange}
-use Rattle.capsteps.specs.Capacts.declared.leaving.SessionChange.TheVariants.{Close, Mark, Regrant, Evict}
-use Rattle.capsteps.specs.Capevents.declared.reply.Reply.TheVariants as reply
-use Rattle.capsteps.specs.Capnotes.DueEndings.{is_to}
-use Rattle.capsteps.specs.Capacts.Left.{table_left, locks_left, messages_left}
-use Rattle.capsteps.specs.SessionChange.{session_event, changed_sessions}
-use Rattle.capsteps.proofs.EntryRequests.{IsKeptEntry, kept-left, sound-kept}
-use Rattle.capcore.proofs.EndedIn.{all_pass}
+use Rattle.capsteps.{proofs.EntryRequests.{IsKeptEntry, kept-left, sound-kept}, proofs.Lockmachine.Finding.{fails_at, find_none}, proofs.Lockmachine.SameOutside.{outside-itself, outside-then, outside-dropped}, specs.Capnotes.DueEndings.{is_to}, specs.Lockmachine.Elsewhere.{IsSameOutside}, specs.Lockmachine.Requests.{is_of_client as is_asked_by}}
+use Rattle.capcore.proofs.{Common.{Affects, alike-itself, change-at, changed_sessions, ClientId, contains-filter, Direct, direct, dropped_by, effect, effect_unless, entries_on, EntryRow, first_for, has_session, Ino, is_end, is_for, is_of_client, is_of_inode, IsAffectedEntry, IsQuiet, IsSound, IsTable, judged, lock_at, LockMap, locks_left, messages_left, Part, Reply, Request, Says, Scene, Session, session_changed, session_event, SessionChange, SessionTable, sound-pinned, State, StateMap, Table, table_left, without_client}, EndedIn.{all_pass}}
 
 -- ---- the event
 
 abbrev pub session_direct : State → ClientId → SessionChange → Direct
-session_direct old client change = record { state = session_changed old client change; answer = Says reply.Done; dropped = dropped_by (is_end change) old.scene.locks client }
+session_direct old client change = record { state = session_changed old client change; answer = Says Reply.Done; dropped = dropped_by (is_end change) old.scene.locks client }
 
 effect-session_changed : (old : State) (client : ClientId) (change : SessionChange) → effect old (session_event client change) ≡ session_direct old client change
 effect-session_changed old client change = grind arith

@@ -1,29 +1,8 @@
 -- What the step of a client's session leaves by itself.
-use Rattle.std.proofs.Common.{◌≡◌, ◌≤◌, ◌-◌, ℕ, ◌+◌, true, false, not, Bool, Some, is_some, List, [], length, refl, sym, ap, subst, ◌∙◌, arith, All, ◌==◌, inl, inr, None}
-use Rattle.capcore.proofs.Common.{option_map, length-filter, count_by-le-length, ClientId, IsTree, Entry, Holder, IsTable, entry_at, Request, LockMap, IsLockMap, Scene, HasRoom, AreChanges, Event, Ended, ByTest, State, Direct, direct, judged, rejection_of, view_of, StillKnown, is_end, dropped_by, IsJudged, Affects, session_changed, HoldAlike, alike-less, still-there, Parts, MayBegin, GivesOne, HasBegun, eqb-true, without_client, Table}
-use Rattle.std.proofs.lemmas.Bool.{cases_Bool}
-use Rattle.capbits.specs.Refusal.{first_failing}
-use Rattle.capsteps.specs.Lockmachine.Requests.{is_of_client}
-use Rattle.capsteps.proofs.Lockmachine.Queue.{without_requests_of-kept}
-use Rattle.capsteps.specs.Capnotes.InoSets.{InoSet}
-use Rattle.capsteps.specs.Capnotes.Noted.{HavePlaces}
-use Rattle.capsteps.specs.Capnotes.DueEndings.{DueEndings, is_to}
-use Rattle.capsteps.specs.Capacts.declared.leaving.SessionChange.{SessionChange}
-use Rattle.capsteps.specs.Capacts.declared.leaving.SessionChange.TheVariants.{Close, Mark, Regrant, Evict}
-use Rattle.capsteps.specs.Capacts.Reach.{is_affected}
-use Rattle.capsteps.specs.Capacts.Known.{known_of}
-use Rattle.capsteps.specs.Capacts.Left.{locks_left, messages_left}
-use Rattle.capsteps.specs.Begun.{ArePermittedIn, HaveRoomFor}
-use Rattle.capsteps.specs.SessionChange.{ReachesClient, session_event, session_change_tests}
-use Rattle.capcore.proofs.Closing.{affects-settles}
-use Rattle.capsteps.proofs.Knowing.{still-knows}
-use Rattle.capsteps.proofs.Judging.{by_tests}
-use Rattle.capcore.specs.declared.parts.Affected.TheVariants.{Others}
-use Rattle.capcore.specs.declared.parts.Answer.TheVariants.{Dropped}
-use Rattle.capcore.specs.UnderWay.{state_of}
-use Rattle.capcore.proofs.Begun.{begun-entries}
-use Rattle.capcore.proofs.Granted.{left-was}
-use Rattle.capcore.proofs.SessionChanged.{session_direct, direct-session_changed, session_changed-affects, session_changed-table, session_changed-below, session_changed-made, session_changed-last}
+use Rattle.std.{proofs.Common.{◌≡◌, ◌≤◌, ◌-◌, ℕ, ◌+◌, Bool, Some, is_some, List, [], length, refl, sym, ap, subst, ◌∙◌, arith}, proofs.lemmas.List.Sums.{length-filter, count_by-le-length}, specs.Option.{option_map}}
+use Rattle.inotree.specs.InoSets.{InoSet}
+use Rattle.capsteps.specs.{Capacts.Reach.{is_affected}, Capnotes.Noted.{HavePlaces}, SessionChange.{ReachesClient, session_change_tests}}
+use Rattle.capcore.{proofs.Begun.{begun-entries}, proofs.Closing.{affects-settles}, proofs.Common.{Affects, alike-less, AreChanges, ArePermittedIn, by_tests, ByTest, ClientId, Direct, direct, dropped_by, DueEndings, Ended, Entry, entry_at, Event, first_failing, HasRoom, HaveRoomFor, HoldAlike, Holder, is_end, IsJudged, IsLockMap, IsTable, IsTree, judged, known_of, LockMap, locks_left, messages_left, rejection_of, Scene, session_changed, session_event, SessionChange, State, still-knows, still-there, StillKnown, view_of, without_requests_of-kept}, proofs.Granted.{left-was}, proofs.SessionChanged.{session_direct, direct-session_changed, session_changed-affects, session_changed-table, session_changed-below, session_changed-made, session_changed-last}, specs.UnderWay.{MayBegin, GivesOne, HasBegun, state_of}, specs.declared.parts.Affected.TheVariants.{Others}, specs.declared.parts.Answer.TheVariants.{Dropped}, specs.declared.parts.Parts.{Parts}}
 
 -- ---- what is tested
 
@@ -109,5 +88,7 @@ module _ (p q : Parts) (client : ClientId) (change : SessionChange) (may : MayBe
           room = room;
           at = (at, reaches.apart);
         };
-        room = left_room; places = places; noted = noted;
+        room = left_room;
+        places = places;
+        noted = noted;
       }

@@ -1,26 +1,8 @@
 -- What numbers say of what was shown, in the words of users.
-use Rattle.std.proofs.Common.{◌≡◌, ◌≤◌, ℕ, nat_lt, Bool, true, false, cond, not, ◌&&◌, Contains, List, Option, Some, None, refl, sym, ap, subst, ◌∙◌, true≢false, arith}
-use Rattle.capcore.proofs.Common.{All-contains, find, option_map, option_map_or, Cap, ClientId, Ino, P, Caps, Entry, EntryRow, Holder, Table, holder, is_row_of, entry_at, Scene, Event, Rejection, Ack, Direct, direct, effect_unless, judged, revoked_of, Row, State, IsSound, IsSoundEntry}
-use Rattle.std.proofs.lemmas.Bool.{ltb-false}
-use Rattle.capbits.specs.declared.refusal.Refusal.TheVariants as refusal
-use Rattle.capbits.specs.Caps.{has}
-use Rattle.capbits.specs.Sets.{has-minus}
-use Rattle.capbits.proofs.Tests.{passed-if}
-use Rattle.captable.specs.Table.{entry_of}
-use Rattle.captable.specs.Calls.{taken, changed, without}
-use Rattle.captable.specs.Tests.{last_revocation}
-use Rattle.captable.proofs.ByHolder.{entry_at-changed, row_of-entry}
-use Rattle.capsteps.specs.Lockmachine.Scene.{against}
-use Rattle.capsteps.specs.Lockmachine.Revoked.{is_revoked}
-use Rattle.capsteps.proofs.Lockmachine.Told.{has-against, has-told, pin-takes_all}
-use Rattle.capsteps.specs.Capevents.declared.event.Event.TheVariants as event
-use Rattle.capsteps.specs.Caprules.Headline.{holds}
-use Rattle.capsteps.specs.Caprules.Shown.{AreShown, ShowsWhatIsTold, ShowsOnlyPermitted, TakesUnshown, shown_of}
-use Rattle.capsteps.proofs.LeftAlone.{found-contains}
-use Rattle.capsteps.proofs.Placed.{told-permitted}
-use Rattle.capsteps.proofs.Revoking.{revoked-found}
-use Rattle.capsteps.proofs.ShownSteps.{at}
-use Rattle.capsteps.proofs.EntryRequests.{affected-tests}
+use Rattle.std.{proofs.Common.{◌≡◌, ◌≤◌, ℕ, Bool, true, false, cond, not, ◌&&◌, Contains, List, Some, None, refl, sym, ap, subst, ◌∙◌, arith}, proofs.lemmas.Bool.{ltb-false}, proofs.lemmas.List.Elements.{All-contains}, specs.Option.{option_map, option_map_or}}
+use Rattle.captable.specs.Calls.{taken, without}
+use Rattle.capsteps.{proofs.Lockmachine.Told.{has-against, has-told, pin-takes_all}, proofs.Placed.{told-permitted}, proofs.Revoking.{revoked-found}, proofs.ShownSteps.{at}, specs.Caprules.Shown.{AreShown, ShowsOnlyPermitted, TakesUnshown, shown_of}, specs.Lockmachine.Revoked.{is_revoked}, specs.Lockmachine.Scene.{against}}
+use Rattle.capcore.proofs.Common.{Ack, Cap, Caps, changed, ClientId, Direct, direct, effect_unless, Entry, entry_at, entry_at-changed, EntryRow, Event, found-contains, has, has-minus, Holder, holder, holds, Ino, is_row_of, IsSound, IsSoundEntry, judged, P, revoked_of, Row, row_of-entry, Scene, ShowsWhatIsTold, State, Table}
 
 pub shows-told : (rows : List Row) (s : State) → IsSound s → AreShown rows s.scene → ShowsWhatIsTold rows s.scene
 shows-told rows s sound was k e there none_due =
@@ -59,7 +41,7 @@ module _ (rows : List Row) (old : State) (sound : IsSound old) (was : AreShown r
   t = old.scene.table
 
   abbrev ack : Event
-  ack = event.Ack client ino seq
+  ack = Event.Ack client ino seq
 
   module _ (e : Entry) (there : entry_at t k ≡ Some e) (free : judged old.scene ack ≡ None) where
     all_of : revoked_of old.scene k ≡ against old.scene (at k e)

@@ -1,12 +1,8 @@
 -- States that are sound.
-use Rattle.std.proofs.Common.{◌≡◌, ◌≤◌, ℕ, ◌+◌, List, [], Option, Some, None, sym, ap, ◌∙◌, is_some, arith, IsTrue}
-use Rattle.capcore.proofs.Common.{option_map, find, All-weaker, Node, Nodes, has_session, EntryRow, is_row_of, InodeLocks, in_sync, first_for, State, HasNoStray, IsOpening, IsSoundEntry, IsSound, AreGiven}
+use Rattle.std.{proofs.Common.{◌≡◌, ℕ, ◌+◌, List, [], Option, Some, None, sym, ap, ◌∙◌, is_some, arith, IsTrue}, proofs.lemmas.List.Elements.{All-nil, All-same}, specs.List.{find}, specs.Option.{option_map}}
 use Rattle.std.specs.FinMap as map
-use Rattle.std.proofs.lemmas.List.Elements.{All-nil, All-same}
-use Rattle.inotree.specs.Tree.{place}
-use Rattle.capsteps.proofs.Lockmachine.Idle.{InSync, idle}
-use Rattle.capsteps.proofs.Lockmachine.Rest.{at_rest}
-use Rattle.capsteps.proofs.LeftAlone.{some_same}
+use Rattle.capsteps.proofs.{LeftAlone.{some_same}, Lockmachine.Idle.{InSync, idle}, Lockmachine.Rest.{at_rest}}
+use Rattle.capcore.proofs.Common.{AreGiven, EntryRow, first_for, has_session, HasNoStray, in_sync, InodeLocks, is_row_of, IsOpening, IsSound, IsSoundEntry, Node, Nodes, place, State}
 
 -- ---- numbers
 

@@ -1,19 +1,7 @@
 -- A session, a lookup, a new inode or a snapshot by itself is a whole step: it leaves alone all that entries and requests depend on.
-use Rattle.std.proofs.Common.{◌≡◌, ℕ, ◌+◌, Bool, true, false, List, [], ◌++◌, Option, Some, None, refl, sym, ap, subst, ◌∙◌, append-nil, true≢false, arith}
-use Rattle.capcore.proofs.Common.{none-some, IsTree, child, new_session_tests, IsTable, Event, Ended, Reply, Said, Rejection, ByTest, State, IsAnswered, Directory, judged, has_list, Answer, Says, Shows, Gives, Awaits, Direct, direct, effect, effect_unless, found, reply_of, shown, with_scene, IsDirect, Settles, sizes_owed, finished, IsSound, AreGiven, Step, state_after, sound-settles, kept-sound}
-use Rattle.capbits.specs.Refusal.{first_failing}
-use Rattle.inotree.specs.Inodes.{with_snapshot, without_snapshot}
-use Rattle.capsteps.specs.Capevents.declared.event.Event.TheVariants as event
-use Rattle.capsteps.specs.Caprules.declared.rejection.Rejection.TheVariants.{ByPolicy}
-use Rattle.inotree.specs.declared.node.Kind.TheVariants.{File}
-use Rattle.capsteps.specs.Leaving.{with_parts, LeavesEntries}
-use Rattle.capsteps.specs.Affected.{affected_by, session_changed_by, is_listing}
-use Rattle.capsteps.proofs.Finishing.{none-sized}
-use Rattle.capsteps.proofs.Judging.{no_test}
-use Rattle.capsteps.proofs.LeftAlone.{kept-finished}
-use Rattle.capcore.proofs.Promised.{issues-exactly}
-use Rattle.capcore.proofs.Sounding.{later-given}
-use Rattle.capcore.proofs.Unaffected.{nothing-leaves, session-leaves, unblocked-leaves, changed-leaves, birth-leaves}
+use Rattle.std.proofs.Common.{◌≡◌, ℕ, ◌+◌, Bool, true, false, List, [], ◌++◌, Option, None, refl, sym, ap, subst, ◌∙◌, append-nil, arith}
+use Rattle.capsteps.{proofs.Finishing.{none-sized}, specs.Affected.{affected_by, session_changed_by, is_listing}, specs.Caprules.Direct.{Shows}}
+use Rattle.capcore.proofs.{Common.{Answer, AreGiven, Awaits, child, Direct, direct, Directory, effect, effect_unless, Ended, Event, File, finished, first_failing, found, Gives, has_list, IsAnswered, IsDirect, IsSound, IsTable, IsTree, judged, kept-finished, kept-sound, LeavesEntries, new_session_tests, no_test, Rejection, Reply, reply_of, Said, Says, Settles, shown, sizes_owed, sound-settles, State, state_after, Step, with_parts, with_scene, with_snapshot, without_snapshot}, Promised.{issues-exactly}, Sounding.{later-given}, Unaffected.{nothing-leaves, session-leaves, unblocked-leaves, changed-leaves, birth-leaves}}
 
 -- the event is about no entry, no request and no session that is there, and is answered with no list
 abbrev pub IsAlone : Event → Type 0
@@ -90,15 +78,15 @@ module _ (old : State) (sound : IsSound old) (tree : IsTree old.scene.tree) wher
   found-left o = grind arith
 
   effect-left : (e : Event) → IsAlone e → judged old.scene e ≡ None → IsLeft old (effect old e).state
-  effect-left (event.Session client caller grants) alone none =
+  effect-left (Event.Session client caller grants) alone none =
       let passed : first_failing (new_session_tests old.scene.sessions client.0) ≡ None = no_test old.scene (new_session_tests old.scene.sessions client.0) [] [] none in
       record { leaves = session-leaves old sound client.0 caller grants passed; is = refl }
-  effect-left (event.Unblock client) alone none = record { leaves = unblocked-leaves old sound client.0; is = refl }
-  effect-left (event.Lookup client dir name) alone none = found-left (child old.scene.tree.nodes dir.0 name)
-  effect-left (event.Create client dir name mode) alone none = record { leaves = birth-leaves old sound File dir.0 name _ tree; is = refl }
-  effect-left (event.Mkdir client dir name mode) alone none = record { leaves = birth-leaves old sound Directory dir.0 name _ tree; is = refl }
-  effect-left (event.MakeSnapshot client ino name) alone none = record { leaves = changed-leaves old sound (with_snapshot name) ino.0 (λ n. refl) (λ n. refl); is = refl }
-  effect-left (event.RemoveSnapshot client ino name) alone none = record { leaves = changed-leaves old sound (without_snapshot name) ino.0 (λ n. refl) (λ n. refl); is = refl }
+  effect-left (Event.Unblock client) alone none = record { leaves = unblocked-leaves old sound client.0; is = refl }
+  effect-left (Event.Lookup client dir name) alone none = found-left (child old.scene.tree.nodes dir.0 name)
+  effect-left (Event.Create client dir name mode) alone none = record { leaves = birth-leaves old sound File dir.0 name _ tree; is = refl }
+  effect-left (Event.Mkdir client dir name mode) alone none = record { leaves = birth-leaves old sound Directory dir.0 name _ tree; is = refl }
+  effect-left (Event.MakeSnapshot client ino name) alone none = record { leaves = changed-leaves old sound (with_snapshot name) ino.0 (λ n. refl) (λ n. refl); is = refl }
+  effect-left (Event.RemoveSnapshot client ino name) alone none = record { leaves = changed-leaves old sound (without_snapshot name) ino.0 (λ n. refl) (λ n. refl); is = refl }
   effect-left e (unaffected, unlisted, unturned) none = absurd (cc)
 
   left_unless : (e : Event) → IsAlone e → (o : Option Rejection) → judged old.scene e ≡ o → IsLeft old (effect_unless old e o).state

@@ -1,33 +1,14 @@
 -- New sessions, clients that come off the blocklist, new inodes and snapshots leave alone all that entries and requests depend on.
-use Rattle.std.proofs.Common.{◌≡◌, ℕ, ◌+◌, Bool, true, false, cond, Option, Some, None, is_some, List, refl, sym, ap, ◌∙◌, Contains, arith}
-use Rattle.capcore.proofs.Common.{option_map, nat_cmp_total, KnownSets, HoldAlike, known-alike, Scene, Table, All-contains, All-weaker, Node, Nodes, IsTree, SessionTable, new_session_tests, EntryRow, is_row_of, InodeLocks, in_sync, State, IsSoundEntry, IsSound, kept-sound, Parts, AreKnown, with_scene}
-use Rattle.std.specs.Ordering.{nat_cmp, eq_by_cmp}
+use Rattle.std.{proofs.Common.{◌≡◌, ℕ, ◌+◌, Bool, false, cond, Option, Some, None, is_some, List, sym, ap, ◌∙◌, Contains, arith}, proofs.lemmas.List.Elements.{All-contains, All-weaker}, specs.Cmp.{nat_cmp_total}, specs.FinSet.{FinSet}, specs.Option.{option_map}, specs.Ordering.{nat_cmp, eq_by_cmp}}
 use Rattle.std.specs.FinMap as map
 use Rattle.std.specs.FinSet as set
-use Rattle.std.specs.FinSet.{FinSet}
 use Rattle.capbits.specs.declared.caller.Caller.{Caller}
-use Rattle.capbits.specs.Refusal.{first_failing}
 use Rattle.capspec.specs.declared.grant.Grant.{Grant}
-use Rattle.capgrant.specs.declared.access.Attr.{Attr}
-use Rattle.inotree.specs.declared.node.Kind.{Kind}
-use Rattle.inotree.specs.declared.node.Place.TheVariants.{Gone}
-use Rattle.capbits.specs.Maps.{change_at}
-use Rattle.inotree.specs.Tree.{place_at}
-use Rattle.inotree.specs.Calls.{with_new, new_node, changed}
 use Rattle.numbered.proofs.Maps.{insert-other}
-use Rattle.inotree.proofs.Elsewhere.{field-changed, not_next}
-use Rattle.sessiontab.specs.Calls.{with_session, without_blocked}
-use Rattle.sessiontab.proofs.Elsewhere.{session-kept}
-use Rattle.captable.proofs.ByHolder.{row_of-entry}
-use Rattle.capsteps.specs.Lockmachine.Inodes.{StateMap}
-use Rattle.capsteps.specs.Lockmachine.Locks.{with_ino}
-use Rattle.capsteps.specs.Lockmachine.Policy.{permitted}
-use Rattle.capsteps.specs.Lockmachine.Wants.{effective_want}
-use Rattle.capsteps.proofs.Lockmachine.PolicyElsewhere.{permitted-session, permitted-new, permitted-changed, want-session, want-new, want-changed}
-use Rattle.capsteps.specs.Caprules.Direct.{with_birth}
-use Rattle.capsteps.specs.Leaving.{LeavesEntries, with_parts}
-use Rattle.capsteps.proofs.LeftAlone.{found-contains, none_if, some_same, no_locks, kept-known}
-use Rattle.capcore.specs.UnderWay.{AreKept, IsWhole, state_of}
+use Rattle.inotree.{proofs.Elsewhere.{field-changed, not_next}, specs.Calls.{with_new, new_node, changed}}
+use Rattle.sessiontab.{proofs.Elsewhere.{session-kept}, specs.Calls.{with_session, without_blocked}}
+use Rattle.capsteps.{proofs.Knowing.{known-alike}, proofs.LeftAlone.{none_if, kept-known}, proofs.Lockmachine.PolicyElsewhere.{permitted-session, permitted-new, permitted-changed, want-session, want-new, want-changed}, specs.Lockmachine.Wants.{effective_want}}
+use Rattle.capcore.{proofs.Common.{Attr, EntryRow, first_failing, found-contains, Gone, HoldAlike, in_sync, InodeLocks, is_row_of, IsSound, IsSoundEntry, IsTree, kept-sound, Kind, KnownSets, LeavesEntries, new_session_tests, no_locks, Node, Nodes, permitted, place_at, row_of-entry, Scene, SessionTable, State, StateMap, Table, with_birth, with_ino, with_parts}, specs.UnderWay.{AreKept, IsWhole, state_of}, specs.declared.parts.Parts.{Parts}}
 
 -- the locks that an inode begins with, where there is an inode
 abbrev first_of : Option Node → Option InodeLocks

@@ -1,21 +1,13 @@
 -- How values are stored.
-use Rattle.std.specs.Prelude.{ℕ, List, refl}
-use Rattle.std.specs.Coded.{Coded, code_by, coded×, coded_ℕ, coded_list}
+use Rattle.std.specs.{Coded.{Coded, code_by, coded×, coded_ℕ, coded_list}, Prelude.{ℕ, List, refl}}
 use Rattle.inotree.specs.Tree.{Nodes, nodes_code}
-use Rattle.sessiontab.specs.Table.{SessionTable, table_code}
 use Rattle.captable.specs.Table.{Table}
 use Rattle.captable.specs.Codes as entries
-use Rattle.capsteps.specs.Lockmachine.Locks.{LockMap}
-use Rattle.capsteps.specs.Lockmachine.Codes.{lock_map_code}
-use Rattle.capsteps.specs.Lockmachine.declared.scene.Scene.{Scene}
-use Rattle.capsteps.specs.Capevents.declared.outcome.Ended.{Ended}
-use Rattle.capsteps.specs.Capevents.declared.row.Row.{Row}
-use Rattle.capsteps.specs.Capview.declared.change.ViewChange.{ViewChange}
+use Rattle.sessiontab.specs.Table.{SessionTable, table_code}
+use Rattle.capsteps.specs.{Capevents.declared.outcome.Ended.{Ended}, Capevents.declared.row.Row.{Row}, Caprules.History.{Recorded, recorded}, Caprules.State.{State}, Capview.declared.change.ViewChange.{ViewChange}, Lockmachine.Codes.{lock_map_code}, Lockmachine.Locks.{LockMap}, Lockmachine.declared.scene.Scene.{Scene}}
 use Rattle.capsteps.specs.Capview.contracts.change.ViewChange as view_change
 use Rattle.capsteps.specs.Capevents.contracts.outcome.Ended as ended
 use Rattle.capsteps.specs.Capevents.contracts.row.Row as history_row
-use Rattle.capsteps.specs.Caprules.State.{State}
-use Rattle.capsteps.specs.Caprules.History.{Recorded, recorded}
 
 -- a state as its parts
 abbrev pub scene_code : Coded Scene

@@ -2,17 +2,7 @@
 -- under its lock: both name this record, so that neither can promise less.
 use Rattle.std.specs.Prelude.{◌≡◌, IsTrue}
 use Rattle.capbits.specs.declared.ids.PassId.{PassId}
-use Rattle.capsteps.specs.Capview.Changes.{AreChanges}
-use Rattle.capsteps.specs.Lockmachine.Moves.{IsAtRest}
-use Rattle.capsteps.specs.Capevents.declared.event.Event.{Event}
-use Rattle.capsteps.specs.Capevents.declared.reply.Reply.{Reply}
-use Rattle.capsteps.specs.Caprules.State.{State}
-use Rattle.capsteps.specs.Caprules.Direct.{direct}
-use Rattle.capsteps.specs.Caprules.Headline.{DeniedExactly, DeniesByName, ServedDenied, ServedByName, EachServing, ByMoves, AreBounded, OtherLocksStay, IssuesExactly, AreInPlace, AreRevoked, NoneConflict, is_rejection}
-use Rattle.capsteps.specs.Caprules.History.{Recorded, IsNext, InItsRow, Replays}
-use Rattle.capsteps.specs.Caprules.Noted.{view_of}
-use Rattle.capsteps.specs.Caprules.Shown.{ShowsWhatIsTold, ShowsOnlyPermitted, TakesUnshown, TakesOnlySo}
-use Rattle.capsteps.specs.Caprules.Sound.{IsSound}
+use Rattle.capsteps.specs.{Capevents.declared.event.Event.{Event}, Capevents.declared.reply.Reply.{Reply}, Caprules.Direct.{direct}, Caprules.Headline.{DeniedExactly, DeniesByName, ServedDenied, ServedByName, EachServing, ByMoves, AreBounded, OtherLocksStay, IssuesExactly, AreInPlace, AreRevoked, NoneConflict, is_rejection}, Caprules.History.{Recorded, IsNext, InItsRow, Replays}, Caprules.Noted.{view_of}, Caprules.Shown.{ShowsWhatIsTold, ShowsOnlyPermitted, TakesUnshown, TakesOnlySo}, Caprules.Sound.{IsSound}, Caprules.State.{State}, Capview.Changes.{AreChanges}, Lockmachine.Moves.{IsAtRest}}
 
 pub record IsPromised (old : Recorded) (pass : PassId) (event : Event) (answer : Reply) (new : Recorded) : Type 0 where
   -- one step of the rules, and one row

@@ -1,17 +1,12 @@
 -- Where no request finds no memory, events alone say what is answered and where they lead.
 use Rattle.std.specs.Prelude.{◌≢◌, List, All, map}
 use Rattle.capbits.specs.declared.ids.PassId.{PassId}
-use Rattle.capsteps.specs.Capevents.declared.event.Event.{Event}
-use Rattle.capsteps.specs.Capevents.declared.row.Row.{Row}
-use Rattle.capsteps.specs.Capevents.declared.outcome.Ended.{Ended}
-use Rattle.capsteps.specs.Capevents.declared.outcome.Outcome.TheVariants as outcome
-use Rattle.capsteps.specs.Capevents.declared.reply.Reply.{Reply}
-use Rattle.capsteps.specs.Capevents.declared.reply.Reply.TheVariants as reply
+use Rattle.capsteps.specs.Capevents.{declared.event.Event.{Event}, declared.outcome.Ended.{Ended}, declared.outcome.Outcome.{Outcome}, declared.reply.Reply.{Reply}, declared.row.Row.{Row}}
 
 -- neither the request of this answer nor one of those that ended found no memory
 pub record FoundMemory (answer : Reply) (ended : List Ended) : Type 0 where
-  pub answered : answer ≢ reply.OutOfMemory
-  pub each : All (λ m. m.outcome ≢ outcome.OutOfMemory) ended
+  pub answered : answer ≢ Reply.OutOfMemory
+  pub each : All (λ m. m.outcome ≢ Outcome.OutOfMemory) ended
 
 -- so it is of each row
 abbrev pub AllFoundMemory : List Row → Type 0

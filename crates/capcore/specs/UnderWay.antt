@@ -3,37 +3,9 @@ use Rattle.std.specs.Prelude.{◌≡◌, ◌≤◌, ◌+◌, ◌==◌, ℕ, Bool
 use Rattle.std.specs.FinSet as set
 use Rattle.inotree.specs.Tree.{IsTree}
 use Rattle.captable.specs.Table.{IsTable}
-use Rattle.capsteps.specs.Lockmachine.declared.scene.Scene.{Scene}
-use Rattle.capsteps.specs.Lockmachine.Locks.{IsLockMap}
-use Rattle.capsteps.specs.Capevents.declared.event.Event.{Event}
-use Rattle.capsteps.specs.Capevents.declared.event.Event.TheVariants as event
-use Rattle.capsteps.specs.Capevents.declared.outcome.Ended.{Ended}
-use Rattle.capsteps.specs.Capevents.declared.reply.Reply.TheVariants as reply
-use Rattle.capsteps.specs.Capview.Changes.{AreChanges}
-use Rattle.capsteps.specs.Capnotes.Noted.{HavePlaces}
-use Rattle.capsteps.specs.Capnotes.DueEndings.{HasRoom, but_for}
-use Rattle.capsteps.specs.Capacts.Known.{KnownSets, known_in, AreKnown, StillKnown, OthersHaveAll}
-use Rattle.capsteps.specs.Capacts.Reach.{is_affected}
-use Rattle.capsteps.specs.Caprules.State.{State}
+use Rattle.capsteps.specs.{Affected.{Affects, Knows}, Begun.{ArePermittedIn, MaySettle, MayEnd, HaveRoomFor}, Capacts.Known.{KnownSets, known_in, AreKnown, StillKnown, OthersHaveAll}, Capacts.Reach.{is_affected}, Capevents.declared.event.Event.{Event}, Capevents.declared.outcome.Ended.{Ended}, Capevents.declared.reply.Reply.{Reply}, Capnotes.DueEndings.{HasRoom, but_for}, Capnotes.Noted.{HavePlaces}, Caprules.Direct.{direct}, Caprules.Judge.{judged}, Caprules.Noted.{view_of}, Caprules.Sound.{IsSound, AreGiven, NumbersLeft}, Caprules.State.{State}, Capview.Changes.{AreChanges}, EntryRequest.{entry_event, entry_answer}, Judged.{IsJudged}, Lockmachine.Locks.{IsLockMap}, Lockmachine.declared.scene.Scene.{Scene}, SessionChange.{session_event}}
 use Rattle.capsteps.specs.Caprules.Direct as rules
-use Rattle.capsteps.specs.Caprules.Direct.{direct}
-use Rattle.capsteps.specs.Caprules.Judge.{judged}
-use Rattle.capsteps.specs.Caprules.Noted.{view_of}
-use Rattle.capsteps.specs.Caprules.Sound.{IsSound, AreGiven, NumbersLeft}
-use Rattle.capsteps.specs.Begun.{ArePermittedIn, MaySettle, MayEnd, HaveRoomFor}
-use Rattle.capsteps.specs.Judged.{IsJudged}
-use Rattle.capsteps.specs.EntryRequest.{entry_event, entry_answer}
-use Rattle.capsteps.specs.Affected.{Affects, Knows}
-use Rattle.capsteps.specs.SessionChange.{session_event}
-use Rattle.capcore.specs.Asks.{asked_event}
-use Rattle.capcore.specs.declared.parts.Parts.{Parts}
-use Rattle.capcore.specs.declared.parts.Asking.{Asking}
-use Rattle.capcore.specs.declared.parts.Asking.TheVariants.{OfEntry, OfLock, Flush, OfSession}
-use Rattle.capcore.specs.declared.parts.Effect.{Effect}
-use Rattle.capcore.specs.declared.parts.Affected.{Affected}
-use Rattle.capcore.specs.declared.parts.Affected.TheVariants.{Entry, Inode, Others}
-use Rattle.capcore.specs.declared.parts.Answer.{Answer}
-use Rattle.capcore.specs.declared.parts.Answer.TheVariants.{Done, Dropped, Touched, Awaited}
+use Rattle.capcore.specs.{Asks.{asked_event}, declared.parts.Affected.{Affected}, declared.parts.Affected.TheVariants.{Entry, Inode, Others}, declared.parts.Answer.{Answer}, declared.parts.Answer.TheVariants.{Done, Dropped, Touched, Awaited}, declared.parts.Asking.{Asking}, declared.parts.Asking.TheVariants.{OfEntry, OfLock, Flush, OfSession}, declared.parts.Effect.{Effect}, declared.parts.Parts.{Parts}}
 
 abbrev pub state_of : Parts → State
 state_of p = record { scene = p.scene; messages = p.messages.items }
@@ -51,7 +23,7 @@ IsWhole p = IsSound (state_of p) × HasRoom p.messages p.scene.locks × AreKept 
 abbrev pub event_of : Asking → Event
 event_of (OfEntry k request) = entry_event k.client k.ino request
 event_of (OfLock k asked) = asked_event k.client k.ino asked
-event_of (Flush k change) = event.Flush k.client k.ino change.now
+event_of (Flush k change) = Event.Flush k.client k.ino change.now
 event_of (OfSession client change) = session_event client change
 
 -- nothing stops it
@@ -72,8 +44,8 @@ among (Inode k) = λ other. other == k.ino.0
 among (Others others) = is_affected 1 others
 
 abbrev pub answer_of : Answer → rules.Answer
-answer_of Done = rules.Says reply.Done
-answer_of (Dropped dropped) = rules.Says reply.Done
+answer_of Done = rules.Says Reply.Done
+answer_of (Dropped dropped) = rules.Says Reply.Done
 answer_of (Touched k request) = entry_answer k request
 answer_of (Awaited ticket) = rules.Awaits ticket
 

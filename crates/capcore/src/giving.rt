@@ -1,14 +1,8 @@
 //! What a client is told at the end of a step, and what it is asked for. No program needs to call these laws.
 
 ghost use Rattle.std.specs.Prelude.{◌≡◌, ℕ};
-ghost use Rattle.captable.specs.Table.{IsTable};
-ghost use Rattle.captable.specs.Calls.{recalled};
-ghost use Rattle.capsteps.specs.Lockmachine.declared.scene.Scene.{Scene};
-ghost use Rattle.capsteps.specs.Caprules.State.{State};
-ghost use Rattle.capsteps.specs.Caprules.Direct.{Answer, shown, with_table};
-ghost use Rattle.capsteps.specs.Caprules.Finish.{finished};
-ghost use Rattle.capsteps.specs.Caprules.Headline.{IssuesExactly};
-ghost use Rattle.capsteps.specs.Caprules.Sound.{IsSound, AreGiven};
+ghost use Rattle.captable.specs.{Calls.{recalled}, Table.{IsTable}};
+ghost use Rattle.capsteps.specs.{Caprules.Direct.{Answer, shown, with_table}, Caprules.Finish.{finished}, Caprules.Headline.{IssuesExactly}, Caprules.Sound.{IsSound, AreGiven}, Caprules.State.{State}, Lockmachine.declared.scene.Scene.{Scene}};
 
 /// What a client is told at the end of a step leaves a sound state sound, nothing to do and all that is held as it was.
 pub fn telling_leaves_all_but_what_was_told()

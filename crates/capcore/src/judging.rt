@@ -1,22 +1,13 @@
 //! What stops an event: its tests and policy, over the parts of the state that they look at.
 ghost use Rattle.std.specs.Prelude.{◌≡◌, ◌++◌, ◌∷◌, [], ℕ, List};
 ghost use Rattle.capbits.specs.Refusal.{first_failing};
-ghost use Rattle.captable.specs.Table.{Table};
-ghost use Rattle.captable.specs.Tests.{entry_test, release_tests};
 ghost use Rattle.inotree.specs.Tests.{inode_tests, exists_test};
+ghost use Rattle.captable.specs.{Table.{Table}, Tests.{entry_test, release_tests}};
 ghost use Rattle.sessiontab.specs.Tests.{connected_test, session_tests};
-ghost use Rattle.capsteps.specs.Lockmachine.Locks.{LockMap};
-ghost use Rattle.capsteps.specs.Lockmachine.declared.scene.Scene.{Scene};
-ghost use Rattle.capsteps.specs.Lockmachine.Scene.{scene as scene_of};
+ghost use Rattle.capsteps.specs.{Capacts.Known.{AreKnown}, Caprules.Asks.{ask_after, ask_before, ask_needs}, Caprules.Judge.{asked_tests, asking_tests, before, flush_tests, judged, opening_needs, opening_tests, room_for, rejection_of, waiting_tests}, Caprules.Needs.{need}, EntryRequest.{entry_event}, Lockmachine.Locks.{LockMap}, Lockmachine.Scene.{scene as scene_of}, Lockmachine.declared.scene.Scene.{Scene}};
 ghost use Rattle.capsteps.specs.Capevents.declared.event.Event.TheVariants as event;
 ghost use Rattle.capsteps.specs.Caprules.Asks as words;
-ghost use Rattle.capsteps.specs.Caprules.Asks.{ask_after, ask_before, ask_needs};
-ghost use Rattle.capsteps.specs.Caprules.Judge.{asked_tests, asking_tests, before, flush_tests, judged, opening_needs, opening_tests, room_for, rejection_of, waiting_tests};
-ghost use Rattle.capsteps.specs.Capacts.Known.{AreKnown};
-ghost use Rattle.capsteps.specs.Caprules.Needs.{need};
-ghost use Rattle.capsteps.specs.EntryRequest.{entry_event};
-ghost use Rattle.capcore.specs.Asks.{ask_of};
-ghost use Rattle.capcore.specs.UnderWay.{event_of};
+ghost use Rattle.capcore.specs.{Asks.{ask_of}, UnderWay.{event_of}};
 
 use crate::asks::Asked;
 use crate::parts::Asking;

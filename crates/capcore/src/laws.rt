@@ -1,37 +1,14 @@
 //! Laws of the core. No program needs to call them.
 
 ghost use Rattle.std.specs.Prelude.{◌≡◌, ℕ, ◌+◌, List, [], Some, None, length};
-ghost use Rattle.inotree.specs.Tree.{Nodes, IsTree};
-ghost use Rattle.capbits.specs.declared.caller.Caller.{Caller};
-ghost use Rattle.capbits.specs.Refusal.{first_failing};
+ghost use Rattle.capbits.specs.{Refusal.{first_failing}, declared.caller.Caller.{Caller}};
 ghost use Rattle.capspec.specs.declared.grant.Grant.{Grant};
 ghost use Rattle.capgrant.specs.declared.access.Attr.{Attr};
-ghost use Rattle.inotree.specs.declared.node.Kind.{Kind};
-ghost use Rattle.inotree.specs.declared.node.Node.{Node};
-ghost use Rattle.inotree.specs.Calls.{with_new, changed};
-ghost use Rattle.sessiontab.specs.Table.{SessionTable};
-ghost use Rattle.sessiontab.specs.Calls.{with_session, without_blocked};
-ghost use Rattle.sessiontab.specs.Tests.{new_session_tests};
-ghost use Rattle.capsteps.specs.Lockmachine.Inodes.{StateMap};
+ghost use Rattle.inotree.specs.{Calls.{with_new, changed}, Tree.{Nodes, IsTree}, declared.node.Kind.{Kind}, declared.node.Node.{Node}};
 ghost use Rattle.captable.specs.Table.{IsTable};
-ghost use Rattle.capsteps.specs.Lockmachine.Locks.{IsLockMap, with_ino};
-ghost use Rattle.capsteps.specs.Lockmachine.declared.scene.Scene.{Scene};
-ghost use Rattle.capsteps.specs.Capevents.declared.event.Event.{Event};
-ghost use Rattle.capsteps.specs.Capevents.declared.row.Row.{Row};
-ghost use Rattle.capsteps.specs.Capevents.declared.outcome.Ended.{Ended};
-ghost use Rattle.capsteps.specs.Capevents.declared.reply.Reply.{Reply};
-ghost use Rattle.capsteps.specs.Caprules.declared.rejection.Rejection.{Rejection};
-ghost use Rattle.capsteps.specs.Caprules.State.{State};
-ghost use Rattle.capsteps.specs.Caprules.Direct.{with_scene};
-ghost use Rattle.capsteps.specs.Leaving.{with_parts, LeavesEntries};
-ghost use Rattle.capsteps.specs.Caprules.Judge.{judged, rejection_reply};
-ghost use Rattle.capsteps.specs.Caprules.Step.{Step, StepBy};
-ghost use Rattle.capsteps.specs.Caprules.History.{HasNoStray, IsOpening, Replays, IsLegal};
+ghost use Rattle.sessiontab.specs.{Calls.{with_session, without_blocked}, Table.{SessionTable}, Tests.{new_session_tests}};
+ghost use Rattle.capsteps.specs.{Capevents.declared.event.Event.{Event}, Capevents.declared.outcome.Ended.{Ended}, Capevents.declared.reply.Reply.{Reply}, Capevents.declared.row.Row.{Row}, Caprules.Direct.{with_scene}, Caprules.Finish.{finished}, Caprules.Headline.{EachServing, ServedDenied, ServedByName, NoneConflict}, Caprules.History.{HasNoStray, IsOpening, Replays, IsLegal}, Caprules.Judge.{judged, rejection_reply}, Caprules.Settle.{Made, MakesAll, Settles, ended_in}, Caprules.Sound.{IsSound}, Caprules.State.{State}, Caprules.Step.{Step, StepBy}, Caprules.declared.rejection.Rejection.{Rejection}, Leaving.{with_parts, LeavesEntries}, Lockmachine.Inodes.{StateMap}, Lockmachine.Locks.{IsLockMap, with_ino}, Lockmachine.declared.scene.Scene.{Scene}};
 ghost use Rattle.capcore.specs.SameEvents.{FoundMemory, AllFoundMemory, events_of, ends_of, passes_of};
-ghost use Rattle.capsteps.specs.Caprules.Settle.{Made, MakesAll, Settles, ended_in};
-ghost use Rattle.capsteps.specs.Caprules.Finish.{finished};
-ghost use Rattle.capsteps.specs.Caprules.Headline.{EachServing, ServedDenied, ServedByName, NoneConflict};
-ghost use Rattle.capsteps.specs.Caprules.Sound.{IsSound};
 
 /// The opening state is sound.
 pub fn an_opening_is_sound()

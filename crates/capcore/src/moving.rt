@@ -1,20 +1,9 @@
 //! The pieces of a step that may move locks: its event by itself, the settling of locks with the end of the step, and what it says.
 ghost use Rattle.std.specs.Prelude.{◌≡◌, ◌+◌, ◌≤◌, ◌++◌, List, length, IfOk, OnErr};
-ghost use Rattle.captable.specs.declared.entry.Holder.{Holder};
-ghost use Rattle.captable.specs.Known.{known_of};
-ghost use Rattle.capsteps.specs.Capacts.Known.{AreKnown, HaveRoom};
-ghost use Rattle.capsteps.specs.Capevents.declared.outcome.Ended.{Ended};
-ghost use Rattle.capsteps.specs.Capnotes.Noted.{LeadOn};
-ghost use Rattle.capsteps.specs.Capnotes.DueEndings.{HaveOwnNumbers};
-ghost use Rattle.capsteps.specs.Caprules.Direct.{reply_of, shown};
-ghost use Rattle.capsteps.specs.Caprules.State.{State};
-ghost use Rattle.capsteps.specs.Serves.{EndsWith};
-ghost use Rattle.capsteps.specs.EntryRequest.{entry_event};
-ghost use Rattle.capsteps.specs.Begun.{ArePermittedIn};
-ghost use Rattle.capsteps.specs.SessionChange.{session_changed, session_event};
+ghost use Rattle.captable.specs.{Known.{known_of}, declared.entry.Holder.{Holder}};
+ghost use Rattle.capsteps.specs.{Begun.{ArePermittedIn}, Capacts.Known.{AreKnown, HaveRoom}, Capevents.declared.outcome.Ended.{Ended}, Capnotes.DueEndings.{HaveOwnNumbers}, Capnotes.Noted.{LeadOn}, Caprules.Direct.{reply_of, shown}, Caprules.State.{State}, EntryRequest.{entry_event}, Serves.{EndsWith}, SessionChange.{session_changed, session_event}};
 ghost use Rattle.capsteps.specs.Capevents.declared.event.Event.TheVariants as event;
-ghost use Rattle.capcore.specs.Asks.{asked_event};
-ghost use Rattle.capcore.specs.UnderWay.{HasBegun, HasPlaces, IsReady, IsWhole, MayBegin, among, answer_of, dropped_of, earlier_of, event_of, state_of};
+ghost use Rattle.capcore.specs.{Asks.{asked_event}, UnderWay.{HasBegun, HasPlaces, IsReady, IsWhole, MayBegin, among, answer_of, dropped_of, earlier_of, event_of, state_of}};
 
 use crate::asks::{Asked, copy_of_ask};
 use crate::parts::{Affected, Answer, Asking, Effect, Parts};

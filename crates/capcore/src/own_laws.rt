@@ -1,17 +1,8 @@
 //! What is served in the step that brought it. No program needs to call this law.
 
 ghost use Rattle.std.specs.Prelude.{◌≡◌, ◌+◌, false, List, None};
-ghost use Rattle.capbits.specs.declared.ids.ClientId.{ClientId};
-ghost use Rattle.capbits.specs.declared.ids.Ino.{Ino};
-ghost use Rattle.capsteps.specs.Lockmachine.declared.request.Ask.{Ask};
-ghost use Rattle.capsteps.specs.Lockmachine.Locks.{IsLockMap, next_request, with_request};
-ghost use Rattle.capsteps.specs.Lockmachine.declared.scene.Scene.{Scene};
-ghost use Rattle.capsteps.specs.Caprules.State.{State};
-ghost use Rattle.capsteps.specs.Caprules.Direct.{Awaits, reply_of};
-ghost use Rattle.capsteps.specs.Caprules.Headline.{is_rejection};
-ghost use Rattle.capsteps.specs.Caprules.Serving.{judged_again};
-ghost use Rattle.capsteps.specs.Caprules.Settle.{Made, MakesAll, ended_in};
-ghost use Rattle.capsteps.specs.Caprules.Sound.{IsSound};
+ghost use Rattle.capbits.specs.declared.{ids.ClientId.{ClientId}, ids.Ino.{Ino}};
+ghost use Rattle.capsteps.specs.{Caprules.Direct.{Awaits, reply_of}, Caprules.Headline.{is_rejection}, Caprules.Serving.{judged_again}, Caprules.Settle.{Made, MakesAll, ended_in}, Caprules.Sound.{IsSound}, Caprules.State.{State}, Lockmachine.Locks.{IsLockMap, next_request, with_request}, Lockmachine.declared.request.Ask.{Ask}, Lockmachine.declared.scene.Scene.{Scene}};
 
 /// A request that nothing stops when it comes, and that is served in the same step, is neither denied nor refused: no
 /// request of an earlier step is served before it, so it is judged on the tree and the sessions on which it came.

@@ -5,8 +5,9 @@ use capbits::{ClientId, Ticket};
 use capsteps::endings::Endings;
 use capsteps::entry_request::EntryRequest;
 use capsteps::leaving::SessionChange;
-use capsteps::{Change, InoSet, Messages, Scene};
+use capsteps::{Change, Messages, Scene};
 use captable::{Holder, Known};
+use inotree::InoSet;
 
 // Tree, sessions, entries and locks, what clients are still to be told, and what a step needs beside them.
 #[derive(Debug)]

@@ -1,9 +1,7 @@
 //! The step of a recall: clients are asked to give back what they have not used for longest.
 ghost use Rattle.std.specs.Prelude.{◌≡◌, IfOk, OnErr};
+ghost use Rattle.capsteps.specs.{Answered.{IsAnswered}, Caprules.Noted.{view_of}, Capview.Changes.{AreChanges}};
 ghost use Rattle.capsteps.specs.Capevents.declared.event.Event.TheVariants as event;
-ghost use Rattle.capsteps.specs.Answered.{IsAnswered};
-ghost use Rattle.capsteps.specs.Caprules.Noted.{view_of};
-ghost use Rattle.capsteps.specs.Capview.Changes.{AreChanges};
 
 use crate::world::World;
 use capsteps::said::Said;

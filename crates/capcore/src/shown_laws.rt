@@ -2,15 +2,7 @@
 
 ghost use Rattle.std.specs.Prelude.{◌++◌, [], ◌∷◌, List};
 ghost use Rattle.captable.specs.Table.{IsTable};
-ghost use Rattle.capsteps.specs.Lockmachine.declared.scene.Scene.{Scene};
-ghost use Rattle.capsteps.specs.Capevents.declared.row.Row.{Row};
-ghost use Rattle.capsteps.specs.Caprules.State.{State};
-ghost use Rattle.capsteps.specs.Caprules.Direct.{direct};
-ghost use Rattle.capsteps.specs.Capevents.declared.event.Event.{Event};
-ghost use Rattle.capsteps.specs.Caprules.Headline.{IssuesExactly};
-ghost use Rattle.capsteps.specs.Caprules.Sound.{IsSound};
-ghost use Rattle.capsteps.specs.Caprules.Step.{Step};
-ghost use Rattle.capsteps.specs.Caprules.Shown.{AreShown, ShowsWhatIsTold, TakesUnshown, TakesOnlySo};
+ghost use Rattle.capsteps.specs.{Capevents.declared.event.Event.{Event}, Capevents.declared.row.Row.{Row}, Caprules.Direct.{direct}, Caprules.Headline.{IssuesExactly}, Caprules.Shown.{AreShown, ShowsWhatIsTold, TakesUnshown, TakesOnlySo}, Caprules.Sound.{IsSound}, Caprules.State.{State}, Caprules.Step.{Step}, Lockmachine.declared.scene.Scene.{Scene}};
 
 /// Where the numbers of entries say what clients were last shown, they say it after one step more.
 pub fn a_step_shows_what_it_tells()

@@ -1,12 +1,10 @@
 //! The core and its steps.
-ghost use Rattle.std.specs.Prelude.{◌≡◌, ◌↔◌, ◌<◌, [], length, Err, IfOk, OnErr};
+ghost use Rattle.std.specs.{Option.{option_copied}, Prelude.{◌≡◌, ◌↔◌, ◌<◌, [], length, Err, IfOk, OnErr}};
 ghost use Rattle.std.specs.FinMap as map;
-ghost use Rattle.std.specs.Option.{option_copied};
-ghost use Rattle.capsteps.specs.Caprules.History.{HasNoStray, IsOpening, IsRecorded};
-ghost use Rattle.capcore.specs.Promised.{IsPromised};
 ghost use Rattle.captable.specs.Table.{holder, entry_at};
-ghost use Rattle.capsteps.specs.Lockmachine.Locks.{lock_at};
+ghost use Rattle.capsteps.specs.{Caprules.History.{HasNoStray, IsOpening, IsRecorded}, Lockmachine.Locks.{lock_at}};
 ghost use Rattle.capsteps.specs.Capacts.declared.stop.Stop.TheVariants as stop_kind;
+ghost use Rattle.capcore.specs.Promised.{IsPromised};
 
 use crate::world::World;
 use capbits::{ClientId, Ino, Part, PassId};

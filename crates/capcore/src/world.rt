@@ -1,27 +1,13 @@
 //! What an event does: all of the core but its history.
 ghost use Rattle.std.specs.Prelude.{List, ◌≡◌, ◌+◌, false, [], None, IfOk, OnOk, OnErr};
-ghost use Rattle.inotree.specs.Tree.{IsTree, is_directory};
-ghost use Rattle.inotree.specs.Calls.{with_new};
-ghost use Rattle.inotree.specs.Tests.{create_tests};
-ghost use Rattle.capsteps.specs.Caprules.State.{State};
-ghost use Rattle.capsteps.specs.Caprules.Sound.{NumbersLeft};
-ghost use Rattle.capsteps.specs.Affected.{affected_by, session_changed_by, is_listing};
-ghost use Rattle.captable.specs.Table.{IsTable, Table, holder};
-ghost use Rattle.capsteps.specs.Lockmachine.Locks.{IsLockMap, LockMap};
-ghost use Rattle.sessiontab.specs.Calls.{with_session};
-ghost use Rattle.sessiontab.specs.Tests.{new_session_tests};
 ghost use Rattle.std.specs.FinMap as map;
-ghost use Rattle.capsteps.specs.Caprules.Direct.{Says, IsDirect, direct, made_event, owned_by, with_birth, with_sessions};
-ghost use Rattle.capsteps.specs.Caprules.History.{IsOpening, HasNoStray};
-ghost use Rattle.capsteps.specs.Answered.{IsAnswered};
-ghost use Rattle.capcore.specs.UnderWay.{event_of};
-ghost use Rattle.capsteps.specs.Caprules.Noted.{view_of};
-ghost use Rattle.capsteps.specs.Capview.Changes.{AreChanges};
-ghost use Rattle.capsteps.specs.Capview.Sight.{Shows};
 ghost use Rattle.capbits.specs.Refusal.{first_failing};
-ghost use Rattle.capsteps.specs.Lockmachine.Scene.{scene};
-ghost use Rattle.capsteps.specs.Capevents.declared.outcome.Ended.{Ended as AnEnded};
+ghost use Rattle.inotree.specs.{Calls.{with_new}, Tests.{create_tests}, Tree.{IsTree, is_directory}};
+ghost use Rattle.captable.specs.Table.{IsTable, Table, holder};
+ghost use Rattle.sessiontab.specs.{Calls.{with_session}, Tests.{new_session_tests}};
+ghost use Rattle.capsteps.specs.{Affected.{affected_by, session_changed_by, is_listing}, Answered.{IsAnswered}, Capevents.declared.outcome.Ended.{Ended as AnEnded}, Caprules.Direct.{Says, IsDirect, direct, made_event, owned_by, with_birth, with_sessions}, Caprules.History.{IsOpening, HasNoStray}, Caprules.Noted.{view_of}, Caprules.Sound.{NumbersLeft}, Caprules.State.{State}, Capview.Changes.{AreChanges}, Capview.Sight.{Shows}, Lockmachine.Locks.{IsLockMap, LockMap}, Lockmachine.Scene.{scene}};
 ghost use Rattle.capsteps.specs.Capevents.declared.event.Event.TheVariants as event;
+ghost use Rattle.capcore.specs.UnderWay.{event_of};
 
 use crate::asks::Asked;
 use crate::judging::{access_rejection, asked_refusal, rejection};
@@ -62,8 +48,7 @@ impl Drop for World {
 
 impl Model for World {
     ghost use Rattle.capsteps.specs.Caprules.State.{State};
-    ghost use Rattle.capcore.specs.Codes.{state_code};
-    ghost use Rattle.capcore.specs.UnderWay.{IsWhole, state_of};
+    ghost use Rattle.capcore.specs.{Codes.{state_code}, UnderWay.{IsWhole, state_of}};
 
     ghost Value = { State };
 

@@ -1,28 +1,25 @@
 -- What a reply is made of.
 use Rattle.std.specs.Prelude.{Bool, true, false, Option, Some, None}
-use Rattle.capevents.specs.declared.outcome.Outcome.{Outcome}
-use Rattle.capevents.specs.declared.outcome.Outcome.TheVariants as outcome
-use Rattle.capevents.specs.declared.reply.Reply.{Reply}
-use Rattle.capevents.specs.declared.reply.Reply.TheVariants as reply
+use Rattle.capevents.specs.declared.{outcome.Outcome.{Outcome}, reply.Reply.{Reply}}
 
 -- how a request ended, as its answer; where its session has ended, there is none
 abbrev pub outcome_reply : Outcome → Option Reply
-outcome_reply outcome.Done = Some reply.Done
-outcome_reply (outcome.Values values) = Some (reply.Values values)
-outcome_reply (outcome.Denied access rules) = Some (reply.Denied access rules)
-outcome_reply (outcome.Refused refusal) = Some (reply.Refused refusal)
-outcome_reply outcome.OutOfMemory = Some reply.OutOfMemory
-outcome_reply outcome.Dropped = None
+outcome_reply Outcome.Done = Some Reply.Done
+outcome_reply (Outcome.Values values) = Some (Reply.Values values)
+outcome_reply (Outcome.Denied access rules) = Some (Reply.Denied access rules)
+outcome_reply (Outcome.Refused refusal) = Some (Reply.Refused refusal)
+outcome_reply Outcome.OutOfMemory = Some Reply.OutOfMemory
+outcome_reply Outcome.Dropped = None
 
 -- the reply has a list, of which a copy takes memory
 abbrev pub has_list : Reply → Bool
-has_list (reply.Values values) = true
-has_list reply.Done = false
-has_list (reply.Ino ino) = false
-has_list (reply.Opened seq caps) = false
-has_list (reply.Waiting ticket) = false
-has_list (reply.Denied access rules) = false
-has_list (reply.Refused refusal) = false
-has_list (reply.Messages messages) = true
-has_list (reply.Recalled holders) = true
-has_list reply.OutOfMemory = false
+has_list (Reply.Values values) = true
+has_list Reply.Done = false
+has_list (Reply.Ino ino) = false
+has_list (Reply.Opened seq caps) = false
+has_list (Reply.Waiting ticket) = false
+has_list (Reply.Denied access rules) = false
+has_list (Reply.Refused refusal) = false
+has_list (Reply.Messages messages) = true
+has_list (Reply.Recalled holders) = true
+has_list Reply.OutOfMemory = false

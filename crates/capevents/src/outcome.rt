@@ -196,8 +196,7 @@ impl Drop for MessageList {
 }
 
 impl Model for MessageList {
-    ghost use Rattle.std.specs.Prelude.{List};
-    ghost use Rattle.std.specs.Coded.{coded_list};
+    ghost use Rattle.std.specs.{Coded.{coded_list}, Prelude.{List}};
     ghost use Rattle.capevents.specs.declared.outcome.Message.{Message};
     ghost use Rattle.capevents.specs.contracts.outcome.Message as message;
 

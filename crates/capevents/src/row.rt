@@ -22,9 +22,8 @@ impl Drop for EndedList {
 }
 
 impl Model for EndedList {
-    ghost use Rattle.std.specs.Prelude.{List};
+    ghost use Rattle.std.specs.{Coded.{coded_list}, Prelude.{List}};
     ghost use Rattle.capevents.specs.declared.outcome.Ended.{Ended};
-    ghost use Rattle.std.specs.Coded.{coded_list};
     ghost use Rattle.capevents.specs.contracts.outcome.Ended as ended;
 
     ghost Value = { List Ended };

@@ -1,16 +1,7 @@
 -- The numbers of the requests of whose ends messages tell.
-use Rattle.std.proofs.Common.{◌≡◌, ℕ, ◌+◌, ◌==◌, ◌||◌, ◌&&◌, ◌<◌, Bool, true, false, not, if◌then◌else◌, inl, inr, List, [], ◌∷◌, filter, length, take, get_or, Result, Ok, Err, is_ok, refl, sym, ap, ◌∙◌, arith}
-use Rattle.std.specs.List.{list_any}
-use Rattle.std.specs.List.Sorted.{IsBinarySearchResult, IsNonDecreasing}
-use Rattle.std.specs.Ordering.{nat_cmp}
-use Rattle.std.proofs.lemmas.Bool.{cases_lt, eq-eqb, ne_eqb}
-use Rattle.std.proofs.lemmas.List.{get_or_default}
-use Rattle.std.proofs.lemmas.List.Folds.{list_any_at, list_any_more, list_any_none}
-use Rattle.std.proofs.lemmas.List.Sorted.{searched}
-use Rattle.capbits.specs.declared.ids.ClientId.{ClientId}
-use Rattle.capbits.specs.declared.ids.Ticket.{Ticket}
-use Rattle.capevents.specs.declared.outcome.Ended.{Ended}
-use Rattle.capevents.specs.declared.outcome.Message.{Message}
+use Rattle.std.{proofs.Common.{◌≡◌, ℕ, ◌+◌, ◌==◌, ◌||◌, ◌&&◌, ◌<◌, Bool, true, false, not, if◌then◌else◌, inl, inr, List, [], ◌∷◌, filter, length, take, get_or, Result, Ok, Err, is_ok, refl, sym, ap, ◌∙◌, arith}, proofs.lemmas.Bool.{cases_lt, eq-eqb, ne_eqb}, proofs.lemmas.List.{get_or_default}, proofs.lemmas.List.Folds.{list_any_at, list_any_more, list_any_none}, proofs.lemmas.List.Sorted.{searched}, specs.List.{list_any}, specs.List.Sorted.{IsBinarySearchResult, IsNonDecreasing}, specs.Ordering.{nat_cmp}}
+use Rattle.capbits.specs.declared.{ids.ClientId.{ClientId}, ids.Ticket.{Ticket}}
+use Rattle.capevents.specs.declared.{outcome.Ended.{Ended}, outcome.Message.{Message}}
 use Rattle.capnotes.specs.DueEndings.{AreEndsOf, is_end_of, is_left, is_to}
 
 -- the numbers of some messages, and of one more

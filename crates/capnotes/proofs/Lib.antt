@@ -1,5 +1,4 @@
 pub mod EndNumbers
-pub mod InoSets
 pub mod Noting
 pub mod Taking
 pub use Rattle.capevents.proofs as Capevents

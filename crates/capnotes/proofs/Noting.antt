@@ -1,36 +1,15 @@
 -- What was noted leads on, change by change.
-use Rattle.std.proofs.Common.{◌≡◌, ℕ, ◌+◌, Bool, true, false, List, [], ◌∷◌, ◌++◌, ◌⊎◌, inl, inr, Option, Some, None, refl, sym, ap, subst, ◌∙◌, arith}
-use Rattle.std.specs.Cmp.{nat_cmp_total}
+use Rattle.std.{proofs.Common.{◌≡◌, ℕ, ◌+◌, Bool, true, false, List, [], ◌∷◌, ◌++◌, ◌⊎◌, inl, inr, Option, Some, None, refl, sym, ap, subst, ◌∙◌, arith}, specs.Cmp.{nat_cmp_total}, specs.Option.{option_map}}
 use Rattle.std.specs.FinMap as map
 use Rattle.std.specs.FinSet as set
-use Rattle.std.specs.Option.{option_map}
 use Rattle.capbits.specs.declared.ids.Ino.{Ino}
-use Rattle.numbered.proofs.Maps.{change-none, change-is, insert-here}
 use Rattle.capgrant.specs.declared.access.Attr.{Attr}
-use Rattle.inotree.specs.declared.node.Kind.{Kind}
-use Rattle.inotree.specs.declared.node.Node.{Node}
-use Rattle.inotree.specs.declared.node.Site.{Site}
-use Rattle.inotree.specs.declared.node.Site.TheVariants.{Under}
-use Rattle.inotree.specs.Inodes.{InodeMap, with_attr, with_setting, with_attribute, without_attribute}
-use Rattle.inotree.specs.declared.node.Setting.TheVariants.{Mode, Uid, Gid, Size, Time}
-use Rattle.inotree.specs.Tree.{Nodes}
-use Rattle.inotree.specs.Calls.{changed, moved, new_node, unlinked, with_new}
+use Rattle.numbered.proofs.Maps.{change-none, change-is, insert-here}
+use Rattle.inotree.specs.{Calls.{changed, moved, new_node, unlinked, with_new}, Inodes.{InodeMap, with_attr}, Tree.{Nodes}, declared.node.Kind.{Kind}, declared.node.Node.{Node}, declared.node.Site.{Site}, declared.node.Site.TheVariants.{Under}}
 use Rattle.sessiontab.specs.Connected.{SessionMap}
-use Rattle.capview.specs.declared.change.ViewChange.{ViewChange}
-use Rattle.capview.specs.declared.change.ViewChange.TheVariants as change
-use Rattle.capview.specs.declared.view.View.{View}
-use Rattle.capview.specs.Changes.{AreChanges, kind_by, tree_by, view_by}
-use Rattle.capview.specs.Sight.{IsLike, Shows, sight_of}
-use Rattle.capview.proofs.Likeness.{like-unseen, like-settled, shows-tree}
-use Rattle.capview.proofs.Telling.{changes-none, changes-more, changes-alike}
-use Rattle.capevents.specs.Lockmachine.declared.request.Ask.TheVariants.{Unlink, Rmdir}
-use Rattle.capevents.specs.Lockmachine.declared.request.Change.{Change}
-use Rattle.capevents.specs.Lockmachine.declared.request.Change.TheVariants.{Set, SetXattr, RemoveXattr}
-use Rattle.capevents.specs.Lockmachine.declared.request.Request.{Request}
-use Rattle.capevents.specs.declared.outcome.Outcome.{Outcome}
-use Rattle.capevents.specs.declared.outcome.Outcome.TheVariants.{Done}
-use Rattle.capnotes.specs.Changing.{tree_changed, tree_after, tree_with}
-use Rattle.capnotes.specs.Noted.{LeadOn, sets_attr, view}
+use Rattle.capview.{proofs.Likeness.{like-unseen, like-settled, shows-tree}, proofs.Telling.{changes-none, changes-more, changes-alike}, specs.Changes.{AreChanges, kind_by, tree_by, view_by}, specs.Sight.{IsLike, Shows, sight_of}, specs.declared.change.ViewChange.{ViewChange}, specs.declared.view.View.{View}}
+use Rattle.capevents.specs.{Lockmachine.declared.request.Ask.TheVariants.{Unlink, Rmdir}, Lockmachine.declared.request.Change.{Change}, Lockmachine.declared.request.Request.{Request}, declared.outcome.Outcome.{Outcome}, declared.outcome.Outcome.TheVariants.{Done}}
+use Rattle.capnotes.specs.{Changing.{tree_changed, tree_after, tree_with}, Noted.{LeadOn, sets_attr, view}}
 
 -- nothing was noted, and the tree stays
 pub leads-none : (items : List ViewChange) (tree : Nodes) → LeadOn items items tree tree
@@ -52,8 +31,8 @@ module _ (items : List ViewChange) (before : Nodes) where
   leads-more : (c : ViewChange) → ((sessions : SessionMap) → view_by (view before sessions) c ≡ view (tree_by before c) sessions) → LeadOn items (items ++ c ∷ []) before (tree_by before c)
   leads-more c shows = record { on = λ first sessions told. subst (AreChanges (items ++ c ∷ []) first) (shows sessions) (changes-more items first (view before sessions) c told) }
 
-  pub leads-forgotten : (ino : Ino) → LeadOn items (items ++ change.Forgotten ino ∷ []) before (tree_by before (change.Forgotten ino))
-  leads-forgotten ino = leads-more (change.Forgotten ino) (λ sessions. refl)
+  pub leads-forgotten : (ino : Ino) → LeadOn items (items ++ ViewChange.Forgotten ino ∷ []) before (tree_by before (ViewChange.Forgotten ino))
+  leads-forgotten ino = leads-more (ViewChange.Forgotten ino) (λ sessions. refl)
 
 -- ---- an inode, as it is read off the tree after the change
 
@@ -89,11 +68,11 @@ module _ (items : List ViewChange) (before after : Nodes) (ino : Ino) where
 
   -- its owner, group or mode was set
   pub leads-attr : (f : Node → Node) → ((node : Node) → (f node).kind ≡ node.kind) → ((node : Node) → (f node).site ≡ node.site) → after ≡ changed f before ino.0
-      → (node : Node) → map.get after.nodes ino.0 ≡ Some node → LeadOn items (items ++ change.Settled ino node.attr ∷ []) before after
+      → (node : Node) → map.get after.nodes ino.0 ≡ Some node → LeadOn items (items ++ ViewChange.Settled ino node.attr ∷ []) before after
   leads-attr f kinds sites is node here =
-      let told : List ViewChange = items ++ change.Settled ino node.attr ∷ [] in
+      let told : List ViewChange = items ++ ViewChange.Settled ino node.attr ∷ [] in
       subst (LeadOn items told before) (sym is)
-      (leads-alike items told before (changed (with_attr node.attr) before ino.0) (changed f before ino.0) (leads-more items before (change.Settled ino node.attr) (λ sessions. refl))
+      (leads-alike items told before (changed (with_attr node.attr) before ino.0) (changed f before ino.0) (leads-more items before (ViewChange.Settled ino node.attr) (λ sessions. refl))
       (like-settled before f ino.0 node.attr kinds sites (ap (option_map (λ (n : Node). n.attr)) (ap (λ (t : Nodes). map.get t.nodes ino.0) (sym is) ∙ here))))
 
   -- what no reader sees was changed
@@ -106,10 +85,10 @@ module _ (items : List ViewChange) (before after : Nodes) (ino : Ino) where
   stands dir name is node here = let from = changed_from (λ n. record n { site = Under (record { 0 = dir }) name }) is node here in ap (λ (n : Node). n.site) from.1
 
   pub leads-place : (dir : ℕ) (name : List ℕ) → after ≡ moved before ino.0 dir name → (node : Node) → map.get after.nodes ino.0 ≡ Some node → (d : Ino) (n : List ℕ) → node.site ≡ Under d n
-      → LeadOn items (items ++ change.Moved ino d n ∷ []) before after
+      → LeadOn items (items ++ ViewChange.Moved ino d n ∷ []) before after
   leads-place dir name is node here d n site =
-      let told : List ViewChange = items ++ change.Moved ino d n ∷ [] in
-      subst (LeadOn items told before) (ap (λ (s : Site). changed (λ m. record m { site = s }) before ino.0) (sym site ∙ stands dir name is node here) ∙ sym is) (leads-more items before (change.Moved ino d n) (λ sessions. refl))
+      let told : List ViewChange = items ++ ViewChange.Moved ino d n ∷ [] in
+      subst (LeadOn items told before) (ap (λ (s : Site). changed (λ m. record m { site = s }) before ino.0) (sym site ∙ stands dir name is node here) ∙ sym is) (leads-more items before (ViewChange.Moved ino d n) (λ sessions. refl))
 
   -- it was made
   module _ (kind : Kind) (dir : ℕ) (name : List ℕ) (attr : Attr) (is : after ≡ with_new before kind dir name attr) (next : ino.0 ≡ before.last + 1) where
@@ -119,9 +98,9 @@ module _ (items : List ViewChange) (before after : Nodes) (ino : Ino) where
         ∙ insert-here nat_cmp_total map.nat_cmp-IsAntisymmetric before.nodes (before.last + 1) (new_node kind dir name attr)
 
     pub leads-birth : (node : Node) → map.get after.nodes ino.0 ≡ Some node → (d : Ino) (n : List ℕ) → node.site ≡ Under d n → (is_dir : Bool) → kind_by is_dir ≡ node.kind
-        → LeadOn items (items ++ change.Born ino d n node.attr is_dir ∷ []) before after
+        → LeadOn items (items ++ ViewChange.Born ino d n node.attr is_dir ∷ []) before after
     leads-birth node here d n site is_dir kinds =
-        let told : List ViewChange = items ++ change.Born ino d n node.attr is_dir ∷ [] in
+        let told : List ViewChange = items ++ ViewChange.Born ino d n node.attr is_dir ∷ [] in
         let same : Some node ≡ Some (new_node kind dir name attr) = sym here ∙ born_there in
         let born : node ≡ new_node kind dir name attr = cc in
         let of_kind : kind_by is_dir ≡ kind = kinds ∙ ap (λ (m : Node). m.kind) born in
@@ -129,9 +108,9 @@ module _ (items : List ViewChange) (before after : Nodes) (ino : Ino) where
         let by : node.attr ≡ attr = ap (λ (m : Node). m.attr) born in
         let made : new_node (kind_by is_dir) d.0 n node.attr ≡ new_node kind dir name attr =
         λ i. record { kind = of_kind i; site = at i; attr = by i; size = 0; time = 0; attributes = map.empty; snapshots = set.empty } in
-        let tree : tree_by before (change.Born ino d n node.attr is_dir) ≡ with_new before kind dir name attr =
+        let tree : tree_by before (ViewChange.Born ino d n node.attr is_dir) ≡ with_new before kind dir name attr =
         λ i. record { nodes = map.insert before.nodes (next i) (made i); last = next i } in
-        subst (LeadOn items told before) (tree ∙ sym is) (leads-more items before (change.Born ino d n node.attr is_dir) (λ sessions. refl))
+        subst (LeadOn items told before) (tree ∙ sym is) (leads-more items before (ViewChange.Born ino d n node.attr is_dir) (λ sessions. refl))
 
 -- ---- what a client changed, or asked for
 
@@ -148,9 +127,9 @@ module _ (items : List ViewChange) (before after : Nodes) (ino : Ino) where
 
 -- an inode that was unlinked, or removed, is a stray
 pub leads-unlinked : (items : List ViewChange) (before after : Nodes) (q : Request) (o : Outcome) → o ≡ Done → (q.ask ≡ Unlink) ⊎ (q.ask ≡ Rmdir) → after ≡ tree_after before q o
-    → LeadOn items (items ++ change.Removed q.ino ∷ []) before after
+    → LeadOn items (items ++ ViewChange.Removed q.ino ∷ []) before after
 leads-unlinked items before after q o done asked is =
-    subst (LeadOn items (items ++ change.Removed q.ino ∷ []) before) (sym (is ∙ ap (tree_after before q) done ∙ by asked)) (leads-more items before (change.Removed q.ino) (λ sessions. refl))
+    subst (LeadOn items (items ++ ViewChange.Removed q.ino ∷ []) before) (sym (is ∙ ap (tree_after before q) done ∙ by asked)) (leads-more items before (ViewChange.Removed q.ino) (λ sessions. refl))
   where
     by : (q.ask ≡ Unlink) ⊎ (q.ask ≡ Rmdir) → tree_with before q.ino.0 q.ask ≡ unlinked before q.ino.0
     by (inl e) = ap (tree_with before q.ino.0) e

@@ -1,17 +1,8 @@
 -- What a number takes out of the requests that ended.
-use Rattle.std.proofs.Common.{◌≡◌, ◌≢◌, ℕ, zero, suc, ◌==◌, ◌<◌, not, cond, Some, None, List, [], ◌∷◌, length, get_or, refl, sym, ap, ◌∙◌, All, arith}
-use Rattle.std.specs.Prelude.{filter}
-use Rattle.std.specs.List.{find, position, remove, slice_get}
-use Rattle.std.specs.Cmp.{nat_eq_equiv}
-use Rattle.std.proofs.lemmas.Bool.{ne_eqb, eqb-true}
-use Rattle.std.proofs.lemmas.List.Folds.{find_at}
-use Rattle.std.proofs.lemmas.Option.{slice_get-get_or}
-use Rattle.std.proofs.lemmas.List.Elements.{All-head, All-tail}
-use Rattle.captable.proofs.Searches.{find_passes}
-use Rattle.capevents.proofs.Lockmachine.Positions.{at_position}
-use Rattle.capevents.proofs.Lockmachine.Rest.{not_found}
+use Rattle.std.{proofs.Common.{◌≡◌, ◌≢◌, ℕ, zero, suc, ◌==◌, ◌<◌, not, cond, Some, None, List, [], ◌∷◌, length, get_or, refl, sym, ap, ◌∙◌, All, arith, filter}, proofs.lemmas.Bool.{ne_eqb, eqb-true}, proofs.lemmas.List.Elements.{All-head, All-tail}, proofs.lemmas.List.Folds.{find_at}, proofs.lemmas.Option.{slice_get-get_or}, specs.Cmp.{nat_eq_equiv}, specs.List.{find, position, remove, slice_get}}
 use Rattle.capbits.specs.declared.ids.Ticket.{Ticket}
-use Rattle.capevents.specs.declared.outcome.Ended.{Ended}
+use Rattle.captable.proofs.Searches.{find_passes}
+use Rattle.capevents.{proofs.Lockmachine.Positions.{at_position}, proofs.Lockmachine.Rest.{not_found}, specs.declared.outcome.Ended.{Ended}}
 use Rattle.capnotes.specs.DueEndings.{is_of_ticket, HaveOwnNumbers, but_for}
 
 -- none of the others has the number of the first

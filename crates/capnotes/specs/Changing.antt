@@ -1,15 +1,7 @@
 -- What becomes of a tree when a request is served.
 use Rattle.std.specs.Prelude.{ℕ}
-use Rattle.inotree.specs.Tree.{Nodes}
-use Rattle.inotree.specs.Inodes.{with_setting, with_attribute, without_attribute}
-use Rattle.inotree.specs.Calls.{changed, unlinked, moved}
-use Rattle.capevents.specs.Lockmachine.declared.request.Change.{Change}
-use Rattle.capevents.specs.Lockmachine.declared.request.Change.TheVariants.{Set, SetXattr, RemoveXattr}
-use Rattle.capevents.specs.Lockmachine.declared.request.Ask.{Ask}
-use Rattle.capevents.specs.Lockmachine.declared.request.Ask.TheVariants.{Get, Alter, Unlink, Rmdir, Rename}
-use Rattle.capevents.specs.Lockmachine.declared.request.Request.{Request}
-use Rattle.capevents.specs.declared.outcome.Outcome.{Outcome}
-use Rattle.capevents.specs.declared.outcome.Outcome.TheVariants as outcome
+use Rattle.inotree.specs.{Calls.{changed, unlinked, moved}, Inodes.{with_setting, with_attribute, without_attribute}, Tree.{Nodes}}
+use Rattle.capevents.specs.{Lockmachine.declared.request.Ask.{Ask}, Lockmachine.declared.request.Ask.TheVariants.{Get, Alter, Unlink, Rmdir, Rename}, Lockmachine.declared.request.Change.{Change}, Lockmachine.declared.request.Change.TheVariants.{Set, SetXattr, RemoveXattr}, Lockmachine.declared.request.Request.{Request}, declared.outcome.Outcome.{Outcome}}
 
 -- the tree with the change of the inode
 abbrev pub tree_changed : Nodes → ℕ → Change → Nodes
@@ -27,9 +19,9 @@ tree_with tree ino (Rename dir name) = moved tree ino dir.0 name
 
 -- a request that ends otherwise than as done changes nothing
 abbrev pub tree_after : Nodes → Request → Outcome → Nodes
-tree_after tree q outcome.Done = tree_with tree q.ino.0 q.ask
-tree_after tree q (outcome.Values shown) = tree
-tree_after tree q (outcome.Denied access rules) = tree
-tree_after tree q (outcome.Refused refusal) = tree
-tree_after tree q outcome.OutOfMemory = tree
-tree_after tree q outcome.Dropped = tree
+tree_after tree q Outcome.Done = tree_with tree q.ino.0 q.ask
+tree_after tree q (Outcome.Values shown) = tree
+tree_after tree q (Outcome.Denied access rules) = tree
+tree_after tree q (Outcome.Refused refusal) = tree
+tree_after tree q Outcome.OutOfMemory = tree
+tree_after tree q Outcome.Dropped = tree

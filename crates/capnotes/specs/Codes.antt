@@ -1,12 +1,10 @@
 -- How values are stored.
-use Rattle.std.specs.Prelude.{ℕ, List, refl}
-use Rattle.std.specs.Coded.{Coded, code_by, coded×, coded_ℕ, coded_list}
-use Rattle.capevents.specs.declared.outcome.Ended.{Ended}
-use Rattle.capevents.specs.contracts.outcome.Ended as ended
+use Rattle.std.specs.{Coded.{Coded, code_by, coded×, coded_ℕ, coded_list}, Prelude.{ℕ, List, refl}}
 use Rattle.capview.specs.declared.change.ViewChange.{ViewChange}
 use Rattle.capview.specs.contracts.change.ViewChange as view_change
-use Rattle.capnotes.specs.Noted.{Noted}
-use Rattle.capnotes.specs.DueEndings.{DueEndings}
+use Rattle.capevents.specs.declared.outcome.Ended.{Ended}
+use Rattle.capevents.specs.contracts.outcome.Ended as ended
+use Rattle.capnotes.specs.{DueEndings.{DueEndings}, Noted.{Noted}}
 
 -- a list with room as its parts
 abbrev pub due_endings_code : Coded DueEndings

@@ -1,12 +1,7 @@
 -- The requests that ended and that no client was told of, and the room for them.
-use Rattle.std.specs.Prelude.{◌≡◌, ◌≢◌, ℕ, ◌+◌, ◌≤◌, Bool, false, ◌==◌, ◌&&◌, not, List, AllPairs, length, filter}
-use Rattle.std.specs.List.{list_any}
-use Rattle.capbits.specs.declared.ids.ClientId.{ClientId}
-use Rattle.capbits.specs.declared.ids.Ticket.{Ticket}
-use Rattle.capevents.specs.Lockmachine.Locks.{LockMap}
-use Rattle.capevents.specs.declared.outcome.Ended.{Ended}
-use Rattle.capevents.specs.declared.outcome.Message.{Message}
-use Rattle.capevents.specs.declared.outcome.Message.TheVariants as message
+use Rattle.std.specs.{List.{list_any}, Prelude.{◌≡◌, ◌≢◌, ℕ, ◌+◌, ◌≤◌, Bool, false, ◌==◌, ◌&&◌, not, List, AllPairs, length, filter}}
+use Rattle.capbits.specs.declared.{ids.ClientId.{ClientId}, ids.Ticket.{Ticket}}
+use Rattle.capevents.specs.{Lockmachine.Locks.{LockMap}, declared.outcome.Ended.{Ended}, declared.outcome.Message.{Message}}
 
 -- in the order in which they ended
 pub record DueEndings : Type 0 where
@@ -37,10 +32,10 @@ is_to client m = m.client.0 == client.0
 
 -- the message tells how the request with this number ended
 abbrev pub is_end_of : Ticket → Message → Bool
-is_end_of ticket (message.Ended t outcome) = t.0 == ticket.0
-is_end_of ticket (message.Caps ino seq caps) = false
-is_end_of ticket (message.Size ino size) = false
-is_end_of ticket (message.Recall ino) = false
+is_end_of ticket (Message.Ended t outcome) = t.0 == ticket.0
+is_end_of ticket (Message.Caps ino seq caps) = false
+is_end_of ticket (Message.Size ino size) = false
+is_end_of ticket (Message.Recall ino) = false
 
 -- the numbers are those of the requests of whose ends the messages tell
 abbrev pub AreEndsOf : List Message → List ℕ → Type 0

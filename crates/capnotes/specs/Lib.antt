@@ -1,5 +1,4 @@
 pub mod DueEndings
-pub mod InoSets
 pub mod Noted
 pub mod Changing
 pub mod Codes

@@ -1,17 +1,10 @@
 -- What a step notes: how it changes what readers see.
 use Rattle.std.specs.Prelude.{ℕ, Bool, true, false, ◌+◌, ◌≤◌, List, length}
 use Rattle.std.specs.FinSet as set
-use Rattle.inotree.specs.declared.node.Setting.{Setting}
-use Rattle.inotree.specs.declared.node.Setting.TheVariants.{Mode, Uid, Gid, Size, Time}
-use Rattle.inotree.specs.Tree.{Nodes}
+use Rattle.inotree.specs.{InoSets.{InoSet}, Tree.{Nodes}, declared.node.Setting.{Setting}, declared.node.Setting.TheVariants.{Mode, Uid, Gid, Size, Time}}
 use Rattle.sessiontab.specs.Connected.{SessionMap}
-use Rattle.capevents.specs.Lockmachine.declared.request.Change.{Change}
-use Rattle.capevents.specs.Lockmachine.declared.request.Change.TheVariants.{Set, SetXattr, RemoveXattr}
-use Rattle.capevents.specs.Lockmachine.Locks.{LockMap}
-use Rattle.capview.specs.declared.change.ViewChange.{ViewChange}
-use Rattle.capview.specs.declared.view.View.{View}
-use Rattle.capview.specs.Changes.{AreChanges}
-use Rattle.capnotes.specs.InoSets.{InoSet}
+use Rattle.capview.specs.{Changes.{AreChanges}, declared.change.ViewChange.{ViewChange}, declared.view.View.{View}}
+use Rattle.capevents.specs.Lockmachine.{Locks.{LockMap}, declared.request.Change.{Change}, declared.request.Change.TheVariants.{Set, SetXattr, RemoveXattr}}
 
 -- what readers see of a tree and of sessions
 abbrev pub view : Nodes → SessionMap → View

@@ -1,13 +1,9 @@
 //! The changes that a step notes: how it changes what readers see.
 ghost use Rattle.std.specs.Prelude.{◌≡◌, ◌==◌, ℕ, ◌+◌, ◌≤◌, ◌<◌, ◌++◌, [], ◌∷◌, length, List, IfOk, OnOk};
 ghost use Rattle.capgrant.specs.declared.access.Attr.{Attr as Owners};
-ghost use Rattle.inotree.specs.declared.node.Kind.{Kind as NodeKind};
-ghost use Rattle.inotree.specs.declared.node.Node.{Node as NodeValue};
-ghost use Rattle.inotree.specs.Tree.{Nodes};
-ghost use Rattle.inotree.specs.Calls.{changed, moved, with_new};
+ghost use Rattle.inotree.specs.{Calls.{changed, moved, with_new}, Tree.{Nodes}, declared.node.Kind.{Kind as NodeKind}, declared.node.Node.{Node as NodeValue}};
 ghost use Rattle.capview.specs.Changes.{kind_by};
-ghost use Rattle.capnotes.specs.Changing.{tree_changed, tree_after};
-ghost use Rattle.capnotes.specs.Noted.{LeadOn, sets_attr};
+ghost use Rattle.capnotes.specs.{Changing.{tree_changed, tree_after}, Noted.{LeadOn, sets_attr}};
 
 use capbits::Ino;
 use capevents::{Ask, Change, Outcome, Request};
@@ -51,8 +47,7 @@ impl fmt::Debug for ChangeList {
 
 impl Model for ChangeList {
     ghost use Rattle.std.specs.Prelude.{◌≤◌, length, vec_capacity};
-    ghost use Rattle.capnotes.specs.Noted.{Noted};
-    ghost use Rattle.capnotes.specs.Codes.{noted_code};
+    ghost use Rattle.capnotes.specs.{Codes.{noted_code}, Noted.{Noted}};
 
     ghost Value = { Noted };
 

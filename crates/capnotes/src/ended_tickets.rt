@@ -1,6 +1,5 @@
 //! Which requests some messages tell of.
-ghost use Rattle.std.specs.Prelude.{◌≡◌, ◌==◌, ◌||◌, true, IfOk, OnOk};
-ghost use Rattle.std.specs.List.{list_any};
+ghost use Rattle.std.specs.{List.{list_any}, Prelude.{◌≡◌, ◌==◌, ◌||◌, true, IfOk, OnOk}};
 ghost use Rattle.capnotes.specs.DueEndings.{AreEndsOf, is_end_of};
 
 use capbits::Ticket;
@@ -21,8 +20,7 @@ impl Drop for EndedTickets {
 }
 
 impl Model for EndedTickets {
-    ghost use Rattle.std.specs.Prelude.{ℕ, List};
-    ghost use Rattle.std.specs.List.Sorted.{IsNonDecreasing};
+    ghost use Rattle.std.specs.{List.Sorted.{IsNonDecreasing}, Prelude.{ℕ, List}};
 
     ghost Value = { List ℕ };
 

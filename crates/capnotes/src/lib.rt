@@ -5,7 +5,6 @@
 
 mod changes;
 mod ended_tickets;
-mod ino_set;
 mod messages;
 
 pub use capevents::{
@@ -17,5 +16,4 @@ pub use capevents::{
 pub use capview::{Question, Unknown, View, ViewChange};
 pub use changes::{ChangeList, sets_attr};
 pub use ended_tickets::EndedTickets;
-pub use ino_set::InoSet;
 pub use messages::Messages;

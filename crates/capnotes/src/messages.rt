@@ -1,8 +1,7 @@
 //! The requests that ended and that no client was told of.
-ghost use Rattle.std.specs.Prelude.{◌≡◌, ◌==◌, ◌&&◌, ◌+◌, ◌≤◌, List, ◌<◌, ◌++◌, [], ◌∷◌, length, filter, not, IfOk, OnOk, OnErr, vec_capacity};
-ghost use Rattle.std.specs.List.{find, list_any, position};
-ghost use Rattle.capnotes.specs.DueEndings.{is_of_ticket, AreEndsOf, is_to, is_left, HaveOwnNumbers, but_for};
+ghost use Rattle.std.specs.{List.{find, list_any, position}, Prelude.{◌≡◌, ◌==◌, ◌&&◌, ◌+◌, ◌≤◌, List, ◌<◌, ◌++◌, [], ◌∷◌, length, filter, not, IfOk, OnOk, OnErr, vec_capacity}};
 ghost use Rattle.capevents.specs.declared.outcome.Message.{Message};
+ghost use Rattle.capnotes.specs.DueEndings.{is_of_ticket, AreEndsOf, is_to, is_left, HaveOwnNumbers, but_for};
 
 use crate::ended_tickets::EndedTickets;
 use capbits::{ClientId, Ticket};
@@ -26,8 +25,7 @@ impl Drop for Messages {
 
 impl Model for Messages {
     ghost use Rattle.std.specs.Prelude.{vec_capacity};
-    ghost use Rattle.capnotes.specs.DueEndings.{DueEndings};
-    ghost use Rattle.capnotes.specs.Codes.{due_endings_code};
+    ghost use Rattle.capnotes.specs.{Codes.{due_endings_code}, DueEndings.{DueEndings}};
 
     ghost Value = { DueEndings };
 

@@ -1,24 +1,9 @@
 -- What clients ask to be told or to change: the accesses that it needs, the tests that it has to pass, and what changes.
-use Rattle.std.specs.Prelude.{ℕ, List, [], ◌∷◌, ◌++◌, take, if◌then◌else◌}
-use Rattle.std.specs.Ordering.{eq_by_cmp}
-use Rattle.capbits.specs.declared.ids.ClientId.{ClientId}
-use Rattle.capbits.specs.declared.cap.Cap.{Cap}
-use Rattle.capbits.specs.declared.cap.Cap.TheVariants.{Ax, Lx, Xx, Fx}
-use Rattle.capbits.specs.declared.cap.Part.{Part}
-use Rattle.capbits.specs.declared.cap.Part.TheVariants.{A, L, X, F}
-use Rattle.capbits.specs.Refusal.{Test}
+use Rattle.std.specs.{Ordering.{eq_by_cmp}, Prelude.{ℕ, List, [], ◌∷◌, ◌++◌, take, if◌then◌else◌}}
+use Rattle.capbits.specs.{Refusal.{Test}, declared.cap.Cap.{Cap}, declared.cap.Cap.TheVariants.{Ax, Lx, Xx, Fx}, declared.cap.Part.{Part}, declared.cap.Part.TheVariants.{A, L, X, F}, declared.ids.ClientId.{ClientId}}
 use Rattle.capgrant.specs.declared.access.Access.{Access}
-use Rattle.capgrant.specs.declared.access.Access.TheVariants as access
-use Rattle.inotree.specs.declared.node.Setting.{Setting}
-use Rattle.inotree.specs.declared.node.Setting.TheVariants.{Mode, Uid, Gid, Size, Time}
-use Rattle.inotree.specs.Names.{name_cmp}
-use Rattle.inotree.specs.Tree.{parent}
-use Rattle.inotree.specs.Tests.{inode_tests, root_test, directory_test, file_test, empty_test, new_place_tests, setting_tests, new_attribute_tests, old_attribute_tests}
-use Rattle.capnotes.specs.Lockmachine.declared.request.Change.{Change}
-use Rattle.capnotes.specs.Lockmachine.declared.request.Change.TheVariants.{Set, SetXattr, RemoveXattr}
-use Rattle.capnotes.specs.Lockmachine.declared.request.Ask.{Ask}
-use Rattle.capnotes.specs.Lockmachine.declared.request.Ask.TheVariants.{Get, Alter, Unlink, Rmdir, Rename}
-use Rattle.capnotes.specs.Lockmachine.declared.scene.Scene.{Scene}
+use Rattle.inotree.specs.{Names.{name_cmp}, Tests.{inode_tests, root_test, directory_test, file_test, empty_test, new_place_tests, setting_tests, new_attribute_tests, old_attribute_tests}, Tree.{parent}, declared.node.Setting.{Setting}, declared.node.Setting.TheVariants.{Mode, Uid, Gid, Size, Time}}
+use Rattle.capnotes.specs.Lockmachine.{declared.request.Ask.{Ask}, declared.request.Ask.TheVariants.{Get, Alter, Unlink, Rmdir, Rename}, declared.request.Change.{Change}, declared.request.Change.TheVariants.{Set, SetXattr, RemoveXattr}, declared.scene.Scene.{Scene}}
 use Rattle.caprules.specs.Needs.{Need, need, need_if}
 
 -- ---- accesses
@@ -29,14 +14,14 @@ virtual_prefix = 99 ∷ 101 ∷ 112 ∷ 104 ∷ 46 ∷ []
 
 -- an attribute whose name begins so needs an access of its own
 abbrev pub attribute_access : List ℕ → Access
-attribute_access name = if eq_by_cmp name_cmp (take 5 name) virtual_prefix then access.SetVxattr else access.Write
+attribute_access name = if eq_by_cmp name_cmp (take 5 name) virtual_prefix then Access.SetVxattr else Access.Write
 
 abbrev pub setting_access : Setting → Access
-setting_access (Mode mode) = access.Chmod
-setting_access (Uid uid) = access.Chown uid
-setting_access (Gid gid) = access.Chgrp gid
-setting_access (Size size) = access.Write
-setting_access (Time time) = access.Write
+setting_access (Mode mode) = Access.Chmod
+setting_access (Uid uid) = Access.Chown uid
+setting_access (Gid gid) = Access.Chgrp gid
+setting_access (Size size) = Access.Write
+setting_access (Time time) = Access.Write
 
 abbrev pub change_access : Change → Access
 change_access (Set setting) = setting_access setting
@@ -45,11 +30,11 @@ change_access (RemoveXattr name) = attribute_access name
 
 -- the accesses that it needs, in order
 abbrev pub ask_needs : Scene → ClientId → ℕ → Ask → List Need
-ask_needs s client ino (Get part) = need client ino access.Read ∷ []
+ask_needs s client ino (Get part) = need client ino Access.Read ∷ []
 ask_needs s client ino (Alter change) = need client ino (change_access change) ∷ []
-ask_needs s client ino Unlink = need_if client (parent s.tree.nodes ino) access.Write
-ask_needs s client ino Rmdir = need_if client (parent s.tree.nodes ino) access.Write
-ask_needs s client ino (Rename dir name) = need_if client (parent s.tree.nodes ino) access.Write ++ need client dir.0 access.Write ∷ []
+ask_needs s client ino Unlink = need_if client (parent s.tree.nodes ino) Access.Write
+ask_needs s client ino Rmdir = need_if client (parent s.tree.nodes ino) Access.Write
+ask_needs s client ino (Rename dir name) = need_if client (parent s.tree.nodes ino) Access.Write ++ need client dir.0 Access.Write ∷ []
 
 -- ---- what is tested
 

@@ -1,48 +1,13 @@
 -- What an event does by itself, before any lock moves; and what it answers and shows, some of it once all has moved.
-use Rattle.std.specs.Prelude.{◌≡◌, ℕ, ◌+◌, List, [], ◌∷◌, map as each, filter, not, take, Option, Some, None, is_some, unwrap_or, if◌then◌else◌}
-use Rattle.std.specs.List.{find}
+use Rattle.std.specs.{List.{find}, Prelude.{◌≡◌, ℕ, ◌+◌, List, [], ◌∷◌, map as each, filter, not, take, Option, Some, None, is_some, unwrap_or, if◌then◌else◌}}
 use Rattle.std.specs.FinMap as map
-use Rattle.capbits.specs.declared.cap.Cap.TheVariants.{P, Fs, Fx, Fc, Fr, Fw, Fb}
-use Rattle.capbits.specs.Caps.{Caps}
-use Rattle.capbits.specs.Sets.{caps_in, union}
-use Rattle.capbits.specs.declared.ids.ClientId.{ClientId}
-use Rattle.capbits.specs.declared.ids.Ino.{Ino}
-use Rattle.capbits.specs.declared.ids.Ticket.{Ticket}
-use Rattle.capbits.specs.declared.mode.Mode.{Mode}
+use Rattle.capbits.specs.{Caps.{Caps}, Sets.{caps_in, union}, declared.cap.Cap.TheVariants.{P, Fs, Fx, Fc, Fr, Fw, Fb}, declared.ids.ClientId.{ClientId}, declared.ids.Ino.{Ino}, declared.ids.Ticket.{Ticket}, declared.mode.Mode.{Mode}}
 use Rattle.capgrant.specs.declared.access.Attr.{Attr}
-use Rattle.inotree.specs.declared.node.Kind.{Kind}
-use Rattle.inotree.specs.declared.node.Kind.TheVariants.{Directory, File}
-use Rattle.inotree.specs.Inodes.{with_snapshot, without_snapshot}
-use Rattle.inotree.specs.Tree.{Nodes, child}
-use Rattle.inotree.specs.Calls.{with_new, changed}
-use Rattle.sessiontab.specs.declared.session.Session.{Session}
-use Rattle.sessiontab.specs.Table.{SessionTable}
-use Rattle.sessiontab.specs.Calls.{with_session, without_session, with_status, with_grants, with_evicted, without_blocked}
-use Rattle.captable.specs.declared.entry.Holder.{Holder}
-use Rattle.captable.specs.declared.entry.EntryRow.{EntryRow}
-use Rattle.captable.specs.Table.{Table, holder, is_row_of, entry_at}
-use Rattle.captable.specs.Calls.{opened, wanting, acked, released, touched, told, recalled, without_client, changed as changed_entry}
-use Rattle.capnotes.specs.Lockmachine.declared.request.Ask.{Ask}
-use Rattle.capnotes.specs.Lockmachine.declared.request.Ask.TheVariants.{Get, Alter, Unlink, Rmdir, Rename}
-use Rattle.capnotes.specs.Lockmachine.declared.request.Change.{Change}
-use Rattle.capnotes.specs.Lockmachine.Locks.{with_ino, with_request, requests_of, without_requests_of}
-use Rattle.capnotes.specs.Lockmachine.declared.scene.Scene.{Scene}
-use Rattle.capnotes.specs.Lockmachine.Scene.{told_set}
-use Rattle.capnotes.specs.Capevents.Replies.{outcome_reply}
-use Rattle.capnotes.specs.Capevents.declared.event.Event.{Event}
-use Rattle.capnotes.specs.Capevents.declared.event.Event.TheVariants as event
-use Rattle.capnotes.specs.Capevents.declared.event.OpenMode.{OpenMode}
-use Rattle.capnotes.specs.Capevents.declared.event.OpenMode.TheVariants as opening
-use Rattle.capnotes.specs.Capevents.declared.outcome.Ended.{Ended}
-use Rattle.capnotes.specs.Capevents.declared.reply.Reply.{Reply}
-use Rattle.capnotes.specs.Capevents.declared.reply.Reply.TheVariants as reply
-use Rattle.capnotes.specs.DueEndings.{is_of_ticket, is_to}
-use Rattle.caprules.specs.State.{State}
-use Rattle.caprules.specs.declared.rejection.Rejection.{Rejection}
-use Rattle.capnotes.specs.Changing.{tree_changed}
-use Rattle.caprules.specs.Serving.{dropped_of}
-use Rattle.caprules.specs.Judge.{judged, rejection_reply, revoked_of}
-use Rattle.caprules.specs.Messages.{first_messages, with_given}
+use Rattle.inotree.specs.{Calls.{with_new, changed}, Inodes.{with_snapshot, without_snapshot}, Tree.{Nodes, child}, declared.node.Kind.{Kind}, declared.node.Kind.TheVariants.{Directory, File}}
+use Rattle.captable.specs.{Calls.{opened, wanting, acked, released, touched, told, recalled, without_client, changed as changed_entry}, Table.{Table, holder, is_row_of, entry_at}, declared.entry.EntryRow.{EntryRow}, declared.entry.Holder.{Holder}}
+use Rattle.sessiontab.specs.{Calls.{with_session, without_session, with_status, with_grants, with_evicted, without_blocked}, Table.{SessionTable}, declared.session.Session.{Session}}
+use Rattle.capnotes.specs.{Capevents.Replies.{outcome_reply}, Capevents.declared.event.Event.{Event}, Capevents.declared.event.OpenMode.{OpenMode}, Capevents.declared.outcome.Ended.{Ended}, Capevents.declared.reply.Reply.{Reply}, Changing.{tree_changed}, DueEndings.{is_of_ticket, is_to}, Lockmachine.Locks.{with_ino, with_request, requests_of, without_requests_of}, Lockmachine.Scene.{told_set}, Lockmachine.declared.request.Ask.{Ask}, Lockmachine.declared.request.Ask.TheVariants.{Get, Alter, Unlink, Rmdir, Rename}, Lockmachine.declared.request.Change.{Change}, Lockmachine.declared.scene.Scene.{Scene}}
+use Rattle.caprules.specs.{Judge.{judged, rejection_reply, revoked_of}, Messages.{first_messages, with_given}, Serving.{dropped_of}, State.{State}, declared.rejection.Rejection.{Rejection}}
 
 abbrev pub with_scene : State → Scene → State
 with_scene s scene = record s { scene = scene }
@@ -60,19 +25,19 @@ pub data Answer : Type 0 where
 
 -- the number of the entry's last change, and what its client is to know; an entry that was opened is there
 abbrev pub opened_as : Scene → Option EntryRow → Reply
-opened_as last None = reply.Done
-opened_as last (Some row) = reply.Opened row.entry.seq (told_set last row)
+opened_as last None = Reply.Done
+opened_as last (Some row) = Reply.Opened row.entry.seq (told_set last row)
 
 -- the answer to a request, where it is among those that ended; else it waits
 abbrev pub awaited_as : Ticket → Option Ended → Reply
-awaited_as ticket None = reply.Waiting ticket
-awaited_as ticket (Some m) = unwrap_or (outcome_reply m.outcome) (reply.Waiting ticket)
+awaited_as ticket None = Reply.Waiting ticket
+awaited_as ticket (Some m) = unwrap_or (outcome_reply m.outcome) (Reply.Waiting ticket)
 
 -- what is answered at the end, in the last state, by what the moves ended
 abbrev pub reply_of : State → List Ended → Answer → Reply
 reply_of last ended (Says answer) = answer
 reply_of last ended (Shows k) = opened_as last.scene (find (is_row_of k) last.scene.table.rows)
-reply_of last ended (Gives client max) = reply.Messages (first_messages last client max)
+reply_of last ended (Gives client max) = Reply.Messages (first_messages last client max)
 reply_of last ended (Awaits ticket) = awaited_as ticket (find (is_of_ticket ticket) ended)
 
 -- what is shown or given, the client was told of
@@ -97,8 +62,8 @@ with_tree s tree = with_scene s (record s.scene { tree = tree })
 
 -- the inode that was found; one that a test has found is there
 abbrev pub found : State → Option ℕ → Direct
-found s None = says s reply.Done
-found s (Some ino) = says s (reply.Ino (record { 0 = ino }))
+found s None = says s Reply.Done
+found s (Some ino) = says s (Reply.Ino (record { 0 = ino }))
 
 -- an inode that a session's user makes is that user's
 abbrev pub owned_by : Option Session → Mode → Attr
@@ -117,15 +82,15 @@ abbrev pub born : State → Kind → ClientId → ℕ → List ℕ → Mode → 
 born s kind client dir name mode =
     says
     (with_birth s kind dir name (owned_by (map.get s.scene.sessions.sessions client.0) mode))
-    (reply.Ino (record { 0 = s.scene.tree.last + 1 }))
+    (Reply.Ino (record { 0 = s.scene.tree.last + 1 }))
 
 -- ---- of one entry
 
 -- what a client that opens an inode wants of it
 abbrev pub opening_wants : OpenMode → Caps
-opening_wants opening.Read = caps_in (P ∷ Fs ∷ Fc ∷ Fr ∷ [])
-opening_wants opening.Write = caps_in (P ∷ Fx ∷ Fw ∷ Fb ∷ [])
-opening_wants opening.ReadWrite = caps_in (P ∷ Fs ∷ Fx ∷ Fc ∷ Fr ∷ Fw ∷ Fb ∷ [])
+opening_wants OpenMode.Read = caps_in (P ∷ Fs ∷ Fc ∷ Fr ∷ [])
+opening_wants OpenMode.Write = caps_in (P ∷ Fx ∷ Fw ∷ Fb ∷ [])
+opening_wants OpenMode.ReadWrite = caps_in (P ∷ Fs ∷ Fx ∷ Fc ∷ Fr ∷ Fw ∷ Fb ∷ [])
 
 -- the table with the holder's entry, made where there is none
 abbrev pub with_entry : Table → Holder → Table
@@ -185,41 +150,41 @@ without s client sessions = record {
 abbrev pub ends : State → ClientId → SessionTable → Direct
 ends s client sessions = record {
   state = without s client sessions;
-  answer = Says reply.Done;
+  answer = Says Reply.Done;
   dropped = each dropped_of (requests_of s.scene.locks client);
 }
 
 -- ---- the effect of an event that nothing stops
 
 abbrev pub effect : State → Event → Direct
-effect s (event.Session client caller grants) =
-    says (with_scene s (record s.scene { sessions = with_session s.scene.sessions client.0 caller grants })) reply.Done
-effect s (event.CloseSession client) = ends s client (without_session s.scene.sessions client.0)
-effect s (event.Mark client status) = says (with_sessions s (with_status s.scene.sessions client.0 status)) reply.Done
-effect s (event.Regrant client grants) = says (with_sessions s (with_grants s.scene.sessions client.0 grants)) reply.Done
-effect s (event.Evict client) = ends s client (with_evicted s.scene.sessions client.0)
-effect s (event.Unblock client) =
-    says (with_scene s (record s.scene { sessions = without_blocked s.scene.sessions client.0 })) reply.Done
-effect s (event.Recall count) = says (with_table s (recalled s.scene.table count)) (reply.Recalled (take count s.scene.table.recall))
-effect s (event.Lookup client dir name) = found s (child s.scene.tree.nodes dir.0 name)
-effect s (event.Create client dir name mode) = born s File client dir.0 name mode
-effect s (event.Mkdir client dir name mode) = born s Directory client dir.0 name mode
-effect s (event.MakeSnapshot client ino name) = says (with_tree s (changed (with_snapshot name) s.scene.tree ino.0)) reply.Done
-effect s (event.RemoveSnapshot client ino name) = says (with_tree s (changed (without_snapshot name) s.scene.tree ino.0)) reply.Done
-effect s (event.Open client ino mode) =
+effect s (Event.Session client caller grants) =
+    says (with_scene s (record s.scene { sessions = with_session s.scene.sessions client.0 caller grants })) Reply.Done
+effect s (Event.CloseSession client) = ends s client (without_session s.scene.sessions client.0)
+effect s (Event.Mark client status) = says (with_sessions s (with_status s.scene.sessions client.0 status)) Reply.Done
+effect s (Event.Regrant client grants) = says (with_sessions s (with_grants s.scene.sessions client.0 grants)) Reply.Done
+effect s (Event.Evict client) = ends s client (with_evicted s.scene.sessions client.0)
+effect s (Event.Unblock client) =
+    says (with_scene s (record s.scene { sessions = without_blocked s.scene.sessions client.0 })) Reply.Done
+effect s (Event.Recall count) = says (with_table s (recalled s.scene.table count)) (Reply.Recalled (take count s.scene.table.recall))
+effect s (Event.Lookup client dir name) = found s (child s.scene.tree.nodes dir.0 name)
+effect s (Event.Create client dir name mode) = born s File client dir.0 name mode
+effect s (Event.Mkdir client dir name mode) = born s Directory client dir.0 name mode
+effect s (Event.MakeSnapshot client ino name) = says (with_tree s (changed (with_snapshot name) s.scene.tree ino.0)) Reply.Done
+effect s (Event.RemoveSnapshot client ino name) = says (with_tree s (changed (without_snapshot name) s.scene.tree ino.0)) Reply.Done
+effect s (Event.Open client ino mode) =
     shows (with_table s (with_opening s.scene.table (holder client ino) mode)) (holder client ino)
-effect s (event.Want client ino caps) =
+effect s (Event.Want client ino caps) =
     shows (with_table s (with_wanted s.scene.table (holder client ino) caps)) (holder client ino)
-effect s (event.Ack client ino seq) =
-    says (with_table s (acked s.scene.table (holder client ino) (revoked_of s.scene (holder client ino)))) reply.Done
-effect s (event.Release client ino caps) = says (with_table s (released s.scene.table (holder client ino) caps)) reply.Done
-effect s (event.Get client ino part) = asks s client ino (Get part)
-effect s (event.Alter client ino change) = asks s client ino (Alter change)
-effect s (event.Unlink client ino) = asks s client ino Unlink
-effect s (event.Rmdir client ino) = asks s client ino Rmdir
-effect s (event.Rename client ino dir name) = asks s client ino (Rename dir name)
-effect s (event.Flush client ino change) = says (with_flush s (holder client ino) change) reply.Done
-effect s (event.Poll client max) = record { state = s; answer = Gives client max; dropped = [] }
+effect s (Event.Ack client ino seq) =
+    says (with_table s (acked s.scene.table (holder client ino) (revoked_of s.scene (holder client ino)))) Reply.Done
+effect s (Event.Release client ino caps) = says (with_table s (released s.scene.table (holder client ino) caps)) Reply.Done
+effect s (Event.Get client ino part) = asks s client ino (Get part)
+effect s (Event.Alter client ino change) = asks s client ino (Alter change)
+effect s (Event.Unlink client ino) = asks s client ino Unlink
+effect s (Event.Rmdir client ino) = asks s client ino Rmdir
+effect s (Event.Rename client ino dir name) = asks s client ino (Rename dir name)
+effect s (Event.Flush client ino change) = says (with_flush s (holder client ino) change) Reply.Done
+effect s (Event.Poll client max) = record { state = s; answer = Gives client max; dropped = [] }
 
 abbrev pub effect_unless : State → Event → Option Rejection → Direct
 effect_unless s e (Some rejection) = says s (rejection_reply rejection)
@@ -237,5 +202,5 @@ pub record IsDirect (old : State) (e : Event) (answer : Reply) (new : State) : T
 
 -- the event that makes an inode of this kind
 abbrev pub made_event : Kind → ClientId → Ino → List ℕ → Mode → Event
-made_event File client dir name mode = event.Create client dir name mode
-made_event Directory client dir name mode = event.Mkdir client dir name mode
+made_event File client dir name mode = Event.Create client dir name mode
+made_event Directory client dir name mode = Event.Mkdir client dir name mode

@@ -1,24 +1,11 @@
 -- What a step does once the locks have settled: where a size was changed, it is to be told; then it issues what may be held,
 -- forgets strays that nobody has an entry on, and numbers what changed.
-use Rattle.std.specs.Prelude.{ℕ, Bool, true, not, ◌||◌, List, [], ◌∷◌, map, Option, Some, None, if◌then◌else◌}
-use Rattle.std.specs.List.{find, list_any}
+use Rattle.std.specs.{List.{find, list_any}, Prelude.{ℕ, Bool, true, not, ◌||◌, List, [], ◌∷◌, map, Option, Some, None, if◌then◌else◌}}
 use Rattle.std.specs.FinMap as finite
-use Rattle.capbits.specs.declared.cap.Cap.TheVariants.{P, Fc}
-use Rattle.capbits.specs.declared.cap.Part.{Part}
-use Rattle.capbits.specs.declared.ids.Ino.{Ino}
-use Rattle.capbits.specs.declared.cap.Part.TheVariants.{A, L, X, F}
-use Rattle.capbits.specs.Caps.{Caps, has}
-use Rattle.capbits.specs.Sets.{no_caps, caps_in, union, meet}
+use Rattle.capbits.specs.{Caps.{Caps, has}, Sets.{no_caps, caps_in, union, meet}, declared.cap.Cap.TheVariants.{P, Fc}, declared.cap.Part.{Part}, declared.cap.Part.TheVariants.{A, L, X, F}, declared.ids.Ino.{Ino}}
 use Rattle.inotree.specs.Tree.{place}
-use Rattle.captable.specs.declared.entry.Entry.{Entry}
-use Rattle.captable.specs.declared.entry.EntryRow.{EntryRow}
-use Rattle.captable.specs.Table.{is_row_of}
-use Rattle.captable.specs.Calls.{issued, renumbered, with_size_due, is_of_inode}
-use Rattle.captable.specs.Many.{changed_where}
-use Rattle.capnotes.specs.Lockmachine.Locks.{lock_at}
-use Rattle.capnotes.specs.Lockmachine.Wants.{effective_want}
-use Rattle.capnotes.specs.Lockmachine.declared.scene.Scene.{Scene}
-use Rattle.capnotes.specs.Lockmachine.Scene.{told_set}
+use Rattle.captable.specs.{Calls.{issued, renumbered, with_size_due, is_of_inode}, Many.{changed_where}, Table.{is_row_of}, declared.entry.Entry.{Entry}, declared.entry.EntryRow.{EntryRow}}
+use Rattle.capnotes.specs.Lockmachine.{Locks.{lock_at}, Scene.{told_set}, Wants.{effective_want}, declared.scene.Scene.{Scene}}
 pub use Rattle.capnotes.specs.Lockmachine.Under.{allowed_by}
 use Rattle.inotree.specs.Tests.{is_gone}
 

@@ -1,46 +1,11 @@
 -- What the core promises of every step, in the words of its users.
-use Rattle.std.specs.Prelude.{◌≡◌, ◌==◌, ◌≤◌, ◌↔◌, ℕ, Bool, true, false, ◌||◌, ◌&&◌, IsTrue, IsFalse, List, [], ◌∷◌, ◌++◌, length, map, Option, Some, None}
-use Rattle.std.specs.List.{find, list_any}
-use Rattle.std.specs.Option.{option_map_or}
-use Rattle.capbits.specs.declared.cap.Cap.{Cap}
-use Rattle.capbits.specs.declared.cap.Part.{Part}
-use Rattle.capbits.specs.Caps.{has}
-use Rattle.capbits.specs.Sets.{IsSubset, of_part, no_caps}
-use Rattle.capgrant.specs.declared.access.Access.{Access}
-use Rattle.capgrant.specs.declared.rule.Rule.{Rule}
-use Rattle.locktable.specs.declared.states.State.{State as LockGoal}
-use Rattle.locktable.specs.declared.states.LockState.{LockState}
-use Rattle.locktable.specs.declared.states.LockState.TheVariants.{Stable, Gather}
-use Rattle.locktable.specs.Conflicts.{conflict}
-use Rattle.locktable.specs.Rows.{row_of}
-use Rattle.captable.specs.declared.entry.Holder.{Holder}
-use Rattle.captable.specs.declared.entry.EntryRow.{EntryRow}
-use Rattle.captable.specs.Table.{is_row_of}
-use Rattle.capnotes.specs.Lockmachine.Locks.{LockMap, lock_at}
-use Rattle.capnotes.specs.Lockmachine.Policy.{failures, permitted}
-use Rattle.capnotes.specs.Lockmachine.declared.request.Request.{Request}
-use Rattle.capnotes.specs.Lockmachine.Requests.{same_part}
-use Rattle.capnotes.specs.Lockmachine.declared.scene.Scene.{Scene}
-use Rattle.capnotes.specs.Lockmachine.Scene.{against}
-use Rattle.capnotes.specs.Lockmachine.Moves.{is_open}
-use Rattle.capnotes.specs.Lockmachine.Runs.{AreFew}
-use Rattle.capnotes.specs.Lockmachine.declared.moves.Move.{Move}
-use Rattle.capnotes.specs.Lockmachine.declared.moves.Move.TheVariants.{Begin, End, Serve}
-use Rattle.capnotes.specs.Capevents.declared.outcome.Outcome.{Outcome}
-use Rattle.capnotes.specs.Capevents.declared.outcome.Outcome.TheVariants as outcome
-use Rattle.caprules.specs.Asks.{ask_before, ask_needs}
-use Rattle.caprules.specs.Settle.{Made, Began, Gathered, Served, MakesAll, ended_in}
-use Rattle.caprules.specs.State.{State}
-use Rattle.caprules.specs.Direct.{direct}
-use Rattle.caprules.specs.Step.{StepBy}
-use Rattle.capnotes.specs.Capevents.declared.outcome.Ended.{Ended}
-use Rattle.capnotes.specs.Capevents.declared.event.Event.{Event}
-use Rattle.capnotes.specs.Capevents.declared.reply.Reply.{Reply}
-use Rattle.capnotes.specs.Capevents.declared.reply.Reply.TheVariants as reply
-use Rattle.capbits.specs.Refusal.{Test, first_failing}
-use Rattle.caprules.specs.Needs.{Need}
-use Rattle.caprules.specs.Judge.{before, needs, first_denied}
-use Rattle.caprules.specs.Finish.{due}
+use Rattle.std.specs.{List.{find, list_any}, Option.{option_map_or}, Prelude.{◌≡◌, ◌==◌, ◌≤◌, ◌↔◌, ℕ, Bool, true, false, ◌||◌, ◌&&◌, IsTrue, IsFalse, List, [], ◌∷◌, ◌++◌, length, map, Option, Some, None}}
+use Rattle.capbits.specs.{Caps.{has}, Refusal.{Test, first_failing}, Sets.{IsSubset, of_part, no_caps}, declared.cap.Cap.{Cap}, declared.cap.Part.{Part}}
+use Rattle.capgrant.specs.declared.{access.Access.{Access}, rule.Rule.{Rule}}
+use Rattle.captable.specs.{Table.{is_row_of}, declared.entry.EntryRow.{EntryRow}, declared.entry.Holder.{Holder}}
+use Rattle.locktable.specs.{Conflicts.{conflict}, Rows.{row_of}, declared.states.LockState.{LockState}, declared.states.LockState.TheVariants.{Stable, Gather}, declared.states.State.{State as LockGoal}}
+use Rattle.capnotes.specs.{Capevents.declared.event.Event.{Event}, Capevents.declared.outcome.Ended.{Ended}, Capevents.declared.outcome.Outcome.{Outcome}, Capevents.declared.reply.Reply.{Reply}, Lockmachine.Locks.{LockMap, lock_at}, Lockmachine.Moves.{is_open}, Lockmachine.Policy.{failures, permitted}, Lockmachine.Requests.{same_part}, Lockmachine.Runs.{AreFew}, Lockmachine.Scene.{against}, Lockmachine.declared.moves.Move.{Move}, Lockmachine.declared.moves.Move.TheVariants.{Begin, End, Serve}, Lockmachine.declared.request.Request.{Request}, Lockmachine.declared.scene.Scene.{Scene}}
+use Rattle.caprules.specs.{Asks.{ask_before, ask_needs}, Direct.{direct}, Finish.{due}, Judge.{before, needs, first_denied}, Needs.{Need}, Settle.{Made, Began, Gathered, Served, MakesAll, ended_in}, State.{State}, Step.{StepBy}}
 
 -- ---- denials
 
@@ -61,24 +26,24 @@ DenialIsByName s tests needed Denied =
 
 -- an event is denied exactly if it passes the tests that stand before policy and an access that it needs has no grant
 abbrev pub DeniedExactly : Scene → Event → Reply → Type 0
-DeniedExactly s e answer = DenialIsExact s (before s e) (needs s e) (λ access rules. answer ≡ reply.Denied access rules)
+DeniedExactly s e answer = DenialIsExact s (before s e) (needs s e) (λ access rules. answer ≡ Reply.Denied access rules)
 
 -- and it is denied by name
 abbrev pub DeniesByName : Scene → Event → Reply → Type 0
-DeniesByName s e answer = DenialIsByName s (before s e) (needs s e) (λ access rules. answer ≡ reply.Denied access rules)
+DeniesByName s e answer = DenialIsByName s (before s e) (needs s e) (λ access rules. answer ≡ Reply.Denied access rules)
 
 -- whether the answer is a denial or a refusal
 abbrev pub is_rejection : Reply → Bool
-is_rejection reply.Done = false
-is_rejection (reply.Ino ino) = false
-is_rejection (reply.Opened seq caps) = false
-is_rejection (reply.Values values) = false
-is_rejection (reply.Messages messages) = false
-is_rejection (reply.Recalled holders) = false
-is_rejection (reply.Waiting ticket) = false
-is_rejection (reply.Denied access rules) = true
-is_rejection (reply.Refused refusal) = true
-is_rejection reply.OutOfMemory = false
+is_rejection Reply.Done = false
+is_rejection (Reply.Ino ino) = false
+is_rejection (Reply.Opened seq caps) = false
+is_rejection (Reply.Values values) = false
+is_rejection (Reply.Messages messages) = false
+is_rejection (Reply.Recalled holders) = false
+is_rejection (Reply.Waiting ticket) = false
+is_rejection (Reply.Denied access rules) = true
+is_rejection (Reply.Refused refusal) = true
+is_rejection Reply.OutOfMemory = false
 
 -- ---- denials of requests that waited
 
@@ -86,12 +51,12 @@ is_rejection reply.OutOfMemory = false
 -- no grant at that moment
 abbrev pub ServedDenied : Scene → Request → Outcome → Type 0
 ServedDenied s q o =
-    DenialIsExact s (ask_before s q.ino.0 q.ask) (ask_needs s q.client q.ino.0 q.ask) (λ access rules. o ≡ outcome.Denied access rules)
+    DenialIsExact s (ask_before s q.ino.0 q.ask) (ask_needs s q.client q.ino.0 q.ask) (λ access rules. o ≡ Outcome.Denied access rules)
 
 -- and it is denied by name
 abbrev pub ServedByName : Scene → Request → Outcome → Type 0
 ServedByName s q o =
-    DenialIsByName s (ask_before s q.ino.0 q.ask) (ask_needs s q.client q.ino.0 q.ask) (λ access rules. o ≡ outcome.Denied access rules)
+    DenialIsByName s (ask_before s q.ino.0 q.ask) (ask_needs s q.client q.ino.0 q.ask) (λ access rules. o ≡ Outcome.Denied access rules)
 
 -- so it is of each serving among the moves, on the scene in which it was made
 abbrev pub EachServing : (Scene → Request → Outcome → Type 0) → Scene → List Made → Type 0

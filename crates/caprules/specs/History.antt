@@ -1,23 +1,12 @@
 -- Histories: what rows lead to, and when they are legal.
-use Rattle.std.specs.Prelude.{length, ◌≤◌, ◌≡◌, ◌≢◌, ℕ, ◌+◌, List, [], ◌∷◌, ◌++◌}
-use Rattle.std.specs.Option.{option_map}
+use Rattle.std.specs.{Option.{option_map}, Prelude.{length, ◌≤◌, ◌≡◌, ◌≢◌, ℕ, ◌+◌, List, [], ◌∷◌, ◌++◌}}
 use Rattle.std.specs.FinMap as map
 use Rattle.std.specs.FinSet as set
 use Rattle.capbits.specs.declared.ids.PassId.{PassId}
-use Rattle.inotree.specs.declared.node.Place.TheVariants.{Gone}
-use Rattle.inotree.specs.Tree.{Nodes, place}
+use Rattle.inotree.specs.{Tree.{Nodes, place}, declared.node.Place.TheVariants.{Gone}}
 use Rattle.captable.specs.Table as table
-use Rattle.capnotes.specs.Lockmachine.Inodes.{in_sync}
-use Rattle.capnotes.specs.Capview.declared.change.ViewChange.{ViewChange}
-use Rattle.capnotes.specs.Capevents.declared.event.Event.{Event}
-use Rattle.capnotes.specs.Capevents.declared.row.Row.{Row}
-use Rattle.capnotes.specs.Capevents.declared.outcome.Ended.{Ended}
-use Rattle.capnotes.specs.Capevents.declared.reply.Reply.{Reply}
-use Rattle.caprules.specs.Numbers.{rows_of, AreNumbered}
-use Rattle.caprules.specs.State.{State}
-use Rattle.caprules.specs.Step.{Step}
-use Rattle.caprules.specs.Sound.{IsSound, AreGiven}
-use Rattle.caprules.specs.Shown.{AreShown}
+use Rattle.capnotes.specs.{Capevents.declared.event.Event.{Event}, Capevents.declared.outcome.Ended.{Ended}, Capevents.declared.reply.Reply.{Reply}, Capevents.declared.row.Row.{Row}, Capview.declared.change.ViewChange.{ViewChange}, Lockmachine.Inodes.{in_sync}}
+use Rattle.caprules.specs.{Numbers.{rows_of, AreNumbered}, Shown.{AreShown}, Sound.{IsSound, AreGiven}, State.{State}, Step.{Step}}
 
 -- a state, the history that led to it, how many rows it may have, and what the last step changed of what readers see
 pub record Recorded : Type 0 where

@@ -1,47 +1,19 @@
 -- What is tested of an event, in order, and what stops it.
-use Rattle.std.specs.Prelude.{ℕ, Bool, true, false, not, List, [], ◌∷◌, ◌++◌, Option, Some, None, is_some, if◌then◌else◌}
-use Rattle.std.specs.List.{find}
-use Rattle.std.specs.Option.{option_map, option_map_or}
-use Rattle.capbits.specs.declared.ids.ClientId.{ClientId}
-use Rattle.capbits.specs.declared.ids.Ino.{Ino}
-use Rattle.capbits.specs.Caps.{Caps}
-use Rattle.capbits.specs.Sets.{no_caps, caps_in}
-use Rattle.capgrant.specs.declared.access.Access.{Access}
-use Rattle.capgrant.specs.declared.access.Access.TheVariants.{Read, Write, Snapshot}
-use Rattle.capbits.specs.Refusal.{Test, first_failing}
-use Rattle.sessiontab.specs.Table.{SessionTable}
-use Rattle.sessiontab.specs.Tests.{connected_test, session_tests, mark_tests, new_session_tests, evict_tests, blocked_test}
-use Rattle.inotree.specs.Tree.{Nodes, child}
-use Rattle.inotree.specs.Tests.{exists_test, inode_tests, directory_test, file_test, found_test, new_inode_tests, new_snapshot_tests, old_snapshot_tests}
-use Rattle.captable.specs.declared.entry.Holder.{Holder}
-use Rattle.captable.specs.Table.{Table, holder, is_row_of, entry_at}
-use Rattle.captable.specs.Tests.{open_tests, entry_test, ack_tests, release_tests}
-use Rattle.capnotes.specs.Lockmachine.declared.request.Change.{Change}
-use Rattle.capnotes.specs.Lockmachine.declared.request.Ask.{Ask}
-use Rattle.capnotes.specs.Lockmachine.declared.request.Ask.TheVariants.{Get, Alter, Unlink, Rmdir, Rename}
-use Rattle.capnotes.specs.Lockmachine.Requests.{part_of_change}
-use Rattle.capnotes.specs.Lockmachine.Locks.{queue_tests}
-use Rattle.capnotes.specs.Lockmachine.Policy.{is_granted, failures}
-use Rattle.capnotes.specs.Lockmachine.declared.scene.Scene.{Scene}
-use Rattle.capnotes.specs.Lockmachine.Scene.{against}
-use Rattle.capbits.specs.declared.refusal.Refusal.{Refusal}
-use Rattle.capnotes.specs.Capevents.declared.event.Event.{Event}
-use Rattle.capnotes.specs.Capevents.declared.event.Event.TheVariants as event
-use Rattle.capnotes.specs.Capevents.declared.event.OpenMode.{OpenMode}
-use Rattle.capnotes.specs.Capevents.declared.event.OpenMode.TheVariants as opening
-use Rattle.capnotes.specs.Capevents.declared.reply.Reply.{Reply}
-use Rattle.capnotes.specs.Capevents.declared.reply.Reply.TheVariants as reply
-use Rattle.caprules.specs.declared.rejection.Rejection.{Rejection}
-use Rattle.caprules.specs.declared.rejection.Rejection.TheVariants.{ByPolicy, ByTest}
-use Rattle.caprules.specs.Needs.{Need, need, need_if}
-use Rattle.caprules.specs.Asks.{ask_before, ask_needs, ask_after, change_access, change_tests, exclusive}
+use Rattle.std.specs.{List.{find}, Option.{option_map, option_map_or}, Prelude.{ℕ, Bool, true, false, not, List, [], ◌∷◌, ◌++◌, Option, Some, None, is_some, if◌then◌else◌}}
+use Rattle.capbits.specs.{Caps.{Caps}, Refusal.{Test, first_failing}, Sets.{no_caps, caps_in}, declared.ids.ClientId.{ClientId}, declared.ids.Ino.{Ino}, declared.refusal.Refusal.{Refusal}}
+use Rattle.capgrant.specs.declared.{access.Access.{Access}, access.Access.TheVariants.{Read, Write, Snapshot}}
+use Rattle.inotree.specs.{Tests.{exists_test, inode_tests, directory_test, file_test, found_test, new_inode_tests, new_snapshot_tests, old_snapshot_tests}, Tree.{Nodes, child}}
+use Rattle.captable.specs.{Table.{Table, holder, is_row_of, entry_at}, Tests.{open_tests, entry_test, ack_tests, release_tests}, declared.entry.Holder.{Holder}}
+use Rattle.sessiontab.specs.{Table.{SessionTable}, Tests.{connected_test, session_tests, mark_tests, new_session_tests, evict_tests, blocked_test}}
+use Rattle.capnotes.specs.{Capevents.declared.event.Event.{Event}, Capevents.declared.event.OpenMode.{OpenMode}, Capevents.declared.reply.Reply.{Reply}, Lockmachine.Locks.{queue_tests}, Lockmachine.Policy.{is_granted, failures}, Lockmachine.Requests.{part_of_change}, Lockmachine.Scene.{against}, Lockmachine.declared.request.Ask.{Ask}, Lockmachine.declared.request.Ask.TheVariants.{Get, Alter, Unlink, Rmdir, Rename}, Lockmachine.declared.request.Change.{Change}, Lockmachine.declared.scene.Scene.{Scene}}
+use Rattle.caprules.specs.{Asks.{ask_before, ask_needs, ask_after, change_access, change_tests, exclusive}, Needs.{Need, need, need_if}, declared.rejection.Rejection.{Rejection}, declared.rejection.Rejection.TheVariants.{ByPolicy, ByTest}}
 
 -- ---- by event
 
 abbrev pub is_writing : OpenMode → Bool
-is_writing opening.Read = false
-is_writing opening.Write = true
-is_writing opening.ReadWrite = true
+is_writing OpenMode.Read = false
+is_writing OpenMode.Write = true
+is_writing OpenMode.ReadWrite = true
 
 -- what is being revoked of the holder's entry, where it has one
 abbrev pub revoked_of : Scene → Holder → Caps
@@ -61,9 +33,9 @@ asking_tests s client ino ask = session_tests s.sessions client.0 ++ ask_before 
 
 -- the accesses that an opening needs, in order
 abbrev pub opening_needs : ClientId → ℕ → OpenMode → List Need
-opening_needs client ino opening.Read = need client ino Read ∷ []
-opening_needs client ino opening.Write = need client ino Write ∷ []
-opening_needs client ino opening.ReadWrite = need client ino Read ∷ need client ino Write ∷ []
+opening_needs client ino OpenMode.Read = need client ino Read ∷ []
+opening_needs client ino OpenMode.Write = need client ino Write ∷ []
+opening_needs client ino OpenMode.ReadWrite = need client ino Read ∷ need client ino Write ∷ []
 
 -- there is room for the holder's entry, where it is to be made
 abbrev pub room_for : Table → Holder → List Test
@@ -111,51 +83,51 @@ request_tests s client ino ask = record {
 
 -- of each event
 abbrev pub tests_of : Scene → Event → Tests
-tests_of s (event.Session client caller grants) = without_policy (new_session_tests s.sessions client.0)
-tests_of s (event.CloseSession client) = without_policy (connected_test s.sessions client.0 ∷ [])
-tests_of s (event.Mark client status) = without_policy (mark_tests s.sessions client.0 status)
-tests_of s (event.Regrant client grants) = without_policy (connected_test s.sessions client.0 ∷ [])
-tests_of s (event.Evict client) = without_policy (evict_tests s.sessions client.0)
-tests_of s (event.Unblock client) = without_policy (blocked_test s.sessions client.0 ∷ [])
-tests_of s (event.Recall count) = without_policy []
-tests_of s (event.Lookup client dir name) = record {
+tests_of s (Event.Session client caller grants) = without_policy (new_session_tests s.sessions client.0)
+tests_of s (Event.CloseSession client) = without_policy (connected_test s.sessions client.0 ∷ [])
+tests_of s (Event.Mark client status) = without_policy (mark_tests s.sessions client.0 status)
+tests_of s (Event.Regrant client grants) = without_policy (connected_test s.sessions client.0 ∷ [])
+tests_of s (Event.Evict client) = without_policy (evict_tests s.sessions client.0)
+tests_of s (Event.Unblock client) = without_policy (blocked_test s.sessions client.0 ∷ [])
+tests_of s (Event.Recall count) = without_policy []
+tests_of s (Event.Lookup client dir name) = record {
   first = asked_tests s client dir.0 ++ directory_test s.tree dir.0 ∷ found_test s.tree dir.0 name ∷ [];
   accesses = need_if client (child s.tree.nodes dir.0 name) Read;
   last = [];
 }
-tests_of s (event.Create client dir name mode) = birth_tests s client dir name
-tests_of s (event.Mkdir client dir name mode) = birth_tests s client dir name
-tests_of s (event.MakeSnapshot client ino name) = record {
+tests_of s (Event.Create client dir name mode) = birth_tests s client dir name
+tests_of s (Event.Mkdir client dir name mode) = birth_tests s client dir name
+tests_of s (Event.MakeSnapshot client ino name) = record {
   first = asked_tests s client ino.0;
   accesses = need client ino.0 Snapshot ∷ [];
   last = new_snapshot_tests s.tree ino.0 name;
 }
-tests_of s (event.RemoveSnapshot client ino name) = record {
+tests_of s (Event.RemoveSnapshot client ino name) = record {
   first = asked_tests s client ino.0;
   accesses = need client ino.0 Snapshot ∷ [];
   last = old_snapshot_tests s.tree ino.0 name;
 }
-tests_of s (event.Open client ino mode) = record {
+tests_of s (Event.Open client ino mode) = record {
   first = asked_tests s client ino.0;
   accesses = opening_needs client ino.0 mode;
   last = opening_tests s (holder client ino) mode;
 }
-tests_of s (event.Want client ino caps) = without_policy (asked_tests s client ino.0 ++ entry_test s.table (holder client ino) ∷ [])
-tests_of s (event.Ack client ino seq) =
+tests_of s (Event.Want client ino caps) = without_policy (asked_tests s client ino.0 ++ entry_test s.table (holder client ino) ∷ [])
+tests_of s (Event.Ack client ino seq) =
     without_policy (connected_tests s client ino.0 ++ ack_tests s.table (holder client ino) seq (revoked_of s (holder client ino)))
-tests_of s (event.Release client ino caps) =
+tests_of s (Event.Release client ino caps) =
     without_policy (connected_tests s client ino.0 ++ release_tests s.table (holder client ino) caps)
-tests_of s (event.Get client ino part) = request_tests s client ino (Get part)
-tests_of s (event.Alter client ino change) = request_tests s client ino (Alter change)
-tests_of s (event.Unlink client ino) = request_tests s client ino Unlink
-tests_of s (event.Rmdir client ino) = request_tests s client ino Rmdir
-tests_of s (event.Rename client ino dir name) = request_tests s client ino (Rename dir name)
-tests_of s (event.Flush client ino change) = record {
+tests_of s (Event.Get client ino part) = request_tests s client ino (Get part)
+tests_of s (Event.Alter client ino change) = request_tests s client ino (Alter change)
+tests_of s (Event.Unlink client ino) = request_tests s client ino Unlink
+tests_of s (Event.Rmdir client ino) = request_tests s client ino Rmdir
+tests_of s (Event.Rename client ino dir name) = request_tests s client ino (Rename dir name)
+tests_of s (Event.Flush client ino change) = record {
   first = asked_tests s client ino.0;
   accesses = need client ino.0 (change_access change) ∷ [];
   last = flush_tests s (holder client ino) change;
 }
-tests_of s (event.Poll client max) = without_policy (session_tests s.sessions client.0)
+tests_of s (Event.Poll client max) = without_policy (session_tests s.sessions client.0)
 
 -- the tests that stand before policy
 abbrev pub before : Scene → Event → List Test
@@ -198,5 +170,5 @@ judged s e = rejection_of s (before s e) (needs s e) (after s e)
 
 -- what is answered to a request that is stopped
 abbrev pub rejection_reply : Rejection → Reply
-rejection_reply (ByPolicy access rules) = reply.Denied access rules
-rejection_reply (ByTest refusal) = reply.Refused refusal
+rejection_reply (ByPolicy access rules) = Reply.Denied access rules
+rejection_reply (ByTest refusal) = Reply.Refused refusal

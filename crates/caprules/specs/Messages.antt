@@ -1,33 +1,23 @@
 -- The messages that are due to a client, and what is left when it was given some of them.
-use Rattle.std.specs.Prelude.{ℕ, Bool, false, not, ◌==◌, nat_lt, List, [], ◌∷◌, ◌++◌, map, filter, take, Option, Some, None, if◌then◌else◌}
+use Rattle.std.specs.{List.{flat_map, list_any}, Prelude.{ℕ, Bool, false, ◌==◌, nat_lt, List, [], ◌∷◌, ◌++◌, map, filter, take, Option, Some, None, if◌then◌else◌}}
 use Rattle.std.specs.FinMap as finite
-use Rattle.std.specs.List.{flat_map, list_any}
-use Rattle.capbits.specs.declared.ids.ClientId.{ClientId}
-use Rattle.capbits.specs.declared.ids.Ino.{Ino}
+use Rattle.capbits.specs.declared.{ids.ClientId.{ClientId}, ids.Ino.{Ino}}
 use Rattle.inotree.specs.declared.node.Node.{Node}
-use Rattle.captable.specs.declared.entry.Entry.{Entry}
-use Rattle.captable.specs.declared.entry.EntryRow.{EntryRow}
-use Rattle.captable.specs.Calls.{is_of_client, told, with_asked, with_size_due}
-use Rattle.captable.specs.Many.{changed_where}
-use Rattle.capnotes.specs.Lockmachine.declared.scene.Scene.{Scene}
-use Rattle.capnotes.specs.Lockmachine.Scene.{told_set}
-use Rattle.capnotes.specs.Capevents.declared.outcome.Ended.{Ended}
-use Rattle.capnotes.specs.Capevents.declared.outcome.Message.{Message}
-use Rattle.capnotes.specs.Capevents.declared.outcome.Message.TheVariants as message
-use Rattle.capnotes.specs.DueEndings.{is_to, is_left}
+use Rattle.captable.specs.{Calls.{is_of_client, told, with_asked, with_size_due}, Many.{changed_where}, declared.entry.Entry.{Entry}, declared.entry.EntryRow.{EntryRow}}
+use Rattle.capnotes.specs.{Capevents.declared.outcome.Ended.{Ended}, Capevents.declared.outcome.Message.{Message}, DueEndings.{is_to, is_left}, Lockmachine.Scene.{told_set}, Lockmachine.declared.scene.Scene.{Scene}}
 use Rattle.caprules.specs.State.{State}
 
 -- what the client is to know that it holds has changed since it was told
 abbrev pub caps_messages : Scene → EntryRow → List Message
 caps_messages s row =
     if nat_lt row.entry.told_seq row.entry.seq
-    then message.Caps row.holder.ino row.entry.seq (told_set s row) ∷ []
+    then Message.Caps row.holder.ino row.entry.seq (told_set s row) ∷ []
     else []
 
 -- the size that the inode has now; an inode that somebody has an entry on is there
 abbrev pub size_message : Ino → Option Node → List Message
 size_message ino None = []
-size_message ino (Some node) = message.Size ino node.size ∷ []
+size_message ino (Some node) = Message.Size ino node.size ∷ []
 
 -- the size was changed while the client cached the data
 abbrev pub size_messages : Scene → EntryRow → List Message
@@ -35,11 +25,11 @@ size_messages s row = if row.entry.size_due then size_message row.holder.ino (fi
 
 -- the client is asked to give back
 abbrev pub recall_messages : EntryRow → List Message
-recall_messages row = if row.entry.asked then message.Recall row.holder.ino ∷ [] else []
+recall_messages row = if row.entry.asked then Message.Recall row.holder.ino ∷ [] else []
 
 -- how a request ended
 abbrev pub end_message : Ended → Message
-end_message m = message.Ended m.ticket m.outcome
+end_message m = Message.Ended m.ticket m.outcome
 
 -- the messages of a client's requests that ended, in the order in which they ended
 abbrev pub end_messages : ClientId → List Ended → List Message
@@ -63,24 +53,24 @@ first_messages s client max = take max (messages_to s client)
 
 -- the message tells what the client is to know that it holds on the inode
 abbrev pub is_caps_of : Ino → Message → Bool
-is_caps_of ino (message.Ended ticket outcome) = false
-is_caps_of ino (message.Caps i seq caps) = i.0 == ino.0
-is_caps_of ino (message.Size i size) = false
-is_caps_of ino (message.Recall i) = false
+is_caps_of ino (Message.Ended ticket outcome) = false
+is_caps_of ino (Message.Caps i seq caps) = i.0 == ino.0
+is_caps_of ino (Message.Size i size) = false
+is_caps_of ino (Message.Recall i) = false
 
 -- the message tells the inode's size
 abbrev pub is_size_of : Ino → Message → Bool
-is_size_of ino (message.Ended ticket outcome) = false
-is_size_of ino (message.Caps i seq caps) = false
-is_size_of ino (message.Size i size) = i.0 == ino.0
-is_size_of ino (message.Recall i) = false
+is_size_of ino (Message.Ended ticket outcome) = false
+is_size_of ino (Message.Caps i seq caps) = false
+is_size_of ino (Message.Size i size) = i.0 == ino.0
+is_size_of ino (Message.Recall i) = false
 
 -- the message asks the client to give back what it holds on the inode
 abbrev pub is_recall_of : Ino → Message → Bool
-is_recall_of ino (message.Ended ticket outcome) = false
-is_recall_of ino (message.Caps i seq caps) = false
-is_recall_of ino (message.Size i size) = false
-is_recall_of ino (message.Recall i) = i.0 == ino.0
+is_recall_of ino (Message.Ended ticket outcome) = false
+is_recall_of ino (Message.Caps i seq caps) = false
+is_recall_of ino (Message.Size i size) = false
+is_recall_of ino (Message.Recall i) = i.0 == ino.0
 
 abbrev pub told_if : Bool → Entry → Entry
 told_if b e = if b then told e else e

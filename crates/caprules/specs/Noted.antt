@@ -1,6 +1,5 @@
 -- What readers see of a state.
-use Rattle.capnotes.specs.Capview.declared.view.View.{View}
-use Rattle.capnotes.specs.Noted.{view}
+use Rattle.capnotes.specs.{Capview.declared.view.View.{View}, Noted.{view}}
 use Rattle.caprules.specs.State.{State}
 
 abbrev pub view_of : State → View

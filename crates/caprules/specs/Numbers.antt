@@ -1,6 +1,5 @@
 -- The numbers of rows.
-use Rattle.std.specs.Prelude.{◌≡◌, ◌==◌, ℕ, ◌+◌, List, ◌∷◌, ◌++◌}
-use Rattle.std.specs.List.{count_by}
+use Rattle.std.specs.{List.{count_by}, Prelude.{◌≡◌, ◌==◌, ℕ, ◌+◌, List, ◌∷◌, ◌++◌}}
 use Rattle.capbits.specs.declared.ids.PassId.{PassId}
 use Rattle.capnotes.specs.Capevents.declared.row.Row.{Row}
 

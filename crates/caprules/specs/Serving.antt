@@ -1,27 +1,10 @@
 -- How a request that waits for a lock is judged when it is served, and what it does then.
 use Rattle.std.specs.Prelude.{◌≡◌, ℕ, Bool, true, false, IsTrue, Option, Some, None}
 use Rattle.std.specs.FinMap as map
-use Rattle.capbits.specs.declared.cap.Part.{Part}
-use Rattle.capbits.specs.declared.cap.Part.TheVariants.{A, L, X, F}
+use Rattle.capbits.specs.declared.{cap.Part.{Part}, cap.Part.TheVariants.{A, L, X, F}}
 use Rattle.inotree.specs.declared.node.Node.{Node}
-use Rattle.capnotes.specs.Lockmachine.declared.request.Change.{Change}
-use Rattle.capnotes.specs.Lockmachine.declared.request.Change.TheVariants.{Set, SetXattr, RemoveXattr}
-use Rattle.capnotes.specs.Lockmachine.declared.request.Ask.{Ask}
-use Rattle.capnotes.specs.Lockmachine.declared.request.Ask.TheVariants.{Get, Alter, Unlink, Rmdir, Rename}
-use Rattle.capnotes.specs.Lockmachine.declared.request.Request.{Request}
-use Rattle.capnotes.specs.Lockmachine.declared.moves.Move.TheVariants.{Serve}
-use Rattle.capnotes.specs.Lockmachine.Moves.{moved as moved_locks}
-use Rattle.capnotes.specs.Lockmachine.declared.scene.Scene.{Scene}
-use Rattle.capnotes.specs.Capevents.declared.outcome.PartValues.{PartValues}
-use Rattle.capnotes.specs.Capevents.declared.outcome.PartValues.TheVariants as values
-use Rattle.capnotes.specs.Capevents.declared.outcome.Ended.{Ended}
-use Rattle.capnotes.specs.Capevents.declared.outcome.Outcome.{Outcome}
-use Rattle.capnotes.specs.Capevents.declared.outcome.Outcome.TheVariants as outcome
-use Rattle.caprules.specs.declared.rejection.Rejection.{Rejection}
-use Rattle.caprules.specs.declared.rejection.Rejection.TheVariants.{ByPolicy, ByTest}
-use Rattle.caprules.specs.Asks.{ask_before, ask_needs, ask_after}
-use Rattle.capnotes.specs.Changing.{tree_after}
-use Rattle.caprules.specs.Judge.{rejection_of}
+use Rattle.capnotes.specs.{Capevents.declared.outcome.Ended.{Ended}, Capevents.declared.outcome.Outcome.{Outcome}, Capevents.declared.outcome.PartValues.{PartValues}, Changing.{tree_after}, Lockmachine.Moves.{moved as moved_locks}, Lockmachine.declared.moves.Move.TheVariants.{Serve}, Lockmachine.declared.request.Ask.{Ask}, Lockmachine.declared.request.Ask.TheVariants.{Get, Alter, Unlink, Rmdir, Rename}, Lockmachine.declared.request.Change.{Change}, Lockmachine.declared.request.Change.TheVariants.{Set, SetXattr, RemoveXattr}, Lockmachine.declared.request.Request.{Request}, Lockmachine.declared.scene.Scene.{Scene}}
+use Rattle.caprules.specs.{Asks.{ask_before, ask_needs, ask_after}, Judge.{rejection_of}, declared.rejection.Rejection.{Rejection}, declared.rejection.Rejection.TheVariants.{ByPolicy, ByTest}}
 
 -- what stops the request now
 abbrev pub judged_again : Scene → Request → Option Rejection
@@ -30,27 +13,27 @@ judged_again s q = rejection_of s (ask_before s q.ino.0 q.ask) (ask_needs s q.cl
 -- ---- what it does
 
 abbrev pub values_of : Part → Node → PartValues
-values_of A node = values.Auth node.attr
-values_of L node = values.Link
-values_of X node = values.Xattr node.attributes
-values_of F node = values.File node.size node.time
+values_of A node = PartValues.Auth node.attr
+values_of L node = PartValues.Link
+values_of X node = PartValues.Xattr node.attributes
+values_of F node = PartValues.File node.size node.time
 
 -- what the inode keeps of a part; one that a test has found is there
 abbrev pub values_outcome : Part → Option Node → Outcome
-values_outcome part None = outcome.Done
-values_outcome part (Some node) = outcome.Values (values_of part node)
+values_outcome part None = Outcome.Done
+values_outcome part (Some node) = Outcome.Values (values_of part node)
 
 abbrev pub passed_as : Scene → ℕ → Ask → Outcome
 passed_as s ino (Get part) = values_outcome part (map.get s.tree.nodes ino)
-passed_as s ino (Alter change) = outcome.Done
-passed_as s ino Unlink = outcome.Done
-passed_as s ino Rmdir = outcome.Done
-passed_as s ino (Rename dir name) = outcome.Done
+passed_as s ino (Alter change) = Outcome.Done
+passed_as s ino Unlink = Outcome.Done
+passed_as s ino Rmdir = Outcome.Done
+passed_as s ino (Rename dir name) = Outcome.Done
 
 -- what stopped it, as its outcome
 abbrev pub rejection_outcome : Rejection → Outcome
-rejection_outcome (ByPolicy access rules) = outcome.Denied access rules
-rejection_outcome (ByTest refusal) = outcome.Refused refusal
+rejection_outcome (ByPolicy access rules) = Outcome.Denied access rules
+rejection_outcome (ByTest refusal) = Outcome.Refused refusal
 
 abbrev pub outcome_unless : Scene → Request → Option Rejection → Outcome
 outcome_unless s q (Some rejection) = rejection_outcome rejection
@@ -79,7 +62,7 @@ takes_memory (Rename dir name) = true
 -- how it may end: as it is judged now; or nothing stops it, but it takes memory and finds none
 pub data MayEndAs (s : Scene) (q : Request) : Outcome → Type 0 where
   As_judged : MayEndAs s q (outcome_of s q)
-  Without_memory : judged_again s q ≡ None → IsTrue (takes_memory q.ask) → MayEndAs s q outcome.OutOfMemory
+  Without_memory : judged_again s q ≡ None → IsTrue (takes_memory q.ask) → MayEndAs s q Outcome.OutOfMemory
 
 -- it waits no more
 abbrev pub served : Scene → Request → Outcome → Scene
@@ -89,4 +72,4 @@ served s q o = record s { tree = tree_after s.tree q o; locks = moved_locks s.lo
 
 -- a request ends unserved, since its client's session does
 abbrev pub dropped_of : Request → Ended
-dropped_of q = record { client = q.client; ticket = q.ticket; outcome = outcome.Dropped }
+dropped_of q = record { client = q.client; ticket = q.ticket; outcome = Outcome.Dropped }

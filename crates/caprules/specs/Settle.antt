@@ -1,23 +1,9 @@
 -- The moves of a step: always the first that applies, until none does.
-use Rattle.std.specs.Prelude.{◌≡◌, Bool, true, false, ◌&&◌, List, [], ◌∷◌, Option, Some, None, if◌then◌else◌}
-use Rattle.std.specs.List.{filter_map}
-use Rattle.capbits.specs.declared.cap.Part.{Part}
-use Rattle.capbits.specs.declared.ids.Ino.{Ino}
-use Rattle.locktable.specs.declared.states.State.{State as LockGoal}
+use Rattle.std.specs.{List.{filter_map}, Prelude.{◌≡◌, Bool, true, false, ◌&&◌, List, [], ◌∷◌, Option, Some, None, if◌then◌else◌}}
+use Rattle.capbits.specs.declared.{cap.Part.{Part}, ids.Ino.{Ino}}
 use Rattle.inotree.specs.declared.node.Setting.{Setting}
-use Rattle.inotree.specs.declared.node.Setting.TheVariants as settings
-use Rattle.capnotes.specs.Lockmachine.declared.request.Ask.{Ask}
-use Rattle.capnotes.specs.Lockmachine.declared.request.Ask.TheVariants.{Get, Alter, Unlink, Rmdir, Rename}
-use Rattle.capnotes.specs.Lockmachine.declared.request.Change.{Change}
-use Rattle.capnotes.specs.Lockmachine.declared.request.Change.TheVariants.{Set, SetXattr, RemoveXattr}
-use Rattle.capnotes.specs.Lockmachine.declared.request.Request.{Request}
-use Rattle.capnotes.specs.Lockmachine.declared.moves.Move.TheVariants.{Begin, End, Serve, Settled}
-use Rattle.capnotes.specs.Lockmachine.Locks.{request_at}
-use Rattle.capnotes.specs.Lockmachine.declared.scene.Scene.{Scene}
-use Rattle.capnotes.specs.Lockmachine.Moves.{first_move, with_moved}
-use Rattle.capnotes.specs.Capevents.declared.outcome.Outcome.{Outcome}
-use Rattle.capnotes.specs.Capevents.declared.outcome.Outcome.TheVariants as outcome
-use Rattle.capnotes.specs.Capevents.declared.outcome.Ended.{Ended}
+use Rattle.locktable.specs.declared.states.State.{State as LockGoal}
+use Rattle.capnotes.specs.{Capevents.declared.outcome.Ended.{Ended}, Capevents.declared.outcome.Outcome.{Outcome}, Lockmachine.Locks.{request_at}, Lockmachine.Moves.{first_move, with_moved}, Lockmachine.declared.moves.Move.TheVariants.{Begin, End, Serve, Settled}, Lockmachine.declared.request.Ask.{Ask}, Lockmachine.declared.request.Ask.TheVariants.{Get, Alter, Unlink, Rmdir, Rename}, Lockmachine.declared.request.Change.{Change}, Lockmachine.declared.request.Change.TheVariants.{Set, SetXattr, RemoveXattr}, Lockmachine.declared.request.Request.{Request}, Lockmachine.declared.scene.Scene.{Scene}}
 use Rattle.caprules.specs.Serving.{MayEndAs, served}
 
 -- a move that was made
@@ -58,11 +44,11 @@ ended_in moves = filter_map ended_by moves
 -- ---- sizes
 
 abbrev pub is_size : Setting → Bool
-is_size (settings.Mode mode) = false
-is_size (settings.Uid uid) = false
-is_size (settings.Gid gid) = false
-is_size (settings.Size size) = true
-is_size (settings.Time time) = false
+is_size (Setting.Mode mode) = false
+is_size (Setting.Uid uid) = false
+is_size (Setting.Gid gid) = false
+is_size (Setting.Size size) = true
+is_size (Setting.Time time) = false
 
 abbrev pub changes_size : Change → Bool
 changes_size (Set setting) = is_size setting
@@ -78,12 +64,12 @@ sets_size Rmdir = false
 sets_size (Rename dir name) = false
 
 abbrev pub is_done : Outcome → Bool
-is_done outcome.Done = true
-is_done (outcome.Values values) = false
-is_done (outcome.Denied access rules) = false
-is_done (outcome.Refused refusal) = false
-is_done outcome.OutOfMemory = false
-is_done outcome.Dropped = false
+is_done Outcome.Done = true
+is_done (Outcome.Values values) = false
+is_done (Outcome.Denied access rules) = false
+is_done (Outcome.Refused refusal) = false
+is_done Outcome.OutOfMemory = false
+is_done Outcome.Dropped = false
 
 -- the inode whose size a move changed
 abbrev pub sized_by : Made → Option Ino

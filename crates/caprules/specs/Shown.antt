@@ -1,57 +1,40 @@
 -- What clients were last shown of what they hold: by the rows of a history alone, and how the numbers of entries speak of it.
-use Rattle.std.specs.Prelude.{◌≡◌, Bool, false, ◌&&◌, ◌||◌, ◌==◌, nat_lt, IsTrue, IsFalse, List, Some, if◌then◌else◌}
-use Rattle.std.specs.List.{fold}
-use Rattle.capbits.specs.declared.cap.Cap.{Cap}
-use Rattle.capbits.specs.declared.cap.Cap.TheVariants.{P}
-use Rattle.capbits.specs.declared.ids.Ino.{Ino}
-use Rattle.capbits.specs.Caps.{Caps, has}
-use Rattle.capbits.specs.Sets.{no_caps, minus}
-use Rattle.captable.specs.declared.entry.Entry.{Entry}
-use Rattle.captable.specs.declared.entry.Holder.{Holder}
-use Rattle.captable.specs.Shown.{IsShown}
-use Rattle.captable.specs.Table.{holder, same, entry_at}
-use Rattle.capnotes.specs.Lockmachine.Policy.{permitted}
-use Rattle.capnotes.specs.Lockmachine.declared.scene.Scene.{Scene}
-use Rattle.capnotes.specs.Lockmachine.Scene.{told_set}
-use Rattle.capnotes.specs.Capevents.declared.event.Event.{Event}
-use Rattle.capnotes.specs.Capevents.declared.event.Event.TheVariants as event
-use Rattle.capnotes.specs.Capevents.declared.row.Row.{Row}
-use Rattle.capnotes.specs.Capevents.declared.outcome.Message.{Message}
-use Rattle.capnotes.specs.Capevents.declared.outcome.Message.TheVariants as message
-use Rattle.capnotes.specs.Capevents.declared.reply.Reply.{Reply}
-use Rattle.capnotes.specs.Capevents.declared.reply.Reply.TheVariants as reply
+use Rattle.std.specs.{List.{fold}, Prelude.{◌≡◌, Bool, false, ◌&&◌, ◌||◌, ◌==◌, nat_lt, IsTrue, IsFalse, List, Some, if◌then◌else◌}}
+use Rattle.capbits.specs.{Caps.{Caps, has}, Sets.{no_caps, minus}, declared.cap.Cap.{Cap}, declared.cap.Cap.TheVariants.{P}, declared.ids.Ino.{Ino}}
+use Rattle.captable.specs.{Shown.{IsShown}, Table.{holder, same, entry_at}, declared.entry.Entry.{Entry}, declared.entry.Holder.{Holder}}
+use Rattle.capnotes.specs.{Capevents.declared.event.Event.{Event}, Capevents.declared.outcome.Message.{Message}, Capevents.declared.reply.Reply.{Reply}, Capevents.declared.row.Row.{Row}, Lockmachine.Policy.{permitted}, Lockmachine.Scene.{told_set}, Lockmachine.declared.scene.Scene.{Scene}}
 use Rattle.caprules.specs.Headline.{holds}
 
 -- ---- by rows alone
 
 -- what a message shows of the inode: where it shows nothing of it, what was shown before counts on
 abbrev pub shown_in : Ino → Caps → Message → Caps
-shown_in ino was (message.Ended ticket outcome) = was
-shown_in ino was (message.Caps i seq caps) = if i.0 == ino.0 then caps else was
-shown_in ino was (message.Size i size) = was
-shown_in ino was (message.Recall i) = was
+shown_in ino was (Message.Ended ticket outcome) = was
+shown_in ino was (Message.Caps i seq caps) = if i.0 == ino.0 then caps else was
+shown_in ino was (Message.Size i size) = was
+shown_in ino was (Message.Recall i) = was
 
 -- an opening and a want show what they answer
 abbrev pub shown_opened : Caps → Reply → Caps
-shown_opened was (reply.Opened seq caps) = caps
+shown_opened was (Reply.Opened seq caps) = caps
 shown_opened was answer = was
 
 -- what is given back is shown no more
 abbrev pub shown_less : Caps → Caps → Reply → Caps
-shown_less caps was reply.Done = minus was caps
+shown_less caps was Reply.Done = minus was caps
 shown_less caps was answer = was
 
 -- a poll shows what its messages say
 abbrev pub shown_given : Ino → Caps → Reply → Caps
-shown_given ino was (reply.Messages messages) = fold (shown_in ino) was messages
+shown_given ino was (Reply.Messages messages) = fold (shown_in ino) was messages
 shown_given ino was answer = was
 
 -- what the holder was last shown, after an event with this answer. An event of another holder shows it nothing
 abbrev pub shown_by : Holder → Caps → Event → Reply → Caps
-shown_by k was (event.Open client ino mode) answer = if same k (holder client ino) then shown_opened was answer else was
-shown_by k was (event.Want client ino caps) answer = if same k (holder client ino) then shown_opened was answer else was
-shown_by k was (event.Release client ino caps) answer = if same k (holder client ino) then shown_less caps was answer else was
-shown_by k was (event.Poll client max) answer = if k.client.0 == client.0 then shown_given k.ino was answer else was
+shown_by k was (Event.Open client ino mode) answer = if same k (holder client ino) then shown_opened was answer else was
+shown_by k was (Event.Want client ino caps) answer = if same k (holder client ino) then shown_opened was answer else was
+shown_by k was (Event.Release client ino caps) answer = if same k (holder client ino) then shown_less caps was answer else was
+shown_by k was (Event.Poll client max) answer = if k.client.0 == client.0 then shown_given k.ino was answer else was
 shown_by k was e answer = was
 
 -- and after a history. Each entry begins with an opening, whose answer shows the first set; so this is what was shown since then
@@ -81,17 +64,17 @@ ShowsOnlyPermitted rows s =
 
 -- what an acknowledgement takes by itself, was not shown
 abbrev pub TakesUnshown : List Row → Scene → Event → Scene → Type 0
-TakesUnshown rows old (event.Ack client ino seq) by_itself =
+TakesUnshown rows old (Event.Ack client ino seq) by_itself =
     (cap : Cap) → IsTrue (holds old (holder client ino) cap) → IsFalse (holds by_itself (holder client ino) cap) →
     IsFalse (has (shown_of (holder client ino) rows) cap)
 TakesUnshown rows old e by_itself = Unit {0}
 
 -- the event may take it: an acknowledgement or a release of the holder, or the end of its client's session
 abbrev pub may_take : Event → Holder → Cap → Bool
-may_take (event.Ack client ino seq) k cap = same k (holder client ino)
-may_take (event.Release client ino caps) k cap = same k (holder client ino) && (has caps P || has caps cap)
-may_take (event.CloseSession client) k cap = k.client.0 == client.0
-may_take (event.Evict client) k cap = k.client.0 == client.0
+may_take (Event.Ack client ino seq) k cap = same k (holder client ino)
+may_take (Event.Release client ino caps) k cap = same k (holder client ino) && (has caps P || has caps cap)
+may_take (Event.CloseSession client) k cap = k.client.0 == client.0
+may_take (Event.Evict client) k cap = k.client.0 == client.0
 may_take e k cap = false
 
 -- what was held and is held no more, the event may take

@@ -1,21 +1,13 @@
 -- What every state of the core keeps between two events: all that it speaks of is there, and nothing is left to do. What its
 -- parts keep by themselves is in `IsTree`, `IsTable`, `IsLockMap` and the like.
-use Rattle.std.specs.Prelude.{◌≡◌, ◌≤◌, ◌<◌, ◌^◌, ℕ, IsTrue, All}
-use Rattle.std.specs.List.{list_any}
+use Rattle.std.specs.{List.{list_any}, Prelude.{◌≡◌, ◌≤◌, ◌<◌, ◌^◌, ℕ, IsTrue, All}}
 use Rattle.std.specs.FinMap as map
-use Rattle.capbits.specs.declared.cap.Cap.TheVariants.{P}
-use Rattle.capbits.specs.Caps.{has}
-use Rattle.capbits.specs.Sets.{IsSubset}
-use Rattle.inotree.specs.declared.node.Place.TheVariants.{Gone}
-use Rattle.inotree.specs.Tree.{place}
+use Rattle.capbits.specs.{Caps.{has}, Sets.{IsSubset}, declared.cap.Cap.TheVariants.{P}}
+use Rattle.inotree.specs.{Tree.{place}, declared.node.Place.TheVariants.{Gone}}
+use Rattle.captable.specs.{Calls.{is_of_inode}, declared.entry.EntryRow.{EntryRow}}
 use Rattle.sessiontab.specs.Calls.{has_session}
-use Rattle.captable.specs.declared.entry.EntryRow.{EntryRow}
-use Rattle.captable.specs.Calls.{is_of_inode}
-use Rattle.capnotes.specs.Lockmachine.declared.scene.Scene.{Scene}
-use Rattle.capnotes.specs.Lockmachine.Moves.{IsAtRest}
-use Rattle.caprules.specs.Finish.{due}
-use Rattle.caprules.specs.Headline.{AreInPlace}
-use Rattle.caprules.specs.State.{State}
+use Rattle.capnotes.specs.Lockmachine.{Moves.{IsAtRest}, declared.scene.Scene.{Scene}}
+use Rattle.caprules.specs.{Finish.{due}, Headline.{AreInPlace}, State.{State}}
 
 -- an entry
 pub record IsSoundEntry (s : Scene) (row : EntryRow) : Type 0 where

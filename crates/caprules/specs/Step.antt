@@ -1,13 +1,7 @@
 -- One step: the event by itself, the moves, and the end of the step.
 use Rattle.std.specs.Prelude.{◌≡◌, ℕ, nat_le, List, ◌++◌, filter}
-use Rattle.capnotes.specs.Lockmachine.declared.scene.Scene.{Scene}
-use Rattle.capnotes.specs.Capevents.declared.event.Event.{Event}
-use Rattle.capnotes.specs.Capevents.declared.outcome.Ended.{Ended}
-use Rattle.capnotes.specs.Capevents.declared.reply.Reply.{Reply}
-use Rattle.caprules.specs.State.{State}
-use Rattle.caprules.specs.Direct.{Direct, direct, reply_of, shown}
-use Rattle.caprules.specs.Settle.{Made, Settles, ended_in, sized_in}
-use Rattle.caprules.specs.Finish.{sizes_owed, finished}
+use Rattle.capnotes.specs.{Capevents.declared.event.Event.{Event}, Capevents.declared.outcome.Ended.{Ended}, Capevents.declared.reply.Reply.{Reply}, Lockmachine.declared.scene.Scene.{Scene}}
+use Rattle.caprules.specs.{Direct.{Direct, direct, reply_of, shown}, Finish.{sizes_owed, finished}, Settle.{Made, Settles, ended_in, sized_in}, State.{State}}
 
 -- of the requests that the moves ended, those of earlier steps: they have no number above the last that was given before
 abbrev pub earlier : ℕ → List Ended → List Ended

@@ -1,9 +1,8 @@
 -- Which inodes a step affects: that of its event, and the others.
-use Rattle.std.proofs.Common.{◌≡◌, ◌≢◌, ℕ, true, false, ◌||◌, ◌==◌, inl, inr, ap, ◌∙◌, ◌⊎◌, Result, Ok, Err, OnOk, List, [], ◌∷◌, Contains, zero, suc, refl, subst, arith}
-use Rattle.capsteps.proofs.Common.{EntryRow, or-false, or_right, false_from_ne_true, InoSet, is_affected, Widens, none-there}
+use Rattle.std.proofs.{Common.{◌≡◌, ◌≢◌, ℕ, true, false, ◌||◌, ◌==◌, inl, ap, ◌∙◌, ◌⊎◌, Result, OnOk, List, [], ◌∷◌, Contains, arith}, Math.Bool.{or-false}, lemmas.Bool.{eqb-false, ne_eqb, or_from, or_parts}}
 use Rattle.std.specs.FinSet as set
-use Rattle.std.proofs.lemmas.Bool.{eqb-false, ne_eqb, or_cases, or_from, or_left, or_parts}
 use Rattle.capacts.proofs.InoSets.{added}
+use Rattle.capsteps.proofs.Common.{EntryRow, InoSet, is_affected, none-there, Widens}
 
 -- an inode that is not affected is another, and none of the others
 pub unaffected : (ino : ℕ) (affected : InoSet) (other : ℕ) → is_affected ino affected other ≡ false → (other ≢ ino) × (set.contains affected other ≡ false)

@@ -1,23 +1,10 @@
 -- The end of a step: the entries on an inode one by one, and all inodes that it affected.
-use Rattle.std.proofs.Common.{◌≡◌, ℕ, zero, suc, ◌<◌, Bool, true, false, cond, Option, Some, None, List, [], ◌∷◌, length, filter, take, get_or, refl, sym, ap, ◌∙◌, arith, eq-eqb, true≢false, ◌≤◌, ◌||◌, map as each, is_some, subst, All, IfSome, ◌==◌, IsTrue}
-use Rattle.capsteps.proofs.Common.{fold, AllByRecursion, list_any, All-contains, All-map, All-filter, nat_cmp, eq_by_cmp, nat_cmp_total, eqb-true, false_from_ne_true, length-map, ClientId, Ino, Caps, Nodes, SessionTable, has_session, Entry, EntryRow, Holder, Table, same, holder, is_row_of, entry_at, IsTable, holders_of_rows, is_of_inode, entries_on, changed_by, same_equiv, entry_at-changed_other, row_of-entry, InodeLocks, StateMap, Scene, due_under, told_at, entry_under, entry_by, clients_of, InoSet, forget_at, forget_among, is_affected}
-use Rattle.std.specs.List.{IsDistinct}
+use Rattle.std.{proofs.Common.{◌≡◌, ℕ, zero, suc, ◌<◌, Bool, true, false, cond, Option, Some, None, List, [], ◌∷◌, length, filter, take, get_or, refl, sym, ap, ◌∙◌, arith, eq-eqb, true≢false, ◌≤◌, ◌||◌, map as each, is_some, subst, All, IfSome, ◌==◌, IsTrue}, proofs.Math.Bool.{or_comm}, proofs.lemmas.Bool.{eqb-true}, proofs.lemmas.List.{length-map}, proofs.lemmas.List.Elements.{All-contains, All-map, All-filter, All-from_recursion, recursion_from_All}, proofs.lemmas.Map.Keys.{apart_from_distinct}, proofs.lemmas.Map.Made.{is_some-lookup}, proofs.lemmas.Map.Steps.{length-le_from_keys}, specs.Cmp.{nat_cmp_total, eq_by_cmp_equiv}, specs.FinMap.Entries.{is_some-find}, specs.List.{fold, AllByRecursion, list_any, IsDistinct}, specs.Ordering.{nat_cmp, eq_by_cmp}}
 use Rattle.std.specs.FinMap as map
 use Rattle.std.specs.FinSet as set
-use Rattle.std.proofs.Math.Bool.{or_comm}
-use Rattle.std.proofs.lemmas.List.Elements.{All-from_recursion, recursion_from_All}
-use Rattle.std.proofs.lemmas.Map.Keys.{apart_from_distinct}
-use Rattle.std.specs.Cmp.{eq_by_cmp_equiv}
-use Rattle.std.specs.FinMap.Entries.{is_some-find}
-use Rattle.std.proofs.lemmas.Map.Made.{is_some-lookup}
-use Rattle.std.proofs.lemmas.Map.Steps.{length-le_from_keys}
-use Rattle.sessiontab.specs.Table.{IsSound}
-use Rattle.sessiontab.specs.declared.table.TheConstants.{MAX_SESSIONS}
 use Rattle.captable.proofs.Tables.{holders-filter, distinct-filter}
-use Rattle.capacts.specs.Finishing.{numbered_as}
-use Rattle.capacts.proofs.Lockmachine.Rest.{same_key}
-use Rattle.capsteps.proofs.LeftAlone.{found-contains}
-use Rattle.capsteps.proofs.Strays.{forget-one, forget-twice}
+use Rattle.sessiontab.specs.{Table.{IsSound}, declared.table.TheConstants.{MAX_SESSIONS}}
+use Rattle.capsteps.{proofs.Common.{Caps, changed_by, ClientId, clients_of, due_under, entries_on, Entry, entry_at, entry_at-changed_other, entry_by, entry_under, EntryRow, has_session, Holder, holder, holders_of_rows, Ino, InodeLocks, InoSet, is_affected, is_of_inode, is_row_of, IsTable, Nodes, numbered_as, row_of-entry, same, same_equiv, same_key, Scene, SessionTable, StateMap, Table, told_at}, proofs.LeftAlone.{found-contains}, proofs.Strays.{forget-one, forget-twice}, specs.Affected.{forget_at, forget_among}}
 
 -- ---- the clients with an entry on an inode have a session each, so they are no more than the sessions
 

@@ -1,21 +1,9 @@
 -- The step of an event ends at the inodes that it affected.
-use Rattle.std.proofs.Common.{◌≡◌, ℕ, ◌+◌, ◌==◌, Bool, true, false, cond, not, ◌||◌, Option, Some, None, List, [], ◌∷◌, map, refl, sym, ap, subst, ◌∙◌, Contains, arith}
-use Rattle.capsteps.proofs.Common.{find, list_any, option_map, option_map_or, nat_cmp, map-map, All-contains, Cap, P, Part, A, L, X, F, Caps, IsSubset, has-union, IsTree, place, is_gone, Entry, EntryRow, Holder, Table, IsTable, same, is_row_of, entry_of, entry_at, is_of_inode, renumbered, remade, row_found, find-map, same-is, lock_at, effective_want, permitted, Scene, told_set, lock_in, State, allowed_by, due, issue_row, issue, is_in_use, forget, told_before, number_row, finished, IssuesExactly, IsSound, IsSoundEntry, Made, Affects, SettlesAt, Knows, stays, told_then, finished_entry, finished_at, KnownSets, known_of, AreKnown, known_anew, KnownAnew}
+use Rattle.std.{proofs.Common.{◌≡◌, ℕ, ◌==◌, Bool, true, false, cond, not, ◌||◌, Option, Some, None, List, [], map, refl, sym, ap, subst, ◌∙◌, Contains, arith}, proofs.lemmas.List.Elements.{All-contains}, proofs.lemmas.Simd.{map-map}, specs.List.{find, list_any}, specs.Option.{option_map, option_map_or}, specs.Ordering.{nat_cmp}}
 use Rattle.std.specs.FinMap as finite
 use Rattle.capbits.specs.Caps.{has}
-use Rattle.capbits.specs.Sets.{caps_in, union, minus, meet, is_empty}
-use Rattle.captable.proofs.Searches.{find_passes}
-use Rattle.capacts.proofs.Lockmachine.PolicyElsewhere.{permitted-kept, want-kept}
 use Rattle.capacts.proofs.Lockmachine.Told.{told-same}
-use Rattle.capacts.specs.Caprules.Headline.{holds}
-use Rattle.capacts.proofs.Held.{or_inside}
-use Rattle.capsteps.proofs.Finishing.{each-alike, same-issue_row, same-renumbered, kept_by}
-use Rattle.capsteps.proofs.Forgotten.{due-left}
-use Rattle.capsteps.proofs.LeftAlone.{found-contains}
-use Rattle.capsteps.proofs.Moved.{moved-all}
-use Rattle.capsteps.proofs.SameOff.{row_elsewhere, any_elsewhere, IsSameFrom, from-first}
-use Rattle.capsteps.proofs.Telling.{any-map_same}
-use Rattle.capsteps.proofs.Strays.{retained-here, kept-held, goes, alike-retained}
+use Rattle.capsteps.{proofs.Common.{AreKnown, Cap, Caps, due, Entry, entry_at, entry_of, EntryRow, find-map, find_passes, finished, forget, has-union, Holder, is_gone, is_in_use, is_of_inode, is_row_of, IsSound, IsSoundEntry, IsSubset, issue, issue_row, IssuesExactly, IsTable, IsTree, known_anew, known_of, KnownAnew, KnownSets, lock_at, lock_in, Made, meet, number_row, or_inside, Part, permitted, permitted-kept, place, remade, renumbered, row_found, same, same-is, Scene, State, Table, told_before, told_set}, proofs.Finishing.{each-alike, same-issue_row, same-renumbered, kept_by}, proofs.Forgotten.{due-left}, proofs.LeftAlone.{found-contains}, proofs.Moved.{moved-all}, proofs.SameOff.{row_elsewhere, any_elsewhere, IsSameFrom, from-first}, proofs.Strays.{retained-here, kept-held, goes, alike-retained}, proofs.Telling.{any-map_same}, specs.Affected.{Affects, SettlesAt, Knows, stays, told_then, finished_entry, finished_at}}
 
 -- ---- an entry at the end
 

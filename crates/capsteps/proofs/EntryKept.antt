@@ -1,18 +1,9 @@
 -- What an event about one entry leaves of what is kept of entries.
-use Rattle.std.proofs.Common.{◌≡◌, ◌≢◌, ◌⊎◌, inl, inr, Bool, true, false, cond, not, ◌&&◌, Option, Some, None, is_some, IsSome, [], ◌∷◌, refl, sym, ap, subst, ◌∙◌, true≢false}
-use Rattle.capsteps.proofs.Common.{option_map, option_map_or, All-contains, Cap, P, Caps, IsSubset, has-none, has-minus, and_parts, Entry, EntryRow, Holder, Table, same, is_row_of, entry_at, new_entry, opened, changed, wanting, taken, given_back, without, entry_at-changed_other, row_of-entry, same-is, opening_wants, with_entry, with_opening, KnownSets, Sets, sets_of, known_of, permitted_of, permitted, AreKnown, StillKnown, OthersHaveAll, IsSound, IsSoundEntry, State, table_after}
-use Rattle.capbits.specs.Caps.{has}
-use Rattle.capbits.specs.Sets.{no_caps, caps_in, union}
-use Rattle.captable.proofs.ByHolder.{entry_at-opened, entry_at-opened_other, entry_at-acked_other, entry_at-released_other}
-use Rattle.capsteps.specs.declared.entry_request.EntryRequest.{EntryRequest}
-use Rattle.capsteps.specs.declared.entry_request.EntryRequest.TheVariants.{Open, Want, Ack, Release}
-use Rattle.capacts.specs.Known.{is_still_known}
-use Rattle.capacts.specs.Lockmachine.declared.policy.Policy.{Policy}
-use Rattle.capsteps.specs.EntryRequest.{StillKept}
-use Rattle.capacts.proofs.Renewed.{kept-is}
-use Rattle.capsteps.proofs.Knowing.{held_at, HoldAlike, still-known}
-use Rattle.capsteps.proofs.LeftAlone.{found-contains}
-use Rattle.capsteps.proofs.ShownSteps.{IsOf, apart-of, changed-as}
+use Rattle.std.{proofs.Common.{◌≡◌, ◌≢◌, ◌⊎◌, inl, inr, Bool, true, false, cond, not, ◌&&◌, Option, Some, None, is_some, [], ◌∷◌, refl, sym, ap, subst, ◌∙◌, true≢false}, proofs.lemmas.List.Elements.{All-contains}, specs.Option.{option_map, option_map_or}}
+use Rattle.capbits.specs.{Caps.{has}, Sets.{no_caps}}
+use Rattle.captable.proofs.ByHolder.{entry_at-acked_other, entry_at-released_other}
+use Rattle.capacts.{proofs.Renewed.{kept-is}, specs.Lockmachine.declared.policy.Policy.{Policy}}
+use Rattle.capsteps.{proofs.Common.{and_parts, AreKnown, Cap, Caps, caps_in, changed, Entry, entry_at, entry_at-changed_other, entry_at-opened, entry_at-opened_other, EntryRow, given_back, has-minus, has-none, Holder, is_row_of, is_still_known, IsSound, IsSoundEntry, IsSubset, known_of, KnownSets, new_entry, opened, opening_wants, OthersHaveAll, P, permitted, permitted_of, row_of-entry, same, same-is, Sets, sets_of, State, StillKnown, Table, taken, union, wanting, with_entry, with_opening, without}, proofs.Knowing.{held_at, HoldAlike, still-known}, proofs.LeftAlone.{found-contains}, proofs.ShownSteps.{IsOf, apart-of, changed-as}, specs.EntryRequest.{table_after, StillKept}, specs.declared.entry_request.EntryRequest.{EntryRequest}, specs.declared.entry_request.EntryRequest.TheVariants.{Open, Want, Ack, Release}}
 
 -- ---- what is kept of each
 

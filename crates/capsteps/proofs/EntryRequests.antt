@@ -1,44 +1,14 @@
 -- An event about one entry, by itself: it changes entries of its inode alone, and leaves of each what every state keeps, but that
 -- what is due is held. It drops no request and leaves the messages.
-use Rattle.std.proofs.Common.{◌≡◌, ◌≢◌, ◌≤◌, ℕ, ◌+◌, Bool, true, false, cond, not, ◌&&◌, ◌||◌, Option, Some, None, is_some, List, [], ◌∷◌, ◌++◌, filter, refl, sym, ap, subst, ◌∙◌, Contains, true≢false, arith, IsTrue, All}
-use Rattle.capsteps.proofs.Common.{find, list_any, or_right, list_any-append, option_map, All-cons, All-contains, All-contains_itself, All-weaker, All-filter, P, Fc, Part, ClientId, Ino, Caps, IsSubset, has-none, has-union, has-meet, has-minus, and_parts, Node, place, place_at, SessionTable, has_session, LockGoal, LockState, Entry, EntryRow, Holder, Table, IsTable, holder, is_row_of, entry_of, entry_at, new_entry, opened, changed, without, wanting, taken, given_back, is_of_inode, entries_on, same_equiv, row_found, StateMap, lock_in, lock_at, permitted, IsInRowOf, IsInRow, Scene, outside, WaitAt, is_open, IsQuiet, effective_want, Event, OpenMode, State, judged, revoked_of, Direct, direct, effect, effect_unless, opening_wants, with_entry, table_after, IsSound, IsSoundEntry, AreGiven}
-use Rattle.std.proofs.lemmas.Bool.{and_from, not-false}
+use Rattle.std.{proofs.Common.{◌≡◌, ◌≢◌, ◌≤◌, ℕ, ◌+◌, Bool, true, false, cond, not, ◌&&◌, ◌||◌, Option, Some, None, is_some, List, [], ◌∷◌, ◌++◌, filter, refl, sym, ap, subst, ◌∙◌, Contains, true≢false, arith, IsTrue, All}, proofs.lemmas.Bool.{or_right, and_from, not-false}, proofs.lemmas.List.Elements.{All-cons, All-contains, All-contains_itself, All-weaker, All-filter, All-head, All-tail, All-push, All-same, filter-append}, proofs.lemmas.List.Folds.{list_any-append}, specs.List.{find, list_any}, specs.Option.{option_map}}
 use Rattle.std.specs.FinMap as map
-use Rattle.std.proofs.lemmas.List.Elements.{All-head, All-tail, All-push, All-same, filter-append}
-use Rattle.capbits.specs.declared.cap.Cap.TheVariants.{Fs, Fx, Fr, Fw, Fb}
-use Rattle.capbits.specs.declared.refusal.Refusal.{Refusal}
-use Rattle.capbits.specs.declared.refusal.Refusal.TheVariants as refusal
-use Rattle.capbits.specs.Caps.{has}
-use Rattle.capbits.specs.Sets.{no_caps, caps_in, union, meet, minus, of_part, covers, is_empty, has-caps_in, has-of_part}
-use Rattle.capbits.specs.Refusal.{first_failing}
-use Rattle.capbits.proofs.Tests.{passed-if, passed-both}
-use Rattle.capgrant.specs.declared.access.Access.TheVariants as access
-use Rattle.capgrant.proofs.Pins.{pin_of_read, pin_of_write}
-use Rattle.inotree.specs.Tests.{is_no_ino, inode_tests, file_test}
-use Rattle.sessiontab.specs.Calls.{status_of}
-use Rattle.sessiontab.specs.Tests.{is_open as is_open_status, session_tests}
-use Rattle.locktable.specs.Rows.{row_of}
-use Rattle.captable.specs.Calls.{change_rows, acked, released}
-use Rattle.captable.specs.Tests.{open_tests, entry_test, ack_tests, release_tests}
-use Rattle.captable.proofs.Tables.{IsTable-changed, IsTable-opened, IsTable-released, IsTable-without}
-use Rattle.captable.proofs.Moves.{IsTable-touched}
-use Rattle.captable.proofs.ByInode.{entries_on-changed, entries_on-opened, entries_on-released, entries_on-without}
-use Rattle.capacts.specs.Lockmachine.Policy.{Subject, subject, question_of, is_granted_to, permitted_to}
-use Rattle.capacts.specs.Lockmachine.Requests.{part_of_ask}
-use Rattle.capacts.specs.Lockmachine.Moves.{present_state}
-use Rattle.capacts.proofs.Lockmachine.SameBut.{same-entries}
-use Rattle.capacts.specs.Capevents.declared.event.Event.TheVariants as event
-use Rattle.capacts.specs.Capevents.declared.event.OpenMode.TheVariants as opening
-use Rattle.capsteps.specs.declared.entry_request.EntryRequest.{EntryRequest}
-use Rattle.capsteps.specs.declared.entry_request.EntryRequest.TheVariants.{Open, Want, Ack, Release}
-use Rattle.capacts.specs.Caprules.Judge.{before, needs, after, rejection_by, first_denied, is_met, opening_needs, is_writing, connected_tests, asked_tests, room_for}
-use Rattle.capacts.specs.Caprules.Needs.{Need, need}
-use Rattle.capacts.specs.Caprules.Direct.{with_table}
-use Rattle.capsteps.specs.EntryRequest.{entry_event, entry_request_tests}
-use Rattle.capsteps.specs.Affected.{IsAffectedEntry, AffectsOne}
-use Rattle.capsteps.proofs.Judging.{no_test}
-use Rattle.capsteps.proofs.Moved.{sound-waits}
-use Rattle.capsteps.proofs.Placed.{placed-in_row}
+use Rattle.capbits.{proofs.Tests.{passed-both}, specs.Caps.{has}, specs.Sets.{no_caps}}
+use Rattle.capgrant.{proofs.Pins.{pin_of_read, pin_of_write}, specs.declared.access.Access.{Access}}
+use Rattle.inotree.specs.{Tests.{is_no_ino, inode_tests}, Tree.{place_at}}
+use Rattle.captable.{proofs.ByInode.{entries_on-changed, entries_on-opened, entries_on-without}, proofs.Moves.{IsTable-touched}, proofs.Tables.{IsTable-changed, IsTable-opened, IsTable-released, IsTable-without}, specs.Tests.{open_tests}}
+use Rattle.sessiontab.specs.Tests.{session_tests}
+use Rattle.capacts.{proofs.Lockmachine.SameBut.{same-entries}, specs.Caprules.Direct.{with_table}, specs.Caprules.Judge.{before, needs, after, is_met, asked_tests, room_for}, specs.Lockmachine.Policy.{Subject, is_granted_to, permitted_to}}
+use Rattle.capsteps.{proofs.Common.{acked, and_parts, AreGiven, Caps, caps_in, change_rows, changed, ClientId, covers, Direct, direct, effect, effect_unless, effective_want, entries_on, Entry, entry_at, entry_of, EntryRow, Event, first_denied, first_failing, given_back, has-caps_in, has-meet, has-minus, has-none, has-of_part, has-union, has_session, Holder, holder, Ino, is_empty, is_of_inode, is_open, is_open_status, is_row_of, IsInRow, IsInRowOf, IsQuiet, IsSound, IsSoundEntry, IsSubset, IsTable, judged, lock_at, lock_in, LockGoal, LockState, minus, Need, new_entry, Node, of_part, opened, opening_wants, OpenMode, outside, P, Part, part_of_ask, passed-if, permitted, place, present_state, Refusal, rejection_by, released, revoked_of, row_found, row_of, same_equiv, Scene, State, StateMap, status_of, Table, taken, union, WaitAt, wanting, with_entry, without}, proofs.Judging.{no_test}, proofs.Moved.{sound-waits}, proofs.Placed.{placed-in_row}, specs.Affected.{IsAffectedEntry, AffectsOne}, specs.EntryRequest.{table_after, entry_event, entry_request_tests}, specs.declared.entry_request.EntryRequest.{EntryRequest}, specs.declared.entry_request.EntryRequest.TheVariants.{Open, Want, Ack, Release}}
 
 -- ---- the tests of an event that nothing stops
 
@@ -162,10 +132,10 @@ wants-pin : (mode : OpenMode) → has (opening_wants mode) P ≡ true
 wants-pin mode = grind (arith, has-caps_in)
 
 -- the pin is permitted where something may be read or written
-read-pin : (fs : List ℕ) (o : Option Subject) → is_granted_to fs o access.Read ≡ true → has (permitted_to fs o) P ≡ true
+read-pin : (fs : List ℕ) (o : Option Subject) → is_granted_to fs o Access.Read ≡ true → has (permitted_to fs o) P ≡ true
 read-pin fs o may = grind (arith, pin_of_read)
 
-write-pin : (fs : List ℕ) (o : Option Subject) → is_granted_to fs o access.Write ≡ true → has (permitted_to fs o) P ≡ true
+write-pin : (fs : List ℕ) (o : Option Subject) → is_granted_to fs o Access.Write ≡ true → has (permitted_to fs o) P ≡ true
 write-pin fs o may = grind (arith, pin_of_write)
 
 rejection_by-denied : (s : Scene) (o : Option Refusal) (d : Option Need) (l : Option Refusal) → rejection_by s o d l ≡ None → d ≡ None
@@ -175,7 +145,7 @@ met-first : (s : Scene) (n : Need) (rest : List Need) → first_denied s (n ∷ 
 met-first s n rest none = grind arith
 
 -- so it is for whom an opening is not stopped
-opening-pin : (s : Scene) (client : ClientId) (ino : Ino) (mode : OpenMode) → judged s (event.Open client ino mode) ≡ None → has (permitted s.fs s.tree s.sessions (holder client ino)) P ≡ true
+opening-pin : (s : Scene) (client : ClientId) (ino : Ino) (mode : OpenMode) → judged s (Event.Open client ino mode) ≡ None → has (permitted s.fs s.tree s.sessions (holder client ino)) P ≡ true
 opening-pin s client ino mode free = grind (arith, rejection_by-denied, read-pin, met-first, write-pin)
 
 -- ---- an entry whose pin is held
@@ -281,13 +251,13 @@ module _ (s : Scene) (client : ClientId) (ino : Ino) (asked : first_failing (ask
   both = passed-both (session_tests s.sessions client.0) (inode_tests s.tree ino.0) asked
 
   pub asked-session : has_session s.sessions client.0 ≡ true
-  asked-session = not-false (has_session s.sessions client.0) (passed-if _ refusal.NoSession _ both.0).0
+  asked-session = not-false (has_session s.sessions client.0) (passed-if _ Refusal.NoSession _ both.0).0
 
   asked-open : is_open_status (status_of s.sessions client.0) ≡ true
   asked-open = grind arith
 
   pub asked-there : map.contains_key s.tree.nodes ino.0 ≡ true
-  asked-there = there (map.get s.tree.nodes ino.0) (passed-if (is_no_ino (place s.tree.nodes ino.0)) refusal.NoIno _ both.1).0
+  asked-there = there (map.get s.tree.nodes ino.0) (passed-if (is_no_ino (place s.tree.nodes ino.0)) Refusal.NoIno _ both.1).0
 
   none_in_row : (row : EntryRow) (part : Part) (o : Option LockState) → row.entry.held ≡ no_caps → IsInRowOf row part o
   none_in_row row part None none = subst (λ caps. IsSubset (of_part part caps) no_caps) (sym none) (part-none part no_caps)
@@ -351,7 +321,7 @@ module _ (old : State) (client : ClientId) (ino : Ino) (sound : IsSound old) (ta
       (All-push (Left new) t.rows _ (left new t.rows all_kept) (new-affected old.scene client ino asked may new (union no_caps (opening_wants mode)) (in-union_right no_caps (opening_wants mode) (wants-pin mode))))
 
   left-affected : (request : EntryRequest) (new : Table) → judged old.scene (entry_event client ino request) ≡ None → All (Left new) (table_after t k (revoked_of old.scene k) request).rows
-  left-affected (Open mode) new free = left-opening mode new (opening-pin old.scene client ino mode free) (before-passed old.scene (event.Open client ino mode) free) (entry_at t k) refl
+  left-affected (Open mode) new free = left-opening mode new (opening-pin old.scene client ino mode free) (before-passed old.scene (Event.Open client ino mode) free) (entry_at t k) refl
   left-affected (Want caps) new free =
       left new _ (want-kept old.scene k t.rows (λ want. union caps (caps_in (P ∷ []))) (λ want is. in-union_right caps (caps_in (P ∷ [])) (has-caps_in (P ∷ []) P)) all_kept)
   left-affected (Ack seq) new free = left new _ (acked-kept old.scene k t (revoked_of old.scene k) all_kept)

@@ -1,16 +1,9 @@
 -- In a sound state the end of a step changes nothing.
-use Rattle.std.proofs.Common.{◌≡◌, ℕ, suc, Bool, true, cond, not, ◌||◌, Some, None, List, [], ◌∷◌, refl, sym, ap, ◌∙◌, Contains, arith, map}
-use Rattle.capsteps.proofs.Common.{find, nat_cmp_total, nat_cmp, map-id, All-contains, Caps, same_caps, IsSubset, has-union, has-minus, has-none, NoIno, Gone, place, is_gone, Entry, EntryRow, IsTable, is_row_of, renumbered, row_found, Scene, told_set, State, Settles, sizes_owed, due, issue_row, issue, is_in_use, forget, told_before, number_row, finished, IsSound, IsSoundEntry}
+use Rattle.std.{proofs.Common.{◌≡◌, ℕ, suc, Bool, true, cond, not, ◌||◌, Some, None, List, [], ◌∷◌, refl, sym, ap, ◌∙◌, Contains, arith, map}, proofs.Math.Bool.{and-not_self}, proofs.lemmas.List.{map-id}, proofs.lemmas.List.Elements.{All-contains}, specs.Cmp.{nat_cmp_total}, specs.List.{find}, specs.Ordering.{nat_cmp}}
 use Rattle.std.specs.FinMap as finite
-use Rattle.std.proofs.Math.Bool.{and-not_self}
-use Rattle.capbits.specs.Caps.{has}
-use Rattle.capbits.specs.Sets.{no_caps, union, minus, is_empty}
-use Rattle.capbits.proofs.Emptiness.{is_empty-no_caps}
+use Rattle.capbits.{proofs.Emptiness.{is_empty-no_caps}, specs.Caps.{has}, specs.Sets.{no_caps}}
 use Rattle.inotree.specs.declared.node.Place.{Place}
-use Rattle.inotree.specs.declared.node.Place.TheVariants.{Here}
-use Rattle.capacts.proofs.Lockmachine.Exact.{settled}
-use Rattle.capacts.proofs.Held.{or_inside}
-use Rattle.capacts.specs.Caprules.Finish.{number}
+use Rattle.capsteps.proofs.Common.{Caps, due, Entry, EntryRow, finished, forget, Gone, has-minus, has-none, has-union, is_empty, is_gone, is_row_of, IsSound, IsSoundEntry, IsSubset, issue, issue_row, IsTable, minus, number, number_row, or_inside, renumbered, row_found, same_caps, Scene, settled, Settles, sizes_owed, State, told_before, told_set, union}
 
 -- ---- lists of rows that stay
 

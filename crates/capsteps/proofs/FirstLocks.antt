@@ -1,11 +1,10 @@
 -- The locks of a tree that are added one number after another.
-use Rattle.std.proofs.Common.{◌≡◌, ◌⊎◌, ℕ, ◌+◌, ◌<◌, ◌≤◌, [], Option, Some, None, is_some, refl, sym, ap, subst, ◌∙◌, inl, inr, arith, if◌then◌else◌}
-use Rattle.capsteps.proofs.Common.{nat_cmp_total, option_map, Nodes, IsTree, Node, InodeLocks, LockMap}
+use Rattle.std.{proofs.Common.{◌≡◌, ◌⊎◌, ℕ, ◌+◌, ◌<◌, ◌≤◌, [], Option, Some, None, is_some, refl, arith, if◌then◌else◌}, specs.Cmp.{nat_cmp_total}, specs.Option.{option_map}}
 use Rattle.std.specs.FinMap as map
-use Rattle.inotree.specs.Inodes.{InodeMap}
 use Rattle.numbered.proofs.Maps.{insert-here, insert-other}
-use Rattle.capacts.specs.Lockmachine.Inodes.{in_sync}
+use Rattle.inotree.specs.Inodes.{InodeMap}
 use Rattle.capacts.specs.Lockmachine.Locks.{with_ino, no_locks}
+use Rattle.capsteps.proofs.Common.{in_sync, InodeLocks, IsTree, LockMap, Node, Nodes}
 
 -- the locks that an inode begins with, where there is an inode
 abbrev first_of : Option Node → Option InodeLocks

@@ -1,13 +1,8 @@
 -- A state that is sound but for strays is sound once these are forgotten.
-use Rattle.std.proofs.Common.{◌≡◌, ℕ, Bool, true, false, not, cond, ◌||◌, Option, Some, None, is_some, List, [], ◌∷◌, refl, sym, ap, subst, ◌∙◌, Contains, true≢false, IsTrue, All, filter, arith}
-use Rattle.capsteps.proofs.Common.{list_any, option_map, All-contains, All-contains_itself, All-weaker, P, Part, A, L, X, F, Caps, IsSubset, NoIno, Gone, IsTree, place, place_at, has_session, LockState, Stable, Gather, EntryRow, is_row_of, is_of_inode, lock_in, lock_at, first_for, effective_want, in_all, Scene, target_by, outside, IsQuiet, IsAtRest, IsInRowOf, IsInRow, State, with_scene, allowed_by, due, is_in_use, IsSoundEntry, IsSound, stays, forget_among}
+use Rattle.std.{proofs.Common.{◌≡◌, ℕ, Bool, true, false, cond, ◌||◌, Option, Some, None, List, [], ◌∷◌, refl, sym, ap, subst, ◌∙◌, Contains, true≢false, IsTrue, All, filter, arith}, proofs.lemmas.List.Elements.{All-contains, All-contains_itself, All-weaker}, specs.List.{list_any}, specs.Option.{option_map}}
 use Rattle.std.specs.FinMap as map
-use Rattle.capbits.specs.Sets.{caps_in, union, meet, is_empty}
-use Rattle.capacts.specs.Lockmachine.Wants.{Want}
-use Rattle.capacts.proofs.Lockmachine.PolicyElsewhere.{want-kept, wants-kept}
-use Rattle.capsteps.proofs.LeftAlone.{found-contains}
-use Rattle.capsteps.proofs.Placed.{placed}
-use Rattle.capsteps.proofs.Strays.{retained, retained-here, retained-gone, kept-held, stays-kept, goes, alike-retained}
+use Rattle.capacts.specs.Lockmachine.{Scene.{target_by}, Wants.{in_all, Want}}
+use Rattle.capsteps.{proofs.Common.{A, allowed_by, Caps, caps_in, due, effective_want, EntryRow, F, first_for, Gone, has_session, is_in_use, is_of_inode, is_row_of, IsAtRest, IsInRow, IsQuiet, IsSound, IsSoundEntry, IsTree, L, lock_at, lock_in, LockState, meet, P, Part, place, Scene, Stable, State, union, wants-kept, with_scene, X}, proofs.LeftAlone.{found-contains}, proofs.Placed.{placed}, proofs.Strays.{retained, retained-here, retained-gone, kept-held, stays-kept, goes, alike-retained}, specs.Affected.{stays, forget_among}}
 
 -- ---- what is due
 

@@ -1,18 +1,9 @@
 -- What the end of a step makes of an entry on an inode that it affected: it gains what is due, which its locks allow, and its number may rise.
-use Rattle.std.proofs.Common.{◌≡◌, ◌≤◌, ℕ, ◌+◌, Bool, true, false, not, cond, ◌&&◌, ◌||◌, Option, Some, None, List, [], ◌∷◌, refl, sym, ap, subst, ◌∙◌, true≢false, ◌⊎◌, inl, inr, arith, ◌==◌, map as each, filter, if◌then◌else◌}
-use Rattle.capsteps.proofs.Common.{eqb-true, list_any, map-map, Cap, P, Part, A, L, X, F, Caps, same_caps, and_parts, has-none, has-union, has-meet, has-minus, Nodes, SessionTable, LockState, Stable, Gather, Entry, EntryRow, Holder, renumbered, is_of_inode, remade, changed_where, lock_at, permitted, effective_want, want_of, in_all, Scene, outside, told_set, wants, target_by, IsInRowOf, IsInRow, allowed_by, due, issue_row, finished_entry, is_open, IsQuiet, IsAtRest}
-use Rattle.std.proofs.lemmas.Bool.{and_from, or_cases, or_left}
-use Rattle.capbits.specs.Caps.{has}
-use Rattle.capbits.specs.Sets.{no_caps, is_empty, union, meet, minus, of_part, covers, has-caps_in, has-of_part}
-use Rattle.capbits.proofs.Covering.{one_part, same_cap-pin}
-use Rattle.sessiontab.specs.Calls.{status_of}
-use Rattle.sessiontab.specs.Tests.{is_open as is_open_status}
-use Rattle.locktable.specs.declared.states.State.{State}
-use Rattle.locktable.specs.Rows.{row_of, allowed_of, allowed_covers}
-use Rattle.captable.proofs.Searches.{filter-map}
-use Rattle.capacts.specs.Lockmachine.Wants.{Want}
-use Rattle.capacts.specs.Caprules.Finish.{allowed_part, allowed_to}
-use Rattle.capacts.proofs.Walked.{second_true}
+use Rattle.std.{proofs.Common.{◌≡◌, ◌≤◌, ℕ, ◌+◌, Bool, true, false, not, cond, ◌&&◌, ◌||◌, Option, Some, List, [], ◌∷◌, refl, sym, ap, subst, ◌∙◌, true≢false, ◌⊎◌, inl, inr, arith, ◌==◌, map as each, filter, if◌then◌else◌}, proofs.lemmas.Bool.{eqb-true, or_cases, or_left}, proofs.lemmas.Simd.{map-map}, specs.List.{list_any}}
+use Rattle.capbits.{proofs.Covering.{one_part, same_cap-pin}, specs.Caps.{has}, specs.Sets.{no_caps}}
+use Rattle.locktable.specs.{Rows.{allowed_of, allowed_covers}, declared.states.State.{State}}
+use Rattle.capacts.specs.Caprules.Finish.{allowed_part}
+use Rattle.capsteps.{proofs.Common.{A, allowed_by, allowed_to, and_parts, Cap, Caps, changed_where, covers, due, effective_want, Entry, EntryRow, F, filter-map, Gather, has-caps_in, has-meet, has-minus, has-none, has-of_part, has-union, Holder, is_empty, is_of_inode, is_open, is_open_status, IsAtRest, IsInRow, IsQuiet, L, lock_at, LockState, meet, Nodes, of_part, outside, P, Part, permitted, remade, row_of, same_caps, Scene, second_true, SessionTable, status_of, union, wants, X}, specs.Affected.{finished_entry}}
 
 -- ---- what the locks allow of a part
 

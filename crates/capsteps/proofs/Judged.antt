@@ -1,6 +1,6 @@
 -- The request that was judged when it came.
-use Rattle.std.proofs.Common.{◌≡◌, Option, None, Some, sym, ap, ◌∙◌}
-use Rattle.capsteps.proofs.Common.{find, Ticket, is_numbered, LockMap, Scene, IsJudged}
+use Rattle.std.{proofs.Common.{◌≡◌, Option, None, Some, sym, ap, ◌∙◌}, specs.List.{find}}
+use Rattle.capsteps.{proofs.Common.{is_numbered, LockMap, Scene, Ticket}, specs.Judged.{IsJudged}}
 
 pub none-judged : (judged : Option Ticket) (s : Scene) → judged ≡ None → IsJudged judged s
 none-judged judged s none = λ ticket q own there. let no : ◌≡◌ {A = Option Ticket} None (Some ticket) = sym none ∙ own in absurd (cc)

@@ -1,12 +1,7 @@
 -- What stops a request, test by test.
-use Rattle.std.proofs.Common.{◌≡◌, List, [], Option, Some, None, refl, sym, ap, ◌∙◌, arith}
-use Rattle.capsteps.proofs.Common.{option_map, Scene, Event, Reply, Rejection, State, rejection_reply, judged, effect, effect_unless}
-use Rattle.capbits.specs.declared.refusal.Refusal.{Refusal}
-use Rattle.capacts.specs.Caprules.declared.rejection.Rejection.TheVariants.{ByTest}
-use Rattle.capbits.specs.Refusal.{Test, first_failing}
-use Rattle.capacts.specs.Caprules.Judge.{rejection_of, rejection_by, first_denied}
-use Rattle.capacts.specs.Caprules.Needs.{Need}
-use Rattle.capacts.specs.Caprules.Direct.{Says, IsDirect}
+use Rattle.std.{proofs.Common.{◌≡◌, List, [], Option, Some, None, arith}, specs.Option.{option_map}}
+use Rattle.capacts.specs.Caprules.{Direct.{Says, IsDirect}, Judge.{rejection_of}, declared.rejection.Rejection.TheVariants.{ByTest}}
+use Rattle.capsteps.proofs.Common.{effect, Event, first_denied, first_failing, judged, Need, Refusal, Rejection, rejection_by, rejection_reply, Reply, Scene, State, Test}
 
 rejection_by-rejection : (s : Scene) (o : Option Refusal) (d : Option Need) (l : Option Refusal) (r : Rejection) → rejection_by s o d None ≡ Some r → rejection_by s o d l ≡ Some r
 rejection_by-rejection s o d l r e = grind arith

@@ -1,14 +1,7 @@
 -- What is kept of each entry from the end of the last step, as events leave it.
-use Rattle.std.proofs.Common.{◌≡◌, ℕ, List, Bool, true, false, cond, not, ◌&&◌, Option, Some, None, is_some, IsSome, refl, sym, ap, subst, ◌∙◌, true≢false}
-use Rattle.capsteps.proofs.Common.{find, option_map, option_map_or, unwrap_or, false_from_ne_true, Nodes, SessionTable, Caps, IsSubset, same_caps, has-none, has-meet, has-minus, Entry, EntryRow, Holder, Table, IsTable, is_row_of, entry_of, entry_at, changed_where, remade, row_found, find-map, Scene, told_set, revoked_of, KnownSets, known_of, known_in, permitted_of, permitted, AreKnown, ArePermitted, StillKnown, Knows}
-use Rattle.std.proofs.lemmas.Bool.{and_right, false≢true}
-use Rattle.capbits.specs.Caps.{has}
-use Rattle.capbits.specs.Sets.{no_caps, minus, meet}
-use Rattle.capacts.specs.Lockmachine.Revoked.{is_revoked}
-use Rattle.capacts.proofs.Lockmachine.Told.{has-against, has-told, told-less}
-use Rattle.capacts.specs.Known.{is_still_known}
-use Rattle.capsteps.proofs.Revoking.{revoked-found}
-use Rattle.capsteps.proofs.ShownSteps.{told-held}
+use Rattle.std.{proofs.Common.{◌≡◌, ℕ, List, Bool, true, false, cond, not, ◌&&◌, Option, Some, None, IsSome, refl, sym, ap, subst, ◌∙◌, true≢false}, proofs.lemmas.Bool.{false_from_ne_true, and_right, false≢true}, specs.List.{find}, specs.Option.{option_map, option_map_or, unwrap_or}}
+use Rattle.capbits.specs.{Caps.{has}, Sets.{no_caps}}
+use Rattle.capsteps.{proofs.Common.{AreKnown, ArePermitted, Caps, changed_where, Entry, entry_at, entry_of, EntryRow, find-map, has-against, has-meet, has-minus, has-none, has-told, Holder, is_revoked, is_row_of, is_still_known, IsSubset, IsTable, known_in, known_of, KnownSets, meet, minus, Nodes, permitted, permitted_of, remade, revoked_of, row_found, same_caps, Scene, SessionTable, StillKnown, Table, told-less, told_set}, proofs.Revoking.{revoked-found}, proofs.ShownSteps.{told-held}, specs.Affected.{Knows}}
 
 -- ---- as much or less is held
 

@@ -1,22 +1,12 @@
 -- What leaves alone all that entries, requests and locks depend on keeps a sound state sound, and leaves nothing to do.
-use Rattle.std.proofs.Common.{◌≡◌, ℕ, suc, ◌==◌, Bool, true, false, cond, Option, Some, None, is_some, List, [], ◌∷◌, filter, map as map_rows, refl, sym, ap, subst, ◌∙◌, Contains, arith, IsTrue}
-use Rattle.capsteps.proofs.Common.{find, option_map, eqb-true, false_from_ne_true, All-contains, All-contains_itself, All-weaker, Part, A, L, X, F, IsSubset, LockState, Stable, Gather, LockGoal, Node, Nodes, SessionTable, has_session, EntryRow, IsTable, same, is_row_of, is_of_inode, row_of-entry, StateMap, lock_in, lock_at, permitted, first_for, effective_want, want_of, in_all, Scene, against, wants, target_by, IsQuiet, is_open, State, KnownSets, AreKnown, with_scene, due, finished, IsInPlace, IsSoundEntry, IsSound}
+use Rattle.std.{proofs.Common.{◌≡◌, ℕ, suc, Bool, false, cond, Option, Some, None, is_some, List, [], ◌∷◌, filter, refl, sym, ap, subst, ◌∙◌, Contains, arith, IsTrue}, proofs.lemmas.List.Elements.{All-contains, All-contains_itself, All-weaker}, specs.Option.{option_map}}
 use Rattle.std.specs.FinMap as map
-use Rattle.std.proofs.lemmas.Bool.{true≢false}
-use Rattle.capbits.specs.Caps.{has, caps_where}
-use Rattle.capbits.specs.Sets.{no_caps, union, minus, meet}
-use Rattle.locktable.specs.declared.states.State.TheVariants.{Sync}
-use Rattle.locktable.specs.declared.targets.Head.TheVariants.{Empty}
-use Rattle.locktable.specs.Targets.{target_of}
-use Rattle.capacts.specs.Lockmachine.Inodes.{in_sync}
-use Rattle.capacts.specs.Lockmachine.Requests.{head_of}
-use Rattle.capacts.specs.Lockmachine.Wants.{loner_of, union_of}
-use Rattle.capacts.specs.Lockmachine.Scene.{rows_on, loner, wanted}
-use Rattle.capacts.proofs.Lockmachine.PolicyElsewhere.{wants-kept}
-use Rattle.capacts.specs.Finishing.{against_under, allowed_under}
+use Rattle.capbits.specs.{Caps.{has, caps_where}, Sets.{no_caps}}
+use Rattle.locktable.specs.{Targets.{target_of}, declared.targets.Head.TheVariants.{Empty}}
+use Rattle.capacts.specs.Lockmachine.Scene.{rows_on, wanted}
+use Rattle.capsteps.proofs.Common.{against, AreKnown, EntryRow, finished, first_for, has_session, in_sync, is_open, is_row_of, IsInPlace, IsQuiet, IsSound, IsSoundEntry, IsTable, KnownSets, lock_at, lock_in, LockGoal, LockState, minus, Node, Nodes, Part, row_of-entry, same, Scene, SessionTable, Stable, State, StateMap, Sync, wants, wants-kept, with_scene, X}
 pub use Rattle.capacts.proofs.Renewed.{found-contains}
-use Rattle.capsteps.specs.Leaving.{with_parts, LeavesEntries}
-use Rattle.capsteps.proofs.Finishing.{same-finished}
+use Rattle.capsteps.{proofs.Finishing.{same-finished}, specs.Leaving.{with_parts, LeavesEntries}}
 
 -- a quiet lock stays quiet where the same requests wait, clients want the same of its inode, and its gather is as open
 pub still_quiet : (old new : Scene) (ino : ℕ) (part : Part) → new.locks.queue ≡ old.locks.queue → wants new ino ≡ wants old ino

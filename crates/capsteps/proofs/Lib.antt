@@ -1,4 +1,4 @@
-pub mod Common
+mod Common
 pub mod Among
 pub mod AtEnd
 pub mod Begun

@@ -1,11 +1,8 @@
 -- The end of a step at several inodes: one after another, each once, they are finished as if all at once.
-use Rattle.std.proofs.Common.{◌≡◌, ℕ, Bool, true, false, cond, ◌||◌, List, [], ◌∷◌, filter, map as each, ◌++◌, append-nil, append_assoc, eq-eqb, refl, sym, ap, subst, ◌∙◌, true≢false, All, ◌==◌, arith}
-use Rattle.capsteps.proofs.Common.{unsigned_tied, find, list_any, AllByRecursion, nat_cmp, eq_by_cmp, map-id, or-false, eqb-true, false_from_ne_true, All-map, All-weaker, Ino, Entry, EntryRow, Holder, Table, IsTable, holders_of_rows, is_row_of, Caps, list_any-append, is_of_inode, entries_on, changed_where, remade, InoSet, IsListOf, KnownSets, known_of, KnownAnew, kept-same, kept-then, kept-not}
+use Rattle.std.{proofs.Common.{◌≡◌, ℕ, Bool, true, false, cond, ◌||◌, List, [], ◌∷◌, filter, map as each, ◌++◌, append-nil, append_assoc, eq-eqb, refl, sym, ap, subst, ◌∙◌, true≢false, All, ◌==◌, arith}, proofs.Math.Bool.{or-false}, proofs.lemmas.Bool.{eqb-true, false_from_ne_true}, proofs.lemmas.List.{map-id}, proofs.lemmas.List.Elements.{All-map, All-weaker}, proofs.lemmas.List.Folds.{list_any-append}, specs.Cmp.{unsigned_tied}, specs.List.{find, list_any, AllByRecursion, IsDistinct}, specs.Ordering.{nat_cmp, eq_by_cmp}}
 use Rattle.std.specs.FinSet as set
-use Rattle.std.specs.List.{IsDistinct}
-use Rattle.captable.proofs.OneByOne.{same_holder}
-use Rattle.captable.proofs.Tables.{IsTable-rows}
-use Rattle.capacts.proofs.KeptSets.{kept-nobody, found-stays}
+use Rattle.captable.proofs.{OneByOne.{same_holder}, Tables.{IsTable-rows}}
+use Rattle.capsteps.proofs.Common.{Caps, changed_where, entries_on, Entry, EntryRow, found-stays, Holder, holders_of_rows, Ino, InoSet, is_of_inode, is_row_of, IsListOf, IsTable, kept-nobody, kept-not, kept-same, kept-then, known_of, KnownAnew, KnownSets, remade, Table}
 
 -- the same number
 abbrev pub same_number : ℕ → ℕ → Bool

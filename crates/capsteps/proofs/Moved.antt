@@ -1,28 +1,10 @@
 -- What moves leave as it is: the entries, which inodes are there and which have locks, the last number, and the rows in which what
 -- is held lies. Who waits then, waited before.
-use Rattle.std.proofs.Common.{◌≡◌, ℕ, Bool, not, Option, Some, None, is_some, List, [], ◌∷◌, ◌++◌, refl, sym, subst, ◌∙◌, Contains, true≢false, ◌+◌, length, ap, arith, false, All}
-use Rattle.capsteps.proofs.Common.{option_map, All-contains, All-contains_itself, All-cons, All-weaker, length-append, Part, A, P, IsTree, Nodes, LockState, Stable, Gather, EntryRow, Table, Serve, Settled, Request, lock_in, is_numbered, first_for, LockMap, IsLockMap, lock_at, Scene, IsInRow, contains-filter, Outcome, Ended, tree_after, Made, Began, Gathered, Served, Makes, MakesAll, ended_in, WaitAt, served-at, State, IsSound, IsSoundEntry}
+use Rattle.std.{proofs.Common.{◌≡◌, ℕ, Bool, not, Option, None, is_some, List, [], ◌∷◌, ◌++◌, refl, sym, subst, ◌∙◌, Contains, true≢false, ◌+◌, length, ap, arith, false, All}, proofs.lemmas.List.{length-append}, proofs.lemmas.List.Elements.{All-contains, All-contains_itself, All-cons, All-weaker, All-nil}, specs.Option.{option_map}}
 use Rattle.std.specs.FinMap as map
-use Rattle.std.proofs.lemmas.List.Elements.{All-nil}
 use Rattle.capbits.specs.Caps.{has}
-use Rattle.inotree.proofs.OneInode.{known-changed}
-use Rattle.capacts.specs.Lockmachine.declared.moves.Move.{Move}
-use Rattle.capacts.specs.Lockmachine.declared.moves.Move.TheVariants.{Begin, End}
-use Rattle.capacts.specs.Lockmachine.declared.request.Ask.{Ask}
-use Rattle.capacts.specs.Lockmachine.Requests.{is_for}
-use Rattle.capacts.specs.Lockmachine.Locks.{with_lock, without_request}
-use Rattle.capacts.specs.Lockmachine.Moves.{LockPlace, present_state, coming_state, first_move, moved, with_moved}
-use Rattle.capacts.specs.Lockmachine.Runs.{Runs}
-use Rattle.capacts.proofs.Lockmachine.Finding.{fails_at, find_none}
-use Rattle.capacts.proofs.Lockmachine.InRows.{one_keeps}
-use Rattle.capacts.proofs.Lockmachine.Moving.{with_lock-each}
-use Rattle.capacts.proofs.Lockmachine.Queue.{moved-kept, taken_alone}
-use Rattle.capacts.specs.Capevents.declared.outcome.Outcome.TheVariants as outcome
-use Rattle.capacts.specs.Caprules.Serving.{served}
-use Rattle.capacts.specs.Capnotes.Changing.{tree_with}
-use Rattle.capacts.proofs.Lockmachine.Waiting.{waits-kept-at, quiet-waits-at}
-use Rattle.capsteps.proofs.LeftAlone.{found-contains}
-use Rattle.capsteps.proofs.OneChange.{by_ask, sound-after}
+use Rattle.capacts.{proofs.Lockmachine.Finding.{fails_at, find_none}, proofs.Lockmachine.InRows.{one_keeps}, proofs.Lockmachine.Moving.{with_lock-each}, proofs.Lockmachine.Queue.{moved-kept, taken_alone}, specs.Caprules.Serving.{served}, specs.Lockmachine.Locks.{with_lock}, specs.Lockmachine.Moves.{LockPlace, coming_state, moved, with_moved}, specs.Lockmachine.Requests.{is_for}, specs.Lockmachine.Runs.{Runs}, specs.Lockmachine.declared.moves.Move.{Move}, specs.Lockmachine.declared.moves.Move.TheVariants.{Begin, End}}
+use Rattle.capsteps.proofs.{Common.{A, Ask, Began, contains-filter, Ended, ended_in, EntryRow, first_for, first_move, Gather, Gathered, is_numbered, IsInRow, IsLockMap, IsSound, IsSoundEntry, IsTree, known-changed, lock_at, lock_in, LockMap, LockState, Made, Makes, MakesAll, Nodes, Outcome, P, Part, present_state, quiet-waits-at, Request, Scene, Serve, Served, served-at, Settled, Stable, State, Table, tree_after, tree_with, WaitAt, waits-kept-at, without_request}, LeftAlone.{found-contains}, OneChange.{by_ask, sound-after}}
 
 pub record IsMoved (first now : Scene) : Type 0 where
   pub table : now.table ≡ first.table

@@ -1,18 +1,11 @@
 -- A settling that served nobody: the tree stays, and where the locks of an inode do too, whoever had all there has it still.
-use Rattle.std.proofs.Common.{◌≡◌, ◌<◌, ℕ, ◌==◌, Bool, false, ◌||◌, None, Some, List, [], ◌∷◌, refl, sym, ap, subst, ◌∙◌, arith, All, Contains, IsTrue}
-use Rattle.capsteps.proofs.Common.{find, unwrap_or, Ino, Caps, IsSubset, IsTree, SessionTable, has_session, EntryRow, Holder, Table, is_row_of, row_of-entry, changed_where, LockMap, permitted, Scene, Ended, is_sized, owed, sizes_owed, due_under, InoSet, KnownSets, known_anew, known_in, known_of, permitted_of, ArePermittedIn, OthersHaveAll, is_affected, MayEnd, EndsAt, EndsWith, finished_at, finished_entry, forget_among, stays, told_then, Made, Began, Gathered, Served, MakesAll, ended_in, sized_in}
+use Rattle.std.{proofs.Common.{◌≡◌, ◌<◌, ℕ, ◌==◌, Bool, false, ◌||◌, None, Some, List, [], ◌∷◌, refl, sym, ap, subst, ◌∙◌, arith, All, Contains, IsTrue}, specs.List.{find}, specs.Option.{unwrap_or}}
 use Rattle.std.specs.FinMap as map
 use Rattle.std.specs.FinSet as set
 use Rattle.capbits.specs.Sets.{no_caps}
+use Rattle.inotree.specs.InoSets.{IsNext}
 use Rattle.capacts.specs.Finishing.{told_under}
-use Rattle.capacts.proofs.KeptSets.{was-there}
-use Rattle.capacts.proofs.Lockmachine.PolicyElsewhere.{permitted-kept}
-use Rattle.capacts.specs.Capnotes.InoSets.{IsNext}
-use Rattle.capsteps.specs.Serves.{SettlesWith}
-use Rattle.capsteps.proofs.LeftAlone.{found-contains}
-use Rattle.capsteps.proofs.Moved.{tree-moved}
-use Rattle.capsteps.proofs.SameOff.{off-wider}
-use Rattle.capsteps.proofs.Strays.{alike-retained, goes, kept-held, stays-kept}
+use Rattle.capsteps.{proofs.Common.{Began, Caps, changed_where, due_under, Ended, ended_in, EntryRow, Gathered, has_session, Holder, Ino, InoSet, is_affected, is_row_of, is_sized, IsSubset, IsTree, known_anew, known_in, known_of, KnownSets, LockMap, Made, MakesAll, OthersHaveAll, owed, permitted, permitted-kept, permitted_of, row_of-entry, Scene, Served, SessionTable, sized_in, sizes_owed, Table, was-there}, proofs.LeftAlone.{found-contains}, proofs.Moved.{tree-moved}, proofs.SameOff.{off-wider}, proofs.Strays.{alike-retained, goes, kept-held, stays-kept}, specs.Affected.{finished_at, finished_entry, forget_among, stays, told_then}, specs.Begun.{ArePermittedIn, MayEnd}, specs.Serves.{EndsAt, EndsWith, SettlesWith}}
 
 -- moves that end no request serve nobody: they change no size, and leave the tree
 nobody-served : (first : Scene) (moves : List Made) (settled : Scene) → MakesAll first moves settled → ended_in moves ≡ [] → (sized_in moves ≡ []) × (settled.tree ≡ first.tree)

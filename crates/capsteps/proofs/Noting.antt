@@ -1,28 +1,18 @@
 -- What becomes of a session is noted.
 use Rattle.std.proofs.Common.{◌≡◌, List, [], ◌∷◌, ◌++◌, ◌⊎◌, inl, inr, Bor, refl, sym, ap, subst}
-use Rattle.capsteps.proofs.Common.{ClientId, SessionTable}
 use Rattle.std.specs.FinMap as map
 use Rattle.capspec.specs.declared.grant.Grant.{Grant}
-use Rattle.sessiontab.specs.declared.session.Status.{Status}
-use Rattle.sessiontab.specs.Calls.{with_status}
-use Rattle.sessiontab.specs.Connected.{SessionMap}
-use Rattle.capacts.specs.Capview.declared.change.ViewChange.{ViewChange}
-use Rattle.capacts.specs.Capview.declared.change.ViewChange.TheVariants as view_change
-use Rattle.capacts.specs.Capview.Changes.{AreChanges}
-use Rattle.capacts.proofs.Capview.Likeness.{guests-unseen, shows-sessions}
-use Rattle.capacts.specs.declared.leaving.SessionChange.{SessionChange}
-use Rattle.capacts.specs.declared.leaving.SessionChange.TheVariants.{Close, Mark, Regrant, Evict}
-use Rattle.capacts.specs.Capnotes.Noted.{view}
-use Rattle.capacts.proofs.Capnotes.Noting.{changes-one, changes-unseen}
-use Rattle.capsteps.specs.SessionChange.{Notes, changed_sessions}
+use Rattle.sessiontab.specs.{Calls.{with_status}, Connected.{SessionMap}, declared.session.Status.{Status}}
+use Rattle.capacts.{proofs.Capnotes.Noting.{changes-one, changes-unseen}, proofs.Capview.Likeness.{guests-unseen, shows-sessions}, specs.Capnotes.Noted.{view}, specs.Capview.Changes.{AreChanges}, specs.Capview.declared.change.ViewChange.{ViewChange}, specs.declared.leaving.SessionChange.{SessionChange}, specs.declared.leaving.SessionChange.TheVariants.{Close, Mark, Regrant, Evict}}
+use Rattle.capsteps.{proofs.Common.{ClientId, SessionTable}, specs.SessionChange.{Notes, changed_sessions}}
 
 module _ (items : List ViewChange) (client : ClientId) (change : SessionChange) where
   -- it ends
-  pub notes-ended : (none : List ViewChange) → none ≡ [] → items ≡ none ++ view_change.Ended client ∷ [] → (change ≡ Close) ⊎ (change ≡ Evict) → Notes items client change
+  pub notes-ended : (none : List ViewChange) → none ≡ [] → items ≡ none ++ ViewChange.Ended client ∷ [] → (change ≡ Close) ⊎ (change ≡ Evict) → Notes items client change
   notes-ended none is more ends = record {
     lead = λ tree sessions.
         subst (λ (m : SessionMap). AreChanges items (view tree sessions.sessions) (view tree m)) (sym (by sessions ends))
-        (changes-one none items (view tree sessions.sessions) (view_change.Ended client) is more);
+        (changes-one none items (view tree sessions.sessions) (ViewChange.Ended client) is more);
   }
     where
       by : (sessions : SessionTable) → (change ≡ Close) ⊎ (change ≡ Evict) → (changed_sessions sessions client change).sessions ≡ map.remove sessions.sessions client.0
@@ -39,9 +29,9 @@ module _ (items : List ViewChange) (client : ClientId) (change : SessionChange) 
   }
 
   -- it has other grants
-  pub notes-regranted : (none : List ViewChange) → none ≡ [] → (grants : Bor (List Grant)) → items ≡ none ++ view_change.Regranted client grants.now ∷ [] → change ≡ Regrant grants → Notes items client change
+  pub notes-regranted : (none : List ViewChange) → none ≡ [] → (grants : Bor (List Grant)) → items ≡ none ++ ViewChange.Regranted client grants.now ∷ [] → change ≡ Regrant grants → Notes items client change
   notes-regranted none is grants more turns = record {
     lead = λ tree sessions.
         subst (λ (t : SessionChange). AreChanges items (view tree sessions.sessions) (view tree (changed_sessions sessions client t).sessions)) (sym turns)
-        (changes-one none items (view tree sessions.sessions) (view_change.Regranted client grants.now) is more);
+        (changes-one none items (view tree sessions.sessions) (ViewChange.Regranted client grants.now) is more);
   }

@@ -1,26 +1,10 @@
 -- What a request that is served leaves of the tree.
 use Rattle.std.proofs.Common.{◌≡◌, ◌≢◌, ℕ, true, false, None, ◌⊎◌, inl, inr, refl, subst, arith}
-use Rattle.capsteps.proofs.Common.{Node, Nodes, IsTree, place, IsAlike, Request, Scene, alike-itself, Outcome, tree_after}
 use Rattle.std.specs.FinMap as map
-use Rattle.capbits.specs.Refusal.{first_failing}
 use Rattle.capbits.proofs.Tests.{pass-both}
-use Rattle.inotree.specs.declared.node.Site.TheVariants.{Under, Stray}
-use Rattle.inotree.specs.Inodes.{with_setting, with_attribute, without_attribute, with_site}
-use Rattle.inotree.specs.Tree.{is_within}
-use Rattle.inotree.specs.Calls.{changed}
-use Rattle.inotree.proofs.Changes.{setting_site}
-use Rattle.inotree.proofs.Moving.{moved-alike, moved-tree, moved-within, changed-within}
-use Rattle.inotree.proofs.OneInode.{known-changed, place-other, alike-unlinked, childless-file, childless-empty, sound-setting, sound-attribute, sound-no-attribute, sound-unlink, sound-rmdir}
-use Rattle.capacts.specs.Lockmachine.declared.request.Change.{Change}
-use Rattle.capacts.specs.Lockmachine.declared.request.Change.TheVariants.{Set, SetXattr, RemoveXattr}
-use Rattle.capacts.specs.Lockmachine.declared.request.Ask.{Ask}
-use Rattle.capacts.specs.Lockmachine.declared.request.Ask.TheVariants.{Get, Alter, Unlink, Rmdir, Rename}
-use Rattle.capacts.specs.Capevents.declared.outcome.Outcome.TheVariants as outcome
-use Rattle.capacts.specs.Caprules.Serving.{MayEndAs}
-use Rattle.capacts.specs.Capnotes.Changing.{tree_with, tree_changed}
-use Rattle.capacts.specs.Caprules.Asks.{ask_before, ask_needs, ask_after, change_tests}
-use Rattle.capacts.specs.Served.{is_rename}
-use Rattle.capacts.proofs.Again.{leaves-or-makes, passed-all}
+use Rattle.inotree.{proofs.Moving.{moved-alike, moved-tree, moved-within, changed-within}, proofs.OneInode.{place-other, alike-unlinked, childless-file, childless-empty, sound-setting, sound-attribute, sound-no-attribute, sound-unlink, sound-rmdir}, specs.Calls.{changed}}
+use Rattle.capacts.{proofs.Again.{leaves-or-makes, passed-all}, specs.Capnotes.Changing.{tree_changed}, specs.Caprules.Asks.{ask_before, ask_needs, ask_after, change_tests}, specs.Caprules.Serving.{MayEndAs}, specs.Lockmachine.declared.request.Ask.TheVariants.{Get, Alter, Unlink, Rmdir, Rename}, specs.Lockmachine.declared.request.Change.{Change}, specs.Lockmachine.declared.request.Change.TheVariants.{Set, SetXattr, RemoveXattr}}
+use Rattle.capsteps.proofs.Common.{alike-itself, Ask, first_failing, is_rename, is_within, IsAlike, IsTree, known-changed, Node, Nodes, Outcome, place, Request, Scene, tree_after, tree_with}
 pub use Rattle.capacts.proofs.Renewed.{alike_change}
 
 -- ---- whatever is asked for

@@ -1,15 +1,10 @@
 -- What an entry holds is in place, where it is in its row: what is outside the row of a gather's target is being revoked, by
 -- what revoking is.
-use Rattle.std.proofs.Common.{◌≡◌, zero, suc, Bool, true, false, not, cond, ◌||◌, ◌&&◌, Option, Some, None, List, [], ◌∷◌, filter, refl, sym, ap, ◌∙◌, Contains, arith, true≢false}
-use Rattle.capsteps.proofs.Common.{list_any, nat_eq_equiv, Cap, Part, A, L, X, F, has-union, has-minus, LockState, Stable, Gather, EntryRow, is_of_inode, lock_at, Scene, outside, against, told_set, IsInRowOf, IsInRow, permitted, IsInPlace}
-use Rattle.capbits.specs.Caps.{has}
-use Rattle.capbits.specs.Sets.{is_empty, union, of_part}
-use Rattle.capbits.proofs.Emptiness.{has-is_empty}
+use Rattle.std.{proofs.Common.{◌≡◌, zero, suc, Bool, true, false, not, cond, ◌||◌, ◌&&◌, Option, Some, List, [], ◌∷◌, filter, refl, sym, ap, ◌∙◌, Contains, arith, true≢false}, specs.Cmp.{nat_eq_equiv}, specs.List.{list_any}}
+use Rattle.capbits.{proofs.Emptiness.{has-is_empty}, specs.Caps.{has}}
 use Rattle.locktable.specs.declared.states.State.{State}
-use Rattle.locktable.specs.Rows.{row_of}
-use Rattle.capacts.specs.Lockmachine.Scene.{against_lock, against_part, against_locks, against_policy}
-use Rattle.capacts.proofs.Walked.{second_true}
-use Rattle.capacts.specs.Caprules.Headline.{IsRevoked, AreRevoked}
+use Rattle.capacts.specs.{Caprules.Headline.{IsRevoked, AreRevoked}, Lockmachine.Scene.{against_lock, against_part, against_locks, against_policy}}
+use Rattle.capsteps.proofs.Common.{against, Cap, EntryRow, Gather, has-minus, has-union, is_empty, is_of_inode, IsInPlace, IsInRow, IsInRowOf, lock_at, LockState, of_part, outside, Part, permitted, row_of, Scene, second_true, told_set}
 
 -- a row that passes two tests is found by both
 pub any_found : (p q : EntryRow → Bool) (rows : List EntryRow) (row : EntryRow) → Contains rows row → p row ≡ true → q row ≡ true → list_any q (filter p rows) ≡ true

@@ -1,15 +1,9 @@
 -- The messages that a walk over a client's entries lists, and what giving them leaves.
-use Rattle.std.proofs.Common.{Contains, Option, ◌≡◌, ◌≤◌, ◌-◌, ℕ, zero, suc, Bool, true, false, cond, ◌&&◌, ◌||◌, List, [], ◌∷◌, ◌++◌, length, take, filter, map, refl, sym, ap, subst, ◌∙◌, append_assoc, append-nil, arith, ◌==◌, nat_lt}
-use Rattle.capsteps.proofs.Common.{list_any, nat_eq_equiv, unwrap_or, map-map, or-false, KnownSets, known_in, AreKnown, take_all, map-id, list_any-append, ClientId, Ino, Caps, Entry, EntryRow, Table, IsTable, holder, same, is_among, entry_of, entry_at, row_found, is_of_client, is_due, changed, told, with_size_due, changed_where, remade, fold-changed_by, Scene, told_set, Ended, Message, State, first_messages, end_messages, after_messages, is_caps_of, is_size_of, is_recall_of, told_if, sized_if, unasked_if}
-use Rattle.std.specs.List.{flat_map, IsDistinct}
+use Rattle.std.{proofs.Common.{Contains, Option, ◌≡◌, ◌≤◌, ◌-◌, ℕ, suc, Bool, true, false, cond, ◌&&◌, ◌||◌, List, [], ◌∷◌, ◌++◌, length, take, filter, map, refl, sym, ap, subst, ◌∙◌, append_assoc, append-nil, arith, ◌==◌, nat_lt}, proofs.lemmas.Bool.{or_parts}, proofs.lemmas.List.{take_all, map-id, take-append-le}, proofs.lemmas.List.Folds.{list_any-append}, proofs.lemmas.Simd.{map-map}, specs.List.{list_any, flat_map, IsDistinct}, specs.Option.{unwrap_or}}
 use Rattle.std.specs.FinMap as finite
 use Rattle.capbits.specs.Sets.{no_caps}
-use Rattle.std.proofs.lemmas.Bool.{or_parts}
-use Rattle.std.proofs.lemmas.List.{take-append-le}
-use Rattle.captable.specs.Calls.{with_asked}
-use Rattle.capacts.specs.Capevents.declared.outcome.Message.TheVariants as message
-use Rattle.capacts.specs.Caprules.Messages.{row_messages, size_message}
-use Rattle.capsteps.proofs.Telling.{retold, told_given, size_given, asked_given, given_table}
+use Rattle.capacts.specs.Caprules.Messages.{size_message}
+use Rattle.capsteps.proofs.{Common.{after_messages, AreKnown, Caps, changed, changed_where, ClientId, end_messages, Ended, Entry, entry_at, entry_of, EntryRow, first_messages, fold-changed_by, holder, Ino, is_among, is_caps_of, is_due, is_of_client, is_recall_of, is_size_of, IsTable, known_in, KnownSets, Message, remade, row_found, row_messages, Scene, sized_if, State, Table, told, told_if, told_set, unasked_if, with_asked, with_size_due}, Telling.{retold, told_given, size_given, asked_given, given_table}}
 
 -- ---- the first of a list
 
@@ -63,8 +57,8 @@ due-rows s (row ∷ rows) = by_test (is_due row) refl (due-rows s rows)
         let p = or_parts (nat_lt row.entry.told_seq row.entry.seq) (row.entry.size_due || row.entry.asked) e in
         let q = or_parts row.entry.size_due row.entry.asked p.1 in
         let none : row_messages s row ≡ [] =
-        λ i. cond (p.0 i) (message.Caps row.holder.ino row.entry.seq (told_set s row) ∷ []) []
-        ++ cond (q.0 i) (size_message row.holder.ino (finite.get s.tree.nodes row.holder.ino.0)) [] ++ cond (q.1 i) (message.Recall row.holder.ino ∷ []) [] in
+        λ i. cond (p.0 i) (Message.Caps row.holder.ino row.entry.seq (told_set s row) ∷ []) []
+        ++ cond (q.0 i) (size_message row.holder.ino (finite.get s.tree.nodes row.holder.ino.0)) [] ++ cond (q.1 i) (Message.Recall row.holder.ino ∷ []) [] in
         rest ∙ ap (λ ms. ms ++ due_of s rows) (sym none)
 
 -- nor do those that are left, where none of them is due
@@ -143,16 +137,16 @@ recall_if : (e : Entry) (b : Bool) → unasked_if (b || false) (sized_if false (
 recall_if e b = grind arith
 
 pub caps-given : (client : ClientId) (ino : Ino) (seq : ℕ) (caps : Caps) (t : Table) → IsTable t
-    → changed t (holder client ino) told ≡ changed_where (is_of_client client) (after_messages (message.Caps ino seq caps ∷ [])) t
+    → changed t (holder client ino) told ≡ changed_where (is_of_client client) (after_messages (Message.Caps ino seq caps ∷ [])) t
 caps-given client ino seq caps t is =
-    one-given (λ row. told row.entry) (message.Caps ino seq caps ∷ []) client ino (λ row. caps_if row.entry (ino.0 == row.holder.ino.0)) t is
+    one-given (λ row. told row.entry) (Message.Caps ino seq caps ∷ []) client ino (λ row. caps_if row.entry (ino.0 == row.holder.ino.0)) t is
 
 pub size-given : (client : ClientId) (ino : Ino) (size : ℕ) (t : Table) → IsTable t
-    → changed t (holder client ino) (with_size_due false) ≡ changed_where (is_of_client client) (after_messages (message.Size ino size ∷ [])) t
+    → changed t (holder client ino) (with_size_due false) ≡ changed_where (is_of_client client) (after_messages (Message.Size ino size ∷ [])) t
 size-given client ino size t is =
-    one-given (λ row. with_size_due false row.entry) (message.Size ino size ∷ []) client ino (λ row. size_if row.entry (ino.0 == row.holder.ino.0)) t is
+    one-given (λ row. with_size_due false row.entry) (Message.Size ino size ∷ []) client ino (λ row. size_if row.entry (ino.0 == row.holder.ino.0)) t is
 
 pub recall-given : (client : ClientId) (ino : Ino) (t : Table) → IsTable t
-    → changed t (holder client ino) (with_asked false) ≡ changed_where (is_of_client client) (after_messages (message.Recall ino ∷ [])) t
+    → changed t (holder client ino) (with_asked false) ≡ changed_where (is_of_client client) (after_messages (Message.Recall ino ∷ [])) t
 recall-given client ino t is =
-    one-given (λ row. with_asked false row.entry) (message.Recall ino ∷ []) client ino (λ row. recall_if row.entry (ino.0 == row.holder.ino.0)) t is
+    one-given (λ row. with_asked false row.entry) (Message.Recall ino ∷ []) client ino (λ row. recall_if row.entry (ino.0 == row.holder.ino.0)) t is

@@ -1,11 +1,8 @@
 -- Scenes that are the same off the inodes that a step affects: one after another, off more inodes, and back to the old state.
-use Rattle.std.proofs.Common.{◌≡◌, ℕ, Bool, true, false, List, refl, sym, ap, subst, ◌∙◌, Contains, filter, true≢false, eq-eqb, arith}
-use Rattle.capsteps.proofs.Common.{list_any, false_from_ne_true, Part, Ino, place, IsAlike, EntryRow, is_of_inode, entries_on, Table, SessionTable, lock_at, Scene, contains-filter, filter-contains, alike-itself}
+use Rattle.std.{proofs.Common.{◌≡◌, ℕ, Bool, true, false, List, refl, sym, ap, subst, ◌∙◌, Contains, filter, true≢false, eq-eqb, arith}, proofs.lemmas.Bool.{false_from_ne_true}, proofs.lemmas.Map.Views.{any-filter_same}, specs.List.{list_any}}
 use Rattle.std.specs.FinMap as map
-use Rattle.std.proofs.lemmas.Map.Views.{any-filter_same}
-use Rattle.capacts.specs.Lockmachine.Elsewhere.{IsSameOutside}
-use Rattle.capacts.proofs.Lockmachine.SameOutside.{alike-trans}
-use Rattle.capsteps.specs.Affected.{IsSameOff}
+use Rattle.capacts.{proofs.Lockmachine.SameOutside.{alike-trans}, specs.Lockmachine.Elsewhere.{IsSameOutside}}
+use Rattle.capsteps.{proofs.Common.{contains-filter, entries_on, EntryRow, filter-contains, Ino, is_of_inode, IsAlike, lock_at, Part, place, Scene, SessionTable, Table}, specs.Affected.{IsSameOff}}
 
 -- ---- one after another
 

@@ -1,37 +1,10 @@
 -- A step shows clients what it tells them, and its numbers say so.
-use Rattle.std.proofs.Common.{◌≡◌, ◌≢◌, ◌≤◌, ◌+◌, ◌==◌, ℕ, Bool, true, false, cond, not, ◌&&◌, ◌||◌, inl, inr, Option, Some, None, is_some, List, [], ◌∷◌, ◌++◌, map, take, refl, sym, ap, subst, ◌∙◌, Contains, true≢false, append-nil, eq-eqb, arith, All, filter, nat_lt}
-use Rattle.capsteps.proofs.Common.{find, list_any, fold, option_map, eqb-true, All-contains, All-contains_itself, All-cons, All-filter, All-weaker, fold-append, P, Fc, ClientId, Ino, Caps, same_caps, has-minus, Node, Entry, EntryRow, Holder, Table, IsTable, holder, same, is_row_of, is_among, entry_of, entry_at, opened, changed, without, taken, given_back, told, renumbered, with_size_due, is_of_client, remade, entry_at-changed_other, row_found, row_of-entry, find-map, same_equiv, same-is, Scene, against, told_set, Event, OpenMode, Ended, Message, Reply, Rejection, State, Direct, direct, effect, effect_unless, with_entry, with_opening, shown, is_sized, owed, sizes_owed, due, issue_row, issue, forget, told_before, number_row, judged, rejection_reply, revoked_of, first_messages, after_messages, end_messages, is_caps_of, is_size_of, is_recall_of, told_if, sized_if, unasked_if, Made, Settles, ended_in, sized_in, IsSound, IsSoundEntry}
-use Rattle.std.specs.List.{flat_map}
-use Rattle.std.proofs.lemmas.Bool.{cases_Bool}
-use Rattle.std.specs.FinMap as finite
-use Rattle.std.proofs.lemmas.List.Elements.{All-nil, All-head, All-tail, All-append, All-take, filter_passes}
+use Rattle.std.{proofs.Common.{◌≡◌, ◌≢◌, ◌≤◌, ◌+◌, ◌==◌, ℕ, Bool, true, false, cond, not, ◌&&◌, ◌||◌, inl, inr, Option, Some, None, is_some, List, [], ◌∷◌, ◌++◌, map, take, refl, sym, ap, subst, ◌∙◌, Contains, true≢false, append-nil, eq-eqb, arith, All, filter}, proofs.lemmas.Bool.{eqb-true, cases_Bool}, proofs.lemmas.List.Elements.{All-contains, All-contains_itself, All-cons, All-filter, All-weaker, All-nil, All-head, All-tail, All-append, All-take, filter_passes}, proofs.lemmas.List.Sums.{fold-append}, specs.List.{find, list_any, fold, flat_map}, specs.Option.{option_map}}
 use Rattle.capbits.specs.Caps.{has}
-use Rattle.capbits.specs.Sets.{minus}
 use Rattle.inotree.specs.Tree.{child}
-use Rattle.captable.specs.Calls.{issued, acked, released, touched, recalled, with_asked, without_client}
-use Rattle.captable.specs.Shown.{IsShown}
-use Rattle.captable.proofs.ByHolder.{entry_at-changed, entry_at-opened_other, entry_at-without, entry_at-without_client, entry_at-without_client_other, entry_at-recalled, entry_at-recalled_other, entry_at-without_other}
-use Rattle.captable.proofs.Shown.{shown-numbered, shown-less, shown-told}
-use Rattle.capacts.specs.Lockmachine.Revoked.{is_revoked}
-use Rattle.capacts.proofs.Lockmachine.Told.{has-against, has-told}
-use Rattle.capacts.proofs.Lockmachine.Exact.{settled as at_rest_settled}
-use Rattle.capacts.specs.Capevents.declared.event.Event.TheVariants as event
-use Rattle.capacts.specs.Capevents.declared.row.Row.{Row}
-use Rattle.capacts.specs.Capevents.declared.outcome.Message.TheVariants as message
-use Rattle.capacts.specs.Capevents.declared.reply.Reply.TheVariants as reply
-use Rattle.capacts.specs.Caprules.declared.rejection.Rejection.TheVariants.{ByPolicy, ByTest}
-use Rattle.capacts.specs.Caprules.Direct.{Shows, Gives, with_wanted, reply_of, found, opened_as}
-use Rattle.capacts.specs.Caprules.Messages.{messages_to, row_messages, caps_messages, size_message, size_messages, recall_messages, end_message}
-use Rattle.capacts.specs.Capnotes.DueEndings.{is_to}
-use Rattle.capacts.specs.Caprules.Shown.{AreShown, shown_by, shown_of, shown_opened, shown_less, shown_given, shown_in}
-use Rattle.capacts.specs.Caprules.Step.{Step, state_after}
-use Rattle.capsteps.proofs.EndsThere.{held-renumbered}
-use Rattle.capsteps.proofs.Finishing.{sound-ends}
-use Rattle.capsteps.proofs.LeftAlone.{found-contains}
-use Rattle.capsteps.proofs.Moved.{moved-all}
-use Rattle.capsteps.proofs.Revoking.{revoked-found}
-use Rattle.capsteps.proofs.Stopping.{no_moves, rejection-only}
-use Rattle.capsteps.proofs.Telling.{given_fields, given-fields}
+use Rattle.captable.{proofs.ByHolder.{entry_at-changed, entry_at-without, entry_at-without_client, entry_at-without_client_other, entry_at-recalled, entry_at-recalled_other, entry_at-without_other}, proofs.Shown.{shown-numbered, shown-less, shown-told}, specs.Calls.{issued, recalled, without_client}, specs.Shown.{IsShown}}
+use Rattle.capacts.{proofs.Lockmachine.Exact.{settled as at_rest_settled}, specs.Capevents.declared.row.Row.{Row}, specs.Caprules.Direct.{with_wanted, found}, specs.Caprules.Messages.{messages_to, end_message}, specs.Caprules.Shown.{AreShown, shown_by, shown_of, shown_opened, shown_less, shown_given, shown_in}}
+use Rattle.capsteps.proofs.{Common.{acked, after_messages, against, Caps, changed, ClientId, Direct, direct, due, effect, effect_unless, end_messages, Ended, ended_in, Entry, entry_at, entry_at-changed_other, entry_at-opened_other, entry_of, EntryRow, Event, Fc, find-map, first_messages, forget, given_back, Gives, has-against, has-minus, has-told, Holder, holder, Ino, is_among, is_caps_of, is_of_client, is_recall_of, is_revoked, is_row_of, is_size_of, is_sized, is_to, IsSound, issue, issue_row, IsTable, judged, Made, Message, minus, number_row, opened, opened_as, OpenMode, owed, P, Rejection, rejection_reply, released, remade, renumbered, Reply, reply_of, revoked_of, row_found, row_messages, row_of-entry, same, same-is, same_caps, same_equiv, Scene, Settles, shown, Shows, sized_if, sized_in, sizes_owed, State, state_after, Step, Table, taken, told, told_before, told_if, told_set, touched, unasked_if, with_asked, with_entry, with_opening, with_size_due, without}, EndsThere.{held-renumbered}, Finishing.{sound-ends}, LeftAlone.{found-contains}, Moved.{moved-all}, Revoking.{revoked-found}, Stopping.{no_moves, rejection-only}, Telling.{given_fields, given-fields}}
 
 abbrev pub at : Holder → Entry → EntryRow
 at k e = record { holder = k; entry = e }
@@ -330,7 +303,7 @@ module _ (old : State) (sound : IsSound old) (table : IsTable old.scene.table) (
             ap (entry_at (changed st.scene.table j told)) is ∙ entry_at-changed st.scene.table j told ∙ ap (λ (q : Holder). option_map told (entry_at st.scene.table q)) (sym is) in
             let found_it = mapped told (entry_at st.scene.table k) e (sym now ∙ last) in
             let f : Entry = found_it.0 in
-            let answers : reply_of st (ended_in moves) (Shows j) ≡ reply.Opened f.seq (told_set st.scene (at k f)) =
+            let answers : reply_of st (ended_in moves) (Shows j) ≡ Reply.Opened f.seq (told_set st.scene (at k f)) =
             ap (λ (q : Holder). opened_as st.scene (find (is_row_of q) st.scene.table.rows)) (sym is) ∙ ap (opened_as st.scene) (row_of-entry st.scene.table k f found_it.1) in
             subst (λ (x : Entry). IsShown (shown_opened (before k) (reply_of st (ended_in moves) (Shows j))) (told_set st.scene (at k x)) x) (sym found_it.2)
             (subst (λ (r : Reply). IsShown (shown_opened (before k) r) (told_set st.scene (at k (told f))) (told f)) (sym answers) (shown-told (told_set st.scene (at k f)) f))
@@ -437,17 +410,17 @@ module _ (old : State) (sound : IsSound old) (table : IsTable old.scene.table) (
   looked_up client dir name (Some ino) moves settled settles = by_number moves (found old (Some ino)) settled settles before (left-same t (λ k. refl))
 
   pub by_event : (e : Event) → (moves : List Made) (settled : Scene) → Settles (effect old e).state.scene moves settled → Shown e moves settled
-  by_event (event.CloseSession client) moves settled settles = by_number moves (effect old (event.CloseSession client)) settled settles before (left-dropped client)
-  by_event (event.Evict client) moves settled settles = by_number moves (effect old (event.Evict client)) settled settles before (left-dropped client)
-  by_event (event.Recall count) moves settled settles = by_number moves (effect old (event.Recall count)) settled settles before (left-recalled count)
-  by_event (event.Lookup client dir name) moves settled settles = looked_up client dir name (child old.scene.tree.nodes dir.0 name) moves settled settles
-  by_event (event.Open client ino mode) moves settled settles = by_show moves (effect old (event.Open client ino mode)) settled settles (holder client ino) (left-opened (holder client ino) mode)
-  by_event (event.Want client ino caps) moves settled settles = by_show moves (effect old (event.Want client ino caps)) settled settles (holder client ino) (left-wanted (holder client ino) caps)
-  by_event (event.Ack client ino seq) moves settled settles = by_number moves (effect old (event.Ack client ino seq)) settled settles before (left-acked (holder client ino))
-  by_event (event.Release client ino caps) moves settled settles =
-      by_number moves (effect old (event.Release client ino caps)) settled settles (λ k. cond (same k (holder client ino)) (minus (before k) caps) (before k)) (left-released (holder client ino) caps)
-  by_event (event.Flush client ino change) moves settled settles = by_number moves (effect old (event.Flush client ino change)) settled settles before (left-same (touched t (holder client ino)) (λ k. refl))
-  by_event (event.Poll client max) moves settled settles = polled client max moves settled settles
+  by_event (Event.CloseSession client) moves settled settles = by_number moves (effect old (Event.CloseSession client)) settled settles before (left-dropped client)
+  by_event (Event.Evict client) moves settled settles = by_number moves (effect old (Event.Evict client)) settled settles before (left-dropped client)
+  by_event (Event.Recall count) moves settled settles = by_number moves (effect old (Event.Recall count)) settled settles before (left-recalled count)
+  by_event (Event.Lookup client dir name) moves settled settles = looked_up client dir name (child old.scene.tree.nodes dir.0 name) moves settled settles
+  by_event (Event.Open client ino mode) moves settled settles = by_show moves (effect old (Event.Open client ino mode)) settled settles (holder client ino) (left-opened (holder client ino) mode)
+  by_event (Event.Want client ino caps) moves settled settles = by_show moves (effect old (Event.Want client ino caps)) settled settles (holder client ino) (left-wanted (holder client ino) caps)
+  by_event (Event.Ack client ino seq) moves settled settles = by_number moves (effect old (Event.Ack client ino seq)) settled settles before (left-acked (holder client ino))
+  by_event (Event.Release client ino caps) moves settled settles =
+      by_number moves (effect old (Event.Release client ino caps)) settled settles (λ k. cond (same k (holder client ino)) (minus (before k) caps) (before k)) (left-released (holder client ino) caps)
+  by_event (Event.Flush client ino change) moves settled settles = by_number moves (effect old (Event.Flush client ino change)) settled settles before (left-same (touched t (holder client ino)) (λ k. refl))
+  by_event (Event.Poll client max) moves settled settles = polled client max moves settled settles
   by_event e moves settled settles = by_number moves (effect old e) settled settles before (left-same t (λ k. refl))
 
 -- ---- a step

@@ -1,16 +1,8 @@
 -- A size that is to be told changes one field of entries, which the end of a step doesn't read.
-use Rattle.std.proofs.Common.{◌≡◌, ◌≤◌, ℕ, suc, ◌+◌, Bool, true, false, not, cond, ◌&&◌, ◌||◌, Option, Some, None, List, [], ◌∷◌, map, refl, sym, ap, subst, ◌∙◌, Contains, arith, All}
-use Rattle.capsteps.proofs.Common.{find, list_any, option_map, option_map_or, map-map, All-map, All-weaker, Fc, Ino, Caps, IsTree, place, is_gone, Entry, EntryRow, Holder, Table, IsTable, is_row_of, is_of_inode, renumbered, with_size_due, changed_where, remade, row_found, find-map, IsLockMap, Scene, told_set, is_sized, owed, sizes_owed, issue_row, issue, is_in_use, forget, told_before, number_row, finished, IssuesExactly, Made, sized_in, IsSound, AreGiven, State, Affects, SettlesAt, Knows, stays, forget_among, told_then, finished_entry, finished_at, KnownSets, known_of, AreKnown, known_anew, KnownAnew}
+use Rattle.std.{proofs.Common.{◌≡◌, ◌≤◌, ℕ, ◌+◌, Bool, true, false, not, cond, ◌&&◌, ◌||◌, Option, Some, List, map, refl, sym, ap, subst, ◌∙◌, Contains, arith, All}, proofs.lemmas.List.Elements.{All-map, All-weaker}, proofs.lemmas.Simd.{map-map}, specs.List.{find, list_any}, specs.Option.{option_map_or}}
 use Rattle.std.specs.FinMap as finite
 use Rattle.capbits.specs.Caps.{has}
-use Rattle.capbits.specs.Sets.{is_empty, minus, meet}
-use Rattle.capacts.specs.Caprules.Finish.{number}
-use Rattle.capacts.specs.Caprules.Step.{state_at_end}
-use Rattle.capsteps.proofs.EndsThere.{field-renumbered, settled-table, affected-ends, affected-issues, affected-known}
-use Rattle.capsteps.proofs.Finishing.{each-alike}
-use Rattle.capsteps.proofs.Knowing.{known-alike, alike-where}
-use Rattle.capsteps.proofs.StayingSound.{sound-affected}
-use Rattle.capsteps.proofs.Telling.{any-map_same, as_told, as_asked, retold, retold_table, retold-sound, retold-issued}
+use Rattle.capsteps.{proofs.Common.{AreGiven, AreKnown, Caps, changed_where, Entry, EntryRow, Fc, find-map, finished, forget, Holder, Ino, is_gone, is_in_use, is_of_inode, is_row_of, is_sized, IsLockMap, IsSound, issue, issue_row, IssuesExactly, IsTable, IsTree, known_of, KnownAnew, KnownSets, Made, meet, number, number_row, owed, place, remade, renumbered, row_found, Scene, sized_in, sizes_owed, State, state_at_end, Table, told_before, told_set, with_size_due}, proofs.EndsThere.{settled-table, affected-ends, affected-issues, affected-known}, proofs.Finishing.{each-alike}, proofs.Knowing.{known-alike, alike-where}, proofs.StayingSound.{sound-affected}, proofs.Telling.{any-map_same, as_told, as_asked, retold, retold_table, retold-sound, retold-issued}, specs.Affected.{Affects, SettlesAt, Knows, stays, forget_among, told_then, finished_entry, finished_at}}
 
 -- no number changes
 pub owed-numbers : (passes : EntryRow → Bool) (Q : ℕ → Type 0) (t : Table) → All (λ row. Q row.entry.seq) t.rows → All (λ row. Q row.entry.seq) (changed_where passes owed t).rows

@@ -1,32 +1,9 @@
 -- Where the settling of a step has come to, between two servings.
-use Rattle.std.proofs.Common.{◌≡◌, ◌≢◌, ◌+◌, ◌≤◌, ◌==◌, ◌||◌, ◌&&◌, not, cond, ℕ, Bool, true, false, inl, inr, Option, None, Some, List, [], ◌∷◌, ◌++◌, length, map as each, refl, sym, ap, subst, ◌∙◌, Contains, append-nil, arith, true≢false}
-use Rattle.capsteps.proofs.Common.{option_map, option_map_or, or-false, eqb-true, false_from_ne_true, length-append, All-contains, Part, Ino, Ticket, Nodes, IsTree, IsAlike, EntryRow, is_of_inode, entries_on, Request, Serve, Settled, lock_in, first_for, is_numbered, IsLockMap, lock_at, want_of, in_all, Scene, WaitAt, contains-filter, alike-itself, served-at, Ended, InoSet, is_affected, Widens, Serves, tree_after, Made, Began, Gathered, Served, Makes, MakesAll, ended_in, sized_in, AreStill, IsSwept, StandsAt}
+use Rattle.std.{proofs.Common.{◌≡◌, ◌≢◌, ◌+◌, ◌≤◌, ◌==◌, ◌||◌, ◌&&◌, not, ℕ, Bool, true, false, inl, inr, Option, Some, List, [], ◌∷◌, ◌++◌, length, refl, sym, ap, subst, ◌∙◌, Contains, append-nil, arith, true≢false}, proofs.Math.Bool.{or-false}, proofs.lemmas.Bool.{eqb-true, false_from_ne_true, eqb-false}, proofs.lemmas.List.{length-append}, proofs.lemmas.List.Elements.{All-contains, filter_map-append, filter_passes}, specs.Option.{option_map_or}}
 use Rattle.std.specs.FinMap as map
 use Rattle.std.specs.FinSet as set
-use Rattle.std.proofs.lemmas.Bool.{eqb-false}
-use Rattle.std.proofs.lemmas.List.Elements.{filter_map-append, filter_passes}
-use Rattle.inotree.specs.Tree.{is_within}
-use Rattle.capacts.specs.Lockmachine.Requests.{part_of_ask}
-use Rattle.capacts.specs.Lockmachine.Locks.{request_at, without_request}
-use Rattle.capacts.specs.Lockmachine.Moves.{may_begin, may_begin_in, is_servable, first_move, IsQuietOutside}
-use Rattle.capacts.specs.Lockmachine.Turns.{IsTurnOf, NobodyElsewhere, NothingEnds}
-use Rattle.capacts.proofs.Lockmachine.Alone.{nobody-held, served-alone}
-use Rattle.capacts.proofs.Lockmachine.Exact.{ends_not, begins_not}
-use Rattle.capacts.proofs.Lockmachine.SameBut.{begin-alike, first-moved}
-use Rattle.capacts.proofs.Lockmachine.Turns.{served-ends, ends-turn}
-use Rattle.capacts.proofs.Lockmachine.Waiting.{quiet-waits-at, waits-wider, waits-less-at}
-use Rattle.capacts.specs.declared.sweep.SweepPlace.{SweepPlace}
-use Rattle.capacts.specs.Served.{is_rename}
-use Rattle.capacts.specs.Reach.{Covers, Reaches}
-use Rattle.capsteps.specs.Serves.{SettlesWith}
-use Rattle.capacts.specs.Caprules.Settle.{ended_by, sized_by}
-use Rattle.capsteps.specs.Sweep.{GoesOnBehind, IsFirstPlace, IsTurnOfLeast, changed_alone}
-use Rattle.capsteps.specs.Affected.{IsSameOff}
-use Rattle.capsteps.proofs.Among.{unaffected, not-affected, more-affected}
-use Rattle.capsteps.proofs.Moved.{makes-append, one-less}
-use Rattle.capsteps.proofs.OneChange.{alike-apart, place-after}
-use Rattle.capsteps.proofs.SameOff.{off-refl, off-trans, off-wider}
-use Rattle.capsteps.proofs.Sweeping.{still-kept}
+use Rattle.capacts.{proofs.Lockmachine.Alone.{nobody-held, served-alone}, proofs.Lockmachine.Exact.{begins_not}, proofs.Lockmachine.SameBut.{begin-alike, first-moved}, proofs.Lockmachine.Turns.{served-ends, ends-turn}, proofs.Lockmachine.Waiting.{waits-wider, waits-less-at}, specs.Lockmachine.Moves.{may_begin, is_servable, IsQuietOutside}, specs.Lockmachine.Turns.{NobodyElsewhere, NothingEnds}}
+use Rattle.capsteps.{proofs.Among.{unaffected, not-affected, more-affected}, proofs.Common.{alike-itself, Began, contains-filter, Covers, Ended, ended_by, ended_in, ends_not, entries_on, EntryRow, first_for, first_move, Gathered, Ino, InoSet, is_affected, is_numbered, is_of_inode, is_rename, is_within, IsAlike, IsLockMap, IsTree, IsTurnOf, lock_at, Made, Makes, MakesAll, Nodes, Part, part_of_ask, quiet-waits-at, Reaches, Request, request_at, Scene, Serve, Served, served-at, Settled, sized_by, sized_in, SweepPlace, Ticket, tree_after, WaitAt, Widens, without_request}, proofs.Moved.{makes-append, one-less}, proofs.OneChange.{alike-apart, place-after}, proofs.SameOff.{off-refl, off-trans, off-wider}, proofs.Sweeping.{still-kept}, specs.Affected.{IsSameOff}, specs.Serves.{Serves, SettlesWith}, specs.Sweep.{AreStill, IsSwept, StandsAt, GoesOnBehind, IsFirstPlace, IsTurnOfLeast, changed_alone}}
 
 -- these moves were made and these requests ended; nothing changed but at the inodes that are affected, among which are those of the
 -- event; elsewhere nothing moves, and who waits there is held up

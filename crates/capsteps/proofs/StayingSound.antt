@@ -1,23 +1,10 @@
 -- A sound state stays sound after the step of an event that affected some inodes.
-use Rattle.std.proofs.Common.{◌≡◌, ◌≤◌, ℕ, ◌+◌, ◌==◌, Bool, true, false, ◌||◌, Some, None, is_some, List, refl, sym, ap, subst, ◌∙◌, ◌++◌, Contains, arith, IsTrue, All, nat_le}
-use Rattle.capsteps.proofs.Common.{find, list_any, option_map, nat_eq_equiv, All-contains, All-filter, All-map, All-weaker, P, Part, ClientId, Caps, IsSubset, Gone, IsTree, place, SessionTable, has_session, EntryRow, Holder, Table, IsTable, is_row_of, is_of_inode, row_found, same-is, Settled, StateMap, lock_in, IsLockMap, lock_at, first_for, Scene, IsQuiet, IsAtRest, IsInRow, effective_want, Ended, State, due, IsSoundEntry, IsSound, AreGiven, Made, ended_in, Affects, SettlesAt, Knows, finished_at}
+use Rattle.std.{proofs.Common.{◌≡◌, ◌≤◌, ℕ, ◌+◌, ◌==◌, Bool, true, false, ◌||◌, Some, is_some, List, refl, sym, ap, subst, ◌∙◌, ◌++◌, Contains, arith, IsTrue, All, nat_le}, proofs.lemmas.List.Elements.{All-contains, All-filter, All-map, All-weaker, All-append, All-same}, specs.Cmp.{nat_eq_equiv}, specs.List.{find, list_any}}
 use Rattle.std.specs.FinMap as map
-use Rattle.std.proofs.lemmas.List.Elements.{All-append, All-same}
 use Rattle.capbits.specs.Caps.{has}
-use Rattle.capbits.specs.Sets.{meet}
 use Rattle.captable.proofs.Searches.{find-filter_kept}
-use Rattle.capacts.specs.Lockmachine.Moves.{first_move, WaitAtLocks}
-use Rattle.capacts.proofs.Lockmachine.Rest.{at_rest}
-use Rattle.capacts.specs.Caprules.Finish.{allowed_to}
-use Rattle.capacts.specs.Caprules.Step.{earlier, state_at_end}
-use Rattle.capsteps.specs.Affected.{IsAffectedEntry}
-use Rattle.capsteps.proofs.EndsThere.{off_due}
-use Rattle.capsteps.proofs.Telling.{any-map_same}
-use Rattle.capsteps.proofs.IssuedRows.{ended_row, want-ended, told-ended, revoked-ended, seq-ended, effective-ended, holds-due, holds-pin, in_row-ended, on_it, last_row, issued_at, by_place, of_inode-last, rest-issued}
-use Rattle.capsteps.proofs.Forgotten.{all_rows, IsSoundBut, sound-forgotten}
-use Rattle.capsteps.proofs.Moved.{IsMoved, moved-all, nobody-moved, all-waiting, Waited, ended-waited, nothing-served}
-use Rattle.capsteps.proofs.SameOff.{not-among, row_elsewhere, any_elsewhere, IsSameFrom, from-first}
-use Rattle.capsteps.proofs.EntryRequests.{IsKeptEntry, kept-left, kept-row}
+use Rattle.capacts.{proofs.Lockmachine.Rest.{at_rest}, specs.Caprules.Step.{earlier}, specs.Lockmachine.Moves.{WaitAtLocks}}
+use Rattle.capsteps.{proofs.Common.{allowed_to, AreGiven, Caps, ClientId, due, effective_want, Ended, ended_in, EntryRow, first_move, Gone, has_session, Holder, is_of_inode, is_row_of, IsAtRest, IsInRow, IsLockMap, IsSound, IsSoundEntry, IsSubset, IsTable, IsTree, Made, meet, P, Part, place, row_found, same-is, Scene, SessionTable, Settled, State, state_at_end, Table}, proofs.EndsThere.{off_due}, proofs.EntryRequests.{IsKeptEntry, kept-left, kept-row}, proofs.Forgotten.{all_rows, IsSoundBut, sound-forgotten}, proofs.IssuedRows.{ended_row, want-ended, told-ended, revoked-ended, seq-ended, effective-ended, holds-due, holds-pin, in_row-ended, on_it, last_row, issued_at, by_place, of_inode-last, rest-issued}, proofs.Moved.{IsMoved, moved-all, nobody-moved, all-waiting, Waited, ended-waited, nothing-served}, proofs.SameOff.{not-among, row_elsewhere, any_elsewhere, IsSameFrom, from-first}, proofs.Telling.{any-map_same}, specs.Affected.{Affects, SettlesAt, Knows, finished_at, IsAffectedEntry}}
 
 -- ---- the step
 

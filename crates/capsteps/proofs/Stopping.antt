@@ -1,12 +1,7 @@
 -- In a sound state an event that is stopped has one step alone, which changes nothing.
 use Rattle.std.proofs.Common.{◌≡◌, Some, List, [], ◌∷◌, refl, sym, ap, subst, ◌∙◌, append-nil, arith}
-use Rattle.capsteps.proofs.Common.{IsTable, Scene, Serve, Settled, Event, Ended, Reply, Rejection, State, judged, rejection_reply, Direct, direct, effect_unless, shown, Made, Began, Gathered, Served, Makes, MakesAll, Settles, ended_in, IsSound}
-use Rattle.capacts.proofs.Lockmachine.Exact.{settled}
-use Rattle.capacts.specs.Lockmachine.Moves.{first_move}
-use Rattle.capacts.specs.Lockmachine.declared.moves.Move.TheVariants.{Begin, End}
-use Rattle.capacts.specs.Caprules.Direct.{says, reply_of}
-use Rattle.capacts.specs.Caprules.Step.{Step, all_ended, state_after}
-use Rattle.capsteps.proofs.Finishing.{sound-ends, sound-settles}
+use Rattle.capacts.specs.Caprules.{Direct.{says}, Step.{all_ended}}
+use Rattle.capsteps.proofs.{Common.{Direct, direct, effect_unless, Ended, ended_in, Event, first_move, IsSound, IsTable, judged, Made, Makes, MakesAll, Rejection, rejection_reply, Reply, reply_of, Scene, Settled, settled, Settles, shown, State, state_after, Step}, Finishing.{sound-ends, sound-settles}}
 
 pub rejection-step : (old : State) (e : Event) (rejection : Rejection) → IsSound old → IsTable old.scene.table → judged old.scene e ≡ Some rejection → Step old e (rejection_reply rejection) [] old
 rejection-step old e rejection sound table is = (

@@ -1,19 +1,10 @@
 -- Strays that are forgotten: one after another they go as if all at once, and no other inode is read through them.
-use Rattle.std.proofs.Common.{◌≡◌, ◌≢◌, ℕ, Bool, true, false, cond, not, ◌||◌, ◌==◌, Option, None, List, [], ◌∷◌, refl, sym, ap, ◌∙◌, Contains, inl, inr, eq-eqb, true≢false, arith}
-use Rattle.capsteps.proofs.Common.{nat_cmp_total, unsigned_tied, fold, list_any, option_map, nat_cmp, or_right, Node, NoIno, Gone, IsAlike, is_gone, Nodes, IsTree, place, place_at, EntryRow, is_of_inode, Scene, InoSet, IsListOf, is_in_use, stays, forget_at, forget_among}
+use Rattle.std.{proofs.Common.{◌≡◌, ◌≢◌, ℕ, Bool, true, false, cond, not, ◌||◌, ◌==◌, Option, None, List, [], ◌∷◌, refl, sym, ap, ◌∙◌, Contains, inl, inr, eq-eqb, arith}, proofs.lemmas.Bool.{or_right, ne_eqb, true_from_ne_false}, proofs.lemmas.List.Folds.{list_any_at}, specs.Cmp.{nat_cmp_total, unsigned_tied}, specs.List.{fold, list_any}, specs.Option.{option_map}, specs.Ordering.{nat_cmp}}
 use Rattle.std.specs.FinMap as map
 use Rattle.std.specs.FinSet as set
-use Rattle.std.proofs.lemmas.Bool.{ne_eqb, true_from_ne_false}
-use Rattle.std.proofs.lemmas.List.Folds.{list_any_at}
-use Rattle.inotree.specs.declared.node.Place.{Place}
-use Rattle.inotree.specs.declared.node.Place.TheVariants.{Here}
-use Rattle.inotree.specs.Calls.{forgotten}
-use Rattle.inotree.specs.Tree.{IsUnder}
-use Rattle.inotree.proofs.Elsewhere.{path_of-kept}
 use Rattle.numbered.proofs.Maps.{same_or_other, remove-here, remove-other}
-use Rattle.capacts.specs.Lockmachine.Locks.{without_ino}
-use Rattle.capsteps.proofs.Finishing.{same_kept}
-use Rattle.capsteps.proofs.ManyInodes.{same_number}
+use Rattle.inotree.{proofs.Elsewhere.{path_of-kept}, specs.Tree.{IsUnder}, specs.declared.node.Place.TheVariants.{Here}}
+use Rattle.capsteps.{proofs.Common.{EntryRow, Gone, InoSet, is_in_use, is_of_inode, IsAlike, IsListOf, IsTree, Node, Nodes, place, Scene}, proofs.Finishing.{same_kept}, proofs.ManyInodes.{same_number}, specs.Affected.{stays, forget_at, forget_among}}
 
 -- ---- a map of which some keys are kept
 

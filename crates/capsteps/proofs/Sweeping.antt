@@ -1,21 +1,9 @@
 -- How the locks of several inodes settle between two servings.
-use Rattle.std.proofs.Common.{◌≡◌, ◌≢◌, ◌<◌, ◌≤◌, ◌+◌, ℕ, Bool, true, false, cond, ◌||◌, ◌==◌, nat_lt, count_by, Option, Some, None, List, [], ◌∷◌, ◌++◌, refl, sym, ap, subst, ◌∙◌, true≢false, arith}
-use Rattle.capsteps.proofs.Common.{list_any, nat_cmp, eq_by_cmp, unsigned_tied, option_map, InoSet, is_affected, Part, A, L, X, F, Ino, LockState, Request, InodeLocks, lock_in, LockMap, lock_at, Scene, may_end_by, Settled, WaitAt, Table, ended_in, AreStill, IsSwept, IsNextOf}
+use Rattle.std.{proofs.Common.{◌≡◌, ◌≢◌, ◌<◌, ◌≤◌, ◌+◌, ℕ, Bool, true, false, cond, ◌||◌, ◌==◌, nat_lt, count_by, Option, Some, None, List, [], ◌∷◌, ◌++◌, refl, sym, ap, ◌∙◌, true≢false, arith}, proofs.lemmas.Bool.{lt-ltb, le-ltb}, proofs.lemmas.List.Elements.{filter_map-append}, proofs.lemmas.List.Sums.{sum_by-cons}, specs.Cmp.{unsigned_tied}, specs.List.{list_any}, specs.Option.{option_map}, specs.Ordering.{nat_cmp, eq_by_cmp}}
 use Rattle.std.specs.FinMap as map
 use Rattle.std.specs.FinSet as set
-use Rattle.std.proofs.lemmas.List.Elements.{filter_map-append}
-use Rattle.std.proofs.lemmas.Bool.{ltb-true, lt-ltb, le-ltb}
-use Rattle.std.proofs.lemmas.List.Sums.{sum_by-cons}
-use Rattle.capacts.proofs.Lockmachine.Rest.{same_key}
-use Rattle.capacts.specs.Lockmachine.Scene.{wanted_in_all}
-use Rattle.capacts.specs.Lockmachine.Moves.{may_end_in, may_begin_in, first_move}
-use Rattle.capacts.specs.Lockmachine.Runs.{MoveLittle, ChangesLocksOf}
-use Rattle.capacts.specs.Lockmachine.Turns.{IsTurnOf, IsDoneAt}
-use Rattle.capacts.proofs.Lockmachine.Turns.{turn-passes, turn-rests}
-use Rattle.capacts.proofs.Lockmachine.Finding.{by_number}
-use Rattle.capacts.proofs.Lockmachine.Waiting.{waits-kept-at}
-use Rattle.capacts.specs.Caprules.Settle.{ended_by}
-use Rattle.capsteps.proofs.Moved.{as_made, makes-append}
+use Rattle.capacts.{proofs.Lockmachine.Turns.{turn-passes, turn-rests}, specs.Lockmachine.Runs.{ChangesLocksOf}, specs.Lockmachine.Turns.{IsDoneAt}}
+use Rattle.capsteps.{proofs.Common.{A, ended_by, ended_in, F, first_move, Ino, InodeLocks, InoSet, is_affected, IsTurnOf, L, lock_at, lock_in, LockMap, may_end_by, MoveLittle, Part, same_key, Scene, Settled, Table, WaitAt, waits-kept-at, X}, proofs.Moved.{as_made, makes-append}, specs.Sweep.{AreStill, IsSwept, IsNextOf}}
 
 -- ---- the locks of an inode
 

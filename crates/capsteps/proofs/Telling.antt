@@ -1,16 +1,7 @@
 -- What a client is told changes three fields of entries, by which nothing is judged, moved or issued.
-use Rattle.std.proofs.Common.{◌≡◌, ◌≤◌, ℕ, Bool, true, false, cond, not, ◌&&◌, ◌||◌, Option, Some, None, List, [], ◌∷◌, filter, map, refl, sym, ap, subst, ◌∙◌, arith, IsTrue, All}
-use Rattle.capsteps.proofs.Common.{find, list_any, AllByRecursion, option_map, option_map_or, map-map, All-map, All-weaker, All-filter, Cap, Part, ClientId, Ino, LockGoal, LockState, Stable, Gather, has_session, Entry, EntryRow, Holder, Table, IsTable, same, is_row_of, is_among, is_of_client, is_of_inode, changed, told, changed_where, remade, fold-changed_by, find-map, lock_at, want_of, Scene, wants, outside, is_open, Ended, Message, State, with_scene, shown, due, IssuesExactly, IsInPlace, first_messages, after_messages, is_caps_of, is_size_of, is_recall_of, told_if, sized_if, unasked_if, IsSoundEntry, IsSound, AreGiven}
-use Rattle.std.specs.List.{IsDistinct}
-use Rattle.std.proofs.lemmas.List.Elements.{All-from_recursion, recursion_from_All}
-use Rattle.capbits.specs.Caps.{has}
-use Rattle.capbits.specs.Sets.{is_empty}
-use Rattle.captable.specs.Calls.{change_rows}
-use Rattle.captable.proofs.Searches.{filter-map}
-use Rattle.capacts.specs.Caprules.Direct.{Answer, Says, Shows, Gives, Awaits}
-use Rattle.capacts.specs.Caprules.Headline.{holds, is_due, AreInPlace}
-use Rattle.capacts.specs.Capnotes.DueEndings.{is_end_of, is_to}
-use Rattle.capsteps.proofs.LeftAlone.{still_quiet}
+use Rattle.std.{proofs.Common.{◌≡◌, ◌≤◌, ℕ, Bool, true, false, cond, not, ◌&&◌, ◌||◌, Option, List, [], ◌∷◌, filter, map, refl, sym, ap, subst, ◌∙◌, arith, IsTrue, All}, proofs.lemmas.List.Elements.{All-map, All-weaker, All-filter, All-from_recursion, recursion_from_All}, proofs.lemmas.Simd.{map-map}, specs.List.{find, list_any, AllByRecursion, IsDistinct}, specs.Option.{option_map}}
+use Rattle.capacts.specs.{Capnotes.DueEndings.{is_end_of}, Caprules.Direct.{Answer}, Caprules.Headline.{holds, is_due, AreInPlace}}
+use Rattle.capsteps.proofs.{Common.{after_messages, AreGiven, Cap, change_rows, changed, changed_where, ClientId, due, Ended, Entry, EntryRow, filter-map, find-map, first_messages, fold-changed_by, Gives, has_session, Holder, Ino, is_among, is_caps_of, is_of_client, is_of_inode, is_open, is_recall_of, is_row_of, is_size_of, is_to, IsInPlace, IsSound, IsSoundEntry, IssuesExactly, IsTable, lock_at, LockGoal, LockState, Message, Part, remade, same, Scene, shown, Shows, sized_if, State, Table, told, told_if, unasked_if, wants, with_scene}, LeftAlone.{still_quiet}}
 
 -- ---- lists that are mapped
 

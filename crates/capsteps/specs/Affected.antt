@@ -1,36 +1,11 @@
 -- Events that are about one inode or about many, and how their steps end.
 use Rattle.std.specs.Prelude.{◌≡◌, ◌≤◌, ℕ, Bool, true, false, not, ◌||◌, List, Option, Some, None, Contains, IsTrue, All, if◌then◌else◌}
 use Rattle.std.specs.FinMap as map
-use Rattle.capbits.specs.declared.cap.Cap.TheVariants.{P}
-use Rattle.capbits.specs.declared.cap.Part.{Part}
-use Rattle.capbits.specs.declared.ids.ClientId.{ClientId}
-use Rattle.capbits.specs.Caps.{Caps, has}
-use Rattle.capbits.specs.Sets.{meet}
-use Rattle.inotree.specs.Calls.{forgotten}
-use Rattle.inotree.specs.Tree.{place}
-use Rattle.inotree.specs.Alike.{IsAlike}
+use Rattle.capbits.specs.{Caps.{Caps, has}, Sets.{meet}, declared.cap.Cap.TheVariants.{P}, declared.cap.Part.{Part}, declared.ids.ClientId.{ClientId}}
+use Rattle.inotree.specs.{Alike.{IsAlike}, Calls.{forgotten}, Tree.{place}}
+use Rattle.captable.specs.{Calls.{entries_on, renumbered}, Many.{changed_where}, Table.{Table, holder}, declared.entry.Entry.{Entry}, declared.entry.EntryRow.{EntryRow}, declared.entry.Holder.{Holder}}
 use Rattle.sessiontab.specs.Calls.{has_session}
-use Rattle.captable.specs.declared.entry.Entry.{Entry}
-use Rattle.captable.specs.declared.entry.EntryRow.{EntryRow}
-use Rattle.captable.specs.declared.entry.Holder.{Holder}
-use Rattle.captable.specs.Table.{Table, holder}
-use Rattle.captable.specs.Calls.{entries_on, renumbered}
-use Rattle.captable.specs.Many.{changed_where}
-use Rattle.capacts.specs.Lockmachine.declared.request.Ask.{Ask}
-use Rattle.capacts.specs.Lockmachine.declared.request.Ask.TheVariants.{Get, Alter, Unlink, Rmdir, Rename}
-use Rattle.capacts.specs.Lockmachine.Elsewhere.{IsSameBut, IsSameOutside}
-use Rattle.capacts.specs.Lockmachine.Wants.{effective_want}
-use Rattle.capacts.specs.Lockmachine.Requests.{first_for}
-use Rattle.capacts.specs.Lockmachine.Locks.{lock_at, without_ino}
-use Rattle.capacts.specs.Lockmachine.declared.scene.Scene.{Scene}
-use Rattle.capacts.specs.Lockmachine.Scene.{told_set}
-use Rattle.capacts.specs.Lockmachine.Rows.{IsInRow}
-use Rattle.capacts.specs.Lockmachine.Turns.{WaitAt}
-use Rattle.capacts.specs.Capevents.declared.event.Event.{Event}
-use Rattle.capacts.specs.Capevents.declared.event.Event.TheVariants as event
-use Rattle.capacts.specs.Caprules.Finish.{issue_row, is_in_use}
-use Rattle.capacts.specs.Caprules.Settle.{Made, Settles}
-use Rattle.capacts.specs.Caprules.State.{State}
+use Rattle.capacts.specs.{Capevents.declared.event.Event.{Event}, Caprules.Finish.{issue_row, is_in_use}, Caprules.Settle.{Made, Settles}, Caprules.State.{State}, Lockmachine.Elsewhere.{IsSameBut, IsSameOutside}, Lockmachine.Locks.{lock_at, without_ino}, Lockmachine.Requests.{first_for}, Lockmachine.Rows.{IsInRow}, Lockmachine.Scene.{told_set}, Lockmachine.Turns.{WaitAt}, Lockmachine.Wants.{effective_want}, Lockmachine.declared.request.Ask.{Ask}, Lockmachine.declared.request.Ask.TheVariants.{Get, Alter, Unlink, Rmdir, Rename}, Lockmachine.declared.scene.Scene.{Scene}}
 
 -- what an event is about
 pub data Scope : Type 0 where
@@ -46,29 +21,29 @@ pub data Scope : Type 0 where
   Listing : Scope
 
 abbrev pub scope : Event → Scope
-scope (event.Session client caller grants) = Alone
-scope (event.CloseSession client) = OfClient client
-scope (event.Mark client status) = OfClient client
-scope (event.Regrant client grants) = OfClient client
-scope (event.Evict client) = OfClient client
-scope (event.Unblock client) = Alone
-scope (event.Recall count) = Listing
-scope (event.Lookup client dir name) = Alone
-scope (event.Create client dir name mode) = Alone
-scope (event.Mkdir client dir name mode) = Alone
-scope (event.MakeSnapshot client ino name) = Alone
-scope (event.RemoveSnapshot client ino name) = Alone
-scope (event.Open client ino mode) = OnEntry (holder client ino)
-scope (event.Want client ino caps) = OnEntry (holder client ino)
-scope (event.Ack client ino seq) = OnEntry (holder client ino)
-scope (event.Release client ino caps) = OnEntry (holder client ino)
-scope (event.Get client ino part) = Waiting (holder client ino) (Get part)
-scope (event.Alter client ino change) = Waiting (holder client ino) (Alter change)
-scope (event.Unlink client ino) = Waiting (holder client ino) Unlink
-scope (event.Rmdir client ino) = Waiting (holder client ino) Rmdir
-scope (event.Rename client ino dir name) = Waiting (holder client ino) (Rename dir name)
-scope (event.Flush client ino change) = OnEntry (holder client ino)
-scope (event.Poll client max) = Listing
+scope (Event.Session client caller grants) = Alone
+scope (Event.CloseSession client) = OfClient client
+scope (Event.Mark client status) = OfClient client
+scope (Event.Regrant client grants) = OfClient client
+scope (Event.Evict client) = OfClient client
+scope (Event.Unblock client) = Alone
+scope (Event.Recall count) = Listing
+scope (Event.Lookup client dir name) = Alone
+scope (Event.Create client dir name mode) = Alone
+scope (Event.Mkdir client dir name mode) = Alone
+scope (Event.MakeSnapshot client ino name) = Alone
+scope (Event.RemoveSnapshot client ino name) = Alone
+scope (Event.Open client ino mode) = OnEntry (holder client ino)
+scope (Event.Want client ino caps) = OnEntry (holder client ino)
+scope (Event.Ack client ino seq) = OnEntry (holder client ino)
+scope (Event.Release client ino caps) = OnEntry (holder client ino)
+scope (Event.Get client ino part) = Waiting (holder client ino) (Get part)
+scope (Event.Alter client ino change) = Waiting (holder client ino) (Alter change)
+scope (Event.Unlink client ino) = Waiting (holder client ino) Unlink
+scope (Event.Rmdir client ino) = Waiting (holder client ino) Rmdir
+scope (Event.Rename client ino dir name) = Waiting (holder client ino) (Rename dir name)
+scope (Event.Flush client ino change) = OnEntry (holder client ino)
+scope (Event.Poll client max) = Listing
 
 abbrev pub affected_in : Scope → Option Holder
 affected_in Alone = None

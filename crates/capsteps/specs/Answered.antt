@@ -1,12 +1,7 @@
 -- What a step says, and what it leaves.
 use Rattle.std.specs.Prelude.{◌≡◌, ℕ, ◌+◌}
-use Rattle.capacts.specs.Capevents.declared.event.Event.{Event}
+use Rattle.capacts.specs.{Capevents.declared.event.Event.{Event}, Caprules.Direct.{direct}, Caprules.Headline.{IssuesExactly}, Caprules.Sound.{IsSound, AreGiven}, Caprules.State.{State}, Caprules.Step.{Step}}
 use Rattle.capsteps.specs.declared.said.Said.{Said}
-use Rattle.capacts.specs.Caprules.State.{State}
-use Rattle.capacts.specs.Caprules.Direct.{direct}
-use Rattle.capacts.specs.Caprules.Headline.{IssuesExactly}
-use Rattle.capacts.specs.Caprules.Sound.{IsSound, AreGiven}
-use Rattle.capacts.specs.Caprules.Step.{Step}
 
 -- it is a step, with this answer and these requests of earlier steps that it ended; the state stays sound, what is issued is
 -- what is wanted, permitted and allowed, and no number rises by more than one

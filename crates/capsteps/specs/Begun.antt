@@ -2,11 +2,7 @@
 use Rattle.std.specs.Prelude.{◌≡◌, ◌≤◌, ◌<◌, ◌^◌, ◌-◌, ℕ, Bool, [], All, IsTrue, vec_capacity}
 use Rattle.inotree.specs.Tree.{IsTree}
 use Rattle.sessiontab.specs.Calls.{has_session}
-use Rattle.capacts.specs.Lockmachine.Locks.{IsLockMap}
-use Rattle.capacts.specs.Lockmachine.Moves.{IsQuietOutside}
-use Rattle.capacts.specs.Lockmachine.Policy.{ArePermitted}
-use Rattle.capacts.specs.Lockmachine.declared.scene.Scene.{Scene}
-use Rattle.capacts.specs.Known.{KnownSets}
+use Rattle.capacts.specs.{Known.{KnownSets}, Lockmachine.Locks.{IsLockMap}, Lockmachine.Moves.{IsQuietOutside}, Lockmachine.Policy.{ArePermitted}, Lockmachine.declared.scene.Scene.{Scene}}
 use Rattle.capsteps.specs.declared.endings.Endings.{Endings}
 
 -- the event was about these inodes: the locks of all others are quiet, the inodes are a tree, and requests wait in order

@@ -1,30 +1,16 @@
 -- What an event asks of one entry.
 use Rattle.std.specs.Prelude.{List, [], ◌∷◌}
-use Rattle.capbits.specs.declared.ids.ClientId.{ClientId}
-use Rattle.capbits.specs.declared.ids.Ino.{Ino}
-use Rattle.capbits.specs.Caps.{Caps}
-use Rattle.capbits.specs.Refusal.{Test}
-use Rattle.captable.specs.declared.entry.Holder.{Holder}
-use Rattle.captable.specs.Table.{Table}
-use Rattle.captable.specs.Calls.{acked, released}
-use Rattle.captable.specs.Tests.{entry_test, ack_tests, release_tests}
-use Rattle.capacts.specs.Known.{KnownSets, StillKnown}
-use Rattle.capacts.specs.Lockmachine.declared.policy.Policy.{Policy}
-use Rattle.capacts.specs.Lockmachine.Policy.{ArePermitted}
-use Rattle.capacts.specs.Capevents.declared.event.Event.{Event}
-use Rattle.capacts.specs.Capevents.declared.event.Event.TheVariants as event
-use Rattle.capacts.specs.Capevents.declared.reply.Reply.TheVariants as reply
-use Rattle.capsteps.specs.declared.entry_request.EntryRequest.{EntryRequest}
-use Rattle.capsteps.specs.declared.entry_request.EntryRequest.TheVariants.{Open, Want, Ack, Release}
-use Rattle.capacts.specs.Caprules.Judge.{room_for}
-use Rattle.capacts.specs.Caprules.Direct.{Answer, Says, Shows, with_opening, with_wanted}
+use Rattle.capbits.specs.{Caps.{Caps}, Refusal.{Test}, declared.ids.ClientId.{ClientId}, declared.ids.Ino.{Ino}}
+use Rattle.captable.specs.{Calls.{acked, released}, Table.{Table}, Tests.{entry_test, ack_tests, release_tests}, declared.entry.Holder.{Holder}}
+use Rattle.capacts.specs.{Capevents.declared.event.Event.{Event}, Capevents.declared.reply.Reply.{Reply}, Caprules.Direct.{Answer, Says, Shows, with_opening, with_wanted}, Caprules.Judge.{room_for}, Known.{KnownSets, StillKnown}, Lockmachine.Policy.{ArePermitted}, Lockmachine.declared.policy.Policy.{Policy}}
+use Rattle.capsteps.specs.declared.{entry_request.EntryRequest.{EntryRequest}, entry_request.EntryRequest.TheVariants.{Open, Want, Ack, Release}}
 
 -- the event that asks it of the client's entry on the inode
 abbrev pub entry_event : ClientId → Ino → EntryRequest → Event
-entry_event client ino (Open mode) = event.Open client ino mode
-entry_event client ino (Want caps) = event.Want client ino caps
-entry_event client ino (Ack seq) = event.Ack client ino seq
-entry_event client ino (Release caps) = event.Release client ino caps
+entry_event client ino (Open mode) = Event.Open client ino mode
+entry_event client ino (Want caps) = Event.Want client ino caps
+entry_event client ino (Ack seq) = Event.Ack client ino seq
+entry_event client ino (Release caps) = Event.Release client ino caps
 
 -- what the table tests of it
 abbrev pub entry_request_tests : Table → Holder → Caps → EntryRequest → List Test
@@ -44,8 +30,8 @@ table_after table k revoked (Release caps) = released table k caps
 abbrev pub entry_answer : Holder → EntryRequest → Answer
 entry_answer k (Open mode) = Shows k
 entry_answer k (Want caps) = Shows k
-entry_answer k (Ack seq) = Says reply.Done
-entry_answer k (Release caps) = Says reply.Done
+entry_answer k (Ack seq) = Says Reply.Done
+entry_answer k (Release caps) = Says Reply.Done
 
 -- what is known of each entry is kept still; and where it was kept what their clients are permitted, it is of a new one too
 pub record StillKept (policy : Policy) (old new : Table) (was now : KnownSets) : Type 0 where

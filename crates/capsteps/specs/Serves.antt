@@ -1,20 +1,10 @@
 -- One serving by its number, and a settling with all that it served.
 use Rattle.std.specs.Prelude.{◌≡◌, ℕ, Bool, List, Some}
-use Rattle.capbits.specs.declared.ids.Ino.{Ino}
-use Rattle.capbits.specs.declared.ids.Ticket.{Ticket}
+use Rattle.capbits.specs.declared.{ids.Ino.{Ino}, ids.Ticket.{Ticket}}
 use Rattle.inotree.specs.Tree.{IsTree}
 use Rattle.captable.specs.declared.entry.Holder.{Holder}
-use Rattle.capacts.specs.Lockmachine.declared.request.Request.{Request}
-use Rattle.capacts.specs.Lockmachine.Locks.{request_at, without_request}
-use Rattle.capacts.specs.Lockmachine.declared.scene.Scene.{Scene}
-use Rattle.capacts.specs.Capevents.declared.outcome.Ended.{Ended}
-use Rattle.capacts.specs.Caprules.Serving.{MayEndAs}
-use Rattle.capacts.specs.Capnotes.Changing.{tree_after}
-use Rattle.capacts.specs.Caprules.Finish.{sizes_owed}
-use Rattle.capacts.specs.Caprules.Settle.{Made, ended_in, sized_in}
-use Rattle.capsteps.specs.Affected.{SettlesAt, told_then, finished_at}
-use Rattle.capacts.specs.Known.{KnownSets, known_in, permitted_of, KnownAnew}
-use Rattle.capsteps.specs.Begun.{ArePermittedIn}
+use Rattle.capacts.specs.{Capevents.declared.outcome.Ended.{Ended}, Capnotes.Changing.{tree_after}, Caprules.Finish.{sizes_owed}, Caprules.Serving.{MayEndAs}, Caprules.Settle.{Made, ended_in, sized_in}, Known.{KnownSets, known_in, permitted_of, KnownAnew}, Lockmachine.Locks.{request_at, without_request}, Lockmachine.declared.request.Request.{Request}, Lockmachine.declared.scene.Scene.{Scene}}
+use Rattle.capsteps.specs.{Affected.{SettlesAt, told_then, finished_at}, Begun.{ArePermittedIn}}
 
 -- the request with this number is served, ends so and waits no more
 pub record Serves (old : Scene) (ticket : Ticket) (ended : Ended) (new : Scene) : Type 0 where

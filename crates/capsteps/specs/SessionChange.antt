@@ -1,36 +1,18 @@
 -- What becomes of a client's session, and what goes with it.
 use Rattle.std.specs.Prelude.{◌≡◌, ℕ, true, false, List, [], ◌∷◌, Contains}
 use Rattle.std.specs.FinSet as set
-use Rattle.capbits.specs.declared.ids.ClientId.{ClientId}
-use Rattle.capbits.specs.Refusal.{Test}
-use Rattle.inotree.specs.Tree.{Nodes}
-use Rattle.sessiontab.specs.Table.{SessionTable}
-use Rattle.sessiontab.specs.Calls.{without_session, with_status, with_grants, with_evicted}
-use Rattle.sessiontab.specs.Tests.{connected_test, mark_tests, evict_tests}
-use Rattle.captable.specs.declared.entry.EntryRow.{EntryRow}
-use Rattle.captable.specs.Table.{Table}
-use Rattle.captable.specs.Calls.{is_of_client}
-use Rattle.capacts.specs.Lockmachine.declared.request.Request.{Request}
-use Rattle.capacts.specs.Lockmachine.Locks.{LockMap}
-use Rattle.capacts.specs.Lockmachine.Requests.{is_of_client as is_asked_by}
-use Rattle.capacts.specs.Capview.declared.change.ViewChange.{ViewChange}
-use Rattle.capacts.specs.Capview.Changes.{AreChanges}
-use Rattle.capacts.specs.declared.leaving.SessionChange.{SessionChange}
-use Rattle.capacts.specs.declared.leaving.SessionChange.TheVariants.{Close, Mark, Regrant, Evict}
-use Rattle.capacts.specs.Capevents.declared.event.Event.{Event}
-use Rattle.capacts.specs.Capevents.declared.event.Event.TheVariants as event
-use Rattle.capacts.specs.Capnotes.InoSets.{InoSet}
-use Rattle.capacts.specs.Capnotes.Noted.{view}
-use Rattle.capacts.specs.Left.{is_end, table_left, locks_left, messages_left}
-use Rattle.capacts.specs.Reach.{is_affected}
-use Rattle.capacts.specs.Caprules.State.{State}
+use Rattle.capbits.specs.{Refusal.{Test}, declared.ids.ClientId.{ClientId}}
+use Rattle.inotree.specs.{InoSets.{InoSet}, Tree.{Nodes}}
+use Rattle.captable.specs.{Calls.{is_of_client}, Table.{Table}, declared.entry.EntryRow.{EntryRow}}
+use Rattle.sessiontab.specs.{Calls.{without_session, with_status, with_grants, with_evicted}, Table.{SessionTable}, Tests.{connected_test, mark_tests, evict_tests}}
+use Rattle.capacts.specs.{Capevents.declared.event.Event.{Event}, Capnotes.Noted.{view}, Caprules.State.{State}, Capview.Changes.{AreChanges}, Capview.declared.change.ViewChange.{ViewChange}, Left.{is_end, table_left, locks_left, messages_left}, Lockmachine.Locks.{LockMap}, Lockmachine.Requests.{is_of_client as is_asked_by}, Lockmachine.declared.request.Request.{Request}, Reach.{is_affected}, declared.leaving.SessionChange.{SessionChange}, declared.leaving.SessionChange.TheVariants.{Close, Mark, Regrant, Evict}}
 
 -- the event by which it does
 abbrev pub session_event : ClientId → SessionChange → Event
-session_event client Close = event.CloseSession client
-session_event client (Mark status) = event.Mark client status
-session_event client (Regrant grants) = event.Regrant client grants.now
-session_event client Evict = event.Evict client
+session_event client Close = Event.CloseSession client
+session_event client (Mark status) = Event.Mark client status
+session_event client (Regrant grants) = Event.Regrant client grants.now
+session_event client Evict = Event.Evict client
 
 -- what is tested
 abbrev pub session_change_tests : SessionTable → ClientId → SessionChange → List Test

@@ -2,19 +2,9 @@
 use Rattle.std.specs.Prelude.{◌≡◌, ◌<◌, ◌≤◌, ℕ, Bool, true, false, ◌⊎◌, List, [], Option, Some, None, if◌then◌else◌}
 use Rattle.std.specs.FinMap as map
 use Rattle.std.specs.FinSet as set
-use Rattle.capbits.specs.declared.cap.Part.{Part}
-use Rattle.capbits.specs.declared.ids.Ino.{Ino}
-use Rattle.capbits.specs.declared.ids.Ticket.{Ticket}
-use Rattle.capacts.specs.Lockmachine.declared.request.Request.{Request}
-use Rattle.capacts.specs.Lockmachine.declared.moves.Move.TheVariants.{Serve, Settled}
-use Rattle.capacts.specs.Lockmachine.declared.scene.Scene.{Scene}
-use Rattle.capacts.specs.Lockmachine.Moves.{first_move, may_end, may_begin}
-use Rattle.capacts.specs.Lockmachine.Turns.{IsTurnOf, NobodyElsewhere, WaitAt}
-use Rattle.capacts.specs.Capnotes.InoSets.{InoSet}
-use Rattle.capacts.specs.declared.sweep.SweepPlace.{SweepPlace}
-use Rattle.capacts.specs.Served.{is_rename}
-use Rattle.capacts.specs.Reach.{is_affected}
-use Rattle.capacts.specs.Caprules.Settle.{Made, MakesAll, ended_in}
+use Rattle.capbits.specs.declared.{cap.Part.{Part}, ids.Ino.{Ino}, ids.Ticket.{Ticket}}
+use Rattle.inotree.specs.InoSets.{InoSet}
+use Rattle.capacts.specs.{Caprules.Settle.{Made, MakesAll, ended_in}, Lockmachine.Moves.{first_move, may_end, may_begin}, Lockmachine.Turns.{IsTurnOf, NobodyElsewhere, WaitAt}, Lockmachine.declared.moves.Move.TheVariants.{Serve, Settled}, Lockmachine.declared.request.Request.{Request}, Lockmachine.declared.scene.Scene.{Scene}, Reach.{is_affected}, Served.{is_rename}, declared.sweep.SweepPlace.{SweepPlace}}
 
 -- the least of these inodes
 pub record IsLeastOf (at : ℕ → Bool) (ino : ℕ) : Type 0 where

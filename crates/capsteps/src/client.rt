@@ -1,21 +1,16 @@
 //! Steps by which a client's session ends, is marked or has other grants.
-ghost use Rattle.std.specs.Prelude.{Some, ◌≡◌, ◌+◌, ◌≤◌, ◌<◌, true, [], ◌∷◌, None, All, Contains, length, map as each, IfOk, OnOk, OnErr, vec_capacity};
+ghost use Rattle.std.specs.Prelude.{Some, ◌≡◌, ◌+◌, ◌≤◌, ◌<◌, true, [], None, Contains, length, IfOk, OnOk, OnErr};
 ghost use Rattle.capbits.specs.Refusal.{first_failing};
-ghost use Rattle.captable.specs.declared.entry.EntryRow.{EntryRow};
-ghost use Rattle.captable.specs.Calls.{is_of_client};
-ghost use Rattle.capacts.specs.Lockmachine.declared.request.Request.{Request};
-ghost use Rattle.capacts.specs.Lockmachine.Requests.{is_of_client as is_asked_by};
-ghost use Rattle.capacts.specs.Capnotes.Noted.{HavePlaces};
-ghost use Rattle.capacts.specs.Reach.{is_affected, Widens};
-ghost use Rattle.capsteps.specs.Begun.{HaveRoomFor};
-ghost use Rattle.capsteps.specs.SessionChange.{Notes, ReachesClient, session_change_tests, changed_sessions};
+ghost use Rattle.captable.specs.{Calls.{is_of_client}, declared.entry.EntryRow.{EntryRow}};
+ghost use Rattle.capacts.specs.{Capnotes.Noted.{HavePlaces}, Lockmachine.Requests.{is_of_client as is_asked_by}, Lockmachine.declared.request.Request.{Request}, Reach.{is_affected, Widens}};
+ghost use Rattle.capsteps.specs.{Begun.{HaveRoomFor}, SessionChange.{Notes, ReachesClient, session_change_tests, changed_sessions}};
 
 use crate::endings::Endings;
 use capacts::leaving::SessionChange;
-use capacts::{ChangeList, InoSet, Locks, Messages, ViewChange};
+use capacts::{ChangeList, Locks, Messages, ViewChange};
 use capbits::{ClientId, Ino, Refusal};
 use captable::CapTable;
-use inotree::ROOT;
+use inotree::{InoSet, ROOT};
 use sessiontab::Sessions;
 use std::alloc::{AllocError, Global};
 

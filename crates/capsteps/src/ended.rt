@@ -1,9 +1,6 @@
 //! What a step says of the requests that it ended.
-ghost use Rattle.std.specs.Prelude.{◌≡◌, ◌+◌, ◌≤◌, ◌++◌, false, length};
-ghost use Rattle.std.specs.List.{find};
-ghost use Rattle.capacts.specs.Capevents.Replies.{has_list};
-ghost use Rattle.capacts.specs.Caprules.Direct.{awaited_as};
-ghost use Rattle.capacts.specs.Capnotes.DueEndings.{is_of_ticket, HaveOwnNumbers, but_for};
+ghost use Rattle.std.specs.{List.{find}, Prelude.{◌≡◌, ◌+◌, ◌≤◌, ◌++◌, false, length}};
+ghost use Rattle.capacts.specs.{Capevents.Replies.{has_list}, Capnotes.DueEndings.{is_of_ticket, HaveOwnNumbers, but_for}, Caprules.Direct.{awaited_as}};
 ghost use Rattle.capacts.specs.Capevents.declared.reply.Reply.TheVariants as reply;
 
 use crate::endings::Endings;

@@ -1,6 +1,5 @@
 //! The requests that a step ends.
-ghost use Rattle.std.specs.Prelude.{◌≡◌, ◌+◌, ◌≤◌, ◌<◌, ◌++◌, [], ◌∷◌, None, length, OnOk, vec_capacity};
-ghost use Rattle.std.specs.List.{filter_map};
+ghost use Rattle.std.specs.{List.{filter_map}, Prelude.{◌≡◌, ◌+◌, ◌≤◌, ◌<◌, ◌++◌, [], ◌∷◌, None, length, OnOk, vec_capacity}};
 ghost use Rattle.capsteps.specs.Begun.{HaveRoomFor};
 
 use capacts::serving::Served;

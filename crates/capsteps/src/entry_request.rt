@@ -1,14 +1,8 @@
 //! What an event asks of one entry, and what of the entry that changes.
 ghost use Rattle.std.specs.Prelude.{◌≡◌, ◌<◌, ◌^◌, ◌-◌, [], None, OnOk, OnErr};
 ghost use Rattle.capbits.specs.Refusal.{first_failing};
-ghost use Rattle.capacts.specs.Caprules.Judge.{revoked_of, room_for};
-ghost use Rattle.capacts.specs.Lockmachine.declared.scene.Scene.{Scene};
-ghost use Rattle.captable.specs.Table.{entry_at};
-ghost use Rattle.captable.specs.Calls.{opened};
-ghost use Rattle.captable.specs.Tests.{open_tests};
-ghost use Rattle.capacts.specs.Known.{AreKnown};
-ghost use Rattle.capacts.specs.Caprules.State.{State};
-ghost use Rattle.capacts.specs.Caprules.Direct.{reply_of, shown, with_table};
+ghost use Rattle.captable.specs.{Calls.{opened}, Table.{entry_at}, Tests.{open_tests}};
+ghost use Rattle.capacts.specs.{Caprules.Direct.{reply_of, shown, with_table}, Caprules.Judge.{revoked_of, room_for}, Caprules.State.{State}, Known.{AreKnown}, Lockmachine.declared.scene.Scene.{Scene}};
 ghost use Rattle.capacts.specs.Caprules.Direct as effects;
 ghost use Rattle.capsteps.specs.EntryRequest as words;
 

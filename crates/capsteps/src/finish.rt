@@ -1,32 +1,19 @@
 //! The end of a step at the inodes that it affected.
-ghost use Rattle.std.specs.Prelude.{◌≡◌, ◌==◌, ◌≤◌, ◌<◌, ◌^◌, ◌-◌, ◌+◌, length, [], false, Some, IsTrue, All, IsSome, IfSome};
-ghost use Rattle.std.specs.List.{find};
+ghost use Rattle.std.specs.{List.{find}, Prelude.{◌≡◌, ◌==◌, ◌≤◌, ◌<◌, ◌^◌, ◌-◌, ◌+◌, length, [], false, Some, IsTrue, All, IsSome, IfSome}};
 ghost use Rattle.std.specs.FinSet as set;
+ghost use Rattle.captable.specs.{Calls.{told, changed, is_of_inode, entries_on}, Known.{permitted_of}, Many.{changed_by, changed_where}, Table.{IsTable, same, is_row_of, entry_at}, declared.entry.Holder.{Holder}};
 ghost use Rattle.sessiontab.specs.Calls.{has_session};
-ghost use Rattle.captable.specs.declared.entry.Holder.{Holder};
-ghost use Rattle.captable.specs.Known.{permitted_of};
-ghost use Rattle.captable.specs.Table.{IsTable, same, is_row_of, entry_at};
-ghost use Rattle.captable.specs.Calls.{told, changed, is_of_inode, entries_on};
-ghost use Rattle.captable.specs.Many.{changed_by, changed_where};
-ghost use Rattle.capacts.specs.Lockmachine.declared.scene.Scene.{Scene};
-ghost use Rattle.capacts.specs.Lockmachine.Scene.{scene_by};
-ghost use Rattle.capacts.specs.Lockmachine.Policy.{ArePermitted, permitted};
+ghost use Rattle.capacts.specs.{Capnotes.Noted.{LeadOn}, Caprules.Direct.{opened_as}, Known.{AreKnown, KnownAnew, OthersHaveAll, known_in}, Lockmachine.Policy.{ArePermitted, permitted}, Lockmachine.Scene.{scene_by}, Lockmachine.declared.scene.Scene.{Scene}, Reach.{is_affected}};
 ghost use Rattle.capacts.specs.Finishing as words;
-ghost use Rattle.capacts.specs.Caprules.Direct.{opened_as};
-ghost use Rattle.capacts.specs.Known.{AreKnown, KnownAnew, OthersHaveAll, known_in};
-ghost use Rattle.capsteps.specs.Affected.{forget_at, forget_among, finished_at, told_then};
-ghost use Rattle.capacts.specs.Reach.{is_affected};
-ghost use Rattle.capsteps.specs.Begun.{MayEnd};
-ghost use Rattle.capsteps.specs.Serves.{EndsAt};
-ghost use Rattle.capacts.specs.Capnotes.Noted.{LeadOn};
+ghost use Rattle.capsteps.specs.{Affected.{forget_at, forget_among, finished_at, told_then}, Begun.{MayEnd}, Serves.{EndsAt}};
 
 use arrayvec::ArrayVec;
 use capacts::finishing::{Standing, finish_row};
 use capacts::reach::is_held;
-use capacts::{ChangeList, InoSet, InodeLocks, Locks, Policy, Reply, Scene, ViewChange};
+use capacts::{ChangeList, InodeLocks, Locks, Policy, Reply, Scene, ViewChange};
 use capbits::{ClientId, Ino};
 use captable::{CapTable, EntryRow, Holder, Known};
-use inotree::Place;
+use inotree::{InoSet, Place};
 use sessiontab::{MAX_SESSIONS, Sessions};
 
 // ---- at the affected inodes

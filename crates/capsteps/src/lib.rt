@@ -16,7 +16,7 @@ pub mod sizes;
 pub mod start;
 
 pub use capacts::{
-    Ask, Bytes, Change, ChangeList, Ended, EndedList, EndedTickets, Event, InoSet, Locks, Message,
+    Ask, Bytes, Change, ChangeList, Ended, EndedList, EndedTickets, Event, Locks, Message,
     MessageList, Messages, Move, OpenMode, Outcome, PartValues, Policy, Question, Rejection, Reply,
     Row, Scene, Unknown, View, ViewChange, Wants, copy_of_messages, history, judge, leaving,
     renewing, serving, stop, wants_on,

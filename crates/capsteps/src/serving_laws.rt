@@ -2,14 +2,8 @@
 
 ghost use Rattle.std.specs.Prelude.{◌≡◌, ◌≢◌, ℕ, true, false};
 ghost use Rattle.std.specs.FinMap as map;
-ghost use Rattle.inotree.specs.Tree.{IsTree, is_within, place};
-ghost use Rattle.inotree.specs.Alike.{IsAlike};
-ghost use Rattle.capacts.specs.Lockmachine.declared.request.Request.{Request};
-ghost use Rattle.capacts.specs.Lockmachine.declared.scene.Scene.{Scene};
-ghost use Rattle.capacts.specs.Capevents.declared.outcome.Outcome.{Outcome};
-ghost use Rattle.capacts.specs.Caprules.Serving.{MayEndAs};
-ghost use Rattle.capacts.specs.Capnotes.Changing.{tree_after};
-ghost use Rattle.capacts.specs.Served.{is_rename};
+ghost use Rattle.inotree.specs.{Alike.{IsAlike}, Tree.{IsTree, is_within, place}};
+ghost use Rattle.capacts.specs.{Capevents.declared.outcome.Outcome.{Outcome}, Capnotes.Changing.{tree_after}, Caprules.Serving.{MayEndAs}, Lockmachine.declared.request.Request.{Request}, Lockmachine.declared.scene.Scene.{Scene}, Served.{is_rename}};
 
 /// However a request ends that is served, every other inode than its own has the same path, owner, group and mode, unless the
 /// request is to move its inode and the other lies below it; and the tree stays a tree.

@@ -3,25 +3,11 @@ ghost use Rattle.std.specs.Prelude.{◌≡◌, ◌==◌, ◌≤◌, ◌<◌, ◌
 ghost use Rattle.std.specs.FinMap as map;
 ghost use Rattle.std.specs.FinSet as set;
 ghost use Rattle.capbits.specs.declared.cap.Part.{Part};
-ghost use Rattle.inotree.specs.Tree.{IsTree, Nodes};
+ghost use Rattle.inotree.specs.{InoSets.{IsNext}, Tree.{IsTree, Nodes}};
+ghost use Rattle.captable.specs.{Known.{known_of}, declared.entry.Holder.{Holder}};
 ghost use Rattle.sessiontab.specs.Table.{SessionTable};
-ghost use Rattle.captable.specs.declared.entry.Holder.{Holder};
-ghost use Rattle.captable.specs.Known.{known_of};
-ghost use Rattle.capacts.specs.Lockmachine.declared.request.Request.{Request};
-ghost use Rattle.capacts.specs.Lockmachine.Locks.{request_at};
-ghost use Rattle.capacts.specs.Lockmachine.Scene.{scene as scene_of};
-ghost use Rattle.capacts.specs.Lockmachine.Moves.{may_end_by};
-ghost use Rattle.capacts.specs.Lockmachine.Turns.{WaitAt};
-ghost use Rattle.capacts.specs.Capevents.declared.outcome.Ended.{Ended};
-ghost use Rattle.capacts.specs.Capnotes.InoSets.{IsNext};
-ghost use Rattle.capacts.specs.Known.{OthersHaveAll};
-ghost use Rattle.capacts.specs.Capnotes.Noted.{HavePlaces, LeadOn};
-ghost use Rattle.capacts.specs.Reach.{is_affected, AreWalked, Reaches};
-ghost use Rattle.capsteps.specs.Judged.{IsJudged};
-ghost use Rattle.capsteps.specs.Begun.{ArePermittedIn, HaveRoomFor, MayEnd, MaySettle};
-ghost use Rattle.capsteps.specs.Serves.{Serves, SettlesWith, EndsAt, EndsWith};
-ghost use Rattle.capacts.specs.Caprules.Settle.{Served as Serving, sized_by, sized_in};
-ghost use Rattle.capsteps.specs.Sweep.{AreStill, GoesOn, GoesOnBehind, IsFirstPlace, IsLeastOf, IsNextOf, IsSwept, StandsAt, changed_alone};
+ghost use Rattle.capacts.specs.{Capevents.declared.outcome.Ended.{Ended}, Capnotes.Noted.{HavePlaces, LeadOn}, Caprules.Settle.{Served as Serving, sized_by, sized_in}, Known.{OthersHaveAll}, Lockmachine.Locks.{request_at}, Lockmachine.Moves.{may_end_by}, Lockmachine.Scene.{scene as scene_of}, Lockmachine.Turns.{WaitAt}, Lockmachine.declared.request.Request.{Request}, Reach.{is_affected, AreWalked, Reaches}};
+ghost use Rattle.capsteps.specs.{Begun.{ArePermittedIn, HaveRoomFor, MayEnd, MaySettle}, Judged.{IsJudged}, Serves.{Serves, SettlesWith, EndsAt, EndsWith}, Sweep.{AreStill, GoesOn, GoesOnBehind, IsFirstPlace, IsLeastOf, IsNextOf, IsSwept, StandsAt, changed_alone}};
 
 use crate::endings::Endings;
 use crate::finish::{finish, finish_alone};
@@ -30,10 +16,10 @@ use capacts::reach::reach;
 use capacts::renewing::renew_served;
 use capacts::serving::{Served, serve};
 use capacts::sweep::{SweepPlace, advance};
-use capacts::{Ask, Change, ChangeList, InoSet, InodeLocks, Locks, Move, Outcome, Request, Scene};
+use capacts::{Ask, Change, ChangeList, InodeLocks, Locks, Move, Outcome, Request, Scene};
 use capbits::{Ino, Ticket};
 use captable::{CapTable, Holder, Known};
-use inotree::Setting;
+use inotree::{InoSet, Setting};
 
 /// Lets the locks settle after an event about one inode, and ends the step. The locks of every other inode are quiet.
 pub fn end_at_one(scene: &mut Scene, known: &mut Known, ino: Ino, endings: &mut Endings)

@@ -1,8 +1,7 @@
 //! The clients that are to be told of a size that was changed.
 ghost use Rattle.std.specs.Prelude.{◌≡◌, All, IsTrue};
+ghost use Rattle.captable.specs.{Calls.{is_of_inode}, Many.{changed_by, changed_where}};
 ghost use Rattle.sessiontab.specs.Calls.{has_session};
-ghost use Rattle.captable.specs.Calls.{is_of_inode};
-ghost use Rattle.captable.specs.Many.{changed_by, changed_where};
 ghost use Rattle.capacts.specs.Caprules.Finish.{is_sized, owed};
 
 use crate::finish::clients_on;

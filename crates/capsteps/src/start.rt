@@ -1,10 +1,8 @@
 //! The locks of the tree that a core opens with.
-ghost use Rattle.std.specs.Prelude.{◌≡◌, ℕ, [], IfOk, OnOk, if◌then◌else◌};
-ghost use Rattle.std.specs.Option.{option_map};
+ghost use Rattle.std.specs.{Option.{option_map}, Prelude.{◌≡◌, ℕ, [], IfOk, OnOk, if◌then◌else◌}};
 ghost use Rattle.std.specs.FinMap as map;
 ghost use Rattle.inotree.specs.Tree.{IsTree};
-ghost use Rattle.capacts.specs.Lockmachine.Inodes.{in_sync};
-ghost use Rattle.capacts.specs.Lockmachine.Locks.{with_ino};
+ghost use Rattle.capacts.specs.Lockmachine.{Inodes.{in_sync}, Locks.{with_ino}};
 
 use capacts::Locks;
 use capbits::Ino;

@@ -22,3 +22,4 @@ pub mod Slots
 pub mod Turning
 pub mod Walks
 pub mod Within
+pub mod InoSets

@@ -7,3 +7,4 @@ pub mod Calls
 pub mod Tests
 pub mod Alike
 pub mod Heights
+pub mod InoSets

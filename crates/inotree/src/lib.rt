@@ -8,6 +8,7 @@ mod calls;
 mod error;
 mod heights;
 mod index;
+mod ino_set;
 mod inodes;
 mod laws;
 mod name;
@@ -18,6 +19,7 @@ mod tree;
 
 pub use attributes::{Attributes, MAX_ATTRIBUTES, MAX_VALUE, Value};
 pub use error::TreeError;
+pub use ino_set::InoSet;
 pub use laws::{
     a_change_of_one_inode_leaves_the_others, a_change_that_may_be_made_keeps_the_tree,
     a_move_leaves_what_is_not_below, an_inode_without_children_leaves_the_others, names_lead_up,

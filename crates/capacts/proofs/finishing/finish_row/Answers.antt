@@ -1,20 +1,7 @@
-use Rattle.std.proofs.Common.{◌≡◌, Bool, true, false, Option, Some, refl, ap, sym, ◌∙◌}
-use Rattle.std.specs.Prelude.{unwrap_or}
-use Rattle.std.specs.Option.{option_map}
-use Rattle.capbits.specs.Sets.{meet, no_caps}
-use Rattle.captable.specs.declared.entry.EntryRow.{EntryRow}
-use Rattle.captable.specs.declared.entry.Holder.{Holder}
-use Rattle.captable.specs.declared.on_inode.Sets.{Sets}
-use Rattle.captable.specs.Known.{no_sets}
-use Rattle.captable.specs.Table.{Table, same}
-use Rattle.captable.proofs.Changes.{put_found}
-use Rattle.captable.proofs.Tables.{same-is}
-use Rattle.caprules.specs.Lockmachine.Policy.{permitted}
+use Rattle.std.{proofs.Common.{◌≡◌, Bool, true, false, Option, Some, refl, ap, sym, ◌∙◌, unwrap_or}, specs.Option.{option_map}}
 use Rattle.caprules.specs.Lockmachine.Wants.{want_of_permitted}
+use Rattle.capacts.{proofs.Common.{EntryRow, Holder, meet, no_caps, no_sets, permitted, put_found, same, same-is, Sets, Table}, proofs.KeptSets.{kept-one, other-holder}, proofs.Renewed.{kept-is}, specs.Known.{known_in, sets_of, permitted_of}}
 use Rattle.capacts.specs.Finishing as words
-use Rattle.capacts.specs.Known.{known_in, sets_of, permitted_of}
-use Rattle.capacts.proofs.KeptSets.{kept-one, other-holder}
-use Rattle.capacts.proofs.Renewed.{kept-is}
 use Rattle.capacts.proofs.finishing.finish_row.Goals as goal
 
 pub issue-requires : goal.issue-requires

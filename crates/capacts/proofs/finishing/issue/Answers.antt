@@ -1,14 +1,8 @@
-use Rattle.std.proofs.Common.{◌≡◌, ◌<◌, Bool, true, false, ◌&&◌, not, Option, true≢false, refl, sym, ap, subst, ◌∙◌}
-use Rattle.std.specs.Prelude.{IfSome}
-use Rattle.capbits.specs.Caps.{Caps, has}
-use Rattle.capbits.specs.Sets.{no_caps, is_empty, union, meet, minus, same_caps, has-union, has-minus, has-none}
-use Rattle.captable.specs.declared.entry.Entry.{Entry}
-use Rattle.captable.specs.declared.entry.Holder.{Holder}
-use Rattle.captable.specs.Table.{Table}
-use Rattle.captable.specs.Calls.{issued, renumbered}
-use Rattle.captable.proofs.Changes.{put_found, left_found}
+use Rattle.std.proofs.Common.{◌≡◌, ◌<◌, Bool, true, false, ◌&&◌, not, Option, true≢false, refl, sym, ap, subst, ◌∙◌, IfSome}
+use Rattle.capbits.specs.{Caps.{has}, Sets.{is_empty, union, minus, same_caps, has-union, has-minus, has-none}}
+use Rattle.captable.{proofs.Changes.{left_found}, specs.Calls.{issued, renumbered}}
+use Rattle.capacts.proofs.{Common.{Caps, Entry, Holder, meet, no_caps, put_found, Table}, Held.{or_inside}}
 use Rattle.capacts.specs.Finishing as words
-use Rattle.capacts.proofs.Held.{or_inside}
 use Rattle.capacts.proofs.finishing.issue.Goals as goal
 
 pub issue_numbered-requires : goal.issue_numbered-requires

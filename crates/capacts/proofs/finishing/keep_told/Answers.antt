@@ -1,6 +1,5 @@
 use Rattle.std.proofs.Common.{Some, is_some, sym, ap, ◌∙◌}
-use Rattle.capbits.specs.Caps.{bits_of}
-use Rattle.capbits.specs.SetNumbers.{bits_of-injective}
+use Rattle.capbits.specs.{Caps.{bits_of}, SetNumbers.{bits_of-injective}}
 use Rattle.capacts.proofs.Adding.{same-one}
 use Rattle.capacts.proofs.finishing.keep_told.Goals as goal
 

@@ -1,14 +1,7 @@
 -- The row that is found from the end is the last of the pass.
-use Rattle.std.proofs.Common.{◌≡◌, ◌+◌, ◌==◌, reverse, ap, sym, ◌∙◌, arith, rules, tests}
-use Rattle.std.specs.List.{find}
-use Rattle.std.specs.Option.{option_map}
-use Rattle.std.proofs.lemmas.Iterator.Search.{find_from_yields_List}
-use Rattle.std.proofs.lemmas.Iterator.Adapters.{YieldsList-from_rev_slice}
-use Rattle.caprules.specs.Capevents.declared.row.Row.{Row}
-use Rattle.caprules.specs.Numbers.{rows_of}
-use Rattle.capacts.proofs.Numbered.{no_row_found, last_row_found, rows_of-le-length}
+use Rattle.std.{proofs.Common.{◌≡◌, ◌+◌, ◌==◌, reverse, ap, sym, ◌∙◌, arith, rules, tests}, proofs.lemmas.Iterator.Adapters.{YieldsList-from_rev_slice}, proofs.lemmas.Iterator.Search.{find_from_yields_List}, specs.List.{find}, specs.Option.{option_map}}
+use Rattle.capacts.proofs.{Common.{Row, rows_of}, Numbered.{no_row_found, last_row_found, rows_of-le-length}, history.next_number.Goals.{After-find, In-Some}}
 use Rattle.capacts.proofs.history.next_number.Goals as goal
-use Rattle.capacts.proofs.history.next_number.Goals.{After-find, In-Some}
 
 found : (c : After-find) → option_map {U = Row} (λ x. x.now) c.find.result ≡ find (λ row. row.pass.0 == c.args.pass.0) (reverse c.args.rows.now)
 found c = find_from_yields_List (λ row. row.pass.0 == c.args.pass.0) _ _ _ c.find.ensures.ran (YieldsList-from_rev_slice c.args.rows.now (search rules)) (λ x b q k. search (rules, tests))

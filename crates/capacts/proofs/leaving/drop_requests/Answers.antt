@@ -1,9 +1,6 @@
-use Rattle.std.proofs.Common.{◌≡◌, ◌+◌, ◌≤◌, ◌++◌, List, filter, not, length, take, ap, ◌∙◌, arith, length-append}
-use Rattle.std.proofs.lemmas.List.{take_all}
-use Rattle.caprules.specs.Lockmachine.declared.request.Request.{Request}
-use Rattle.caprules.specs.Lockmachine.Requests.{is_of_client}
+use Rattle.std.proofs.{Common.{◌≡◌, ◌+◌, ◌≤◌, ◌++◌, List, filter, not, length, take, ap, ◌∙◌, arith, length-append}, lemmas.List.{take_all}}
 use Rattle.caprules.specs.Lockmachine.Locks.{LockMap}
-use Rattle.capacts.proofs.Dropped.{dropped_among, dropped-count, dropped-few}
+use Rattle.capacts.proofs.{Common.{is_of_client, Request}, Dropped.{dropped_among, dropped-count, dropped-few}}
 use Rattle.capacts.proofs.leaving.drop_requests.Goals as goal
 
 pub push-requires : goal.push-requires

@@ -1,6 +1,6 @@
 use Rattle.std.proofs.Common.{◌≡◌, None, ap, ◌∙◌, rules}
-use Rattle.captable.specs.Table.{Table, entry_at}
 use Rattle.captable.proofs.ByHolder.{entry_at-without_client}
+use Rattle.capacts.proofs.Common.{entry_at, Table}
 use Rattle.capacts.proofs.leaving.leave.Goals as goal
 
 pub returns-in-Close-clause-known : goal.returns-in-Close-clause-known

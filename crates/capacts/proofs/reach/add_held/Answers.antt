@@ -1,14 +1,7 @@
-use Rattle.std.proofs.Common.{◌≢◌, ℕ, ◌+◌, get_or, List, sym, ap, subst, ◌∙◌, true≢false, arith}
-use Rattle.std.specs.List.{AllWithin}
-use Rattle.capbits.specs.declared.ids.Ino.{Ino}
-use Rattle.captable.specs.declared.entry.EntryRow.{EntryRow}
-use Rattle.caprules.specs.Capnotes.InoSets.{InoSet}
+use Rattle.std.{proofs.Common.{◌≢◌, ℕ, ◌+◌, get_or, List, sym, ap, subst, ◌∙◌, true≢false, arith}, specs.List.{AllWithin}}
 use Rattle.caprules.specs.Capnotes.Noted.{Noted}
-use Rattle.capacts.specs.Reach.{Widens}
-use Rattle.capacts.proofs.Adding.{differ, same-one, IsAdded, added-more}
-use Rattle.capacts.proofs.InoSets.{added, widens-added, widens-then}
+use Rattle.capacts.{proofs.Adding.{differ, same-one, IsAdded, added-more}, proofs.Common.{EntryRow, Ino, InoSet}, proofs.InoSets.{added, widens-added, widens-then}, proofs.reach.add_held.Goals.{then-ne+then-is_held+in_ok-add, else-ne, else-ne-via-then-ne+else-is_held, else-ne-via-else-ne}, specs.Reach.{Widens}}
 use Rattle.capacts.proofs.reach.add_held.Goals as goal
-use Rattle.capacts.proofs.reach.add_held.Goals.{then-ne+then-is_held+in_ok-add, else-ne, else-ne-via-then-ne+else-is_held, else-ne-via-else-ne}
 
 pub loop-other-preserved : goal.loop-other-preserved
 loop-other-preserved c =

@@ -1,8 +1,6 @@
-use Rattle.std.proofs.Common.{◌≡◌, ◌≤◌, ◌+◌}
+use Rattle.std.{proofs.Common.{◌≡◌, ◌≤◌, ◌+◌}, specs.List.{AllWithin}}
 use Rattle.std.specs.FinSet as set
-use Rattle.std.specs.List.{AllWithin}
-use Rattle.capacts.specs.Reach.{Widens}
-use Rattle.capacts.proofs.Adding.{IsAdded}
+use Rattle.capacts.{proofs.Adding.{IsAdded}, specs.Reach.{Widens}}
 use Rattle.capacts.proofs.reach.add_held.Given as goal
 
 abbrev pub invariant-loop-other : goal.invariant-loop-other

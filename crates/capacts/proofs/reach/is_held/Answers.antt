@@ -1,6 +1,5 @@
-use Rattle.std.proofs.Common.{◌≡◌, Bool, true, false, cond, ◌||◌, List, [], ◌∷◌, filter, refl, sym, ◌∙◌}
-use Rattle.std.specs.List.{list_any}
-use Rattle.captable.specs.Calls.{is_of_inode}
+use Rattle.std.{proofs.Common.{◌≡◌, Bool, true, false, cond, ◌||◌, List, [], ◌∷◌, filter, refl, sym, ◌∙◌}, specs.List.{list_any}}
+use Rattle.capacts.proofs.Common.{is_of_inode}
 use Rattle.capacts.proofs.reach.is_held.Goals as goal
 
 some-pass : {X : Type 0} (p : X → Bool) (xs : List X) (y : X) (ys : List X) → filter p xs ≡ y ∷ ys → list_any p xs ≡ true

@@ -1,10 +1,6 @@
-use Rattle.std.proofs.Common.{◌≡◌, ◌≢◌, true, Contains, List, sym, subst, ◌∙◌}
+use Rattle.std.{proofs.Common.{◌≡◌, ◌≢◌, true, Contains, List, sym, subst, ◌∙◌}, specs.List.{list_any}}
 use Rattle.std.specs.FinSet as set
-use Rattle.std.specs.List.{list_any}
-use Rattle.capbits.specs.declared.ids.Ino.{Ino}
-use Rattle.captable.specs.Calls.{is_of_inode}
-use Rattle.capacts.specs.Reach.{CoversBelow}
-use Rattle.capacts.proofs.Walked.{covers-listed, walked-tried, walked-wider}
+use Rattle.capacts.{proofs.Common.{Ino, is_of_inode}, proofs.Walked.{covers-listed, walked-tried, walked-wider}, specs.Reach.{CoversBelow}}
 use Rattle.capacts.proofs.reach.walk.Goals as goal
 
 pub returns-then-contains-clause-covers : goal.returns-then-contains-clause-covers

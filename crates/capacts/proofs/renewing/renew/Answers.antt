@@ -1,12 +1,5 @@
-use Rattle.std.proofs.Common.{◌≡◌, Bool, true, false, refl, sym, ap, ◌∙◌}
-use Rattle.std.specs.Option.{option_map}
-use Rattle.captable.specs.declared.entry.Holder.{Holder}
-use Rattle.captable.specs.declared.on_inode.Sets.{Sets}
-use Rattle.captable.specs.Table.{same}
-use Rattle.captable.proofs.Tables.{same-is}
-use Rattle.capacts.specs.Known.{sets_of, known_of}
-use Rattle.capacts.proofs.KeptSets.{some-mapped, other-holder}
-use Rattle.capacts.proofs.Renewed.{told-again}
+use Rattle.std.{proofs.Common.{◌≡◌, Bool, true, false, refl, sym, ap, ◌∙◌}, specs.Option.{option_map}}
+use Rattle.capacts.{proofs.Common.{Holder, same, same-is, Sets}, proofs.KeptSets.{some-mapped, other-holder}, proofs.Renewed.{told-again}, specs.Known.{sets_of, known_of}}
 use Rattle.capacts.proofs.renewing.renew.Goals as goal
 
 pub put-requires : goal.put-requires

@@ -1,14 +1,6 @@
-use Rattle.std.proofs.Common.{◌≡◌, ℕ, List, [], ◌∷◌, ◌&&◌, sym, ap, subst, ◌∙◌}
-use Rattle.std.specs.List.{list_any}
-use Rattle.std.specs.Map.Iter.{deref}
-use Rattle.std.specs.Ordering.{nat_cmp, eq_by_cmp}
-use Rattle.std.proofs.lemmas.Map.Iter.{rest_more, rest_all}
-use Rattle.caprules.specs.Lockmachine.Policy.{permitted}
-use Rattle.caprules.specs.Capnotes.InoSets.{IsListOf}
-use Rattle.capacts.specs.Reach.{is_affected}
-use Rattle.capacts.specs.Renewing.{has_entry}
-use Rattle.capacts.proofs.Renewed.{inodes-begin, inodes-more, along-ends, is_at, room-told}
-use Rattle.capacts.proofs.Walked.{second_true}
+use Rattle.std.{proofs.Common.{◌≡◌, ℕ, List, [], ◌∷◌, ◌&&◌, sym, ap, subst, ◌∙◌}, proofs.lemmas.Map.Iter.{rest_more, rest_all}, specs.List.{list_any}, specs.Map.Iter.{deref}, specs.Ordering.{nat_cmp, eq_by_cmp}}
+use Rattle.inotree.specs.InoSets.{IsListOf}
+use Rattle.capacts.{proofs.Common.{permitted}, proofs.Renewed.{inodes-begin, inodes-more, along-ends, is_at, room-told}, proofs.Walked.{second_true}, specs.Reach.{is_affected}, specs.Renewing.{has_entry}}
 use Rattle.capacts.proofs.renewing.renew_affected.Goals as goal
 
 pub loop-number-init : goal.loop-number-init

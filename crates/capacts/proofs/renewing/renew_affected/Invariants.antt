@@ -1,11 +1,6 @@
-use Rattle.std.proofs.Common.{◌≡◌, ℕ, true, ◌&&◌}
+use Rattle.std.{proofs.Common.{◌≡◌, ℕ, true, ◌&&◌}, specs.List.{list_any}, specs.Ordering.{nat_cmp, eq_by_cmp}}
 use Rattle.std.specs.FinSet as set
-use Rattle.std.specs.List.{list_any}
-use Rattle.std.specs.Ordering.{nat_cmp, eq_by_cmp}
-use Rattle.caprules.specs.Lockmachine.Policy.{permitted}
-use Rattle.capacts.specs.Reach.{is_affected}
-use Rattle.capacts.specs.Renewing.{has_entry}
-use Rattle.capacts.proofs.Renewed.{Along, is_at}
+use Rattle.capacts.{proofs.Common.{permitted}, proofs.Renewed.{Along, is_at}, specs.Reach.{is_affected}, specs.Renewing.{has_entry}}
 use Rattle.capacts.proofs.renewing.renew_affected.Given as goal
 
 abbrev pub invariant-loop-number : goal.invariant-loop-number

@@ -1,8 +1,5 @@
-use Rattle.std.proofs.Common.{sym, subst, ◌∙◌}
-use Rattle.std.specs.Prelude.{◌==◌}
-use Rattle.inotree.specs.Tree.{Nodes}
-use Rattle.inotree.specs.Alike.{IsAlike}
-use Rattle.capacts.proofs.Renewed.{alike_change, alike-unset, other-number, permitted-on, permitted-still}
+use Rattle.std.proofs.Common.{sym, subst, ◌∙◌, ◌==◌}
+use Rattle.capacts.proofs.{Common.{IsAlike, Nodes}, Renewed.{alike_change, alike-unset, other-number, permitted-on, permitted-still}}
 use Rattle.capacts.proofs.renewing.renew_changed.Goals as goal
 
 pub returns-then-sets_attr-clause-permitted : goal.returns-then-sets_attr-clause-permitted

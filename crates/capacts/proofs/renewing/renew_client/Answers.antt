@@ -1,9 +1,5 @@
 use Rattle.std.proofs.Common.{◌==◌, ◌&&◌, Bool, Some, is_some, sym, ap, ◌∙◌}
-use Rattle.captable.specs.declared.entry.Holder.{Holder}
-use Rattle.captable.specs.Table.{holders_of_rows, is_among}
-use Rattle.caprules.specs.Lockmachine.Policy.{permitted}
-use Rattle.capacts.specs.Renewing.{has_entry}
-use Rattle.capacts.proofs.Renewed.{renews-same, holders-passing, holder-room, walked-begins, walked-first, walked-more, walked-ends}
+use Rattle.capacts.{proofs.Common.{Holder, holders_of_rows, is_among, permitted}, proofs.Renewed.{renews-same, holders-passing, holder-room, walked-begins, walked-first, walked-more, walked-ends}, specs.Renewing.{has_entry}}
 use Rattle.capacts.proofs.renewing.renew_client.Goals as goal
 
 pub rows-init : goal.rows-init

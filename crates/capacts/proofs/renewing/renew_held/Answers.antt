@@ -1,14 +1,8 @@
-use Rattle.std.proofs.Common.{◌≡◌, ◌==◌, ◌&&◌, Bool, Some, is_some, sym, ap, ◌∙◌}
+use Rattle.std.{proofs.Common.{◌≡◌, ◌==◌, ◌&&◌, Bool, Some, is_some, sym, ap, ◌∙◌}, proofs.lemmas.Bool.{eqb-true}, specs.Option.{option_copied}}
 use Rattle.std.specs.FinMap as map
-use Rattle.std.specs.Option.{option_copied}
-use Rattle.std.proofs.lemmas.Bool.{eqb-true}
-use Rattle.inotree.specs.Tree.{path_of}
-use Rattle.inotree.proofs.Lent.{lent-where}
-use Rattle.captable.specs.declared.entry.Holder.{Holder}
-use Rattle.captable.specs.Table.{holders_of_rows, is_among}
-use Rattle.caprules.specs.Lockmachine.Policy.{permitted, permitted_to, subject_of}
-use Rattle.capacts.specs.Renewing.{has_entry}
-use Rattle.capacts.proofs.Renewed.{renews-same, holders-passing, holder-passes, holder-room, walked-begins, walked-first, walked-more, walked-ends}
+use Rattle.inotree.{proofs.Lent.{lent-where}, specs.Tree.{path_of}}
+use Rattle.caprules.specs.Lockmachine.Policy.{permitted_to, subject_of}
+use Rattle.capacts.{proofs.Common.{Holder, holders_of_rows, is_among, permitted}, proofs.Renewed.{renews-same, holders-passing, holder-passes, holder-room, walked-begins, walked-first, walked-more, walked-ends}, specs.Renewing.{has_entry}}
 use Rattle.capacts.proofs.renewing.renew_held.Goals as goal
 
 pub rows-init : goal.rows-init

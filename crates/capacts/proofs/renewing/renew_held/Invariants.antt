@@ -1,6 +1,5 @@
 use Rattle.std.proofs.Common.{length}
-use Rattle.caprules.specs.Lockmachine.Policy.{permitted}
-use Rattle.capacts.proofs.Renewed.{Walked}
+use Rattle.capacts.proofs.{Common.{permitted}, Renewed.{Walked}}
 use Rattle.capacts.proofs.renewing.renew_held.Given as goal
 
 abbrev pub decreases-rows : goal.decreases-rows

@@ -1,12 +1,5 @@
-use Rattle.std.proofs.Common.{◌≡◌, ◌==◌, ◌&&◌, Bool, List, [], length, sym, ap, ◌∙◌}
-use Rattle.std.proofs.lemmas.Bool.{eqb-true}
-use Rattle.std.proofs.lemmas.List.{nil_from_length}
-use Rattle.captable.specs.declared.entry.EntryRow.{EntryRow}
-use Rattle.captable.specs.declared.entry.Holder.{Holder}
-use Rattle.captable.specs.Table.{holders_of_rows, is_among}
-use Rattle.caprules.specs.Lockmachine.Policy.{permitted}
-use Rattle.capacts.specs.Renewing.{has_entry}
-use Rattle.capacts.proofs.Renewed.{renews-nobody, holders-passing}
+use Rattle.std.proofs.{Common.{◌≡◌, ◌==◌, ◌&&◌, Bool, List, [], length, sym, ap, ◌∙◌}, lemmas.Bool.{eqb-true}, lemmas.List.{nil_from_length}}
+use Rattle.capacts.{proofs.Common.{EntryRow, Holder, holders_of_rows, is_among, permitted}, proofs.Renewed.{renews-nobody, holders-passing}, specs.Renewing.{has_entry}}
 use Rattle.capacts.proofs.renewing.renew_on.Goals as goal
 
 pub returns-then-is_done : goal.returns-then-is_done

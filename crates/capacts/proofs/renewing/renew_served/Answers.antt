@@ -1,15 +1,6 @@
-use Rattle.std.proofs.Common.{◌≡◌, ◌⊎◌, inl, inr, false, sym, ap, subst, ◌∙◌, rules}
-use Rattle.std.specs.Prelude.{◌==◌}
-use Rattle.inotree.specs.Tree.{Nodes}
-use Rattle.caprules.specs.Lockmachine.declared.request.Ask.{Ask}
+use Rattle.std.proofs.Common.{◌≡◌, ◌⊎◌, inl, inr, false, sym, ap, subst, ◌∙◌, rules, ◌==◌}
 use Rattle.caprules.specs.Lockmachine.declared.request.Ask.TheVariants.{Unlink, Rmdir}
-use Rattle.caprules.specs.Lockmachine.declared.scene.Scene.{Scene}
-use Rattle.caprules.specs.Lockmachine.Policy.{ArePermitted}
-use Rattle.caprules.specs.Capnotes.Changing.{tree_after, tree_with}
-use Rattle.capacts.specs.Known.{KnownSets}
-use Rattle.capacts.specs.Reach.{is_affected}
-use Rattle.capacts.specs.Served.{is_rename}
-use Rattle.capacts.proofs.Renewed.{alike-off, alike-far, permitted-on}
+use Rattle.capacts.{proofs.Common.{ArePermitted, Ask, Nodes, Scene, tree_after, tree_with}, proofs.Renewed.{alike-off, alike-far, permitted-on}, specs.Known.{KnownSets}, specs.Reach.{is_affected}, specs.Served.{is_rename}}
 use Rattle.capacts.proofs.renewing.renew_served.Goals as goal
 
 -- the tree is that of before

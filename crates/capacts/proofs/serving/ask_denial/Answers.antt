@@ -1,11 +1,6 @@
 use Rattle.std.proofs.Common.{[], ap, sym, ◌∙◌}
-use Rattle.capgrant.specs.declared.access.Access.{Access}
-use Rattle.caprules.specs.Lockmachine.declared.request.Ask.{Ask}
-use Rattle.caprules.specs.Lockmachine.declared.scene.Scene.{Scene}
-use Rattle.caprules.specs.Lockmachine.Scene.{scene}
-use Rattle.caprules.specs.Judge.{rejection_of, denial_of}
-use Rattle.caprules.specs.Asks.{ask_needs, change_access}
-use Rattle.capacts.proofs.Again.{denial-rejection}
+use Rattle.caprules.specs.Asks.{change_access}
+use Rattle.capacts.proofs.{Again.{denial-rejection}, Common.{Access, Ask, ask_needs, denial_of, rejection_of, Scene, scene}}
 use Rattle.capacts.proofs.serving.ask_denial.Goals as goal
 
 pub returns-in-Alter : goal.returns-in-Alter

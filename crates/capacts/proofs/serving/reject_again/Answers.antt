@@ -1,10 +1,5 @@
-use Rattle.std.proofs.Common.{refl, sym, ap, ◌∙◌}
-use Rattle.std.specs.Option.{option_map}
-use Rattle.caprules.specs.Lockmachine.declared.request.Request.{Request}
-use Rattle.caprules.specs.Lockmachine.declared.scene.Scene.{Scene}
-use Rattle.caprules.specs.declared.rejection.Rejection.TheVariants.{ByTest}
-use Rattle.caprules.specs.Asks.{ask_before, ask_needs, ask_after}
-use Rattle.capacts.proofs.Again.{rejection-before, rejection-policy, rejection-after}
+use Rattle.std.{proofs.Common.{refl, sym, ap, ◌∙◌}, specs.Option.{option_map}}
+use Rattle.capacts.proofs.{Again.{rejection-before, rejection-policy, rejection-after}, Common.{ask_after, ask_before, ask_needs, ByTest, Request, Scene}}
 use Rattle.capacts.proofs.serving.reject_again.Goals as goal
 
 pub returns-in-Some : goal.returns-in-Some

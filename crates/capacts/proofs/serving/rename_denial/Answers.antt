@@ -1,10 +1,8 @@
 use Rattle.std.proofs.Common.{◌∷◌, [], sym, ◌∙◌}
 use Rattle.capgrant.specs.declared.access.Access.TheVariants.{Write}
 use Rattle.inotree.specs.Tree.{parent}
-use Rattle.caprules.specs.Lockmachine.declared.scene.Scene.{Scene}
-use Rattle.caprules.specs.Lockmachine.Scene.{scene}
-use Rattle.caprules.specs.Needs.{need, need_if}
-use Rattle.capacts.proofs.Again.{denial-rejection, denied-front, granted-front}
+use Rattle.caprules.specs.Needs.{need_if}
+use Rattle.capacts.proofs.{Again.{denial-rejection, denied-front, granted-front}, Common.{need, Scene, scene}}
 use Rattle.capacts.proofs.serving.rename_denial.Goals as goal
 
 pub returns-in-Some : goal.returns-in-Some

@@ -1,9 +1,5 @@
 use Rattle.std.proofs.Common.{refl, sym, ap, ◌∙◌}
-use Rattle.caprules.specs.Lockmachine.declared.scene.Scene.{Scene}
-use Rattle.caprules.specs.Lockmachine.Scene.{scene}
-use Rattle.caprules.specs.Capnotes.Changing.{tree_after}
-use Rattle.capacts.proofs.Again.{calls-passed, ends-rejection, ends-passed, ends-without_memory, tree-rejection, tree-passed}
-use Rattle.capacts.proofs.Memory.{rename-takes}
+use Rattle.capacts.proofs.{Again.{calls-passed, ends-rejection, ends-passed, ends-without_memory, tree-rejection, tree-passed}, Common.{Scene, scene, tree_after}, Memory.{rename-takes}}
 use Rattle.capacts.proofs.serving.serve.Goals as goal
 
 pub returns-in-Some-clause-ends : goal.returns-in-Some-clause-ends

@@ -1,4 +1,4 @@
-use Rattle.capcore.proofs.Common.{shown-sound, shown-given, shown-issued}
+use Rattle.capcore.proofs.Common.{shown-given, shown-issued, shown-sound}
 use Rattle.capcore.proofs.giving.telling_leaves_all_but_what_was_told.Goals as goal
 
 pub returns-clause-sound : goal.returns-clause-sound

@@ -1,6 +1,5 @@
 use Rattle.std.proofs.Common.{[], ◌∷◌, None, sym, ap, ◌∙◌}
-use Rattle.capcore.proofs.Common.{Scene, asked_tests, first_denied, rejection_by, need, rejection-before}
-use Rattle.capsteps.proofs.Capacts.Again.{denial-rejection}
+use Rattle.capcore.proofs.Common.{asked_tests, denial-rejection, first_denied, need, rejection-before, rejection_by, Scene}
 use Rattle.capcore.proofs.judging.access_rejection.Goals as goal
 
 pub returns-in-Some : goal.returns-in-Some

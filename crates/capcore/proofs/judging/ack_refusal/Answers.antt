@@ -1,9 +1,7 @@
 use Rattle.std.proofs.Common.{refl, sym, ap, ◌∙◌}
-use Rattle.capcore.proofs.Common.{Scene, revoked_of, passed-front}
-use Rattle.capbits.specs.Refusal.{first_failing}
 use Rattle.captable.specs.Tests.{ack_tests}
-use Rattle.capsteps.specs.Lockmachine.Scene.{scene}
 use Rattle.capsteps.specs.Caprules.Judge.{connected_tests}
+use Rattle.capcore.proofs.Common.{first_failing, passed-front, revoked_of, Scene, scene}
 use Rattle.capcore.proofs.judging.ack_refusal.Goals as goal
 
 pub returns-in-None : goal.returns-in-None

@@ -1,10 +1,6 @@
 use Rattle.std.proofs.Common.{[], ap, sym, ◌∙◌}
-use Rattle.capcore.proofs.Common.{Access, Scene, rejection_of, ask_needs, ask_of}
-use Rattle.capsteps.specs.Lockmachine.Scene.{scene}
-use Rattle.capsteps.specs.Caprules.Judge.{denial_of}
-use Rattle.capsteps.specs.Caprules.Asks.{change_access}
-use Rattle.capsteps.proofs.Capacts.Again.{denial-rejection}
-use Rattle.capcore.specs.declared.asks.Asked.{Asked}
+use Rattle.capsteps.specs.Caprules.{Asks.{change_access}, Judge.{denial_of}}
+use Rattle.capcore.{proofs.Common.{Access, ask_needs, denial-rejection, rejection_of, Scene, scene}, specs.Asks.{ask_of}, specs.declared.asks.Asked.{Asked}}
 use Rattle.capcore.proofs.judging.asking_denial.Goals as goal
 
 pub returns-in-Alter : goal.returns-in-Alter

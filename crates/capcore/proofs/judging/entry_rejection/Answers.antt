@@ -1,8 +1,6 @@
-use Rattle.std.proofs.Common.{sym, ap, ◌∙◌}
-use Rattle.capcore.proofs.Common.{option_map, Scene, Event, ByTest, EntryRequest, before, judged, entry_event}
-use Rattle.capbits.specs.Refusal.{first_failing}
+use Rattle.std.{proofs.Common.{sym, ap, ◌∙◌}, specs.Option.{option_map}}
 use Rattle.capsteps.specs.Capevents.declared.event.Event.TheVariants.{Ack}
-use Rattle.capsteps.proofs.Judging.{by_tests}
+use Rattle.capcore.proofs.Common.{before, by_tests, ByTest, entry_event, EntryRequest, Event, first_failing, judged, Scene}
 use Rattle.capcore.proofs.judging.entry_rejection.Goals as goal
 
 pub returns-in-Ack : goal.returns-in-Ack

@@ -1,11 +1,5 @@
 use Rattle.std.proofs.Common.{sym, ap, ◌∙◌, [], ◌∷◌, ◌++◌}
-use Rattle.capcore.proofs.Common.{Caps, Cap, Table, passed-front}
-use Rattle.capbits.specs.Refusal.{first_failing}
-use Rattle.capbits.specs.Sets.{caps_in}
-use Rattle.capbits.proofs.Tests.{failing-front}
-use Rattle.captable.specs.Tests.{release_tests}
-use Rattle.capsteps.specs.Lockmachine.Requests.{part_of_change}
-use Rattle.capsteps.specs.Caprules.Asks.{change_tests, exclusive}
+use Rattle.capcore.proofs.Common.{Cap, Caps, caps_in, change_tests, exclusive, failing-front, first_failing, part_of_change, passed-front, release_tests, Table}
 use Rattle.capcore.proofs.judging.flush_refusal.Goals as goal
 
 pub returns-in-Some : goal.returns-in-Some

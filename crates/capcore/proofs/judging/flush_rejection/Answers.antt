@@ -1,9 +1,7 @@
-use Rattle.std.proofs.Common.{◌≡◌, [], ◌∷◌, refl, sym, ap, ◌∙◌}
-use Rattle.capcore.proofs.Common.{option_map, Access, Scene, Event, ByTest, rejection_of, asked_tests, before, needs, after, need}
+use Rattle.std.{proofs.Common.{◌≡◌, [], ◌∷◌, refl, sym, ap, ◌∙◌}, specs.Option.{option_map}}
 use Rattle.capsteps.specs.Capevents.declared.event.Event.TheVariants.{Flush}
-use Rattle.capsteps.proofs.Judging.{rejection, passed}
+use Rattle.capcore.proofs.{Common.{Access, after, asked_tests, before, ByTest, Event, need, needs, passed, rejection, rejection_of, Scene}, judging.flush_rejection.Goals.{After-access_rejection}}
 use Rattle.capcore.proofs.judging.flush_rejection.Goals as goal
-use Rattle.capcore.proofs.judging.flush_rejection.Goals.{After-access_rejection}
 
 -- what the session, the inode and the grants stop
 module _ (c : After-access_rejection) where

@@ -1,7 +1,6 @@
-use Rattle.std.proofs.Common.{refl, sym, ap, ◌∙◌}
-use Rattle.capcore.proofs.Common.{option_map, Scene, Event, ByTest, before, needs, after}
+use Rattle.std.{proofs.Common.{refl, sym, ap, ◌∙◌}, specs.Option.{option_map}}
 use Rattle.capsteps.specs.Capevents.declared.event.Event.TheVariants.{Open}
-use Rattle.capsteps.proofs.Capacts.Again.{rejection-policy, rejection-after}
+use Rattle.capcore.proofs.Common.{after, before, ByTest, Event, needs, rejection-after, rejection-policy, Scene}
 use Rattle.capcore.proofs.judging.open_rejection.Goals as goal
 
 pub returns-in-Some-opening_denial : goal.returns-in-Some-opening_denial

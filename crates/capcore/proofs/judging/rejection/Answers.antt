@@ -1,9 +1,5 @@
-use Rattle.std.proofs.Common.{sym, ap, ◌∙◌}
-use Rattle.capcore.proofs.Common.{option_map, Scene, ByTest, judged, ask_of, asked_event}
-use Rattle.capcore.specs.declared.parts.Asking.{Asking}
-use Rattle.capcore.specs.UnderWay.{event_of}
-use Rattle.capcore.proofs.Asked.{asked-for, asking-rejection}
-use Rattle.capcore.proofs.SessionStep.{change-rejection}
+use Rattle.std.{proofs.Common.{sym, ap, ◌∙◌}, specs.Option.{option_map}}
+use Rattle.capcore.{proofs.Asked.{asked-for, asking-rejection}, proofs.Common.{ByTest, judged, Scene}, proofs.SessionStep.{change-rejection}, specs.Asks.{ask_of, asked_event}, specs.UnderWay.{event_of}, specs.declared.parts.Asking.{Asking}}
 use Rattle.capcore.proofs.judging.rejection.Goals as goal
 
 pub returns-in-OfLock : goal.returns-in-OfLock

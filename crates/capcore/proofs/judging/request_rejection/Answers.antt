@@ -1,6 +1,5 @@
-use Rattle.std.proofs.Common.{refl, sym, ap, ◌∙◌}
-use Rattle.capcore.proofs.Common.{option_map, Scene, ByTest, ask_needs, asking_tests, waiting_tests, rejection-before, ask_of}
-use Rattle.capsteps.proofs.Capacts.Again.{rejection-policy, rejection-after}
+use Rattle.std.{proofs.Common.{refl, sym, ap, ◌∙◌}, specs.Option.{option_map}}
+use Rattle.capcore.{proofs.Common.{ask_needs, asking_tests, ByTest, rejection-after, rejection-before, rejection-policy, Scene, waiting_tests}, specs.Asks.{ask_of}}
 use Rattle.capcore.proofs.judging.request_rejection.Goals as goal
 
 pub returns-in-Some : goal.returns-in-Some

@@ -1,8 +1,5 @@
 use Rattle.std.proofs.Common.{sym, ap, ◌∙◌, ◌++◌}
-use Rattle.capcore.proofs.Common.{LockMap, ask_after, passed-front, ask_of}
-use Rattle.capbits.specs.Refusal.{first_failing}
-use Rattle.capbits.proofs.Tests.{failing-front}
-use Rattle.capsteps.specs.Lockmachine.Locks.{queue_tests}
+use Rattle.capcore.{proofs.Common.{ask_after, failing-front, first_failing, LockMap, passed-front, queue_tests}, specs.Asks.{ask_of}}
 use Rattle.capcore.proofs.judging.waiting_refusal.Goals as goal
 
 pub returns-in-Some : goal.returns-in-Some

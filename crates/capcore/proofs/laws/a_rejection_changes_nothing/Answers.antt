@@ -1,4 +1,4 @@
-use Rattle.capsteps.proofs.Stopping.{rejection-step, rejection-only}
+use Rattle.capcore.proofs.Common.{rejection-only, rejection-step}
 use Rattle.capcore.proofs.laws.a_rejection_changes_nothing.Goals as goal
 
 pub returns-clause-step : goal.returns-clause-step

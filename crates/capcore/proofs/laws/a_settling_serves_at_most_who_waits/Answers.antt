@@ -1,4 +1,4 @@
-use Rattle.capsteps.proofs.Moved.{served-count}
+use Rattle.capcore.proofs.Common.{served-count}
 use Rattle.capcore.proofs.laws.a_settling_serves_at_most_who_waits.Goals as goal
 
 pub returns : goal.returns

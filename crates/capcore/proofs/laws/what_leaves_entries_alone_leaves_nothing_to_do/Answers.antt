@@ -1,6 +1,4 @@
-use Rattle.capcore.proofs.Common.{with_scene, sound-settles, kept-sound}
-use Rattle.capsteps.specs.Leaving.{with_parts}
-use Rattle.capsteps.proofs.LeftAlone.{kept-finished}
+use Rattle.capcore.proofs.Common.{kept-finished, kept-sound, sound-settles, with_parts, with_scene}
 use Rattle.capcore.proofs.laws.what_leaves_entries_alone_leaves_nothing_to_do.Goals as goal
 
 pub returns-clause-sound : goal.returns-clause-sound

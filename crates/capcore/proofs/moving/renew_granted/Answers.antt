@@ -1,9 +1,6 @@
 use Rattle.std.proofs.Common.{◌≡◌, ◌==◌, ◌&&◌, is_some, true, false, Some, refl, ap, ◌∙◌}
-use Rattle.capcore.proofs.Common.{Scene}
-use Rattle.captable.specs.Known.{permitted_of}
-use Rattle.capsteps.specs.Lockmachine.Policy.{permitted}
 use Rattle.capsteps.specs.Capacts.Renewing.{has_entry}
-use Rattle.capcore.proofs.Granted.{ended-permitted, marked-permitted, other-permitted}
+use Rattle.capcore.proofs.{Common.{permitted, permitted_of, Scene}, Granted.{ended-permitted, marked-permitted, other-permitted}}
 use Rattle.capcore.proofs.moving.renew_granted.Goals as goal
 
 pub returns-in-Regrant-clause-permitted : goal.returns-in-Regrant-clause-permitted

@@ -1,8 +1,5 @@
-use Rattle.std.proofs.Common.{rules, ◌≡◌, ◌==◌, ◌||◌, [], arith, get_or, ap, subst, ◌∙◌}
-use Rattle.std.specs.List.{list_any}
-use Rattle.std.proofs.lemmas.List.{take_all}
-use Rattle.capnotes.specs.DueEndings.{AreEndsOf, is_end_of}
-use Rattle.capnotes.proofs.EndNumbers.{told-more}
+use Rattle.std.{proofs.Common.{rules, ◌≡◌, ◌==◌, ◌||◌, [], arith, get_or, ap, subst, ◌∙◌}, proofs.lemmas.List.{take_all}, specs.List.{list_any}}
+use Rattle.capnotes.{proofs.EndNumbers.{told-more}, specs.DueEndings.{AreEndsOf, is_end_of}}
 use Rattle.capnotes.proofs.ended_tickets.ended_numbers.Goals as goal
 
 pub loop-message-init : goal.loop-message-init

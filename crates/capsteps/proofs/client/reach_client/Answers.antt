@@ -1,5 +1,4 @@
-use Rattle.capacts.proofs.InoSets.{widens-then}
-use Rattle.capsteps.proofs.Among.{affected-still, none-of_it}
+use Rattle.capsteps.proofs.{Among.{affected-still, none-of_it}, Common.{widens-then}}
 use Rattle.capsteps.proofs.client.reach_client.Goals as goal
 
 pub returns : goal.returns

@@ -1,7 +1,6 @@
 use Rattle.std.proofs.Common.{Contains, List, suc, sym, subst, arith}
-use Rattle.capsteps.proofs.Common.{EntryRow, is_of_client, contains-filter, filter-contains}
-use Rattle.capacts.proofs.InoSets.{widens-none, widens-then}
-use Rattle.capsteps.proofs.Among.{first-reached, more-reached, all-reached}
+use Rattle.capacts.proofs.InoSets.{widens-none}
+use Rattle.capsteps.proofs.{Among.{first-reached, more-reached, all-reached}, Common.{contains-filter, EntryRow, filter-contains, is_of_client, widens-then}}
 use Rattle.capsteps.proofs.client.reach_entries.Goals as goal
 
 pub rows-init : goal.rows-init

@@ -1,6 +1,5 @@
 use Rattle.std.proofs.Common.{Contains, length}
-use Rattle.capsteps.proofs.Common.{EntryRow, Widens}
-use Rattle.capsteps.proofs.Among.{AreReached}
+use Rattle.capsteps.proofs.{Among.{AreReached}, Common.{EntryRow, Widens}}
 use Rattle.capsteps.proofs.client.reach_entries.Given as goal
 
 abbrev pub decreases-rows : goal.decreases-rows

@@ -1,7 +1,6 @@
-use Rattle.std.proofs.Common.{◌≡◌, true}
-use Rattle.capsteps.proofs.Common.{is_affected, Widens}
-use Rattle.std.specs.List.{AllWithin}
+use Rattle.std.{proofs.Common.{◌≡◌, true}, specs.List.{AllWithin}}
 use Rattle.capacts.specs.Lockmachine.Requests.{is_of_client}
+use Rattle.capsteps.proofs.Common.{is_affected, Widens}
 use Rattle.capsteps.proofs.client.reach_requests.Given as goal
 
 abbrev pub invariant-loop-request : goal.invariant-loop-request

@@ -1,8 +1,6 @@
-use Rattle.std.proofs.Common.{◌≡◌, not, length, ap, arith, ◌==◌}
-use Rattle.capsteps.proofs.Common.{Ended}
-use Rattle.std.proofs.lemmas.List.Sums.{length-filter, count_by-le-length}
-use Rattle.std.specs.List.{count_by}
+use Rattle.std.{proofs.Common.{◌≡◌, not, length, ap, arith, ◌==◌}, proofs.lemmas.List.Sums.{length-filter, count_by-le-length}, specs.List.{count_by}}
 use Rattle.capacts.specs.Capnotes.DueEndings.{but_for}
+use Rattle.capsteps.proofs.Common.{Ended}
 use Rattle.capsteps.proofs.ended.close_with.Goals as goal
 
 pub append-requires : goal.append-requires

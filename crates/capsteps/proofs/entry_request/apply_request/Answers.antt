@@ -1,9 +1,6 @@
 use Rattle.std.proofs.Common.{false, inl, refl, sym, ap, subst, ◌∙◌}
-use Rattle.capsteps.proofs.Common.{P, taken, given_back, wanting, table_after}
 use Rattle.capbits.specs.Caps.{has}
-use Rattle.capbits.specs.Sets.{union}
-use Rattle.capacts.specs.Caprules.Direct.{with_want}
-use Rattle.capsteps.proofs.EntryKept.{WasThere, still-kept, there-changed}
+use Rattle.capsteps.{proofs.Common.{given_back, P, taken, union, wanting, with_want}, proofs.EntryKept.{WasThere, still-kept, there-changed}, specs.EntryRequest.{table_after}}
 use Rattle.capsteps.proofs.entry_request.apply_request.Goals as goal
 
 pub returns-in-Want-clause-ok : goal.returns-in-Want-clause-ok

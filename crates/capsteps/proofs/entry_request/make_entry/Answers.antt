@@ -1,6 +1,5 @@
-use Rattle.std.proofs.Common.{Some, sym, ap, subst, ◌∙◌}
-use Rattle.capsteps.proofs.Common.{option_map, Table, Sets, StillKept}
-use Rattle.capsteps.proofs.EntryKept.{kept-but, kept-opened}
+use Rattle.std.{proofs.Common.{Some, sym, ap, subst, ◌∙◌}, specs.Option.{option_map}}
+use Rattle.capsteps.{proofs.Common.{Sets, Table}, proofs.EntryKept.{kept-but, kept-opened}, specs.EntryRequest.{StillKept}}
 use Rattle.capsteps.proofs.entry_request.make_entry.Goals as goal
 
 pub returns-in_err-add-clause-kept : goal.returns-in_err-add-clause-kept

@@ -1,13 +1,8 @@
 use Rattle.std.proofs.Common.{false, ◌≡◌, Some, None, sym, ap, subst, ◌∙◌, Option, is_some, cond, refl}
-use Rattle.capsteps.proofs.Common.{entry_at, Table, wanting, new_entry, opened, Entry, Holder, opening_wants, with_opening, StillKept, OpenMode}
-use Rattle.capbits.specs.Sets.{union, no_caps}
-use Rattle.captable.specs.Calls.{touched}
+use Rattle.capbits.specs.Sets.{no_caps}
 use Rattle.captable.proofs.Changes.{put_found}
-use Rattle.captable.proofs.ByHolder.{entry_at-opened}
-use Rattle.capacts.specs.Caprules.Direct.{with_want}
-use Rattle.capsteps.proofs.EntryKept.{WasThere, kept-itself, kept-on, there-changed}
+use Rattle.capsteps.{proofs.Common.{Entry, entry_at, entry_at-opened, Holder, new_entry, opened, opening_wants, OpenMode, Table, touched, union, wanting, with_opening, with_want}, proofs.EntryKept.{WasThere, kept-itself, kept-on, there-changed}, proofs.entry_request.open.Goals.{in-Some, in-None+in_ok-make_entry-in-None}, specs.EntryRequest.{StillKept}}
 use Rattle.capsteps.proofs.entry_request.open.Goals as goal
-use Rattle.capsteps.proofs.entry_request.open.Goals.{in-Some, in-None+in_ok-make_entry-in-None}
 
 -- What an opening makes of the table, from what its calls did.
 

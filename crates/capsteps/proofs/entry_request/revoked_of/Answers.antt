@@ -1,9 +1,5 @@
 use Rattle.std.proofs.Common.{◌≡◌, Some, None, sym, ap, ◌∙◌}
-use Rattle.capsteps.proofs.Common.{Holder, Sets, sets_of, entry_at}
-use Rattle.capbits.specs.Sets.{minus}
-use Rattle.capacts.proofs.KeptSets.{told-or}
-use Rattle.capsteps.proofs.Knowing.{revoked-known}
-use Rattle.capsteps.proofs.Revoking.{revoked-none}
+use Rattle.capsteps.proofs.{Common.{entry_at, Holder, minus, Sets, sets_of, told-or}, Knowing.{revoked-known}, Revoking.{revoked-none}}
 use Rattle.capsteps.proofs.entry_request.revoked_of.Goals as goal
 
 pub returns-in-Some : goal.returns-in-Some

@@ -1,6 +1,5 @@
-use Rattle.std.proofs.Common.{◌≡◌, ◌≤◌, ◌<◌, sym, List, ◌∷◌, ◌++◌, length, ap, ◌∙◌, arith, length-append}
-use Rattle.capsteps.proofs.Common.{length-map, EntryRow, entries_on, clients_of}
-use Rattle.capsteps.proofs.AtEnd.{few-entries}
+use Rattle.std.proofs.{Common.{◌≡◌, ◌≤◌, ◌<◌, sym, List, ◌∷◌, ◌++◌, length, ap, ◌∙◌, arith, length-append}, lemmas.List.{length-map}}
+use Rattle.capsteps.proofs.{AtEnd.{few-entries}, Common.{clients_of, entries_on, EntryRow}}
 use Rattle.capsteps.proofs.finish.clients_on.Goals as goal
 
 -- the client that comes is one of those that have an entry

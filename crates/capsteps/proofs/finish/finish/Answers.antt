@@ -1,13 +1,9 @@
-use Rattle.std.proofs.Common.{◌≡◌, ◌<◌, ◌||◌, ◌==◌, ℕ, true, false, Option, sym, refl, ap, subst, ◌∙◌, true≢false, IsTrue, All}
-use Rattle.capsteps.proofs.Common.{find, unwrap_or, eqb-true, false_from_ne_true, All-filter, Caps, has_session, Entry, EntryRow, Holder, Table, is_row_of, is_of_inode, entries_on, changed_where, InodeLocks, Scene, scene, told_at, told_by, entry_under, entry_by, InoSet, known_in, ArePermittedIn, is_affected, forget_at, forget_among, kept-as, kept-same, kept-then, kept-not, leads-then}
+use Rattle.std.{proofs.Common.{◌≡◌, ◌<◌, ◌||◌, ◌==◌, ℕ, true, false, Option, sym, refl, ap, subst, ◌∙◌, true≢false, IsTrue, All}, proofs.Math.Bool.{or_comm}, proofs.lemmas.Bool.{eqb-true, false_from_ne_true}, proofs.lemmas.List.Elements.{All-filter}, specs.List.{find}, specs.Option.{unwrap_or}}
 use Rattle.std.specs.FinMap as map
 use Rattle.std.specs.FinSet as set
-use Rattle.std.proofs.Math.Bool.{or_comm}
 use Rattle.capbits.specs.Sets.{no_caps}
 use Rattle.capacts.specs.Finishing.{is_on}
-use Rattle.capsteps.proofs.AtEnd.{entry-alike, forget-all}
-use Rattle.capacts.proofs.KeptSets.{found-stays, was-there}
-use Rattle.capsteps.proofs.ManyInodes.{changed-twice_where, entries_on-stay, holders-stay}
+use Rattle.capsteps.{proofs.AtEnd.{entry-alike, forget-all}, proofs.Common.{Caps, changed_where, entries_on, Entry, entry_by, entry_under, EntryRow, found-stays, has_session, Holder, InodeLocks, InoSet, is_affected, is_of_inode, is_row_of, kept-as, kept-not, kept-same, kept-then, known_in, leads-then, Scene, scene, Table, told_at, told_by, was-there}, proofs.ManyInodes.{changed-twice_where, entries_on-stay, holders-stay}, specs.Affected.{forget_at, forget_among}, specs.Begun.{ArePermittedIn}}
 use Rattle.capsteps.proofs.finish.finish.Goals as goal
 
 pub finish_entries-requires : goal.finish_entries-requires

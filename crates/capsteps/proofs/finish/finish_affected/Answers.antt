@@ -1,13 +1,7 @@
-use Rattle.std.proofs.Common.{◌≡◌, ◌==◌, ◌++◌, eq-eqb, ℕ, ◌<◌, List, [], ◌∷◌, Option, refl, sym, ap, subst, ◌∙◌, IsTrue, All}
-use Rattle.capsteps.proofs.Common.{list_any, unwrap_or, eqb-true, All-filter, Caps, has_session, Entry, EntryRow, Table, is_of_inode, entries_on, InodeLocks, told_at, told_by, entry_under, entry_by, InoSet, IsListOf, known_in, ArePermitted, kept-as}
+use Rattle.std.{proofs.Common.{◌≡◌, ◌==◌, ◌++◌, eq-eqb, ℕ, ◌<◌, List, [], ◌∷◌, Option, refl, sym, ap, subst, ◌∙◌, IsTrue, All}, proofs.lemmas.Bool.{eqb-true}, proofs.lemmas.List.Elements.{All-filter}, proofs.lemmas.Map.Iter.{rest_more, rest_all}, specs.List.{list_any, IsDistinct}, specs.Map.Iter.{deref}, specs.Option.{unwrap_or}}
 use Rattle.std.specs.FinMap as map
-use Rattle.std.specs.List.{IsDistinct}
-use Rattle.std.specs.Map.Iter.{deref}
-use Rattle.std.proofs.lemmas.Map.Iter.{rest_more, rest_all}
 use Rattle.capbits.specs.Sets.{no_caps}
-use Rattle.capsteps.proofs.AtEnd.{entry-alike}
-use Rattle.capacts.proofs.KeptSets.{was-there}
-use Rattle.capsteps.proofs.ManyInodes.{same_number, on, IsFinishing, none-finished, next-finished, next-apart, all-finished, holders-stay, entries_on-stay}
+use Rattle.capsteps.proofs.{AtEnd.{entry-alike}, Common.{ArePermitted, Caps, entries_on, Entry, entry_by, entry_under, EntryRow, has_session, InodeLocks, InoSet, is_of_inode, IsListOf, kept-as, known_in, Table, told_at, told_by, was-there}, ManyInodes.{same_number, on, IsFinishing, none-finished, next-finished, next-apart, all-finished, holders-stay, entries_on-stay}}
 use Rattle.capsteps.proofs.finish.finish_affected.Goals as goal
 
 pub loop-number-init : goal.loop-number-init

@@ -1,6 +1,5 @@
 use Rattle.std.proofs.Common.{◌≡◌}
-use Rattle.capsteps.proofs.Common.{Holder, told_by, entry_by, known_in, permitted_of}
-use Rattle.capsteps.proofs.ManyInodes.{IsFinishing}
+use Rattle.capsteps.proofs.{Common.{entry_by, Holder, known_in, permitted_of, told_by}, ManyInodes.{IsFinishing}}
 use Rattle.capsteps.proofs.finish.finish_affected.Given as goal
 
 abbrev pub invariant-loop-number : goal.invariant-loop-number

@@ -1,15 +1,8 @@
-use Rattle.std.proofs.Common.{◌≡◌, ◌<◌, ◌==◌, Option, sym, ap, subst, ◌∙◌, Bool, true, false, cond, ◌||◌, Some, None, List, [], ◌∷◌, refl, Contains, eq-eqb, true≢false}
-use Rattle.capsteps.proofs.Common.{Caps, All-filter, find, unwrap_or, eqb-true, Entry, EntryRow, Holder, Table, IsTable, same, is_row_of, is_among, entry_of, same-is, is_of_inode, renumbered, changed_by, changed_where, remade, row_found, fold-changed_by, InodeLocks, Scene, scene, told_set, entry_under, told_at, known_in, KnownAnew, KnownSets, known_of, OthersHaveAll, known_anew, forget_among, finished_at, finished_entry, told_then, kept-as}
-use Rattle.capbits.specs.Sets.{no_caps, meet}
+use Rattle.std.{proofs.Common.{◌≡◌, ◌<◌, ◌==◌, Option, sym, ap, subst, ◌∙◌, Bool, true, false, cond, ◌||◌, Some, None, List, [], ◌∷◌, refl, Contains, eq-eqb, true≢false}, proofs.lemmas.Bool.{eqb-true}, proofs.lemmas.List.Elements.{All-filter}, specs.List.{find, IsDistinct}, specs.Option.{unwrap_or}}
 use Rattle.std.specs.FinMap as map
-use Rattle.std.specs.List.{IsDistinct}
-use Rattle.captable.proofs.Searches.{find_passes}
+use Rattle.capbits.specs.Sets.{no_caps}
 use Rattle.capacts.specs.Known.{HasAll}
-use Rattle.capsteps.proofs.AtEnd.{entry-on}
-use Rattle.capsteps.proofs.Finishing.{none-sized, each-alike, same-issue_row, same-renumbered}
-use Rattle.capacts.proofs.Lockmachine.Told.{told-less}
-use Rattle.capsteps.proofs.Knowing.{permitted-some}
-use Rattle.capsteps.proofs.Strays.{forget-one}
+use Rattle.capsteps.{proofs.AtEnd.{entry-on}, proofs.Common.{Caps, changed_by, changed_where, Entry, entry_of, entry_under, EntryRow, find_passes, fold-changed_by, Holder, InodeLocks, is_among, is_of_inode, is_row_of, IsTable, kept-as, known_anew, known_in, known_of, KnownAnew, KnownSets, meet, OthersHaveAll, remade, renumbered, row_found, same, same-is, Scene, scene, Table, told-less, told_at, told_set}, proofs.Finishing.{none-sized, each-alike, same-issue_row, same-renumbered}, proofs.Knowing.{permitted-some}, proofs.Strays.{forget-one}, specs.Affected.{forget_among, finished_at, finished_entry, told_then}}
 use Rattle.capsteps.proofs.finish.finish_alone.Goals as goal
 
 -- Where each other entry on the holder's inode has all, the end of a step at the inode is that of the holder's entry.

@@ -1,14 +1,7 @@
-use Rattle.std.proofs.Common.{◌≡◌, ◌<◌, ◌≤◌, ℕ, ◌+◌, false, ◌||◌, Option, is_some, List, [], ◌∷◌, ◌++◌, length, take, get_or, refl, sym, ap, subst, ◌∙◌, arith, IfSome}
-use Rattle.capsteps.proofs.Common.{fold, unwrap_or, length-map, nil_from_length, take_more, take_all, eqb-true, fold-append, Caps, Entry, EntryRow, Holder, Table, same, holder, is_among, entry_at, holders_of_rows, changed, entries_on, changed_by, same-is, told_at, due_under, entry_under, known_of, known_in, kept-same, kept-then, kept-not}
-use Rattle.std.specs.List.{IsDistinct}
-use Rattle.std.proofs.lemmas.List.{get_or-map}
-use Rattle.std.proofs.lemmas.List.Folds.{list_any_more}
+use Rattle.std.{proofs.Common.{◌≡◌, ◌<◌, ◌≤◌, ℕ, ◌+◌, false, ◌||◌, Option, is_some, List, [], ◌∷◌, ◌++◌, length, take, get_or, refl, sym, ap, subst, ◌∙◌, arith, IfSome}, proofs.lemmas.Bool.{eqb-true}, proofs.lemmas.List.{length-map, nil_from_length, take_more, take_all, get_or-map}, proofs.lemmas.List.Folds.{list_any_more}, proofs.lemmas.List.Sums.{fold-append}, specs.List.{fold, IsDistinct}, specs.Option.{unwrap_or}}
 use Rattle.capbits.specs.Sets.{no_caps}
-use Rattle.captable.proofs.OneByOne.{fold-on_inode}
-use Rattle.capacts.specs.Finishing.{numbered_as}
-use Rattle.capsteps.proofs.AtEnd.{entry-on, yet-unchanged, named, named-clients, distinct-on}
-use Rattle.capacts.proofs.KeptSets.{kept-on, kept-nobody, found-as, not-yet}
-use Rattle.capsteps.proofs.Knowing.{permitted-some}
+use Rattle.capacts.proofs.KeptSets.{kept-on, found-as, not-yet}
+use Rattle.capsteps.proofs.{AtEnd.{entry-on, yet-unchanged, named, named-clients, distinct-on}, Common.{Caps, changed, changed_by, due_under, entries_on, Entry, entry_at, entry_under, EntryRow, fold-on_inode, Holder, holder, holders_of_rows, is_among, kept-nobody, kept-not, kept-same, kept-then, known_in, known_of, numbered_as, same, same-is, Table, told_at}, Knowing.{permitted-some}}
 use Rattle.capsteps.proofs.finish.finish_entries.Goals as goal
 
 -- nobody has an entry on the inode

@@ -1,6 +1,5 @@
-use Rattle.std.proofs.Common.{◌≡◌, take}
-use Rattle.capsteps.proofs.Common.{fold, Holder, permitted_of, is_among, changed_by, told_at, entry_under, known_in, KnownAnew}
-use Rattle.capsteps.proofs.AtEnd.{named}
+use Rattle.std.{proofs.Common.{◌≡◌, take}, specs.List.{fold}}
+use Rattle.capsteps.proofs.{AtEnd.{named}, Common.{changed_by, entry_under, Holder, is_among, known_in, KnownAnew, permitted_of, told_at}}
 use Rattle.capsteps.proofs.finish.finish_entries.Given as goal
 
 abbrev pub invariant-loop-number : goal.invariant-loop-number

@@ -1,7 +1,6 @@
 use Rattle.std.proofs.Common.{◌≡◌, ◌<◌, Option, Some, None, is_some, refl, ap, subst, IfSome}
-use Rattle.capsteps.proofs.Common.{Entry, entry_at, none_found, known_in}
 use Rattle.capacts.specs.Finishing as words
-use Rattle.capacts.proofs.KeptSets.{kept-none}
+use Rattle.capsteps.proofs.Common.{Entry, entry_at, kept-none, known_in, none_found}
 use Rattle.capsteps.proofs.finish.finish_entry.Goals as goal
 
 pub finish_row-requires : goal.finish_row-requires

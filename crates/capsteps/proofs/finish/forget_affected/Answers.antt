@@ -1,9 +1,5 @@
-use Rattle.std.proofs.Common.{◌≡◌, length, ℕ, List, [], ◌∷◌, refl, sym, ap, subst, ◌∙◌, arith}
-use Rattle.capsteps.proofs.Common.{fold, Scene, IsListOf, leads-then}
-use Rattle.std.specs.Map.Iter.{deref}
-use Rattle.std.proofs.lemmas.Map.Iter.{rest_more, rest_all}
-use Rattle.capacts.proofs.Capnotes.Noting.{leads-none}
-use Rattle.capsteps.proofs.Strays.{forget_on, forget-all_of}
+use Rattle.std.{proofs.Common.{◌≡◌, length, ℕ, List, [], ◌∷◌, refl, sym, ap, subst, ◌∙◌, arith}, proofs.lemmas.Map.Iter.{rest_more, rest_all}, specs.List.{fold}, specs.Map.Iter.{deref}}
+use Rattle.capsteps.proofs.{Common.{IsListOf, leads-none, leads-then, Scene}, Strays.{forget_on, forget-all_of}}
 use Rattle.capsteps.proofs.finish.forget_affected.Goals as goal
 
 pub loop-number-init : goal.loop-number-init

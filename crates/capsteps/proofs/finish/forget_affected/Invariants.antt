@@ -1,7 +1,6 @@
-use Rattle.std.proofs.Common.{◌≡◌, ◌≤◌, ◌+◌, length}
-use Rattle.capsteps.proofs.Common.{fold, LeadOn}
+use Rattle.std.{proofs.Common.{◌≡◌, ◌≤◌, ◌+◌, length}, specs.List.{fold}}
 use Rattle.std.specs.FinSet as set
-use Rattle.capsteps.proofs.Strays.{forget_on}
+use Rattle.capsteps.proofs.{Common.{LeadOn}, Strays.{forget_on}}
 use Rattle.capsteps.proofs.finish.forget_affected.Given as goal
 
 -- what is left to do makes of the scene what all makes of the one at first

@@ -1,9 +1,7 @@
-use Rattle.std.proofs.Common.{◌≡◌, Option, Some, sym, ap, ◌∙◌}
-use Rattle.capsteps.proofs.Common.{unwrap_or, Caps, Holder, Table, Sets, sets_of, entry_at, row_of-entry}
+use Rattle.std.{proofs.Common.{◌≡◌, Option, Some, sym, ap, ◌∙◌}, specs.Option.{unwrap_or}}
 use Rattle.capbits.specs.Sets.{no_caps}
 use Rattle.capacts.specs.Capevents.declared.reply.Reply.TheVariants.{Opened}
-use Rattle.capacts.specs.Caprules.Direct.{opened_as}
-use Rattle.capacts.proofs.KeptSets.{told-or}
+use Rattle.capsteps.proofs.Common.{Caps, entry_at, Holder, opened_as, row_of-entry, Sets, sets_of, Table, told-or}
 use Rattle.capsteps.proofs.finish.show.Goals as goal
 
 pub returns-in-Some-clause-answer : goal.returns-in-Some-clause-answer

@@ -1,8 +1,6 @@
 use Rattle.std.proofs.Common.{◌≡◌, ◌++◌, List, [], ◌∷◌, take, sym, ap, ◌∙◌, append_assoc, if◌then◌else◌}
-use Rattle.capsteps.proofs.Common.{EntryRow, Message}
-use Rattle.capacts.specs.Capevents.declared.outcome.Message.TheVariants.{Recall}
-use Rattle.capacts.specs.Caprules.Messages.{caps_messages, size_messages, recall_messages}
-use Rattle.capsteps.proofs.Polling.{take-take_append}
+use Rattle.capacts.specs.{Capevents.declared.outcome.Message.TheVariants.{Recall}, Caprules.Messages.{caps_messages, size_messages, recall_messages}}
+use Rattle.capsteps.proofs.{Common.{EntryRow, Message}, Polling.{take-take_append}}
 use Rattle.capsteps.proofs.poll.add_due.Goals as goal
 
 pub returns-in_ok-add : goal.returns-in_ok-add

@@ -1,6 +1,5 @@
-use Rattle.std.proofs.Common.{◌≡◌, ◌≤◌, ◌<◌, [], ◌++◌, ◌||◌, append-nil, Contains, zero, suc, take, length, filter, refl, sym, ap, subst, ◌∙◌, arith, List}
-use Rattle.capsteps.proofs.Common.{nil_from_length, EntryRow, is_of_client, is_due, contains-filter, filter-contains, Message, end_messages}
-use Rattle.capsteps.proofs.Polling.{IsListed, due_of, take-take_append, few-more, listed-more, listed-all, listed-full, listed-first, listed-done, left-behind, known-row}
+use Rattle.std.proofs.{Common.{◌≡◌, ◌≤◌, ◌<◌, [], ◌++◌, ◌||◌, append-nil, Contains, zero, suc, take, length, filter, refl, sym, ap, subst, ◌∙◌, arith, List}, lemmas.List.{nil_from_length}}
+use Rattle.capsteps.proofs.{Common.{contains-filter, end_messages, EntryRow, filter-contains, is_due, is_of_client, Message}, Polling.{IsListed, due_of, take-take_append, few-more, listed-more, listed-all, listed-full, listed-first, listed-done, left-behind, known-row}}
 use Rattle.capsteps.proofs.poll.due_messages.Goals as goal
 
 pub rows-init : goal.rows-init

@@ -1,6 +1,5 @@
 use Rattle.std.proofs.Common.{◌≡◌, ◌≤◌, true, Contains, filter, length}
-use Rattle.capsteps.proofs.Common.{EntryRow, is_due, Scene, AreKnown, end_messages}
-use Rattle.capsteps.proofs.Polling.{IsListed}
+use Rattle.capsteps.proofs.{Common.{AreKnown, end_messages, EntryRow, is_due, Scene}, Polling.{IsListed}}
 use Rattle.capsteps.proofs.poll.due_messages.Given as goal
 
 abbrev pub decreases-rows : goal.decreases-rows

@@ -1,7 +1,5 @@
-use Rattle.std.proofs.Common.{◌≡◌, ◌+◌, ◌++◌, [], ◌∷◌, take, ap, sym, subst, ◌∙◌}
-use Rattle.capsteps.proofs.Common.{take_more, take_all, IsTable, is_of_client, changed_where, after_messages}
-use Rattle.capsteps.proofs.ManyInodes.{table-where}
-use Rattle.capsteps.proofs.Polling.{given-none, given-more}
+use Rattle.std.proofs.{Common.{◌≡◌, ◌+◌, ◌++◌, [], ◌∷◌, take, ap, sym, subst, ◌∙◌}, lemmas.List.{take_more, take_all}}
+use Rattle.capsteps.proofs.{Common.{after_messages, changed_where, is_of_client, IsTable}, ManyInodes.{table-where}, Polling.{given-none, given-more}}
 use Rattle.capsteps.proofs.poll.give.Goals as goal
 
 pub loop-message-init : goal.loop-message-init

@@ -1,5 +1,5 @@
 use Rattle.std.proofs.Common.{◌≡◌, take}
-use Rattle.capsteps.proofs.Common.{is_of_client, changed_where, after_messages}
+use Rattle.capsteps.proofs.Common.{after_messages, changed_where, is_of_client}
 use Rattle.capsteps.proofs.poll.give.Given as goal
 
 abbrev pub invariant-loop-message : goal.invariant-loop-message

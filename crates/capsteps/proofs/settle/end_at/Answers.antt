@@ -1,6 +1,5 @@
 use Rattle.std.proofs.Common.{subst, List}
-use Rattle.capsteps.proofs.Common.{Ino, Scene, is_affected, EndsAt, leads-then}
-use Rattle.capsteps.proofs.NobodyServed.{settled-ends, settled-may}
+use Rattle.capsteps.{proofs.Common.{Ino, is_affected, leads-then, Scene}, proofs.NobodyServed.{settled-ends, settled-may}, specs.Serves.{EndsAt}}
 use Rattle.capsteps.proofs.settle.end_at.Goals as goal
 
 pub returns-clause-ends : goal.returns-clause-ends

@@ -1,9 +1,6 @@
-use Rattle.std.proofs.Common.{◌==◌, ℕ, Bool, List, [], sym, ap, subst, ◌∙◌, arith}
-use Rattle.capsteps.proofs.Common.{nat_cmp, Ino, Scene, InoSet, is_affected, EndsAt, EndsWith, none-there, leads-then}
+use Rattle.std.{proofs.Common.{◌==◌, ℕ, Bool, List, [], sym, ap, subst, ◌∙◌, arith}, specs.Ordering.{nat_cmp}}
 use Rattle.std.specs.FinSet as set
-use Rattle.capsteps.specs.Begun.{MaySettle}
-use Rattle.capsteps.proofs.Among.{affected-alone}
-use Rattle.capsteps.proofs.NobodyServed.{others-still, settled-ends, settled-may, settles-alone}
+use Rattle.capsteps.{proofs.Among.{affected-alone}, proofs.Common.{Ino, InoSet, is_affected, leads-then, none-there, Scene}, proofs.NobodyServed.{others-still, settled-ends, settled-may, settles-alone}, specs.Begun.{MaySettle}, specs.Serves.{EndsAt, EndsWith}}
 use Rattle.capsteps.proofs.settle.end_at_entry.Goals as goal
 
 pub settle-affected-requires-clause-settles : goal.settle-affected-requires-clause-settles

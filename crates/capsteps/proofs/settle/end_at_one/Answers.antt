@@ -1,8 +1,6 @@
-use Rattle.std.proofs.Common.{ℕ, Bool, sym, ap, subst, ◌∙◌, arith}
-use Rattle.capsteps.proofs.Common.{nat_cmp, InoSet, EndsWith, none-there}
+use Rattle.std.{proofs.Common.{ℕ, Bool, sym, ap, subst, ◌∙◌, arith}, specs.Ordering.{nat_cmp}}
 use Rattle.std.specs.FinSet as set
-use Rattle.capsteps.specs.Begun.{MaySettle}
-use Rattle.capsteps.proofs.Among.{affected-alone}
+use Rattle.capsteps.{proofs.Among.{affected-alone}, proofs.Common.{InoSet, none-there}, specs.Begun.{MaySettle}, specs.Serves.{EndsWith}}
 use Rattle.capsteps.proofs.settle.end_at_one.Goals as goal
 
 pub end_at-requires-clause-settles : goal.end_at-requires-clause-settles

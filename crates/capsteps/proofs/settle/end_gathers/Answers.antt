@@ -1,10 +1,8 @@
 use Rattle.std.proofs.Common.{◌≡◌, ◌<◌, ℕ, Bool, List, false, refl, subst, ◌∙◌}
-use Rattle.capsteps.proofs.Common.{Part, Nodes, SessionTable, may_end_by, scene, WaitAt, is_affected, IsSwept, IsNextOf}
 use Rattle.std.specs.FinMap as map
 use Rattle.capacts.proofs.Lockmachine.Ending.{ends-little}
-use Rattle.capsteps.proofs.Sweeping.{fewer_behind, swept-begins, swept-on, ends-passed, same-elsewhere}
+use Rattle.capsteps.{proofs.Common.{is_affected, may_end_by, Nodes, Part, scene, SessionTable, WaitAt}, proofs.Sweeping.{fewer_behind, swept-begins, swept-on, ends-passed, same-elsewhere}, proofs.settle.end_gathers.Goals.{After-end_gathers_at}, specs.Sweep.{IsSwept, IsNextOf}}
 use Rattle.capsteps.proofs.settle.end_gathers.Goals as goal
-use Rattle.capsteps.proofs.settle.end_gathers.Goals.{After-end_gathers_at}
 
 pub inodes-init : goal.inodes-init
 inodes-init c = let least = c.lowest-at.ensures in record {

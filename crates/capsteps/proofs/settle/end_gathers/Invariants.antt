@@ -1,7 +1,6 @@
 use Rattle.std.proofs.Common.{◌≡◌, ◌<◌, ℕ, List, true, false}
-use Rattle.capsteps.proofs.Common.{Part, Nodes, SessionTable, may_end_by, scene, WaitAt, is_affected, IsSwept}
 use Rattle.std.specs.FinMap as map
-use Rattle.capsteps.proofs.Sweeping.{behind}
+use Rattle.capsteps.{proofs.Common.{is_affected, may_end_by, Nodes, Part, scene, SessionTable, WaitAt}, proofs.Sweeping.{behind}, specs.Sweep.{IsSwept}}
 use Rattle.capsteps.proofs.settle.end_gathers.Given as goal
 
 abbrev pub decreases-inodes : goal.decreases-inodes

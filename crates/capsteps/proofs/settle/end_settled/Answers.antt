@@ -1,8 +1,5 @@
 use Rattle.std.proofs.Common.{◌<◌, sym, ap, subst, ◌∙◌, IsTrue}
-use Rattle.capsteps.proofs.Common.{has_session, Table, Scene, is_sized, owed, is_affected, known_in, KnownAnew, MayEnd, told_then, finished_at}
-use Rattle.capacts.proofs.KeptSets.{was-there}
-use Rattle.capsteps.proofs.ManyInodes.{holders-stay}
-use Rattle.capsteps.proofs.SizesOwed.{owed-numbers}
+use Rattle.capsteps.{proofs.Common.{has_session, is_affected, is_sized, known_in, KnownAnew, owed, Scene, Table, was-there}, proofs.ManyInodes.{holders-stay}, proofs.SizesOwed.{owed-numbers}, specs.Affected.{told_then, finished_at}, specs.Begun.{MayEnd}}
 use Rattle.capsteps.proofs.settle.end_settled.Goals as goal
 
 pub finish-requires-clause-entries : goal.finish-requires-clause-entries

@@ -1,13 +1,11 @@
-use Rattle.std.proofs.Common.{length, sym, ◌∙◌, ◌≡◌, true, Option, Some, None, refl, ap, true≢false}
-use Rattle.capsteps.proofs.Common.{InodeLocks, LockState, Stable, Gather, and_parts, eqb-true, nil_from_length}
-use Rattle.locktable.specs.declared.states.State.{State}
-use Rattle.locktable.specs.declared.states.State.TheVariants.{Sync, Lock, Mix, Excl}
+use Rattle.std.{proofs.Common.{length, sym, ◌∙◌, ◌≡◌, true, Option, Some, None, refl, ap, true≢false}, proofs.lemmas.Bool.{eqb-true}, proofs.lemmas.List.{nil_from_length}, specs.Option.{option_eq}}
 use Rattle.capbits.specs.Sets.{true_eq}
-use Rattle.std.specs.Option.{option_eq}
-use Rattle.capsteps.proofs.settle.is_as_before.Goals as goal
+use Rattle.locktable.specs.declared.{states.State.{State}, states.State.TheVariants.{Lock, Mix, Excl}}
 use Rattle.locktable.specs.contracts.states.LockStatePartialEq.TheImpl as lock_states
 use Rattle.locktable.specs.contracts.states.StatePartialEq.TheImpl as states
 use Rattle.capacts.specs.Lockmachine.contracts.states.InodeLocksPartialEq.TheImpl as inode_locks
+use Rattle.capsteps.proofs.Common.{and_parts, Gather, InodeLocks, LockState, Stable, Sync}
+use Rattle.capsteps.proofs.settle.is_as_before.Goals as goal
 
 -- Locks of an inode that are compared as equal are the same.
 

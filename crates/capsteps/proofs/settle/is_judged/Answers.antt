@@ -1,5 +1,5 @@
-use Rattle.std.proofs.Common.{ℕ, Option, Some, ap, ◌∙◌}
-use Rattle.capsteps.proofs.Common.{eqb-true, Ticket}
+use Rattle.std.proofs.{Common.{ℕ, Option, Some, ap, ◌∙◌}, lemmas.Bool.{eqb-true}}
+use Rattle.capsteps.proofs.Common.{Ticket}
 use Rattle.capsteps.proofs.settle.is_judged.Goals as goal
 
 pub returns-in-Some : goal.returns-in-Some

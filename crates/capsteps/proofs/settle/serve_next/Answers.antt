@@ -1,11 +1,6 @@
-use Rattle.std.proofs.Common.{◌≡◌, ◌++◌, ◌∷◌, [], ◌⊎◌, inl, inr, false, Option, Some, Result, Ok, Err, is_ok, OnOk, refl, sym, ap, subst, ◌∙◌}
-use Rattle.capsteps.proofs.Common.{Ino, Nodes, IsAlike, Table, Scene, Request, HaveRoom, ArePermitted, InoSet, Ended, Outcome, Served, Serves}
-use Rattle.std.specs.List.{filter_map}
-use Rattle.capacts.specs.Caprules.Settle.{sized_by}
-use Rattle.capacts.specs.Reach.{Covers}
-use Rattle.capacts.specs.Renewing.{ServedFrom}
-use Rattle.capacts.proofs.Renewed.{room-permitted}
-use Rattle.capsteps.proofs.OneChange.{alike-apart}
+use Rattle.std.{proofs.Common.{◌≡◌, ◌++◌, ◌∷◌, [], ◌⊎◌, inl, inr, false, Option, Some, Result, Ok, Err, is_ok, OnOk, refl, sym, ap, subst, ◌∙◌}, specs.List.{filter_map}}
+use Rattle.capacts.{proofs.Renewed.{room-permitted}, specs.Known.{HaveRoom}, specs.Renewing.{ServedFrom}}
+use Rattle.capsteps.{proofs.Common.{ArePermitted, Covers, Ended, Ino, InoSet, IsAlike, Nodes, Outcome, Request, Scene, Served, sized_by, Table}, proofs.OneChange.{alike-apart}, specs.Serves.{Serves}}
 use Rattle.capsteps.proofs.settle.serve_next.Goals as goal
 
 pub serve-served-requires-clause-judged : goal.serve-served-requires-clause-judged

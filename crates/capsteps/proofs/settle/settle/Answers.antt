@@ -1,21 +1,7 @@
-use Rattle.std.proofs.Common.{◌≡◌, ◌<◌, ◌≤◌, ◌+◌, ◌++◌, ◌∷◌, [], ℕ, Bool, true, false, cond, ◌&&◌, length, List, Option, Some, None, Contains, refl, sym, ap, subst, ◌∙◌, arith, inl, inr}
-use Rattle.capsteps.proofs.Common.{length-append, ArePermittedIn, Ino, IsTree, Nodes, Table, Request, Serve, IsLockMap, lock_at, Scene, served-at, Ended, Outcome, LeadOn, is_affected, Serves, Served, sized_in, IsSwept, StandsAt, leads-then, IsJudged, InoSet, tree_after}
-use Rattle.std.specs.List.{filter_map}
-use Rattle.capacts.specs.Lockmachine.Locks.{request_at}
-use Rattle.capacts.specs.Lockmachine.Moves.{first_move}
-use Rattle.capacts.proofs.Lockmachine.Exact.{ends_not}
-use Rattle.capacts.specs.declared.sweep.SweepPlace.{SweepPlace}
-use Rattle.capacts.specs.Reach.{AreWalked, Reaches, Covers}
-use Rattle.capacts.specs.Caprules.Settle.{sets_size, is_done}
-use Rattle.capsteps.specs.Sweep.{GoesOn, GoesOnBehind}
-use Rattle.capacts.proofs.Capnotes.Noting.{leads-none}
-use Rattle.capsteps.proofs.Judged.{none-judged, still-judged}
-use Rattle.capsteps.proofs.Moved.{moved-all, tree-moved}
-use Rattle.capsteps.proofs.SoFar.{IsSoFar, so-far-begins, so-far-served, so-far-settled, so-far-swept, stands-behind, stands-first, turn-of_least}
-use Rattle.capsteps.proofs.OneChange.{within-after}
-use Rattle.capacts.proofs.Walked.{none-walked}
+use Rattle.std.{proofs.Common.{◌≡◌, ◌<◌, ◌≤◌, ◌+◌, ◌++◌, ◌∷◌, [], ℕ, Bool, true, false, cond, ◌&&◌, length, List, Option, Some, None, Contains, refl, sym, ap, subst, ◌∙◌, arith, inl, inr}, proofs.lemmas.List.{length-append}, specs.List.{filter_map}}
+use Rattle.capacts.{proofs.Walked.{none-walked}, specs.Caprules.Settle.{sets_size, is_done}}
+use Rattle.capsteps.{proofs.Common.{AreWalked, Covers, Ended, ends_not, first_move, Ino, InoSet, is_affected, IsLockMap, IsTree, LeadOn, leads-none, leads-then, lock_at, Nodes, Outcome, Reaches, Request, request_at, Scene, Serve, Served, served-at, sized_in, SweepPlace, Table, tree_after}, proofs.Judged.{none-judged, still-judged}, proofs.Moved.{moved-all, tree-moved}, proofs.OneChange.{within-after}, proofs.SoFar.{IsSoFar, so-far-begins, so-far-served, so-far-settled, so-far-swept, stands-behind, stands-first, turn-of_least}, proofs.settle.settle.Goals.{In-Some, After-place_behind-place}, specs.Begun.{ArePermittedIn}, specs.Judged.{IsJudged}, specs.Serves.{Serves}, specs.Sweep.{IsSwept, StandsAt, GoesOn, GoesOnBehind}}
 use Rattle.capsteps.proofs.settle.settle.Goals as goal
-use Rattle.capsteps.proofs.settle.settle.Goals.{In-Some, After-place_behind-place}
 
 -- What a rename walked over in a step is affected until its end.
 

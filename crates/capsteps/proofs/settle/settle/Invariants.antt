@@ -1,9 +1,6 @@
 use Rattle.std.proofs.Common.{◌≡◌, ◌≤◌, ◌+◌, length, vec_capacity}
-use Rattle.capsteps.proofs.Common.{Holder, known_of, ArePermittedIn, LeadOn, is_affected, IsJudged, StandsAt}
-use Rattle.capacts.specs.Capnotes.Noted.{HavePlaces}
-use Rattle.capacts.specs.Reach.{AreWalked}
-use Rattle.capacts.specs.Capnotes.DueEndings.{HasRoom}
-use Rattle.capsteps.proofs.SoFar.{IsSoFar}
+use Rattle.capacts.specs.Capnotes.{DueEndings.{HasRoom}, Noted.{HavePlaces}}
+use Rattle.capsteps.{proofs.Common.{AreWalked, Holder, is_affected, known_of, LeadOn}, proofs.SoFar.{IsSoFar}, specs.Begun.{ArePermittedIn}, specs.Judged.{IsJudged}, specs.Sweep.{StandsAt}}
 use Rattle.capsteps.proofs.settle.settle.Given as goal
 
 abbrev pub decreases-servings : goal.decreases-servings

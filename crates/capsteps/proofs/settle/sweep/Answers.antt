@@ -1,11 +1,7 @@
 use Rattle.std.proofs.Common.{sym, subst}
-use Rattle.capsteps.proofs.Common.{Scene, ArePermittedIn, is_affected, AreStill, IsNextOf, IsSwept, StandsAt}
-use Rattle.capacts.specs.Lockmachine.Runs.{MoveLittle}
-use Rattle.capacts.specs.Lockmachine.Turns.{IsDue}
-use Rattle.capacts.proofs.Lockmachine.Alone.{nobody-done, nobody-kept}
-use Rattle.capsteps.proofs.Sweeping.{fewer_behind, last-turn, next-turn, still-kept, swept-on}
+use Rattle.capacts.{proofs.Lockmachine.Alone.{nobody-done, nobody-kept}, specs.Lockmachine.Turns.{IsDue}}
+use Rattle.capsteps.{proofs.Common.{is_affected, MoveLittle, Scene}, proofs.Sweeping.{fewer_behind, last-turn, next-turn, still-kept, swept-on}, proofs.settle.sweep.Goals.{After-advance}, specs.Begun.{ArePermittedIn}, specs.Sweep.{AreStill, IsNextOf, IsSwept, StandsAt}}
 use Rattle.capsteps.proofs.settle.sweep.Goals as goal
-use Rattle.capsteps.proofs.settle.sweep.Goals.{After-advance}
 
 module _ (c : After-advance) where
   abbrev first : Scene

@@ -1,5 +1,4 @@
-use Rattle.capsteps.proofs.Common.{is_affected, IsSwept, StandsAt}
-use Rattle.capsteps.proofs.Sweeping.{behind}
+use Rattle.capsteps.{proofs.Common.{is_affected}, proofs.Sweeping.{behind}, specs.Sweep.{IsSwept, StandsAt}}
 use Rattle.capsteps.proofs.settle.sweep.Given as goal
 
 abbrev pub decreases-inodes : goal.decreases-inodes

@@ -1,8 +1,5 @@
-use Rattle.std.proofs.Common.{◌≡◌, ◌<◌, ◌≤◌, ℕ, ◌+◌, List, [], ◌∷◌, ◌++◌, length, take, get_or, sym, ap, ◌∙◌, arith}
-use Rattle.capsteps.proofs.Common.{fold, length-map, take_more, take_all, fold-append, Holder, Table, holder, holders_of_rows, entries_on, changed_by, owed}
-use Rattle.std.proofs.lemmas.List.{get_or-map}
-use Rattle.captable.proofs.OneByOne.{fold-on_inode}
-use Rattle.capsteps.proofs.AtEnd.{named, named-clients}
+use Rattle.std.{proofs.Common.{◌≡◌, ◌<◌, ◌≤◌, ℕ, ◌+◌, List, [], ◌∷◌, ◌++◌, length, take, get_or, sym, ap, ◌∙◌, arith}, proofs.lemmas.List.{length-map, take_more, take_all, get_or-map}, proofs.lemmas.List.Sums.{fold-append}, specs.List.{fold}}
+use Rattle.capsteps.proofs.{AtEnd.{named, named-clients}, Common.{changed_by, entries_on, fold-on_inode, Holder, holder, holders_of_rows, owed, Table}}
 use Rattle.capsteps.proofs.sizes.owe_on.Goals as goal
 
 pub loop-number-preserved : goal.loop-number-preserved

@@ -1,6 +1,5 @@
-use Rattle.std.proofs.Common.{◌≡◌, take}
-use Rattle.capsteps.proofs.Common.{fold, changed_by, owed}
-use Rattle.capsteps.proofs.AtEnd.{named}
+use Rattle.std.{proofs.Common.{◌≡◌, take}, specs.List.{fold}}
+use Rattle.capsteps.proofs.{AtEnd.{named}, Common.{changed_by, owed}}
 use Rattle.capsteps.proofs.sizes.owe_on.Given as goal
 
 abbrev pub invariant-loop-number : goal.invariant-loop-number

@@ -1,7 +1,6 @@
-use Rattle.std.proofs.Common.{◌≡◌, ◌+◌, ◌++◌, List, [], ◌∷◌, take, get_or, sym, ap, subst, ◌∙◌, Bool, true, false, cond, ◌||◌, map, refl, IsTrue, All}
-use Rattle.capsteps.proofs.Common.{take_more, take_all, map-id, list_any-append, Ino, Fc, has_session, Table, is_of_inode, with_size_due, changed_where, remade, Entry, EntryRow, is_sized, owed}
+use Rattle.std.proofs.{Common.{◌≡◌, ◌+◌, ◌++◌, List, [], ◌∷◌, take, get_or, sym, ap, subst, ◌∙◌, Bool, true, false, cond, ◌||◌, map, refl, IsTrue, All}, lemmas.List.{take_more, take_all, map-id}, lemmas.List.Folds.{list_any-append}}
 use Rattle.capbits.specs.Caps.{has}
-use Rattle.capsteps.proofs.ManyInodes.{holders-stay}
+use Rattle.capsteps.proofs.{Common.{changed_where, Entry, EntryRow, Fc, has_session, Ino, is_of_inode, is_sized, owed, remade, Table, with_size_due}, ManyInodes.{holders-stay}}
 use Rattle.capsteps.proofs.sizes.owe_sizes.Goals as goal
 
 -- Entries on several inodes that are to be told a size, one inode after another: as all at once, since being told twice is being told.

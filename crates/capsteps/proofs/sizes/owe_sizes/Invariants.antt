@@ -1,5 +1,5 @@
 use Rattle.std.proofs.Common.{◌≡◌, take, IsTrue, All}
-use Rattle.capsteps.proofs.Common.{has_session, changed_where, is_sized, owed}
+use Rattle.capsteps.proofs.Common.{changed_where, has_session, is_sized, owed}
 use Rattle.capsteps.proofs.sizes.owe_sizes.Given as goal
 
 abbrev pub invariant-loop-ino : goal.invariant-loop-ino

@@ -1,8 +1,5 @@
 use Rattle.std.proofs.Common.{length, [], refl, sym, ap, subst, ◌∙◌, arith}
-use Rattle.capcore.proofs.Common.{has_list, reply_of, State, answer_of}
-use Rattle.capcore.specs.declared.parts.Answer.{Answer}
-use Rattle.capcore.specs.UnderWay.{HasPlaces}
-use Rattle.capcore.proofs.EntryWhole.{no_list-request, request-reply}
+use Rattle.capcore.{proofs.Common.{has_list, reply_of, State}, proofs.EntryWhole.{no_list-request, request-reply}, specs.UnderWay.{answer_of, HasPlaces}, specs.declared.parts.Answer.{Answer}}
 use Rattle.capcore.proofs.parts.Parts.close.Goals as goal
 
 pub close_dropped-requires-clause-list : goal.close_dropped-requires-clause-list

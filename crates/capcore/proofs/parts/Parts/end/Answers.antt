@@ -1,7 +1,5 @@
 use Rattle.std.proofs.Common.{subst}
-use Rattle.capcore.specs.declared.parts.Affected.{Affected}
-use Rattle.capcore.specs.declared.parts.Affected.TheVariants.{Entry, Inode, Others}
-use Rattle.capcore.specs.UnderWay.{IsReady}
+use Rattle.capcore.specs.{UnderWay.{IsReady}, declared.parts.Affected.{Affected}, declared.parts.Affected.TheVariants.{Entry, Inode, Others}}
 use Rattle.capcore.proofs.parts.Parts.end.Goals as goal
 
 pub end_at_entry-requires : goal.end_at_entry-requires

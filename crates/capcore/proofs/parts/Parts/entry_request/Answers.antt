@@ -1,16 +1,6 @@
 use Rattle.std.proofs.Common.{Some, ◌≡◌, length, refl, sym, ap, subst, ◌∙◌, arith}
-use Rattle.capcore.proofs.Common.{Caps, IsSubset, Entry, Holder, Table, IsTable, entry_at, Scene, StillKnown, Event, State, Direct, direct, effect, effect_unless, revoked_of, AffectsOne, view_of, entry_event, changes-still, room-for, none-judged, Parts}
-use Rattle.capbits.specs.Refusal.{first_failing}
-use Rattle.capsteps.specs.Begun.{ArePermittedIn}
-use Rattle.capsteps.specs.EntryRequest.{table_after}
-use Rattle.capsteps.proofs.Knowing.{held_at, still-all}
-use Rattle.capsteps.proofs.EntryKept.{request-less, others-have_all}
-use Rattle.capsteps.proofs.EntryRequests.{below-of_request, keeps-of_request, table-of_request, affected-state, affected-tests, affects-affected}
-use Rattle.capcore.specs.declared.parts.Affected.TheVariants as affected
-use Rattle.capcore.specs.declared.parts.Answer.TheVariants.{Touched}
-use Rattle.capcore.specs.UnderWay.{IsWhole, state_of}
-use Rattle.capcore.proofs.Begun.{on_err, one-begun}
-use Rattle.capcore.proofs.EntryWhole.{effect-answer}
+use Rattle.capsteps.{proofs.EntryKept.{request-less, others-have_all}, proofs.EntryRequests.{below-of_request, keeps-of_request, table-of_request, affected-state, affected-tests, affects-affected}, proofs.Knowing.{still-all}, specs.EntryRequest.{table_after}}
+use Rattle.capcore.{proofs.Begun.{on_err, one-begun}, proofs.Common.{AffectsOne, ArePermittedIn, Caps, changes-still, Direct, direct, effect, effect_unless, Entry, entry_at, entry_event, Event, first_failing, held_at, Holder, IsSubset, IsTable, none-judged, revoked_of, room-for, Scene, State, StillKnown, Table, view_of}, proofs.EntryWhole.{effect-answer}, specs.UnderWay.{IsWhole, state_of}, specs.declared.parts.Affected.{Affected}, specs.declared.parts.Answer.TheVariants.{Touched}, specs.declared.parts.Parts.{Parts}}
 use Rattle.capcore.proofs.parts.Parts.entry_request.Goals as goal
 
 pub apply_request-requires-clause-passed : goal.apply_request-requires-clause-passed
@@ -60,7 +50,7 @@ returns-clause-begun c =
     let begun = c.in_ok-begin.ensures in
     let none = ap length begun.changes.0 in
     one-begun p q e k may (effect old e) by_itself (keeps-of_request old k request) (λ count given. below-of_request count old k request given) (is ∙ ap (λ (d : Direct). d.state.scene) by_itself) refl
-    (affected.Entry k) (Touched k request) refl (sym (effect-answer old k.client k.ino request)) refl refl (subst (AffectsOne k.ino.0 old) (sym is) (affects-affected old k request may.whole.0 may.table may.passed))
+    (Affected.Entry k) (Touched k request) refl (sym (effect-answer old k.client k.ino request)) refl refl (subst (AffectsOne k.ino.0 old) (sym is) (affects-affected old k request may.whole.0 may.table may.passed))
     (subst (λ (s : Scene). IsTable s.table) (sym is) (table-of_request old k request may.table may.passed)) c.apply_request.ensures.kept.known (c.apply_request.ensures.kept.permitted may.whole.2.1)
     (subst (λ (t : Table). (j : Holder) (f : Entry) → entry_at t j ≡ Some f → IsSubset f.held (held_at p.scene.table j)) (sym made) (request-less p.scene.table k revoked request)) may.tree may.order
     (room-for q.endings q.endings.changes q.endings.judged c.waiting-waiting.result (length p.scene.locks.queue) begun.room (omega (arith, c.waiting-waiting.ensures.waiting)))

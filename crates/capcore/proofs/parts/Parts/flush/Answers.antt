@@ -1,14 +1,6 @@
 use Rattle.std.proofs.Common.{is_some, ◌≡◌, length, refl, sym, ap, subst, arith}
-use Rattle.capcore.proofs.Common.{IsTree, Holder, Table, IsTable, Event, direct, says, AffectsOne, HoldAlike, alike-less, still-there, room-for, none-judged, Parts}
-use Rattle.capsteps.specs.Capevents.declared.event.Event.TheVariants as event
-use Rattle.capsteps.specs.Capevents.declared.reply.Reply.TheVariants as reply
-use Rattle.capsteps.specs.Caprules.Direct.{with_flush}
 use Rattle.capsteps.proofs.Capnotes.Noting.{changes-all}
-use Rattle.capcore.specs.declared.parts.Affected.TheVariants as affected
-use Rattle.capcore.specs.declared.parts.Answer.TheVariants.{Done}
-use Rattle.capcore.specs.UnderWay.{state_of}
-use Rattle.capcore.proofs.Begun.{on_err, one-begun}
-use Rattle.capcore.proofs.Flushed.{below-of_flush, flush-calls, flush-direct, flush-table, flush-affects, flush-tree}
+use Rattle.capcore.{proofs.Begun.{on_err, one-begun}, proofs.Common.{AffectsOne, alike-less, direct, Event, HoldAlike, Holder, IsTable, IsTree, none-judged, Reply, room-for, says, still-there, Table, with_flush}, proofs.Flushed.{below-of_flush, flush-calls, flush-direct, flush-table, flush-affects, flush-tree}, specs.UnderWay.{state_of}, specs.declared.parts.Affected.{Affected}, specs.declared.parts.Answer.TheVariants.{Done}, specs.declared.parts.Parts.{Parts}}
 use Rattle.capcore.proofs.parts.Parts.flush.Goals as goal
 
 pub alter-requires : goal.alter-requires
@@ -26,17 +18,17 @@ returns-clause-begun c =
     let p : Parts = c.args.self.now in
     let k : Holder = c.args.holder in
     let change = c.args.change.now in
-    let e : Event = event.Flush k.client k.ino change in
+    let e : Event = Event.Flush k.client k.ino change in
     let may = c.requires.may in
     let table : Table = c.touch.new.self in
     let q : Parts = record { scene = record p.scene { tree = c.alter.new.tree; table = table }; known = c.renew_changed.new.known; messages = p.messages; endings = record c.begin.new.self { changes = c.note_change.new.self } } in
-    let by_itself : direct (state_of p) e ≡ says (with_flush (state_of p) k change) reply.Done = flush-direct (state_of p) k change may.passed in
+    let by_itself : direct (state_of p) e ≡ says (with_flush (state_of p) k change) Reply.Done = flush-direct (state_of p) k change may.passed in
     let alike : HoldAlike p.scene.table table = subst (HoldAlike p.scene.table) (sym c.touch.ensures) (λ j f there. (f, there, refl)) in
     let begun = c.in_ok-begin.ensures in
     let none = ap length begun.changes.0 in
     let is : q.scene ≡ (with_flush (state_of p) k change).scene = λ i. record p.scene { tree = c.in_ok-alter.ensures.ok i; table = c.touch.ensures i } in
-    one-begun p q e k may (says (with_flush (state_of p) k change) reply.Done) by_itself (refl, refl) (λ count given. below-of_flush count (state_of p) k change given) is refl
-    (affected.Inode k) Done refl refl refl refl (subst (AffectsOne k.ino.0 (state_of p)) (sym is) (flush-affects (state_of p) k change may.whole.0 may.table))
+    one-begun p q e k may (says (with_flush (state_of p) k change) Reply.Done) by_itself (refl, refl) (λ count given. below-of_flush count (state_of p) k change given) is refl
+    (Affected.Inode k) Done refl refl refl refl (subst (AffectsOne k.ino.0 (state_of p)) (sym is) (flush-affects (state_of p) k change may.whole.0 may.table))
     (subst IsTable (sym c.touch.ensures) (flush-table (state_of p) k change may.table))
     (still-there p.scene.table table p.known.sets q.known.sets (λ j f there. ap is_some (alike j f there).1) (λ j f there. c.renew_changed.ensures.told j))
     (λ j f there. let was = alike j f there in c.renew_changed.ensures.permitted p.scene.tree c.in_ok-alter.ensures.ok may.whole.2.1 j was.0 was.1) (alike-less p.scene.table table alike)

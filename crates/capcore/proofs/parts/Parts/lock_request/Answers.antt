@@ -1,14 +1,5 @@
-use Rattle.std.proofs.Common.{Contains, Some, is_some, ◌≡◌, ◌+◌, ◌∷◌, [], length, None, refl, sym, ap, subst, ◌∙◌, arith}
-use Rattle.capcore.proofs.Common.{Holder, Ask, Ticket, Request, Scene, LockMap, IsLockMap, next_request, with_request, judged_again, IsJudged, Event, ask_needs, Awaits, direct, asks, rejection_of, asking_tests, waiting_tests, view_of, AffectsOne, changes-still, alike-less, still-there, ask_of, asked_event, room-for, Parts}
-use Rattle.std.proofs.lemmas.List.{length-append}
-use Rattle.std.proofs.lemmas.List.Elements.{Contains-push}
-use Rattle.capsteps.specs.Lockmachine.Locks.{request_at}
-use Rattle.capsteps.proofs.Lockmachine.Queue.{found_by_number}
-use Rattle.capcore.specs.declared.parts.Affected.TheVariants as affected
-use Rattle.capcore.specs.declared.parts.Answer.TheVariants.{Awaited}
-use Rattle.capcore.specs.UnderWay.{state_of}
-use Rattle.capcore.proofs.Asked.{asked-for, asking-again, asking-direct, asking-rejection, asking-affects, below-of_ask, order-of_ask, room-left}
-use Rattle.capcore.proofs.Begun.{one-begun}
+use Rattle.std.proofs.{Common.{Contains, Some, is_some, ◌≡◌, ◌+◌, ◌∷◌, [], length, None, refl, sym, ap, subst, ◌∙◌, arith}, lemmas.List.{length-append}, lemmas.List.Elements.{Contains-push}}
+use Rattle.capcore.{proofs.Asked.{asked-for, asking-again, asking-direct, asking-rejection, asking-affects, below-of_ask, order-of_ask, room-left}, proofs.Begun.{one-begun}, proofs.Common.{AffectsOne, alike-less, Ask, ask_needs, asking_tests, asks, Awaits, changes-still, direct, Event, found_by_number, Holder, IsJudged, IsLockMap, judged_again, LockMap, next_request, rejection_of, Request, request_at, room-for, Scene, still-there, Ticket, view_of, waiting_tests, with_request}, specs.Asks.{ask_of, asked_event}, specs.UnderWay.{state_of}, specs.declared.parts.Affected.{Affected}, specs.declared.parts.Answer.TheVariants.{Awaited}, specs.declared.parts.Parts.{Parts}}
 use Rattle.capcore.proofs.parts.Parts.lock_request.Goals as goal
 
 pub enqueue_tested-ticket-requires-clause-room : goal.enqueue_tested-ticket-requires-clause-room
@@ -61,7 +52,7 @@ returns-clause-begun c =
     let left = ap length c.reserve.ensures.items in
     one-begun p q e k may (asks (state_of p) k.client k.ino ask) by_itself (refl, refl) (λ count given. below-of_ask count (state_of p) k ask given)
     (λ i. record p.scene { locks = queued i }) c.reserve.ensures.items
-    (affected.Inode k) (Awaited ticket) refl (ap (λ n. Awaits (record { 0 = n })) next) refl (next, ap (λ (l : LockMap). l.last) queued)
+    (Affected.Inode k) (Awaited ticket) refl (ap (λ n. Awaits (record { 0 = n })) next) refl (next, ap (λ (l : LockMap). l.last) queued)
     (subst (λ (l : LockMap). AffectsOne k.ino.0 (state_of p) (record p.scene { locks = l })) (sym queued) (asking-affects (state_of p) k ask may.whole.0 may.table free)) may.table
     (still-there p.scene.table p.scene.table p.known.sets p.known.sets (λ j f there. ap is_some there) (λ j f there. refl)) may.whole.2.1 (alike-less p.scene.table p.scene.table (λ j f there. (f, there, refl))) may.tree
     order

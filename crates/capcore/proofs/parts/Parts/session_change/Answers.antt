@@ -1,10 +1,6 @@
-use Rattle.std.proofs.Common.{◌≡◌, ◌≤◌, ◌++◌, length, sym, ap, subst, ◌∙◌, arith}
-use Rattle.capcore.proofs.Common.{option_map, SessionTable, Scene, is_end, dropped_by, AreChanges, view, view_of, session_changed, room-for, none-judged, Parts}
-use Rattle.captable.specs.declared.on_inode.Sets.{Sets}
+use Rattle.std.{proofs.Common.{◌≡◌, ◌≤◌, ◌++◌, length, sym, ap, subst, ◌∙◌, arith}, specs.Option.{option_map}}
 use Rattle.capsteps.proofs.Capacts.Renewed.{room-permitted}
-use Rattle.capcore.specs.UnderWay.{state_of}
-use Rattle.capcore.proofs.Granted.{left-permitted}
-use Rattle.capcore.proofs.SessionStep.{few-waiting, few-messages, change-begun}
+use Rattle.capcore.{proofs.Common.{AreChanges, dropped_by, is_end, none-judged, room-for, Scene, session_changed, SessionTable, Sets, view, view_of}, proofs.Granted.{left-permitted}, proofs.SessionStep.{few-waiting, few-messages, change-begun}, specs.UnderWay.{state_of}, specs.declared.parts.Parts.{Parts}}
 use Rattle.capcore.proofs.parts.Parts.session_change.Goals as goal
 
 -- for want of memory all is as it was

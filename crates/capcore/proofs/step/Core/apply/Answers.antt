@@ -1,20 +1,7 @@
 use Rattle.std.proofs.Common.{◌≡◌, ◌+◌, ◌++◌, ◌∷◌, [], List, length, refl, ap, sym, subst, ◌∙◌}
-use Rattle.capcore.proofs.Common.{State, Row, Reply, IsAnswered, direct, rows_of, IsSound, Step, step-shown}
-use Rattle.capsteps.specs.Caprules.Headline.{ServedDenied, ServedByName, EachServing, AreBounded}
-use Rattle.capsteps.specs.Caprules.History.{Recorded, recorded, made_row}
-use Rattle.capcore.specs.Promised.{IsPromised}
-use Rattle.capsteps.specs.Caprules.Shown.{ShowsWhatIsTold}
-use Rattle.capcore.proofs.Apart.{held-apart}
-use Rattle.capcore.proofs.Bounded.{direct-order, moves-bounded, by-moves}
-use Rattle.capcore.proofs.OtherLocks.{other-locks}
-use Rattle.capcore.proofs.Servings.{served-denied, served-by_name}
-use Rattle.capcore.proofs.Promised.{denied-exactly, denies-by_name, rejection-unchanged}
-use Rattle.capcore.proofs.Growing.{more-told, replays-more}
-use Rattle.capsteps.proofs.Placed.{all-revoked}
-use Rattle.capcore.proofs.HeldOn.{takes-only_so}
-use Rattle.capcore.proofs.ShownWords.{shows-told, shows-permitted, all-takes_unshown}
+use Rattle.capsteps.{proofs.Placed.{all-revoked}, specs.Caprules.History.{made_row}}
+use Rattle.capcore.{proofs.Apart.{held-apart}, proofs.Bounded.{direct-order, moves-bounded, by-moves}, proofs.Common.{AreBounded, direct, EachServing, IsAnswered, IsSound, Recorded, recorded, Reply, Row, rows_of, ServedByName, ServedDenied, ShowsWhatIsTold, State, Step, step-shown}, proofs.Growing.{more-told, replays-more}, proofs.HeldOn.{takes-only_so}, proofs.OtherLocks.{other-locks}, proofs.Promised.{denied-exactly, denies-by_name, rejection-unchanged}, proofs.Servings.{served-denied, served-by_name}, proofs.ShownWords.{shows-told, shows-permitted, all-takes_unshown}, proofs.step.Core.apply.Goals.{After-add_row}, specs.Promised.{IsPromised}}
 use Rattle.capcore.proofs.step.Core.apply.Goals as goal
-use Rattle.capcore.proofs.step.Core.apply.Goals.{After-add_row}
 
 -- what the step says and leaves
 answered_of : (c : After-add_row) → IsAnswered c.self.inside.world c.args.event c.in_ok-reply.field-0 c.step.new.self

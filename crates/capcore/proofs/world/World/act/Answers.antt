@@ -1,9 +1,6 @@
-use Rattle.std.proofs.Common.{sym, ap, subst, ◌∙◌}
-use Rattle.capcore.proofs.Common.{Event, State, IsDirect, direct, view_of, changes-still}
-use Rattle.std.proofs.lemmas.Result.{on_ok_weaker}
-use Rattle.capsteps.specs.Capevents.declared.event.Event.TheVariants as event
-use Rattle.capcore.proofs.Effects.{looked-up}
+use Rattle.std.proofs.{Common.{sym, ap, subst, ◌∙◌}, lemmas.Result.{on_ok_weaker}}
 use Rattle.capsteps.proofs.Capnotes.Noting.{changes-unseen}
+use Rattle.capcore.proofs.{Common.{changes-still, direct, Event, IsDirect, State, view_of}, Effects.{looked-up}}
 use Rattle.capcore.proofs.world.World.act.Goals as goal
 
 pub returns-in-Unblock-clause-changes : goal.returns-in-Unblock-clause-changes
@@ -17,8 +14,8 @@ returns-in-Lookup-clause-direct c =
     subst (λ (e : Event). IsDirect s e c.lookup.result s) (sym c.in-Lookup.is)
     (looked-up s client dir c.in-Lookup.name c.lookup.result
     (c.lookup.ensures c.self.inside.parts.scene.table c.self.inside.parts.scene.locks c.self.inside.parts.messages.items
-    ∙ ap (λ (w : State). (direct w (event.Lookup client dir c.as_slice.result.now)).answer) c.self.view_is
-    ∙ ap (λ name. (direct s (event.Lookup client dir name)).answer) c.as_slice.ensures))
+    ∙ ap (λ (w : State). (direct w (Event.Lookup client dir c.as_slice.result.now)).answer) c.self.view_is
+    ∙ ap (λ name. (direct s (Event.Lookup client dir name)).answer) c.as_slice.ensures))
 
 pub returns-in-Lookup-clause-changes : goal.returns-in-Lookup-clause-changes
 returns-in-Lookup-clause-changes c = changes-still c.args.changes.now.items (view_of c.args.self.now) c.requires.none

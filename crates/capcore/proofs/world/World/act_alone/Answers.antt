@@ -1,7 +1,6 @@
 use Rattle.std.proofs.Common.{sym, subst}
-use Rattle.capcore.proofs.Common.{State, IsDirect, IsSound, AreChanges, view_of}
-use Rattle.capcore.proofs.Steps.{alone-answered, no_list-direct}
 use Rattle.capsteps.specs.Capnotes.Noted.{Noted}
+use Rattle.capcore.proofs.{Common.{AreChanges, IsDirect, IsSound, State, view_of}, Steps.{alone-answered, no_list-direct}}
 use Rattle.capcore.proofs.world.World.act_alone.Goals as goal
 
 pub with_changes-requires : goal.with_changes-requires

@@ -1,11 +1,6 @@
 use Rattle.std.proofs.Common.{◌≡◌, ◌+◌, None, refl, sym, subst, arith}
-use Rattle.capcore.proofs.Common.{LockMap, State}
-use Rattle.capbits.specs.Refusal.{first_failing}
-use Rattle.inotree.specs.Tests.{create_tests}
 use Rattle.inotree.proofs.Passing.{passed-create}
-use Rattle.capcore.specs.UnderWay.{IsWhole}
-use Rattle.capcore.proofs.Undone.{added-dropped, not_given}
-use Rattle.capcore.proofs.Unaffected.{birth-whole}
+use Rattle.capcore.{proofs.Common.{create_tests, first_failing, LockMap, State}, proofs.Unaffected.{birth-whole}, proofs.Undone.{added-dropped, not_given}, specs.UnderWay.{IsWhole}}
 use Rattle.capcore.proofs.world.World.add.Goals as goal
 
 pub overflow_add-ino : goal.overflow_add-ino

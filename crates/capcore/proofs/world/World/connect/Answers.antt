@@ -1,7 +1,5 @@
 use Rattle.std.proofs.Common.{◌≡◌, None, sym, subst}
-use Rattle.capcore.proofs.Common.{new_session_tests, State}
-use Rattle.capbits.specs.Refusal.{first_failing}
-use Rattle.capcore.proofs.Unaffected.{session-whole}
+use Rattle.capcore.proofs.{Common.{first_failing, new_session_tests, State}, Unaffected.{session-whole}}
 use Rattle.capcore.proofs.world.World.connect.Goals as goal
 
 pub invariant_of-self : goal.invariant_of-self

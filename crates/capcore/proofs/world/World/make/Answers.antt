@@ -1,12 +1,6 @@
 use Rattle.std.proofs.Common.{◌≡◌, None, ap, sym, subst, ◌∙◌}
-use Rattle.capcore.proofs.Common.{pass-both, State, inode_tests}
 use Rattle.std.specs.FinMap as map
-use Rattle.capsteps.specs.Caprules.Direct.{owned_by}
-use Rattle.capbits.specs.Refusal.{first_failing}
-use Rattle.inotree.specs.Tests.{new_inode_tests, create_tests}
-use Rattle.capgrant.specs.declared.access.Access.TheVariants.{Write}
-use Rattle.capcore.proofs.Rejections.{access-at, inode-passed}
-use Rattle.capcore.proofs.Effects.{birth-rejection, birth-refused, birth-done}
+use Rattle.capcore.proofs.{Common.{create_tests, first_failing, inode_tests, new_inode_tests, owned_by, pass-both, State, Write}, Effects.{birth-rejection, birth-refused, birth-done}, Rejections.{access-at, inode-passed}}
 use Rattle.capcore.proofs.world.World.make.Goals as goal
 
 pub returns-in-Some-clause-direct : goal.returns-in-Some-clause-direct

@@ -1,13 +1,5 @@
 use Rattle.std.proofs.Common.{ap, sym, subst, ◌∙◌, refl}
-use Rattle.capcore.proofs.Common.{pass-both, inode_tests, Snapshot, State, view_of, view}
-use Rattle.capbits.specs.Refusal.{first_failing}
-use Rattle.inotree.specs.Inodes.{with_snapshot}
-use Rattle.inotree.specs.Tests.{new_snapshot_tests}
-use Rattle.capcore.proofs.Rejections.{access-at, inode-passed}
-use Rattle.capcore.proofs.Effects.{making-rejection, snapshot-refused}
-use Rattle.capcore.proofs.Unaffected.{changed-whole}
-use Rattle.capsteps.specs.Capview.Sight.{IsLike, Shows}
-use Rattle.capsteps.proofs.Capview.Likeness.{like-unseen, shows-tree}
+use Rattle.capcore.proofs.{Common.{first_failing, inode_tests, IsLike, like-unseen, new_snapshot_tests, pass-both, Shows, shows-tree, Snapshot, State, view, view_of, with_snapshot}, Effects.{making-rejection, snapshot-refused}, Rejections.{access-at, inode-passed}, Unaffected.{changed-whole}}
 use Rattle.capcore.proofs.world.World.make_snapshot.Goals as goal
 
 pub returns-in-Some-clause-direct : goal.returns-in-Some-clause-direct

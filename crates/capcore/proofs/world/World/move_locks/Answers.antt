@@ -1,15 +1,6 @@
-use Rattle.std.proofs.Common.{◌≡◌, ◌+◌, ◌++◌, List, length, sym, ap, subst, ◌∙◌, arith}
-use Rattle.capcore.proofs.Common.{IsTree, SessionTable, IsTable, IsLockMap, Scene, IsAnswered, Event, Ended, view, AreChanges, shown, view_of, IsSound, State, changes-still, Parts, MayBegin, HasBegun, answer_of}
-use Rattle.std.proofs.lemmas.List.{length-append}
-use Rattle.capsteps.specs.Capnotes.DueEndings.{DueEndings}
-use Rattle.capsteps.specs.Caprules.Sound.{NumbersLeft}
-use Rattle.capcore.specs.declared.parts.Effect.{Effect}
-use Rattle.capcore.specs.UnderWay.{AreKept, earlier_of, event_of, state_of}
-use Rattle.capcore.proofs.Begun.{ended-answered, ended-known, ended-numbers, few-earlier, fewer-places, shown-kept, shown-rest}
-use Rattle.capcore.proofs.Closing.{ends-sessions}
-use Rattle.capcore.proofs.Rejections.{judged-at, rejection-answered}
+use Rattle.std.proofs.{Common.{◌≡◌, ◌+◌, ◌++◌, List, length, sym, ap, subst, ◌∙◌, arith}, lemmas.List.{length-append}}
+use Rattle.capcore.{proofs.Begun.{ended-answered, ended-known, ended-numbers, few-earlier, fewer-places, shown-kept, shown-rest}, proofs.Closing.{ends-sessions}, proofs.Common.{AreChanges, changes-still, DueEndings, Ended, Event, IsAnswered, IsLockMap, IsSound, IsTable, IsTree, NumbersLeft, Scene, SessionTable, shown, State, view, view_of}, proofs.Rejections.{judged-at, rejection-answered}, proofs.world.World.move_locks.Goals.{After-end, After-close}, specs.UnderWay.{MayBegin, HasBegun, answer_of, AreKept, earlier_of, event_of, state_of}, specs.declared.parts.Effect.{Effect}, specs.declared.parts.Parts.{Parts}}
 use Rattle.capcore.proofs.world.World.move_locks.Goals as goal
-use Rattle.capcore.proofs.world.World.move_locks.Goals.{After-end, After-close}
 
 -- ---- an event that is stopped
 

@@ -1,6 +1,5 @@
 use Rattle.std.proofs.Common.{◌≡◌, None, ap, rules}
-use Rattle.capcore.proofs.Common.{Holder, Table, entry_at, State, IsOpening, HasRoom}
-use Rattle.capcore.proofs.Sounding.{opening-sound}
+use Rattle.capcore.proofs.{Common.{entry_at, HasRoom, Holder, IsOpening, State, Table}, Sounding.{opening-sound}}
 use Rattle.capcore.proofs.world.World.new.Goals as goal
 
 pub invariant_of-result : goal.invariant_of-result

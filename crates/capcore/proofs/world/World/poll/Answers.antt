@@ -1,19 +1,7 @@
-use Rattle.std.proofs.Common.{◌≡◌, ◌≤◌, [], List, length, filter, Some, refl, sym, ap, subst, ◌∙◌, arith}
-use Rattle.capcore.proofs.Common.{length-filter, count_by-le-length, session_tests, IsTable, is_of_client, Ended, Said, ByTest, State, IsAnswered, IsSound, rejection-before, HoldAlike, AreChanges, view_of, changes-still}
-use Rattle.capbits.specs.Refusal.{first_failing}
-use Rattle.captable.specs.Many.{changed_where}
-use Rattle.capsteps.specs.Capevents.declared.event.Event.TheVariants as event
-use Rattle.capsteps.specs.Capevents.declared.outcome.Message.{Message}
-use Rattle.capsteps.specs.Capevents.declared.reply.Reply.TheVariants as reply
-use Rattle.capsteps.specs.Caprules.Messages.{first_messages, with_given, after_messages}
-use Rattle.capsteps.specs.Capnotes.DueEndings.{AreEndsOf, is_left}
-use Rattle.capcore.proofs.Polled.{poll-answered, polled-new}
-use Rattle.capcore.proofs.Rejections.{rejection-answered}
-use Rattle.capcore.proofs.Unaffected.{alike-kept}
-use Rattle.capsteps.proofs.Telling.{given-held}
-use Rattle.capsteps.proofs.Knowing.{alike-where}
+use Rattle.std.proofs.{Common.{◌≡◌, ◌≤◌, [], List, length, filter, Some, refl, sym, ap, subst, ◌∙◌, arith}, lemmas.List.Sums.{length-filter, count_by-le-length}}
+use Rattle.capsteps.{proofs.Telling.{given-held}, specs.Capnotes.DueEndings.{AreEndsOf}}
+use Rattle.capcore.proofs.{Common.{after_messages, alike-where, AreChanges, ByTest, changed_where, changes-still, Ended, Event, first_failing, first_messages, HoldAlike, is_left, is_of_client, IsAnswered, IsSound, IsTable, Message, rejection-before, Reply, Said, session_tests, State, view_of, with_given}, Polled.{poll-answered, polled-new}, Rejections.{rejection-answered}, Unaffected.{alike-kept}, world.World.poll.Goals.{After-drop-told}}
 use Rattle.capcore.proofs.world.World.poll.Goals as goal
-use Rattle.capcore.proofs.world.World.poll.Goals.{After-drop-told}
 
 -- ---- no open session
 
@@ -23,7 +11,7 @@ returns-in-Some-clause-answered c =
     let sound : IsSound s = subst IsSound c.self.view_is c.self.invariant.0 in
     let failed : first_failing (session_tests s.scene.sessions c.args.client.0) ≡ Some c.in-Some.refusal =
     ap (λ (w : State). first_failing (session_tests w.scene.sessions c.args.client.0)) (sym c.self.view_is) ∙ sym c.session_refusal.ensures ∙ c.in-Some.is in
-    rejection-answered s (event.Poll c.args.client c.args.max) (ByTest c.in-Some.refusal) c.alone.result sound c.requires.table
+    rejection-answered s (Event.Poll c.args.client c.args.max) (ByTest c.in-Some.refusal) c.alone.result sound c.requires.table
     (rejection-before s.scene (session_tests s.scene.sessions c.args.client.0) [] [] c.in-Some.refusal failed)
     c.alone.ensures.reply (c.alone.ensures.kept ∙ sym c.alone.ensures.reply) c.alone.ensures.ended
 
@@ -39,7 +27,7 @@ module _ (c : After-drop-told) where
   new = record { scene = record old.scene { table = c.skip_quiet.new.self }; messages = c.remove_given.new.self.items }
 
   abbrev said : Said
-  said = record { reply = reply.Messages c.in_ok-given.given; kept = reply.Messages c.in_ok-kept.kept; ended = c.new.result; changes = c.new-2.result }
+  said = record { reply = Reply.Messages c.in_ok-given.given; kept = Reply.Messages c.in_ok-kept.kept; ended = c.new.result; changes = c.new-2.result }
 
   first : c.in_ok-given.given ≡ first_messages old c.args.client c.args.max
   first = c.in_ok-given.ensures old refl refl c.self.invariant.2.0 (sym c.as_slice-ended.ensures)
@@ -58,11 +46,11 @@ module _ (c : After-drop-told) where
   left : with_given old c.args.client (first_messages old c.args.client c.args.max) ≡ new
   left = polled-new old c.self.invariant.0 (subst (λ (s : State). IsTable s.scene.table) (sym c.self.view_is) c.requires.table) c.args.client c.args.max c.in_ok-given.given c.skip_quiet.new.self c.remove_given.new.self.items first told kept_items
 
-  whole : IsAnswered old (event.Poll c.args.client c.args.max) said new
+  whole : IsAnswered old (Event.Poll c.args.client c.args.max) said new
   whole =
-      subst (IsAnswered old (event.Poll c.args.client c.args.max) said) left
+      subst (IsAnswered old (Event.Poll c.args.client c.args.max) said) left
       (poll-answered old c.self.invariant.0 (subst (λ (s : State). IsTable s.scene.table) (sym c.self.view_is) c.requires.table) c.args.client c.args.max said (sym c.session_refusal.ensures ∙ c.in_default.is)
-      (ap reply.Messages first) (ap reply.Messages same) c.new.ensures)
+      (ap Reply.Messages first) (ap Reply.Messages same) c.new.ensures)
 
 pub invariant_of-self : goal.invariant_of-self
 invariant_of-self c =
@@ -79,7 +67,7 @@ invariant_of-self c =
 
 pub returns-clause-answered : goal.returns-clause-answered
 returns-clause-answered c =
-    subst (λ (s : State). IsAnswered s (event.Poll c.args.client c.args.max) (said c) (new c)) c.self.view_is (whole c)
+    subst (λ (s : State). IsAnswered s (Event.Poll c.args.client c.args.max) (said c) (new c)) c.self.view_is (whole c)
 
 pub returns-in-Some-clause-changes : goal.returns-in-Some-clause-changes
 returns-in-Some-clause-changes c = changes-still c.alone.result.changes.items (view_of c.args.self.now) c.alone.ensures.changes

@@ -1,11 +1,6 @@
 use Rattle.std.proofs.Common.{sym, ap, subst}
-use Rattle.capcore.proofs.Common.{Said, State, IsAnswered, AreChanges, view_of, changes-still}
-use Rattle.capsteps.specs.Capevents.declared.event.Event.TheVariants as event
-use Rattle.capsteps.specs.Capevents.declared.reply.Reply.TheVariants as reply
-use Rattle.capsteps.specs.Caprules.Direct.{with_table}
-use Rattle.capcore.proofs.Recalled.{recalled-sound, recalled-kept, recall-answered}
+use Rattle.capcore.proofs.{Common.{AreChanges, changes-still, Event, IsAnswered, Reply, Said, State, view_of, with_table}, Recalled.{recalled-sound, recalled-kept, recall-answered}, world.World.recall.Goals.{After-new-2}}
 use Rattle.capcore.proofs.world.World.recall.Goals as goal
-use Rattle.capcore.proofs.world.World.recall.Goals.{After-new-2}
 
 module _ (c : After-new-2) where
   -- the state before the event
@@ -17,12 +12,12 @@ module _ (c : After-new-2) where
   new = with_table old c.recall.new.self
 
   abbrev said : Said
-  said = record { reply = reply.Recalled c.in_ok-named.named; kept = reply.Recalled c.in_ok-kept.kept; ended = c.new.result; changes = c.new-2.result }
+  said = record { reply = Reply.Recalled c.in_ok-named.named; kept = Reply.Recalled c.in_ok-kept.kept; ended = c.new.result; changes = c.new-2.result }
 
-  whole : IsAnswered old (event.Recall c.args.count) said new
+  whole : IsAnswered old (Event.Recall c.args.count) said new
   whole =
-      subst (λ t. IsAnswered old (event.Recall c.args.count) said (with_table old t)) (sym c.in_ok-named.ensures.ok)
-      (recall-answered old c.self.invariant.0 c.args.count said c.first_to_recall.ensures.sound (ap reply.Recalled c.in_ok-named.ensures.named) (ap reply.Recalled c.in_ok-kept.ensures.named) c.new.ensures)
+      subst (λ t. IsAnswered old (Event.Recall c.args.count) said (with_table old t)) (sym c.in_ok-named.ensures.ok)
+      (recall-answered old c.self.invariant.0 c.args.count said c.first_to_recall.ensures.sound (ap Reply.Recalled c.in_ok-named.ensures.named) (ap Reply.Recalled c.in_ok-kept.ensures.named) c.new.ensures)
 
 pub invariant_of-self : goal.invariant_of-self
 invariant_of-self c = rw c.in_err-named.ensures.err c.self.invariant
@@ -31,7 +26,7 @@ pub invariant_of-self-2 : goal.invariant_of-self-2
 invariant_of-self-2 c = rw c.in_ok-named.ensures.ok (recalled-sound _ c.self.invariant.0 c.args.count, c.self.invariant.1, recalled-kept _ c.self.invariant.0 c.args.count c.self.inside.parts.known.sets c.self.invariant.2)
 
 pub returns-clause-answered : goal.returns-clause-answered
-returns-clause-answered c = subst (λ (s : State). IsAnswered s (event.Recall c.args.count) (said c) (new c)) c.self.view_is (whole c)
+returns-clause-answered c = subst (λ (s : State). IsAnswered s (Event.Recall c.args.count) (said c) (new c)) c.self.view_is (whole c)
 
 pub returns-clause-changes : goal.returns-clause-changes
 returns-clause-changes c = subst (λ (s : State). AreChanges (said c).changes.items (view_of s) (view_of (new c))) c.self.view_is (changes-still (said c).changes.items (view_of (old c)) c.new-2.ensures.items)

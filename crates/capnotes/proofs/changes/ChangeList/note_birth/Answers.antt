@@ -1,7 +1,5 @@
 use Rattle.std.proofs.Common.{◌≡◌, None, Some, sym, ap, ◌∙◌}
-use Rattle.inotree.specs.declared.node.Node.{Node}
-use Rattle.inotree.specs.declared.node.Site.TheVariants.{Under}
-use Rattle.inotree.specs.Calls.{new_node}
+use Rattle.inotree.specs.{Calls.{new_node}, declared.node.Node.{Node}, declared.node.Site.TheVariants.{Under}}
 use Rattle.capnotes.proofs.Noting.{born_there, leads-birth}
 use Rattle.capnotes.proofs.changes.ChangeList.note_birth.Goals as goal
 

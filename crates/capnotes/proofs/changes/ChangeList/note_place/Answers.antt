@@ -1,6 +1,5 @@
 use Rattle.std.proofs.Common.{sym, ap, ◌∙◌}
-use Rattle.inotree.specs.Inodes.{with_site}
-use Rattle.inotree.specs.declared.node.Site.TheVariants.{Under}
+use Rattle.inotree.specs.{Inodes.{with_site}, declared.node.Site.TheVariants.{Under}}
 use Rattle.capnotes.proofs.Noting.{leads-place, leads-not_there, stands}
 use Rattle.capnotes.proofs.changes.ChangeList.note_place.Goals as goal
 

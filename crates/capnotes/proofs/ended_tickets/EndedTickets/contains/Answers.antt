@@ -1,6 +1,4 @@
-use Rattle.std.proofs.Common.{◌==◌, sym, ap, subst, ◌∙◌}
-use Rattle.std.specs.List.{list_any}
-use Rattle.std.specs.List.Sorted.{IsNonDecreasing}
+use Rattle.std.{proofs.Common.{◌==◌, sym, ap, subst, ◌∙◌}, specs.List.{list_any}, specs.List.Sorted.{IsNonDecreasing}}
 use Rattle.capnotes.proofs.EndNumbers.{found}
 use Rattle.capnotes.proofs.ended_tickets.EndedTickets.contains.Goals as goal
 

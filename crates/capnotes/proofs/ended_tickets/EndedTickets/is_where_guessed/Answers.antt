@@ -1,6 +1,4 @@
-use Rattle.std.proofs.Common.{◌≡◌, ◌==◌, ℕ, true, List, sym, ap, subst, ◌∙◌}
-use Rattle.std.specs.List.{list_any}
-use Rattle.std.proofs.lemmas.List.Folds.{list_any_at}
+use Rattle.std.{proofs.Common.{◌≡◌, ◌==◌, ℕ, true, List, sym, ap, subst, ◌∙◌}, proofs.lemmas.List.Folds.{list_any_at}, specs.List.{list_any}}
 use Rattle.capnotes.proofs.ended_tickets.EndedTickets.is_where_guessed.Goals as goal
 
 pub returns-in-Some : goal.returns-in-Some

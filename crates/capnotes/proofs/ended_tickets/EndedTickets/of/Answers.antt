@@ -1,7 +1,4 @@
-use Rattle.std.proofs.Common.{rules, ◌≡◌, ◌==◌, sym, ap, ◌∙◌}
-use Rattle.std.specs.List.{list_any}
-use Rattle.std.proofs.lemmas.List.{with_items_is}
-use Rattle.std.proofs.lemmas.List.Sorted.{IsNonDecreasingBy-from_sort, list_any-IsPermutation}
+use Rattle.std.{proofs.Common.{rules, ◌≡◌, ◌==◌, sym, ap, ◌∙◌}, proofs.lemmas.List.{with_items_is}, proofs.lemmas.List.Sorted.{IsNonDecreasingBy-from_sort, list_any-IsPermutation}, specs.List.{list_any}}
 use Rattle.capnotes.proofs.ended_tickets.EndedTickets.of.Goals as goal
 
 pub returns : goal.returns

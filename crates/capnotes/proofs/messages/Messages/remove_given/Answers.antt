@@ -1,8 +1,5 @@
-use Rattle.std.proofs.Common.{rules, arith, ap, ◌∙◌}
-use Rattle.std.specs.Prelude.{not, ◌&&◌, length, filter}
-use Rattle.std.proofs.lemmas.Fn.{filter_same}
-use Rattle.capnotes.specs.DueEndings.{is_left, is_to, DueEndings}
-use Rattle.capnotes.proofs.EndNumbers.{all_left}
+use Rattle.std.proofs.{Common.{rules, arith, ap, ◌∙◌, not, ◌&&◌, length, filter}, lemmas.Fn.{filter_same}}
+use Rattle.capnotes.{proofs.EndNumbers.{all_left}, specs.DueEndings.{is_left, is_to, DueEndings}}
 use Rattle.capnotes.proofs.messages.Messages.remove_given.Goals as goal
 
 pub returns-clause-items : goal.returns-clause-items

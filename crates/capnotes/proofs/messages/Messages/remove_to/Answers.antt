@@ -1,6 +1,4 @@
-use Rattle.std.proofs.Common.{rules, ap, not, ◌∙◌}
-use Rattle.std.specs.Prelude.{filter}
-use Rattle.std.proofs.lemmas.Fn.{filter_same}
+use Rattle.std.proofs.{Common.{rules, ap, not, ◌∙◌, filter}, lemmas.Fn.{filter_same}}
 use Rattle.capnotes.specs.DueEndings.{is_to, DueEndings}
 use Rattle.capnotes.proofs.messages.Messages.remove_to.Goals as goal
 

@@ -1,10 +1,7 @@
-use Rattle.std.proofs.Common.{◌≡◌, Some, sym, ap, subst, ◌∙◌}
-use Rattle.std.specs.List.{find, position, remove}
+use Rattle.std.{proofs.Common.{◌≡◌, Some, sym, ap, subst, ◌∙◌}, specs.List.{find, position, remove}}
 use Rattle.capevents.proofs.Lockmachine.Positions.{no_position}
-use Rattle.capnotes.specs.DueEndings.{is_of_ticket, DueEndings, HaveOwnNumbers, but_for}
-use Rattle.capnotes.proofs.Taking.{taken, none_taken}
+use Rattle.capnotes.{proofs.Taking.{taken, none_taken}, proofs.messages.Messages.take.Goals.{After-remove}, specs.DueEndings.{is_of_ticket, DueEndings, HaveOwnNumbers, but_for}}
 use Rattle.capnotes.proofs.messages.Messages.take.Goals as goal
-use Rattle.capnotes.proofs.messages.Messages.take.Goals.{After-remove}
 
 pub returns-in_err-place-clause-left : goal.returns-in_err-place-clause-left
 returns-in_err-place-clause-left c =

@@ -2,9 +2,9 @@ use Rattle.std.proofs.Common.{◌+◌, sym, subst}
 use Rattle.std.specs.Ordering.{nat_cmp}
 use Rattle.std.specs.declared.ops.Bound.TheVariants.{Excluded, Unbounded}
 use Rattle.std.specs.BTreeSet.{IsKeyRangeOf}
-use Rattle.capnotes.specs.InoSets.{IsNext}
-use Rattle.capnotes.proofs.InoSets.{begins-behind, none-from, least-from}
-use Rattle.capnotes.proofs.ino_set.InoSet.after.Goals as goal
+use Rattle.inotree.specs.InoSets.{IsNext}
+use Rattle.inotree.proofs.InoSets.{begins-behind, none-from, least-from}
+use Rattle.inotree.proofs.ino_set.InoSet.after.Goals as goal
 
 pub returns-in_err-number : goal.returns-in_err-number
 returns-in_err-number c =

@@ -12,7 +12,7 @@ use Rattle.std.specs.FinSet as set
 use Rattle.std.specs.List.Sorted.{IsStrictlySortedBy}
 use Rattle.std.specs.Ordering.{nat_cmp, is_gt}
 use Rattle.std.proofs.lemmas.Map.Keys.{le_from_not_gt, IsDistinct-from_sorted}
-use Rattle.capnotes.specs.InoSets.{InoSet, IsListOf, IsLeastFrom}
+use Rattle.inotree.specs.InoSets.{InoSet, IsListOf, IsLeastFrom}
 
 -- ---- its numbers
 

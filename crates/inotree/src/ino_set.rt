@@ -1,7 +1,7 @@
 //! Sets of inodes.
 ghost use Rattle.std.specs.Prelude.{◌≡◌, ◌+◌, ◌<◌, ◌^◌, length, OnOk, OnErr};
 ghost use Rattle.std.specs.FinSet as set;
-ghost use Rattle.capnotes.specs.InoSets.{IsListOf, IsNext};
+ghost use Rattle.inotree.specs.InoSets.{IsListOf, IsNext};
 
 use capbits::Ino;
 use std::alloc::{AllocError, Global};
@@ -25,7 +25,7 @@ impl Drop for InoSet {
 impl Model for InoSet {
     ghost use Rattle.std.specs.Coded.{coded_ℕ};
     ghost use Rattle.std.specs.FinSet as set;
-    ghost use Rattle.capnotes.specs.InoSets.{InoSet as Inodes};
+    ghost use Rattle.inotree.specs.InoSets.{InoSet as Inodes};
 
     ghost Value = { Inodes };
 

@@ -1,7 +1,7 @@
 use Rattle.std.proofs.Common.{sym, ap, ◌∙◌}
 use Rattle.std.specs.Cmp.{nat_cmp_total}
 use Rattle.std.specs.FinSet as set
-use Rattle.capnotes.proofs.ino_set.InoSet.contains.Goals as goal
+use Rattle.inotree.proofs.ino_set.InoSet.contains.Goals as goal
 
 pub returns : goal.returns
 returns c =

@@ -2,7 +2,7 @@ use Rattle.std.proofs.Common.{ap, ◌∙◌}
 use Rattle.std.specs.Cmp.{nat_cmp_total}
 use Rattle.std.specs.FinSet as set
 use Rattle.capbits.proofs.Entries.{insert-keys}
-use Rattle.capnotes.proofs.ino_set.InoSet.insert.Goals as goal
+use Rattle.inotree.proofs.ino_set.InoSet.insert.Goals as goal
 
 pub returns-clause-ok : goal.returns-clause-ok
 returns-clause-ok c =
