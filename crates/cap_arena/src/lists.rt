@@ -99,7 +99,8 @@ impl<T: Copy> TripleLists<T> {
 
     /// Why no node can be added: there are as many as there may be.
     pub fn add_refusal(&self) -> Option<Refusal>
-        ensures { result ≡ first_failing (add_tests self.now) }
+        ensures tests { result ≡ first_failing (add_tests self.now) }
+        ensures sound { IsLists self.now }
     {
         if self.nodes.len() >= MAX_NODES {
             return Some(Refusal::Limit);
@@ -122,8 +123,6 @@ impl<T: Copy> TripleLists<T> {
         ensures count { writes.new ≤ writes.old + 12 }
         ensures sound { IsLists self.new }
     {
-        // A look at the lists, by which the proof knows what they keep.
-        let _oldest = self.oldest();
         if let Some(refusal) = self.add_refusal() {
             return Err(AddError::Refused(refusal));
         }

@@ -1,9 +1,9 @@
 -- What stops a request, from what stops its parts.
-use Rattle.std.{proofs.Common.{◌≡◌, ◌⊎◌, inl, inr, ℕ, Bool, true, not, cond, List, [], ◌∷◌, ◌++◌, Option, Some, None, refl, sym, ap, subst, ◌∙◌, arith}, specs.Option.{option_map}}
-use Rattle.capbits.{proofs.Tests.{pass-both}, specs.Refusal.{Test, first_failing}, specs.declared.cap.Part.{Part}, specs.declared.refusal.Refusal.{Refusal}}
+use Rattle.std.{proofs.Common.{◌≡◌, ◌⊎◌, inl, inr, ℕ, true, List, [], ◌∷◌, Option, Some, None, refl, sym, ap, subst, ◌∙◌, arith}, specs.Option.{option_map}}
+use Rattle.capbits.{proofs.Tests.{pass-both}, specs.Refusal.{Test}, specs.declared.cap.Part.{Part}}
 use Rattle.inotree.specs.declared.node.Node.{Node}
-use Rattle.caprules.specs.{Asks.{change_tests}, Judge.{is_met, first_denied, rejection_by}, Lockmachine.declared.request.Ask.TheVariants.{Alter}, Needs.{Need}, Serving.{MayEndAs, As_judged, Without_memory, judged_again, passed_as, values_outcome, rejection_outcome, outcome_unless}, declared.rejection.Rejection.{Rejection}}
-use Rattle.capacts.{proofs.Common.{Access, Ask, ask_after, ask_before, ByTest, Change, ClientId, denial_of, need, Nodes, Outcome, rejection_of, Request, Scene, takes_memory, tree_after, tree_with}, specs.Served.{call_tests, change_call_tests}}
+use Rattle.caprules.specs.{Asks.{change_tests}, Judge.{first_denied, rejection_by}, Serving.{MayEndAs, As_judged, Without_memory, passed_as, values_outcome, rejection_outcome, outcome_unless}, declared.rejection.Rejection.TheVariants.{ByTest}}
+use Rattle.capacts.{proofs.Common.{Access, Alter, Ask, ask_after, ask_before, Change, ClientId, denial_of, first_failing, judged_again, Need, need, Nodes, Outcome, Refusal, Rejection, rejection_of, Request, Scene, takes_memory, tree_after, tree_with}, specs.Served.{call_tests, change_call_tests}}
 
 -- ---- policy alone
 
@@ -12,24 +12,13 @@ pub denial-rejection : (s : Scene) (client : ClientId) (ino : ℕ) (access : Acc
     denial_of s.fs s.tree s.sessions (need client ino access).holder access ≡ rejection_of s [] (need client ino access ∷ []) []
 denial-rejection s client ino access = grind arith
 
-module _ (s : Scene) where
-  found_front : (t : Bool) (n : Need) (one more : Option Need) (d : Rejection) → (rejection_by s None one None ≡ Some d → rejection_by s None more None ≡ Some d) →
-      rejection_by s None (cond t (Some n) one) None ≡ Some d → rejection_by s None (cond t (Some n) more) None ≡ Some d
-  found_front t n one more d rest is = grind arith
+-- the first access that is needed is denied, or the others decide
+module _ (s : Scene) (n : Need) (ns : List Need) (tests more : List Test) where
+  pub denied-first : (d : Rejection) → first_failing tests ≡ None → denial_of s.fs s.tree s.sessions n.holder n.access ≡ Some d → rejection_of s tests (n ∷ ns) more ≡ Some d
+  denied-first d passed is = grind arith
 
-  -- what denies some accesses in a row denies them with others behind them
-  pub denied-front : (one more : List Need) (d : Rejection) → rejection_of s [] one [] ≡ Some d → rejection_of s [] (one ++ more) [] ≡ Some d
-  denied-front [] more d is = absurd (cc)
-  denied-front (n ∷ ns) more d is = found_front (not (is_met s n)) n (first_denied s ns) (first_denied s (ns ++ more)) d (denied-front ns more d) is
-
-  passed_front : (t : Bool) (n : Need) (one whole more : Option Need) → (rejection_by s None one None ≡ None → rejection_by s None whole None ≡ rejection_by s None more None) →
-      rejection_by s None (cond t (Some n) one) None ≡ None → rejection_by s None (cond t (Some n) whole) None ≡ rejection_by s None more None
-  passed_front t n one whole more rest is = grind arith
-
-  -- and where nothing denies them, the others decide
-  pub granted-front : (one more : List Need) → rejection_of s [] one [] ≡ None → rejection_of s [] (one ++ more) [] ≡ rejection_of s [] more []
-  granted-front [] more is = refl
-  granted-front (n ∷ ns) more is = passed_front (not (is_met s n)) n (first_denied s ns) (first_denied s (ns ++ more)) (first_denied s more) (granted-front ns more) is
+  pub granted-first : denial_of s.fs s.tree s.sessions n.holder n.access ≡ None → rejection_of s tests (n ∷ ns) more ≡ rejection_of s tests ns more
+  granted-first is = grind arith
 
 -- ---- tests and policy
 

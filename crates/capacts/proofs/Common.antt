@@ -1,9 +1,9 @@
 -- The names that proofs of this crate cite of the crates below, passed on from one place. Declares nothing.
-pub use Rattle.capbits.specs.{Caps.{Caps}, Sets.{meet, no_caps}, declared.ids.ClientId.{ClientId}, declared.ids.Ino.{Ino}}
+pub use Rattle.capbits.specs.{Caps.{Caps}, Refusal.{first_failing}, Sets.{no_caps}, declared.ids.ClientId.{ClientId}, declared.ids.Ino.{Ino}, declared.refusal.Refusal.{Refusal}}
 pub use Rattle.capgrant.specs.declared.access.Access.{Access}
 pub use Rattle.inotree.specs.{Alike.{IsAlike}, InoSets.{InoSet}, Tree.{Nodes}}
-pub use Rattle.captable.{proofs.ByHolder.{row_of-entry}, proofs.Changes.{put_found}, proofs.Tables.{among-filter, holders-filter, same-is, same_equiv}, specs.Calls.{is_of_inode}, specs.Known.{no_sets}, specs.Table.{Table, entry_at, holders_of_rows, is_among, is_row_of, same}, specs.declared.entry.Entry.{Entry}, specs.declared.entry.EntryRow.{EntryRow}, specs.declared.entry.Holder.{Holder}, specs.declared.on_inode.Sets.{Sets}}
-pub use Rattle.caprules.specs.{Asks.{ask_after, ask_before, ask_needs}, Judge.{denial_of, rejection_of}, Needs.{need}, Numbers.{rows_of}, Serving.{takes_memory}, declared.rejection.Rejection.TheVariants.{ByTest}}
+pub use Rattle.captable.{proofs.ByHolder.{row_of-entry}, proofs.Tables.{among-filter, holders-filter, same-is, same_equiv}, specs.Calls.{renumbered}, specs.Known.{no_sets}, specs.Table.{Table, entry_at, holders_of_rows, is_among, is_row_of, same}, specs.declared.entry.Entry.{Entry}, specs.declared.entry.EntryRow.{EntryRow}, specs.declared.entry.Holder.{Holder}, specs.declared.on_inode.Sets.{Sets}}
+pub use Rattle.caprules.specs.{Asks.{ask_after, ask_before, ask_needs}, Judge.{denial_of, rejection_of}, Needs.{Need, need}, Numbers.{rows_of}, Serving.{judged_again, takes_memory}, declared.rejection.Rejection.{Rejection}}
 pub use Rattle.caprules.specs.Capevents.{declared.outcome.Outcome.{Outcome}, declared.row.Row.{Row}}
 pub use Rattle.caprules.specs.Capnotes.Changing.{tree_after, tree_with}
-pub use Rattle.caprules.specs.Lockmachine.{Policy.{ArePermitted, permitted}, Requests.{is_of_client}, Scene.{scene}, declared.request.Ask.{Ask}, declared.request.Change.{Change}, declared.request.Request.{Request}, declared.scene.Scene.{Scene}}
+pub use Rattle.caprules.specs.Lockmachine.{Policy.{ArePermitted, permitted}, Requests.{is_of_client}, declared.request.Ask.{Ask}, declared.request.Ask.TheVariants.{Alter, Rmdir, Unlink}, declared.request.Change.{Change}, declared.request.Request.{Request}, declared.scene.Scene.{Scene}}

@@ -2,7 +2,6 @@ mod Common
 pub mod Again
 pub mod Memory
 pub mod InoSets
-pub mod Adding
 pub mod Numbered
 pub mod Dropped
 pub mod Walked

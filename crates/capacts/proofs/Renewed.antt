@@ -5,7 +5,7 @@ use Rattle.inotree.{proofs.Changes.{setting_site}, proofs.Elsewhere.{alike-chang
 use Rattle.captable.proofs.Tables.{no_row}
 use Rattle.sessiontab.specs.Table.{SessionTable}
 use Rattle.caprules.{proofs.Lockmachine.PolicyElsewhere.{permitted-kept, alike-itself}, specs.Capnotes.Changing.{tree_changed}, specs.Capnotes.Noted.{sets_attr}, specs.Lockmachine.declared.request.Change.TheVariants.{Set, SetXattr, RemoveXattr}}
-use Rattle.capacts.{proofs.Common.{among-filter, ArePermitted, Caps, Change, Entry, entry_at, EntryRow, Holder, holders-filter, holders_of_rows, InoSet, is_among, is_row_of, IsAlike, no_sets, Nodes, Outcome, permitted, Request, row_of-entry, same, same-is, same_equiv, Scene, Sets, Table}, proofs.KeptSets.{among_rows, room-of, other-holder}, proofs.Walked.{second_true}, specs.Known.{KnownSets, sets_of, known_of, permitted_of, HaveRoom}, specs.Reach.{is_affected}, specs.Renewing.{Renews, ServedFrom, has_entry}, specs.Served.{is_rename}}
+use Rattle.capacts.{proofs.Common.{among-filter, ArePermitted, Caps, Change, Entry, entry_at, EntryRow, Holder, holders-filter, holders_of_rows, InoSet, is_among, is_row_of, IsAlike, no_sets, Nodes, Outcome, permitted, Request, row_of-entry, same, same-is, same_equiv, Scene, Sets, Table}, proofs.KeptSets.{among_rows, room-of, other-holder, some-mapped}, proofs.Walked.{second_true}, specs.Known.{KnownSets, sets_of, known_of, permitted_of, HaveRoom}, specs.Renewing.{Renews, ServedFrom, has_entry}, specs.Served.{is_rename}}
 
 -- ---- what is kept of a holder that is known to be permitted this
 
@@ -20,31 +20,29 @@ some_told (Some s) may is = refl
 pub room-permitted : (sets : KnownSets) (fs : List ℕ) (tree : Nodes) (sessions : SessionTable) (table : Table) → ArePermitted sets fs tree sessions table → HaveRoom sets table
 room-permitted sets fs tree sessions table are k e there = some_told (sets_of sets k) (permitted fs tree sessions k) (are k e there)
 
--- what was told of it is told again
-pub told-again : (o : Option Sets) (kept : Sets) → kept ≡ unwrap_or o no_sets → IsSome o → Some kept.told ≡ option_map (λ (s : Sets). s.told) o
-told-again None kept is some = absurd (true≢false (sym some))
-told-again (Some s) kept is some = ap (λ (s : Sets). Some s.told) is
-
 -- ---- some after others
 
 -- of those of all that are not left it is kept
 pub record Along (may : Holder → Caps) (all left : Holder → Bool) (was now : KnownSets) : Type 0 where
+  pub inside : (k : Holder) → left k ≡ true → all k ≡ true
   pub anew : (k : Holder) → all k ≡ true → left k ≡ false → permitted_of now k ≡ Some (may k)
   pub others : (k : Holder) → all k ≡ false → permitted_of now k ≡ permitted_of was k
   pub told : (k : Holder) → known_of now k ≡ known_of was k
 
-pub along-begins : (may : Holder → Caps) (all : Holder → Bool) (sets : KnownSets) → Along may all all sets sets
-along-begins may all sets = record {
-  anew = λ k among none. absurd (true≢false (sym among ∙ none));
+pub along-begins : (may : Holder → Caps) (all left : Holder → Bool) (sets : KnownSets) → ((k : Holder) → all k ≡ left k) → Along may all left sets sets
+along-begins may all left sets are = record {
+  inside = λ k among. are k ∙ among;
+  anew = λ k among none. absurd (true≢false (sym among ∙ are k ∙ none));
   others = λ k none. refl;
   told = λ k. refl;
 }
 
 pub along-more : (may : Holder → Caps) (all left one rest : Holder → Bool) (was mid now : KnownSets) → Along may all left was mid → Renews one may mid now
-    → ((k : Holder) → one k ≡ true → all k ≡ true) → ((k : Holder) → left k ≡ (one k || rest k)) → Along may all rest was now
-along-more may all left one rest was mid now along then inside parts = record {
+    → ((k : Holder) → left k ≡ (one k || rest k)) → Along may all rest was now
+along-more may all left one rest was mid now along then parts = record {
+  inside = λ k among. along.inside k (parts k ∙ second_true (one k) (rest k) among);
   anew = λ k among none. by_one k among none (one k) refl;
-  others = λ k off. then.others k (false_from_ne_true (one k) (λ is. true≢false (sym (inside k is) ∙ off))) ∙ along.others k off;
+  others = λ k off. then.others k (false_from_ne_true (one k) (λ is. true≢false (sym (along.inside k (parts k ∙ ap (λ b. b || rest k) is)) ∙ off))) ∙ along.others k off;
   told = λ k. then.told k ∙ along.told k;
 }
   where
@@ -55,22 +53,6 @@ along-more may all left one rest was mid now along then inside parts = record {
 
 pub along-ends : (may : Holder → Caps) (all left : Holder → Bool) (was now : KnownSets) → Along may all left was now → ((k : Holder) → left k ≡ false) → Renews all may was now
 along-ends may all left was now along none = record { anew = λ k among. along.anew k among (none k); others = along.others; told = along.told }
-
--- the same holders, by another test
-pub renews-same : (p q : Holder → Bool) (may : Holder → Caps) (was now : KnownSets) → ((k : Holder) → q k ≡ p k) → Renews p may was now → Renews q may was now
-renews-same p q may was now alike renews = record {
-  anew = λ k on. renews.anew k (sym (alike k) ∙ on);
-  others = λ k off. renews.others k (sym (alike k) ∙ off);
-  told = renews.told;
-}
-
--- nobody
-pub renews-nobody : (p : Holder → Bool) (may : Holder → Caps) (sets : KnownSets) → ((k : Holder) → p k ≡ false) → Renews p may sets sets
-renews-nobody p may sets none = record {
-  anew = λ k on. absurd (true≢false (sym on ∙ none k));
-  others = λ k off. refl;
-  told = λ k. refl;
-}
 
 -- ---- who has an entry
 
@@ -84,54 +66,61 @@ module _ (passes : Holder → Bool) (t : Table) where
       by_entry None none = no_row t.rows k none
       by_entry (Some e) there = among_rows k t.rows (record { holder = k; entry = e }) (row_of-entry t k e there)
 
-  module _ (rows : List EntryRow) (are : rows ≡ filter (λ row. passes row.holder) t.rows) where
-    pub holders-passing : (k : Holder) → is_among (holders_of_rows rows) k ≡ (passes k && has_entry t k)
-    holders-passing k = ap (λ (rs : List EntryRow). is_among (holders_of_rows rs) k) are ∙ among-passing k
-
-    pub holder-passes : (k : Holder) → is_among (holders_of_rows rows) k ≡ true → passes k ≡ true
-    holder-passes k among = (and_parts _ _ (sym (holders-passing k) ∙ among)).0
-
-    pub holder-room : (sets : KnownSets) → HaveRoom sets t → (k : Holder) → is_among (holders_of_rows rows) k ≡ true → IsSome (known_of sets k)
-    holder-room sets room k among = room-of sets t k room (and_parts _ _ (sym (holders-passing k) ∙ among)).1
-
 -- who is known to be told the same, has room still
 pub room-told : (t : Table) (was now : KnownSets) → ((k : Holder) → known_of now k ≡ known_of was k) → HaveRoom was t → HaveRoom now t
 room-told t was now told room k e there = ap is_some (told k) ∙ room k e there
 
--- ---- the rows of a walk
+-- where nobody passes
+pub renews-nobody : (passes : Holder → Bool) (may : Holder → Caps) (t : Table) (sets : KnownSets) → list_any (λ row. passes row.holder) t.rows ≡ false → Renews (λ k. passes k && has_entry t k) may sets sets
+renews-nobody passes may t sets none = record {
+  anew = λ k on. absurd (true≢false (sym on ∙ sym (among-passing passes t k) ∙ ap (λ (rows : List EntryRow). is_among (holders_of_rows rows) k) (none_pass (λ row. passes row.holder) t.rows none)));
+  others = λ k off. refl;
+  told = λ k. refl;
+}
+  where
+    none_pass : (p : EntryRow → Bool) (rows : List EntryRow) → list_any p rows ≡ false → filter p rows ≡ []
+    none_pass p [] none = refl
+    none_pass p (row ∷ rows) none =
+        let both = or_parts (p row) (list_any p rows) none in
+        ap (λ b. cond b (row ∷ filter p rows) (filter p rows)) both.0 ∙ none_pass p rows both.1
 
--- what is left of it is of it, and the others were renewed
-pub record Walked (may : Holder → Caps) (rows left : List EntryRow) (was now : KnownSets) : Type 0 where
-  pub inside : (k : Holder) → is_among (holders_of_rows left) k ≡ true → is_among (holders_of_rows rows) k ≡ true
-  pub along : Along may (is_among (holders_of_rows rows)) (is_among (holders_of_rows left)) was now
+-- ---- the rows of a walk over those who pass
 
-pub walked-begins : (may : Holder → Caps) (rows : List EntryRow) (sets : KnownSets) → Walked may rows rows sets sets
-walked-begins may rows sets = record { inside = λ k among. among; along = along-begins may (is_among (holders_of_rows rows)) sets }
+abbrev pub Walked : (Holder → Bool) → (Holder → Caps) → Table → List EntryRow → KnownSets → KnownSets → Type 0
+Walked passes may t left was now = Along may (λ k. passes k && has_entry t k) (is_among (holders_of_rows left)) was now
 
-module _ (may : Holder → Caps) (rows left rest : List EntryRow) (row : EntryRow) (was mid : KnownSets) (walked : Walked may rows left was mid) (first : left ≡ row ∷ rest) where
-  parts : (k : Holder) → is_among (holders_of_rows left) k ≡ (same k row.holder || is_among (holders_of_rows rest) k)
-  parts k = ap (λ (rs : List EntryRow). is_among (holders_of_rows rs) k) first
+module _ (passes : Holder → Bool) (may : Holder → Caps) (t : Table) (was : KnownSets) where
+  pub walked-begins : (rows : List EntryRow) → rows ≡ filter (λ row. passes row.holder) t.rows → Walked passes may t rows was was
+  walked-begins rows are =
+      along-begins may (λ k. passes k && has_entry t k) (is_among (holders_of_rows rows)) was
+      (λ k. sym (ap (λ (rs : List EntryRow). is_among (holders_of_rows rs) k) are ∙ among-passing passes t k))
 
-  pub walked-first : is_among (holders_of_rows rows) row.holder ≡ true
-  walked-first = walked.inside row.holder (parts row.holder ∙ ap (λ b. b || is_among (holders_of_rows rest) row.holder) (same_equiv.refl row.holder))
+  module _ (mid : KnownSets) (left rest : List EntryRow) (row : EntryRow) (walked : Walked passes may t left was mid) (first : left ≡ row ∷ rest) where
+    parts : (k : Holder) → is_among (holders_of_rows left) k ≡ (same k row.holder || is_among (holders_of_rows rest) k)
+    parts k = ap (λ (rs : List EntryRow). is_among (holders_of_rows rs) k) first
 
-  pub walked-more : (now : KnownSets) → permitted_of now row.holder ≡ Some (may row.holder) → ((k : Holder) → k ≢ row.holder → permitted_of now k ≡ permitted_of mid k) → ((k : Holder) → known_of now k ≡ known_of mid k)
-      → Walked may rows rest was now
-  walked-more now own others told = record {
-    inside = λ k among. walked.inside k (parts k ∙ second_true (same k row.holder) (is_among (holders_of_rows rest) k) among);
-    along =
-        along-more may (is_among (holders_of_rows rows)) (is_among (holders_of_rows left)) (λ k. same k row.holder) (is_among (holders_of_rows rest)) was mid now walked.along
+    both : (passes row.holder ≡ true) × (has_entry t row.holder ≡ true)
+    both = and_parts _ _ (walked.inside row.holder (parts row.holder ∙ ap (λ b. b || is_among (holders_of_rows rest) row.holder) (same_equiv.refl row.holder)))
+
+    pub walked-passes : passes row.holder ≡ true
+    walked-passes = both.0
+
+    pub walked-room : HaveRoom was t → IsSome (sets_of mid row.holder)
+    walked-room room = some-mapped (λ (s : Sets). s.told) (sets_of mid row.holder) (ap is_some (walked.told row.holder) ∙ room-of was t row.holder room both.1)
+
+    pub walked-more : (now : KnownSets) → permitted_of now row.holder ≡ Some (may row.holder) → ((k : Holder) → k ≢ row.holder → permitted_of now k ≡ permitted_of mid k) → ((k : Holder) → known_of now k ≡ known_of mid k)
+        → Walked passes may t rest was now
+    walked-more now own others told =
+        along-more may (λ k. passes k && has_entry t k) (is_among (holders_of_rows left)) (λ k. same k row.holder) (is_among (holders_of_rows rest)) was mid now walked
         (record {
           anew = λ k on. let is : k ≡ row.holder = same-is k row.holder on in ap (permitted_of now) is ∙ own ∙ ap (λ h. Some (may h)) (sym is);
           others = λ k off. others k (other-holder k row.holder off);
           told = told;
-        })
-        (λ k on. ap (is_among (holders_of_rows rows)) (same-is k row.holder on) ∙ walked-first) parts;
-  }
+        }) parts
 
-pub walked-ends : (may : Holder → Caps) (rows left : List EntryRow) (was now : KnownSets) → Walked may rows left was now → left ≡ [] → Renews (is_among (holders_of_rows rows)) may was now
-walked-ends may rows left was now walked ended =
-    along-ends may (is_among (holders_of_rows rows)) (is_among (holders_of_rows left)) was now walked.along (λ k. ap (λ (rs : List EntryRow). is_among (holders_of_rows rs) k) ended)
+  pub walked-ends : (now : KnownSets) (left : List EntryRow) → Walked passes may t left was now → left ≡ [] → Renews (λ k. passes k && has_entry t k) may was now
+  walked-ends now left walked ended =
+      along-ends may (λ k. passes k && has_entry t k) (is_among (holders_of_rows left)) was now walked (λ k. ap (λ (rs : List EntryRow). is_among (holders_of_rows rs) k) ended)
 
 -- ---- inodes, one after another
 
@@ -139,43 +128,19 @@ walked-ends may rows left was now walked ended =
 abbrev pub is_at : Table → List ℕ → Holder → Bool
 is_at t numbers k = list_any (eq_by_cmp nat_cmp k.ino.0) numbers && has_entry t k
 
-either_held : (a b h : Bool) → ((a || b) && h) ≡ false → (a && h) ≡ false
-either_held true b h off = off
-either_held false b h off = refl
-
-last_held : (a b h : Bool) → ((a || b) && h) ≡ true → (b && h) ≡ false → (a && h) ≡ true
-last_held true b h on off = on
-last_held false b h on off = absurd (true≢false (sym on ∙ off))
-
-both_held : (a b h : Bool) → ((a || b) && h) ≡ ((a && h) || (b && h))
-both_held true b true = refl
-both_held true true false = refl
-both_held true false false = refl
-both_held false b h = refl
-
-module _ (may : Holder → Caps) (t : Table) (ino : ℕ) (affected : InoSet) (all : List ℕ) (among : (k : ℕ) → set.contains affected k ≡ list_any (eq_by_cmp nat_cmp k) all) where
-  -- the one inode is done
-  pub inodes-begin : (was mid : KnownSets) → Renews (λ k. (k.ino.0 == ino) && has_entry t k) may was mid → Along may (λ k. is_affected ino affected k.ino.0 && has_entry t k) (is_at t all) was mid
-  inodes-begin was mid first = record {
-    anew = λ k on off. first.anew k (last_held (k.ino.0 == ino) (set.contains affected k.ino.0) (has_entry t k) on (ap (λ b. b && has_entry t k) (among k.ino.0) ∙ off));
-    others = λ k off. first.others k (either_held (k.ino.0 == ino) (set.contains affected k.ino.0) (has_entry t k) off);
-    told = first.told;
-  }
-
-  -- and one more
-  pub inodes-more : (n : ℕ) (rest left : List ℕ) (was mid now : KnownSets) → left ≡ n ∷ rest → ((k : ℕ) → list_any (eq_by_cmp nat_cmp k) left ≡ true → set.contains affected k ≡ true)
-      → Along may (λ k. is_affected ino affected k.ino.0 && has_entry t k) (is_at t left) was mid → Renews (λ k. (k.ino.0 == n) && has_entry t k) may mid now
-      → Along may (λ k. is_affected ino affected k.ino.0 && has_entry t k) (is_at t rest) was now
-  inodes-more n rest left was mid now first inside along then =
-      along-more may (λ k. is_affected ino affected k.ino.0 && has_entry t k) (is_at t left) (λ k. (k.ino.0 == n) && has_entry t k) (is_at t rest) was mid now along then
-      (λ k on.
-      let both = and_parts _ _ on in
-      let here : set.contains affected k.ino.0 ≡ true = inside k.ino.0 (listed k ∙ ap (λ b. b || list_any (eq_by_cmp nat_cmp k.ino.0) rest) both.0) in
-      (λ i. second_true (k.ino.0 == ino) (set.contains affected k.ino.0) here i && both.1 i))
-      (λ k. ap (λ b. b && has_entry t k) (listed k) ∙ both_held (k.ino.0 == n) (list_any (eq_by_cmp nat_cmp k.ino.0) rest) (has_entry t k))
-    where
-      listed : (k : Holder) → list_any (eq_by_cmp nat_cmp k.ino.0) left ≡ ((k.ino.0 == n) || list_any (eq_by_cmp nat_cmp k.ino.0) rest)
-      listed k = ap (λ (ns : List ℕ). list_any (eq_by_cmp nat_cmp k.ino.0) ns) first ∙ ap (λ b. b || list_any (eq_by_cmp nat_cmp k.ino.0) rest) (unsigned_tied k.ino.0 n)
+pub inodes-more : (may : Holder → Caps) (t : Table) (all : Holder → Bool) (n : ℕ) (rest left : List ℕ) (was mid now : KnownSets) → left ≡ n ∷ rest
+    → Along may all (is_at t left) was mid → Renews (λ k. (k.ino.0 == n) && has_entry t k) may mid now → Along may all (is_at t rest) was now
+inodes-more may t all n rest left was mid now first along then =
+    along-more may all (is_at t left) (λ k. (k.ino.0 == n) && has_entry t k) (is_at t rest) was mid now along then
+    (λ k.
+    ap (λ (ns : List ℕ). is_at t ns k) first ∙ ap (λ b. (b || list_any (eq_by_cmp nat_cmp k.ino.0) rest) && has_entry t k) (unsigned_tied k.ino.0 n)
+    ∙ both_held (k.ino.0 == n) (list_any (eq_by_cmp nat_cmp k.ino.0) rest) (has_entry t k))
+  where
+    both_held : (a b h : Bool) → ((a || b) && h) ≡ ((a && h) || (b && h))
+    both_held true b true = refl
+    both_held true true false = refl
+    both_held true false false = refl
+    both_held false b h = refl
 
 -- what a search finds is there
 pub found-contains : {T : Type 0} (p : T → Bool) (rows : List T) (row : T) → find p rows ≡ Some row → Contains rows row
@@ -235,20 +200,19 @@ other-number a b off = eqb-false a b off
 
 -- ---- where a request was served
 
-module _ (tree : Nodes) (q : Request) (o : Outcome) (ino : ℕ) (others : InoSet) (s : Scene) (served : ServedFrom tree q o ino others s) where
+module _ (tree : Nodes) (q : Request) (o : Outcome) (affected : InoSet) (s : Scene) (served : ServedFrom tree q o affected s) where
   -- it is not to move its inode: the others are alike
   pub alike-off : is_rename q.ask ≡ false → (k : Holder) → (k.ino.0 == q.ino.0) ≡ false → IsAlike tree s.tree k.ino.0
   alike-off stays k off = served.alike k.ino.0 (other-number k.ino.0 q.ino.0 off) (λ moves. absurd (true≢false (sym moves ∙ stays)))
 
   -- it is: so are those that are not affected and that somebody has an entry on
-  pub alike-far : is_rename q.ask ≡ true → (k : Holder) (e : Entry) → entry_at s.table k ≡ Some e → is_affected ino others k.ino.0 ≡ false → IsAlike tree s.tree k.ino.0
+  pub alike-far : is_rename q.ask ≡ true → (k : Holder) (e : Entry) → entry_at s.table k ≡ Some e → set.contains affected k.ino.0 ≡ false → IsAlike tree s.tree k.ino.0
   alike-far moves k e there off = elim served.covers [
     | inl left ↦ subst (λ (t : Nodes). IsAlike tree t k.ino.0) (sym left) (alike-itself tree k.ino.0)
     | inr covers ↦
-        let apart = or_parts (k.ino.0 == ino) (set.contains others k.ino.0) off in
         let row : EntryRow = record { holder = k; entry = e } in
         let among = found-contains (is_row_of k) s.table.rows row (row_of-entry s.table k e there) in
         let out : is_within tree.nodes k.ino.0 q.ino.0 ≡ false =
-        false_from_ne_true (is_within tree.nodes k.ino.0 q.ino.0) (λ below. true≢false (sym (covers moves row among (other-number k.ino.0 ino apart.0) below) ∙ apart.1)) in
+        false_from_ne_true (is_within tree.nodes k.ino.0 q.ino.0) (λ below. true≢false (sym (covers moves row among below) ∙ off)) in
         served.alike k.ino.0 (off_within tree k.ino.0 q.ino.0 out) (λ _. out)
   ]

@@ -3,22 +3,15 @@ use Rattle.std.specs.Prelude.{ℕ, Bool, List, Option, map as each}
 use Rattle.std.specs.FinMap as map
 use Rattle.std.specs.FinSet as set
 use Rattle.capbits.specs.{Caps.{Caps}, Sets.{meet}}
-use Rattle.inotree.specs.Tree.{Nodes}
+use Rattle.inotree.specs.{InoSets.{InoSet}, Tree.{Nodes}}
 use Rattle.captable.specs.{Calls.{issued, renumbered}, declared.entry.Entry.{Entry}, declared.entry.EntryRow.{EntryRow}, declared.entry.Holder.{Holder}}
 use Rattle.sessiontab.specs.Table.{SessionTable}
-use Rattle.caprules.specs.Lockmachine.{Inodes.{StateMap}, Policy.{permitted}, declared.states.InodeLocks.{InodeLocks}}
-pub use Rattle.caprules.specs.Lockmachine.Under.{against_under, allowed_under, told_under}
-use Rattle.inotree.specs.InoSets.{InoSet}
-use Rattle.caprules.specs.Lockmachine.Wants.{effective_want}
-use Rattle.capacts.specs.declared.finishing.Standing.{Standing}
+use Rattle.caprules.specs.Lockmachine.{Inodes.{StateMap}, Policy.{permitted}, Wants.{effective_want}, declared.states.InodeLocks.{InodeLocks}}
+pub use Rattle.caprules.specs.Lockmachine.Under.{allowed_under, told_under}
 
 -- the clients of these entries
 abbrev pub clients_of : List EntryRow → List ℕ
 clients_of rows = each (λ row. row.holder.client.0) rows
-
--- the entry, with more held
-abbrev pub with_issued : Caps → EntryRow → EntryRow
-with_issued caps row = record row { entry = issued caps row.entry }
 
 -- what its client effectively wants and the locks allow
 abbrev pub due_under : List ℕ → Nodes → SessionTable → Option InodeLocks → EntryRow → Caps
@@ -31,21 +24,15 @@ numbered_as known told due row = renumbered (meet known row.entry.held) told (is
 
 -- what its client is to know of at the end, where its inode has these locks
 abbrev pub told_at : List ℕ → Nodes → SessionTable → Option InodeLocks → EntryRow → Caps
-told_at fs tree sessions locks row = told_under (permitted fs tree sessions row.holder) locks (with_issued (due_under fs tree sessions locks row) row)
+told_at fs tree sessions locks row =
+    told_under (permitted fs tree sessions row.holder) locks (record row { entry = issued (due_under fs tree sessions locks row) row.entry })
 
 -- the entry at the end, where this was known of entries
 abbrev pub entry_under : (Holder → Caps) → List ℕ → Nodes → SessionTable → Option InodeLocks → EntryRow → Entry
 entry_under known fs tree sessions locks row =
     numbered_as (known row.holder) (told_at fs tree sessions locks row) (due_under fs tree sessions locks row) row
 
--- both where the inode of the entry stands so
-abbrev pub told_in : Standing → EntryRow → Caps
-told_in standing row = told_at standing.fs.now standing.tree.now standing.sessions.now standing.locks row
-
-abbrev pub entry_in : (Holder → Caps) → Standing → EntryRow → Entry
-entry_in known standing row = entry_under known standing.fs.now standing.tree.now standing.sessions.now standing.locks row
-
--- and by the locks of all inodes
+-- both by the locks of all inodes
 abbrev pub told_by : List ℕ → Nodes → SessionTable → StateMap → EntryRow → Caps
 told_by fs tree sessions states row = told_at fs tree sessions (map.get states row.holder.ino.0) row
 

@@ -44,8 +44,7 @@ OthersHaveAll sets s k =
 -- where the holder is among those, and has an entry, its set is this; else it is as it was
 abbrev pub known_anew : Bool → (EntryRow → Caps) → Option EntryRow → Option Caps → Option Caps
 known_anew true set_of (Some row) was = Some (set_of row)
-known_anew true set_of None was = was
-known_anew false set_of row was = was
+known_anew among set_of row was = was
 
 -- of each entry of the table whose holder is among those, its new set is kept
 abbrev pub KnownAnew : (Holder → Bool) → (EntryRow → Caps) → Table → KnownSets → KnownSets → Type 0

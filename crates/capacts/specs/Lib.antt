@@ -1,3 +1,4 @@
+pub mod Asks
 pub mod Served
 pub mod Finishing
 pub mod Known

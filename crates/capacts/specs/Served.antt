@@ -20,8 +20,5 @@ call_tests tree ino (Rename dir name) = rename_tests tree ino dir.0 name
 
 -- the inode is to move
 abbrev pub is_rename : Ask → Bool
-is_rename (Get part) = false
-is_rename (Alter change) = false
-is_rename Unlink = false
-is_rename Rmdir = false
 is_rename (Rename dir name) = true
+is_rename ask = false

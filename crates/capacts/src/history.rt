@@ -1,5 +1,5 @@
 //! The rows of a history.
-ghost use Rattle.std.specs.Prelude.{◌≡◌, ◌+◌, ◌≤◌, ◌<◌, ◌^◌, ◌++◌, [], ◌∷◌, ◌↔◌, Err, length, IfOk, OnOk, vec_len, vec_capacity};
+ghost use Rattle.std.specs.Prelude.{◌≡◌, ◌+◌, ◌≤◌, ◌<◌, ◌++◌, [], ◌∷◌, ◌↔◌, Err, length, IfOk, OnOk, vec_len, vec_capacity};
 ghost use Rattle.caprules.specs.Numbers.{AreNumbered, rows_of};
 ghost use Rattle.capacts.specs.declared.stop.Stop.TheVariants as stop_kind;
 
@@ -20,7 +20,10 @@ pub fn make_room(rows: &mut Vec<Row>, max_rows: u32, pass: PassId) -> Result<u64
         return Err(Stop::Full);
     }
     rows.reserve(1)?;
-    Ok(next_number(rows, pass))
+    match rows.iter().rev().find(|row| row.pass == pass) {
+        Some(row) => Ok(row.nth + 1),
+        None => Ok(1),
+    }
 }
 
 /// Adds a row for which there is room.
@@ -31,16 +34,4 @@ pub fn add_row(rows: &mut Vec<Row>, row: Row)
     let Ok(()) = rows.push(row) else {
         unreachable!()
     };
-}
-
-// The number of a pass's next row.
-fn next_number(rows: &[Row], pass: PassId) -> u64
-    requires numbered { AreNumbered rows.now }
-    requires room { length rows.now < 2 ^ 32 }
-    ensures { result ≡ rows_of pass rows.now + 1 }
-{
-    match rows.iter().rev().find(|row| row.pass == pass) {
-        Some(row) => row.nth + 1,
-        None => 1,
-    }
 }

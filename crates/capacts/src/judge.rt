@@ -1,15 +1,80 @@
-//! What grants say of an access, and what stops a request.
-ghost use Rattle.std.specs.{Option.{option_map}, Prelude.{◌≡◌}};
-ghost use Rattle.caprules.specs.Judge.{denial_of};
-ghost use Rattle.caprules.specs.declared.rejection.Rejection.TheVariants as rejection_kind;
+//! What stops a request: its tests and what grants say of the accesses that it needs.
+ghost use Rattle.std.specs.Prelude.{◌≡◌, []};
+ghost use Rattle.capbits.specs.Refusal.{first_failing};
+ghost use Rattle.caprules.specs.{Asks.{ask_before, ask_needs, ask_after}, Judge.{denial_of, rejection_of}};
+ghost use Rattle.caprules.specs.Asks as words;
+ghost use Rattle.capacts.specs.Asks.{ask_of};
 
-use capbits::Refusal;
+use crate::asks::Asked;
+use capbits::{Ino, Refusal};
 use capgrant::{Access, Verdict};
-use caprules::{Rejection, verdict_on};
+use caprules::{Change, Rejection, Scene, verdict_on};
 use capspec::FsName;
 use captable::Holder;
-use inotree::Tree;
+use inotree::{Setting, Tree};
 use sessiontab::Sessions;
+
+/// What stops a request, when it comes and again when it is served.
+pub fn ask_rejection(scene: &Scene, holder: Holder, asked: Asked) -> Option<Rejection>
+    ensures { let s = scene.now in let ask = ask_of asked.entry in
+        result ≡ rejection_of s (ask_before s holder.ino.0 ask) (ask_needs s holder.client holder.ino.0 ask) (ask_after s holder.ino.0 ask) }
+{
+    let (tree, ino) = (&scene.tree, holder.ino);
+    if let Some(refusal) = before_refusal(scene, ino, asked) {
+        return Some(Rejection::ByTest(refusal));
+    }
+    if let Some(denied) = ask_denial(scene, holder, asked) {
+        return Some(denied);
+    }
+    let refusal = match asked {
+        Asked::Get(_) => None,
+        Asked::Alter(change) => change_refusal(scene, ino, change),
+        Asked::Unlink => tree.file_refusal(ino),
+        Asked::Rmdir => tree.empty_refusal(ino),
+        Asked::Rename { dir, name } => tree.new_place_refusal(ino, dir, name.as_slice()),
+    };
+    Some(Rejection::ByTest(refusal?))
+}
+
+// The first test before policy that fails.
+fn before_refusal(scene: &Scene, ino: Ino, asked: Asked) -> Option<Refusal>
+    ensures { result ≡ first_failing (ask_before scene.now ino.0 (ask_of asked.entry)) }
+{
+    let tree = &scene.tree;
+    if let Some(refusal) = tree.inode_refusal(ino) {
+        return Some(refusal);
+    }
+    match asked {
+        Asked::Get(_) | Asked::Alter(_) => None,
+        Asked::Unlink | Asked::Rmdir => tree.root_refusal(ino),
+        Asked::Rename { dir, .. } => match tree.root_refusal(ino) {
+            Some(refusal) => Some(refusal),
+            None => tree.inode_refusal(dir),
+        },
+    }
+}
+
+// The denial of the first access that it needs and no grant of its client allows.
+fn ask_denial(scene: &Scene, holder: Holder, asked: Asked) -> Option<Rejection>
+    ensures { let s = scene.now in result ≡ rejection_of s [] (ask_needs s holder.client holder.ino.0 (ask_of asked.entry)) [] }
+{
+    let (fs, tree, sessions) = (&scene.fs, &scene.tree, &scene.sessions);
+    let Holder { client, ino } = holder;
+    let (at, access, into) = match asked {
+        Asked::Get(_) => (Some(ino), Access::Read, None),
+        Asked::Alter(change) => (Some(ino), change_access(change), None),
+        // The directory that it stands in, if any.
+        Asked::Unlink | Asked::Rmdir => (tree.parent(ino), Access::Write, None),
+        Asked::Rename { dir, .. } => (tree.parent(ino), Access::Write, Some(dir)),
+    };
+    if let Some(ino) = at {
+        if let Some(denied) = denial(fs, tree, sessions, Holder { client, ino }, access) {
+            return Some(denied);
+        }
+    }
+    let ino = into?;
+    denial(fs, tree, sessions, Holder { client, ino }, Access::Write)
+}
 
 /// The denial of an access that no grant of the client allows.
 pub fn denial(
@@ -27,12 +92,35 @@ pub fn denial(
     }
 }
 
-/// What a test stops.
-pub fn by_test(refusal: Option<Refusal>) -> Option<Rejection>
-    ensures { result ≡ option_map rejection_kind.ByTest refusal }
+/// The access that a change needs.
+pub fn change_access(change: &Change) -> Access
+    ensures { result ≡ words.change_access change.now }
 {
-    match refusal {
-        Some(refusal) => Some(Rejection::ByTest(refusal)),
-        None => None,
+    match change {
+        Change::Set(Setting::Mode(_)) => Access::Chmod,
+        Change::Set(Setting::Uid(uid)) => Access::Chown(*uid),
+        Change::Set(Setting::Gid(gid)) => Access::Chgrp(*gid),
+        Change::Set(Setting::Size(_) | Setting::Time(_)) => Access::Write,
+        Change::SetXattr { name, .. } | Change::RemoveXattr { name } => {
+            if name.as_slice().starts_with(b"ceph.") {
+                Access::SetVxattr
+            } else {
+                Access::Write
+            }
+        }
+    }
+}
+
+/// The first test of a change that fails.
+pub fn change_refusal(scene: &Scene, ino: Ino, change: &Change) -> Option<Refusal>
+    ensures { result ≡ first_failing (words.change_tests scene.now ino.0 change.now) }
+{
+    let tree = &scene.tree;
+    match change {
+        Change::Set(setting) => tree.setting_refusal(ino, setting),
+        Change::SetXattr { name, value } => {
+            tree.new_attribute_refusal(ino, name.as_slice(), value.as_slice())
+        }
+        Change::RemoveXattr { name } => tree.old_attribute_refusal(ino, name.as_slice()),
     }
 }

@@ -4,6 +4,7 @@
 //! `capsteps` goes over all that a step affects with them.
 #![tactic(auto)]
 
+mod asks;
 pub mod finishing;
 pub mod history;
 pub mod judge;
@@ -12,8 +13,8 @@ pub mod reach;
 pub mod renewing;
 pub mod serving;
 pub mod stop;
-pub mod sweep;
 
+pub use asks::{Asked, copy_of_ask};
 pub use caprules::{
     Ask, Bytes, Change, ChangeList, Ended, EndedList, EndedTickets, Event, InodeLocks, Locks,
     Message, MessageList, Messages, Move, OpenMode, Outcome, PartValues, Policy, Question,

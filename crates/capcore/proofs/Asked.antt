@@ -1,9 +1,9 @@
 -- An event that asks for something, by itself: its request comes to wait behind the others, and nothing else changes.
-use Rattle.std.{proofs.Common.{◌≡◌, ℕ, ◌<◌, cond, true, Option, Some, None, is_some, length, refl, ap, ◌∙◌, arith, IsTrue, nat_le}, proofs.lemmas.Bool.{leb-false, lt-leb}, proofs.lemmas.List.Elements.{All-filter, All-push}, proofs.lemmas.Option.{none-some}, specs.Option.{option_map}}
+use Rattle.std.{proofs.Common.{◌≡◌, ℕ, ◌<◌, cond, true, Option, Some, None, is_some, length, refl, ap, ◌∙◌, arith, IsTrue, nat_le}, proofs.lemmas.Bool.{leb-false, lt-leb}, proofs.lemmas.List.Elements.{All-filter, All-push}, specs.Option.{option_map}}
 use Rattle.std.specs.FinMap as map
 use Rattle.capbits.proofs.Tests.{passed-if}
-use Rattle.capsteps.proofs.{EntryRequests.{asked-session, asked-there}, Lockmachine.Queue.{with_request-kept}, Lockmachine.SameBut.{same-request}}
-use Rattle.capcore.{proofs.Common.{AffectsOne, all-left, Alter, AreBelow, AreGiven, Ask, ask_after, ask_before, ask_needs, asked_tests, asking_tests, asks, asks_for, ClientId, direct, effect, effect_unless, Event, first_denied, first_failing, Get, has_session, Holder, holder, Ino, inode_tests, InodeLocks, is_of_inode, IsAffectedEntry, IsLockMap, IsSound, IsTable, judged, judged_again, lock_in, Need, next_request, Part, pass-both, passed-both, queue_tests, Refusal, rejection_by, rejection_of, Rename, Request, Rmdir, Scene, session_tests, sound-pinned, State, Unlink, waiting_tests, with_request}, specs.Asks.{ask_of, asked_event}, specs.declared.asks.Asked.{Asked}}
+use Rattle.capsteps.{proofs.EntryRequests.{asked-session, asked-there}, proofs.Lockmachine.Queue.{with_request-kept}, proofs.Lockmachine.SameBut.{same-request}, specs.Capacts.declared.asks.Asked.{Asked}}
+use Rattle.capcore.{proofs.Common.{AffectsOne, all-left, AreBelow, AreGiven, Ask, ask_after, ask_before, ask_needs, ask_of, asked_tests, asking_tests, asks, asks_for, ClientId, direct, effect, effect_unless, Event, first_denied, first_failing, has_session, Holder, holder, Ino, inode_tests, InodeLocks, is_of_inode, IsAffectedEntry, IsLockMap, IsSound, IsTable, judged, judged_again, lock_in, Need, next_request, Part, pass-both, passed-both, queue_tests, Refusal, rejection_by, rejection_of, Request, Scene, session_tests, sound-pinned, State, waiting_tests, with_request}, specs.UnderWay.{asked_event}}
 
 -- ---- which events ask, and what
 
@@ -12,21 +12,8 @@ pub record IsAsking (k : Holder) (ask : Ask) (e : Event) : Type 0 where
   pub effect_is : (s : State) → effect s e ≡ asks s k.client k.ino ask
   pub judged_is : (s : Scene) → judged s e ≡ rejection_of s (asking_tests s k.client k.ino.0 ask) (ask_needs s k.client k.ino.0 ask) (waiting_tests s k.ino.0 ask)
 
-same_asking : (k other : Holder) (ask more : Ask) (e : Event) → ◌≡◌ {A = Option (Holder × Ask)} (Some (k, ask)) (Some (other, more)) → IsAsking k ask e → IsAsking other more e
-same_asking k other ask more e is asking = grind arith
-
 pub asking : (e : Event) (k : Holder) (ask : Ask) → asks_for e ≡ Some (k, ask) → IsAsking k ask e
-asking (Event.Get client ino part) k ask is =
-    same_asking (holder client ino) k (Get part) ask (Event.Get client ino part) is (record { effect_is = λ s. refl; judged_is = λ s. refl })
-asking (Event.Alter client ino change) k ask is =
-    same_asking (holder client ino) k (Alter change) ask (Event.Alter client ino change) is (record { effect_is = λ s. refl; judged_is = λ s. refl })
-asking (Event.Unlink client ino) k ask is =
-    same_asking (holder client ino) k Unlink ask (Event.Unlink client ino) is (record { effect_is = λ s. refl; judged_is = λ s. refl })
-asking (Event.Rmdir client ino) k ask is =
-    same_asking (holder client ino) k Rmdir ask (Event.Rmdir client ino) is (record { effect_is = λ s. refl; judged_is = λ s. refl })
-asking (Event.Rename client ino dir name) k ask is =
-    same_asking (holder client ino) k (Rename dir name) ask (Event.Rename client ino dir name) is (record { effect_is = λ s. refl; judged_is = λ s. refl })
-asking e k ask is = absurd (none-some (k, ask) is)
+asking e k ask is = record { effect_is = λ s. grind arith; judged_is = λ s. grind arith }
 
 -- what stops the event is what stops the request
 pub asking-rejection : (e : Event) (k : Holder) (ask : Ask) (s : Scene) → asks_for e ≡ Some (k, ask)
@@ -38,9 +25,6 @@ pub asking-direct : (old : State) (e : Event) (k : Holder) (ask : Ask) → asks_
 asking-direct old e k ask is free = let a = asking e k ask is in ap (effect_unless old e) free ∙ a.effect_is old
 
 -- ---- what a request that nothing stops has passed
-
-inode_passed : (s : Scene) (ino : ℕ) (ask : Ask) → first_failing (ask_before s ino ask) ≡ None → first_failing (inode_tests s.tree ino) ≡ None
-inode_passed s ino ask passed = grind arith
 
 -- where nothing stops a request, no test fails and nothing is denied
 all_passed : (s : Scene) (o : Option Refusal) (d : Option Need) (l : Option Refusal) → rejection_by s o d l ≡ None → (o ≡ None) × (d ≡ None) × (l ≡ None)
@@ -57,7 +41,7 @@ module _ (s : Scene) (k : Holder) (ask : Ask) (free : rejection_of s (asking_tes
   after_passed = passed-both (ask_after s k.ino.0 ask) (queue_tests s.locks) all_three.2
 
   both_passed : first_failing (asked_tests s k.client k.ino.0) ≡ None
-  both_passed = pass-both (session_tests s.sessions k.client.0) (inode_tests s.tree k.ino.0) before_passed.0 (inode_passed s k.ino.0 ask before_passed.1)
+  both_passed = pass-both (session_tests s.sessions k.client.0) (inode_tests s.tree k.ino.0) before_passed.0 (grind (arith, before_passed))
 
   -- its client has a session, and the inode is there
   pub asking-session : has_session s.sessions k.client.0 ≡ true

@@ -1,7 +1,7 @@
 -- How many requests a step serves, and how often its locks move between two servings.
 use Rattle.std.proofs.Common.{◌≡◌, ◌++◌, ℕ, List, [], ◌∷◌, Option, Some, None, map, refl, sym, subst, arith}
-use Rattle.capsteps.{proofs.Lockmachine.Ending.{few}, specs.Lockmachine.Runs.{Runs}}
-use Rattle.capcore.proofs.{Asked.{order-of_ask}, Common.{Alter, AreBounded, Began, ByMoves, child, direct, effect, effect_unless, Ended, ended_in, Event, found, Gathered, Get, holder, IsLockMap, judged, Made, MakesAll, move_of, Rejection, Rename, Reply, Rmdir, Scene, Served, served-count, State, Step, Unlink, without_requests_of-kept}}
+use Rattle.capsteps.{proofs.Lockmachine.Ending.{few}, proofs.Moved.{served-count}, specs.Lockmachine.Runs.{Runs}}
+use Rattle.capcore.proofs.{Asked.{order-of_ask}, Common.{Alter, AreBounded, ByMoves, child, direct, effect, effect_unless, Ended, ended_in, Event, found, Get, holder, IsLockMap, judged, Made, MakesAll, move_of, Rejection, Rename, Reply, Rmdir, Scene, Served, State, Step, Unlink, without_requests_of-kept}}
 
 -- ---- the queue stays in order, whatever the event
 
@@ -39,11 +39,8 @@ makes-split s (m ∷ ms) more t (next, one, made) = (let rest = makes-split next
 -- moves that serve nobody are a run of moves of locks
 made-runs : (s : Scene) (ms : List Made) (t : Scene) → MakesAll s ms t → ended_in ms ≡ [] → Runs s (map move_of ms) t
 made-runs s [] t is none = is
-made-runs s (Began ino part to ∷ ms) t (next, (first, is), made) none =
-    (first, refl, subst (λ (u : Scene). Runs u (map move_of ms) t) is (made-runs next ms t made none))
-made-runs s (Gathered ino part ∷ ms) t (next, (first, is), made) none =
-    (first, refl, subst (λ (u : Scene). Runs u (map move_of ms) t) is (made-runs next ms t made none))
 made-runs s (Served q o ∷ ms) t made none = absurd (cc)
+made-runs s (m ∷ ms) t (next, one, made) none = (one.0, refl, subst (λ (u : Scene). Runs u (map move_of ms) t) one.1 (made-runs next ms t made none))
 
 pub moves-bounded : (s : Scene) (ms : List Made) (t : Scene) → IsLockMap s.locks → MakesAll s ms t → AreBounded s ms
 moves-bounded s ms t order made = record {

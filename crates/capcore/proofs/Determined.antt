@@ -1,8 +1,9 @@
 -- Two steps from one state with the same event are the same where the same requests find no memory: so where all find it, and so
 -- where their rows say the same.
-use Rattle.std.{proofs.Common.{◌≡◌, ◌≢◌, ◌⊎◌, ◌↔◌, ◌≤◌, ℕ, zero, suc, not, cond, List, [], ◌∷◌, Option, Some, None, refl, sym, ap, subst, ◌∙◌, inl, inr, All, Contains, arith, nat_le, unwrap_or, filter}, proofs.lemmas.Bool.{le-leb, ne_eqb}, proofs.lemmas.List.{append_cancel_left}, proofs.lemmas.List.Elements.{All-weaker, All-filter, All-contains, All-push, Contains-append_right}, proofs.lemmas.Option.{same_Some}, specs.Cmp.{nat_eq_equiv}, specs.List.{find}}
-use Rattle.capsteps.{proofs.Capnotes.Taking.{own-head, own-tail}, specs.Caprules.Serving.{served}, specs.Caprules.Step.{StepBy}, specs.Lockmachine.Moves.{with_moved}, specs.Lockmachine.Requests.{is_of_client}, specs.Lockmachine.declared.moves.Move.TheVariants.{Settled}}
-use Rattle.capcore.{proofs.Bounded.{direct-order}, proofs.Common.{all_ended, Alter, Answer, As_judged, Ask, asks, awaited_as, Awaits, Began, Begin, child, ClientId, contains-filter, Direct, direct, earlier, effect, effect_unless, End, Ended, ended-waited, ended_in, Event, filter-contains, finished, first_move, found, Gathered, Get, HaveOwnNumbers, Ino, is_of_ticket, IsLockMap, judged, Made, Makes, MakesAll, MayEndAs, move_of, moved-all, next_request, no_moves, Outcome, outcome_reply, Rejection, Rename, Reply, reply_of, Request, request_at, Rmdir, Scene, Serve, Served, shown, sized_in, sizes_owed, State, state_after, Step, Ticket, Unlink, Waited, Without_memory}, proofs.EndedIn.{own-numbers}, specs.SameEvents.{FoundMemory}}
+use Rattle.std.{proofs.Common.{◌≡◌, ◌≢◌, ◌⊎◌, ◌↔◌, ◌≤◌, ℕ, zero, suc, not, cond, List, [], ◌∷◌, Option, Some, refl, sym, ap, subst, ◌∙◌, inl, inr, All, Contains, arith, nat_le, unwrap_or, filter, ◌+◌, ◌++◌, append_assoc}, proofs.lemmas.Bool.{le-leb, ne_eqb}, proofs.lemmas.List.{append_cancel_left}, proofs.lemmas.List.Elements.{All-weaker, All-filter, All-contains, All-push, Contains-append_right, All-head, All-tail}, proofs.lemmas.Option.{same_Some}, specs.Cmp.{nat_eq_equiv}, specs.List.{find}}
+use Rattle.capbits.specs.declared.ids.PassId.{PassId}
+use Rattle.capsteps.{proofs.Capnotes.Taking.{own-head, own-tail}, specs.Caprules.Numbers.{AreNumbered}, specs.Caprules.Serving.{served}, specs.Caprules.Step.{StepBy}, specs.Lockmachine.Moves.{with_moved}, specs.Lockmachine.Requests.{is_of_client}, specs.Lockmachine.declared.moves.Move.TheVariants.{Settled}}
+use Rattle.capcore.{proofs.Bounded.{direct-order}, proofs.Common.{all_ended, Alter, Answer, As_judged, Ask, asks, awaited_as, Awaits, Began, Begin, child, ClientId, contains-filter, Direct, direct, earlier, effect, End, Ended, ended-waited, ended_in, Event, filter-contains, finished, first_move, found, Gathered, Get, HaveOwnNumbers, Ino, is_of_ticket, IsLockMap, IsOpening, Made, Makes, MakesAll, MayEndAs, move_of, moved-all, next_request, no_moves, Nodes, Outcome, outcome_reply, Rename, Replays, Reply, reply_of, Request, request_at, Rmdir, Row, rows_of, Scene, Serve, Served, shown, sized_in, sizes_owed, State, state_after, Step, Ticket, Unlink, Waited, Without_memory}, proofs.EndedIn.{own-numbers}, specs.SameEvents.{FoundMemory, AllFoundMemory, events_of, ends_of, passes_of}}
 
 -- ---- moves
 
@@ -85,11 +86,7 @@ module _ (old : State) (order : IsLockMap old.scene.locks) where
   effect-fits e = all-fit (effect old e)
 
   direct-fits : (e : Event) → All (Fits old (direct old e)) (direct old e).state.scene.locks.queue
-  direct-fits e = by_stop (judged old.scene e)
-    where
-      by_stop : (o : Option Rejection) → All (Fits old (effect_unless old e o)) (effect_unless old e o).state.scene.locks.queue
-      by_stop None = effect-fits e
-      by_stop (Some rejection) = all-fit (effect_unless old e (Some rejection))
+  direct-fits e = grind (arith, all-fit, effect-fits)
 
 -- a request that ended is found by its number
 found-own : (m : Ended) (ms : List Ended) → HaveOwnNumbers ms → Contains ms m → find (is_of_ticket m.ticket) ms ≡ Some m
@@ -207,3 +204,47 @@ module _ (old : State) (e : Event) (order : IsLockMap old.scene.locks) where
       let moved = (moved-all d.state.scene moves by.settled by.settles.made).order (direct-order old e order) in
       let kept : IsLockMap (finished old.scene d.state.scene (sizes_owed (sized_in moves) by.settled)).locks = record { rising = moved.rising; given = moved.given; room = moved.room } in
       subst (λ (s : State). IsLockMap s.scene.locks) (sym by.new_is) (shown-order d.answer (state_after old d moves by.settled) kept)
+
+-- ---- so the rows of a history lead to one state; and where no request finds no memory, its events say all that is in it
+
+-- rows lead to one state
+pub rows-once : (first last end : State) (rows : List Row) → IsLockMap first.scene.locks → Replays first rows last → Replays first rows end → last ≡ end
+rows-once first last end [] order is at = is ∙ sym at
+rows-once first last end (r ∷ rs) order (mid, (moves, by), rest) (mid', (others, by'), rest') =
+    let same = (row-once first r.event order moves others r.reply r.ended mid mid' by by').1 in
+    rows-once mid' last end rs (step-order first r.event order r.reply r.ended mid' (others, by')) (subst (λ (s : State). Replays s rs last) same rest) rest'
+
+-- where all find memory, rows with the same events have the same ends, and lead to the same state
+pub same-ends : (first last end : State) (rows others : List Row) → IsLockMap first.scene.locks → Replays first rows last → Replays first others end → events_of rows ≡ events_of others
+    → AllFoundMemory rows → AllFoundMemory others → (ends_of rows ≡ ends_of others) × (last ≡ end)
+same-ends first last end [] [] order is at same finds again = (refl, is ∙ sym at)
+same-ends first last end (r ∷ rs) (q ∷ qs) order (mid, step, rest) (mid', step', rest') same finds again =
+    let event : r.event ≡ q.event = cc in
+    let behind : events_of rs ≡ events_of qs = cc in
+    let found = λ (row : Row). FoundMemory row.reply row.ended in
+    let once = step-once first q.event order r.reply q.reply r.ended q.ended mid mid' (subst (λ (e : Event). Step first e r.reply r.ended mid) event step) step' (All-head found r rs finds) (All-head found q qs again) in
+    let more =
+    same-ends mid' last end rs qs (step-order first q.event order q.reply q.ended mid' step') (subst (λ (s : State). Replays s rs last) once.2 rest) rest' behind
+    (All-tail found r rs finds) (All-tail found q qs again) in
+    ((λ i. (once.0 i, once.1 i) ∷ more.0 i), more.1)
+same-ends first last end rows others order is at same finds again = absurd (cc)
+
+-- rows that are numbered behind the same rows are the same where what they say and who called is
+pub same-rows : (before rows others : List Row) → AreNumbered (before ++ rows) → AreNumbered (before ++ others) → passes_of rows ≡ passes_of others → events_of rows ≡ events_of others
+    → ends_of rows ≡ ends_of others → rows ≡ others
+same-rows before [] [] numbered again passes events ends = refl
+same-rows before (r ∷ rs) (q ∷ qs) numbered again passes events ends =
+    let pass : r.pass ≡ q.pass = cc in
+    let event : r.event ≡ q.event = cc in
+    let end : ◌≡◌ {A = Reply × List Ended} (r.reply, r.ended) (q.reply, q.ended) = cc in
+    let nth : r.nth ≡ q.nth = numbered before rs r refl ∙ ap (λ (p : PassId). rows_of p before + 1) pass ∙ sym (again before qs q refl) in
+    let row : r ≡ q = λ i. record { pass = pass i; nth = nth i; event = event i; reply = (end i).0; ended = (end i).1 } in
+    let more : rs ≡ qs =
+    same-rows (before ++ q ∷ []) rs qs (subst AreNumbered (ap (λ (x : Row). before ++ x ∷ rs) row ∙ sym (append_assoc before (q ∷ []) rs)) numbered)
+    (subst AreNumbered (sym (append_assoc before (q ∷ []) qs)) again) (cc) (cc) (cc) in
+    λ i. row i ∷ more i
+same-rows before rows others numbered again passes events ends = absurd (cc)
+
+-- nobody waits at an opening
+pub opening-order : (fs : List ℕ) (tree : Nodes) (s : State) → IsOpening fs tree s → IsLockMap s.scene.locks
+opening-order fs tree s is = grind arith

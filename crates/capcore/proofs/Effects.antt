@@ -1,9 +1,9 @@
 -- What each event by itself comes to, from what the calls below answered.
 use Rattle.std.{proofs.Common.{◌≡◌, ℕ, ◌+◌, List, [], ◌∷◌, Option, Some, None, refl, ap, ◌∙◌, arith}, specs.Option.{option_map}}
 use Rattle.std.specs.FinMap as map
-use Rattle.capbits.specs.{Refusal.{Test}, declared.mode.Mode.{Mode}}
+use Rattle.capbits.specs.declared.mode.Mode.{Mode}
 use Rattle.capsteps.{proofs.Judging.{direct-rejection}, specs.Caprules.Direct.{made_event}}
-use Rattle.capcore.proofs.Common.{asked_tests, ByTest, ClientId, direct, Directory, effect_unless, Event, File, first_failing, Ino, IsDirect, judged, Kind, Need, need, new_inode_tests, new_snapshot_tests, old_snapshot_tests, owned_by, passed, Refusal, Rejection, rejection, rejection_of, rejection_reply, Reply, Says, Snapshot, State, with_birth, Write}
+use Rattle.capcore.proofs.Common.{asked_tests, ByTest, ClientId, direct, Directory, effect_unless, Event, File, first_failing, Ino, IsDirect, judged, Kind, Need, need, new_inode_tests, new_snapshot_tests, old_snapshot_tests, owned_by, passed, Refusal, Rejection, rejection, rejection_of, rejection_reply, Reply, Says, Snapshot, State, Test, with_birth, Write}
 
 -- the tests behind policy, where what stands before them stops nothing
 module _ (old : State) (e : Event) (tests more : List Test) (needed : List Need) (splits : judged old.scene e ≡ rejection_of old.scene tests needed more) (free : rejection_of old.scene tests needed [] ≡ None) where

@@ -21,13 +21,10 @@ all_pass p (x ∷ xs) passes =
 module _ (first settled : Scene) (moves : List Made) (made : MakesAll first moves settled) (order : IsLockMap first.locks) where
   -- no number is above the last
   below : All (λ m. m.ticket.0 ≤ first.locks.last) (ended_in moves)
-  below = All-weaker (Waited first.locks.queue) (λ m. m.ticket.0 ≤ first.locks.last) one (ended_in moves) (ended-waited first moves settled made)
-    where
-      one : (m : Ended) → Waited first.locks.queue m → m.ticket.0 ≤ first.locks.last
-      one m waited =
-          let given = All-contains (λ (q : Request). (1 ≤ q.ticket.0) × (q.ticket.0 ≤ first.locks.last)) first.locks.queue waited.request order.given waited.inside in
-          let number : m.ticket.0 ≡ waited.request.ticket.0 = ap (λ (t : Ticket). t.0) waited.ticket in
-          omega (arith, given.1, number)
+  below =
+      All-weaker (Waited first.locks.queue) (λ m. m.ticket.0 ≤ first.locks.last)
+      (λ m waited. let given = All-contains (λ (q : Request). (1 ≤ q.ticket.0) × (q.ticket.0 ≤ first.locks.last)) first.locks.queue waited.request order.given waited.inside in
+      omega (arith, given.1, ap (λ (t : Ticket). t.0) waited.ticket)) (ended_in moves) (ended-waited first moves settled made)
 
   -- so where the step gave none, all are of earlier steps
   pub earlier-all : earlier first.locks.last (ended_in moves) ≡ ended_in moves

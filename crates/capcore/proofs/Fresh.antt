@@ -2,8 +2,8 @@
 use Rattle.std.{proofs.Common.{◌≡◌, Bool, true, false, cond, Some, sym, ap, subst, ◌∙◌}, specs.Cmp.{nat_cmp_total}, specs.Option.{option_map}, specs.Ordering.{nat_cmp, eq_by_cmp}}
 use Rattle.std.specs.FinMap as map
 use Rattle.std.specs.FinSet as set
-use Rattle.inotree.specs.{Calls.{first_tree}, Inodes.{InodeMap}, declared.node.Site.TheVariants.{Root}}
-use Rattle.capcore.proofs.Common.{Attr, Directory, Gone, HasNoStray, Node, Nodes, place_at}
+use Rattle.inotree.specs.{Calls.{first_tree}, Inodes.{InodeMap}, Tree.{place_at}, declared.node.Place.TheVariants.{Gone}, declared.node.Site.TheVariants.{Root}}
+use Rattle.capcore.proofs.Common.{Attr, Directory, HasNoStray, Node, Nodes}
 
 no_stray : (attr : Attr) → HasNoStray (first_tree attr)
 no_stray attr q gone = by_test (eq_by_cmp nat_cmp q 1) (ap (λ o. place_at (option_map (λ n. n.site) o)) (sym (map.get-insert nat_cmp_total none 1 root q)) ∙ gone)

@@ -11,7 +11,6 @@ pub mod OwnServed
 pub mod Polled
 pub mod Promised
 pub mod Recalled
-pub mod SameEvents
 pub mod Servings
 pub mod Sounding
 pub mod Rejections
@@ -29,7 +28,6 @@ pub mod SessionChanged
 pub mod SessionStep
 pub mod Granted
 pub mod ShownWords
-pub mod HeldOn
 pub mod EndKnown
 pub use Rattle.capsteps.proofs.Capacts
 pub use Rattle.capsteps.proofs.Capevents

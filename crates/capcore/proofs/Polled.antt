@@ -1,7 +1,7 @@
 -- A poll is a whole step: no lock moves, and nothing is left to do but to give the messages.
-use Rattle.std.proofs.Common.{◌≡◌, ℕ, ◌+◌, Option, None, List, [], filter, sym, ap, subst, ◌∙◌, append-nil, arith}
+use Rattle.std.proofs.Common.{◌≡◌, ℕ, Option, None, List, [], filter, sym, ap, subst, ◌∙◌, append-nil, arith}
 use Rattle.capsteps.proofs.Finishing.{sound-ends}
-use Rattle.capcore.proofs.{Common.{after_messages, all_ended, AreGiven, changed_where, ClientId, Direct, direct, effect_unless, Ended, Event, first_denied, first_failing, first_messages, Gives, is_left, is_of_client, IsAnswered, IsSound, IssuesExactly, IsTable, judged, Message, Rejection, rejection_by, Reply, reply_of, Said, session_tests, Settles, shown, shown-given, shown-issued, shown-sound, sound-settles, State, state_after, Step, Table, with_given}, Promised.{has-due}, Sounding.{later-given}}
+use Rattle.capcore.proofs.{Common.{after_messages, all_ended, changed_where, ClientId, Direct, direct, effect_unless, Ended, Event, first_denied, first_failing, first_messages, Gives, is_left, is_of_client, IsAnswered, IsSound, IssuesExactly, IsTable, judged, Message, Rejection, rejection_by, Reply, reply_of, Said, session_tests, Settles, shown, shown-given, shown-issued, shown-sound, sound-settles, State, state_after, Step, Table, with_given}, Promised.{has-due}, Sounding.{later-given}}
 
 module _ (old : State) (sound : IsSound old) (table : IsTable old.scene.table) (client : ClientId) (max : ℕ) where
   abbrev poll : Event
@@ -16,15 +16,6 @@ module _ (old : State) (sound : IsSound old) (table : IsTable old.scene.table) (
   -- what is left, once it was given the messages
   abbrev new : State
   new = with_given old client (first_messages old client max)
-
-  polled-sound : IsSound new
-  polled-sound = shown-sound old (Gives client max) sound table
-
-  polled-given : (count : ℕ) → AreGiven count old → AreGiven (count + 1) new
-  polled-given count given = later-given count new (shown-given count old (Gives client max) given)
-
-  polled-issued : IssuesExactly (direct old poll).state.scene new.scene
-  polled-issued = subst (λ (s : State). IssuesExactly s.scene new.scene) (sym (same_state (judged old.scene poll))) (shown-issued old.scene old (Gives client max) table (has-due old sound))
 
   polled-step : first_failing (session_tests old.scene.sessions client.0) ≡ None → Step old poll (Reply.Messages (first_messages old client max)) [] new
   polled-step is = (
@@ -53,9 +44,9 @@ module _ (old : State) (sound : IsSound old) (table : IsTable old.scene.table) (
   poll-answered said is answers kept none = record {
     step = subst (λ (ended : List Ended). Step old poll said.reply ended new) (sym none) (subst (λ (r : Reply). Step old poll r [] new) (sym answers) (polled-step is));
     kept = kept;
-    sound = polled-sound;
-    issued = polled-issued;
-    given = polled-given;
+    sound = shown-sound old (Gives client max) sound table;
+    issued = subst (λ (s : State). IssuesExactly s.scene new.scene) (sym (same_state (judged old.scene poll))) (shown-issued old.scene old (Gives client max) table (has-due old sound));
+    given = λ count given. later-given count new (shown-given count old (Gives client max) given);
   }
 
   -- entries change, and requests of which the client was told are due no more

@@ -1,18 +1,13 @@
 -- The main promise, from what a step is.
-use Rattle.std.{proofs.Common.{◌≡◌, Bool, true, false, ◌||◌, List, Option, Some, None, refl, sym, ap, subst, ◌∙◌, IsTrue, arith}, proofs.lemmas.List.Elements.{All-contains}, specs.List.{find}, specs.Option.{option_map_or}}
+use Rattle.std.{proofs.Common.{true≢false, ◌≡◌, Bool, true, false, ◌||◌, List, Option, Some, None, refl, sym, ap, subst, ◌∙◌, IsTrue, arith}, proofs.lemmas.List.Elements.{All-contains}, specs.List.{find}, specs.Option.{option_map_or}}
 use Rattle.capsteps.specs.Caprules.{Finish.{due}, Headline.{DeniedExactly, DeniesByName}}
-use Rattle.capcore.proofs.{Asked.{asking, asking-rejection, asking-direct, asking-again, order-of_ask}, Common.{Access, after, Ask, asks_for, before, Direct, direct, effect, effect_unless, Ended, ended_in, EntryRow, Event, failures, first_denied, first_failing, found, found-contains, has, Holder, holder, is_rejection, is_row_of, IsDirect, IsLockMap, IsSound, IsSoundEntry, IssuesExactly, IsTable, judged, Made, MakesAll, Need, needs, Refusal, Rejection, rejection-only, rejection_by, Reply, reply_of, Rule, Scene, State, state_after, Step}, OwnServed.{own-not_stopped}}
+use Rattle.capcore.proofs.{Asked.{asking, asking-rejection, asking-direct, asking-again, order-of_ask}, Common.{Access, after, Ask, asks_for, before, Direct, direct, effect, effect_unless, Ended, ended_in, EntryRow, Event, found, found-contains, has, Holder, is_rejection, is_row_of, IsDirect, IsLockMap, IsSound, IsSoundEntry, IssuesExactly, IsTable, judged, Made, MakesAll, needs, Rejection, rejection-only, rejection_reply, Reply, reply_of, Rule, Scene, State, state_after, Step}, OwnServed.{own-not_stopped}, Servings.{denial-exact, denial-by_name}}
 
 -- ---- an event that nothing stops
 
-module _ (old last : State) (ended : List Ended) where
-  -- what the event by itself comes to at the end of the step
-  abbrev read_off : Direct → Reply
-  read_off d = reply_of last ended d.answer
-
-  -- one that waits for no lock
-  effect-not_rejected : (e : Event) → asks_for e ≡ None → is_rejection (read_off (effect old e)) ≡ false
-  effect-not_rejected e none = grind arith
+-- one that waits for no lock
+effect-not_rejected : (old last : State) (ended : List Ended) (e : Event) → asks_for e ≡ None → is_rejection (reply_of last ended (effect old e).answer) ≡ false
+effect-not_rejected old last ended e none = grind arith
 
 -- one that waits for a lock: if it is served in the step, then on the tree and the sessions on which it came
 asking-not_rejected : (old last : State) (e : Event) (k : Holder) (ask : Ask) (moves : List Made) (s : Scene) → IsSound old → IsLockMap old.scene.locks → asks_for e ≡ Some (k, ask) → judged old.scene e ≡ None
@@ -26,77 +21,50 @@ asking-not_rejected old last e k ask moves s sound order is free made =
 
 -- ---- denials
 
-module _ (old last : State) (ended : List Ended) (e : Event) where
-  answered_by : Option Refusal → Option Need → Option Refusal → Reply
-  answered_by o d l = read_off old last ended (effect_unless old e (rejection_by old.scene o d l))
+reply-denied : (x : Rejection) (access : Access) (rules : List Rule) → rejection_reply x ≡ Reply.Denied access rules → x ≡ Rejection.ByPolicy access rules
+reply-denied x access rules is = grind arith
 
-  -- what nothing stops is answered neither with a denial nor with a refusal
-  IsFree : Option Refusal → Option Need → Option Refusal → Type 0
-  IsFree o d l = rejection_by old.scene o d l ≡ None → is_rejection (read_off old last ended (effect old e)) ≡ false
+-- an answer that is what stops the event, or no rejection
+denied-stops : (answer : Reply) (stopped : Option Rejection) → ((x : Rejection) → stopped ≡ Some x → answer ≡ rejection_reply x) → (stopped ≡ None → is_rejection answer ≡ false)
+    → (access : Access) (rules : List Rule) → answer ≡ Reply.Denied access rules → stopped ≡ Some (Rejection.ByPolicy access rules)
+denied-stops answer (Some x) stops free access rules is = ap Some (reply-denied x access rules (sym (stops x refl) ∙ is))
+denied-stops answer None stops free access rules is = absurd (true≢false (ap is_rejection (sym is) ∙ free refl))
 
-  Cause : Option Refusal → Option Need → Access → List Rule → Type 0
-  Cause o d access rules = (n : Need) × (o ≡ None) × (d ≡ Some n) × (access ≡ n.access) × (rules ≡ failures old.scene.fs old.scene.tree old.scene.sessions n.holder n.access)
-
-  cause : (o : Option Refusal) (d : Option Need) (l : Option Refusal) (access : Access) (rules : List Rule) → IsFree o d l → answered_by o d l ≡ Reply.Denied access rules → Cause o d access rules
-  unfolding answered_by Cause IsFree
-  cause o d l access rules free is = grind arith
-
-  effect_of : (o : Option Refusal) (d : Option Need) (l : Option Refusal) (n : Need) → o ≡ None → d ≡ Some n → (access : Access) × (rules : List Rule) × (answered_by o d l ≡ Reply.Denied access rules)
-  unfolding answered_by
-  effect_of None (Some m) l n none some = (m.access, failures old.scene.fs old.scene.tree old.scene.sessions m.holder m.access, refl)
-  effect_of o d l n none some = cc
-
-  stops : (o : Option Refusal) (d : Option Need) (l : Option Refusal) → IsFree o d l → is_rejection (answered_by o d l) ≡ true → (rejection : Rejection) × (rejection_by old.scene o d l ≡ Some rejection)
-  unfolding answered_by IsFree
-  stops o d l free is = grind arith
+module _ (answer : Reply) (stopped : Option Rejection) (stops : (x : Rejection) → stopped ≡ Some x → answer ≡ rejection_reply x) (free : stopped ≡ None → is_rejection answer ≡ false) where
+  rejected-stops : is_rejection answer ≡ true → (x : Rejection) × (stopped ≡ Some x)
+  rejected-stops is = grind arith
 
 module _ (old : State) (e : Event) (answer : Reply) (done : List Ended) (new : State) (step : Step old e answer done new) (sound : IsSound old) (order : IsLockMap old.scene.locks) where
-  o : Option Refusal
-  o = first_failing (before old.scene e)
-
-  d : Option Need
-  d = first_denied old.scene (needs old.scene e)
-
-  l : Option Refusal
-  l = first_failing (after old.scene e)
-
-  -- the state in which the answer is read off, and what the moves ended
+  -- the state in which the answer is read off
   last : State
   last = let by = step.1 in state_after old (direct old e) step.0 by.settled
 
-  ended : List Ended
-  ended = ended_in step.0
+  answered : (o : Option Rejection) → judged old.scene e ≡ o → answer ≡ reply_of last (ended_in step.0) (effect_unless old e o).answer
+  unfolding last
+  answered o is = let by = step.1 in by.answer_is ∙ ap (λ (o : Option Rejection). reply_of last (ended_in step.0) (effect_unless old e o).answer) is
 
-  answered : answer ≡ answered_by old last ended e o d l
-  unfolding answered_by o d l last ended
-  answered = let by = step.1 in by.answer_is
+  stops : (x : Rejection) → judged old.scene e ≡ Some x → answer ≡ rejection_reply x
+  stops x is = answered (Some x) is
 
-  not_rejected-by : (a : Option (Holder × Ask)) → asks_for e ≡ a → judged old.scene e ≡ None → is_rejection (read_off old last ended (effect old e)) ≡ false
-  unfolding ended
-  not_rejected-by None is none = effect-not_rejected old last ended e is
-  not_rejected-by (Some (k, ask)) is none = let by = step.1 in asking-not_rejected old last e k ask step.0 by.settled sound order is none by.settles.made
+  not_rejected : (a : Option (Holder × Ask)) → asks_for e ≡ a → judged old.scene e ≡ None → is_rejection (reply_of last (ended_in step.0) (effect old e).answer) ≡ false
+  not_rejected None is none = effect-not_rejected old last (ended_in step.0) e is
+  not_rejected (Some (k, ask)) is none = let by = step.1 in asking-not_rejected old last e k ask step.0 by.settled sound order is none by.settles.made
 
-  free : IsFree old last ended e o d l
-  unfolding IsFree o d l
-  free none = not_rejected-by (asks_for e) refl none
+  free : judged old.scene e ≡ None → is_rejection answer ≡ false
+  free none = ap is_rejection (answered None none) ∙ not_rejected (asks_for e) refl none
 
   pub denied-exactly : DeniedExactly old.scene e answer
-  unfolding Cause o d l
-  denied-exactly = (
-    (λ h. let c = cause old last ended e o d l h.0 h.1 free (sym answered ∙ h.2) in (c.0, (c.1, c.2))),
-    (λ h. let b = effect_of old last ended e o d l h.0 h.1.0 h.1.1 in (b.0, b.1, answered ∙ b.2)),
-  )
+  denied-exactly =
+      denial-exact old.scene (before old.scene e) (needs old.scene e) (after old.scene e) (λ access rules. answer ≡ Reply.Denied access rules)
+      (λ access rules. (denied-stops answer (judged old.scene e) stops free access rules, stops (Rejection.ByPolicy access rules)))
 
   pub denies-by_name : DeniesByName old.scene e answer
-  unfolding Cause o d l
-  denies-by_name access rules at = let c = cause old last ended e o d l access rules free (sym answered ∙ at) in (c.0, (c.1, c.2), c.3, c.4)
+  denies-by_name =
+      denial-by_name old.scene (before old.scene e) (needs old.scene e) (after old.scene e) (λ access rules. answer ≡ Reply.Denied access rules)
+      (denied-stops answer (judged old.scene e) stops free)
 
   pub rejection-unchanged : IsTable old.scene.table → IsTrue (is_rejection answer) → new ≡ old
-  unfolding o d l
-  rejection-unchanged table h =
-      let s = stops old last ended e o d l free (ap is_rejection (sym answered) ∙ h) in
-      let only = rejection-only old new e s.0 answer done sound table s.1 step in
-      only.2
+  rejection-unchanged table h = let s = rejected-stops answer (judged old.scene e) stops free h in let only = rejection-only old new e s.0 answer done sound table s.1 step in only.2
 
 -- ---- caps
 

@@ -1,5 +1,5 @@
 -- A recall is a whole step: it marks entries as asked for, by which nothing is judged, moved or issued.
-use Rattle.std.proofs.{Common.{◌≡◌, ◌≤◌, ℕ, ◌+◌, Bool, true, ◌||◌, List, [], take, refl, sym, subst, arith}, lemmas.List.Elements.{All-map}}
+use Rattle.std.proofs.{Common.{◌≡◌, ◌≤◌, ℕ, Bool, true, ◌||◌, List, [], take, refl, sym, subst, arith}, lemmas.List.Elements.{All-map}}
 use Rattle.captable.proofs.Tables.{IsTable-recalled}
 use Rattle.capsteps.proofs.{Finishing.{same-finished}, Telling.{as_told, as_sized, retold, retold_table, retold-sound}}
 use Rattle.capcore.{proofs.Common.{alike-where, AreGiven, EntryRow, Event, finished, HoldAlike, Holder, is_among, IsAnswered, IsSound, IsTable, KnownSets, recalled, Reply, Said, State, Table, with_table}, proofs.Sounding.{later-given}, proofs.Steps.{direct-answered}, proofs.Unaffected.{alike-kept}, specs.UnderWay.{AreKept}}
@@ -23,13 +23,7 @@ module _ (old : State) (sound : IsSound old) (count : ℕ) where
       subst (λ t. IsSound (with_table old t)) (sym (recalled-retold old.scene.table count))
       (retold-sound old as_told as_sized (asked_too named) old.messages sound.messages (λ row below. below) sound)
 
-  -- no number changes
-  recalled-given : (most : ℕ) → AreGiven most old → AreGiven (most + 1) new
-  recalled-given most given = later-given most new (
-      subst (λ t. AreGiven most (with_table old t)) (sym (recalled-retold old.scene.table count))
-      (record { entries = All-map (λ row. row.entry.seq ≤ most) (retold as_told as_sized (asked_too named)) old.scene.table.rows given.entries; last = given.last; made = given.made }))
-
-  -- and what each client is to know that it holds is what it was
+  -- what each client is to know that it holds is what it was
   pub recalled-finished : IsTable old.scene.table → finished old.scene (with_table old (recalled old.scene.table count)).scene (with_table old (recalled old.scene.table count)).scene ≡ (with_table old (recalled old.scene.table count)).scene
   recalled-finished table = same-finished new recalled-sound (IsTable-recalled old.scene.table count table) old.scene (λ row inside. refl)
 
@@ -38,7 +32,10 @@ module _ (old : State) (sound : IsSound old) (count : ℕ) where
       → IsAnswered old (Event.Recall count) said (with_table old (recalled old.scene.table count))
   recall-answered said table answers kept none =
       direct-answered old new (Event.Recall count) refl (Reply.Recalled (take count old.scene.table.recall)) (record { answer_is = refl; state_is = refl })
-      recalled-sound (recalled-finished table) said recalled-given answers kept none
+      recalled-sound (recalled-finished table) said
+      (λ most given. later-given most new (
+      subst (λ t. AreGiven most (with_table old t)) (sym (recalled-retold old.scene.table count))
+      (record { entries = All-map (λ row. row.entry.seq ≤ most) (retold as_told as_sized (asked_too named)) old.scene.table.rows given.entries; last = given.last; made = given.made }))) answers kept none
 
   -- each entry holds what it held
   pub recalled-kept : (sets : KnownSets) → AreKept sets old.scene → AreKept sets (with_table old (recalled old.scene.table count)).scene

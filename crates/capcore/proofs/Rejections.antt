@@ -1,6 +1,6 @@
 -- An event that is stopped is answered so; and which inode an event affects that waits for a lock.
-use Rattle.std.proofs.Common.{◌≡◌, ℕ, Option, Some, None, [], ◌∷◌, sym, ap, ◌∙◌, arith}
-use Rattle.capcore.proofs.{Common.{Access, asked_tests, ClientId, Event, first_failing, inode_tests, IsAnswered, IsSound, IsTable, judged, need, no_test, passed-both, Rejection, rejection-step, rejection_of, rejection_reply, Said, Scene, session_tests, State}, Promised.{has-due}, Sounding.{later-given}}
+use Rattle.std.{proofs.Common.{◌≡◌, ℕ, List, Option, Some, None, [], ◌∷◌, ◌++◌, refl, sym, ap, ◌∙◌, arith}, specs.Option.{option_map}}
+use Rattle.capcore.proofs.{Common.{Access, asked_tests, ByTest, ClientId, Event, failing-front, first_denied, first_failing, inode_tests, IsAnswered, IsSound, IsTable, judged, Need, need, no_test, passed-both, passed-front, Refusal, Rejection, rejection-step, rejection_by, rejection_of, rejection_reply, Said, Scene, session_tests, State, Test}, Promised.{has-due}, Sounding.{later-given}}
 
 -- ---- what is stopped
 
@@ -16,6 +16,35 @@ judged-at old now e o view is = ap (λ (s : State). judged s.scene e) (sym view)
 pub access-at : (old now : State) (client : ClientId) (ino : ℕ) (access : Access) (o : Option Rejection) → old ≡ now
     → o ≡ rejection_of old.scene (asked_tests old.scene client ino) (need client ino access ∷ []) [] → rejection_of now.scene (asked_tests now.scene client ino) (need client ino access ∷ []) [] ≡ o
 access-at old now client ino access o view is = ap (λ (s : State). rejection_of s.scene (asked_tests s.scene client ino) (need client ino access ∷ []) []) (sym view) ∙ sym is
+
+-- ---- where more tests stand before and behind
+
+stopped_by : (s : Scene) (first whole last all : Option Refusal) (denied : Option Need) (r : Rejection) → whole ≡ first → ((t : Refusal) → last ≡ Some t → all ≡ Some t)
+    → rejection_by s first denied last ≡ Some r → rejection_by s whole denied all ≡ Some r
+stopped_by s (Some t) whole last all denied r same more is = ap (λ o. rejection_by s o denied all) same ∙ is
+stopped_by s None whole last all (Some n) r same more is = ap (λ o. rejection_by s o (Some n) all) same ∙ is
+stopped_by s None whole (Some t) all None r same more is = ap (λ o. rejection_by s o None all) same ∙ ap (option_map ByTest) (more t refl) ∙ is
+stopped_by s None whole None all None r same more is = absurd (cc)
+
+free_by : (s : Scene) (first whole last all more : Option Refusal) (denied : Option Need) → whole ≡ first → (last ≡ None → all ≡ more)
+    → rejection_by s first denied last ≡ None → rejection_by s whole denied all ≡ option_map ByTest more
+free_by s (Some t) whole last all more denied same rest is = absurd (cc)
+free_by s None whole last all more (Some n) same rest is = absurd (cc)
+free_by s None whole (Some t) all more None same rest is = absurd (cc)
+free_by s None whole None all more None same rest is = ap (λ o. rejection_by s o None all) same ∙ ap (option_map ByTest) (rest refl)
+
+module _ (s : Scene) (front tests : List Test) (needed : List Need) (more last : List Test) (free : first_failing front ≡ None) where
+  -- where those before pass, what stops a request without them stops it with them
+  pub rejection-within : (r : Rejection) → rejection_of s tests needed more ≡ Some r → rejection_of s (front ++ tests) needed (more ++ last) ≡ Some r
+  rejection-within r is = stopped_by s (first_failing tests) (first_failing (front ++ tests)) (first_failing more) (first_failing (more ++ last)) (first_denied s needed) r
+      (passed-front front tests free) (failing-front more last) is
+
+  -- and where nothing does, those behind decide
+  pub rejection-behind : rejection_of s tests needed more ≡ None → rejection_of s (front ++ tests) needed (more ++ last) ≡ option_map ByTest (first_failing last)
+  rejection-behind is = free_by s (first_failing tests) (first_failing (front ++ tests)) (first_failing more) (first_failing (more ++ last)) (first_failing last) (first_denied s needed)
+      (passed-front front tests free) (passed-front more last) is
+
+-- ---- of an inode
 
 -- the tests of an inode passed where nothing stops a request at it
 pub inode-passed : (s : Scene) (client : ClientId) (ino : ℕ) (access : Access) → rejection_of s (asked_tests s client ino) (need client ino access ∷ []) [] ≡ None → first_failing (inode_tests s.tree ino) ≡ None

@@ -1,45 +1,38 @@
 -- Requests that are served among the moves of a step.
-use Rattle.std.proofs.Common.{◌≡◌, List, [], ◌∷◌, ◌++◌, Option, Some, None, refl, sym, subst, arith}
-use Rattle.capcore.proofs.Common.{Access, As_judged, ask_after, ask_before, ask_needs, EachServing, failures, first_denied, first_failing, Made, Makes, MakesAll, MayEndAs, Need, Outcome, outcome_unless, Refusal, rejection_by, Request, Rule, Scene, Served, ServedByName, ServedDenied, Without_memory}
+use Rattle.std.proofs.Common.{◌≡◌, List, [], ◌∷◌, ◌++◌, Option, Some, None, sym, subst, arith, ◌↔◌, ap}
+use Rattle.capsteps.specs.{Caprules.Headline.{DenialIsExact, DenialIsByName}, Lockmachine.Policy.{failures}}
+use Rattle.capcore.proofs.Common.{Access, As_judged, ask_after, ask_before, ask_needs, EachServing, first_denied, first_failing, judged_again, Made, Makes, MakesAll, MayEndAs, Need, Outcome, outcome_unless, Refusal, Rejection, rejection_by, rejection_of, Request, Rule, Scene, Served, ServedByName, ServedDenied, Test, Without_memory}
 
--- ---- one serving
+-- ---- what is denied
 
-module _ (s : Scene) (q : Request) where
-  abbrev ended_by : Option Refusal → Option Need → Option Refusal → Outcome
-  ended_by o d l = outcome_unless s q (rejection_by s o d l)
+module _ (s : Scene) (tests : List Test) (needed : List Need) (more : List Test) where
+  -- the denial with which an event or a request is stopped that has to pass these
+  abbrev Stops : Access → List Rule → Type 0
+  Stops access rules = rejection_of s tests needed more ≡ Some (Rejection.ByPolicy access rules)
 
-  -- why it is denied
-  abbrev Cause : Option Refusal → Option Need → Access → List Rule → Type 0
-  Cause o d access rules = (n : Need) × ((o ≡ None) × (d ≡ Some n)) × (access ≡ n.access) × (rules ≡ failures s.fs s.tree s.sessions n.holder n.access)
+  why : (o : Option Refusal) (d : Option Need) (l : Option Refusal) (access : Access) (rules : List Rule) → rejection_by s o d l ≡ Some (Rejection.ByPolicy access rules)
+      → (n : Need) × ((o ≡ None) × (d ≡ Some n)) × (access ≡ n.access) × (rules ≡ failures s.fs s.tree s.sessions n.holder n.access)
+  why o d l access rules is = grind arith
 
-  cause : (o : Option Refusal) (d : Option Need) (l : Option Refusal) (access : Access) (rules : List Rule) → ended_by o d l ≡ Outcome.Denied access rules → Cause o d access rules
-  cause o d l access rules is = grind arith
+  stopped : (o : Option Refusal) (d : Option Need) (l : Option Refusal) (n : Need) → o ≡ None → d ≡ Some n → rejection_by s o d l ≡ Some (Rejection.ByPolicy n.access (failures s.fs s.tree s.sessions n.holder n.access))
+  stopped o d l n none some = grind arith
 
-  effect_of : (o : Option Refusal) (d : Option Need) (l : Option Refusal) (n : Need) → o ≡ None → d ≡ Some n → (access : Access) × (rules : List Rule) × (ended_by o d l ≡ Outcome.Denied access rules)
-  effect_of None (Some m) l n none some = (m.access, failures s.fs s.tree s.sessions m.holder m.access, refl)
-  effect_of o d l n none some = absurd (cc)
+  pub denial-by_name : (Denied : Access → List Rule → Type 0) → ((access : Access) (rules : List Rule) → Denied access rules → Stops access rules) → DenialIsByName s tests needed Denied
+  denial-by_name Denied stops access rules at = why (first_failing tests) (first_denied s needed) (first_failing more) access rules (stops access rules at)
 
-  unstopped : (o : Option Refusal) (d : Option Need) (l : Option Refusal) (n : Need) → rejection_by s o d l ≡ None → o ≡ None → d ≡ Some n → ⊥
-  unstopped o d l n free none some = grind arith
+  pub denial-exact : (Denied : Access → List Rule → Type 0) → ((access : Access) (rules : List Rule) → Denied access rules ↔ Stops access rules) → DenialIsExact s tests needed Denied
+  denial-exact Denied is = (
+    (λ h. let w = denial-by_name Denied (λ access rules. (is access rules).0) h.0 h.1 h.2 in (w.0, w.1)),
+    (λ h. let rules = failures s.fs s.tree s.sessions h.0.holder h.0.access in (h.0.access, rules, (is h.0.access rules).1 (stopped (first_failing tests) (first_denied s needed) (first_failing more) h.0 h.1.0 h.1.1))),
+  )
 
-  tests : Option Refusal
-  tests = first_failing (ask_before s q.ino.0 q.ask)
+-- a request that is served
+outcome-denied : (s : Scene) (q : Request) (j : Option Rejection) (access : Access) (rules : List Rule) → outcome_unless s q j ≡ Outcome.Denied access rules → j ≡ Some (Rejection.ByPolicy access rules)
+outcome-denied s q j access rules is = grind arith
 
-  denied : Option Need
-  denied = first_denied s (ask_needs s q.client q.ino.0 q.ask)
-
-  more : Option Refusal
-  more = first_failing (ask_after s q.ino.0 q.ask)
-
-  denied-one : (o : Outcome) → MayEndAs s q o → ServedDenied s q o
-  unfolding tests denied more
-  denied-one o (As_judged) = ((λ h. let c = cause tests denied more h.0 h.1 h.2 in (c.0, c.1)), (λ h. effect_of tests denied more h.0 h.1.0 h.1.1))
-  denied-one o (Without_memory free takes) = ((λ h. absurd (cc (h.2))), (λ h. absurd (unstopped tests denied more h.0 free h.1.0 h.1.1)))
-
-  by_name-one : (o : Outcome) → MayEndAs s q o → ServedByName s q o
-  unfolding tests denied more
-  by_name-one o (As_judged) = λ access rules is. cause tests denied more access rules is
-  by_name-one o (Without_memory free takes) = λ access rules is. absurd (cc)
+denied-as : (s : Scene) (q : Request) (o : Outcome) → MayEndAs s q o → (access : Access) (rules : List Rule) → (o ≡ Outcome.Denied access rules) ↔ (judged_again s q ≡ Some (Rejection.ByPolicy access rules))
+denied-as s q o (As_judged) access rules = (outcome-denied s q (judged_again s q) access rules, λ is. ap (outcome_unless s q) is)
+denied-as s q o (Without_memory free takes) access rules = ((λ is. absurd (cc)), (λ is. absurd (cc)))
 
 -- ---- each among the moves
 
@@ -62,7 +55,11 @@ may_end first last s (m ∷ ms) (x ∷ xs) later q o (mid, one, rest) splits (mi
     may_end mid last s ms xs later q o rest tail (subst (λ (t : Scene). MakesAll t xs s) here rest')
 
 pub served-denied : (first last : Scene) (moves : List Made) → MakesAll first moves last → EachServing ServedDenied first moves
-served-denied first last moves made earlier later q o s splits there = denied-one s q o (may_end first last s moves earlier later q o made splits there)
+served-denied first last moves made earlier later q o s splits there =
+    denial-exact s (ask_before s q.ino.0 q.ask) (ask_needs s q.client q.ino.0 q.ask) (ask_after s q.ino.0 q.ask) (λ access rules. o ≡ Outcome.Denied access rules)
+    (denied-as s q o (may_end first last s moves earlier later q o made splits there))
 
 pub served-by_name : (first last : Scene) (moves : List Made) → MakesAll first moves last → EachServing ServedByName first moves
-served-by_name first last moves made earlier later q o s splits there = by_name-one s q o (may_end first last s moves earlier later q o made splits there)
+served-by_name first last moves made earlier later q o s splits there =
+    denial-by_name s (ask_before s q.ino.0 q.ask) (ask_needs s q.client q.ino.0 q.ask) (ask_after s q.ino.0 q.ask) (λ access rules. o ≡ Outcome.Denied access rules)
+    (λ access rules. (denied-as s q o (may_end first last s moves earlier later q o made splits there) access rules).0)

@@ -1,8 +1,8 @@
 -- What the step of a client's session leaves by itself.
-use Rattle.std.{proofs.Common.{◌≡◌, ◌≤◌, ◌-◌, ℕ, ◌+◌, Bool, Some, is_some, List, [], length, refl, sym, ap, subst, ◌∙◌, arith}, proofs.lemmas.List.Sums.{length-filter, count_by-le-length}, specs.Option.{option_map}}
-use Rattle.inotree.specs.InoSets.{InoSet}
-use Rattle.capsteps.specs.{Capacts.Reach.{is_affected}, Capnotes.Noted.{HavePlaces}, SessionChange.{ReachesClient, session_change_tests}}
-use Rattle.capcore.{proofs.Begun.{begun-entries}, proofs.Closing.{affects-settles}, proofs.Common.{Affects, alike-less, AreChanges, ArePermittedIn, by_tests, ByTest, ClientId, Direct, direct, dropped_by, DueEndings, Ended, Entry, entry_at, Event, first_failing, HasRoom, HaveRoomFor, HoldAlike, Holder, is_end, IsJudged, IsLockMap, IsTable, IsTree, judged, known_of, LockMap, locks_left, messages_left, rejection_of, Scene, session_changed, session_event, SessionChange, State, still-knows, still-there, StillKnown, view_of, without_requests_of-kept}, proofs.Granted.{left-was}, proofs.SessionChanged.{session_direct, direct-session_changed, session_changed-affects, session_changed-table, session_changed-below, session_changed-made, session_changed-last}, specs.UnderWay.{MayBegin, GivesOne, HasBegun, state_of}, specs.declared.parts.Affected.TheVariants.{Others}, specs.declared.parts.Answer.TheVariants.{Dropped}, specs.declared.parts.Parts.{Parts}}
+use Rattle.std.{proofs.Common.{◌≡◌, ◌≤◌, ◌-◌, ℕ, ◌+◌, Bool, Option, Some, is_some, option_to_list, List, [], length, refl, sym, ap, subst, ◌∙◌, arith}, proofs.lemmas.List.Sums.{length-filter, count_by-le-length}, specs.Option.{option_map}}
+use Rattle.std.specs.FinSet as set
+use Rattle.capsteps.{proofs.Judging.{by_tests}, specs.Capnotes.Noted.{HavePlaces}, specs.SessionChange.{ReachesClient, session_change_tests}, specs.declared.settle.Affected.TheVariants.{Inodes}}
+use Rattle.capcore.{proofs.Begun.{begun-entries}, proofs.Closing.{affects-settles}, proofs.Common.{Affects, alike-less, AreChanges, ArePermittedIn, ByTest, ClientId, Direct, direct, dropped_by, DueEndings, Ended, Endings, Entry, entry_at, Event, first_failing, HasRoom, HaveRoomFor, HoldAlike, Holder, InoSet, is_end, IsJudged, IsLockMap, IsTable, IsTree, judged, known_of, LockMap, locks_left, messages_left, rejection_of, Scene, session_changed, session_event, SessionChange, State, still-knows, still-there, StillKnown, view_of, ViewChange, without_requests_of-kept}, proofs.Granted.{left-was}, proofs.SessionChanged.{session_direct, direct-session_changed, session_changed-affects, session_changed-table, session_changed-below, session_changed-made, session_changed-last}, specs.UnderWay.{MayBegin, GivesOne, HasBegun, state_of}, specs.declared.parts.Answer.TheVariants.{Dropped}, specs.declared.parts.Parts.{Parts}}
 
 -- ---- what is tested
 
@@ -21,6 +21,10 @@ few-waiting b locks client = grind (arith, length-filter, count_by-le-length)
 pub few-messages : (b : Bool) (messages : List Ended) (client : ClientId) → length (messages_left b messages client) ≤ length messages
 few-messages b messages client = grind (arith, length-filter, count_by-le-length)
 
+-- and at most one change is noted
+pub noted-few : (change : Option ViewChange) → length (option_to_list change) ≤ 1
+noted-few change = grind arith
+
 -- ---- the order of the locks stays
 
 left-order : (b : Bool) (locks : LockMap) (client : ClientId) → IsLockMap locks → IsLockMap (locks_left b locks client)
@@ -28,8 +32,8 @@ left-order b locks client order = grind (arith, without_requests_of-kept)
 
 -- ---- an event that nothing stops
 
-module _ (p q : Parts) (client : ClientId) (change : SessionChange) (may : MayBegin p (session_event client change)) (is : q.scene ≡ (session_changed (state_of p) client change).scene)
-    (left : q.messages.items ≡ messages_left (is_end change) p.messages.items client) (others : InoSet) (reaches : ReachesClient 1 client p.scene.table p.scene.locks others)
+module _ (p q : Parts) (endings : Endings) (client : ClientId) (change : SessionChange) (may : MayBegin p (session_event client change)) (is : q.scene ≡ (session_changed (state_of p) client change).scene)
+    (left : q.messages.items ≡ messages_left (is_end change) p.messages.items client) (inos : InoSet) (reaches : ReachesClient client p.scene.table p.scene.locks inos)
     (kept : (k : Holder) (f : Entry) → entry_at q.scene.table k ≡ Some f → known_of q.known.sets k ≡ known_of p.known.sets k) (permitted : ArePermittedIn q.known.sets q.scene) where
   abbrev e : Event
   e = session_event client change
@@ -38,7 +42,7 @@ module _ (p q : Parts) (client : ClientId) (change : SessionChange) (may : MayBe
   old = state_of p
 
   abbrev from : ℕ → Bool
-  from = is_affected 1 others
+  from = set.contains inos
 
   by_itself : direct old e ≡ session_direct old client change
   by_itself = direct-session_changed old client change may.passed
@@ -65,9 +69,9 @@ module _ (p q : Parts) (client : ClientId) (change : SessionChange) (may : MayBe
   order : IsLockMap q.scene.locks
   order = subst (λ (s : Scene). IsLockMap s.locks) (sym is) (left-order (is_end change) p.scene.locks client may.order)
 
-  pub change-begun : (dropped : DueEndings) → dropped.items ≡ dropped_by (is_end change) p.scene.locks client → HaveRoomFor (length q.scene.locks.queue) q.endings
-      → IsJudged q.endings.judged q.scene → HavePlaces q.endings.changes q.scene.locks others → HasRoom q.messages q.scene.locks → length dropped.items + length q.scene.locks.queue ≤ dropped.room
-      → AreChanges q.endings.changes.items (view_of old) (view_of (state_of q)) → HasBegun p e (record { affected = Others others; answer = Dropped dropped }) q
+  pub change-begun : (dropped : DueEndings) → dropped.items ≡ dropped_by (is_end change) p.scene.locks client → HaveRoomFor (length q.scene.locks.queue) endings
+      → IsJudged endings.judged q.scene → HavePlaces endings.changes q.scene.locks inos → HasRoom q.messages q.scene.locks → length dropped.items + length q.scene.locks.queue ≤ dropped.room
+      → AreChanges endings.changes.items (view_of old) (view_of (state_of q)) → HasBegun p e (record { affected = Inodes inos; answer = Dropped dropped }) q endings
   change-begun dropped dropped_is room judged at left_room places noted =
       let tree = subst (λ (s : Scene). IsTree s.tree) (sym is) may.tree in
       let by_rule : state_of q ≡ (direct old e).state = state_is ∙ sym (ap (λ (d : Direct). d.state) by_itself) in
@@ -86,7 +90,7 @@ module _ (p q : Parts) (client : ClientId) (change : SessionChange) (may : MayBe
           judged = judged;
           entries = begun-entries p q e from may by_rule affects gives permitted;
           room = room;
-          at = (at, reaches.apart);
+          at = at;
         };
         room = left_room;
         places = places;

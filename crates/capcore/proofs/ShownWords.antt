@@ -1,8 +1,9 @@
 -- What numbers say of what was shown, in the words of users.
-use Rattle.std.{proofs.Common.{◌≡◌, ◌≤◌, ℕ, Bool, true, false, cond, not, ◌&&◌, Contains, List, Some, None, refl, sym, ap, subst, ◌∙◌, arith}, proofs.lemmas.Bool.{ltb-false}, proofs.lemmas.List.Elements.{All-contains}, specs.Option.{option_map, option_map_or}}
-use Rattle.captable.specs.Calls.{taken, without}
-use Rattle.capsteps.{proofs.Lockmachine.Told.{has-against, has-told, pin-takes_all}, proofs.Placed.{told-permitted}, proofs.Revoking.{revoked-found}, proofs.ShownSteps.{at}, specs.Caprules.Shown.{AreShown, ShowsOnlyPermitted, TakesUnshown, shown_of}, specs.Lockmachine.Revoked.{is_revoked}, specs.Lockmachine.Scene.{against}}
-use Rattle.capcore.proofs.Common.{Ack, Cap, Caps, changed, ClientId, Direct, direct, effect_unless, Entry, entry_at, entry_at-changed, EntryRow, Event, found-contains, has, has-minus, Holder, holder, holds, Ino, is_row_of, IsSound, IsSoundEntry, judged, P, revoked_of, Row, row_of-entry, Scene, ShowsWhatIsTold, State, Table}
+use Rattle.std.{proofs.Common.{◌≡◌, ◌≤◌, ℕ, Bool, true, false, cond, not, ◌&&◌, Contains, List, Some, None, refl, sym, ap, subst, ◌∙◌, arith, ◌==◌, ◌||◌, inl, inr, Option, take, true≢false}, proofs.lemmas.Bool.{ltb-false, cases_Bool, or_parts, true_from_ne_false}, proofs.lemmas.List.Elements.{All-contains}, specs.Option.{option_map, option_map_or}}
+use Rattle.capbits.specs.{Sets.{has-minus}, declared.cap.Cap.TheVariants.{P}}
+use Rattle.captable.{proofs.ByHolder.{entry_at-changed_other, entry_at-acked_other, entry_at-released, entry_at-released_other, entry_at-recalled, entry_at-recalled_other, entry_at-changed}, proofs.Tables.{same-is}, specs.Calls.{taken, without, acked, released, with_asked, changed}}
+use Rattle.capsteps.{proofs.Lockmachine.Told.{has-against, has-told, pin-takes_all}, proofs.Placed.{told-permitted}, proofs.Revoking.{revoked-found}, proofs.ShownSteps.{at, apart-of, entry_at-entry_other}, specs.Capevents.declared.event.OpenMode.{OpenMode}, specs.Caprules.Direct.{with_entry, with_opening}, specs.Caprules.Headline.{is_due, holds}, specs.Caprules.Shown.{AreShown, ShowsOnlyPermitted, TakesUnshown, shown_of, may_take, TakesOnlySo}, specs.Lockmachine.Revoked.{is_revoked}, specs.Lockmachine.Scene.{against}}
+use Rattle.capcore.proofs.Common.{Ack, apart_client, Cap, Caps, child, ClientId, Direct, direct, effect, effect_unless, Entry, entry_at, entry_at-without_client_other, EntryRow, Event, found, found-contains, has, Holder, holder, Ino, is_among, is_row_of, IsSound, IsSoundEntry, IssuesExactly, judged, recalled, Rejection, revoked_of, Row, row_of-entry, same, Scene, ShowsWhatIsTold, State, Table, without_client}
 
 pub shows-told : (rows : List Row) (s : State) → IsSound s → AreShown rows s.scene → ShowsWhatIsTold rows s.scene
 shows-told rows s sound was k e there none_due =
@@ -37,13 +38,10 @@ module _ (rows : List Row) (old : State) (sound : IsSound old) (was : AreShown r
   abbrev k : Holder
   k = holder client ino
 
-  abbrev t : Table
-  t = old.scene.table
-
   abbrev ack : Event
   ack = Event.Ack client ino seq
 
-  module _ (e : Entry) (there : entry_at t k ≡ Some e) (free : judged old.scene ack ≡ None) where
+  module _ (e : Entry) (there : entry_at old.scene.table k ≡ Some e) (free : judged old.scene ack ≡ None) where
     all_of : revoked_of old.scene k ≡ against old.scene (at k e)
     all_of = revoked-found old.scene k e there
 
@@ -56,14 +54,14 @@ module _ (rows : List Row) (old : State) (sound : IsSound old) (was : AreShown r
     revoked_is cap held gone =
         by_pin (has (revoked_of old.scene k) P) refl (subst (λ (d : Direct). holds d.state.scene k cap ≡ false) (ap (effect_unless old ack) free) gone)
       where
-        by_pin : (b : Bool) → has (revoked_of old.scene k) P ≡ b → holds (record old.scene { table = cond b (without t k) (changed t k (taken (revoked_of old.scene k))) }) k cap ≡ false
+        by_pin : (b : Bool) → has (revoked_of old.scene k) P ≡ b → holds (record old.scene { table = cond b (without old.scene.table k) (changed old.scene.table k (taken (revoked_of old.scene k))) }) k cap ≡ false
             → has (against old.scene (at k e)) cap ≡ true
         by_pin true pin out = pin-takes_all old.scene (at k e) (ap (λ (caps : Caps). has caps P) (sym all_of) ∙ pin) cap held
         by_pin false no_pin out =
-            let now : entry_at (changed t k (taken (revoked_of old.scene k))) k ≡ Some (taken (revoked_of old.scene k) e) =
-            entry_at-changed t k (taken (revoked_of old.scene k)) ∙ ap (option_map (taken (revoked_of old.scene k))) there in
+            let now : entry_at (changed old.scene.table k (taken (revoked_of old.scene k))) k ≡ Some (taken (revoked_of old.scene k) e) =
+            entry_at-changed old.scene.table k (taken (revoked_of old.scene k)) ∙ ap (option_map (taken (revoked_of old.scene k))) there in
             let less : (has e.held cap && not (has (revoked_of old.scene k) cap)) ≡ false =
-            sym (holds-found (record old.scene { table = changed t k (taken (revoked_of old.scene k)) }) k cap (taken (revoked_of old.scene k) e) now ∙ has-minus e.held (revoked_of old.scene k) cap) ∙ out in
+            sym (holds-found (record old.scene { table = changed old.scene.table k (taken (revoked_of old.scene k)) }) k cap (taken (revoked_of old.scene k) e) now ∙ has-minus e.held (revoked_of old.scene k) cap) ∙ out in
             ap (λ (caps : Caps). has caps cap) (sym all_of) ∙ gone_is (has e.held cap) (has (revoked_of old.scene k) cap) held less
 
     taken_unshown : (cap : Cap) → has e.held cap ≡ true → holds (direct old ack).state.scene k cap ≡ false → has (shown_of k rows) cap ≡ false
@@ -78,3 +76,113 @@ module _ (rows : List Row) (old : State) (sound : IsSound old) (was : AreShown r
 
 pub all-takes_unshown : (rows : List Row) (old : State) (e : Event) → IsSound old → AreShown rows old.scene → TakesUnshown rows old.scene e (direct old e).state.scene
 all-takes_unshown rows old e sound was = grind (arith, takes-unshown)
+
+-- ---- what was held is held on, but for what the event may take
+
+-- the holder has an entry that holds as much
+abbrev HoldsOn : Table → Holder → Caps → Type 0
+HoldsOn table k held = (f : Entry) × (entry_at table k ≡ Some f) × (f.held ≡ held)
+
+-- so each entry does
+abbrev KeepsAt : Table → Table → Holder → Type 0
+KeepsAt before after k = (e : Entry) → entry_at before k ≡ Some e → HoldsOn after k e.held
+
+same-keeps : (before after : Table) (k : Holder) → entry_at after k ≡ entry_at before k → KeepsAt before after k
+same-keeps before after k is e there = (e, is ∙ there, refl)
+
+changed-keeps : (t : Table) (j k : Holder) (g : Entry → Entry) → ((e : Entry) → (g e).held ≡ e.held) → KeepsAt t (changed t j g) k
+changed-keeps t j k g held e there = elim (cases_Bool (same k j)) [
+  | inr off ↦ (e, entry_at-changed_other t j k g (apart-of k j off) ∙ there, refl)
+  | inl on ↦
+      let is : k ≡ j = same-is k j on in
+      (g e, ap (entry_at (changed t j g)) is ∙ entry_at-changed t j g ∙ ap (option_map g) (ap (entry_at t) (sym is) ∙ there), held e)
+]
+
+-- an opening makes no other entry than was there
+entry-kept : (t : Table) (j k : Holder) (e : Entry) → entry_at t k ≡ Some e → entry_at (with_entry t j) k ≡ Some e
+entry-kept t j k e there = grind (arith, entry_at-entry_other, apart-of, same-is)
+
+recalled-keeps : (t : Table) (n : ℕ) (k : Holder) → KeepsAt t (recalled t n) k
+recalled-keeps t n k e there = elim (cases_Bool (is_among (take n t.recall) k)) [
+  | inr off ↦ (e, entry_at-recalled_other t n k off ∙ there, refl)
+  | inl on ↦ (with_asked true e, entry_at-recalled t n k on ∙ ap (option_map (with_asked true)) there, refl)
+]
+
+-- ---- by event
+
+module _ (old : State) (k : Holder) (cap : Cap) (held : holds old.scene k cap ≡ true) where
+  abbrev t : Table
+  t = old.scene.table
+
+  -- what went, the event may have taken
+  abbrev Takes : Event → Scene → Type 0
+  Takes e first = holds first k cap ≡ false → may_take e k cap ≡ true
+
+  -- what an entry holds on, did not go
+  no_loss : (first : Scene) → KeepsAt t first.table k → holds first k cap ≡ false → ⊥
+  no_loss first keeps gone = grind (arith, holds-found)
+
+  takes-nothing : (e : Event) (first : Scene) → KeepsAt t first.table k → Takes e first
+  takes-nothing e first keeps gone = absurd (no_loss first keeps gone)
+
+  client-gone : (client : ClientId) (first : Scene) → first.table ≡ without_client t client → holds first k cap ≡ false → (k.client.0 == client.0) ≡ true
+  client-gone client first left gone = true_from_ne_false (k.client.0 == client.0) (λ off.
+      no_loss first (same-keeps t first.table k (ap (λ (u : Table). entry_at u k) left ∙ entry_at-without_client_other t client k (apart_client k.client client off))) gone)
+
+  opened-keeps : (j : Holder) (mode : OpenMode) → KeepsAt t (with_opening t j mode) k
+  opened-keeps j mode e there = changed-keeps (with_entry t j) j k _ (λ f. refl) e (entry-kept t j k e there)
+
+  acked-own : (j : Holder) (first : Scene) → first.table ≡ acked t j (revoked_of old.scene j) → holds first k cap ≡ false → same k j ≡ true
+  acked-own j first left gone = true_from_ne_false (same k j) (λ off.
+      no_loss first (same-keeps t first.table k (ap (λ (u : Table). entry_at u k) left ∙ entry_at-acked_other t j k (revoked_of old.scene j) (apart-of k j off))) gone)
+
+  -- with the pin all that was held was given back
+  given-own : (j : Holder) (caps : Caps) (first : Scene) → first.table ≡ released t j caps → k ≡ j → holds first k cap ≡ false → (has caps P || has caps cap) ≡ true
+  given-own j caps first left is gone = grind (arith, holds-entry, entry_at-released, gone_is, holds-found, has-minus)
+
+  released-own : (j : Holder) (caps : Caps) (first : Scene) → first.table ≡ released t j caps → holds first k cap ≡ false → (same k j && (has caps P || has caps cap)) ≡ true
+  released-own j caps first left gone = by_same (same k j) refl
+    where
+      by_same : (b : Bool) → same k j ≡ b → (b && (has caps P || has caps cap)) ≡ true
+      by_same true on = given-own j caps first left (same-is k j on) gone
+      by_same false off = absurd (no_loss first (same-keeps t first.table k (ap (λ (u : Table). entry_at u k) left ∙ entry_at-released_other t j k caps (apart-of k j off))) gone)
+
+  abbrev same_table : (first : Scene) → entry_at first.table k ≡ entry_at t k → KeepsAt t first.table k
+  same_table first is = same-keeps t first.table k is
+
+  looked_up : (e : Event) (o : Option ℕ) → Takes e (found old o).state.scene
+  looked_up e o = grind arith
+
+  -- the scene that the event leads to by itself
+  abbrev first_of : Event → Scene
+  first_of e = (effect old e).state.scene
+
+  abbrev keeps_all : (e : Event) → entry_at (first_of e).table k ≡ entry_at t k → Takes e (first_of e)
+  keeps_all e is = takes-nothing e (first_of e) (same_table (first_of e) is)
+
+  by_event : (e : Event) → Takes e (first_of e)
+  by_event (Event.CloseSession client) = client-gone client (first_of (Event.CloseSession client)) refl
+  by_event (Event.Evict client) = client-gone client (first_of (Event.Evict client)) refl
+  by_event (Event.Recall count) = takes-nothing (Event.Recall count) (first_of (Event.Recall count)) (recalled-keeps t count k)
+  by_event (Event.Lookup client dir name) = looked_up (Event.Lookup client dir name) (child old.scene.tree.nodes dir.0 name)
+  by_event (Event.Open client ino mode) = takes-nothing (Event.Open client ino mode) (first_of (Event.Open client ino mode)) (opened-keeps (holder client ino) mode)
+  by_event (Event.Want client ino caps) =
+      takes-nothing (Event.Want client ino caps) (first_of (Event.Want client ino caps)) (changed-keeps t (holder client ino) k _ (λ f. refl))
+  by_event (Event.Ack client ino seq) = acked-own (holder client ino) (first_of (Event.Ack client ino seq)) refl
+  by_event (Event.Release client ino caps) = released-own (holder client ino) caps (first_of (Event.Release client ino caps)) refl
+  by_event e = keeps_all e refl
+
+-- ---- a step
+
+-- where a step issues exactly what it must, nothing else goes
+pub takes-only_so : (old : State) (e : Event) (new : Scene) → IssuesExactly (direct old e).state.scene new → TakesOnlySo old.scene e new
+takes-only_so old e new issued k cap held gone = by_judged (judged old.scene e) refl
+  where
+    gone_first : holds (direct old e).state.scene k cap ≡ false
+    gone_first = (or_parts (holds (direct old e).state.scene k cap) (is_due new k cap) (sym (issued k cap) ∙ gone)).0
+
+    by_judged : (o : Option Rejection) → judged old.scene e ≡ o → may_take e k cap ≡ true
+    by_judged (Some x) is =
+        let same_held : holds (direct old e).state.scene k cap ≡ holds old.scene k cap = ap (λ (d : Direct). holds d.state.scene k cap) (ap (effect_unless old e) is) in
+        absurd (true≢false (sym held ∙ sym same_held ∙ gone_first))
+    by_judged None free = by_event old k cap held e (subst (λ (d : Direct). holds d.state.scene k cap ≡ false) (ap (effect_unless old e) free) gone_first)

@@ -98,16 +98,9 @@ module _ (old : State) (sound : IsSound old) (tree : IsTree old.scene.tree) wher
     left : IsLeft old new
     left = subst (IsLeft old) (sym is.state_is) (left_unless e alone (judged old.scene e) refl)
 
-    direct-given : (count : ℕ) → AreGiven count old → AreGiven (count + 1) new
-    direct-given count given = later-given count new (subst (AreGiven count) (sym left.is) (record { entries = given.entries; last = given.last; made = given.made }))
-
-    direct-sound : IsSound new
-    direct-sound = subst IsSound (sym left.is) (kept-sound old sound new.scene.tree new.scene.sessions new.scene.locks.states left.leaves)
-
-    direct-finished : IsTable old.scene.table → finished old.scene new.scene new.scene ≡ new.scene
-    direct-finished table =
-        subst (λ (s : State). finished old.scene s.scene s.scene ≡ s.scene) (sym left.is)
-        (kept-finished old sound new.scene.tree new.scene.sessions new.scene.locks.states left.leaves table)
-
     pub alone-answered : (says : Said) → IsTable old.scene.table → says.reply ≡ answer → says.kept ≡ answer → says.ended ≡ [] → IsAnswered old e says new
-    alone-answered says table answers kept none = direct-answered old new e alone.2 answer is direct-sound (direct-finished table) says direct-given answers kept none
+    alone-answered says table answers kept none =
+        direct-answered old new e alone.2 answer is
+        (subst IsSound (sym left.is) (kept-sound old sound new.scene.tree new.scene.sessions new.scene.locks.states left.leaves))
+        (subst (λ (s : State). finished old.scene s.scene s.scene ≡ s.scene) (sym left.is) (kept-finished old sound new.scene.tree new.scene.sessions new.scene.locks.states left.leaves table)) says
+        (λ count given. later-given count new (subst (AreGiven count) (sym left.is) (record { entries = given.entries; last = given.last; made = given.made }))) answers kept none

@@ -1,14 +1,14 @@
 -- New sessions, clients that come off the blocklist, new inodes and snapshots leave alone all that entries and requests depend on.
-use Rattle.std.{proofs.Common.{◌≡◌, ℕ, ◌+◌, Bool, false, cond, Option, Some, None, is_some, List, sym, ap, ◌∙◌, Contains, arith}, proofs.lemmas.List.Elements.{All-contains, All-weaker}, specs.Cmp.{nat_cmp_total}, specs.FinSet.{FinSet}, specs.Option.{option_map}, specs.Ordering.{nat_cmp, eq_by_cmp}}
+use Rattle.std.{proofs.Common.{◌≡◌, ℕ, ◌+◌, Bool, false, cond, Option, Some, None, List, sym, ap, ◌∙◌, Contains, arith}, proofs.lemmas.List.Elements.{All-contains, All-weaker}, specs.Cmp.{nat_cmp_total}, specs.FinSet.{FinSet}, specs.Option.{option_map}, specs.Ordering.{nat_cmp}}
 use Rattle.std.specs.FinMap as map
 use Rattle.std.specs.FinSet as set
 use Rattle.capbits.specs.declared.caller.Caller.{Caller}
 use Rattle.capspec.specs.declared.grant.Grant.{Grant}
 use Rattle.numbered.proofs.Maps.{insert-other}
-use Rattle.inotree.{proofs.Elsewhere.{field-changed, not_next}, specs.Calls.{with_new, new_node, changed}}
+use Rattle.inotree.{proofs.Elsewhere.{field-changed, not_next}, specs.Calls.{with_new, changed}}
 use Rattle.sessiontab.{proofs.Elsewhere.{session-kept}, specs.Calls.{with_session, without_blocked}}
-use Rattle.capsteps.{proofs.Knowing.{known-alike}, proofs.LeftAlone.{none_if, kept-known}, proofs.Lockmachine.PolicyElsewhere.{permitted-session, permitted-new, permitted-changed, want-session, want-new, want-changed}, specs.Lockmachine.Wants.{effective_want}}
-use Rattle.capcore.{proofs.Common.{Attr, EntryRow, first_failing, found-contains, Gone, HoldAlike, in_sync, InodeLocks, is_row_of, IsSound, IsSoundEntry, IsTree, kept-sound, Kind, KnownSets, LeavesEntries, new_session_tests, no_locks, Node, Nodes, permitted, place_at, row_of-entry, Scene, SessionTable, State, StateMap, Table, with_birth, with_ino, with_parts}, specs.UnderWay.{AreKept, IsWhole, state_of}, specs.declared.parts.Parts.{Parts}}
+use Rattle.capsteps.proofs.{Knowing.{known-alike}, LeftAlone.{none_if, kept-known}, Lockmachine.PolicyElsewhere.{permitted-session, permitted-new, permitted-changed, want-session, want-new, want-changed}}
+use Rattle.capcore.{proofs.Common.{Attr, EntryRow, first_failing, found-contains, HoldAlike, in_sync, InodeLocks, is_row_of, IsSound, IsTree, kept-sound, Kind, KnownSets, LeavesEntries, new_session_tests, no_locks, Node, Nodes, permitted, row_of-entry, Scene, SessionTable, State, StateMap, Table, with_birth, with_ino, with_parts}, specs.UnderWay.{AreKept, IsWhole, state_of}, specs.declared.parts.Parts.{Parts}}
 
 -- the locks that an inode begins with, where there is an inode
 abbrev first_of : Option Node → Option InodeLocks
@@ -21,11 +21,7 @@ module _ (s : State) (sound : IsSound s) where
   none_new : (ino : ℕ) → map.contains_key s.scene.tree.nodes ino ≡ false → map.get s.scene.locks.states ino ≡ first_of (map.get s.scene.tree.nodes ino)
   none_new ino out = no_locks s sound ino out ∙ sym (ap first_of (none_if (map.get s.scene.tree.nodes ino) out))
 
-  -- of each entry the same want counts
-  abbrev SameWant : Nodes → SessionTable → EntryRow → Type 0
-  SameWant tree sessions row = effective_want s.scene.fs tree sessions row ≡ effective_want s.scene.fs s.scene.tree s.scene.sessions row
-
-  -- and the same is permitted
+  -- of each entry the same is permitted
   abbrev SameMay : Nodes → SessionTable → EntryRow → Type 0
   SameMay tree sessions row = permitted s.scene.fs tree sessions row.holder ≡ permitted s.scene.fs s.scene.tree s.scene.sessions row.holder
 
@@ -51,28 +47,7 @@ module _ (s : State) (sound : IsSound s) where
   -- a new inode, with its locks
   pub birth-leaves : (kind : Kind) (dir : ℕ) (name : List ℕ) (attr : Attr) → IsTree s.scene.tree
       → LeavesEntries s.scene (with_new s.scene.tree kind dir name attr) s.scene.sessions (with_ino s.scene.locks (s.scene.tree.last + 1)).states
-  birth-leaves kind dir name attr tree = record {
-    connected = λ client has. has;
-    there = λ q here. ap is_some (insert-other nat_cmp_total map.nat_cmp-IsAntisymmetric s.scene.tree.nodes k node q (not_next s.scene.tree q tree here)) ∙ here;
-    locks = λ q here. insert-other nat_cmp_total map.nat_cmp-IsAntisymmetric s.scene.locks.states k in_sync q (not_next s.scene.tree q tree here);
-    new_locks = λ q out.
-        map.get-insert nat_cmp_total s.scene.locks.states k in_sync q ∙ ap (cond (eq_by_cmp nat_cmp q k) (Some in_sync)) (none_new q out)
-        ∙ sym (ap first_of (map.get-insert nat_cmp_total s.scene.tree.nodes k node q) ∙ through (eq_by_cmp nat_cmp q k) node (map.get s.scene.tree.nodes q));
-    strays = λ q gone. by_test q (eq_by_cmp nat_cmp q k) (ap (λ o. place_at (option_map (λ n. n.site) o)) (sym (map.get-insert nat_cmp_total s.scene.tree.nodes k node q)) ∙ gone);
-    permits = All-weaker (IsSoundEntry s.scene) (SameMay (with_new s.scene.tree kind dir name attr) s.scene.sessions)
-        (λ row entry. permitted-new s.scene.fs s.scene.tree s.scene.sessions tree kind dir name attr row.holder entry.on_inode) s.scene.table.rows sound.entries;
-    wants = All-weaker (IsSoundEntry s.scene) (SameWant (with_new s.scene.tree kind dir name attr) s.scene.sessions)
-        (λ row entry. want-new s.scene.fs s.scene.tree s.scene.sessions tree kind dir name attr row entry.on_inode) s.scene.table.rows sound.entries;
-  }
-    where
-      k : ℕ
-      k = s.scene.tree.last + 1
-
-      node : Node
-      node = new_node kind dir name attr
-
-      by_test : (q : ℕ) (b : Bool) → place_at (option_map (λ n. n.site) (cond b (Some node) (map.get s.scene.tree.nodes q))) ≡ Gone → place_at (option_map (λ n. n.site) (map.get s.scene.tree.nodes q)) ≡ Gone
-      by_test q b gone = grind arith
+  birth-leaves kind dir name attr tree = grind (arith, none_new, through, All-weaker, permitted-new, want-new, not_next, insert-other nat_cmp_total map.nat_cmp-IsAntisymmetric, map.get-insert {X = InodeLocks} nat_cmp_total, map.get-insert {X = Node} nat_cmp_total)
 
 -- ---- what is kept of entries
 

@@ -1,4 +1,3 @@
-pub mod Asks
 pub mod Codes
 pub mod SameEvents
 pub mod Promised

@@ -1,11 +1,11 @@
 -- A step that may move locks: before its event, and between the event and the end.
-use Rattle.std.specs.Prelude.{◌≡◌, ◌≤◌, ◌+◌, ◌==◌, ℕ, Bool, false, List, [], All, length, None}
-use Rattle.std.specs.FinSet as set
+use Rattle.std.specs.Prelude.{◌≡◌, ◌≤◌, ◌+◌, ℕ, List, [], All, length, None}
+use Rattle.capbits.specs.declared.{ids.ClientId.{ClientId}, ids.Ino.{Ino}}
 use Rattle.inotree.specs.Tree.{IsTree}
 use Rattle.captable.specs.Table.{IsTable}
-use Rattle.capsteps.specs.{Affected.{Affects, Knows}, Begun.{ArePermittedIn, MaySettle, MayEnd, HaveRoomFor}, Capacts.Known.{KnownSets, known_in, AreKnown, StillKnown, OthersHaveAll}, Capacts.Reach.{is_affected}, Capevents.declared.event.Event.{Event}, Capevents.declared.outcome.Ended.{Ended}, Capevents.declared.reply.Reply.{Reply}, Capnotes.DueEndings.{HasRoom, but_for}, Capnotes.Noted.{HavePlaces}, Caprules.Direct.{direct}, Caprules.Judge.{judged}, Caprules.Noted.{view_of}, Caprules.Sound.{IsSound, AreGiven, NumbersLeft}, Caprules.State.{State}, Capview.Changes.{AreChanges}, EntryRequest.{entry_event, entry_answer}, Judged.{IsJudged}, Lockmachine.Locks.{IsLockMap}, Lockmachine.declared.scene.Scene.{Scene}, SessionChange.{session_event}}
+use Rattle.capsteps.specs.{Affected.{Affects, Knows}, Begun.{ArePermittedIn, IsReady, among}, Capacts.Known.{KnownSets, known_in, AreKnown, StillKnown}, Capacts.declared.asks.Asked.{Asked}, Capacts.declared.asks.Asked.TheVariants.{Get, Alter, Unlink, Rmdir, Rename}, Capevents.declared.event.Event.{Event}, Capevents.declared.outcome.Ended.{Ended}, Capevents.declared.reply.Reply.{Reply}, Capnotes.DueEndings.{HasRoom, but_for}, Caprules.Direct.{direct}, Caprules.Judge.{judged}, Caprules.Noted.{view_of}, Caprules.Sound.{IsSound, AreGiven, NumbersLeft}, Caprules.State.{State}, Capview.Changes.{AreChanges}, EntryRequest.{entry_event, entry_answer}, Lockmachine.Locks.{IsLockMap}, Lockmachine.declared.scene.Scene.{Scene}, SessionChange.{session_event}, declared.endings.Endings.{Endings}}
 use Rattle.capsteps.specs.Caprules.Direct as rules
-use Rattle.capcore.specs.{Asks.{asked_event}, declared.parts.Affected.{Affected}, declared.parts.Affected.TheVariants.{Entry, Inode, Others}, declared.parts.Answer.{Answer}, declared.parts.Answer.TheVariants.{Done, Dropped, Touched, Awaited}, declared.parts.Asking.{Asking}, declared.parts.Asking.TheVariants.{OfEntry, OfLock, Flush, OfSession}, declared.parts.Effect.{Effect}, declared.parts.Parts.{Parts}}
+use Rattle.capcore.specs.declared.{parts.Answer.{Answer}, parts.Answer.TheVariants.{Done, Dropped, Touched, Awaited}, parts.Asking.{Asking}, parts.Asking.TheVariants.{OfEntry, OfLock, Flush, OfSession}, parts.Effect.{Effect}, parts.Parts.{Parts}}
 
 abbrev pub state_of : Parts → State
 state_of p = record { scene = p.scene; messages = p.messages.items }
@@ -19,6 +19,14 @@ abbrev pub IsWhole : Parts → Type 0
 IsWhole p = IsSound (state_of p) × HasRoom p.messages p.scene.locks × AreKept p.known.sets p.scene
 
 -- ---- the event
+
+-- the client asks for it
+abbrev pub asked_event : ClientId → Ino → Asked → Event
+asked_event client ino (Get part) = Event.Get client ino part
+asked_event client ino (Alter change) = Event.Alter client ino change.now
+asked_event client ino Unlink = Event.Unlink client ino
+asked_event client ino Rmdir = Event.Rmdir client ino
+asked_event client ino (Rename dir name) = Event.Rename client ino dir name.now
 
 abbrev pub event_of : Asking → Event
 event_of (OfEntry k request) = entry_event k.client k.ino request
@@ -37,44 +45,29 @@ pub record MayBegin (p : Parts) (e : Event) : Type 0 where
 
 -- ---- what it leaves by itself
 
--- the inodes that it affects
-abbrev pub among : Affected → ℕ → Bool
-among (Entry k) = λ other. other == k.ino.0
-among (Inode k) = λ other. other == k.ino.0
-among (Others others) = is_affected 1 others
-
 abbrev pub answer_of : Answer → rules.Answer
-answer_of Done = rules.Says Reply.Done
-answer_of (Dropped dropped) = rules.Says Reply.Done
 answer_of (Touched k request) = entry_answer k request
 answer_of (Awaited ticket) = rules.Awaits ticket
+answer_of answer = rules.Says Reply.Done
 
 abbrev pub dropped_of : Answer → List Ended
-dropped_of Done = []
 dropped_of (Dropped dropped) = dropped.items
-dropped_of (Touched k request) = []
-dropped_of (Awaited ticket) = []
+dropped_of answer = []
 
 -- of the requests that the step ends, those of earlier steps
 abbrev pub earlier_of : Answer → List Ended → List Ended
-earlier_of Done told = told
-earlier_of (Dropped dropped) told = told
-earlier_of (Touched k request) told = told
 earlier_of (Awaited ticket) told = but_for ticket told
+earlier_of answer told = told
 
 -- the last number of a request, before and after: the one that is awaited, is new
 abbrev pub IsNumbered : Answer → ℕ → ℕ → Type 0
-IsNumbered Done was now = now ≡ was
-IsNumbered (Dropped dropped) was now = now ≡ was
-IsNumbered (Touched k request) was now = now ≡ was
 IsNumbered (Awaited ticket) was now = (ticket.0 ≡ was + 1) × (now ≡ was + 1)
+IsNumbered answer was now = now ≡ was
 
 -- where requests were dropped, there is room for so many beside them
 abbrev pub HasPlaces : Answer → ℕ → Type 0
-HasPlaces Done waiting = Unit
 HasPlaces (Dropped dropped) waiting = length dropped.items + waiting ≤ dropped.room
-HasPlaces (Touched k request) waiting = Unit
-HasPlaces (Awaited ticket) waiting = Unit
+HasPlaces answer waiting = Unit
 
 -- it gives at most one number
 abbrev pub GivesOne : State → Event → Type 0
@@ -83,26 +76,9 @@ GivesOne old e =
     All (λ row. row.entry.seq ≤ count) (direct old e).state.scene.table.rows
     × ((direct old e).state.scene.table.made ≤ count + 1) × ((direct old e).state.scene.locks.last ≤ count + 1)
 
--- ---- what there has to be before the locks settle and the step ends
-
--- at an inode there is a place for its change and for that of each request that waits. Where one entry alone was affected, the
--- others on its inode have all
-abbrev pub MayEndAt : Affected → Parts → Type 0
-MayEndAt (Entry k) p =
-    (length p.endings.changes.items + length p.scene.locks.queue + 1 ≤ p.endings.changes.room) × OthersHaveAll p.known.sets p.scene k
-MayEndAt (Inode k) p = length p.endings.changes.items + length p.scene.locks.queue + 1 ≤ p.endings.changes.room
-MayEndAt (Others others) p = HavePlaces p.endings.changes p.scene.locks others × (set.contains others 1 ≡ false)
-
-pub record IsReady (affected : Affected) (p : Parts) : Type 0 where
-  pub settles : MaySettle (among affected) p.scene
-  pub judged : IsJudged p.endings.judged p.scene
-  pub entries : MayEnd p.known.sets p.scene
-  pub room : HaveRoomFor (length p.scene.locks.queue) p.endings
-  pub at : MayEndAt affected p
-
 -- ---- the event alone has been applied
 
-pub record HasBegun (p : Parts) (e : Event) (effect : Effect) (q : Parts) : Type 0 where
+pub record HasBegun (p : Parts) (e : Event) (effect : Effect) (q : Parts) (endings : Endings) : Type 0 where
   pub is : state_of q ≡ (direct (state_of p) e).state
   pub answer : answer_of effect.answer ≡ (direct (state_of p) e).answer
   pub dropped : dropped_of effect.answer ≡ (direct (state_of p) e).dropped
@@ -113,7 +89,7 @@ pub record HasBegun (p : Parts) (e : Event) (effect : Effect) (q : Parts) : Type
   -- of each entry what was known is kept
   pub still : StillKnown p.scene.table q.scene.table p.known.sets q.known.sets
   pub knows : Knows (known_in q.known.sets) p.scene q.scene.table
-  pub ready : IsReady effect.affected q
+  pub ready : IsReady effect.affected q.known.sets q.scene endings
   pub room : HasRoom q.messages q.scene.locks
   pub places : HasPlaces effect.answer (length q.scene.locks.queue)
-  pub noted : AreChanges q.endings.changes.items (view_of (state_of p)) (view_of (state_of q))
+  pub noted : AreChanges endings.changes.items (view_of (state_of p)) (view_of (state_of q))

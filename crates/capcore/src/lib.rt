@@ -3,7 +3,6 @@
 //! Public source: "Capabilities in CephFS" in the Ceph documentation.
 #![tactic(auto)]
 
-mod asks;
 mod giving;
 mod judging;
 mod laws;

@@ -1,15 +1,13 @@
 //! The parts of the core that a step changes, and what its event asks for and leaves.
 
-use crate::asks::Asked;
 use capbits::{ClientId, Ticket};
-use capsteps::endings::Endings;
 use capsteps::entry_request::EntryRequest;
 use capsteps::leaving::SessionChange;
-use capsteps::{Change, Messages, Scene};
+use capsteps::settle::Affected;
+use capsteps::{Asked, Change, Messages, Scene};
 use captable::{Holder, Known};
-use inotree::InoSet;
 
-// Tree, sessions, entries and locks, what clients are still to be told, and what a step needs beside them.
+// Tree, sessions, entries and locks, and what clients are still to be told.
 #[derive(Debug)]
 pub(crate) struct Parts {
     pub(crate) scene: Scene,
@@ -17,8 +15,6 @@ pub(crate) struct Parts {
     pub(crate) known: Known,
     // The requests that ended and that no client was told of.
     pub(crate) messages: Messages,
-    // What a step lists, between steps of use for its room alone.
-    pub(crate) endings: Endings,
 }
 
 // By hand, so that whoever lets one go has one call to prove.
@@ -28,7 +24,6 @@ impl Drop for Parts {
             scene: _,
             known: _,
             messages: _,
-            endings: _,
         } = self;
     }
 }
@@ -48,17 +43,6 @@ pub(crate) enum Asking<'a> {
 pub(crate) struct Effect {
     pub(crate) affected: Affected,
     pub(crate) answer: Answer,
-}
-
-// Whose locks may move.
-#[derive(Drop)]
-pub(crate) enum Affected {
-    // Those of the inode, on which this entry alone was affected.
-    Entry(Holder),
-    // Those of the inode.
-    Inode(Holder),
-    // Those of the root and of these others.
-    Others(InoSet),
 }
 
 // What is answered at the end of the step.

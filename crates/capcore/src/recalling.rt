@@ -1,29 +1,30 @@
 //! The step of a recall: clients are asked to give back what they have not used for longest.
-ghost use Rattle.std.specs.Prelude.{◌≡◌, IfOk, OnErr};
+ghost use Rattle.std.specs.Prelude.{◌≡◌, IfOk, OnErr, OnOk};
 ghost use Rattle.capsteps.specs.{Answered.{IsAnswered}, Caprules.Noted.{view_of}, Capview.Changes.{AreChanges}};
 ghost use Rattle.capsteps.specs.Capevents.declared.event.Event.TheVariants as event;
 
 use crate::world::World;
+use capsteps::endings::Endings;
 use capsteps::said::Said;
-use capsteps::{ChangeList, EndedList, Reply};
+use capsteps::{EndedList, Reply};
 use std::alloc::AllocError;
 
 impl World {
     // A step that marks the first entries in the order of recall as asked for, and names them. It moves none.
-    pub(crate) fn recall(&mut self, count: u32) -> Result<Said, AllocError>
+    pub(crate) fn recall(&mut self, count: u32, endings: &mut Endings) -> Result<Said, AllocError>
         ensures answered { IfOk result (λ said. IsAnswered self.old (event.Recall count) said self.new) }
-        ensures changes { IfOk result (λ said. AreChanges said.changes.items (view_of self.old) (view_of self.new)) }
-        ensures err { OnErr result (self.new ≡ self.old) }
+        ensures changes { OnOk result (AreChanges endings.new.changes.items (view_of self.old) (view_of self.new)) }
+        ensures err { OnErr result ((self.new ≡ self.old) × (endings.new.changes.items ≡ endings.old.changes.items)) }
     {
         let alloc = self.parts.messages.alloc();
         // The list once for the history and once for the reply, both before an entry is marked.
         let kept = self.parts.scene.table.first_to_recall(count)?;
         let named = self.parts.scene.table.recall(count)?;
+        endings.changes.clear();
         Ok(Said {
             reply: Reply::Recalled(named),
             kept: Reply::Recalled(kept),
             ended: EndedList::new(alloc),
-            changes: ChangeList::new(alloc),
         })
     }
 }

@@ -9,17 +9,17 @@ ghost use Rattle.capcore.specs.Promised.{IsPromised};
 use crate::world::World;
 use capbits::{ClientId, Ino, Part, PassId};
 use capspec::FsName;
+use capsteps::endings::Endings;
 use capsteps::history::{add_row, make_room};
 use capsteps::said::Said;
 use capsteps::stop::Stop;
-use capsteps::{ChangeList, Event, Reply, Row, ViewChange};
+use capsteps::{Event, Reply, Row, ViewChange};
 use captable::Entry;
 use inotree::Tree;
 use locktable::LockState;
 use sessiontab::{Session, Sessions};
 use std::alloc::{AllocError, Global};
 use std::marker::Model;
-use std::mem::replace;
 
 /// The state of a metadata server's policy, with the history that led to it.
 #[derive(Debug)]
@@ -27,8 +27,8 @@ pub struct Core {
     world: World,
     rows: Vec<Row>,
     max_rows: u32,
-    // What the last step changed of what readers see.
-    changes: ChangeList,
+    // What the last step changed of what readers see, with the room of the next.
+    endings: Endings,
 }
 
 impl Model for Core {
@@ -39,9 +39,9 @@ impl Model for Core {
 
     ghost coded = { recorded_code };
 
-    ghost view = { λ c. recorded c.world c.rows.items c.max_rows c.changes.items };
+    ghost view = { λ c. recorded c.world c.rows.items c.max_rows c.endings.changes.items };
 
-    ghost invariant = { λ c. IsRecorded (recorded c.world c.rows.items c.max_rows c.changes.items) };
+    ghost invariant = { λ c. IsRecorded (recorded c.world c.rows.items c.max_rows c.endings.changes.items) };
 }
 
 // By hand, so that a caller which lets one go has one call to prove, and no step for each of its parts.
@@ -51,7 +51,7 @@ impl Drop for Core {
             world: _world,
             rows: _rows,
             max_rows: _max_rows,
-            changes: _changes,
+            endings: _endings,
         } = self;
     }
 }
@@ -69,7 +69,7 @@ impl Core {
             world: World::new(alloc, fs, tree)?,
             rows: Vec::new(alloc),
             max_rows,
-            changes: ChangeList::new(alloc),
+            endings: Endings::new(alloc),
         })
     }
 
@@ -82,12 +82,7 @@ impl Core {
         ensures err { OnErr result (self.new ≡ self.old) }
     {
         let nth = make_room(&mut self.rows, self.max_rows, pass)?;
-        let Said {
-            reply,
-            kept,
-            ended,
-            changes,
-        } = self.world.step(&event)?;
+        let Said { reply, kept, ended } = self.world.step(&event, &mut self.endings)?;
         let row = Row {
             pass,
             nth,
@@ -95,7 +90,6 @@ impl Core {
             reply: kept,
             ended,
         };
-        keep_changes(&mut self.changes, changes, &mut self.world);
         add_row(&mut self.rows, row);
         Ok(reply)
     }
@@ -149,20 +143,6 @@ impl Core {
     pub fn last_changes(&self) -> &[ViewChange]
         ensures { result.now ≡ self.now.changes }
     {
-        self.changes.as_slice()
-    }
-}
-
-// These changes are told in the place of those of the step before. The list that is not needed is kept for a later step.
-fn keep_changes(told: &mut ChangeList, changes: ChangeList, world: &mut World)
-    ensures told { told.new.items ≡ changes.items }
-    ensures world { world.new ≡ world.old }
-{
-    // Most steps change nothing of what readers see.
-    if changes.is_empty() {
-        told.clear();
-        world.keep_room(changes);
-    } else {
-        world.keep_room(replace(told, changes));
+        self.endings.changes.as_slice()
     }
 }

@@ -3,13 +3,12 @@ ghost use Rattle.std.specs.Prelude.{List, ◌≡◌, ◌+◌, false, [], None, I
 ghost use Rattle.std.specs.FinMap as map;
 ghost use Rattle.capbits.specs.Refusal.{first_failing};
 ghost use Rattle.inotree.specs.{Calls.{with_new}, Tests.{create_tests}, Tree.{IsTree, is_directory}};
-ghost use Rattle.captable.specs.Table.{IsTable, Table, holder};
+ghost use Rattle.captable.specs.Table.{IsTable, Table};
 ghost use Rattle.sessiontab.specs.{Calls.{with_session}, Tests.{new_session_tests}};
 ghost use Rattle.capsteps.specs.{Affected.{affected_by, session_changed_by, is_listing}, Answered.{IsAnswered}, Capevents.declared.outcome.Ended.{Ended as AnEnded}, Caprules.Direct.{Says, IsDirect, direct, made_event, owned_by, with_birth, with_sessions}, Caprules.History.{IsOpening, HasNoStray}, Caprules.Noted.{view_of}, Caprules.Sound.{NumbersLeft}, Caprules.State.{State}, Capview.Changes.{AreChanges}, Capview.Sight.{Shows}, Lockmachine.Locks.{IsLockMap, LockMap}, Lockmachine.Scene.{scene}};
 ghost use Rattle.capsteps.specs.Capevents.declared.event.Event.TheVariants as event;
 ghost use Rattle.capcore.specs.UnderWay.{event_of};
 
-use crate::asks::Asked;
 use crate::judging::{access_rejection, asked_refusal, rejection};
 use crate::parts::{Asking, Effect, Parts};
 use capbits::{Caller, ClientId, Ino, Mode, Refusal};
@@ -21,9 +20,10 @@ use capsteps::judge::denial;
 use capsteps::leaving::SessionChange;
 use capsteps::poll::{due_messages, give};
 use capsteps::said::Said;
+use capsteps::settle::end;
 use capsteps::start::first_locks;
 use capsteps::{
-    ChangeList, EndedList, EndedTickets, Event, Messages, Reply, Scene, ViewChange,
+    Asked, ChangeList, EndedList, EndedTickets, Event, Messages, Reply, Scene, ViewChange,
     copy_of_messages,
 };
 use captable::{CapTable, Holder, Known};
@@ -31,7 +31,6 @@ use inotree::{Kind, Tree};
 use sessiontab::Sessions;
 use std::alloc::{AllocError, Global};
 use std::marker::Model;
-use std::mem::replace;
 
 // The state that events change.
 #[derive(Debug)]
@@ -80,140 +79,156 @@ impl World {
             scene,
             known: Known::new(alloc),
             messages: Messages::new(alloc),
-            endings: Endings::new(alloc),
         };
         Ok(World { parts })
     }
 
     // Makes one step.
-    pub(crate) fn step(&mut self, event: &Event) -> Result<Said, AllocError>
+    pub(crate) fn step(&mut self, event: &Event, endings: &mut Endings) -> Result<Said, AllocError>
         requires numbers { NumbersLeft self.old }
         ensures answered { IfOk result (λ said. IsAnswered self.old event.now said self.new) }
-        ensures changes { IfOk result (λ said. AreChanges said.changes.items (view_of self.old) (view_of self.new)) }
+        ensures changes { OnOk result (AreChanges endings.new.changes.items (view_of self.old) (view_of self.new)) }
         // The entries were a table, and the locks had their requests in order.
         ensures table { OnOk result (IsTable self.old.scene.table) }
         ensures locks { OnOk result (IsLockMap self.old.scene.locks) }
-        ensures err { OnErr result (self.new ≡ self.old) }
+        ensures err { OnErr result ((self.new ≡ self.old) × (endings.new.changes.items ≡ endings.old.changes.items)) }
     {
         // The one look at the tree, the entries and the locks, by which the proof knows what they keep.
         let scene = &self.parts.scene;
         let (_last, _oldest) = (scene.tree.last(), scene.table.oldest());
         let _waiting = scene.locks.waiting();
         match event {
-            Event::Open { client, ino, mode } => {
-                self.move_locks(&Asking::OfEntry(holder(*client, *ino), EntryRequest::Open(*mode)))
+            &Event::Open { client, ino, mode } => {
+                let request = EntryRequest::Open(mode);
+                self.move_locks(&Asking::OfEntry(Holder { client, ino }, request), endings)
             }
-            Event::Want { client, ino, caps } => {
-                self.move_locks(&Asking::OfEntry(holder(*client, *ino), EntryRequest::Want(*caps)))
+            &Event::Want { client, ino, caps } => {
+                let request = EntryRequest::Want(caps);
+                self.move_locks(&Asking::OfEntry(Holder { client, ino }, request), endings)
             }
-            Event::Ack { client, ino, seq } => {
-                self.move_locks(&Asking::OfEntry(holder(*client, *ino), EntryRequest::Ack(*seq)))
+            &Event::Ack { client, ino, seq } => {
+                let request = EntryRequest::Ack(seq);
+                self.move_locks(&Asking::OfEntry(Holder { client, ino }, request), endings)
             }
-            Event::Release { client, ino, caps } => {
-                self.move_locks(&Asking::OfEntry(
-                    holder(*client, *ino),
-                    EntryRequest::Release(*caps),
-                ))
+            &Event::Release { client, ino, caps } => {
+                let request = EntryRequest::Release(caps);
+                self.move_locks(&Asking::OfEntry(Holder { client, ino }, request), endings)
             }
-            Event::Get { client, ino, part } => {
-                self.move_locks(&Asking::OfLock(holder(*client, *ino), Asked::Get(*part)))
+            &Event::Get { client, ino, part } => {
+                let asked = Asked::Get(part);
+                self.move_locks(&Asking::OfLock(Holder { client, ino }, asked), endings)
             }
-            Event::Alter {
+            &Event::Alter {
                 client,
                 ino,
-                change,
-            } => self.move_locks(&Asking::OfLock(holder(*client, *ino), Asked::Alter(change))),
-            Event::Unlink { client, ino } => {
-                self.move_locks(&Asking::OfLock(holder(*client, *ino), Asked::Unlink))
+                ref change,
+            } => {
+                let asked = Asked::Alter(change);
+                self.move_locks(&Asking::OfLock(Holder { client, ino }, asked), endings)
             }
-            Event::Rmdir { client, ino } => {
-                self.move_locks(&Asking::OfLock(holder(*client, *ino), Asked::Rmdir))
+            &Event::Unlink { client, ino } => {
+                self.move_locks(
+                    &Asking::OfLock(Holder { client, ino }, Asked::Unlink),
+                    endings,
+                )
             }
-            Event::Rename {
+            &Event::Rmdir { client, ino } => {
+                self.move_locks(
+                    &Asking::OfLock(Holder { client, ino }, Asked::Rmdir),
+                    endings,
+                )
+            }
+            &Event::Rename {
                 client,
                 ino,
                 dir,
-                name,
+                ref name,
             } => {
-                let asked = Asked::Rename { dir: *dir, name };
-                self.move_locks(&Asking::OfLock(holder(*client, *ino), asked))
+                let asked = Asked::Rename { dir, name };
+                self.move_locks(&Asking::OfLock(Holder { client, ino }, asked), endings)
             }
-            Event::Flush {
+            &Event::Flush {
                 client,
                 ino,
-                change,
-            } => self.move_locks(&Asking::Flush(holder(*client, *ino), change)),
-            Event::Poll { client, max } => self.poll(*client, *max),
-            Event::CloseSession { client } => self.move_locks(&Asking::OfSession(
-                *client,
-                SessionChange::Close,
-            )),
-            Event::Mark { client, status } => {
-                self.move_locks(&Asking::OfSession(*client, SessionChange::Mark(*status)))
+                ref change,
+            } => self.move_locks(&Asking::Flush(Holder { client, ino }, change), endings),
+            &Event::Poll { client, max } => self.poll(client, max, endings),
+            &Event::CloseSession { client } => {
+                self.move_locks(&Asking::OfSession(client, SessionChange::Close), endings)
             }
-            Event::Regrant { client, grants } => self.move_locks(&Asking::OfSession(
-                *client,
-                SessionChange::Regrant(grants),
-            )),
-            Event::Evict { client } => self.move_locks(&Asking::OfSession(
-                *client,
-                SessionChange::Evict,
-            )),
-            Event::Recall { count } => self.recall(*count),
+            &Event::Mark { client, status } => {
+                let change = SessionChange::Mark(status);
+                self.move_locks(&Asking::OfSession(client, change), endings)
+            }
+            &Event::Regrant { client, ref grants } => {
+                let change = SessionChange::Regrant(grants);
+                self.move_locks(&Asking::OfSession(client, change), endings)
+            }
+            &Event::Evict { client } => {
+                self.move_locks(&Asking::OfSession(client, SessionChange::Evict), endings)
+            }
+            &Event::Recall { count } => self.recall(count, endings),
             Event::Session { .. }
             | Event::Unblock { .. }
             | Event::Lookup { .. }
             | Event::Create { .. }
             | Event::Mkdir { .. }
             | Event::MakeSnapshot { .. }
-            | Event::RemoveSnapshot { .. } => self.act_alone(event),
+            | Event::RemoveSnapshot { .. } => self.act_alone(event, endings),
         }
     }
 
     // A step that leaves alone what entries and requests depend on: no lock moves, and all is done when the event is.
-    fn act_alone(&mut self, event: &Event) -> Result<Said, AllocError>
+    fn act_alone(&mut self, event: &Event, endings: &mut Endings) -> Result<Said, AllocError>
         requires affects { affected_by event.now ≡ None }
         requires lists { is_listing event.now ≡ false }
         requires changes_session { session_changed_by event.now ≡ None }
         requires tree { IsTree self.old.scene.tree }
         requires table { IsTable self.old.scene.table }
         ensures answered { IfOk result (λ said. IsAnswered self.old event.now said self.new) }
-        ensures changes { IfOk result (λ said. AreChanges said.changes.items (view_of self.old) (view_of self.new)) }
-        ensures err { OnErr result (self.new ≡ self.old) }
+        ensures changes { OnOk result (AreChanges endings.new.changes.items (view_of self.old) (view_of self.new)) }
+        ensures err { OnErr result ((self.new ≡ self.old) × (endings.new.changes.items ≡ endings.old.changes.items)) }
     {
         let alloc = self.parts.messages.alloc();
-        let mut changes = self.take_list();
-        let reply = self.act(event, &mut changes)?;
-        Ok(Said::with_changes(alloc, reply, changes))
+        let reply = self.act(event, &mut endings.changes)?;
+        Ok(Said::alone(alloc, reply))
     }
 
     // A step that may move locks: what stops its event is answered. Else it has its effect, the locks settle of all that it affected,
     // and it ends there.
-    fn move_locks(&mut self, asking: &Asking) -> Result<Said, AllocError>
+    fn move_locks(&mut self, asking: &Asking, endings: &mut Endings) -> Result<Said, AllocError>
         requires numbers { NumbersLeft self.old }
         requires tree { IsTree self.old.scene.tree }
         requires table { IsTable self.old.scene.table }
         requires locks { IsLockMap self.old.scene.locks }
         ensures answered { IfOk result (λ said. IsAnswered self.old (event_of asking.now) said self.new) }
-        ensures changes { IfOk result (λ said. AreChanges said.changes.items (view_of self.old) (view_of self.new)) }
-        ensures err { OnErr result (self.new ≡ self.old) }
+        ensures changes { OnOk result (AreChanges endings.new.changes.items (view_of self.old) (view_of self.new)) }
+        ensures err { OnErr result ((self.new ≡ self.old) × (endings.new.changes.items ≡ endings.old.changes.items)) }
     {
         if let Some(rejection) = rejection(&self.parts.scene, &self.parts.known, asking) {
+            endings.changes.clear();
             return Ok(Said::alone(self.parts.messages.alloc(), rejection.into_reply()));
         }
-        let Effect { affected, answer } = self.parts.begin(asking)?;
-        self.parts.end(affected);
-        Ok(self.parts.close(answer))
+        let Effect { affected, answer } = self.parts.begin(asking, endings)?;
+        let (scene, known) = (&mut self.parts.scene, &mut self.parts.known);
+        end(scene, known, affected, endings);
+        Ok(self.parts.close(answer, endings))
     }
 
     // A step that gives a client the first messages that are due to it.
-    fn poll(&mut self, client: ClientId, max: u32) -> Result<Said, AllocError>
+    fn poll(
+        &mut self,
+        client: ClientId,
+        max: u32,
+        endings: &mut Endings,
+    ) -> Result<Said, AllocError>
         requires table { IsTable self.old.scene.table }
         ensures answered { IfOk result (λ said. IsAnswered self.old (event.Poll client max) said self.new) }
-        ensures changes { IfOk result (λ said. AreChanges said.changes.items (view_of self.old) (view_of self.new)) }
-        ensures err { OnErr result (self.new ≡ self.old) }
+        ensures changes { OnOk result (AreChanges endings.new.changes.items (view_of self.old) (view_of self.new)) }
+        ensures err { OnErr result ((self.new ≡ self.old) × (endings.new.changes.items ≡ endings.old.changes.items)) }
     {
         if let Some(refusal) = self.parts.scene.sessions.session_refusal(client) {
+            endings.changes.clear();
             return Ok(Said::alone(self.parts.messages.alloc(), Reply::Refused(refusal)));
         }
         // The list once for the reply and once for the history, both before the client was told of anything.
@@ -229,6 +244,7 @@ impl World {
         )?;
         let kept = copy_of_messages(alloc, given.as_slice())?;
         let told = EndedTickets::of(alloc, given.as_slice())?;
+        endings.changes.clear();
         give(&mut self.parts.scene.table, client, given.as_slice());
         self.parts.scene.table.skip_quiet(client);
         self.parts.messages.remove_given(client, &told);
@@ -236,37 +252,17 @@ impl World {
             reply: Reply::Messages(given),
             kept: Reply::Messages(kept),
             ended: EndedList::new(alloc),
-            changes: ChangeList::new(alloc),
         })
     }
 
-    // A list for what the step changes: that of an earlier step, whose room is used again.
-    fn take_list(&mut self) -> ChangeList
-        ensures same { self.new ≡ self.old }
-        ensures none { result.items ≡ [] }
-    {
-        let none = ChangeList::new(self.parts.messages.alloc());
-        let mut changes = replace(&mut self.parts.endings.changes, none);
-        changes.clear();
-        changes
-    }
-
-    // The changes of the step before the last are of no use any more, but for their room.
-    pub(crate) fn keep_room(&mut self, changes: ChangeList)
-        ensures { self.new ≡ self.old }
-    {
-        self.parts.endings.changes.keep(changes);
-    }
-
-    // The event by itself, of which nothing was noted yet.
+    // The event by itself, which notes what it changes in the place of what the last step changed.
     fn act(&mut self, event: &Event, changes: &mut ChangeList) -> Result<Reply, AllocError>
-        requires none { changes.old.items ≡ [] }
         requires affects { affected_by event.now ≡ None }
         requires lists { is_listing event.now ≡ false }
         requires changes_session { session_changed_by event.now ≡ None }
         ensures direct { IfOk result (λ reply. IsDirect self.old event.now reply self.new) }
         ensures changes { OnOk result (AreChanges changes.new.items (view_of self.old) (view_of self.new)) }
-        ensures err { OnErr result (self.new ≡ self.old) }
+        ensures err { OnErr result ((self.new ≡ self.old) × (changes.new.items ≡ changes.old.items)) }
     {
         match event {
             Event::Session {
@@ -274,8 +270,12 @@ impl World {
                 caller,
                 grants,
             } => self.open_session(*client, caller, grants, changes),
-            Event::Unblock { client } => Ok(self.unblock(*client)),
+            Event::Unblock { client } => {
+                changes.clear();
+                Ok(self.unblock(*client))
+            }
             Event::Lookup { client, dir, name } => {
+                changes.clear();
                 let (fs, tree, sessions) = (
                     &self.parts.scene.fs,
                     &self.parts.scene.tree,
@@ -283,35 +283,32 @@ impl World {
                 );
                 Ok(lookup(fs, tree, sessions, *client, *dir, name.as_slice()))
             }
-            Event::Create {
+            &Event::Create {
                 client,
                 dir,
-                name,
+                ref name,
                 mode,
             } => {
-                let holder = Holder {
-                    client: *client,
-                    ino: *dir,
-                };
-                self.make(Kind::File, holder, name.as_slice(), *mode, changes)
+                let holder = Holder { client, ino: dir };
+                self.make(Kind::File, holder, name.as_slice(), mode, changes)
             }
-            Event::Mkdir {
+            &Event::Mkdir {
                 client,
                 dir,
-                name,
+                ref name,
                 mode,
             } => {
-                let holder = Holder {
-                    client: *client,
-                    ino: *dir,
-                };
-                self.make(Kind::Directory, holder, name.as_slice(), *mode, changes)
+                let holder = Holder { client, ino: dir };
+                self.make(Kind::Directory, holder, name.as_slice(), mode, changes)
             }
             Event::MakeSnapshot { client, ino, name } => {
-                self.make_snapshot(*client, *ino, name.as_slice())
+                let reply = self.make_snapshot(*client, *ino, name.as_slice())?;
+                changes.clear();
+                Ok(reply)
             }
             Event::RemoveSnapshot { client, ino, name } => {
-                self.remove_snapshot(*client, *ino, name.as_slice())
+                changes.clear();
+                Ok(self.remove_snapshot(*client, *ino, name.as_slice()))
             }
             Event::CloseSession { .. }
             | Event::Mark { .. }
@@ -339,21 +336,21 @@ impl World {
         grants: &Grants,
         changes: &mut ChangeList,
     ) -> Result<Reply, AllocError>
-        requires none { changes.old.items ≡ [] }
         ensures direct { IfOk result (λ reply. IsDirect self.old (event.Session client caller.now grants.now) reply self.new) }
         ensures changes { OnOk result (AreChanges changes.new.items (view_of self.old) (view_of self.new)) }
-        ensures err { OnErr result (self.new ≡ self.old) }
+        ensures err { OnErr result ((self.new ≡ self.old) × (changes.new.items ≡ changes.old.items)) }
     {
         if let Some(refusal) = self.parts.scene.sessions.open_refusal(client) {
+            changes.clear();
             return Ok(Reply::Refused(refusal));
         }
-        changes.add_place()?;
+        changes.begin(1)?;
         let opening = ViewChange::of_opening(client, caller, grants)?;
         if let Err(refused) = self.connect(client, caller, grants) {
             drop(opening);
             return Err(refused);
         }
-        changes.push(opening);
+        changes.start(Some(opening));
         Ok(Reply::Done)
     }
 
@@ -396,20 +393,22 @@ impl World {
         mode: Mode,
         changes: &mut ChangeList,
     ) -> Result<Reply, AllocError>
-        requires none { changes.old.items ≡ [] }
         ensures direct { IfOk result (λ reply. IsDirect self.old (made_event kind holder.client holder.ino name.now mode) reply self.new) }
         ensures changes { OnOk result (AreChanges changes.new.items (view_of self.old) (view_of self.new)) }
-        ensures err { OnErr result (self.new ≡ self.old) }
+        ensures err { OnErr result ((self.new ≡ self.old) × (changes.new.items ≡ changes.old.items)) }
     {
         if let Some(rejection) = access_rejection(&self.parts.scene, holder, Access::Write) {
+            changes.clear();
             return Ok(rejection.into_reply());
         }
         if let Some(refusal) = self.parts.scene.tree.new_inode_refusal(holder.ino, name) {
+            changes.clear();
             return Ok(Reply::Refused(refusal));
         }
-        changes.add_place()?;
+        changes.begin(1)?;
         let attr = owned_by(&self.parts.scene.sessions, holder.client, mode);
         let ino = self.add(kind, holder.ino, name, attr)?;
+        changes.clear();
         changes.note_birth(&self.parts.scene.tree, ino);
         Ok(Reply::Ino(ino))
     }
@@ -454,33 +453,20 @@ impl World {
         Ok(Reply::Done)
     }
 
-    fn remove_snapshot(
-        &mut self,
-        client: ClientId,
-        ino: Ino,
-        name: &[u8],
-    ) -> Result<Reply, AllocError>
-        ensures direct { IfOk result (λ reply. IsDirect self.old (event.RemoveSnapshot client ino name.now) reply self.new) }
-        ensures seen { OnOk result (Shows (view_of self.old) (view_of self.new)) }
-        ensures err { OnErr result (self.new ≡ self.old) }
+    fn remove_snapshot(&mut self, client: ClientId, ino: Ino, name: &[u8]) -> Reply
+        ensures direct { IsDirect self.old (event.RemoveSnapshot client ino name.now) result self.new }
+        ensures seen { Shows (view_of self.old) (view_of self.new) }
     {
         let holder = Holder { client, ino };
         if let Some(rejection) = access_rejection(&self.parts.scene, holder, Access::Snapshot) {
-            return Ok(rejection.into_reply());
+            return rejection.into_reply();
         }
         if let Some(refusal) = self.parts.scene.tree.old_snapshot_refusal(ino, name) {
-            return Ok(Reply::Refused(refusal));
+            return Reply::Refused(refusal);
         }
         self.parts.scene.tree.snap_remove_tested(ino, name);
-        Ok(Reply::Done)
+        Reply::Done
     }
-}
-
-// The client on the inode.
-fn holder(client: ClientId, ino: Ino) -> Holder
-    ensures { result ≡ holder client ino }
-{
-    Holder { client, ino }
 }
 
 // What a lookup answers.

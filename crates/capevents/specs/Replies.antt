@@ -14,12 +14,6 @@ outcome_reply Outcome.Dropped = None
 -- the reply has a list, of which a copy takes memory
 abbrev pub has_list : Reply → Bool
 has_list (Reply.Values values) = true
-has_list Reply.Done = false
-has_list (Reply.Ino ino) = false
-has_list (Reply.Opened seq caps) = false
-has_list (Reply.Waiting ticket) = false
-has_list (Reply.Denied access rules) = false
-has_list (Reply.Refused refusal) = false
 has_list (Reply.Messages messages) = true
 has_list (Reply.Recalled holders) = true
-has_list Reply.OutOfMemory = false
+has_list reply = false

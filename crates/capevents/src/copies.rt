@@ -18,28 +18,22 @@ pub fn copy_of_rules(rules: &Rules) -> Rules
     Rules::from(rules)
 }
 
-// What an inode keeps of one part once more. A list of attributes alone takes memory.
-fn copy_of_values(alloc: Global, values: &PartValues) -> Result<PartValues, AllocError>
-    ensures { IfOk result (λ copy. copy ≡ values.now) }
-{
-    match values {
-        PartValues::Auth(attr) => Ok(PartValues::Auth(*attr)),
-        PartValues::Link => Ok(PartValues::Link),
-        PartValues::Xattr(attributes) => Ok(PartValues::Xattr(attributes.copy(alloc)?)),
-        PartValues::File { size, time } => {
-            let (size, time) = (*size, *time);
-            Ok(PartValues::File { size, time })
-        }
-    }
-}
-
 /// How a request ended once more. A list of attributes alone takes memory.
 pub fn copy_of_outcome(alloc: Global, outcome: &Outcome) -> Result<Outcome, AllocError>
     ensures { IfOk result (λ copy. copy ≡ outcome.now) }
 {
     match outcome {
         Outcome::Done => Ok(Outcome::Done),
-        Outcome::Values(values) => Ok(Outcome::Values(copy_of_values(alloc, values)?)),
+        Outcome::Values(PartValues::Auth(attr)) => Ok(Outcome::Values(PartValues::Auth(*attr))),
+        Outcome::Values(PartValues::Link) => Ok(Outcome::Values(PartValues::Link)),
+        Outcome::Values(PartValues::Xattr(attributes)) => {
+            let attributes = attributes.copy(alloc)?;
+            Ok(Outcome::Values(PartValues::Xattr(attributes)))
+        }
+        Outcome::Values(PartValues::File { size, time }) => {
+            let (size, time) = (*size, *time);
+            Ok(Outcome::Values(PartValues::File { size, time }))
+        }
         Outcome::Denied { access, rules } => {
             let (access, rules) = (*access, copy_of_rules(rules));
             Ok(Outcome::Denied { access, rules })
@@ -98,9 +92,7 @@ pub fn copy_of_reply(reply: &Reply) -> Reply
             access: *access,
             rules: copy_of_rules(rules),
         },
-        Reply::Values(_values) => unreachable!(),
-        Reply::Messages(_messages) => unreachable!(),
-        Reply::Recalled(_holders) => unreachable!(),
+        Reply::Values(_) | Reply::Messages(_) | Reply::Recalled(_) => unreachable!(),
         Reply::Waiting(ticket) => Reply::Waiting(*ticket),
         Reply::Refused(refusal) => Reply::Refused(*refusal),
         Reply::OutOfMemory => Reply::OutOfMemory,

@@ -20,8 +20,4 @@ tree_with tree ino (Rename dir name) = moved tree ino dir.0 name
 -- a request that ends otherwise than as done changes nothing
 abbrev pub tree_after : Nodes → Request → Outcome → Nodes
 tree_after tree q Outcome.Done = tree_with tree q.ino.0 q.ask
-tree_after tree q (Outcome.Values shown) = tree
-tree_after tree q (Outcome.Denied access rules) = tree
-tree_after tree q (Outcome.Refused refusal) = tree
-tree_after tree q Outcome.OutOfMemory = tree
-tree_after tree q Outcome.Dropped = tree
+tree_after tree q o = tree

@@ -33,9 +33,7 @@ is_to client m = m.client.0 == client.0
 -- the message tells how the request with this number ended
 abbrev pub is_end_of : Ticket → Message → Bool
 is_end_of ticket (Message.Ended t outcome) = t.0 == ticket.0
-is_end_of ticket (Message.Caps ino seq caps) = false
-is_end_of ticket (Message.Size ino size) = false
-is_end_of ticket (Message.Recall ino) = false
+is_end_of ticket m = false
 
 -- the numbers are those of the requests of whose ends the messages tell
 abbrev pub AreEndsOf : List Message → List ℕ → Type 0

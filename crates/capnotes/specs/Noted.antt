@@ -1,10 +1,10 @@
 -- What a step notes: how it changes what readers see.
 use Rattle.std.specs.Prelude.{ℕ, Bool, true, false, ◌+◌, ◌≤◌, List, length}
 use Rattle.std.specs.FinSet as set
-use Rattle.inotree.specs.{InoSets.{InoSet}, Tree.{Nodes}, declared.node.Setting.{Setting}, declared.node.Setting.TheVariants.{Mode, Uid, Gid, Size, Time}}
+use Rattle.inotree.specs.{InoSets.{InoSet}, Tree.{Nodes}, declared.node.Setting.{Setting}, declared.node.Setting.TheVariants.{Mode, Uid, Gid}}
 use Rattle.sessiontab.specs.Connected.{SessionMap}
 use Rattle.capview.specs.{Changes.{AreChanges}, declared.change.ViewChange.{ViewChange}, declared.view.View.{View}}
-use Rattle.capevents.specs.Lockmachine.{Locks.{LockMap}, declared.request.Change.{Change}, declared.request.Change.TheVariants.{Set, SetXattr, RemoveXattr}}
+use Rattle.capevents.specs.Lockmachine.{Locks.{LockMap}, declared.request.Change.{Change}, declared.request.Change.TheVariants.{Set}}
 
 -- what readers see of a tree and of sessions
 abbrev pub view : Nodes → SessionMap → View
@@ -15,23 +15,21 @@ abbrev pub is_attr : Setting → Bool
 is_attr (Mode mode) = true
 is_attr (Uid uid) = true
 is_attr (Gid gid) = true
-is_attr (Size size) = false
-is_attr (Time time) = false
+is_attr setting = false
 
 -- readers see these of a change of what an inode keeps, and nothing else
 abbrev pub sets_attr : Change → Bool
 sets_attr (Set setting) = is_attr setting
-sets_attr (SetXattr name value) = false
-sets_attr (RemoveXattr name) = false
+sets_attr change = false
 
 -- the changes that were noted, in order, and how many there is room for
 pub record Noted : Type 0 where
   pub items : List ViewChange
   pub room : ℕ
 
--- there is a place for the change of each request that waits, for that of each of these inodes, and for one more
+-- there is a place for the change of each request that waits, and for that of each of these inodes
 abbrev pub HavePlaces : Noted → LockMap → InoSet → Type 0
-HavePlaces noted locks inos = length noted.items + length locks.queue + set.len inos + 1 ≤ noted.room
+HavePlaces noted locks inos = length noted.items + length locks.queue + set.len inos ≤ noted.room
 
 -- those noted since lead on from the one tree to the other, whoever is connected: if the old ones lead from a view to the one
 -- tree, the new ones lead from it to the other

@@ -1,7 +1,7 @@
 //! The changes that a step notes: how it changes what readers see.
-ghost use Rattle.std.specs.Prelude.{◌≡◌, ◌==◌, ℕ, ◌+◌, ◌≤◌, ◌<◌, ◌++◌, [], ◌∷◌, length, List, IfOk, OnOk};
+ghost use Rattle.std.specs.Prelude.{◌≡◌, ℕ, ◌+◌, ◌≤◌, ◌<◌, ◌++◌, [], ◌∷◌, length, List, option_to_list, OnOk};
 ghost use Rattle.capgrant.specs.declared.access.Attr.{Attr as Owners};
-ghost use Rattle.inotree.specs.{Calls.{changed, moved, with_new}, Tree.{Nodes}, declared.node.Kind.{Kind as NodeKind}, declared.node.Node.{Node as NodeValue}};
+ghost use Rattle.inotree.specs.{Calls.{with_new}, Tree.{Nodes}, declared.node.Kind.{Kind as NodeKind}};
 ghost use Rattle.capview.specs.Changes.{kind_by};
 ghost use Rattle.capnotes.specs.{Changing.{tree_changed, tree_after}, Noted.{LeadOn, sets_attr}};
 
@@ -12,19 +12,18 @@ use inotree::{Kind, Node, Setting, Site, Tree};
 use std::alloc::{AllocError, Global};
 use std::fmt;
 use std::marker::Model;
-use std::mem::replace;
 
-// A list with room for more is given back, so that one large step doesn't leave it behind. As many requests as may wait have places
-// in a list that is kept.
+// Room for more is given back, so that one large step doesn't leave it behind. As many requests as may wait have places in what is
+// kept.
 const MAX_KEPT_PLACES: usize = 1152;
 
-// How many places a new list has beyond those that are asked for, since the next step often wants one more.
+// How many places are made beyond those that are asked for, since the next step often wants one more.
 const SPARE_PLACES: usize = 64;
 
 /// In the order in which they were made. Their room is made before a step changes anything.
 pub struct ChangeList {
     items: Vec<ViewChange>,
-    // For how many there is room. The vector may have more, as it grows by more than one at a time.
+    // For how many the step may count on room. The vector may have more, as it grows by more than one at a time.
     places: usize,
 }
 
@@ -46,7 +45,7 @@ impl fmt::Debug for ChangeList {
 }
 
 impl Model for ChangeList {
-    ghost use Rattle.std.specs.Prelude.{◌≤◌, length, vec_capacity};
+    ghost use Rattle.std.specs.Prelude.{◌≤◌, vec_capacity};
     ghost use Rattle.capnotes.specs.{Codes.{noted_code}, Noted.{Noted}};
 
     ghost Value = { Noted };
@@ -55,7 +54,7 @@ impl Model for ChangeList {
 
     ghost view = { λ c. record { items = c.items.items; room = c.places } };
 
-    ghost invariant = { λ c. (length c.items.items ≤ c.places) × (c.places ≤ vec_capacity c.items) };
+    ghost invariant = { λ c. c.places ≤ vec_capacity c.items };
 }
 
 impl ChangeList {
@@ -74,60 +73,30 @@ impl ChangeList {
         *self.items.allocator()
     }
 
-    /// No change, and room for so many.
+    /// Room for so many from the first on. What is listed stays until it is cleared.
     pub fn begin(&mut self, room: usize) -> Result<(), AllocError>
-        ensures { OnOk result ((self.new.items ≡ []) × (room ≤ self.new.room)) }
+        ensures items { self.new.items ≡ self.old.items }
+        ensures ok { OnOk result (room ≤ self.new.room) }
     {
-        self.clear();
+        // The room of a large step is given back where one begins behind a step that noted nothing.
+        if self.items.is_empty() && self.items.capacity() > MAX_KEPT_PLACES {
+            *self = ChangeList::new(*self.items.allocator());
+        }
         if self.items.capacity() < room {
-            // A list that grows would move its places, which are of no use here.
-            let alloc = *self.items.allocator();
-            *self = ChangeList::with_room(alloc, room.saturating_add(SPARE_PLACES))?;
+            self.items.reserve(room.saturating_add(SPARE_PLACES))?;
         }
         self.places = room;
         Ok(())
     }
 
-    /// No change, and no place.
+    /// No change. The places stay.
     pub fn clear(&mut self)
-        ensures { self.new.items ≡ [] }
+        ensures items { self.new.items ≡ [] }
+        ensures room { self.new.room ≡ self.old.room }
     {
         // Most steps change nothing of what readers see.
         if !self.items.is_empty() {
             self.items.clear();
-        }
-        // Of the room that is kept, each step asks for what it wants.
-        self.places = 0;
-    }
-
-    /// The changes. Where there are none, the room stays here, unless it is too much to be kept.
-    pub fn take(&mut self) -> ChangeList
-        ensures items { result.items ≡ self.old.items }
-    {
-        let none = ChangeList::new(*self.items.allocator());
-        if self.items.is_empty() && self.items.capacity() <= MAX_KEPT_PLACES {
-            return none;
-        }
-        replace(self, none)
-    }
-
-    // No change, and room for so many.
-    fn with_room(alloc: Global, room: usize) -> Result<ChangeList, AllocError>
-        ensures { IfOk result (λ changes. (changes.items ≡ []) × (room ≤ changes.room)) }
-    {
-        let mut items = Vec::new(alloc);
-        items.reserve(room)?;
-        Ok(ChangeList {
-            items,
-            places: room,
-        })
-    }
-
-    /// Keeps the list, whose changes nobody asks for any more, in the place of this one, so that its room is used again.
-    pub fn keep(&mut self, list: ChangeList) {
-        let room = list.items.capacity();
-        if room != 0 && room <= MAX_KEPT_PLACES {
-            *self = list;
         }
     }
 
@@ -138,16 +107,9 @@ impl ChangeList {
         ensures room { self.old.room ≤ self.new.room }
     {
         let places = self.places.checked_add(1).ok_or(AllocError)?;
-        self.items.reserve(places - self.items.len())?;
+        self.items.reserve(places.saturating_sub(self.items.len()))?;
         self.places = places;
         Ok(())
-    }
-
-    /// Whether there are none.
-    pub fn is_empty(&self) -> bool
-        ensures { result ≡ (length self.now.items == 0) }
-    {
-        self.items.is_empty()
     }
 
     /// The changes.
@@ -166,6 +128,18 @@ impl ChangeList {
         let Ok(()) = self.items.push(change) else {
             unreachable!()
         };
+    }
+
+    /// This change and no other, for which there is room, if there is one.
+    pub fn start(&mut self, first: Option<ViewChange>)
+        requires room { 1 ≤ self.old.room }
+        ensures items { self.new.items ≡ option_to_list first }
+        ensures room { self.old.room ≤ self.new.room }
+    {
+        self.clear();
+        if let Some(change) = first {
+            self.push(change);
+        }
     }
 
     // ---- what is told of an inode
@@ -194,39 +168,6 @@ impl ChangeList {
         });
     }
 
-    // It was moved: where it stands now is read off the tree.
-    fn note_place(&mut self, tree: &Tree, ino: Ino)
-        requires room { length self.old.items < self.old.room }
-        ensures lead { (before : Nodes) (dir : ℕ) (name : List ℕ) → tree.now ≡ moved before ino.0 dir name
-            → LeadOn self.old.items self.new.items before tree.now }
-        ensures count { length self.new.items ≤ length self.old.items + 1 }
-        ensures room { self.old.room ≤ self.new.room }
-    {
-        let Some(node) = tree.node(ino) else {
-            return;
-        };
-        let Site::Under { dir, name } = &node.site else {
-            return;
-        };
-        let (dir, name) = (*dir, name.copy());
-        self.push(ViewChange::Moved { ino, dir, name });
-    }
-
-    // Its owner, group or mode was set: what they are now is read off the tree.
-    fn note_attr(&mut self, tree: &Tree, ino: Ino)
-        requires room { length self.old.items < self.old.room }
-        ensures lead { (before : Nodes) (f : NodeValue → NodeValue) → ((node : NodeValue) → (f node).kind ≡ node.kind)
-            → ((node : NodeValue) → (f node).site ≡ node.site) → tree.now ≡ changed f before ino.0
-            → LeadOn self.old.items self.new.items before tree.now }
-        ensures count { length self.new.items ≤ length self.old.items + 1 }
-        ensures room { self.old.room ≤ self.new.room }
-    {
-        if let Some(node) = tree.node(ino) {
-            let attr = node.attr;
-            self.push(ViewChange::Settled { ino, attr });
-        }
-    }
-
     /// A client changed what it keeps. Readers see of this its owner, group and mode alone.
     pub fn note_change(&mut self, tree: &Tree, ino: Ino, change: &Change)
         requires room { length self.old.items < self.old.room }
@@ -236,7 +177,10 @@ impl ChangeList {
         ensures room { self.old.room ≤ self.new.room }
     {
         if sets_attr(change) {
-            self.note_attr(tree, ino);
+            if let Some(node) = tree.node(ino) {
+                let attr = node.attr;
+                self.push(ViewChange::Settled { ino, attr });
+            }
         }
     }
 
@@ -254,7 +198,15 @@ impl ChangeList {
                 Ask::Get(_) => {}
                 Ask::Alter(change) => self.note_change(tree, ino, change),
                 Ask::Unlink | Ask::Rmdir => self.push(ViewChange::Removed { ino }),
-                Ask::Rename { .. } => self.note_place(tree, ino),
+                // Where it stands now is read off the tree.
+                Ask::Rename { .. } => {
+                    if let Some(node) = tree.node(ino) {
+                        if let Site::Under { dir, name } = &node.site {
+                            let (dir, name) = (*dir, name.copy());
+                            self.push(ViewChange::Moved { ino, dir, name });
+                        }
+                    }
+                }
             },
             Outcome::Values(_)
             | Outcome::Denied { .. }

@@ -1,5 +1,5 @@
 //! Which requests some messages tell of.
-ghost use Rattle.std.specs.{List.{list_any}, Prelude.{◌≡◌, ◌==◌, ◌||◌, true, IfOk, OnOk}};
+ghost use Rattle.std.specs.{List.{list_any}, Prelude.{◌≡◌, ◌==◌, ◌||◌, IfOk, OnOk}};
 ghost use Rattle.capnotes.specs.DueEndings.{AreEndsOf, is_end_of};
 
 use capbits::Ticket;
@@ -34,7 +34,10 @@ impl EndedTickets {
     pub fn of(alloc: Global, messages: &[Message]) -> Result<EndedTickets, AllocError>
         ensures { IfOk result (λ told. AreEndsOf messages.now told) }
     {
-        let mut sorted = ended_numbers(alloc, messages)?;
+        let mut sorted = Vec::new(alloc);
+        for message in messages {
+            add_number(&mut sorted, message)?;
+        }
         sorted.as_mut_slice().sort_unstable();
         Ok(EndedTickets { sorted })
     }
@@ -51,34 +54,14 @@ impl EndedTickets {
     pub fn contains(&self, ticket: Ticket) -> bool
         ensures { result ≡ list_any (λ number. number == ticket.0) self.now }
     {
-        if self.is_where_guessed(ticket) {
-            return true;
-        }
-        self.sorted.as_slice().binary_search(&ticket.0).is_ok()
-    }
-
-    // Whether it stands where it would if the numbers had no gaps, as those of a client that asks alone have none.
-    fn is_where_guessed(&self, ticket: Ticket) -> bool
-        ensures { result ≡ true → list_any (λ number. number == ticket.0) self.now ≡ true }
-    {
+        // Where it would stand if the numbers had no gaps, as those of a client that asks alone have none.
         let first = self.sorted.first().copied().unwrap_or(0);
-        let place = ticket.0.saturating_sub(first) as usize;
-        match self.sorted.get(place) {
-            Some(number) => *number == ticket.0,
-            None => false,
+        let guess = ticket.0.saturating_sub(first) as usize;
+        match self.sorted.get(guess) {
+            Some(number) if *number == ticket.0 => true,
+            _ => self.sorted.as_slice().binary_search(&ticket.0).is_ok(),
         }
     }
-}
-
-// The numbers of the requests of whose ends the messages tell, in the order of the messages.
-fn ended_numbers(alloc: Global, messages: &[Message]) -> Result<Vec<u64>, AllocError>
-    ensures { IfOk result (λ numbers. AreEndsOf messages.now numbers.items) }
-{
-    let mut numbers = Vec::new(alloc);
-    for message in messages {
-        add_number(&mut numbers, message)?;
-    }
-    Ok(numbers)
 }
 
 // Adds the number of the request of whose end a message tells, if it does.

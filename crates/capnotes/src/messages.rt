@@ -1,5 +1,5 @@
 //! The requests that ended and that no client was told of.
-ghost use Rattle.std.specs.{List.{find, list_any, position}, Prelude.{◌≡◌, ◌==◌, ◌&&◌, ◌+◌, ◌≤◌, List, ◌<◌, ◌++◌, [], ◌∷◌, length, filter, not, IfOk, OnOk, OnErr, vec_capacity}};
+ghost use Rattle.std.specs.{List.{find}, Prelude.{◌≡◌, ◌+◌, ◌≤◌, List, ◌<◌, ◌++◌, [], ◌∷◌, length, filter, not, IfOk, OnOk, OnErr, vec_capacity}};
 ghost use Rattle.capevents.specs.declared.outcome.Message.{Message};
 ghost use Rattle.capnotes.specs.DueEndings.{is_of_ticket, AreEndsOf, is_to, is_left, HaveOwnNumbers, but_for};
 
@@ -8,7 +8,7 @@ use capbits::{ClientId, Ticket};
 use capevents::{Ended, EndedList};
 use std::alloc::{AllocError, Global};
 use std::marker::Model;
-use std::mem::replace;
+use std::mem::swap;
 
 /// In the order in which they ended. Their room is made when they begin to wait, so that none is lost.
 #[derive(Debug)]
@@ -115,30 +115,21 @@ impl Messages {
         ensures left { self.new.items ≡ but_for ticket self.old.items }
         ensures room { self.new.room ≡ self.old.room }
     {
-        let place = self.place_of(ticket)?;
+        let mut all = self.items.iter();
+        let place = all.position(|ended| ended.ticket.0 == ticket.0)?;
         Some(self.items.remove(place))
-    }
-
-    // Its place among them.
-    fn place_of(&self, ticket: Ticket) -> Option<usize>
-        ensures { result ≡ position (is_of_ticket ticket) self.now.items }
-    {
-        self.items
-            .iter()
-            .position(|ended| ended.ticket.0 == ticket.0)
     }
 
     /// The requests, as a list for the history. Where there are none, the room stays here.
     pub fn take_list(&mut self) -> EndedList
         ensures { result ≡ self.old.items }
     {
-        let alloc = self.alloc();
-        if self.items.is_empty() {
-            return EndedList::new(alloc);
+        let mut items = Vec::new(self.alloc());
+        if !self.items.is_empty() {
+            swap(&mut items, &mut self.items);
+            // The history keeps the list for good, but not the room for all who waited.
+            items.shrink_to_fit();
         }
-        let mut items = replace(&mut self.items, Vec::new(alloc));
-        // The history keeps the list for good, but not the room for all who waited.
-        items.shrink_to_fit();
         EndedList::from(items)
     }
 
@@ -151,7 +142,7 @@ impl Messages {
         if let [] = told.as_slice() {
             return;
         }
-        self.items.retain(|ended| is_left(client, told, ended));
+        self.items.retain(|ended| !(ended.client.0 == client.0 && told.contains(ended.ticket)));
     }
 
     /// Nothing is due to the client any more.
@@ -159,20 +150,6 @@ impl Messages {
         ensures items { self.new.items ≡ filter (λ m. not (is_to client m)) self.old.items }
         ensures room { self.new.room ≡ self.old.room }
     {
-        self.items.retain(|ended| !is_to(client, ended));
+        self.items.retain(|ended| ended.client.0 != client.0);
     }
-}
-
-// Whether it is the client's.
-fn is_to(client: ClientId, ended: &Ended) -> bool
-    ensures { result ≡ is_to client ended.now }
-{
-    ended.client.0 == client.0
-}
-
-// Whether the message is still due to its client, when a client was told how these requests ended.
-fn is_left(client: ClientId, told: &EndedTickets, ended: &Ended) -> bool
-    ensures { result ≡ not (is_to client ended.now && list_any (λ number. number == ended.now.ticket.0) told.now) }
-{
-    !(is_to(client, ended) && told.contains(ended.ticket))
 }

@@ -2,29 +2,22 @@
 use Rattle.std.specs.{Ordering.{eq_by_cmp}, Prelude.{ℕ, List, [], ◌∷◌, ◌++◌, take, if◌then◌else◌}}
 use Rattle.capbits.specs.{Refusal.{Test}, declared.cap.Cap.{Cap}, declared.cap.Cap.TheVariants.{Ax, Lx, Xx, Fx}, declared.cap.Part.{Part}, declared.cap.Part.TheVariants.{A, L, X, F}, declared.ids.ClientId.{ClientId}}
 use Rattle.capgrant.specs.declared.access.Access.{Access}
-use Rattle.inotree.specs.{Names.{name_cmp}, Tests.{inode_tests, root_test, directory_test, file_test, empty_test, new_place_tests, setting_tests, new_attribute_tests, old_attribute_tests}, Tree.{parent}, declared.node.Setting.{Setting}, declared.node.Setting.TheVariants.{Mode, Uid, Gid, Size, Time}}
+use Rattle.inotree.specs.{Names.{name_cmp}, Tests.{inode_tests, root_test, directory_test, file_test, empty_test, new_place_tests, setting_tests, new_attribute_tests, old_attribute_tests}, Tree.{parent}, declared.node.Setting.TheVariants.{Mode, Uid, Gid}}
 use Rattle.capnotes.specs.Lockmachine.{declared.request.Ask.{Ask}, declared.request.Ask.TheVariants.{Get, Alter, Unlink, Rmdir, Rename}, declared.request.Change.{Change}, declared.request.Change.TheVariants.{Set, SetXattr, RemoveXattr}, declared.scene.Scene.{Scene}}
 use Rattle.caprules.specs.Needs.{Need, need, need_if}
 
 -- ---- accesses
 
--- `ceph.`
-abbrev pub virtual_prefix : List ℕ
-virtual_prefix = 99 ∷ 101 ∷ 112 ∷ 104 ∷ 46 ∷ []
-
--- an attribute whose name begins so needs an access of its own
+-- an attribute whose name begins with `ceph.` needs an access of its own
 abbrev pub attribute_access : List ℕ → Access
-attribute_access name = if eq_by_cmp name_cmp (take 5 name) virtual_prefix then Access.SetVxattr else Access.Write
-
-abbrev pub setting_access : Setting → Access
-setting_access (Mode mode) = Access.Chmod
-setting_access (Uid uid) = Access.Chown uid
-setting_access (Gid gid) = Access.Chgrp gid
-setting_access (Size size) = Access.Write
-setting_access (Time time) = Access.Write
+attribute_access name =
+    if eq_by_cmp name_cmp (take 5 name) (99 ∷ 101 ∷ 112 ∷ 104 ∷ 46 ∷ []) then Access.SetVxattr else Access.Write
 
 abbrev pub change_access : Change → Access
-change_access (Set setting) = setting_access setting
+change_access (Set (Mode mode)) = Access.Chmod
+change_access (Set (Uid uid)) = Access.Chown uid
+change_access (Set (Gid gid)) = Access.Chgrp gid
+change_access (Set setting) = Access.Write
 change_access (SetXattr name value) = attribute_access name
 change_access (RemoveXattr name) = attribute_access name
 

@@ -42,10 +42,9 @@ reply_of last ended (Awaits ticket) = awaited_as ticket (find (is_of_ticket tick
 
 -- what is shown or given, the client was told of
 abbrev pub shown : Answer → State → State
-shown (Says answer) last = last
 shown (Shows k) last = with_scene last (record last.scene { table = changed_entry last.scene.table k told })
 shown (Gives client max) last = with_given last client (first_messages last client max)
-shown (Awaits ticket) last = last
+shown answer last = last
 
 -- the state after an event, the answer, and the requests that the event itself ended
 pub record Direct : Type 0 where
@@ -157,14 +156,12 @@ ends s client sessions = record {
 -- ---- the effect of an event that nothing stops
 
 abbrev pub effect : State → Event → Direct
-effect s (Event.Session client caller grants) =
-    says (with_scene s (record s.scene { sessions = with_session s.scene.sessions client.0 caller grants })) Reply.Done
+effect s (Event.Session client caller grants) = says (with_sessions s (with_session s.scene.sessions client.0 caller grants)) Reply.Done
 effect s (Event.CloseSession client) = ends s client (without_session s.scene.sessions client.0)
 effect s (Event.Mark client status) = says (with_sessions s (with_status s.scene.sessions client.0 status)) Reply.Done
 effect s (Event.Regrant client grants) = says (with_sessions s (with_grants s.scene.sessions client.0 grants)) Reply.Done
 effect s (Event.Evict client) = ends s client (with_evicted s.scene.sessions client.0)
-effect s (Event.Unblock client) =
-    says (with_scene s (record s.scene { sessions = without_blocked s.scene.sessions client.0 })) Reply.Done
+effect s (Event.Unblock client) = says (with_sessions s (without_blocked s.scene.sessions client.0)) Reply.Done
 effect s (Event.Recall count) = says (with_table s (recalled s.scene.table count)) (Reply.Recalled (take count s.scene.table.recall))
 effect s (Event.Lookup client dir name) = found s (child s.scene.tree.nodes dir.0 name)
 effect s (Event.Create client dir name mode) = born s File client dir.0 name mode

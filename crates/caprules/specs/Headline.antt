@@ -34,16 +34,9 @@ DeniesByName s e answer = DenialIsByName s (before s e) (needs s e) (λ access r
 
 -- whether the answer is a denial or a refusal
 abbrev pub is_rejection : Reply → Bool
-is_rejection Reply.Done = false
-is_rejection (Reply.Ino ino) = false
-is_rejection (Reply.Opened seq caps) = false
-is_rejection (Reply.Values values) = false
-is_rejection (Reply.Messages messages) = false
-is_rejection (Reply.Recalled holders) = false
-is_rejection (Reply.Waiting ticket) = false
 is_rejection (Reply.Denied access rules) = true
 is_rejection (Reply.Refused refusal) = true
-is_rejection Reply.OutOfMemory = false
+is_rejection answer = false
 
 -- ---- denials of requests that waited
 

@@ -1,5 +1,5 @@
 -- What is tested of an event, in order, and what stops it.
-use Rattle.std.specs.{List.{find}, Option.{option_map, option_map_or}, Prelude.{ℕ, Bool, true, false, not, List, [], ◌∷◌, ◌++◌, Option, Some, None, is_some, if◌then◌else◌}}
+use Rattle.std.specs.{List.{find}, Option.{option_map, option_map_or}, Prelude.{ℕ, Bool, not, List, [], ◌∷◌, ◌++◌, Option, Some, None, is_some, if◌then◌else◌}}
 use Rattle.capbits.specs.{Caps.{Caps}, Refusal.{Test, first_failing}, Sets.{no_caps, caps_in}, declared.ids.ClientId.{ClientId}, declared.ids.Ino.{Ino}, declared.refusal.Refusal.{Refusal}}
 use Rattle.capgrant.specs.declared.{access.Access.{Access}, access.Access.TheVariants.{Read, Write, Snapshot}}
 use Rattle.inotree.specs.{Tests.{exists_test, inode_tests, directory_test, file_test, found_test, new_inode_tests, new_snapshot_tests, old_snapshot_tests}, Tree.{Nodes, child}}
@@ -9,11 +9,6 @@ use Rattle.capnotes.specs.{Capevents.declared.event.Event.{Event}, Capevents.dec
 use Rattle.caprules.specs.{Asks.{ask_before, ask_needs, ask_after, change_access, change_tests, exclusive}, Needs.{Need, need, need_if}, declared.rejection.Rejection.{Rejection}, declared.rejection.Rejection.TheVariants.{ByPolicy, ByTest}}
 
 -- ---- by event
-
-abbrev pub is_writing : OpenMode → Bool
-is_writing OpenMode.Read = false
-is_writing OpenMode.Write = true
-is_writing OpenMode.ReadWrite = true
 
 -- what is being revoked of the holder's entry, where it has one
 abbrev pub revoked_of : Scene → Holder → Caps
@@ -43,7 +38,8 @@ room_for table k = if is_some (entry_at table k) then [] else open_tests table
 
 -- what is opened to write is no directory
 abbrev pub opening_tests : Scene → Holder → OpenMode → List Test
-opening_tests s k mode = (if is_writing mode then file_test s.tree k.ino.0 ∷ [] else []) ++ room_for s.table k
+opening_tests s k OpenMode.Read = room_for s.table k
+opening_tests s k mode = file_test s.tree k.ino.0 ∷ room_for s.table k
 
 -- what may wait for a lock has its own tests, and there is room for it in the queue
 abbrev pub waiting_tests : Scene → ℕ → Ask → List Test

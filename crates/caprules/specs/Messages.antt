@@ -53,24 +53,18 @@ first_messages s client max = take max (messages_to s client)
 
 -- the message tells what the client is to know that it holds on the inode
 abbrev pub is_caps_of : Ino → Message → Bool
-is_caps_of ino (Message.Ended ticket outcome) = false
 is_caps_of ino (Message.Caps i seq caps) = i.0 == ino.0
-is_caps_of ino (Message.Size i size) = false
-is_caps_of ino (Message.Recall i) = false
+is_caps_of ino m = false
 
 -- the message tells the inode's size
 abbrev pub is_size_of : Ino → Message → Bool
-is_size_of ino (Message.Ended ticket outcome) = false
-is_size_of ino (Message.Caps i seq caps) = false
 is_size_of ino (Message.Size i size) = i.0 == ino.0
-is_size_of ino (Message.Recall i) = false
+is_size_of ino m = false
 
 -- the message asks the client to give back what it holds on the inode
 abbrev pub is_recall_of : Ino → Message → Bool
-is_recall_of ino (Message.Ended ticket outcome) = false
-is_recall_of ino (Message.Caps i seq caps) = false
-is_recall_of ino (Message.Size i size) = false
 is_recall_of ino (Message.Recall i) = i.0 == ino.0
+is_recall_of ino m = false
 
 abbrev pub told_if : Bool → Entry → Entry
 told_if b e = if b then told e else e

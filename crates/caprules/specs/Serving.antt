@@ -3,7 +3,7 @@ use Rattle.std.specs.Prelude.{◌≡◌, ℕ, Bool, true, false, IsTrue, Option,
 use Rattle.std.specs.FinMap as map
 use Rattle.capbits.specs.declared.{cap.Part.{Part}, cap.Part.TheVariants.{A, L, X, F}}
 use Rattle.inotree.specs.declared.node.Node.{Node}
-use Rattle.capnotes.specs.{Capevents.declared.outcome.Ended.{Ended}, Capevents.declared.outcome.Outcome.{Outcome}, Capevents.declared.outcome.PartValues.{PartValues}, Changing.{tree_after}, Lockmachine.Moves.{moved as moved_locks}, Lockmachine.declared.moves.Move.TheVariants.{Serve}, Lockmachine.declared.request.Ask.{Ask}, Lockmachine.declared.request.Ask.TheVariants.{Get, Alter, Unlink, Rmdir, Rename}, Lockmachine.declared.request.Change.{Change}, Lockmachine.declared.request.Change.TheVariants.{Set, SetXattr, RemoveXattr}, Lockmachine.declared.request.Request.{Request}, Lockmachine.declared.scene.Scene.{Scene}}
+use Rattle.capnotes.specs.{Capevents.declared.outcome.Ended.{Ended}, Capevents.declared.outcome.Outcome.{Outcome}, Capevents.declared.outcome.PartValues.{PartValues}, Changing.{tree_after}, Lockmachine.Moves.{moved as moved_locks}, Lockmachine.declared.moves.Move.TheVariants.{Serve}, Lockmachine.declared.request.Ask.{Ask}, Lockmachine.declared.request.Ask.TheVariants.{Get, Alter, Rename}, Lockmachine.declared.request.Change.{Change}, Lockmachine.declared.request.Change.TheVariants.{SetXattr}, Lockmachine.declared.request.Request.{Request}, Lockmachine.declared.scene.Scene.{Scene}}
 use Rattle.caprules.specs.{Asks.{ask_before, ask_needs, ask_after}, Judge.{rejection_of}, declared.rejection.Rejection.{Rejection}, declared.rejection.Rejection.TheVariants.{ByPolicy, ByTest}}
 
 -- what stops the request now
@@ -25,10 +25,7 @@ values_outcome part (Some node) = Outcome.Values (values_of part node)
 
 abbrev pub passed_as : Scene → ℕ → Ask → Outcome
 passed_as s ino (Get part) = values_outcome part (map.get s.tree.nodes ino)
-passed_as s ino (Alter change) = Outcome.Done
-passed_as s ino Unlink = Outcome.Done
-passed_as s ino Rmdir = Outcome.Done
-passed_as s ino (Rename dir name) = Outcome.Done
+passed_as s ino ask = Outcome.Done
 
 -- what stopped it, as its outcome
 abbrev pub rejection_outcome : Rejection → Outcome
@@ -39,29 +36,20 @@ abbrev pub outcome_unless : Scene → Request → Option Rejection → Outcome
 outcome_unless s q (Some rejection) = rejection_outcome rejection
 outcome_unless s q None = passed_as s q.ino.0 q.ask
 
--- how the request ends if it is served now and finds its memory
-abbrev pub outcome_of : Scene → Request → Outcome
-outcome_of s q = outcome_unless s q (judged_again s q)
-
 abbrev pub change_takes_memory : Change → Bool
 change_takes_memory (SetXattr name value) = true
-change_takes_memory (Set setting) = false
-change_takes_memory (RemoveXattr name) = false
+change_takes_memory change = false
 
 -- an attribute that is set, a new name and a list of attributes take memory
 abbrev pub takes_memory : Ask → Bool
 takes_memory (Get X) = true
-takes_memory (Get A) = false
-takes_memory (Get L) = false
-takes_memory (Get F) = false
 takes_memory (Alter change) = change_takes_memory change
-takes_memory Unlink = false
-takes_memory Rmdir = false
 takes_memory (Rename dir name) = true
+takes_memory ask = false
 
 -- how it may end: as it is judged now; or nothing stops it, but it takes memory and finds none
 pub data MayEndAs (s : Scene) (q : Request) : Outcome → Type 0 where
-  As_judged : MayEndAs s q (outcome_of s q)
+  As_judged : MayEndAs s q (outcome_unless s q (judged_again s q))
   Without_memory : judged_again s q ≡ None → IsTrue (takes_memory q.ask) → MayEndAs s q Outcome.OutOfMemory
 
 -- it waits no more

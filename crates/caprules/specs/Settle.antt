@@ -3,7 +3,7 @@ use Rattle.std.specs.{List.{filter_map}, Prelude.{◌≡◌, Bool, true, false, 
 use Rattle.capbits.specs.declared.{cap.Part.{Part}, ids.Ino.{Ino}}
 use Rattle.inotree.specs.declared.node.Setting.{Setting}
 use Rattle.locktable.specs.declared.states.State.{State as LockGoal}
-use Rattle.capnotes.specs.{Capevents.declared.outcome.Ended.{Ended}, Capevents.declared.outcome.Outcome.{Outcome}, Lockmachine.Locks.{request_at}, Lockmachine.Moves.{first_move, with_moved}, Lockmachine.declared.moves.Move.TheVariants.{Begin, End, Serve, Settled}, Lockmachine.declared.request.Ask.{Ask}, Lockmachine.declared.request.Ask.TheVariants.{Get, Alter, Unlink, Rmdir, Rename}, Lockmachine.declared.request.Change.{Change}, Lockmachine.declared.request.Change.TheVariants.{Set, SetXattr, RemoveXattr}, Lockmachine.declared.request.Request.{Request}, Lockmachine.declared.scene.Scene.{Scene}}
+use Rattle.capnotes.specs.{Capevents.declared.outcome.Ended.{Ended}, Capevents.declared.outcome.Outcome.{Outcome}, Lockmachine.Locks.{request_at}, Lockmachine.Moves.{first_move, with_moved}, Lockmachine.declared.moves.Move.TheVariants.{Begin, End, Serve, Settled}, Lockmachine.declared.request.Ask.{Ask}, Lockmachine.declared.request.Ask.TheVariants.{Alter}, Lockmachine.declared.request.Change.TheVariants.{Set}, Lockmachine.declared.request.Request.{Request}, Lockmachine.declared.scene.Scene.{Scene}}
 use Rattle.caprules.specs.Serving.{MayEndAs, served}
 
 -- a move that was made
@@ -33,9 +33,8 @@ pub record Settles (old : Scene) (moves : List Made) (new : Scene) : Type 0 wher
   pub settled : first_move new ≡ Settled
 
 abbrev pub ended_by : Made → Option Ended
-ended_by (Began ino part to) = None
-ended_by (Gathered ino part) = None
 ended_by (Served q o) = Some (record { client = q.client; ticket = q.ticket; outcome = o })
+ended_by m = None
 
 -- the requests that the moves ended, in order
 abbrev pub ended_in : List Made → List Ended
@@ -43,39 +42,19 @@ ended_in moves = filter_map ended_by moves
 
 -- ---- sizes
 
-abbrev pub is_size : Setting → Bool
-is_size (Setting.Mode mode) = false
-is_size (Setting.Uid uid) = false
-is_size (Setting.Gid gid) = false
-is_size (Setting.Size size) = true
-is_size (Setting.Time time) = false
-
-abbrev pub changes_size : Change → Bool
-changes_size (Set setting) = is_size setting
-changes_size (SetXattr name value) = false
-changes_size (RemoveXattr name) = false
-
 -- the request sets the size of its inode
 abbrev pub sets_size : Ask → Bool
-sets_size (Get part) = false
-sets_size (Alter change) = changes_size change
-sets_size Unlink = false
-sets_size Rmdir = false
-sets_size (Rename dir name) = false
+sets_size (Alter (Set (Setting.Size size))) = true
+sets_size ask = false
 
 abbrev pub is_done : Outcome → Bool
 is_done Outcome.Done = true
-is_done (Outcome.Values values) = false
-is_done (Outcome.Denied access rules) = false
-is_done (Outcome.Refused refusal) = false
-is_done Outcome.OutOfMemory = false
-is_done Outcome.Dropped = false
+is_done outcome = false
 
 -- the inode whose size a move changed
 abbrev pub sized_by : Made → Option Ino
-sized_by (Began ino part to) = None
-sized_by (Gathered ino part) = None
 sized_by (Served q o) = if sets_size q.ask && is_done o then Some q.ino else None
+sized_by m = None
 
 -- the inodes whose sizes the moves changed
 abbrev pub sized_in : List Made → List Ino

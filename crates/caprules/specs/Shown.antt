@@ -9,10 +9,8 @@ use Rattle.caprules.specs.Headline.{holds}
 
 -- what a message shows of the inode: where it shows nothing of it, what was shown before counts on
 abbrev pub shown_in : Ino → Caps → Message → Caps
-shown_in ino was (Message.Ended ticket outcome) = was
 shown_in ino was (Message.Caps i seq caps) = if i.0 == ino.0 then caps else was
-shown_in ino was (Message.Size i size) = was
-shown_in ino was (Message.Recall i) = was
+shown_in ino was m = was
 
 -- an opening and a want show what they answer
 abbrev pub shown_opened : Caps → Reply → Caps

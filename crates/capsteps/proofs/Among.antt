@@ -1,48 +1,56 @@
--- Which inodes a step affects: that of its event, and the others.
-use Rattle.std.proofs.{Common.{◌≡◌, ◌≢◌, ℕ, true, false, ◌||◌, ◌==◌, inl, ap, ◌∙◌, ◌⊎◌, Result, OnOk, List, [], ◌∷◌, Contains, arith}, Math.Bool.{or-false}, lemmas.Bool.{eqb-false, ne_eqb, or_from, or_parts}}
+-- Which inodes a step affects: one, or those of a set.
+use Rattle.std.{proofs.Common.{◌≡◌, ◌+◌, ◌-◌, ℕ, Bool, true, false, not, cond, ◌==◌, ◌||◌, ◌&&◌, inl, ◌⊎◌, Result, Ok, Err, OnOk, List, [], ◌∷◌, refl, sym, ap, ◌∙◌, Contains, true≢false, arith}, proofs.Math.Bool.{or-false}, proofs.lemmas.Bool.{eqb-true, false_from_ne_true}, specs.Cmp.{nat_cmp_total, unsigned_tied}, specs.Ordering.{nat_cmp, eq_by_cmp}}
 use Rattle.std.specs.FinSet as set
-use Rattle.capacts.proofs.InoSets.{added}
-use Rattle.capsteps.proofs.Common.{EntryRow, InoSet, is_affected, none-there, Widens}
+use Rattle.capacts.proofs.InoSets.{added, at_more, none-there}
+use Rattle.capsteps.proofs.Common.{EntryRow, InoSet, second_true, Widens}
 
--- an inode that is not affected is another, and none of the others
-pub unaffected : (ino : ℕ) (affected : InoSet) (other : ℕ) → is_affected ino affected other ≡ false → (other ≢ ino) × (set.contains affected other ≡ false)
-unaffected ino affected other off = let both = or_parts (other == ino) (set.contains affected other) off in (eqb-false other ino both.0, both.1)
+-- ---- one inode
 
-pub not-affected : (ino : ℕ) (affected : InoSet) (other : ℕ) → other ≢ ino → set.contains affected other ≡ false → is_affected ino affected other ≡ false
-not-affected ino affected other off none = or_from (other == ino) (set.contains affected other) (ne_eqb other ino off) none
+-- a set of one has no other
+pub one-inode : (ino : ℕ) → set.contains (set.insert (set.empty {R = nat_cmp}) ino) ≡ (λ other. other == ino)
+one-inode ino i other =
+    (set.contains-insert nat_cmp_total (set.empty {R = nat_cmp}) ino other
+    ∙ ap (λ b. eq_by_cmp nat_cmp other ino || b) (none-there other) ∙ or-false (eq_by_cmp nat_cmp other ino) ∙ unsigned_tied other ino) i
 
--- and where there are more others, more are
-pub more-affected : (ino : ℕ) (affected kept : InoSet) → ((other : ℕ) → set.contains affected other ≡ true → set.contains kept other ≡ true)
-    → (other : ℕ) → is_affected ino affected other ≡ true → is_affected ino kept other ≡ true
-more-affected ino affected kept more other is = grind arith
+pub one-counts : (ino : ℕ) → set.len (set.insert (set.empty {R = nat_cmp}) ino) ≡ 1
+one-counts ino =
+    set.len-insert nat_cmp_total (set.empty {R = nat_cmp}) ino
+    ∙ ap (λ b. cond b (set.len (set.empty {R = nat_cmp})) (set.len (set.empty {R = nat_cmp}) + 1)) (none-there ino)
+    ∙ ap (λ n. n + 1) (set.len-empty nat_cmp)
 
--- where there are no others, it is the one that is affected
-pub affected-alone : (ino : ℕ) (others : InoSet) → others ≡ set.empty → is_affected ino others ≡ (λ other. other == ino)
-affected-alone ino others none = λ i other. (ap (λ (inos : InoSet). is_affected ino inos other) none ∙ ap (λ b. (other == ino) || b) (none-there other) ∙ or-false (other == ino)) i
+-- nor has any that counts one
+pub none-besides : (inos : InoSet) (ino : ℕ) → set.len inos ≡ 1 → set.contains inos ino ≡ true → set.contains inos ≡ (λ other. other == ino)
+none-besides inos ino one here = λ i other. by_test other (other == ino) refl i
+  where
+    by_test : (other : ℕ) (b : Bool) → (other == ino) ≡ b → set.contains inos other ≡ b
+    by_test other true is = ap (set.contains inos) (eqb-true other ino is) ∙ here
+    by_test other false away = false_from_ne_true (set.contains inos other) (λ there.
+        let rest : InoSet = set.remove inos ino in
+        let none : rest ≡ set.empty = set.empty_of_len rest (set.len-remove nat_cmp_total inos ino ∙ ap (λ b. cond b (set.len inos - 1) (set.len inos)) here ∙ ap (λ n. n - 1) one) in
+        let left : set.contains rest other ≡ true =
+        set.contains-remove nat_cmp_total inos ino other ∙ ap (λ b. not b && set.contains inos other) (unsigned_tied other ino ∙ away) ∙ there in
+        true≢false (sym left ∙ ap (λ (t : InoSet). set.contains t other) none ∙ none-there other))
 
 -- ---- where a client is: the inodes that are gathered for it
 
-pub affected-still : (ino : ℕ) (a b : InoSet) → Widens ino a b → (other : ℕ) → is_affected ino a other ≡ true → is_affected ino b other ≡ true
-affected-still ino a b widens = more-affected ino a b widens.stay
+-- what was in a set stays there with one more
+pub insert-widens : (old new : InoSet) (k : ℕ) → new ≡ set.insert old k → Widens old new
+insert-widens old new k is q was = at_more k old new is q ∙ second_true (eq_by_cmp nat_cmp q k) (set.contains old q) was
 
 -- of the rows that were gone through, each is on an inode that is reached
-abbrev pub AreReached : ℕ → InoSet → List EntryRow → List EntryRow → Type 0
-AreReached ino others all left = (row : EntryRow) → Contains all row → (Contains left row) ⊎ (is_affected ino others row.holder.ino.0 ≡ true)
+abbrev pub AreReached : InoSet → List EntryRow → List EntryRow → Type 0
+AreReached inos all left = (row : EntryRow) → Contains all row → (Contains left row) ⊎ (set.contains inos row.holder.ino.0 ≡ true)
 
-pub first-reached : (ino : ℕ) (others : InoSet) (all : List EntryRow) → AreReached ino others all all
-first-reached ino others all row inside = inl inside
+pub first-reached : (inos : InoSet) (all : List EntryRow) → AreReached inos all all
+first-reached inos all row inside = inl inside
 
-pub more-reached : (ino : ℕ) (a b : InoSet) (all left rest : List EntryRow) (row : EntryRow) → left ≡ row ∷ rest → Widens ino a b
-    → is_affected ino b row.holder.ino.0 ≡ true → AreReached ino a all left → AreReached ino b all rest
-more-reached ino a b all left rest row is widens reached so_far = grind (arith, affected-still)
+pub more-reached : (a b : InoSet) (all left rest : List EntryRow) (row : EntryRow) → left ≡ row ∷ rest → b ≡ set.insert a row.holder.ino.0 → AreReached a all left → AreReached b all rest
+more-reached a b all left rest row is more so_far = grind (arith, added, insert-widens)
 
-pub all-reached : (ino : ℕ) (others : InoSet) (all left : List EntryRow) → left ≡ [] → AreReached ino others all left → (row : EntryRow) → Contains all row → is_affected ino others row.holder.ino.0 ≡ true
-all-reached ino others all left none so_far row inside = grind arith
+pub all-reached : (inos : InoSet) (all left : List EntryRow) → left ≡ [] → AreReached inos all left → (row : EntryRow) → Contains all row → set.contains inos row.holder.ino.0 ≡ true
+all-reached inos all left none so_far row inside = grind arith
 
--- where there were none at first, this one is none of them
-pub none-of_it : (ino : ℕ) (none others : InoSet) → none ≡ set.empty → Widens ino none others → set.contains others ino ≡ false
-none-of_it ino none others is widens = grind (arith, none-there)
-
--- where there was memory for one more, it is affected
-pub affected-tried : {A E : Type 0} (ino k : ℕ) (old new : InoSet) (r : Result A E) → OnOk r (new ≡ set.insert old k) → OnOk r (is_affected ino new k ≡ true)
-affected-tried ino k old new r ok = grind (arith, added)
+-- where there was memory for one more, it is among them
+pub among-tried : {A E : Type 0} (k : ℕ) (old new : InoSet) (r : Result A E) → OnOk r (new ≡ set.insert old k) → OnOk r (set.contains new k ≡ true)
+among-tried k old new (Ok x) ok = added k old new ok
+among-tried k old new (Err e) ok = ok

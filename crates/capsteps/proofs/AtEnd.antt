@@ -1,12 +1,9 @@
 -- The end of a step: the entries on an inode one by one, and all inodes that it affected.
-use Rattle.std.{proofs.Common.{◌≡◌, ℕ, zero, suc, ◌<◌, Bool, true, false, cond, Option, Some, None, List, [], ◌∷◌, length, filter, take, get_or, refl, sym, ap, ◌∙◌, arith, eq-eqb, true≢false, ◌≤◌, ◌||◌, map as each, is_some, subst, All, IfSome, ◌==◌, IsTrue}, proofs.Math.Bool.{or_comm}, proofs.lemmas.Bool.{eqb-true}, proofs.lemmas.List.{length-map}, proofs.lemmas.List.Elements.{All-contains, All-map, All-filter, All-from_recursion, recursion_from_All}, proofs.lemmas.Map.Keys.{apart_from_distinct}, proofs.lemmas.Map.Made.{is_some-lookup}, proofs.lemmas.Map.Steps.{length-le_from_keys}, specs.Cmp.{nat_cmp_total, eq_by_cmp_equiv}, specs.FinMap.Entries.{is_some-find}, specs.List.{fold, AllByRecursion, list_any, IsDistinct}, specs.Ordering.{nat_cmp, eq_by_cmp}}
+use Rattle.std.{proofs.Common.{◌≡◌, ℕ, Bool, true, false, cond, Option, List, [], ◌∷◌, length, filter, refl, sym, ap, ◌∙◌, arith, ◌≤◌, ◌||◌, map as each, is_some, subst, All, ◌==◌, IsTrue}, proofs.lemmas.Bool.{eqb-true}, proofs.lemmas.List.{length-map}, proofs.lemmas.List.Elements.{All-map, All-filter, recursion_from_All}, proofs.lemmas.Map.Made.{is_some-lookup}, proofs.lemmas.Map.Steps.{length-le_from_keys}, specs.Cmp.{nat_cmp_total, eq_by_cmp_equiv}, specs.FinMap.Entries.{is_some-find}, specs.List.{AllByRecursion, list_any, IsDistinct}, specs.Ordering.{nat_cmp, eq_by_cmp}}
 use Rattle.std.specs.FinMap as map
-use Rattle.std.specs.FinSet as set
 use Rattle.captable.proofs.Tables.{holders-filter, distinct-filter}
-use Rattle.sessiontab.specs.{Table.{IsSound}, declared.table.TheConstants.{MAX_SESSIONS}}
-use Rattle.capsteps.{proofs.Common.{Caps, changed_by, ClientId, clients_of, due_under, entries_on, Entry, entry_at, entry_at-changed_other, entry_by, entry_under, EntryRow, has_session, Holder, holder, holders_of_rows, Ino, InodeLocks, InoSet, is_affected, is_of_inode, is_row_of, IsTable, Nodes, numbered_as, row_of-entry, same, same_equiv, same_key, Scene, SessionTable, StateMap, Table, told_at}, proofs.LeftAlone.{found-contains}, proofs.Strays.{forget-one, forget-twice}, specs.Affected.{forget_at, forget_among}}
-
--- ---- the clients with an entry on an inode have a session each, so they are no more than the sessions
+use Rattle.sessiontab.specs.declared.table.TheConstants.{MAX_SESSIONS}
+use Rattle.capsteps.proofs.Common.{Caps, clients_of, due_under, entries_on, entry_by, entry_under, EntryRow, has_session, Holder, holder, holders_of_rows, Ino, InodeLocks, is_of_inode, IsTable, Nodes, numbered_as, same, same_key, SessionTable, StateMap, Table, told_at}
 
 -- ---- keys of a map
 
@@ -65,9 +62,9 @@ distinct_numbers ino [] apart = tt
 distinct_numbers ino (c ∷ cs) apart = (other_numbers ino c cs apart.0, distinct_numbers ino cs apart.1)
 
 -- the entries on an inode are at most as many as the sessions may be
-pub few-entries : (t : Table) (ino : Ino) (s : SessionTable) → IsTable t → IsSound s → All (λ row. IsTrue (has_session s row.holder.client.0)) t.rows
+pub few-entries : (t : Table) (ino : Ino) (s : SessionTable) → IsTable t → map.len s.sessions ≤ MAX_SESSIONS → All (λ row. IsTrue (has_session s row.holder.client.0)) t.rows
     → length (entries_on t ino) ≤ MAX_SESSIONS
-few-entries t ino s is sound connected =
+few-entries t ino s is most connected =
     let rows : List EntryRow = entries_on t ino in
     let apart : IsDistinct same (named ino (clients_of rows)) = subst (IsDistinct same) (sym (named-clients ino t.rows)) (distinct-on t ino is) in
     let all = recursion_from_All (λ k. map.contains_key s.sessions k ≡ true) (clients_of rows)
@@ -75,49 +72,7 @@ few-entries t ino s is sound connected =
     (All-filter (is_of_inode ino) (λ row. IsTrue (has_session s row.holder.client.0)) t.rows connected)) in
     let few : length (clients_of rows) ≤ map.len s.sessions = few_keys s.sessions (clients_of rows) (distinct_numbers ino (clients_of rows) apart) all in
     let as_many : length (clients_of rows) ≡ length rows = length-map rows (λ (row : EntryRow). row.holder.client.0) in
-    omega (arith, few, as_many, sound.sessions)
-
--- ---- one entry
-
-all-unfiltered : (P : EntryRow → Type 0) (p : EntryRow → Bool) (rows : List EntryRow) → AllByRecursion P (filter p rows) → AllByRecursion (λ row. p row ≡ true → P row) rows
-all-unfiltered P p [] all = tt
-all-unfiltered P p (row ∷ rows) all =
-    elim (p row) as (λ b. AllByRecursion P (cond b (row ∷ filter p rows) (filter p rows)) → (b ≡ true → P row) × AllByRecursion (λ row. p row ≡ true → P row) rows) [
-      | true ↦ λ all. (λ _. all.0, all-unfiltered P p rows all.1)
-      | false ↦ λ all. (λ e. absurd (true≢false (sym e)), all-unfiltered P p rows all)
-    ] all
-
--- what holds of each entry on an inode holds of the holder's
-pub entry-on : (P : Entry → Type 0) (t : Table) (client : ClientId) (ino : Ino) → All (λ row. P row.entry) (entries_on t ino) → IfSome (entry_at t (holder client ino)) P
-entry-on P t client ino all = by_entry (entry_at t k) refl
-  where
-    k : Holder
-    k = holder client ino
-
-    each_on : All (λ row. is_of_inode ino row ≡ true → P row.entry) t.rows
-    each_on =
-        All-from_recursion (λ row. is_of_inode ino row ≡ true → P row.entry) t.rows
-        (all-unfiltered (λ row. P row.entry) (is_of_inode ino) t.rows (recursion_from_All (λ row. P row.entry) (entries_on t ino) all))
-
-    by_entry : (o : Option Entry) → entry_at t k ≡ o → IfSome o P
-    by_entry None none = tt
-    by_entry (Some e) there =
-        let row : EntryRow = record { holder = k; entry = e } in
-        All-contains (λ row. is_of_inode ino row ≡ true → P row.entry) t.rows row each_on (found-contains (is_row_of k) t.rows row (row_of-entry t k e there)) (eq-eqb ino.0 ino.0 refl)
-
--- ---- one entry after another
-
--- the entries of holders that are yet to come are as they were
-pub yet-unchanged : (g : EntryRow → Entry) (t : Table) (ks : List Holder) (i : ℕ) (d : Holder) → IsDistinct same ks → i < length ks
-    → entry_at (fold (changed_by g) t (take i ks)) (get_or ks i d) ≡ entry_at t (get_or ks i d)
-unfolding IsDistinct
-yet-unchanged g t [] i d apart inside = absurd (omega arith)
-yet-unchanged g t (k ∷ ks) zero d apart inside = refl
-yet-unchanged g t (k ∷ ks) (suc i) d apart inside =
-    let x : Holder = get_or ks i d in
-    let differ : same k x ≡ false = apart_from_distinct same (k ∷ ks) 0 (suc i) d apart (omega arith) inside in
-    yet-unchanged g (changed_by g t k) ks i d apart.1 (omega arith)
-    ∙ entry_at-changed_other t k x (λ e. g (record { holder = k; entry = e })) (λ is. true≢false (sym (same_equiv.refl k) ∙ ap (same k) (sym is) ∙ differ))
+    omega (arith, few, as_many, most)
 
 -- ---- all entries on the affected inodes
 
@@ -126,10 +81,3 @@ pub entry-alike : (known first : Holder → Caps) (fs : List ℕ) (tree : Nodes)
     → known row.holder ≡ first row.holder → locks ≡ map.get states row.holder.ino.0 → entry_under known fs tree sessions locks row ≡ entry_by first fs tree sessions states row
 entry-alike known first fs tree sessions locks states row same_known is =
     λ i. numbered_as (same_known i) (told_at fs tree sessions (is i) row) (due_under fs tree sessions (is i) row) row
-
--- first the others are forgotten, and then the inode of the event: the strays of all that are affected
-pub forget-all : (ino : ℕ) (affected : InoSet) (s : Scene) → forget_at ino (forget_among (set.contains affected) s) ≡ forget_among (is_affected ino affected) s
-forget-all ino affected s =
-    sym (forget-one ino (forget_among (set.contains affected) s))
-    ∙ forget-twice (set.contains affected) (λ n. n == ino) s
-    ∙ (λ i. forget_among (λ n. or_comm (set.contains affected n) (n == ino) i) s)

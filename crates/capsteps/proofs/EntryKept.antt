@@ -1,138 +1,151 @@
--- What an event about one entry leaves of what is kept of entries.
-use Rattle.std.{proofs.Common.{◌≡◌, ◌≢◌, ◌⊎◌, inl, inr, Bool, true, false, cond, not, ◌&&◌, Option, Some, None, is_some, [], ◌∷◌, refl, sym, ap, subst, ◌∙◌, true≢false}, proofs.lemmas.List.Elements.{All-contains}, specs.Option.{option_map, option_map_or}}
+-- What an event about one entry leaves of each entry, and of what is kept of it.
+use Rattle.std.{proofs.Common.{◌≡◌, ◌≢◌, ◌⊎◌, inl, inr, Bool, true, false, cond, Some, None, is_some, [], ◌∷◌, refl, sym, ap, ◌∙◌, arith}, proofs.lemmas.List.Elements.{All-contains}, specs.List.{find}, specs.Option.{option_map}}
 use Rattle.capbits.specs.{Caps.{has}, Sets.{no_caps}}
-use Rattle.captable.proofs.ByHolder.{entry_at-acked_other, entry_at-released_other}
-use Rattle.capacts.{proofs.Renewed.{kept-is}, specs.Lockmachine.declared.policy.Policy.{Policy}}
-use Rattle.capsteps.{proofs.Common.{and_parts, AreKnown, Cap, Caps, caps_in, changed, Entry, entry_at, entry_at-changed_other, entry_at-opened, entry_at-opened_other, EntryRow, given_back, has-minus, has-none, Holder, is_row_of, is_still_known, IsSound, IsSoundEntry, IsSubset, known_of, KnownSets, new_entry, opened, opening_wants, OthersHaveAll, P, permitted, permitted_of, row_of-entry, same, same-is, Sets, sets_of, State, StillKnown, Table, taken, union, wanting, with_entry, with_opening, without}, proofs.Knowing.{held_at, HoldAlike, still-known}, proofs.LeftAlone.{found-contains}, proofs.ShownSteps.{IsOf, apart-of, changed-as}, specs.EntryRequest.{table_after, StillKept}, specs.declared.entry_request.EntryRequest.{EntryRequest}, specs.declared.entry_request.EntryRequest.TheVariants.{Open, Want, Ack, Release}}
+use Rattle.capsteps.{proofs.Common.{AreKnown, ArePermitted, caps_in, changed, Entry, entry_at, entry_at-opened, entry_at-opened_other, entry_at-without, entry_of, given_back, has-caps_in, has-minus, has-none, has-union, Holder, is_row_of, is_still_known, IsSound, IsSoundEntry, IsSubset, known_of, KnownSets, new_entry, opened, opening_wants, OpenMode, OthersHaveAll, P, permitted, permitted_of, revoked_of, row_of-entry, same, same-is, same_equiv, Scene, Sets, sets_of, State, StillKnown, Table, taken, union, wanting, without}, proofs.Knowing.{held_at, HoldAlike, still-known}, proofs.LeftAlone.{found-contains}, proofs.ShownSteps.{IsOf, apart-of, changed-as}, specs.EntryRequest.{table_after, StillKept}, specs.declared.entry_request.EntryRequest.{EntryRequest}, specs.declared.entry_request.EntryRequest.TheVariants.{Open, Want, Ack, Release}}
 
 -- ---- what is kept of each
 
--- the entry was there, and the same is kept of it; or it is new, and it is kept what its client is permitted
-abbrev IsKept : Policy → Table → KnownSets → KnownSets → Holder → Type 0
-IsKept policy old was now k =
-    ((f : Entry) × (entry_at old k ≡ Some f) × (sets_of now k ≡ sets_of was k))
-    ⊎ ((entry_at old k ≡ None) × (permitted_of now k ≡ Some (permitted policy.fs.now policy.tree.now policy.sessions.now k)))
-
-pub still-kept : (policy : Policy) (old new : Table) (was now : KnownSets) → ((k : Holder) (e : Entry) → entry_at new k ≡ Some e → IsKept policy old was now k)
-    → StillKept policy old new was now
-still-kept policy old new was now each = record {
-  known = λ k e here. elim (each k e here) [
-    | inl there ↦ subst (λ o. is_still_known o (known_of was k) (known_of now k)) (sym there.1) (ap (option_map (λ (s : Sets). s.told)) there.2)
-    | inr made ↦ subst (λ o. is_still_known o (known_of was k) (known_of now k)) (sym made.0) (ap (λ o. is_some (option_map (λ (s : Sets). s.told) o)) (kept-is (sets_of now k) _ made.1).0)
-  ];
-  permitted = λ all k e here. elim (each k e here) [
-    | inl there ↦ ap (option_map (λ (s : Sets). s.permitted)) there.2 ∙ all k there.0 there.1
-    | inr made ↦ made.1
-  ];
+-- a change of one entry, of which the same is kept of all that are left
+pub kept-changed : (s : Scene) (mid new : Table) (was now last : KnownSets) (k : Holder) (gone : Bool) (g : Entry → Entry) → StillKept s mid was now → new.rows ≡ (cond gone (without mid k) (changed mid k g)).rows
+    → ((j : Holder) (e : Entry) → entry_at new j ≡ Some e → sets_of last j ≡ sets_of now j) → StillKept s new was last
+kept-changed s mid new was now last k gone g kept is same_kept = record {
+  known = λ j e here. let f = there j e here in let known = kept.known j f.0 f.1 in let same_sets = same_kept j e here in grind arith;
+  permitted = λ all j e here. let f = there j e here in ap (option_map (λ (s : Sets). s.permitted)) (same_kept j e here) ∙ kept.permitted all j f.0 f.1;
 }
-
--- the holder has an entry in the other table too
-abbrev pub WasThere : Table → Table → Type 0
-WasThere old new = (k : Holder) (e : Entry) → entry_at new k ≡ Some e → (f : Entry) × (entry_at old k ≡ Some f)
-
--- a further change that makes no entry
-pub kept-on : (policy : Policy) (old mid new : Table) (was now : KnownSets) → StillKept policy old mid was now → WasThere mid new → StillKept policy old new was now
-kept-on policy old mid new was now kept there = record {
-  known = λ k e here. let f = there k e here in kept.known k f.0 f.1;
-  permitted = λ all k e here. let f = there k e here in kept.permitted all k f.0 f.1;
-}
+  where
+    there : (j : Holder) (e : Entry) → entry_at new j ≡ Some e → (f : Entry) × (entry_at mid j ≡ Some f)
+    there j e here = let m = changed-as gone mid k g j e (ap (λ rows. entry_of (find (is_row_of j) rows)) (sym is) ∙ here) in (m.before, m.there)
 
 -- where nothing changes, all is
-pub kept-itself : (policy : Policy) (t : Table) (sets : KnownSets) → StillKept policy t t sets sets
-kept-itself policy t sets = still-kept policy t t sets sets (λ k e here. inl (e, here, refl))
+pub kept-itself : (s : Scene) (sets : KnownSets) → StillKept s s.table sets sets
+kept-itself s sets = grind arith
 
--- ---- a new entry
-
-module _ (policy : Policy) (t : Table) (h : Holder) (was now : KnownSets) (none : entry_at t h ≡ None) (others : (k : Holder) → k ≢ h → sets_of now k ≡ sets_of was k) where
-  another : (k : Holder) (e : Entry) → entry_at t k ≡ Some e → k ≢ h
-  another k e there is = let gone : entry_at t k ≡ None = ap (entry_at t) is ∙ none in absurd (cc)
+module _ (s : Scene) (h : Holder) (was now : KnownSets) (none : entry_at s.table h ≡ None) (others : (k : Holder) → k ≢ h → sets_of now k ≡ sets_of was k) where
+  other : (k : Holder) (e : Entry) → entry_at s.table k ≡ Some e → sets_of now k ≡ sets_of was k
+  other k e there = others k (λ is. let gone : entry_at s.table k ≡ None = ap (entry_at s.table) is ∙ none in cc)
 
   -- where the holder has no entry, all that is kept of others is kept
-  pub kept-but : StillKept policy t t was now
-  kept-but = still-kept policy t t was now (λ k e there. inl (e, there, others k (another k e there)))
+  pub kept-but : StillKept s s.table was now
+  kept-but = record {
+    known = λ k e there. let same_sets = other k e there in grind arith;
+    permitted = λ all k e there. let same_sets = other k e there in let was_it = all k e there in grind arith;
+  }
 
-  -- of the new one it is kept what is permitted
-  pub kept-opened : permitted_of now h ≡ Some (permitted policy.fs.now policy.tree.now policy.sessions.now h) → StillKept policy t (opened t h) was now
-  kept-opened own = still-kept policy t (opened t h) was now (λ k e there. by_same k e there (same k h) refl)
+  -- and of its new one what is permitted
+  own-kept : permitted_of now h ≡ Some (permitted s.fs s.tree s.sessions h) → is_still_known (entry_at s.table h) (known_of was h) (known_of now h)
+  own-kept own = grind arith
+
+  pub kept-opened : permitted_of now h ≡ Some (permitted s.fs s.tree s.sessions h) → StillKept s (opened s.table h) was now
+  kept-opened own = record { known = λ k e here. (each k e here (same k h) refl).0; permitted = λ all k e here. (each k e here (same k h) refl).1 all }
     where
-      by_same : (k : Holder) (e : Entry) → entry_at (opened t h) k ≡ Some e → (b : Bool) → same k h ≡ b → IsKept policy t was now k
-      by_same k e there true on = subst (IsKept policy t was now) (sym (same-is k h on)) (inr (none, own))
-      by_same k e there false off = let apart = apart-of k h off in inl (e, sym (entry_at-opened_other t h k apart) ∙ there, others k apart)
+      each : (k : Holder) (e : Entry) → entry_at (opened s.table h) k ≡ Some e → (b : Bool) → same k h ≡ b
+          → is_still_known (entry_at s.table k) (known_of was k) (known_of now k) × (ArePermitted was s.fs s.tree s.sessions s.table → permitted_of now k ≡ Some (permitted s.fs s.tree s.sessions k))
+      each k e here true on = rw (same-is k h on) (own-kept own, λ all. own)
+      each k e here false off = let there = sym (entry_at-opened_other s.table h k (apart-of k h off)) ∙ here in (kept-but.known k e there, λ all. kept-but.permitted all k e there)
 
--- ---- entries that were there
-
-pub there-changed : (gone : Bool) (t : Table) (j : Holder) (g : Entry → Entry) → WasThere t (cond gone (without t j) (changed t j g))
-there-changed gone t j g k e there = let m = changed-as gone t j g k e there in (m.before, m.there)
+-- ---- what is told
 
 -- where what is held stays, all hold alike
 pub alike-changed : (t : Table) (j : Holder) (g : Entry → Entry) → ((e : Entry) → (g e).held ≡ e.held) → HoldAlike t (changed t j g)
-alike-changed t j g same_held k e there = let m = changed-as false t j g k e there in (m.before, m.there, by_same m (same k j) refl)
-  where
-    by_same : (m : IsOf t j g k e) (b : Bool) → same k j ≡ b → e.held ≡ m.before.held
-    by_same m true on = ap (λ (x : Entry). x.held) (m.own on) ∙ same_held m.before
-    by_same m false off = ap (λ (x : Entry). x.held) (m.other off)
+alike-changed t j g same_held k e there =
+    let m = changed-as false t j g k e there in
+    (m.before, m.there, elim (same k j) as (λ b. same k j ≡ b → e.held ≡ m.before.held) [ true ↦ λ on. ap (λ (x : Entry). x.held) (m.own on) ∙ same_held m.before | false ↦ λ off. ap (λ (x : Entry). x.held) (m.other off) ] refl)
 
--- ---- nobody holds more
+-- ---- what becomes of the holder's entry
 
-abbrev HoldsLess : Table → Table → Type 0
-HoldsLess old new = (k : Holder) (e : Entry) → entry_at new k ≡ Some e → IsSubset e.held (held_at old k)
+-- the entry holds no more than the other did, and has its numbers; and it holds and wants the pin, if that did
+pub record IsLess (e f : Entry) : Type 0 where
+  pub held : IsSubset e.held f.held
+  pub pin : has f.held P ≡ true → has e.held P ≡ true
+  pub wants : has f.want P ≡ true → has e.want P ≡ true
+  pub seq : e.seq ≡ f.seq
+  pub told : e.told_seq ≡ f.told_seq
+  pub revoked : e.revoke_seq ≡ f.revoke_seq
 
-as_before : (t : Table) (k : Holder) (f : Entry) (e : Entry) → entry_at t k ≡ Some f → IsSubset e.held f.held → IsSubset e.held (held_at t k)
-as_before t k f e there less c held = ap (λ (o : Option Entry). has (option_map_or (λ (x : Entry). x.held) o no_caps) c) there ∙ less c held
+less-itself : (e : Entry) → IsLess e e
+less-itself e = grind arith
 
-less-changed : (gone : Bool) (t : Table) (j : Holder) (g : Entry → Entry) → ((e : Entry) → IsSubset (g e).held e.held) → HoldsLess t (cond gone (without t j) (changed t j g))
-less-changed gone t j g less k e there =
-    let m = changed-as gone t j g k e there in
-    as_before t k m.before e m.there (by_same m (same k j) refl)
-  where
-    by_same : (m : IsOf t j g k e) (b : Bool) → same k j ≡ b → IsSubset e.held m.before.held
-    by_same m true on c held = less m.before c (ap (λ (x : Entry). has x.held c) (sym (m.own on)) ∙ held)
-    by_same m false off c held = ap (λ (x : Entry). has x.held c) (sym (m.other off)) ∙ held
+-- whether it goes, and what it is else
+abbrev goes : Scene → Holder → EntryRequest → Bool
+goes s k (Open mode) = false
+goes s k (Want caps) = false
+goes s k (Ack seq) = has (revoked_of s k) P
+goes s k (Release caps) = has caps P
 
-less-minus : (caps held : Caps) (c : Cap) → (has held c && not (has caps c)) ≡ true → has held c ≡ true
-less-minus caps held c is = (and_parts (has held c) (not (has caps c)) is).0
+abbrev edited : Scene → Holder → EntryRequest → Entry → Entry
+edited s k (Open mode) e = wanting (union e.want (opening_wants mode)) e
+edited s k (Want caps) e = wanting (union caps (caps_in (P ∷ []))) e
+edited s k (Ack seq) e = taken (revoked_of s k) e
+edited s k (Release caps) e = given_back caps e
 
--- a new entry holds nothing
-less-entry : (t : Table) (j : Holder) → HoldsLess t (with_entry t j)
-less-entry t j k e there = by_entry (entry_at t j) refl there
-  where
-    by_entry : (o : Option Entry) → entry_at t j ≡ o → entry_at (cond (is_some o) t (opened t j)) k ≡ Some e → IsSubset e.held (held_at t k)
-    by_entry (Some f) was now = as_before t k e e now (λ c held. held)
-    by_entry None none now = by_same (same k j) refl
-      where
-        by_same : (b : Bool) → same k j ≡ b → IsSubset e.held (held_at t k)
-        by_same true on c held =
-            let made : entry_at (opened t j) k ≡ Some new_entry = ap (entry_at (opened t j)) (same-is k j on) ∙ entry_at-opened t j none in
-            let new : e ≡ new_entry = cc in
-            absurd (true≢false (sym held ∙ ap (λ (x : Entry). has x.held c) new ∙ has-none c))
-        by_same false off c held = as_before t k e e (sym (entry_at-opened_other t j k (apart-of k j off)) ∙ now) (λ _ still. still) c held
+edited-less : (s : Scene) (k : Holder) (request : EntryRequest) (e : Entry) → goes s k request ≡ false → IsLess (edited s k request e) e
+edited-less s k request e stays = grind (arith, has-union, has-minus, has-caps_in)
 
-less-alike : (t mid new : Table) → HoldsLess t mid → HoldAlike mid new → HoldsLess t new
-less-alike t mid new less alike k e there c held = let was = alike k e there in less k was.0 was.1 c (ap (λ caps. has caps c) (sym was.2) ∙ held)
+gone-not : (gone : Bool) (t : Table) (k j : Holder) (g : Entry → Entry) (e : Entry) → entry_at (cond gone (without t k) (changed t k g)) j ≡ Some e → same j k ≡ true → gone ≡ false
+gone-not gone t k j g e here on = let is = same-is j k on in let none = entry_at-without t k in grind arith
 
-pub request-less : (t : Table) (k : Holder) (revoked : Caps) (request : EntryRequest) → HoldsLess t (table_after t k revoked request)
-request-less t k revoked (Open mode) = less-alike t (with_entry t k) (with_opening t k mode) (less-entry t k) (alike-changed (with_entry t k) k (λ e. wanting (union e.want (opening_wants mode)) e) (λ e. refl))
-request-less t k revoked (Want caps) = less-changed false t k (λ e. wanting (union caps (caps_in (P ∷ []))) e) (λ e c held. held)
-request-less t k revoked (Ack seq) = less-changed (has revoked P) t k (taken revoked) (λ e c held. less-minus revoked e.held c (sym (has-minus e.held revoked c) ∙ held))
-request-less t k revoked (Release caps) = less-changed (has caps P) t k (given_back caps) (λ e c held. less-minus caps e.held c (sym (has-minus e.held caps c) ∙ held))
+-- the entry was there, and if it is not the holder's, it is as it was
+pub record IsLeft (t : Table) (k j : Holder) (e : Entry) : Type 0 where
+  pub was : Entry
+  pub there : entry_at t j ≡ Some was
+  pub less : IsLess e was
+  pub other : same j k ≡ false → e ≡ was
 
--- ---- the other entries
+-- or an opening has made it
+pub record IsMade (t : Table) (k j : Holder) (request : EntryRequest) (e : Entry) : Type 0 where
+  pub mode : OpenMode
+  pub is : request ≡ Open mode
+  pub own : j ≡ k
+  pub none : entry_at t k ≡ None
+  pub entry : e ≡ wanting (union no_caps (opening_wants mode)) new_entry
 
--- each is as it was
-request-others : (t : Table) (k : Holder) (revoked : Caps) (request : EntryRequest) (j : Holder) → j ≢ k → entry_at (table_after t k revoked request) j ≡ entry_at t j
-request-others t k revoked (Open mode) j apart =
-    entry_at-changed_other (with_entry t k) k j (λ e. wanting (union e.want (opening_wants mode)) e) apart
-    ∙ elim (is_some (entry_at t k)) as (λ b. entry_at (cond b t (opened t k)) j ≡ entry_at t j) [ true ↦ refl | false ↦ entry_at-opened_other t k j apart ]
-request-others t k revoked (Want caps) j apart = entry_at-changed_other t k j (λ e. wanting (union caps (caps_in (P ∷ []))) e) apart
-request-others t k revoked (Ack seq) j apart = entry_at-acked_other t k j revoked apart
-request-others t k revoked (Release caps) j apart = entry_at-released_other t k j caps apart
+module _ (s : Scene) (k : Holder) where
+  left : (request : EntryRequest) (t : Table) (j : Holder) (e : Entry) → entry_at (cond (goes s k request) (without t k) (changed t k (edited s k request))) j ≡ Some e → IsLeft t k j e
+  left request t j e here =
+      let m = changed-as (goes s k request) t k (edited s k request) j e here in
+      record { was = m.before; there = m.there; less = by_same m (same j k) refl; other = m.other }
+    where
+      by_same : (m : IsOf t k (edited s k request) j e) (b : Bool) → same j k ≡ b → IsLess e m.before
+      by_same m true on = rw (m.own on) (edited-less s k request m.before (gone-not (goes s k request) t k j (edited s k request) e here on))
+      by_same m false off = rw (m.other off) (less-itself m.before)
+
+  opened-after : (mode : OpenMode) (j : Holder) (e : Entry) → entry_at s.table k ≡ None → entry_at (changed (opened s.table k) k (edited s k (Open mode))) j ≡ Some e → (b : Bool) → same j k ≡ b
+      → IsLeft s.table k j e ⊎ IsMade s.table k j (Open mode) e
+  opened-after mode j e none here true on =
+      let m = changed-as false (opened s.table k) k (edited s k (Open mode)) j e here in
+      let made : entry_at (opened s.table k) j ≡ Some new_entry = ap (entry_at (opened s.table k)) (same-is j k on) ∙ entry_at-opened s.table k none in
+      let new : m.before ≡ new_entry = cc in
+      inr (record { mode = mode; is = refl; own = same-is j k on; none = none; entry = m.own on ∙ ap (edited s k (Open mode)) new })
+  opened-after mode j e none here false off =
+      let l = left (Open mode) (opened s.table k) j e here in
+      inl (record { was = l.was; there = sym (entry_at-opened_other s.table k j (apart-of j k off)) ∙ l.there; less = l.less; other = l.other })
+
+  pub each-after : (request : EntryRequest) (j : Holder) (e : Entry) → entry_at (table_after s k request) j ≡ Some e → IsLeft s.table k j e ⊎ IsMade s.table k j request e
+  each-after (Open mode) j e here =
+      elim (entry_at s.table k) as (λ o. entry_at s.table k ≡ o → entry_at (changed (cond (is_some o) s.table (opened s.table k)) k (edited s k (Open mode))) j ≡ Some e → IsLeft s.table k j e ⊎ IsMade s.table k j (Open mode) e) [
+        | Some f ↦ λ is here. inl (left (Open mode) s.table j e here)
+        | None ↦ λ none here. opened-after mode j e none here (same j k) refl
+      ] refl here
+  each-after (Want caps) j e here = inl (left (Want caps) s.table j e here)
+  each-after (Ack seq) j e here = inl (left (Ack seq) s.table j e here)
+  each-after (Release caps) j e here = inl (left (Release caps) s.table j e here)
+
+  -- nobody holds more, since a new entry holds nothing
+  pub request-less : (request : EntryRequest) (j : Holder) (e : Entry) → entry_at (table_after s k request) j ≡ Some e → IsSubset e.held (held_at s.table j)
+  request-less request j e here = by (each-after request j e here)
+    where
+      by : IsLeft s.table k j e ⊎ IsMade s.table k j request e → IsSubset e.held (held_at s.table j)
+      by (inl l) c held = let less = l.less.held c held in grind arith
+      by (inr m) c held = grind (arith, has-none)
+
+  -- the others are as they were
+  other-before : (request : EntryRequest) (j : Holder) (e : Entry) → IsLeft s.table k j e ⊎ IsMade s.table k j request e → same j k ≡ false → entry_at s.table j ≡ Some e
+  other-before request j e is apart = grind (arith, same_equiv.refl)
 
 -- and where the old state was sound, each has all still
-pub others-have_all : (was now : KnownSets) (old : State) (new : Table) (k : Holder) (revoked : Caps) (request : EntryRequest) → IsSound old → AreKnown was old.scene
-    → new ≡ table_after old.scene.table k revoked request → StillKnown old.scene.table new was now → OthersHaveAll now (record old.scene { table = new }) k
-others-have_all was now old new k revoked request sound known is still j e on apart there =
-    let before : entry_at old.scene.table j ≡ Some e =
-    sym (request-others old.scene.table k revoked request j (apart-of j k apart)) ∙ sym (ap (λ (t : Table). entry_at t j) is) ∙ there in
-    let row : EntryRow = record { holder = j; entry = e } in
-    let entry = All-contains (IsSoundEntry old.scene) old.scene.table.rows row sound.entries (found-contains (is_row_of j) old.scene.table.rows row (row_of-entry old.scene.table j e before)) in
-    (entry.has_due, still-known was now old.scene new known still j e e there before)
+pub others-have_all : (was now : KnownSets) (old : State) (k : Holder) (request : EntryRequest) → IsSound old → AreKnown was old.scene
+    → StillKnown old.scene.table (table_after old.scene k request) was now → OthersHaveAll now (record old.scene { table = table_after old.scene k request }) k
+others-have_all was now old k request sound known still j e on apart there =
+    let before = other-before old.scene k request j e (each-after old.scene k request j e there) apart in
+    let inside = found-contains (is_row_of j) old.scene.table.rows (record { holder = j; entry = e }) (row_of-entry old.scene.table j e before) in
+    ((All-contains (IsSoundEntry old.scene) _ _ sound.entries inside).has_due, still-known was now old.scene (table_after old.scene k request) known still j e e there before)

@@ -1,9 +1,10 @@
 -- In a sound state the end of a step changes nothing.
-use Rattle.std.{proofs.Common.{◌≡◌, ℕ, suc, Bool, true, cond, not, ◌||◌, Some, None, List, [], ◌∷◌, refl, sym, ap, ◌∙◌, Contains, arith, map}, proofs.Math.Bool.{and-not_self}, proofs.lemmas.List.{map-id}, proofs.lemmas.List.Elements.{All-contains}, specs.Cmp.{nat_cmp_total}, specs.List.{find}, specs.Ordering.{nat_cmp}}
+use Rattle.std.{proofs.Common.{◌≡◌, ℕ, suc, Bool, true, cond, not, ◌||◌, Some, None, List, [], ◌∷◌, refl, sym, ap, ◌∙◌, Contains, arith, map}, proofs.lemmas.List.{map-id}, proofs.lemmas.List.Elements.{All-contains}, specs.Cmp.{nat_cmp_total}, specs.List.{find}, specs.Ordering.{nat_cmp}}
 use Rattle.std.specs.FinMap as finite
-use Rattle.capbits.{proofs.Emptiness.{is_empty-no_caps}, specs.Caps.{has}, specs.Sets.{no_caps}}
+use Rattle.capbits.specs.Caps.{has}
 use Rattle.inotree.specs.declared.node.Place.{Place}
-use Rattle.capsteps.proofs.Common.{Caps, due, Entry, EntryRow, finished, forget, Gone, has-minus, has-none, has-union, is_empty, is_gone, is_row_of, IsSound, IsSoundEntry, IsSubset, issue, issue_row, IsTable, minus, number, number_row, or_inside, renumbered, row_found, same_caps, Scene, settled, Settles, sizes_owed, State, told_before, told_set, union}
+pub use Rattle.capacts.proofs.Held.{same-renumbered}
+use Rattle.capsteps.proofs.Common.{due, Entry, EntryRow, finished, forget, Gone, has-union, is_gone, is_row_of, IsSound, IsSoundEntry, IsSubset, issue, issue_row, IsTable, number, number_row, or_inside, row_found, same_caps, Scene, settled, Settles, sizes_owed, State, told_before, told_set, union}
 
 -- ---- lists of rows that stay
 
@@ -29,13 +30,6 @@ same-issue_row s row all =
     λ i. record row { entry = record row.entry { held = held i } }
 
 -- ---- numbers
-
-none_lost : (a : Caps) → is_empty (minus a a) ≡ true
-none_lost a = (is_empty-no_caps (minus a a)).1 (same_caps (minus a a) no_caps (λ c. has-minus a a c ∙ and-not_self (has a c) ∙ sym (has-none c)))
-
--- where nothing changed, no number rises
-pub same-renumbered : (before after : Caps) (e : Entry) → before ≡ after → renumbered before after e ≡ e
-same-renumbered before after e is = ap (λ a. renumbered before a e) (sym is) ∙ rw (none_lost before) refl
 
 same-number_row : (old s : Scene) (row : EntryRow) → find (is_row_of row.holder) s.table.rows ≡ Some row → told_set old row ≡ told_set s row → number_row old s s row ≡ row
 same-number_row old s row found told = ap (λ (e : Entry). record row { entry = e }) (same-renumbered _ _ row.entry (ap (told_before old) found ∙ told))

@@ -2,19 +2,14 @@
 use Rattle.std.{proofs.Common.{◌≡◌, ℕ, Bool, true, false, cond, ◌||◌, Option, Some, None, List, [], ◌∷◌, refl, sym, ap, subst, ◌∙◌, Contains, true≢false, IsTrue, All, filter, arith}, proofs.lemmas.List.Elements.{All-contains, All-contains_itself, All-weaker}, specs.List.{list_any}, specs.Option.{option_map}}
 use Rattle.std.specs.FinMap as map
 use Rattle.capacts.specs.Lockmachine.{Scene.{target_by}, Wants.{in_all, Want}}
-use Rattle.capsteps.{proofs.Common.{A, allowed_by, Caps, caps_in, due, effective_want, EntryRow, F, first_for, Gone, has_session, is_in_use, is_of_inode, is_row_of, IsAtRest, IsInRow, IsQuiet, IsSound, IsSoundEntry, IsTree, L, lock_at, lock_in, LockState, meet, P, Part, place, Scene, Stable, State, union, wants-kept, with_scene, X}, proofs.LeftAlone.{found-contains}, proofs.Placed.{placed}, proofs.Strays.{retained, retained-here, retained-gone, kept-held, stays-kept, goes, alike-retained}, specs.Affected.{stays, forget_among}}
+use Rattle.capsteps.{proofs.Common.{due, effective_want, EntryRow, first_for, Gone, has_session, is_in_use, is_of_inode, is_row_of, IsAtRest, IsInRow, IsQuiet, IsSound, IsSoundEntry, IsTree, lock_at, lock_in, LockState, Part, place, Scene, Stable, State, wants-kept, with_scene}, proofs.LeftAlone.{found-contains}, proofs.Placed.{placed}, proofs.Strays.{retained, retained-here, retained-gone, kept-held, stays-kept, goes, alike-retained}, specs.Affected.{stays, forget_among}}
 
 -- ---- what is due
-
-allowed_under : EntryRow → (Part → Option LockState) → Caps
-allowed_under row locks =
-    union (caps_in (P ∷ [])) (union (allowed_by A row (locks A)) (union (allowed_by L row (locks L)) (union (allowed_by X row (locks X)) (allowed_by F row (locks F)))))
 
 -- by the same locks, of what is wanted as before, the same is due
 pub same-due : (s t : Scene) (row : EntryRow) → effective_want s.fs s.tree s.sessions row ≡ effective_want t.fs t.tree t.sessions row
     → ((part : Part) → lock_at s.locks row.holder.ino.0 part ≡ lock_at t.locks row.holder.ino.0 part) → due s row ≡ due t row
-unfolding allowed_under
-same-due s t row want locks = λ i. meet (want i) (allowed_under row (λ part. locks part i))
+same-due s t row want locks = grind arith
 
 -- ---- states that are sound but for strays
 
@@ -77,18 +72,6 @@ module _ (at : ℕ → Bool) (s : State) (sound : IsSoundBut at s) (tree : IsTre
   row_stays : (row : EntryRow) → Contains s.scene.table.rows row → stay row.holder.ino.0 ≡ true
   row_stays row inside = stays-kept at s.scene row.holder.ino.0 (kept-held s.scene row inside)
 
-  entry_left : (row : EntryRow) → Contains s.scene.table.rows row → IsSoundEntry after row
-  entry_left row inside = grind (arith, All-contains, retained-here, row_stays, due-left, kept-held)
-
-  in_row_left : (row : EntryRow) → Contains s.scene.table.rows row → (part : Part) → IsInRow after row part
-  in_row_left row inside part = grind (arith, same_lock, row_stays)
-
-  locked_left : (q : ℕ) → map.contains_key after.locks.states q ≡ map.contains_key after.tree.nodes q
-  locked_left q = grind (arith, retained)
-
-  strays_left : (q : ℕ) → place after.tree.nodes q ≡ Gone → IsTrue (list_any (is_of_inode (record { 0 = q })) s.scene.table.rows)
-  strays_left q gone = grind (arith, retained-here, retained-gone)
-
   quiet_left : (q : ℕ) (part : Part) (o : Option LockState) → IsQuiet s.scene q part o → IsQuiet after q part o
   quiet_left q part (Some (Stable state)) quiet = (
     ap (λ (ws : List Want). target_by s.scene.locks.queue (in_all ws) q part state)
@@ -108,13 +91,13 @@ module _ (at : ℕ → Bool) (s : State) (sound : IsSoundBut at s) (tree : IsTre
 
   pub sound-forgotten : IsSound (with_scene s after)
   sound-forgotten = record {
-    entries = all_rows (IsSoundEntry after) s.scene.table.rows entry_left;
+    entries = all_rows (IsSoundEntry after) s.scene.table.rows (λ row inside. grind (arith, All-contains, retained-here, row_stays, due-left, kept-held));
     waiting = sound.waiting;
     messages = sound.messages;
-    locked = locked_left;
-    strays = strays_left;
+    locked = λ q. grind (arith, retained);
+    strays = λ q gone. grind (arith, retained-here, retained-gone);
     in_place = λ row part found.
         let inside = found-contains (is_row_of row.holder) s.scene.table.rows row found in
-        placed after row inside part (in_row_left row inside part);
+        placed after row inside part (grind (arith, same_lock, row_stays, All-contains, inside));
     at_rest = rest_left;
   }

@@ -1,9 +1,10 @@
 -- What the end of a step makes of an entry on an inode that it affected: it gains what is due, which its locks allow, and its number may rise.
-use Rattle.std.{proofs.Common.{◌≡◌, ◌≤◌, ℕ, ◌+◌, Bool, true, false, not, cond, ◌&&◌, ◌||◌, Option, Some, List, [], ◌∷◌, refl, sym, ap, subst, ◌∙◌, true≢false, ◌⊎◌, inl, inr, arith, ◌==◌, map as each, filter, if◌then◌else◌}, proofs.lemmas.Bool.{eqb-true, or_cases, or_left}, proofs.lemmas.Simd.{map-map}, specs.List.{list_any}}
-use Rattle.capbits.{proofs.Covering.{one_part, same_cap-pin}, specs.Caps.{has}, specs.Sets.{no_caps}}
+use Rattle.std.{proofs.Common.{◌≡◌, ◌≤◌, ℕ, ◌+◌, Bool, true, false, not, cond, ◌&&◌, ◌||◌, Option, Some, List, [], ◌∷◌, refl, sym, ap, subst, ◌∙◌, ◌⊎◌, arith, ◌==◌, map as each, filter, if◌then◌else◌}, proofs.lemmas.Bool.{or_left}, proofs.lemmas.Simd.{map-map}, specs.List.{list_any}}
+use Rattle.capbits.{proofs.Covering.{one_part, same_cap-pin}, specs.Caps.{has}, specs.Sets.{no_caps, covers}}
 use Rattle.locktable.specs.{Rows.{allowed_of, allowed_covers}, declared.states.State.{State}}
-use Rattle.capacts.specs.Caprules.Finish.{allowed_part}
-use Rattle.capsteps.{proofs.Common.{A, allowed_by, allowed_to, and_parts, Cap, Caps, changed_where, covers, due, effective_want, Entry, EntryRow, F, filter-map, Gather, has-caps_in, has-meet, has-minus, has-none, has-of_part, has-union, Holder, is_empty, is_of_inode, is_open, is_open_status, IsAtRest, IsInRow, IsQuiet, L, lock_at, LockState, meet, Nodes, of_part, outside, P, Part, permitted, remade, row_of, same_caps, Scene, second_true, SessionTable, status_of, union, wants, X}, specs.Affected.{finished_entry}}
+use Rattle.sessiontab.specs.{Calls.{status_of}, Tests.{is_open as is_open_status}}
+use Rattle.capacts.specs.Caprules.Finish.{allowed_part, allowed_by}
+use Rattle.capsteps.{proofs.Common.{allowed_to, and_parts, Cap, Caps, caps_in, changed_where, due, effective_want, Entry, EntryRow, filter-map, Gather, has-caps_in, has-meet, has-minus, has-none, has-of_part, has-union, Holder, is_empty, is_of_inode, is_open, IsAtRest, IsInRow, IsQuiet, lock_at, LockState, meet, Nodes, of_part, outside, P, Part, permitted, remade, row_of, same_caps, Scene, second_true, SessionTable, union, wants}, specs.Affected.{finished_entry}}
 
 -- ---- what the locks allow of a part
 
@@ -12,26 +13,17 @@ part_covers s row part c h = grind (arith, has-none, allowed_covers)
 
 -- what is allowed of a part is allowed by its lock
 allowed_here : (s : Scene) (row : EntryRow) (part : Part) (c : Cap) → covers c part ≡ true → has (allowed_to s row) c ≡ true → has (allowed_part s row part) c ≡ true
-allowed_here s row part c cov h =
-    elim (or_cases _ _ (sym (has-union _ _ c) ∙ h)) [
-      | inl pin ↦ absurd (true≢false (sym pin ∙ has-caps_in (P ∷ []) c ∙ ap (λ b. b || false) (same_cap-pin c part cov)))
-      | inr rest ↦ elim (or_cases _ _ (sym (has-union _ _ c) ∙ rest)) [
-        | inl a ↦ here A a
-        | inr rest ↦ elim (or_cases _ _ (sym (has-union _ _ c) ∙ rest)) [
-          | inl l ↦ here L l
-          | inr rest ↦ elim (or_cases _ _ (sym (has-union _ _ c) ∙ rest)) [ inl x ↦ here X x | inr f ↦ here F f ]
-        ]
-      ]
-    ]
+allowed_here s row part c cov h = grind (arith, has-union, no_pin, here)
   where
+    no_pin : has (caps_in (P ∷ [])) c ≡ false
+    no_pin = has-caps_in (P ∷ []) c ∙ ap (λ b. b || false) (same_cap-pin c part cov)
+
     here : (q : Part) → has (allowed_part s row q) c ≡ true → has (allowed_part s row part) c ≡ true
     here q h = subst (λ p. has (allowed_part s row p) c ≡ true) (one_part c q part (part_covers s row q c h) cov) h
 
 -- the pin is always allowed
 pin_allowed : (s : Scene) (row : EntryRow) → has (allowed_to s row) P ≡ true
 pin_allowed s row = has-union _ _ P ∙ or_left _ _ (has-caps_in (P ∷ []) P)
-
--- ---- numbers
 
 -- ---- the entry at the end
 
@@ -91,10 +83,8 @@ module _ (known : Holder → Caps) (s : Scene) (row : EntryRow) where
   -- what is outside of a gather's target stays so
   pub outside-ended : (part : Part) (from to : State) → lock_at s.locks row.holder.ino.0 part ≡ Some (Gather from to) → outside part to (ended_row known s row) ≡ outside part to row
   unfolding allowed_of
-  outside-ended part from to lock = same_caps _ _ (λ c.
-      has-minus _ _ c ∙ ap (λ b. b && not (has (row_of part to row.holder.client) c)) (has-of_part part _ c ∙ ap (λ b. b && covers c part) (ap (λ caps. has caps c) held-ended ∙ has-union row.entry.held (due s row) c))
-      ∙ absorbed (has row.entry.held c) (has (due s row) c) (covers c part) (has (row_of part to row.holder.client) c) (inside c)
-      ∙ sym (has-minus _ _ c ∙ ap (λ b. b && not (has (row_of part to row.holder.client) c)) (has-of_part part row.entry.held c)))
+  outside-ended part from to lock = same_caps _ _ (λ c. simp (has-minus, has-of_part, held-ended, has-union)
+      (absorbed (has row.entry.held c) (has (due s row) c) (covers c part) (has (row_of part to row.holder.client) c) (inside c)))
     where
       inside : (c : Cap) → has (due s row) c ≡ true → covers c part ≡ true → has (row_of part to row.holder.client) c ≡ true
       inside c d cov =
@@ -102,8 +92,7 @@ module _ (known : Holder → Caps) (s : Scene) (row : EntryRow) where
           (and_parts (has (row_of part from row.holder.client) c) (has (row_of part to row.holder.client) c) (sym (has-meet (row_of part from row.holder.client) (row_of part to row.holder.client) c) ∙ allowed)).1
 
       absorbed : (h d v r : Bool) → (d ≡ true → v ≡ true → r ≡ true) → (((h || d) && v) && not r) ≡ ((h && v) && not r)
-      absorbed false true true r e = ap not (e refl refl)
-      absorbed h d v r e = refl
+      absorbed h d v r e = grind arith
 
 -- ---- the end of a step keeps the locks at rest: it gives only what is in the rows of both states of a gather, and no want looks
 -- at what is held
@@ -147,14 +136,13 @@ module _ (known : Holder → Caps) (s : Scene) (at : ℕ → Bool) where
     left-last row here =
         by_place (λ r. is_left r ≡ is_left row) row (λ e. ap (λ caps. not (is_empty caps)) (outside-ended known s row part from to (ap (λ n. lock_at s.locks n part) here ∙ lock))) (λ e. refl)
 
+    left_more : (row : EntryRow) (now rows : List EntryRow) → list_any is_left (filter on now) ≡ list_any is_left (filter on rows)
+        → list_any is_left (filter on (last_row row ∷ now)) ≡ list_any is_left (filter on (row ∷ rows))
+    left_more row now rows same = grind (arith, of_inode-last, left-last)
+
     left : (rows : List EntryRow) → list_any is_left (filter on (each last_row rows)) ≡ list_any is_left (filter on rows)
     left [] = refl
-    left (row ∷ rows) =
-        ap (λ b. list_any is_left (cond b (last_row row ∷ filter on (each last_row rows)) (filter on (each last_row rows)))) (of_inode-last i row)
-        ∙ elim (on row) as (λ b. on row ≡ b → list_any is_left (cond b (last_row row ∷ filter on (each last_row rows)) (filter on (each last_row rows))) ≡ list_any is_left (cond b (row ∷ filter on rows) (filter on rows))) [
-          | true ↦ λ e k. left-last row (eqb-true row.holder.ino.0 i e) k || left rows k
-          | false ↦ λ e. left rows
-        ] refl
+    left (row ∷ rows) = left_more row (each last_row rows) rows (left rows)
 
     open-last : is_open issued_at i part to ≡ is_open s i part to
     open-last = left s.table.rows

@@ -1,7 +1,8 @@
 -- What stops a request, test by test.
 use Rattle.std.{proofs.Common.{◌≡◌, List, [], Option, Some, None, arith}, specs.Option.{option_map}}
-use Rattle.capacts.specs.Caprules.{Direct.{Says, IsDirect}, Judge.{rejection_of}, declared.rejection.Rejection.TheVariants.{ByTest}}
-use Rattle.capsteps.proofs.Common.{effect, Event, first_denied, first_failing, judged, Need, Refusal, Rejection, rejection_by, rejection_reply, Reply, Scene, State, Test}
+use Rattle.capbits.specs.declared.refusal.Refusal.{Refusal}
+use Rattle.capacts.specs.Caprules.{Direct.{Says, IsDirect}, Judge.{rejection_of, first_denied, rejection_by}, Needs.{Need}, declared.rejection.Rejection.TheVariants.{ByTest}}
+use Rattle.capsteps.proofs.Common.{effect, Event, first_failing, judged, Rejection, rejection_reply, Reply, Scene, State, Test}
 
 rejection_by-rejection : (s : Scene) (o : Option Refusal) (d : Option Need) (l : Option Refusal) (r : Rejection) → rejection_by s o d None ≡ Some r → rejection_by s o d l ≡ Some r
 rejection_by-rejection s o d l r e = grind arith

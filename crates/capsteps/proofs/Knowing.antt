@@ -1,7 +1,8 @@
 -- What is kept of each entry from the end of the last step, as events leave it.
-use Rattle.std.{proofs.Common.{◌≡◌, ℕ, List, Bool, true, false, cond, not, ◌&&◌, Option, Some, None, IsSome, refl, sym, ap, subst, ◌∙◌, true≢false}, proofs.lemmas.Bool.{false_from_ne_true, and_right, false≢true}, specs.List.{find}, specs.Option.{option_map, option_map_or, unwrap_or}}
+use Rattle.std.{proofs.Common.{◌≡◌, Bool, true, false, arith, cond, not, ◌&&◌, Option, Some, None, IsSome, refl, sym, ap, subst, ◌∙◌, true≢false}, proofs.lemmas.Bool.{false_from_ne_true, and_right, false≢true}, specs.Option.{option_map_or, unwrap_or}}
 use Rattle.capbits.specs.{Caps.{has}, Sets.{no_caps}}
-use Rattle.capsteps.{proofs.Common.{AreKnown, ArePermitted, Caps, changed_where, Entry, entry_at, entry_of, EntryRow, find-map, has-against, has-meet, has-minus, has-none, has-told, Holder, is_revoked, is_row_of, is_still_known, IsSubset, IsTable, known_in, known_of, KnownSets, meet, minus, Nodes, permitted, permitted_of, remade, revoked_of, row_found, same_caps, Scene, SessionTable, StillKnown, Table, told-less, told_set}, proofs.Revoking.{revoked-found}, proofs.ShownSteps.{told-held}, specs.Affected.{Knows}}
+use Rattle.capacts.proofs.KeptSets.{made-there}
+use Rattle.capsteps.{proofs.Common.{AreKnown, Caps, changed_where, Entry, entry_at, entry_of, EntryRow, has-against, has-meet, has-minus, has-none, has-told, Holder, is_revoked, is_still_known, IsSubset, IsTable, known_in, known_of, KnownSets, meet, minus, remade, revoked_of, row_found, same_caps, Scene, StillKnown, Table, told-less, told_set}, proofs.Revoking.{revoked-found}, proofs.ShownSteps.{told-held}, specs.Affected.{Knows}}
 
 -- ---- as much or less is held
 
@@ -27,31 +28,18 @@ known-alike sets s new alike known k e there =
 
 -- so they do where all that pass a test are changed, but not what they hold
 pub alike-where : (passes : EntryRow → Bool) (g : EntryRow → Entry) (t : Table) → ((row : EntryRow) → (g row).held ≡ row.entry.held) → HoldAlike t (changed_where passes g t)
-alike-where passes g t same_held k e there = by_row (find (is_row_of k) t.rows) refl
+alike-where passes g t same_held k e there =
+    let was = made-there passes g t k e there in
+    (was.0.entry, ap entry_of was.1, ap (λ (x : Entry). x.held) was.2 ∙ held_by was.0 (passes was.0))
   where
-    one : EntryRow → EntryRow
-    one row = cond (passes row) (remade g row) row
-
-    found : find (is_row_of k) (changed_where passes g t).rows ≡ option_map one (find (is_row_of k) t.rows)
-    found = find-map (is_row_of k) one (λ row. elim (passes row) as (λ b. is_row_of k (cond b (remade g row) row) ≡ is_row_of k row) [ true ↦ refl | false ↦ refl ]) t.rows
-
     held_by : (row : EntryRow) (b : Bool) → (cond b (remade g row) row).entry.held ≡ row.entry.held
     held_by row true = same_held row
     held_by row false = refl
 
-    by_row : (o : Option EntryRow) → find (is_row_of k) t.rows ≡ o → (f : Entry) × (entry_at t k ≡ Some f) × (e.held ≡ f.held)
-    by_row None none = let gone : entry_at (changed_where passes g t) k ≡ None = ap entry_of (found ∙ ap (option_map one) none) in absurd (cc)
-    by_row (Some row) is =
-        let now : entry_at (changed_where passes g t) k ≡ Some (one row).entry = ap entry_of (found ∙ ap (option_map one) is) in
-        let e_is : e ≡ (one row).entry = cc in
-        (row.entry, ap entry_of is, ap (λ (x : Entry). x.held) e_is ∙ held_by row (passes row))
-
 -- ---- what is being revoked
 
 rest_of : (h t : Bool) → (h && not (h && not t)) ≡ (h && t)
-rest_of true true = refl
-rest_of true false = refl
-rest_of false t = refl
+rest_of h t = grind arith
 
 -- it is what is held and is not known
 pub revoked-known : (sets : KnownSets) (s : Scene) (k : Holder) (e : Entry) → AreKnown sets s → entry_at s.table k ≡ Some e → minus e.held (known_in sets k) ≡ revoked_of s k
@@ -63,17 +51,6 @@ revoked-known sets s k e known there =
     ∙ rest_of (has e.held c) (is_revoked s k c)
     ∙ sym (has-against s (record { holder = k; entry = e }) c))
     ∙ sym (revoked-found s k e there)
-
--- ---- what is permitted
-
--- it is kept of whoever has an entry
-pub permitted-some : (sets : KnownSets) (fs : List ℕ) (tree : Nodes) (sessions : SessionTable) (t : Table) (k : Holder) → ArePermitted sets fs tree sessions t → IsSome (entry_at t k)
-    → permitted_of sets k ≡ Some (permitted fs tree sessions k)
-permitted-some sets fs tree sessions t k all some = by_entry (entry_at t k) refl some
-  where
-    by_entry : (o : Option Entry) → entry_at t k ≡ o → IsSome o → permitted_of sets k ≡ Some (permitted fs tree sessions k)
-    by_entry None none some = absurd (true≢false (sym some))
-    by_entry (Some e) here some = all k e here
 
 -- ---- what an event leaves by itself
 

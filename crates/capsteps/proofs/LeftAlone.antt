@@ -4,8 +4,8 @@ use Rattle.std.specs.FinMap as map
 use Rattle.capbits.specs.{Caps.{has, caps_where}, Sets.{no_caps}}
 use Rattle.locktable.specs.{Targets.{target_of}, declared.targets.Head.TheVariants.{Empty}}
 use Rattle.capacts.specs.Lockmachine.Scene.{rows_on, wanted}
-use Rattle.capsteps.proofs.Common.{against, AreKnown, EntryRow, finished, first_for, has_session, in_sync, is_open, is_row_of, IsInPlace, IsQuiet, IsSound, IsSoundEntry, IsTable, KnownSets, lock_at, lock_in, LockGoal, LockState, minus, Node, Nodes, Part, row_of-entry, same, Scene, SessionTable, Stable, State, StateMap, Sync, wants, wants-kept, with_scene, X}
-pub use Rattle.capacts.proofs.Renewed.{found-contains}
+use Rattle.capsteps.proofs.Common.{against, AreKnown, EntryRow, finished, first_for, has_session, in_sync, is_open, is_row_of, IsInPlace, IsQuiet, IsSound, IsSoundEntry, IsTable, KnownSets, lock_at, lock_in, LockGoal, LockState, minus, Node, Nodes, Part, row_of-entry, Scene, SessionTable, Stable, State, StateMap, Sync, wants, wants-kept, with_scene, X}
+pub use Rattle.capsteps.proofs.Common.{found-contains}
 use Rattle.capsteps.{proofs.Finishing.{same-finished}, specs.Leaving.{with_parts, LeavesEntries}}
 
 -- a quiet lock stays quiet where the same requests wait, clients want the same of its inode, and its gather is as open
@@ -78,13 +78,9 @@ module _ (s : State) (sound : IsSound s) (tree : Nodes) (sessions : SessionTable
 
   -- ---- what is held
 
-  place_kept : (row : EntryRow) (part : Part) → against new row ≡ against s.scene row → (o : Option LockState) → IsInPlace s.scene row part o → IsInPlace new row part o
-  place_kept row part same o placed = grind arith
-
   in_place : (row : EntryRow) (part : Part) → Contains s.scene.table.rows row → IsInPlace s.scene row part (lock_at s.scene.locks row.holder.ino.0 part)
       → IsInPlace new row part (option_map (lock_in part) (map.get states row.holder.ino.0))
-  in_place row part inside placed =
-      subst (λ o. IsInPlace new row part (option_map (lock_in part) o)) (sym (same_locks row inside)) (place_kept row part (same_against row inside) (lock_at s.scene.locks row.holder.ino.0 part) placed)
+  in_place row part inside placed = grind (arith, same_locks, same_against)
 
   -- ---- all together
 

@@ -17,6 +17,7 @@ pub mod OneChange
 pub mod Placed
 pub mod Polling
 pub mod Revoking
+pub mod SameLocks
 pub mod SameOff
 pub mod StayingSound
 pub mod Strays

@@ -1,8 +1,8 @@
 -- The end of a step at several inodes: one after another, each once, they are finished as if all at once.
-use Rattle.std.{proofs.Common.{◌≡◌, ℕ, Bool, true, false, cond, ◌||◌, List, [], ◌∷◌, filter, map as each, ◌++◌, append-nil, append_assoc, eq-eqb, refl, sym, ap, subst, ◌∙◌, true≢false, All, ◌==◌, arith}, proofs.Math.Bool.{or-false}, proofs.lemmas.Bool.{eqb-true, false_from_ne_true}, proofs.lemmas.List.{map-id}, proofs.lemmas.List.Elements.{All-map, All-weaker}, proofs.lemmas.List.Folds.{list_any-append}, specs.Cmp.{unsigned_tied}, specs.List.{find, list_any, AllByRecursion, IsDistinct}, specs.Ordering.{nat_cmp, eq_by_cmp}}
+use Rattle.std.{proofs.Common.{◌≡◌, ℕ, Bool, true, false, cond, ◌||◌, List, [], ◌∷◌, filter, map as each, ◌++◌, append-nil, append_assoc, eq-eqb, refl, sym, ap, subst, ◌∙◌, true≢false, All, ◌==◌, arith}, proofs.Math.Bool.{or-false}, proofs.lemmas.Bool.{eqb-true, false_from_ne_true}, proofs.lemmas.List.{map-id}, proofs.lemmas.List.Elements.{All-map, All-weaker}, proofs.lemmas.List.Folds.{list_any-append}, proofs.lemmas.Simd.{map-map}, specs.Cmp.{unsigned_tied}, specs.List.{find, list_any, AllByRecursion, IsDistinct}, specs.Ordering.{nat_cmp, eq_by_cmp}}
 use Rattle.std.specs.FinSet as set
-use Rattle.captable.proofs.{OneByOne.{same_holder}, Tables.{IsTable-rows}}
-use Rattle.capsteps.proofs.Common.{Caps, changed_where, entries_on, Entry, EntryRow, found-stays, Holder, holders_of_rows, Ino, InoSet, is_of_inode, is_row_of, IsListOf, IsTable, kept-nobody, kept-not, kept-same, kept-then, known_of, KnownAnew, KnownSets, remade, Table}
+use Rattle.captable.proofs.Tables.{IsTable-rows}
+use Rattle.capsteps.proofs.Common.{Caps, changed_where, entries_on, Entry, EntryRow, found-stays, Holder, Ino, InoSet, is_of_inode, is_row_of, IsListOf, IsTable, kept-nobody, kept-not, kept-same, kept-then, known_of, KnownAnew, KnownSets, remade, same_holder, Table}
 
 -- the same number
 abbrev pub same_number : ℕ → ℕ → Bool
@@ -15,30 +15,14 @@ abbrev pub on : (ℕ → Bool) → EntryRow → Bool
 on p row = p row.holder.ino.0
 
 -- first those of some inodes, then those of others
-twice_rows : (p q r : ℕ → Bool) (f g h : EntryRow → Entry) → ((n : ℕ) → p n ≡ true → q n ≡ false) → ((n : ℕ) → (p n || q n) ≡ r n)
-    → ((row : EntryRow) → on p row ≡ true → f row ≡ h row) → ((row : EntryRow) → on q row ≡ true → g row ≡ h row) → (rows : List EntryRow)
-    → each (λ row. cond (on q row) (remade g row) row) (each (λ row. cond (on p row) (remade f row) row) rows) ≡ each (λ row. cond (on r row) (remade h row) row) rows
-twice_rows p q r f g h apart joined of_f of_g [] = refl
-twice_rows p q r f g h apart joined of_f of_g (row ∷ rows) = λ i. one i ∷ twice_rows p q r f g h apart joined of_f of_g rows i
-  where
-    later : (b : Bool) → on q row ≡ b → cond b (remade g row) row ≡ cond b (remade h row) row
-    later true e = ap (λ (x : Entry). record row { entry = x }) (of_g row e)
-    later false e = refl
-
-    by_test : (b : Bool) → on p row ≡ b
-        → cond (on q (cond b (remade f row) row)) (remade g (cond b (remade f row) row)) (cond b (remade f row) row) ≡ cond (b || on q row) (remade h row) row
-    by_test true e =
-        ap (λ b. cond b (remade g (remade f row)) (remade f row)) (apart row.holder.ino.0 e) ∙ ap (λ (x : Entry). record row { entry = x }) (of_f row e)
-    by_test false e = later (on q row) refl
-
-    one : cond (on q (cond (on p row) (remade f row) row)) (remade g (cond (on p row) (remade f row) row)) (cond (on p row) (remade f row) row) ≡ cond (on r row) (remade h row) row
-    one = by_test (on p row) refl ∙ ap (λ b. cond b (remade h row) row) (joined row.holder.ino.0)
-
 pub changed-twice_where : (p q r : ℕ → Bool) (f g h : EntryRow → Entry) → ((n : ℕ) → p n ≡ true → q n ≡ false) → ((n : ℕ) → (p n || q n) ≡ r n)
     → ((row : EntryRow) → on p row ≡ true → f row ≡ h row) → ((row : EntryRow) → on q row ≡ true → g row ≡ h row) → (t : Table)
     → changed_where (on q) g (changed_where (on p) f t) ≡ changed_where (on r) h t
-changed-twice_where p q r f g h apart joined of_f of_g t =
-    ap (λ (rows : List EntryRow). record t { rows = rows }) (twice_rows p q r f g h apart joined of_f of_g t.rows)
+changed-twice_where p q r f g h apart joined of_f of_g t = λ i. record t { rows = (map-map (λ row. cond (on q row) (remade g row) row) (λ row. cond (on p row) (remade f row) row) t.rows ∙ (λ j. each (λ row. one row j) t.rows)) i }
+  where
+    one : (row : EntryRow)
+        → cond (on q (cond (on p row) (remade f row) row)) (remade g (cond (on p row) (remade f row) row)) (cond (on p row) (remade f row) row) ≡ cond (on r row) (remade h row) row
+    one row = grind (arith, apart, joined, of_f, of_g)
 
 -- what is known of each entry's holder, stays known
 pub holders-stay : (passes : EntryRow → Bool) (g : EntryRow → Entry) (Q : Holder → Type 0) (t : Table)
@@ -50,28 +34,17 @@ holders-stay passes g Q t all =
 
 -- and each has one row still
 pub table-where : (passes : EntryRow → Bool) (g : EntryRow → Entry) (t : Table) → IsTable t → IsTable (changed_where passes g t)
-table-where passes g t = IsTable-rows t (changed_where passes g t).rows (same_holders t.rows)
-  where
-    same_holders : (rows : List EntryRow) → holders_of_rows (each (λ row. cond (passes row) (remade g row) row) rows) ≡ holders_of_rows rows
-    same_holders [] = refl
-    same_holders (row ∷ rows) = λ i. same_holder g row (passes row) i ∷ same_holders rows i
+table-where passes g t = IsTable-rows t (changed_where passes g t).rows (map-map _ _ t.rows ∙ (λ i. each (λ row. same_holder g row (passes row) i) t.rows))
 
 -- the entries on an inode that fails the test are as they were
+one-stays : (p : ℕ → Bool) (g : EntryRow → Entry) (ino : Ino) → p ino.0 ≡ false → (row : EntryRow) (changed rest : List EntryRow) → changed ≡ rest
+    → cond (is_of_inode ino (cond (on p row) (remade g row) row)) (cond (on p row) (remade g row) row ∷ changed) changed ≡ cond (is_of_inode ino row) (row ∷ rest) rest
+one-stays p g ino fails row changed rest same = grind arith
+
 rows-stay : (p : ℕ → Bool) (g : EntryRow → Entry) (ino : Ino) → p ino.0 ≡ false → (rows : List EntryRow)
     → filter (is_of_inode ino) (each (λ row. cond (on p row) (remade g row) row) rows) ≡ filter (is_of_inode ino) rows
 rows-stay p g ino fails [] = refl
-rows-stay p g ino fails (row ∷ rows) = by_test (rows-stay p g ino fails rows) (on p row) refl
-  where
-    elsewhere : on p row ≡ true → is_of_inode ino row ≡ false
-    elsewhere e = false_from_ne_true (is_of_inode ino row) (λ is. true≢false (sym e ∙ ap p (eqb-true row.holder.ino.0 ino.0 is) ∙ fails))
-
-    by_test : filter (is_of_inode ino) (each (λ row. cond (on p row) (remade g row) row) rows) ≡ filter (is_of_inode ino) rows → (b : Bool) → on p row ≡ b
-        → filter (is_of_inode ino) (cond b (remade g row) row ∷ each (λ row. cond (on p row) (remade g row) row) rows) ≡ filter (is_of_inode ino) (row ∷ rows)
-    by_test rest true e =
-        let out = elsewhere e in
-        let later : List EntryRow = filter (is_of_inode ino) (each (λ row. cond (on p row) (remade g row) row) rows) in
-        ap (λ b. cond b (remade g row ∷ later) later) out ∙ rest ∙ sym (ap (λ b. cond b (row ∷ filter (is_of_inode ino) rows) (filter (is_of_inode ino) rows)) out)
-    by_test rest false e = ap (λ rest. cond (is_of_inode ino row) (row ∷ rest) rest) rest
+rows-stay p g ino fails (row ∷ rows) = one-stays p g ino fails row _ _ (rows-stay p g ino fails rows)
 
 pub entries_on-stay : (p : ℕ → Bool) (g : EntryRow → Entry) (ino : Ino) → p ino.0 ≡ false → (t : Table) → entries_on (changed_where (on p) g t) ino ≡ entries_on t ino
 entries_on-stay p g ino fails t = rows-stay p g ino fails t.rows

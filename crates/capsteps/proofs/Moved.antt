@@ -3,8 +3,8 @@
 use Rattle.std.{proofs.Common.{◌≡◌, ℕ, Bool, not, Option, None, is_some, List, [], ◌∷◌, ◌++◌, refl, sym, subst, ◌∙◌, Contains, true≢false, ◌+◌, length, ap, arith, false, All}, proofs.lemmas.List.{length-append}, proofs.lemmas.List.Elements.{All-contains, All-contains_itself, All-cons, All-weaker, All-nil}, specs.Option.{option_map}}
 use Rattle.std.specs.FinMap as map
 use Rattle.capbits.specs.Caps.{has}
-use Rattle.capacts.{proofs.Lockmachine.Finding.{fails_at, find_none}, proofs.Lockmachine.InRows.{one_keeps}, proofs.Lockmachine.Moving.{with_lock-each}, proofs.Lockmachine.Queue.{moved-kept, taken_alone}, specs.Caprules.Serving.{served}, specs.Lockmachine.Locks.{with_lock}, specs.Lockmachine.Moves.{LockPlace, coming_state, moved, with_moved}, specs.Lockmachine.Requests.{is_for}, specs.Lockmachine.Runs.{Runs}, specs.Lockmachine.declared.moves.Move.{Move}, specs.Lockmachine.declared.moves.Move.TheVariants.{Begin, End}}
-use Rattle.capsteps.proofs.{Common.{A, Ask, Began, contains-filter, Ended, ended_in, EntryRow, first_for, first_move, Gather, Gathered, is_numbered, IsInRow, IsLockMap, IsSound, IsSoundEntry, IsTree, known-changed, lock_at, lock_in, LockMap, LockState, Made, Makes, MakesAll, Nodes, Outcome, P, Part, present_state, quiet-waits-at, Request, Scene, Serve, Served, served-at, Settled, Stable, State, Table, tree_after, tree_with, WaitAt, waits-kept-at, without_request}, LeftAlone.{found-contains}, OneChange.{by_ask, sound-after}}
+use Rattle.capacts.{proofs.Lockmachine.Finding.{fails_at, find_none}, proofs.Lockmachine.InRows.{one_keeps}, proofs.Lockmachine.Moving.{with_lock-each}, proofs.Lockmachine.Queue.{moved-kept, taken_alone}, specs.Caprules.Headline.{move_of}, specs.Caprules.Serving.{served}, specs.Lockmachine.Locks.{with_lock}, specs.Lockmachine.Moves.{LockPlace, coming_state, moved, with_moved, present_state}, specs.Lockmachine.Requests.{is_for}, specs.Lockmachine.Runs.{Runs}, specs.Lockmachine.declared.moves.Move.{Move}, specs.Lockmachine.declared.moves.Move.TheVariants.{Begin, End}}
+use Rattle.capsteps.proofs.{Common.{A, Ask, Began, contains-filter, Ended, ended_in, EntryRow, first_for, first_move, Gather, Gathered, is_numbered, IsInRow, IsLockMap, IsSound, IsSoundEntry, IsTree, known-changed, lock_at, lock_in, LockMap, LockState, Made, Makes, MakesAll, Nodes, Outcome, P, Part, quiet-waits-at, Request, Scene, Serve, Served, served-at, Stable, State, Table, tree_with, WaitAt, waits-kept-at, without_request}, LeftAlone.{found-contains}, OneChange.{by_ask, sound-after}}
 
 pub record IsMoved (first now : Scene) : Type 0 where
   pub table : now.table ≡ first.table
@@ -75,9 +75,6 @@ all-waiting Fact first now is all =
 nodes-with : (tree : Nodes) (ino : ℕ) (ask : Ask) (q : ℕ) → map.contains_key (tree_with tree ino ask).nodes q ≡ map.contains_key tree.nodes q
 nodes-with tree ino ask q = by_ask tree ino (λ t. map.contains_key t.nodes q ≡ map.contains_key tree.nodes q) refl (λ f. known-changed tree f ino q) ask
 
-nodes-after : (tree : Nodes) (r : Request) (o : Outcome) (q : ℕ) → map.contains_key (tree_after tree r o).nodes q ≡ map.contains_key tree.nodes q
-nodes-after tree r o q = grind (arith, nodes-with)
-
 -- ---- the moves
 
 moved-step : (s : Scene) (step : Move) → first_move s ≡ step → IsMoved s (with_moved s step)
@@ -87,23 +84,19 @@ moved-step s step first = record {
   nodes = λ q. refl;
   states = keys-moved s.locks step;
   queue = queue-moved s.locks step;
-  last = last-moved step;
+  last = grind arith;
   order = moved-kept s.locks step;
   in_rows = λ row part inside was. subst (λ (m : Move). IsInRow (with_moved s m) row part) first (one_keeps s row part inside was);
 }
-  where
-    last-moved : (step : Move) → (moved s.locks step).last ≡ s.locks.last
-    last-moved step = grind arith
 
 moved-served : (s : Scene) (q : Request) (o : Outcome) → first_move s ≡ Serve q.ticket → IsMoved s (served s q o)
 moved-served s q o first =
     let m = moved-step s (Serve q.ticket) first in
-    record { table = refl; sessions = refl; nodes = nodes-after s.tree q o; states = m.states; queue = m.queue; last = refl; order = m.order; in_rows = m.in_rows }
+    record { table = refl; sessions = refl; nodes = λ r. grind (arith, nodes-with); states = m.states; queue = m.queue; last = refl; order = m.order; in_rows = m.in_rows }
 
 pub moved-made : (s : Scene) (m : Made) (t : Scene) → Makes s m t → IsMoved s t
-moved-made s (Began ino part to) t (first, is) = subst (IsMoved s) (sym is) (moved-step s (Begin ino part to) first)
-moved-made s (Gathered ino part) t (first, is) = subst (IsMoved s) (sym is) (moved-step s (End ino part) first)
 moved-made s (Served q o) t (first, found, may, is) = subst (IsMoved s) (sym is) (moved-served s q o first)
+moved-made s m t one = subst (IsMoved s) (sym one.1) (moved-step s (move_of m) one.0)
 
 pub moved-all : (s : Scene) (ms : List Made) (t : Scene) → MakesAll s ms t → IsMoved s t
 moved-all s [] t is = subst (IsMoved s) (sym is) (not-moved s)
@@ -112,10 +105,9 @@ moved-all s (m ∷ ms) t (mid, one, rest) = moved-twice s mid t (moved-made s m 
 -- and a tree stays one
 pub tree-moved : (s : Scene) (ms : List Made) (t : Scene) → MakesAll s ms t → IsTree s.tree → IsTree t.tree
 tree-moved s [] t is tree = subst (λ (u : Scene). IsTree u.tree) (sym is) tree
-tree-moved s (Began ino part to ∷ ms) t (mid, makes, rest) tree = tree-moved mid ms t rest (subst (λ (u : Scene). IsTree u.tree) (sym makes.1) tree)
-tree-moved s (Gathered ino part ∷ ms) t (mid, makes, rest) tree = tree-moved mid ms t rest (subst (λ (u : Scene). IsTree u.tree) (sym makes.1) tree)
 tree-moved s (Served q o ∷ ms) t (mid, makes, rest) tree =
     tree-moved mid ms t rest (subst (λ (u : Scene). IsTree u.tree) (sym makes.3) (sound-after s q o tree makes.2))
+tree-moved s (m ∷ ms) t (mid, makes, rest) tree = tree-moved mid ms t rest (subst (λ (u : Scene). IsTree u.tree) (sym makes.1) tree)
 
 -- moves, and then others
 pub makes-append : (s : Scene) (ms : List Made) (mid : Scene) (more : List Made) (t : Scene) → MakesAll s ms mid → MakesAll mid more t → MakesAll s (ms ++ more) t
@@ -162,8 +154,7 @@ as_made old (Begin ino part to ∷ steps) new (first, lock, runs) =
 as_made old (End ino part ∷ steps) new (first, lock, runs) =
     let rest = as_made (with_moved old (End ino part)) steps new runs in
     record { moves = Gathered ino part ∷ rest.moves; made = (with_moved old (End ino part), (first, refl), rest.made); none = rest.none }
-as_made old (Serve ticket ∷ steps) new (first, lock, runs) = absurd (true≢false (sym lock))
-as_made old (Settled ∷ steps) new (first, lock, runs) = absurd (true≢false (sym lock))
+as_made old (step ∷ steps) new (first, lock, runs) = absurd (true≢false (sym lock))
 
 -- ---- how many requests a settling serves
 
@@ -171,9 +162,7 @@ as_made old (Settled ∷ steps) new (first, lock, runs) = absurd (true≢false (
 pub one-less : (locks : LockMap) (q : Request) → IsLockMap locks → Contains locks.queue q → length (without_request locks q.ticket.0).queue + 1 ≡ length locks.queue
 one-less locks q order inside =
     let takes = taken_alone locks q order inside in
-    let was : length locks.queue ≡ length takes.earlier + length (q ∷ takes.later) = ap length takes.queue_was ∙ length-append takes.earlier (q ∷ takes.later) in
-    let is : length (without_request locks q.ticket.0).queue ≡ length takes.earlier + length takes.later = ap length takes.queue_is ∙ length-append takes.earlier takes.later in
-    omega (arith, was, is)
+    omega (arith, simp length-append at (ap length takes.queue_was), simp length-append at (ap length takes.queue_is))
 
 -- as many have ended as fewer wait
 pub served-count : (s : Scene) (ms : List Made) (t : Scene) → IsLockMap s.locks → MakesAll s ms t → length (ended_in ms) + length t.locks.queue ≡ length s.locks.queue
@@ -181,12 +170,11 @@ served-count s [] t order is = (let same : length t.locks.queue ≡ length s.loc
 served-count s (m ∷ ms) t order (mid, one, rest) = by_move m one (let moved = moved-made s m mid one in served-count mid ms t (moved.order order) rest)
   where
     by_move : (m : Made) → Makes s m mid → length (ended_in ms) + length t.locks.queue ≡ length mid.locks.queue → length (ended_in (m ∷ ms)) + length t.locks.queue ≡ length s.locks.queue
-    by_move (Began ino part to) (first, is) more = more ∙ ap (λ (u : Scene). length u.locks.queue) is
-    by_move (Gathered ino part) (first, is) more = more ∙ ap (λ (u : Scene). length u.locks.queue) is
     by_move (Served q o) (first, found, may, is) more =
         let left : length mid.locks.queue ≡ length (without_request s.locks q.ticket.0).queue = ap (λ (u : Scene). length u.locks.queue) is in
         let less = one-less s.locks q order (found-contains (is_numbered q.ticket.0) s.locks.queue q found) in
         omega (arith, more, left, less)
+    by_move m one more = more ∙ ap (λ (u : Scene). length u.locks.queue) one.1
 
 -- ---- where all who wait are held up, no move serves anybody, and the tree stays
 
@@ -196,18 +184,11 @@ none ino = false
 pub nothing-served : (first : Scene) (moves : List Made) (settled : Scene) → IsLockMap first.locks → WaitAt none first → MakesAll first moves settled
     → (ended_in moves ≡ []) × (settled.tree ≡ first.tree)
 nothing-served first [] settled order wait made = (refl, ap (λ (s : Scene). s.tree) made)
-nothing-served first (Began ino part to ∷ ms) settled order wait (mid, makes, rest) =
-    let wait_mid : WaitAt none mid = waits-kept-at none first (Begin ino part to ∷ []) mid (makes.0, refl, makes.1) wait in
-    let moved = moved-made first (Began ino part to) mid makes in
-    let later = nothing-served mid ms settled (moved.order order) wait_mid rest in
-    (later.0, later.1 ∙ ap (λ (s : Scene). s.tree) makes.1)
-nothing-served first (Gathered ino part ∷ ms) settled order wait (mid, makes, rest) =
-    let wait_mid : WaitAt none mid = waits-kept-at none first (End ino part ∷ []) mid (makes.0, refl, makes.1) wait in
-    let moved = moved-made first (Gathered ino part) mid makes in
-    let later = nothing-served mid ms settled (moved.order order) wait_mid rest in
-    (later.0, later.1 ∙ ap (λ (s : Scene). s.tree) makes.1)
 nothing-served first (Served q o ∷ ms) settled order wait (mid, makes, rest) =
     let found = served-at none first q.ticket order wait makes.0 in absurd (true≢false (sym found.3))
+nothing-served first (m ∷ ms) settled order wait (mid, makes, rest) =
+    let later = nothing-served mid ms settled ((moved-made first m mid makes).order order) (waits-kept-at none first (move_of m ∷ []) mid (makes.0, refl, makes.1) wait) rest in
+    (later.0, later.1 ∙ ap (λ (s : Scene). s.tree) makes.1)
 
 -- so it is of every sound state
 pub sound-waits : (s : State) → IsSound s → WaitAt none s.scene

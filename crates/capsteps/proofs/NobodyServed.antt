@@ -1,11 +1,9 @@
 -- A settling that served nobody: the tree stays, and where the locks of an inode do too, whoever had all there has it still.
-use Rattle.std.{proofs.Common.{◌≡◌, ◌<◌, ℕ, ◌==◌, Bool, false, ◌||◌, None, Some, List, [], ◌∷◌, refl, sym, ap, subst, ◌∙◌, arith, All, Contains, IsTrue}, specs.List.{find}, specs.Option.{unwrap_or}}
+use Rattle.std.{proofs.Common.{◌≡◌, ◌<◌, ℕ, Bool, Some, List, [], ◌∷◌, refl, sym, ap, subst, ◌∙◌, All, Contains, IsTrue}, specs.List.{find}, specs.Option.{unwrap_or}}
 use Rattle.std.specs.FinMap as map
-use Rattle.std.specs.FinSet as set
 use Rattle.capbits.specs.Sets.{no_caps}
-use Rattle.inotree.specs.InoSets.{IsNext}
 use Rattle.capacts.specs.Finishing.{told_under}
-use Rattle.capsteps.{proofs.Common.{Began, Caps, changed_where, due_under, Ended, ended_in, EntryRow, Gathered, has_session, Holder, Ino, InoSet, is_affected, is_row_of, is_sized, IsSubset, IsTree, known_anew, known_in, known_of, KnownSets, LockMap, Made, MakesAll, OthersHaveAll, owed, permitted, permitted-kept, permitted_of, row_of-entry, Scene, Served, SessionTable, sized_in, sizes_owed, Table, was-there}, proofs.LeftAlone.{found-contains}, proofs.Moved.{tree-moved}, proofs.SameOff.{off-wider}, proofs.Strays.{alike-retained, goes, kept-held, stays-kept}, specs.Affected.{finished_at, finished_entry, forget_among, stays, told_then}, specs.Begun.{ArePermittedIn, MayEnd}, specs.Serves.{EndsAt, EndsWith, SettlesWith}}
+use Rattle.capsteps.{proofs.Common.{Began, Caps, changed_where, due_under, Ended, ended_in, EntryRow, Gathered, has_session, Holder, Ino, is_row_of, is_sized, IsSubset, IsTree, known_anew, known_in, known_of, KnownSets, LockMap, Made, MakesAll, OthersHaveAll, owed, permitted, permitted-kept, permitted_of, row_of-entry, Scene, Served, SessionTable, sized_in, sizes_owed, Table, was-there}, proofs.LeftAlone.{found-contains}, proofs.Moved.{tree-moved}, proofs.Strays.{alike-retained, goes, kept-held, stays-kept}, specs.Affected.{finished_at, finished_entry, forget_among, stays, told_then}, specs.Begun.{ArePermittedIn, MayEnd}, specs.Serves.{EndsAt, EndsWith, SettlesWith}}
 
 -- moves that end no request serve nobody: they change no size, and leave the tree
 nobody-served : (first : Scene) (moves : List Made) (settled : Scene) → MakesAll first moves settled → ended_in moves ≡ [] → (sized_in moves ≡ []) × (settled.tree ≡ first.tree)
@@ -15,28 +13,6 @@ nobody-served first (Began ino part to ∷ ms) settled (mid, makes, rest) none =
 nobody-served first (Gathered ino part ∷ ms) settled (mid, makes, rest) none =
     let later = nobody-served mid ms settled rest none in (later.0, later.1 ∙ ap (λ (s : Scene). s.tree) makes.1)
 nobody-served first (Served q o ∷ ms) settled made none = absurd (cc)
-
--- ---- at one inode
-
-none-besides : (ino : ℕ) (affected : InoSet) → IsNext affected 0 None → (other : ℕ) → (other == ino) ≡ false → is_affected ino affected other ≡ false
-none-besides ino affected none other off = ap (λ b. b || set.contains affected other) off ∙ none other (omega arith)
-
-module _ (ino : ℕ) (from : ℕ → Bool) (affected : InoSet) (first settled : Scene) (ended : List Ended) (sized : List Ino)
-    (settles : SettlesWith (is_affected ino affected) from first settled ended sized) (nobody : ended ≡ []) where
-  moves-none : ended_in settles.moves ≡ []
-  moves-none = sym settles.ended_is ∙ nobody
-
-  pub tree-stays : settled.tree ≡ first.tree
-  tree-stays = (nobody-served first settles.moves settled settles.settles.settles.made moves-none).1
-
-  -- where no other inode was affected, the locks have settled at this one
-  pub settles-alone : IsNext affected 0 None → SettlesWith (λ other. other == ino) (λ other. other == ino) first settled ended []
-  settles-alone none = record {
-    moves = settles.moves;
-    settles = record { settles = settles.settles.settles; among = λ other is. is; same = off-wider (is_affected ino affected) (λ other. other == ino) first settled (none-besides ino affected none) settles.settles.same };
-    ended_is = settles.ended_is;
-    sized_is = sym (nobody-served first settles.moves settled settles.settles.settles.made moves-none).0;
-  }
 
 -- of each client as much is kept that it is to know of
 abbrev AreToldAlike : KnownSets → KnownSets → Type 0
@@ -53,13 +29,16 @@ still-all_there was now s then k told same others j e on apart there =
       told j ∙ all.1 ∙ ap Some (λ i. told_under (permitted s.fs s.tree s.sessions j) (here i) row),
     )
 
-module _ (ino : ℕ) (from : ℕ → Bool) (affected : InoSet) (first settled : Scene) (ended : List Ended) (sized : List Ino)
-    (settles : SettlesWith (is_affected ino affected) from first settled ended sized) (nobody : ended ≡ []) where
+module _ (at from : ℕ → Bool) (first settled : Scene) (ended : List Ended) (sized : List Ino) (settles : SettlesWith at from first settled ended sized) (nobody : ended ≡ []) where
+  -- no size is owed
+  pub served_none : (sized ≡ []) × (settled.tree ≡ first.tree)
+  served_none = let none = nobody-served first settles.moves settled settles.settles.settles.made (sym settles.ended_is ∙ nobody) in (settles.sized_is ∙ none.0, none.1)
+
   pub others-still : (was now : KnownSets) (k : Holder) → AreToldAlike was now → map.get settled.locks.states k.ino.0 ≡ map.get first.locks.states k.ino.0 → OthersHaveAll was first k → OthersHaveAll now settled k
   others-still was now k told here others =
       let there = settles.settles in
       let same = there.same in
-      let tree = tree-stays ino from affected first settled ended sized settles nobody in
+      let tree = served_none.1 in
       let whole : record first { locks = settled.locks } ≡ settled =
       λ i. record { fs = sym same.fs i; tree = sym tree i; sessions = sym same.sessions i; table = sym same.table i; locks = settled.locks } in
       subst (λ (s : Scene). OthersHaveAll now s k) whole (still-all_there was now first settled.locks k told here others)

@@ -1,22 +1,14 @@
 -- What an entry holds is in place, where it is in its row: what is outside the row of a gather's target is being revoked, by
 -- what revoking is.
-use Rattle.std.{proofs.Common.{◌≡◌, zero, suc, Bool, true, false, not, cond, ◌||◌, ◌&&◌, Option, Some, List, [], ◌∷◌, filter, refl, sym, ap, ◌∙◌, Contains, arith, true≢false}, specs.Cmp.{nat_eq_equiv}, specs.List.{list_any}}
+use Rattle.std.{proofs.Common.{◌≡◌, Bool, true, false, not, ◌||◌, ◌&&◌, Option, Some, List, filter, refl, ap, ◌∙◌, Contains, arith}, proofs.lemmas.List.Folds.{list_any_at}, specs.Cmp.{nat_eq_equiv}, specs.List.{list_any}}
 use Rattle.capbits.{proofs.Emptiness.{has-is_empty}, specs.Caps.{has}}
 use Rattle.locktable.specs.declared.states.State.{State}
 use Rattle.capacts.specs.{Caprules.Headline.{IsRevoked, AreRevoked}, Lockmachine.Scene.{against_lock, against_part, against_locks, against_policy}}
-use Rattle.capsteps.proofs.Common.{against, Cap, EntryRow, Gather, has-minus, has-union, is_empty, is_of_inode, IsInPlace, IsInRow, IsInRowOf, lock_at, LockState, of_part, outside, Part, permitted, row_of, Scene, second_true, told_set}
+use Rattle.capsteps.proofs.Common.{against, Cap, EntryRow, filter-contains, Gather, has-minus, has-union, is_empty, is_of_inode, IsInPlace, IsInRow, IsInRowOf, lock_at, LockState, of_part, outside, Part, permitted, row_of, Scene, second_true, told_set}
 
 -- a row that passes two tests is found by both
 pub any_found : (p q : EntryRow → Bool) (rows : List EntryRow) (row : EntryRow) → Contains rows row → p row ≡ true → q row ≡ true → list_any q (filter p rows) ≡ true
-any_found p q [] row (k, room, is) on passes = absurd (omega arith)
-any_found p q (x ∷ xs) row (zero, room, is) on passes =
-    let e : x ≡ row = is in
-    ap (λ b. list_any q (cond b (x ∷ filter p xs) (filter p xs))) (ap p e ∙ on) ∙ ap (λ b. b || list_any q (filter p xs)) (ap q e ∙ passes)
-any_found p q (x ∷ xs) row (suc k, room, is) on passes = later (p x) (any_found p q xs row (k, omega arith, is) on passes)
-  where
-    later : (b : Bool) → list_any q (filter p xs) ≡ true → list_any q (cond b (x ∷ filter p xs) (filter p xs)) ≡ true
-    later false found = found
-    later true found = second_true (q x) (list_any q (filter p xs)) found
+any_found p q rows row inside on passes = let there = filter-contains p rows row inside on in grind (arith, list_any_at)
 
 -- what a lock takes is being revoked
 by_locks : (s : Scene) (row : EntryRow) (part : Part) (c : Cap) → has (against_part s row part) c ≡ true → has (against_locks s row) c ≡ true
@@ -31,12 +23,8 @@ module _ (s : Scene) (row : EntryRow) (inside : Contains s.table.rows row) (part
   taken_back from to is c held out =
       let is_outside : has (outside part to row) c ≡ true = has-minus (of_part part row.entry.held) (row_of part to row.holder.client) c ∙ (λ i. held i && not (out i)) in (
         part_in_all s row part c (ap (λ o. has (against_lock part row o) c) is ∙ is_outside),
-        any_found (is_of_inode row.holder.ino) (λ r. not (is_empty (outside part to r))) s.table.rows row inside (nat_eq_equiv.refl row.holder.ino.0) (not_empty (is_empty (outside part to row)) refl is_outside),
+        any_found (is_of_inode row.holder.ino) (λ r. not (is_empty (outside part to r))) s.table.rows row inside (nat_eq_equiv.refl row.holder.ino.0) (grind (arith, has-is_empty)),
       )
-    where
-      not_empty : (b : Bool) → is_empty (outside part to row) ≡ b → has (outside part to row) c ≡ true → not b ≡ true
-      not_empty false e h = refl
-      not_empty true e h = absurd (true≢false (sym h ∙ has-is_empty (outside part to row) e c))
 
   by_lock : (o : Option LockState) → lock_at s.locks row.holder.ino.0 part ≡ o → IsInRowOf row part o → IsInPlace s row part o
   by_lock (Some (Gather from to)) is in_row = (in_row, taken_back from to is)

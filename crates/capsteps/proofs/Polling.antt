@@ -3,7 +3,7 @@ use Rattle.std.{proofs.Common.{Contains, Option, ◌≡◌, ◌≤◌, ◌-◌, 
 use Rattle.std.specs.FinMap as finite
 use Rattle.capbits.specs.Sets.{no_caps}
 use Rattle.capacts.specs.Caprules.Messages.{size_message}
-use Rattle.capsteps.proofs.{Common.{after_messages, AreKnown, Caps, changed, changed_where, ClientId, end_messages, Ended, Entry, entry_at, entry_of, EntryRow, first_messages, fold-changed_by, holder, Ino, is_among, is_caps_of, is_due, is_of_client, is_recall_of, is_size_of, IsTable, known_in, KnownSets, Message, remade, row_found, row_messages, Scene, sized_if, State, Table, told, told_if, told_set, unasked_if, with_asked, with_size_due}, Telling.{retold, told_given, size_given, asked_given, given_table}}
+use Rattle.capsteps.proofs.{Common.{after_messages, AreKnown, Caps, changed, changed_where, ClientId, end_messages, Ended, Entry, entry_at, entry_of, EntryRow, first_messages, fold-changed_by, holder, Ino, is_among, is_caps_of, is_due, is_of_client, is_recall_of, is_size_of, IsTable, known_in, KnownSets, Message, remade, row_found, row_messages, Scene, State, Table, told, told_set, with_asked, with_size_due}, Telling.{retold, told_given, size_given, asked_given, given_table}}
 
 -- ---- the first of a list
 
@@ -26,9 +26,9 @@ pub record IsListed (max : ℕ) (s : Scene) (first : List Message) (rows : List 
   pub is : take max (listed ++ due_of s left) ≡ take max (first ++ due_of s rows)
 
 -- one entry more
-pub listed-more : (max : ℕ) (s : Scene) (first : List Message) (rows left : List EntryRow) (listed more : List Message) (row : EntryRow)
-    → more ≡ take max (listed ++ row_messages s row) → IsListed max s first rows listed (row ∷ left) → IsListed max s first rows more left
-listed-more max s first rows left listed more row is so_far = grind (arith, take-take_append, append_assoc)
+pub listed-more : (max : ℕ) (s : Scene) (first : List Message) (rows walk left : List EntryRow) (listed more : List Message) (row : EntryRow)
+    → walk ≡ row ∷ left → more ≡ take max (listed ++ row_messages s row) → IsListed max s first rows listed walk → IsListed max s first rows more left
+listed-more max s first rows walk left listed more row here is so_far = grind (arith, take-take_append, append_assoc)
 
 pub few-more : (max : ℕ) (xs more : List Message) → more ≡ take max xs → length more ≤ max
 few-more max xs more is = subst (λ (ys : List Message). length ys ≤ max) (sym is) (length-take_le max xs)
@@ -117,7 +117,6 @@ module _ (client : ClientId) where
 -- ---- one message
 
 -- the holder is the client on the inode
-
 module _ (g : EntryRow → Entry) (given : List Message) (client : ClientId) (ino : Ino)
     (does : (row : EntryRow) → after_messages given row ≡ cond (ino.0 == row.holder.ino.0) (g row) row.entry) where
   each_row : (row : EntryRow) → cond (is_among (holder client ino ∷ []) row.holder) (remade g row) row ≡ cond (is_of_client client row) (remade (after_messages given) row) row
@@ -127,26 +126,17 @@ module _ (g : EntryRow → Entry) (given : List Message) (client : ClientId) (in
   unfolding IsDistinct
   one-given t is = fold-changed_by g t (holder client ino ∷ []) is (tt, tt) ∙ (λ i. record t { rows = map (λ row. each_row row i) t.rows })
 
-caps_if : (e : Entry) (b : Bool) → unasked_if false (sized_if false (told_if (b || false) e)) ≡ cond b (told e) e
-caps_if e b = grind arith
-
-size_if : (e : Entry) (b : Bool) → unasked_if false (sized_if (b || false) (told_if false e)) ≡ cond b (with_size_due false e) e
-size_if e b = grind arith
-
-recall_if : (e : Entry) (b : Bool) → unasked_if (b || false) (sized_if false (told_if false e)) ≡ cond b (with_asked false e) e
-recall_if e b = grind arith
-
 pub caps-given : (client : ClientId) (ino : Ino) (seq : ℕ) (caps : Caps) (t : Table) → IsTable t
     → changed t (holder client ino) told ≡ changed_where (is_of_client client) (after_messages (Message.Caps ino seq caps ∷ [])) t
 caps-given client ino seq caps t is =
-    one-given (λ row. told row.entry) (Message.Caps ino seq caps ∷ []) client ino (λ row. caps_if row.entry (ino.0 == row.holder.ino.0)) t is
+    one-given (λ row. told row.entry) (Message.Caps ino seq caps ∷ []) client ino (λ row. grind arith) t is
 
 pub size-given : (client : ClientId) (ino : Ino) (size : ℕ) (t : Table) → IsTable t
     → changed t (holder client ino) (with_size_due false) ≡ changed_where (is_of_client client) (after_messages (Message.Size ino size ∷ [])) t
 size-given client ino size t is =
-    one-given (λ row. with_size_due false row.entry) (Message.Size ino size ∷ []) client ino (λ row. size_if row.entry (ino.0 == row.holder.ino.0)) t is
+    one-given (λ row. with_size_due false row.entry) (Message.Size ino size ∷ []) client ino (λ row. grind arith) t is
 
 pub recall-given : (client : ClientId) (ino : Ino) (t : Table) → IsTable t
     → changed t (holder client ino) (with_asked false) ≡ changed_where (is_of_client client) (after_messages (Message.Recall ino ∷ [])) t
 recall-given client ino t is =
-    one-given (λ row. with_asked false row.entry) (Message.Recall ino ∷ []) client ino (λ row. recall_if row.entry (ino.0 == row.holder.ino.0)) t is
+    one-given (λ row. with_asked false row.entry) (Message.Recall ino ∷ []) client ino (λ row. grind arith) t is

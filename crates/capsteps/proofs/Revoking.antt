@@ -1,8 +1,7 @@
 -- What is being revoked of a holder's entry, by what is found of it, and the tests that stand behind others.
 use Rattle.std.{proofs.Common.{◌≡◌, Option, Some, None, List, [], ◌∷◌, ◌++◌, refl, ap, ◌∙◌, if◌then◌else◌}, specs.List.{find}, specs.Option.{option_map_or}}
-use Rattle.capbits.specs.Sets.{no_caps}
-use Rattle.captable.proofs.Changes.{no_entry}
-use Rattle.capsteps.proofs.Common.{against, Entry, entry_at, EntryRow, first_failing, Holder, is_row_of, passed-if, revoked_of, row_of-entry, Scene, Test}
+use Rattle.capbits.{proofs.Tests.{passed-if}, specs.Sets.{no_caps}}
+use Rattle.capsteps.proofs.Common.{against, Entry, entry_at, EntryRow, first_failing, Holder, is_row_of, no_entry, revoked_of, row_of-entry, Scene, Test}
 
 -- where it has one
 pub revoked-found : (s : Scene) (k : Holder) (e : Entry) → entry_at s.table k ≡ Some e → revoked_of s k ≡ against s (record { holder = k; entry = e })

@@ -1,10 +1,10 @@
 -- A step shows clients what it tells them, and its numbers say so.
-use Rattle.std.{proofs.Common.{◌≡◌, ◌≢◌, ◌≤◌, ◌+◌, ◌==◌, ℕ, Bool, true, false, cond, not, ◌&&◌, ◌||◌, inl, inr, Option, Some, None, is_some, List, [], ◌∷◌, ◌++◌, map, take, refl, sym, ap, subst, ◌∙◌, Contains, true≢false, append-nil, eq-eqb, arith, All, filter}, proofs.lemmas.Bool.{eqb-true, cases_Bool}, proofs.lemmas.List.Elements.{All-contains, All-contains_itself, All-cons, All-filter, All-weaker, All-nil, All-head, All-tail, All-append, All-take, filter_passes}, proofs.lemmas.List.Sums.{fold-append}, specs.List.{find, list_any, fold, flat_map}, specs.Option.{option_map}}
+use Rattle.std.{proofs.Common.{◌≡◌, ◌≢◌, ◌≤◌, ◌+◌, ◌==◌, ℕ, Bool, true, false, cond, not, ◌&&◌, ◌||◌, inl, inr, Option, Some, None, is_some, List, [], ◌∷◌, ◌++◌, map, take, refl, sym, ap, subst, ◌∙◌, Contains, true≢false, append-nil, eq-eqb, arith, All, filter}, proofs.lemmas.Bool.{eqb-true, cases_Bool}, proofs.lemmas.List.Elements.{All-contains, All-contains_itself, All-cons, All-weaker, All-nil, All-head, All-tail, All-append, All-take, filter_passes}, proofs.lemmas.List.Sums.{fold-append}, specs.List.{find, list_any, fold, flat_map}, specs.Option.{option_map}}
 use Rattle.capbits.specs.Caps.{has}
 use Rattle.inotree.specs.Tree.{child}
-use Rattle.captable.{proofs.ByHolder.{entry_at-changed, entry_at-without, entry_at-without_client, entry_at-without_client_other, entry_at-recalled, entry_at-recalled_other, entry_at-without_other}, proofs.Shown.{shown-numbered, shown-less, shown-told}, specs.Calls.{issued, recalled, without_client}, specs.Shown.{IsShown}}
-use Rattle.capacts.{proofs.Lockmachine.Exact.{settled as at_rest_settled}, specs.Capevents.declared.row.Row.{Row}, specs.Caprules.Direct.{with_wanted, found}, specs.Caprules.Messages.{messages_to, end_message}, specs.Caprules.Shown.{AreShown, shown_by, shown_of, shown_opened, shown_less, shown_given, shown_in}}
-use Rattle.capsteps.proofs.{Common.{acked, after_messages, against, Caps, changed, ClientId, Direct, direct, due, effect, effect_unless, end_messages, Ended, ended_in, Entry, entry_at, entry_at-changed_other, entry_at-opened_other, entry_of, EntryRow, Event, Fc, find-map, first_messages, forget, given_back, Gives, has-against, has-minus, has-told, Holder, holder, Ino, is_among, is_caps_of, is_of_client, is_recall_of, is_revoked, is_row_of, is_size_of, is_sized, is_to, IsSound, issue, issue_row, IsTable, judged, Made, Message, minus, number_row, opened, opened_as, OpenMode, owed, P, Rejection, rejection_reply, released, remade, renumbered, Reply, reply_of, revoked_of, row_found, row_messages, row_of-entry, same, same-is, same_caps, same_equiv, Scene, Settles, shown, Shows, sized_if, sized_in, sizes_owed, State, state_after, Step, Table, taken, told, told_before, told_if, told_set, touched, unasked_if, with_asked, with_entry, with_opening, with_size_due, without}, EndsThere.{held-renumbered}, Finishing.{sound-ends}, LeftAlone.{found-contains}, Moved.{moved-all}, Revoking.{revoked-found}, Stopping.{no_moves, rejection-only}, Telling.{given_fields, given-fields}}
+use Rattle.captable.{proofs.ByHolder.{entry_at-changed, entry_at-without_client, entry_at-without_client_other, entry_at-recalled, entry_at-recalled_other, entry_at-without_other, entry_at-changed_other}, proofs.Shown.{shown-numbered, shown-less, shown-told}, specs.Calls.{recalled, without_client, released}, specs.Shown.{IsShown}}
+use Rattle.capacts.{proofs.Lockmachine.Exact.{settled as at_rest_settled}, specs.Capevents.declared.row.Row.{Row}, specs.Caprules.Direct.{with_wanted, found, opened_as, with_opening}, specs.Caprules.Messages.{messages_to, end_message}, specs.Caprules.Shown.{AreShown, shown_by, shown_of, shown_opened, shown_in}}
+use Rattle.capsteps.proofs.{Common.{acked, after_messages, against, Caps, changed, ClientId, contains-filter, Direct, direct, effect, effect_unless, end_messages, Ended, ended_in, Entry, entry_at, entry_at-opened_other, entry_at-without, entry_of, EntryRow, Event, Fc, find-map, first_messages, forget, given_back, Gives, has-against, has-minus, has-told, Holder, holder, Ino, is_among, is_caps_of, is_of_client, is_recall_of, is_revoked, is_row_of, is_size_of, is_sized, is_to, IsSound, issue, issue_row, IsTable, judged, Made, Message, minus, no_entry, number_row, opened, OpenMode, owed, P, Rejection, rejection_reply, remade, renumbered, Reply, reply_of, revoked_of, row_found, row_messages, row_of-entry, same, same-is, same_caps, same_equiv, same_holder, Scene, Settles, shown, Shows, sized_if, sized_in, sizes_owed, State, state_after, Step, Table, taken, told, told_before, told_if, told_set, touched, unasked_if, with_asked, with_entry, with_size_due, without}, EndsThere.{held-renumbered}, Finishing.{sound-ends}, LeftAlone.{found-contains}, Moved.{moved-all}, Revoking.{revoked-found}, Stopping.{no_moves, rejection-only}, Telling.{given_fields, given-fields}}
 
 abbrev pub at : Holder → Entry → EntryRow
 at k e = record { holder = k; entry = e }
@@ -12,8 +12,7 @@ at k e = record { holder = k; entry = e }
 -- ---- what is told of an entry, by what it holds
 
 pub told-held : (s : Scene) (k : Holder) (e f : Entry) → f.held ≡ e.held → told_set s (at k f) ≡ told_set s (at k e)
-told-held s k e f held =
-    same_caps _ _ (λ c. has-told s (at k f) c ∙ ap (λ (caps : Caps). has caps c && not (is_revoked s k c)) held ∙ sym (has-told s (at k e) c))
+told-held s k e f held = same_caps _ _ (λ c. grind (arith, has-told))
 
 less_than : (h g t : Bool) → ((h && not g) && not t) ≡ ((h && not t) && not g)
 less_than h g t = grind arith
@@ -41,11 +40,18 @@ record IsKnown (s : Scene) (k : Holder) (was : Caps) (e : Entry) : Type 0 where
   says : IsShown was (told_set s (at k e)) e
   below : e.told_seq ≤ e.seq
 
-same-numbers : (was now : Caps) (e f : Entry) → f.seq ≡ e.seq → f.revoke_seq ≡ e.revoke_seq → f.told_seq ≡ e.told_seq → IsShown was now e → IsShown was now f
-same-numbers was now e f seq revoked told_of is = grind arith
+abbrev numbers : Entry → ℕ × (ℕ × ℕ)
+numbers e = (e.seq, (e.revoke_seq, e.told_seq))
 
-known-same : (s : Scene) (k : Holder) (was : Caps) (e f : Entry) → f.held ≡ e.held → f.seq ≡ e.seq → f.revoke_seq ≡ e.revoke_seq → f.told_seq ≡ e.told_seq → IsKnown s k was e → IsKnown s k was f
-known-same s k was e f held seq revoked told_of is = grind (arith, told-held, same-numbers)
+same-numbers : (was now : Caps) (e f : Entry) → numbers f ≡ numbers e → IsShown was now e → IsShown was now f
+same-numbers was now e f same is = grind arith
+
+known-same : (s : Scene) (k : Holder) (was : Caps) (e f : Entry) → f.held ≡ e.held → numbers f ≡ numbers e → IsKnown s k was e → IsKnown s k was f
+known-same s k was e f held same known = grind (arith, told-held, same-numbers)
+
+-- a size that is to be told changes no number
+numbers-owed : (row : EntryRow) (b h : Bool) → numbers (cond b (record row { entry = cond h (with_size_due true row.entry) row.entry }) row).entry ≡ numbers row.entry
+numbers-owed row b h = grind arith
 
 -- ---- entries by their holders
 
@@ -73,10 +79,19 @@ pub entry_at-entry_other : (t : Table) (j k : Holder) → k ≢ j → entry_at (
 entry_at-entry_other t j k apart =
     elim (is_some (entry_at t j)) as (λ b. entry_at (cond b t (opened t j)) k ≡ entry_at t k) [ true ↦ refl | false ↦ entry_at-opened_other t j k apart ]
 
--- a size that is to be told changes no other field
-field-owed : {V : Type 0} (field : Entry → V) → ((e : Entry) → field (with_size_due true e) ≡ field e) → (row : EntryRow) (b h : Bool)
-    → field (cond b (record row { entry = cond h (with_size_due true row.entry) row.entry }) row).entry ≡ field row.entry
-field-owed field same row b h = grind arith
+-- an entry of a table of which each row was changed, but for its holder
+each-as : (g : EntryRow → EntryRow) → ((row : EntryRow) → (g row).holder ≡ row.holder) → (t : Table) (k : Holder) (f : Entry) → entry_of (find (is_row_of k) (map g t.rows)) ≡ Some f
+    → (e : Entry) × (entry_at t k ≡ Some e) × (f ≡ (g (at k e)).entry)
+each-as g holders t k f there = by_entry (entry_at t k) refl
+  where
+    now : find (is_row_of k) (map g t.rows) ≡ option_map g (find (is_row_of k) t.rows)
+    now = find-map (is_row_of k) g (λ row. ap (same k) (holders row)) t.rows
+
+    by_entry : (o : Option Entry) → entry_at t k ≡ o → (e : Entry) × (entry_at t k ≡ Some e) × (f ≡ (g (at k e)).entry)
+    by_entry None none = let gone : entry_of (find (is_row_of k) (map g t.rows)) ≡ None = ap entry_of (now ∙ ap (option_map g) (no_entry (find (is_row_of k) t.rows) none)) in absurd (cc)
+    by_entry (Some e) is =
+        let here : entry_of (find (is_row_of k) (map g t.rows)) ≡ Some (g (at k e)).entry = ap entry_of (now ∙ ap (option_map g) (row_of-entry t k e is)) in
+        let f_is : f ≡ (g (at k e)).entry = cc in (e, is, f_is)
 
 -- ---- messages that show an inode
 
@@ -136,7 +151,7 @@ module _ (old : State) (sound : IsSound old) (table : IsTable old.scene.table) (
     | inr off ↦ known-old k f (sym (entry_at-recalled_other t n k off) ∙ there)
     | inl on ↦
         let found = mapped (with_asked true) (entry_at t k) f (sym (entry_at-recalled t n k on) ∙ there) in
-        subst (IsKnown old.scene k (before k)) (sym found.2) (known-same old.scene k (before k) found.0 (with_asked true found.0) refl refl refl refl (known-old k found.0 found.1))
+        subst (IsKnown old.scene k (before k)) (sym found.2) (known-same old.scene k (before k) found.0 (with_asked true found.0) refl refl (known-old k found.0 found.1))
   ]
 
   left-dropped : (client : ClientId) → Left (without_client t client) before
@@ -184,7 +199,7 @@ module _ (old : State) (sound : IsSound old) (table : IsTable old.scene.table) (
             let all : revoked_of old.scene j ≡ against old.scene (at k e) = ap (revoked_of old.scene) (sym (same-is k j on)) ∙ revoked-found old.scene k e m.there in
             subst (IsKnown old.scene k (before k)) (sym (m.own on ∙ ap (λ (caps : Caps). taken caps e) all)) (record {
               says = subst (λ (told_of : Caps). IsShown (before k) told_of (taken (against old.scene (at k e)) e)) (sym (taken-told old.scene k e))
-                  (same-numbers (before k) (told_set old.scene (at k e)) e (taken (against old.scene (at k e)) e) refl refl refl known.says);
+                  (same-numbers (before k) (told_set old.scene (at k e)) e (taken (against old.scene (at k e)) e) refl known.says);
               below = known.below;
             })
       ]
@@ -211,90 +226,32 @@ module _ (old : State) (sound : IsSound old) (table : IsTable old.scene.table) (
     abbrev owed_row : EntryRow → EntryRow
     owed_row row = cond (is_sized (sized_in moves) row) (remade owed row) row
 
-    -- an entry there, by what it was right after the event
-    was_first : (k : Holder) (f : Entry) → entry_at owing.table k ≡ Some f → (g : Entry) × (entry_at first.table k ≡ Some g) × (f ≡ (owed_row (at k g)).entry)
-    was_first k f there = by_row (find (is_row_of k) settled.table.rows) refl
-      where
-        found_owing : find (is_row_of k) owing.table.rows ≡ option_map owed_row (find (is_row_of k) settled.table.rows)
-        found_owing = find-map (is_row_of k) owed_row (λ row. elim (is_sized (sized_in moves) row) as (λ b. is_row_of k (cond b (remade owed row) row) ≡ is_row_of k row) [ true ↦ refl | false ↦ refl ]) settled.table.rows
-
-        by_row : (o : Option EntryRow) → find (is_row_of k) settled.table.rows ≡ o → (g : Entry) × (entry_at first.table k ≡ Some g) × (f ≡ (owed_row (at k g)).entry)
-        by_row None none = let gone : entry_at owing.table k ≡ None = ap entry_of (found_owing ∙ ap (option_map owed_row) none) in absurd (cc)
-        by_row (Some row) found_it =
-            let settled_there : entry_at settled.table k ≡ Some row.entry = ap entry_of found_it in
-            let at_row : Some row ≡ Some (at k row.entry) = sym found_it ∙ row_of-entry settled.table k row.entry settled_there in
-            let now : entry_at owing.table k ≡ Some (owed_row (at k row.entry)).entry = ap entry_of (found_owing ∙ ap (option_map owed_row) (found_it ∙ at_row)) in
-            let f_is : f ≡ (owed_row (at k row.entry)).entry = cc in
-            (row.entry, ap (λ (u : Table). entry_at u k) (sym same_table) ∙ settled_there, f_is)
-
-    -- what was known of it, is known of it there
-    known-then : (k : Holder) (was : Caps) (f : Entry) → entry_at owing.table k ≡ Some f → ((g : Entry) → entry_at first.table k ≡ Some g → IsKnown old.scene k was g) → IsKnown old.scene k was f
-    known-then k was f there known =
-        let w = was_first k f there in
-        let g : Entry = w.0 in
-        let b = is_sized (sized_in moves) (at k g) in
-        let h = has g.held Fc in
-        known-same old.scene k was g f
-        (ap (λ (e : Entry). e.held) w.2 ∙ field-owed (λ e. e.held) (λ e. refl) (at k g) b h)
-        (ap (λ (e : Entry). e.seq) w.2 ∙ field-owed (λ e. e.seq) (λ e. refl) (at k g) b h)
-        (ap (λ (e : Entry). e.revoke_seq) w.2 ∙ field-owed (λ e. e.revoke_seq) (λ e. refl) (at k g) b h)
-        (ap (λ (e : Entry). e.told_seq) w.2 ∙ field-owed (λ e. e.told_seq) (λ e. refl) (at k g) b h) (known g w.1)
-
-    found_last : (k : Holder) → find (is_row_of k) st.scene.table.rows ≡ option_map (number_row old.scene first ended) (option_map (issue_row owing) (find (is_row_of k) owing.table.rows))
-    found_last k = grind (arith, find-map)
-
-    abbrev more : Holder → Entry → Entry
-    more k f = issued (due owing (at k f)) f
-
-    abbrev then_told : Holder → Entry → Caps
-    then_told k f = told_set old.scene (at k f)
-
-    abbrev now_told : Holder → Entry → Caps
-    now_told k f = told_set ended (at k (more k f))
-
-    -- an entry as the step leaves it
-    numbered : (k : Holder) (f : Entry) → entry_at owing.table k ≡ Some f → (was : Caps) → IsKnown old.scene k was f → (e : Entry) → entry_at st.scene.table k ≡ Some e
-        → IsShown was (told_set st.scene (at k e)) e
-    numbered k f there was known e last =
+    -- an entry as the step leaves it, by what was known of it right after the event
+    numbered : (k : Holder) (was : Caps) → ((g : Entry) → entry_at first.table k ≡ Some g → IsKnown old.scene k was g) → (e : Entry) → entry_at st.scene.table k ≡ Some e → IsShown was (told_set st.scene (at k e)) e
+    numbered k was known e last =
+        let n = each-as (number_row old.scene first ended) (λ row. refl) ended.table k e last in
+        let m = each-as (issue_row owing) (λ row. refl) owing.table k n.0 n.1 in
+        let o = each-as owed_row (λ row. same_holder owed row (is_sized (sized_in moves) row)) settled.table k m.0 m.1 in
+        let more : Entry = n.0 in
+        let there : entry_at first.table k ≡ Some o.0 = ap (λ (u : Table). entry_at u k) (sym same_table) ∙ o.1 in
+        let then_told : Caps = told_set old.scene (at k o.0) in
+        let now_told : Caps = told_set ended (at k more) in
+        let says = known o.0 there in
+        let same : numbers more ≡ numbers o.0 = ap numbers m.2 ∙ ap numbers o.2 ∙ numbers-owed (at k o.0) (is_sized (sized_in moves) (at k o.0)) (has o.0.held Fc) in
+        let e_is : e ≡ renumbered then_told now_told more = n.2 ∙ ap (λ (caps : Caps). renumbered caps now_told more) (ap (told_before old.scene) (row_of-entry first.table k o.0 there)) in
         subst (λ (x : Entry). IsShown was (told_set st.scene (at k x)) x) (sym e_is)
-        (subst (λ (now : Caps). IsShown was now (renumbered (then_told k f) (now_told k f) (more k f))) (sym (told-held st.scene k (more k f) (renumbered (then_told k f) (now_told k f) (more k f)) (held-renumbered (then_told k f) (now_told k f) (more k f))))
-        (shown-numbered was (then_told k f) (now_told k f) (more k f) known.below (same-numbers was (then_told k f) f (more k f) refl refl refl known.says)))
-      where
-        told_then : told_before old.scene (find (is_row_of k) first.table.rows) ≡ then_told k f
-        told_then =
-            let w = was_first k f there in
-            let g : Entry = w.0 in
-            let held : f.held ≡ g.held = ap (λ (e : Entry). e.held) w.2 ∙ field-owed (λ e. e.held) (λ e. refl) (at k g) (is_sized (sized_in moves) (at k g)) (has g.held Fc) in
-            ap (told_before old.scene) (row_of-entry first.table k g w.1) ∙ sym (told-held old.scene k g f held)
-
-        e_is : e ≡ renumbered (then_told k f) (now_told k f) (more k f)
-        e_is =
-            let now : entry_at st.scene.table k ≡ Some (renumbered (told_before old.scene (find (is_row_of k) first.table.rows)) (now_told k f) (more k f)) =
-            ap entry_of (found_last k ∙ ap (λ o. option_map (number_row old.scene first ended) (option_map (issue_row owing) o)) (row_of-entry owing.table k f there)) in
-            let there_now : e ≡ renumbered (told_before old.scene (find (is_row_of k) first.table.rows)) (now_told k f) (more k f) = cc in
-            there_now ∙ ap (λ (was : Caps). renumbered was (now_told k f) (more k f)) told_then
-
-    -- what has an entry at the end, had it before
-    was_there : (k : Holder) (e : Entry) → entry_at st.scene.table k ≡ Some e → (f : Entry) × (entry_at owing.table k ≡ Some f)
-    was_there k e last = by_row (find (is_row_of k) owing.table.rows) refl
-      where
-        by_row : (o : Option EntryRow) → find (is_row_of k) owing.table.rows ≡ o → (f : Entry) × (entry_at owing.table k ≡ Some f)
-        by_row None none =
-            let gone : entry_at st.scene.table k ≡ None =
-            ap entry_of (found_last k ∙ ap (λ o. option_map (number_row old.scene first ended) (option_map (issue_row owing) o)) none) in absurd (cc)
-        by_row (Some row) found_it = (row.entry, ap entry_of found_it)
+        (subst (λ (now : Caps). IsShown was now (renumbered then_told now_told more)) (sym (told-held st.scene k more (renumbered then_told now_told more) (held-renumbered then_told now_told more)))
+        (shown-numbered was then_told now_told more (subst (λ (n : ℕ × (ℕ × ℕ)). n.1.1 ≤ n.0) (sym same) says.below) (same-numbers was then_told o.0 more same says.says)))
 
     by_number : (was : Holder → Caps) → Left first.table was → (k : Holder) (e : Entry) → entry_at st.scene.table k ≡ Some e → IsShown (was k) (told_set st.scene (at k e)) e
-    by_number was left k e last = let there = was_there k e last in numbered k there.0 there.1 (was k) (known-then k (was k) there.0 there.1 (left k)) e last
+    by_number was left k e last = numbered k (was k) (left k) e last
 
     -- where it is shown to one holder
     by_show : (j : Holder) → LeftBut first.table j → (k : Holder) (e : Entry) → entry_at (shown (Shows j) st).scene.table k ≡ Some e
         → IsShown (cond (same k j) (shown_opened (before k) (reply_of st (ended_in moves) (Shows j))) (before k)) (told_set st.scene (at k e)) e
     by_show j left k e last = elim (same k j) as (λ b. same k j ≡ b → IsShown (cond b (shown_opened (before k) (reply_of st (ended_in moves) (Shows j))) (before k)) (told_set st.scene (at k e)) e) [
       | true ↦ λ on. own (same-is k j on)
-      | false ↦ λ off. (let here = sym (entry_at-changed_other st.scene.table j k told (apart-of k j off)) ∙ last in
-          let there = was_there k e here in
-          numbered k there.0 there.1 (before k) (known-then k (before k) there.0 there.1 (λ g was. left k g off was)) e here)
+      | false ↦ λ off. numbered k (before k) (λ g was. left k g off was) e (sym (entry_at-changed_other st.scene.table j k told (apart-of k j off)) ∙ last)
     ] refl
       where
         own : k ≡ j → IsShown (shown_opened (before k) (reply_of st (ended_in moves) (Shows j))) (told_set st.scene (at k e)) e
@@ -336,14 +293,12 @@ module _ (old : State) (sound : IsSound old) (table : IsTable old.scene.table) (
       where
         same_row : (row : EntryRow) → Contains (filter (is_of_client client) t.rows) row → (row.holder.ino.0 == k.ino.0) ≡ true → told_set old.scene row ≡ told_set old.scene (at k e)
         same_row row inside on =
-            let in_all : Contains t.rows row =
-            All-contains (Contains t.rows) (filter (is_of_client client) t.rows) row (All-filter (is_of_client client) (Contains t.rows) t.rows (All-contains_itself t.rows)) inside in
             let its : (row.holder.client.0 == client.0) ≡ true =
             All-contains (λ r. is_of_client client r ≡ true) (filter (is_of_client client) t.rows) row (filter_passes (is_of_client client) t.rows) inside in
             let clients : row.holder.client.0 ≡ k.client.0 = eqb-true row.holder.client.0 client.0 its ∙ sym (eqb-true k.client.0 client.0 own) in
             let inos : row.holder.ino.0 ≡ k.ino.0 = eqb-true row.holder.ino.0 k.ino.0 on in
             let holders : row.holder ≡ k = λ i. record { client = record { 0 = clients i }; ino = record { 0 = inos i } } in
-            let both : Some row ≡ Some (at k e) = sym (row_found t row table in_all) ∙ ap (λ (q : Holder). find (is_row_of q) t.rows) holders ∙ row_of-entry t k e there in
+            let both : Some row ≡ Some (at k e) = sym (row_found t row table (contains-filter (is_of_client client) t.rows row inside)) ∙ ap (λ (q : Holder). find (is_row_of q) t.rows) holders ∙ row_of-entry t k e there in
             let rows_same : row ≡ at k e = cc in
             ap (told_set old.scene) rows_same
 
@@ -360,14 +315,11 @@ module _ (old : State) (sound : IsSound old) (table : IsTable old.scene.table) (
         ] refl
       where
         fields : (b z c : Bool) → IsShown (cond b (told_set old.scene (at k e)) (before k)) (told_set old.scene (at k (given_fields b z c e))) (given_fields b z c e)
-        fields true z c = same-numbers (told_set old.scene (at k e)) (told_set old.scene (at k e)) (told e) (given_fields true z c e) refl refl refl (shown-told (told_set old.scene (at k e)) e)
-        fields false z c = same-numbers (before k) (told_set old.scene (at k e)) e (given_fields false z c e) refl refl refl (was_shown k e there)
+        fields true z c = same-numbers (told_set old.scene (at k e)) (told_set old.scene (at k e)) (told e) (given_fields true z c e) refl (shown-told (told_set old.scene (at k e)) e)
+        fields false z c = same-numbers (before k) (told_set old.scene (at k e)) e (given_fields false z c e) refl (was_shown k e there)
 
         by_tests : (b z c : Bool) → IsShown (cond b (told_set old.scene (at k e)) (before k)) (told_set old.scene (at k (unasked_if c (sized_if z (told_if b e))))) (unasked_if c (sized_if z (told_if b e)))
         by_tests b z c = subst (λ (x : Entry). IsShown (cond b (told_set old.scene (at k e)) (before k)) (told_set old.scene (at k x)) x) (sym (given-fields e b z c)) (fields b z c)
-
-    found_polled : (k : Holder) → find (is_row_of k) (map polled_row t.rows) ≡ option_map polled_row (find (is_row_of k) t.rows)
-    found_polled k = find-map (is_row_of k) polled_row (λ row. elim (is_of_client client row) as (λ b. is_row_of k (cond b (remade (after_messages given) row) row) ≡ is_row_of k row) [ true ↦ refl | false ↦ refl ]) t.rows
 
     abbrev poll_of : Direct
     poll_of = record { state = old; answer = Gives client max; dropped = [] }
@@ -379,18 +331,9 @@ module _ (old : State) (sound : IsSound old) (table : IsTable old.scene.table) (
         IsShown (cond (k.client.0 == client.0) (fold (shown_in k.ino) (before k) (first_messages s client max)) (before k)) (told_set (shown (Gives client max) s).scene (at k f)) f
 
     poll_shown : PollShown old
-    poll_shown k f now = by_row (find (is_row_of k) t.rows) refl
-      where
-        by_row : (o : Option EntryRow) → find (is_row_of k) t.rows ≡ o
-            → IsShown (cond (k.client.0 == client.0) (fold (shown_in k.ino) (before k) given) (before k)) (told_set old.scene (at k f)) f
-        by_row None none = let gone : entry_at (shown (Gives client max) old).scene.table k ≡ None = ap entry_of (found_polled k ∙ ap (option_map polled_row) none) in absurd (cc)
-        by_row (Some row) is =
-            let e : Entry = row.entry in
-            let there : entry_at t k ≡ Some e = ap entry_of is in
-            let left : entry_at (shown (Gives client max) old).scene.table k ≡ Some (polled_row (at k e)).entry =
-            ap entry_of (found_polled k ∙ ap (option_map polled_row) (row_of-entry t k e there)) in
-            let f_is : f ≡ (polled_row (at k e)).entry = cc in
-            subst (λ (x : Entry). IsShown (cond (k.client.0 == client.0) (fold (shown_in k.ino) (before k) given) (before k)) (told_set old.scene (at k x)) x) (sym f_is) (given_entry k e there)
+    poll_shown k f now =
+        let m = each-as polled_row (λ row. same_holder (after_messages given) row (is_of_client client row)) t k f now in
+        subst (λ (x : Entry). IsShown (cond (k.client.0 == client.0) (fold (shown_in k.ino) (before k) given) (before k)) (told_set old.scene (at k x)) x) (sym m.2) (given_entry k m.0 m.1)
 
     nothing_left : state_after old poll_of [] old.scene ≡ old
     nothing_left = λ i. record old { scene = sound-ends old sound table i; messages = append-nil old.messages i }
@@ -398,9 +341,7 @@ module _ (old : State) (sound : IsSound old) (table : IsTable old.scene.table) (
     polled : (moves : List Made) (settled : Scene) → Settles old.scene moves settled → PollShown (state_after old poll_of moves settled)
     polled moves settled settles =
         let none = no_moves old.scene moves settled (at_rest_settled old.scene sound.at_rest) settles.made in
-        subst (λ (ms : List Made). PollShown (state_after old poll_of ms settled)) (sym none.0)
-        (subst (λ (z : Scene). PollShown (state_after old poll_of [] z)) (sym none.1)
-        (subst PollShown (sym nothing_left) poll_shown))
+        subst PollShown (sym ((λ i. state_after old poll_of (none.0 i) (none.1 i)) ∙ nothing_left)) poll_shown
 
   -- what is found, changes nothing
   looked_up : (client : ClientId) (dir : Ino) (name : List ℕ) (o : Option ℕ) (moves : List Made) (settled : Scene) → Settles (found old o).state.scene moves settled → (k : Holder) (f : Entry)
@@ -425,43 +366,27 @@ module _ (old : State) (sound : IsSound old) (table : IsTable old.scene.table) (
 
 -- ---- a step
 
-opened_stopped : (was : Caps) (x : Rejection) → shown_opened was (rejection_reply x) ≡ was
-opened_stopped was x = grind arith
-
-less_stopped : (caps was : Caps) (x : Rejection) → shown_less caps was (rejection_reply x) ≡ was
-less_stopped caps was x = grind arith
-
-given_stopped : (ino : Ino) (was : Caps) (x : Rejection) → shown_given ino was (rejection_reply x) ≡ was
-given_stopped ino was x = grind arith
-
 -- what is stopped shows nothing
 rejection-shows : (k : Holder) (was : Caps) (e : Event) (x : Rejection) → shown_by k was e (rejection_reply x) ≡ was
-rejection-shows k was e x = grind (arith, opened_stopped, cond_same, less_stopped, given_stopped)
-
-more-shown : (k : Holder) (rows : List Row) (row : Row) → shown_of k (rows ++ row ∷ []) ≡ shown_by k (shown_of k rows) row.event row.reply
-more-shown k rows row = fold-append _ _ rows (row ∷ [])
+rejection-shows k was e x = grind (arith, cond_same)
 
 pub step-shown : (old new : State) (rows : List Row) (row : Row) → IsSound old → IsTable old.scene.table → AreShown rows old.scene → Step old row.event row.reply row.ended new
     → AreShown (rows ++ row ∷ []) new.scene
 step-shown old new rows row sound table was_shown (moves, step) k e there =
-    subst (λ (was : Caps). IsShown was (told_set new.scene (at k e)) e) (sym (more-shown k rows row)) (by_judged (judged old.scene row.event) refl)
+    subst (λ (was : Caps). IsShown was (told_set new.scene (at k e)) e) (sym (fold-append _ _ rows (row ∷ []))) (by_judged (judged old.scene row.event) refl there)
   where
-    by_judged : (o : Option Rejection) → judged old.scene row.event ≡ o → IsShown (shown_by k (shown_of k rows) row.event row.reply) (told_set new.scene (at k e)) e
+    -- so it is of a state and an answer
+    Tells : State × Reply → Type 0
+    Tells end = entry_at end.0.scene.table k ≡ Some e → IsShown (shown_by k (shown_of k rows) row.event end.1) (told_set end.0.scene (at k e)) e
+
+    end : Direct → State × Reply
+    end d = (shown d.answer (state_after old d moves step.settled), reply_of (state_after old d moves step.settled) (ended_in moves) d.answer)
+
+    by_judged : (o : Option Rejection) → judged old.scene row.event ≡ o → Tells (new, row.reply)
     by_judged (Some x) is =
         let only = rejection-only old new row.event x row.reply row.ended sound table is (moves, step) in
-        let here : entry_at old.scene.table k ≡ Some e = ap (λ (s : State). entry_at s.scene.table k) (sym only.2) ∙ there in
-        subst (λ (s : State). IsShown (shown_by k (shown_of k rows) row.event row.reply) (told_set s.scene (at k e)) e) (sym only.2)
-        (subst (λ (r : Reply). IsShown (shown_by k (shown_of k rows) row.event r) (told_set old.scene (at k e)) e) (sym only.0)
-        (subst (λ (was : Caps). IsShown was (told_set old.scene (at k e)) e) (sym (rejection-shows k (shown_of k rows) row.event x)) (was_shown k e here)))
+        subst Tells (λ i. (sym only.2 i, sym only.0 i)) (λ here. subst (λ (was : Caps). IsShown was (told_set old.scene (at k e)) e) (sym (rejection-shows k (shown_of k rows) row.event x)) (was_shown k e here))
     by_judged None free =
         let by_itself : direct old row.event ≡ effect old row.event = ap (effect_unless old row.event) free in
-        let d : Direct = effect old row.event in
-        let settles : Settles d.state.scene moves step.settled = subst (λ (x : Direct). Settles x.state.scene moves step.settled) by_itself step.settles in
-        let answers : row.reply ≡ reply_of (state_after old d moves step.settled) (ended_in moves) d.answer =
-        step.answer_is ∙ ap (λ (x : Direct). reply_of (state_after old x moves step.settled) (ended_in moves) x.answer) by_itself in
-        let leads : new ≡ shown d.answer (state_after old d moves step.settled) =
-        step.new_is ∙ ap (λ (x : Direct). shown x.answer (state_after old x moves step.settled)) by_itself in
-        let here : entry_at (shown d.answer (state_after old d moves step.settled)).scene.table k ≡ Some e = ap (λ (s : State). entry_at s.scene.table k) (sym leads) ∙ there in
-        subst (λ (s : State). IsShown (shown_by k (shown_of k rows) row.event row.reply) (told_set s.scene (at k e)) e) (sym leads)
-        (subst (λ (r : Reply). IsShown (shown_by k (shown_of k rows) row.event r) (told_set (shown d.answer (state_after old d moves step.settled)).scene (at k e)) e) (sym answers)
-        (by_event old sound table rows was_shown row.event moves step.settled settles k e here))
+        let is : ◌≡◌ {A = State × Reply} (new, row.reply) (end (effect old row.event)) = (λ i. (step.new_is i, step.answer_is i)) ∙ ap end by_itself in
+        subst Tells (sym is) (by_event old sound table rows was_shown row.event moves step.settled (subst (λ (d : Direct). Settles d.state.scene moves step.settled) by_itself step.settles) k e)

@@ -31,9 +31,6 @@ module _ (sized : List Ino) (t : Table) where
   abbrev pub with_sizes : Scene → Scene
   with_sizes x = record x { table = retold_table as_told size_as as_asked x.table }
 
-  owed-row : IsTable t → (row : EntryRow) → Contains t.rows row → cond (is_sized sized row) (remade owed row) row ≡ sized_row row
-  owed-row table row inside = grind (arith, row_found)
-
   -- the same entry once it is numbered
   numbered : (before after : Caps) (row : EntryRow) → renumbered before after (sized_row row).entry ≡ (sized_row (record row { entry = renumbered before after row.entry })).entry
   numbered before after row = grind arith
@@ -53,7 +50,7 @@ module _ (sized : List Ino) (t : Table) where
     rows-owed : map (λ row. cond (is_sized sized row) (remade owed row) row) s.table.rows ≡ map sized_row s.table.rows
     rows-owed =
         subst (λ (u : Table). map (λ row. cond (is_sized sized row) (remade owed row) row) u.rows ≡ map sized_row u.rows) (sym same)
-        (each-alike (λ row. cond (is_sized sized row) (remade owed row) row) sized_row t.rows (owed-row table))
+        (each-alike (λ row. cond (is_sized sized row) (remade owed row) row) sized_row t.rows (λ row inside. grind (arith, row_found)))
 
     sizes-owed : sizes_owed sized s ≡ with_sizes s
     sizes-owed = ap (λ (rows : List EntryRow). record s { table = record s.table { rows = rows } }) rows-owed

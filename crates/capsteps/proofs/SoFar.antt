@@ -1,43 +1,40 @@
 -- Where the settling of a step has come to, between two servings.
-use Rattle.std.{proofs.Common.{◌≡◌, ◌≢◌, ◌+◌, ◌≤◌, ◌==◌, ◌||◌, ◌&&◌, not, ℕ, Bool, true, false, inl, inr, Option, Some, List, [], ◌∷◌, ◌++◌, length, refl, sym, ap, subst, ◌∙◌, Contains, append-nil, arith, true≢false}, proofs.Math.Bool.{or-false}, proofs.lemmas.Bool.{eqb-true, false_from_ne_true, eqb-false}, proofs.lemmas.List.{length-append}, proofs.lemmas.List.Elements.{All-contains, filter_map-append, filter_passes}, specs.Option.{option_map_or}}
+use Rattle.std.{proofs.Common.{◌≡◌, ◌≢◌, ◌+◌, ◌≤◌, ◌==◌, ◌&&◌, not, ℕ, Bool, true, false, inl, inr, ◌⊎◌, Option, Some, List, [], ◌∷◌, ◌++◌, length, refl, sym, ap, subst, ◌∙◌, Contains, append-nil, arith, true≢false}, proofs.lemmas.Bool.{eqb-true, false_from_ne_true, eqb-false}, proofs.lemmas.List.{length-append}, proofs.lemmas.List.Elements.{All-contains, filter_map-append, filter_passes}, specs.Option.{option_map_or}}
 use Rattle.std.specs.FinMap as map
 use Rattle.std.specs.FinSet as set
 use Rattle.capacts.{proofs.Lockmachine.Alone.{nobody-held, served-alone}, proofs.Lockmachine.Exact.{begins_not}, proofs.Lockmachine.SameBut.{begin-alike, first-moved}, proofs.Lockmachine.Turns.{served-ends, ends-turn}, proofs.Lockmachine.Waiting.{waits-wider, waits-less-at}, specs.Lockmachine.Moves.{may_begin, is_servable, IsQuietOutside}, specs.Lockmachine.Turns.{NobodyElsewhere, NothingEnds}}
-use Rattle.capsteps.{proofs.Among.{unaffected, not-affected, more-affected}, proofs.Common.{alike-itself, Began, contains-filter, Covers, Ended, ended_by, ended_in, ends_not, entries_on, EntryRow, first_for, first_move, Gathered, Ino, InoSet, is_affected, is_numbered, is_of_inode, is_rename, is_within, IsAlike, IsLockMap, IsTree, IsTurnOf, lock_at, Made, Makes, MakesAll, Nodes, Part, part_of_ask, quiet-waits-at, Reaches, Request, request_at, Scene, Serve, Served, served-at, Settled, sized_by, sized_in, SweepPlace, Ticket, tree_after, WaitAt, Widens, without_request}, proofs.Moved.{makes-append, one-less}, proofs.OneChange.{alike-apart, place-after}, proofs.SameOff.{off-refl, off-trans, off-wider}, proofs.Sweeping.{still-kept}, specs.Affected.{IsSameOff}, specs.Serves.{Serves, SettlesWith}, specs.Sweep.{AreStill, IsSwept, StandsAt, GoesOnBehind, IsFirstPlace, IsTurnOfLeast, changed_alone}}
+use Rattle.capsteps.{proofs.Among.{none-besides}, proofs.Common.{alike-itself, Began, contains-filter, Ended, ended_by, ended_in, ends_not, entries_on, EntryRow, first_for, first_move, Gathered, Ino, InoSet, is_numbered, is_of_inode, is_rename, is_within, IsAlike, IsLockMap, IsTree, IsTurnOf, lock_at, Made, Makes, MakesAll, Nodes, Part, part_of_ask, quiet-waits-at, Reaches, Request, request_at, Scene, Serve, Served, served-at, Settled, sized_by, sized_in, Ticket, tree_after, WaitAt, Widens, without_request}, proofs.Moved.{makes-append, one-less}, proofs.OneChange.{alike-apart, place-after}, proofs.SameOff.{off-refl, off-trans, off-wider}, proofs.Sweeping.{still-kept}, specs.Affected.{IsSameOff}, specs.Serves.{Serves, SettlesWith}, specs.Sweep.{AreStill, IsSwept, StandsAt, IsFirstPlace, IsTurnOfLeast, changed_alone}, specs.declared.settle.SweepPlace.{SweepPlace}}
 
 -- these moves were made and these requests ended; nothing changed but at the inodes that are affected, among which are those of the
 -- event; elsewhere nothing moves, and who waits there is held up
-pub record IsSoFar (ino : ℕ) (from : ℕ → Bool) (affected : InoSet) (first now : Scene) (told : List Ended) (sized : List Ino) : Type 0 where
+pub record IsSoFar (from : ℕ → Bool) (affected : InoSet) (first now : Scene) (told : List Ended) (sized : List Ino) : Type 0 where
   pub moves : List Made
   pub made : MakesAll first moves now
   pub ended_is : told ≡ ended_in moves
   pub sized_is : sized ≡ sized_in moves
-  pub among : (other : ℕ) → from other ≡ true → is_affected ino affected other ≡ true
-  pub same : IsSameOff (is_affected ino affected) first now
-  pub states : (other : ℕ) → is_affected ino affected other ≡ false → map.get now.locks.states other ≡ map.get first.locks.states other
-  pub apart : set.contains affected ino ≡ false
-  pub still : AreStill (is_affected ino affected) now
-  pub waits : WaitAt (is_affected ino affected) now
+  pub among : (other : ℕ) → from other ≡ true → set.contains affected other ≡ true
+  pub same : IsSameOff (set.contains affected) first now
+  pub states : (other : ℕ) → set.contains affected other ≡ false → map.get now.locks.states other ≡ map.get first.locks.states other
+  pub still : AreStill (set.contains affected) now
+  pub waits : WaitAt (set.contains affected) now
   pub count : length told + length now.locks.queue ≡ length first.locks.queue
 
 -- ---- at first
 
-pub so-far-begins : (ino : ℕ) (affected : InoSet) (first : Scene) → IsQuietOutside (is_affected ino affected) first → set.contains affected ino ≡ false
-    → IsSoFar ino (is_affected ino affected) affected first first [] []
-so-far-begins ino affected first quiet apart = record {
+pub so-far-begins : (affected : InoSet) (first : Scene) → IsQuietOutside (set.contains affected) first → IsSoFar (set.contains affected) affected first first [] []
+so-far-begins affected first quiet = record {
   moves = [];
   made = refl;
   ended_is = refl;
   sized_is = refl;
   among = λ other is. is;
-  same = off-refl (is_affected ino affected) first;
+  same = off-refl (set.contains affected) first;
   states = λ other off. refl;
-  apart = apart;
   still = record {
     ends = λ other part off. ends_not first (other, part) (lock_at first.locks other part) (quiet.each_other other part off);
     begins = λ other part off. begins_not first (other, part) (lock_at first.locks other part) (quiet.each_other other part off);
   };
-  waits = quiet-waits-at (is_affected ino affected) first quiet;
+  waits = quiet-waits-at (set.contains affected) first quiet;
   count = omega arith;
 }
 
@@ -49,51 +46,57 @@ none-sized (Gathered ino part ∷ moves) none = none-sized moves none
 none-sized (Served q o ∷ moves) none = absurd (cc)
 
 -- where nothing ends, it is the turn of the least one
-pub turn-of_least : (at : ℕ → Bool) (s : Scene) → AreStill at s → NothingEnds s → IsTurnOfLeast at s
-turn-of_least at s still ends a least = ends-turn s a ends (λ other part below. still.begins other part (least.least other below))
+pub turn-of_least : (inos : InoSet) (s : Scene) → AreStill (set.contains inos) s → NothingEnds s → IsTurnOfLeast inos s
+turn-of_least inos s still ends a least = ends-turn s a ends (λ other part below. still.begins other part (least.least other (omega arith) below))
 
 -- ---- where the sweep begins
 
 -- where no other inode is affected, who waits elsewhere is held up
-nobody_first : (ino : ℕ) (affected : InoSet) (s : Scene) (at : ℕ) → WaitAt (is_affected ino affected) s → is_affected ino affected at ≡ true
-    → ((other : ℕ) → set.contains affected other ≡ false) → NobodyElsewhere s.locks at
-nobody_first ino affected s at waits here empty =
-    let is : at ≡ ino = eqb-true at ino (sym (ap (λ b. (at == ino) || b) (empty at) ∙ or-false (at == ino)) ∙ here) in
-    nobody-held s at (waits-wider (is_affected ino affected) (λ other. other == at) s (λ other away. ap (λ b. (other == ino) || b) (empty other) ∙ or-false (other == ino) ∙ ap (λ i. other == i) (sym is) ∙ away) waits)
+nobody_first : (affected : InoSet) (s : Scene) (at : ℕ) → WaitAt (set.contains affected) s → set.contains affected at ≡ true → set.len affected ≡ 1 → NobodyElsewhere s.locks at
+nobody_first affected s at waits here one = nobody-held s at (waits-wider (set.contains affected) (λ other. other == at) s (λ other off. ap (λ (among : ℕ → Bool). among other) (none-besides affected at one here) ∙ off) waits)
 
-pub stands-first : (ino : ℕ) (affected : InoSet) (s : Scene) (place : SweepPlace) → IsTurnOfLeast (is_affected ino affected) s → WaitAt (is_affected ino affected) s
-    → IsFirstPlace ino affected place → StandsAt (is_affected ino affected) place s
-stands-first ino affected s place turn waits first = grind (arith, nobody_first)
+pub stands-first : (affected : InoSet) (s : Scene) (place : SweepPlace) → IsTurnOfLeast affected s → WaitAt (set.contains affected) s
+    → IsFirstPlace affected place → StandsAt (set.contains affected) place s
+stands-first affected s place turn waits first = record {
+  turn = turn place.at.0 first.least;
+  here = first.least.has;
+  alone = λ known. nobody_first affected s place.at.0 waits first.least.has (first.alone known);
+}
 
-module _ (ino : ℕ) (from : ℕ → Bool) (affected : InoSet) (first now : Scene) (told : List Ended) (sized : List Ino) (so : IsSoFar ino from affected first now told sized) where
+-- behind a serving the sweep goes on where it was, if that changed no inode but one that is not before it; else it begins again
+abbrev pub GoesOnBehind : SweepPlace → Option Ino → InoSet → SweepPlace → Type 0
+GoesOnBehind place changed affected next =
+    ((next ≡ place) × ((i : Ino) × (changed ≡ Some i) × (place.at.0 ≤ i.0))) ⊎ IsFirstPlace affected next
+
+module _ (from : ℕ → Bool) (affected : InoSet) (first now : Scene) (told : List Ended) (sized : List Ino) (so : IsSoFar from affected first now told sized) where
   -- ---- gathers began and ended
 
-  module _ (new : Scene) (swept : IsSwept (is_affected ino affected) now new) where
+  module _ (new : Scene) (swept : IsSwept (set.contains affected) now new) where
     abbrev left : Scene
     left = record now { locks = new.locks }
 
-    swept_off : IsSameOff (is_affected ino affected) now left
+    swept_off : IsSameOff (set.contains affected) now left
     swept_off = grind (arith, alike-itself)
 
     by_left : (P : Scene → Type 0) → P left → P new
     by_left P is = subst P (sym swept.is) is
 
-    pub so-far-swept : IsSoFar ino from affected first new told sized
+    pub so-far-swept : IsSoFar from affected first new told sized
     so-far-swept = grind (arith, makes-append, append-nil, filter_map-append, none-sized, by_left, off-trans, swept_off, still-kept)
 
   -- and where no move applies, it has settled
-  pub so-far-settled : first_move now ≡ Settled → SettlesWith (is_affected ino affected) from first now told sized
+  pub so-far-settled : first_move now ≡ Settled → SettlesWith (set.contains affected) from first now told sized
   so-far-settled rests = grind arith
 
   -- ---- a request was served
 
   module _ (ticket : Ticket) (ended : Ended) (new : Scene) (kept : InoSet) (order : IsLockMap now.locks) (tree : IsTree now.tree) (move : first_move now ≡ Serve ticket)
-      (serves : Serves now ticket ended new) (reaches : Reaches serves.request ino now.tree new.tree now.table affected kept) where
+      (serves : Serves now ticket ended new) (reaches : Reaches serves.request now.tree new.tree now.table affected kept) where
     abbrev q : Request
     q = serves.request
 
-    here : (r : Request) × (request_at now.locks ticket.0 ≡ Some r) × Contains now.locks.queue r × (is_affected ino affected r.ino.0 ≡ true) × (r.ticket ≡ ticket)
-    here = served-at (is_affected ino affected) now ticket order so.waits move
+    here : (r : Request) × (request_at now.locks ticket.0 ≡ Some r) × Contains now.locks.queue r × (set.contains affected r.ino.0 ≡ true) × (r.ticket ≡ ticket)
+    here = served-at (set.contains affected) now ticket order so.waits move
 
     same_request : here.0 ≡ q
     same_request = (let both : Some here.0 ≡ Some serves.request = sym here.1 ∙ serves.waits in cc)
@@ -102,8 +105,8 @@ module _ (ino : ℕ) (from : ℕ → Bool) (affected : InoSet) (first now : Scen
     inside = subst (Contains now.locks.queue) same_request here.2
 
     -- it waited at an inode that was affected
-    at_affected : is_affected ino affected q.ino.0 ≡ true
-    at_affected = ap (λ (r : Request). is_affected ino affected r.ino.0) (sym same_request) ∙ here.3
+    at_affected : set.contains affected q.ino.0 ≡ true
+    at_affected = ap (λ (r : Request). set.contains affected r.ino.0) (sym same_request) ∙ here.3
 
     numbered : q.ticket ≡ ticket
     numbered = ap (λ (r : Request). r.ticket) (sym same_request) ∙ here.4
@@ -123,41 +126,29 @@ module _ (ino : ℕ) (from : ℕ → Bool) (affected : InoSet) (first now : Scen
 
     -- ---- which inodes it affects
 
-    abbrev more : Widens ino affected kept
+    abbrev more : Widens affected kept
     more = reaches.widens
 
-    not_before : (other : ℕ) → set.contains kept other ≡ false → set.contains affected other ≡ false
-    not_before other none = false_from_ne_true (set.contains affected other) (λ was. true≢false (sym (more.stay other was) ∙ none))
-
-    wider : (other : ℕ) → is_affected ino kept other ≡ false → is_affected ino affected other ≡ false
-    wider other off = (let un = unaffected ino kept other off in not-affected ino affected other un.0 (not_before other un.1))
-
-    apart_now : set.contains kept ino ≡ false
-    apart_now = false_from_ne_true (set.contains kept ino) (λ is. more.besides ino so.apart is refl)
+    wider : (other : ℕ) → set.contains kept other ≡ false → set.contains affected other ≡ false
+    wider other off = false_from_ne_true (set.contains affected other) (λ was. true≢false (sym (more other was) ∙ off))
 
     -- an inode that is not affected is another than that of the request
-    another : (other : ℕ) → is_affected ino kept other ≡ false → other ≢ q.ino.0
-    another other off same = true≢false (sym at_affected ∙ ap (is_affected ino affected) (sym same) ∙ wider other off)
+    another : (other : ℕ) → set.contains kept other ≡ false → other ≢ q.ino.0
+    another other off same = true≢false (sym at_affected ∙ ap (set.contains affected) (sym same) ∙ wider other off)
 
     -- ---- what it leaves as it was
 
-    row_alike : (row : EntryRow) → Contains now.table.rows row → is_affected ino kept row.holder.ino.0 ≡ false → IsAlike now.tree (tree_after now.tree q ended.outcome) row.holder.ino.0
+    row_alike : (row : EntryRow) → Contains now.table.rows row → set.contains kept row.holder.ino.0 ≡ false → IsAlike now.tree (tree_after now.tree q ended.outcome) row.holder.ino.0
     row_alike row among off = elim reaches.covers [
       | inl left ↦ subst (λ (t : Nodes). IsAlike now.tree t row.holder.ino.0) (sym (sym (ap (λ (s : Scene). s.tree) is_after) ∙ left)) (alike-itself now.tree row.holder.ino.0)
-      | inr covers ↦
-          let un = unaffected ino kept row.holder.ino.0 off in
-          alike-apart now q ended.outcome row.holder.ino.0 tree serves.may (another row.holder.ino.0 off) (λ moves. not_within covers moves un.1 un.0)
+      | inr covers ↦ alike-apart now q ended.outcome row.holder.ino.0 tree serves.may (another row.holder.ino.0 off) (λ moves.
+          false_from_ne_true (is_within now.tree.nodes row.holder.ino.0 q.ino.0) (λ below. true≢false (sym (covers moves row among below) ∙ off)))
     ]
-      where
-        not_within : Covers q ino now.tree now.table kept → is_rename q.ask ≡ true → set.contains kept row.holder.ino.0 ≡ false → row.holder.ino.0 ≢ ino
-            → is_within now.tree.nodes row.holder.ino.0 q.ino.0 ≡ false
-        not_within covers moves none other =
-            false_from_ne_true (is_within now.tree.nodes row.holder.ino.0 q.ino.0) (λ below. true≢false (sym (covers moves row among other below) ∙ none))
 
     first_same : (other : ℕ) (part : Part) → other ≢ q.ino.0 → first_for after.locks.queue other part ≡ first_for now.locks.queue other part
     first_same other part off = first-moved now.locks q order inside other part off
 
-    served_off : IsSameOff (is_affected ino kept) now after
+    served_off : IsSameOff (set.contains kept) now after
     served_off = record {
       fs = refl;
       sessions = refl;
@@ -183,14 +174,14 @@ module _ (ino : ℕ) (from : ℕ → Bool) (affected : InoSet) (first now : Scen
       unwanted_begin : entries_on now.table (record { 0 = other }) ≡ [] → (part : Part) → may_begin after (other, part) ≡ may_begin now (other, part)
       unwanted_begin none part = grind (arith, begin-alike, first_same, alike-itself)
 
-      begin_same : is_affected ino kept other ≡ false → (rows : List EntryRow) → entries_on now.table (record { 0 = other }) ≡ rows → (part : Part) → may_begin after (other, part) ≡ may_begin now (other, part)
+      begin_same : set.contains kept other ≡ false → (rows : List EntryRow) → entries_on now.table (record { 0 = other }) ≡ rows → (part : Part) → may_begin after (other, part) ≡ may_begin now (other, part)
       begin_same un [] is part = unwanted_begin is part
       begin_same un (row ∷ rows) is part =
           let found : Contains (entries_on now.table (record { 0 = other })) row = subst (λ (rs : List EntryRow). Contains rs row) (sym is) (0, omega arith, refl) in
           let there : row.holder.ino.0 ≡ other = eqb-true row.holder.ino.0 other (All-contains (λ (r : EntryRow). is_of_inode (record { 0 = other }) r ≡ true) (entries_on now.table (record { 0 = other })) row (filter_passes (is_of_inode (record { 0 = other })) now.table.rows) found) in
-          alike_begin (subst (IsAlike now.tree after.tree) there (row_alike row (contains-filter (is_of_inode (record { 0 = other })) now.table.rows row found) (ap (is_affected ino kept) there ∙ un))) part
+          alike_begin (subst (IsAlike now.tree after.tree) there (row_alike row (contains-filter (is_of_inode (record { 0 = other })) now.table.rows row found) (ap (set.contains kept) there ∙ un))) part
 
-    still_after : AreStill (is_affected ino kept) after
+    still_after : AreStill (set.contains kept) after
     still_after = record {
       ends = λ other part off. so.still.ends other part (wider other off);
       begins = λ other part off.
@@ -198,13 +189,13 @@ module _ (ino : ℕ) (from : ℕ → Bool) (affected : InoSet) (first now : Scen
     }
 
     -- nothing ends, so that it is the least one's turn again
-    turn_after : IsTurnOfLeast (is_affected ino kept) after
-    turn_after = turn-of_least (is_affected ino kept) after still_after (served-ends now ticket move)
+    turn_after : IsTurnOfLeast kept after
+    turn_after = turn-of_least kept after still_after (served-ends now ticket move)
 
-    turn_served : IsTurnOfLeast (is_affected ino kept) new
-    turn_served = by_after (IsTurnOfLeast (is_affected ino kept)) turn_after
+    turn_served : IsTurnOfLeast kept new
+    turn_served = by_after (IsTurnOfLeast kept) turn_after
 
-    pub so-far-served : IsSoFar ino from kept first new (told ++ ended ∷ []) (sized ++ sized_in (Served q ended.outcome ∷ []))
+    pub so-far-served : IsSoFar from kept first new (told ++ ended ∷ []) (sized ++ sized_in (Served q ended.outcome ∷ []))
     so-far-served = record {
       moves = so.moves ++ Served q ended.outcome ∷ [];
       made = makes-append first so.moves now (Served q ended.outcome ∷ []) new so.made (new, makes, refl);
@@ -215,14 +206,13 @@ module _ (ino : ℕ) (from : ℕ → Bool) (affected : InoSet) (first now : Scen
       sized_is =
           ap (λ inos. inos ++ sized_in (Served q ended.outcome ∷ [])) so.sized_is
           ∙ sym (filter_map-append sized_by so.moves (Served q ended.outcome ∷ []));
-      among = λ other is. more-affected ino affected kept more.stay other (so.among other is);
-      same = by_after (IsSameOff (is_affected ino kept) first)
-          (off-trans (is_affected ino kept) first now after (off-wider (is_affected ino affected) (is_affected ino kept) first now wider so.same) served_off);
+      among = λ other is. more other (so.among other is);
+      same = by_after (IsSameOff (set.contains kept) first)
+          (off-trans (set.contains kept) first now after (off-wider (set.contains affected) (set.contains kept) first now wider so.same) served_off);
       states = λ other off. ap (λ (s : Scene). map.get s.locks.states other) is_after ∙ so.states other (wider other off);
-      apart = apart_now;
-      still = by_after (AreStill (is_affected ino kept)) still_after;
-      waits = by_after (WaitAt (is_affected ino kept))
-          (waits-wider (is_affected ino affected) (is_affected ino kept) after wider (waits-less-at (is_affected ino affected) now (tree_after now.tree q ended.outcome) q.ticket.0 so.waits));
+      still = by_after (AreStill (set.contains kept)) still_after;
+      waits = by_after (WaitAt (set.contains kept))
+          (waits-wider (set.contains affected) (set.contains kept) after wider (waits-less-at (set.contains affected) now (tree_after now.tree q ended.outcome) q.ticket.0 so.waits));
       count = (
           let queue : length new.locks.queue ≡ length (without_request now.locks q.ticket.0).queue = ap (λ (s : Scene). length s.locks.queue) is_after in
           let more : length (told ++ ended ∷ []) ≡ length told + 1 = length-append told (ended ∷ []) in
@@ -252,16 +242,16 @@ module _ (ino : ℕ) (from : ℕ → Bool) (affected : InoSet) (first now : Scen
     alone_by : (i : Ino) → changed_alone q ≡ Some i → (is_rename q.ask ≡ false) × (i ≡ q.ino)
     alone_by i is = grind arith
 
-    pub stands-behind : (place next : SweepPlace) (changed : Option Ino) → StandsAt (is_affected ino affected) place now → changed ≡ changed_alone q
-        → GoesOnBehind place changed ino kept next → StandsAt (is_affected ino kept) next new
+    pub stands-behind : (place next : SweepPlace) (changed : Option Ino) → StandsAt (set.contains affected) place now → changed ≡ changed_alone q
+        → GoesOnBehind place changed kept next → StandsAt (set.contains kept) next new
     stands-behind place next changed stood is goes = elim goes [
       | inl on ↦
           let alone = alone_by on.1.0 (sym is ∙ on.1.1) in
           let before : place.at.0 ≤ q.ino.0 = subst (λ (i : Ino). place.at.0 ≤ i.0) alone.1 on.1.2 in
-          subst (λ (at : SweepPlace). StandsAt (is_affected ino kept) at new) (sym on.0) (by_after (StandsAt (is_affected ino kept) place) (record {
+          subst (λ (at : SweepPlace). StandsAt (set.contains kept) at new) (sym on.0) (by_after (StandsAt (set.contains kept) place) (record {
             turn = turn_stays place.at.0 alone.0 before stood.turn;
-            here = more-affected ino affected kept more.stay place.at.0 stood.here;
+            here = more place.at.0 stood.here;
             alone = λ known. alone_stays place.at.0 (stood.alone known);
           }))
-      | inr first ↦ stands-first ino kept new next turn_served so-far-served.waits first
+      | inr first ↦ stands-first kept new next turn_served so-far-served.waits first
     ]

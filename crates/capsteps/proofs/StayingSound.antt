@@ -1,30 +1,15 @@
 -- A sound state stays sound after the step of an event that affected some inodes.
-use Rattle.std.{proofs.Common.{◌≡◌, ◌≤◌, ℕ, ◌+◌, ◌==◌, Bool, true, false, ◌||◌, Some, is_some, List, refl, sym, ap, subst, ◌∙◌, ◌++◌, Contains, arith, IsTrue, All, nat_le}, proofs.lemmas.List.Elements.{All-contains, All-filter, All-map, All-weaker, All-append, All-same}, specs.Cmp.{nat_eq_equiv}, specs.List.{find, list_any}}
+use Rattle.std.{proofs.Common.{◌≡◌, ◌≤◌, ℕ, ◌+◌, ◌==◌, Bool, true, false, is_some, List, refl, sym, ap, subst, ◌∙◌, ◌++◌, Contains, arith, IsTrue, All, nat_le}, proofs.lemmas.List.Elements.{All-contains, All-filter, All-map, All-weaker, All-append, All-same}, specs.Cmp.{nat_eq_equiv}, specs.List.{list_any}}
 use Rattle.std.specs.FinMap as map
 use Rattle.capbits.specs.Caps.{has}
 use Rattle.captable.proofs.Searches.{find-filter_kept}
-use Rattle.capacts.{proofs.Lockmachine.Rest.{at_rest}, specs.Caprules.Step.{earlier}, specs.Lockmachine.Moves.{WaitAtLocks}}
-use Rattle.capsteps.{proofs.Common.{allowed_to, AreGiven, Caps, ClientId, due, effective_want, Ended, ended_in, EntryRow, first_move, Gone, has_session, Holder, is_of_inode, is_row_of, IsAtRest, IsInRow, IsLockMap, IsSound, IsSoundEntry, IsSubset, IsTable, IsTree, Made, meet, P, Part, place, row_found, same-is, Scene, SessionTable, Settled, State, state_at_end, Table}, proofs.EndsThere.{off_due}, proofs.EntryRequests.{IsKeptEntry, kept-left, kept-row}, proofs.Forgotten.{all_rows, IsSoundBut, sound-forgotten}, proofs.IssuedRows.{ended_row, want-ended, told-ended, revoked-ended, seq-ended, effective-ended, holds-due, holds-pin, in_row-ended, on_it, last_row, issued_at, by_place, of_inode-last, rest-issued}, proofs.Moved.{IsMoved, moved-all, nobody-moved, all-waiting, Waited, ended-waited, nothing-served}, proofs.SameOff.{not-among, row_elsewhere, any_elsewhere, IsSameFrom, from-first}, proofs.Telling.{any-map_same}, specs.Affected.{Affects, SettlesAt, Knows, finished_at, IsAffectedEntry}}
+use Rattle.capacts.{proofs.Lockmachine.Rest.{at_rest}, specs.Caprules.Step.{earlier}}
+use Rattle.capsteps.{proofs.Common.{allowed_to, AreGiven, Caps, ClientId, due, ended_in, EntryRow, Gone, has_session, Holder, is_of_inode, is_row_of, IsAtRest, IsInRow, IsLockMap, IsSound, IsSoundEntry, IsSubset, IsTable, IsTree, Made, meet, P, Part, place, row_found, same-is, Scene, SessionTable, State, state_at_end, Table}, proofs.EndsThere.{off_due}, proofs.EntryRequests.{IsKeptEntry, kept-left, kept-row}, proofs.Forgotten.{all_rows, sound-forgotten}, proofs.IssuedRows.{ended_row, want-ended, told-ended, revoked-ended, seq-ended, effective-ended, holds-due, holds-pin, in_row-ended, on_it, last_row, issued_at, by_place, of_inode-last, rest-issued}, proofs.Moved.{IsMoved, moved-all, nobody-moved, all-waiting, Waited, ended-waited, nothing-served}, proofs.SameOff.{not-among, row_elsewhere, any_elsewhere, IsSameFrom, from-first}, proofs.Telling.{any-map_same}, specs.Affected.{Affects, SettlesAt, Knows, finished_at, IsAffectedEntry}}
 
 -- ---- the step
 
--- all that is known of it
-record IsGiven (at from : ℕ → Bool) (known : Holder → Caps) (old affected : State) (settled : Scene) : Type 0 where
-  among : (q : ℕ) → from q ≡ true → at q ≡ true
-  sound : IsSound old
-  tree : IsTree settled.tree
-  table : IsTable affected.scene.table
-  -- the entries are those that the event left
-  moved : IsMoved affected.scene settled
-  affects : Affects from old affected
-  same : IsSameFrom at old.scene settled
-  rests : first_move settled ≡ Settled
-  knows : Knows known old.scene settled.table
-  fs : settled.fs ≡ affected.scene.fs
-  -- where an entry has not its pin yet, the tree is as the event left it
-  calm : (row : EntryRow) → Contains affected.scene.table.rows row → has row.entry.held P ≡ false → settled.tree ≡ affected.scene.tree
-
-module _ (at from : ℕ → Bool) (known : Holder → Caps) (old affected : State) (settled : Scene) where
+module _ (at from : ℕ → Bool) (known : Holder → Caps) (old affected : State) (moves : List Made) (settled : Scene) (sound : IsSound old) (tree : IsTree settled.tree) (table : IsTable affected.scene.table)
+    (order : IsLockMap affected.scene.locks) (affects : Affects from old affected) (knows : Knows known old.scene affected.scene.table) (settles : SettlesAt at from moves affected.scene settled) where
   abbrev first : Scene
   first = affected.scene
 
@@ -40,45 +25,40 @@ module _ (at from : ℕ → Bool) (known : Holder → Caps) (old affected : Stat
   abbrev rows : List EntryRow
   rows = settled.table.rows
 
-  module _ (g : IsGiven at from known old affected settled) where
+  -- the entries are those that the event left; and where one has not its pin yet, the tree is as the event left it
+  module _ (moved : IsMoved first settled) (same : IsSameFrom at old.scene settled) (knows_then : Knows known old.scene settled.table)
+      (calm : (row : EntryRow) → Contains first.table.rows row → has row.entry.held P ≡ false → settled.tree ≡ first.tree) where
     -- ---- rest
 
-    -- who waits, waits for a lock that is there
-    wait_at : WaitAtLocks settled
-    wait_at = grind (arith, nobody-moved)
-
     rest_last : IsAtRest last
-    rest_last = rest-issued known settled at (at_rest settled wait_at g.rests)
+    rest_last = rest-issued known settled at (at_rest settled (grind (arith, nobody-moved)) settles.settles.settled)
 
     -- ---- rows of other inodes are those of the old state
 
     first_row : (row : EntryRow) → Contains rows row → Contains first.table.rows row
-    first_row row inside = subst (λ (t : Table). Contains t.rows row) g.moved.table inside
+    first_row row inside = subst (λ (t : Table). Contains t.rows row) moved.table inside
 
     old_row : (row : EntryRow) → Contains rows row → from row.holder.ino.0 ≡ false → Contains old.scene.table.rows row
-    old_row row inside off = row_elsewhere from old.scene.table first.table g.affects.same.entries row (first_row row inside) off
+    old_row row inside off = row_elsewhere from old.scene.table first.table affects.same.entries row (first_row row inside) off
 
     of_its_inode : (k : Holder) (row : EntryRow) → is_row_of k row ≡ true → is_of_inode k.ino row ≡ true
     of_its_inode k row is = ap (λ (h : Holder). h.ino.0 == k.ino.0) (sym (same-is k row.holder is)) ∙ nat_eq_equiv.refl k.ino.0
 
-    old_found : (row : EntryRow) → Contains rows row → from row.holder.ino.0 ≡ false → find (is_row_of row.holder) old.scene.table.rows ≡ Some row
-    old_found row inside off = grind (arith, find-filter_kept, of_its_inode, row_found, first_row)
-
     -- what every state keeps of such a row, it keeps; so by itself the event leaves each row as one of its inode
     kept_row : (row : EntryRow) → Contains rows row → from row.holder.ino.0 ≡ false → IsKeptEntry old.scene row
-    kept_row row inside off = kept-row old g.sound row (old_row row inside off) (old_found row inside off)
+    kept_row row inside off = kept-row old sound row (old_row row inside off) (grind (arith, find-filter_kept, of_its_inode, row_found, first_row))
 
     affected_row : (row : EntryRow) → Contains rows row → IsAffectedEntry first row
     affected_row row inside =
         elim (from row.holder.ino.0) as (λ b. from row.holder.ino.0 ≡ b → IsAffectedEntry first row) [
-          | true ↦ λ is. g.affects.each row (first_row row inside) is
-          | false ↦ λ off. kept-left old.scene first row (ap is_some (g.affects.same.sessions row (old_row row inside off) off)) g.affects.states g.affects.known (kept_row row inside off)
+          | true ↦ λ is. affects.each row (first_row row inside) is
+          | false ↦ λ off. kept-left old.scene first row (ap is_some (affects.same.sessions row (old_row row inside off) off)) affects.states affects.known (kept_row row inside off)
         ] refl
 
     -- ---- what is held is in its rows
 
     in_row_settled : (row : EntryRow) → Contains rows row → (part : Part) → IsInRow settled row part
-    in_row_settled row inside part = g.moved.in_rows row part (first_row row inside) ((affected_row row inside).in_row part)
+    in_row_settled row inside part = moved.in_rows row part (first_row row inside) ((affected_row row inside).in_row part)
 
     in_row_last : (row : EntryRow) → Contains rows row → (part : Part) → IsInRow settled (last_of row) part
     in_row_last row inside part =
@@ -87,17 +67,13 @@ module _ (at from : ℕ → Bool) (known : Holder → Caps) (old affected : Stat
     -- ---- entries
 
     has_session_still : (client : ℕ) → IsTrue (has_session first.sessions client) → IsTrue (has_session settled.sessions client)
-    has_session_still client is = subst (λ (t : SessionTable). IsTrue (has_session t client)) (sym g.moved.sessions) is
-
-    -- the pin is held, or it is wanted as it was, since nobody was served
-    pin_still : (row : EntryRow) → Contains rows row → IsTrue (has row.entry.held P || has (effective_want first.fs first.tree first.sessions row) P) → IsTrue (has row.entry.held P || has (effective_want settled.fs settled.tree settled.sessions row) P)
-    pin_still row inside is = grind arith
+    has_session_still client is = subst (λ (t : SessionTable). IsTrue (has_session t client)) (sym moved.sessions) is
 
     entry_here : (row : EntryRow) → Contains rows row → IsAffectedEntry first row → IsSoundEntry last (ended_row known settled row)
     entry_here row inside entry = record {
       of_session = has_session_still row.holder.client.0 entry.of_session;
-      on_inode = g.moved.nodes row.holder.ino.0 ∙ entry.on_inode;
-      holds_pin = holds-pin known settled row (pin_still row inside entry.pin);
+      on_inode = moved.nodes row.holder.ino.0 ∙ entry.on_inode;
+      holds_pin = holds-pin known settled row (grind arith);
       wants_pin = ap (λ caps. has caps P) (want-ended known settled row) ∙ entry.wants_pin;
       has_due = λ c is_due. holds-due known settled row c (ap (λ caps. has caps c) (sym due_as_before) ∙ is_due);
       told = told-ended known settled row entry.told;
@@ -108,21 +84,21 @@ module _ (at from : ℕ → Bool) (known : Holder → Caps) (old affected : Stat
         due_as_before = λ i. meet (effective-ended known settled row settled.fs settled.tree settled.sessions i) (allowed_to settled row)
 
     settled_table : IsTable settled.table
-    settled_table = subst IsTable (sym g.moved.table) g.table
+    settled_table = subst IsTable (sym moved.table) table
 
     -- the same inodes are there
     there_still : (q : ℕ) → map.contains_key settled.tree.nodes q ≡ map.contains_key old.scene.tree.nodes q
-    there_still q = g.moved.nodes q ∙ g.affects.known q
+    there_still q = moved.nodes q ∙ affects.known q
 
     entry_elsewhere : (row : EntryRow) → Contains rows row → on row ≡ false → IsSoundEntry last row
     entry_elsewhere row inside off =
-        let was = All-contains (IsSoundEntry old.scene) old.scene.table.rows row g.sound.entries (old_row row inside (not-among from at g.among row.holder.ino.0 off)) in
+        let was = All-contains (IsSoundEntry old.scene) old.scene.table.rows row sound.entries (old_row row inside (not-among from at settles.among row.holder.ino.0 off)) in
         record {
-          of_session = ap is_some (g.same.sessions row inside off) ∙ was.of_session;
+          of_session = ap is_some (same.sessions row inside off) ∙ was.of_session;
           on_inode = there_still row.holder.ino.0 ∙ was.on_inode;
           holds_pin = was.holds_pin;
           wants_pin = was.wants_pin;
-          has_due = subst (λ caps. IsSubset caps row.entry.held) (sym (off_due at known old settled g.sound settled_table g.same g.tree g.knows row inside off)) was.has_due;
+          has_due = subst (λ caps. IsSubset caps row.entry.held) (sym (off_due at known old settled sound settled_table same tree knows_then row inside off)) was.has_due;
           told = was.told;
           revoked = was.revoked;
         }
@@ -134,78 +110,54 @@ module _ (at from : ℕ → Bool) (known : Holder → Caps) (old affected : Stat
     -- ---- inodes
 
     locked_last : (q : ℕ) → map.contains_key settled.locks.states q ≡ map.contains_key settled.tree.nodes q
-    locked_last q = g.moved.states q ∙ g.affects.locked q ∙ sym (g.moved.nodes q)
+    locked_last q = moved.states q ∙ affects.locked q ∙ sym (moved.nodes q)
 
     strays_last : (q : ℕ) → at q ≡ false → place settled.tree.nodes q ≡ Gone → IsTrue (list_any (is_of_inode (record { 0 = q })) last.table.rows)
     strays_last q off gone =
         let of_it = is_of_inode (record { 0 = q }) in
         any-map_same of_it last_of (of_inode-last known settled at q) rows
-        ∙ any_elsewhere at old.scene.table settled.table g.same.entries q off ∙ g.sound.strays q (sym (g.same.places q off) ∙ gone)
+        ∙ any_elsewhere at old.scene.table settled.table same.entries q off ∙ sound.strays q (sym (same.places q off) ∙ gone)
 
     -- ---- all together
 
     -- who waits has a session
     waiting_last : All (λ q. IsTrue (has_session settled.sessions q.client.0)) settled.locks.queue
     waiting_last =
-        all-waiting (λ q. IsTrue (has_session settled.sessions q.client.0)) first settled g.moved
-        (All-weaker (λ q. IsTrue (has_session first.sessions q.client.0)) (λ q. IsTrue (has_session settled.sessions q.client.0)) (λ q. has_session_still q.client.0) first.locks.queue g.affects.waiting)
+        all-waiting (λ q. IsTrue (has_session settled.sessions q.client.0)) first settled moved
+        (All-weaker (λ q. IsTrue (has_session first.sessions q.client.0)) (λ q. IsTrue (has_session settled.sessions q.client.0)) (λ q. has_session_still q.client.0) first.locks.queue affects.waiting)
 
-    but_last : (messages : List Ended) → All (λ m. IsTrue (has_session settled.sessions m.client.0)) messages → IsSoundBut at (record { scene = last; messages = messages })
-    but_last messages told = record {
+    -- whose requests the moves ended, has a session
+    ended-connected : All (λ m. IsTrue (has_session settled.sessions m.client.0)) (ended_in moves)
+    ended-connected =
+        All-weaker (Waited first.locks.queue) (λ m. IsTrue (has_session settled.sessions m.client.0))
+        (λ m w. subst (λ (c : ClientId). IsTrue (has_session settled.sessions c.0)) (sym w.client)
+        (has_session_still w.request.client.0 (All-contains (λ q. IsTrue (has_session first.sessions q.client.0)) first.locks.queue w.request affects.waiting w.inside)))
+        (ended_in moves) (ended-waited first moves settled settles.settles.made)
+
+    messages_last : All (λ m. IsTrue (has_session settled.sessions m.client.0)) (affected.messages ++ earlier old.scene.locks.last (ended_in moves))
+    messages_last =
+        All-append (λ m. IsTrue (has_session settled.sessions m.client.0)) affected.messages (earlier old.scene.locks.last (ended_in moves))
+        (All-weaker (λ m. IsTrue (has_session first.sessions m.client.0)) (λ m. IsTrue (has_session settled.sessions m.client.0)) (λ m. has_session_still m.client.0) affected.messages affects.messages)
+        (All-filter (λ m. nat_le m.ticket.0 old.scene.locks.last) (λ m. IsTrue (has_session settled.sessions m.client.0)) (ended_in moves) ended-connected)
+
+    sound_last : IsSound (state_at_end old affected moves (finished_at at known settled))
+    sound_last = sound-forgotten at (state_at_end old affected moves last) (record {
       entries = All-map (IsSoundEntry last) last_of rows (all_rows (λ row. IsSoundEntry last (last_of row)) rows entry_last);
       waiting = waiting_last;
-      messages = told;
+      messages = messages_last;
       locked = locked_last;
       strays = strays_last;
       in_rows = All-map (λ row. (part : Part) → IsInRow last row part) last_of rows (all_rows (λ row. (part : Part) → IsInRow last (last_of row) part) rows in_row_last);
       at_rest = rest_last;
-    }
+    }) tree
 
-    sound_last : (messages : List Ended) → All (λ m. IsTrue (has_session settled.sessions m.client.0)) messages → IsSound (record { scene = finished_at at known settled; messages = messages })
-    sound_last messages told = sound-forgotten at (record { scene = last; messages = messages }) (but_last messages told) g.tree
-
-module _ (at from : ℕ → Bool) (known : Holder → Caps) (old affected : State) (moves : List Made) (settled : Scene) (sound : IsSound old) (tree : IsTree settled.tree) (table : IsTable affected.scene.table)
-    (order : IsLockMap affected.scene.locks) (affects : Affects from old affected) (knows : Knows known old.scene affected.scene.table) (settles : SettlesAt at from moves affected.scene settled) where
-  moved-there : IsMoved affected.scene settled
-  moved-there = moved-all affected.scene moves settled settles.settles.made
-
-  given-all : IsGiven at from known old affected settled
-  given-all = record {
-    among = settles.among;
-    sound = sound;
-    tree = tree;
-    table = table;
-    moved = moved-there;
-    affects = affects;
-    same = from-first at from old.scene affected.scene settled settles.among affects.same settles.same;
-    rests = settles.settles.settled;
-    knows = subst (λ (t : Table). Knows known old.scene t) (sym moved-there.table) knows;
-    fs = settles.same.fs;
-    calm = λ row inside none. (nothing-served affected.scene moves settled order (affects.calm row inside none) settles.settles.made).1;
-  }
-
-  -- who has a session right after the event, has it at the end
-  connected : (client : ℕ) → IsTrue (has_session affected.scene.sessions client) → IsTrue (has_session settled.sessions client)
-  connected client is = subst (λ (t : SessionTable). IsTrue (has_session t client)) (sym moved-there.sessions) is
-
-  -- whose requests the moves ended, has a session
-  ended-connected : All (λ m. IsTrue (has_session settled.sessions m.client.0)) (ended_in moves)
-  ended-connected =
-      All-weaker (Waited affected.scene.locks.queue) (λ m. IsTrue (has_session settled.sessions m.client.0))
-      (λ m w. subst (λ (c : ClientId). IsTrue (has_session settled.sessions c.0)) (sym w.client)
-      (connected w.request.client.0
-      (All-contains (λ q. IsTrue (has_session affected.scene.sessions q.client.0)) affected.scene.locks.queue w.request affects.waiting w.inside)))
-      (ended_in moves) (ended-waited affected.scene moves settled settles.settles.made)
-
-  messages-connected : All (λ m. IsTrue (has_session settled.sessions m.client.0)) affected.messages
-  messages-connected =
-      All-weaker (λ m. IsTrue (has_session affected.scene.sessions m.client.0)) (λ m. IsTrue (has_session settled.sessions m.client.0)) (λ m. connected m.client.0) affected.messages affects.messages
+  moved-there : IsMoved first settled
+  moved-there = moved-all first moves settled settles.settles.made
 
   pub sound-affected : IsSound (state_at_end old affected moves (finished_at at known settled))
   sound-affected =
-      sound_last at from known old affected settled given-all (affected.messages ++ earlier old.scene.locks.last (ended_in moves))
-      (All-append (λ m. IsTrue (has_session settled.sessions m.client.0)) affected.messages (earlier old.scene.locks.last (ended_in moves)) messages-connected
-      (All-filter (λ m. nat_le m.ticket.0 old.scene.locks.last) (λ m. IsTrue (has_session settled.sessions m.client.0)) (ended_in moves) ended-connected))
+      sound_last moved-there (from-first at from old.scene first settled settles.among affects.same settles.same) (subst (λ (t : Table). Knows known old.scene t) (sym moved-there.table) knows)
+      (λ row inside none. (nothing-served first moves settled order (affects.calm row inside none) settles.settles.made).1)
 
 -- ---- numbers
 
@@ -221,11 +173,9 @@ module _ (at from : ℕ → Bool) (known : Holder → Caps) (count : ℕ) (old a
       (λ row was. by_place known settled at (λ r. r.entry.seq ≤ count + 1) row (λ here. seq-ended known settled row count was) (λ off. omega (arith, was)))
       settled.table.rows (All-same (λ row. row.entry.seq ≤ count) settled.table.rows affected.scene.table.rows (ap (λ (t : Table). t.rows) moved-so.table) numbers))
 
-  request_last : settled.locks.last ≤ count + 1
-  request_last = omega (arith, moved-so.last, given)
-
-  made_last : settled.table.made ≤ count + 1
-  made_last = let same : settled.table.made ≡ affected.scene.table.made = ap (λ (t : Table). t.made) moved-so.table in omega (arith, same, made)
-
   pub given-affected : AreGiven (count + 1) (state_at_end old affected moves (finished_at at known settled))
-  given-affected = record { entries = numbers_last; last = request_last; made = made_last }
+  given-affected = record {
+    entries = numbers_last;
+    last = omega (arith, moved-so.last, given);
+    made = (let same : settled.table.made ≡ affected.scene.table.made = ap (λ (t : Table). t.made) moved-so.table in omega (arith, same, made));
+  }

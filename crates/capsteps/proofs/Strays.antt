@@ -1,5 +1,5 @@
 -- Strays that are forgotten: one after another they go as if all at once, and no other inode is read through them.
-use Rattle.std.{proofs.Common.{◌≡◌, ◌≢◌, ℕ, Bool, true, false, cond, not, ◌||◌, ◌==◌, Option, None, List, [], ◌∷◌, refl, sym, ap, ◌∙◌, Contains, inl, inr, eq-eqb, arith}, proofs.lemmas.Bool.{or_right, ne_eqb, true_from_ne_false}, proofs.lemmas.List.Folds.{list_any_at}, specs.Cmp.{nat_cmp_total, unsigned_tied}, specs.List.{fold, list_any}, specs.Option.{option_map}, specs.Ordering.{nat_cmp}}
+use Rattle.std.{proofs.Common.{◌≡◌, ◌≢◌, ℕ, Bool, true, false, cond, not, ◌||◌, ◌==◌, Option, None, List, [], ◌∷◌, refl, sym, ap, ◌∙◌, Contains, eq-eqb, arith}, proofs.lemmas.Bool.{or_right, ne_eqb, true_from_ne_false}, proofs.lemmas.List.Folds.{list_any_at}, specs.Cmp.{nat_cmp_total, unsigned_tied}, specs.List.{fold, list_any}, specs.Option.{option_map}, specs.Ordering.{nat_cmp}}
 use Rattle.std.specs.FinMap as map
 use Rattle.std.specs.FinSet as set
 use Rattle.numbered.proofs.Maps.{same_or_other, remove-here, remove-other}
@@ -58,14 +58,11 @@ module _ (p q : ℕ → Bool) (s : Scene) where
   abbrev one : Scene
   one = forget_among p s
 
-  kept_still : (n : ℕ) → stays p s n ≡ true → is_in_use one n ≡ is_in_use s n
-  kept_still n is = grind (arith, retained-here)
-
   twice_kept : {V : Type 0} (m : map.FinMap nat_cmp V) → map.retain_keys (map.retain_keys m (stays p s)) (stays q one) ≡ map.retain_keys m (stays (λ n. p n || q n) s)
   twice_kept m = map.same_map nat_cmp_total map.nat_cmp-IsAntisymmetric _ _ (λ n.
       retained (map.retain_keys m (stays p s)) (stays q one) n
       ∙ ap (λ o. cond (stays q one n) o None) (retained m (stays p s) n)
-      ∙ twice_left (p n) (q n) (is_in_use s n) (is_in_use one n) (map.get m n) (kept_still n)
+      ∙ twice_left (p n) (q n) (is_in_use s n) (is_in_use one n) (map.get m n) (λ is. grind (arith, retained-here))
       ∙ sym (retained m (stays (λ n. p n || q n) s) n))
 
   -- strays of some inodes and then of others go, as if of all at once
@@ -78,13 +75,9 @@ forget_none s = grind (arith, same_kept)
 -- where all keys but one are kept, that one goes or none
 kept_or_removed : {V : Type 0} (m : map.FinMap nat_cmp V) (p : ℕ → Bool) (k : ℕ) → ((q : ℕ) → q ≢ k → p q ≡ true)
     → map.retain_keys m p ≡ cond (p k) m (map.remove m k)
-kept_or_removed m p k all = elim (p k) as (λ b. p k ≡ b → map.retain_keys m p ≡ cond b m (map.remove m k)) [
-  | true ↦ λ kept. same_kept m p (λ q. elim (same_or_other nat_cmp_total map.nat_cmp-IsAntisymmetric q k) [ inl is ↦ ap p is ∙ kept | inr off ↦ all q off ])
-  | false ↦ λ gone. map.same_map nat_cmp_total map.nat_cmp-IsAntisymmetric _ _ (λ q. elim (same_or_other nat_cmp_total map.nat_cmp-IsAntisymmetric q k) [
-    | inl is ↦ retained-gone m p q (ap p is ∙ gone) ∙ sym (ap (map.get (map.remove m k)) is ∙ remove-here nat_cmp_total map.nat_cmp-IsAntisymmetric m k)
-    | inr off ↦ retained-here m p q (all q off) ∙ sym (remove-other nat_cmp_total map.nat_cmp-IsAntisymmetric m k q off)
-  ])
-] refl
+kept_or_removed m p k all = map.same_map nat_cmp_total map.nat_cmp-IsAntisymmetric _ _ (λ q.
+    let here = same_or_other nat_cmp_total map.nat_cmp-IsAntisymmetric q k in
+    grind (arith, here, retained, remove-here nat_cmp_total map.nat_cmp-IsAntisymmetric m k, remove-other nat_cmp_total map.nat_cmp-IsAntisymmetric m k q))
 
 module _ (k : ℕ) (s : Scene) where
   others_stay : (q : ℕ) → q ≢ k → stays (λ n. n == k) s q ≡ true
@@ -94,7 +87,7 @@ module _ (k : ℕ) (s : Scene) where
   one_left m = kept_or_removed m (stays (λ n. n == k) s) k others_stay ∙ ap (λ b. cond (not b || is_in_use s k) m (map.remove m k)) (eq-eqb k k refl)
 
   -- of one inode alone
-  pub forget-one : forget_among (λ n. n == k) s ≡ forget_at k s
+  forget-one : forget_among (λ n. n == k) s ≡ forget_at k s
   forget-one = grind (arith, one_left)
 
 -- ---- the inodes of a map

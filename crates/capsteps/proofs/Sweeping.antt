@@ -1,9 +1,10 @@
 -- How the locks of several inodes settle between two servings.
-use Rattle.std.{proofs.Common.{◌≡◌, ◌≢◌, ◌<◌, ◌≤◌, ◌+◌, ℕ, Bool, true, false, cond, ◌||◌, ◌==◌, nat_lt, count_by, Option, Some, None, List, [], ◌∷◌, ◌++◌, refl, sym, ap, ◌∙◌, true≢false, arith}, proofs.lemmas.Bool.{lt-ltb, le-ltb}, proofs.lemmas.List.Elements.{filter_map-append}, proofs.lemmas.List.Sums.{sum_by-cons}, specs.Cmp.{unsigned_tied}, specs.List.{list_any}, specs.Option.{option_map}, specs.Ordering.{nat_cmp, eq_by_cmp}}
+use Rattle.std.{proofs.Common.{◌≡◌, ◌≢◌, ◌<◌, ◌≤◌, ◌+◌, ℕ, Bool, true, false, cond, ◌||◌, nat_lt, count_by, Option, Some, None, List, [], ◌∷◌, ◌++◌, refl, sym, ap, ◌∙◌, true≢false, arith}, proofs.lemmas.Bool.{lt-ltb, le-ltb}, proofs.lemmas.List.Elements.{filter_map-append}, proofs.lemmas.List.Sums.{sum_by-cons}, specs.List.{list_any}, specs.Option.{option_map}, specs.Ordering.{nat_cmp, eq_by_cmp}}
 use Rattle.std.specs.FinMap as map
 use Rattle.std.specs.FinSet as set
-use Rattle.capacts.{proofs.Lockmachine.Turns.{turn-passes, turn-rests}, specs.Lockmachine.Runs.{ChangesLocksOf}, specs.Lockmachine.Turns.{IsDoneAt}}
-use Rattle.capsteps.{proofs.Common.{A, ended_by, ended_in, F, first_move, Ino, InodeLocks, InoSet, is_affected, IsTurnOf, L, lock_at, lock_in, LockMap, may_end_by, MoveLittle, Part, same_key, Scene, Settled, Table, WaitAt, waits-kept-at, X}, proofs.Moved.{as_made, makes-append}, specs.Sweep.{AreStill, IsSwept, IsNextOf}}
+use Rattle.capbits.specs.declared.cap.Part.TheVariants.{F, L}
+use Rattle.capacts.{proofs.Lockmachine.Turns.{turn-passes, turn-rests}, specs.Lockmachine.Runs.{ChangesLocksOf, MoveLittle}, specs.Lockmachine.Turns.{IsDoneAt}}
+use Rattle.capsteps.{proofs.Common.{A, ended_by, ended_in, first_move, Ino, InodeLocks, InoSet, IsNext, IsTurnOf, lock_at, lock_in, LockMap, may_end_by, Part, same_key, Scene, Settled, Table, WaitAt, waits-kept-at, X}, proofs.Moved.{as_made, makes-append}, specs.Sweep.{AreStill, IsSwept}}
 
 -- ---- the locks of an inode
 
@@ -72,18 +73,19 @@ ends-passed at t first old new here elsewhere same lower changes done other part
 -- ---- turns
 
 -- an inode is done, and it is the next one's turn
-pub next-turn : (at : ℕ → Bool) (s : Scene) (here : ℕ) (next : Ino) → AreStill at s → IsTurnOf s here → IsDoneAt s here → IsNextOf at here (Some next) → IsTurnOf s next.0
-next-turn at s here next still turn done (less, is, between) = turn-passes s here next.0 turn done less (λ other part above below. still.begins other part (between other above below))
+pub next-turn : (inos : InoSet) (s : Scene) (here : ℕ) (next : Ino) → AreStill (set.contains inos) s → IsTurnOf s here → IsDoneAt s here → IsNext inos (here + 1) (Some next) → IsTurnOf s next.0
+next-turn inos s here next still turn done is =
+    turn-passes s here next.0 turn done (omega (arith, is.reached)) (λ other part above below. still.begins other part (is.least other (omega (arith, above)) below))
 
 -- the last is done, and no move applies
-pub last-turn : (at : ℕ → Bool) (s : Scene) (here : ℕ) → AreStill at s → IsTurnOf s here → IsDoneAt s here → IsNextOf at here None → first_move s ≡ Settled
-last-turn at s here still turn done beyond = turn-rests s here turn done (λ other part above. still.begins other part (beyond other above))
+pub last-turn : (inos : InoSet) (s : Scene) (here : ℕ) → AreStill (set.contains inos) s → IsTurnOf s here → IsDoneAt s here → IsNext inos (here + 1) None → first_move s ≡ Settled
+last-turn inos s here still turn done beyond = turn-rests s here turn done (λ other part above. still.begins other part (beyond other (omega (arith, above))))
 
 -- ---- how many inodes are left
 
--- how many of the affected inodes are behind this one
-abbrev pub behind : ℕ → InoSet → ℕ → ℕ
-behind ino affected here = count_by (nat_lt here) (ino ∷ set.items affected)
+-- how many of the inodes are behind this one
+abbrev pub behind : InoSet → ℕ → ℕ
+behind inos here = count_by (nat_lt here) (set.items inos)
 
 one_no_more : (a b x : ℕ) → a < b → cond (nat_lt b x) 1 0 ≤ cond (nat_lt a x) 1 0
 one_no_more a b x less = grind arith
@@ -107,9 +109,5 @@ fewer a b less (x ∷ xs) among = elim (eq_by_cmp nat_cmp b x) as (λ e. eq_by_c
 ] refl among
 
 -- with each that is done, there are fewer
-pub fewer_behind : (ino : ℕ) (affected : InoSet) (here : ℕ) (next : Ino) → IsNextOf (is_affected ino affected) here (Some next) → behind ino affected next.0 < behind ino affected here
-fewer_behind ino affected here next (less, is, between) = fewer here next.0 less (ino ∷ set.items affected) (
-    ap (λ b. b || list_any (eq_by_cmp nat_cmp next.0) (set.items affected)) (unsigned_tied next.0 ino)
-    ∙ ap (λ b. (next.0 == ino) || b) (sym (set.contains-items affected next.0))
-    ∙ is
-    )
+pub fewer_behind : (inos : InoSet) (here : ℕ) (next : Ino) → IsNext inos (here + 1) (Some next) → behind inos next.0 < behind inos here
+fewer_behind inos here next is = fewer here next.0 (omega (arith, is.reached)) (set.items inos) (sym (set.contains-items inos next.0) ∙ is.has)

@@ -1,7 +1,7 @@
 -- What a client is told changes three fields of entries, by which nothing is judged, moved or issued.
 use Rattle.std.{proofs.Common.{◌≡◌, ◌≤◌, ℕ, Bool, true, false, cond, not, ◌&&◌, ◌||◌, Option, List, [], ◌∷◌, filter, map, refl, sym, ap, subst, ◌∙◌, arith, IsTrue, All}, proofs.lemmas.List.Elements.{All-map, All-weaker, All-filter, All-from_recursion, recursion_from_All}, proofs.lemmas.Simd.{map-map}, specs.List.{find, list_any, AllByRecursion, IsDistinct}, specs.Option.{option_map}}
-use Rattle.capacts.specs.{Capnotes.DueEndings.{is_end_of}, Caprules.Direct.{Answer}, Caprules.Headline.{holds, is_due, AreInPlace}}
-use Rattle.capsteps.proofs.{Common.{after_messages, AreGiven, Cap, change_rows, changed, changed_where, ClientId, due, Ended, Entry, EntryRow, filter-map, find-map, first_messages, fold-changed_by, Gives, has_session, Holder, Ino, is_among, is_caps_of, is_of_client, is_of_inode, is_open, is_recall_of, is_row_of, is_size_of, is_to, IsInPlace, IsSound, IsSoundEntry, IssuesExactly, IsTable, lock_at, LockGoal, LockState, Message, Part, remade, same, Scene, shown, Shows, sized_if, State, Table, told, told_if, unasked_if, wants, with_scene}, LeftAlone.{still_quiet}}
+use Rattle.capacts.specs.{Capnotes.DueEndings.{is_end_of}, Caprules.Direct.{Answer}}
+use Rattle.capsteps.proofs.{Common.{after_messages, AreGiven, change_rows, changed, changed_where, ClientId, due, Ended, Entry, EntryRow, filter-map, find-map, first_messages, fold-changed_by, Gives, has_session, Holder, Ino, is_among, is_caps_of, is_of_client, is_of_inode, is_open, is_recall_of, is_row_of, is_size_of, is_to, IsInPlace, IsSound, IsSoundEntry, IssuesExactly, IsTable, lock_at, LockGoal, LockState, Message, Part, remade, same, Scene, shown, Shows, sized_if, State, Table, told, told_if, unasked_if, wants, with_scene}, LeftAlone.{still_quiet}}
 
 -- ---- lists that are mapped
 
@@ -42,43 +42,23 @@ module _ (s : State) (told_as : EntryRow → ℕ) (size_as asked_as : EntryRow �
   place_kept : (row : EntryRow) (part : Part) (o : Option LockState) → IsInPlace s.scene row part o → IsInPlace new (to row) part o
   place_kept row part o placed = grind (arith, same_open)
 
-  places_kept : AreInPlace s.scene → AreInPlace new
-  places_kept all = grind (arith, same_found, place_kept)
-
   -- ---- all together
 
   pub retold-sound : (messages : List Ended) → All (λ m. IsTrue (has_session s.scene.sessions m.client.0)) messages
       → ((row : EntryRow) → row.entry.told_seq ≤ row.entry.seq → told_as row ≤ row.entry.seq) → IsSound s
       → IsSound (record { scene = record s.scene { table = retold_table told_as size_as asked_as s.scene.table }; messages = messages })
   retold-sound messages connected below sound = record {
-    entries = All-map (IsSoundEntry new) to s.scene.table.rows (All-weaker (IsSoundEntry s.scene) (λ row. IsSoundEntry new (to row)) entry_kept s.scene.table.rows sound.entries);
+    entries = All-map (IsSoundEntry new) to s.scene.table.rows (All-weaker (IsSoundEntry s.scene) (λ row. IsSoundEntry new (to row)) (λ row was. grind arith) s.scene.table.rows sound.entries);
     waiting = sound.waiting;
     messages = connected;
     locked = sound.locked;
     strays = λ ino gone. any-map_same (is_of_inode (record { 0 = ino })) to (λ row. refl) s.scene.table.rows ∙ sound.strays ino gone;
-    in_place = places_kept sound.in_place;
+    in_place = λ row part found. grind (arith, same_found, place_kept);
     at_rest = record { each = λ ino part. still_quiet s.scene new ino part refl (same_wants ino) (same_open ino part) (lock_at s.scene.locks ino part) (sound.at_rest.each ino part) };
   }
-    where
-      entry_kept : (row : EntryRow) → IsSoundEntry s.scene row → IsSoundEntry new (to row)
-      entry_kept row was = record {
-        of_session = was.of_session;
-        on_inode = was.on_inode;
-        holds_pin = was.holds_pin;
-        wants_pin = was.wants_pin;
-        has_due = was.has_due;
-        told = below row was.told;
-        revoked = was.revoked;
-      }
-
-  same_holds : (k : Holder) (cap : Cap) → holds new k cap ≡ holds s.scene k cap
-  same_holds k cap = grind (arith, same_found)
-
-  same_due : (k : Holder) (cap : Cap) → is_due new k cap ≡ is_due s.scene k cap
-  same_due k cap = grind (arith, same_found)
 
   pub retold-issued : (first : Scene) → IssuesExactly first s.scene → IssuesExactly first (record s.scene { table = retold_table told_as size_as asked_as s.scene.table })
-  retold-issued first issued k cap = same_holds k cap ∙ issued k cap ∙ ap (λ b. holds first k cap || b) (sym (same_due k cap))
+  retold-issued first issued k cap = grind (arith, same_found)
 
 -- ---- what is shown
 
@@ -105,10 +85,7 @@ told_row row b = grind arith
 
 shown_table : (t : Table) (k : Holder) → IsTable t → changed t k told ≡ retold_table (told_where (named k)) as_sized as_asked t
 unfolding IsDistinct
-shown_table t k is = fold-changed_by (λ row. told row.entry) t (k ∷ []) is once ∙ (λ i. record t { rows = map (λ row. told_row row (named k row) i) t.rows })
-  where
-    once : IsDistinct same (k ∷ [])
-    once = (tt, tt)
+shown_table t k is = fold-changed_by (λ row. told row.entry) t (k ∷ []) is (tt, tt) ∙ (λ i. record t { rows = map (λ row. told_row row (named k row) i) t.rows })
 
 told_below : (b : Bool) (seq told_seq : ℕ) → told_seq ≤ seq → cond b seq told_seq ≤ seq
 told_below b seq told_seq below = grind arith

@@ -21,18 +21,11 @@ pub data Scope : Type 0 where
   Listing : Scope
 
 abbrev pub scope : Event → Scope
-scope (Event.Session client caller grants) = Alone
 scope (Event.CloseSession client) = OfClient client
 scope (Event.Mark client status) = OfClient client
 scope (Event.Regrant client grants) = OfClient client
 scope (Event.Evict client) = OfClient client
-scope (Event.Unblock client) = Alone
 scope (Event.Recall count) = Listing
-scope (Event.Lookup client dir name) = Alone
-scope (Event.Create client dir name mode) = Alone
-scope (Event.Mkdir client dir name mode) = Alone
-scope (Event.MakeSnapshot client ino name) = Alone
-scope (Event.RemoveSnapshot client ino name) = Alone
 scope (Event.Open client ino mode) = OnEntry (holder client ino)
 scope (Event.Want client ino caps) = OnEntry (holder client ino)
 scope (Event.Ack client ino seq) = OnEntry (holder client ino)
@@ -44,46 +37,36 @@ scope (Event.Rmdir client ino) = Waiting (holder client ino) Rmdir
 scope (Event.Rename client ino dir name) = Waiting (holder client ino) (Rename dir name)
 scope (Event.Flush client ino change) = OnEntry (holder client ino)
 scope (Event.Poll client max) = Listing
+scope e = Alone
 
 abbrev pub affected_in : Scope → Option Holder
-affected_in Alone = None
-affected_in (OfClient client) = None
 affected_in (OnEntry k) = Some k
 affected_in (Waiting k ask) = Some k
-affected_in Listing = None
+affected_in about = None
 
 -- who asks, and of which inode, where the event is about one that is there already: about an entry on it, or about what it keeps
 abbrev pub affected_by : Event → Option Holder
 affected_by e = affected_in (scope e)
 
 abbrev pub session_changed_in : Scope → Option ClientId
-session_changed_in Alone = None
 session_changed_in (OfClient client) = Some client
-session_changed_in (OnEntry k) = None
-session_changed_in (Waiting k ask) = None
-session_changed_in Listing = None
+session_changed_in about = None
 
 -- whose session an event ends or marks, or whose grants it replaces
 abbrev pub session_changed_by : Event → Option ClientId
 session_changed_by e = session_changed_in (scope e)
 
 abbrev pub asks_in : Scope → Option (Holder × Ask)
-asks_in Alone = None
-asks_in (OfClient client) = None
-asks_in (OnEntry k) = None
 asks_in (Waiting k ask) = Some (k, ask)
-asks_in Listing = None
+asks_in about = None
 
 -- of an event that waits for a lock, who asks, of which inode, and what
 abbrev pub asks_for : Event → Option (Holder × Ask)
 asks_for e = asks_in (scope e)
 
 abbrev pub lists_in : Scope → Bool
-lists_in Alone = false
-lists_in (OfClient client) = false
-lists_in (OnEntry k) = false
-lists_in (Waiting k ask) = false
 lists_in Listing = true
+lists_in about = false
 
 -- the event is answered with a list: of messages, or of who is asked to give back
 abbrev pub is_listing : Event → Bool

@@ -1,9 +1,15 @@
 -- What there has to be behind an event, before the locks settle and the step ends.
-use Rattle.std.specs.Prelude.{◌≡◌, ◌≤◌, ◌<◌, ◌^◌, ◌-◌, ℕ, Bool, [], All, IsTrue, vec_capacity}
+use Rattle.std.specs.Prelude.{◌≡◌, ◌≤◌, ◌<◌, ◌^◌, ◌-◌, ◌+◌, ◌==◌, ℕ, Bool, [], All, IsTrue, length, vec_capacity}
+use Rattle.std.specs.FinSet as set
 use Rattle.inotree.specs.Tree.{IsTree}
 use Rattle.sessiontab.specs.Calls.{has_session}
-use Rattle.capacts.specs.{Known.{KnownSets}, Lockmachine.Locks.{IsLockMap}, Lockmachine.Moves.{IsQuietOutside}, Lockmachine.Policy.{ArePermitted}, Lockmachine.declared.scene.Scene.{Scene}}
-use Rattle.capsteps.specs.declared.endings.Endings.{Endings}
+use Rattle.capacts.specs.{Capnotes.Noted.{HavePlaces, Noted}, Known.{KnownSets, OthersHaveAll}, Lockmachine.Locks.{IsLockMap}, Lockmachine.Moves.{IsQuietOutside}, Lockmachine.Policy.{ArePermitted}, Lockmachine.declared.scene.Scene.{Scene}}
+use Rattle.capsteps.specs.{Judged.{IsJudged}, declared.endings.Endings.{Endings}, declared.settle.Affected.{Affected}, declared.settle.Affected.TheVariants.{Entry, Inodes}}
+
+-- the inodes whose locks may move
+abbrev pub among : Affected → ℕ → Bool
+among (Entry k) = λ other. other == k.ino.0
+among (Inodes inos) = set.contains inos
 
 -- the event was about these inodes: the locks of all others are quiet, the inodes are a tree, and requests wait in order
 pub record MaySettle (from : ℕ → Bool) (s : Scene) : Type 0 where
@@ -29,3 +35,17 @@ pub record HaveRoomFor (waiting : ℕ) (endings : Endings) : Type 0 where
   pub told_room : waiting ≤ endings.told.room
   pub kept_room : waiting ≤ endings.kept.room
   pub sized_room : waiting ≤ vec_capacity endings.sized
+
+-- there is a place for the change of each request that waits and of each inode; and where one entry alone was affected, the others
+-- on its inode have all
+abbrev pub MayEndAt : Affected → KnownSets → Scene → Noted → Type 0
+MayEndAt (Entry k) known s noted = (length noted.items + length s.locks.queue + 1 ≤ noted.room) × OthersHaveAll known s k
+MayEndAt (Inodes inos) known s noted = HavePlaces noted s.locks inos
+
+-- the locks of these inodes may settle, and the step may end there
+pub record IsReady (affected : Affected) (known : KnownSets) (s : Scene) (endings : Endings) : Type 0 where
+  pub settles : MaySettle (among affected) s
+  pub judged : IsJudged endings.judged s
+  pub entries : MayEnd known s
+  pub room : HaveRoomFor (length s.locks.queue) endings
+  pub at : MayEndAt affected known s endings.changes

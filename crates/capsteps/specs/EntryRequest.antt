@@ -1,8 +1,8 @@
 -- What an event asks of one entry.
 use Rattle.std.specs.Prelude.{List, [], ◌∷◌}
-use Rattle.capbits.specs.{Caps.{Caps}, Refusal.{Test}, declared.ids.ClientId.{ClientId}, declared.ids.Ino.{Ino}}
+use Rattle.capbits.specs.{Refusal.{Test}, declared.ids.ClientId.{ClientId}, declared.ids.Ino.{Ino}}
 use Rattle.captable.specs.{Calls.{acked, released}, Table.{Table}, Tests.{entry_test, ack_tests, release_tests}, declared.entry.Holder.{Holder}}
-use Rattle.capacts.specs.{Capevents.declared.event.Event.{Event}, Capevents.declared.reply.Reply.{Reply}, Caprules.Direct.{Answer, Says, Shows, with_opening, with_wanted}, Caprules.Judge.{room_for}, Known.{KnownSets, StillKnown}, Lockmachine.Policy.{ArePermitted}, Lockmachine.declared.policy.Policy.{Policy}}
+use Rattle.capacts.specs.{Capevents.declared.event.Event.{Event}, Capevents.declared.reply.Reply.{Reply}, Caprules.Direct.{Answer, Says, Shows, with_opening, with_wanted}, Caprules.Judge.{revoked_of, room_for}, Known.{KnownSets, StillKnown}, Lockmachine.Policy.{ArePermitted}, Lockmachine.declared.scene.Scene.{Scene}}
 use Rattle.capsteps.specs.declared.{entry_request.EntryRequest.{EntryRequest}, entry_request.EntryRequest.TheVariants.{Open, Want, Ack, Release}}
 
 -- the event that asks it of the client's entry on the inode
@@ -13,18 +13,18 @@ entry_event client ino (Ack seq) = Event.Ack client ino seq
 entry_event client ino (Release caps) = Event.Release client ino caps
 
 -- what the table tests of it
-abbrev pub entry_request_tests : Table → Holder → Caps → EntryRequest → List Test
-entry_request_tests table k revoked (Open mode) = room_for table k
-entry_request_tests table k revoked (Want caps) = entry_test table k ∷ []
-entry_request_tests table k revoked (Ack seq) = ack_tests table k seq revoked
-entry_request_tests table k revoked (Release caps) = release_tests table k caps
+abbrev pub entry_request_tests : Scene → Holder → EntryRequest → List Test
+entry_request_tests s k (Open mode) = room_for s.table k
+entry_request_tests s k (Want caps) = entry_test s.table k ∷ []
+entry_request_tests s k (Ack seq) = ack_tests s.table k seq (revoked_of s k)
+entry_request_tests s k (Release caps) = release_tests s.table k caps
 
 -- the table, once it was done
-abbrev pub table_after : Table → Holder → Caps → EntryRequest → Table
-table_after table k revoked (Open mode) = with_opening table k mode
-table_after table k revoked (Want caps) = with_wanted table k caps
-table_after table k revoked (Ack seq) = acked table k revoked
-table_after table k revoked (Release caps) = released table k caps
+abbrev pub table_after : Scene → Holder → EntryRequest → Table
+table_after s k (Open mode) = with_opening s.table k mode
+table_after s k (Want caps) = with_wanted s.table k caps
+table_after s k (Ack seq) = acked s.table k (revoked_of s k)
+table_after s k (Release caps) = released s.table k caps
 
 -- what is answered
 abbrev pub entry_answer : Holder → EntryRequest → Answer
@@ -34,6 +34,6 @@ entry_answer k (Ack seq) = Says Reply.Done
 entry_answer k (Release caps) = Says Reply.Done
 
 -- what is known of each entry is kept still; and where it was kept what their clients are permitted, it is of a new one too
-pub record StillKept (policy : Policy) (old new : Table) (was now : KnownSets) : Type 0 where
-  pub known : StillKnown old new was now
-  pub permitted : ArePermitted was policy.fs.now policy.tree.now policy.sessions.now old → ArePermitted now policy.fs.now policy.tree.now policy.sessions.now new
+pub record StillKept (s : Scene) (new : Table) (was now : KnownSets) : Type 0 where
+  pub known : StillKnown s.table new was now
+  pub permitted : ArePermitted was s.fs s.tree s.sessions s.table → ArePermitted now s.fs s.tree s.sessions new

@@ -1,11 +1,11 @@
 -- What becomes of a client's session, and what goes with it.
-use Rattle.std.specs.Prelude.{◌≡◌, ℕ, true, false, List, [], ◌∷◌, Contains}
+use Rattle.std.specs.Prelude.{◌≡◌, true, List, [], ◌∷◌, Contains}
 use Rattle.std.specs.FinSet as set
 use Rattle.capbits.specs.{Refusal.{Test}, declared.ids.ClientId.{ClientId}}
 use Rattle.inotree.specs.{InoSets.{InoSet}, Tree.{Nodes}}
 use Rattle.captable.specs.{Calls.{is_of_client}, Table.{Table}, declared.entry.EntryRow.{EntryRow}}
 use Rattle.sessiontab.specs.{Calls.{without_session, with_status, with_grants, with_evicted}, Table.{SessionTable}, Tests.{connected_test, mark_tests, evict_tests}}
-use Rattle.capacts.specs.{Capevents.declared.event.Event.{Event}, Capnotes.Noted.{view}, Caprules.State.{State}, Capview.Changes.{AreChanges}, Capview.declared.change.ViewChange.{ViewChange}, Left.{is_end, table_left, locks_left, messages_left}, Lockmachine.Locks.{LockMap}, Lockmachine.Requests.{is_of_client as is_asked_by}, Lockmachine.declared.request.Request.{Request}, Reach.{is_affected}, declared.leaving.SessionChange.{SessionChange}, declared.leaving.SessionChange.TheVariants.{Close, Mark, Regrant, Evict}}
+use Rattle.capacts.specs.{Capevents.declared.event.Event.{Event}, Capnotes.Noted.{view}, Caprules.State.{State}, Capview.Changes.{AreChanges}, Capview.declared.change.ViewChange.{ViewChange}, Left.{is_end, table_left, locks_left, messages_left}, Lockmachine.Locks.{LockMap}, Lockmachine.Requests.{is_of_client as is_asked_by}, Lockmachine.declared.request.Request.{Request}, declared.leaving.SessionChange.{SessionChange}, declared.leaving.SessionChange.TheVariants.{Close, Mark, Regrant, Evict}}
 
 -- the event by which it does
 abbrev pub session_event : ClientId → SessionChange → Event
@@ -46,8 +46,7 @@ session_changed s client change = record {
 
 -- ---- where the client is
 
--- each inode that the client has an entry on or waits for is this one, or one of the others; this one is none of them
-pub record ReachesClient (ino : ℕ) (client : ClientId) (table : Table) (locks : LockMap) (others : InoSet) : Type 0 where
-  pub entries : (row : EntryRow) → Contains table.rows row → is_of_client client row ≡ true → is_affected ino others row.holder.ino.0 ≡ true
-  pub requests : (q : Request) → Contains locks.queue q → is_asked_by client q ≡ true → is_affected ino others q.ino.0 ≡ true
-  pub apart : set.contains others ino ≡ false
+-- each inode that the client has an entry on or waits for is one of these
+pub record ReachesClient (client : ClientId) (table : Table) (locks : LockMap) (inos : InoSet) : Type 0 where
+  pub entries : (row : EntryRow) → Contains table.rows row → is_of_client client row ≡ true → set.contains inos row.holder.ino.0 ≡ true
+  pub requests : (q : Request) → Contains locks.queue q → is_asked_by client q ≡ true → set.contains inos q.ino.0 ≡ true

@@ -1,25 +1,15 @@
 -- How the locks of several inodes settle: in the order of their numbers, and anew once an inode was moved.
-use Rattle.std.specs.Prelude.{◌≡◌, ◌<◌, ◌≤◌, ℕ, Bool, true, false, ◌⊎◌, List, [], Option, Some, None, if◌then◌else◌}
+use Rattle.std.specs.Prelude.{◌≡◌, ℕ, Bool, true, false, List, [], Option, Some, None, if◌then◌else◌}
 use Rattle.std.specs.FinMap as map
 use Rattle.std.specs.FinSet as set
 use Rattle.capbits.specs.declared.{cap.Part.{Part}, ids.Ino.{Ino}, ids.Ticket.{Ticket}}
-use Rattle.inotree.specs.InoSets.{InoSet}
-use Rattle.capacts.specs.{Caprules.Settle.{Made, MakesAll, ended_in}, Lockmachine.Moves.{first_move, may_end, may_begin}, Lockmachine.Turns.{IsTurnOf, NobodyElsewhere, WaitAt}, Lockmachine.declared.moves.Move.TheVariants.{Serve, Settled}, Lockmachine.declared.request.Request.{Request}, Lockmachine.declared.scene.Scene.{Scene}, Reach.{is_affected}, Served.{is_rename}, declared.sweep.SweepPlace.{SweepPlace}}
-
--- the least of these inodes
-pub record IsLeastOf (at : ℕ → Bool) (ino : ℕ) : Type 0 where
-  pub is : at ino ≡ true
-  pub least : (other : ℕ) → other < ino → at other ≡ false
-
--- the next of them behind an inode, or that there is none
-abbrev pub IsNextOf : (ℕ → Bool) → ℕ → Option Ino → Type 0
-IsNextOf at ino None = (other : ℕ) → ino < other → at other ≡ false
-IsNextOf at ino (Some next) =
-    (ino < next.0) × (at next.0 ≡ true) × ((other : ℕ) → ino < other → other < next.0 → at other ≡ false)
+use Rattle.inotree.specs.InoSets.{InoSet, IsLeastFrom}
+use Rattle.capacts.specs.{Caprules.Settle.{Made, MakesAll, ended_in}, Lockmachine.Moves.{first_move, may_end, may_begin}, Lockmachine.Turns.{IsTurnOf, NobodyElsewhere, WaitAt}, Lockmachine.declared.moves.Move.TheVariants.{Serve, Settled}, Lockmachine.declared.request.Request.{Request}, Lockmachine.declared.scene.Scene.{Scene}, Served.{is_rename}}
+use Rattle.capsteps.specs.declared.settle.SweepPlace.{SweepPlace}
 
 -- it is the turn of the least of them
-abbrev pub IsTurnOfLeast : (ℕ → Bool) → Scene → Type 0
-IsTurnOfLeast at s = (ino : ℕ) → IsLeastOf at ino → IsTurnOf s ino
+abbrev pub IsTurnOfLeast : InoSet → Scene → Type 0
+IsTurnOfLeast inos s = (ino : ℕ) → IsLeastFrom inos 0 ino → IsTurnOf s ino
 
 -- where the sweep has come to: it is the turn of this inode, which is one of these; and where that is known, nobody who waits at
 -- another may be served
@@ -30,18 +20,13 @@ pub record StandsAt (at : ℕ → Bool) (place : SweepPlace) (s : Scene) : Type 
 
 -- at the beginning it comes to the least of the affected inodes. It is known that nobody waits elsewhere who may be served, where
 -- no other is affected
-pub record IsFirstPlace (ino : ℕ) (affected : InoSet) (place : SweepPlace) : Type 0 where
-  pub least : IsLeastOf (is_affected ino affected) place.at.0
-  pub alone : place.alone ≡ true → (other : ℕ) → set.contains affected other ≡ false
+pub record IsFirstPlace (affected : InoSet) (place : SweepPlace) : Type 0 where
+  pub least : IsLeastFrom affected 0 place.at.0
+  pub alone : place.alone ≡ true → set.len affected ≡ 1
 
 -- the inode that a request changes and no other; none where it moves its inode
 abbrev pub changed_alone : Request → Option Ino
 changed_alone q = if is_rename q.ask then None else Some q.ino
-
--- behind a serving the sweep goes on where it was, if that changed no inode but one that is not before it; else it begins again
-abbrev pub GoesOnBehind : SweepPlace → Option Ino → ℕ → InoSet → SweepPlace → Type 0
-GoesOnBehind place changed ino affected next =
-    ((next ≡ place) × ((i : Ino) × (changed ≡ Some i) × (place.at.0 ≤ i.0))) ⊎ IsFirstPlace ino affected next
 
 -- at all others no gather may begin or end
 pub record AreStill (at : ℕ → Bool) (s : Scene) : Type 0 where

@@ -1,26 +1,29 @@
 //! Steps by which a client's session ends, is marked or has other grants.
-ghost use Rattle.std.specs.Prelude.{Some, ◌≡◌, ◌+◌, ◌≤◌, ◌<◌, true, [], None, Contains, length, IfOk, OnOk, OnErr};
+ghost use Rattle.std.specs.Prelude.{◌≡◌, ◌+◌, ◌≤◌, true, [], None, Contains, length, option_to_list, IfOk, OnOk, OnErr};
+ghost use Rattle.std.specs.FinSet as set;
 ghost use Rattle.capbits.specs.Refusal.{first_failing};
 ghost use Rattle.captable.specs.{Calls.{is_of_client}, declared.entry.EntryRow.{EntryRow}};
-ghost use Rattle.capacts.specs.{Capnotes.Noted.{HavePlaces}, Lockmachine.Requests.{is_of_client as is_asked_by}, Lockmachine.declared.request.Request.{Request}, Reach.{is_affected, Widens}};
+ghost use Rattle.capacts.specs.{Lockmachine.Requests.{is_of_client as is_asked_by}, Lockmachine.declared.request.Request.{Request}, Reach.{Widens}};
 ghost use Rattle.capsteps.specs.{Begun.{HaveRoomFor}, SessionChange.{Notes, ReachesClient, session_change_tests, changed_sessions}};
 
 use crate::endings::Endings;
 use capacts::leaving::SessionChange;
-use capacts::{ChangeList, Locks, Messages, ViewChange};
+use capacts::{Locks, Messages, ViewChange};
 use capbits::{ClientId, Ino, Refusal};
 use captable::CapTable;
-use inotree::{InoSet, ROOT};
+use inotree::{NonEmptyInoSet, ROOT};
 use sessiontab::Sessions;
 use std::alloc::{AllocError, Global};
 
 /// What the step takes, made before anything changes.
 #[derive(Drop)]
 pub struct Room {
-    /// Each inode that the client has an entry on or waits for, but for the root.
-    pub others: InoSet,
+    /// The root, and each inode that the client has an entry on or waits for.
+    pub inodes: NonEmptyInoSet,
     /// A list with a place for each request that waits: of those that are dropped, of which nobody is told.
     pub dropped: Messages,
+    /// What readers are told of the session, if anything.
+    pub note: Option<ViewChange>,
 }
 
 // ---- the session
@@ -64,8 +67,7 @@ pub fn apply_session_change(
 // ---- room
 
 impl Room {
-    /// All inodes where the client is, and room for each request that waits. What the step lists begins with what becomes of the
-    /// session.
+    /// The root and all inodes where the client is, what is noted of its session, and room for each request that waits.
     pub fn new(
         alloc: Global,
         table: &CapTable,
@@ -74,117 +76,79 @@ impl Room {
         change: SessionChange,
         endings: &mut Endings,
     ) -> Result<Room, AllocError>
-        ensures reaches { IfOk result (λ room. ReachesClient 1 client table.now locks.now room.others) }
+        ensures reaches { IfOk result (λ room. ReachesClient client table.now locks.now room.inodes) }
         ensures room { OnOk result (HaveRoomFor (length locks.now.queue) endings.new) }
         ensures dropped { IfOk result (λ room. (room.dropped.items ≡ []) × (length locks.now.queue ≤ room.dropped.room)) }
-        ensures places { IfOk result (λ room. HavePlaces endings.new.changes locks.now room.others) }
-        ensures lead { OnOk result (Notes endings.new.changes.items client change.entry) }
+        ensures places { IfOk result (λ room. length locks.now.queue + set.len room.inodes + 1 ≤ endings.new.changes.room) }
+        ensures note { IfOk result (λ room. Notes (option_to_list room.note) client change.entry) }
         ensures judged { OnOk result (endings.new.judged ≡ None) }
+        // What the last step changed stays listed.
+        ensures changes { endings.new.changes.items ≡ endings.old.changes.items }
     {
-        let others = reach_client(alloc, table, locks, client)?;
+        let mut inodes = NonEmptyInoSet::of(alloc, ROOT);
+        reach_entries(table, client, &mut inodes)?;
+        reach_requests(locks, client, &mut inodes)?;
+        let note = note_of(client, change)?;
         let waiting = locks.waiting();
-        let places = waiting + others.len() + 2;
-        if let Err(refused) = begin_change(endings, waiting, places, client, change) {
-            drop(others);
-            return Err(refused);
-        }
-        match Messages::with_room(alloc, waiting) {
-            Ok(dropped) => Ok(Room { others, dropped }),
-            Err(refused) => {
-                drop(others);
-                Err(refused)
-            }
-        }
+        let dropped = Messages::with_room(alloc, waiting)?;
+        endings.begin(waiting, waiting + inodes.len() + 1)?;
+        Ok(Room {
+            inodes,
+            dropped,
+            note,
+        })
     }
 }
 
-// No request that ended, and room for so many; and it is noted what becomes of the session, with room for so many changes.
-fn begin_change(
-    endings: &mut Endings,
-    waiting: usize,
-    places: usize,
-    client: ClientId,
-    change: SessionChange,
-) -> Result<(), AllocError>
-    requires place { 1 ≤ places }
-    ensures room { OnOk result (HaveRoomFor waiting endings.new) }
-    ensures places { OnOk result ((length endings.new.changes.items ≤ 1) × (places ≤ endings.new.changes.room)) }
-    ensures lead { OnOk result (Notes endings.new.changes.items client change.entry) }
-    ensures judged { OnOk result (endings.new.judged ≡ None) }
-{
-    endings.begin(waiting, places)?;
-    note_session_change(&mut endings.changes, client, change)
-}
-
-// Notes what becomes of the session. Other grants are copied, which takes memory.
-fn note_session_change(
-    changes: &mut ChangeList,
-    client: ClientId,
-    change: SessionChange,
-) -> Result<(), AllocError>
-    requires none { changes.old.items ≡ [] }
-    requires place { length changes.old.items < changes.old.room }
-    ensures lead { OnOk result (Notes changes.new.items client change.entry) }
-    ensures count { length changes.new.items ≤ 1 }
-    ensures room { changes.old.room ≤ changes.new.room }
+// What readers are told of the session, if anything. Other grants are copied, which takes memory.
+fn note_of(client: ClientId, change: SessionChange) -> Result<Option<ViewChange>, AllocError>
+    ensures { IfOk result (λ note. Notes (option_to_list note) client change.entry) }
 {
     match change {
-        SessionChange::Close | SessionChange::Evict => changes.push(ViewChange::Ended { client }),
-        SessionChange::Mark(_) => {}
-        SessionChange::Regrant(grants) => changes.push(ViewChange::of_regrant(client, grants)?),
+        SessionChange::Close | SessionChange::Evict => Ok(Some(ViewChange::Ended { client })),
+        SessionChange::Mark(_) => Ok(None),
+        SessionChange::Regrant(grants) => Ok(Some(ViewChange::of_regrant(client, grants)?)),
     }
-    Ok(())
 }
 
-// Each inode that the client has an entry on or waits for, but for the root.
-fn reach_client(
-    alloc: Global,
+// Adds each inode that the client has an entry on.
+fn reach_entries(
     table: &CapTable,
-    locks: &Locks,
     client: ClientId,
-) -> Result<InoSet, AllocError>
-    ensures { IfOk result (λ others. ReachesClient 1 client table.now locks.now others) }
-{
-    let mut others = InoSet::new(alloc);
-    reach_entries(table, client, &mut others)?;
-    reach_requests(locks, client, &mut others)?;
-    Ok(others)
-}
-
-// Adds each inode that the client has an entry on, but for the root.
-fn reach_entries(table: &CapTable, client: ClientId, others: &mut InoSet) -> Result<(), AllocError>
-    ensures widens { Widens 1 others.old others.new }
-    ensures reaches { OnOk result ((row : EntryRow) → Contains table.now.rows row → is_of_client client row ≡ true
-        → is_affected 1 others.new row.holder.ino.0 ≡ true) }
+    inodes: &mut NonEmptyInoSet,
+) -> Result<(), AllocError>
+    ensures { OnOk result ((row : EntryRow) → Contains table.now.rows row → is_of_client client row ≡ true
+        → set.contains inodes.new row.holder.ino.0 ≡ true) }
 {
     let mut walk = table.entries_of(client);
     'rows: while let Some(row) = walk.next() {
-        add_other(row.holder.ino, others)?;
+        inodes.insert(row.holder.ino)?;
     }
     Ok(())
 }
 
-// Adds each inode that the client waits for, but for the root.
-fn reach_requests(locks: &Locks, client: ClientId, others: &mut InoSet) -> Result<(), AllocError>
-    ensures widens { Widens 1 others.old others.new }
+// Adds each inode that the client waits for.
+fn reach_requests(
+    locks: &Locks,
+    client: ClientId,
+    inodes: &mut NonEmptyInoSet,
+) -> Result<(), AllocError>
+    ensures widens { Widens inodes.old inodes.new }
     ensures reaches { OnOk result ((q : Request) → Contains locks.now.queue q → is_asked_by client q ≡ true
-        → is_affected 1 others.new q.ino.0 ≡ true) }
+        → set.contains inodes.new q.ino.0 ≡ true) }
 {
     for request in locks.requests() {
         if request.client.0 == client.0 {
-            add_other(request.ino, others)?;
+            add_inode(request.ino, inodes)?;
         }
     }
     Ok(())
 }
 
-// Adds the inode, if it is not the root.
-fn add_other(ino: Ino, others: &mut InoSet) -> Result<(), AllocError>
-    ensures widens { Widens 1 others.old others.new }
-    ensures reaches { OnOk result (is_affected 1 others.new ino.0 ≡ true) }
+// Adds the inode. By itself, so that what a set keeps is proved apart from the walk.
+fn add_inode(ino: Ino, inodes: &mut NonEmptyInoSet) -> Result<(), AllocError>
+    ensures widens { Widens inodes.old inodes.new }
+    ensures reaches { OnOk result (set.contains inodes.new ino.0 ≡ true) }
 {
-    if ino == ROOT {
-        return Ok(());
-    }
-    others.insert(ino)
+    inodes.insert(ino)
 }

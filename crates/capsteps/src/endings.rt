@@ -10,7 +10,7 @@ use std::fmt;
 
 /// The requests that a step ends: once to be told to their clients, and once for the history; the inodes whose sizes they
 /// changed; what the step changes of what readers see; and the request that came with the step and was judged then, until one is
-/// served. Between steps their room alone is of use, and is no part of a state.
+/// served. Between steps the changes are those of the last; of the others the room alone is of use.
 pub struct Endings {
     pub told: Messages,
     pub kept: Messages,
@@ -41,7 +41,9 @@ impl fmt::Debug for Endings {
 
 impl Endings {
     /// No request and no change, and no room.
-    pub fn new(alloc: Global) -> Endings {
+    pub fn new(alloc: Global) -> Endings
+        ensures changes { result.changes.items ≡ [] }
+    {
         Endings {
             told: Messages::new(alloc),
             kept: Messages::new(alloc),
@@ -51,10 +53,11 @@ impl Endings {
         }
     }
 
-    /// No request and no change, and room for so many requests and so many changes.
+    /// No request, and room for so many; and places for so many changes. What is listed of changes stays until it is cleared.
     pub fn begin(&mut self, room: usize, places: usize) -> Result<(), AllocError>
         ensures room { OnOk result (HaveRoomFor room self.new) }
-        ensures changes { OnOk result ((self.new.changes.items ≡ []) × (places ≤ self.new.changes.room)) }
+        ensures changes { self.new.changes.items ≡ self.old.changes.items }
+        ensures places { OnOk result (places ≤ self.new.changes.room) }
         ensures judged { OnOk result (self.new.judged ≡ None) }
     {
         self.judged = None;
@@ -101,19 +104,10 @@ impl Endings {
             ticket,
             outcome: kept,
         });
-        add_sized(&mut self.sized, sized);
-    }
-}
-
-// One inode more, if there is one, for which there is room.
-fn add_sized(inodes: &mut Vec<Ino>, sized: Option<Ino>)
-    requires room { length inodes.old.items < vec_capacity inodes.old }
-    ensures items { inodes.new.items ≡ inodes.old.items ++ filter_map (λ ino. ino) (sized ∷ []) }
-    ensures room { vec_capacity inodes.old ≤ vec_capacity inodes.new }
-{
-    if let Some(ino) = sized {
-        let Ok(()) = inodes.push(ino) else {
-            unreachable!()
-        };
+        if let Some(ino) = sized {
+            let Ok(()) = self.sized.push(ino) else {
+                unreachable!()
+            };
+        }
     }
 }

@@ -1,13 +1,12 @@
 //! What an event asks of one entry, and what of the entry that changes.
-ghost use Rattle.std.specs.Prelude.{◌≡◌, ◌<◌, ◌^◌, ◌-◌, [], None, OnOk, OnErr};
+ghost use Rattle.std.specs.{Option.{option_map}, Prelude.{◌≡◌, ◌<◌, ◌^◌, ◌-◌, [], None, Some, IfOk, OnOk, OnErr}};
 ghost use Rattle.capbits.specs.Refusal.{first_failing};
-ghost use Rattle.captable.specs.{Calls.{opened}, Table.{entry_at}, Tests.{open_tests}};
-ghost use Rattle.capacts.specs.{Caprules.Direct.{reply_of, shown, with_table}, Caprules.Judge.{revoked_of, room_for}, Caprules.State.{State}, Known.{AreKnown}, Lockmachine.declared.scene.Scene.{Scene}};
+ghost use Rattle.captable.specs.Table.{entry_at};
+ghost use Rattle.capacts.specs.{Caprules.Direct.{reply_of, shown, with_entry, with_table}, Caprules.Judge.{revoked_of, room_for}, Caprules.State.{State}, Known.{AreKnown}, Lockmachine.declared.scene.Scene.{Scene}};
 ghost use Rattle.capacts.specs.Caprules.Direct as effects;
 ghost use Rattle.capsteps.specs.EntryRequest as words;
 
-use crate::finish::show;
-use capacts::{OpenMode, Policy, Reply, permitted};
+use capacts::{OpenMode, Reply, Scene, permitted};
 use capbits::{Cap, CapSet};
 use captable::{CapTable, Holder, Known, Sets};
 use std::alloc::AllocError;
@@ -35,116 +34,69 @@ pub fn revoked_of(table: &CapTable, known: &Known, holder: Holder) -> CapSet
     }
 }
 
-/// What is being revoked of the holder's entry, where the request takes it, as an acknowledgement does. Else it is not looked for.
-pub fn revoked_by(table: &CapTable, known: &Known, holder: Holder, request: &EntryRequest) -> CapSet
-    ensures tests { (s : Scene) → s.table ≡ table.now → AreKnown known.now.sets s
-        → words.entry_request_tests table.now holder result request.now ≡ words.entry_request_tests table.now holder (revoked_of s holder) request.now }
-    ensures takes { (s : Scene) → s.table ≡ table.now → AreKnown known.now.sets s
-        → words.table_after table.now holder result request.now ≡ words.table_after table.now holder (revoked_of s holder) request.now }
-{
-    match request {
-        EntryRequest::Ack(_) => revoked_of(table, known, holder),
-        EntryRequest::Open(_) | EntryRequest::Want(_) | EntryRequest::Release(_) => CapSet::empty(),
-    }
-}
-
-/// Applies the request to the holder's entry; `revoked` are its caps that are being revoked, where the request takes them. An
-/// opening alone takes memory: for want of it nothing changes.
+/// Applies the request to the holder's entry. An opening alone takes memory: for want of it nothing changes.
 pub fn apply_request(
-    policy: &Policy<'_>,
-    table: &mut CapTable,
+    scene: &mut Scene,
     known: &mut Known,
     holder: Holder,
-    revoked: CapSet,
     request: &EntryRequest,
 ) -> Result<(), AllocError>
-    requires made { table.old.made < 2 ^ 64 - 1 }
-    requires passed { first_failing (words.entry_request_tests table.old holder revoked request.now) ≡ None }
-    ensures ok { OnOk result (table.new ≡ words.table_after table.old holder revoked request.now) }
-    ensures err { OnErr result (table.new ≡ table.old) }
-    ensures kept { words.StillKept policy.now table.old table.new known.old.sets known.new.sets }
+    requires made { scene.old.table.made < 2 ^ 64 - 1 }
+    requires known { AreKnown known.old.sets scene.old }
+    requires passed { first_failing (words.entry_request_tests scene.old holder request.now) ≡ None }
+    ensures ok { OnOk result (scene.new ≡ record scene.old { table = words.table_after scene.old holder request.now }) }
+    ensures err { OnErr result (scene.new ≡ scene.old) }
+    ensures kept { words.StillKept scene.old scene.new.table known.old.sets known.new.sets }
 {
-    match request {
-        EntryRequest::Open(mode) => open(policy, table, known, holder, *mode)?,
-        EntryRequest::Want(caps) => want(table, holder, caps.union(CapSet::of(&[Cap::P]))),
+    let (client, ino) = (holder.client, holder.ino);
+    let wanted = match request {
+        EntryRequest::Open(mode) => {
+            let before = find_or_open(scene, known, holder)?;
+            before.union(opening_wants(*mode))
+        }
+        EntryRequest::Want(caps) => caps.union(CapSet::of(&[Cap::P])),
         EntryRequest::Ack(seq) => {
-            table.ack_tested(holder.client, holder.ino, *seq, revoked);
-            known.remove_unheld(table, holder);
+            let revoked = revoked_of(&scene.table, known, holder);
+            scene.table.ack_tested(client, ino, *seq, revoked);
+            known.remove_unheld(&scene.table, holder);
+            return Ok(());
         }
         EntryRequest::Release(caps) => {
-            table.release_tested(holder.client, holder.ino, *caps);
-            known.remove_unheld(table, holder);
-        }
-    }
-    Ok(())
-}
-
-// The holder has an entry, made where there is none, which wants what the opening takes too.
-fn open(
-    policy: &Policy<'_>,
-    table: &mut CapTable,
-    known: &mut Known,
-    holder: Holder,
-    mode: OpenMode,
-) -> Result<(), AllocError>
-    requires made { table.old.made < 2 ^ 64 - 1 }
-    requires passed { first_failing (room_for table.old holder) ≡ None }
-    ensures ok { OnOk result (table.new ≡ effects.with_opening table.old holder mode) }
-    ensures err { OnErr result (table.new ≡ table.old) }
-    ensures kept { words.StillKept policy.now table.old table.new known.old.sets known.new.sets }
-{
-    let wanted = match table.find(holder.client, holder.ino) {
-        Some(entry) => entry.want,
-        None => {
-            make_entry(policy, table, known, holder)?;
-            CapSet::empty()
+            scene.table.release_tested(client, ino, *caps);
+            known.remove_unheld(&scene.table, holder);
+            return Ok(());
         }
     };
-    want(table, holder, wanted.union(opening_wants(mode)));
+    scene.table.set_want(client, ino, wanted);
+    scene.table.touch(client, ino);
     Ok(())
 }
 
-// Makes the holder's entry, of which nothing is known yet, and judges what it is permitted. For want of memory nothing changes.
-fn make_entry(
-    policy: &Policy<'_>,
-    table: &mut CapTable,
-    known: &mut Known,
-    holder: Holder,
-) -> Result<(), AllocError>
-    requires new { entry_at table.old holder ≡ None }
-    requires made { table.old.made < 2 ^ 64 - 1 }
-    requires passed { first_failing (open_tests table.old) ≡ None }
-    ensures ok { OnOk result (table.new ≡ opened table.old holder) }
-    ensures err { OnErr result (table.new ≡ table.old) }
-    ensures kept { words.StillKept policy.now table.old table.new known.old.sets known.new.sets }
+// What the holder's entry wants. Where there is none it is made: it wants nothing, nothing of it is known yet, and what its client
+// is permitted is judged. For want of memory nothing changes.
+fn find_or_open(scene: &mut Scene, known: &mut Known, holder: Holder) -> Result<CapSet, AllocError>
+    requires made { scene.old.table.made < 2 ^ 64 - 1 }
+    requires passed { first_failing (room_for scene.old.table holder) ≡ None }
+    ensures ok { OnOk result (scene.new ≡ record scene.old { table = with_entry scene.old.table holder }) }
+    ensures wants { IfOk result (λ wants. option_map (λ entry. entry.want) (entry_at scene.new.table holder) ≡ Some wants) }
+    ensures err { OnErr result (scene.new ≡ scene.old) }
+    ensures kept { words.StillKept scene.old scene.new.table known.old.sets known.new.sets }
 {
-    known.add(holder)?;
-    match table.open_entry_tested(holder.client, holder.ino) {
-        Ok(()) => {
+    let (client, ino) = (holder.client, holder.ino);
+    match scene.table.find(client, ino) {
+        Some(entry) => Ok(entry.want),
+        None => {
+            known.add(holder)?;
+            if let Err(refused) = scene.table.open_entry_tested(client, ino) {
+                known.remove(holder);
+                return Err(refused);
+            }
             let told = CapSet::empty();
-            let permitted = permitted(
-                policy.fs,
-                policy.tree,
-                policy.sessions,
-                holder.client,
-                holder.ino,
-            );
+            let permitted = permitted(&scene.fs, &scene.tree, &scene.sessions, client, ino);
             known.put(holder, Sets { told, permitted }, 0);
-            Ok(())
-        }
-        Err(refused) => {
-            known.remove(holder);
-            Err(refused)
+            Ok(CapSet::empty())
         }
     }
-}
-
-// The holder's entry wants these, and comes last in the order of recall.
-fn want(table: &mut CapTable, holder: Holder, caps: CapSet)
-    ensures { table.new ≡ effects.with_want table.old holder (λ _. caps) }
-{
-    table.set_want(holder.client, holder.ino, caps);
-    table.touch(holder.client, holder.ino);
 }
 
 // What a client that opens an inode wants of it.
@@ -166,7 +118,7 @@ fn opening_wants(mode: OpenMode) -> CapSet
     }
 }
 
-/// Says what is answered to it at the end of the step, and tells the holder's client so.
+/// What is answered to it at the end of the step. What an opening or a want shows, the holder's client is told.
 pub fn show_reply(
     table: &mut CapTable,
     known: &Known,
@@ -179,7 +131,15 @@ pub fn show_reply(
         → with_table s table.new ≡ shown (words.entry_answer holder request.now) s }
 {
     match request {
-        EntryRequest::Open(_) | EntryRequest::Want(_) => show(table, known, holder),
+        EntryRequest::Open(_) | EntryRequest::Want(_) => {
+            match table.tell(holder.client, holder.ino) {
+                Some(entry) => Reply::Opened {
+                    seq: entry.seq,
+                    caps: known.of(holder, 0).told,
+                },
+                None => Reply::Done,
+            }
+        }
         EntryRequest::Ack(_) | EntryRequest::Release(_) => Reply::Done,
     }
 }

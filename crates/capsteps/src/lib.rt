@@ -4,7 +4,6 @@
 #![tactic(auto)]
 
 pub mod client;
-pub mod ended;
 pub mod endings;
 pub mod entry_request;
 pub mod finish;
@@ -16,8 +15,8 @@ pub mod sizes;
 pub mod start;
 
 pub use capacts::{
-    Ask, Bytes, Change, ChangeList, Ended, EndedList, EndedTickets, Event, Locks, Message,
+    Ask, Asked, Bytes, Change, ChangeList, Ended, EndedList, EndedTickets, Event, Locks, Message,
     MessageList, Messages, Move, OpenMode, Outcome, PartValues, Policy, Question, Rejection, Reply,
-    Row, Scene, Unknown, View, ViewChange, Wants, copy_of_messages, history, judge, leaving,
-    renewing, serving, stop, wants_on,
+    Row, Scene, Unknown, View, ViewChange, Wants, copy_of_ask, copy_of_messages, copy_of_reply,
+    history, judge, leaving, renewing, serving, stop, wants_on,
 };

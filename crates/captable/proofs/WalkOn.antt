@@ -1,7 +1,6 @@
 -- The rows from a place of a list on.
-use Rattle.std.proofs.Common.{◌≡◌, ℕ, arith, Bool, true, false, cond, ◌||◌, Option, Some, None, List, [], ◌∷◌, length, map, not, is_some, refl, sym, ap, ◌∙◌, nat_eq, slice_get}
-use Rattle.std.specs.Prelude.{◌==◌, suc}
-use Rattle.std.specs.List.{AllByRecursion, IsDistinct}
+use Rattle.std.proofs.Common.{◌≡◌, ℕ, Bool, true, false, cond, ◌||◌, Option, Some, None, List, [], ◌∷◌, map, is_some, refl, sym, ap, ◌∙◌, nat_eq, slice_get}
+use Rattle.std.specs.List.{AllByRecursion, IsDistinct, list_any}
 use Rattle.std.specs.Option.{option_map_or, option_and_then}
 use Rattle.std.specs.Cmp.{nat_eq_equiv}
 use Rattle.std.proofs.lemmas.Bool.{eq-eqb, eqb-true}
@@ -11,7 +10,7 @@ use Rattle.cap_arena.specs.declared.nodes.Node.{Node}
 use Rattle.cap_arena.specs.Walks.{is_among, key_after}
 use Rattle.cap_arena.specs.Lists.{Lists, ListName, OfInode, OfClient, belongs, node_at, keys, IsLists}
 use Rattle.captable.specs.declared.entry.Slot.{Slot}
-use Rattle.captable.specs.Nodes.{row_of, with_first, nodes_at}
+use Rattle.captable.specs.Nodes.{row_of, with_first, nodes_at, nodes_in}
 use Rattle.captable.specs.Walks.{keys_on, keys_from, rows_from, IsPlaceIn, IsPlaceOf}
 use Rattle.captable.proofs.NodesAt.{head_in, rest_in}
 
@@ -107,22 +106,14 @@ module _ (t : Lists Slot) (is : IsLists t) where
           absurd (cc)
       by_node (Some n) e = next-of-client client key n e listed
 
-  -- a walk has come to its end where no key is left
-  pub ended-where : (name : ListName) (place : Option ℕ) (done : Bool) → IsPlaceOf t name place → is_some place ≡ not done → done ≡ (length (rows_from t name place) == 0)
-  ended-where name None true there is_done = refl
-  ended-where name None false there is_done = absurd (cc)
-  ended-where name (Some key) true there is_done = absurd (cc)
-  ended-where name (Some key) false there is_done = by_node (node_at t key) refl
+  -- a list with a first key has a row
+  pub some-first : (name : ListName) → is_some (slice_get (keys t name) 0) ≡ list_any (λ _. true) (map row_of (nodes_in t name))
+  some-first name = by_keys (keys t name) (is.lists name).nodes
     where
-      by_node : (o : Option (Node Slot)) → node_at t key ≡ o → false ≡ (length (rows_from t name (Some key)) == 0)
-      by_node None e =
-          let none : is_among (keys t name) key ≡ false = (is.lists name).nodes key ∙ ap (λ o. option_map_or (belongs name) o false) e in
-          absurd (cc)
-      by_node (Some n) e = counted (length (rows_from t name (Some key)) == 0) refl
+      by_keys : (ks : List ℕ) → ((key : ℕ) → is_among ks key ≡ option_map_or (belongs name) (node_at t key) false) → is_some (slice_get ks 0) ≡ list_any (λ _. true) (map row_of (nodes_at (node_at t) ks))
+      by_keys [] nodes = refl
+      by_keys (key ∷ ks) nodes = by_node (node_at t key) (sym (nodes key) ∙ head_in key ks)
         where
-          counted : (b : Bool) → (length (rows_from t name (Some key)) == 0) ≡ b → false ≡ (length (rows_from t name (Some key)) == 0)
-          counted false is = sym is
-          counted true is =
-              let none : length (rows_from t name (Some key)) ≡ 0 = eqb-true (length (rows_from t name (Some key))) 0 is in
-              let some : length (rows_from t name (Some key)) ≡ suc (length (rows_from t name (key_after (keys t name) key))) = ap length (rows-next name key n e there) in
-              absurd (omega (arith, none, some))
+          by_node : (o : Option (Node Slot)) → option_map_or (belongs name) o false ≡ true → true ≡ list_any (λ _. true) (map row_of (with_first o (nodes_at (node_at t) ks)))
+          by_node None none = absurd (cc)
+          by_node (Some n) there = refl

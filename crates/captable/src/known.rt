@@ -6,12 +6,12 @@ ghost use Rattle.captable.specs.declared.entry.Entry.{Entry};
 ghost use Rattle.captable.specs.declared.entry.Holder.{Holder};
 ghost use Rattle.captable.specs.Table.{entry_at};
 ghost use Rattle.capbits.specs.declared.ids.ClientId.{ClientId};
-ghost use Rattle.captable.specs.Known.{no_sets, sets_of, sets_on};
+ghost use Rattle.captable.specs.Known.{known_of, no_sets, permitted_of, sets_of, sets_on};
 
 use crate::entry::Holder;
 use crate::on_inode::{OnInode, Sets};
 use crate::table::CapTable;
-use capbits::{ClientId, Ino};
+use capbits::{CapSet, ClientId, Ino};
 use numbered::Numbered;
 use std::alloc::{AllocError, Global};
 
@@ -86,6 +86,18 @@ impl Known {
         if let Some(on) = self.sets.get_mut(holder.ino.0) {
             on.put(holder.client, sets, place);
         }
+    }
+
+    /// Keeps of the holder, of whom something is kept already, that its client is permitted this. `place` is a guess. It takes no
+    /// memory.
+    pub fn permit(&mut self, holder: Holder, permitted: CapSet, place: usize)
+        requires there { IsSome (sets_of self.old.sets holder) }
+        ensures own { permitted_of self.new.sets holder ≡ Some permitted }
+        ensures others { (k : Holder) → k ≢ holder → permitted_of self.new.sets k ≡ permitted_of self.old.sets k }
+        ensures told { (k : Holder) → known_of self.new.sets k ≡ known_of self.old.sets k }
+    {
+        let kept = self.of(holder, place);
+        self.put(holder, Sets { permitted, ..kept }, place);
     }
 
     /// Keeps nothing of a new holder, so that there is room for its sets. For want of memory nothing changes.

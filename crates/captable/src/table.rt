@@ -80,7 +80,7 @@ impl fmt::Debug for CapTable {
 
 impl CapTable {
     ghost use Rattle.captable.specs.Table as words;
-    ghost use Rattle.std.specs.List.{fold};
+    ghost use Rattle.std.specs.List.{fold, list_any};
     ghost use Rattle.std.specs.Result.{result_err};
     ghost use Rattle.cap_arena.specs.Lists.{IsLists};
     ghost use Rattle.cap_arena.specs.Calls.{refusal_in};
@@ -523,6 +523,13 @@ impl CapTable {
         ensures sound { IsTable self.now }
     {
         Walk::of_inode(&self.lists, ino)
+    }
+
+    /// Whether somebody has an entry on the inode.
+    pub fn is_held(&self, ino: Ino) -> bool
+        ensures { result ≡ list_any (is_of_inode ino) self.now.rows }
+    {
+        self.lists.first_of_ino(ino).is_some()
     }
 
     /// Marks the first `n` entries in the order of recall as asked for capabilities, and answers whose they are, in this

@@ -1,5 +1,5 @@
 //! Walks over the entries of one client, or of one inode.
-ghost use Rattle.std.specs.Prelude.{◌≡◌, ◌==◌, IfSome, IfNone, [], ◌∷◌, length, map};
+ghost use Rattle.std.specs.Prelude.{◌≡◌, IfSome, IfNone, [], ◌∷◌, map};
 ghost use Rattle.cap_arena.specs.Lists.{IsLists, OfInode, OfClient};
 ghost use Rattle.captable.specs.Nodes as words;
 ghost use Rattle.captable.specs.Nodes.{nodes_in};
@@ -69,15 +69,6 @@ impl<'a> Walk<'a> {
         let at = lists.first_of_ino(ino);
         let sought = Sought::Inode(ino);
         Walk { lists, sought, at }
-    }
-
-    /// Whether the walk has come to its end.
-    pub fn is_done(&self) -> bool
-        ensures { result ≡ (length self.now == 0) }
-    {
-        // A look at the lists, by which the proof knows what they keep.
-        let _oldest = self.lists.oldest();
-        self.at.is_none()
     }
 
     /// The next entry, with its holder; none at the end of the walk.

@@ -1,18 +1,22 @@
--- Sets of inodes: what the numbers of a tree set say of the set that they make, the least from a number on, and what an inode more
--- makes of it.
-use Rattle.std.proofs.Common.{◌≡◌, ℕ, ◌<◌, ◌≤◌, ◌+◌, Bool, true, false, List, [], ◌∷◌, refl, sym, ap, ◌∙◌, arith}
+-- Sets of inodes: what the numbers of a tree set say of the set that they make, the least from a number on, and one inode beside
+-- others.
+use Rattle.std.proofs.Common.{◌≡◌, ◌≢◌, ℕ, ◌<◌, ◌≤◌, ◌+◌, ◌-◌, ◌==◌, Option, Some, None, ◌⊎◌, inl, inr, Bool, true, false, cond, not, ◌&&◌, ◌||◌, List, [], ◌∷◌, length, Result, Ok, Err, OnOk, OnErr, refl, sym, ap, ◌∙◌, true≢false, arith}
+use Rattle.std.proofs.Math.Bool.{or-true}
+use Rattle.std.proofs.lemmas.Bool.{eqb-true, eqb-false, eq-eqb, ne_eqb, or_parts}
 use Rattle.std.specs.declared.cmp.Ordering.TheVariants.{Less, Equal, Greater}
 use Rattle.std.specs.declared.ops.Bound.{Bound}
 use Rattle.std.specs.declared.ops.Bound.TheVariants.{Included, Excluded, Unbounded}
 use Rattle.std.specs.BTreeMap.Range.{IsInRange}
 use Rattle.std.specs.BTreeSet as btree
 use Rattle.std.specs.BTreeSet.{BTreeSet, IsKeyRangeOf}
-use Rattle.std.specs.Cmp.{nat_cmp_total, ranked}
+use Rattle.std.specs.Cmp.{nat_cmp_total, ranked, unsigned_tied, eq_by_cmp_equiv}
 use Rattle.std.specs.FinSet as set
+use Rattle.std.specs.List.{AllByRecursion, list_any}
 use Rattle.std.specs.List.Sorted.{IsStrictlySortedBy}
-use Rattle.std.specs.Ordering.{nat_cmp, is_gt}
-use Rattle.std.proofs.lemmas.Map.Keys.{le_from_not_gt, IsDistinct-from_sorted}
-use Rattle.inotree.specs.InoSets.{InoSet, IsListOf, IsLeastFrom}
+use Rattle.std.specs.Ordering.{nat_cmp, is_gt, eq_by_cmp}
+use Rattle.std.proofs.lemmas.Map.Keys.{le_from_not_gt, IsDistinct-from_sorted, IsDistinct-cons}
+use Rattle.capbits.specs.declared.ids.Ino.{Ino}
+use Rattle.inotree.specs.InoSets.{InoSet, IsListOf, IsLeastFrom, IsNext}
 
 -- ---- its numbers
 
@@ -77,3 +81,129 @@ module _ (s : BTreeSet ℕ) (inos : InoSet) (is : set.from_list {R = nat_cmp} s.
       nothing k h less true found =
           let above = le_from_not_gt e k (range.2 k (begins.inside k h) found) in
           absurd (omega (arith, above))
+
+-- ---- numbers that are equal
+
+same_number : (a b : ℕ) → eq_by_cmp nat_cmp a b ≡ true → a ≡ b
+same_number a b is = eqb-true a b (sym (unsigned_tied a b) ∙ is)
+
+differ : (a b : ℕ) → a ≢ b → eq_by_cmp nat_cmp a b ≡ false
+differ a b apart = unsigned_tied a b ∙ ne_eqb a b apart
+
+itself : (a : ℕ) → eq_by_cmp nat_cmp a a ≡ true
+itself a = (eq_by_cmp_equiv nat_cmp_total).refl a
+
+-- ---- one alone
+
+-- of a set of one, two that are in it are the same
+pub same-in-single : (inos : InoSet) → set.len inos ≡ 1 → (a b : ℕ) → set.contains inos a ≡ true → set.contains inos b ≡ true → a ≡ b
+same-in-single inos one a b has_a has_b = by_test (eq_by_cmp nat_cmp b a) refl
+  where
+    less : InoSet
+    less = set.remove inos a
+
+    none : less ≡ set.empty
+    none = set.empty_of_len less (set.len-remove nat_cmp_total inos a ∙ (λ i. cond (has_a i) (one i - 1) (one i)))
+
+    by_test : (t : Bool) → eq_by_cmp nat_cmp b a ≡ t → a ≡ b
+    by_test true is = sym (same_number b a is)
+    by_test false is =
+        let out : set.contains less b ≡ false = ap (λ (s : InoSet). set.contains s b) none ∙ set.contains-empty nat_cmp b in
+        let still : set.contains less b ≡ true = set.contains-remove nat_cmp_total inos a b ∙ (λ i. not (is i) && has_b i) in
+        absurd (true≢false (sym still ∙ out))
+
+-- ---- one beside others
+
+module _ (others : InoSet) (one : ℕ) (inos : InoSet) (is : set.insert others one ≡ inos) where
+  pub at-beside : (k : ℕ) → set.contains inos k ≡ (eq_by_cmp nat_cmp k one || set.contains others k)
+  at-beside k = ap (λ (s : InoSet). set.contains s k) (sym is) ∙ set.contains-insert nat_cmp_total others one k
+
+  other_there : (k : ℕ) → set.contains others k ≡ true → set.contains inos k ≡ true
+  other_there k there = at-beside k ∙ ap (λ b. eq_by_cmp nat_cmp k one || b) there ∙ or-true (eq_by_cmp nat_cmp k one)
+
+  neither : (k : ℕ) → k ≢ one → set.contains others k ≡ false → set.contains inos k ≡ false
+  neither k apart none = at-beside k ∙ (λ i. differ k one apart i || none i)
+
+  -- the least of the others is the least of all, where the one lies too low or behind it
+  pub least-other : (from e : ℕ) → (one < from) ⊎ (e ≤ one) → IsLeastFrom others from e → IsLeastFrom inos from e
+  least-other from e before next = record {
+    has = other_there e next.has;
+    reached = next.reached;
+    least = λ k h less. neither k (λ same. not_one k h less same before) (next.least k h less);
+  }
+    where
+      not_one : (k : ℕ) → from ≤ k → k < e → k ≡ one → (one < from) ⊎ (e ≤ one) → ⊥
+      not_one k h less same (inl low) = omega (arith, h, less, same, low)
+      not_one k h less same (inr high) = omega (arith, h, less, same, high)
+
+  -- else the one is
+  pub least-one : (from : ℕ) → from ≤ one → ((k : ℕ) → from ≤ k → k < one → set.contains others k ≡ false) → IsLeastFrom inos from one
+  least-one from reached none = record {
+    has = at-beside one ∙ ap (λ b. b || set.contains others one) (itself one);
+    reached = reached;
+    least = λ k h less. neither k (λ same. omega (arith, less, same)) (none k h less);
+  }
+
+  -- the one lies too low
+  pub next-others : (from : ℕ) (r : Option Ino) → one < from → IsNext others from r → IsNext inos from r
+  next-others from None low none = λ k h. neither k (λ same. omega (arith, low, h, same)) (none k h)
+  next-others from (Some other) low next = least-other from other.0 (inl low) next
+
+  -- the one is in already
+  pub insert-one : inos ≡ set.insert inos one
+  insert-one = set.same_set nat_cmp_total set.nat_cmp-IsAntisymmetric inos (set.insert inos one) (λ k. by_test k (eq_by_cmp nat_cmp k one) refl ∙ sym (set.contains-insert nat_cmp_total inos one k))
+    where
+      by_test : (k : ℕ) (t : Bool) → eq_by_cmp nat_cmp k one ≡ t → set.contains inos k ≡ (eq_by_cmp nat_cmp k one || set.contains inos k)
+      by_test k true tied = at-beside k ∙ (λ i. tied i || set.contains others k) ∙ sym (ap (λ b. b || set.contains inos k) tied)
+      by_test k false tied = sym (ap (λ b. b || set.contains inos k) tied)
+
+  -- one more beside it
+  insert_other : (k : ℕ) → set.insert (set.insert others k) one ≡ set.insert inos k
+  insert_other k = set.same_set nat_cmp_total set.nat_cmp-IsAntisymmetric (set.insert (set.insert others k) one) (set.insert inos k) same
+    where
+      swapped : (a b c : Bool) → (a || (b || c)) ≡ (b || (a || c))
+      swapped true true c = refl
+      swapped true false c = refl
+      swapped false b c = refl
+
+      same : (q : ℕ) → set.contains (set.insert (set.insert others k) one) q ≡ set.contains (set.insert inos k) q
+      same q =
+          set.contains-insert nat_cmp_total (set.insert others k) one q
+          ∙ ap (λ b. eq_by_cmp nat_cmp q one || b) (set.contains-insert nat_cmp_total others k q)
+          ∙ swapped (eq_by_cmp nat_cmp q one) (eq_by_cmp nat_cmp q k) (set.contains others q)
+          ∙ sym (ap (λ b. eq_by_cmp nat_cmp q k || b) (at-beside q))
+          ∙ sym (set.contains-insert nat_cmp_total inos k q)
+
+  pub insert-tried : {A E : Type 0} (k : ℕ) (more : InoSet) (r : Result A E) → OnOk r (more ≡ set.insert others k) → OnOk r (set.insert more one ≡ set.insert inos k)
+  insert-tried k more (Ok x) ok = ap (λ (s : InoSet). set.insert s one) ok ∙ insert_other k
+  insert-tried k more (Err e) ok = tt
+
+  module _ (apart : set.contains others one ≡ false) where
+    pub len-beside : set.len inos ≡ set.len others + 1
+    len-beside = ap set.len (sym is) ∙ set.len-insert nat_cmp_total others one ∙ ap (λ b. cond b (set.len others) (set.len others + 1)) apart
+
+    pub single-beside : (set.len others == 0) ≡ (set.len inos == 1)
+    single-beside = one_more (set.len others) ∙ ap (λ n. n == 1) (sym len-beside)
+      where
+        one_more : (n : ℕ) → (n == 0) ≡ (n + 1 == 1)
+        one_more n = by_test (n == 0) refl
+          where
+            by_test : (b : Bool) → (n == 0) ≡ b → (n == 0) ≡ (n + 1 == 1)
+            by_test true is = (let none = eqb-true n 0 is in is ∙ sym (eq-eqb (n + 1) 1 (omega (arith, none))))
+            by_test false is = is ∙ sym (ne_eqb (n + 1) 1 (λ same. eqb-false n 0 is (omega (arith, same))))
+
+    -- before the numbers of the others it makes those of all
+    pub listed-beside : (numbers : List ℕ) → IsListOf others numbers → IsListOf inos (one ∷ numbers)
+    listed-beside numbers list = record {
+      among = λ k. at-beside k ∙ ap (λ b. eq_by_cmp nat_cmp k one || b) (list.among k);
+      once = IsDistinct-cons (eq_by_cmp nat_cmp) one numbers (no_other numbers (sym (list.among one) ∙ apart)) list.once;
+    }
+      where
+        no_other : (ns : List ℕ) → list_any (eq_by_cmp nat_cmp one) ns ≡ false → AllByRecursion (λ n. eq_by_cmp nat_cmp one n ≡ false) ns
+        no_other [] none = tt
+        no_other (n ∷ ns) none = (let both = or_parts (eq_by_cmp nat_cmp one n) (list_any (eq_by_cmp nat_cmp one) ns) none in (both.0, no_other ns both.1))
+
+-- the one is not among the others, whether or not there was memory for another
+pub apart-tried : {A E : Type 0} (others more : InoSet) (one k : ℕ) (r : Result A E) → k ≢ one → OnOk r (more ≡ set.insert others k) → OnErr r (more ≡ others) → set.contains others one ≡ false → set.contains more one ≡ false
+apart-tried others more one k (Ok x) apart ok err none = ap (λ (s : InoSet). set.contains s one) ok ∙ set.contains-insert nat_cmp_total others k one ∙ (λ i. differ one k (λ same. apart (sym same)) i || none i)
+apart-tried others more one k (Err e) apart ok err none = ap (λ (s : InoSet). set.contains s one) err ∙ none

@@ -1,5 +1,5 @@
 -- Sets of inodes, by their numbers.
-use Rattle.std.specs.Prelude.{◌≡◌, ℕ, ◌<◌, ◌≤◌, true, false, List, Option, Some, None}
+use Rattle.std.specs.Prelude.{◌≡◌, ℕ, ◌<◌, ◌≤◌, true, false, List, ◌∷◌, Option, Some, None}
 use Rattle.std.specs.FinSet as set
 use Rattle.std.specs.FinSet.{FinSet}
 use Rattle.std.specs.List.{list_any, IsDistinct}
@@ -24,3 +24,8 @@ pub record IsLeastFrom (inos : InoSet) (from ino : ℕ) : Type 0 where
 abbrev pub IsNext : InoSet → ℕ → Option Ino → Type 0
 IsNext inos from None = (k : ℕ) → from ≤ k → set.contains inos k ≡ false
 IsNext inos from (Some ino) = IsLeastFrom inos from ino.0
+
+-- the numbers that are left of a walk over one inode, while that is still to come, and over these
+abbrev pub with_one : Option Ino → List ℕ → List ℕ
+with_one None numbers = numbers
+with_one (Some ino) numbers = ino.0 ∷ numbers

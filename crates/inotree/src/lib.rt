@@ -14,6 +14,7 @@ mod laws;
 mod name;
 mod names;
 mod node;
+mod nonempty_ino_set;
 mod snapshots;
 mod tree;
 
@@ -28,5 +29,6 @@ pub use laws::{
 pub use name::{MAX_NAME, Name, is_bad_attribute, is_bad_name};
 pub use names::{MAX_NAMES, Names};
 pub use node::{Kind, Node, Place, Setting, Site};
+pub use nonempty_ino_set::{InosLeft, NonEmptyInoSet};
 pub use snapshots::{MAX_SNAPSHOTS, Snapshots};
 pub use tree::{MAX_INODES, ROOT, Tree};

@@ -1,5 +1,5 @@
 //! The table of sessions, with the blocklist.
-ghost use Rattle.std.specs.Prelude.{◌≡◌, ◌↔◌, [], ◌∷◌, None, IsTrue, IsOk, IfOk, IfErr, OnOk, OnErr};
+ghost use Rattle.std.specs.Prelude.{◌≡◌, ◌≤◌, ◌↔◌, [], ◌∷◌, None, IsTrue, IsOk, IfOk, IfErr, OnOk, OnErr};
 ghost use Rattle.std.specs.Option.{option_map, option_copied};
 ghost use Rattle.std.specs.Result.{result_err};
 ghost use Rattle.std.specs.FinMap as map;
@@ -9,6 +9,7 @@ use crate::blocklist::Blocklist;
 use crate::connected::Connected;
 use crate::error::SessionError;
 use crate::session::{NoSession, Session, Status};
+use arrayvec::ArrayVec;
 use capbits::{Caller, ClientId, Refusal};
 use capspec::{Grants, KeptGrants};
 use std::alloc::{AllocError, Global};
@@ -320,6 +321,16 @@ impl Sessions {
         ensures { result.now ≡ self.now.sessions }
     {
         &self.connected
+    }
+
+    /// An empty list with room for the clients of all sessions.
+    pub fn room_for_clients(&self) -> ArrayVec<u32, MAX_SESSIONS>
+        ensures empty { result.items ≡ [] }
+        ensures few { map.len self.now.sessions ≤ MAX_SESSIONS }
+    {
+        // A table's limits are known to whoever has its parts.
+        let _ = &self.connected;
+        ArrayVec::new()
     }
 
     /// Whether the client's session is open or stale; none where it has no session.

@@ -1,41 +1,41 @@
-use Rattle.std.{proofs.Common.{◌≢◌, ℕ, ◌+◌, get_or, List, sym, ap, subst, ◌∙◌, true≢false, arith}, specs.List.{AllWithin}}
+use Rattle.std.{proofs.Common.{ℕ, ◌+◌, ◌≤◌, true, get_or, List, sym, ap, subst, ◌∙◌, true≢false, arith}, specs.List.{AllWithin}}
+use Rattle.std.specs.FinSet as set
 use Rattle.caprules.specs.Capnotes.Noted.{Noted}
-use Rattle.capacts.{proofs.Adding.{differ, same-one, IsAdded, added-more}, proofs.Common.{EntryRow, Ino, InoSet}, proofs.InoSets.{added, widens-added, widens-then}, proofs.reach.add_held.Goals.{then-ne+then-is_held+in_ok-add, else-ne, else-ne-via-then-ne+else-is_held, else-ne-via-else-ne}, specs.Reach.{Widens}}
+use Rattle.capacts.{proofs.Common.{EntryRow, Ino, InoSet}, proofs.InoSets.{added, few-tried, widens-tried}, proofs.Walked.{IsAdded, added-more}, proofs.reach.add_held.Goals.{then-not-contains+then-is_held+in_ok-add_place+in_ok-insert, else-not-contains, else-not-contains-via-then-not-contains+else-is_held, else-not-contains-via-else-not-contains}, specs.Reach.{Widens}}
 use Rattle.capacts.proofs.reach.add_held.Goals as goal
 
-pub loop-other-preserved : goal.loop-other-preserved
-loop-other-preserved c =
+pub loop-ino-preserved : goal.loop-ino-preserved
+loop-ino-preserved c =
     let rows : List EntryRow = c.args.table.now.rows in
-    let ino : ℕ = c.args.ino.0 in
     let inos : List Ino = c.args.inos.now in
-    let i : ℕ = c.loop-other.other-index in
-    let other : Ino = get_or inos i (record { 0 = 0 }) in
-    let was : InoSet = c.loop-other.affected in
-    elim c.if-ne.branch [
-      | then-ne+then-is_held+in_ok-add w ↦
-          let now : InoSet = w.add.new.affected in
-          let apart : other.0 ≢ ino = differ other.0 ino (sym c.ne.ensures ∙ w.if-ne.true) in
-          let one : Widens ino was now = widens-added other.0 was now w.in_ok-add.ensures.ok ino apart in
+    let i : ℕ = c.loop-ino.ino-index in
+    let ino : Ino = get_or inos i (record { 0 = 0 }) in
+    let was : InoSet = c.loop-ino.affected in
+    elim c.if-not-contains.branch [
+      | then-not-contains+then-is_held+in_ok-add_place+in_ok-insert w ↦
+          let now : InoSet = w.insert.new.self in
+          let one : Widens was now = widens-tried ino.0 was now w.insert.result w.insert.ensures.ok w.insert.ensures.err in
+          let few : set.len now ≤ set.len was + 1 = few-tried ino.0 was now w.insert.result w.insert.ensures.ok w.insert.ensures.err in
           record {
-            items = ap (λ (n : Noted). n.items) w.changes-is ∙ w.add.ensures.items ∙ c.loop-other.invariant.items;
-            places = rw (w.affected-is, w.changes-is) (omega (arith, w.add.ensures.places, c.loop-other.invariant.places));
-            room = rw w.changes-is (omega (arith, w.add.ensures.room, c.loop-other.invariant.room));
-            widens = subst (Widens ino c.args.affected.now) (sym w.affected-is) (widens-then ino c.args.affected.now was now c.loop-other.invariant.widens one);
-            covers = subst (λ (m : InoSet). AllWithin (IsAdded rows ino m) inos 0 (i + 1)) (sym w.affected-is)
-                (added-more rows ino was now inos i (record { 0 = 0 }) c.loop-other-test.true one.stay c.loop-other.invariant.covers (λ _ _. added other.0 was now w.in_ok-add.ensures.ok));
+            widens = subst (Widens c.args.affected.now) (sym w.affected-is) (λ k there. one k (c.loop-ino.invariant.widens k there));
+            items = ap (λ (n : Noted). n.items) w.changes-is ∙ w.add_place.ensures.items ∙ c.loop-ino.invariant.items;
+            places = rw (w.affected-is, w.changes-is) (omega (arith, few, w.in_ok-add_place.ensures.ok, c.loop-ino.invariant.places));
+            room = rw w.changes-is (omega (arith, w.in_ok-add_place.ensures.ok, c.loop-ino.invariant.room));
+            covers = subst (λ (m : InoSet). AllWithin (IsAdded rows m) inos 0 (i + 1)) (sym w.affected-is)
+                (added-more rows was now inos i (record { 0 = 0 }) c.loop-ino-test.true one c.loop-ino.invariant.covers (λ _. added ino.0 was now w.in_ok-insert.ensures.ok));
           }
-      | else-ne w ↦
-          let here : IsAdded rows ino was other = λ apart held.
-          elim w.else-ne.branch [
-            | else-ne-via-then-ne+else-is_held w' ↦ absurd (true≢false (sym held ∙ sym w'.is_held.ensures ∙ w'.if-is_held.false))
-            | else-ne-via-else-ne w' ↦ absurd (apart (same-one other.0 ino (sym c.ne.ensures ∙ w'.if-ne.false)))
+      | else-not-contains w ↦
+          let here : IsAdded rows was ino = λ held.
+          elim w.else-not-contains.branch [
+            | else-not-contains-via-then-not-contains+else-is_held w' ↦ absurd (true≢false (sym held ∙ sym w'.is_held.ensures ∙ w'.if-is_held.false))
+            | else-not-contains-via-else-not-contains w' ↦ sym c.contains.ensures ∙ w'.if-not-contains.false
           ] in
           record {
-            items = ap (λ (n : Noted). n.items) w.changes-is ∙ c.loop-other.invariant.items;
-            places = rw (w.affected-is, w.changes-is) c.loop-other.invariant.places;
-            room = rw w.changes-is c.loop-other.invariant.room;
-            widens = subst (Widens ino c.args.affected.now) (sym w.affected-is) c.loop-other.invariant.widens;
-            covers = subst (λ (m : InoSet). AllWithin (IsAdded rows ino m) inos 0 (i + 1)) (sym w.affected-is)
-                (added-more rows ino was was inos i (record { 0 = 0 }) c.loop-other-test.true (λ other there. there) c.loop-other.invariant.covers here);
+            widens = subst (Widens c.args.affected.now) (sym w.affected-is) c.loop-ino.invariant.widens;
+            items = ap (λ (n : Noted). n.items) w.changes-is ∙ c.loop-ino.invariant.items;
+            places = rw (w.affected-is, w.changes-is) c.loop-ino.invariant.places;
+            room = rw w.changes-is c.loop-ino.invariant.room;
+            covers = subst (λ (m : InoSet). AllWithin (IsAdded rows m) inos 0 (i + 1)) (sym w.affected-is)
+                (added-more rows was was inos i (record { 0 = 0 }) c.loop-ino-test.true (λ ino there. there) c.loop-ino.invariant.covers here);
           }
     ]

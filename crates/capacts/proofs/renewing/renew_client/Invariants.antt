@@ -1,4 +1,4 @@
-use Rattle.std.proofs.Common.{length}
+use Rattle.std.proofs.Common.{length, ◌==◌}
 use Rattle.capacts.proofs.{Common.{permitted}, Renewed.{Walked}}
 use Rattle.capacts.proofs.renewing.renew_client.Given as goal
 
@@ -6,4 +6,4 @@ abbrev pub decreases-rows : goal.decreases-rows
 decreases-rows l = length l.walk
 
 abbrev pub invariant-rows : goal.invariant-rows
-invariant-rows l = Walked (permitted l.policy.fs.now l.policy.tree.now l.policy.sessions.now) l.initial.walk l.walk l.fn.known.sets l.known.sets
+invariant-rows l = Walked (λ k. k.client.0 == l.fn.client.0) (permitted l.policy.fs.now l.policy.tree.now l.policy.sessions.now) l.table l.walk l.fn.known.sets l.known.sets

@@ -1,23 +1,33 @@
-use Rattle.std.proofs.Common.{refl, sym, ap, ◌∙◌}
-use Rattle.capacts.proofs.{Again.{calls-passed, ends-rejection, ends-passed, ends-without_memory, tree-rejection, tree-passed}, Common.{Scene, scene, tree_after}, Memory.{rename-takes}}
+use Rattle.std.proofs.Common.{◌≡◌, Option, None, refl, sym, ap, ◌∙◌}
+use Rattle.caprules.specs.Lockmachine.Scene.{scene}
+use Rattle.capacts.proofs.{Again.{calls-passed, ends-rejection, ends-passed, ends-without_memory, tree-passed}, Common.{Ask, ask_after, ask_before, ask_needs, judged_again, Outcome, Rejection, rejection_of, Request, Scene, tree_after}, Memory.{rename-takes}, serving.serve.Goals.{After-carry_out-arg-2-1, then-not-judged+in_default, else-not-judged}}
 use Rattle.capacts.proofs.serving.serve.Goals as goal
+
+-- it is judged as it asks
+again : (s : Scene) (q : Request) (ask : Ask) (r : Option Rejection) → ask ≡ q.ask
+    → r ≡ rejection_of s (ask_before s q.ino.0 ask) (ask_needs s q.client q.ino.0 ask) (ask_after s q.ino.0 ask) → r ≡ judged_again s q
+again s q ask r lent is = is ∙ ap (λ (a : Ask). rejection_of s (ask_before s q.ino.0 a) (ask_needs s q.client q.ino.0 a) (ask_after s q.ino.0 a)) lent
+
+-- nothing stops it
+free : (c : After-carry_out-arg-2-1) → judged_again c.args.scene.now c.args.request.now ≡ None
+free c = elim c.if-not-judged.branch [
+  | then-not-judged+in_default w ↦ sym (again c.args.scene.now c.args.request.now _ _ w.lend-asked.ensures w.ask_rejection.ensures) ∙ w.in_default.is
+  | else-not-judged w ↦ c.requires.judged w.if-not-judged.false
+]
 
 pub returns-in-Some-clause-ends : goal.returns-in-Some-clause-ends
 returns-in-Some-clause-ends c = λ table locks.
     ends-rejection (scene c.args.scene.now.fs c.args.scene.now.tree c.args.scene.now.sessions table locks) c.args.request.now c.in-Some.rejection c.rejected.result.outcome
-    (sym c.reject_again.ensures ∙ c.in-Some.is) c.rejected.ensures.outcome
-
-pub returns-in-Some-clause-tree : goal.returns-in-Some-clause-tree
-returns-in-Some-clause-tree c = tree-rejection c.args.scene.now.tree c.args.request.now c.in-Some.rejection c.rejected.result.outcome c.rejected.ensures.outcome
+    (sym (again c.args.scene.now c.args.request.now _ _ c.lend-asked.ensures c.ask_rejection.ensures) ∙ c.in-Some.is) c.rejected.ensures.outcome
 
 pub carry_out-requires : goal.carry_out-requires
 carry_out-requires c =
-    record { passed = calls-passed c.args.scene.now c.args.request.now (sym c.reject_again.ensures ∙ c.in_default.is) }
+    record { passed = calls-passed c.args.scene.now c.args.request.now (free c) }
 
 pub returns-in-Ok-clause-ends : goal.returns-in-Ok-clause-ends
 returns-in-Ok-clause-ends c = λ table locks.
     let s : Scene = scene c.args.scene.now.fs c.args.scene.now.tree c.args.scene.now.sessions table locks in
-    ends-passed s c.args.request.now c.in-Ok.served.outcome (sym c.reject_again.ensures ∙ c.in_default.is) (c.in-Ok.ensures.outcome s refl)
+    ends-passed s c.args.request.now c.in-Ok.served.outcome (free (goal.at.returns-in-Ok-clause-ends c).After-carry_out-arg-2-1) (c.in-Ok.ensures.outcome s refl)
 
 pub returns-in-Ok-clause-tree : goal.returns-in-Ok-clause-tree
 returns-in-Ok-clause-tree c =
@@ -26,10 +36,13 @@ returns-in-Ok-clause-tree c =
 
 pub returns-then-not-room-clause-ends : goal.returns-then-not-room-clause-ends
 returns-then-not-room-clause-ends c = λ table locks.
-    ends-without_memory (scene c.args.scene.now.fs c.args.scene.now.tree c.args.scene.now.sessions table locks) c.args.request.now c.out_of_memory.result.outcome
-    (sym c.reject_again.ensures ∙ c.in_default.is) (rename-takes c.args.request.now.ask (c.requires.room search)) c.out_of_memory.ensures.outcome
+    ends-without_memory (scene c.args.scene.now.fs c.args.scene.now.tree c.args.scene.now.sessions table locks) c.args.request.now Outcome.OutOfMemory
+    (elim c.if-not-judged.branch [
+      | then-not-judged+in_default w ↦ sym (again c.args.scene.now c.args.request.now _ _ w.lend-asked.ensures w.ask_rejection.ensures) ∙ w.in_default.is
+      | else-not-judged w ↦ c.requires.judged w.if-not-judged.false
+    ]) (rename-takes c.args.request.now.ask (c.requires.room search)) refl
 
 pub returns-in-Err-clause-ends : goal.returns-in-Err-clause-ends
 returns-in-Err-clause-ends c = λ table locks.
-    ends-without_memory (scene c.args.scene.now.fs c.args.scene.now.tree c.args.scene.now.sessions table locks) c.args.request.now c.out_of_memory-in-Err.result.outcome
-    (sym c.reject_again.ensures ∙ c.in_default.is) c.in-Err.ensures.memory c.out_of_memory-in-Err.ensures.outcome
+    ends-without_memory (scene c.args.scene.now.fs c.args.scene.now.tree c.args.scene.now.sessions table locks) c.args.request.now Outcome.OutOfMemory
+    (free (goal.at.returns-in-Err-clause-ends c).After-carry_out-arg-2-1) c.in-Err.ensures.memory refl

@@ -1,5 +1,6 @@
 use Rattle.std.proofs.Common.{[], ◌∷◌, None, sym, ap, ◌∙◌}
-use Rattle.capcore.proofs.Common.{asked_tests, denial-rejection, first_denied, need, rejection-before, rejection_by, Scene}
+use Rattle.capsteps.proofs.Capacts.Again.{denial-rejection}
+use Rattle.capcore.proofs.Common.{asked_tests, first_denied, need, rejection-before, rejection_by, Scene}
 use Rattle.capcore.proofs.judging.access_rejection.Goals as goal
 
 pub returns-in-Some : goal.returns-in-Some

@@ -1,5 +1,2 @@
-use Rattle.capcore.proofs.Apart.{held-apart}
-use Rattle.capcore.proofs.laws.the_held_are_apart.Goals as goal
-
-pub returns : goal.returns
-returns c = held-apart
+pub returns : Rattle.capcore.proofs.laws.the_held_are_apart.Goals.returns
+returns c = Rattle.capcore.proofs.Apart.held-apart

@@ -1,5 +1,2 @@
-use Rattle.capcore.proofs.Servings.{served-by_name}
-use Rattle.capcore.proofs.laws.the_served_are_denied_by_name.Goals as goal
-
-pub returns : goal.returns
-returns c = served-by_name
+pub returns : Rattle.capcore.proofs.laws.the_served_are_denied_by_name.Goals.returns
+returns c = Rattle.capcore.proofs.Servings.served-by_name

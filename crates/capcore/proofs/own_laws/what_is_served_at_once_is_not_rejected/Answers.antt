@@ -1,5 +1,2 @@
-use Rattle.capcore.proofs.OwnServed.{own-not_stopped}
-use Rattle.capcore.proofs.own_laws.what_is_served_at_once_is_not_rejected.Goals as goal
-
-pub returns : goal.returns
-returns c = λ old last client ino ask moves settled sound order free made. own-not_stopped old.scene client ino ask sound.at_rest order moves settled free made
+pub returns : Rattle.capcore.proofs.own_laws.what_is_served_at_once_is_not_rejected.Goals.returns
+returns c = λ old last client ino ask moves settled sound order free made. Rattle.capcore.proofs.OwnServed.own-not_stopped old.scene client ino ask sound.at_rest order moves settled free made

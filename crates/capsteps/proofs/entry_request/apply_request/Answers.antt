@@ -1,27 +1,67 @@
-use Rattle.std.proofs.Common.{false, inl, refl, sym, ap, subst, ◌∙◌}
+use Rattle.std.{proofs.Common.{◌≡◌, Option, Some, None, cond, false, Bool, refl, sym, ap, ◌∙◌}, specs.Option.{option_map}}
 use Rattle.capbits.specs.Caps.{has}
-use Rattle.capsteps.{proofs.Common.{given_back, P, taken, union, wanting, with_want}, proofs.EntryKept.{WasThere, still-kept, there-changed}, specs.EntryRequest.{table_after}}
+use Rattle.captable.specs.Tests.{ack_tests}
+use Rattle.capacts.specs.Caprules.Direct.{with_want}
+use Rattle.capsteps.{proofs.Common.{acked, Caps, changed, Entry, entry_at, first_failing, given_back, Holder, KnownSets, opening_wants, OpenMode, P, same_found, Scene, sets_of, Table, taken, touched, union, wanting, with_entry, without}, proofs.EntryKept.{kept-changed, kept-itself}, proofs.entry_request.apply_request.Goals.{in-Want, in-Open+in_ok-before-in-Open}, specs.EntryRequest.{entry_request_tests, table_after, StillKept}, specs.declared.entry_request.EntryRequest.{EntryRequest}}
 use Rattle.capsteps.proofs.entry_request.apply_request.Goals as goal
 
-pub returns-in-Want-clause-ok : goal.returns-in-Want-clause-ok
-returns-in-Want-clause-ok c =
-    c.want.ensures
-    ∙ ap (λ caps. with_want c.args.table.now c.args.holder (λ _. caps)) (c.union.ensures ∙ ap (union c.in-Want.caps) c.of.ensures)
-    ∙ ap (table_after c.args.table.now c.args.holder c.args.revoked) (sym c.in-Want.is)
+-- the wanted set of an entry that is known is written, or changed
+want-known : (t : Table) (k : Holder) (mode : OpenMode) (wants : Caps) (o : Option Entry) → entry_at t k ≡ o → option_map (λ (e : Entry). e.want) o ≡ Some wants
+    → with_want t k (λ _. union wants (opening_wants mode)) ≡ with_want t k (λ want. union want (opening_wants mode))
+want-known t k mode wants None is known = absurd (cc)
+want-known t k mode wants (Some e) is known =
+    let wanted : wants ≡ e.want = cc in
+    ap (λ t. touched t k) (same_found t k e (wanting (union wants (opening_wants mode))) (λ x. wanting (union x.want (opening_wants mode)) x) is (ap (λ want. wanting (union want (opening_wants mode)) e) wanted))
 
-pub returns-in-Want-clause-kept : goal.returns-in-Want-clause-kept
-returns-in-Want-clause-kept c =
-    let was : WasThere c.args.table.now c.want.new.table = subst (WasThere c.args.table.now) (sym c.want.ensures) (there-changed false c.args.table.now c.args.holder (λ e. wanting c.union.result e)) in
-    still-kept c.args.policy.now c.args.table.now c.want.new.table c.args.known.now.sets c.args.known.now.sets (λ k e here. let f = was k e here in inl (f.0, f.1, refl))
+pub ack_tested-requires : goal.ack_tested-requires
+ack_tested-requires c =
+    let s : Scene = c.args.scene.now in
+    record {
+      passed = ap (λ caps. first_failing (ack_tests s.table c.args.holder c.in-Ack.seq caps)) (c.revoked_of-revoked.ensures s refl c.requires.known)
+          ∙ ap (λ (r : EntryRequest). first_failing (entry_request_tests s c.args.holder r)) (sym c.in-Ack.is) ∙ c.requires.passed;
+    }
+
+pub returns-in-Ack-clause-ok : goal.returns-in-Ack-clause-ok
+returns-in-Ack-clause-ok c =
+    let s : Scene = c.args.scene.now in
+    ap (λ (t : Table). record s { table = t }) (c.ack_tested.ensures ∙ ap (acked s.table c.args.holder) (c.revoked_of-revoked.ensures s refl c.requires.known) ∙ ap (table_after s c.args.holder) (sym c.in-Ack.is))
+
+-- what is kept of the entries that are left
+left-kept : (s : Scene) (sets now : KnownSets) (k : Holder) (gone : Bool) (g : Entry → Entry) (new : Table) → new ≡ cond gone (without s.table k) (changed s.table k g)
+    → ((j : Holder) (e : Entry) → entry_at new j ≡ Some e → sets_of now j ≡ sets_of sets j) → StillKept s new sets now
+left-kept s sets now k gone g new is = kept-changed s s.table new sets sets now k gone g (kept-itself s sets) (ap (λ (t : Table). t.rows) is)
 
 pub returns-in-Ack-clause-kept : goal.returns-in-Ack-clause-kept
 returns-in-Ack-clause-kept c =
-    let was : WasThere c.args.table.now c.ack_tested.new.self = subst (WasThere c.args.table.now) (sym c.ack_tested.ensures) (there-changed (has c.args.revoked P) c.args.table.now c.args.holder (taken c.args.revoked)) in
-    still-kept c.args.policy.now c.args.table.now c.ack_tested.new.self c.args.known.now.sets c.remove_unheld.new.self.sets
-    (λ k e here. let f = was k e here in inl (f.0, f.1, c.remove_unheld.ensures k e here))
+    left-kept c.args.scene.now c.args.known.now.sets c.remove_unheld.new.self.sets c.args.holder (has c.revoked_of-revoked.result P) (taken c.revoked_of-revoked.result) c.ack_tested.new.self c.ack_tested.ensures c.remove_unheld.ensures
 
 pub returns-in-Release-clause-kept : goal.returns-in-Release-clause-kept
 returns-in-Release-clause-kept c =
-    let was : WasThere c.args.table.now c.release_tested.new.self = subst (WasThere c.args.table.now) (sym c.release_tested.ensures) (there-changed (has c.in-Release.caps P) c.args.table.now c.args.holder (given_back c.in-Release.caps)) in
-    still-kept c.args.policy.now c.args.table.now c.release_tested.new.self c.args.known.now.sets c.remove_unheld-in-Release.new.self.sets
-    (λ k e here. let f = was k e here in inl (f.0, f.1, c.remove_unheld-in-Release.ensures k e here))
+    left-kept c.args.scene.now c.args.known.now.sets c.remove_unheld-in-Release.new.self.sets c.args.holder (has c.in-Release.caps P) (given_back c.in-Release.caps) c.release_tested.new.self c.release_tested.ensures c.remove_unheld-in-Release.ensures
+
+pub returns-clause-ok : goal.returns-clause-ok
+returns-clause-ok c =
+    let s : Scene = c.args.scene.now in
+    let k : Holder = c.args.holder in
+    let m = c.match-request in
+    let Wanting : Scene → Caps → Scene = λ x caps. record x { table = with_want x.table k (λ _. caps) } in
+    let after : EntryRequest → Scene = λ r. record s { table = table_after s k r } in
+    ap (λ (t : Table). record m.scene { table = t }) (c.touch.ensures ∙ ap (λ (t : Table). touched t k) c.set_want.ensures) ∙ elim m.branch [
+      | in-Open+in_ok-before-in-Open w ↦ (
+          let ok = w.in_ok-before-in-Open.ensures.ok in
+          let wants = ap (λ (x : Scene). option_map (λ (e : Entry). e.want) (entry_at x.table k)) (sym ok) ∙ w.in_ok-before-in-Open.ensures.wants in
+          (λ i. Wanting ((w.scene-is ∙ ok) i) ((w.wanted-is ∙ w.union-wanted.ensures ∙ ap (union w.in_ok-before-in-Open.before) w.opening_wants.ensures) i))
+          ∙ ap (λ (t : Table). record s { table = t }) (want-known (with_entry s.table k) k w.in-Open.mode w.in_ok-before-in-Open.before (entry_at (with_entry s.table k) k) refl wants) ∙ ap after (sym w.in-Open.is)
+          )
+      | in-Want w ↦ (λ i. Wanting (w.scene-is i) ((w.wanted-is ∙ w.union-wanted-in-Want.ensures ∙ ap (union w.in-Want.caps) w.of.ensures) i)) ∙ ap after (sym w.in-Want.is)
+    ]
+
+pub returns-clause-kept : goal.returns-clause-kept
+returns-clause-kept c =
+    let s : Scene = c.args.scene.now in
+    let sets = c.args.known.now.sets in
+    let m = c.match-request in
+    kept-changed s m.scene.table c.touch.new.self sets m.known.sets m.known.sets c.args.holder false (wanting m.wanted) (elim m.branch as (λ _. StillKept s m.scene.table sets m.known.sets) [
+      | in-Open+in_ok-before-in-Open w ↦ rw (w.scene-is, w.known-is) w.find_or_open.ensures.kept
+      | in-Want w ↦ rw (w.scene-is, w.known-is) (kept-itself s sets)
+    ]) (ap (λ (t : Table). t.rows) (c.touch.ensures ∙ ap (λ (t : Table). touched t c.args.holder) c.set_want.ensures)) (λ j e here. refl)

@@ -1,25 +1,25 @@
-use Rattle.std.{proofs.Common.{◌≡◌, ◌==◌, ◌++◌, eq-eqb, ℕ, ◌<◌, List, [], ◌∷◌, Option, refl, sym, ap, subst, ◌∙◌, IsTrue, All}, proofs.lemmas.Bool.{eqb-true}, proofs.lemmas.List.Elements.{All-filter}, proofs.lemmas.Map.Iter.{rest_more, rest_all}, specs.List.{list_any, IsDistinct}, specs.Map.Iter.{deref}, specs.Option.{unwrap_or}}
+use Rattle.std.{proofs.Common.{◌≡◌, ◌==◌, ◌++◌, eq-eqb, ℕ, ◌<◌, List, [], ◌∷◌, Option, refl, sym, ap, subst, ◌∙◌, IsTrue, All}, proofs.lemmas.Bool.{eqb-true}, proofs.lemmas.List.Elements.{All-filter}, specs.List.{list_any, IsDistinct}, specs.Option.{unwrap_or}}
 use Rattle.std.specs.FinMap as map
 use Rattle.capbits.specs.Sets.{no_caps}
 use Rattle.capsteps.proofs.{AtEnd.{entry-alike}, Common.{ArePermitted, Caps, entries_on, Entry, entry_by, entry_under, EntryRow, has_session, InodeLocks, InoSet, is_of_inode, IsListOf, kept-as, known_in, Table, told_at, told_by, was-there}, ManyInodes.{same_number, on, IsFinishing, none-finished, next-finished, next-apart, all-finished, holders-stay, entries_on-stay}}
 use Rattle.capsteps.proofs.finish.finish_affected.Goals as goal
 
-pub loop-number-init : goal.loop-number-init
-loop-number-init c =
+pub inodes-init : goal.inodes-init
+inodes-init c =
     let g : EntryRow → Entry = entry_by (known_in c.args.known.now.sets) c.args.policy.now.fs.now c.args.policy.now.tree.now c.args.policy.now.sessions.now c.args.locks.now.states in
     let f : EntryRow → Caps = told_by c.args.policy.now.fs.now c.args.policy.now.tree.now c.args.policy.now.sessions.now c.args.locks.now.states in
-    record { so_far = none-finished g f c.args.table.now c.args.known.now.sets c.into_iter-number-iterator.result; permitted = λ k. refl }
+    record { so_far = none-finished g f c.args.table.now c.args.known.now.sets c.numbers-walk.result; permitted = λ k. refl }
 
 pub finish_entries-requires : goal.finish_entries-requires
 finish_entries-requires c =
     let t : Table = c.args.table.now in
     let g : EntryRow → Entry = entry_by (known_in c.args.known.now.sets) c.args.policy.now.fs.now c.args.policy.now.tree.now c.args.policy.now.sessions.now c.args.locks.now.states in
-    let k : ℕ = c.in-Some.number.now in
+    let k : ℕ = c.in-Some.ino.0 in
     let ks : List ℕ = c.next.new.self in
-    let rest : c.loop-number.number-iterator ≡ k ∷ ks = rest_more deref _ _ _ _ c.in-Some.is c.next.ensures.steps in
-    let s = c.loop-number.invariant.so_far in
-    let all : List ℕ = c.into_iter-number-iterator.result in
-    let lists : IsListOf c.args.affected.now all = subst (IsListOf c.args.affected.now) (sym c.into_iter-number-iterator.ensures.into_iter_gives) c.numbers-number-items.ensures.list in
+    let rest : c.inodes.walk ≡ k ∷ ks = c.in-Some.ensures.some in
+    let s = c.inodes.invariant.so_far in
+    let all : List ℕ = c.numbers-walk.result in
+    let lists : IsListOf c.args.affected.now all = c.numbers-walk.ensures.list in
     let apart = next-apart s.done k ks (subst (IsDistinct same_number) (sym s.named ∙ ap (λ left. s.done ++ left) rest) lists.once) in
     record {
       numbers = subst (All (λ (row : EntryRow). row.entry.seq < 18446744073709551615))
@@ -27,34 +27,34 @@ finish_entries-requires c =
           (All-filter (is_of_inode (record { 0 = k })) (λ row. row.entry.seq < 18446744073709551615) t.rows c.requires.entries.numbers);
       clients = subst (λ (u : Table). All (λ row. IsTrue (has_session c.args.policy.now.sessions.now row.holder.client.0)) u.rows) (sym s.finished)
           (holders-stay (on (λ n. list_any (same_number n) s.done)) g (λ h. IsTrue (has_session c.args.policy.now.sessions.now h.client.0)) t c.requires.entries.clients);
-      permitted = subst (ArePermitted c.loop-number.known.sets c.args.policy.now.fs.now c.args.policy.now.tree.now c.args.policy.now.sessions.now) (sym s.finished)
-          (λ h e there. let was = was-there (on (λ n. list_any (same_number n) s.done)) g t h e there in c.loop-number.invariant.permitted h ∙ c.requires.entries.permitted h was.0 was.1);
+      permitted = subst (ArePermitted c.inodes.known.sets c.args.policy.now.fs.now c.args.policy.now.tree.now c.args.policy.now.sessions.now) (sym s.finished)
+          (λ h e there. let was = was-there (on (λ n. list_any (same_number n) s.done)) g t h e there in c.inodes.invariant.permitted h ∙ c.requires.entries.permitted h was.0 was.1);
     }
 
-pub loop-number-preserved : goal.loop-number-preserved
-loop-number-preserved c =
+pub inodes-preserved : goal.inodes-preserved
+inodes-preserved c =
     let t : Table = c.args.table.now in
     let g : EntryRow → Entry = entry_by (known_in c.args.known.now.sets) c.args.policy.now.fs.now c.args.policy.now.tree.now c.args.policy.now.sessions.now c.args.locks.now.states in
     let f : EntryRow → Caps = told_by c.args.policy.now.fs.now c.args.policy.now.tree.now c.args.policy.now.sessions.now c.args.locks.now.states in
-    let k : ℕ = c.in-Some.number.now in
+    let k : ℕ = c.in-Some.ino.0 in
     let ks : List ℕ = c.next.new.self in
-    let rest : c.loop-number.number-iterator ≡ k ∷ ks = rest_more deref _ _ _ _ c.in-Some.is c.next.ensures.steps in
-    let all : List ℕ = c.into_iter-number-iterator.result in
-    let lists : IsListOf c.args.affected.now all = subst (IsListOf c.args.affected.now) (sym c.into_iter-number-iterator.ensures.into_iter_gives) c.numbers-number-items.ensures.list in
-    let h : EntryRow → Entry = entry_under (known_in c.loop-number.known.sets) c.args.policy.now.fs.now c.args.policy.now.tree.now c.args.policy.now.sessions.now c.of_ino-now.result in
+    let rest : c.inodes.walk ≡ k ∷ ks = c.in-Some.ensures.some in
+    let all : List ℕ = c.numbers-walk.result in
+    let lists : IsListOf c.args.affected.now all = c.numbers-walk.ensures.list in
+    let h : EntryRow → Entry = entry_under (known_in c.inodes.known.sets) c.args.policy.now.fs.now c.args.policy.now.tree.now c.args.policy.now.sessions.now c.of_ino-now.result in
     record {
       so_far =
-          next-finished g f t c.args.known.now.sets all k ks c.loop-number.table c.loop-number.known.sets h c.finish_entries.new.table c.finish_entries.new.known.sets
+          next-finished g f t c.args.known.now.sets all k ks c.inodes.table c.inodes.known.sets h c.finish_entries.new.table c.finish_entries.new.known.sets
           lists.once
-          (subst (λ (left : List ℕ). IsFinishing g f t c.args.known.now.sets all left c.loop-number.table c.loop-number.known.sets) rest c.loop-number.invariant.so_far)
+          (subst (λ (left : List ℕ). IsFinishing g f t c.args.known.now.sets all left c.inodes.table c.inodes.known.sets) rest c.inodes.invariant.so_far)
           c.finish_entries.ensures.table
           (λ row is kept.
-          entry-alike (known_in c.loop-number.known.sets) (known_in c.args.known.now.sets) c.args.policy.now.fs.now c.args.policy.now.tree.now c.args.policy.now.sessions.now c.of_ino-now.result c.args.locks.now.states row
+          entry-alike (known_in c.inodes.known.sets) (known_in c.args.known.now.sets) c.args.policy.now.fs.now c.args.policy.now.tree.now c.args.policy.now.sessions.now c.of_ino-now.result c.args.locks.now.states row
           (ap (λ (o : Option Caps). unwrap_or o no_caps) kept) (c.of_ino-now.ensures ∙ sym (ap (map.get c.args.locks.now.states) (eqb-true row.holder.ino.0 k is))))
-          (kept-as (λ q. q.ino.0 == k) (told_at c.args.policy.now.fs.now c.args.policy.now.tree.now c.args.policy.now.sessions.now c.of_ino-now.result) f c.loop-number.table c.loop-number.known.sets c.finish_entries.new.known.sets
+          (kept-as (λ q. q.ino.0 == k) (told_at c.args.policy.now.fs.now c.args.policy.now.tree.now c.args.policy.now.sessions.now c.of_ino-now.result) f c.inodes.table c.inodes.known.sets c.finish_entries.new.known.sets
           (λ row is. ap (λ (o : Option InodeLocks). told_at c.args.policy.now.fs.now c.args.policy.now.tree.now c.args.policy.now.sessions.now o row) (c.of_ino-now.ensures ∙ sym (ap (map.get c.args.locks.now.states) (eqb-true row.holder.ino.0 k is))))
           c.finish_entries.ensures.known);
-      permitted = λ q. c.finish_entries.ensures.permitted q ∙ c.loop-number.invariant.permitted q;
+      permitted = λ q. c.finish_entries.ensures.permitted q ∙ c.inodes.invariant.permitted q;
     }
 
 pub returns : goal.returns
@@ -62,9 +62,9 @@ returns c =
     let g : EntryRow → Entry = entry_by (known_in c.args.known.now.sets) c.args.policy.now.fs.now c.args.policy.now.tree.now c.args.policy.now.sessions.now c.args.locks.now.states in
     let f : EntryRow → Caps = told_by c.args.policy.now.fs.now c.args.policy.now.tree.now c.args.policy.now.sessions.now c.args.locks.now.states in
     let inos : InoSet = c.args.affected.now in
-    let all : List ℕ = c.into_iter-number-iterator.result in
-    let lists : IsListOf inos all = subst (IsListOf inos) (sym c.into_iter-number-iterator.ensures.into_iter_gives) c.numbers-number-items.ensures.list in
-    let none : c.loop-number.number-iterator ≡ [] = rest_all deref _ _ _ c.in-None.is c.next.ensures.steps in
-    let done = all-finished g f c.args.table.now c.args.known.now.sets inos all c.loop-number.table c.loop-number.known.sets lists
-    (subst (λ (left : List ℕ). IsFinishing g f c.args.table.now c.args.known.now.sets all left c.loop-number.table c.loop-number.known.sets) none c.loop-number.invariant.so_far) in
-    record { table = done.0; known = done.1; permitted = c.loop-number.invariant.permitted }
+    let all : List ℕ = c.numbers-walk.result in
+    let lists : IsListOf inos all = c.numbers-walk.ensures.list in
+    let none : c.inodes.walk ≡ [] = c.in_default.ensures.none.0 in
+    let done = all-finished g f c.args.table.now c.args.known.now.sets inos all c.inodes.table c.inodes.known.sets lists
+    (subst (λ (left : List ℕ). IsFinishing g f c.args.table.now c.args.known.now.sets all left c.inodes.table c.inodes.known.sets) none c.inodes.invariant.so_far) in
+    record { table = done.0; known = done.1; permitted = c.inodes.invariant.permitted }

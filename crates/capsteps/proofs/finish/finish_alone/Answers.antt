@@ -1,8 +1,9 @@
-use Rattle.std.{proofs.Common.{◌≡◌, ◌<◌, ◌==◌, Option, sym, ap, subst, ◌∙◌, Bool, true, false, cond, ◌||◌, Some, None, List, [], ◌∷◌, refl, Contains, eq-eqb, true≢false}, proofs.lemmas.Bool.{eqb-true}, proofs.lemmas.List.Elements.{All-filter}, specs.List.{find, IsDistinct}, specs.Option.{unwrap_or}}
+use Rattle.std.{proofs.Common.{◌≡◌, ◌<◌, ◌==◌, ℕ, Option, sym, ap, subst, ◌∙◌, Bool, true, false, cond, Some, None, List, [], refl, Contains, eq-eqb, true≢false}, proofs.lemmas.Bool.{eqb-true}, proofs.lemmas.List.Elements.{All-contains}, specs.List.{find}, specs.Option.{unwrap_or}}
 use Rattle.std.specs.FinMap as map
 use Rattle.capbits.specs.Sets.{no_caps}
+use Rattle.captable.proofs.OneByOne.{one_at_once}
 use Rattle.capacts.specs.Known.{HasAll}
-use Rattle.capsteps.{proofs.AtEnd.{entry-on}, proofs.Common.{Caps, changed_by, changed_where, Entry, entry_of, entry_under, EntryRow, find_passes, fold-changed_by, Holder, InodeLocks, is_among, is_of_inode, is_row_of, IsTable, kept-as, known_anew, known_in, known_of, KnownAnew, KnownSets, meet, OthersHaveAll, remade, renumbered, row_found, same, same-is, Scene, scene, Table, told-less, told_at, told_set}, proofs.Finishing.{none-sized, each-alike, same-issue_row, same-renumbered}, proofs.Knowing.{permitted-some}, proofs.Strays.{forget-one}, specs.Affected.{forget_among, finished_at, finished_entry, told_then}}
+use Rattle.capsteps.{proofs.Common.{Caps, changed_by, changed_where, Entry, entry_at, entry_of, entry_under, EntryRow, find_passes, found-contains, Holder, InodeLocks, is_row_of, IsTable, kept-as, kept-none, known_anew, known_in, known_of, KnownAnew, KnownSets, meet, none_found, OthersHaveAll, permitted_of, remade, renumbered, row_found, row_of-entry, same, same-is, same_equiv, Scene, Table, told-less, told_at, told_set}, proofs.Finishing.{none-sized, each-alike, same-issue_row, same-renumbered}, proofs.finish.finish_alone.Goals.{in-Some, in_default}, specs.Affected.{finished_at, finished_entry, forget_among, told_then}, specs.Serves.{EndsAt}}
 use Rattle.capsteps.proofs.finish.finish_alone.Goals as goal
 
 -- Where each other entry on the holder's inode has all, the end of a step at the inode is that of the holder's entry.
@@ -24,10 +25,6 @@ module _ (sets : KnownSets) (s : Scene) (row : EntryRow) (all : HasAll sets s ro
 
 -- ---- the entries of an inode
 
-one-distinct : (k : Holder) → IsDistinct same (k ∷ [])
-unfolding IsDistinct
-one-distinct k = (tt, tt)
-
 module _ (sets : KnownSets) (s : Scene) (k : Holder) (others : OthersHaveAll sets s k) (table : IsTable s.table) where
   -- what the end of the step makes of an entry
   abbrev last : EntryRow → Entry
@@ -36,26 +33,23 @@ module _ (sets : KnownSets) (s : Scene) (k : Holder) (others : OthersHaveAll set
   on-inode : (j : Holder) → same j k ≡ true → (j.ino.0 == k.ino.0) ≡ true
   on-inode j is = eq-eqb j.ino.0 k.ino.0 (ap (λ (h : Holder). h.ino.0) (same-is j k is))
 
-  other-stays : (row : EntryRow) → Contains s.table.rows row → (row.holder.ino.0 == k.ino.0) ≡ true → same row.holder k ≡ false → row ≡ remade last row
-  other-stays row inside on off =
-      let all : HasAll sets s row = others row.holder row.entry (eqb-true row.holder.ino.0 k.ino.0 on) off (ap entry_of (row_found s.table row table inside)) in
-      λ i. record row { entry = sym (entry-stays sets s row all) i }
+  has-all : (row : EntryRow) → find (is_row_of row.holder) s.table.rows ≡ Some row → (row.holder.ino.0 == k.ino.0) ≡ true → same row.holder k ≡ false → HasAll sets s row
+  has-all row found on off = others row.holder row.entry (eqb-true row.holder.ino.0 k.ino.0 on) off (ap entry_of found)
 
-  row-alike : (row : EntryRow) → Contains s.table.rows row → cond (is_among (k ∷ []) row.holder) (remade last row) row ≡ cond (row.holder.ino.0 == k.ino.0) (remade last row) row
-  row-alike row inside = by_tests (same row.holder k) refl (row.holder.ino.0 == k.ino.0) refl
+  row-alike : (row : EntryRow) → Contains s.table.rows row → cond (is_row_of k row) (remade last row) row ≡ cond (row.holder.ino.0 == k.ino.0) (remade last row) row
+  row-alike row inside = ap (λ b. cond b (remade last row) row) (same_equiv.symm k row.holder) ∙ by_tests (same row.holder k) refl (row.holder.ino.0 == k.ino.0) refl
     where
-      by_tests : (a : Bool) → same row.holder k ≡ a → (b : Bool) → (row.holder.ino.0 == k.ino.0) ≡ b → cond (a || false) (remade last row) row ≡ cond b (remade last row) row
+      by_tests : (a : Bool) → same row.holder k ≡ a → (b : Bool) → (row.holder.ino.0 == k.ino.0) ≡ b → cond a (remade last row) row ≡ cond b (remade last row) row
       by_tests true is true on = refl
       by_tests true is false off = absurd (true≢false (sym (on-inode row.holder is) ∙ off))
-      by_tests false apart true on = other-stays row inside on apart
+      by_tests false apart true on = λ i. record row { entry = sym (entry-stays sets s row (has-all row (row_found s.table row table inside) on apart)) i }
       by_tests false apart false off = refl
 
   -- to change the holder's entry is to change all
   alone-changed : changed_by last s.table k ≡ changed_where (λ row. row.holder.ino.0 == k.ino.0) last s.table
   alone-changed =
-      fold-changed_by last s.table (k ∷ []) table (one-distinct k)
-      ∙ ap (λ (rows : List EntryRow). record s.table { rows = rows })
-      (each-alike (λ row. cond (is_among (k ∷ []) row.holder) (remade last row) row) (λ row. cond (row.holder.ino.0 == k.ino.0) (remade last row) row) s.table.rows row-alike)
+      ap (λ (rows : List EntryRow). record s.table { rows = rows }) (one_at_once last k s.table.rows table.one_row
+      ∙ each-alike (λ row. cond (is_row_of k row) (remade last row) row) (λ row. cond (row.holder.ino.0 == k.ino.0) (remade last row) row) s.table.rows row-alike)
 
   -- and to keep anew what the holder's client is to know of, is to keep it of all
   alone-kept : (now : KnownSets) → KnownAnew (λ j. same j k) (told_then s) s.table sets now → KnownAnew (λ j. j.ino.0 == k.ino.0) (told_then s) s.table sets now
@@ -69,49 +63,50 @@ module _ (sets : KnownSets) (s : Scene) (k : Holder) (others : OthersHaveAll set
       by_tests false apart true on None found = refl
       by_tests false apart true on (Some row) found =
           let mine : j ≡ row.holder = same-is j row.holder (find_passes (is_row_of j) s.table.rows row found) in
-          let all : HasAll sets s row =
-          subst (λ (h : Holder). HasAll sets s (record { holder = h; entry = row.entry })) mine (others j row.entry (eqb-true j.ino.0 k.ino.0 on) apart (ap entry_of found)) in
+          let all = has-all row (ap (λ h. find (is_row_of h) s.table.rows) (sym mine) ∙ found) (ap (λ (h : Holder). h.ino.0 == k.ino.0) (sym mine) ∙ on) (ap (λ h. same h k) (sym mine) ∙ apart) in
           ap (known_of sets) mine ∙ all.1 ∙ ap Some (sym (told-alike sets s row all))
 
-pub finish_holder-requires-clause-permitted : goal.finish_holder-requires-clause-permitted
-finish_holder-requires-clause-permitted c =
-    permitted-some c.args.known.now.sets c.args.scene.now.fs c.args.scene.now.tree c.args.scene.now.sessions c.args.scene.now.table c.args.holder c.requires.entries.permitted
-
-pub finish_holder-requires-clause-number : goal.finish_holder-requires-clause-number
-finish_holder-requires-clause-number c =
-    let k = c.args.holder in
-    let below = λ (e : Entry). e.seq < 18446744073709551615 in
-    entry-on below c.args.scene.now.table k.client k.ino (All-filter (is_of_inode k.ino) (λ row. below row.entry) c.args.scene.now.table.rows c.requires.entries.numbers)
+pub finish_row-requires : goal.finish_row-requires
+finish_row-requires c =
+    let k : Holder = c.args.holder in
+    let t : Table = c.args.scene.now.table in
+    let found : entry_at t k ≡ Some c.in-Some.entry = cc in
+    record {
+      there = found;
+      permitted = c.requires.entries.permitted k c.in-Some.entry found;
+      number = All-contains (λ row. row.entry.seq < 18446744073709551615) t.rows (record { holder = k; entry = c.in-Some.entry }) c.requires.entries.numbers
+          (found-contains (is_row_of k) t.rows (record { holder = k; entry = c.in-Some.entry }) (row_of-entry t k c.in-Some.entry found));
+    }
 
 pub returns-clause-ends : goal.returns-clause-ends
 returns-clause-ends c =
-    let fs = c.args.scene.now.fs in
-    let tree = c.args.scene.now.tree in
-    let sessions = c.args.scene.now.sessions in
-    let locks = c.args.scene.now.locks in
+    let settled : Scene = c.args.scene.now in
     let t : Table = c.args.scene.now.table in
     let k : Holder = c.args.holder in
-    let was = c.args.known.now.sets in
-    let settled : Scene = scene fs tree sessions t locks in
+    let was : KnownSets = c.args.known.now.sets in
     let g : EntryRow → Entry = finished_entry (known_in was) settled in
-    let here = c.of_ino-now.ensures in
-    let table : IsTable t = c.finish_holder.ensures.sound in
-    let all : c.finish_holder.new.table ≡ changed_where (λ row. row.holder.ino.0 == k.ino.0) g t =
-    c.finish_holder.ensures.table
-    ∙ ap (λ (o : Option InodeLocks). changed_by (entry_under (known_in was) fs tree sessions o) t k) here
-    ∙ alone-changed was settled k c.requires.others table in
-    let kept : KnownAnew (λ j. same j k) (told_then settled) t was c.finish_holder.new.known.sets =
-    kept-as (λ j. same j k) (told_at fs tree sessions c.of_ino-now.result) (told_then settled) t was c.finish_holder.new.known.sets
-    (λ row mine. ap (λ (o : Option InodeLocks). told_at fs tree sessions o row) (here ∙ sym (ap (λ (h : Holder). map.get locks.states h.ino.0) (same-is row.holder k mine))))
-    c.finish_holder.ensures.known in
-    record {
+    let one : (c.match-find.scene ≡ record settled { table = changed_by g t k }) × KnownAnew (λ j. same j k) (told_then settled) t was c.match-find.known.sets × ((j : Holder) → permitted_of c.match-find.known.sets j ≡ permitted_of was j) =
+    elim c.match-find.branch [
+      | in-Some w ↦ (let here = w.of_ino-now.ensures in
+          let table : w.finish_row.new.table ≡ changed_by g t k = w.finish_row.ensures.table ∙ ap (λ (o : Option InodeLocks). changed_by (entry_under (known_in was) settled.fs settled.tree settled.sessions o) t k) here in
+          rw (w.scene-is, w.known-is) (
+            λ i. record settled { table = table i },
+            kept-as (λ j. same j k) (told_at settled.fs settled.tree settled.sessions w.of_ino-now.result) (told_then settled) t was w.finish_row.new.known.sets
+                (λ row mine. ap (λ (o : Option InodeLocks). told_at settled.fs settled.tree settled.sessions o row) (here ∙ sym (ap (λ (h : Holder). map.get settled.locks.states h.ino.0) (same-is row.holder k mine))))
+                w.finish_row.ensures.known,
+            w.finish_row.ensures.permitted,
+          ))
+      | in_default w ↦ (let none : entry_at t k ≡ None = cc in
+          rw (w.scene-is, w.known-is) (λ i. record settled { table = none_found t k (λ e. g (record { holder = k; entry = e })) none i }, kept-none (told_then settled) t was k none, λ j. refl))
+    ] in
+    subst (λ (at : ℕ → Bool). EndsAt at [] was c.match-find.known.sets settled c.forget_affected.new.scene) (sym c.requires.alone) (record {
       finished =
-          c.forget_unheld.ensures.left
-          ∙ sym (forget-one k.ino.0 (scene fs tree sessions c.finish_holder.new.table locks))
-          ∙ ap (λ (u : Table). forget_among (λ other. other == k.ino.0) (scene fs tree sessions u locks)) all
+          c.forget_affected.ensures.left
+          ∙ (λ i. forget_among (c.requires.alone i) (one.0 i))
+          ∙ (λ i. forget_among (λ other. other == k.ino.0) (record settled { table = alone-changed was settled k c.requires.others c.find.ensures.sound i }))
           ∙ ap (finished_at (λ other. other == k.ino.0) (known_in was)) (sym (none-sized settled));
       kept =
-          subst (λ (s : Scene). KnownAnew (λ j. j.ino.0 == k.ino.0) (told_then s) s.table was c.finish_holder.new.known.sets) (sym (none-sized settled))
-          (alone-kept was settled k c.requires.others table c.finish_holder.new.known.sets kept);
-      permitted = c.finish_holder.ensures.permitted;
-    }
+          subst (λ (s : Scene). KnownAnew (λ j. j.ino.0 == k.ino.0) (told_then s) s.table was c.match-find.known.sets) (sym (none-sized settled))
+          (alone-kept was settled k c.requires.others c.find.ensures.sound c.match-find.known.sets one.1);
+      permitted = one.2;
+    })

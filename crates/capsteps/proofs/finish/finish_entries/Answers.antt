@@ -1,113 +1,126 @@
-use Rattle.std.{proofs.Common.{◌≡◌, ◌<◌, ◌≤◌, ℕ, ◌+◌, false, ◌||◌, Option, is_some, List, [], ◌∷◌, ◌++◌, length, take, get_or, refl, sym, ap, subst, ◌∙◌, arith, IfSome}, proofs.lemmas.Bool.{eqb-true}, proofs.lemmas.List.{length-map, nil_from_length, take_more, take_all, get_or-map}, proofs.lemmas.List.Folds.{list_any_more}, proofs.lemmas.List.Sums.{fold-append}, specs.List.{fold, IsDistinct}, specs.Option.{unwrap_or}}
+use Rattle.std.{proofs.Common.{◌≡◌, ◌<◌, ◌≤◌, ℕ, ◌+◌, ◌==◌, false, ◌||◌, Option, Some, None, List, [], ◌∷◌, ◌++◌, length, take, get_or, refl, sym, ap, subst, ◌∙◌, arith, eq-eqb}, proofs.lemmas.Bool.{eqb-true}, proofs.lemmas.List.{length-map, length-take-le, take_more, take_all, get_or-map, get_or-take}, proofs.lemmas.List.Elements.{All-contains}, proofs.lemmas.List.Folds.{list_any_more}, proofs.lemmas.List.Sums.{fold-append}, proofs.lemmas.Map.Keys.{apart_from_distinct, IsDistinct-from_apart}, specs.List.{find, fold, IsDistinct}, specs.Option.{unwrap_or}}
 use Rattle.capbits.specs.Sets.{no_caps}
-use Rattle.capacts.proofs.KeptSets.{kept-on, found-as, not-yet}
-use Rattle.capsteps.proofs.{AtEnd.{entry-on, yet-unchanged, named, named-clients, distinct-on}, Common.{Caps, changed, changed_by, due_under, entries_on, Entry, entry_at, entry_under, EntryRow, fold-on_inode, Holder, holder, holders_of_rows, is_among, kept-nobody, kept-not, kept-same, kept-then, known_in, known_of, numbered_as, same, same-is, Table, told_at}, Knowing.{permitted-some}}
+use Rattle.capacts.proofs.KeptSets.{kept-on, not-yet}
+use Rattle.capsteps.proofs.{AtEnd.{named, named-clients, distinct-on}, Common.{Caps, changed, changed_by, changed_where, due_under, entries_on, Entry, entry_at, entry_of, entry_under, EntryRow, filter-contains, fold-changed_by, fold-on_inode, found-contains, found-stays, Holder, holder, holders_of_rows, is_among, is_of_inode, is_row_of, kept-nobody, kept-none, kept-not, kept-same, kept-then, known_in, KnownAnew, KnownSets, none_found, numbered_as, permitted_of, row_of-entry, same, same-is, Table, told_at}, finish.finish_entries.Goals.{After-is_empty, in-Some, in_default}}
 use Rattle.capsteps.proofs.finish.finish_entries.Goals as goal
 
--- nobody has an entry on the inode
-nobody : (c : goal.Then-is_empty) → [] ≡ holders_of_rows (entries_on c.args.table.now c.args.ino)
-nobody c =
-    let cs : List ℕ = c.as_slice-numbers.result.now in
-    let empty : cs ≡ [] = nil_from_length cs (eqb-true (length cs) 0 (sym c.is_empty.ensures ∙ c.if-is_empty.true)) in
-    ap (named c.args.ino) (sym empty ∙ c.as_slice-numbers.ensures.value ∙ c.clients_on-clients.ensures.clients) ∙ named-clients c.args.ino c.args.table.now.rows
+-- The holders with an entry on the inode, one after another.
+module _ (c : After-is_empty) where
+  abbrev ks : List Holder
+  ks = named c.args.ino c.as_slice-numbers.result.now
 
-pub returns-then-is_empty-clause-table : goal.returns-then-is_empty-clause-table
-returns-then-is_empty-clause-table c =
-    let t : Table = c.args.table.now in
-    let g : EntryRow → Entry = entry_under (known_in c.args.known.now.sets) c.args.policy.now.fs.now c.args.policy.now.tree.now c.args.policy.now.sessions.now c.args.locks.now in
-    ap (fold (changed_by g) t) (nobody c) ∙ fold-on_inode g t c.args.ino c.clients_on-clients.ensures.sound
+  -- what the end of the step makes of an entry of which this is known, and tells its client
+  abbrev made : KnownSets → EntryRow → Entry
+  made sets = entry_under (known_in sets) c.args.policy.now.fs.now c.args.policy.now.tree.now c.args.policy.now.sessions.now c.args.locks.now
 
-pub returns-then-is_empty-clause-known : goal.returns-then-is_empty-clause-known
-returns-then-is_empty-clause-known c =
-    let t : Table = c.args.table.now in
-    let f : EntryRow → Caps = told_at c.args.policy.now.fs.now c.args.policy.now.tree.now c.args.policy.now.sessions.now c.args.locks.now in
-    kept-on c.args.ino f t c.args.known.now.sets c.args.known.now.sets
-    (kept-same (is_among []) (is_among (holders_of_rows (entries_on t c.args.ino))) f t c.args.known.now.sets c.args.known.now.sets (λ j. ap (λ (hs : List Holder). is_among hs j) (nobody c))
-    (kept-nobody f t c.args.known.now.sets))
+  abbrev says : EntryRow → Caps
+  says = told_at c.args.policy.now.fs.now c.args.policy.now.tree.now c.args.policy.now.sessions.now c.args.locks.now
 
-pub loop-number-init : goal.loop-number-init
-loop-number-init c = record {
-  table = refl;
-  known = kept-nobody (told_at c.args.policy.now.fs.now c.args.policy.now.tree.now c.args.policy.now.sessions.now c.args.locks.now) c.args.table.now c.args.known.now.sets;
-  permitted = λ k. refl;
-}
+  all : ks ≡ holders_of_rows (entries_on c.args.table.now c.args.ino)
+  all = ap (named c.args.ino) (c.as_slice-numbers.ensures.value ∙ c.clients_on-clients.ensures.clients) ∙ named-clients c.args.ino c.args.table.now.rows
 
-pub finish_entry-requires : goal.finish_entry-requires
-finish_entry-requires c =
-    let t : Table = c.args.table.now in
-    let i : ℕ = c.loop-number.number-index in
-    let cs : List ℕ = c.as_slice-numbers.result.now in
-    let ks : List Holder = named c.args.ino cs in
-    let g : EntryRow → Entry = entry_under (known_in c.args.known.now.sets) c.args.policy.now.fs.now c.args.policy.now.tree.now c.args.policy.now.sessions.now c.args.locks.now in
-    let k : Holder = holder (record { 0 = get_or cs i 0 }) c.args.ino in
-    let all : ks ≡ holders_of_rows (entries_on t c.args.ino) =
-    ap (named c.args.ino) (c.as_slice-numbers.ensures.value ∙ c.clients_on-clients.ensures.clients) ∙ named-clients c.args.ino t.rows in
-    let apart : IsDistinct same ks = subst (IsDistinct same) (sym all) (distinct-on t c.args.ino c.clients_on-clients.ensures.sound) in
-    let inside : i < length ks = omega (arith, c.loop-number-test.true, length-map cs (λ (n : ℕ). holder (record { 0 = n }) c.args.ino)) in
-    let here : get_or ks i k ≡ k = get_or-map (λ (n : ℕ). holder (record { 0 = n }) c.args.ino) cs i 0 k c.loop-number-test.true in
-    let was : entry_at c.loop-number.table k ≡ entry_at t k =
-    ap (λ (t : Table). entry_at t k) c.loop-number.invariant.table
-    ∙ ap (entry_at (fold (changed_by g) t (take i ks))) (sym here)
-    ∙ yet-unchanged g t ks i k apart inside
-    ∙ ap (entry_at t) here in
+  -- so many were gone through
+  module _ (i : ℕ) (u : Table) (mid : KnownSets) (table : u ≡ fold (changed_by (made c.args.known.now.sets)) c.args.table.now (take i ks)) (known : KnownAnew (is_among (take i ks)) says c.args.table.now c.args.known.now.sets mid) where
+    abbrev t : Table
+    t = c.args.table.now
+
+    abbrev was : KnownSets
+    was = c.args.known.now.sets
+
+    abbrev g : EntryRow → Entry
+    g = made was
+
+    -- and so was each entry on the inode, where these are all
+    ended : length c.as_slice-numbers.result.now ≤ i → (u ≡ changed_where (is_of_inode c.args.ino) g t) × KnownAnew (λ k. k.ino.0 == c.args.ino.0) says t was mid
+    ended past =
+        let each : take i ks ≡ holders_of_rows (entries_on t c.args.ino) = take_all i ks (omega (arith, past, length-map c.as_slice-numbers.result.now (λ (n : ℕ). holder (record { 0 = n }) c.args.ino))) ∙ all in
+        (table ∙ ap (fold (changed_by g) t) each ∙ fold-on_inode g t c.args.ino c.clients_on-clients.ensures.sound, kept-on c.args.ino says t was mid (subst (λ (hs : List Holder). KnownAnew (is_among hs) says t was mid) each known))
+
+    -- and one is next
+    module _ (within : i < length c.as_slice-numbers.result.now) where
+      abbrev next : Holder
+      next = holder (record { 0 = get_or c.as_slice-numbers.result.now i 0 }) c.args.ino
+
+      here : get_or ks i next ≡ next
+      here = get_or-map (λ (n : ℕ). holder (record { 0 = n }) c.args.ino) c.as_slice-numbers.result.now i 0 next within
+
+      inside : i < length ks
+      inside = omega (arith, within, length-map c.as_slice-numbers.result.now (λ (n : ℕ). holder (record { 0 = n }) c.args.ino))
+
+      apart : IsDistinct same ks
+      apart = subst (IsDistinct same) (sym all) (distinct-on t c.args.ino c.clients_on-clients.ensures.sound)
+
+      named_before : is_among (take i ks) next ≡ false
+      named_before = ap (is_among (take i ks)) (sym here) ∙ not-yet ks i next apart inside
+
+      once : IsDistinct same (take i ks)
+      once = IsDistinct-from_apart same (take i ks) (λ a b d below within.
+          let few : b < i = omega (arith, within, length-take-le i ks (omega (arith, inside))) in
+          ap (λ h. same h (get_or (take i ks) b d)) (get_or-take i ks a d (omega arith)) ∙ ap (same (get_or ks a d)) (get_or-take i ks b d few) ∙ apart_from_distinct same ks a b d apart below (omega (arith, inside)))
+
+      -- its row is as it was
+      still : find (is_row_of next) u.rows ≡ find (is_row_of next) t.rows
+      still =
+          ap (λ (x : Table). find (is_row_of next) x.rows) (table ∙ fold-changed_by g t (take i ks) c.clients_on-clients.ensures.sound once)
+          ∙ found-stays (λ row. is_among (take i ks) row.holder) g t next (λ row mine. ap (is_among (take i ks)) (sym mine) ∙ named_before)
+
+      -- and so is what is known of it
+      alike : (e : Entry) → made mid (record { holder = next; entry = e }) ≡ g (record { holder = next; entry = e })
+      alike e =
+          let row : EntryRow = record { holder = next; entry = e } in
+          ap (λ (o : Option Caps). numbered_as (unwrap_or o no_caps) (says row) (due_under c.args.policy.now.fs.now c.args.policy.now.tree.now c.args.policy.now.sessions.now c.args.locks.now row) row)
+          (kept-not (is_among (take i ks)) says t was mid known next named_before)
+
+      one_more : (v : Table) (now : KnownSets) → v ≡ changed_by (made mid) u next → KnownAnew (λ j. same j next) says u mid now
+          → (v ≡ fold (changed_by g) t (take (i + 1) ks)) × KnownAnew (is_among (take (i + 1) ks)) says t was now
+      one_more v now step kept =
+          let more : take (i + 1) ks ≡ take i ks ++ next ∷ [] = take_more ks i next inside ∙ ap (λ (k : Holder). take i ks ++ k ∷ []) here in (
+            step ∙ (λ j. changed u next (λ e. alike e j)) ∙ ap (λ (x : Table). changed_by g x next) table ∙ sym (ap (fold (changed_by g) t) more ∙ fold-append (changed_by g) t (take i ks) (next ∷ [])),
+            kept-same (λ j. is_among (take i ks) j || same j next) (is_among (take (i + 1) ks)) says t was now
+                (λ j. sym (list_any_more (same j) ks i next inside ∙ ap (λ h. is_among (take i ks) j || same j h) here))
+                (kept-then (is_among (take i ks)) (λ j. same j next) says t u was mid now known kept
+                (λ j on. let is : j ≡ next = same-is j next on in ap (λ h. find (is_row_of h) u.rows) is ∙ still ∙ ap (λ h. find (is_row_of h) t.rows) (sym is))),
+          )
+
+pub returns-then-is_empty : goal.returns-then-is_empty
+returns-then-is_empty g =
+    let c = (goal.at.returns-then-is_empty g).After-is_empty in
+    let empty = eqb-true (length c.as_slice-numbers.result.now) 0 (sym g.is_empty.ensures ∙ g.if-is_empty.true) in
+    let done = ended c 0 c.args.table.now c.args.known.now.sets refl (kept-nobody (says c) c.args.table.now c.args.known.now.sets) (omega (arith, empty)) in
+    record { table = done.0; known = done.1; permitted = λ k. refl }
+
+pub returns : goal.returns
+returns g =
+    let done = ended (goal.at.returns g).After-is_empty g.loop-number.number-index g.loop-number.table g.loop-number.known.sets g.loop-number.invariant.table g.loop-number.invariant.known g.loop-number-test.false in
+    record { table = done.0; known = done.1; permitted = g.loop-number.invariant.permitted }
+
+pub finish_row-requires : goal.finish_row-requires
+finish_row-requires g =
+    let c = (goal.at.finish_row-requires g).After-is_empty in
+    let rows : List EntryRow = c.args.table.now.rows in
+    let k : Holder = holder (record { 0 = get_or c.as_slice-numbers.result.now g.loop-number.number-index 0 }) c.args.ino in
+    let row : EntryRow = record { holder = k; entry = g.in-Some.entry } in
+    let now : entry_at g.loop-number.table k ≡ Some g.in-Some.entry = cc in
+    let same_row = still c g.loop-number.number-index g.loop-number.table g.loop-number.known.sets g.loop-number.invariant.table g.loop-number.invariant.known g.loop-number-test.true in
+    let found : entry_at c.args.table.now k ≡ Some g.in-Some.entry = sym (ap entry_of same_row) ∙ now in
     record {
-      number = subst (λ (o : Option Entry). IfSome o (λ e. e.seq < 18446744073709551615)) (sym was) (entry-on (λ e. e.seq < 18446744073709551615) t k.client c.args.ino c.requires.numbers);
-      permitted = λ there. c.loop-number.invariant.permitted k
-          ∙ permitted-some c.args.known.now.sets c.args.policy.now.fs.now c.args.policy.now.tree.now c.args.policy.now.sessions.now t k c.requires.permitted (sym (ap is_some was) ∙ there);
+      there = now;
+      permitted = g.loop-number.invariant.permitted k ∙ c.requires.permitted k g.in-Some.entry found;
+      number = All-contains (λ row. row.entry.seq < 18446744073709551615) (entries_on c.args.table.now c.args.ino) row c.requires.numbers
+          (filter-contains (is_of_inode c.args.ino) rows row (found-contains (is_row_of k) rows row (row_of-entry c.args.table.now k g.in-Some.entry found)) (eq-eqb c.args.ino.0 c.args.ino.0 refl));
     }
 
 pub loop-number-preserved : goal.loop-number-preserved
-loop-number-preserved c =
-    let t : Table = c.args.table.now in
-    let i : ℕ = c.loop-number.number-index in
-    let cs : List ℕ = c.as_slice-numbers.result.now in
-    let ks : List Holder = named c.args.ino cs in
-    let g : EntryRow → Entry = entry_under (known_in c.args.known.now.sets) c.args.policy.now.fs.now c.args.policy.now.tree.now c.args.policy.now.sessions.now c.args.locks.now in
-    let f : EntryRow → Caps = told_at c.args.policy.now.fs.now c.args.policy.now.tree.now c.args.policy.now.sessions.now c.args.locks.now in
-    let k : Holder = holder (record { 0 = get_or cs i 0 }) c.args.ino in
-    let all : ks ≡ holders_of_rows (entries_on t c.args.ino) =
-    ap (named c.args.ino) (c.as_slice-numbers.ensures.value ∙ c.clients_on-clients.ensures.clients) ∙ named-clients c.args.ino t.rows in
-    let apart : IsDistinct same ks = subst (IsDistinct same) (sym all) (distinct-on t c.args.ino c.clients_on-clients.ensures.sound) in
-    let inside : i < length ks = omega (arith, c.loop-number-test.true, length-map cs (λ (n : ℕ). holder (record { 0 = n }) c.args.ino)) in
-    let here : get_or ks i k ≡ k = get_or-map (λ (n : ℕ). holder (record { 0 = n }) c.args.ino) cs i 0 k c.loop-number-test.true in
-    let more : take (i + 1) ks ≡ take i ks ++ k ∷ [] = take_more ks i k inside ∙ ap (λ (k : Holder). take i ks ++ k ∷ []) here in
-    let was : entry_at c.loop-number.table k ≡ entry_at t k =
-    ap (λ (t : Table). entry_at t k) c.loop-number.invariant.table
-    ∙ ap (entry_at (fold (changed_by g) t (take i ks))) (sym here)
-    ∙ yet-unchanged g t ks i k apart inside
-    ∙ ap (entry_at t) here in
-    let not_among : is_among (take i ks) k ≡ false = ap (is_among (take i ks)) (sym here) ∙ not-yet ks i k apart inside in
-    let kept : known_of c.loop-number.known.sets k ≡ known_of c.args.known.now.sets k = kept-not (is_among (take i ks)) f t c.args.known.now.sets c.loop-number.known.sets c.loop-number.invariant.known k not_among in
-    record {
-      table =
-          c.finish_entry.ensures.table
-          ∙ ap (λ (o : Option Caps). changed c.loop-number.table k (λ e. let row : EntryRow = record { holder = k; entry = e } in
-          numbered_as (unwrap_or o no_caps) (f row) (due_under c.args.policy.now.fs.now c.args.policy.now.tree.now c.args.policy.now.sessions.now c.args.locks.now row) row)) kept
-          ∙ ap (λ (t : Table). changed_by g t k) c.loop-number.invariant.table
-          ∙ sym (ap (fold (changed_by g) t) more ∙ fold-append (changed_by g) t (take i ks) (k ∷ []));
-      known =
-          kept-same (λ j. is_among (take i ks) j || same j k) (is_among (take (i + 1) ks)) f t c.args.known.now.sets c.finish_entry.new.known.sets
-          (λ j. sym (list_any_more (same j) ks i k inside ∙ ap (λ h. is_among (take i ks) j || same j h) here))
-          (kept-then (is_among (take i ks)) (λ j. same j k) f t c.loop-number.table c.args.known.now.sets c.loop-number.known.sets c.finish_entry.new.known.sets c.loop-number.invariant.known c.finish_entry.ensures.known
-          (λ j on. let is : j ≡ k = same-is j k on in found-as t c.loop-number.table j (ap (entry_at c.loop-number.table) is ∙ was ∙ ap (entry_at t) (sym is))));
-      permitted = λ j. c.finish_entry.ensures.permitted j ∙ c.loop-number.invariant.permitted j;
-    }
-
-pub returns : goal.returns
-returns c =
-    let t : Table = c.args.table.now in
-    let cs : List ℕ = c.as_slice-numbers.result.now in
-    let ks : List Holder = named c.args.ino cs in
-    let g : EntryRow → Entry = entry_under (known_in c.args.known.now.sets) c.args.policy.now.fs.now c.args.policy.now.tree.now c.args.policy.now.sessions.now c.args.locks.now in
-    let f : EntryRow → Caps = told_at c.args.policy.now.fs.now c.args.policy.now.tree.now c.args.policy.now.sessions.now c.args.locks.now in
-    let past : length ks ≤ c.loop-number.number-index = omega (arith, c.loop-number-test.false, length-map cs (λ (n : ℕ). holder (record { 0 = n }) c.args.ino)) in
-    let all : ks ≡ holders_of_rows (entries_on t c.args.ino) =
-    ap (named c.args.ino) (c.as_slice-numbers.ensures.value ∙ c.clients_on-clients.ensures.clients) ∙ named-clients c.args.ino t.rows in
-    let each : take c.loop-number.number-index ks ≡ holders_of_rows (entries_on t c.args.ino) = take_all c.loop-number.number-index ks past ∙ all in
-    record {
-      table = c.loop-number.invariant.table ∙ ap (fold (changed_by g) t) each ∙ fold-on_inode g t c.args.ino c.clients_on-clients.ensures.sound;
-      known =
-          kept-on c.args.ino f t c.args.known.now.sets c.loop-number.known.sets
-          (kept-same (is_among (take c.loop-number.number-index ks)) (is_among (holders_of_rows (entries_on t c.args.ino))) f t c.args.known.now.sets c.loop-number.known.sets (λ j. ap (λ (hs : List Holder). is_among hs j) each) c.loop-number.invariant.known);
-      permitted = c.loop-number.invariant.permitted;
-    }
+loop-number-preserved g =
+    let c = (goal.at.loop-number-preserved g).After-is_empty in
+    let u : Table = g.loop-number.table in
+    let mid : KnownSets = g.loop-number.known.sets in
+    let k : Holder = holder (record { 0 = get_or c.as_slice-numbers.result.now g.loop-number.number-index 0 }) c.args.ino in
+    let done : (g.match-find_near.table ≡ changed_by (made c mid) u k) × KnownAnew (λ j. same j k) (says c) u mid g.match-find_near.known.sets × ((j : Holder) → permitted_of g.match-find_near.known.sets j ≡ permitted_of mid j) =
+    elim g.match-find_near.branch [
+      | in-Some w ↦ rw (w.table-is, w.known-is) (w.finish_row.ensures.table, w.finish_row.ensures.known, w.finish_row.ensures.permitted)
+      | in_default w ↦ (let none : entry_at u k ≡ None = cc in
+          rw (w.table-is, w.known-is) (none_found u k (λ e. made c mid (record { holder = k; entry = e })) none, kept-none (says c) u mid k none, λ j. refl))
+    ] in
+    let more = one_more c g.loop-number.number-index u mid g.loop-number.invariant.table g.loop-number.invariant.known g.loop-number-test.true g.match-find_near.table g.match-find_near.known.sets done.0 done.1 in
+    record { table = more.0; known = more.1; permitted = λ j. done.2 j ∙ g.loop-number.invariant.permitted j }

@@ -1,37 +1,26 @@
-use Rattle.std.{proofs.Common.{◌≡◌, length, ℕ, List, [], ◌∷◌, refl, sym, ap, subst, ◌∙◌, arith}, proofs.lemmas.Map.Iter.{rest_more, rest_all}, specs.List.{fold}, specs.Map.Iter.{deref}}
-use Rattle.capsteps.proofs.{Common.{IsListOf, leads-none, leads-then, Scene}, Strays.{forget_on, forget-all_of}}
+use Rattle.std.{proofs.Common.{◌≡◌, [], ◌∷◌, length, refl, sym, ap, ◌∙◌, arith}, proofs.lemmas.List.{length-append}, specs.List.{fold}}
+use Rattle.capacts.{proofs.Capnotes.Noting.{leads-forgotten}, specs.Capview.declared.change.ViewChange.TheVariants.{Forgotten}}
+use Rattle.capsteps.{proofs.Common.{leads-none, leads-then, LockMap, Scene}, proofs.Strays.{forget_on, forget-all_of}, specs.Affected.{forget_at}}
 use Rattle.capsteps.proofs.finish.forget_affected.Goals as goal
 
-pub loop-number-init : goal.loop-number-init
-loop-number-init c =
-    let count = ap length c.into_iter-number-iterator.ensures.into_iter_gives ∙ c.numbers-number-items.ensures.count in
-    record { left = refl; queue = refl; lead = leads-none c.args.changes.now.items c.args.scene.now.tree; count = omega (arith, count); room = omega arith }
+pub inodes-init : goal.inodes-init
+inodes-init c = record { left = refl; queue = refl; lead = leads-none c.args.changes.now.items c.args.scene.now.tree; places = omega (arith, c.numbers-walk.ensures.count, c.requires.places) }
 
-pub forget_unheld-requires : goal.forget_unheld-requires
-forget_unheld-requires c =
-    let k : ℕ = c.in-Some.number.now in
-    let ks : List ℕ = c.next.new.self in
-    let rest : c.loop-number.number-iterator ≡ k ∷ ks = rest_more deref _ _ _ _ c.in-Some.is c.next.ensures.steps in
-    let one_more = ap length rest in
-    record { place = omega (arith, one_more, c.loop-number.invariant.count, c.loop-number.invariant.room, c.requires.places) }
-
-pub loop-number-preserved : goal.loop-number-preserved
-loop-number-preserved c =
-    let k : ℕ = c.in-Some.number.now in
-    let ks : List ℕ = c.next.new.self in
-    let rest : c.loop-number.number-iterator ≡ k ∷ ks = rest_more deref _ _ _ _ c.in-Some.is c.next.ensures.steps in
+pub inodes-preserved-then-not-is_held : goal.inodes-preserved-then-not-is_held
+inodes-preserved-then-not-is_held c =
+    let s : Scene = c.inodes.scene in
+    let gone : record s { tree = c.forget.new.self; locks = c.drop_ino.new.self } ≡ forget_at c.in-Some.ino.0 s = grind arith in
+    let more = ap length c.in-Some.ensures.some in
+    let notes = ap length c.push.ensures.items ∙ length-append c.inodes.changes.items (Forgotten c.in-Some.ino ∷ []) in
     record {
-      left = ap (λ (s : Scene). fold forget_on s ks) c.forget_unheld.ensures.left ∙ ap (fold forget_on c.loop-number.scene) (sym rest) ∙ c.loop-number.invariant.left;
-      queue = c.forget_unheld.ensures.queue ∙ c.loop-number.invariant.queue;
-      lead = leads-then c.args.changes.now.items c.loop-number.changes.items c.forget_unheld.new.changes.items c.args.scene.now.tree c.loop-number.scene.tree c.forget_unheld.new.scene.tree
-          c.loop-number.invariant.lead c.forget_unheld.ensures.lead;
-      count = (let one_more = ap length rest in omega (arith, one_more, c.forget_unheld.ensures.count, c.loop-number.invariant.count));
-      room = omega (arith, c.forget_unheld.ensures.room, c.loop-number.invariant.room);
+      left = ap (λ (now : Scene). fold forget_on now c.next.new.self) gone ∙ ap (fold forget_on s) (sym c.in-Some.ensures.some) ∙ c.inodes.invariant.left;
+      queue = ap (λ (locks : LockMap). locks.queue) c.drop_ino.ensures ∙ c.inodes.invariant.queue;
+      lead = leads-then c.args.changes.now.items c.inodes.changes.items c.push.new.self.items c.args.scene.now.tree s.tree c.forget.new.self
+          c.inodes.invariant.lead (rw (c.push.ensures.items, c.forget.ensures) (leads-forgotten c.inodes.changes.items s.tree c.in-Some.ino));
+      places = omega (arith, more, notes, c.push.ensures.room, c.inodes.invariant.places);
     }
 
 pub returns-clause-left : goal.returns-clause-left
 returns-clause-left c =
-    let lists : IsListOf c.args.affected.now c.into_iter-number-iterator.result = subst (IsListOf c.args.affected.now) (sym c.into_iter-number-iterator.ensures.into_iter_gives) c.numbers-number-items.ensures.list in
-    let none : c.loop-number.number-iterator ≡ [] = rest_all deref _ _ _ c.in-None.is c.next.ensures.steps in
-    ap (fold forget_on c.loop-number.scene) (sym none) ∙ c.loop-number.invariant.left
-    ∙ forget-all_of c.args.affected.now c.into_iter-number-iterator.result c.args.scene.now lists
+    ap (fold forget_on c.inodes.scene) (sym c.in_default.ensures.none.0) ∙ c.inodes.invariant.left
+    ∙ forget-all_of c.args.affected.now c.numbers-walk.result c.args.scene.now c.numbers-walk.ensures.list

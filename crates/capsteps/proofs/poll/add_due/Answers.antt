@@ -1,9 +1,8 @@
 use Rattle.std.proofs.Common.{◌≡◌, ◌++◌, List, [], ◌∷◌, take, sym, ap, ◌∙◌, append_assoc, if◌then◌else◌}
 use Rattle.capacts.specs.{Capevents.declared.outcome.Message.TheVariants.{Recall}, Caprules.Messages.{caps_messages, size_messages, recall_messages}}
 use Rattle.capsteps.proofs.{Common.{EntryRow, Message}, Polling.{take-take_append}}
-use Rattle.capsteps.proofs.poll.add_due.Goals as goal
 
-pub returns-in_ok-add : goal.returns-in_ok-add
+pub returns-in_ok-add : Rattle.capsteps.proofs.poll.add_due.Goals.returns-in_ok-add
 returns-in_ok-add c = record {
   ok = λ s tree known.
       let max = c.args.max in

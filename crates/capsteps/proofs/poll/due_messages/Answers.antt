@@ -27,9 +27,9 @@ rows-preserved c =
       few = omega (arith, less);
       among = λ r inside. c.rows.invariant.among r (subst (λ (rows : List EntryRow). Contains rows r) (sym c.in-Some.ensures.some) (suc inside.0, omega (arith, inside.1), inside.2));
       listed = λ s tree table known.
-          listed-more c.args.max s (end_messages c.args.client c.args.ended.now) c.due_of-walk.result c.next.new.self c.rows.due c.add_due.new.list row
+          listed-more c.args.max s (end_messages c.args.client c.args.ended.now) c.due_of-walk.result c.rows.walk c.next.new.self c.rows.due c.add_due.new.list row c.in-Some.ensures.some
           (c.in_ok-add_due.ensures.ok s tree (λ untold. known-row c.args.known.now.sets s c.args.scene.now.table table c.due_of-walk.ensures.sound known row (c.rows.invariant.among row here (ap (λ b. b || (row.entry.size_due || row.entry.asked)) untold))))
-          (subst (IsListed c.args.max s (end_messages c.args.client c.args.ended.now) c.due_of-walk.result c.rows.due) c.in-Some.ensures.some (c.rows.invariant.listed s tree table known));
+          (c.rows.invariant.listed s tree table known);
     }
 
 pub returns-then-left-eq0 : goal.returns-then-left-eq0
@@ -50,8 +50,7 @@ returns-then-left-eq0-2 c = λ s tree table known messages.
     let is = c.in_ok-add_due.ensures.ok s.scene tree
     (λ untold. known-row c.args.known.now.sets s.scene c.args.scene.now.table table c.due_of-walk.ensures.sound known row (c.rows.invariant.among row here (ap (λ b. b || (row.entry.size_due || row.entry.asked)) untold))) in
     let so_far : IsListed max s.scene first rows c.add_due.new.list c.next.new.self =
-    listed-more max s.scene first rows c.next.new.self c.rows.due c.add_due.new.list row is
-    (subst (IsListed max s.scene first rows c.rows.due) c.in-Some.ensures.some (c.rows.invariant.listed s.scene tree table known)) in
+    listed-more max s.scene first rows c.rows.walk c.next.new.self c.rows.due c.add_due.new.list row c.in-Some.ensures.some is (c.rows.invariant.listed s.scene tree table known) in
     let none : filter is_due c.next.new.self ≡ [] =
     nil_from_length (filter is_due c.next.new.self)
     (sym (left-behind row c.next.new.self c.rows.left (c.rows.invariant.left ∙ ap (λ (rows : List EntryRow). length (filter is_due rows)) c.in-Some.ensures.some)) ∙ sym c.left_behind-left.ensures ∙ c.if-left-eq0-2.true) in
@@ -68,8 +67,7 @@ returns-then-as_slice-max c = λ s tree table known messages.
     let is = c.in_ok-add_due.ensures.ok s.scene tree
     (λ untold. known-row c.args.known.now.sets s.scene c.args.scene.now.table table c.due_of-walk.ensures.sound known row (c.rows.invariant.among row here (ap (λ b. b || (row.entry.size_due || row.entry.asked)) untold))) in
     let so_far : IsListed max s.scene first rows c.add_due.new.list c.next.new.self =
-    listed-more max s.scene first rows c.next.new.self c.rows.due c.add_due.new.list row is
-    (subst (IsListed max s.scene first rows c.rows.due) c.in-Some.ensures.some (c.rows.invariant.listed s.scene tree table known)) in
+    listed-more max s.scene first rows c.rows.walk c.next.new.self c.rows.due c.add_due.new.list row c.in-Some.ensures.some is (c.rows.invariant.listed s.scene tree table known) in
     let full : max ≤ length c.add_due.new.list = subst (λ (xs : List Message). max ≤ length xs) c.as_slice.ensures c.if-as_slice-max.true in
     listed-first s c.args.client max c.args.scene.now.table c.args.ended.now rows c.add_due.new.list c.due_of-walk.ensures.due table messages
     (listed-full max s.scene first rows c.next.new.self c.add_due.new.list (few-more max _ c.add_due.new.list is) full so_far)

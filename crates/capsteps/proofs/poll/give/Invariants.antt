@@ -1,6 +1,5 @@
 use Rattle.std.proofs.Common.{◌≡◌, take}
 use Rattle.capsteps.proofs.Common.{after_messages, changed_where, is_of_client}
-use Rattle.capsteps.proofs.poll.give.Given as goal
 
-abbrev pub invariant-loop-message : goal.invariant-loop-message
+abbrev pub invariant-loop-message : Rattle.capsteps.proofs.poll.give.Given.invariant-loop-message
 invariant-loop-message l = l.table ≡ changed_where (is_of_client l.client) (after_messages (take l.message-index l.given)) l.fn.table

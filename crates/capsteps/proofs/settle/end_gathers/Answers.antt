@@ -1,15 +1,16 @@
-use Rattle.std.proofs.Common.{◌≡◌, ◌<◌, ℕ, Bool, List, false, refl, subst, ◌∙◌}
+use Rattle.std.proofs.Common.{◌≡◌, ◌<◌, ◌+◌, ℕ, Bool, List, Some, false, refl, subst, ◌∙◌, arith}
 use Rattle.std.specs.FinMap as map
+use Rattle.std.specs.FinSet as set
 use Rattle.capacts.proofs.Lockmachine.Ending.{ends-little}
-use Rattle.capsteps.{proofs.Common.{is_affected, may_end_by, Nodes, Part, scene, SessionTable, WaitAt}, proofs.Sweeping.{fewer_behind, swept-begins, swept-on, ends-passed, same-elsewhere}, proofs.settle.end_gathers.Goals.{After-end_gathers_at}, specs.Sweep.{IsSwept, IsNextOf}}
+use Rattle.capsteps.{proofs.Common.{IsNext, may_end_by, Nodes, Part, scene, SessionTable, WaitAt}, proofs.Sweeping.{fewer_behind, swept-begins, swept-on, ends-passed, same-elsewhere}, proofs.settle.end_gathers.Goals.{After-end_gathers_at}, specs.Sweep.{IsSwept}}
 use Rattle.capsteps.proofs.settle.end_gathers.Goals as goal
 
 pub inodes-init : goal.inodes-init
-inodes-init c = let least = c.lowest-at.ensures in record {
-  swept = λ fs tree sessions waits. swept-begins (is_affected c.args.ino.0 c.args.affected.now) (scene fs tree sessions c.args.table.now c.args.locks.now) waits;
+inodes-init c = let least = c.first-at.ensures in record {
+  swept = λ fs tree sessions waits. swept-begins (set.contains c.args.affected.now) (scene fs tree sessions c.args.table.now c.args.locks.now) waits;
   same = λ other off. refl;
-  lower = λ other part below. c.requires.elsewhere other part (least.least other below);
-  here = least.is;
+  lower = λ other part below. c.requires.elsewhere other part (least.least other (omega arith) below);
+  here = least.has;
 }
 
 pub end_gathers_at-requires : goal.end_gathers_at-requires
@@ -17,7 +18,7 @@ end_gathers_at-requires c = record { lower = c.inodes.invariant.lower }
 
 module _ (c : After-end_gathers_at) where
   abbrev at : ℕ → Bool
-  at = is_affected c.args.ino.0 c.args.affected.now
+  at = set.contains c.args.affected.now
 
   swept : (fs : List ℕ) (tree : Nodes) (sessions : SessionTable) → WaitAt at (scene fs tree sessions c.args.table.now c.args.locks.now)
       → IsSwept at (scene fs tree sessions c.args.table.now c.args.locks.now) (scene fs tree sessions c.args.table.now c.end_gathers_at.new.self)
@@ -38,25 +39,24 @@ module _ (c : After-end_gathers_at) where
 
 pub inodes-smaller : goal.inodes-smaller
 inodes-smaller c =
-    fewer_behind c.args.ino.0 c.args.affected.now c.inodes.at.0 c.in-Some.next
-    (subst (IsNextOf (is_affected c.args.ino.0 c.args.affected.now) c.inodes.at.0) c.in-Some.is c.next_affected.ensures)
+    fewer_behind c.args.affected.now c.inodes.at.0 c.in-Some.next (subst (IsNext c.args.affected.now (c.inodes.at.0 + 1)) c.in-Some.is c.after.ensures)
 
 pub inodes-preserved : goal.inodes-preserved
 inodes-preserved c =
     let here = (goal.at.inodes-preserved c).After-end_gathers_at in
-    let next = subst (IsNextOf (is_affected c.args.ino.0 c.args.affected.now) c.inodes.at.0) c.in-Some.is c.next_affected.ensures in
+    let next : IsNext c.args.affected.now (c.inodes.at.0 + 1) (Some c.in-Some.next) = subst (IsNext c.args.affected.now (c.inodes.at.0 + 1)) c.in-Some.is c.after.ensures in
     record {
       swept = swept here;
       same = same here;
-      lower = λ other part below. passed here other part (λ above. next.2 other above below);
-      here = next.1;
+      lower = λ other part below. passed here other part (λ above. next.least other (omega (arith, above)) below);
+      here = next.has;
     }
 
 pub returns-in_default-clause-ends : goal.returns-in_default-clause-ends
 returns-in_default-clause-ends c =
     let here = (goal.at.returns-in_default-clause-ends c).After-end_gathers_at in
-    let beyond = subst (IsNextOf (is_affected c.args.ino.0 c.args.affected.now) c.inodes.at.0) c.in_default.is c.next_affected.ensures in
-    λ other part. passed here other part (λ above. beyond other above)
+    let beyond = subst (IsNext c.args.affected.now (c.inodes.at.0 + 1)) c.in_default.is c.after.ensures in
+    λ other part. passed here other part (λ above. beyond other (omega (arith, above)))
 
 pub returns-in_default-clause-swept : goal.returns-in_default-clause-swept
 returns-in_default-clause-swept c = swept (goal.at.returns-in_default-clause-swept c).After-end_gathers_at

@@ -1,11 +1,17 @@
-use Rattle.std.{proofs.Common.{◌≡◌, ◌++◌, ◌∷◌, [], ◌⊎◌, inl, inr, false, Option, Some, Result, Ok, Err, is_ok, OnOk, refl, sym, ap, subst, ◌∙◌}, specs.List.{filter_map}}
+use Rattle.std.{proofs.Common.{◌≡◌, ◌++◌, ◌∷◌, [], ◌⊎◌, inl, inr, true, false, Option, Some, None, Result, Ok, Err, is_ok, OnOk, refl, sym, ap, subst, ◌∙◌, true≢false}, proofs.lemmas.Bool.{eqb-true}, specs.List.{filter_map}, specs.Option.{option_eq}}
+use Rattle.capbits.specs.contracts.ids.TicketPartialEq.TheImpl as tickets
 use Rattle.capacts.{proofs.Renewed.{room-permitted}, specs.Known.{HaveRoom}, specs.Renewing.{ServedFrom}}
-use Rattle.capsteps.{proofs.Common.{ArePermitted, Covers, Ended, Ino, InoSet, IsAlike, Nodes, Outcome, Request, Scene, Served, sized_by, Table}, proofs.OneChange.{alike-apart}, specs.Serves.{Serves}}
+use Rattle.capsteps.{proofs.Common.{ArePermitted, Covers, Ended, Ino, InoSet, IsAlike, Nodes, Outcome, Request, Scene, Served, sized_by, Table, Ticket}, proofs.OneChange.{alike-apart}, specs.Serves.{Serves}}
 use Rattle.capsteps.proofs.settle.serve_next.Goals as goal
+
+-- tickets that are compared as equal are the same
+same-ticket : (judged : Option Ticket) (ticket : Ticket) → option_eq tickets.eq-value.it judged (Some ticket) ≡ true → judged ≡ Some ticket
+same-ticket None ticket is = absurd (true≢false (sym is))
+same-ticket (Some own) ticket is = let number = eqb-true own.0 ticket.0 is in λ i. Some (record { 0 = number i })
 
 pub serve-served-requires-clause-judged : goal.serve-served-requires-clause-judged
 serve-served-requires-clause-judged c = λ judged.
-    c.requires.judged c.args.ticket c.in-Some.request (c.is_judged-judged.ensures judged) (sym c.in-Some.ensures.request)
+    c.requires.judged c.args.ticket c.in-Some.request (sym c.take.ensures.value ∙ same-ticket c.take.result c.args.ticket (sym c.eq-judged.ensures ∙ judged)) (sym c.in-Some.ensures.request)
 
 pub returns-clause-served : goal.returns-clause-served
 returns-clause-served c =
@@ -28,7 +34,7 @@ returns-clause-served c =
           let same : request ≡ q = (let both : Some request ≡ Some q = c.in-Some.ensures.request ∙ there in cc) in
           c.push.ensures.sized
           ∙ ap (λ (sized : Option Ino). c.args.endings.now.sized.items ++ filter_map (λ (ino : Option Ino). ino) (sized ∷ []))
-          (c.sized_by-sized.ensures ∙ ap (λ (r : Request). sized_by (Served r outcome)) same),
+          (c.changed_inodes-sized.ensures.sized ∙ ap (λ (r : Request). sized_by (Served r outcome)) same),
     )
 
 -- it was covered what the request moves, or the tree stayed as it was
@@ -50,11 +56,11 @@ returns-clause-permitted c =
     let affected : InoSet = c.reach-room.new.affected in
     let is = c.serve-served.ensures.rest in
     let after = c.serve-served.ensures.tree in
-    let from : ServedFrom old.tree request outcome c.args.ino.0 affected c.serve-served.new.scene = record {
+    let from : ServedFrom old.tree request outcome affected c.serve-served.new.scene = record {
       after = after;
       alike = λ other apart below. subst (λ (t : Nodes). IsAlike old.tree t other) (sym after)
           (alike-apart old request outcome other c.requires.tree (c.serve-served.ensures.ends old.table old.locks) apart below);
-      covers = subst (λ (t : Table). (c.serve-served.new.scene.tree ≡ old.tree) ⊎ Covers request c.args.ino.0 old.tree t affected) (sym (ap (λ (s : Scene). s.table) is))
+      covers = subst (λ (t : Table). (c.serve-served.new.scene.tree ≡ old.tree) ⊎ Covers request old.tree t affected) (sym (ap (λ (s : Scene). s.table) is))
           (covered c.reach-room.result c.reach-room.ensures.covers (λ failed. c.serve-served.ensures.stays (c.is_ok.ensures.value ∙ failed)));
     } in
     c.renew_served.ensures.permitted old.tree from

@@ -1,22 +1,24 @@
 use Rattle.std.{proofs.Common.{◌≡◌, ◌<◌, ◌≤◌, ◌+◌, ◌++◌, ◌∷◌, [], ℕ, Bool, true, false, cond, ◌&&◌, length, List, Option, Some, None, Contains, refl, sym, ap, subst, ◌∙◌, arith, inl, inr}, proofs.lemmas.List.{length-append}, specs.List.{filter_map}}
+use Rattle.std.specs.FinSet as set
 use Rattle.capacts.{proofs.Walked.{none-walked}, specs.Caprules.Settle.{sets_size, is_done}}
-use Rattle.capsteps.{proofs.Common.{AreWalked, Covers, Ended, ends_not, first_move, Ino, InoSet, is_affected, IsLockMap, IsTree, LeadOn, leads-none, leads-then, lock_at, Nodes, Outcome, Reaches, Request, request_at, Scene, Serve, Served, served-at, sized_in, SweepPlace, Table, tree_after}, proofs.Judged.{none-judged, still-judged}, proofs.Moved.{moved-all, tree-moved}, proofs.OneChange.{within-after}, proofs.SoFar.{IsSoFar, so-far-begins, so-far-served, so-far-settled, so-far-swept, stands-behind, stands-first, turn-of_least}, proofs.settle.settle.Goals.{In-Some, After-place_behind-place}, specs.Begun.{ArePermittedIn}, specs.Judged.{IsJudged}, specs.Serves.{Serves}, specs.Sweep.{IsSwept, StandsAt, GoesOn, GoesOnBehind}}
+use Rattle.capsteps.{proofs.Common.{AreWalked, Covers, Ended, ends_not, first_move, Ino, InoSet, IsLockMap, IsTree, LeadOn, leads-none, leads-then, lock_at, Nodes, Outcome, Reaches, Request, request_at, Scene, Serve, Served, served-at, sized_in, Table, tree_after}, proofs.Judged.{none-judged, still-judged}, proofs.Moved.{moved-all, tree-moved}, proofs.OneChange.{within-after}, proofs.SoFar.{GoesOnBehind, IsSoFar, so-far-begins, so-far-served, so-far-settled, so-far-swept, stands-behind, stands-first, turn-of_least}, proofs.settle.settle.Goals.{In-Some, After-serve_next-changed}, specs.Begun.{ArePermittedIn}, specs.Judged.{IsJudged}, specs.Serves.{Serves}, specs.Sweep.{IsSwept, GoesOn}, specs.declared.settle.SweepPlace.{SweepPlace}}
+use Rattle.capsteps.proofs.settle.settle.Invariants.{invariant-servings}
 use Rattle.capsteps.proofs.settle.settle.Goals as goal
 
 -- What a rename walked over in a step is affected until its end.
 
 -- when a request was served, what was walked over is affected still: the serving left the tree, or moved nothing but what is affected
-walked-served : (tree after : Nodes) (q : Request) (o : Outcome) (ino : ℕ) (table : Table) (walked affected others : InoSet) → after ≡ tree_after tree q o
-    → Reaches q ino tree after table affected others → AreWalked walked ino tree table others → AreWalked walked ino after table others
-walked-served tree after q o ino table walked affected others is reaches all = elim reaches.covers [
-  | inl same ↦ subst (λ (t : Nodes). AreWalked walked ino t table others) (sym same) all
-  | inr covers ↦ subst (λ (t : Nodes). AreWalked walked ino t table others) (sym is) (by_move covers)
+walked-served : (tree after : Nodes) (q : Request) (o : Outcome) (table : Table) (walked was affected : InoSet) → after ≡ tree_after tree q o
+    → Reaches q tree after table was affected → AreWalked walked tree table affected → AreWalked walked after table affected
+walked-served tree after q o table walked was affected is reaches all = elim reaches.covers [
+  | inl same ↦ subst (λ (t : Nodes). AreWalked walked t table affected) (sym same) all
+  | inr covers ↦ subst (λ (t : Nodes). AreWalked walked t table affected) (sym is) (by_move covers)
 ]
   where
-    by_move : Covers q ino tree table others → AreWalked walked ino (tree_after tree q o) table others
-    by_move covers above there row among apart below = elim (within-after tree q o row.holder.ino.0 above below) [
-      | inl lay ↦ all above there row among apart lay
-      | inr moved ↦ covers moved.0 row among apart moved.1
+    by_move : Covers q tree table affected → AreWalked walked (tree_after tree q o) table affected
+    by_move covers above there row among below = elim (within-after tree q o row.holder.ino.0 above below) [
+      | inl lay ↦ all above there row among lay
+      | inr moved ↦ covers moved.0 row among moved.1
     ]
 
 pub end_gathers-requires : goal.end_gathers-requires
@@ -28,18 +30,18 @@ pub servings-init : goal.servings-init
 servings-init c =
     let first : Scene = c.args.scene.now in
     let now : Scene = record c.args.scene.now { locks = c.end_gathers.new.locks } in
-    let at : ℕ → Bool = is_affected c.args.ino.0 c.args.others in
-    let begun = so-far-begins c.args.ino.0 c.args.others first c.requires.settles.quiet c.requires.apart in
+    let at : ℕ → Bool = set.contains c.args.affected.now in
+    let begun = so-far-begins c.args.affected.now first c.requires.settles.quiet in
     let swept : IsSwept at first now = c.end_gathers.ensures.swept first.fs first.tree first.sessions begun.waits in
-    let so : IsSoFar c.args.ino.0 at c.args.others first now [] [] = so-far-swept c.args.ino.0 at c.args.others first first [] [] begun now swept in
+    let so : IsSoFar at c.args.affected.now first now [] [] = so-far-swept at c.args.affected.now first first [] [] begun now swept in
     let queue : length c.end_gathers.new.locks.queue ≡ length c.args.scene.now.locks.queue = ap length swept.queue in
     let room = c.requires.room in
     record {
       so_far =
-          subst (λ (told : List Ended). IsSoFar c.args.ino.0 at c.args.others first now told c.args.endings.now.sized.items) (sym c.requires.room.told)
-          (subst (IsSoFar c.args.ino.0 at c.args.others first now []) (sym c.requires.room.sized) so);
-      stands = stands-first c.args.ino.0 c.args.others now c.first_place-place.result (turn-of_least at now so.still c.end_gathers.ensures.ends) so.waits c.first_place-place.ensures;
-      walked = none-walked c.new-walked.result c.args.ino.0 c.args.scene.now.tree c.args.scene.now.table c.args.others c.new-walked.ensures;
+          subst (λ (told : List Ended). IsSoFar at c.args.affected.now first now told c.args.endings.now.sized.items) (sym c.requires.room.told)
+          (subst (IsSoFar at c.args.affected.now first now []) (sym c.requires.room.sized) so);
+      stands = stands-first c.args.affected.now now c.first-place.result (turn-of_least c.args.affected.now now so.still c.end_gathers.ensures.ends) so.waits c.first-place.ensures;
+      walked = none-walked c.new-walked.result c.args.scene.now.tree c.args.scene.now.table c.args.affected.now c.new-walked.ensures;
       judged = still-judged c.args.endings.now.judged first now.locks swept.queue c.requires.judged;
       same = c.requires.room.kept ∙ sym c.requires.room.told;
       lead = leads-none c.args.endings.now.changes.items c.args.scene.now.tree;
@@ -60,7 +62,7 @@ few-sized sized more q o is = elim (sets_size q.ask && is_done o) as (λ b. more
 
 -- the inodes of the event
 abbrev from : In-Some → ℕ → Bool
-from c = is_affected c.args.ino.0 c.args.others
+from c = set.contains c.args.affected.now
 
 module _ (c : In-Some) where
   abbrev first : Scene
@@ -73,8 +75,8 @@ module _ (c : In-Some) where
   mid = c.sweep.new.scene
 
   -- gathers began and ended
-  swept : IsSoFar c.args.ino.0 (from c) c.servings.reached.affected first mid c.servings.endings.told.items c.servings.endings.sized.items
-  swept = so-far-swept c.args.ino.0 (is_affected c.args.ino.0 c.args.others) c.servings.reached.affected first now c.servings.endings.told.items c.servings.endings.sized.items c.servings.invariant.so_far mid c.sweep.ensures.swept
+  swept : IsSoFar (from c) c.servings.affected first mid c.servings.endings.told.items c.servings.endings.sized.items
+  swept = so-far-swept (set.contains c.args.affected.now) c.servings.affected first now c.servings.endings.told.items c.servings.endings.sized.items c.servings.invariant.so_far mid c.sweep.ensures.swept
 
   -- the moves so far leave the requests in their order, and a tree
   order : IsLockMap mid.locks
@@ -89,9 +91,9 @@ module _ (c : In-Some) where
   move : first_move mid ≡ Serve c.in-Some.ticket
   move = subst (GoesOn mid) c.in-Some.is c.sweep.ensures.next
 
-  here : (r : Request) × (request_at c.sweep.new.scene.locks c.in-Some.ticket.0 ≡ Some r) × Contains c.sweep.new.scene.locks.queue r × (is_affected c.args.ino.0 c.servings.reached.affected r.ino.0 ≡ true)
+  here : (r : Request) × (request_at c.sweep.new.scene.locks c.in-Some.ticket.0 ≡ Some r) × Contains c.sweep.new.scene.locks.queue r × (set.contains c.servings.affected r.ino.0 ≡ true)
       × (r.ticket ≡ c.in-Some.ticket)
-  here = (let so = swept in served-at (is_affected c.args.ino.0 c.servings.reached.affected) mid c.in-Some.ticket order so.waits move)
+  here = (let so = swept in served-at (set.contains c.servings.affected) mid c.in-Some.ticket order so.waits move)
 
   -- somebody waits
   some_wait : 0 < length c.servings.scene.locks.queue
@@ -107,7 +109,7 @@ serve_next-changed-requires-clause-waits c = (let found = here (goal.at.serve_ne
 
 pub serve_next-changed-requires-clause-walked : goal.serve_next-changed-requires-clause-walked
 serve_next-changed-requires-clause-walked c =
-    subst (λ (s : Scene). AreWalked c.servings.reached.walked c.args.ino.0 s.tree s.table c.servings.reached.affected) (sym (stays (goal.at.serve_next-changed-requires-clause-walked c).In-Some)) c.servings.invariant.walked
+    subst (λ (s : Scene). AreWalked c.servings.walked s.tree s.table c.servings.affected) (sym (stays (goal.at.serve_next-changed-requires-clause-walked c).In-Some)) c.servings.invariant.walked
 
 pub serve_next-changed-requires-clause-tree : goal.serve_next-changed-requires-clause-tree
 serve_next-changed-requires-clause-tree c = tree (goal.at.serve_next-changed-requires-clause-tree c).In-Some
@@ -132,12 +134,12 @@ pub serve_next-changed-requires-clause-sized : goal.serve_next-changed-requires-
 serve_next-changed-requires-clause-sized c = let some = some_wait (goal.at.serve_next-changed-requires-clause-sized c).In-Some in omega (arith, some, c.servings.invariant.sized)
 
 pub serve_next-changed-requires-clause-place : goal.serve_next-changed-requires-clause-place
-serve_next-changed-requires-clause-place c = omega (arith, c.servings.invariant.places)
+serve_next-changed-requires-clause-place c = let some = some_wait (goal.at.serve_next-changed-requires-clause-place c).In-Some in omega (arith, some, c.servings.invariant.places)
 
-abbrev before_serving : After-place_behind-place → In-Some
-before_serving c = (goal.at.servings-preserved c).In-Some
+abbrev before_serving : After-serve_next-changed → In-Some
+before_serving c = (goal.at.After-serve_next-changed c).In-Some
 
-module _ (c : After-place_behind-place) where
+module _ (c : After-serve_next-changed) where
   abbrev ended : Ended
   ended = c.serve_next-changed.ensures.served.0
 
@@ -147,19 +149,13 @@ module _ (c : After-place_behind-place) where
   abbrev serves : Serves (mid (before_serving c)) c.in-Some.ticket ended new
   serves = c.serve_next-changed.ensures.served.1
 
-  abbrev reaches : Reaches serves.request c.args.ino.0 c.sweep.new.scene.tree c.serve_next-changed.new.scene.tree c.sweep.new.scene.table c.servings.reached.affected c.serve_next-changed.new.reached.affected
+  abbrev reaches : Reaches serves.request c.sweep.new.scene.tree c.serve_next-changed.new.scene.tree c.sweep.new.scene.table c.servings.affected c.serve_next-changed.new.affected
   reaches = c.serve_next-changed.ensures.reached serves.request serves.waits
 
-  served : IsSoFar c.args.ino.0 (from (before_serving c)) c.serve_next-changed.new.reached.affected (first (before_serving c)) new (c.servings.endings.told.items ++ ended ∷ []) (c.servings.endings.sized.items ++ sized_in (Served serves.request ended.outcome ∷ []))
+  served : IsSoFar (from (before_serving c)) c.serve_next-changed.new.affected (first (before_serving c)) new (c.servings.endings.told.items ++ ended ∷ []) (c.servings.endings.sized.items ++ sized_in (Served serves.request ended.outcome ∷ []))
   served =
-      so-far-served c.args.ino.0 (from (before_serving c)) c.servings.reached.affected (first (before_serving c)) (mid (before_serving c)) c.servings.endings.told.items c.servings.endings.sized.items (swept (before_serving c))
-      c.in-Some.ticket ended new c.serve_next-changed.new.reached.affected (order (before_serving c)) (tree (before_serving c)) (move (before_serving c)) serves reaches
-
-  stands : (next : SweepPlace) → GoesOnBehind c.sweep.new.place c.serve_next-changed.result c.args.ino.0 c.serve_next-changed.new.reached.affected next → StandsAt (is_affected c.args.ino.0 c.serve_next-changed.new.reached.affected) next new
-  stands next =
-      stands-behind c.args.ino.0 (from (before_serving c)) c.servings.reached.affected (first (before_serving c)) (mid (before_serving c)) c.servings.endings.told.items c.servings.endings.sized.items (swept (before_serving c))
-      c.in-Some.ticket ended new c.serve_next-changed.new.reached.affected (order (before_serving c)) (tree (before_serving c)) (move (before_serving c)) serves reaches
-      c.sweep.new.place next c.serve_next-changed.result c.sweep.ensures.place (c.serve_next-changed.ensures.changed serves.request serves.waits)
+      so-far-served (from (before_serving c)) c.servings.affected (first (before_serving c)) (mid (before_serving c)) c.servings.endings.told.items c.servings.endings.sized.items (swept (before_serving c))
+      c.in-Some.ticket ended new c.serve_next-changed.new.affected (order (before_serving c)) (tree (before_serving c)) (move (before_serving c)) serves reaches
 
   one_more : length (c.servings.endings.told.items ++ ended ∷ []) ≡ length c.servings.endings.told.items + 1
   one_more = length-append c.servings.endings.told.items (ended ∷ [])
@@ -170,11 +166,21 @@ module _ (c : After-place_behind-place) where
       let was = c.servings.invariant.so_far in
       omega (arith, now.count, was.count, one_more)
 
-pub servings-smaller : goal.servings-smaller
-servings-smaller c = let less = one_less c in omega (arith, less)
+-- the invariant, where the sweep goes on here
+abbrev Holds : After-serve_next-changed → SweepPlace → Type 0
+Holds c next = invariant-servings (record {
+  fn = record { scene = c.args.scene.now; known = c.args.known.now; affected = c.args.affected.now; endings = c.args.endings.now };
+  initial = record { scene = record c.args.scene.now { locks = c.end_gathers.new.locks }; known = c.args.known.now; affected = c.args.affected.now; endings = c.args.endings.now; walked = c.new-walked.result; place = c.first-place.result };
+  scene = c.serve_next-changed.new.scene;
+  known = c.serve_next-changed.new.known;
+  affected = c.serve_next-changed.new.affected;
+  endings = c.serve_next-changed.new.endings;
+  walked = c.serve_next-changed.new.walked;
+  place = next;
+})
 
-pub servings-preserved : goal.servings-preserved
-servings-preserved c =
+holds : (c : After-serve_next-changed) (next : SweepPlace) → GoesOnBehind c.sweep.new.place c.serve_next-changed.result c.serve_next-changed.new.affected next → Holds c next
+holds c next goes =
     let all = c.serve_next-changed.ensures.served in
     let same : c.serve_next-changed.new.endings.kept.items ≡ c.serve_next-changed.new.endings.told.items = all.3 ∙ ap (λ ms. ms ++ ended c ∷ []) c.servings.invariant.same ∙ sym all.2 in
     let request = (serves c).request in
@@ -187,12 +193,15 @@ servings-preserved c =
     let is = stays (before_serving c) in
     record {
       so_far =
-          subst (λ (told : List Ended). IsSoFar c.args.ino.0 (from (before_serving c)) c.serve_next-changed.new.reached.affected (first (before_serving c)) (new c) told c.serve_next-changed.new.endings.sized.items) (sym all.2)
-          (subst (IsSoFar c.args.ino.0 (from (before_serving c)) c.serve_next-changed.new.reached.affected (first (before_serving c)) (new c) (c.servings.endings.told.items ++ ended c ∷ [])) (sym sizes) (served c));
-      stands = stands c c.place_behind-place.result c.place_behind-place.ensures;
+          subst (λ (told : List Ended). IsSoFar (from (before_serving c)) c.serve_next-changed.new.affected (first (before_serving c)) (new c) told c.serve_next-changed.new.endings.sized.items) (sym all.2)
+          (subst (IsSoFar (from (before_serving c)) c.serve_next-changed.new.affected (first (before_serving c)) (new c) (c.servings.endings.told.items ++ ended c ∷ [])) (sym sizes) (served c));
+      stands =
+          stands-behind (from (before_serving c)) c.servings.affected (first (before_serving c)) (mid (before_serving c)) c.servings.endings.told.items c.servings.endings.sized.items (swept (before_serving c))
+          c.in-Some.ticket (ended c) (new c) c.serve_next-changed.new.affected (order (before_serving c)) (tree (before_serving c)) (move (before_serving c)) (serves c) (reaches c)
+          c.sweep.new.place next c.serve_next-changed.result c.sweep.ensures.place (c.serve_next-changed.ensures.changed (serves c).request (serves c).waits) goes;
       walked =
-          subst (λ (t : Table). AreWalked c.serve_next-changed.new.reached.walked c.args.ino.0 (new c).tree t c.serve_next-changed.new.reached.affected) (sym (ap (λ (s : Scene). s.table) (serves c).is))
-          (walked-served c.sweep.new.scene.tree (new c).tree request (ended c).outcome c.args.ino.0 c.sweep.new.scene.table c.serve_next-changed.new.reached.walked c.servings.reached.affected c.serve_next-changed.new.reached.affected
+          subst (λ (t : Table). AreWalked c.serve_next-changed.new.walked (new c).tree t c.serve_next-changed.new.affected) (sym (ap (λ (s : Scene). s.table) (serves c).is))
+          (walked-served c.sweep.new.scene.tree (new c).tree request (ended c).outcome c.sweep.new.scene.table c.serve_next-changed.new.walked c.servings.affected c.serve_next-changed.new.affected
           (ap (λ (s : Scene). s.tree) (serves c).is) (reaches c) c.serve_next-changed.ensures.walked);
       judged = none-judged c.serve_next-changed.new.endings.judged (new c) c.serve_next-changed.ensures.judged;
       same = same;
@@ -206,13 +215,26 @@ servings-preserved c =
       sized = omega (arith, few_sizes, less, room.2, c.servings.invariant.sized);
     }
 
+pub servings-smaller-in-Some-changed : goal.servings-smaller-in-Some-changed
+servings-smaller-in-Some-changed c = let less = one_less (goal.at.servings-smaller-in-Some-changed c).After-serve_next-changed in omega (arith, less)
+
+pub servings-smaller : goal.servings-smaller
+servings-smaller c = let less = one_less (goal.at.servings-smaller c).After-serve_next-changed in omega (arith, less)
+
+pub servings-preserved-in-Some-changed : goal.servings-preserved-in-Some-changed
+servings-preserved-in-Some-changed c =
+    holds (goal.at.servings-preserved-in-Some-changed c).After-serve_next-changed c.sweep.new.place (inl (refl, (c.in-Some-changed.inode, c.in-Some-changed.is, c.if-place-inode.true)))
+
+pub servings-preserved : goal.servings-preserved
+servings-preserved c = holds (goal.at.servings-preserved c).After-serve_next-changed c.first-place-in-Some-2.result (inr c.first-place-in-Some-2.ensures)
+
 pub returns-clause-settles : goal.returns-clause-settles
 returns-clause-settles c =
     let first : Scene = c.args.scene.now in
     let now : Scene = c.servings.scene in
     let last : Scene = c.sweep.new.scene in
-    so-far-settled c.args.ino.0 (is_affected c.args.ino.0 c.args.others) c.servings.reached.affected first last c.servings.endings.told.items c.servings.endings.sized.items
-    (so-far-swept c.args.ino.0 (is_affected c.args.ino.0 c.args.others) c.servings.reached.affected first now c.servings.endings.told.items c.servings.endings.sized.items c.servings.invariant.so_far last c.sweep.ensures.swept)
+    so-far-settled (set.contains c.args.affected.now) c.servings.affected first last c.servings.endings.told.items c.servings.endings.sized.items
+    (so-far-swept (set.contains c.args.affected.now) c.servings.affected first now c.servings.endings.told.items c.servings.endings.sized.items c.servings.invariant.so_far last c.sweep.ensures.swept)
     (subst (GoesOn last) c.in_default.is c.sweep.ensures.next)
 
 pub returns-clause-lead : goal.returns-clause-lead

@@ -1,6 +1,7 @@
 use Rattle.std.proofs.Common.{◌≡◌, ◌≤◌, ◌+◌, length, vec_capacity}
+use Rattle.std.specs.FinSet as set
 use Rattle.capacts.specs.Capnotes.{DueEndings.{HasRoom}, Noted.{HavePlaces}}
-use Rattle.capsteps.{proofs.Common.{AreWalked, Holder, is_affected, known_of, LeadOn}, proofs.SoFar.{IsSoFar}, specs.Begun.{ArePermittedIn}, specs.Judged.{IsJudged}, specs.Sweep.{StandsAt}}
+use Rattle.capsteps.{proofs.Common.{AreWalked, Holder, known_of, LeadOn}, proofs.SoFar.{IsSoFar}, specs.Begun.{ArePermittedIn}, specs.Judged.{IsJudged}, specs.Sweep.{StandsAt}}
 use Rattle.capsteps.proofs.settle.settle.Given as goal
 
 abbrev pub decreases-servings : goal.decreases-servings
@@ -8,15 +9,15 @@ decreases-servings l = length l.scene.locks.queue
 
 abbrev pub invariant-servings : goal.invariant-servings
 invariant-servings l = record {
-  so_far : IsSoFar l.ino.0 (is_affected l.ino.0 l.fn.others) l.reached.affected l.fn.scene l.scene l.endings.told.items l.endings.sized.items;
-  stands : StandsAt (is_affected l.ino.0 l.reached.affected) l.place l.scene;
-  walked : AreWalked l.reached.walked l.ino.0 l.scene.tree l.scene.table l.reached.affected;
+  so_far : IsSoFar (set.contains l.fn.affected) l.affected l.fn.scene l.scene l.endings.told.items l.endings.sized.items;
+  stands : StandsAt (set.contains l.affected) l.place l.scene;
+  walked : AreWalked l.walked l.scene.tree l.scene.table l.affected;
   judged : IsJudged l.endings.judged l.scene;
   same : l.endings.kept.items ≡ l.endings.told.items;
   told : HasRoom l.endings.told l.scene.locks;
   kept : HasRoom l.endings.kept l.scene.locks;
   lead : LeadOn l.fn.endings.changes.items l.endings.changes.items l.fn.scene.tree l.scene.tree;
-  places : HavePlaces l.endings.changes l.scene.locks l.reached.affected;
+  places : HavePlaces l.endings.changes l.scene.locks l.affected;
   known : (k : Holder) → known_of l.known.sets k ≡ known_of l.fn.known.sets k;
   permitted : ArePermittedIn l.known.sets l.scene;
   sized : length l.endings.sized.items + length l.scene.locks.queue ≤ vec_capacity l.endings.sized;

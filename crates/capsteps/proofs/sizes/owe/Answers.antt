@@ -1,7 +1,7 @@
 use Rattle.std.proofs.Common.{◌≡◌, true, false, cond, Some, None, sym, ap, ◌∙◌}
 use Rattle.capbits.specs.Caps.{has}
-use Rattle.captable.proofs.Changes.{same_found, left_found}
-use Rattle.capsteps.proofs.Common.{Entry, entry_at, Fc, Holder, none_found, owed, Table, with_size_due}
+use Rattle.captable.proofs.Changes.{left_found}
+use Rattle.capsteps.proofs.Common.{Entry, entry_at, Fc, Holder, none_found, owed, same_found, Table, with_size_due}
 use Rattle.capsteps.proofs.sizes.owe.Goals as goal
 
 abbrev owed_of : Holder → Entry → Entry

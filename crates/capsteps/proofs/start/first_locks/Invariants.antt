@@ -1,5 +1,2 @@
-use Rattle.capsteps.proofs.FirstLocks.{AreFirstBelow}
-use Rattle.capsteps.proofs.start.first_locks.Given as goal
-
-abbrev pub invariant-loop-number : goal.invariant-loop-number
-invariant-loop-number l = AreFirstBelow l.tree.nodes l.number l.locks
+abbrev pub invariant-loop-number : Rattle.capsteps.proofs.start.first_locks.Given.invariant-loop-number
+invariant-loop-number l = Rattle.capsteps.proofs.FirstLocks.AreFirstBelow l.tree.nodes l.number l.locks

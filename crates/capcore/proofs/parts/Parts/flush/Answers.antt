@@ -1,6 +1,7 @@
-use Rattle.std.proofs.Common.{is_some, ◌≡◌, length, refl, sym, ap, subst, arith}
+use Rattle.std.proofs.Common.{is_some, ◌≡◌, length, refl, sym, ap, subst, ◌∙◌, arith}
+use Rattle.std.specs.FinSet as set
 use Rattle.capsteps.proofs.Capnotes.Noting.{changes-all}
-use Rattle.capcore.{proofs.Begun.{on_err, one-begun}, proofs.Common.{AffectsOne, alike-less, direct, Event, HoldAlike, Holder, IsTable, IsTree, none-judged, Reply, room-for, says, still-there, Table, with_flush}, proofs.Flushed.{below-of_flush, flush-calls, flush-direct, flush-table, flush-affects, flush-tree}, specs.UnderWay.{state_of}, specs.declared.parts.Affected.{Affected}, specs.declared.parts.Answer.TheVariants.{Done}, specs.declared.parts.Parts.{Parts}}
+use Rattle.capcore.{proofs.Begun.{on_err, one-begun}, proofs.Common.{Affected, AffectsOne, alike-less, direct, Endings, Event, HoldAlike, Holder, InoSet, IsTable, IsTree, none-judged, one-counts, one-inode, Reply, room-for, says, still-there, Table, with_flush}, proofs.Flushed.{below-of_flush, flush-calls, flush-direct, flush-table, flush-affects, flush-tree}, specs.UnderWay.{state_of}, specs.declared.parts.Answer.TheVariants.{Done}, specs.declared.parts.Parts.{Parts}}
 use Rattle.capcore.proofs.parts.Parts.flush.Goals as goal
 
 pub alter-requires : goal.alter-requires
@@ -21,20 +22,22 @@ returns-clause-begun c =
     let e : Event = Event.Flush k.client k.ino change in
     let may = c.requires.may in
     let table : Table = c.touch.new.self in
-    let q : Parts = record { scene = record p.scene { tree = c.alter.new.tree; table = table }; known = c.renew_changed.new.known; messages = p.messages; endings = record c.begin.new.self { changes = c.note_change.new.self } } in
+    let q : Parts = record { scene = record p.scene { tree = c.alter.new.tree; table = table }; known = c.renew_changed.new.known; messages = p.messages } in
+    let endings : Endings = record c.begin.new.self { changes = c.note_change.new.self } in
     let by_itself : direct (state_of p) e ≡ says (with_flush (state_of p) k change) Reply.Done = flush-direct (state_of p) k change may.passed in
     let alike : HoldAlike p.scene.table table = subst (HoldAlike p.scene.table) (sym c.touch.ensures) (λ j f there. (f, there, refl)) in
     let begun = c.in_ok-begin.ensures in
-    let none = ap length begun.changes.0 in
+    let none = ap length c.clear.ensures.items in
+    let one = ap (λ (inos : InoSet). set.len inos) c.of.ensures ∙ one-counts k.ino.0 in
     let is : q.scene ≡ (with_flush (state_of p) k change).scene = λ i. record p.scene { tree = c.in_ok-alter.ensures.ok i; table = c.touch.ensures i } in
-    one-begun p q e k may (says (with_flush (state_of p) k change) Reply.Done) by_itself (refl, refl) (λ count given. below-of_flush count (state_of p) k change given) is refl
-    (Affected.Inode k) Done refl refl refl refl (subst (AffectsOne k.ino.0 (state_of p)) (sym is) (flush-affects (state_of p) k change may.whole.0 may.table))
+    one-begun p q endings e k may (says (with_flush (state_of p) k change) Reply.Done) by_itself (refl, refl) (λ count given. below-of_flush count (state_of p) k change given) is refl
+    (Affected.Inodes c.of.result) Done (ap set.contains c.of.ensures ∙ one-inode k.ino.0) refl refl refl (subst (AffectsOne k.ino.0 (state_of p)) (sym is) (flush-affects (state_of p) k change may.whole.0 may.table))
     (subst IsTable (sym c.touch.ensures) (flush-table (state_of p) k change may.table))
     (still-there p.scene.table table p.known.sets q.known.sets (λ j f there. ap is_some (alike j f there).1) (λ j f there. c.renew_changed.ensures.told j))
     (λ j f there. let was = alike j f there in c.renew_changed.ensures.permitted p.scene.tree c.in_ok-alter.ensures.ok may.whole.2.1 j was.0 was.1) (alike-less p.scene.table table alike)
     (subst IsTree (sym c.in_ok-alter.ensures.ok) (flush-tree p.scene k change may.passed may.tree)) may.order
-    (room-for c.begin.new.self q.endings.changes q.endings.judged c.waiting-waiting.result (length p.scene.locks.queue) begun.room (omega (arith, c.waiting-waiting.ensures.waiting)))
-    (none-judged q.endings.judged q.scene begun.judged)
-    (omega (arith, none, begun.changes.1, c.note_change.ensures.count, c.note_change.ensures.room, c.waiting-waiting.ensures.waiting))
+    (room-for c.begin.new.self endings.changes endings.judged c.waiting-waiting.result (length p.scene.locks.queue) begun.room (omega (arith, c.waiting-waiting.ensures.waiting)))
+    (none-judged endings.judged q.scene begun.judged)
+    (omega (arith, none, one, begun.places, c.clear.ensures.room, c.note_change.ensures.count, c.note_change.ensures.room, c.waiting-waiting.ensures.waiting))
     may.whole.1 tt
-    (changes-all c.begin.new.self.changes.items q.endings.changes.items p.scene.tree c.alter.new.tree p.scene.sessions.sessions begun.changes.0 (c.note_change.ensures.lead p.scene.tree c.in_ok-alter.ensures.ok))
+    (changes-all c.clear.new.self.items endings.changes.items p.scene.tree c.alter.new.tree p.scene.sessions.sessions c.clear.ensures.items (c.note_change.ensures.lead p.scene.tree c.in_ok-alter.ensures.ok))

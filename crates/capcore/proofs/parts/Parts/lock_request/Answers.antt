@@ -1,5 +1,6 @@
 use Rattle.std.proofs.{Common.{Contains, Some, is_some, ◌≡◌, ◌+◌, ◌∷◌, [], length, None, refl, sym, ap, subst, ◌∙◌, arith}, lemmas.List.{length-append}, lemmas.List.Elements.{Contains-push}}
-use Rattle.capcore.{proofs.Asked.{asked-for, asking-again, asking-direct, asking-rejection, asking-affects, below-of_ask, order-of_ask, room-left}, proofs.Begun.{one-begun}, proofs.Common.{AffectsOne, alike-less, Ask, ask_needs, asking_tests, asks, Awaits, changes-still, direct, Event, found_by_number, Holder, IsJudged, IsLockMap, judged_again, LockMap, next_request, rejection_of, Request, request_at, room-for, Scene, still-there, Ticket, view_of, waiting_tests, with_request}, specs.Asks.{ask_of, asked_event}, specs.UnderWay.{state_of}, specs.declared.parts.Affected.{Affected}, specs.declared.parts.Answer.TheVariants.{Awaited}, specs.declared.parts.Parts.{Parts}}
+use Rattle.std.specs.FinSet as set
+use Rattle.capcore.{proofs.Asked.{asked-for, asking-again, asking-direct, asking-rejection, asking-affects, below-of_ask, order-of_ask, room-left}, proofs.Begun.{one-begun}, proofs.Common.{Affected, AffectsOne, alike-less, Ask, ask_needs, ask_of, asking_tests, asks, Awaits, changes-still, direct, Endings, Event, found_by_number, Holder, InoSet, IsJudged, IsLockMap, judged_again, LockMap, next_request, one-counts, one-inode, rejection_of, Request, request_at, room-for, Scene, still-there, Ticket, view_of, waiting_tests, with_request}, specs.UnderWay.{asked_event, state_of}, specs.declared.parts.Answer.TheVariants.{Awaited}, specs.declared.parts.Parts.{Parts}}
 use Rattle.capcore.proofs.parts.Parts.lock_request.Goals as goal
 
 pub enqueue_tested-ticket-requires-clause-room : goal.enqueue_tested-ticket-requires-clause-room
@@ -38,7 +39,8 @@ returns-clause-begun c =
     let may = c.requires.may in
     let locks : LockMap = c.enqueue_tested-ticket.new.self in
     let ticket = c.enqueue_tested-ticket.result in
-    let q : Parts = record { scene = record p.scene { locks = locks }; known = p.known; messages = c.reserve.new.self; endings = record c.begin.new.self { judged = Some ticket } } in
+    let q : Parts = record { scene = record p.scene { locks = locks }; known = p.known; messages = c.reserve.new.self } in
+    let endings : Endings = record c.begin.new.self { changes = c.clear.new.self; judged = Some ticket } in
     let queued : locks ≡ with_request p.scene.locks k.client k.ino ask = c.enqueue_tested-ticket.ensures.queued ∙ ap (with_request p.scene.locks k.client k.ino) c.in_ok-ask.ensures in
     let by_itself : direct (state_of p) e ≡ asks (state_of p) k.client k.ino ask = asking-direct (state_of p) e k ask (asked-for k.client k.ino c.args.asked) may.passed in
     let free : rejection_of p.scene (asking_tests p.scene k.client k.ino.0 ask) (ask_needs p.scene k.client k.ino.0 ask) (waiting_tests p.scene k.ino.0 ask) ≡ None =
@@ -48,16 +50,17 @@ returns-clause-begun c =
     ap (λ (l : LockMap). length l.queue) queued ∙ length-append p.scene.locks.queue (next_request p.scene.locks k.client k.ino ask ∷ []) in
     let order : IsLockMap locks = subst IsLockMap (sym queued) (order-of_ask p.scene k ask may.order free) in
     let begun = c.in_ok-begin.ensures in
-    let none = ap length begun.changes.0 in
+    let none = ap length c.clear.ensures.items in
+    let one = ap (λ (inos : InoSet). set.len inos) c.of.ensures ∙ one-counts k.ino.0 in
     let left = ap length c.reserve.ensures.items in
-    one-begun p q e k may (asks (state_of p) k.client k.ino ask) by_itself (refl, refl) (λ count given. below-of_ask count (state_of p) k ask given)
+    one-begun p q endings e k may (asks (state_of p) k.client k.ino ask) by_itself (refl, refl) (λ count given. below-of_ask count (state_of p) k ask given)
     (λ i. record p.scene { locks = queued i }) c.reserve.ensures.items
-    (Affected.Inode k) (Awaited ticket) refl (ap (λ n. Awaits (record { 0 = n })) next) refl (next, ap (λ (l : LockMap). l.last) queued)
+    (Affected.Inodes c.of.result) (Awaited ticket) (ap set.contains c.of.ensures ∙ one-inode k.ino.0) (ap (λ n. Awaits (record { 0 = n })) next) refl (next, ap (λ (l : LockMap). l.last) queued)
     (subst (λ (l : LockMap). AffectsOne k.ino.0 (state_of p) (record p.scene { locks = l })) (sym queued) (asking-affects (state_of p) k ask may.whole.0 may.table free)) may.table
     (still-there p.scene.table p.scene.table p.known.sets p.known.sets (λ j f there. ap is_some there) (λ j f there. refl)) may.whole.2.1 (alike-less p.scene.table p.scene.table (λ j f there. (f, there, refl))) may.tree
     order
-    (room-for c.begin.new.self q.endings.changes (Some ticket) (c.waiting-waiting.result + 1) (length locks.queue) begun.room (omega (arith, queue, c.waiting-waiting.ensures.waiting)))
+    (room-for c.begin.new.self endings.changes (Some ticket) (c.waiting-waiting.result + 1) (length locks.queue) begun.room (omega (arith, queue, c.waiting-waiting.ensures.waiting)))
     (judged_once p.scene k ask locks queued order free ticket next)
-    (omega (arith, none, queue, begun.changes.1, c.waiting-waiting.ensures.waiting))
+    (omega (arith, none, one, queue, begun.places, c.clear.ensures.room, c.waiting-waiting.ensures.waiting))
     (omega (arith, queue, left, c.in_default.ensures.ok, c.waiting-waiting.ensures.waiting))
-    tt (changes-still q.endings.changes.items (view_of (state_of p)) begun.changes.0)
+    tt (changes-still endings.changes.items (view_of (state_of p)) c.clear.ensures.items)

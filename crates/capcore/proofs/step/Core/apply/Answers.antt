@@ -1,6 +1,6 @@
 use Rattle.std.proofs.Common.{◌≡◌, ◌+◌, ◌++◌, ◌∷◌, [], List, length, refl, ap, sym, subst, ◌∙◌}
 use Rattle.capsteps.{proofs.Placed.{all-revoked}, specs.Caprules.History.{made_row}}
-use Rattle.capcore.{proofs.Apart.{held-apart}, proofs.Bounded.{direct-order, moves-bounded, by-moves}, proofs.Common.{AreBounded, direct, EachServing, IsAnswered, IsSound, Recorded, recorded, Reply, Row, rows_of, ServedByName, ServedDenied, ShowsWhatIsTold, State, Step, step-shown}, proofs.Growing.{more-told, replays-more}, proofs.HeldOn.{takes-only_so}, proofs.OtherLocks.{other-locks}, proofs.Promised.{denied-exactly, denies-by_name, rejection-unchanged}, proofs.Servings.{served-denied, served-by_name}, proofs.ShownWords.{shows-told, shows-permitted, all-takes_unshown}, proofs.step.Core.apply.Goals.{After-add_row}, specs.Promised.{IsPromised}}
+use Rattle.capcore.{proofs.Apart.{held-apart}, proofs.Bounded.{direct-order, moves-bounded, by-moves}, proofs.Common.{AreBounded, direct, EachServing, IsAnswered, IsSound, Recorded, recorded, Reply, Row, rows_of, ServedByName, ServedDenied, ShowsWhatIsTold, State, Step, step-shown}, proofs.Growing.{more-told, replays-more}, proofs.OtherLocks.{other-locks}, proofs.Promised.{denied-exactly, denies-by_name, rejection-unchanged}, proofs.Servings.{served-denied, served-by_name}, proofs.ShownWords.{takes-only_so, shows-told, shows-permitted, all-takes_unshown}, proofs.step.Core.apply.Goals.{After-add_row}, specs.Promised.{IsPromised}}
 use Rattle.capcore.proofs.step.Core.apply.Goals as goal
 
 -- what the step says and leaves
@@ -37,8 +37,8 @@ invariant_of-self-2 c =
     let row : Row = row_of c in
     let step : Step c.self.inside.world row.event row.reply row.ended c.step.new.self = kept_step c in
     let all = answered_of c in
-    rw (c.add_row.ensures, c.make_room.ensures.items, c.keep_changes.ensures.world, c.keep_changes.ensures.told)
-    (more-told (recorded c.self.inside.world c.self.inside.rows.items c.self.inside.max_rows c.self.inside.changes.items) row c.step.new.self c.in_ok-reply.field-0.changes.items c.self.invariant step c.in_ok-nth.ensures.number c.in_ok-nth.ensures.room.0
+    rw (c.add_row.ensures, c.make_room.ensures.items)
+    (more-told (recorded c.self.inside.world c.self.inside.rows.items c.self.inside.max_rows c.self.inside.endings.changes.items) row c.step.new.self c.step.new.endings.changes.items c.self.invariant step c.in_ok-nth.ensures.number c.in_ok-nth.ensures.room.0
     c.in_ok-reply.ensures.table all.sound (all.given (length c.self.inside.rows.items) c.self.invariant.given))
 
 shows_told : (c : After-add_row) → ShowsWhatIsTold (c.self.inside.rows.items ++ row_of c ∷ []) c.step.new.self.scene
@@ -48,10 +48,10 @@ shows_told c =
 
 -- what the core was, and what it is with these rows
 abbrev before : After-add_row → Recorded
-before c = recorded c.self.inside.world c.self.inside.rows.items c.self.inside.max_rows c.self.inside.changes.items
+before c = recorded c.self.inside.world c.self.inside.rows.items c.self.inside.max_rows c.self.inside.endings.changes.items
 
 abbrev after : After-add_row → List Row → Recorded
-after c rows = recorded c.step.new.self rows c.self.inside.max_rows c.in_ok-reply.field-0.changes.items
+after c rows = recorded c.step.new.self rows c.self.inside.max_rows c.step.new.endings.changes.items
 
 promised : (c : After-add_row) → IsPromised (before c) c.args.pass c.args.event c.in_ok-reply.field-0.reply (after c (c.self.inside.rows.items ++ row_of c ∷ []))
 promised c =
@@ -102,6 +102,5 @@ promised c =
 
 pub returns-clause-promised : goal.returns-clause-promised
 returns-clause-promised c =
-    rw (c.keep_changes.ensures.world, c.keep_changes.ensures.told)
-    (subst (λ (t : Recorded). IsPromised t c.args.pass c.args.event c.in_ok-reply.field-0.reply (after c c.add_row.new.rows.items)) c.self.view_is
-    (subst (λ (rows : List Row). IsPromised (before c) c.args.pass c.args.event c.in_ok-reply.field-0.reply (after c rows)) (sym (added c)) (promised c)))
+    subst (λ (t : Recorded). IsPromised t c.args.pass c.args.event c.in_ok-reply.field-0.reply (after c c.add_row.new.rows.items)) c.self.view_is
+    (subst (λ (rows : List Row). IsPromised (before c) c.args.pass c.args.event c.in_ok-reply.field-0.reply (after c rows)) (sym (added c)) (promised c))

@@ -1,10 +1,10 @@
-use Rattle.std.proofs.{Common.{sym, ap, subst, ◌∙◌}, lemmas.Result.{on_ok_weaker}}
+use Rattle.std.proofs.Common.{sym, ap, subst, ◌∙◌}
 use Rattle.capsteps.proofs.Capnotes.Noting.{changes-unseen}
 use Rattle.capcore.proofs.{Common.{changes-still, direct, Event, IsDirect, State, view_of}, Effects.{looked-up}}
 use Rattle.capcore.proofs.world.World.act.Goals as goal
 
 pub returns-in-Unblock-clause-changes : goal.returns-in-Unblock-clause-changes
-returns-in-Unblock-clause-changes c = changes-unseen c.args.changes.now.items (view_of c.args.self.now) (view_of c.unblock.new.self) c.requires.none c.unblock.ensures.seen
+returns-in-Unblock-clause-changes c = changes-unseen c.clear.new.self.items (view_of c.args.self.now) (view_of c.unblock.new.self) c.clear.ensures.items c.unblock.ensures.seen
 
 pub returns-in-Lookup-clause-direct : goal.returns-in-Lookup-clause-direct
 returns-in-Lookup-clause-direct c =
@@ -18,14 +18,12 @@ returns-in-Lookup-clause-direct c =
     ∙ ap (λ name. (direct s (Event.Lookup client dir name)).answer) c.as_slice.ensures))
 
 pub returns-in-Lookup-clause-changes : goal.returns-in-Lookup-clause-changes
-returns-in-Lookup-clause-changes c = changes-still c.args.changes.now.items (view_of c.args.self.now) c.requires.none
+returns-in-Lookup-clause-changes c = changes-still c.clear-in-Lookup.new.self.items (view_of c.args.self.now) c.clear-in-Lookup.ensures.items
 
-pub returns-in-MakeSnapshot-clause-changes : goal.returns-in-MakeSnapshot-clause-changes
-returns-in-MakeSnapshot-clause-changes c =
-    let none = c.args.changes.now.items in
-    on_ok_weaker c.make_snapshot.result (λ shows. changes-unseen none (view_of c.args.self.now) (view_of c.make_snapshot.new.self) c.requires.none shows) c.make_snapshot.ensures.seen
+pub returns-in_ok-reply-in-MakeSnapshot-clause-changes : goal.returns-in_ok-reply-in-MakeSnapshot-clause-changes
+returns-in_ok-reply-in-MakeSnapshot-clause-changes c =
+    changes-unseen c.clear-in-MakeSnapshot.new.self.items (view_of c.args.self.now) (view_of c.make_snapshot.new.self) c.clear-in-MakeSnapshot.ensures.items c.in_ok-reply-in-MakeSnapshot.ensures.seen
 
 pub returns-in-RemoveSnapshot-clause-changes : goal.returns-in-RemoveSnapshot-clause-changes
 returns-in-RemoveSnapshot-clause-changes c =
-    let none = c.args.changes.now.items in
-    on_ok_weaker c.remove_snapshot.result (λ shows. changes-unseen none (view_of c.args.self.now) (view_of c.remove_snapshot.new.self) c.requires.none shows) c.remove_snapshot.ensures.seen
+    changes-unseen c.clear-in-RemoveSnapshot.new.self.items (view_of c.args.self.now) (view_of c.remove_snapshot.new.self) c.clear-in-RemoveSnapshot.ensures.items c.remove_snapshot.ensures.seen

@@ -1,6 +1,6 @@
 use Rattle.std.proofs.Common.{◌≡◌, None, ap, sym, subst, ◌∙◌}
 use Rattle.std.specs.FinMap as map
-use Rattle.capcore.proofs.{Common.{create_tests, first_failing, inode_tests, new_inode_tests, owned_by, pass-both, State, Write}, Effects.{birth-rejection, birth-refused, birth-done}, Rejections.{access-at, inode-passed}}
+use Rattle.capcore.proofs.{Common.{changes-still, create_tests, first_failing, inode_tests, new_inode_tests, owned_by, pass-both, State, view_of, Write}, Effects.{birth-rejection, birth-refused, birth-done}, Rejections.{access-at, inode-passed}}
 use Rattle.capcore.proofs.world.World.make.Goals as goal
 
 pub returns-in-Some-clause-direct : goal.returns-in-Some-clause-direct
@@ -26,3 +26,11 @@ returns-clause-direct c =
     (birth-done c.args.self.now c.args.holder.client c.args.holder.ino c.args.name.now c.args.mode (access-at _ c.args.self.now c.args.holder.client c.args.holder.ino.0 Write c.access_rejection.result c.self.view_is c.access_rejection.ensures ∙ c.in_default.is) c.args.kind c.in_ok-ino.ino
     (ap (λ s. first_failing (new_inode_tests s.scene.tree c.args.holder.ino.0 c.args.name.now)) (sym c.self.view_is) ∙ sym c.new_inode_refusal.ensures ∙ c.in_default-new_inode_refusal.is)
     c.in_ok-ino.ensures.ino)
+
+-- ---- what is noted
+
+pub returns-in-Some-clause-changes : goal.returns-in-Some-clause-changes
+returns-in-Some-clause-changes c = changes-still c.clear.new.self.items (view_of c.args.self.now) c.clear.ensures.items
+
+pub returns-in-Some-new_inode_refusal-clause-changes : goal.returns-in-Some-new_inode_refusal-clause-changes
+returns-in-Some-new_inode_refusal-clause-changes c = changes-still c.clear-in-Some-new_inode_refusal.new.self.items (view_of c.args.self.now) c.clear-in-Some-new_inode_refusal.ensures.items

@@ -1,5 +1,6 @@
 use Rattle.std.proofs.{Common.{◌≡◌, ◌+◌, ◌++◌, List, length, sym, ap, subst, ◌∙◌, arith}, lemmas.List.{length-append}}
-use Rattle.capcore.{proofs.Begun.{ended-answered, ended-known, ended-numbers, few-earlier, fewer-places, shown-kept, shown-rest}, proofs.Closing.{ends-sessions}, proofs.Common.{AreChanges, changes-still, DueEndings, Ended, Event, IsAnswered, IsLockMap, IsSound, IsTable, IsTree, NumbersLeft, Scene, SessionTable, shown, State, view, view_of}, proofs.Rejections.{judged-at, rejection-answered}, proofs.world.World.move_locks.Goals.{After-end, After-close}, specs.UnderWay.{MayBegin, HasBegun, answer_of, AreKept, earlier_of, event_of, state_of}, specs.declared.parts.Effect.{Effect}, specs.declared.parts.Parts.{Parts}}
+use Rattle.capsteps.specs.Capnotes.Noted.{Noted}
+use Rattle.capcore.{proofs.Begun.{ended-answered, ended-known, ended-numbers, few-earlier, fewer-places, shown-kept, shown-rest}, proofs.Closing.{ends-sessions}, proofs.Common.{AreChanges, changes-still, Ended, Endings, Event, IsAnswered, IsLockMap, IsSound, IsTable, IsTree, NumbersLeft, Scene, SessionTable, shown, State, view, view_of}, proofs.Rejections.{judged-at, rejection-answered}, proofs.world.World.move_locks.Goals.{After-end, After-close}, specs.UnderWay.{MayBegin, HasBegun, answer_of, AreKept, earlier_of, event_of, state_of}, specs.declared.parts.Effect.{Effect}, specs.declared.parts.Parts.{Parts}}
 use Rattle.capcore.proofs.world.World.move_locks.Goals as goal
 
 -- ---- an event that is stopped
@@ -12,7 +13,7 @@ returns-in-Some-clause-answered c =
     (c.alone.ensures.reply ∙ c.into_reply.ensures.reply) (c.alone.ensures.kept ∙ sym c.alone.ensures.reply) c.alone.ensures.ended
 
 pub returns-in-Some-clause-changes : goal.returns-in-Some-clause-changes
-returns-in-Some-clause-changes c = changes-still c.alone.result.changes.items (view_of c.args.self.now) c.alone.ensures.changes
+returns-in-Some-clause-changes c = changes-still c.clear.new.self.items (view_of c.args.self.now) c.clear.ensures.items
 
 -- ---- one that nothing stops
 
@@ -41,7 +42,13 @@ module _ (c : After-end) where
   q = c.begin.new.self
 
   abbrev last : Parts
-  last = c.end.new.self
+  last = record c.begin.new.self { scene = c.end.new.scene; known = c.end.new.known }
+
+  abbrev endings : Endings
+  endings = c.begin.new.endings
+
+  abbrev told : List Ended
+  told = c.end.new.endings.told.items
 
   abbrev e : Event
   e = event_of c.args.asking.now
@@ -59,22 +66,20 @@ module _ (c : After-end) where
     passed = sym (c.rejection.ensures c.self.invariant.2.0) ∙ c.in_default.is;
   }
 
-  begun : HasBegun p e effect q
+  begun : HasBegun p e effect q endings
   begun = c.in_ok-affected.ensures.begun
 
   kept : AreKept last.known.sets last.scene
-  kept = let ends = c.end.ensures.ends in (ended-known p q e effect may begun last.known.sets last.scene last.endings.told.items ends, ends.permitted)
+  kept = let ends = c.end.ensures.ends in (ended-known p q endings e effect may begun last.known.sets last.scene told ends, ends.permitted)
 
 pub close-requires : goal.close-requires
 close-requires g =
     let c = (goal.at.close-requires g).After-end in
-    let left = ap (λ (m : DueEndings). length m.items) c.end.ensures.messages in
-    let room = ap (λ (m : DueEndings). m.room) c.end.ensures.messages in
     record {
-      differ = ended-numbers (p c) (q c) (e c) (effect c) (may c) (begun c) (last c).known.sets (last c).scene (last c).endings.told.items c.end.ensures.ends;
+      differ = ended-numbers (p c) (q c) (endings c) (e c) (effect c) (may c) (begun c) (last c).known.sets (last c).scene (told c) c.end.ensures.ends;
       same = c.end.ensures.kept;
-      room = omega (arith, left, room, c.end.ensures.count, (begun c).room);
-      places = fewer-places (effect c).answer (length (q c).scene.locks.queue) (length (last c).endings.told.items) (omega (arith, c.end.ensures.count)) (begun c).places;
+      room = omega (arith, c.end.ensures.count, (begun c).room);
+      places = fewer-places (effect c).answer (length (q c).scene.locks.queue) (length (told c)) (omega (arith, c.end.ensures.count)) (begun c).places;
       known = (kept c).0;
     }
 
@@ -85,17 +90,14 @@ module _ (g : After-close) where
   abbrev new : Parts
   new = g.close.new.self
 
-  abbrev told : List Ended
-  told = (last c).endings.told.items
-
   abbrev left : List Ended
-  left = (q c).messages.items ++ earlier_of (effect c).answer told
+  left = (q c).messages.items ++ earlier_of (effect c).answer (told c)
 
   abbrev closed : State
   closed = record { scene = (last c).scene; messages = left }
 
   items : new.messages.items ≡ left
-  items = g.close.ensures.messages ∙ ap (λ (m : DueEndings). m.items ++ earlier_of (effect c).answer told) g.end.ensures.messages
+  items = g.close.ensures.messages
 
   new_is : state_of new ≡ shown (answer_of (effect c).answer) closed
   new_is = (λ i. record { scene = new.scene; messages = items i }) ∙ g.close.ensures.shown left
@@ -105,7 +107,7 @@ module _ (g : After-close) where
 
   whole : IsAnswered (state_of (p c)) (e c) g.close.result (state_of new)
   whole =
-      ended-answered (p c) (q c) (e c) (effect c) (may c) (begun c) (last c).known.sets (last c).scene told g.end.ensures.ends g.close.result (state_of new)
+      ended-answered (p c) (q c) (endings c) (e c) (effect c) (may c) (begun c) (last c).known.sets (last c).scene (told c) g.end.ensures.ends g.close.result (state_of new)
       (g.close.ensures.reply left) g.close.ensures.kept g.close.ensures.ended new_is
 
 pub returns-clause-answered : goal.returns-clause-answered
@@ -114,24 +116,23 @@ returns-clause-answered g = subst (λ (s : State). IsAnswered s (e (c g)) g.clos
 pub invariant_of-self-2 : goal.invariant_of-self-2
 invariant_of-self-2 g =
     let w = whole g in
-    let items = ap length (items g) ∙ length-append (q (c g)).messages.items (earlier_of (effect (c g)).answer (told g)) in
-    let few = few-earlier (effect (c g)).answer (told g) in
-    let queue = ap (λ (s : Scene). length s.locks.queue) (rest g) in
-    let room = ap (λ (m : DueEndings). m.room) g.end.ensures.messages in (
+    let items = ap length (items g) ∙ length-append (q (c g)).messages.items (earlier_of (effect (c g)).answer (told (c g))) in
+    let few = few-earlier (effect (c g)).answer (told (c g)) in
+    let queue = ap (λ (s : Scene). length s.locks.queue) (rest g) in (
       w.sound,
-      omega (arith, items, few, queue, room, g.close.ensures.room, g.end.ensures.count, (begun (c g)).room),
+      omega (arith, items, few, queue, g.close.ensures.room, g.end.ensures.count, (begun (c g)).room),
       subst (λ (s : Scene). AreKept g.close.new.self.known.sets s) (sym (ap (λ (s : State). s.scene) (new_is g)))
           (rw g.close.ensures.known (shown-kept (effect (c g)).answer (closed g) (last (c g)).known.sets (kept (c g)))),
     )
 
 pub returns-clause-changes : goal.returns-clause-changes
 returns-clause-changes g =
-    let changes = (last (c g)).endings.changes.items in
+    let changes = g.end.new.endings.changes.items in
     let first : State = state_of (p (c g)) in
     let all : AreChanges changes (view_of first) (view (last (c g)).scene.tree (q (c g)).scene.sessions.sessions) =
     g.end.ensures.lead.on (view_of first) (q (c g)).scene.sessions.sessions (begun (c g)).noted in
     let stay : (new g).scene.sessions ≡ (q (c g)).scene.sessions = ap (λ (s : Scene). s.sessions) (rest g) ∙ ends-sessions _ _ _ _ _ _ g.end.ensures.ends in
-    subst (λ (s : State). AreChanges g.close.result.changes.items (view_of s) (view_of (state_of (new g)))) g.self.view_is
-    (subst (λ items. AreChanges items (view_of first) (view_of (state_of (new g)))) (sym g.close.ensures.changes)
+    subst (λ (s : State). AreChanges g.close.new.endings.changes.items (view_of s) (view_of (state_of (new g)))) g.self.view_is
+    (subst (λ (noted : Noted). AreChanges noted.items (view_of first) (view_of (state_of (new g)))) (sym g.close.ensures.changes)
     (subst (λ (t : SessionTable). AreChanges changes (view_of first) (view (new g).scene.tree t.sessions)) (sym stay)
     (rw (ap (λ (s : Scene). s.tree) (rest g)) all)))

@@ -27,7 +27,7 @@ module _ (c : After-drop-told) where
   new = record { scene = record old.scene { table = c.skip_quiet.new.self }; messages = c.remove_given.new.self.items }
 
   abbrev said : Said
-  said = record { reply = Reply.Messages c.in_ok-given.given; kept = Reply.Messages c.in_ok-kept.kept; ended = c.new.result; changes = c.new-2.result }
+  said = record { reply = Reply.Messages c.in_ok-given.given; kept = Reply.Messages c.in_ok-kept.kept; ended = c.new.result }
 
   first : c.in_ok-given.given ≡ first_messages old c.args.client c.args.max
   first = c.in_ok-given.ensures old refl refl c.self.invariant.2.0 (sym c.as_slice-ended.ensures)
@@ -70,7 +70,7 @@ returns-clause-answered c =
     subst (λ (s : State). IsAnswered s (Event.Poll c.args.client c.args.max) (said c) (new c)) c.self.view_is (whole c)
 
 pub returns-in-Some-clause-changes : goal.returns-in-Some-clause-changes
-returns-in-Some-clause-changes c = changes-still c.alone.result.changes.items (view_of c.args.self.now) c.alone.ensures.changes
+returns-in-Some-clause-changes c = changes-still c.clear.new.self.items (view_of c.args.self.now) c.clear.ensures.items
 
 pub returns-clause-changes : goal.returns-clause-changes
-returns-clause-changes c = subst (λ (s : State). AreChanges (said c).changes.items (view_of s) (view_of (new c))) c.self.view_is (changes-still (said c).changes.items (view_of (old c)) c.new-2.ensures.items)
+returns-clause-changes c = subst (λ (s : State). AreChanges c.clear-2.new.self.items (view_of s) (view_of (new c))) c.self.view_is (changes-still c.clear-2.new.self.items (view_of (old c)) c.clear-2.ensures.items)

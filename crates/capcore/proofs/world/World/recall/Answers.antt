@@ -1,8 +1,8 @@
 use Rattle.std.proofs.Common.{sym, ap, subst}
-use Rattle.capcore.proofs.{Common.{AreChanges, changes-still, Event, IsAnswered, Reply, Said, State, view_of, with_table}, Recalled.{recalled-sound, recalled-kept, recall-answered}, world.World.recall.Goals.{After-new-2}}
+use Rattle.capcore.proofs.{Common.{AreChanges, changes-still, Event, IsAnswered, Reply, Said, State, view_of, with_table}, Recalled.{recalled-sound, recalled-kept, recall-answered}, world.World.recall.Goals.{After-new}}
 use Rattle.capcore.proofs.world.World.recall.Goals as goal
 
-module _ (c : After-new-2) where
+module _ (c : After-new) where
   -- the state before the event
   abbrev old : State
   old = record { scene = c.self.inside.parts.scene; messages = c.self.inside.parts.messages.items }
@@ -12,7 +12,7 @@ module _ (c : After-new-2) where
   new = with_table old c.recall.new.self
 
   abbrev said : Said
-  said = record { reply = Reply.Recalled c.in_ok-named.named; kept = Reply.Recalled c.in_ok-kept.kept; ended = c.new.result; changes = c.new-2.result }
+  said = record { reply = Reply.Recalled c.in_ok-named.named; kept = Reply.Recalled c.in_ok-kept.kept; ended = c.new.result }
 
   whole : IsAnswered old (Event.Recall c.args.count) said new
   whole =
@@ -29,4 +29,4 @@ pub returns-clause-answered : goal.returns-clause-answered
 returns-clause-answered c = subst (λ (s : State). IsAnswered s (Event.Recall c.args.count) (said c) (new c)) c.self.view_is (whole c)
 
 pub returns-clause-changes : goal.returns-clause-changes
-returns-clause-changes c = subst (λ (s : State). AreChanges (said c).changes.items (view_of s) (view_of (new c))) c.self.view_is (changes-still (said c).changes.items (view_of (old c)) c.new-2.ensures.items)
+returns-clause-changes c = subst (λ (s : State). AreChanges c.clear.new.self.items (view_of s) (view_of (new c))) c.self.view_is (changes-still c.clear.new.self.items (view_of (old c)) c.clear.ensures.items)

@@ -5,4 +5,4 @@ use Rattle.captable.proofs.Reading.{refused-alike}
 use Rattle.captable.proofs.table.CapTable.open_refusal.Goals as goal
 
 pub returns : goal.returns
-returns c = c.add_refusal.ensures ∙ refused-alike c.self.inside.lists c.self.inside.made c.self.invariant.0 ∙ ap (λ t. first_failing (open_tests t)) c.self.view_is
+returns c = c.add_refusal.ensures.tests ∙ refused-alike c.self.inside.lists c.self.inside.made c.self.invariant.0 ∙ ap (λ t. first_failing (open_tests t)) c.self.view_is
