@@ -97,7 +97,7 @@ open 3 {losing} r => denied read 1:4
 """
 
 # The fourth client loses all by a mode, and gets it back by another before it acknowledges. Then a change that waits for what another
-# client caches takes from it that it writes, which it gives back by itself.
+# client caches takes from it that it writes, which it releases by itself.
 LOSING_BY_MODES = """
 session 4 1000 1000 - allow rw uid=1000 => done
 open 4 {losing} rw => caps 1 pFr
@@ -173,7 +173,7 @@ poll 2 9 => messages 0
 # that it is gone. Clients come, two directories and a file are made, and the file is moved to where the third client may do nothing.
 # Grants and a mode change. A directory has a snapshot for a while and goes; where memory for grants that change in that while is refused,
 # the whole tree is copied, with the snapshot, and the directory has to go from that copy too. The file is unlinked while it is open, and
-# given back; then clients go.
+# released; then clients go.
 PUBLISHED = """
 session 1 1000 1000 - allow rws => done => aaiiiiiissssssssssssssssssssssss
 session 2 1000 1000 - allow rw => done => aaiiiiiiaaiiiiiissssssssssssssss
@@ -227,8 +227,8 @@ ack 1 2 2 => done
 ack 1 2 2 => refused NothingToAck
 """
 
-# It unlinks the file, and gives it back.
-GIVEN_BACK = """
+# It unlinks the file, and releases it.
+RELEASED = """
 unlink 1 2 => done
 get 1 2 A => refused Gone
 release 1 2 pFsxcrwb => done
@@ -297,7 +297,7 @@ poll 1 9 => messages 1 / caps 4 3 pFscr
 poll 2 9 => messages 1 / caps 4 3 pFscr
 """
 
-# The file is moved away before they give that back.
+# The file is moved away before they acknowledge.
 MOVED_AWAY = """
 rename 1 4 3 x => done
 ack 1 4 3 => done
@@ -416,7 +416,7 @@ rmdir 1 2 => refused NotEmpty
 WORKED = {
     "shared": ALONE + SHARED,
     "acknowledged": ALONE + ACKNOWLEDGED,
-    "given-back": ALONE + GIVEN_BACK,
+    "given-back": ALONE + RELEASED,
     "flushed": ALONE + FLUSHED,
     "sized": ALONE + SIZED,
     "unlinked": ALONE + UNLINKED,

@@ -1,5 +1,5 @@
--- What stops a request, from what stops its parts.
-use Rattle.std.{proofs.Common.{◌≡◌, ◌⊎◌, inl, inr, ℕ, true, List, [], ◌∷◌, Option, Some, None, refl, sym, ap, subst, ◌∙◌, arith}, specs.Option.{option_map}}
+-- What rejects a request, from what rejects its parts.
+use Rattle.std.proofs.Common.{◌≡◌, ◌⊎◌, inl, inr, ℕ, true, List, [], ◌∷◌, Option, Some, None, refl, sym, ap, subst, ◌∙◌, arith}
 use Rattle.capbits.{proofs.Tests.{pass-both}, specs.Refusal.{Test}, specs.declared.cap.Part.{Part}}
 use Rattle.inotree.specs.declared.node.Node.{Node}
 use Rattle.caprules.specs.{Asks.{change_tests}, Judge.{first_denied, rejection_by}, Serving.{MayEndAs, As_judged, Without_memory, passed_as, values_outcome, rejection_outcome, outcome_unless}, declared.rejection.Rejection.TheVariants.{ByTest}}
@@ -12,30 +12,19 @@ pub denial-rejection : (s : Scene) (client : ClientId) (ino : ℕ) (access : Acc
     denial_of s.fs s.tree s.sessions (need client ino access).holder access ≡ rejection_of s [] (need client ino access ∷ []) []
 denial-rejection s client ino access = grind arith
 
--- the first access that is needed is denied, or the others decide
+-- where no test rejects a request, the first access that it needs does, if that is denied
 module _ (s : Scene) (n : Need) (ns : List Need) (tests more : List Test) where
   pub denied-first : (d : Rejection) → first_failing tests ≡ None → denial_of s.fs s.tree s.sessions n.holder n.access ≡ Some d → rejection_of s tests (n ∷ ns) more ≡ Some d
   denied-first d passed is = grind arith
 
-  pub granted-first : denial_of s.fs s.tree s.sessions n.holder n.access ≡ None → rejection_of s tests (n ∷ ns) more ≡ rejection_of s tests ns more
-  granted-first is = grind arith
-
 -- ---- tests and policy
 
 module _ (s : Scene) (tests : List Test) (needed : List Need) (more : List Test) where
-  -- a test before policy that fails is what stops it
+  -- a test before policy that fails is what rejects it
   pub rejection-before : (r : Refusal) → first_failing tests ≡ Some r → rejection_of s tests needed more ≡ Some (ByTest r)
   rejection-before r is = ap (λ o. rejection_by s o (first_denied s needed) (first_failing more)) is
 
-  -- where they pass, a denial is
-  pub rejection-policy : (rejection : Rejection) → first_failing tests ≡ None → rejection_of s [] needed [] ≡ Some rejection → rejection_of s tests needed more ≡ Some rejection
-  rejection-policy rejection passed is = grind arith
-
-  -- and where nothing is denied either, the tests behind policy decide
-  pub rejection-after : first_failing tests ≡ None → rejection_of s [] needed [] ≡ None → rejection_of s tests needed more ≡ option_map ByTest (first_failing more)
-  rejection-after passed free = grind arith
-
-  -- what nothing stops passed the tests before policy and those behind it
+  -- what nothing rejects passed the tests before policy and those behind it
   pub passed-all : rejection_of s tests needed more ≡ None → (first_failing tests ≡ None) × (first_failing more ≡ None)
   passed-all free = grind arith
 
@@ -52,11 +41,11 @@ ask_passed s ino ask one more = grind (arith, change-passed, pass-both)
 pub calls-passed : (s : Scene) (q : Request) → judged_again s q ≡ None → first_failing (call_tests s.tree q.ino.0 q.ask) ≡ None
 calls-passed s q free = grind (arith, passed-all, ask_passed)
 
--- a request that is stopped ends so
+-- a request that is rejected ends so
 pub ends-rejection : (s : Scene) (q : Request) (rejection : Rejection) (o : Outcome) → judged_again s q ≡ Some rejection → o ≡ rejection_outcome rejection → MayEndAs s q o
 ends-rejection s q rejection o is ends = subst (MayEndAs s q) (sym (ends ∙ ap (outcome_unless s q) (sym is))) As_judged
 
--- and one that nothing stops as what it asks for
+-- and one that nothing rejects as what it asks for
 pub ends-passed : (s : Scene) (q : Request) (o : Outcome) → judged_again s q ≡ None → o ≡ passed_as s q.ino.0 q.ask → MayEndAs s q o
 ends-passed s q o free ends = subst (MayEndAs s q) (sym (ends ∙ ap (outcome_unless s q) (sym free))) As_judged
 
@@ -77,7 +66,7 @@ passed_tree s q ask is = grind (arith, told-tree)
 pub tree-passed : (s : Scene) (q : Request) → tree_with s.tree q.ino.0 q.ask ≡ tree_after s.tree q (passed_as s q.ino.0 q.ask)
 tree-passed s q = passed_tree s q q.ask refl
 
--- a serving leaves the tree, or makes the change that nothing stops
+-- a serving leaves the tree, or makes the change that nothing rejects
 pub leaves-or-makes : (s : Scene) (q : Request) (o : Outcome) → MayEndAs s q o →
     (s.tree ≡ tree_after s.tree q o) ⊎ ((judged_again s q ≡ None) × (tree_with s.tree q.ino.0 q.ask ≡ tree_after s.tree q o))
 leaves-or-makes s q o (As_judged) = by_stop (judged_again s q) refl

@@ -6,7 +6,7 @@ use capbits::{Ino, Part};
 use caprules::{Ask, Bytes, Change};
 use std::alloc::{AllocError, Global};
 
-/// An ask as it is judged: what stops it is looked for first, and it is copied only where it is to wait.
+/// An ask as it is judged: what rejects it is looked for first, and it is copied only where it is to wait.
 #[derive(Clone, Copy)]
 pub enum Asked<'a> {
     /// Tell what the inode keeps of this part.
@@ -26,7 +26,7 @@ pub enum Asked<'a> {
     },
 }
 
-/// The ask that waits.
+/// What a request that waits asks for, lent by it, so that it is judged without a copy.
 pub fn lend(ask: &Ask) -> Asked<'_>
     ensures { ask_of result ≡ ask.now }
 {
@@ -39,7 +39,7 @@ pub fn lend(ask: &Ask) -> Asked<'_>
     }
 }
 
-/// The ask that is to wait.
+/// A copy of what is asked for, to wait in the queue.
 pub fn copy_of_ask(alloc: Global, asked: Asked) -> Result<Ask, AllocError>
     ensures { IfOk result (λ ask. ask ≡ ask_of asked.entry) }
 {

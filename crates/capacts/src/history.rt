@@ -1,5 +1,5 @@
-//! The rows of a history.
-ghost use Rattle.std.specs.Prelude.{◌≡◌, ◌+◌, ◌≤◌, ◌<◌, ◌++◌, [], ◌∷◌, ◌↔◌, Err, length, IfOk, OnOk, vec_len, vec_capacity};
+//! Room in a history.
+ghost use Rattle.std.specs.Prelude.{◌≡◌, ◌+◌, ◌≤◌, ◌<◌, ◌↔◌, Err, length, IfOk, OnOk, vec_len, vec_capacity};
 ghost use Rattle.caprules.specs.Numbers.{AreNumbered, rows_of};
 ghost use Rattle.capacts.specs.declared.stop.Stop.TheVariants as stop_kind;
 
@@ -24,14 +24,4 @@ pub fn make_room(rows: &mut Vec<Row>, max_rows: u32, pass: PassId) -> Result<u64
         Some(row) => Ok(row.nth + 1),
         None => Ok(1),
     }
-}
-
-/// Adds a row for which there is room.
-pub fn add_row(rows: &mut Vec<Row>, row: Row)
-    requires room { vec_len rows.old < vec_capacity rows.old }
-    ensures { rows.new.items ≡ rows.old.items ++ row ∷ [] }
-{
-    let Ok(()) = rows.push(row) else {
-        unreachable!()
-    };
 }

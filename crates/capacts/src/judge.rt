@@ -1,4 +1,4 @@
-//! What stops a request: its tests and what grants say of the accesses that it needs.
+//! What rejects a request: its tests and what grants say of the accesses that it needs.
 ghost use Rattle.std.specs.Prelude.{◌≡◌, []};
 ghost use Rattle.capbits.specs.Refusal.{first_failing};
 ghost use Rattle.caprules.specs.{Asks.{ask_before, ask_needs, ask_after}, Judge.{denial_of, rejection_of}};
@@ -14,7 +14,7 @@ use captable::Holder;
 use inotree::{Setting, Tree};
 use sessiontab::Sessions;
 
-/// What stops a request, when it comes and again when it is served.
+/// What rejects a request, when it comes and again when it is served.
 pub fn ask_rejection(scene: &Scene, holder: Holder, asked: Asked) -> Option<Rejection>
     ensures { let s = scene.now in let ask = ask_of asked.entry in
         result ≡ rejection_of s (ask_before s holder.ino.0 ask) (ask_needs s holder.client holder.ino.0 ask) (ask_after s holder.ino.0 ask) }
@@ -60,6 +60,7 @@ fn ask_denial(scene: &Scene, holder: Holder, asked: Asked) -> Option<Rejection>
 {
     let (fs, tree, sessions) = (&scene.fs, &scene.tree, &scene.sessions);
     let Holder { client, ino } = holder;
+    // The inode that it needs an access to first, if any, and which; and the directory that it writes to besides.
     let (at, access, into) = match asked {
         Asked::Get(_) => (Some(ino), Access::Read, None),
         Asked::Alter(change) => (Some(ino), change_access(change), None),

@@ -1,5 +1,5 @@
-//! The acts of a step, each on one thing: a request that is judged, or served and what it reaches; an inode whose locks move; an
-//! entry at the end of the step; a client that leaves; a row more in the history.
+//! The acts of a step, each on one thing: a request that is judged, or served and what it reaches; an inode, or a client, of whose
+//! entries it is kept anew what is permitted; an entry at the end of the step; a client that leaves; room for a row of the history.
 //!
 //! `capsteps` goes over all that a step affects with them.
 #![tactic(auto)]
@@ -17,7 +17,7 @@ pub mod stop;
 pub use asks::{Asked, copy_of_ask};
 pub use caprules::{
     Ask, Bytes, Change, ChangeList, Ended, EndedList, EndedTickets, Event, InodeLocks, Locks,
-    Message, MessageList, Messages, Move, OpenMode, Outcome, PartValues, Policy, Question,
-    Rejection, Reply, Request, Row, Scene, Unknown, View, ViewChange, Wants, copy_of_messages,
-    copy_of_outcome, copy_of_reply, permitted, wants_on,
+    Message, MessageList, Move, OpenMode, Outcome, PartValues, Policy, Question, Rejection, Reply,
+    Request, Row, Scene, Unknown, View, ViewChange, Wants, copy_of_messages, copy_of_outcome,
+    copy_of_reply, due_endings, permitted, wants_on,
 };

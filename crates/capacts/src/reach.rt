@@ -59,7 +59,7 @@ fn add_held(
     ensures room { changes.old.room ≤ changes.new.room }
 {
     for ino in inos {
-        if !affected.contains(*ino) && table.is_held(*ino) {
+        if table.is_held(*ino) {
             changes.add_place()?;
             affected.insert(*ino)?;
         }

@@ -51,7 +51,7 @@ pub fn renew_served(
     }
 }
 
-/// The same after the inode was changed so.
+/// After the inode was changed so, keeps anew what is permitted on it, where that may have changed.
 pub fn renew_changed(
     policy: &Policy<'_>,
     table: &CapTable,
@@ -82,7 +82,7 @@ pub fn renew_on(policy: &Policy<'_>, table: &CapTable, known: &mut Known, ino: I
     }
 }
 
-// The same where somebody has one. By itself, since a function makes room for the names when it is called.
+// Keeps it anew on an inode that somebody has an entry on. By itself, since a function makes room for the names when it is called.
 fn renew_held(policy: &Policy<'_>, table: &CapTable, known: &mut Known, ino: Ino)
     requires room { HaveRoom known.old.sets table.now }
     ensures { Renews (λ k. (k.ino.0 == ino.0) && has_entry table.now k)

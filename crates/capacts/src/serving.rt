@@ -22,8 +22,8 @@ pub struct Served {
     pub kept: Outcome,
 }
 
-/// Serves a request: what stops it now, or what it asks for. One that was judged on this tree when it came is not judged again. A
-/// request that moves its inode and found no room for what it reaches ends as out of memory, unless something stops it.
+/// Serves a request: what rejects it now, or what it asks for. One that was judged on this tree when it came is not judged again. A
+/// request that moves its inode and found no room for what it reaches ends as out of memory, unless something rejects it.
 pub fn serve(
     alloc: Global,
     scene: &mut Scene,
@@ -130,7 +130,7 @@ fn values_of(alloc: Global, node: &Node, part: Part) -> Result<Outcome, AllocErr
     }))
 }
 
-// How a request ends that was stopped.
+// How a request ends that was rejected.
 fn rejected(rejection: Rejection) -> Served
     ensures outcome { result.outcome ≡ rejection_outcome rejection }
     ensures kept { result.kept ≡ rejection_outcome rejection }

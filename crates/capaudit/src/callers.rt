@@ -16,9 +16,9 @@ use capgrant::Access;
 use capspec::Grants;
 use capwho::Standing;
 
-/// The capabilities of the inode that some caller of a client with these grants is permitted. The callers of a client are
+/// The caps of the inode that some caller of a client with these grants is permitted. The callers of a client are
 /// those whom a grant names: the user of its uid, or any but root where it has none, in any of the groups that it lists. Each
-/// capability is judged by itself: what one caller may read and another write is all in the answer. Needs no memory.
+/// cap is judged by itself: what one caller may read and another write is all in the answer. Needs no memory.
 pub fn permitted_to_some(grants: &Grants, inode: &Inode) -> CapSet
     ensures exact { (cap : Cap) → IsTrue (has result cap) ↔ IsPermittedToSome inode.now grants.now cap }
 
@@ -53,7 +53,7 @@ fn caps_for(reads: bool, writes: bool) -> CapSet
         .union(only_if(writes, &WRITERS))
 }
 
-// These capabilities, or none of them.
+// These caps, or none of them.
 fn only_if(condition: bool, caps: &[Cap]) -> CapSet
     ensures { result ≡ caps_if condition caps.now }
 {

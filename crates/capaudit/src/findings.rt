@@ -19,7 +19,7 @@ use capwho::Standing;
 
 /// What a client holds of an inode and no caller of it is permitted.
 pub struct Finding {
-    /// The capabilities, at least one.
+    /// The caps, at least one.
     pub caps: CapSet,
     /// The least access that would permit some of them, to read or to write, which no grant allows to anybody. None for `Fa`
     /// alone, which no access permits.
@@ -40,7 +40,7 @@ impl Drop for Finding {
     }
 }
 
-/// What of the capabilities that a client with these grants holds of the inode none of its callers is permitted, or None where
+/// What of the caps that a client with these grants holds of the inode none of its callers is permitted, or None where
 /// each is permitted to some caller. Needs no memory.
 pub fn beyond(held: CapSet, grants: &Grants, inode: &Inode) -> Option<Finding>
     ensures { MatchOption result ((cap : Cap) → IsTrue (has held cap) → IsPermittedToSome inode.now grants.now cap) (IsBeyond held grants.now inode.now) }
@@ -57,7 +57,7 @@ pub fn beyond(held: CapSet, grants: &Grants, inode: &Inode) -> Option<Finding>
     })
 }
 
-// The access that some of these capabilities need, to read before to write.
+// The access that some of these caps need, to read before to write.
 fn least_access(caps: CapSet) -> Option<Access>
     ensures { result ≡ least_access caps }
 {

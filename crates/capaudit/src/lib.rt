@@ -1,4 +1,4 @@
-//! The audit of a running cluster: which capabilities a client holds that nobody behind its key is permitted, and which clients
+//! The audit of a running cluster: which caps a client holds that nobody behind its key is permitted, and which clients
 //! hold together what the table of the locks keeps apart.
 #![tactic(auto)]
 

@@ -11,11 +11,11 @@ use std::alloc::{AllocError, Global};
 pub struct Holding {
     /// The number of the session.
     pub client: u64,
-    /// The capabilities.
+    /// The caps.
     pub caps: CapSet,
 }
 
-/// Two clients, each with those of its capabilities that conflict with some of the other's.
+/// Two clients, each with those of its caps that conflict with some of the other's.
 #[derive(Clone, Copy, Debug, PartialEq, Eq)]
 pub struct Conflict {
     /// The client that is listed first.
@@ -92,7 +92,7 @@ const ALL: [Cap; 15] = [
     Cap::Fl,
 ];
 
-// The capabilities that conflict with some of these.
+// The caps that conflict with some of these.
 fn rivals(caps: CapSet) -> CapSet
     ensures { result ≡ rivals caps }
 {
@@ -105,7 +105,7 @@ fn rivals(caps: CapSet) -> CapSet
     rivals
 }
 
-// The capabilities that no other client may hold beside this one.
+// The caps that no other client may hold beside this one.
 fn conflicting(cap: Cap) -> &'static [Cap]
     ensures { result.now ≡ conflicting cap }
 {

@@ -1,4 +1,4 @@
--- Each capability covers at most one part, and the pin none.
+-- Each cap covers at most one part, and the pin none.
 use Rattle.std.proofs.Common.{◌≡◌, ℕ, Bool, true, false, refl, sym, ap, ◌∙◌, true≢false, IsTrue, arith}
 use Rattle.std.specs.Prelude.{◌==◌}
 use Rattle.std.specs.List.{list_all}
@@ -8,7 +8,7 @@ use Rattle.capbits.specs.declared.cap.Part.{Part}
 use Rattle.capbits.specs.declared.cap.Part.TheVariants.{A, L, X, F}
 use Rattle.capbits.specs.Sets.{caps_of_part, covers, same_cap, same_cap-eq, all_in, true_eq}
 
--- the part that a capability covers, counted from 1; 0 for the pin
+-- the part that a cap covers, counted from 1; 0 for the pin
 part_covered : Cap → ℕ
 part_covered P = 0
 part_covered As = 1
@@ -54,7 +54,7 @@ each_covers F = refl
 covers_is : (c : Cap) (part : Part) → IsTrue (covers c part) → part_covered c ≡ number_of part
 covers_is c part h = true_eq _ _ (all_in (λ c. part_covered c == number_of part) (caps_of_part part) (each_covers part) c h)
 
--- a capability covers at most one part
+-- a cap covers at most one part
 pub one_part : (c : Cap) (p q : Part) → IsTrue (covers c p) → IsTrue (covers c q) → p ≡ q
 one_part c p q covers_p covers_q = numbers_differ p q (sym (covers_is c p covers_p) ∙ covers_is c q covers_q)
 

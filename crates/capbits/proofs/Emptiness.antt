@@ -1,4 +1,4 @@
--- A set without any capability.
+-- A set without any cap.
 use Rattle.std.proofs.Common.{◌≡◌, ◌↔◌, Bool, true, false, not, refl, sym, ap, ◌∙◌, IsTrue}
 use Rattle.std.specs.List.{list_any}
 use Rattle.std.proofs.lemmas.Bool.Decides.{same_from_decides}
@@ -28,7 +28,7 @@ not_true : (b : Bool) → not b ≡ true → b ≡ false
 not_true true e = sym e
 not_true false e = refl
 
--- a set that is empty lacks each capability
+-- a set that is empty lacks each cap
 pub has-is_empty : (s : Caps) → IsTrue (is_empty s) → (c : Cap) → has s c ≡ false
 unfolding is_empty
 has-is_empty s empty c = not_true (has s c) (all_in (λ c. not (has s c)) all_caps empty c (in_all c))
@@ -37,7 +37,7 @@ none_empty : is_empty no_caps ≡ true
 unfolding is_empty no_caps has caps_where
 none_empty = refl
 
--- the set without any capability is the one that is empty
+-- the set without any cap is the one that is empty
 pub is_empty-no_caps : (s : Caps) → IsTrue (is_empty s) ↔ (s ≡ no_caps)
 is_empty-no_caps s = (
   (λ empty. same_caps s no_caps (λ c. has-is_empty s empty c ∙ sym (has-none c))),

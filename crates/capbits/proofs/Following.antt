@@ -1,4 +1,4 @@
--- The spelling of a set from a place on: the letters of some capabilities, then the groups of some parts. What its first byte can
+-- The spelling of a set from a place on: the letters of some caps, then the groups of some parts. What its first byte can
 -- be, and what that byte says of the set.
 use Rattle.std.specs.Prelude.{◌≡◌, ◌≢◌, ◌==◌, ℕ, Bool, true, false, ◌||◌, List, [], ◌∷◌, ◌++◌, map, filter, refl, IsTrue, IsFalse}
 use Rattle.std.specs.List.{list_any}
@@ -16,15 +16,15 @@ use Rattle.capbits.specs.SetNumbers.{eq_true}
 use Rattle.capbits.specs.Text.{capital_of, letter_of, headed, or_dash, letters_in, group_of, groups_in, text_of}
 use Rattle.capbits.proofs.Spelling.{letters_in-none}
 
--- whether one of these parts covers a capability
+-- whether one of these parts covers a cap
 abbrev pub in_parts : Cap → List Part → Bool
 in_parts d parts = list_any (covers d) parts
 
--- whether a capability is one of these, or covers one of these parts
+-- whether a cap is one of these, or covers one of these parts
 abbrev pub in_rest : Cap → List Cap → List Part → Bool
 in_rest d caps parts = list_any (same_cap d) caps || in_parts d parts
 
--- whether a byte is the letter of one of these capabilities
+-- whether a byte is the letter of one of these caps
 abbrev pub is_letter : List Cap → ℕ → Bool
 is_letter caps x = list_any (λ c. letter_of c == x) caps
 
@@ -40,7 +40,7 @@ rest_of s caps parts = letters_in s caps ++ groups_in s parts
 abbrev pub letters_of : Caps → List ℕ
 letters_of s = rest_of s (P ∷ []) (A ∷ L ∷ X ∷ F ∷ [])
 
--- each byte that may come says which capability or part it stands for, and no capability comes twice
+-- each byte that may come says which cap or part it stands for, and no cap comes twice
 abbrev pub Apart : List Cap → List Part → Type 0
 Apart [] parts = Unit {0}
 Apart (c ∷ caps) parts = (IsFalse (is_letter caps (letter_of c)) × IsFalse (is_capital parts (letter_of c)) × IsFalse (in_rest c caps parts)) × Apart caps parts
@@ -72,7 +72,7 @@ apart_parts = (
 pub apart_caps : Apart (P ∷ []) (A ∷ L ∷ X ∷ F ∷ [])
 apart_caps = ((refl, refl, refl), tt)
 
--- every capability is in what a spelling can have
+-- every cap is in what a spelling can have
 pub all_in_rest : (d : Cap) → IsTrue (in_rest d (P ∷ []) (A ∷ L ∷ X ∷ F ∷ []))
 all_in_rest P = refl
 all_in_rest As = refl
@@ -154,7 +154,7 @@ unfolding groups_in
 groups_in-append s [] ys = refl
 groups_in-append s (part ∷ xs) ys = ap (λ g. group_of s part ++ g) (groups_in-append s xs ys) ∙ sym (append_assoc (group_of s part) (groups_in s xs) (groups_in s ys))
 
--- a set without these capabilities has none of their letters
+-- a set without these caps has none of their letters
 pub letters_in-lacking : (s : Caps) (caps : List Cap) → ((d : Cap) → IsTrue (list_any (same_cap d) caps) → IsFalse (has s d)) → letters_in s caps ≡ []
 letters_in-lacking s [] h = letters_in-none s
 letters_in-lacking s (c ∷ caps) h =
@@ -169,12 +169,12 @@ groups_in-lacking s (part ∷ parts) h =
     let rest : groups_in s parts ≡ [] = groups_in-lacking s parts (λ d r. h d (or_right (covers d part) (in_parts d parts) r)) in
     (λ i. headed (capital_of part) (none i) ++ rest i)
 
--- the letters of a set that has one of these capabilities, and none in front of it
+-- the letters of a set that has one of these caps, and none in front of it
 pub letters_in-split : (s : Caps) (front : List Cap) (c : Cap) (caps : List Cap) → ((d : Cap) → IsTrue (list_any (same_cap d) front) → IsFalse (has s d)) → IsTrue (has s c)
     → letters_in s (front ++ c ∷ caps) ≡ letter_of c ∷ letters_in s caps
 letters_in-split s front c caps lacks there = letters_in-append s front (c ∷ caps) ∙ (λ i. letters_in-lacking s front lacks i ++ letters_in-with s c caps there i)
 
--- the groups of a set that has capabilities of one of these parts, and none of a part in front of it
+-- the groups of a set that has caps of one of these parts, and none of a part in front of it
 pub groups_in-split : (s : Caps) (front : List Part) (part : Part) (parts : List Part) → ((d : Cap) → IsTrue (in_parts d front) → IsFalse (has s d)) → letters_in s (caps_of_part part) ≢ []
     → groups_in s (front ++ part ∷ parts) ≡ capital_of part ∷ rest_of s (caps_of_part part) parts
 unfolding groups_in group_of
@@ -275,7 +275,7 @@ passed_caps (k ∷ front) c caps parts a d h =
       | false ↦ λ _ r. passed_caps front c caps parts a.1 d r
     ] refl h
 
--- a capability of a group is of no later part
+-- a cap of a group is of no later part
 pub outside : (caps : List Cap) (parts : List Part) → Apart caps parts → (d : Cap) → IsTrue (list_any (same_cap d) caps) → IsFalse (in_parts d parts)
 outside [] parts a d h = absurd (true≢false (sym h))
 outside (c ∷ caps) parts a d h =
@@ -295,7 +295,7 @@ passed_parts (p ∷ front) part parts a d h =
       | false ↦ λ _ r. passed_parts front part parts a.2 d r
     ] refl h
 
--- two sets with the same spelling from a place on have the same capabilities there
+-- two sets with the same spelling from a place on have the same caps there
 agree_cons : (s t : Caps) (c : Cap) (caps : List Cap) (parts : List Part) → has s c ≡ has t c → ((d : Cap) → IsTrue (in_rest d caps parts) → has s d ≡ has t d)
     → (d : Cap) → IsTrue (in_rest d (c ∷ caps) parts) → has s d ≡ has t d
 agree_cons s t c caps parts e rest d h =

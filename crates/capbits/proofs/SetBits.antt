@@ -83,7 +83,7 @@ caps_of-zero = refl
 pub IsCaps-zero : IsCaps 0
 IsCaps-zero = record { sixteen_bits = omega arith; no_bit_1 = refl }
 
--- a capability's value is the number of the set of that one
+-- a cap's value is the number of the set of that one
 one_number : (c : Cap) → bits_of (caps_in (c ∷ [])) ≡ value_of c
 unfolding bits_of has caps_in caps_where
 one_number P = refl
@@ -115,7 +115,7 @@ caps_in-none = refl
 pub caps_in-push : (cs : List Cap) (c : Cap) → union (caps_in cs) (caps_in (c ∷ [])) ≡ caps_in (cs ++ c ∷ [])
 caps_in-push cs c = same_caps _ _ (λ d. grind (arith, members, list_any-append {X = Cap}))
 
--- what covers a part is what is in the set of the part's capabilities
+-- what covers a part is what is in the set of the part's caps
 pub meet-part : (part : Part) (s : Caps) → meet s (caps_in (caps_of_part part)) ≡ of_part part s
 meet-part part s = same_caps _ _ (λ c. has-meet s _ c ∙ ap (λ b. has s c && b) (has-caps_in (caps_of_part part) c) ∙ sym (has-of_part part s c))
 
@@ -144,7 +144,7 @@ empty_bits a ha = (
   (λ e. eq_true _ _ (sym (bits_of-caps_of a ha) ∙ ap bits_of (e ∙ sym caps_of-zero) ∙ bits_of-caps_of 0 IsCaps-zero)),
 )
 
--- a set has a capability exactly if the set of that one is a subset of it
+-- a set has a cap exactly if the set of that one is a subset of it
 pub has_one : (s : Caps) (c : Cap) (r : Bool) → (IsTrue r ↔ IsSubset (caps_in (c ∷ [])) s) → r ≡ has s c
 has_one s c r h =
     same_from_decides r (has s c) h (

@@ -1,10 +1,10 @@
--- A set out of the fifteen capabilities, and the number that stands for it.
+-- A set out of the fifteen caps, and the number that stands for it.
 use Rattle.std.specs.Prelude.{◌≡◌, ℕ, ◌<◌, ◌^◌, ◌==◌, Bool, List, [], ◌∷◌, sum_by, if◌then◌else◌}
 use Rattle.std.specs.Int.{bit_at}
 use Rattle.capbits.specs.declared.cap.Cap.{Cap}
 use Rattle.capbits.specs.declared.cap.Cap.TheVariants.{P, As, Ax, Ls, Lx, Xs, Xx, Fs, Fx, Fc, Fr, Fw, Fb, Fa, Fl}
 
--- for each capability, whether it is in the set
+-- for each cap, whether it is in the set
 pub record Caps : Type 0 where
   pub p : Bool
   pub auth_s : Bool
@@ -22,7 +22,7 @@ pub record Caps : Type 0 where
   pub file_a : Bool
   pub file_l : Bool
 
--- whether a capability is in a set
+-- whether a cap is in a set
 unfoldable pub has : Caps → Cap → Bool
 has s P = s.p
 has s As = s.auth_s
@@ -40,7 +40,7 @@ has s Fb = s.file_b
 has s Fa = s.file_a
 has s Fl = s.file_l
 
--- the set of the capabilities that pass a test
+-- the set of the caps that pass a test
 unfoldable pub caps_where : (Cap → Bool) → Caps
 caps_where f = record {
   p = f P;
@@ -60,11 +60,11 @@ caps_where f = record {
   file_l = f Fl;
 }
 
--- every capability
+-- every cap
 abbrev pub all_caps : List Cap
 all_caps = P ∷ As ∷ Ax ∷ Ls ∷ Lx ∷ Xs ∷ Xx ∷ Fs ∷ Fx ∷ Fc ∷ Fr ∷ Fw ∷ Fb ∷ Fa ∷ Fl ∷ []
 
--- the place of a capability's bit; the second bit is unused
+-- the place of a cap's bit; the second bit is unused
 abbrev pub place_of : Cap → ℕ
 place_of P = 0
 place_of As = 2
@@ -82,19 +82,19 @@ place_of Fb = 13
 place_of Fa = 14
 place_of Fl = 15
 
--- the value of a capability's bit
+-- the value of a cap's bit
 abbrev pub value_of : Cap → ℕ
 value_of c = 2 ^ place_of c
 
--- the number of a set: the sum of its capabilities' values
+-- the number of a set: the sum of its caps' values
 unfoldable pub bits_of : Caps → ℕ
 bits_of s = sum_by (λ c. if has s c then value_of c else 0) all_caps
 
--- the capabilities whose bits a number has
+-- the caps whose bits a number has
 unfoldable pub caps_of : ℕ → Caps
 caps_of n = caps_where (λ c. bit_at n (place_of c) == 1)
 
--- a number with none but the bits of capabilities: it has no second bit
+-- a number with none but the bits of caps: it has no second bit
 pub record IsCaps (n : ℕ) : Type 0 where
   pub sixteen_bits : n < 2 ^ 16
   pub no_bit_1 : bit_at n 1 ≡ 0

@@ -42,7 +42,7 @@ one_small : (b : Bool) → cond b 1 0 < 2
 one_small true = omega arith
 one_small false = omega arith
 
--- a set's number has none but the bits of capabilities
+-- a set's number has none but the bits of caps
 pub IsCaps-bits_of : (s : Caps) → IsCaps (bits_of s)
 unfolding bits_of has
 IsCaps-bits_of s = record {
@@ -50,17 +50,17 @@ IsCaps-bits_of s = record {
   no_bit_1 = omega (arith, one_value, one_small);
 }
 
--- the bits of the table are those of capabilities
+-- the bits of the table are those of caps
 pub known-IsCaps : (n : ℕ) → bit_and n (known_bits cap_table) ≡ n → IsCaps n
 unfolding known_from
 known-IsCaps n e = record { sixteen_bits = omega (arith, and_le_r n 65533, e); no_bit_1 = omega (arith, bit_at_and n 65533 1, ap (λ m. bit_at m 1) e) }
 
--- and the bits of capabilities are those of the table
+-- and the bits of caps are those of the table
 IsCaps-known : (n : ℕ) → IsCaps n → bit_and n (known_bits cap_table) ≡ n
 unfolding known_from
 IsCaps-known n h = omega (arith, and-not 16 2 n (lit< tt) h.sixteen_bits, and_comm n 65533, and_comm 2 n, and_pow n 1, h.no_bit_1)
 
--- a number with a bit of no capability is no set's
+-- a number with a bit of no cap is no set's
 pub no_number : (n : ℕ) → bit_and n (known_bits cap_table) ≢ n → (s : Caps) → bits_of s ≢ n
 no_number n h s e = h (let P : ℕ → Type 0 = λ n. bit_and n (known_bits cap_table) ≡ n in subst P e (IsCaps-known (bits_of s) (IsCaps-bits_of s)))
 
@@ -68,7 +68,7 @@ no_number n h s e = h (let P : ℕ → Type 0 = λ n. bit_and n (known_bits cap_
 pub too_large : (n : ℕ) → 2 ^ 16 ≤ n → (s : Caps) → bits_of s ≢ n
 too_large n h s e = omega (arith, (IsCaps-bits_of s).sixteen_bits)
 
--- the bit of a capability in the number of a set
+-- the bit of a cap in the number of a set
 one_bit : (b : Bool) → (cond b 1 0 == 1) ≡ b
 one_bit true = refl
 one_bit false = refl

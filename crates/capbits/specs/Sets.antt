@@ -1,4 +1,4 @@
--- Sets of capabilities: the words that contracts use, and what is a member of each.
+-- Sets of caps: the words that contracts use, and what is a member of each.
 use Rattle.std.specs.Prelude.{◌≡◌, ℕ, ◌==◌, Bool, true, false, not, ◌&&◌, ◌||◌, List, [], ◌∷◌, refl, IsTrue, if◌then◌else◌}
 use Rattle.std.specs.List.{list_any, list_all}
 use Rattle.std.proofs.Common.{arith, ◌∙◌, sym, ap, true≢false}
@@ -9,50 +9,50 @@ use Rattle.capbits.specs.declared.cap.Part.{Part}
 use Rattle.capbits.specs.declared.cap.Part.TheVariants.{A, L, X, F}
 use Rattle.capbits.specs.Caps.{Caps, has, caps_where, all_caps, place_of}
 
--- whether two capabilities are the same
+-- whether two caps are the same
 abbrev pub same_cap : Cap → Cap → Bool
 same_cap c d = place_of c == place_of d
 
--- the capabilities that cover a part, in the order of their letters
+-- the caps that cover a part, in the order of their letters
 abbrev pub caps_of_part : Part → List Cap
 caps_of_part A = As ∷ Ax ∷ []
 caps_of_part L = Ls ∷ Lx ∷ []
 caps_of_part X = Xs ∷ Xx ∷ []
 caps_of_part F = Fs ∷ Fx ∷ Fc ∷ Fr ∷ Fw ∷ Fb ∷ Fa ∷ Fl ∷ []
 
--- whether a capability covers a part
+-- whether a cap covers a part
 abbrev pub covers : Cap → Part → Bool
 covers c part = list_any (same_cap c) (caps_of_part part)
 
--- the set without any capability
+-- the set without any cap
 unfoldable pub no_caps : Caps
 no_caps = caps_where (λ c. false)
 
--- the capabilities of a list
+-- the caps of a list
 unfoldable pub caps_in : List Cap → Caps
 caps_in cs = caps_where (λ c. list_any (same_cap c) cs)
 
--- the capabilities of either set
+-- the caps of either set
 unfoldable pub union : Caps → Caps → Caps
 union a b = caps_where (λ c. has a c || has b c)
 
--- the capabilities of both sets
+-- the caps of both sets
 unfoldable pub meet : Caps → Caps → Caps
 meet a b = caps_where (λ c. has a c && has b c)
 
--- the capabilities of the first set that the second lacks
+-- the caps of the first set that the second lacks
 unfoldable pub minus : Caps → Caps → Caps
 minus a b = caps_where (λ c. has a c && not (has b c))
 
--- the capabilities of a set that cover a part
+-- the caps of a set that cover a part
 unfoldable pub of_part : Part → Caps → Caps
 of_part part s = caps_where (λ c. has s c && covers c part)
 
--- whether a set has no capability
+-- whether a set has no cap
 unfoldable pub is_empty : Caps → Bool
 is_empty s = list_all (λ c. not (has s c)) all_caps
 
--- each capability of the first set is in the second
+-- each cap of the first set is in the second
 abbrev pub IsSubset : Caps → Caps → Type 0
 IsSubset a b = (c : Cap) → IsTrue (has a c) → IsTrue (has b c)
 
@@ -111,7 +111,7 @@ pub and_parts : (a b : Bool) → IsTrue (a && b) → IsTrue a × IsTrue b
 and_parts true b h = (refl, h)
 and_parts false b h = absurd (true≢false (sym h))
 
--- a capability by its place
+-- a cap by its place
 cap_at : ℕ → Cap
 cap_at n =
     if n == 2 then As else if n == 3 then Ax else if n == 4 then Ls else if n == 5 then Lx else if n == 6 then Xs else if n == 7 then Xx
@@ -142,7 +142,7 @@ true_eq a b t = grind (arith, nat_tests)
 pub same_cap-eq : (c d : Cap) → IsTrue (same_cap c d) → c ≡ d
 same_cap-eq c d t = sym (cap_at-place_of c) ∙ ap cap_at (true_eq (place_of c) (place_of d) t) ∙ cap_at-place_of d
 
--- what holds of each capability of a list holds of each member of its set
+-- what holds of each cap of a list holds of each member of its set
 pub all_in : (p : Cap → Bool) (cs : List Cap) → IsTrue (list_all p cs) → (c : Cap) → IsTrue (list_any (same_cap c) cs) → IsTrue (p c)
 all_in p [] all c one = absurd (true≢false (sym one))
 all_in p (d ∷ cs) all c one =

@@ -1,4 +1,4 @@
--- The one spelling of a set of capabilities, as ASCII bytes.
+-- The one spelling of a set of caps, as ASCII bytes.
 use Rattle.std.specs.Prelude.{◌≡◌, ℕ, ◌<◌, ◌≤◌, List, [], ◌∷◌, ◌++◌, length, take, map, filter, codes}
 use Rattle.capbits.specs.declared.cap.Cap.{Cap}
 use Rattle.capbits.specs.declared.cap.Cap.TheVariants.{P, As, Ax, Ls, Lx, Xs, Xx, Fs, Fx, Fc, Fr, Fw, Fb, Fa, Fl}
@@ -14,7 +14,7 @@ capital_of L = 76
 capital_of X = 88
 capital_of F = 70
 
--- the letter of a capability: `p`, and behind a capital `s`, `x`, `c`, `r`, `w`, `b`, `a`, `l`
+-- the letter of a cap: `p`, and behind a capital `s`, `x`, `c`, `r`, `w`, `b`, `a`, `l`
 abbrev pub letter_of : Cap → ℕ
 letter_of P = 112
 letter_of As = 115
@@ -42,7 +42,7 @@ abbrev pub or_dash : List ℕ → List ℕ
 or_dash [] = codes "-"
 or_dash (x ∷ xs) = x ∷ xs
 
--- the letters of those of some capabilities that are in a set
+-- the letters of those of some caps that are in a set
 unfoldable pub letters_in : Caps → List Cap → List ℕ
 letters_in s caps = map letter_of (filter (has s) caps)
 

@@ -1,9 +1,9 @@
-//! Sixteen bits, with the names of those that are capabilities.
+//! Sixteen bits, with the names of those that are caps.
 ghost use Rattle.std.specs.Prelude.{⊤};
 
 use bitflags::{Flag, Flags, bitflag_items};
 
-/// Any sixteen bits, those of no capability included: `Flags` must be able to keep every bit, so a `CapSet`,
+/// Any sixteen bits, those of no cap included: `Flags` must be able to keep every bit, so a `CapSet`,
 /// which has known bits alone, holds one of these and is none itself.
 #[derive(Clone, Copy, PartialEq, Eq, Debug)]
 pub struct CapBits(pub u16);

@@ -1,4 +1,4 @@
-//! One capability, and the part of an inode that it covers.
+//! One cap, and the part of an inode that it covers.
 ghost use Rattle.std.specs.Prelude.{◌≡◌};
 ghost use Rattle.capbits.specs.Sets.{caps_of_part};
 ghost use Rattle.capbits.specs.Text.{capital_of, letter_of};
@@ -17,7 +17,7 @@ pub enum Part {
 }
 
 impl Part {
-    /// The capabilities that cover this part, in the order of their letters in a text.
+    /// The caps that cover this part, in the order of their letters in a text.
     pub fn caps(self) -> &'static [Cap]
         ensures { result.now ≡ caps_of_part self }
     {

@@ -1,4 +1,4 @@
-//! Laws of sets of capabilities. No program needs to call them.
+//! Laws of sets of caps. No program needs to call them.
 
 ghost use Rattle.std.specs.Prelude.{◌≡◌, IsTrue, IsFalse};
 ghost use Rattle.capbits.specs.declared.cap.Cap.{Cap};
@@ -13,7 +13,7 @@ pub fn one_set_for_a_text()
     ensures { (s t : Caps) → text_of s ≡ text_of t → s ≡ t }
 {}
 
-/// A capability covers at most one part, and the pin covers none.
+/// A cap covers at most one part, and the pin covers none.
 pub fn one_part_for_a_cap()
     ensures one_part { (c : Cap) (p q : Part) → IsTrue (covers c p) → IsTrue (covers c q) → p ≡ q }
     ensures pin { (part : Part) → IsFalse (covers P part) }

@@ -1,5 +1,5 @@
 //! The small types that every crate of the server speaks of: the numbers that name clients and inodes, a caller
-//! with its groups, a file mode, the capabilities and sets of them, and the numbers that a text writes.
+//! with its groups, a file mode, the caps and sets of them, and the numbers that a text writes.
 #![tactic(auto)]
 
 mod bits;

@@ -47,9 +47,9 @@ pub enum Refusal {
     NoXattr,
     /// The client has no entry on the inode.
     NoEntry,
-    /// The client does not hold each of the capabilities.
+    /// The client does not hold each of the caps.
     NotHeld,
-    /// The client holds no capability that is being revoked.
+    /// The client holds no cap that is being revoked.
     NothingToAck,
     /// The number is above that of the last message, so the client was not told of it.
     BadSeq,

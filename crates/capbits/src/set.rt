@@ -1,4 +1,4 @@
-//! A set of capabilities.
+//! A set of caps.
 ghost use Rattle.std.specs.Prelude.{◌≡◌, ◌≢◌, ◌↔◌, [], ◌∷◌, IsTrue, IfSome, IfNone};
 ghost use Rattle.capbits.specs.Caps.{Caps, has, bits_of, value_of};
 ghost use Rattle.capbits.specs.Sets.{no_caps, caps_in, is_empty, union, meet, minus, of_part, IsSubset};
@@ -8,7 +8,7 @@ use crate::cap::{Cap, Part};
 use bitflags::Flags;
 use std::marker::Model;
 
-/// A set out of the fifteen capabilities.
+/// A set out of the fifteen caps.
 #[derive(Clone, Copy, PartialEq, Eq, Debug)]
 #[tactic(auto, using(crate::specs::SetNumbers::set_numbers))]
 pub struct CapSet {
@@ -30,7 +30,7 @@ impl Model for CapSet {
     ghost inverse_ok = { λ s h i. record { bits = record { 0 = bits_of-caps_of s.bits.0 h i } } };
 }
 
-// The bit of one capability.
+// The bit of one cap.
 fn bit(cap: Cap) -> CapBits
     ensures { result.0 ≡ value_of cap }
 {
@@ -54,7 +54,7 @@ fn bit(cap: Cap) -> CapBits
 }
 
 impl CapSet {
-    /// The set without any capability.
+    /// The set without any cap.
     #[tactic(auto, using(crate::proofs::SetBits::set_bits))]
     pub fn empty() -> Self
         ensures { result ≡ no_caps }
@@ -64,7 +64,7 @@ impl CapSet {
         }
     }
 
-    // The set of one capability.
+    // The set of one cap.
     #[tactic(auto, using(crate::proofs::SetBits::set_bits))]
     fn one(cap: Cap) -> Self
         ensures { result ≡ caps_in (cap ∷ []) }
@@ -72,7 +72,7 @@ impl CapSet {
         CapSet { bits: bit(cap) }
     }
 
-    /// The set of the capabilities of a list, in which one may stand more than once.
+    /// The set of the caps of a list, in which one may stand more than once.
     #[tactic(auto, using(crate::proofs::SetBits::set_bits))]
     pub fn of(caps: &[Cap]) -> Self
         ensures { result ≡ caps_in caps.now }
@@ -91,7 +91,7 @@ impl CapSet {
         self.contains(CapSet::one(cap))
     }
 
-    /// Whether each capability of `other` is in this set.
+    /// Whether each cap of `other` is in this set.
     #[tactic(auto, using(crate::proofs::SetBits::set_bits))]
     pub fn contains(self, other: CapSet) -> bool
         ensures { IsTrue result ↔ IsSubset other self }
@@ -99,7 +99,7 @@ impl CapSet {
         self.bits.contains(other.bits)
     }
 
-    /// Whether no capability is in this set.
+    /// Whether no cap is in this set.
     #[tactic(auto, using(crate::proofs::SetBits::set_bits))]
     pub fn is_empty(self) -> bool
         ensures value { result ≡ is_empty self }
@@ -108,7 +108,7 @@ impl CapSet {
         self.bits.is_empty()
     }
 
-    /// The capabilities of either set.
+    /// The caps of either set.
     #[tactic(auto, using(crate::proofs::SetBits::set_bits))]
     pub fn union(self, other: CapSet) -> CapSet
         ensures { result ≡ union self other }
@@ -118,7 +118,7 @@ impl CapSet {
         }
     }
 
-    /// The capabilities of both sets.
+    /// The caps of both sets.
     #[tactic(auto, using(crate::proofs::SetBits::set_bits))]
     pub fn meet(self, other: CapSet) -> CapSet
         ensures { result ≡ meet self other }
@@ -128,7 +128,7 @@ impl CapSet {
         }
     }
 
-    /// The capabilities of this set that `other` lacks.
+    /// The caps of this set that `other` lacks.
     #[tactic(auto, using(crate::proofs::SetBits::set_bits))]
     pub fn minus(self, other: CapSet) -> CapSet
         ensures { result ≡ minus self other }
@@ -138,7 +138,7 @@ impl CapSet {
         }
     }
 
-    /// The capabilities of this set that cover `part`. The pin covers none.
+    /// The caps of this set that cover `part`. The pin covers none.
     #[tactic(auto, using(crate::proofs::SetBits::set_bits))]
     pub fn part(self, part: Part) -> CapSet
         ensures { result ≡ of_part part self }
@@ -146,7 +146,7 @@ impl CapSet {
         self.meet(CapSet::of(part.caps()))
     }
 
-    /// The set with this number, which is the sum of its capabilities' bit values; none if a bit is no capability's.
+    /// The set with this number, which is the sum of its caps' bit values; none if a bit is no cap's.
     #[tactic(auto, using(crate::specs::SetNumbers::set_numbers))]
     pub fn from_bits(bits: u32) -> Option<CapSet>
         ensures some { IfSome result (λ s. bits_of s ≡ bits) }
@@ -156,7 +156,7 @@ impl CapSet {
         Some(CapSet { bits })
     }
 
-    /// The number of the set: the sum of its capabilities' bit values.
+    /// The number of the set: the sum of its caps' bit values.
     #[tactic(auto, using(crate::specs::SetNumbers::set_numbers))]
     pub fn bits(self) -> u32
         ensures { result ≡ bits_of self }

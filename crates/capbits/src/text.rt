@@ -1,4 +1,4 @@
-//! The text of a set of capabilities, as "Capabilities in CephFS" in the Ceph documentation writes it: `pAsLsXsFscr`.
+//! The text of a set of caps, as "Capabilities in CephFS" in the Ceph documentation writes it: `pAsLsXsFscr`.
 ghost use Rattle.std.specs.Prelude.{◌≡◌, ◌+◌, ◌≤◌, ◌++◌, ℕ, List, length};
 ghost use Rattle.arrayvec.specs.ArrayVec.{array_vec_len};
 ghost use Rattle.capbits.specs.Sets.{caps_of_part};
@@ -9,10 +9,10 @@ use crate::set::CapSet;
 use arrayvec::ArrayVec;
 use std::marker::Model;
 
-/// Room for the text of any set of capabilities, in bytes.
+/// Room for the text of any set of caps, in bytes.
 pub const MAX_CAP_BYTES: usize = 32;
 
-/// The text of a set of capabilities: ASCII bytes.
+/// The text of a set of caps: ASCII bytes.
 #[derive(Debug, PartialEq, Eq, Drop)]
 pub struct CapBytes {
     bytes: ArrayVec<u8, MAX_CAP_BYTES>,
@@ -43,8 +43,8 @@ impl CapBytes {
     }
 }
 
-/// The one text of a set: `-` if it is empty; else `p` if the pin is in it, and then for each part with a capability in
-/// it, in the order `A`, `L`, `X`, `F`, its capital and the letters of its capabilities in the order `s x c r w b a l`.
+/// The one text of a set: `-` if it is empty; else `p` if the pin is in it, and then for each part with a cap in
+/// it, in the order `A`, `L`, `X`, `F`, its capital and the letters of its caps in the order `s x c r w b a l`.
 pub fn write_caps(set: CapSet) -> CapBytes
     ensures { result ≡ text_of set }
 {
@@ -67,7 +67,7 @@ fn spell(set: CapSet) -> ArrayVec<u8, MAX_CAP_BYTES>
     out
 }
 
-// Writes a part's capital and letters, if the set has a capability of it.
+// Writes a part's capital and letters, if the set has a cap of it.
 #[tactic(auto, using(crate::proofs::Spelling::spelling), unfolding(crate::specs::Text::group_of))]
 fn write_part(out: &mut ArrayVec<u8, MAX_CAP_BYTES>, set: CapSet, part: Part)
     requires { array_vec_len out.old + 9 ≤ MAX_CAP_BYTES }

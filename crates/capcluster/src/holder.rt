@@ -59,7 +59,7 @@ impl Holder {
         self.client
     }
 
-    /// The text of the capabilities that it may still hold.
+    /// The text of the caps that it may still hold.
     pub fn issued(&self) -> &[u8]
         ensures { result.now ≡ self.now.issued }
     {

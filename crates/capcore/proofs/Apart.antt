@@ -6,9 +6,9 @@ use Rattle.locktable.specs.{Conflicts.{conflict, barred_by, rows_apart}, Rows.{r
 use Rattle.capsteps.specs.Caprules.Headline.{IsInPlace, AreInPlace, NoneConflict}
 use Rattle.capcore.proofs.Common.{Cap, ClientId, EntryRow, has, Holder, Ino, is_row_of, IsSound, IsSubset, lock_at, LockState, Part, present_state, same, Scene, State}
 
--- ---- capabilities that conflict are of one part
+-- ---- caps that conflict are of one part
 
--- a part that two capabilities cover
+-- a part that two caps cover
 abbrev OnePart : Cap → Cap → Type 0
 OnePart c d = (part : Part) × IsTrue (covers c part) × IsTrue (covers d part)
 

@@ -15,7 +15,7 @@ pub record IsAsking (k : Holder) (ask : Ask) (e : Event) : Type 0 where
 pub asking : (e : Event) (k : Holder) (ask : Ask) → asks_for e ≡ Some (k, ask) → IsAsking k ask e
 asking e k ask is = record { effect_is = λ s. grind arith; judged_is = λ s. grind arith }
 
--- what stops the event is what stops the request
+-- what rejects the event is what rejects the request
 pub asking-rejection : (e : Event) (k : Holder) (ask : Ask) (s : Scene) → asks_for e ≡ Some (k, ask)
     → judged s e ≡ rejection_of s (asking_tests s k.client k.ino.0 ask) (ask_needs s k.client k.ino.0 ask) (waiting_tests s k.ino.0 ask)
 asking-rejection e k ask s is = let a = asking e k ask is in a.judged_is s
@@ -24,9 +24,9 @@ asking-rejection e k ask s is = let a = asking e k ask is in a.judged_is s
 pub asking-direct : (old : State) (e : Event) (k : Holder) (ask : Ask) → asks_for e ≡ Some (k, ask) → judged old.scene e ≡ None → direct old e ≡ asks old k.client k.ino ask
 asking-direct old e k ask is free = let a = asking e k ask is in ap (effect_unless old e) free ∙ a.effect_is old
 
--- ---- what a request that nothing stops has passed
+-- ---- what a request that nothing rejects has passed
 
--- where nothing stops a request, no test fails and nothing is denied
+-- where nothing rejects a request, no test fails and nothing is denied
 all_passed : (s : Scene) (o : Option Refusal) (d : Option Need) (l : Option Refusal) → rejection_by s o d l ≡ None → (o ≡ None) × (d ≡ None) × (l ≡ None)
 all_passed s o d l free = grind arith
 
@@ -54,7 +54,7 @@ module _ (s : Scene) (k : Holder) (ask : Ask) (free : rejection_of s (asking_tes
   pub asking-room : length s.locks.queue < 1024
   asking-room = let fits = (passed-if (nat_le 1024 (length s.locks.queue)) Refusal.Limit None after_passed.1).0 in omega (arith, leb-false 1024 (length s.locks.queue) fits)
 
-  -- and nothing would stop it, were it served now
+  -- and nothing would reject it, were it served now
   pub asking-again : judged_again s (next_request s.locks k.client k.ino ask) ≡ None
   asking-again = grind (arith, all_three, after_passed)
 

@@ -1,7 +1,7 @@
 -- What an event that may move locks leaves by itself, and what its step comes to in the end.
 use Rattle.std.proofs.{Common.{◌≡◌, ◌≤◌, ℕ, ◌+◌, ◌++◌, ◌==◌, Bool, Some, List, [], length, Result, OnErr, sym, ap, subst, ◌∙◌, arith, All}, lemmas.List.Sums.{length-filter, count_by-le-length}}
 use Rattle.capsteps.{proofs.EntryRequests.{Keeps}, proofs.Knowing.{held_at}, specs.Begun.{MayEndAt, among}}
-use Rattle.capcore.{proofs.Closing.{told-own_numbers, told-all, told-but_own, ends-table, affects-settles, affects-ends, affects-one}, proofs.Common.{Affected, Affects, AffectsOne, all_ended, AreBelow, AreChanges, AreGiven, AreKnown, ArePermittedIn, Direct, direct, earlier, Ended, Endings, EndsWith, Entry, entry_answer, entry_at, EntryRequest, Event, finished_at, HasRoom, HaveOwnNumbers, HaveRoomFor, Holder, IsAnswered, IsJudged, IsLockMap, IsSubset, IsTable, IsTree, known_in, KnownSets, Knows, MayEnd, MaySettle, NumbersLeft, reply_of, Said, Scene, SettlesAt, SettlesWith, shown, sized_in, sizes_owed, State, state_at_end, still-knows, StillKnown, view_of}, proofs.Concluded.{IsConcluded, concluded}, proofs.EndKnown.{ends-known}, proofs.EntryWhole.{show_reply-alike}, proofs.Unaffected.{alike-kept}, specs.UnderWay.{MayBegin, answer_of, GivesOne, HasBegun, AreKept, state_of, dropped_of, earlier_of, IsNumbered, HasPlaces}, specs.declared.parts.Answer.{Answer}, specs.declared.parts.Answer.TheVariants.{Done, Dropped, Touched, Awaited}, specs.declared.parts.Effect.{Effect}, specs.declared.parts.Parts.{Parts}}
+use Rattle.capcore.{proofs.Closing.{told-own_numbers, told-all, told-but_own, ends-table, affects-settles, affects-ends, affects-one}, proofs.Common.{Affected, Affects, AffectsOne, all_ended, AreBelow, AreChanges, AreGiven, AreKnown, ArePermittedIn, Direct, direct, earlier, Ended, Endings, EndsWith, Entry, entry_answer, entry_at, EntryRequest, Event, finished_at, HasRoom, HaveOwnNumbers, HaveRoomFor, Holder, IsAnswered, IsJudged, IsLockMap, IsSubset, IsTable, known_in, KnownSets, Knows, MayEnd, MaySettle, NumbersLeft, reply_of, Said, Scene, SettlesAt, SettlesWith, shown, sized_in, sizes_owed, State, state_at_end, still-knows, StillKnown, view_of}, proofs.Concluded.{IsConcluded, concluded}, proofs.EndKnown.{ends-known}, proofs.EntryWhole.{show_reply-alike}, proofs.Unaffected.{alike-kept}, specs.UnderWay.{MayBegin, answer_of, GivesOne, HasBegun, AreKept, state_of, dropped_of, earlier_of, IsNumbered, HasPlaces}, specs.declared.parts.Answer.{Answer}, specs.declared.parts.Answer.TheVariants.{Done, Dropped, Touched, Awaited}, specs.declared.parts.Effect.{Effect}, specs.declared.parts.Parts.{Parts}}
 
 -- each entry has a number left then
 pub begun-entries : (p q : Parts) (e : Event) (from : ℕ → Bool) → MayBegin p e → state_of q ≡ (direct (state_of p) e).state → Affects from (state_of p) (state_of q) → GivesOne (state_of p) e
@@ -35,10 +35,10 @@ module _ (p q : Parts) (endings : Endings) (e : Event) (k : Holder) (may : MayBe
 
   pub one-begun : (affected : Affected) (answer : Answer) → among affected ≡ from → answer_of answer ≡ d.answer → dropped_of answer ≡ []
       → IsNumbered answer p.scene.locks.last q.scene.locks.last → AffectsOne k.ino.0 old q.scene → IsTable q.scene.table → StillKnown p.scene.table q.scene.table p.known.sets q.known.sets → ArePermittedIn q.known.sets q.scene
-      → ((j : Holder) (f : Entry) → entry_at q.scene.table j ≡ Some f → IsSubset f.held (held_at p.scene.table j)) → IsTree q.scene.tree → IsLockMap q.scene.locks
+      → ((j : Holder) (f : Entry) → entry_at q.scene.table j ≡ Some f → IsSubset f.held (held_at p.scene.table j)) → IsLockMap q.scene.locks
       → HaveRoomFor (length q.scene.locks.queue) endings → IsJudged endings.judged q.scene → MayEndAt affected q.known.sets q.scene endings.changes → HasRoom q.messages q.scene.locks → HasPlaces answer (length q.scene.locks.queue)
       → AreChanges endings.changes.items (view_of old) (view_of (state_of q)) → HasBegun p e (record { affected = affected; answer = answer }) q endings
-  one-begun affected answer same answers none number one table still permitted less tree order room judged at left_room places noted =
+  one-begun affected answer same answers none number one table still permitted less order room judged at left_room places noted =
       let affects : Affects from old (state_of q) =
       subst (λ (ms : List Ended). Affects from old (record { scene = q.scene; messages = ms })) (sym left) (affects-one k.ino.0 old q.scene may.whole.0 one) in
       record {
@@ -52,7 +52,7 @@ module _ (p q : Parts) (endings : Endings) (e : Event) (k : Holder) (may : MayBe
         still = still;
         knows = still-knows p.known.sets q.known.sets p.scene q.scene.table may.whole.2.0 still table less;
         ready = record {
-          settles = subst (λ (at : ℕ → Bool). MaySettle at q.scene) (sym same) (affects-settles from old (state_of q) may.whole.0 affects tree order);
+          settles = subst (λ (at : ℕ → Bool). MaySettle at q.scene) (sym same) (affects-settles from old (state_of q) may.whole.0 affects order);
           judged = judged;
           entries = begun-entries p q e from may one-state affects one-gives permitted;
           room = room;

@@ -1,18 +1,20 @@
 -- How many requests a step serves, and how often its locks move between two servings.
-use Rattle.std.proofs.Common.{◌≡◌, ◌++◌, ℕ, List, [], ◌∷◌, Option, Some, None, map, refl, sym, subst, arith}
+use Rattle.std.proofs.Common.{◌≡◌, ◌++◌, ℕ, List, [], ◌∷◌, Option, Some, None, map, refl, subst, arith}
 use Rattle.capsteps.{proofs.Lockmachine.Ending.{few}, proofs.Moved.{served-count}, specs.Lockmachine.Runs.{Runs}}
 use Rattle.capcore.proofs.{Asked.{order-of_ask}, Common.{Alter, AreBounded, ByMoves, child, direct, effect, effect_unless, Ended, ended_in, Event, found, Get, holder, IsLockMap, judged, Made, MakesAll, move_of, Rejection, Rename, Reply, Rmdir, Scene, Served, State, Step, Unlink, without_requests_of-kept}}
 
 -- ---- the queue stays in order, whatever the event
 
-found-order : (s : State) (o : Option ℕ) → IsLockMap s.scene.locks → IsLockMap (found s o).state.scene.locks
-found-order s o order = grind arith
+-- what was found changes nothing
+pub found-keeps : (Fact : State → Type 0) (s : State) (o : Option ℕ) → Fact s → Fact (found s o).state
+found-keeps Fact s None fact = fact
+found-keeps Fact s (Some ino) fact = fact
 
 -- who comes to wait, comes last
 effect-order : (old : State) (e : Event) → judged old.scene e ≡ None → IsLockMap old.scene.locks → IsLockMap (effect old e).state.scene.locks
 effect-order old (Event.CloseSession client) free order = without_requests_of-kept old.scene.locks client order
 effect-order old (Event.Evict client) free order = without_requests_of-kept old.scene.locks client order
-effect-order old (Event.Lookup client dir name) free order = found-order old (child old.scene.tree.nodes dir.0 name) order
+effect-order old (Event.Lookup client dir name) free order = found-keeps (λ (s : State). IsLockMap s.scene.locks) old (child old.scene.tree.nodes dir.0 name) order
 effect-order old (Event.Create client dir name mode) free order = record { rising = order.rising; given = order.given; room = order.room }
 effect-order old (Event.Mkdir client dir name mode) free order = record { rising = order.rising; given = order.given; room = order.room }
 effect-order old (Event.Get client ino part) free order = order-of_ask old.scene (holder client ino) (Get part) order free
@@ -22,12 +24,16 @@ effect-order old (Event.Rmdir client ino) free order = order-of_ask old.scene (h
 effect-order old (Event.Rename client ino dir name) free order = order-of_ask old.scene (holder client ino) (Rename dir name) order free
 effect-order old e free order = order
 
-pub direct-order : (old : State) (e : Event) → IsLockMap old.scene.locks → IsLockMap (direct old e).state.scene.locks
-direct-order old e order = by_stop (judged old.scene e) refl
+-- what an event keeps that nothing rejects, each keeps: one that is rejected changes nothing
+pub direct-keeps : (Fact : State → Type 0) (old : State) (e : Event) → Fact old → (judged old.scene e ≡ None → Fact (effect old e).state) → Fact (direct old e).state
+direct-keeps Fact old e was free = by_stop (judged old.scene e) refl
   where
-    by_stop : (o : Option Rejection) → judged old.scene e ≡ o → IsLockMap (direct old e).state.scene.locks
-    by_stop (Some rejection) is = subst (λ (o : Option Rejection). IsLockMap (effect_unless old e o).state.scene.locks) (sym is) order
-    by_stop None free = subst (λ (o : Option Rejection). IsLockMap (effect_unless old e o).state.scene.locks) (sym free) (effect-order old e free order)
+    by_stop : (o : Option Rejection) → judged old.scene e ≡ o → Fact (effect_unless old e o).state
+    by_stop (Some rejection) is = was
+    by_stop None is = free is
+
+pub direct-order : (old : State) (e : Event) → IsLockMap old.scene.locks → IsLockMap (direct old e).state.scene.locks
+direct-order old e order = direct-keeps (λ (s : State). IsLockMap s.scene.locks) old e order (λ free. effect-order old e free order)
 
 -- ---- between two servings
 

@@ -1,7 +1,7 @@
 -- What the calls of the step of an event about one inode come to.
 use Rattle.std.proofs.{Common.{◌≡◌, ◌≤◌, ◌<◌, ◌^◌, ◌-◌, ℕ, ◌+◌, ◌==◌, Bool, true, false, is_some, List, Contains, refl, sym, ap, subst, ◌∙◌, arith, IsTrue, All}, lemmas.Bool.{eqb-true}, lemmas.List.Elements.{All-weaker, All-contains}}
 use Rattle.capsteps.{proofs.Forgotten.{all_rows}, proofs.Lockmachine.SameOutside.{outside-one, rest-outside}, proofs.ManyInodes.{table-where}, specs.Affected.{finished_entry}, specs.Caprules.Finish.{is_sized, owed}}
-use Rattle.capcore.proofs.{Common.{Affects, AffectsOne, ArePermittedIn, but_for, earlier, Ended, EndsWith, entries_on, EntryRow, filter-contains, first_for, has_session, HaveOwnNumbers, Ino, is_of_inode, IsAffectedEntry, IsLockMap, IsSound, IsSoundEntry, IsTable, IsTree, known_in, KnownSets, lock_at, MakesAll, MayEnd, MaySettle, moved-all, row_elsewhere, Scene, SessionTable, SettlesWith, sizes_owed, State, Ticket, with_scene}, EndedIn.{earlier-all, earlier-but_own, own-numbers}}
+use Rattle.capcore.proofs.{Common.{Affects, AffectsOne, ArePermittedIn, but_for, earlier, Ended, EndsWith, entries_on, EntryRow, filter-contains, first_for, has_session, HaveOwnNumbers, Ino, is_of_inode, IsAffectedEntry, IsLockMap, IsSound, IsSoundEntry, IsTable, known_in, KnownSets, lock_at, MakesAll, MayEnd, MaySettle, moved-all, row_elsewhere, Scene, SessionTable, SettlesWith, sizes_owed, State, Ticket, with_scene}, EndedIn.{earlier-all, earlier-but_own, own-numbers}}
 
 -- ---- the numbers of those that a settling ends
 
@@ -55,8 +55,8 @@ module _ (from : ℕ → Bool) (old affected : State) (sound : IsSound old) (aff
       (λ row was off entry. ap is_some (affects.same.sessions row was off) ∙ entry.of_session)
 
   -- so the locks may settle behind it and the step may end
-  pub affects-settles : IsTree affected.scene.tree → IsLockMap affected.scene.locks → MaySettle from affected.scene
-  affects-settles tree order = record { quiet = rest-outside from old.scene affected.scene sound.at_rest affects.same; tree = tree; order = order }
+  pub affects-settles : IsLockMap affected.scene.locks → MaySettle from affected.scene
+  affects-settles order = record { quiet = rest-outside from old.scene affected.scene sound.at_rest affects.same; order = order }
 
   pub affects-ends : (sets : KnownSets) (count : ℕ) → count < 2 ^ 32 → All (λ row. row.entry.seq ≤ count) rows → ArePermittedIn sets affected.scene → MayEnd sets affected.scene
   affects-ends sets count less given permitted = record {

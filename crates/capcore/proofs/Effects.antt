@@ -5,7 +5,7 @@ use Rattle.capbits.specs.declared.mode.Mode.{Mode}
 use Rattle.capsteps.{proofs.Judging.{direct-rejection}, specs.Caprules.Direct.{made_event}}
 use Rattle.capcore.proofs.Common.{asked_tests, ByTest, ClientId, direct, Directory, effect_unless, Event, File, first_failing, Ino, IsDirect, judged, Kind, Need, need, new_inode_tests, new_snapshot_tests, old_snapshot_tests, owned_by, passed, Refusal, Rejection, rejection, rejection_of, rejection_reply, Reply, Says, Snapshot, State, Test, with_birth, Write}
 
--- the tests behind policy, where what stands before them stops nothing
+-- the tests behind policy, where what stands before them rejects nothing
 module _ (old : State) (e : Event) (tests more : List Test) (needed : List Need) (splits : judged old.scene e ≡ rejection_of old.scene tests needed more) (free : rejection_of old.scene tests needed [] ≡ None) where
   rest : judged old.scene e ≡ option_map ByTest (first_failing more)
   rest = splits ∙ passed old.scene tests needed more free
@@ -37,7 +37,7 @@ pub looked-up : (old : State) (client : ClientId) (dir : Ino) (name : List ℕ) 
     → IsDirect old (Event.Lookup client dir name) answer old
 looked-up old client dir name answer says = record { answer_is = says; state_is = lookup-still old client dir name (judged old.scene (Event.Lookup client dir name)) }
 
--- what stops a request at the inode that it names stops the event
+-- what rejects a request at the inode that it names rejects the event
 pub birth-rejection : (old : State) (kind : Kind) (client : ClientId) (dir : Ino) (name : List ℕ) (mode : Mode) (r : Rejection) → rejection_of old.scene (asked_tests old.scene client dir.0) (need client dir.0 Write ∷ []) [] ≡ Some r → IsDirect old (made_event kind client dir name mode) (rejection_reply r) old
 birth-rejection old kind client dir name mode r is = grind (arith, direct-rejection, rejection)
 

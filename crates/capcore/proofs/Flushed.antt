@@ -1,10 +1,10 @@
--- A flush that nothing stops, by itself: it changes its inode alone, and of the entries only the order of recall.
+-- A flush that nothing rejects, by itself: it changes its inode alone, and of the entries only the order of recall.
 use Rattle.std.proofs.{Common.{◌≡◌, ◌≢◌, ℕ, [], ◌∷◌, None, refl, sym, ap, subst, ◌∙◌, arith}, lemmas.List.Elements.{All-filter}}
 use Rattle.std.specs.FinMap as map
 use Rattle.inotree.proofs.OneInode.{known-changed, place-other}
 use Rattle.captable.{proofs.Moves.{IsTable-touched}, specs.Calls.{touched}}
-use Rattle.capsteps.{proofs.EntryRequests.{before-passed, after-passed}, proofs.Lockmachine.SameBut.{same-trans, same-tree, same-entries}, proofs.OneChange.{by_change, alike_change, sound_change}, specs.Capacts.Served.{change_call_tests}, specs.Capnotes.Changing.{tree_changed}, specs.Lockmachine.Elsewhere.{IsSameBut}, specs.Lockmachine.declared.request.Change.{Change}}
-use Rattle.capcore.proofs.Common.{AffectsOne, all-left, AreBelow, AreGiven, caps_in, change_tests, direct, effect_unless, Event, exclusive, first_failing, Holder, is_of_inode, IsAffectedEntry, IsQuiet, IsSound, IsTable, IsTree, judged, Nodes, part_of_change, passed-both, place, release_tests, Reply, says, Scene, sound-pinned, State, with_flush}
+use Rattle.capsteps.{proofs.EntryRequests.{before-passed, after-passed}, proofs.Lockmachine.SameBut.{same-trans, same-tree, same-entries}, proofs.OneChange.{by_change, alike_change}, specs.Capacts.Served.{change_call_tests}, specs.Capnotes.Changing.{tree_changed}, specs.Lockmachine.Elsewhere.{IsSameBut}, specs.Lockmachine.declared.request.Change.{Change}}
+use Rattle.capcore.proofs.Common.{AffectsOne, all-left, AreBelow, AreGiven, caps_in, change_tests, direct, effect_unless, Event, exclusive, first_failing, Holder, is_of_inode, IsAffectedEntry, IsQuiet, IsSound, IsTable, judged, Nodes, part_of_change, passed-both, place, release_tests, Reply, says, Scene, sound-pinned, State, with_flush}
 
 known_change : (tree : Nodes) (ino : ℕ) (change : Change) (other : ℕ) → map.contains_key (tree_changed tree ino change).nodes other ≡ map.contains_key tree.nodes other
 known_change tree ino change other =
@@ -42,7 +42,7 @@ flush-table old k change table = IsTable-touched old.scene.table k table
 pub below-of_flush : (count : ℕ) (old : State) (k : Holder) (change : Change) → AreGiven count old → AreBelow count (with_flush old k change)
 below-of_flush count old k change given = (given.entries, omega (arith, given.made), omega (arith, given.last))
 
--- ---- what nothing stops
+-- ---- what nothing rejects
 
 -- the change has passed its tests
 flush_passed : (s : Scene) (k : Holder) (change : Change) → judged s (Event.Flush k.client k.ino change) ≡ None → first_failing (change_tests s k.ino.0 change) ≡ None
@@ -53,10 +53,6 @@ flush_passed s k change free =
 -- and so has the call that makes it
 pub flush-calls : (s : Scene) (k : Holder) (change : Change) → judged s (Event.Flush k.client k.ino change) ≡ None → first_failing (change_call_tests s.tree k.ino.0 change) ≡ None
 flush-calls s k change free = grind (arith, passed-both, before-passed, flush_passed)
-
--- it leaves a tree
-pub flush-tree : (s : Scene) (k : Holder) (change : Change) → judged s (Event.Flush k.client k.ino change) ≡ None → IsTree s.tree → IsTree (tree_changed s.tree k.ino.0 change)
-flush-tree s k change free tree = sound_change s k.ino.0 change tree (flush_passed s k change free)
 
 -- the change is all that it comes to by itself
 pub flush-direct : (old : State) (k : Holder) (change : Change) → judged old.scene (Event.Flush k.client k.ino change) ≡ None

@@ -7,6 +7,7 @@ pub mod Determined
 pub mod Effects
 pub mod Fresh
 pub mod Growing
+pub mod Kept
 pub mod OwnServed
 pub mod Polled
 pub mod Promised

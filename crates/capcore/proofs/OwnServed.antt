@@ -5,7 +5,7 @@ use Rattle.capbits.specs.Sets.{and_parts}
 use Rattle.capsteps.{proofs.Lockmachine.Exact.{ends_not, begins_not, serves_not, settled}, proofs.Lockmachine.Moving.{IsMove, first_is}, proofs.Lockmachine.Queue.{least_served, moved-kept}, proofs.Lockmachine.Rest.{same_part_is}, specs.Caprules.Serving.{passed_as}, specs.Lockmachine.Moves.{may_end, may_begin, may_serve, is_first, is_servable, begun_locks, gathered_locks, IsAtRest}, specs.Lockmachine.Requests.{part_place, same_part, part_of_ask}}
 use Rattle.capcore.proofs.Common.{As_judged, Ask, awaited_as, Began, Begin, ClientId, coming_state, End, ended_in, first_for, first_move, found_by_number, Gather, Gathered, Ino, is_at, is_for, is_numbered, is_of_ticket, is_rejection, IsLockMap, IsQuiet, judged_again, lock_at, LockMap, LockPlace, LockState, Made, MakesAll, MayEndAs, next_request, no_moves, Outcome, outcome_reply, outcome_unless, Part, present_state, Rejection, Reply, Request, Scene, Serve, Served, Stable, Ticket, with_lock, with_lock-each, with_request, Without_memory}
 
--- ---- how a request ends that nothing stops
+-- ---- how a request ends that nothing rejects
 
 module _ (ticket : Ticket) where
   abbrev answered : Outcome → Reply

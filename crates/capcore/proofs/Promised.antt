@@ -3,7 +3,7 @@ use Rattle.std.{proofs.Common.{true≢false, ◌≡◌, Bool, true, false, ◌||
 use Rattle.capsteps.specs.Caprules.{Finish.{due}, Headline.{DeniedExactly, DeniesByName}}
 use Rattle.capcore.proofs.{Asked.{asking, asking-rejection, asking-direct, asking-again, order-of_ask}, Common.{Access, after, Ask, asks_for, before, Direct, direct, effect, effect_unless, Ended, ended_in, EntryRow, Event, found, found-contains, has, Holder, is_rejection, is_row_of, IsDirect, IsLockMap, IsSound, IsSoundEntry, IssuesExactly, IsTable, judged, Made, MakesAll, needs, Rejection, rejection-only, rejection_reply, Reply, reply_of, Rule, Scene, State, state_after, Step}, OwnServed.{own-not_stopped}, Servings.{denial-exact, denial-by_name}}
 
--- ---- an event that nothing stops
+-- ---- an event that nothing rejects
 
 -- one that waits for no lock
 effect-not_rejected : (old last : State) (ended : List Ended) (e : Event) → asks_for e ≡ None → is_rejection (reply_of last ended (effect old e).answer) ≡ false
@@ -24,7 +24,7 @@ asking-not_rejected old last e k ask moves s sound order is free made =
 reply-denied : (x : Rejection) (access : Access) (rules : List Rule) → rejection_reply x ≡ Reply.Denied access rules → x ≡ Rejection.ByPolicy access rules
 reply-denied x access rules is = grind arith
 
--- an answer that is what stops the event, or no rejection
+-- an answer that is what rejects the event, or no rejection
 denied-stops : (answer : Reply) (stopped : Option Rejection) → ((x : Rejection) → stopped ≡ Some x → answer ≡ rejection_reply x) → (stopped ≡ None → is_rejection answer ≡ false)
     → (access : Access) (rules : List Rule) → answer ≡ Reply.Denied access rules → stopped ≡ Some (Rejection.ByPolicy access rules)
 denied-stops answer (Some x) stops free access rules is = ap Some (reply-denied x access rules (sym (stops x refl) ∙ is))

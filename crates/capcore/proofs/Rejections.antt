@@ -1,15 +1,15 @@
--- An event that is stopped is answered so; and which inode an event affects that waits for a lock.
+-- An event that is rejected is answered so; and which inode an event affects that waits for a lock.
 use Rattle.std.{proofs.Common.{◌≡◌, ℕ, List, Option, Some, None, [], ◌∷◌, ◌++◌, refl, sym, ap, ◌∙◌, arith}, specs.Option.{option_map}}
 use Rattle.capcore.proofs.{Common.{Access, asked_tests, ByTest, ClientId, Event, failing-front, first_denied, first_failing, inode_tests, IsAnswered, IsSound, IsTable, judged, Need, need, no_test, passed-both, passed-front, Refusal, Rejection, rejection-step, rejection_by, rejection_of, rejection_reply, Said, Scene, session_tests, State, Test}, Promised.{has-due}, Sounding.{later-given}}
 
--- ---- what is stopped
+-- ---- what is rejected
 
 -- it is a step that changes nothing
 pub rejection-answered : (old : State) (e : Event) (rejection : Rejection) (said : Said) → IsSound old → IsTable old.scene.table → judged old.scene e ≡ Some rejection
     → said.reply ≡ rejection_reply rejection → said.kept ≡ said.reply → said.ended ≡ [] → IsAnswered old e said old
 rejection-answered old e rejection said sound table is answers kept none = grind (arith, rejection-step, has-due, later-given)
 
--- what stops an event by its parts, read before it was known which state they make up
+-- what rejects an event by its parts, read before it was known which state they make up
 pub judged-at : (old now : State) (e : Event) (o : Option Rejection) → old ≡ now → o ≡ judged old.scene e → judged now.scene e ≡ o
 judged-at old now e o view is = ap (λ (s : State). judged s.scene e) (sym view) ∙ sym is
 
@@ -34,7 +34,7 @@ free_by s None whole (Some t) all more None same rest is = absurd (cc)
 free_by s None whole None all more None same rest is = ap (λ o. rejection_by s o None all) same ∙ ap (option_map ByTest) (rest refl)
 
 module _ (s : Scene) (front tests : List Test) (needed : List Need) (more last : List Test) (free : first_failing front ≡ None) where
-  -- where those before pass, what stops a request without them stops it with them
+  -- where those before pass, what rejects a request without them rejects it with them
   pub rejection-within : (r : Rejection) → rejection_of s tests needed more ≡ Some r → rejection_of s (front ++ tests) needed (more ++ last) ≡ Some r
   rejection-within r is = stopped_by s (first_failing tests) (first_failing (front ++ tests)) (first_failing more) (first_failing (more ++ last)) (first_denied s needed) r
       (passed-front front tests free) (failing-front more last) is
@@ -46,7 +46,7 @@ module _ (s : Scene) (front tests : List Test) (needed : List Need) (more last :
 
 -- ---- of an inode
 
--- the tests of an inode passed where nothing stops a request at it
+-- the tests of an inode passed where nothing rejects a request at it
 pub inode-passed : (s : Scene) (client : ClientId) (ino : ℕ) (access : Access) → rejection_of s (asked_tests s client ino) (need client ino access ∷ []) [] ≡ None → first_failing (inode_tests s.tree ino) ≡ None
 inode-passed s client ino access free =
     (passed-both (session_tests s.sessions client.0) (inode_tests s.tree ino) (no_test s (asked_tests s client ino) (need client ino access ∷ []) [] free)).1

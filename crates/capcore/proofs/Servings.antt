@@ -6,7 +6,7 @@ use Rattle.capcore.proofs.Common.{Access, As_judged, ask_after, ask_before, ask_
 -- ---- what is denied
 
 module _ (s : Scene) (tests : List Test) (needed : List Need) (more : List Test) where
-  -- the denial with which an event or a request is stopped that has to pass these
+  -- the denial with which an event or a request is rejected that has to pass these
   abbrev Stops : Access → List Rule → Type 0
   Stops access rules = rejection_of s tests needed more ≡ Some (Rejection.ByPolicy access rules)
 

@@ -1,17 +1,8 @@
 -- What the step of a client's session leaves by itself.
-use Rattle.std.{proofs.Common.{◌≡◌, ◌≤◌, ◌-◌, ℕ, ◌+◌, Bool, Option, Some, is_some, option_to_list, List, [], length, refl, sym, ap, subst, ◌∙◌, arith}, proofs.lemmas.List.Sums.{length-filter, count_by-le-length}, specs.Option.{option_map}}
+use Rattle.std.{proofs.Common.{◌≡◌, ◌≤◌, ◌-◌, ℕ, ◌+◌, Bool, Option, Some, is_some, option_to_list, List, length, refl, sym, ap, subst, ◌∙◌, arith, vec_capacity}, proofs.lemmas.List.Sums.{length-filter, count_by-le-length}}
 use Rattle.std.specs.FinSet as set
-use Rattle.capsteps.{proofs.Judging.{by_tests}, specs.Capnotes.Noted.{HavePlaces}, specs.SessionChange.{ReachesClient, session_change_tests}, specs.declared.settle.Affected.TheVariants.{Inodes}}
-use Rattle.capcore.{proofs.Begun.{begun-entries}, proofs.Closing.{affects-settles}, proofs.Common.{Affects, alike-less, AreChanges, ArePermittedIn, ByTest, ClientId, Direct, direct, dropped_by, DueEndings, Ended, Endings, Entry, entry_at, Event, first_failing, HasRoom, HaveRoomFor, HoldAlike, Holder, InoSet, is_end, IsJudged, IsLockMap, IsTable, IsTree, judged, known_of, LockMap, locks_left, messages_left, rejection_of, Scene, session_changed, session_event, SessionChange, State, still-knows, still-there, StillKnown, view_of, ViewChange, without_requests_of-kept}, proofs.Granted.{left-was}, proofs.SessionChanged.{session_direct, direct-session_changed, session_changed-affects, session_changed-table, session_changed-below, session_changed-made, session_changed-last}, specs.UnderWay.{MayBegin, GivesOne, HasBegun, state_of}, specs.declared.parts.Answer.TheVariants.{Dropped}, specs.declared.parts.Parts.{Parts}}
-
--- ---- what is tested
-
-before-change : (s : Scene) (client : ClientId) (change : SessionChange) → judged s (session_event client change) ≡ rejection_of s (session_change_tests s.sessions client change) [] []
-before-change s client change = grind arith
-
--- the first test that fails, stops it, and nothing else
-pub change-rejection : (s : Scene) (client : ClientId) (change : SessionChange) → judged s (session_event client change) ≡ option_map ByTest (first_failing (session_change_tests s.sessions client change))
-change-rejection s client change = before-change s client change ∙ sym (by_tests s (first_failing (session_change_tests s.sessions client change)))
+use Rattle.capsteps.{specs.Capnotes.Noted.{HavePlaces}, specs.SessionChange.{ReachesClient}, specs.declared.settle.Affected.TheVariants.{Inodes}}
+use Rattle.capcore.{proofs.Begun.{begun-entries}, proofs.Closing.{affects-settles}, proofs.Common.{Affects, alike-less, AreChanges, ArePermittedIn, ClientId, Direct, direct, dropped_by, DueEndings, Ended, Endings, Entry, entry_at, Event, HasRoom, HaveRoomFor, HoldAlike, Holder, InoSet, is_end, IsJudged, IsLockMap, IsTable, judged, known_of, LockMap, locks_left, messages_left, Scene, session_changed, session_event, SessionChange, State, still-knows, still-there, StillKnown, view_of, ViewChange, without_requests_of-kept}, proofs.Granted.{left-was}, proofs.SessionChanged.{session_direct, direct-session_changed, session_changed-affects, session_changed-table, session_changed-below, session_changed-made, session_changed-last}, specs.UnderWay.{MayBegin, GivesOne, HasBegun, state_of}, specs.declared.parts.Answer.TheVariants.{Dropped}, specs.declared.parts.Parts.{Parts}}
 
 -- ---- no more are left than there were
 
@@ -30,7 +21,7 @@ noted-few change = grind arith
 left-order : (b : Bool) (locks : LockMap) (client : ClientId) → IsLockMap locks → IsLockMap (locks_left b locks client)
 left-order b locks client order = grind (arith, without_requests_of-kept)
 
--- ---- an event that nothing stops
+-- ---- an event that nothing rejects
 
 module _ (p q : Parts) (endings : Endings) (client : ClientId) (change : SessionChange) (may : MayBegin p (session_event client change)) (is : q.scene ≡ (session_changed (state_of p) client change).scene)
     (left : q.messages.items ≡ messages_left (is_end change) p.messages.items client) (inos : InoSet) (reaches : ReachesClient client p.scene.table p.scene.locks inos)
@@ -70,10 +61,9 @@ module _ (p q : Parts) (endings : Endings) (client : ClientId) (change : Session
   order = subst (λ (s : Scene). IsLockMap s.locks) (sym is) (left-order (is_end change) p.scene.locks client may.order)
 
   pub change-begun : (dropped : DueEndings) → dropped.items ≡ dropped_by (is_end change) p.scene.locks client → HaveRoomFor (length q.scene.locks.queue) endings
-      → IsJudged endings.judged q.scene → HavePlaces endings.changes q.scene.locks inos → HasRoom q.messages q.scene.locks → length dropped.items + length q.scene.locks.queue ≤ dropped.room
+      → IsJudged endings.judged q.scene → HavePlaces endings.changes q.scene.locks inos → HasRoom q.messages q.scene.locks → length dropped.items + length q.scene.locks.queue ≤ vec_capacity dropped
       → AreChanges endings.changes.items (view_of old) (view_of (state_of q)) → HasBegun p e (record { affected = Inodes inos; answer = Dropped dropped }) q endings
   change-begun dropped dropped_is room judged at left_room places noted =
-      let tree = subst (λ (s : Scene). IsTree s.tree) (sym is) may.tree in
       let by_rule : state_of q ≡ (direct old e).state = state_is ∙ sym (ap (λ (d : Direct). d.state) by_itself) in
       record {
         is = by_rule;
@@ -86,7 +76,7 @@ module _ (p q : Parts) (endings : Endings) (client : ClientId) (change : Session
         still = still;
         knows = still-knows p.known.sets q.known.sets p.scene q.scene.table may.whole.2.0 still table (alike-less p.scene.table q.scene.table alike);
         ready = record {
-          settles = affects-settles from old (state_of q) may.whole.0 affects tree order;
+          settles = affects-settles from old (state_of q) may.whole.0 affects order;
           judged = judged;
           entries = begun-entries p q e from may by_rule affects gives permitted;
           room = room;

@@ -136,7 +136,7 @@ module _ (old : State) (k : Holder) (cap : Cap) (held : holds old.scene k cap �
   acked-own j first left gone = true_from_ne_false (same k j) (λ off.
       no_loss first (same-keeps t first.table k (ap (λ (u : Table). entry_at u k) left ∙ entry_at-acked_other t j k (revoked_of old.scene j) (apart-of k j off))) gone)
 
-  -- with the pin all that was held was given back
+  -- with the pin all that was held was released
   given-own : (j : Holder) (caps : Caps) (first : Scene) → first.table ≡ released t j caps → k ≡ j → holds first k cap ≡ false → (has caps P || has caps cap) ≡ true
   given-own j caps first left is gone = grind (arith, holds-entry, entry_at-released, gone_is, holds-found, has-minus)
 

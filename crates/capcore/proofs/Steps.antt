@@ -1,7 +1,7 @@
 -- A session, a lookup, a new inode or a snapshot by itself is a whole step: it leaves alone all that entries and requests depend on.
 use Rattle.std.proofs.Common.{◌≡◌, ℕ, ◌+◌, Bool, true, false, List, [], ◌++◌, Option, None, refl, sym, ap, subst, ◌∙◌, append-nil, arith}
 use Rattle.capsteps.{proofs.Finishing.{none-sized}, specs.Affected.{affected_by, session_changed_by, is_listing}, specs.Caprules.Direct.{Shows}}
-use Rattle.capcore.proofs.{Common.{Answer, AreGiven, Awaits, child, Direct, direct, Directory, effect, effect_unless, Ended, Event, File, finished, first_failing, found, Gives, has_list, IsAnswered, IsDirect, IsSound, IsTable, IsTree, judged, kept-finished, kept-sound, LeavesEntries, new_session_tests, no_test, Rejection, Reply, reply_of, Said, Says, Settles, shown, sizes_owed, sound-settles, State, state_after, Step, with_parts, with_scene, with_snapshot, without_snapshot}, Promised.{issues-exactly}, Sounding.{later-given}, Unaffected.{nothing-leaves, session-leaves, unblocked-leaves, changed-leaves, birth-leaves}}
+use Rattle.capcore.proofs.{Bounded.{found-keeps}, Common.{Answer, AreGiven, Awaits, child, Direct, direct, Directory, effect, effect_unless, Ended, Event, File, finished, first_failing, Gives, has_list, IsAnswered, IsDirect, IsSound, IsTable, IsTree, judged, kept-finished, kept-sound, LeavesEntries, new_session_tests, no_test, Rejection, Reply, reply_of, Said, Says, Settles, shown, sizes_owed, sound-settles, State, state_after, Step, with_parts, with_scene, with_snapshot, without_snapshot}, Promised.{issues-exactly}, Sounding.{later-given}, Unaffected.{nothing-leaves, session-leaves, unblocked-leaves, changed-leaves, birth-leaves}}
 
 -- the event is about no entry, no request and no session that is there, and is answered with no list
 abbrev pub IsAlone : Event → Type 0
@@ -74,15 +74,12 @@ module _ (old : State) (sound : IsSound old) (tree : IsTree old.scene.tree) wher
   same-left : IsLeft old old
   same-left = record { leaves = nothing-leaves old sound; is = refl }
 
-  found-left : (o : Option ℕ) → IsLeft old (found old o).state
-  found-left o = grind arith
-
   effect-left : (e : Event) → IsAlone e → judged old.scene e ≡ None → IsLeft old (effect old e).state
   effect-left (Event.Session client caller grants) alone none =
       let passed : first_failing (new_session_tests old.scene.sessions client.0) ≡ None = no_test old.scene (new_session_tests old.scene.sessions client.0) [] [] none in
       record { leaves = session-leaves old sound client.0 caller grants passed; is = refl }
   effect-left (Event.Unblock client) alone none = record { leaves = unblocked-leaves old sound client.0; is = refl }
-  effect-left (Event.Lookup client dir name) alone none = found-left (child old.scene.tree.nodes dir.0 name)
+  effect-left (Event.Lookup client dir name) alone none = found-keeps (IsLeft old) old (child old.scene.tree.nodes dir.0 name) same-left
   effect-left (Event.Create client dir name mode) alone none = record { leaves = birth-leaves old sound File dir.0 name _ tree; is = refl }
   effect-left (Event.Mkdir client dir name mode) alone none = record { leaves = birth-leaves old sound Directory dir.0 name _ tree; is = refl }
   effect-left (Event.MakeSnapshot client ino name) alone none = record { leaves = changed-leaves old sound (with_snapshot name) ino.0 (λ n. refl) (λ n. refl); is = refl }

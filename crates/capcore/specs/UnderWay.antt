@@ -1,7 +1,6 @@
 -- A step that may move locks: before its event, and between the event and the end.
-use Rattle.std.specs.Prelude.{◌≡◌, ◌≤◌, ◌+◌, ℕ, List, [], All, length, None}
+use Rattle.std.specs.Prelude.{◌≡◌, ◌≤◌, ◌+◌, ℕ, List, [], All, length, None, vec_capacity}
 use Rattle.capbits.specs.declared.{ids.ClientId.{ClientId}, ids.Ino.{Ino}}
-use Rattle.inotree.specs.Tree.{IsTree}
 use Rattle.captable.specs.Table.{IsTable}
 use Rattle.capsteps.specs.{Affected.{Affects, Knows}, Begun.{ArePermittedIn, IsReady, among}, Capacts.Known.{KnownSets, known_in, AreKnown, StillKnown}, Capacts.declared.asks.Asked.{Asked}, Capacts.declared.asks.Asked.TheVariants.{Get, Alter, Unlink, Rmdir, Rename}, Capevents.declared.event.Event.{Event}, Capevents.declared.outcome.Ended.{Ended}, Capevents.declared.reply.Reply.{Reply}, Capnotes.DueEndings.{HasRoom, but_for}, Caprules.Direct.{direct}, Caprules.Judge.{judged}, Caprules.Noted.{view_of}, Caprules.Sound.{IsSound, AreGiven, NumbersLeft}, Caprules.State.{State}, Capview.Changes.{AreChanges}, EntryRequest.{entry_event, entry_answer}, Lockmachine.Locks.{IsLockMap}, Lockmachine.declared.scene.Scene.{Scene}, SessionChange.{session_event}, declared.endings.Endings.{Endings}}
 use Rattle.capsteps.specs.Caprules.Direct as rules
@@ -34,10 +33,9 @@ event_of (OfLock k asked) = asked_event k.client k.ino asked
 event_of (Flush k change) = Event.Flush k.client k.ino change.now
 event_of (OfSession client change) = session_event client change
 
--- nothing stops it
+-- nothing rejects it
 pub record MayBegin (p : Parts) (e : Event) : Type 0 where
   pub whole : IsWhole p
-  pub tree : IsTree p.scene.tree
   pub table : IsTable p.scene.table
   pub order : IsLockMap p.scene.locks
   pub numbers : NumbersLeft (state_of p)
@@ -66,7 +64,7 @@ IsNumbered answer was now = now ≡ was
 
 -- where requests were dropped, there is room for so many beside them
 abbrev pub HasPlaces : Answer → ℕ → Type 0
-HasPlaces (Dropped dropped) waiting = length dropped.items + waiting ≤ dropped.room
+HasPlaces (Dropped dropped) waiting = length dropped.items + waiting ≤ vec_capacity dropped
 HasPlaces answer waiting = Unit
 
 -- it gives at most one number

@@ -1,4 +1,4 @@
-//! What stops an event: its tests and policy, over the parts of the state that they look at.
+//! What rejects an event: its tests and policy, over the parts of the state that they look at.
 ghost use Rattle.std.specs.Prelude.{◌≡◌, ◌++◌, ◌∷◌, []};
 ghost use Rattle.capbits.specs.Refusal.{first_failing};
 ghost use Rattle.inotree.specs.Tests.{inode_tests, exists_test};
@@ -18,7 +18,7 @@ use captable::{Holder, Known};
 use inotree::Tree;
 use sessiontab::Sessions;
 
-// What stops an event.
+// What rejects an event.
 pub(crate) fn rejection(scene: &Scene, known: &Known, asking: &Asking) -> Option<Rejection>
     ensures { AreKnown known.now.sets scene.now → result ≡ judged scene.now (event_of asking.now) }
 {
@@ -71,7 +71,7 @@ fn connected_refusal(sessions: &Sessions, tree: &Tree, holder: Holder) -> Option
 
 // ---- one access
 
-// What stops a request that needs one access to an inode that it names, before any other test.
+// What rejects a request that needs one access to an inode that it names, before any other test.
 pub(crate) fn access_rejection(scene: &Scene, holder: Holder, access: Access) -> Option<Rejection>
     ensures { result ≡ rejection_of scene.now (asked_tests scene.now holder.client holder.ino.0) (need holder.client holder.ino.0 access ∷ []) [] }
 {
@@ -84,7 +84,7 @@ pub(crate) fn access_rejection(scene: &Scene, holder: Holder, access: Access) ->
 
 // ---- what is asked of an entry
 
-// What stops an opening.
+// What rejects an opening.
 fn open_rejection(scene: &Scene, holder: Holder, mode: OpenMode) -> Option<Rejection>
     ensures { result ≡ judged scene.now (event.Open holder.client holder.ino mode) }
 {
@@ -144,7 +144,7 @@ fn entry_refusal(
 
 // ---- a flush
 
-// What stops a flush: its client has to hold the cap by which it alone changes the part.
+// What rejects a flush: its client has to hold the cap by which it alone changes the part.
 fn flush_rejection(scene: &Scene, holder: Holder, change: &Change) -> Option<Rejection>
     ensures { result ≡ judged scene.now (event.Flush holder.client holder.ino change.now) }
 {

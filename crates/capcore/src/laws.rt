@@ -33,7 +33,7 @@ pub fn moves_leave_what_is_held()
     ensures { (first settled : Scene) (moves : List Made) → MakesAll first moves settled → settled.table ≡ first.table }
 {}
 
-/// So of an event that is stopped there is a step, which says what stopped it, ends no request and changes nothing; and
+/// So of an event that is rejected there is a step, which says what rejected it, ends no request and changes nothing; and
 /// there is no other.
 pub fn a_rejection_changes_nothing()
     ensures step { (old : State) (e : Event) (rejection : Rejection) → IsSound old → IsTable old.scene.table

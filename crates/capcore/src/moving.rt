@@ -1,7 +1,7 @@
 //! The pieces of a step that may move locks: its event by itself, the settling of locks with the end of the step, and what it says.
-ghost use Rattle.std.specs.Prelude.{◌≡◌, ◌+◌, ◌≤◌, ◌++◌, List, length, IfOk, OnErr};
+ghost use Rattle.std.specs.{List.{find}, Prelude.{◌≡◌, ◌+◌, ◌≤◌, ◌++◌, List, length, IfOk, OnErr, vec_capacity}};
 ghost use Rattle.captable.specs.{Known.{known_of}, declared.entry.Holder.{Holder}};
-ghost use Rattle.capsteps.specs.{Begun.{ArePermittedIn}, Capacts.Known.{AreKnown, HaveRoom}, Capevents.declared.outcome.Ended.{Ended as AnEnded}, Capnotes.DueEndings.{HaveOwnNumbers}, Caprules.Direct.{awaited_as, reply_of, shown}, Caprules.State.{State}, SessionChange.{session_changed, session_event}};
+ghost use Rattle.capsteps.specs.{Begun.{ArePermittedIn}, Capacts.Known.{AreKnown, HaveRoom}, Capevents.declared.outcome.Ended.{Ended as AnEnded}, Capnotes.DueEndings.{HaveOwnNumbers, but_for, is_of_ticket}, Caprules.Direct.{awaited_as, reply_of, shown}, Caprules.State.{State}, SessionChange.{session_changed, session_event}};
 ghost use Rattle.capsteps.specs.Capevents.declared.event.Event.TheVariants as event;
 ghost use Rattle.capcore.specs.UnderWay.{HasBegun, HasPlaces, IsWhole, MayBegin, answer_of, asked_event, dropped_of, earlier_of, event_of, state_of};
 
@@ -15,10 +15,11 @@ use capsteps::renewing::{renew_changed, renew_client};
 use capsteps::said::Said;
 use capsteps::serving::alter;
 use capsteps::settle::Affected;
-use capsteps::{Asked, Change, Ended, Policy, Reply, Scene, copy_of_ask, copy_of_reply};
+use capsteps::{Asked, Change, Ended, EndedList, Policy, Reply, Scene, copy_of_ask, copy_of_reply};
 use captable::{Holder, Known};
 use inotree::NonEmptyInoSet;
 use std::alloc::AllocError;
+use std::mem::swap;
 
 impl Parts {
     // ---- the event by itself. For want of memory nothing changes, and what the last step changed stays listed
@@ -67,7 +68,7 @@ impl Parts {
     {
         let waiting = self.scene.locks.waiting() + 1;
         endings.begin(waiting, waiting + 1)?;
-        let alloc = self.messages.alloc();
+        let alloc = *self.messages.allocator();
         let ask = copy_of_ask(alloc, asked)?;
         if let Err(refused) = self.messages.reserve(waiting) {
             drop(ask);
@@ -129,7 +130,11 @@ impl Parts {
         ensures whole { OnErr result (IsWhole self.new) }
         ensures changes { OnErr result (endings.new.changes.items ≡ endings.old.changes.items) }
     {
-        let (alloc, table, locks) = (self.messages.alloc(), &self.scene.table, &self.scene.locks);
+        let (alloc, table, locks) = (
+            *self.messages.allocator(),
+            &self.scene.table,
+            &self.scene.locks,
+        );
         let Room {
             inodes,
             mut dropped,
@@ -153,7 +158,7 @@ impl Parts {
     pub(crate) fn close(&mut self, answer: Answer, endings: &mut Endings) -> Said
         requires differ { HaveOwnNumbers endings.old.told.items }
         requires same { endings.old.kept.items ≡ endings.old.told.items }
-        requires room { length self.old.messages.items + length endings.old.told.items ≤ self.old.messages.room }
+        requires room { length self.old.messages.items + length endings.old.told.items ≤ vec_capacity self.old.messages }
         requires places { HasPlaces answer (length endings.old.told.items) }
         requires known { AreKnown self.old.known.sets self.old.scene }
         ensures reply { (ms : List AnEnded) → let last : State = record { scene = self.old.scene; messages = ms } in
@@ -164,49 +169,58 @@ impl Parts {
         ensures ended { result.ended ≡ dropped_of answer ++ earlier_of answer endings.old.told.items }
         ensures changes { endings.new.changes ≡ endings.old.changes }
         ensures messages { self.new.messages.items ≡ self.old.messages.items ++ earlier_of answer endings.old.told.items }
-        ensures room { self.old.messages.room ≤ self.new.messages.room }
+        ensures room { vec_capacity self.old.messages ≤ vec_capacity self.new.messages }
         ensures known { self.new.known ≡ self.old.known }
     {
-        let said = match answer {
-            Answer::Done => Said {
-                reply: Reply::Done,
-                kept: Reply::Done,
-                ended: endings.kept.take_list(),
-            },
+        let mut ended = Vec::new(endings.alloc());
+        let (reply, kept) = match answer {
+            Answer::Done => (Reply::Done, Reply::Done),
             Answer::Dropped(mut dropped) => {
-                dropped.append(&mut endings.kept);
-                Said {
-                    reply: Reply::Done,
-                    kept: Reply::Done,
-                    ended: dropped.take_list(),
-                }
+                let Ok(()) = dropped.append(&mut endings.kept) else {
+                    unreachable!()
+                };
+                ended = dropped;
+                (Reply::Done, Reply::Done)
             }
             Answer::Touched(holder, request) => {
                 let reply = show_reply(&mut self.scene.table, &self.known, holder, &request);
                 let kept = copy_of_reply(&reply);
-                let ended = endings.kept.take_list();
-                Said { reply, kept, ended }
+                (reply, kept)
             }
             Answer::Awaited(ticket) => {
-                let reply = awaited(ticket, endings.told.take(ticket));
-                let kept = awaited(ticket, endings.kept.take(ticket));
-                let ended = endings.kept.take_list();
-                Said { reply, kept, ended }
+                let reply = awaited(&mut endings.told, ticket);
+                let kept = awaited(&mut endings.kept, ticket);
+                (reply, kept)
             }
         };
-        self.messages.append(&mut endings.told);
-        said
+        // Where none is left there, its room stays.
+        if !endings.kept.is_empty() {
+            swap(&mut ended, &mut endings.kept);
+        }
+        // The history keeps the list for good, but not the room for all who waited.
+        ended.shrink_to_fit();
+        let Ok(()) = self.messages.append(&mut endings.told) else {
+            unreachable!()
+        };
+        Said {
+            reply,
+            kept,
+            ended: EndedList::from(ended),
+        }
     }
 }
 
-// What is answered to a request: how it ended, or that it waits.
-fn awaited(ticket: Ticket, ended: Option<Ended>) -> Reply
-    ensures { result ≡ awaited_as ticket ended }
+// What is answered to a request: how it ended, and then it is due no more; or that it waits.
+fn awaited(due: &mut Vec<Ended>, ticket: Ticket) -> Reply
+    requires differ { HaveOwnNumbers due.old.items }
+    ensures reply { result ≡ awaited_as ticket (find (is_of_ticket ticket) due.old.items) }
+    ensures left { due.new.items ≡ but_for ticket due.old.items }
 {
-    let Some(ended) = ended else {
+    let mut all = due.iter();
+    let Some(place) = all.position(|ended| ended.ticket.0 == ticket.0) else {
         return Reply::Waiting(ticket);
     };
-    match ended.into_outcome().into_reply() {
+    match due.remove(place).into_outcome().into_reply() {
         Some(reply) => reply,
         None => Reply::Waiting(ticket),
     }

@@ -4,17 +4,17 @@ use capbits::{ClientId, Ticket};
 use capsteps::entry_request::EntryRequest;
 use capsteps::leaving::SessionChange;
 use capsteps::settle::Affected;
-use capsteps::{Asked, Change, Messages, Scene};
+use capsteps::{Asked, Change, Ended, Scene};
 use captable::{Holder, Known};
 
 // Tree, sessions, entries and locks, and what clients are still to be told.
 #[derive(Debug)]
 pub(crate) struct Parts {
     pub(crate) scene: Scene,
-    // Of each entry what its client was to know of at the end of the last step.
+    // Of each entry what its client was to know of at the end of the last step, and what it is permitted.
     pub(crate) known: Known,
     // The requests that ended and that no client was told of.
-    pub(crate) messages: Messages,
+    pub(crate) messages: Vec<Ended>,
 }
 
 // By hand, so that whoever lets one go has one call to prove.
@@ -50,7 +50,7 @@ pub(crate) struct Effect {
 pub(crate) enum Answer {
     Done,
     // That it is done, where these requests were dropped.
-    Dropped(Messages),
+    Dropped(Vec<Ended>),
     // What is answered where this was asked of the holder's entry.
     Touched(Holder, EntryRequest),
     // How the request with this number ended, if it did.

@@ -1,4 +1,4 @@
-//! The step of a recall: clients are asked to give back what they have not used for longest.
+//! The step of a recall: clients are asked to release what they have not used for longest.
 ghost use Rattle.std.specs.Prelude.{◌≡◌, IfOk, OnErr, OnOk};
 ghost use Rattle.capsteps.specs.{Answered.{IsAnswered}, Caprules.Noted.{view_of}, Capview.Changes.{AreChanges}};
 ghost use Rattle.capsteps.specs.Capevents.declared.event.Event.TheVariants as event;
@@ -16,7 +16,7 @@ impl World {
         ensures changes { OnOk result (AreChanges endings.new.changes.items (view_of self.old) (view_of self.new)) }
         ensures err { OnErr result ((self.new ≡ self.old) × (endings.new.changes.items ≡ endings.old.changes.items)) }
     {
-        let alloc = self.parts.messages.alloc();
+        let alloc = *self.parts.messages.allocator();
         // The list once for the history and once for the reply, both before an entry is marked.
         let kept = self.parts.scene.table.first_to_recall(count)?;
         let named = self.parts.scene.table.recall(count)?;

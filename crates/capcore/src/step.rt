@@ -10,7 +10,7 @@ use crate::world::World;
 use capbits::{ClientId, Ino, Part, PassId};
 use capspec::FsName;
 use capsteps::endings::Endings;
-use capsteps::history::{add_row, make_room};
+use capsteps::history::make_room;
 use capsteps::said::Said;
 use capsteps::stop::Stop;
 use capsteps::{Event, Reply, Row, ViewChange};
@@ -90,7 +90,9 @@ impl Core {
             reply: kept,
             ended,
         };
-        add_row(&mut self.rows, row);
+        let Ok(()) = self.rows.push(row) else {
+            unreachable!()
+        };
         Ok(reply)
     }
 

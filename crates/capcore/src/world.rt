@@ -2,7 +2,7 @@
 ghost use Rattle.std.specs.Prelude.{List, ◌≡◌, ◌+◌, false, [], None, IfOk, OnOk, OnErr};
 ghost use Rattle.std.specs.FinMap as map;
 ghost use Rattle.capbits.specs.Refusal.{first_failing};
-ghost use Rattle.inotree.specs.{Calls.{with_new}, Tests.{create_tests}, Tree.{IsTree, is_directory}};
+ghost use Rattle.inotree.specs.{Calls.{with_new}, Tests.{create_tests}, Tree.{is_directory}};
 ghost use Rattle.captable.specs.Table.{IsTable, Table};
 ghost use Rattle.sessiontab.specs.{Calls.{with_session}, Tests.{new_session_tests}};
 ghost use Rattle.capsteps.specs.{Affected.{affected_by, session_changed_by, is_listing}, Answered.{IsAnswered}, Capevents.declared.outcome.Ended.{Ended as AnEnded}, Caprules.Direct.{Says, IsDirect, direct, made_event, owned_by, with_birth, with_sessions}, Caprules.History.{IsOpening, HasNoStray}, Caprules.Noted.{view_of}, Caprules.Sound.{NumbersLeft}, Caprules.State.{State}, Capview.Changes.{AreChanges}, Capview.Sight.{Shows}, Lockmachine.Locks.{IsLockMap, LockMap}, Lockmachine.Scene.{scene}};
@@ -14,6 +14,7 @@ use crate::parts::{Asking, Effect, Parts};
 use capbits::{Caller, ClientId, Ino, Mode, Refusal};
 use capgrant::{Access, Attr};
 use capspec::{FsName, Grants};
+use capsteps::due_endings::remove_given;
 use capsteps::endings::Endings;
 use capsteps::entry_request::EntryRequest;
 use capsteps::judge::denial;
@@ -23,8 +24,7 @@ use capsteps::said::Said;
 use capsteps::settle::end;
 use capsteps::start::first_locks;
 use capsteps::{
-    Asked, ChangeList, EndedList, EndedTickets, Event, Messages, Reply, Scene, ViewChange,
-    copy_of_messages,
+    Asked, ChangeList, EndedList, EndedTickets, Event, Reply, Scene, ViewChange, copy_of_messages,
 };
 use captable::{CapTable, Holder, Known};
 use inotree::{Kind, Tree};
@@ -78,7 +78,7 @@ impl World {
         let parts = Parts {
             scene,
             known: Known::new(alloc),
-            messages: Messages::new(alloc),
+            messages: Vec::new(alloc),
         };
         Ok(World { parts })
     }
@@ -86,17 +86,12 @@ impl World {
     // Makes one step.
     pub(crate) fn step(&mut self, event: &Event, endings: &mut Endings) -> Result<Said, AllocError>
         requires numbers { NumbersLeft self.old }
+        requires table { IsTable self.old.scene.table }
+        requires locks { IsLockMap self.old.scene.locks }
         ensures answered { IfOk result (λ said. IsAnswered self.old event.now said self.new) }
         ensures changes { OnOk result (AreChanges endings.new.changes.items (view_of self.old) (view_of self.new)) }
-        // The entries were a table, and the locks had their requests in order.
-        ensures table { OnOk result (IsTable self.old.scene.table) }
-        ensures locks { OnOk result (IsLockMap self.old.scene.locks) }
         ensures err { OnErr result ((self.new ≡ self.old) × (endings.new.changes.items ≡ endings.old.changes.items)) }
     {
-        // The one look at the tree, the entries and the locks, by which the proof knows what they keep.
-        let scene = &self.parts.scene;
-        let (_last, _oldest) = (scene.tree.last(), scene.table.oldest());
-        let _waiting = scene.locks.waiting();
         match event {
             &Event::Open { client, ino, mode } => {
                 let request = EntryRequest::Open(mode);
@@ -183,22 +178,21 @@ impl World {
         requires affects { affected_by event.now ≡ None }
         requires lists { is_listing event.now ≡ false }
         requires changes_session { session_changed_by event.now ≡ None }
-        requires tree { IsTree self.old.scene.tree }
         requires table { IsTable self.old.scene.table }
         ensures answered { IfOk result (λ said. IsAnswered self.old event.now said self.new) }
         ensures changes { OnOk result (AreChanges endings.new.changes.items (view_of self.old) (view_of self.new)) }
         ensures err { OnErr result ((self.new ≡ self.old) × (endings.new.changes.items ≡ endings.old.changes.items)) }
     {
-        let alloc = self.parts.messages.alloc();
+        // Asked of the tree, whose contract tells the proof that it is one.
+        let alloc = self.parts.scene.tree.alloc();
         let reply = self.act(event, &mut endings.changes)?;
         Ok(Said::alone(alloc, reply))
     }
 
-    // A step that may move locks: what stops its event is answered. Else it has its effect, the locks settle of all that it affected,
+    // A step that may move locks: what rejects its event is answered. Else it has its effect, the locks settle of all that it affected,
     // and it ends there.
     fn move_locks(&mut self, asking: &Asking, endings: &mut Endings) -> Result<Said, AllocError>
         requires numbers { NumbersLeft self.old }
-        requires tree { IsTree self.old.scene.tree }
         requires table { IsTable self.old.scene.table }
         requires locks { IsLockMap self.old.scene.locks }
         ensures answered { IfOk result (λ said. IsAnswered self.old (event_of asking.now) said self.new) }
@@ -207,7 +201,7 @@ impl World {
     {
         if let Some(rejection) = rejection(&self.parts.scene, &self.parts.known, asking) {
             endings.changes.clear();
-            return Ok(Said::alone(self.parts.messages.alloc(), rejection.into_reply()));
+            return Ok(Said::alone(*self.parts.messages.allocator(), rejection.into_reply()));
         }
         let Effect { affected, answer } = self.parts.begin(asking, endings)?;
         let (scene, known) = (&mut self.parts.scene, &mut self.parts.known);
@@ -229,10 +223,10 @@ impl World {
     {
         if let Some(refusal) = self.parts.scene.sessions.session_refusal(client) {
             endings.changes.clear();
-            return Ok(Said::alone(self.parts.messages.alloc(), Reply::Refused(refusal)));
+            return Ok(Said::alone(*self.parts.messages.allocator(), Reply::Refused(refusal)));
         }
         // The list once for the reply and once for the history, both before the client was told of anything.
-        let alloc = self.parts.messages.alloc();
+        let alloc = *self.parts.messages.allocator();
         let ended = self.parts.messages.as_slice();
         let given = due_messages(
             alloc,
@@ -247,7 +241,7 @@ impl World {
         endings.changes.clear();
         give(&mut self.parts.scene.table, client, given.as_slice());
         self.parts.scene.table.skip_quiet(client);
-        self.parts.messages.remove_given(client, &told);
+        remove_given(&mut self.parts.messages, client, &told);
         Ok(Said {
             reply: Reply::Messages(given),
             kept: Reply::Messages(kept),

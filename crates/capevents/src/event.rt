@@ -60,7 +60,7 @@ pub enum Event {
         /// The client.
         client: ClientId,
     },
-    /// Clients are asked to give back what they have not used for longest: the first entries in the order of recall are
+    /// Clients are asked to release what they have not used for longest: the first entries in the order of recall are
     /// marked, and none is moved.
     Recall {
         /// How many entries, at most.
@@ -130,10 +130,10 @@ pub enum Event {
         client: ClientId,
         /// The inode.
         ino: Ino,
-        /// The capabilities. The pin is wanted besides.
+        /// The caps. The pin is wanted besides.
         caps: CapSet,
     },
-    /// A client acknowledges a message by which capabilities were taken from it: it holds them no more.
+    /// A client acknowledges a message by which caps were taken from it: it holds them no more.
     Ack {
         /// The client.
         client: ClientId,
@@ -142,13 +142,13 @@ pub enum Event {
         /// The number up to which it was told of changes, at least that of the last that took something.
         seq: u64,
     },
-    /// A client gives capabilities back, and wants them no more. With the pin its entry ends.
+    /// A client releases caps, and wants them no more. With the pin its entry ends.
     Release {
         /// The client.
         client: ClientId,
         /// The inode.
         ino: Ino,
-        /// The capabilities.
+        /// The caps.
         caps: CapSet,
     },
     /// A client asks what an inode keeps of a part. It waits for the lock of the part.

@@ -156,7 +156,7 @@ pub enum Message {
         /// How many bytes of data there are now.
         size: u64,
     },
-    /// It is asked to give back what it holds on an inode.
+    /// It is asked to release what it holds on an inode.
     Recall {
         /// The inode.
         ino: Ino,

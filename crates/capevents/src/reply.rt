@@ -16,7 +16,7 @@ pub enum Reply {
     Opened {
         /// The number of the last change.
         seq: u64,
-        /// The capabilities.
+        /// The caps.
         caps: CapSet,
     },
     /// What an inode keeps of the part that the client asked for.

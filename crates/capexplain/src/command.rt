@@ -20,7 +20,7 @@ pub enum Command {
     Evict,
     /// A client comes off the blocklist.
     Unblock,
-    /// Clients are asked to give back.
+    /// Clients are asked to release.
     Recall,
     /// A client asks for the inode of a name.
     Lookup,
@@ -38,7 +38,7 @@ pub enum Command {
     Want,
     /// A client acknowledges a message.
     Ack,
-    /// A client gives capabilities back.
+    /// A client releases caps.
     Release,
     /// A client asks what an inode keeps.
     Get,

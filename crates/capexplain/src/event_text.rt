@@ -186,7 +186,7 @@ fn print_word(text: &mut Vec<u8>, client: ClientId, ino: Ino, word: &str) -> Res
     print_str(text, word)
 }
 
-// A client, an inode and capabilities.
+// A client, an inode and caps.
 fn print_wanted(
     text: &mut Vec<u8>,
     client: ClientId,

@@ -22,7 +22,7 @@ for_readers = As ∷ Ls ∷ Xs ∷ Fs ∷ Fc ∷ Fr ∷ Fl ∷ []
 abbrev pub for_writers : List Cap
 for_writers = Ax ∷ Lx ∷ Xx ∷ Fx ∷ Fw ∷ Fb ∷ []
 
--- some capabilities on a condition
+-- some caps on a condition
 abbrev pub caps_if : Bool → List Cap → Caps
 caps_if condition caps = if condition then caps_in caps else no_caps
 

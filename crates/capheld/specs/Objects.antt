@@ -46,7 +46,7 @@ group_table client f = (codes "kind", string (codes "held-beyond"))
     ∷ []
 
 -- the least access that would permit some of it, where, in which session, what is held, what of it nobody is permitted, and what of that is
--- being taken back already
+-- being revoked already
 abbrev pub held_table : ℕ → List (List ℕ) → ℕ → Caps → Caps → Finding → Table
 held_table number path session issued pending f = (codes "missing", or_null access_value f.missing)
     ∷ (codes "inode", natural number)

@@ -14,7 +14,7 @@ pub fn one_object_for_a_group()
 {}
 
 /// Two lines of an audit that are equal tell the same: they are of one kind, of the same inode, client and session, and have the same
-/// capabilities, rules and numbers, whatever bytes a path or a name has; of a path its text counts. So do two texts of such lines, line
+/// caps, rules and numbers, whatever bytes a path or a name has; of a path its text counts. So do two texts of such lines, line
 /// by line, and two objects that are the same value, which tell the number of an inode and the access that is missing, too.
 pub fn one_line_for_what_is_told()
     ensures line { OneLine }

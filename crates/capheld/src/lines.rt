@@ -90,7 +90,7 @@ fn print_beyond(
     print_why(text, found)
 }
 
-// Appends which of these are being taken back already.
+// Appends which of these are being revoked already.
 fn print_revoked(text: &mut Vec<u8>, revoked: CapSet) -> Result<(), AllocError>
     ensures { OnOk result (text.new.items ≡ text.old.items ++ revoked_text revoked) }
 {
@@ -112,7 +112,7 @@ fn print_why(text: &mut Vec<u8>, found: &Finding) -> Result<(), AllocError>
     }
 }
 
-// Appends that what a client holds is spelled otherwise than capabilities are.
+// Appends that what a client holds is spelled otherwise than caps are.
 pub(crate) fn print_strange_line(
     text: &mut Vec<u8>,
     path: &[&[u8]],

@@ -41,7 +41,7 @@ impl Notes {
 pub enum Detail {
     /// By a line for each, with its path and its session.
     Each,
-    /// By a line for all those of a client and a reason, and for all conflicts of two clients by the same capabilities, with how many
+    /// By a line for all those of a client and a reason, and for all conflicts of two clients by the same caps, with how many
     /// there are.
     Groups,
 }

@@ -14,7 +14,7 @@ use captext::{print_numbered, print_str};
 use std::alloc::AllocError;
 
 // How many members of what is found those of one client and one reason have in common, and how many those of two clients in conflict
-// by the same capabilities.
+// by the same caps.
 const SHARED_BY_FINDINGS: usize = 3;
 
 const SHARED_BY_CONFLICTS: usize = 7;
@@ -118,7 +118,7 @@ fn access_if(access: Option<Access>) -> Piece<'static>
     }
 }
 
-// Which of these are being taken back already.
+// Which of these are being revoked already.
 fn revoked_if(caps: CapSet, pending: CapSet) -> Piece<'static>
     ensures { piece_value result ≡ caps_or_null (minus caps pending) }
 {

@@ -62,7 +62,7 @@ fn print_pairs(
     )
 }
 
-// Who holds which capabilities. Whose are spelled otherwise than capabilities are is left out.
+// Who holds which caps. Whose are spelled otherwise than caps are is left out.
 fn holdings_of(alloc: Global, holders: &[Holder]) -> Result<Vec<Holding>, AllocError>
     ensures { IfOk result (λ holdings. Give Holds holders.now holdings.items) }
 {

@@ -74,7 +74,7 @@ pub(crate) fn print_torn(
     }
 }
 
-// Appends that what a client holds is spelled otherwise than capabilities are.
+// Appends that what a client holds is spelled otherwise than caps are.
 pub(crate) fn print_strange<'x>(
     text: &mut Vec<u8>,
     shape: Shape,

@@ -36,7 +36,7 @@ pub enum Piece<'a> {
     Access(Access),
     /// Names from the root down, as a path.
     Path(&'a [&'a [u8]]),
-    /// Capabilities, in their one spelling.
+    /// Caps, in their one spelling.
     Caps(CapSet),
     /// The rule by which each of several grants fails, in their order.
     Rules(&'a [Rule]),

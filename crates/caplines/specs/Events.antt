@@ -51,7 +51,7 @@ client_of (events.Flush client ino change) = Some client
 client_of (events.Poll client max) = Some client
 
 -- What a line says: nothing, as it is skipped; an event; an event with the grants that a text means, whatever these are; an event with
--- the set of capabilities that a word spells; or nothing that can be read, by its fault.
+-- the set of caps that a word spells; or nothing that can be read, by its fault.
 pub data Line : Type 0 where
   Nothing : Line
   Says : Event → Line
@@ -125,7 +125,7 @@ open_by (client_word ∷ ino_word ∷ mode_word ∷ []) = do
   Says (events.Open client ino mode)
 open_by arguments = Faulty faults.Count
 
--- a client, an inode and a set of capabilities
+-- a client, an inode and a set of caps
 abbrev pub caps_by : (ClientId → Ino → Caps → Event) → List (List ℕ) → Line
 caps_by event (client_word ∷ ino_word ∷ caps_word ∷ []) = do
   client ← client_in client_word

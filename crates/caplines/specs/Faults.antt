@@ -14,7 +14,7 @@ use Rattle.caplines.specs.Events.{Line, line_says, Tells, Reads}
 use Rattle.caplines.specs.Events.Line.{Nothing, Says, Grants, Names, Faulty}
 use Rattle.caplines.specs.Values.{SpellsNone}
 
--- the line has the fault; of a grant text, it is the fault that the text has, and of a word that has to spell capabilities, that it spells none
+-- the line has the fault; of a grant text, it is the fault that the text has, and of a word that has to spell caps, that it spells none
 abbrev pub Has : Line → LineFault → Type 0
 Has Nothing fault = ⊥
 Has (Says event) fault = ⊥

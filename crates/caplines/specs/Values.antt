@@ -101,7 +101,7 @@ hex_bytes (digit ∷ []) = []
 abbrev pub bytes_in : List ℕ → Result (List ℕ) LineFault
 bytes_in word = if bytes_eq word (codes "-") then Ok [] else if is_hex word then Ok (hex_bytes word) else Err Hex
 
--- the set of capabilities that is so spelled; a set has one spelling
+-- the set of caps that is so spelled; a set has one spelling
 abbrev pub Spells : List ℕ → Caps → Type 0
 Spells word caps = word ≡ text_of caps
 

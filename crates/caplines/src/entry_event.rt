@@ -14,7 +14,7 @@ use crate::values::{
 use capbits::{CapSet, ClientId, Ino};
 use capexplain::Event;
 
-// Capabilities on an inode, and whose they are.
+// Caps on an inode, and whose they are.
 #[derive(Clone, Copy)]
 pub(crate) struct EntryCaps {
     pub(crate) client: ClientId,
@@ -65,7 +65,7 @@ pub(crate) fn read_poll(arguments: &[&[u8]]) -> Result<Event, Refused>
     Ok(Event::Poll { client, max })
 }
 
-// A client, an inode and a set of capabilities, whichever event they are said for.
+// A client, an inode and a set of caps, whichever event they are said for.
 #[tactic(auto, using(crate::proofs::SaidLines::three))]
 pub(crate) fn read_entry_caps(arguments: &[&[u8]]) -> Result<EntryCaps, Refused>
     ensures { (event : AClient → AnIno → Caps → AnEvent)

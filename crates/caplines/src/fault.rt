@@ -14,7 +14,7 @@ pub enum LineFault {
     Count,
     /// A word is no number of its size, or no list of group numbers.
     Number,
-    /// A word spells no set of capabilities.
+    /// A word spells no set of caps.
     Caps,
     /// A word is no mode of a file, or nothing that an inode is opened for.
     Mode,

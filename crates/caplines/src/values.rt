@@ -68,7 +68,7 @@ pub(crate) fn read_part(word: &[u8]) -> Result<Part, LineFault>
     }
 }
 
-// The set of capabilities that the word spells.
+// The set of caps that the word spells.
 pub(crate) fn read_cap_set(word: &[u8]) -> Result<CapSet, LineFault>
     ensures ok { IfOk result (λ caps. Spells word.now caps) }
     ensures none { IfErr result (λ _. SpellsNone word.now) }

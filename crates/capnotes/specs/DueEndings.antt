@@ -1,16 +1,15 @@
 -- The requests that ended and that no client was told of, and the room for them.
-use Rattle.std.specs.{List.{list_any}, Prelude.{◌≡◌, ◌≢◌, ℕ, ◌+◌, ◌≤◌, Bool, false, ◌==◌, ◌&&◌, not, List, AllPairs, length, filter}}
+use Rattle.std.specs.{List.{list_any}, Prelude.{◌≡◌, ◌≢◌, ℕ, ◌+◌, ◌≤◌, Bool, false, ◌==◌, ◌&&◌, not, List, AllPairs, length, filter, vec_capacity}, Global.{Vec}}
 use Rattle.capbits.specs.declared.{ids.ClientId.{ClientId}, ids.Ticket.{Ticket}}
 use Rattle.capevents.specs.{Lockmachine.Locks.{LockMap}, declared.outcome.Ended.{Ended}, declared.outcome.Message.{Message}}
 
 -- in the order in which they ended
-pub record DueEndings : Type 0 where
-  pub items : List Ended
-  pub room : ℕ
+abbrev pub DueEndings : Type 0
+DueEndings = Vec Ended
 
 -- there is room for each request that waits, when it ends
 abbrev pub HasRoom : DueEndings → LockMap → Type 0
-HasRoom untold locks = length untold.items + length locks.queue ≤ untold.room
+HasRoom untold locks = length untold.items + length locks.queue ≤ vec_capacity untold
 
 -- the others of a list
 abbrev pub but_for : Ticket → List Ended → List Ended

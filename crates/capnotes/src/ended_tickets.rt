@@ -30,7 +30,7 @@ impl Model for EndedTickets {
 }
 
 impl EndedTickets {
-    /// Those of these messages.
+    /// The numbers that these messages tell of.
     pub fn of(alloc: Global, messages: &[Message]) -> Result<EndedTickets, AllocError>
         ensures { IfOk result (λ told. AreEndsOf messages.now told) }
     {

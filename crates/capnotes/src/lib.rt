@@ -1,11 +1,11 @@
-//! What a core notes: the changes that readers see, the requests that ended and that no client was told of, and sets of inodes.
+//! What a core notes: the changes that readers see, and the requests that ended and that no client was told of.
 //!
 //! It makes no step by itself, and knows no rule.
 #![tactic(auto)]
 
 mod changes;
+pub mod due_endings;
 mod ended_tickets;
-mod messages;
 
 pub use capevents::{
     Ask, Bytes, Change, Ended, EndedList, Event, InodeLocks, Locks, Message, MessageList, Move,
@@ -16,4 +16,3 @@ pub use capevents::{
 pub use capview::{Question, Unknown, View, ViewChange};
 pub use changes::{ChangeList, sets_attr};
 pub use ended_tickets::EndedTickets;
-pub use messages::Messages;

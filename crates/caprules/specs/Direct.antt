@@ -153,7 +153,7 @@ ends s client sessions = record {
   dropped = each dropped_of (requests_of s.scene.locks client);
 }
 
--- ---- the effect of an event that nothing stops
+-- ---- the effect of an event that nothing rejects
 
 abbrev pub effect : State → Event → Direct
 effect s (Event.Session client caller grants) = says (with_sessions s (with_session s.scene.sessions client.0 caller grants)) Reply.Done
@@ -187,7 +187,7 @@ abbrev pub effect_unless : State → Event → Option Rejection → Direct
 effect_unless s e (Some rejection) = says s (rejection_reply rejection)
 effect_unless s e None = effect s e
 
--- what stops an event is all that it answers, and it has no effect then
+-- what rejects an event is all that it answers, and it has no effect then
 abbrev pub direct : State → Event → Direct
 direct s e = effect_unless s e (judged s.scene e)
 

@@ -89,7 +89,7 @@ OtherLocksStay last first moves =
 
 -- ---- caps
 
--- the client holds the capability on the inode
+-- the client holds the cap on the inode
 abbrev pub holds : Scene → Holder → Cap → Bool
 holds s k cap = option_map_or (λ row. has row.entry.held cap) (find (is_row_of k) s.table.rows) false
 

@@ -1,4 +1,4 @@
--- What is tested of an event, in order, and what stops it.
+-- What is tested of an event, in order, and what rejects it.
 use Rattle.std.specs.{List.{find}, Option.{option_map, option_map_or}, Prelude.{ℕ, Bool, not, List, [], ◌∷◌, ◌++◌, Option, Some, None, is_some, if◌then◌else◌}}
 use Rattle.capbits.specs.{Caps.{Caps}, Refusal.{Test, first_failing}, Sets.{no_caps, caps_in}, declared.ids.ClientId.{ClientId}, declared.ids.Ino.{Ino}, declared.refusal.Refusal.{Refusal}}
 use Rattle.capgrant.specs.declared.{access.Access.{Access}, access.Access.TheVariants.{Read, Write, Snapshot}}
@@ -45,7 +45,7 @@ opening_tests s k mode = file_test s.tree k.ino.0 ∷ room_for s.table k
 abbrev pub waiting_tests : Scene → ℕ → Ask → List Test
 waiting_tests s ino ask = ask_after s ino ask ++ queue_tests s.locks
 
--- the holder has an entry, and holds the capability with which it changes the part by itself, which counts while it is being revoked;
+-- the holder has an entry, and holds the cap with which it changes the part by itself, which counts while it is being revoked;
 -- and the change has its own tests
 abbrev pub flush_tests : Scene → Holder → Change → List Test
 flush_tests s k change =
@@ -156,15 +156,15 @@ rejection_by s (Some refusal) denied later = Some (ByTest refusal)
 rejection_by s None (Some n) later = Some (ByPolicy n.access (failures s.fs s.tree s.sessions n.holder n.access))
 rejection_by s None None later = option_map ByTest later
 
--- what stops a request: a test; or an access without a grant, with the rule by which each grant fails first; or nothing
+-- what rejects a request: a test; or an access without a grant, with the rule by which each grant fails first; or nothing
 abbrev pub rejection_of : Scene → List Test → List Need → List Test → Option Rejection
 rejection_of s tests needed more = rejection_by s (first_failing tests) (first_denied s needed) (first_failing more)
 
--- what stops an event: the tests before policy, then policy, then the tests behind it
+-- what rejects an event: the tests before policy, then policy, then the tests behind it
 abbrev pub judged : Scene → Event → Option Rejection
 judged s e = rejection_of s (before s e) (needs s e) (after s e)
 
--- what is answered to a request that is stopped
+-- what is answered to a request that is rejected
 abbrev pub rejection_reply : Rejection → Reply
 rejection_reply (ByPolicy access rules) = Reply.Denied access rules
 rejection_reply (ByTest refusal) = Reply.Refused refusal

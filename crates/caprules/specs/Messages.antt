@@ -23,7 +23,7 @@ size_message ino (Some node) = Message.Size ino node.size ∷ []
 abbrev pub size_messages : Scene → EntryRow → List Message
 size_messages s row = if row.entry.size_due then size_message row.holder.ino (finite.get s.tree.nodes row.holder.ino.0) else []
 
--- the client is asked to give back
+-- the client is asked to release
 abbrev pub recall_messages : EntryRow → List Message
 recall_messages row = if row.entry.asked then Message.Recall row.holder.ino ∷ [] else []
 
@@ -35,7 +35,7 @@ end_message m = Message.Ended m.ticket m.outcome
 abbrev pub end_messages : ClientId → List Ended → List Message
 end_messages client ended = map end_message (filter (is_to client) ended)
 
--- what is due to the client of an entry: the change that it was not told of, the size, and that it is asked to give back
+-- what is due to the client of an entry: the change that it was not told of, the size, and that it is asked to release
 abbrev pub row_messages : Scene → EntryRow → List Message
 row_messages s row = caps_messages s row ++ size_messages s row ++ recall_messages row
 
@@ -61,7 +61,7 @@ abbrev pub is_size_of : Ino → Message → Bool
 is_size_of ino (Message.Size i size) = i.0 == ino.0
 is_size_of ino m = false
 
--- the message asks the client to give back what it holds on the inode
+-- the message asks the client to release what it holds on the inode
 abbrev pub is_recall_of : Ino → Message → Bool
 is_recall_of ino (Message.Recall i) = i.0 == ino.0
 is_recall_of ino m = false

@@ -6,7 +6,7 @@ use Rattle.inotree.specs.declared.node.Node.{Node}
 use Rattle.capnotes.specs.{Capevents.declared.outcome.Ended.{Ended}, Capevents.declared.outcome.Outcome.{Outcome}, Capevents.declared.outcome.PartValues.{PartValues}, Changing.{tree_after}, Lockmachine.Moves.{moved as moved_locks}, Lockmachine.declared.moves.Move.TheVariants.{Serve}, Lockmachine.declared.request.Ask.{Ask}, Lockmachine.declared.request.Ask.TheVariants.{Get, Alter, Rename}, Lockmachine.declared.request.Change.{Change}, Lockmachine.declared.request.Change.TheVariants.{SetXattr}, Lockmachine.declared.request.Request.{Request}, Lockmachine.declared.scene.Scene.{Scene}}
 use Rattle.caprules.specs.{Asks.{ask_before, ask_needs, ask_after}, Judge.{rejection_of}, declared.rejection.Rejection.{Rejection}, declared.rejection.Rejection.TheVariants.{ByPolicy, ByTest}}
 
--- what stops the request now
+-- what rejects the request now
 abbrev pub judged_again : Scene → Request → Option Rejection
 judged_again s q = rejection_of s (ask_before s q.ino.0 q.ask) (ask_needs s q.client q.ino.0 q.ask) (ask_after s q.ino.0 q.ask)
 
@@ -27,7 +27,7 @@ abbrev pub passed_as : Scene → ℕ → Ask → Outcome
 passed_as s ino (Get part) = values_outcome part (map.get s.tree.nodes ino)
 passed_as s ino ask = Outcome.Done
 
--- what stopped it, as its outcome
+-- what rejected it, as its outcome
 abbrev pub rejection_outcome : Rejection → Outcome
 rejection_outcome (ByPolicy access rules) = Outcome.Denied access rules
 rejection_outcome (ByTest refusal) = Outcome.Refused refusal
@@ -47,7 +47,7 @@ takes_memory (Alter change) = change_takes_memory change
 takes_memory (Rename dir name) = true
 takes_memory ask = false
 
--- how it may end: as it is judged now; or nothing stops it, but it takes memory and finds none
+-- how it may end: as it is judged now; or nothing rejects it, but it takes memory and finds none
 pub data MayEndAs (s : Scene) (q : Request) : Outcome → Type 0 where
   As_judged : MayEndAs s q (outcome_unless s q (judged_again s q))
   Without_memory : judged_again s q ≡ None → IsTrue (takes_memory q.ask) → MayEndAs s q Outcome.OutOfMemory

@@ -17,7 +17,7 @@ abbrev pub shown_opened : Caps → Reply → Caps
 shown_opened was (Reply.Opened seq caps) = caps
 shown_opened was answer = was
 
--- what is given back is shown no more
+-- what is released is shown no more
 abbrev pub shown_less : Caps → Caps → Reply → Caps
 shown_less caps was Reply.Done = minus was caps
 shown_less caps was answer = was

@@ -1,4 +1,4 @@
-//! What stops a request.
+//! What rejects a request.
 ghost use Rattle.std.specs.Prelude.{◌≡◌};
 ghost use Rattle.caprules.specs.Judge.{rejection_reply};
 
@@ -6,7 +6,7 @@ use capbits::Refusal;
 use capgrant::{Access, Rules};
 use capnotes::Reply;
 
-/// What stops a request, whether it has just come or was waiting for a lock.
+/// What rejects a request, whether it has just come or was waiting for a lock.
 #[derive(Drop)]
 pub enum Rejection {
     /// No grant of the client allows an access that the request needs.
@@ -21,7 +21,7 @@ pub enum Rejection {
 }
 
 impl Rejection {
-    /// Returns the reply to the request that it stops.
+    /// Returns the reply to the request that it rejects.
     pub fn into_reply(self) -> Reply
         ensures reply { result ≡ rejection_reply self }
     {

@@ -8,7 +8,7 @@ use Rattle.captable.{proofs.ByInode.{entries_on-changed, entries_on-opened, entr
 use Rattle.capacts.{proofs.Lockmachine.SameBut.{same-entries}, specs.Caprules.Direct.{with_table}, specs.Caprules.Judge.{before, needs, after, asked_tests, room_for}}
 use Rattle.capsteps.{proofs.Common.{and_parts, AreGiven, change_rows, changed, ClientId, Direct, effect, effective_want, entries_on, Entry, entry_at, entry_of, EntryRow, Event, first_failing, given_back, has-caps_in, has-meet, has-none, has-of_part, has-union, has_session, Holder, holder, Ino, is_of_inode, is_open, is_row_of, IsInRow, IsInRowOf, IsQuiet, IsSound, IsSoundEntry, IsSubset, IsTable, judged, lock_at, lock_in, LockGoal, LockState, new_entry, opened, opening_wants, OpenMode, P, Part, part_of_ask, permitted, revoked_of, row_found, row_of-entry, same_equiv, Scene, State, StateMap, Table, taken, union, WaitAt, wanting, without}, proofs.EntryKept.{IsLess, IsMade, each-after}, proofs.Forgotten.{all_rows}, proofs.Judging.{no_test}, proofs.LeftAlone.{found-contains}, proofs.Moved.{sound-waits}, proofs.Placed.{placed-in_row}, specs.Affected.{IsAffectedEntry, AffectsOne}, specs.EntryRequest.{table_after, entry_event, entry_request_tests}, specs.declared.entry_request.EntryRequest.{EntryRequest}, specs.declared.entry_request.EntryRequest.TheVariants.{Open, Want, Ack, Release}}
 
--- ---- the tests of an event that nothing stops
+-- ---- the tests of an event that nothing rejects
 
 pub before-passed : (s : Scene) (e : Event) → judged s e ≡ None → first_failing (before s e) ≡ None
 before-passed s e free = no_test s (before s e) (needs s e) (after s e) free
@@ -17,7 +17,7 @@ pub after-passed : (s : Scene) (e : Event) → judged s e ≡ None → first_fai
 after-passed s e free = grind arith
 
 -- what the table tests was passed
-pub affected-tests : (s : Scene) (client : ClientId) (ino : Ino) (request : EntryRequest) → judged s (entry_event client ino request) ≡ None
+affected-tests : (s : Scene) (client : ClientId) (ino : Ino) (request : EntryRequest) → judged s (entry_event client ino request) ≡ None
     → first_failing (entry_request_tests s (holder client ino) request) ≡ None
 affected-tests s client ino request free = grind arith
 

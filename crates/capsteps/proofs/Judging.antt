@@ -1,40 +1,32 @@
--- What stops a request, test by test.
+-- What rejects a request, test by test.
 use Rattle.std.{proofs.Common.{◌≡◌, List, [], Option, Some, None, arith}, specs.Option.{option_map}}
 use Rattle.capbits.specs.declared.refusal.Refusal.{Refusal}
-use Rattle.capacts.specs.Caprules.{Direct.{Says, IsDirect}, Judge.{rejection_of, first_denied, rejection_by}, Needs.{Need}, declared.rejection.Rejection.TheVariants.{ByTest}}
-use Rattle.capsteps.proofs.Common.{effect, Event, first_failing, judged, Rejection, rejection_reply, Reply, Scene, State, Test}
+use Rattle.capacts.specs.Caprules.{Direct.{IsDirect}, Judge.{rejection_of, first_denied, rejection_by}, Needs.{Need}, declared.rejection.Rejection.TheVariants.{ByTest}}
+use Rattle.capsteps.proofs.Common.{Event, first_failing, judged, Rejection, rejection_reply, Scene, State, Test}
 
 rejection_by-rejection : (s : Scene) (o : Option Refusal) (d : Option Need) (l : Option Refusal) (r : Rejection) → rejection_by s o d None ≡ Some r → rejection_by s o d l ≡ Some r
 rejection_by-rejection s o d l r e = grind arith
 
--- what stops a request stops it whatever is still to be tested
+-- what rejects a request rejects it whatever is still to be tested
 pub rejection : (s : Scene) (tests : List Test) (needed : List Need) (more : List Test) (r : Rejection) → rejection_of s tests needed [] ≡ Some r → rejection_of s tests needed more ≡ Some r
 rejection s tests needed more r e = rejection_by-rejection s (first_failing tests) (first_denied s needed) (first_failing more) r e
 
 rejection_by-passed : (s : Scene) (o : Option Refusal) (d : Option Need) (l : Option Refusal) → rejection_by s o d None ≡ None → rejection_by s o d l ≡ option_map ByTest l
 rejection_by-passed s o d l e = grind arith
 
--- where nothing stopped it so far, the rest of the tests decides
+-- where nothing rejected it so far, the rest of the tests decides
 pub passed : (s : Scene) (tests : List Test) (needed : List Need) (more : List Test) → rejection_of s tests needed [] ≡ None → rejection_of s tests needed more ≡ option_map ByTest (first_failing more)
 passed s tests needed more e = rejection_by-passed s (first_failing tests) (first_denied s needed) (first_failing more) e
-
--- where tests stand before policy alone, the first that fails decides
-pub by_tests : (s : Scene) (failing : Option Refusal) → option_map ByTest failing ≡ rejection_by s failing None None
-by_tests s failing = grind arith
 
 rejection_by-tests : (s : Scene) (o : Option Refusal) (d : Option Need) (l : Option Refusal) → rejection_by s o d l ≡ None → o ≡ None
 rejection_by-tests s o d l e = grind arith
 
--- and no test before policy failed
+-- where nothing rejects a request, no test before policy failed
 pub no_test : (s : Scene) (tests : List Test) (needed : List Need) (more : List Test) → rejection_of s tests needed more ≡ None → first_failing tests ≡ None
 no_test s tests needed more e = rejection_by-tests s (first_failing tests) (first_denied s needed) (first_failing more) e
 
 -- ---- the event by itself
 
--- what stops an event is its answer, and nothing changes
+-- what rejects an event is its answer, and nothing changes
 pub direct-rejection : (old : State) (e : Event) (r : Rejection) → judged old.scene e ≡ Some r → IsDirect old e (rejection_reply r) old
 direct-rejection old e r is = grind arith
-
--- an event that nothing stops has its effect
-pub direct-passed : (old : State) (e : Event) (answer : Reply) → Says answer ≡ (effect old e).answer → judged old.scene e ≡ None → IsDirect old e answer (effect old e).state
-direct-passed old e answer says is = grind arith

@@ -17,7 +17,7 @@ told-held s k e f held = same_caps _ _ (λ c. grind (arith, has-told))
 less_than : (h g t : Bool) → ((h && not g) && not t) ≡ ((h && not t) && not g)
 less_than h g t = grind arith
 
--- once some was given back
+-- once some was released
 given-told : (s : Scene) (k : Holder) (e : Entry) (caps : Caps) → told_set s (at k (given_back caps e)) ≡ minus (told_set s (at k e)) caps
 given-told s k e caps = same_caps _ _ (λ c.
     has-told s (at k (given_back caps e)) c ∙ ap (λ b. b && not (is_revoked s k c)) (has-minus e.held caps c)
@@ -366,7 +366,7 @@ module _ (old : State) (sound : IsSound old) (table : IsTable old.scene.table) (
 
 -- ---- a step
 
--- what is stopped shows nothing
+-- what is rejected shows nothing
 rejection-shows : (k : Holder) (was : Caps) (e : Event) (x : Rejection) → shown_by k was e (rejection_reply x) ≡ was
 rejection-shows k was e x = grind (arith, cond_same)
 

@@ -1,4 +1,4 @@
--- In a sound state an event that is stopped has one step alone, which changes nothing.
+-- In a sound state an event that is rejected has one step alone, which changes nothing.
 use Rattle.std.proofs.Common.{◌≡◌, Some, List, [], ◌∷◌, refl, sym, ap, subst, ◌∙◌, append-nil, arith}
 use Rattle.capacts.specs.Caprules.{Direct.{says}, Step.{all_ended}}
 use Rattle.capsteps.proofs.{Common.{Direct, direct, effect_unless, Ended, ended_in, Event, first_move, IsSound, IsTable, judged, Made, Makes, MakesAll, Rejection, rejection_reply, Reply, reply_of, Scene, Settled, settled, Settles, shown, State, state_after, Step}, Finishing.{sound-ends, sound-settles}}

@@ -17,7 +17,7 @@ pub data Scope : Type 0 where
   OnEntry : Holder → Scope
   -- and where it may wait for a lock of the inode, what it asks for
   Waiting : Holder → Ask → Scope
-  -- it is answered with a list: of messages, or of who is asked to give back
+  -- it is answered with a list: of messages, or of who is asked to release
   Listing : Scope
 
 abbrev pub scope : Event → Scope
@@ -68,7 +68,7 @@ abbrev pub lists_in : Scope → Bool
 lists_in Listing = true
 lists_in about = false
 
--- the event is answered with a list: of messages, or of who is asked to give back
+-- the event is answered with a list: of messages, or of who is asked to release
 abbrev pub is_listing : Event → Bool
 is_listing e = lists_in (scope e)
 

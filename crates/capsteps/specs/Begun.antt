@@ -1,7 +1,6 @@
 -- What there has to be behind an event, before the locks settle and the step ends.
 use Rattle.std.specs.Prelude.{◌≡◌, ◌≤◌, ◌<◌, ◌^◌, ◌-◌, ◌+◌, ◌==◌, ℕ, Bool, [], All, IsTrue, length, vec_capacity}
 use Rattle.std.specs.FinSet as set
-use Rattle.inotree.specs.Tree.{IsTree}
 use Rattle.sessiontab.specs.Calls.{has_session}
 use Rattle.capacts.specs.{Capnotes.Noted.{HavePlaces, Noted}, Known.{KnownSets, OthersHaveAll}, Lockmachine.Locks.{IsLockMap}, Lockmachine.Moves.{IsQuietOutside}, Lockmachine.Policy.{ArePermitted}, Lockmachine.declared.scene.Scene.{Scene}}
 use Rattle.capsteps.specs.{Judged.{IsJudged}, declared.endings.Endings.{Endings}, declared.settle.Affected.{Affected}, declared.settle.Affected.TheVariants.{Entry, Inodes}}
@@ -11,10 +10,9 @@ abbrev pub among : Affected → ℕ → Bool
 among (Entry k) = λ other. other == k.ino.0
 among (Inodes inos) = set.contains inos
 
--- the event was about these inodes: the locks of all others are quiet, the inodes are a tree, and requests wait in order
+-- the event was about these inodes: the locks of all others are quiet, and requests wait in order
 pub record MaySettle (from : ℕ → Bool) (s : Scene) : Type 0 where
   pub quiet : IsQuietOutside from s
-  pub tree : IsTree s.tree
   pub order : IsLockMap s.locks
 
 -- of each entry it is kept what its client is permitted
@@ -32,8 +30,8 @@ pub record HaveRoomFor (waiting : ℕ) (endings : Endings) : Type 0 where
   pub told : endings.told.items ≡ []
   pub kept : endings.kept.items ≡ []
   pub sized : endings.sized.items ≡ []
-  pub told_room : waiting ≤ endings.told.room
-  pub kept_room : waiting ≤ endings.kept.room
+  pub told_room : waiting ≤ vec_capacity endings.told
+  pub kept_room : waiting ≤ vec_capacity endings.kept
   pub sized_room : waiting ≤ vec_capacity endings.sized
 
 -- there is a place for the change of each request that waits and of each inode; and where one entry alone was affected, the others

@@ -3,6 +3,6 @@ use Rattle.std.specs.Prelude.{◌≡◌, Option, None, Some}
 use Rattle.capbits.specs.declared.ids.Ticket.{Ticket}
 use Rattle.capacts.specs.{Caprules.Serving.{judged_again}, Lockmachine.Locks.{request_at}, Lockmachine.declared.request.Request.{Request}, Lockmachine.declared.scene.Scene.{Scene}}
 
--- nothing would stop the request with this number, were it served now
+-- nothing would reject the request with this number, were it served now
 abbrev pub IsJudged : Option Ticket → Scene → Type 0
 IsJudged judged s = (ticket : Ticket) (q : Request) → judged ≡ Some ticket → request_at s.locks ticket.0 ≡ Some q → judged_again s q ≡ None

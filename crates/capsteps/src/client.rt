@@ -1,5 +1,5 @@
 //! Steps by which a client's session ends, is marked or has other grants.
-ghost use Rattle.std.specs.Prelude.{◌≡◌, ◌+◌, ◌≤◌, true, [], None, Contains, length, option_to_list, IfOk, OnOk, OnErr};
+ghost use Rattle.std.specs.Prelude.{◌≡◌, ◌+◌, ◌≤◌, true, [], None, Contains, length, option_to_list, vec_capacity, IfOk, OnOk, OnErr};
 ghost use Rattle.std.specs.FinSet as set;
 ghost use Rattle.capbits.specs.Refusal.{first_failing};
 ghost use Rattle.captable.specs.{Calls.{is_of_client}, declared.entry.EntryRow.{EntryRow}};
@@ -8,7 +8,7 @@ ghost use Rattle.capsteps.specs.{Begun.{HaveRoomFor}, SessionChange.{Notes, Reac
 
 use crate::endings::Endings;
 use capacts::leaving::SessionChange;
-use capacts::{Locks, Messages, ViewChange};
+use capacts::{Ended, Locks, ViewChange};
 use capbits::{ClientId, Ino, Refusal};
 use captable::CapTable;
 use inotree::{NonEmptyInoSet, ROOT};
@@ -20,15 +20,15 @@ use std::alloc::{AllocError, Global};
 pub struct Room {
     /// The root, and each inode that the client has an entry on or waits for.
     pub inodes: NonEmptyInoSet,
-    /// A list with a place for each request that waits: of those that are dropped, of which nobody is told.
-    pub dropped: Messages,
+    /// An empty list for the requests that are dropped, of which nobody is told, with a place for each that waits.
+    pub dropped: Vec<Ended>,
     /// What readers are told of the session, if anything.
     pub note: Option<ViewChange>,
 }
 
 // ---- the session
 
-/// The first test that fails.
+/// The first test that fails, for this change of the client's session.
 pub fn session_change_refusal(
     sessions: &Sessions,
     client: ClientId,
@@ -78,7 +78,7 @@ impl Room {
     ) -> Result<Room, AllocError>
         ensures reaches { IfOk result (λ room. ReachesClient client table.now locks.now room.inodes) }
         ensures room { OnOk result (HaveRoomFor (length locks.now.queue) endings.new) }
-        ensures dropped { IfOk result (λ room. (room.dropped.items ≡ []) × (length locks.now.queue ≤ room.dropped.room)) }
+        ensures dropped { IfOk result (λ room. (room.dropped.items ≡ []) × (length locks.now.queue ≤ vec_capacity room.dropped)) }
         ensures places { IfOk result (λ room. length locks.now.queue + set.len room.inodes + 1 ≤ endings.new.changes.room) }
         ensures note { IfOk result (λ room. Notes (option_to_list room.note) client change.entry) }
         ensures judged { OnOk result (endings.new.judged ≡ None) }
@@ -90,7 +90,8 @@ impl Room {
         reach_requests(locks, client, &mut inodes)?;
         let note = note_of(client, change)?;
         let waiting = locks.waiting();
-        let dropped = Messages::with_room(alloc, waiting)?;
+        let mut dropped = Vec::new(alloc);
+        dropped.reserve(waiting)?;
         endings.begin(waiting, waiting + inodes.len() + 1)?;
         Ok(Room {
             inodes,

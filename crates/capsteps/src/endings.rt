@@ -3,7 +3,7 @@ ghost use Rattle.std.specs.{List.{filter_map}, Prelude.{◌≡◌, ◌+◌, ◌�
 ghost use Rattle.capsteps.specs.Begun.{HaveRoomFor};
 
 use capacts::serving::Served;
-use capacts::{ChangeList, Ended, Messages};
+use capacts::{ChangeList, Ended};
 use capbits::{ClientId, Ino, Ticket};
 use std::alloc::{AllocError, Global};
 use std::fmt;
@@ -12,8 +12,8 @@ use std::fmt;
 /// changed; what the step changes of what readers see; and the request that came with the step and was judged then, until one is
 /// served. Between steps the changes are those of the last; of the others the room alone is of use.
 pub struct Endings {
-    pub told: Messages,
-    pub kept: Messages,
+    pub told: Vec<Ended>,
+    pub kept: Vec<Ended>,
     pub sized: Vec<Ino>,
     pub changes: ChangeList,
     pub judged: Option<Ticket>,
@@ -45,8 +45,8 @@ impl Endings {
         ensures changes { result.changes.items ≡ [] }
     {
         Endings {
-            told: Messages::new(alloc),
-            kept: Messages::new(alloc),
+            told: Vec::new(alloc),
+            kept: Vec::new(alloc),
             sized: Vec::new(alloc),
             changes: ChangeList::new(alloc),
             judged: None,
@@ -63,9 +63,7 @@ impl Endings {
         self.judged = None;
         self.told.clear();
         self.kept.clear();
-        if !self.sized.is_empty() {
-            self.sized.clear();
-        }
+        self.sized.clear();
         // Mostly nobody waits.
         if room != 0 {
             self.told.reserve(room)?;
@@ -77,33 +75,36 @@ impl Endings {
 
     /// The allocator of the lists.
     pub fn alloc(&self) -> Global {
-        self.told.alloc()
+        *self.told.allocator()
     }
 
     /// A client's request with this number ended so, and changed the size of this inode, if of any.
     pub fn push(&mut self, client: ClientId, ticket: Ticket, served: Served, sized: Option<Ino>)
-        requires told { length self.old.told.items < self.old.told.room }
-        requires kept { length self.old.kept.items < self.old.kept.room }
+        requires told { length self.old.told.items < vec_capacity self.old.told }
+        requires kept { length self.old.kept.items < vec_capacity self.old.kept }
         requires sized { length self.old.sized.items < vec_capacity self.old.sized }
         ensures told { self.new.told.items ≡ self.old.told.items ++ record { client = client; ticket = ticket; outcome = served.outcome } ∷ [] }
         ensures kept { self.new.kept.items ≡ self.old.kept.items ++ record { client = client; ticket = ticket; outcome = served.kept } ∷ [] }
         ensures sized { self.new.sized.items ≡ self.old.sized.items ++ filter_map (λ ino. ino) (sized ∷ []) }
-        ensures room { (self.old.told.room ≤ self.new.told.room) × (self.old.kept.room ≤ self.new.kept.room)
+        ensures room { (vec_capacity self.old.told ≤ vec_capacity self.new.told) × (vec_capacity self.old.kept ≤ vec_capacity self.new.kept)
             × (vec_capacity self.old.sized ≤ vec_capacity self.new.sized) }
         ensures changes { self.new.changes ≡ self.old.changes }
         ensures judged { self.new.judged ≡ self.old.judged }
     {
         let Served { outcome, kept } = served;
-        self.told.push(Ended {
+        let told = self.told.push(Ended {
             client,
             ticket,
             outcome,
         });
-        self.kept.push(Ended {
+        let kept = self.kept.push(Ended {
             client,
             ticket,
             outcome: kept,
         });
+        let (Ok(()), Ok(())) = (told, kept) else {
+            unreachable!()
+        };
         if let Some(ino) = sized {
             let Ok(()) = self.sized.push(ino) else {
                 unreachable!()

@@ -20,7 +20,7 @@ pub enum EntryRequest {
     Want(CapSet),
     /// It acknowledges the message with this number.
     Ack(u64),
-    /// It gives these back.
+    /// It releases these.
     Release(CapSet),
 }
 

@@ -16,7 +16,7 @@ pub mod start;
 
 pub use capacts::{
     Ask, Asked, Bytes, Change, ChangeList, Ended, EndedList, EndedTickets, Event, Locks, Message,
-    MessageList, Messages, Move, OpenMode, Outcome, PartValues, Policy, Question, Rejection, Reply,
-    Row, Scene, Unknown, View, ViewChange, Wants, copy_of_ask, copy_of_messages, copy_of_reply,
-    history, judge, leaving, renewing, serving, stop, wants_on,
+    MessageList, Move, OpenMode, Outcome, PartValues, Policy, Question, Rejection, Reply, Row,
+    Scene, Unknown, View, ViewChange, Wants, copy_of_ask, copy_of_messages, copy_of_reply,
+    due_endings, history, judge, leaving, renewing, serving, stop, wants_on,
 };

@@ -42,9 +42,9 @@ pub fn end(scene: &mut Scene, known: &mut Known, affected: Affected, endings: &m
             let before = scene.locks.of_ino(holder.ino);
             let mut reached = NonEmptyInoSet::of(endings.alloc(), holder.ino);
             settle(scene, known, &mut reached, endings);
-            // Most steps of such events serve nobody, by which the tree could have changed, and leave these locks as they were; and by
-            // the same locks and the same tree the others on the inode have all still.
-            if endings.told.as_slice().is_empty()
+            // Most steps of such events serve nobody, by which the tree could have changed, and leave these locks as they were; by
+            // the same locks and the same tree the others on the inode still have all that the end would give them.
+            if endings.told.is_empty()
                 && reached.is_single()
                 && scene.locks.of_ino(holder.ino) == before
             {
@@ -74,6 +74,7 @@ fn settle(
     requires places { HavePlaces endings.old.changes scene.old.locks affected.old }
     requires permitted { ArePermittedIn known.old.sets scene.old }
     ensures settles { SettlesWith (set.contains affected.new) (set.contains affected.old) scene.old scene.new endings.new.told.items endings.new.sized.items }
+    ensures tree { IsTree scene.old.tree }
     ensures kept { endings.new.kept.items ≡ endings.new.told.items }
     ensures count { length endings.new.told.items + length scene.new.locks.queue ≡ length scene.old.locks.queue }
     ensures lead { LeadOn endings.old.changes.items endings.new.changes.items scene.old.tree scene.new.tree }
@@ -82,8 +83,8 @@ fn settle(
     ensures permitted { ArePermittedIn known.new.sets scene.new }
 {
     end_gathers(&scene.table, &mut scene.locks, affected);
-    // Those from which a rename has walked over all below.
-    let mut walked = InoSet::new(endings.alloc());
+    // Those from which a rename has walked over all below. The allocator is the tree's, whose contract tells the proof that it is one.
+    let mut walked = InoSet::new(scene.tree.alloc());
     let mut place = SweepPlace::first(affected);
     'servings: while let Some(ticket) = sweep(scene, known, affected, &mut place) {
         let changed = serve_next(scene, known, ticket, affected, &mut walked, endings);
@@ -189,8 +190,8 @@ fn serve_next(
     requires permitted { ArePermittedIn known.old.sets scene.old }
     requires walked { AreWalked walked.old scene.old.tree scene.old.table affected.old }
     requires waits { (q : Request) × (request_at scene.old.locks ticket.0 ≡ Some q) }
-    requires told { length endings.old.told.items < endings.old.told.room }
-    requires kept { length endings.old.kept.items < endings.old.kept.room }
+    requires told { length endings.old.told.items < vec_capacity endings.old.told }
+    requires kept { length endings.old.kept.items < vec_capacity endings.old.kept }
     requires sized { length endings.old.sized.items < vec_capacity endings.old.sized }
     requires place { length endings.old.changes.items < endings.old.changes.room }
     requires judged { IsJudged endings.old.judged scene.old }
@@ -205,7 +206,7 @@ fn serve_next(
     // By the tree of before.
     ensures walked { AreWalked walked.new scene.old.tree scene.old.table affected.new }
     ensures changed { (q : Request) → request_at scene.old.locks ticket.0 ≡ Some q → result ≡ changed_alone q }
-    ensures room { (endings.old.told.room ≤ endings.new.told.room) × (endings.old.kept.room ≤ endings.new.kept.room)
+    ensures room { (vec_capacity endings.old.told ≤ vec_capacity endings.new.told) × (vec_capacity endings.old.kept ≤ vec_capacity endings.new.kept)
         × (vec_capacity endings.old.sized ≤ vec_capacity endings.new.sized) }
     // At most one change is noted, and there is a place more for each inode that is affected besides.
     ensures lead { LeadOn endings.old.changes.items endings.new.changes.items scene.old.tree scene.new.tree }

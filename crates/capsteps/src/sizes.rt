@@ -32,7 +32,7 @@ fn owe_on(sessions: &Sessions, table: &mut CapTable, ino: Ino)
     }
 }
 
-// And of one client.
+// The same of one client.
 fn owe(table: &mut CapTable, holder: Holder)
     ensures { table.new ≡ changed_by owed table.old holder }
 {

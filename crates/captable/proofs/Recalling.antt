@@ -1,47 +1,87 @@
 -- The first holders in the order of recall, and their entries, which are asked one after another.
-use Rattle.std.proofs.Common.{◌≡◌, ℕ, ◌+◌, ◌≤◌, false, cond, Some, None, List, [], ◌∷◌, ◌++◌, take, refl, sym, ap, ◌∙◌, arith, slice_get, zero, suc}
+use Rattle.std.proofs.Common.{◌≡◌, ℕ, ◌<◌, ◌≤◌, false, Option, Some, None, IsSome, List, [], ◌∷◌, ◌++◌, map, take, length, slice_get, sym, ap, subst, ◌∙◌, arith, append_assoc, append-nil, zero, suc}
 use Rattle.std.specs.List.{fold, AllByRecursion, IsDistinct}
+use Rattle.std.specs.Option.{option_map}
+use Rattle.std.proofs.lemmas.List.{take_all, take_at}
+use Rattle.cap_arena.specs.declared.nodes.Node.{Node}
+use Rattle.cap_arena.specs.Walks.{key_after}
+use Rattle.cap_arena.specs.Lists.{Lists, OfRecall, node_at, keys, IsLists}
 use Rattle.captable.specs.declared.entry.Holder.{Holder}
+use Rattle.captable.specs.declared.entry.Slot.{Slot}
 use Rattle.captable.specs.Table.{Table, IsTable, same}
-use Rattle.captable.specs.Calls.{newer_in, recalled}
+use Rattle.captable.specs.Calls.{recalled}
 use Rattle.captable.specs.Many.{changed_by, asking}
-use Rattle.captable.proofs.Tables.{same_equiv}
+use Rattle.captable.specs.Nodes.{holder_of, with_first, nodes_at, nodes_in}
+use Rattle.captable.specs.Walks.{keys_on, keys_from, IsPlaceIn}
+use Rattle.captable.proofs.Keeping.{all_have}
 use Rattle.captable.proofs.OneByOne.{fold-changed_by}
+use Rattle.captable.proofs.WalkOn.{after-in, from-first, first-in, keys-next}
 
-apart-at : (k : Holder) (hs : List Holder) (i : ℕ) (h : Holder) → AllByRecursion (λ x. same k x ≡ false) hs → slice_get hs i ≡ Some h → same k h ≡ false
-apart-at k [] i h apart at = absurd (cc)
-apart-at k (x ∷ hs) zero h apart at = let is : x ≡ h = cc in ap (same k) (sym is) ∙ apart.0
-apart-at k (x ∷ hs) (suc i) h apart at = apart-at k hs i h apart.1 at
+abbrev holders_at : Lists Slot → List ℕ → List Holder
+holders_at t ks = map holder_of (nodes_at (node_at t) ks)
 
--- the holder after the one at a place
-pub newer-next : (hs : List Holder) (i : ℕ) (h : Holder) → IsDistinct same hs → slice_get hs i ≡ Some h → newer_in hs h ≡ slice_get hs (i + 1)
-unfolding IsDistinct
-newer-next [] i h once at = absurd (cc)
-newer-next (x ∷ hs) zero h once at =
-    let is : x ≡ h = cc in
-    ap (λ b. cond b (slice_get hs 0) (newer_in hs h)) (ap (same h) is ∙ same_equiv.refl h)
-newer-next (x ∷ hs) (suc i) h once at =
-    let next : suc i + 1 ≡ suc (i + 1) = omega arith in
-    let apart : same h x ≡ false = same_equiv.symm h x ∙ apart-at x hs i h once.0 at in
-    ap (λ b. cond b (slice_get hs 0) (newer_in hs h)) apart ∙ newer-next hs i h once.1 at ∙ ap (slice_get (x ∷ hs)) (sym next)
+-- these are the first holders in the order of recall, and the place comes next
+pub record AreFirst (t : Lists Slot) (named : List Holder) (place : Option ℕ) : Type 0 where
+  pub there : IsPlaceIn (keys t OfRecall) place
+  pub whole : named ++ holders_at t (keys_from (keys t OfRecall) place) ≡ holders_at t (keys t OfRecall)
 
--- one more of the first ones
-pub take-next : {X : Type 0} (xs : List X) (i : ℕ) (x : X) → slice_get xs i ≡ Some x → take i xs ++ x ∷ [] ≡ take (i + 1) xs
-take-next [] i x at = absurd (cc)
-take-next (y ∷ xs) zero x at = let is : y ≡ x = cc in ap (λ z. z ∷ []) (sym is)
-take-next (y ∷ xs) (suc i) x at =
-    let next : suc i + 1 ≡ suc (i + 1) = omega arith in
-    ap (λ ys. y ∷ ys) (take-next xs i x at) ∙ ap (λ n. take n (y ∷ xs)) (sym next)
+-- before the first one
+pub first-none : {t : Lists Slot} {named : List Holder} {place : Option ℕ} → named ≡ [] → place ≡ slice_get (keys t OfRecall) 0 → AreFirst t named place
+first-none {t} {named} {place} none is =
+    let ks : List ℕ = keys t OfRecall in
+    record {
+      there = subst (IsPlaceIn ks) (sym is) (first-in ks);
+      whole = ap (λ hs. hs ++ holders_at t (keys_from ks place)) none ∙ ap (holders_at t) (ap (keys_from ks) is ∙ from-first ks);
+    }
 
--- where there is none after the first ones, these are all
-pub take-all : {X : Type 0} (xs : List X) (i n : ℕ) → slice_get xs i ≡ None → i ≤ n → take i xs ≡ take n xs
-take-all [] zero zero none less = refl
-take-all [] zero (suc n) none less = refl
-take-all [] (suc i) zero none less = refl
-take-all [] (suc i) (suc n) none less = refl
-take-all (x ∷ xs) zero n none less = absurd (cc)
-take-all (x ∷ xs) (suc i) zero none less = absurd (omega arith)
-take-all (x ∷ xs) (suc i) (suc n) none less = ap (λ ys. x ∷ ys) (take-all xs i n none (omega arith))
+module _ {t : Lists Slot} (sound : IsLists t) {named : List Holder} {place : Option ℕ} {key : ℕ} (at : place ≡ Some key) (first : AreFirst t named place) where
+  here : AreFirst t named (Some key)
+  here = subst (AreFirst t named) at first
+
+  from-key : keys_on (keys t OfRecall) key ≡ key ∷ keys_from (keys t OfRecall) (key_after (keys t OfRecall) key)
+  from-key = keys-next (keys t OfRecall) key (sound.lists OfRecall).once here.there
+
+  -- there is a node
+  pub first-there : option_map holder_of (node_at t key) ≡ None → ⊥
+  first-there none = by_node (node_at t key) (all_have t sound OfRecall key here.there) none
+    where
+      by_node : (o : Option (Node Slot)) → IsSome o → option_map holder_of o ≡ None → ⊥
+      by_node None some e = absurd (cc)
+      by_node (Some n) some e = absurd (cc)
+
+  -- one more
+  pub first-more : (h : Holder) → option_map holder_of (node_at t key) ≡ Some h → {next : Option ℕ} → next ≡ key_after (keys t OfRecall) key → AreFirst t (named ++ h ∷ []) next
+  first-more h found {next} next_is =
+      let ks : List ℕ = keys t OfRecall in
+      let behind : List ℕ = keys_from ks (key_after ks key) in
+      let step : holders_at t (keys_on ks key) ≡ h ∷ holders_at t behind = ap (holders_at t) from-key ∙ by_node (node_at t key) behind found in
+      subst (AreFirst t (named ++ h ∷ [])) (sym next_is) (record {
+        there = after-in ks key;
+        whole = append_assoc named (h ∷ []) (holders_at t behind) ∙ ap (λ hs. named ++ hs) (sym step) ∙ here.whole;
+      })
+    where
+      by_node : (o : Option (Node Slot)) (ks : List ℕ) → option_map holder_of o ≡ Some h → map holder_of (with_first o (nodes_at (node_at t) ks)) ≡ h ∷ holders_at t ks
+      by_node None ks e = absurd (cc)
+      by_node (Some n) ks e = let is : holder_of n ≡ h = cc in ap (λ x. x ∷ holders_at t ks) is
+
+  -- fewer are left
+  pub first-less : {next : Option ℕ} → next ≡ key_after (keys t OfRecall) key → length (keys_from (keys t OfRecall) next) < length (keys_from (keys t OfRecall) place)
+  first-less {next} next_is =
+      let ks : List ℕ = keys t OfRecall in
+      let start : length (keys_from ks place) ≡ length (keys_on ks key) = ap (λ o. length (keys_from ks o)) at in
+      let behind : length (keys_from ks next) ≡ length (keys_from ks (key_after ks key)) = ap (λ o. length (keys_from ks o)) next_is in
+      omega (arith, start, ap length from-key, behind)
+
+module _ {t : Lists Slot} {named : List Holder} {place : Option ℕ} (first : AreFirst t named place) (n : ℕ) where
+  -- enough
+  pub first-full : length named ≡ n → named ≡ take n (map holder_of (nodes_in t OfRecall))
+  first-full full = sym (take_at named (holders_at t (keys_from (keys t OfRecall) place)) n full) ∙ ap (take n) first.whole
+
+  -- no more
+  pub first-all : place ≡ None → length named ≤ n → named ≡ take n (map holder_of (nodes_in t OfRecall))
+  first-all end few =
+      let whole : named ≡ holders_at t (keys t OfRecall) = sym (append-nil named) ∙ (subst (AreFirst t named) end first).whole in
+      sym (take_all n named few) ∙ ap (take n) whole
 
 apart-take : (k : Holder) (n : ℕ) (hs : List Holder) → AllByRecursion (λ h. same k h ≡ false) hs → AllByRecursion (λ h. same k h ≡ false) (take n hs)
 apart-take k zero hs all = tt

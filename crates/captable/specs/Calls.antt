@@ -62,7 +62,7 @@ abbrev pub given_back : Caps → Entry → Entry
 given_back caps e = record e { held = minus e.held caps; want = minus e.want caps }
 
 -- what the client is to know of was one set and is another: the entry's number rises if the sets differ, and it is the
--- number of a revocation too if a capability went
+-- number of a revocation too if a cap went
 abbrev pub renumbered : Caps → Caps → Entry → Entry
 renumbered before after e =
     if not (is_empty (minus before after)) then record e { seq = e.seq + 1; revoke_seq = e.seq + 1 }
@@ -78,7 +78,7 @@ with_asked asked e = record e { asked = asked }
 abbrev pub with_size_due : Bool → Entry → Entry
 with_size_due due e = record e { size_due = due }
 
--- the client was not told of the last change, is still to be told the size, or is asked to give back
+-- the client was not told of the last change, is still to be told the size, or is asked to release
 abbrev pub is_due_entry : Entry → Bool
 is_due_entry e = nat_lt e.told_seq e.seq || (e.size_due || e.asked)
 

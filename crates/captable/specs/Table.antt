@@ -7,7 +7,7 @@ use Rattle.captable.specs.declared.entry.Holder.{Holder}
 use Rattle.captable.specs.declared.entry.Entry.{Entry}
 use Rattle.captable.specs.declared.entry.EntryRow.{EntryRow}
 
--- each entry with its holder, the first made first; and the holders, the first to be asked for capabilities first
+-- each entry with its holder, the first made first; and the holders, the first to be asked for caps first
 pub record Table : Type 0 where
   pub rows : List EntryRow
   pub recall : List Holder

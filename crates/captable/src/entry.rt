@@ -15,22 +15,22 @@ pub struct Holder {
     pub ino: Ino,
 }
 
-/// What the server knows of one client's capabilities on one inode. The three numbers count the changes of
+/// What the server knows of one client's caps on one inode. The three numbers count the changes of
 /// what the client is to know that it holds: a message that tells it has the number of the latest change, and the client
 /// names a number when it acknowledges.
 #[derive(Clone, Copy, Debug)]
 pub struct Entry {
-    /// The capabilities that were issued to the client and not told back.
+    /// The caps that were issued to the client, and neither acknowledged nor released.
     pub held: CapSet,
-    /// The capabilities that the client asks for.
+    /// The caps that the client asks for.
     pub want: CapSet,
     /// The number of the last change of what the client is to know of.
     pub seq: u64,
-    /// The number of the last change that took a capability away, 0 if none did.
+    /// The number of the last change that took a cap away, 0 if none did.
     pub revoke_seq: u64,
     /// The number of the last change that the client was told of.
     pub told_seq: u64,
-    /// Whether the client is asked to give capabilities back, in a message that is still due.
+    /// Whether the client is asked to release caps, in a message that is still due.
     pub asked: bool,
     /// Whether the client is still to be told the inode's size, which was changed while it cached the data.
     pub size_due: bool,
@@ -100,7 +100,7 @@ impl Entry {
         }
     }
 
-    /// Whether the client was not told of the last change, is still to be told the size, or is asked to give back.
+    /// Whether the client was not told of the last change, is still to be told the size, or is asked to release.
     pub fn is_due(&self) -> bool
         ensures { result ≡ words.is_due_entry self.now }
     {

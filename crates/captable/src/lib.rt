@@ -1,4 +1,4 @@
-//! Who holds and wants which capabilities on which inode: the server's table of one entry for each client on an inode.
+//! Who holds and wants which caps on which inode: the server's table of one entry for each client on an inode.
 //!
 //! Public source: "Capabilities in CephFS" in the Ceph documentation.
 #![tactic(auto)]

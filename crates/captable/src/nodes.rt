@@ -1,18 +1,18 @@
 //! The nodes of the table: reads of one node, and changes of one, whose writes of links nobody counts.
-ghost use Rattle.std.specs.Prelude.{◌≡◌, ◌≤◌, ℕ, true, false, None, IsSome, IfOk, IfSome, IfNone, OnErr};
+ghost use Rattle.std.specs.Prelude.{◌≡◌, ◌≤◌, ℕ, true, false, None, IsSome, IfOk, IfSome, IfNone, OnErr, map, take};
 ghost use Rattle.std.specs.Option.{option_map};
 ghost use Rattle.capbits.specs.Refusal.{first_failing};
-ghost use Rattle.cap_arena.specs.Lists.{IsLists, OfInode, belongs_at, keys, node_at};
+ghost use Rattle.cap_arena.specs.Lists.{IsLists, OfInode, OfRecall, belongs_at, keys, node_at};
 ghost use Rattle.cap_arena.specs.Walks.{is_among};
 ghost use Rattle.cap_arena.specs.Calls.{node, add_tests, Adds, Removes, Touches};
 ghost use Rattle.captable.specs.Nodes as words;
-ghost use Rattle.captable.specs.Nodes.{holder_of, SetsEntry, IsKeyOf};
+ghost use Rattle.captable.specs.Nodes.{holder_of, nodes_in, SetsEntry, IsKeyOf};
 ghost use Rattle.captable.specs.Walks.{IsPlaceOf, keys_from};
 
 use crate::entry::{Entry, EntryRow, Holder, Slot};
 use cap_arena::{LinkWrites, Node, TripleLists};
 use capbits::Ino;
-use std::alloc::AllocError;
+use std::alloc::{AllocError, Global};
 use std::sync::ledger::{Blank, Ledger};
 
 // The row that the node stands for.
@@ -86,6 +86,29 @@ pub(crate) fn key_of(lists: &TripleLists<Slot>, holder: Holder, near: usize) -> 
     }
     let first = lists.first_of_ino(holder.ino);
     key_from(lists, holder, first)
+}
+
+// The holders of the first `n` nodes in the order of recall, of all nodes if there are fewer.
+pub(crate) fn first_holders(
+    lists: &TripleLists<Slot>,
+    alloc: Global,
+    n: u32,
+) -> Result<Vec<Holder>, AllocError>
+    ensures { IfOk result (λ named. named.items ≡ take n (map holder_of (nodes_in lists.now OfRecall))) }
+{
+    let mut named = Vec::new(alloc);
+    let mut next = lists.oldest();
+    'named: while let Some(key) = next {
+        if named.len() == n as usize {
+            break;
+        }
+        let Some(holder) = holder_at(lists, key) else {
+            unreachable!()
+        };
+        named.push(holder)?;
+        next = lists.newer(key);
+    }
+    Ok(named)
 }
 
 // Gives the node this entry in place of its own, where the key has one.

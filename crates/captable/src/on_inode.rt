@@ -19,7 +19,7 @@ pub struct Sets {
     pub permitted: CapSet,
 }
 
-// The same, with the client.
+// What is kept of an entry, with its client.
 #[derive(Clone, Copy, Debug)]
 struct KnownRow {
     client: ClientId,

@@ -80,7 +80,7 @@ pub(crate) fn set_place(polls: &mut Numbered<Poll>, client: ClientId, place: Opt
     }
 }
 
-// An entry of the client is due now, or is not, which was due before, or was not.
+// Adjusts the client's count when an entry's due flag changes from `was` to `is`.
 pub(crate) fn count_again(polls: &mut Numbered<Poll>, client: ClientId, was: bool, is: bool)
     requires fits { IfSome (map.get polls.old client.0) (λ poll. poll.due < 2 ^ 64 - 1) }
     ensures { polls.new ≡ change_at (λ poll. record poll { due = words.recounted was is poll.due }) polls.old client.0 }

@@ -3,7 +3,9 @@ ghost use Rattle.std.specs.Prelude.{◌≡◌, ◌<◌, ◌^◌, ◌-◌, true, 
 
 use crate::entry::{Edit, Entry, Holder, Slot};
 use crate::holders::Holders;
-use crate::nodes::{add_node, holder_at, key_of, remove_node, set_entry, touch_node};
+use crate::nodes::{
+    add_node, first_holders, holder_at, key_of, remove_node, set_entry, touch_node,
+};
 use crate::places::is_due_at;
 use crate::polls::{
     Poll, begin_poll, count_again, count_of, end_poll, lower_place, move_place, quiet_place,
@@ -22,8 +24,8 @@ use std::sync::ledger::Blank;
 pub const MAX_ENTRIES: usize = MAX_NODES;
 
 /// The entries of all clients on all inodes, at most `MAX_ENTRIES`, one for each client on an inode. They have two
-/// orders: the order of making, which stays, and the order of recall, in which clients are asked to give capabilities
-/// back: the entry that was left alone longest is the oldest, and comes first.
+/// orders: the order of making, which stays, and the order of recall, in which clients are asked to release caps:
+/// the entry that was left alone longest is the oldest, and comes first.
 pub struct CapTable {
     alloc: Global,
     lists: TripleLists<Slot>,
@@ -125,7 +127,7 @@ impl CapTable {
         Some(node.value.entry)
     }
 
-    /// The same, where the entry is guessed to stand at a place. If it does, it is not searched for.
+    /// The client's entry on the inode, guessed to stand at a place. If it does, it is not searched for.
     pub fn find_near(&self, client: ClientId, ino: Ino, place: usize) -> Option<Entry>
         ensures { result ≡ entry_at self.now (holder client ino) }
     {
@@ -166,7 +168,7 @@ impl CapTable {
         }
     }
 
-    /// Why an acknowledgement is not taken that names the message with the number `seq`, where the capabilities of
+    /// Why an acknowledgement is not taken that names the message with the number `seq`, where the caps of
     /// `against` are being revoked.
     pub fn ack_refusal(
         &self,
@@ -193,7 +195,7 @@ impl CapTable {
         None
     }
 
-    /// Why the client can't give these capabilities back: it has no entry on the inode, or does not hold each of them.
+    /// Why the client can't release these caps: it has no entry on the inode, or does not hold each of them.
     pub fn release_refusal(&self, client: ClientId, ino: Ino, caps: CapSet) -> Option<Refusal>
         ensures { result ≡ first_failing (release_tests self.now (holder client ino) caps) }
     {
@@ -229,8 +231,8 @@ impl CapTable {
         Ok(())
     }
 
-    /// Takes an acknowledgement, which names the message with the number `seq`: the client gives back the capabilities
-    /// of `against`, which are being revoked, and no longer holds any of them. With the pin among them its whole entry
+    /// Takes an acknowledgement, which names the message with the number `seq`: the client no longer holds any cap
+    /// of `against`, which are being revoked. With the pin among them its whole entry
     /// goes, whatever else it holds, from both orders. It is refused as NoEntry, as NothingToAck, as BadSeq, or as OldSeq.
     pub fn ack(
         &mut self,
@@ -250,7 +252,7 @@ impl CapTable {
         Ok(())
     }
 
-    /// The client gives back these capabilities: it neither holds nor wants them any more. With the pin among them its
+    /// The client releases these caps: it neither holds nor wants them any more. With the pin among them its
     /// whole entry goes, from both orders. It is refused as NoEntry, or as NotHeld.
     pub fn release(&mut self, client: ClientId, ino: Ino, caps: CapSet) -> Result<(), Refusal>
         ensures refused { result_err result ≡ first_failing (release_tests self.old (holder client ino) caps) }
@@ -313,22 +315,22 @@ impl CapTable {
         Some(found)
     }
 
-    /// The client asks for these capabilities from now on. Where it has no entry, nothing happens.
+    /// The client asks for these caps from now on. Where it has no entry, nothing happens.
     pub fn set_want(&mut self, client: ClientId, ino: Ino, want: CapSet)
         ensures { self.new ≡ changed self.old (holder client ino) (wanting want) }
     {
         let _found = self.edit(Holder { client, ino }, Edit::Want(want));
     }
 
-    /// The client holds these capabilities too from now on. Where it has no entry, nothing happens.
+    /// The client holds these caps too from now on. Where it has no entry, nothing happens.
     pub fn issue(&mut self, client: ClientId, ino: Ino, caps: CapSet)
         ensures { self.new ≡ changed self.old (holder client ino) (issued caps) }
     {
         let _found = self.edit(Holder { client, ino }, Edit::Issue(caps));
     }
 
-    /// Takes an acknowledgement, which names the message with the number `seq`: the client gives back the capabilities
-    /// of `against`, which are being revoked, and no longer holds any of them. With the pin among them its whole entry
+    /// Takes an acknowledgement, which names the message with the number `seq`: the client no longer holds any cap
+    /// of `against`, which are being revoked. With the pin among them its whole entry
     /// goes, whatever else it holds, from both orders.
     pub fn ack_tested(&mut self, client: ClientId, ino: Ino, seq: u64, against: CapSet)
         requires passed { first_failing (ack_tests self.old (holder client ino) seq against) ≡ None }
@@ -343,7 +345,7 @@ impl CapTable {
     }
 
     /// What the client is to know that it holds changed in one step of the server, from `before` to `after`. If they
-    /// differ, the entry's number rises by one, and if a capability went, the new number is that of a revocation too.
+    /// differ, the entry's number rises by one, and if a cap went, the new number is that of a revocation too.
     /// Where the client has no entry, nothing happens.
     pub fn renumber(&mut self, client: ClientId, ino: Ino, before: CapSet, after: CapSet)
         requires { IfSome (entry_at self.old (holder client ino)) (λ entry. entry.seq < 2 ^ 64 - 1) }
@@ -352,7 +354,7 @@ impl CapTable {
         let _found = self.edit(Holder { client, ino }, Edit::Renumber { before, after });
     }
 
-    /// Issues these capabilities, and then numbers the change of what the client is to know, as `issue` and `renumber` do
+    /// Issues these caps, and then numbers the change of what the client is to know, as `issue` and `renumber` do
     /// one after the other.
     pub fn issue_numbered(
         &mut self,
@@ -381,7 +383,7 @@ impl CapTable {
         self.edit(Holder { client, ino }, Edit::Tell)
     }
 
-    /// Marks the client's entry as asked for capabilities, or as not asked. Where it has no entry, nothing happens.
+    /// Marks the client's entry as asked for caps, or as not asked. Where it has no entry, nothing happens.
     pub fn ask(&mut self, client: ClientId, ino: Ino, asked: bool)
         ensures { self.new ≡ changed self.old (holder client ino) (with_asked asked) }
     {
@@ -432,7 +434,7 @@ impl CapTable {
         }
     }
 
-    /// The client gives back these capabilities: it neither holds nor wants them any more. With the pin among them its
+    /// The client releases these caps: it neither holds nor wants them any more. With the pin among them its
     /// whole entry goes, from both orders.
     pub fn release_tested(&mut self, client: ClientId, ino: Ino, caps: CapSet)
         requires passed { first_failing (release_tests self.old (holder client ino) caps) ≡ None }
@@ -532,7 +534,7 @@ impl CapTable {
         self.lists.first_of_ino(ino).is_some()
     }
 
-    /// Marks the first `n` entries in the order of recall as asked for capabilities, and answers whose they are, in this
+    /// Marks the first `n` entries in the order of recall as asked for caps, and answers whose they are, in this
     /// order; all of them if there are fewer. It moves none. For want of memory nothing changes.
     pub fn recall(&mut self, n: u32) -> Result<Holders, AllocError>
         ensures named { IfOk result (λ named. named ≡ take n self.old.recall) }
@@ -550,19 +552,11 @@ impl CapTable {
         ensures named { IfOk result (λ named. named ≡ take n self.now.recall) }
         ensures sound { IsTable self.now }
     {
-        let mut named = Vec::new(self.alloc);
-        let mut next = self.oldest();
-        'named: while let Some(holder) = next {
-            if named.len() == n as usize {
-                break;
-            }
-            named.push(holder)?;
-            next = self.newer(holder.client, holder.ino);
-        }
+        let named = first_holders(&self.lists, self.alloc, n)?;
         Ok(Holders::from_vec(named))
     }
 
-    // Marks the entries of these holders as asked for capabilities.
+    // Marks the entries of these holders as asked for caps.
     fn ask_all(&mut self, holders: &[Holder])
         ensures { self.new ≡ fold (changed_by asking) self.old holders.now }
     {

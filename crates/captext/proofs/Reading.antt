@@ -15,7 +15,7 @@ use Rattle.capbits.specs.Text.{capital_of, letter_of, letters_in, group_of, grou
 use Rattle.capbits.proofs.Spelling.{text_of-some}
 use Rattle.capbits.proofs.Following.{in_parts, in_rest, is_letter, is_capital, rest_of, letters_of, Apart, ApartParts, apart_parts, apart_caps, or_left, or_right, or_false, neither, clash, nil_cons, same_self, in_rest-cons, in_rest-append, letters_in-with, letters_in-lacking, groups_in-lacking, letters_in-split, groups_in-split, first_capital, no_letter, behind_letter, behind_capital, apart_behind, apart_parts_behind, passed_caps, outside, behind_parts, passed_parts, letters_of_text, dash_alone}
 
--- bytes were read, and with them these capabilities: what can follow is letters of `caps` and groups of `parts`, and a letter has to
+-- bytes were read, and with them these caps: what can follow is letters of `caps` and groups of `parts`, and a letter has to
 -- where the last byte was a capital
 pub record HasRead (bytes : List ℕ) (got : Caps) (needs : Bool) (caps : List Cap) (parts : List Part) : Type 0 where
   pub caps_apart : Apart caps parts
@@ -23,7 +23,7 @@ pub record HasRead (bytes : List ℕ) (got : Caps) (needs : Bool) (caps : List C
   pub some_caps : IsTrue needs → caps ≢ []
   -- nothing of what can follow was read
   pub lacks : (d : Cap) → IsTrue (in_rest d caps parts) → IsFalse (has got d)
-  -- a set with the same capabilities apart from these has a spelling that begins with the bytes
+  -- a set with the same caps apart from these has a spelling that begins with the bytes
   pub sound : (s : Caps) → ((d : Cap) → IsFalse (in_rest d caps parts) → has s d ≡ has got d) → (IsTrue needs → letters_in s caps ≢ []) → letters_of s ≡ bytes ++ rest_of s caps parts
   -- a spelling that begins with the bytes goes on so
   pub complete : (s : Caps) (w : List ℕ) → letters_of s ≡ bytes ++ w → (rest_of s caps parts ≡ w) × (IsTrue needs → letters_in s caps ≢ [])
@@ -43,11 +43,11 @@ or_nothing : (b : Bool) → (b || false) ≡ b
 or_nothing true = refl
 or_nothing false = refl
 
--- one capability more
+-- one cap more
 has_more : (got : Caps) (c d : Cap) → has (union got (caps_in (c ∷ []))) d ≡ (has got d || same_cap d c)
 has_more got c d = has-union got (caps_in (c ∷ [])) d ∙ ap (λ b. has got d || b) (has-caps_in (c ∷ []) d ∙ or_nothing (same_cap d c))
 
--- a capability that can still follow is another than the one that comes once
+-- a cap that can still follow is another than the one that comes once
 not_again : (d c : Cap) (caps : List Cap) (parts : List Part) → IsFalse (in_rest c caps parts) → IsTrue (in_rest d caps parts) → IsFalse (same_cap d c)
 not_again d c caps parts f r =
     elim (same_cap d c) as (λ v. same_cap d c ≡ v → IsFalse v) [

@@ -1,4 +1,4 @@
-//! Texts that are made piece by piece, of words, numbers, sets of capabilities, and what values print; and the text of a set, read.
+//! Texts that are made piece by piece, of words, numbers, sets of caps, and what values print; and the text of a set, read.
 #![tactic(auto)]
 
 mod reader;

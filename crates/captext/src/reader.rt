@@ -1,4 +1,4 @@
-//! Reading the text of a set of capabilities, one byte after the other.
+//! Reading the text of a set of caps, one byte after the other.
 ghost use Rattle.std.specs.Prelude.{◌≡◌, ◌≢◌, ◌==◌, ◌∷◌, ◌++◌, [], List, IsFalse, IfOk, IfErr, IfSome, IfNone, slice_index};
 ghost use Rattle.std.specs.List.{list_any};
 ghost use Rattle.capbits.specs.declared.cap.Cap.{Cap};
@@ -9,7 +9,7 @@ ghost use Rattle.capbits.specs.Text.{text_of, letter_of, capital_of, IsLongestBe
 use capbits::{Cap, CapSet, Part};
 use thiserror::Error;
 
-/// The answer where a text is the text of no set of capabilities.
+/// The answer where a text is the text of no set of caps.
 #[derive(Clone, Copy, Debug, PartialEq, Eq, Error)]
 #[error("no set of capabilities, wrong at {at}")]
 pub struct CapText {
@@ -66,7 +66,7 @@ fn read_letters(text: &[u8]) -> Result<CapSet, CapText>
     Ok(set)
 }
 
-// The first of these capabilities that has this letter, and those behind it.
+// The first of these caps that has this letter, and those behind it.
 fn find_letter(caps: &[Cap], byte: u8) -> Option<(Cap, &[Cap])>
     ensures letter { IfSome result (λ found. letter_of found.0 ≡ byte) }
     ensures split { IfSome result (λ found. (front : List Cap) × (caps.now ≡ front ++ found.0 ∷ found.1.now)) }

@@ -65,7 +65,7 @@ impl Write for Text {
     }
 }
 
-/// Appends the one spelling of a set of capabilities. `AllocError` where no memory is left for it.
+/// Appends the one spelling of a set of caps. `AllocError` where no memory is left for it.
 pub fn print_caps(text: &mut Vec<u8>, caps: CapSet) -> Result<(), AllocError>
     ensures { OnOk result (text.new.items ≡ text.old.items ++ text_of caps) }
 {

@@ -1,4 +1,4 @@
--- A change of the tree leaves the paths of inodes that it does not touch, and whose they are.
+-- A change of the tree leaves the paths of inodes that it does not affect, and whose they are.
 use Rattle.std.proofs.Common.{◌≡◌, ℕ, zero, suc, ◌+◌, true, List, [], ◌∷◌, Option, Some, None, inl, inr, refl, sym, ap, subst, ◌∙◌, arith}
 use Rattle.std.specs.Cmp.{nat_cmp_total}
 use Rattle.std.specs.FinMap as map

@@ -1,6 +1,6 @@
 -- Sets of inodes: what the numbers of a tree set say of the set that they make, the least from a number on, and one inode beside
 -- others.
-use Rattle.std.proofs.Common.{◌≡◌, ◌≢◌, ℕ, ◌<◌, ◌≤◌, ◌+◌, ◌-◌, ◌==◌, Option, Some, None, ◌⊎◌, inl, inr, Bool, true, false, cond, not, ◌&&◌, ◌||◌, List, [], ◌∷◌, length, Result, Ok, Err, OnOk, OnErr, refl, sym, ap, ◌∙◌, true≢false, arith}
+use Rattle.std.proofs.Common.{◌≡◌, ◌≢◌, ℕ, ◌<◌, ◌≤◌, ◌+◌, ◌==◌, Option, Some, None, ◌⊎◌, inl, inr, Bool, true, false, cond, ◌||◌, List, [], ◌∷◌, Result, Ok, Err, OnOk, OnErr, refl, sym, ap, ◌∙◌, arith}
 use Rattle.std.proofs.Math.Bool.{or-true}
 use Rattle.std.proofs.lemmas.Bool.{eqb-true, eqb-false, eq-eqb, ne_eqb, or_parts}
 use Rattle.std.specs.declared.cmp.Ordering.TheVariants.{Less, Equal, Greater}
@@ -84,33 +84,11 @@ module _ (s : BTreeSet ℕ) (inos : InoSet) (is : set.from_list {R = nat_cmp} s.
 
 -- ---- numbers that are equal
 
-same_number : (a b : ℕ) → eq_by_cmp nat_cmp a b ≡ true → a ≡ b
-same_number a b is = eqb-true a b (sym (unsigned_tied a b) ∙ is)
-
 differ : (a b : ℕ) → a ≢ b → eq_by_cmp nat_cmp a b ≡ false
 differ a b apart = unsigned_tied a b ∙ ne_eqb a b apart
 
 itself : (a : ℕ) → eq_by_cmp nat_cmp a a ≡ true
 itself a = (eq_by_cmp_equiv nat_cmp_total).refl a
-
--- ---- one alone
-
--- of a set of one, two that are in it are the same
-pub same-in-single : (inos : InoSet) → set.len inos ≡ 1 → (a b : ℕ) → set.contains inos a ≡ true → set.contains inos b ≡ true → a ≡ b
-same-in-single inos one a b has_a has_b = by_test (eq_by_cmp nat_cmp b a) refl
-  where
-    less : InoSet
-    less = set.remove inos a
-
-    none : less ≡ set.empty
-    none = set.empty_of_len less (set.len-remove nat_cmp_total inos a ∙ (λ i. cond (has_a i) (one i - 1) (one i)))
-
-    by_test : (t : Bool) → eq_by_cmp nat_cmp b a ≡ t → a ≡ b
-    by_test true is = sym (same_number b a is)
-    by_test false is =
-        let out : set.contains less b ≡ false = ap (λ (s : InoSet). set.contains s b) none ∙ set.contains-empty nat_cmp b in
-        let still : set.contains less b ≡ true = set.contains-remove nat_cmp_total inos a b ∙ (λ i. not (is i) && has_b i) in
-        absurd (true≢false (sym still ∙ out))
 
 -- ---- one beside others
 

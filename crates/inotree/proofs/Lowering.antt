@@ -58,7 +58,7 @@ module _ {A : Type 0} (f g : A → ℕ) (lower : (x : A) → g x ≤ f x) (n k :
       let parts = or_parts (nat_le n (f x)) (list_any (λ x. nat_le n (f x)) xs) e in
       ap (λ b. b || list_any (λ x. nat_le k (g x)) xs) (still_low n k (f x) (g x) more (lower x) parts.0) ∙ none_high xs parts.1
 
--- a turn of the loop, in which heights may be lowered
+-- a round of the loop, in which heights may be lowered
 pub none_higher : {A : Type 0} (f g : A → ℕ) (n below k : ℕ) (xs : List A) (x : A) → k ≡ ord_max nat_cmp n (below + 1) → below ≡ g x → ((x : A) → g x ≤ f x) → list_any (λ x. nat_le n (f x)) xs ≡ false → list_any (λ x. nat_le k (g x)) (xs ++ x ∷ []) ≡ false
 none_higher f g n below k xs x is now lower e =
     let both = from_max n (below + 1) k is in
@@ -153,7 +153,7 @@ module _ (m : InodeMap) (index : NameIndex) (heights : HeightMap) (dir most : �
 pub all_known : (m : InodeMap) (old new : HeightMap) → AreNoHigher m old new → AreAllKnown m old → AreAllKnown m new
 all_known m old new lower known i = not_above (height m new i) (height m old i) 32 (lower i) (known i)
 
--- a turn of the loop: a child that is low enough raises the greatest no further
+-- a round of the loop: a child that is low enough raises the greatest no further
 pub turn_few : (most below k steps : ℕ) → k ≡ ord_max nat_cmp most (below + 1) → most < steps → below < steps - 1 → k < steps
 turn_few most below k steps is less few = go (is_lt (nat_cmp (below + 1) most)) refl where
   go : (t : Bool) → is_lt (nat_cmp (below + 1) most) ≡ t → k < steps

@@ -118,6 +118,13 @@ impl Tree {
         })
     }
 
+    /// The allocator of the tree.
+    pub fn alloc(&self) -> Global
+        ensures sound { IsTree self.now }
+    {
+        self.alloc
+    }
+
     /// The last inode number that was given: 1 in a new tree. The next is one more.
     pub fn last(&self) -> Ino
         ensures last { result.0 ≡ self.now.last }

@@ -23,7 +23,7 @@ use Rattle.lockmachine.specs.Scene.{Scene, wanted_in_all, target_by, target}
 pub use Rattle.onelock.specs.Held.{is_held_outside}
 pub use Rattle.onelock.specs.Lock.{same_state, LockPlace, may_end_in}
 
--- some capabilities are still to be acknowledged or released before the lock can be in its target
+-- some caps are still to be acknowledged or released before the lock can be in its target
 abbrev pub is_open : Scene → ℕ → Part → State → Bool
 is_open s ino part to = is_held_outside s.table (record { 0 = ino }) part to
 
@@ -159,7 +159,7 @@ with_moved s step = record s { locks = moved s.locks step }
 
 -- ---- rest
 
--- the lock is stable at its target and nobody waits for it; or it gathers, and some capabilities are still to be
+-- the lock is stable at its target and nobody waits for it; or it gathers, and some caps are still to be
 -- acknowledged or released; where there is no lock, nobody waits
 abbrev pub IsQuiet : Scene → ℕ → Part → Option LockState → Type 0
 IsQuiet s ino part None = first_for s.locks.queue ino part ≡ None

@@ -1,4 +1,4 @@
--- Of what a client holds, what is being revoked: which capabilities these are, whoever holds how much.
+-- Of what a client holds, what is being revoked: which caps these are, whoever holds how much.
 use Rattle.std.specs.Prelude.{Bool, false, not, ◌&&◌, ◌||◌, Option, Some, None}
 use Rattle.capbits.specs.declared.cap.Cap.{Cap}
 use Rattle.capbits.specs.declared.cap.Part.{Part}

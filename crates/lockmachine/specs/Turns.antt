@@ -1,4 +1,4 @@
--- Whose turn it is, where a step touches many inodes: a caller goes over them in the order of their numbers.
+-- Whose turn it is, where a step affects many inodes: a caller goes over them in the order of their numbers.
 use Rattle.std.specs.Prelude.{◌≡◌, ◌≢◌, ◌<◌, ◌==◌, ℕ, Bool, true, false, IsTrue, Option, Some, None, Contains}
 use Rattle.std.specs.List.{list_any}
 use Rattle.capbits.specs.declared.cap.Part.{Part}

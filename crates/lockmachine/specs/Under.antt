@@ -30,7 +30,7 @@ against_under locks row =
     union (against_lock A row (lock_under locks A))
     (union (against_lock L row (lock_under locks L)) (union (against_lock X row (lock_under locks X)) (against_lock F row (lock_under locks F))))
 
--- what its client is to know that it holds, where it is permitted these capabilities
+-- what its client is to know that it holds, where it is permitted these caps
 abbrev pub told_under : Caps → Option InodeLocks → EntryRow → Caps
 told_under permitted locks row = minus row.entry.held (union (against_under locks row) (minus row.entry.held permitted))
 

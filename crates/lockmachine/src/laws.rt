@@ -23,7 +23,7 @@ ghost use Rattle.lockmachine.specs.Runs.{Runs, AreFew, MoveLittle, EndLittle};
 ghost use Rattle.lockmachine.specs.Rows.{IsInRow};
 
 /// Where no move applies, and who waits, waits for a lock that is there, the locks are at rest: each is stable at its
-/// target and nobody waits for it, or it gathers and some capabilities are still to be acknowledged or released. Where they are at rest, no move
+/// target and nobody waits for it, or it gathers and some caps are still to be acknowledged or released. Where they are at rest, no move
 /// applies; nor where nobody has an entry, nobody waits, and the locks are in SYNC.
 pub fn settled_is_at_rest()
     ensures rest { (s : Scene) → WaitAtLocks s → first_move s ≡ Settled → IsAtRest s }

@@ -1,4 +1,4 @@
--- Capabilities that two clients may not hold together on one inode, and why the table keeps them apart.
+-- Caps that two clients may not hold together on one inode, and why the table keeps them apart.
 use Rattle.std.specs.Prelude.{◌≡◌, ◌≢◌, Bool, true, false, IsTrue, IsFalse, ◌||◌, not, refl, if◌then◌else◌, List, [], ◌∷◌, All}
 use Rattle.std.specs.List.{list_any, list_all}
 use Rattle.std.proofs.Common.{◌∙◌, sym, subst, true≢false}
@@ -16,7 +16,7 @@ use Rattle.locktable.specs.declared.states.LockState.{LockState}
 use Rattle.locktable.specs.declared.states.LockState.TheVariants.{Stable, Gather}
 use Rattle.locktable.specs.Rows.{cell_of, is_for, row_of, allowed_of, states_of}
 
--- while one client holds this capability, no other may hold these
+-- while one client holds this cap, no other may hold these
 abbrev pub barred_by : Cap → List Cap
 barred_by Fs = Fw ∷ Fx ∷ Fb ∷ []
 barred_by Fc = Fw ∷ Fx ∷ Fb ∷ []
@@ -28,15 +28,15 @@ barred_by Lx = Ls ∷ Lx ∷ []
 barred_by Xx = Xs ∷ Xx ∷ []
 barred_by cap = []
 
--- whether two capabilities conflict where two clients hold one each
+-- whether two caps conflict where two clients hold one each
 abbrev pub conflict : Cap → Cap → Bool
 conflict c d = list_any (same_cap d) (barred_by c) || list_any (same_cap c) (barred_by d)
 
--- no capability of one set conflicts with one of the other
+-- no cap of one set conflicts with one of the other
 pub record AreApart (a b : Caps) : Type 0 where
   pub no_conflict : (c d : Cap) → IsTrue (has a c) → IsTrue (has b d) → IsFalse (conflict c d)
 
--- whether no two capabilities of a list conflict
+-- whether no two caps of a list conflict
 abbrev none_conflict : List Cap → Bool
 none_conflict cs = list_all (λ c. list_all (λ d. not (conflict c d)) cs) cs
 

@@ -22,7 +22,7 @@ is_served Sync (Read asker) = true
 is_served (Excl holder) (Read asker) = holder.0 == asker.0
 is_served state head = false
 
--- whether a set has one of these capabilities
+-- whether a set has one of these caps
 abbrev pub has_any : Caps → List Cap → Bool
 has_any s caps = list_any (has s) caps
 

@@ -1,5 +1,5 @@
 //! The lock table: what a client may hold of a part of an inode by the state of the part's lock, which requests a
-//! state serves, and where a lock is to go. The table is this server's own; the parts and capabilities are those of
+//! state serves, and where a lock is to go. The table is this server's own; the parts and caps are those of
 //! "Capabilities in CephFS" in the Ceph documentation.
 #![tactic(auto)]
 

@@ -19,7 +19,7 @@ pub enum State {
 pub enum LockState {
     /// At rest.
     Stable(State),
-    /// Waiting until the clients have told back what the target doesn't allow.
+    /// Waiting until the clients have acknowledged or released what the target doesn't allow.
     Gather {
         /// The state that the lock leaves.
         from: State,

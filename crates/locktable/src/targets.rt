@@ -88,7 +88,7 @@ fn taking_caps(part: Part) -> &'static [Cap]
     }
 }
 
-// Whether a set has one of these capabilities.
+// Whether a set has one of these caps.
 fn wants_any(set: CapSet, caps: &[Cap]) -> bool
     ensures { result ≡ has_any set caps.now }
 {

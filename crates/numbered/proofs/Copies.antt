@@ -59,14 +59,14 @@ module _ {K : Type 0} {R : K → K → Ordering} (o : IsTotalOrder R) (same : ma
               others q off ∙ so_far q ∙ sym (ap (λ b. cond b (map.get m q) None) (tests ∙ ap (λ b. b || list_any (eq_by_cmp R q) ks) (apart o same q k off)))
         ]
 
-    -- a turn of a loop over keys that puts in what m has at the key
+    -- a round of a loop over keys that puts in what m has at the key
     pub copied_put : {A : Type 0} (shows : A → K) (m made next : FinMap R X) (ys : List A) (y : A) (v : X) → map.get m (shows y) ≡ Some v → next ≡ map.insert made (shows y) v
         → IsCopiedAt m (each shows ys) made → IsCopiedAt m (each shows (ys ++ y ∷ [])) next
     copied_put shows m made next ys y v here added =
         copied_more shows m made next ys y (ap (λ n. map.get n (shows y)) added ∙ insert-here o same made (shows y) v ∙ sym here)
         (λ q off. ap (λ n. map.get n q) added ∙ insert-other o same made (shows y) v q off)
 
-    -- a turn at whose key m has nothing
+    -- a round at whose key m has nothing
     pub copied_skip : {A : Type 0} (shows : A → K) (m made : FinMap R X) (ys : List A) (y : A) → map.get m (shows y) ≡ None
         → IsCopiedAt m (each shows ys) made → IsCopiedAt m (each shows (ys ++ y ∷ [])) made
     copied_skip shows m made ys y none so_far =
@@ -82,7 +82,7 @@ module _ {K : Type 0} {R : K → K → Ordering} (o : IsTotalOrder R) (same : ma
     abbrev pub IsCopied : FinMap R X → List (K × X) → FinMap R X → Type 0
     IsCopied m es copy = IsCopiedAt m (each (λ (e : K × X). e.0) es) copy
 
-    -- a turn of a loop over the entries
+    -- a round of a loop over the entries
     pub copied_turn : {A : Type 0} (shows : A → K × X) (m made next : FinMap R X) (ys : List A) (y : A) (rest : List (K × X)) → map.entries m ≡ each shows ys ++ shows y ∷ rest → next ≡ map.insert made (shows y).0 (shows y).1
         → IsCopied m (each shows ys) made → IsCopied m (each shows (ys ++ y ∷ [])) next
     copied_turn shows m made next ys y rest split added so_far =

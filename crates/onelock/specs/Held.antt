@@ -11,10 +11,10 @@ use Rattle.captable.specs.declared.entry.EntryRow.{EntryRow}
 use Rattle.captable.specs.Table.{Table}
 use Rattle.captable.specs.Calls.{entries_on}
 
--- the entry's capabilities of a part that its client may not hold where the part's lock is stable in a state
+-- the entry's caps of a part that its client may not hold where the part's lock is stable in a state
 abbrev pub outside : Part → State → EntryRow → Caps
 outside part state row = minus (of_part part row.entry.held) (row_of part state row.holder.client)
 
--- some client has capabilities of the part that it may not hold where the part's lock is stable in a state
+-- some client has caps of the part that it may not hold where the part's lock is stable in a state
 abbrev pub is_held_outside : Table → Ino → Part → State → Bool
 is_held_outside table ino part state = list_any (λ row. not (is_empty (outside part state row))) (entries_on table ino)

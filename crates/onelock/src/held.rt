@@ -8,7 +8,7 @@ use capbits::{Ino, Part};
 use captable::{CapTable, EntryRow};
 use locktable::{State, row};
 
-/// Whether some client has capabilities of the part that it may not hold where the part's lock is stable in a state.
+/// Whether some client has caps of the part that it may not hold where the part's lock is stable in a state.
 pub fn is_held_outside(table: &CapTable, ino: Ino, part: Part, state: State) -> bool
     ensures { result ≡ words.is_held_outside table.now ino part state }
 {
@@ -21,7 +21,7 @@ pub fn is_held_outside(table: &CapTable, ino: Ino, part: Part, state: State) -> 
     false
 }
 
-// Whether the entry's client has such capabilities.
+// Whether the entry's client has such caps.
 fn has_outside(part: Part, state: State, entry: EntryRow) -> bool
     ensures { result ≡ not (is_empty (outside part state entry)) }
 {

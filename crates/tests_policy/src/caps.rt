@@ -1,4 +1,4 @@
-//! Sets of capabilities, their numbers and their texts.
+//! Sets of caps, their numbers and their texts.
 
 use crate::asserting::{present, same};
 use crate::texts::shown;
@@ -24,7 +24,7 @@ const BITS: &[(Cap, u32)] = &[
     (Cap::Fl, 32768),
 ];
 
-// Sees that a capability has this bit, and that a set without it has not.
+// Sees that a cap has this bit, and that a set without it has not.
 fn has_bit(rt: &impl Abort, all: CapSet, cap: Cap, bit: u32) {
     let set = CapSet::of(&[cap]);
     let has = (set.has(cap), all.has(cap), all.minus(set).has(cap));
@@ -106,7 +106,7 @@ fn a_fault_is_where_no_spelling_goes_on(rt: HostRuntime) {
     same(&rt, text.as_str(), wanted, "a fault at 3");
 }
 
-// Parts, with the number of all their capabilities, and that of those which the set below has of them.
+// Parts, with the number of all their caps, and that of those which the set below has of them.
 const PARTS: &[(Part, u32, u32)] = &[
     (Part::A, 12, 4),
     (Part::L, 48, 0),

@@ -1,4 +1,4 @@
-//! The table of capabilities: the orders in which its entries stand, and what each keeps.
+//! The table of caps: the orders in which its entries stand, and what each keeps.
 
 use crate::asserting::{made, same};
 use crate::texts::caps;
@@ -9,14 +9,14 @@ use std::process::Abort;
 
 type Places = &'static [Holder];
 
-// The holders of the entries of a walk, and whether each is asked for capabilities.
+// The holders of the entries of a walk, and whether each is asked for caps.
 type Rows = &'static [(Holder, bool)];
 
 // What is held, what is wanted, the numbers of the last change, of the last revocation and of the last change that was told,
-// and whether capabilities are asked for.
+// and whether caps are asked for.
 type Kept = (&'static str, &'static str, (u64, u64, u64), bool);
 
-// What is done with a table, or seen in it. A text names capabilities.
+// What is done with a table, or seen in it. A text names caps.
 enum Step {
     // An entry of a client is opened on an inode, or refused.
     Open(Holder, Option<Refusal>),
@@ -30,7 +30,7 @@ enum Step {
     Renumber(Holder, &'static str, &'static str),
     // A message tells it.
     Tell(Holder),
-    // It gives these back.
+    // It releases these.
     Release(Holder, &'static str, Result<(), Refusal>),
     // It acknowledges the message of this number, where these are being revoked.
     Ack(Holder, u64, &'static str, Result<(), Refusal>),
@@ -38,7 +38,7 @@ enum Step {
     DropClient(u32),
     // So many entries are recalled, which are these.
     Recall(u32, Places),
-    // An entry is asked for capabilities, or not any more.
+    // An entry is asked for caps, or not any more.
     Mark(Holder, bool),
     // A client's entries that are not due are walked over, up to the first that is.
     SkipQuiet(u32),
@@ -83,7 +83,7 @@ fn renumber(table: &mut CapTable, holder: Holder, before: CapSet, after: CapSet)
     }
 }
 
-/// The client gives these back, unless that is refused.
+/// The client releases these, unless that is refused.
 pub fn release(table: &mut CapTable, holder: Holder, text: &str) -> Result<(), Refusal> {
     table.release(holder.client, holder.ino, caps(text))
 }
@@ -211,8 +211,8 @@ const TWO_3: Holder = Holder {
 
 const EMPTY: Option<Kept> = Some(("-", "-", (0, 0, 0), false));
 
-// A client has a file for itself and is asked to give back all but reading and writing, while another one has it open. Then
-// the first gives back more, and holds more anew.
+// A client has a file for itself and is asked to release all but reading and writing, while another one has it open. Then
+// the first releases more, and holds more anew.
 const SHARED_FILE: &[Step] = &[
     Keeps(ONE_2, None),
     Open(ONE_2, None),
@@ -237,7 +237,7 @@ const SHARED_FILE: &[Step] = &[
     Renumber(ONE_2, "pFsxcrwb", "pFrw"),
     Keeps(ONE_2, Some(("pFsxcrwb", "pFsxcrwb", (2, 2, 1), false))),
     Tell(ONE_2),
-    // What is given back is neither held nor wanted.
+    // What is released is neither held nor wanted.
     Release(ONE_2, "Fsxcb", Ok(())),
     Keeps(ONE_2, Some(("pFrw", "pFrw", (2, 2, 2), false))),
     Release(ONE_2, "Fxw", Err(Refusal::NotHeld)),

@@ -3,7 +3,7 @@
 use crate::asking::Beside::Locks;
 use crate::asking::{Case, Step};
 
-// A lock gathers until all is told back.
+// A lock gathers until all is acknowledged.
 const A_GATHER: &[Step] = &[
     ("session 1 10 10 - allow rw", "done", "-; -; -"),
     ("session 2 20 20 - allow rw", "done", "-; -; -"),

@@ -1,4 +1,4 @@
-//! Tests of the public calls of all that needs no server: capabilities, grants, the tree, the table of capabilities, sessions and locks;
+//! Tests of the public calls of all that needs no server: caps, grants, the tree, the table of caps, sessions and locks;
 //! the core and its scripts; and the calls behind the commands that answer questions about grants.
 //!
 //! They show what no answer of a command shows; all else is asked in the talks of `capbench`. They stand in a crate of their own,

@@ -59,7 +59,7 @@ fn thrown_out(
     Ok(sessions.renew(client).err())
 }
 
-// A client gives back what it holds to write, and answers what it still holds.
+// A client releases what it holds to write, and answers what it still holds.
 fn given_back(alloc: Global, client: ClientId, ino: Ino) -> Result<CapSet, AddError> {
     let mut table = CapTable::new(alloc)?;
     table.open_entry(client, ino)?;

@@ -321,7 +321,7 @@ const WAITING: &[Step] = &[
     Want(TWO_2, READER),
     Moves(&[F_BEGINS_MIX]),
     Lock(2, Part::F, TO_MIX),
-    // Half of what is to be given back, and all.
+    // Half of what is being revoked, and all.
     Release(ONE_2, "Fsc"),
     Moves(&[]),
     Release(ONE_2, "Fxb"),

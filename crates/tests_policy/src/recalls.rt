@@ -1,4 +1,4 @@
-//! Who is asked to give back, and who hears of it; and who comes off the blocklist.
+//! Who is asked to release, and who hears of it; and who comes off the blocklist.
 
 use crate::asking::Beside::Locks;
 use crate::asking::{Case, Step};
@@ -18,7 +18,7 @@ const A_CHANGE_WAITS: &[Step] = &[
     ),
 ];
 
-// No lock moves, nothing is held or given back, and no number rises.
+// No lock moves, nothing is issued or released, and no number rises.
 const A_RECALL_MEANWHILE: &[Step] = &[
     (
         "recall 2",

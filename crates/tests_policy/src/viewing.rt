@@ -77,7 +77,7 @@ pub fn changes_text(rt: &impl Abort, alloc: Global, core: &Core) -> String {
     text
 }
 
-// A file, to which its maker alone has a lock; then it is unlinked, and goes once it is given back.
+// A file, to which its maker alone has a lock; then it is unlinked, and goes once it is released.
 const A_FILE_GOES: &[Step] = &[
     (
         "session 1 10 11 - allow rws",

@@ -3,14 +3,14 @@ use Rattle.caprules.specs.Lockmachine.Locks.{LockMap}
 use Rattle.capacts.proofs.{Common.{is_of_client, Request}, Dropped.{dropped_among, dropped-count, dropped-few}}
 use Rattle.capacts.proofs.leaving.drop_requests.Goals as goal
 
-pub push-requires : goal.push-requires
-push-requires c =
+pub unreachable-requires : goal.unreachable-requires
+unreachable-requires c =
     let queue : List Request = c.args.locks.now.queue in
     let all : length c.requests-request-items.result.now ≡ length queue = ap length c.requests-request-items.ensures.requests in
     let fits : c.loop-request.request-index ≤ length queue = omega (arith, all, c.loop-request-test.true) in
     let listed = ap length c.loop-request.invariant.listed ∙ length-append c.args.dropped.now.items (dropped_among c.args.client (take c.loop-request.request-index queue)) in
     let few = dropped-few c.args.client queue c.loop-request.request-index fits in
-    record { room = omega (arith, all, listed, few, c.loop-request-test.true, c.loop-request.invariant.room, c.requires.room) }
+    omega (arith, all, listed, few, c.loop-request-test.true, c.loop-request.invariant.room, c.requires.room, c.in_default.ensures.full)
 
 pub returns-clause-room : goal.returns-clause-room
 returns-clause-room c =

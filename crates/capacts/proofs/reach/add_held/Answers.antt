@@ -1,7 +1,7 @@
-use Rattle.std.{proofs.Common.{ℕ, ◌+◌, ◌≤◌, true, get_or, List, sym, ap, subst, ◌∙◌, true≢false, arith}, specs.List.{AllWithin}}
+use Rattle.std.{proofs.Common.{ℕ, ◌+◌, ◌≤◌, get_or, List, sym, ap, subst, ◌∙◌, true≢false, arith}, specs.List.{AllWithin}}
 use Rattle.std.specs.FinSet as set
 use Rattle.caprules.specs.Capnotes.Noted.{Noted}
-use Rattle.capacts.{proofs.Common.{EntryRow, Ino, InoSet}, proofs.InoSets.{added, few-tried, widens-tried}, proofs.Walked.{IsAdded, added-more}, proofs.reach.add_held.Goals.{then-not-contains+then-is_held+in_ok-add_place+in_ok-insert, else-not-contains, else-not-contains-via-then-not-contains+else-is_held, else-not-contains-via-else-not-contains}, specs.Reach.{Widens}}
+use Rattle.capacts.{proofs.Common.{EntryRow, Ino, InoSet}, proofs.InoSets.{added, few-tried, widens-tried}, proofs.Walked.{IsAdded, added-more}, proofs.reach.add_held.Goals.{then-is_held+in_ok-add_place+in_ok-insert, else-is_held}, specs.Reach.{Widens}}
 use Rattle.capacts.proofs.reach.add_held.Goals as goal
 
 pub loop-ino-preserved : goal.loop-ino-preserved
@@ -11,8 +11,8 @@ loop-ino-preserved c =
     let i : ℕ = c.loop-ino.ino-index in
     let ino : Ino = get_or inos i (record { 0 = 0 }) in
     let was : InoSet = c.loop-ino.affected in
-    elim c.if-not-contains.branch [
-      | then-not-contains+then-is_held+in_ok-add_place+in_ok-insert w ↦
+    elim c.if-is_held.branch [
+      | then-is_held+in_ok-add_place+in_ok-insert w ↦
           let now : InoSet = w.insert.new.self in
           let one : Widens was now = widens-tried ino.0 was now w.insert.result w.insert.ensures.ok w.insert.ensures.err in
           let few : set.len now ≤ set.len was + 1 = few-tried ino.0 was now w.insert.result w.insert.ensures.ok w.insert.ensures.err in
@@ -24,12 +24,8 @@ loop-ino-preserved c =
             covers = subst (λ (m : InoSet). AllWithin (IsAdded rows m) inos 0 (i + 1)) (sym w.affected-is)
                 (added-more rows was now inos i (record { 0 = 0 }) c.loop-ino-test.true one c.loop-ino.invariant.covers (λ _. added ino.0 was now w.in_ok-insert.ensures.ok));
           }
-      | else-not-contains w ↦
-          let here : IsAdded rows was ino = λ held.
-          elim w.else-not-contains.branch [
-            | else-not-contains-via-then-not-contains+else-is_held w' ↦ absurd (true≢false (sym held ∙ sym w'.is_held.ensures ∙ w'.if-is_held.false))
-            | else-not-contains-via-else-not-contains w' ↦ sym c.contains.ensures ∙ w'.if-not-contains.false
-          ] in
+      | else-is_held w ↦
+          let here : IsAdded rows was ino = λ held. absurd (true≢false (sym held ∙ sym c.is_held.ensures ∙ w.if-is_held.false)) in
           record {
             widens = subst (Widens c.args.affected.now) (sym w.affected-is) c.loop-ino.invariant.widens;
             items = ap (λ (n : Noted). n.items) w.changes-is ∙ c.loop-ino.invariant.items;

@@ -1,4 +1,4 @@
-use Rattle.std.proofs.Common.{sym, subst, true, List, Contains, ◌∙◌}
+use Rattle.std.proofs.Common.{sym, subst, List, Contains, ◌∙◌}
 use Rattle.capacts.{proofs.Common.{Ino}, proofs.Walked.{covers-listed, IsAdded, walked-tried, walked-wider}, specs.Reach.{CoversBelow}}
 use Rattle.capacts.proofs.reach.reach.Goals as goal
 

@@ -8,7 +8,7 @@ again : (s : Scene) (q : Request) (ask : Ask) (r : Option Rejection) → ask ≡
     → r ≡ rejection_of s (ask_before s q.ino.0 ask) (ask_needs s q.client q.ino.0 ask) (ask_after s q.ino.0 ask) → r ≡ judged_again s q
 again s q ask r lent is = is ∙ ap (λ (a : Ask). rejection_of s (ask_before s q.ino.0 a) (ask_needs s q.client q.ino.0 a) (ask_after s q.ino.0 a)) lent
 
--- nothing stops it
+-- nothing rejects it
 free : (c : After-carry_out-arg-2-1) → judged_again c.args.scene.now c.args.request.now ≡ None
 free c = elim c.if-not-judged.branch [
   | then-not-judged+in_default w ↦ sym (again c.args.scene.now c.args.request.now _ _ w.lend-asked.ensures w.ask_rejection.ensures) ∙ w.in_default.is

@@ -3,7 +3,7 @@ use Rattle.capsteps.specs.Capevents.declared.event.Event.TheVariants.{Flush}
 use Rattle.capcore.proofs.{Common.{Access, after, asked_tests, before, ByTest, Cap, Caps, caps_in, change_tests, Event, exclusive, failing-front, first_failing, need, needs, part_of_change, passed, passed-front, rejection, rejection_of, release_tests, Scene}, judging.flush_rejection.Goals.{After-access_rejection, After-release_refusal, in-A, in-L, in-X, in-F}}
 use Rattle.capcore.proofs.judging.flush_rejection.Goals as goal
 
--- what the session, the inode and the grants stop
+-- what the session, the inode and the grants reject
 module _ (c : After-access_rejection) where
   abbrev s : Scene
   s = c.args.scene.now

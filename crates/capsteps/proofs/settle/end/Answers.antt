@@ -1,4 +1,4 @@
-use Rattle.std.proofs.{Common.{◌≡◌, ◌==◌, ℕ, Bool, List, [], length, refl, sym, ap, subst, ◌∙◌, arith, eq-eqb}, lemmas.Bool.{eqb-true}, lemmas.List.{nil_from_length}}
+use Rattle.std.proofs.{Common.{◌≡◌, ◌==◌, ℕ, Bool, List, [], vec_len, refl, sym, ap, subst, ◌∙◌, arith, eq-eqb}, lemmas.Bool.{eqb-true}, lemmas.List.{nil_from_length}}
 use Rattle.std.specs.FinSet as set
 use Rattle.capsteps.{proofs.Among.{none-besides, one-counts, one-inode}, proofs.Common.{Ended, Ino, InoSet, KnownSets, leads-then, Scene}, proofs.NobodyServed.{others-still, settled-ends, settled-may, served_none}, proofs.SameLocks.{same-locks}, proofs.settle.end.Goals.{After-settle, In-Entry, In-Inodes}, specs.Begun.{IsReady, MayEnd, MaySettle}, specs.Serves.{EndsAt, EndsWith}, specs.declared.endings.Endings.{Endings}, specs.declared.settle.Affected.{Affected}, specs.declared.settle.Affected.TheVariants.{Entry, Inodes}}
 use Rattle.capsteps.proofs.settle.end.Goals as goal
@@ -43,12 +43,10 @@ module _ (c : After-settle) where
       → EndsAt (set.contains c.settle.new.affected) sized c.settle.new.known.sets sets c.settle.new.scene last
       → EndsWith (λ other. other == ino) c.args.known.now.sets sets c.args.scene.now last c.settle.new.endings.told.items
   ends_there sized are sets last ends =
-      let ready = ready_was in
-      let begins = ready.settles in
       let settles = c.settle.ensures.settles in
       subst (λ (from : ℕ → Bool). EndsWith from c.args.known.now.sets sets c.args.scene.now last c.settle.new.endings.told.items) only
       (settled-ends (set.contains c.settle.new.affected) (set.contains c.of-reached.result) c.args.known.now.sets c.settle.new.known.sets sets c.args.scene.now c.settle.new.scene last
-      c.settle.new.endings.told.items c.settle.new.endings.sized.items settles begins.tree c.settle.ensures.told c.settle.ensures.permitted
+      c.settle.new.endings.told.items c.settle.new.endings.sized.items settles c.settle.ensures.tree c.settle.ensures.told c.settle.ensures.permitted
       (subst (λ (sized : List Ino). EndsAt (set.contains c.settle.new.affected) sized c.settle.new.known.sets sets c.settle.new.scene last) (sym are) ends))
 
   may_end : MayEnd c.settle.new.known.sets c.settle.new.scene
@@ -58,7 +56,7 @@ pub finish_alone-requires-clause-others : goal.finish_alone-requires-clause-othe
 finish_alone-requires-clause-others c =
     let here = (goal.at.finish_alone-requires-clause-others c).After-settle in
     let ready = ready_was here in
-    let nobody : c.settle.new.endings.told.items ≡ [] = sym c.as_slice.ensures ∙ nil_from_length c.as_slice.result.now (eqb-true (length c.as_slice.result.now) 0 (sym c.is_empty.ensures ∙ c.if-is_empty.true)) in
+    let nobody : c.settle.new.endings.told.items ≡ [] = nil_from_length c.settle.new.endings.told.items (omega (arith, eqb-true (vec_len c.settle.new.endings.told) 0 (sym c.is_empty.ensures ∙ c.if-is_empty.true))) in
     let same = sym c.of_ino.ensures ∙ same-locks c.of_ino.result c.of_ino-before.result (sym c.eq.ensures ∙ c.if-eq.true) ∙ c.of_ino-before.ensures in
     others-still (set.contains c.settle.new.affected) (set.contains c.of-reached.result) c.args.scene.now c.settle.new.scene c.settle.new.endings.told.items c.settle.new.endings.sized.items
     c.settle.ensures.settles nobody c.args.known.now.sets c.settle.new.known.sets c.in-Entry.holder c.settle.ensures.told same ready.at.1
@@ -78,7 +76,7 @@ finish-requires-clause-entries c = may_end (goal.at.finish-requires-clause-entri
 pub returns-then-eq-clause-ends : goal.returns-then-eq-clause-ends
 returns-then-eq-clause-ends c =
     let here = (goal.at.returns-then-eq-clause-ends c).After-settle in
-    let nobody : c.settle.new.endings.told.items ≡ [] = sym c.as_slice.ensures ∙ nil_from_length c.as_slice.result.now (eqb-true (length c.as_slice.result.now) 0 (sym c.is_empty.ensures ∙ c.if-is_empty.true)) in
+    let nobody : c.settle.new.endings.told.items ≡ [] = nil_from_length c.settle.new.endings.told.items (omega (arith, eqb-true (vec_len c.settle.new.endings.told) 0 (sym c.is_empty.ensures ∙ c.if-is_empty.true))) in
     let none = served_none (set.contains c.settle.new.affected) (set.contains c.of-reached.result) c.args.scene.now c.settle.new.scene c.settle.new.endings.told.items c.settle.new.endings.sized.items
     c.settle.ensures.settles nobody in
     rw c.in-Entry.is (ends_there here [] none.0 c.finish_alone.new.known.sets c.finish_alone.new.scene c.finish_alone.ensures.ends)
@@ -119,15 +117,13 @@ finish-requires-in-Inodes-clause-entries c =
 
 pub returns-clause-ends : goal.returns-clause-ends
 returns-clause-ends c =
-    let ready = inodes_ready (goal.at.returns-clause-ends c).In-Inodes in
-    let begins = ready.settles in
     let settled : Scene = c.settle-in-Inodes.new.scene in
     rw c.in-Inodes.is
     (subst (λ (told : List Ended). EndsWith (set.contains c.in-Inodes.inos) c.args.known.now.sets c.finish-in-Inodes.new.known.sets c.args.scene.now c.finish-in-Inodes.new.scene told)
     (sym (ap (λ (e : Endings). e.told.items) c.finish-in-Inodes.ensures.rest))
     (settled-ends (set.contains c.settle-in-Inodes.new.affected) (set.contains c.in-Inodes.inos) c.args.known.now.sets c.settle-in-Inodes.new.known.sets c.finish-in-Inodes.new.known.sets
     c.args.scene.now settled c.finish-in-Inodes.new.scene c.settle-in-Inodes.new.endings.told.items c.settle-in-Inodes.new.endings.sized.items
-    c.settle-in-Inodes.ensures.settles begins.tree c.settle-in-Inodes.ensures.told c.settle-in-Inodes.ensures.permitted c.finish-in-Inodes.ensures.ends))
+    c.settle-in-Inodes.ensures.settles c.settle-in-Inodes.ensures.tree c.settle-in-Inodes.ensures.told c.settle-in-Inodes.ensures.permitted c.finish-in-Inodes.ensures.ends))
 
 pub returns-clause-lead : goal.returns-clause-lead
 returns-clause-lead c =

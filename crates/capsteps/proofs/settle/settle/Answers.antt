@@ -83,7 +83,7 @@ module _ (c : In-Some) where
   order = let so = swept in let moved = moved-all first so.moves mid so.made in moved.order c.requires.settles.order
 
   tree : IsTree mid.tree
-  tree = let so = swept in tree-moved first so.moves mid so.made c.requires.settles.tree
+  tree = let so = swept in tree-moved first so.moves mid so.made c.alloc.ensures.sound
 
   stays : mid ≡ record now { locks = mid.locks }
   stays = let is = c.sweep.ensures.swept in is.is

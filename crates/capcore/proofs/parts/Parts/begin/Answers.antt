@@ -34,7 +34,7 @@ returns-in_ok-apply_request-in-OfEntry-clause-begun c =
     (subst (λ (s : Scene). HasBegun p e touched (record q { scene = s }) endings) (sym ok)
     (one-begun p q endings e k may (effect old e) (ap (effect_unless old e) may.passed) (keeps-of_request old k request) (below-of_request old k request may.table may.passed)
     (sym (ap (λ (s : State). s.scene) (effect-affected old k.client k.ino request))) refl touched.affected touched.answer refl (sym (effect-answer old k.client k.ino request)) refl refl
-    (affects-of_request old k request may.table may.passed may.whole.0) (request-table old k request may.table may.passed) kept.known (kept.permitted may.whole.2.1) (request-less p.scene k request) may.tree may.order
+    (affects-of_request old k request may.table may.passed may.whole.0) (request-table old k request may.table may.passed) kept.known (kept.permitted may.whole.2.1) (request-less p.scene k request) may.order
     (room-for c.begin.new.self endings.changes endings.judged c.waiting-waiting.result (length p.scene.locks.queue) begun.room (omega (arith, c.waiting-waiting.ensures.waiting)))
     (none-judged endings.judged after begun.judged)
     (omega (arith, none, begun.places, c.clear.ensures.room, c.waiting-waiting.ensures.waiting), others-have_all p.known.sets known.sets old k request may.whole.0 may.whole.2.0 kept.known)

@@ -1,7 +1,7 @@
 use Rattle.std.proofs.Common.{is_some, ◌≡◌, length, refl, sym, ap, subst, ◌∙◌, arith}
 use Rattle.std.specs.FinSet as set
 use Rattle.capsteps.proofs.Capnotes.Noting.{changes-all}
-use Rattle.capcore.{proofs.Begun.{on_err, one-begun}, proofs.Common.{Affected, AffectsOne, alike-less, direct, Endings, Event, HoldAlike, Holder, InoSet, IsTable, IsTree, none-judged, one-counts, one-inode, Reply, room-for, says, still-there, Table, with_flush}, proofs.Flushed.{below-of_flush, flush-calls, flush-direct, flush-table, flush-affects, flush-tree}, specs.UnderWay.{state_of}, specs.declared.parts.Answer.TheVariants.{Done}, specs.declared.parts.Parts.{Parts}}
+use Rattle.capcore.{proofs.Begun.{on_err, one-begun}, proofs.Common.{Affected, AffectsOne, alike-less, direct, Endings, Event, HoldAlike, Holder, InoSet, IsTable, none-judged, one-counts, one-inode, Reply, room-for, says, still-there, Table, with_flush}, proofs.Flushed.{below-of_flush, flush-calls, flush-direct, flush-table, flush-affects}, specs.UnderWay.{state_of}, specs.declared.parts.Answer.TheVariants.{Done}, specs.declared.parts.Parts.{Parts}}
 use Rattle.capcore.proofs.parts.Parts.flush.Goals as goal
 
 pub alter-requires : goal.alter-requires
@@ -35,7 +35,7 @@ returns-clause-begun c =
     (subst IsTable (sym c.touch.ensures) (flush-table (state_of p) k change may.table))
     (still-there p.scene.table table p.known.sets q.known.sets (λ j f there. ap is_some (alike j f there).1) (λ j f there. c.renew_changed.ensures.told j))
     (λ j f there. let was = alike j f there in c.renew_changed.ensures.permitted p.scene.tree c.in_ok-alter.ensures.ok may.whole.2.1 j was.0 was.1) (alike-less p.scene.table table alike)
-    (subst IsTree (sym c.in_ok-alter.ensures.ok) (flush-tree p.scene k change may.passed may.tree)) may.order
+    may.order
     (room-for c.begin.new.self endings.changes endings.judged c.waiting-waiting.result (length p.scene.locks.queue) begun.room (omega (arith, c.waiting-waiting.ensures.waiting)))
     (none-judged endings.judged q.scene begun.judged)
     (omega (arith, none, one, begun.places, c.clear.ensures.room, c.note_change.ensures.count, c.note_change.ensures.room, c.waiting-waiting.ensures.waiting))

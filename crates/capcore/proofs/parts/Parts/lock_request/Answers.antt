@@ -57,10 +57,14 @@ returns-clause-begun c =
     (λ i. record p.scene { locks = queued i }) c.reserve.ensures.items
     (Affected.Inodes c.of.result) (Awaited ticket) (ap set.contains c.of.ensures ∙ one-inode k.ino.0) (ap (λ n. Awaits (record { 0 = n })) next) refl (next, ap (λ (l : LockMap). l.last) queued)
     (subst (λ (l : LockMap). AffectsOne k.ino.0 (state_of p) (record p.scene { locks = l })) (sym queued) (asking-affects (state_of p) k ask may.whole.0 may.table free)) may.table
-    (still-there p.scene.table p.scene.table p.known.sets p.known.sets (λ j f there. ap is_some there) (λ j f there. refl)) may.whole.2.1 (alike-less p.scene.table p.scene.table (λ j f there. (f, there, refl))) may.tree
-    order
+    (still-there p.scene.table p.scene.table p.known.sets p.known.sets (λ j f there. ap is_some there) (λ j f there. refl)) may.whole.2.1 (alike-less p.scene.table p.scene.table (λ j f there. (f, there, refl))) order
     (room-for c.begin.new.self endings.changes (Some ticket) (c.waiting-waiting.result + 1) (length locks.queue) begun.room (omega (arith, queue, c.waiting-waiting.ensures.waiting)))
     (judged_once p.scene k ask locks queued order free ticket next)
     (omega (arith, none, one, queue, begun.places, c.clear.ensures.room, c.waiting-waiting.ensures.waiting))
     (omega (arith, queue, left, c.in_default.ensures.ok, c.waiting-waiting.ensures.waiting))
     tt (changes-still endings.changes.items (view_of (state_of p)) c.clear.ensures.items)
+
+pub returns-in-Err-clause-whole : goal.returns-in-Err-clause-whole
+returns-in-Err-clause-whole c =
+    let whole = c.requires.may.whole in
+    rw c.reserve.ensures.items (whole.0, omega (arith, c.in-Err.ensures.err, whole.1), whole.2)

@@ -1,59 +1,69 @@
 use Rattle.std.proofs.Common.{◌≡◌, ◌+◌, ◌++◌, ◌∷◌, [], List, length, refl, ap, sym, subst, ◌∙◌}
 use Rattle.capsteps.{proofs.Placed.{all-revoked}, specs.Caprules.History.{made_row}}
-use Rattle.capcore.{proofs.Apart.{held-apart}, proofs.Bounded.{direct-order, moves-bounded, by-moves}, proofs.Common.{AreBounded, direct, EachServing, IsAnswered, IsSound, Recorded, recorded, Reply, Row, rows_of, ServedByName, ServedDenied, ShowsWhatIsTold, State, Step, step-shown}, proofs.Growing.{more-told, replays-more}, proofs.OtherLocks.{other-locks}, proofs.Promised.{denied-exactly, denies-by_name, rejection-unchanged}, proofs.Servings.{served-denied, served-by_name}, proofs.ShownWords.{takes-only_so, shows-told, shows-permitted, all-takes_unshown}, proofs.step.Core.apply.Goals.{After-add_row}, specs.Promised.{IsPromised}}
+use Rattle.capcore.{proofs.Apart.{held-apart}, proofs.Bounded.{direct-order, moves-bounded, by-moves}, proofs.Common.{AreBounded, direct, EachServing, IsAnswered, IsSound, Recorded, recorded, Reply, Row, rows_of, ServedByName, ServedDenied, ShowsWhatIsTold, State, Step, step-shown}, proofs.Growing.{more-told, replays-more}, proofs.Kept.{IsKept, recorded-kept}, proofs.OtherLocks.{other-locks}, proofs.Promised.{denied-exactly, denies-by_name, rejection-unchanged}, proofs.Servings.{served-denied, served-by_name}, proofs.ShownWords.{takes-only_so, shows-told, shows-permitted, all-takes_unshown}, proofs.step.Core.apply.Goals.{In-Ok}, specs.Promised.{IsPromised}}
 use Rattle.capcore.proofs.step.Core.apply.Goals as goal
 
+pub step-requires-clause-table : goal.step-requires-clause-table
+step-requires-clause-table c = (recorded-kept _ c.self.invariant).0
+
+pub step-requires-clause-locks : goal.step-requires-clause-locks
+step-requires-clause-locks c = (recorded-kept _ c.self.invariant).1
+
 -- what the step says and leaves
-answered_of : (c : After-add_row) → IsAnswered c.self.inside.world c.args.event c.in_ok-reply.field-0 c.step.new.self
+answered_of : (c : In-Ok) → IsAnswered c.self.inside.world c.args.event c.in_ok-reply.field-0 c.step.new.self
 answered_of c = c.in_ok-reply.ensures.answered
 
 -- the step, with what is answered and with what the row keeps of it
-step_of : (c : After-add_row) → Step c.self.inside.world c.args.event c.in_ok-reply.field-0.reply c.in_ok-reply.field-0.ended c.step.new.self
+step_of : (c : In-Ok) → Step c.self.inside.world c.args.event c.in_ok-reply.field-0.reply c.in_ok-reply.field-0.ended c.step.new.self
 step_of c = let all = answered_of c in all.step
 
-kept_step : (c : After-add_row) → Step c.self.inside.world c.args.event c.in_ok-reply.field-0.kept c.in_ok-reply.field-0.ended c.step.new.self
+kept_step : (c : In-Ok) → Step c.self.inside.world c.args.event c.in_ok-reply.field-0.kept c.in_ok-reply.field-0.ended c.step.new.self
 kept_step c =
     let all = answered_of c in
     subst (λ (answer : Reply). Step c.self.inside.world c.args.event answer c.in_ok-reply.field-0.ended c.step.new.self) (sym all.kept) all.step
 
--- the world is sound after the step
-next : (c : After-add_row) → IsSound c.step.new.self
+-- the world has its entries and requests in order before the step
+kept_of : (c : In-Ok) → IsKept c.self.inside.world
+kept_of c = recorded-kept _ c.self.invariant
+
+-- and is sound after it
+next : (c : In-Ok) → IsSound c.step.new.self
 next c = let all = answered_of c in all.sound
 
 -- its row, which comes last
-abbrev row_of : After-add_row → Row
+abbrev row_of : In-Ok → Row
 row_of c = record { pass = c.args.pass; nth = c.in_ok-nth.nth; event = c.args.event; reply = c.in_ok-reply.field-0.kept; ended = c.in_ok-reply.field-0.ended }
 
-row_is : (c : After-add_row) → row_of c ≡ made_row c.args.pass (rows_of c.args.pass c.self.inside.rows.items + 1) c.args.event c.in_ok-reply.field-0.reply c.in_ok-reply.field-0.ended
+row_is : (c : In-Ok) → row_of c ≡ made_row c.args.pass (rows_of c.args.pass c.self.inside.rows.items + 1) c.args.event c.in_ok-reply.field-0.reply c.in_ok-reply.field-0.ended
 row_is c =
     let all = answered_of c in
     λ i. record { pass = c.args.pass; nth = c.in_ok-nth.ensures.number i; event = c.args.event; reply = all.kept i; ended = c.in_ok-reply.field-0.ended }
 
-added : (c : After-add_row) → c.add_row.new.rows.items ≡ c.self.inside.rows.items ++ row_of c ∷ []
-added c = c.add_row.ensures ∙ ap (λ rows. rows ++ row_of c ∷ []) c.make_room.ensures.items
+added : (c : In-Ok) → c.push.new.self.items ≡ c.self.inside.rows.items ++ row_of c ∷ []
+added c = c.in-Ok.ensures.items ∙ ap (λ rows. rows ++ row_of c ∷ []) c.make_room.ensures.items
 
 pub invariant_of-self-2 : goal.invariant_of-self-2
 invariant_of-self-2 c =
     let row : Row = row_of c in
     let step : Step c.self.inside.world row.event row.reply row.ended c.step.new.self = kept_step c in
     let all = answered_of c in
-    rw (c.add_row.ensures, c.make_room.ensures.items)
+    rw (c.in-Ok.ensures.items, c.make_room.ensures.items)
     (more-told (recorded c.self.inside.world c.self.inside.rows.items c.self.inside.max_rows c.self.inside.endings.changes.items) row c.step.new.self c.step.new.endings.changes.items c.self.invariant step c.in_ok-nth.ensures.number c.in_ok-nth.ensures.room.0
-    c.in_ok-reply.ensures.table all.sound (all.given (length c.self.inside.rows.items) c.self.invariant.given))
+    (kept_of c).0 all.sound (all.given (length c.self.inside.rows.items) c.self.invariant.given))
 
-shows_told : (c : After-add_row) → ShowsWhatIsTold (c.self.inside.rows.items ++ row_of c ∷ []) c.step.new.self.scene
+shows_told : (c : In-Ok) → ShowsWhatIsTold (c.self.inside.rows.items ++ row_of c ∷ []) c.step.new.self.scene
 shows_told c =
     shows-told (c.self.inside.rows.items ++ row_of c ∷ []) c.step.new.self (next c)
-    (step-shown c.self.inside.world c.step.new.self c.self.inside.rows.items (row_of c) c.self.invariant.sound c.in_ok-reply.ensures.table c.self.invariant.shown (kept_step c))
+    (step-shown c.self.inside.world c.step.new.self c.self.inside.rows.items (row_of c) c.self.invariant.sound (kept_of c).0 c.self.invariant.shown (kept_step c))
 
 -- what the core was, and what it is with these rows
-abbrev before : After-add_row → Recorded
+abbrev before : In-Ok → Recorded
 before c = recorded c.self.inside.world c.self.inside.rows.items c.self.inside.max_rows c.self.inside.endings.changes.items
 
-abbrev after : After-add_row → List Row → Recorded
+abbrev after : In-Ok → List Row → Recorded
 after c rows = recorded c.step.new.self rows c.self.inside.max_rows c.step.new.endings.changes.items
 
-promised : (c : After-add_row) → IsPromised (before c) c.args.pass c.args.event c.in_ok-reply.field-0.reply (after c (c.self.inside.rows.items ++ row_of c ∷ []))
+promised : (c : In-Ok) → IsPromised (before c) c.args.pass c.args.event c.in_ok-reply.field-0.reply (after c (c.self.inside.rows.items ++ row_of c ∷ []))
 promised c =
     let old : State = c.self.inside.world in
     let new : State = c.step.new.self in
@@ -64,8 +74,8 @@ promised c =
     let all = answered_of c in
     let one = step_of c in
     let sound = next c in
-    let table = c.in_ok-reply.ensures.table in
-    let locks = c.in_ok-reply.ensures.locks in record {
+    let table = (kept_of c).0 in
+    let locks = (kept_of c).1 in record {
       next = record { ended = ended; step = one; rows = ap (λ (row : Row). rows ++ row ∷ []) (row_is c); max_rows = refl };
       denied = denied-exactly old event reply ended new one c.self.invariant.sound locks;
       named = denies-by_name old event reply ended new one c.self.invariant.sound locks;
@@ -102,5 +112,5 @@ promised c =
 
 pub returns-clause-promised : goal.returns-clause-promised
 returns-clause-promised c =
-    subst (λ (t : Recorded). IsPromised t c.args.pass c.args.event c.in_ok-reply.field-0.reply (after c c.add_row.new.rows.items)) c.self.view_is
+    subst (λ (t : Recorded). IsPromised t c.args.pass c.args.event c.in_ok-reply.field-0.reply (after c c.push.new.self.items)) c.self.view_is
     (subst (λ (rows : List Row). IsPromised (before c) c.args.pass c.args.event c.in_ok-reply.field-0.reply (after c rows)) (sym (added c)) (promised c))

@@ -1,9 +1,9 @@
 use Rattle.std.proofs.{Common.{◌≡◌, ◌+◌, ◌++◌, List, length, sym, ap, subst, ◌∙◌, arith}, lemmas.List.{length-append}}
 use Rattle.capsteps.specs.Capnotes.Noted.{Noted}
-use Rattle.capcore.{proofs.Begun.{ended-answered, ended-known, ended-numbers, few-earlier, fewer-places, shown-kept, shown-rest}, proofs.Closing.{ends-sessions}, proofs.Common.{AreChanges, changes-still, Ended, Endings, Event, IsAnswered, IsLockMap, IsSound, IsTable, IsTree, NumbersLeft, Scene, SessionTable, shown, State, view, view_of}, proofs.Rejections.{judged-at, rejection-answered}, proofs.world.World.move_locks.Goals.{After-end, After-close}, specs.UnderWay.{MayBegin, HasBegun, answer_of, AreKept, earlier_of, event_of, state_of}, specs.declared.parts.Effect.{Effect}, specs.declared.parts.Parts.{Parts}}
+use Rattle.capcore.{proofs.Begun.{ended-answered, ended-known, ended-numbers, few-earlier, fewer-places, shown-kept, shown-rest}, proofs.Closing.{ends-sessions}, proofs.Common.{AreChanges, changes-still, Ended, Endings, Event, IsAnswered, IsLockMap, IsSound, IsTable, NumbersLeft, Scene, SessionTable, shown, State, view, view_of}, proofs.Rejections.{judged-at, rejection-answered}, proofs.world.World.move_locks.Goals.{After-end, After-close}, specs.UnderWay.{MayBegin, HasBegun, answer_of, AreKept, earlier_of, event_of, state_of}, specs.declared.parts.Effect.{Effect}, specs.declared.parts.Parts.{Parts}}
 use Rattle.capcore.proofs.world.World.move_locks.Goals as goal
 
--- ---- an event that is stopped
+-- ---- an event that is rejected
 
 pub returns-in-Some-clause-answered : goal.returns-in-Some-clause-answered
 returns-in-Some-clause-answered c =
@@ -15,13 +15,12 @@ returns-in-Some-clause-answered c =
 pub returns-in-Some-clause-changes : goal.returns-in-Some-clause-changes
 returns-in-Some-clause-changes c = changes-still c.clear.new.self.items (view_of c.args.self.now) c.clear.ensures.items
 
--- ---- one that nothing stops
+-- ---- one that nothing rejects
 
 pub begin-requires : goal.begin-requires
 begin-requires c = record {
   may = record {
     whole = c.self.invariant;
-    tree = subst (λ (s : State). IsTree s.scene.tree) (sym c.self.view_is) c.requires.tree;
     table = subst (λ (s : State). IsTable s.scene.table) (sym c.self.view_is) c.requires.table;
     order = subst (λ (s : State). IsLockMap s.scene.locks) (sym c.self.view_is) c.requires.locks;
     numbers = subst NumbersLeft (sym c.self.view_is) c.requires.numbers;
@@ -59,7 +58,6 @@ module _ (c : After-end) where
   may : MayBegin p e
   may = record {
     whole = c.self.invariant;
-    tree = subst (λ (s : State). IsTree s.scene.tree) (sym c.self.view_is) c.requires.tree;
     table = subst (λ (s : State). IsTable s.scene.table) (sym c.self.view_is) c.requires.table;
     order = subst (λ (s : State). IsLockMap s.scene.locks) (sym c.self.view_is) c.requires.locks;
     numbers = subst NumbersLeft (sym c.self.view_is) c.requires.numbers;

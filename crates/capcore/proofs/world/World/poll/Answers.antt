@@ -24,18 +24,18 @@ module _ (c : After-drop-told) where
 
   -- and behind it
   abbrev new : State
-  new = record { scene = record old.scene { table = c.skip_quiet.new.self }; messages = c.remove_given.new.self.items }
+  new = record { scene = record old.scene { table = c.skip_quiet.new.self }; messages = c.remove_given.new.due.items }
 
   abbrev said : Said
   said = record { reply = Reply.Messages c.in_ok-given.given; kept = Reply.Messages c.in_ok-kept.kept; ended = c.new.result }
 
   first : c.in_ok-given.given ≡ first_messages old c.args.client c.args.max
-  first = c.in_ok-given.ensures old refl refl c.self.invariant.2.0 (sym c.as_slice-ended.ensures)
+  first = c.in_ok-given.ensures old refl refl c.self.invariant.2.0 (sym c.as_slice-ended.ensures.value)
 
   same : c.in_ok-kept.kept ≡ c.in_ok-given.given
   same = c.in_ok-kept.ensures ∙ c.as_slice.ensures
 
-  kept_items : c.remove_given.new.self.items ≡ filter (is_left c.args.client c.in_ok-given.given) old.messages
+  kept_items : c.remove_given.new.due.items ≡ filter (is_left c.args.client c.in_ok-given.given) old.messages
   kept_items =
       c.remove_given.ensures.items c.in_ok-given.given
       (subst (λ (given : List Message). AreEndsOf given c.in_ok-told.told) c.as_slice-2.ensures c.in_ok-told.ensures)
@@ -44,7 +44,7 @@ module _ (c : After-drop-told) where
   told = c.skip_quiet.ensures ∙ c.give.ensures ∙ ap (λ (given : List Message). changed_where (is_of_client c.args.client) (after_messages given) old.scene.table) c.as_slice-3.ensures
 
   left : with_given old c.args.client (first_messages old c.args.client c.args.max) ≡ new
-  left = polled-new old c.self.invariant.0 (subst (λ (s : State). IsTable s.scene.table) (sym c.self.view_is) c.requires.table) c.args.client c.args.max c.in_ok-given.given c.skip_quiet.new.self c.remove_given.new.self.items first told kept_items
+  left = polled-new old c.self.invariant.0 (subst (λ (s : State). IsTable s.scene.table) (sym c.self.view_is) c.requires.table) c.args.client c.args.max c.in_ok-given.given c.skip_quiet.new.self c.remove_given.new.due.items first told kept_items
 
   whole : IsAnswered old (Event.Poll c.args.client c.args.max) said new
   whole =
@@ -56,7 +56,7 @@ pub invariant_of-self : goal.invariant_of-self
 invariant_of-self c =
     let w = whole c in
     let items = c.self.inside.parts.messages.items in
-    let few : length c.remove_given.new.self.items ≤ length items =
+    let few : length c.remove_given.new.due.items ≤ length items =
     subst (λ (n : List Ended). length n ≤ length items) (sym (kept_items c))
     (omega (arith, length-filter (is_left c.args.client c.in_ok-given.given) items, count_by-le-length (is_left c.args.client c.in_ok-given.given) items)) in (
       w.sound,
