@@ -81,7 +81,7 @@ def numbers_of(root):
     for kind, prefix, source in (
         ("Access", "", read("capffi/src/asking.rt")),
         ("Part", "PART_", locks),
-        ("State", "STATE_", locks),
+        ("TableState", "STATE_", locks),
         ("Head", "HEAD_", locks),
     ):
         arms = re.findall(rf"^ +(\d+) => Some\({kind}::(\w+)", source, re.M)

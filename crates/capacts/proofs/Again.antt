@@ -2,8 +2,8 @@
 use Rattle.std.proofs.Common.{◌≡◌, ◌⊎◌, inl, inr, ℕ, true, List, [], ◌∷◌, Option, Some, None, refl, sym, ap, subst, ◌∙◌, arith}
 use Rattle.capbits.{proofs.Tests.{pass-both}, specs.Refusal.{Test}, specs.declared.cap.Part.{Part}}
 use Rattle.inotree.specs.declared.node.Node.{Node}
-use Rattle.caprules.specs.{Asks.{change_tests}, Judge.{first_denied, rejection_by}, Serving.{MayEndAs, As_judged, Without_memory, passed_as, values_outcome, rejection_outcome, outcome_unless}, declared.rejection.Rejection.TheVariants.{ByTest}}
-use Rattle.capacts.{proofs.Common.{Access, Alter, Ask, ask_after, ask_before, Change, ClientId, denial_of, first_failing, judged_again, Need, need, Nodes, Outcome, Refusal, Rejection, rejection_of, Request, Scene, takes_memory, tree_after, tree_with}, specs.Served.{call_tests, change_call_tests}}
+use Rattle.caprules.specs.{Operations.{change_tests}, Judge.{first_denied, rejection_by}, Serving.{MayEndAs, As_judged, Without_memory, passed_as, values_outcome, rejection_outcome, outcome_unless}, declared.rejection.Rejection.TheVariants.{ByTest}}
+use Rattle.capacts.{proofs.Common.{Access, Alter, Operation, operation_after, operation_before, Change, ClientId, denial_of, first_failing, judged_again, Need, need, Nodes, Outcome, Refusal, Rejection, rejection_of, Request, Scene, takes_memory, tree_after, tree_with}, specs.Served.{call_tests, change_call_tests}}
 
 -- ---- policy alone
 
@@ -31,25 +31,25 @@ module _ (s : Scene) (tests : List Test) (needed : List Need) (more : List Test)
 -- ---- a request
 
 -- the call that makes a change finds its tests passed
-pub change-passed : (s : Scene) (ino : ℕ) (change : Change) → first_failing (ask_before s ino (Alter change)) ≡ None → first_failing (change_tests s ino change) ≡ None → first_failing (change_call_tests s.tree ino change) ≡ None
+pub change-passed : (s : Scene) (ino : ℕ) (change : Change) → first_failing (operation_before s ino (Alter change)) ≡ None → first_failing (change_tests s ino change) ≡ None → first_failing (change_call_tests s.tree ino change) ≡ None
 change-passed s ino change one more = grind (arith, pass-both)
 
-ask_passed : (s : Scene) (ino : ℕ) (ask : Ask) → first_failing (ask_before s ino ask) ≡ None → first_failing (ask_after s ino ask) ≡ None → first_failing (call_tests s.tree ino ask) ≡ None
-ask_passed s ino ask one more = grind (arith, change-passed, pass-both)
+operation_passed : (s : Scene) (ino : ℕ) (operation : Operation) → first_failing (operation_before s ino operation) ≡ None → first_failing (operation_after s ino operation) ≡ None → first_failing (call_tests s.tree ino operation) ≡ None
+operation_passed s ino operation one more = grind (arith, change-passed, pass-both)
 
 -- the call that does what an unstopped request asks for finds its tests passed
-pub calls-passed : (s : Scene) (q : Request) → judged_again s q ≡ None → first_failing (call_tests s.tree q.ino.0 q.ask) ≡ None
-calls-passed s q free = grind (arith, passed-all, ask_passed)
+pub calls-passed : (s : Scene) (q : Request) → judged_again s q ≡ None → first_failing (call_tests s.tree q.ino.0 q.operation) ≡ None
+calls-passed s q free = grind (arith, passed-all, operation_passed)
 
 -- a request that is rejected ends so
 pub ends-rejection : (s : Scene) (q : Request) (rejection : Rejection) (o : Outcome) → judged_again s q ≡ Some rejection → o ≡ rejection_outcome rejection → MayEndAs s q o
 ends-rejection s q rejection o is ends = subst (MayEndAs s q) (sym (ends ∙ ap (outcome_unless s q) (sym is))) As_judged
 
 -- and one that nothing rejects as what it asks for
-pub ends-passed : (s : Scene) (q : Request) (o : Outcome) → judged_again s q ≡ None → o ≡ passed_as s q.ino.0 q.ask → MayEndAs s q o
+pub ends-passed : (s : Scene) (q : Request) (o : Outcome) → judged_again s q ≡ None → o ≡ passed_as s q.ino.0 q.operation → MayEndAs s q o
 ends-passed s q o free ends = subst (MayEndAs s q) (sym (ends ∙ ap (outcome_unless s q) (sym free))) As_judged
 
-pub ends-without_memory : (s : Scene) (q : Request) (o : Outcome) → judged_again s q ≡ None → takes_memory q.ask ≡ true → o ≡ Outcome.OutOfMemory → MayEndAs s q o
+pub ends-without_memory : (s : Scene) (q : Request) (o : Outcome) → judged_again s q ≡ None → takes_memory q.operation ≡ true → o ≡ Outcome.OutOfMemory → MayEndAs s q o
 ends-without_memory s q o free takes ends = subst (MayEndAs s q) (sym ends) (Without_memory free takes)
 
 -- ---- the tree that it leaves
@@ -57,22 +57,22 @@ ends-without_memory s q o free takes ends = subst (MayEndAs s q) (sym ends) (Wit
 pub tree-rejection : (tree : Nodes) (q : Request) (rejection : Rejection) (o : Outcome) → o ≡ rejection_outcome rejection → tree ≡ tree_after tree q o
 tree-rejection tree q rejection o is = grind arith
 
-told-tree : (tree : Nodes) (q : Request) (part : Part) (node : Option Node) (ask : tree_with tree q.ino.0 q.ask ≡ tree) → tree_with tree q.ino.0 q.ask ≡ tree_after tree q (values_outcome part node)
-told-tree tree q part node ask = grind arith
+told-tree : (tree : Nodes) (q : Request) (part : Part) (node : Option Node) (same : tree_with tree q.ino.0 q.operation ≡ tree) → tree_with tree q.ino.0 q.operation ≡ tree_after tree q (values_outcome part node)
+told-tree tree q part node same = grind arith
 
-passed_tree : (s : Scene) (q : Request) (ask : Ask) → q.ask ≡ ask → tree_with s.tree q.ino.0 q.ask ≡ tree_after s.tree q (passed_as s q.ino.0 ask)
-passed_tree s q ask is = grind (arith, told-tree)
+passed_tree : (s : Scene) (q : Request) (operation : Operation) → q.operation ≡ operation → tree_with s.tree q.ino.0 q.operation ≡ tree_after s.tree q (passed_as s q.ino.0 operation)
+passed_tree s q operation is = grind (arith, told-tree)
 
-pub tree-passed : (s : Scene) (q : Request) → tree_with s.tree q.ino.0 q.ask ≡ tree_after s.tree q (passed_as s q.ino.0 q.ask)
-tree-passed s q = passed_tree s q q.ask refl
+pub tree-passed : (s : Scene) (q : Request) → tree_with s.tree q.ino.0 q.operation ≡ tree_after s.tree q (passed_as s q.ino.0 q.operation)
+tree-passed s q = passed_tree s q q.operation refl
 
 -- a serving leaves the tree, or makes the change that nothing rejects
 pub leaves-or-makes : (s : Scene) (q : Request) (o : Outcome) → MayEndAs s q o →
-    (s.tree ≡ tree_after s.tree q o) ⊎ ((judged_again s q ≡ None) × (tree_with s.tree q.ino.0 q.ask ≡ tree_after s.tree q o))
-leaves-or-makes s q o (As_judged) = by_stop (judged_again s q) refl
+    (s.tree ≡ tree_after s.tree q o) ⊎ ((judged_again s q ≡ None) × (tree_with s.tree q.ino.0 q.operation ≡ tree_after s.tree q o))
+leaves-or-makes s q o (As_judged) = by_rejection (judged_again s q) refl
   where
-    by_stop : (rejection : Option Rejection) → judged_again s q ≡ rejection →
-        (s.tree ≡ tree_after s.tree q (outcome_unless s q (judged_again s q))) ⊎ ((judged_again s q ≡ None) × (tree_with s.tree q.ino.0 q.ask ≡ tree_after s.tree q (outcome_unless s q (judged_again s q))))
-    by_stop None is = inr (is, tree-passed s q ∙ ap (λ rejection. tree_after s.tree q (outcome_unless s q rejection)) (sym is))
-    by_stop (Some rejection) is = inl (tree-rejection s.tree q rejection (outcome_unless s q (judged_again s q)) (ap (outcome_unless s q) is))
+    by_rejection : (rejection : Option Rejection) → judged_again s q ≡ rejection →
+        (s.tree ≡ tree_after s.tree q (outcome_unless s q (judged_again s q))) ⊎ ((judged_again s q ≡ None) × (tree_with s.tree q.ino.0 q.operation ≡ tree_after s.tree q (outcome_unless s q (judged_again s q))))
+    by_rejection None is = inr (is, tree-passed s q ∙ ap (λ rejection. tree_after s.tree q (outcome_unless s q rejection)) (sym is))
+    by_rejection (Some rejection) is = inl (tree-rejection s.tree q rejection (outcome_unless s q (judged_again s q)) (ap (outcome_unless s q) is))
 leaves-or-makes s q o (Without_memory free takes) = inl refl

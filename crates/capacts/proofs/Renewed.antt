@@ -202,11 +202,11 @@ other-number a b off = eqb-false a b off
 
 module _ (tree : Nodes) (q : Request) (o : Outcome) (affected : InoSet) (s : Scene) (served : ServedFrom tree q o affected s) where
   -- it is not to move its inode: the others are alike
-  pub alike-off : is_rename q.ask ≡ false → (k : Holder) → (k.ino.0 == q.ino.0) ≡ false → IsAlike tree s.tree k.ino.0
+  pub alike-off : is_rename q.operation ≡ false → (k : Holder) → (k.ino.0 == q.ino.0) ≡ false → IsAlike tree s.tree k.ino.0
   alike-off stays k off = served.alike k.ino.0 (other-number k.ino.0 q.ino.0 off) (λ moves. absurd (true≢false (sym moves ∙ stays)))
 
   -- it is: so are those that are not affected and that somebody has an entry on
-  pub alike-far : is_rename q.ask ≡ true → (k : Holder) (e : Entry) → entry_at s.table k ≡ Some e → set.contains affected k.ino.0 ≡ false → IsAlike tree s.tree k.ino.0
+  pub alike-far : is_rename q.operation ≡ true → (k : Holder) (e : Entry) → entry_at s.table k ≡ Some e → set.contains affected k.ino.0 ≡ false → IsAlike tree s.tree k.ino.0
   alike-far moves k e there off = elim served.covers [
     | inl left ↦ subst (λ (t : Nodes). IsAlike tree t k.ino.0) (sym left) (alike-itself tree k.ino.0)
     | inr covers ↦

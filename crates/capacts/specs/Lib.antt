@@ -1,4 +1,4 @@
-pub mod Asks
+pub mod Operations
 pub mod Served
 pub mod Finishing
 pub mod Known

@@ -13,7 +13,7 @@ CoversBelow above tree table affected =
 
 -- if the request moves its inode, that is so of it
 abbrev pub Covers : Request → Nodes → Table → InoSet → Type 0
-Covers q tree table affected = is_rename q.ask ≡ true → CoversBelow q.ino.0 tree table affected
+Covers q tree table affected = is_rename q.operation ≡ true → CoversBelow q.ino.0 tree table affected
 
 -- and it is so of each inode from which a rename of this step has walked over what lies below
 abbrev pub AreWalked : InoSet → Nodes → Table → InoSet → Type 0

@@ -21,5 +21,5 @@ pub record Renews (among : Holder → Bool) (may : Holder → Caps) (was now : K
 -- below; and what it moved is covered, or the tree stayed as it was
 pub record ServedFrom (tree : Nodes) (q : Request) (o : Outcome) (affected : InoSet) (s : Scene) : Type 0 where
   pub after : s.tree ≡ tree_after tree q o
-  pub alike : (other : ℕ) → other ≢ q.ino.0 → (is_rename q.ask ≡ true → is_within tree.nodes other q.ino.0 ≡ false) → IsAlike tree s.tree other
+  pub alike : (other : ℕ) → other ≢ q.ino.0 → (is_rename q.operation ≡ true → is_within tree.nodes other q.ino.0 ≡ false) → IsAlike tree s.tree other
   pub covers : (s.tree ≡ tree) ⊎ Covers q tree s.table affected

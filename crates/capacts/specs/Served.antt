@@ -2,7 +2,7 @@
 use Rattle.std.specs.Prelude.{ℕ, Bool, true, false, List}
 use Rattle.capbits.specs.Refusal.{Test}
 use Rattle.inotree.specs.{Tests.{inode_tests, unlink_tests, rmdir_tests, rename_tests, set_tests, set_xattr_tests, remove_xattr_tests}, Tree.{Nodes}}
-use Rattle.caprules.specs.Lockmachine.{declared.request.Ask.{Ask}, declared.request.Ask.TheVariants.{Get, Alter, Unlink, Rmdir, Rename}, declared.request.Change.{Change}, declared.request.Change.TheVariants.{Set, SetXattr, RemoveXattr}}
+use Rattle.caprules.specs.Lockmachine.{declared.request.Operation.{Operation}, declared.request.Operation.TheVariants.{Get, Alter, Unlink, Rmdir, Rename}, declared.request.Change.{Change}, declared.request.Change.TheVariants.{Set, SetXattr, RemoveXattr}}
 
 -- the tests of the call that makes a change
 abbrev pub change_call_tests : Nodes → ℕ → Change → List Test
@@ -10,8 +10,8 @@ change_call_tests tree ino (Set setting) = set_tests tree ino setting
 change_call_tests tree ino (SetXattr name value) = set_xattr_tests tree ino name value
 change_call_tests tree ino (RemoveXattr name) = remove_xattr_tests tree ino name
 
--- the tests of the call that does what is asked for
-abbrev pub call_tests : Nodes → ℕ → Ask → List Test
+-- the tests of the call that carries the operation out
+abbrev pub call_tests : Nodes → ℕ → Operation → List Test
 call_tests tree ino (Get part) = inode_tests tree ino
 call_tests tree ino (Alter change) = change_call_tests tree ino change
 call_tests tree ino Unlink = unlink_tests tree ino
@@ -19,6 +19,6 @@ call_tests tree ino Rmdir = rmdir_tests tree ino
 call_tests tree ino (Rename dir name) = rename_tests tree ino dir.0 name
 
 -- the inode is to move
-abbrev pub is_rename : Ask → Bool
+abbrev pub is_rename : Operation → Bool
 is_rename (Rename dir name) = true
-is_rename ask = false
+is_rename operation = false

@@ -1,11 +1,11 @@
 //! What rejects a request: its tests and what grants say of the accesses that it needs.
 ghost use Rattle.std.specs.Prelude.{◌≡◌, []};
 ghost use Rattle.capbits.specs.Refusal.{first_failing};
-ghost use Rattle.caprules.specs.{Asks.{ask_before, ask_needs, ask_after}, Judge.{denial_of, rejection_of}};
-ghost use Rattle.caprules.specs.Asks as words;
-ghost use Rattle.capacts.specs.Asks.{ask_of};
+ghost use Rattle.caprules.specs.{Operations.{operation_before, operation_needs, operation_after}, Judge.{denial_of, rejection_of}};
+ghost use Rattle.caprules.specs.Operations as words;
+ghost use Rattle.capacts.specs.Operations.{operation_of};
 
-use crate::asks::Asked;
+use crate::operations::OperationRef;
 use capbits::{Ino, Refusal};
 use capgrant::{Access, Verdict};
 use caprules::{Change, Rejection, Scene, verdict_on};
@@ -15,39 +15,43 @@ use inotree::{Setting, Tree};
 use sessiontab::Sessions;
 
 /// What rejects a request, when it comes and again when it is served.
-pub fn ask_rejection(scene: &Scene, holder: Holder, asked: Asked) -> Option<Rejection>
-    ensures { let s = scene.now in let ask = ask_of asked.entry in
-        result ≡ rejection_of s (ask_before s holder.ino.0 ask) (ask_needs s holder.client holder.ino.0 ask) (ask_after s holder.ino.0 ask) }
+pub fn operation_rejection(
+    scene: &Scene,
+    holder: Holder,
+    operation: OperationRef,
+) -> Option<Rejection>
+    ensures { let s = scene.now in let o = operation_of operation.entry in
+        result ≡ rejection_of s (operation_before s holder.ino.0 o) (operation_needs s holder.client holder.ino.0 o) (operation_after s holder.ino.0 o) }
 {
     let (tree, ino) = (&scene.tree, holder.ino);
-    if let Some(refusal) = before_refusal(scene, ino, asked) {
+    if let Some(refusal) = before_refusal(scene, ino, operation) {
         return Some(Rejection::ByTest(refusal));
     }
-    if let Some(denied) = ask_denial(scene, holder, asked) {
+    if let Some(denied) = operation_denial(scene, holder, operation) {
         return Some(denied);
     }
-    let refusal = match asked {
-        Asked::Get(_) => None,
-        Asked::Alter(change) => change_refusal(scene, ino, change),
-        Asked::Unlink => tree.file_refusal(ino),
-        Asked::Rmdir => tree.empty_refusal(ino),
-        Asked::Rename { dir, name } => tree.new_place_refusal(ino, dir, name.as_slice()),
+    let refusal = match operation {
+        OperationRef::Get(_) => None,
+        OperationRef::Alter(change) => change_refusal(scene, ino, change),
+        OperationRef::Unlink => tree.file_refusal(ino),
+        OperationRef::Rmdir => tree.empty_refusal(ino),
+        OperationRef::Rename { dir, name } => tree.new_site_refusal(ino, dir, name.as_slice()),
     };
     Some(Rejection::ByTest(refusal?))
 }
 
 // The first test before policy that fails.
-fn before_refusal(scene: &Scene, ino: Ino, asked: Asked) -> Option<Refusal>
-    ensures { result ≡ first_failing (ask_before scene.now ino.0 (ask_of asked.entry)) }
+fn before_refusal(scene: &Scene, ino: Ino, operation: OperationRef) -> Option<Refusal>
+    ensures { result ≡ first_failing (operation_before scene.now ino.0 (operation_of operation.entry)) }
 {
     let tree = &scene.tree;
     if let Some(refusal) = tree.inode_refusal(ino) {
         return Some(refusal);
     }
-    match asked {
-        Asked::Get(_) | Asked::Alter(_) => None,
-        Asked::Unlink | Asked::Rmdir => tree.root_refusal(ino),
-        Asked::Rename { dir, .. } => match tree.root_refusal(ino) {
+    match operation {
+        OperationRef::Get(_) | OperationRef::Alter(_) => None,
+        OperationRef::Unlink | OperationRef::Rmdir => tree.root_refusal(ino),
+        OperationRef::Rename { dir, .. } => match tree.root_refusal(ino) {
             Some(refusal) => Some(refusal),
             None => tree.inode_refusal(dir),
         },
@@ -55,18 +59,18 @@ fn before_refusal(scene: &Scene, ino: Ino, asked: Asked) -> Option<Refusal>
 }
 
 // The denial of the first access that it needs and no grant of its client allows.
-fn ask_denial(scene: &Scene, holder: Holder, asked: Asked) -> Option<Rejection>
-    ensures { let s = scene.now in result ≡ rejection_of s [] (ask_needs s holder.client holder.ino.0 (ask_of asked.entry)) [] }
+fn operation_denial(scene: &Scene, holder: Holder, operation: OperationRef) -> Option<Rejection>
+    ensures { let s = scene.now in result ≡ rejection_of s [] (operation_needs s holder.client holder.ino.0 (operation_of operation.entry)) [] }
 {
     let (fs, tree, sessions) = (&scene.fs, &scene.tree, &scene.sessions);
     let Holder { client, ino } = holder;
     // The inode that it needs an access to first, if any, and which; and the directory that it writes to besides.
-    let (at, access, into) = match asked {
-        Asked::Get(_) => (Some(ino), Access::Read, None),
-        Asked::Alter(change) => (Some(ino), change_access(change), None),
+    let (at, access, into) = match operation {
+        OperationRef::Get(_) => (Some(ino), Access::Read, None),
+        OperationRef::Alter(change) => (Some(ino), change_access(change), None),
         // The directory that it stands in, if any.
-        Asked::Unlink | Asked::Rmdir => (tree.parent(ino), Access::Write, None),
-        Asked::Rename { dir, .. } => (tree.parent(ino), Access::Write, Some(dir)),
+        OperationRef::Unlink | OperationRef::Rmdir => (tree.parent(ino), Access::Write, None),
+        OperationRef::Rename { dir, .. } => (tree.parent(ino), Access::Write, Some(dir)),
     };
     if let Some(ino) = at {
         if let Some(denied) = denial(fs, tree, sessions, Holder { client, ino }, access) {

@@ -4,20 +4,20 @@
 //! `capsteps` goes over all that a step affects with them.
 #![tactic(auto)]
 
-mod asks;
 pub mod finishing;
 pub mod history;
 pub mod judge;
 pub mod leaving;
+mod operations;
 pub mod reach;
 pub mod renewing;
 pub mod serving;
 pub mod stop;
 
-pub use asks::{Asked, copy_of_ask};
 pub use caprules::{
-    Ask, Bytes, Change, ChangeList, Ended, EndedList, EndedTickets, Event, InodeLocks, Locks,
-    Message, MessageList, Move, OpenMode, Outcome, PartValues, Policy, Question, Rejection, Reply,
-    Request, Row, Scene, Unknown, View, ViewChange, Wants, copy_of_messages, copy_of_outcome,
-    copy_of_reply, due_endings, permitted, wants_on,
+    Bytes, Change, ChangeList, Ended, EndedList, EndedTickets, Event, InodeLocks, Locks, Message,
+    MessageList, Move, OpenMode, Operation, Outcome, PartValues, Policy, Question, Rejection,
+    Reply, Request, Row, Scene, Unknown, View, ViewChange, Wants, copy_of_messages,
+    copy_of_outcome, copy_of_reply, due_endings, permitted, wants_on,
 };
+pub use operations::{OperationRef, copy_of_operation};

@@ -5,7 +5,7 @@ ghost use Rattle.captable.specs.Calls.{is_of_inode};
 ghost use Rattle.capacts.specs.{Reach.{AreWalked, Covers, Widens}, Served.{is_rename}};
 
 use capbits::Ino;
-use caprules::{Ask, ChangeList, Request, Scene};
+use caprules::{ChangeList, Operation, Request, Scene};
 use captable::CapTable;
 use inotree::{InoSet, NonEmptyInoSet};
 use std::alloc::AllocError;
@@ -23,15 +23,17 @@ pub fn reach(
     ensures walked { AreWalked walked.new scene.now.tree scene.now.table affected.new }
     ensures widens { Widens affected.old affected.new }
     ensures covers { OnOk result (Covers request.now scene.now.tree scene.now.table affected.new) }
-    ensures memory { OnErr result (is_rename request.now.ask ≡ true) }
+    ensures memory { OnErr result (is_rename request.now.operation ≡ true) }
     // There is a place more for each.
     ensures items { changes.new.items ≡ changes.old.items }
     ensures places { changes.old.room + set.len affected.new ≤ changes.new.room + set.len affected.old }
     ensures room { changes.old.room ≤ changes.new.room }
 {
-    match request.ask {
-        Ask::Rename { .. } => {}
-        Ask::Get(_) | Ask::Alter(_) | Ask::Unlink | Ask::Rmdir => return Ok(()),
+    match request.operation {
+        Operation::Rename { .. } => {}
+        Operation::Get(_) | Operation::Alter(_) | Operation::Unlink | Operation::Rmdir => return Ok(
+            (),
+        ),
     }
     // Where a rename of the step has walked from it before, what lies there now was affected then, or when it was moved there.
     if walked.contains(request.ino) {

@@ -6,7 +6,9 @@ ghost use Rattle.caprules.specs.{Capnotes.Changing.{tree_changed}, Lockmachine.P
 ghost use Rattle.capacts.specs.{Known.{HaveRoom, known_of}, Renewing.{Renews, ServedFrom, has_entry}};
 
 use capbits::{ClientId, Ino};
-use caprules::{Ask, Change, Outcome, Policy, Request, Scene, permitted, permitted_on, sets_attr};
+use caprules::{
+    Change, Operation, Outcome, Policy, Request, Scene, permitted, permitted_on, sets_attr,
+};
 use captable::{CapTable, Known};
 use inotree::{Names, NonEmptyInoSet};
 
@@ -32,11 +34,11 @@ pub fn renew_served(
     };
     let (table, own) = (&scene.table, request.ino);
     match outcome {
-        Outcome::Done => match &request.ask {
-            Ask::Get(_) => {}
-            Ask::Alter(change) => renew_changed(&policy, table, known, own, change),
-            Ask::Unlink | Ask::Rmdir => renew_on(&policy, table, known, own),
-            Ask::Rename { .. } => {
+        Outcome::Done => match &request.operation {
+            Operation::Get(_) => {}
+            Operation::Alter(change) => renew_changed(&policy, table, known, own, change),
+            Operation::Unlink | Operation::Rmdir => renew_on(&policy, table, known, own),
+            Operation::Rename { .. } => {
                 let mut inos = affected.numbers();
                 'inodes: while let Some(ino) = inos.next() {
                     renew_on(&policy, table, known, ino);

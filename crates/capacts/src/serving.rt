@@ -3,14 +3,14 @@ ghost use Rattle.std.specs.Prelude.{◌≡◌, None, Some, true, false, IfOk, On
 ghost use Rattle.capbits.specs.Refusal.{first_failing};
 ghost use Rattle.captable.specs.Table.{Table};
 ghost use Rattle.caprules.specs.{Capnotes.Changing.{tree_after, tree_with, tree_changed}, Lockmachine.Locks.{LockMap}, Lockmachine.Scene.{scene as scene_of}, Lockmachine.declared.scene.Scene.{Scene}, Serving.{MayEndAs, judged_again, rejection_outcome, takes_memory, values_outcome}};
-ghost use Rattle.caprules.specs.Lockmachine.declared.request.Ask.TheVariants as ask_kind;
+ghost use Rattle.caprules.specs.Lockmachine.declared.request.Operation.TheVariants as operation_kind;
 ghost use Rattle.caprules.specs.Serving as words;
 ghost use Rattle.capacts.specs.Served.{call_tests, change_call_tests, is_rename};
 
-use crate::asks::lend;
-use crate::judge::ask_rejection;
+use crate::judge::operation_rejection;
+use crate::operations::operation_ref;
 use capbits::{Ino, Part};
-use caprules::{Ask, Change, Outcome, PartValues, Rejection, Request, Scene, copy_of_rules};
+use caprules::{Change, Operation, Outcome, PartValues, Rejection, Request, Scene, copy_of_rules};
 use captable::Holder;
 use inotree::{Node, Tree};
 use std::alloc::{AllocError, Global};
@@ -19,7 +19,7 @@ use std::alloc::{AllocError, Global};
 #[derive(Drop)]
 pub struct Served {
     pub outcome: Outcome,
-    pub kept: Outcome,
+    pub for_history: Outcome,
 }
 
 /// Serves a request: what rejects it now, or what it asks for. One that was judged on this tree when it came is not judged again. A
@@ -31,33 +31,33 @@ pub fn serve(
     room: bool,
     judged: bool,
 ) -> Served
-    requires room { room ≡ false → is_rename request.now.ask ≡ true }
+    requires room { room ≡ false → is_rename request.now.operation ≡ true }
     requires judged { judged ≡ true → judged_again scene.old request.now ≡ None }
     ensures ends { (table : Table) (locks : LockMap)
         → MayEndAs (scene_of scene.old.fs scene.old.tree scene.old.sessions table locks) request.now result.outcome }
-    ensures kept { result.kept ≡ result.outcome }
+    ensures for_history { result.for_history ≡ result.outcome }
     ensures tree { scene.new.tree ≡ tree_after scene.old.tree request.now result.outcome }
     ensures rest { scene.new ≡ record scene.old { tree = scene.new.tree } }
     ensures stays { room ≡ false → scene.new.tree ≡ scene.old.tree }
 {
     if !judged {
         let (client, ino) = (request.client, request.ino);
-        let asked = lend(&request.ask);
-        if let Some(rejection) = ask_rejection(scene, Holder { client, ino }, asked) {
+        let operation = operation_ref(&request.operation);
+        if let Some(rejection) = operation_rejection(scene, Holder { client, ino }, operation) {
             return rejected(rejection);
         }
     }
     if !room {
         return Served {
             outcome: Outcome::OutOfMemory,
-            kept: Outcome::OutOfMemory,
+            for_history: Outcome::OutOfMemory,
         };
     }
-    match carry_out(alloc, &mut scene.tree, request.ino, &request.ask) {
+    match carry_out(alloc, &mut scene.tree, request.ino, &request.operation) {
         Ok(served) => served,
         Err(AllocError) => Served {
             outcome: Outcome::OutOfMemory,
-            kept: Outcome::OutOfMemory,
+            for_history: Outcome::OutOfMemory,
         },
     }
 }
@@ -65,33 +65,38 @@ pub fn serve(
 // ---- what it does
 
 // Does what is asked for. For want of memory nothing changes.
-fn carry_out(alloc: Global, tree: &mut Tree, ino: Ino, ask: &Ask) -> Result<Served, AllocError>
-    requires passed { first_failing (call_tests tree.old ino.0 ask.now) ≡ None }
+fn carry_out(
+    alloc: Global,
+    tree: &mut Tree,
+    ino: Ino,
+    operation: &Operation,
+) -> Result<Served, AllocError>
+    requires passed { first_failing (call_tests tree.old ino.0 operation.now) ≡ None }
     ensures outcome { IfOk result (λ served. (s : Scene) → s.tree ≡ tree.old
-        → served.outcome ≡ words.passed_as s ino.0 ask.now) }
-    ensures kept { IfOk result (λ served. served.kept ≡ served.outcome) }
-    ensures tree { OnOk result (tree.new ≡ tree_with tree.old ino.0 ask.now) }
+        → served.outcome ≡ words.passed_as s ino.0 operation.now) }
+    ensures for_history { IfOk result (λ served. served.for_history ≡ served.outcome) }
+    ensures tree { OnOk result (tree.new ≡ tree_with tree.old ino.0 operation.now) }
     ensures err { OnErr result (tree.new ≡ tree.old) }
-    ensures memory { OnErr result (takes_memory ask.now ≡ true) }
+    ensures memory { OnErr result (takes_memory operation.now ≡ true) }
 {
-    match ask {
-        Ask::Get(part) => {
+    match operation {
+        Operation::Get(part) => {
             // Tested before: the inode exists.
             if let Some(node) = tree.node(ino) {
                 return Ok(Served {
                     outcome: values_of(alloc, node, *part)?,
-                    kept: values_of(alloc, node, *part)?,
+                    for_history: values_of(alloc, node, *part)?,
                 });
             }
         }
-        Ask::Alter(change) => alter(tree, ino, change)?,
-        Ask::Unlink => tree.unlink_tested(ino),
-        Ask::Rmdir => tree.rmdir_tested(ino),
-        Ask::Rename { dir, name } => tree.rename_tested(ino, *dir, name.as_slice())?,
+        Operation::Alter(change) => alter(tree, ino, change)?,
+        Operation::Unlink => tree.unlink_tested(ino),
+        Operation::Rmdir => tree.rmdir_tested(ino),
+        Operation::Rename { dir, name } => tree.rename_tested(ino, *dir, name.as_slice())?,
     }
     Ok(Served {
         outcome: Outcome::Done,
-        kept: Outcome::Done,
+        for_history: Outcome::Done,
     })
 }
 
@@ -117,7 +122,7 @@ pub fn alter(tree: &mut Tree, ino: Ino, change: &Change) -> Result<(), AllocErro
 // What the inode keeps of the part. A list of attributes is copied.
 fn values_of(alloc: Global, node: &Node, part: Part) -> Result<Outcome, AllocError>
     ensures values { IfOk result (λ outcome. outcome ≡ values_outcome part (Some node.now)) }
-    ensures memory { OnErr result (takes_memory (ask_kind.Get part) ≡ true) }
+    ensures memory { OnErr result (takes_memory (operation_kind.Get part) ≡ true) }
 {
     Ok(Outcome::Values(match part {
         Part::A => PartValues::Auth(node.attr),
@@ -133,9 +138,9 @@ fn values_of(alloc: Global, node: &Node, part: Part) -> Result<Outcome, AllocErr
 // How a request ends that was rejected.
 fn rejected(rejection: Rejection) -> Served
     ensures outcome { result.outcome ≡ rejection_outcome rejection }
-    ensures kept { result.kept ≡ rejection_outcome rejection }
+    ensures for_history { result.for_history ≡ rejection_outcome rejection }
 {
-    let (outcome, kept) = match rejection {
+    let (outcome, for_history) = match rejection {
         Rejection::ByPolicy { access, rules } => {
             let copy = copy_of_rules(&rules);
             let outcome = Outcome::Denied { access, rules };
@@ -144,5 +149,8 @@ fn rejected(rejection: Rejection) -> Served
         }
         Rejection::ByTest(refusal) => (Outcome::Refused(refusal), Outcome::Refused(refusal)),
     };
-    Served { outcome, kept }
+    Served {
+        outcome,
+        for_history,
+    }
 }

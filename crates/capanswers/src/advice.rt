@@ -1,7 +1,7 @@
 //! What is said of a fault, and beside it.
 ghost use Rattle.std.specs.Prelude.{◌≡◌};
 
-use crate::command_line::Ask;
+use crate::command_line::Invocation;
 use crate::fault::AnswerFault;
 use crate::inquiry::Form;
 use crate::pointing::point_at;
@@ -16,13 +16,18 @@ use std::alloc::{AllocError, Global};
 use std::io::Write;
 
 /// Writes the fault as a line, its place in a text of grants, and what helps against it, and returns its status.
-pub fn refuse(alloc: Global, ask: &Ask, fault: AnswerFault, faults: &mut impl Write) -> u8
+pub fn refuse(
+    alloc: Global,
+    invocation: &Invocation,
+    fault: AnswerFault,
+    faults: &mut impl Write,
+) -> u8
     ensures { result ≡ FAILED }
 {
     let status = report(fault, faults);
-    let refused = refused(ask, fault);
+    let refused = refused(invocation, fault);
     if let Some((text, at)) = refused
-        && shows_more(ask)
+        && shows_more(invocation)
     {
         point_at(alloc, text, at, faults);
     }
@@ -30,8 +35,8 @@ pub fn refuse(alloc: Global, ask: &Ask, fault: AnswerFault, faults: &mut impl Wr
         let _ = writeln!(faults, "hint: {advice}");
     }
     match fault {
-        AnswerFault::Question(QuestionFault::BadValue(option)) if shows_more(ask) => {
-            name_value(alloc, ask, option, faults);
+        AnswerFault::Question(QuestionFault::BadValue(option)) if shows_more(invocation) => {
+            name_value(alloc, invocation, option, faults);
         }
         _ => {}
     }
@@ -39,8 +44,8 @@ pub fn refuse(alloc: Global, ask: &Ask, fault: AnswerFault, faults: &mut impl Wr
 }
 
 // Writes the bad value, in quotes where it has to be, and what the option takes. Without memory for that nothing is written.
-fn name_value(alloc: Global, ask: &Ask, option: Opt, faults: &mut impl Write) {
-    let Ok(value) = shown(alloc, value_of(ask, option)) else {
+fn name_value(alloc: Global, invocation: &Invocation, option: Opt, faults: &mut impl Write) {
+    let Ok(value) = shown(alloc, value_of(invocation, option)) else {
         return;
     };
     let taken = taken_by(option);
@@ -59,12 +64,12 @@ fn shown(alloc: Global, value: &[u8]) -> Result<Vec<u8>, AllocError> {
     Ok(text)
 }
 
-fn value_of(ask: &Ask, option: Opt) -> &[u8] {
-    match ask {
-        Ask::Explain(inquiry) => asked_value(&inquiry.values, option),
-        Ask::Who(survey) => attempted_value(&survey.values, option),
-        Ask::Audit(checkup) => checkup.fs.as_slice(),
-        Ask::Log(fs) => fs.as_slice(),
+fn value_of(invocation: &Invocation, option: Opt) -> &[u8] {
+    match invocation {
+        Invocation::Explain(inquiry) => asked_value(&inquiry.values, option),
+        Invocation::Who(survey) => attempted_value(&survey.values, option),
+        Invocation::Audit(checkup) => checkup.fs.as_slice(),
+        Invocation::Log(fs) => fs.as_slice(),
         _ => b"",
     }
 }
@@ -181,26 +186,30 @@ fn connecting(fault: ClusterFault) -> Option<&'static str> {
 }
 
 // Whether more than the line of the fault is shown: with `--more` alone where this line is all that a script may look for.
-fn shows_more(ask: &Ask) -> bool {
-    match ask {
-        Ask::Explain(inquiry) => matches!(inquiry.form, Form::More),
-        Ask::Grants { text: _, more } => *more,
+fn shows_more(invocation: &Invocation) -> bool {
+    match invocation {
+        Invocation::Explain(inquiry) => matches!(inquiry.form, Form::More),
+        Invocation::Grants { text: _, more } => *more,
         _ => true,
     }
 }
 
 // The text of grants that has the fault, and how many bytes stand before it. Of a text with nothing but white space there is no place.
-fn refused<'a>(ask: &'a Ask, fault: AnswerFault) -> Option<(&'a [u8], usize)> {
-    let (text, found) = match (ask, fault) {
-        (Ask::Explain(inquiry), AnswerFault::Question(QuestionFault::Grants(found))) => {
+fn refused<'a>(invocation: &'a Invocation, fault: AnswerFault) -> Option<(&'a [u8], usize)> {
+    let (text, found) = match (invocation, fault) {
+        (Invocation::Explain(inquiry), AnswerFault::Question(QuestionFault::Grants(found))) => {
             (&inquiry.values.grants, found)
         }
         (
-            Ask::Grants { text, .. } | Ask::Lint { text, .. },
+            Invocation::Grants { text, .. } | Invocation::Lint { text, .. },
             AnswerFault::Question(QuestionFault::Grants(found)),
         ) => (text, found),
-        (Ask::Compare { old, .. }, AnswerFault::Compare(CompareFault::Old(found))) => (old, found),
-        (Ask::Compare { new, .. }, AnswerFault::Compare(CompareFault::New(found))) => (new, found),
+        (Invocation::Compare { old, .. }, AnswerFault::Compare(CompareFault::Old(found))) => (
+            old, found,
+        ),
+        (Invocation::Compare { new, .. }, AnswerFault::Compare(CompareFault::New(found))) => (
+            new, found,
+        ),
         _ => return None,
     };
     match found.kind {

@@ -2,7 +2,7 @@
 
 use crate::checkup::Checkup;
 use crate::inquiry::Inquiry;
-use crate::matched::asked;
+use crate::matched::invoked;
 use crate::survey::Survey;
 use crate::usage::{COMMANDS, Kind, Usage, Word};
 use capquestion::{Shape, spell};
@@ -66,7 +66,7 @@ const STATUSES: &str = "Status:
   3  of `explain --quiet`: denied; of `lint` and `audit`: something was found, or `audit` could not judge it";
 
 /// What a command line asks for.
-pub enum Ask {
+pub enum Invocation {
     /// Whether grants allow an access.
     Explain(Inquiry),
     /// The written form of the grants in a text.
@@ -111,29 +111,29 @@ pub enum Ask {
 }
 
 // By hand, so that whoever lets one go has one call to prove.
-impl Drop for Ask {
+impl Drop for Invocation {
     fn drop(self) {
         match self {
-            Ask::Explain(_) => {}
-            Ask::Grants { text: _, more: _ } => {}
-            Ask::Compare {
+            Invocation::Explain(_) => {}
+            Invocation::Grants { text: _, more: _ } => {}
+            Invocation::Compare {
                 old: _,
                 new: _,
                 shape: _,
             } => {}
-            Ask::Lint { text: _, shape: _ } => {}
-            Ask::Who(_) => {}
-            Ask::Audit(_) => {}
-            Ask::Log(_) => {}
-            Ask::Run { more: _ } => {}
-            Ask::Serve { more: _ } => {}
+            Invocation::Lint { text: _, shape: _ } => {}
+            Invocation::Who(_) => {}
+            Invocation::Audit(_) => {}
+            Invocation::Log(_) => {}
+            Invocation::Run { more: _ } => {}
+            Invocation::Serve { more: _ } => {}
         }
     }
 }
 
 /// What the words behind the program's name ask for. The error's text says what is wrong with the words, or it is the
 /// help that they ask for; `capquestion::spelled` gives its bytes.
-pub fn parse(alloc: Global, words: &[Vec<u8>]) -> Result<Ask, Error> {
+pub fn parse(alloc: Global, words: &[Vec<u8>]) -> Result<Invocation, Error> {
     let mut texts = Vec::new(alloc);
     for word in words {
         texts.push(spell(alloc, word.as_slice())?)?;
@@ -141,7 +141,7 @@ pub fn parse(alloc: Global, words: &[Vec<u8>]) -> Result<Ask, Error> {
     parse_texts(alloc, texts.as_slice())
 }
 
-fn parse_texts(alloc: Global, texts: &[String]) -> Result<Ask, Error> {
+fn parse_texts(alloc: Global, texts: &[String]) -> Result<Invocation, Error> {
     let mut command = capd(alloc)?;
     parse_by(alloc, &mut command, texts)
 }
@@ -150,10 +150,10 @@ fn parse_by<'a>(
     alloc: Global,
     command: &mut Command<'a>,
     texts: &'a [String],
-) -> Result<Ask, Error> {
+) -> Result<Invocation, Error> {
     let matches = command.try_get_matches_from_mut(texts)?;
-    match asked(alloc, &matches) {
-        Ok(ask) => Ok(ask),
+    match invoked(alloc, &matches) {
+        Ok(invocation) => Ok(invocation),
         Err(kind) => Err(command.error(kind, "a word is missing")?),
     }
 }

@@ -1,6 +1,6 @@
 //! The files of a cluster's texts.
 
-use crate::command_line::Ask;
+use crate::command_line::Invocation;
 use crate::fault::AnswerFault;
 use crate::keyring::open_file;
 use capstreams::{Watched, read_script};
@@ -8,8 +8,12 @@ use std::alloc::Global;
 use std::fs::Files;
 
 /// Reads the auth list and the sessions that `audit` names into what is asked. Of another command nothing is read.
-pub fn gather<E: Files>(files: &E, alloc: Global, ask: &mut Ask) -> Result<(), AnswerFault> {
-    if let Ask::Audit(checkup) = ask {
+pub fn gather<E: Files>(
+    files: &E,
+    alloc: Global,
+    invocation: &mut Invocation,
+) -> Result<(), AnswerFault> {
+    if let Invocation::Audit(checkup) = invocation {
         checkup.auth = read_file(files, alloc, checkup.files.auth.as_slice())?;
         checkup.sessions = read_file(files, alloc, checkup.files.sessions.as_slice())?;
     }

@@ -1,14 +1,17 @@
 //! The file of a keyring, of an auth list, or of a tree.
 
-use crate::command_line::{Ask, INPUT};
+use crate::command_line::{INPUT, Invocation};
 use crate::fault::AnswerFault;
 use crate::inquiry::Source;
 use std::fs::{Files, open};
 
 /// The file that is to be read in the place of standard input, if one is.
-pub fn keyring_file<E: Files>(files: &E, ask: &Ask) -> Result<Option<E::File>, AnswerFault> {
-    match ask {
-        Ask::Explain(inquiry) => match &inquiry.source {
+pub fn keyring_file<E: Files>(
+    files: &E,
+    invocation: &Invocation,
+) -> Result<Option<E::File>, AnswerFault> {
+    match invocation {
+        Invocation::Explain(inquiry) => match &inquiry.source {
             Source::Keyring { file, .. } => {
                 open_file(files, file.as_slice(), AnswerFault::Unopened)
             }
@@ -17,8 +20,12 @@ pub fn keyring_file<E: Files>(files: &E, ask: &Ask) -> Result<Option<E::File>, A
             }
             Source::Word | Source::Input => Ok(None),
         },
-        Ask::Who(survey) => open_file(files, survey.auth.as_slice(), AnswerFault::UnopenedAuth),
-        Ask::Audit(checkup) => open_file(
+        Invocation::Who(survey) => open_file(
+            files,
+            survey.auth.as_slice(),
+            AnswerFault::UnopenedAuth,
+        ),
+        Invocation::Audit(checkup) => open_file(
             files,
             checkup.files.tree.as_slice(),
             AnswerFault::UnopenedText,

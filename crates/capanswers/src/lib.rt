@@ -28,7 +28,7 @@ pub use advice::refuse;
 pub use arguments::words;
 pub use capquestion::{Shape, spelled};
 pub use checkup::{Checkup, ClusterFiles, check_cluster};
-pub use command_line::Ask;
+pub use command_line::Invocation;
 pub use commands::{compare_texts, grants, inquire, look_over};
 pub use fault::AnswerFault;
 pub use gathering::gather;

@@ -2,8 +2,8 @@
 
 use crate::checkup::{Checkup, ClusterFiles};
 use crate::command_line::{
-    AUDIT, AUTH, Ask, CLIENT, COMPARE, EXPLAIN, GRANTS, INPUT, JSON, KEYRING, LINT, LOG, MORE, NEW,
-    OLD, QUIET, RULE, RUN, SERVE, SESSIONS, TEXT, TREE, WHO,
+    AUDIT, AUTH, CLIENT, COMPARE, EXPLAIN, GRANTS, INPUT, Invocation, JSON, KEYRING, LINT, LOG,
+    MORE, NEW, OLD, QUIET, RULE, RUN, SERVE, SESSIONS, TEXT, TREE, WHO,
 };
 use crate::inquiry::{Form, Inquiry, Source};
 use crate::survey::Survey;
@@ -14,7 +14,7 @@ use clap::error::ErrorKind;
 use std::alloc::Global;
 
 /// What the words ask for. The error says what is wrong with them; the parser of the command line lets no such words through.
-pub fn asked(alloc: Global, matches: &ArgMatches<'_>) -> Result<Ask, ErrorKind> {
+pub fn invoked(alloc: Global, matches: &ArgMatches<'_>) -> Result<Invocation, ErrorKind> {
     let Some((name, matches)) = matches.subcommand() else {
         return Err(ErrorKind::MissingSubcommand);
     };
@@ -23,35 +23,35 @@ pub fn asked(alloc: Global, matches: &ArgMatches<'_>) -> Result<Ask, ErrorKind> 
         matches,
         fault: None,
     };
-    let ask = match name {
-        EXPLAIN => Ask::Explain(matched.inquiry()),
-        GRANTS => Ask::Grants {
+    let invocation = match name {
+        EXPLAIN => Invocation::Explain(matched.inquiry()),
+        GRANTS => Invocation::Grants {
             text: matched.value(TEXT),
             more: matched.says_more(),
         },
-        COMPARE => Ask::Compare {
+        COMPARE => Invocation::Compare {
             old: matched.value(OLD),
             new: matched.value(NEW),
             shape: matched.shape(),
         },
-        LINT => Ask::Lint {
+        LINT => Invocation::Lint {
             text: matched.value(TEXT),
             shape: matched.shape(),
         },
-        WHO => Ask::Who(matched.survey()),
-        AUDIT => Ask::Audit(matched.checkup()),
-        LOG => Ask::Log(matched.option(Opt::Fs)),
-        RUN => Ask::Run {
+        WHO => Invocation::Who(matched.survey()),
+        AUDIT => Invocation::Audit(matched.checkup()),
+        LOG => Invocation::Log(matched.option(Opt::Fs)),
+        RUN => Invocation::Run {
             more: matched.says_more(),
         },
-        SERVE => Ask::Serve {
+        SERVE => Invocation::Serve {
             more: matched.says_more(),
         },
         _ => return Err(ErrorKind::MissingSubcommand),
     };
     match matched.fault {
         Some(kind) => Err(kind),
-        None => Ok(ask),
+        None => Ok(invocation),
     }
 }
 

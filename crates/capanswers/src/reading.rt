@@ -2,7 +2,7 @@
 ghost use Rattle.std.specs.Prelude.{◌≡◌, ◌≤◌};
 ghost use Rattle.std.specs.Io.KnownBytes.{Keeps};
 
-use crate::command_line::{Ask, parse};
+use crate::command_line::{Invocation, parse};
 use crate::fault::AnswerFault;
 use crate::status::{DONE, USAGE, report};
 use capquestion::spelled;
@@ -33,9 +33,9 @@ impl Drop for Said {
 
 /// What the words behind the program's name ask for, or what the parser of the command line says of them, with the words in it as they
 /// came.
-pub fn read_words(alloc: Global, words: &[Vec<u8>]) -> Result<Ask, Said> {
+pub fn read_words(alloc: Global, words: &[Vec<u8>]) -> Result<Invocation, Said> {
     match parse(alloc, words) {
-        Ok(ask) => Ok(ask),
+        Ok(invocation) => Ok(invocation),
         Err(error) => Err(said_by(alloc, &error)),
     }
 }

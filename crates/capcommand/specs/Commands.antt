@@ -13,8 +13,8 @@ use Rattle.capscript.specs.Transcript.{Ran, IsTranscript}
 use Rattle.capscript.specs.declared.serve_fault.ServeFault.{ServeFault}
 use Rattle.capscript.specs.declared.serve_fault.ServeFault.TheVariants.{Script as ServeScript}
 use Rattle.capcommand.specs.Served.{IsServed, IsWritten}
-use Rattle.capanswers.specs.declared.command_line.Ask.{Ask}
-use Rattle.capanswers.specs.declared.command_line.Ask.TheVariants as asks
+use Rattle.capanswers.specs.declared.command_line.Invocation.{Invocation}
+use Rattle.capanswers.specs.declared.command_line.Invocation.TheVariants as invocations
 use Rattle.capanswers.specs.declared.fault.AnswerFault.{AnswerFault}
 use Rattle.capanswers.specs.Answers.{AnswersInquiry, AnswersLint, StopsBefore, StopsComparing, StopsInquiry}
 use Rattle.capanswers.specs.Checkup.{AnswersCheckup, StopsCheckup}
@@ -26,16 +26,16 @@ use Rattle.capcommand.specs.declared.stopping.Fault.TheVariants.{Answer, Script,
 -- the whole answer was written: the answer to a question, the written form of grants, the lines that compare two texts, what is found in one,
 -- the lines for the clients of a cluster, what they hold and may not, those that tell of a log, the transcript of the script that was to be read, or the history; with the status 0, but for a question that is answered by the status alone,
 -- and for what is found
-abbrev pub Answers : Ask → Option (List ℕ) → ℕ → Option (List ℕ) → Option (List ℕ) → Type 0
-Answers (asks.Explain inquiry) input status old new = AnswersInquiry inquiry input status old new
-Answers (asks.Grants text more) input status old new = (status ≡ 0) × ((grants : List Grant) × Reads text.items grants × Appends old new (written grants ++ codes "\n"))
-Answers (asks.Compare before after shape) input status old new = (status ≡ 0) × ((lines : List ℕ) × IsComparison shape before.items after.items lines × Appends old new lines)
-Answers (asks.Lint text shape) input status old new = AnswersLint shape text.items status old new
-Answers (asks.Who survey) input status old new = (status ≡ 0) × AnswersSurvey survey input old new
-Answers (asks.Audit checkup) input status old new = AnswersCheckup checkup input status old new
-Answers (asks.Log fs) input status old new = (status ≡ 0) × AnswersLog fs.items input old new
-Answers (asks.Run more) input status old new = (status ≡ 0) × IfSome input (λ script. (length script ≤ longest_script) × ((text : List ℕ) × IsTranscript (lines script) text × Appends old new text))
-Answers (asks.Serve more) input status old new = (status ≡ 0) × IfSome input (λ script. (length script ≤ longest_script) × ((text : List ℕ) × IsServed (lines script) text × Appends old new text))
+abbrev pub Answers : Invocation → Option (List ℕ) → ℕ → Option (List ℕ) → Option (List ℕ) → Type 0
+Answers (invocations.Explain inquiry) input status old new = AnswersInquiry inquiry input status old new
+Answers (invocations.Grants text more) input status old new = (status ≡ 0) × ((grants : List Grant) × Reads text.items grants × Appends old new (written grants ++ codes "\n"))
+Answers (invocations.Compare before after shape) input status old new = (status ≡ 0) × ((lines : List ℕ) × IsComparison shape before.items after.items lines × Appends old new lines)
+Answers (invocations.Lint text shape) input status old new = AnswersLint shape text.items status old new
+Answers (invocations.Who survey) input status old new = (status ≡ 0) × AnswersSurvey survey input old new
+Answers (invocations.Audit checkup) input status old new = AnswersCheckup checkup input status old new
+Answers (invocations.Log fs) input status old new = (status ≡ 0) × AnswersLog fs.items input old new
+Answers (invocations.Run more) input status old new = (status ≡ 0) × IfSome input (λ script. (length script ≤ longest_script) × ((text : List ℕ) × IsTranscript (lines script) text × Appends old new text))
+Answers (invocations.Serve more) input status old new = (status ≡ 0) × IfSome input (λ script. (length script ≤ longest_script) × ((text : List ℕ) × IsServed (lines script) text × Appends old new text))
 
 -- The run stopped so, and this was written. A script that was read to its end is told apart. A read or a write that failed is told; a
 -- failed read is told of nothing else but a script that is too long, and then nothing was written.
@@ -62,13 +62,13 @@ TellsOfAnswer P (Script stop) = ⊥
 TellsOfAnswer P (Serve stop) = ⊥
 
 -- why there is no whole answer, by whether the input was read to its end, whether a read failed and whether a write did
-abbrev pub Stops : Ask → Fault → Option (List ℕ) → Bool → Bool → Bool → Option (List ℕ) → Option (List ℕ) → Type 0
-Stops (asks.Explain inquiry) fault input ended unread unwritten old new = TellsOfAnswer (λ told. StopsInquiry inquiry told input unread unwritten old new) fault
-Stops (asks.Grants text more) fault input ended unread unwritten old new = TellsOfAnswer (λ told. StopsBefore (IsFaultOfText text.items) told unwritten old new) fault
-Stops (asks.Compare before after shape) fault input ended unread unwritten old new = TellsOfAnswer (λ told. StopsComparing before.items after.items told unwritten old new) fault
-Stops (asks.Lint text shape) fault input ended unread unwritten old new = TellsOfAnswer (λ told. StopsBefore (IsFaultOfText text.items) told unwritten old new) fault
-Stops (asks.Who survey) fault input ended unread unwritten old new = TellsOfAnswer (λ told. StopsSurvey survey told input unread unwritten old new) fault
-Stops (asks.Audit checkup) fault input ended unread unwritten old new = TellsOfAnswer (λ told. StopsCheckup checkup told input unread unwritten old new) fault
-Stops (asks.Log fs) fault input ended unread unwritten old new = TellsOfAnswer (λ told. StopsLog fs.items told input unread unwritten old new) fault
-Stops (asks.Run more) fault input ended unread unwritten old new = (stop : ScriptFault) × (fault ≡ Script stop) × RunStops stop input ended unread unwritten old new
-Stops (asks.Serve more) fault input ended unread unwritten old new = (stop : ServeFault) × (fault ≡ Serve stop) × ServeStops stop input unread unwritten old new
+abbrev pub Stops : Invocation → Fault → Option (List ℕ) → Bool → Bool → Bool → Option (List ℕ) → Option (List ℕ) → Type 0
+Stops (invocations.Explain inquiry) fault input ended unread unwritten old new = TellsOfAnswer (λ told. StopsInquiry inquiry told input unread unwritten old new) fault
+Stops (invocations.Grants text more) fault input ended unread unwritten old new = TellsOfAnswer (λ told. StopsBefore (IsFaultOfText text.items) told unwritten old new) fault
+Stops (invocations.Compare before after shape) fault input ended unread unwritten old new = TellsOfAnswer (λ told. StopsComparing before.items after.items told unwritten old new) fault
+Stops (invocations.Lint text shape) fault input ended unread unwritten old new = TellsOfAnswer (λ told. StopsBefore (IsFaultOfText text.items) told unwritten old new) fault
+Stops (invocations.Who survey) fault input ended unread unwritten old new = TellsOfAnswer (λ told. StopsSurvey survey told input unread unwritten old new) fault
+Stops (invocations.Audit checkup) fault input ended unread unwritten old new = TellsOfAnswer (λ told. StopsCheckup checkup told input unread unwritten old new) fault
+Stops (invocations.Log fs) fault input ended unread unwritten old new = TellsOfAnswer (λ told. StopsLog fs.items told input unread unwritten old new) fault
+Stops (invocations.Run more) fault input ended unread unwritten old new = (stop : ScriptFault) × (fault ≡ Script stop) × RunStops stop input ended unread unwritten old new
+Stops (invocations.Serve more) fault input ended unread unwritten old new = (stop : ServeFault) × (fault ≡ Serve stop) × ServeStops stop input unread unwritten old new

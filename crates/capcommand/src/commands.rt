@@ -14,8 +14,8 @@ ghost use Rattle.capcommand.specs.Commands.{Answers, Stops, RunStops, ServeStops
 use crate::serving::serve;
 use crate::stopping::Fault;
 use capanswers::{
-    Ask, DENIED, DONE, FAILED, FOUND, USAGE, check_cluster, compare_texts, gather, grants, inquire,
-    keyring_file, look_over, read_words, report, show, tell_log, tell_who,
+    DENIED, DONE, FAILED, FOUND, Invocation, USAGE, check_cluster, compare_texts, gather, grants,
+    inquire, keyring_file, look_over, read_words, report, show, tell_log, tell_who,
 };
 use capscript::{ScriptFault, ServeFault, Watched, run};
 use std::alloc::Global;
@@ -38,34 +38,49 @@ pub fn dispatch<E: AllocGlobal + Files + Threads + Wait + Sync, R: Read, W: Writ
     ensures usage { result ≡ USAGE → Keeps (W.contents writer.old) (W.contents writer.new) }
     ensures denied { result ≡ DENIED → Keeps (F.contents faults.old) (F.contents faults.new) }
 {
-    let mut ask = match read_words(rt.alloc(), words) {
-        Ok(ask) => ask,
+    let mut invocation = match read_words(rt.alloc(), words) {
+        Ok(invocation) => invocation,
         Err(said) => return show(&said, writer, faults),
     };
-    if let Err(fault) = gather(rt, rt.alloc(), &mut ask) {
-        return capanswers::refuse(rt.alloc(), &ask, fault, faults);
+    if let Err(fault) = gather(rt, rt.alloc(), &mut invocation) {
+        return capanswers::refuse(rt.alloc(), &invocation, fault, faults);
     }
     let mut writer = Watched::new(writer);
-    match keyring_file(rt, &ask) {
+    match keyring_file(rt, &invocation) {
         Ok(None) => {
             let mut reader = Watched::new(reader);
-            carry_out(rt, rt.alloc(), &mut ask, &mut reader, &mut writer, faults)
+            carry_out(
+                rt,
+                rt.alloc(),
+                &mut invocation,
+                &mut reader,
+                &mut writer,
+                faults,
+            )
         }
         Ok(Some(file)) => {
             let mut file = Watched::new(file);
-            carry_out(rt, rt.alloc(), &mut ask, &mut file, &mut writer, faults)
+            carry_out(
+                rt,
+                rt.alloc(),
+                &mut invocation,
+                &mut file,
+                &mut writer,
+                faults,
+            )
         }
-        Err(fault) => capanswers::refuse(rt.alloc(), &ask, fault, faults),
+        Err(fault) => capanswers::refuse(rt.alloc(), &invocation, fault, faults),
     }
 }
 
 /// Does what is asked, and returns the status: `DONE` where all of the answer was written, no stream failed, and nothing was
 /// written to `faults`, or `DENIED` where the status is all of the answer, or `FOUND` where something was found, or could not be judged,
-/// and all of it written; else `FAILED`. Neither stream was read or written to yet. What is read of a question's grants is kept in `ask`.
+/// and all of it written; else `FAILED`. Neither stream was read or written to yet. What is read of a question's grants is kept in
+/// `invocation`.
 pub fn carry_out<T: Threads + Wait + Sync, R: Read, W: Write, F: Write>(
     rt: &T,
     alloc: Global,
-    ask: &mut Ask,
+    invocation: &mut Invocation,
     reader: &mut Watched<R>,
     writer: &mut Watched<W>,
     faults: &mut F,
@@ -75,15 +90,15 @@ pub fn carry_out<T: Threads + Wait + Sync, R: Read, W: Write, F: Write>(
     requires writer_clear { IsFalse (has_failed writer.old) }
     ensures { (((result ≡ DONE) ⊎ (result ≡ FOUND))
         × IsFalse (has_failed reader.new) × IsFalse (has_failed writer.new) × Keeps (F.contents faults.old) (F.contents faults.new)
-        × Answers ask.old (R.remaining (inner_of reader.old)) result
+        × Answers invocation.old (R.remaining (inner_of reader.old)) result
         (W.contents (inner_of writer.old)) (W.contents (inner_of writer.new)))
         ⊎ ((result ≡ FAILED) × ((fault : AFault)
-        × Stops ask.old fault (R.remaining (inner_of reader.old)) (has_ended reader.new) (has_failed reader.new) (has_failed writer.new)
+        × Stops invocation.old fault (R.remaining (inner_of reader.old)) (has_ended reader.new) (has_failed reader.new) (has_failed writer.new)
         (W.contents (inner_of writer.old)) (W.contents (inner_of writer.new)))) }
 {
-    match answer(rt, alloc, ask, reader, writer) {
+    match answer(rt, alloc, invocation, reader, writer) {
         Ok(status) => status,
-        Err(fault) => refuse(alloc, ask, fault, reader, faults),
+        Err(fault) => refuse(alloc, invocation, fault, reader, faults),
     }
 }
 
@@ -91,7 +106,7 @@ pub fn carry_out<T: Threads + Wait + Sync, R: Read, W: Write, F: Write>(
 fn answer<T: Threads + Wait + Sync, R: Read, W: Write>(
     rt: &T,
     alloc: Global,
-    ask: &mut Ask,
+    invocation: &mut Invocation,
     reader: &mut Watched<R>,
     writer: &mut Watched<W>,
 ) -> Result<u8, Fault>
@@ -100,24 +115,24 @@ fn answer<T: Threads + Wait + Sync, R: Read, W: Write>(
     requires writer_clear { IsFalse (has_failed writer.old) }
     ensures status { IfOk result (λ status. (status ≡ DONE) ⊎ (status ≡ FOUND)) }
     ensures ok { IfOk result (λ status. IsFalse (has_failed reader.new) × IsFalse (has_failed writer.new)
-        × Answers ask.old (R.remaining (inner_of reader.old)) status
+        × Answers invocation.old (R.remaining (inner_of reader.old)) status
         (W.contents (inner_of writer.old)) (W.contents (inner_of writer.new))) }
     ensures err { IfErr result (λ fault.
-        Stops ask.old fault (R.remaining (inner_of reader.old)) (has_ended reader.new) (has_failed reader.new) (has_failed writer.new)
+        Stops invocation.old fault (R.remaining (inner_of reader.old)) (has_ended reader.new) (has_failed reader.new) (has_failed writer.new)
         (W.contents (inner_of writer.old)) (W.contents (inner_of writer.new))) }
 {
-    let answered = match ask {
-        Ask::Explain(inquiry) => inquire(alloc, inquiry, reader, writer),
-        Ask::Grants { text, more: _ } => grants(alloc, text.as_slice(), writer),
-        Ask::Compare { old, new, shape } => {
+    let answered = match invocation {
+        Invocation::Explain(inquiry) => inquire(alloc, inquiry, reader, writer),
+        Invocation::Grants { text, more: _ } => grants(alloc, text.as_slice(), writer),
+        Invocation::Compare { old, new, shape } => {
             compare_texts(alloc, old.as_slice(), new.as_slice(), *shape, writer)
         }
-        Ask::Lint { text, shape } => look_over(alloc, text.as_slice(), *shape, writer),
-        Ask::Who(survey) => tell_who(alloc, survey, reader, writer),
-        Ask::Audit(checkup) => check_cluster(alloc, checkup, reader, writer),
-        Ask::Log(fs) => tell_log(alloc, fs.as_slice(), reader, writer),
-        Ask::Run { more: _ } => return run_script(alloc, reader, writer),
-        Ask::Serve { more: _ } => return serve_script(rt, alloc, reader, writer),
+        Invocation::Lint { text, shape } => look_over(alloc, text.as_slice(), *shape, writer),
+        Invocation::Who(survey) => tell_who(alloc, survey, reader, writer),
+        Invocation::Audit(checkup) => check_cluster(alloc, checkup, reader, writer),
+        Invocation::Log(fs) => tell_log(alloc, fs.as_slice(), reader, writer),
+        Invocation::Run { more: _ } => return run_script(alloc, reader, writer),
+        Invocation::Serve { more: _ } => return serve_script(rt, alloc, reader, writer),
     };
     match answered {
         Ok(status) => Ok(status),
@@ -179,7 +194,7 @@ fn serve_script<T: Threads + Wait + Sync, R: Read, W: Write>(
 // Says what stopped a command, and what helps against it, and returns its status.
 fn refuse<R>(
     alloc: Global,
-    ask: &Ask,
+    invocation: &Invocation,
     fault: Fault,
     reader: &Watched<R>,
     faults: &mut impl Write,
@@ -187,11 +202,11 @@ fn refuse<R>(
     ensures { result ≡ FAILED }
 {
     let status = match fault {
-        Fault::Answer(fault) => return capanswers::refuse(alloc, ask, fault, faults),
+        Fault::Answer(fault) => return capanswers::refuse(alloc, invocation, fault, faults),
         Fault::Script(stop) => report(stop, faults),
         Fault::Serve(stop) => report(stop, faults),
     };
-    if let Ask::Run { more: true } | Ask::Serve { more: true } = ask
+    if let Invocation::Run { more: true } | Invocation::Serve { more: true } = invocation
         && let Some(cause) = cause_of(fault, reader)
     {
         let _ = writeln!(faults, "hint: {cause}");

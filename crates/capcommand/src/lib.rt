@@ -13,7 +13,8 @@ mod serving;
 mod stopping;
 
 pub use capanswers::{
-    AnswerFault, Ask, DENIED, DONE, FAILED, FOUND, Form, Inquiry, Source, USAGE, report, words,
+    AnswerFault, DENIED, DONE, FAILED, FOUND, Form, Inquiry, Invocation, Source, USAGE, report,
+    words,
 };
 pub use capscript::{Job, MAX_CLIENTS, Plan, ServeFault, Watched, read_plan};
 pub use commands::{carry_out, dispatch};

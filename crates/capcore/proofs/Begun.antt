@@ -1,7 +1,7 @@
 -- What an event that may move locks leaves by itself, and what its step comes to in the end.
 use Rattle.std.proofs.{Common.{◌≡◌, ◌≤◌, ℕ, ◌+◌, ◌++◌, ◌==◌, Bool, Some, List, [], length, Result, OnErr, sym, ap, subst, ◌∙◌, arith, All}, lemmas.List.Sums.{length-filter, count_by-le-length}}
 use Rattle.capsteps.{proofs.EntryRequests.{Keeps}, proofs.Knowing.{held_at}, specs.Begun.{MayEndAt, among}}
-use Rattle.capcore.{proofs.Closing.{told-own_numbers, told-all, told-but_own, ends-table, affects-settles, affects-ends, affects-one}, proofs.Common.{Affected, Affects, AffectsOne, all_ended, AreBelow, AreChanges, AreGiven, AreKnown, ArePermittedIn, Direct, direct, earlier, Ended, Endings, EndsWith, Entry, entry_answer, entry_at, EntryRequest, Event, finished_at, HasRoom, HaveOwnNumbers, HaveRoomFor, Holder, IsAnswered, IsJudged, IsLockMap, IsSubset, IsTable, known_in, KnownSets, Knows, MayEnd, MaySettle, NumbersLeft, reply_of, Said, Scene, SettlesAt, SettlesWith, shown, sized_in, sizes_owed, State, state_at_end, still-knows, StillKnown, view_of}, proofs.Concluded.{IsConcluded, concluded}, proofs.EndKnown.{ends-known}, proofs.EntryWhole.{show_reply-alike}, proofs.Unaffected.{alike-kept}, specs.UnderWay.{MayBegin, answer_of, GivesOne, HasBegun, AreKept, state_of, dropped_of, earlier_of, IsNumbered, HasPlaces}, specs.declared.parts.Answer.{Answer}, specs.declared.parts.Answer.TheVariants.{Done, Dropped, Touched, Awaited}, specs.declared.parts.Effect.{Effect}, specs.declared.parts.Parts.{Parts}}
+use Rattle.capcore.{proofs.Closing.{for_clients-own_numbers, for_clients-all, for_clients-but_own, ends-table, affects-settles, affects-ends, affects-one}, proofs.Common.{Affected, Affects, AffectsOne, all_ended, AreBelow, AreChanges, AreGiven, AreKnown, ArePermittedIn, Direct, direct, earlier, Ended, Endings, EndsWith, Entry, entry_answer, entry_at, EntryRequest, Event, finished_at, HasRoom, HaveOwnNumbers, HaveRoomFor, Holder, IsAnswered, IsJudged, IsLockMap, IsSubset, IsTable, known_in, KnownSets, Knows, MayEnd, MaySettle, NumbersLeft, reply_of, Said, Scene, SettlesAt, SettlesWith, shown, sized_in, sizes_owed, State, state_at_end, still-knows, StillKnown, view_of}, proofs.Concluded.{IsConcluded, concluded}, proofs.EndKnown.{ends-known}, proofs.EntryWhole.{show_reply-alike}, proofs.Unaffected.{alike-kept}, specs.UnderWay.{MayBegin, answer_of, GivesOne, HasBegun, AreKept, state_of, dropped_of, earlier_of, IsNumbered, HasPlaces}, specs.declared.parts.Answer.{Answer}, specs.declared.parts.Answer.TheVariants.{Done, Dropped, Requested, Awaited}, specs.declared.parts.Effect.{Effect}, specs.declared.parts.Parts.{Parts}}
 
 -- each entry has a number left then
 pub begun-entries : (p q : Parts) (e : Event) (from : ℕ → Bool) → MayBegin p e → state_of q ≡ (direct (state_of p) e).state → Affects from (state_of p) (state_of q) → GivesOne (state_of p) e
@@ -75,7 +75,7 @@ shown-rest a s = grind arith
 pub shown-kept : (a : Answer) (s : State) (sets : KnownSets) → AreKept sets s.scene → AreKept sets (shown (answer_of a) s).scene
 shown-kept Done s sets kept = kept
 shown-kept (Dropped dropped) s sets kept = kept
-shown-kept (Touched k request) s sets kept =
+shown-kept (Requested k request) s sets kept =
     subst (AreKept sets) (sym (request-rest k request s)) (alike-kept sets s.scene (shown (entry_answer k request) s).scene.table (show_reply-alike s k request) kept)
 shown-kept (Awaited ticket) s sets kept = kept
 
@@ -84,20 +84,20 @@ pub fewer-places : (a : Answer) (n m : ℕ) → m ≤ n → HasPlaces a n → Ha
 fewer-places a n m few places = grind arith
 
 -- those of earlier steps are no more than all
-pub few-earlier : (a : Answer) (told : List Ended) → length (earlier_of a told) ≤ length told
-few-earlier a told = grind (arith, length-filter, count_by-le-length)
+pub few-earlier : (a : Answer) (for_clients : List Ended) → length (earlier_of a for_clients) ≤ length for_clients
+few-earlier a for_clients = grind (arith, length-filter, count_by-le-length)
 
 -- ---- the end of the step
 
 module _ (p q : Parts) (endings : Endings) (e : Event) (effect : Effect) (may : MayBegin p e) (begun : HasBegun p e effect q endings)
-    (now : KnownSets) (last : Scene) (told : List Ended) (ends : EndsWith (among effect.affected) q.known.sets now q.scene last told) where
+    (now : KnownSets) (last : Scene) (for_clients : List Ended) (ends : EndsWith (among effect.affected) q.known.sets now q.scene last for_clients) where
   abbrev before : State
   before = state_of p
 
   abbrev affected : State
   affected = state_of q
 
-  abbrev settles : SettlesWith ends.at (among effect.affected) q.scene ends.settled told ends.sized
+  abbrev settles : SettlesWith ends.at (among effect.affected) q.scene ends.settled for_clients ends.sized
   settles = ends.settles
 
   order : IsLockMap q.scene.locks
@@ -105,24 +105,24 @@ module _ (p q : Parts) (endings : Endings) (e : Event) (effect : Effect) (may : 
 
   pub ended-known : AreKnown now last
   ended-known =
-      ends-known p.known.sets q.known.sets now (among effect.affected) before affected may.whole.0 may.table begun.table begun.affects may.whole.2.0 begun.still begun.knows last told ends
+      ends-known p.known.sets q.known.sets now (among effect.affected) before affected may.whole.0 may.table begun.table begun.affects may.whole.2.0 begun.still begun.knows last for_clients ends
 
-  pub ended-numbers : HaveOwnNumbers told
-  ended-numbers = told-own_numbers ends.at (among effect.affected) q.scene ends.settled told ends.sized settles
+  pub ended-numbers : HaveOwnNumbers for_clients
+  ended-numbers = for_clients-own_numbers ends.at (among effect.affected) q.scene ends.settled for_clients ends.sized settles
 
-  all : q.scene.locks.last ≡ p.scene.locks.last → earlier p.scene.locks.last told ≡ told
-  all same = subst (λ n. earlier n told ≡ told) same (told-all ends.at (among effect.affected) q.scene ends.settled told ends.sized settles order)
+  all : q.scene.locks.last ≡ p.scene.locks.last → earlier p.scene.locks.last for_clients ≡ for_clients
+  all same = subst (λ n. earlier n for_clients ≡ for_clients) same (for_clients-all ends.at (among effect.affected) q.scene ends.settled for_clients ends.sized settles order)
 
-  by_answer : (a : Answer) → IsNumbered a p.scene.locks.last q.scene.locks.last → earlier p.scene.locks.last told ≡ earlier_of a told
-  by_answer (Awaited ticket) (own, next) = told-but_own ends.at (among effect.affected) q.scene ends.settled told ends.sized settles order p.scene.locks.last ticket own next
+  by_answer : (a : Answer) → IsNumbered a p.scene.locks.last q.scene.locks.last → earlier p.scene.locks.last for_clients ≡ earlier_of a for_clients
+  by_answer (Awaited ticket) (own, next) = for_clients-but_own ends.at (among effect.affected) q.scene ends.settled for_clients ends.sized settles order p.scene.locks.last ticket own next
   by_answer a same = all same
 
-  others : earlier p.scene.locks.last told ≡ earlier_of effect.answer told
+  others : earlier p.scene.locks.last for_clients ≡ earlier_of effect.answer for_clients
   others = by_answer effect.answer begun.number
 
   -- the state at the end, but for what is shown
   abbrev pub closed : State
-  closed = record { scene = last; messages = q.messages.items ++ earlier_of effect.answer told }
+  closed = record { scene = last; messages = q.messages.items ++ earlier_of effect.answer for_clients }
 
   abbrev by_the_rules : State
   by_the_rules = state_at_end before (direct before e).state settles.moves (finished_at ends.at (known_in q.known.sets) (sizes_owed (sized_in settles.moves) ends.settled))
@@ -130,17 +130,17 @@ module _ (p q : Parts) (endings : Endings) (e : Event) (effect : Effect) (may : 
   same_state : closed ≡ by_the_rules
   same_state = grind (arith, others)
 
-  pub ended-answered : (said : Said) (new : State) → said.reply ≡ reply_of closed told (answer_of effect.answer) → said.kept ≡ said.reply
-      → said.ended ≡ dropped_of effect.answer ++ earlier_of effect.answer told → new ≡ shown (answer_of effect.answer) closed → IsAnswered before e said new
-  ended-answered said new replies kept ended new-is =
+  pub ended-answered : (said : Said) (new : State) → said.reply ≡ reply_of closed for_clients (answer_of effect.answer) → said.for_history ≡ said.reply
+      → said.ended ≡ dropped_of effect.answer ++ earlier_of effect.answer for_clients → new ≡ shown (answer_of effect.answer) closed → IsAnswered before e said new
+  ended-answered said new replies for_history ended new-is =
       let c =
       concluded ends.at (among effect.affected) (known_in q.known.sets) before e settles.moves ends.settled may.whole.0 (subst (Affects (among effect.affected) before) begun.is begun.affects)
       (subst (λ (s : State). IsTable s.scene.table) begun.is begun.table) (subst (λ (s : State). IsLockMap s.scene.locks) begun.is order)
       (subst (λ (s : State). Knows (known_in q.known.sets) before.scene s.scene.table) begun.is begun.knows) begun.gives
       (subst (λ (s : State). SettlesAt ends.at (among effect.affected) settles.moves s.scene ends.settled) begun.is settles.settles) ends.tree
-      (subst (λ (s : State). IsTable s.scene.table) same_state (ends-table (among effect.affected) q.known.sets now q.scene last told ends begun.table)) said.reply new
+      (subst (λ (s : State). IsTable s.scene.table) same_state (ends-table (among effect.affected) q.known.sets now q.scene last for_clients ends begun.table)) said.reply new
       (replies ∙ (λ i. reply_of (same_state i) (settles.ended_is i) (begun.answer i))) (new-is ∙ (λ i. shown (begun.answer i) (same_state i))) in
       let ends_so : all_ended before (direct before e) settles.moves ≡ said.ended =
       (λ i. (sym begun.dropped) i ++ earlier p.scene.locks.last ((sym settles.ended_is) i)) ∙ ap (λ ms. dropped_of effect.answer ++ ms) others ∙ sym ended in
       let whole : IsConcluded before e said.reply said.ended new = subst (λ (ms : List Ended). IsConcluded before e said.reply ms new) ends_so c in
-      record { step = whole.step; kept = kept; sound = whole.sound; issued = whole.issued; given = whole.given }
+      record { step = whole.step; for_history = for_history; sound = whole.sound; issued = whole.issued; given = whole.given }

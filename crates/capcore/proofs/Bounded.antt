@@ -1,7 +1,7 @@
 -- How many requests a step serves, and how often its locks move between two servings.
 use Rattle.std.proofs.Common.{◌≡◌, ◌++◌, ℕ, List, [], ◌∷◌, Option, Some, None, map, refl, subst, arith}
 use Rattle.capsteps.{proofs.Lockmachine.Ending.{few}, proofs.Moved.{served-count}, specs.Lockmachine.Runs.{Runs}}
-use Rattle.capcore.proofs.{Asked.{order-of_ask}, Common.{Alter, AreBounded, ByMoves, child, direct, effect, effect_unless, Ended, ended_in, Event, found, Get, holder, IsLockMap, judged, Made, MakesAll, move_of, Rejection, Rename, Reply, Rmdir, Scene, Served, State, Step, Unlink, without_requests_of-kept}}
+use Rattle.capcore.proofs.{LockRequests.{order-of_operation}, Common.{Alter, AreBounded, ByMoves, child, direct, effect, effect_unless, Ended, ended_in, Event, found, Get, holder, IsLockMap, judged, Made, MakesAll, move_of, Rejection, Rename, Reply, Rmdir, Scene, Served, State, Step, Unlink, without_requests_of-kept}}
 
 -- ---- the queue stays in order, whatever the event
 
@@ -17,20 +17,20 @@ effect-order old (Event.Evict client) free order = without_requests_of-kept old.
 effect-order old (Event.Lookup client dir name) free order = found-keeps (λ (s : State). IsLockMap s.scene.locks) old (child old.scene.tree.nodes dir.0 name) order
 effect-order old (Event.Create client dir name mode) free order = record { rising = order.rising; given = order.given; room = order.room }
 effect-order old (Event.Mkdir client dir name mode) free order = record { rising = order.rising; given = order.given; room = order.room }
-effect-order old (Event.Get client ino part) free order = order-of_ask old.scene (holder client ino) (Get part) order free
-effect-order old (Event.Alter client ino change) free order = order-of_ask old.scene (holder client ino) (Alter change) order free
-effect-order old (Event.Unlink client ino) free order = order-of_ask old.scene (holder client ino) Unlink order free
-effect-order old (Event.Rmdir client ino) free order = order-of_ask old.scene (holder client ino) Rmdir order free
-effect-order old (Event.Rename client ino dir name) free order = order-of_ask old.scene (holder client ino) (Rename dir name) order free
+effect-order old (Event.Get client ino part) free order = order-of_operation old.scene (holder client ino) (Get part) order free
+effect-order old (Event.Alter client ino change) free order = order-of_operation old.scene (holder client ino) (Alter change) order free
+effect-order old (Event.Unlink client ino) free order = order-of_operation old.scene (holder client ino) Unlink order free
+effect-order old (Event.Rmdir client ino) free order = order-of_operation old.scene (holder client ino) Rmdir order free
+effect-order old (Event.Rename client ino dir name) free order = order-of_operation old.scene (holder client ino) (Rename dir name) order free
 effect-order old e free order = order
 
 -- what an event keeps that nothing rejects, each keeps: one that is rejected changes nothing
 pub direct-keeps : (Fact : State → Type 0) (old : State) (e : Event) → Fact old → (judged old.scene e ≡ None → Fact (effect old e).state) → Fact (direct old e).state
-direct-keeps Fact old e was free = by_stop (judged old.scene e) refl
+direct-keeps Fact old e was free = by_rejection (judged old.scene e) refl
   where
-    by_stop : (o : Option Rejection) → judged old.scene e ≡ o → Fact (effect_unless old e o).state
-    by_stop (Some rejection) is = was
-    by_stop None is = free is
+    by_rejection : (o : Option Rejection) → judged old.scene e ≡ o → Fact (effect_unless old e o).state
+    by_rejection (Some rejection) is = was
+    by_rejection None is = free is
 
 pub direct-order : (old : State) (e : Event) → IsLockMap old.scene.locks → IsLockMap (direct old e).state.scene.locks
 direct-order old e order = direct-keeps (λ (s : State). IsLockMap s.scene.locks) old e order (λ free. effect-order old e free order)

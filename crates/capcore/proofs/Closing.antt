@@ -5,29 +5,29 @@ use Rattle.capcore.proofs.{Common.{Affects, AffectsOne, ArePermittedIn, but_for,
 
 -- ---- the numbers of those that a settling ends
 
-module _ (at from : ℕ → Bool) (first settled : Scene) (told : List Ended) (sized : List Ino) (settles : SettlesWith at from first settled told sized) where
+module _ (at from : ℕ → Bool) (first settled : Scene) (for_clients : List Ended) (sized : List Ino) (settles : SettlesWith at from first settled for_clients sized) where
   made : MakesAll first settles.moves settled
   made = settles.settles.settles.made
 
-  pub told-own_numbers : HaveOwnNumbers told
-  told-own_numbers = subst HaveOwnNumbers (sym settles.ended_is) (own-numbers first settles.moves settled made)
+  pub for_clients-own_numbers : HaveOwnNumbers for_clients
+  for_clients-own_numbers = subst HaveOwnNumbers (sym settles.ended_is) (own-numbers first settles.moves settled made)
 
-  pub told-all : IsLockMap first.locks → earlier first.locks.last told ≡ told
-  told-all order = subst (λ (ms : List Ended). earlier first.locks.last ms ≡ ms) (sym settles.ended_is) (earlier-all first settled settles.moves made order)
+  pub for_clients-all : IsLockMap first.locks → earlier first.locks.last for_clients ≡ for_clients
+  for_clients-all order = subst (λ (ms : List Ended). earlier first.locks.last ms ≡ ms) (sym settles.ended_is) (earlier-all first settled settles.moves made order)
 
-  pub told-but_own : IsLockMap first.locks → (last : ℕ) (own : Ticket) → own.0 ≡ last + 1 → first.locks.last ≡ last + 1 → earlier last told ≡ but_for own told
-  told-but_own order last own next given =
+  pub for_clients-but_own : IsLockMap first.locks → (last : ℕ) (own : Ticket) → own.0 ≡ last + 1 → first.locks.last ≡ last + 1 → earlier last for_clients ≡ but_for own for_clients
+  for_clients-but_own order last own next given =
       subst (λ (ms : List Ended). earlier last ms ≡ but_for own ms) (sym settles.ended_is) (earlier-but_own first settled settles.moves made order last own next given)
 
 -- ---- at the end the sessions are as they were, and each entry has one row still
 
-pub ends-sessions : (from : ℕ → Bool) (was now : KnownSets) (first last : Scene) (told : List Ended) → EndsWith from was now first last told → last.sessions ≡ first.sessions
-ends-sessions from was now first last told ends = grind arith
+pub ends-sessions : (from : ℕ → Bool) (was now : KnownSets) (first last : Scene) (for_clients : List Ended) → EndsWith from was now first last for_clients → last.sessions ≡ first.sessions
+ends-sessions from was now first last for_clients ends = grind arith
 
-pub ends-table : (from : ℕ → Bool) (was now : KnownSets) (first last : Scene) (told : List Ended) → EndsWith from was now first last told → IsTable first.table → IsTable last.table
-ends-table from was now first last told ends table =
+pub ends-table : (from : ℕ → Bool) (was now : KnownSets) (first last : Scene) (for_clients : List Ended) → EndsWith from was now first last for_clients → IsTable first.table → IsTable last.table
+ends-table from was now first last for_clients ends table =
     let then = sizes_owed ends.sized ends.settled in
-    let moved = moved-all first ends.settles.moves ends.settled (made ends.at from first ends.settled told ends.sized ends.settles) in
+    let moved = moved-all first ends.settles.moves ends.settled (made ends.at from first ends.settled for_clients ends.sized ends.settles) in
     subst (λ (s : Scene). IsTable s.table) (sym ends.finished)
     (table-where (λ row. ends.at row.holder.ino.0) (finished_entry (known_in was) then) then.table
     (table-where (is_sized ends.sized) owed ends.settled.table (subst IsTable (sym moved.table) table)))
@@ -70,7 +70,7 @@ pub affects-one : (ino : ℕ) (old : State) (first : Scene) → IsSound old → 
 affects-one ino old first sound one = record {
   same = outside-one ino old.scene first one.same;
   states = one.states;
-  known = one.known;
+  exist = one.exist;
   locked = one.locked;
   waiting = one.waiting;
   messages = subst (λ (t : SessionTable). All (λ m. IsTrue (has_session t m.client.0)) old.messages) (sym one.same.sessions) sound.messages;

@@ -3,7 +3,7 @@
 use Rattle.std.{proofs.Common.{◌≡◌, ◌≢◌, ◌⊎◌, ◌↔◌, ◌≤◌, ℕ, zero, suc, not, cond, List, [], ◌∷◌, Option, Some, refl, sym, ap, subst, ◌∙◌, inl, inr, All, Contains, arith, nat_le, unwrap_or, filter, ◌+◌, ◌++◌, append_assoc}, proofs.lemmas.Bool.{le-leb, ne_eqb}, proofs.lemmas.List.{append_cancel_left}, proofs.lemmas.List.Elements.{All-weaker, All-filter, All-contains, All-push, Contains-append_right, All-head, All-tail}, proofs.lemmas.Option.{same_Some}, specs.Cmp.{nat_eq_equiv}, specs.List.{find}}
 use Rattle.capbits.specs.declared.ids.PassId.{PassId}
 use Rattle.capsteps.{proofs.Capnotes.Taking.{own-head, own-tail}, specs.Caprules.Numbers.{AreNumbered}, specs.Caprules.Serving.{served}, specs.Caprules.Step.{StepBy}, specs.Lockmachine.Moves.{with_moved}, specs.Lockmachine.Requests.{is_of_client}, specs.Lockmachine.declared.moves.Move.TheVariants.{Settled}}
-use Rattle.capcore.{proofs.Bounded.{direct-order}, proofs.Common.{all_ended, Alter, Answer, As_judged, Ask, asks, awaited_as, Awaits, Began, Begin, child, ClientId, contains-filter, Direct, direct, earlier, effect, End, Ended, ended-waited, ended_in, Event, filter-contains, finished, first_move, found, Gathered, Get, HaveOwnNumbers, Ino, is_of_ticket, IsLockMap, IsOpening, Made, Makes, MakesAll, MayEndAs, move_of, moved-all, next_request, no_moves, Nodes, Outcome, outcome_reply, Rename, Replays, Reply, reply_of, Request, request_at, Rmdir, Row, rows_of, Scene, Serve, Served, shown, sized_in, sizes_owed, State, state_after, Step, Ticket, Unlink, Waited, Without_memory}, proofs.EndedIn.{own-numbers}, specs.SameEvents.{FoundMemory, AllFoundMemory, events_of, ends_of, passes_of}}
+use Rattle.capcore.{proofs.Bounded.{direct-order}, proofs.Common.{all_ended, Alter, Answer, As_judged, Operation, enqueues, awaited_as, Awaits, Began, Begin, child, ClientId, contains-filter, Direct, direct, earlier, effect, End, Ended, ended-waited, ended_in, Event, filter-contains, finished, first_move, found, Gathered, Get, HaveOwnNumbers, Ino, is_of_ticket, IsLockMap, IsOpening, Made, Makes, MakesAll, MayEndAs, move_of, moved-all, next_request, no_moves, Nodes, Outcome, outcome_reply, Rename, Replays, Reply, reply_of, Request, request_at, Rmdir, Row, rows_of, Scene, Serve, Served, shown, sized_in, sizes_owed, State, state_after, Step, Ticket, Unlink, Waited, Without_memory}, proofs.EndedIn.{own-numbers}, specs.SameEvents.{FoundMemory, AllFoundMemory, events_of, ends_of, passes_of}}
 
 -- ---- moves
 
@@ -70,19 +70,19 @@ module _ (old : State) (order : IsLockMap old.scene.locks) where
   left-fits : (d : Direct) (client : ClientId) → All (Fits old d) (filter (λ q. not (is_of_client client q)) old.scene.locks.queue)
   left-fits d client = All-filter (λ q. not (is_of_client client q)) (Fits old d) old.scene.locks.queue (all-fit d)
 
-  asked-fits : (client : ClientId) (ino : Ino) (ask : Ask) → All (Fits old (asks old client ino ask)) (asks old client ino ask).state.scene.locks.queue
-  asked-fits client ino ask =
-      All-push (Fits old (asks old client ino ask)) old.scene.locks.queue (next_request old.scene.locks client ino ask) (all-fit (asks old client ino ask)) (inr refl)
+  operation-fits : (client : ClientId) (ino : Ino) (operation : Operation) → All (Fits old (enqueues old client ino operation)) (enqueues old client ino operation).state.scene.locks.queue
+  operation-fits client ino operation =
+      All-push (Fits old (enqueues old client ino operation)) old.scene.locks.queue (next_request old.scene.locks client ino operation) (all-fit (enqueues old client ino operation)) (inr refl)
 
   effect-fits : (e : Event) → All (Fits old (effect old e)) (effect old e).state.scene.locks.queue
   effect-fits (Event.CloseSession client) = left-fits (effect old (Event.CloseSession client)) client
   effect-fits (Event.Evict client) = left-fits (effect old (Event.Evict client)) client
   effect-fits (Event.Lookup client dir name) = found-fits (child old.scene.tree.nodes dir.0 name)
-  effect-fits (Event.Get client ino part) = asked-fits client ino (Get part)
-  effect-fits (Event.Alter client ino change) = asked-fits client ino (Alter change)
-  effect-fits (Event.Unlink client ino) = asked-fits client ino Unlink
-  effect-fits (Event.Rmdir client ino) = asked-fits client ino Rmdir
-  effect-fits (Event.Rename client ino dir name) = asked-fits client ino (Rename dir name)
+  effect-fits (Event.Get client ino part) = operation-fits client ino (Get part)
+  effect-fits (Event.Alter client ino change) = operation-fits client ino (Alter change)
+  effect-fits (Event.Unlink client ino) = operation-fits client ino Unlink
+  effect-fits (Event.Rmdir client ino) = operation-fits client ino Rmdir
+  effect-fits (Event.Rename client ino dir name) = operation-fits client ino (Rename dir name)
   effect-fits e = all-fit (effect old e)
 
   direct-fits : (e : Event) → All (Fits old (direct old e)) (direct old e).state.scene.locks.queue
@@ -119,8 +119,8 @@ module _ (old : State) (e : Event) (order : IsLockMap old.scene.locks) where
 
   module _ (moves : List Made) (answer : Reply) (dead : List Ended) (new : State) (by : StepBy old e moves answer dead new) where
     -- the row names each request that the moves ended, or it is the event's own
-    told-where : (m : Ended) → Contains (ended_in moves) m → Contains (named moves) m ⊎ (d.answer ≡ Awaits m.ticket)
-    told-where m inside =
+    ended-where : (m : Ended) → Contains (ended_in moves) m → Contains (named moves) m ⊎ (d.answer ≡ Awaits m.ticket)
+    ended-where m inside =
         let queue = d.state.scene.locks.queue in
         let waits = All-contains (Waited queue) (ended_in moves) m (ended-waited d.state.scene moves by.settled by.settles.made) inside in
         elim (All-contains (Fits old d) queue waits.request (direct-fits old order e) waits.inside) as (λ _. Contains (named moves) m ⊎ (d.answer ≡ Awaits m.ticket)) [
@@ -134,31 +134,31 @@ module _ (old : State) (e : Event) (order : IsLockMap old.scene.locks) where
     have-own = own-numbers d.state.scene moves by.settled by.settles.made
 
     -- and then the answer is how it ended
-    told-as : (m : Ended) → Contains (ended_in moves) m → d.answer ≡ Awaits m.ticket → answer ≡ awaited_as m.ticket (Some m)
-    told-as m inside awaits =
+    ended-as : (m : Ended) → Contains (ended_in moves) m → d.answer ≡ Awaits m.ticket → answer ≡ awaited_as m.ticket (Some m)
+    ended-as m inside awaits =
         by.answer_is ∙ ap (reply_of (state_after old d moves by.settled) (ended_in moves)) awaits ∙ ap (awaited_as m.ticket) (found-own m (ended_in moves) have-own inside)
 
     -- where the answer and the row say that memory was found, each that was served found it
     all-found : FoundMemory answer dead → (m : Ended) → Contains (ended_in moves) m → m.outcome ≢ Outcome.OutOfMemory
     all-found finds m inside =
-        elim (told-where m inside) as (λ _. m.outcome ≢ Outcome.OutOfMemory) [
+        elim (ended-where m inside) as (λ _. m.outcome ≢ Outcome.OutOfMemory) [
           | inl kept ↦ All-contains (λ (x : Ended). x.outcome ≢ Outcome.OutOfMemory) dead m finds.each
               (subst (λ (xs : List Ended). Contains xs m) (sym by.ended_is) (Contains-append_right d.dropped (named moves) m kept))
-          | inr awaits ↦ λ bad. finds.answered (told-as m inside awaits ∙ ap (λ (o : Outcome). unwrap_or (outcome_reply o) (Reply.Waiting m.ticket)) bad)
+          | inr awaits ↦ λ bad. finds.answered (ended-as m inside awaits ∙ ap (λ (o : Outcome). unwrap_or (outcome_reply o) (Reply.Waiting m.ticket)) bad)
         ]
 
   -- what found no memory in a step found none in one with the same row
   short-too : (moves others : List Made) (answer : Reply) (dead : List Ended) (new other : State) → StepBy old e moves answer dead new → StepBy old e others answer dead other
       → (m n : Ended) → Contains (ended_in moves) m → Contains (ended_in others) n → m.ticket ≡ n.ticket → m.outcome ≡ Outcome.OutOfMemory → n.outcome ≡ Outcome.OutOfMemory
   short-too moves others answer dead new other by by' m n inside inside' same bad =
-      elim (told-where moves answer dead new by m inside) as (λ _. n.outcome ≡ Outcome.OutOfMemory) [
+      elim (ended-where moves answer dead new by m inside) as (λ _. n.outcome ≡ Outcome.OutOfMemory) [
         | inl kept ↦ (let alike : named moves ≡ named others = append_cancel_left d.dropped (named moves) (named others) (sym by.ended_is ∙ by'.ended_is) in
             let there : Contains (ended_in others) m =
             contains-filter (λ (x : Ended). nat_le x.ticket.0 old.scene.locks.last) (ended_in others) m (subst (λ (xs : List Ended). Contains xs m) alike kept) in
             ap (λ (x : Ended). x.outcome) (sym (own-one m n (ended_in others) (have-own others answer dead other by') there inside' same)) ∙ bad)
         | inr awaits ↦ short-answer n.ticket n.outcome
-            (sym (told-as others answer dead other by' n inside' (awaits ∙ ap Awaits same))
-            ∙ told-as moves answer dead new by m inside awaits
+            (sym (ended-as others answer dead other by' n inside' (awaits ∙ ap Awaits same))
+            ∙ ended-as moves answer dead new by m inside awaits
             ∙ ap (λ (o : Outcome). unwrap_or (outcome_reply o) (Reply.Waiting m.ticket)) bad)
       ]
 

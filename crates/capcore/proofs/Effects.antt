@@ -3,7 +3,7 @@ use Rattle.std.{proofs.Common.{◌≡◌, ℕ, ◌+◌, List, [], ◌∷◌, Opt
 use Rattle.std.specs.FinMap as map
 use Rattle.capbits.specs.declared.mode.Mode.{Mode}
 use Rattle.capsteps.{proofs.Judging.{direct-rejection}, specs.Caprules.Direct.{made_event}}
-use Rattle.capcore.proofs.Common.{asked_tests, ByTest, ClientId, direct, Directory, effect_unless, Event, File, first_failing, Ino, IsDirect, judged, Kind, Need, need, new_inode_tests, new_snapshot_tests, old_snapshot_tests, owned_by, passed, Refusal, Rejection, rejection, rejection_of, rejection_reply, Reply, Says, Snapshot, State, Test, with_birth, Write}
+use Rattle.capcore.proofs.Common.{basic_tests, ByTest, ClientId, direct, Directory, effect_unless, Event, File, first_failing, Ino, IsDirect, judged, Kind, Need, need, new_inode_tests, new_snapshot_tests, old_snapshot_tests, owned_by, passed, Refusal, Rejection, rejection, rejection_of, rejection_reply, Reply, Says, Snapshot, State, Test, with_birth, Write}
 
 -- the tests behind policy, where what stands before them rejects nothing
 module _ (old : State) (e : Event) (tests more : List Test) (needed : List Need) (splits : judged old.scene e ≡ rejection_of old.scene tests needed more) (free : rejection_of old.scene tests needed [] ≡ None) where
@@ -13,17 +13,17 @@ module _ (old : State) (e : Event) (tests more : List Test) (needed : List Need)
   refused : (r : Refusal) → first_failing more ≡ Some r → IsDirect old e (Reply.Refused r) old
   refused r is = direct-rejection old e (ByTest r) (rest ∙ ap (option_map ByTest) is)
 
-module _ (old : State) (client : ClientId) (ino : Ino) (name : List ℕ) (free : rejection_of old.scene (asked_tests old.scene client ino.0) (need client ino.0 Snapshot ∷ []) [] ≡ None) where
+module _ (old : State) (client : ClientId) (ino : Ino) (name : List ℕ) (free : rejection_of old.scene (basic_tests old.scene client ino.0) (need client ino.0 Snapshot ∷ []) [] ≡ None) where
   pub snapshot-refused : (r : Refusal) → first_failing (new_snapshot_tests old.scene.tree ino.0 name) ≡ Some r → IsDirect old (Event.MakeSnapshot client ino name) (Reply.Refused r) old
-  snapshot-refused r is = refused old (Event.MakeSnapshot client ino name) (asked_tests old.scene client ino.0) (new_snapshot_tests old.scene.tree ino.0 name) (need client ino.0 Snapshot ∷ []) refl free r is
+  snapshot-refused r is = refused old (Event.MakeSnapshot client ino name) (basic_tests old.scene client ino.0) (new_snapshot_tests old.scene.tree ino.0 name) (need client ino.0 Snapshot ∷ []) refl free r is
 
   pub snapshot-kept : (r : Refusal) → first_failing (old_snapshot_tests old.scene.tree ino.0 name) ≡ Some r → IsDirect old (Event.RemoveSnapshot client ino name) (Reply.Refused r) old
-  snapshot-kept r is = refused old (Event.RemoveSnapshot client ino name) (asked_tests old.scene client ino.0) (old_snapshot_tests old.scene.tree ino.0 name) (need client ino.0 Snapshot ∷ []) refl free r is
+  snapshot-kept r is = refused old (Event.RemoveSnapshot client ino name) (basic_tests old.scene client ino.0) (old_snapshot_tests old.scene.tree ino.0 name) (need client ino.0 Snapshot ∷ []) refl free r is
 
-module _ (old : State) (client : ClientId) (dir : Ino) (name : List ℕ) (mode : Mode) (free : rejection_of old.scene (asked_tests old.scene client dir.0) (need client dir.0 Write ∷ []) [] ≡ None) where
+module _ (old : State) (client : ClientId) (dir : Ino) (name : List ℕ) (mode : Mode) (free : rejection_of old.scene (basic_tests old.scene client dir.0) (need client dir.0 Write ∷ []) [] ≡ None) where
   pub birth-refused : (kind : Kind) (r : Refusal) → first_failing (new_inode_tests old.scene.tree dir.0 name) ≡ Some r → IsDirect old (made_event kind client dir name mode) (Reply.Refused r) old
-  birth-refused File r is = refused old (Event.Create client dir name mode) (asked_tests old.scene client dir.0) (new_inode_tests old.scene.tree dir.0 name) (need client dir.0 Write ∷ []) refl free r is
-  birth-refused Directory r is = refused old (Event.Mkdir client dir name mode) (asked_tests old.scene client dir.0) (new_inode_tests old.scene.tree dir.0 name) (need client dir.0 Write ∷ []) refl free r is
+  birth-refused File r is = refused old (Event.Create client dir name mode) (basic_tests old.scene client dir.0) (new_inode_tests old.scene.tree dir.0 name) (need client dir.0 Write ∷ []) refl free r is
+  birth-refused Directory r is = refused old (Event.Mkdir client dir name mode) (basic_tests old.scene client dir.0) (new_inode_tests old.scene.tree dir.0 name) (need client dir.0 Write ∷ []) refl free r is
 
   pub birth-done : (kind : Kind) (ino : Ino) → first_failing (new_inode_tests old.scene.tree dir.0 name) ≡ None → ino.0 ≡ old.scene.tree.last + 1 →
       IsDirect old (made_event kind client dir name mode) (Reply.Ino ino) (with_birth old kind dir.0 name (owned_by (map.get old.scene.sessions.sessions client.0) mode))
@@ -38,13 +38,13 @@ pub looked-up : (old : State) (client : ClientId) (dir : Ino) (name : List ℕ) 
 looked-up old client dir name answer says = record { answer_is = says; state_is = lookup-still old client dir name (judged old.scene (Event.Lookup client dir name)) }
 
 -- what rejects a request at the inode that it names rejects the event
-pub birth-rejection : (old : State) (kind : Kind) (client : ClientId) (dir : Ino) (name : List ℕ) (mode : Mode) (r : Rejection) → rejection_of old.scene (asked_tests old.scene client dir.0) (need client dir.0 Write ∷ []) [] ≡ Some r → IsDirect old (made_event kind client dir name mode) (rejection_reply r) old
+pub birth-rejection : (old : State) (kind : Kind) (client : ClientId) (dir : Ino) (name : List ℕ) (mode : Mode) (r : Rejection) → rejection_of old.scene (basic_tests old.scene client dir.0) (need client dir.0 Write ∷ []) [] ≡ Some r → IsDirect old (made_event kind client dir name mode) (rejection_reply r) old
 birth-rejection old kind client dir name mode r is = grind (arith, direct-rejection, rejection)
 
-pub making-rejection : (old : State) (client : ClientId) (ino : Ino) (name : List ℕ) (r : Rejection) → rejection_of old.scene (asked_tests old.scene client ino.0) (need client ino.0 Snapshot ∷ []) [] ≡ Some r → IsDirect old (Event.MakeSnapshot client ino name) (rejection_reply r) old
+pub making-rejection : (old : State) (client : ClientId) (ino : Ino) (name : List ℕ) (r : Rejection) → rejection_of old.scene (basic_tests old.scene client ino.0) (need client ino.0 Snapshot ∷ []) [] ≡ Some r → IsDirect old (Event.MakeSnapshot client ino name) (rejection_reply r) old
 making-rejection old client ino name r is =
-    direct-rejection old (Event.MakeSnapshot client ino name) r (rejection old.scene (asked_tests old.scene client ino.0) (need client ino.0 Snapshot ∷ []) (new_snapshot_tests old.scene.tree ino.0 name) r is)
+    direct-rejection old (Event.MakeSnapshot client ino name) r (rejection old.scene (basic_tests old.scene client ino.0) (need client ino.0 Snapshot ∷ []) (new_snapshot_tests old.scene.tree ino.0 name) r is)
 
-pub removing-rejection : (old : State) (client : ClientId) (ino : Ino) (name : List ℕ) (r : Rejection) → rejection_of old.scene (asked_tests old.scene client ino.0) (need client ino.0 Snapshot ∷ []) [] ≡ Some r → IsDirect old (Event.RemoveSnapshot client ino name) (rejection_reply r) old
+pub removing-rejection : (old : State) (client : ClientId) (ino : Ino) (name : List ℕ) (r : Rejection) → rejection_of old.scene (basic_tests old.scene client ino.0) (need client ino.0 Snapshot ∷ []) [] ≡ Some r → IsDirect old (Event.RemoveSnapshot client ino name) (rejection_reply r) old
 removing-rejection old client ino name r is =
-    direct-rejection old (Event.RemoveSnapshot client ino name) r (rejection old.scene (asked_tests old.scene client ino.0) (need client ino.0 Snapshot ∷ []) (old_snapshot_tests old.scene.tree ino.0 name) r is)
+    direct-rejection old (Event.RemoveSnapshot client ino name) r (rejection old.scene (basic_tests old.scene client ino.0) (need client ino.0 Snapshot ∷ []) (old_snapshot_tests old.scene.tree ino.0 name) r is)

@@ -1,6 +1,6 @@
 -- What the calls of the step of an event about one entry come to.
 use Rattle.std.proofs.Common.{◌≡◌, false, [], List, refl, arith}
-use Rattle.captable.specs.Calls.{told}
+use Rattle.captable.specs.Calls.{with_told}
 use Rattle.capsteps.{proofs.EntryKept.{alike-changed}, specs.declared.entry_request.EntryRequest.TheVariants.{Release}}
 use Rattle.capcore.proofs.Common.{Ack, ClientId, effect, Ended, entry_answer, entry_event, EntryRequest, has_list, HoldAlike, Holder, holder, Ino, reply_of, shown, State}
 
@@ -18,4 +18,4 @@ no_list-request s k request = grind arith
 pub show_reply-alike : (s : State) (k : Holder) (request : EntryRequest) → HoldAlike s.scene.table (shown (entry_answer k request) s).scene.table
 show_reply-alike s k (Ack seq) = λ j e there. (e, there, refl)
 show_reply-alike s k (Release caps) = λ j e there. (e, there, refl)
-show_reply-alike s k request = alike-changed s.scene.table k told (λ e. refl)
+show_reply-alike s k request = alike-changed s.scene.table k with_told (λ e. refl)

@@ -1,38 +1,38 @@
 -- A flush that nothing rejects, by itself: it changes its inode alone, and of the entries only the order of recall.
 use Rattle.std.proofs.{Common.{◌≡◌, ◌≢◌, ℕ, [], ◌∷◌, None, refl, sym, ap, subst, ◌∙◌, arith}, lemmas.List.Elements.{All-filter}}
 use Rattle.std.specs.FinMap as map
-use Rattle.inotree.proofs.OneInode.{known-changed, place-other}
+use Rattle.inotree.proofs.OneInode.{exist-changed, presence-other}
 use Rattle.captable.{proofs.Moves.{IsTable-touched}, specs.Calls.{touched}}
 use Rattle.capsteps.{proofs.EntryRequests.{before-passed, after-passed}, proofs.Lockmachine.SameBut.{same-trans, same-tree, same-entries}, proofs.OneChange.{by_change, alike_change}, specs.Capacts.Served.{change_call_tests}, specs.Capnotes.Changing.{tree_changed}, specs.Lockmachine.Elsewhere.{IsSameBut}, specs.Lockmachine.declared.request.Change.{Change}}
-use Rattle.capcore.proofs.Common.{AffectsOne, all-left, AreBelow, AreGiven, caps_in, change_tests, direct, effect_unless, Event, exclusive, first_failing, Holder, is_of_inode, IsAffectedEntry, IsQuiet, IsSound, IsTable, judged, Nodes, part_of_change, passed-both, place, release_tests, Reply, says, Scene, sound-pinned, State, with_flush}
+use Rattle.capcore.proofs.Common.{AffectsOne, all-left, AreBelow, AreGiven, caps_in, change_tests, direct, effect_unless, Event, exclusive, first_failing, Holder, is_of_inode, IsAffectedEntry, IsQuiet, IsSound, IsTable, judged, Nodes, part_of_change, passed-both, presence, release_tests, Reply, says, Scene, sound-pinned, State, with_flush}
 
-known_change : (tree : Nodes) (ino : ℕ) (change : Change) (other : ℕ) → map.contains_key (tree_changed tree ino change).nodes other ≡ map.contains_key tree.nodes other
-known_change tree ino change other =
-    by_change tree ino (λ t. map.contains_key t.nodes other ≡ map.contains_key tree.nodes other) refl (λ f. known-changed tree f ino other) change
+exist_change : (tree : Nodes) (ino : ℕ) (change : Change) (other : ℕ) → map.contains_key (tree_changed tree ino change).nodes other ≡ map.contains_key tree.nodes other
+exist_change tree ino change other =
+    by_change tree ino (λ t. map.contains_key t.nodes other ≡ map.contains_key tree.nodes other) refl (λ f. exist-changed tree f ino other) change
 
-place_change : (tree : Nodes) (ino : ℕ) (change : Change) (other : ℕ) → other ≢ ino → place (tree_changed tree ino change).nodes other ≡ place tree.nodes other
-place_change tree ino change other off =
-    by_change tree ino (λ t. place t.nodes other ≡ place tree.nodes other) refl (λ f. place-other tree f ino other off) change
+presence_change : (tree : Nodes) (ino : ℕ) (change : Change) (other : ℕ) → other ≢ ino → presence (tree_changed tree ino change).nodes other ≡ presence tree.nodes other
+presence_change tree ino change other off =
+    by_change tree ino (λ t. presence t.nodes other ≡ presence tree.nodes other) refl (λ f. presence-other tree f ino other off) change
 
 -- a change of an inode, with the entries as they were
 same-flush : (s : Scene) (k : Holder) (change : Change) → IsSameBut k.ino.0 s (record s { tree = tree_changed s.tree k.ino.0 change; table = touched s.table k })
 same-flush s k change =
     let changed : Scene = record s { tree = tree_changed s.tree k.ino.0 change } in
     same-trans k.ino.0 s changed (record changed { table = touched s.table k })
-    (same-tree k.ino.0 s (tree_changed s.tree k.ino.0 change) (λ other off. place_change s.tree k.ino.0 change other off) (λ other off. alike_change s.tree k.ino.0 other change off))
+    (same-tree k.ino.0 s (tree_changed s.tree k.ino.0 change) (λ other off. presence_change s.tree k.ino.0 change other off) (λ other off. alike_change s.tree k.ino.0 other change off))
     (same-entries k.ino.0 changed (touched s.table k) (λ other off. refl))
 
 pub flush-affects : (old : State) (k : Holder) (change : Change) → IsSound old → IsTable old.scene.table → AffectsOne k.ino.0 old (with_flush old k change).scene
 flush-affects old k change sound table = record {
   same = same-flush old.scene k change;
   states = refl;
-  known = λ other. known_change old.scene.tree k.ino.0 change other;
-  locked = λ other. sound.locked other ∙ sym (known_change old.scene.tree k.ino.0 change other);
+  exist = λ other. exist_change old.scene.tree k.ino.0 change other;
+  locked = λ other. sound.locked other ∙ sym (exist_change old.scene.tree k.ino.0 change other);
   waiting = sound.waiting;
   at_lock = λ part none. subst (IsQuiet old.scene k.ino.0 part) none (sound.at_rest.each k.ino.0 part);
   each =
       All-filter (is_of_inode (record { 0 = k.ino.0 })) (IsAffectedEntry (with_flush old k change).scene) old.scene.table.rows
-      (all-left old (with_flush old k change).scene sound table refl refl (λ ino. known_change old.scene.tree k.ino.0 change ino));
+      (all-left old (with_flush old k change).scene sound table refl refl (λ ino. exist_change old.scene.tree k.ino.0 change ino));
   calm = λ row inside none. absurd (sound-pinned old sound row inside none);
 }
 

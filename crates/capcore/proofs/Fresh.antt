@@ -2,11 +2,11 @@
 use Rattle.std.{proofs.Common.{◌≡◌, Bool, true, false, cond, Some, sym, ap, subst, ◌∙◌}, specs.Cmp.{nat_cmp_total}, specs.Option.{option_map}, specs.Ordering.{nat_cmp, eq_by_cmp}}
 use Rattle.std.specs.FinMap as map
 use Rattle.std.specs.FinSet as set
-use Rattle.inotree.specs.{Calls.{first_tree}, Inodes.{InodeMap}, Tree.{place_at}, declared.node.Place.TheVariants.{Gone}, declared.node.Site.TheVariants.{Root}}
+use Rattle.inotree.specs.{Calls.{first_tree}, Inodes.{InodeMap}, Tree.{presence_at}, declared.node.Presence.TheVariants.{Gone}, declared.node.Site.TheVariants.{Root}}
 use Rattle.capcore.proofs.Common.{Attr, Directory, HasNoStray, Node, Nodes}
 
 no_stray : (attr : Attr) → HasNoStray (first_tree attr)
-no_stray attr q gone = by_test (eq_by_cmp nat_cmp q 1) (ap (λ o. place_at (option_map (λ n. n.site) o)) (sym (map.get-insert nat_cmp_total none 1 root q)) ∙ gone)
+no_stray attr q gone = by_test (eq_by_cmp nat_cmp q 1) (ap (λ o. presence_at (option_map (λ n. n.site) o)) (sym (map.get-insert nat_cmp_total none 1 root q)) ∙ gone)
   where
     none : InodeMap
     none = map.empty
@@ -14,9 +14,9 @@ no_stray attr q gone = by_test (eq_by_cmp nat_cmp q 1) (ap (λ o. place_at (opti
     root : Node
     root = record { kind = Directory; site = Root; attr = attr; size = 0; time = 0; attributes = map.empty; snapshots = set.empty }
 
-    by_test : (b : Bool) → place_at (option_map (λ n. n.site) (cond b (Some root) (map.get none q))) ≡ Gone → ⊥
+    by_test : (b : Bool) → presence_at (option_map (λ n. n.site) (cond b (Some root) (map.get none q))) ≡ Gone → ⊥
     by_test true is = cc
-    by_test false is = let e = ap (λ o. place_at (option_map (λ n. n.site) o)) (sym (map.get-empty _ q)) ∙ is in cc
+    by_test false is = let e = ap (λ o. presence_at (option_map (λ n. n.site) o)) (sym (map.get-empty _ q)) ∙ is in cc
 
 pub has_no_stray : (attr : Attr) (tree : Nodes) → tree ≡ first_tree attr → HasNoStray tree
 has_no_stray attr tree is = subst HasNoStray (sym is) (no_stray attr)

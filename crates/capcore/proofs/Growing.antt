@@ -12,8 +12,8 @@ length-more [] row = refl
 length-more (r ∷ rows) row = let more = length-more rows row in omega (arith, more)
 
 -- a new core has the empty history
-pub first-told : (fs : List ℕ) (tree : Nodes) (s : State) (max_rows : ℕ) (changes : List ViewChange) → HasNoStray tree → IsOpening fs tree s → IsRecorded (recorded s [] max_rows changes)
-first-told fs tree s max_rows changes none is = record {
+pub first-recorded : (fs : List ℕ) (tree : Nodes) (s : State) (max_rows : ℕ) (changes : List ViewChange) → HasNoStray tree → IsOpening fs tree s → IsRecorded (recorded s [] max_rows changes)
+first-recorded fs tree s max_rows changes none is = record {
   fs = fs;
   tree = tree;
   no_strays = none;
@@ -30,9 +30,9 @@ pub given-more : (rows : List Row) (row : Row) (new : State) → AreGiven (lengt
 given-more rows row new = subst (λ n. AreGiven n new) (sym (length-more rows row))
 
 -- one step more, with its row, to a state that is sound
-pub more-told : (t : Recorded) (row : Row) (new : State) (changes : List ViewChange) → IsRecorded t → Step t.state row.event row.reply row.ended new → row.nth ≡ rows_of row.pass t.rows + 1 → length t.rows < t.max_rows → IsTable t.state.scene.table → IsSound new → AreGiven (length t.rows + 1) new →
+pub more-recorded : (t : Recorded) (row : Row) (new : State) (changes : List ViewChange) → IsRecorded t → Step t.state row.event row.reply row.ended new → row.nth ≡ rows_of row.pass t.rows + 1 → length t.rows < t.max_rows → IsTable t.state.scene.table → IsSound new → AreGiven (length t.rows + 1) new →
     IsRecorded (recorded new (t.rows ++ row ∷ []) t.max_rows changes)
-more-told t row new changes is step nth less table sound given = record {
+more-recorded t row new changes is step nth less table sound given = record {
   fs = is.fs;
   tree = is.tree;
   no_strays = is.no_strays;

@@ -1,6 +1,6 @@
 -- Each state that a history leads to has one row for each entry, and its requests in their order.
 use Rattle.std.proofs.{Common.{◌≡◌, List, [], ◌∷◌, None, sym, subst}, lemmas.Simd.{map-map}}
-use Rattle.captable.{proofs.Tables.{IsTable-changed, IsTable-empty, IsTable-recalled, IsTable-rows, IsTable-without_client}, specs.Calls.{told}}
+use Rattle.captable.{proofs.Tables.{IsTable-changed, IsTable-empty, IsTable-recalled, IsTable-rows, IsTable-without_client}, specs.Calls.{with_told}}
 use Rattle.capsteps.{proofs.EntryRequests.{request-table}, proofs.ManyInodes.{table-where}, specs.Caprules.Direct.{Shows}, specs.Caprules.Finish.{is_sized, owed}, specs.Caprules.History.{IsRecorded}, specs.declared.entry_request.EntryRequest.TheVariants.{Open, Want, Release}}
 use Rattle.capcore.proofs.{Bounded.{direct-keeps, found-keeps}, Common.{Ack, after_messages, Answer, child, direct, effect, Ended, Event, finished, first_messages, Gives, holder, is_of_client, IsLockMap, IsTable, judged, moved-all, Recorded, Replays, Reply, Row, Scene, shown, sized_in, sizes_owed, State, state_after, Step}, Determined.{opening-order, step-order}, Flushed.{flush-table}}
 
@@ -22,7 +22,7 @@ finished-table : (old first settled : Scene) → IsTable settled.table → IsTab
 finished-table old first settled table = IsTable-rows _ _ (map-map _ _ _) (IsTable-rows settled.table _ (map-map _ _ settled.table.rows) table)
 
 shown-table : (a : Answer) (s : State) → IsTable s.scene.table → IsTable (shown a s).scene.table
-shown-table (Shows k) s table = IsTable-changed s.scene.table k told table
+shown-table (Shows k) s table = IsTable-changed s.scene.table k with_told table
 shown-table (Gives client max) s table = table-where (is_of_client client) (after_messages (first_messages s client max)) s.scene.table table
 shown-table a s table = table
 

@@ -17,7 +17,7 @@ pub mod Sounding
 pub mod Rejections
 pub mod Undone
 pub mod Steps
-pub mod Asked
+pub mod LockRequests
 pub mod Flushed
 pub mod Unaffected
 pub mod EntryStep

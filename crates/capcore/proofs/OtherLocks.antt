@@ -2,15 +2,15 @@
 use Rattle.std.{proofs.Common.{◌≡◌, ℕ, Bool, true, false, Some, List, [], ◌∷◌, refl, sym, ap, ◌∙◌, true≢false, arith}, proofs.lemmas.Bool.{or_parts}, specs.List.{list_any}, specs.Option.{option_map}}
 use Rattle.std.specs.FinMap as map
 use Rattle.capsteps.{proofs.Strays.{retained-here, retained-gone}, specs.Caprules.Finish.{is_in_use, issue}, specs.Caprules.Headline.{OtherLocksStay, is_of_lock_at}}
-use Rattle.capcore.proofs.Common.{Answer, Began, ByMoves, coming_state, direct, Ended, Event, Gather, Gathered, is_at, lock_at, lock_in, LockMap, LockPlace, LockState, Made, Makes, MakesAll, Part, present_state, Reply, Scene, Served, shown, sized_in, sizes_owed, Stable, State, state_after, Step, with_lock, with_lock-each}
+use Rattle.capcore.proofs.Common.{Answer, Began, ByMoves, coming_state, direct, Ended, Event, Gather, Gathered, is_at, lock_at, lock_in, LockMap, LockId, LockState, Made, Makes, MakesAll, Part, present_state, Reply, Scene, Served, shown, sized_in, sizes_owed, Stable, State, state_after, Step, with_lock, with_lock-each}
 
 -- ---- the moves
 
 -- a lock in another state leaves each other lock
-other_lock : (locks : LockMap) (ino : ℕ) (part : Part) (lock : LockState) (at : LockPlace) → is_at ino part at ≡ false
+other_lock : (locks : LockMap) (ino : ℕ) (part : Part) (lock : LockState) (at : LockId) → is_at ino part at ≡ false
     → lock_at (with_lock locks ino part lock) at.0 at.1 ≡ lock_at locks at.0 at.1
 other_lock locks ino part lock =
-    with_lock-each locks ino part lock (λ b (at : LockPlace) o. b ≡ false → o ≡ lock_at locks at.0 at.1) (λ off. absurd (true≢false off)) (λ at off. refl)
+    with_lock-each locks ino part lock (λ b (at : LockId) o. b ≡ false → o ≡ lock_at locks at.0 at.1) (λ off. absurd (true≢false off)) (λ at off. refl)
 
 one_stays : (s t : Scene) (m : Made) (ino : ℕ) (part : Part) → Makes s m t → is_of_lock_at ino part m ≡ false → lock_at t.locks ino part ≡ lock_at s.locks ino part
 one_stays s t (Began i p to) ino part (first, is) off =

@@ -2,8 +2,8 @@
 -- it, so that the tree is as it was.
 use Rattle.std.{proofs.Common.{◌≡◌, ℕ, Bool, true, false, ◌&&◌, ◌==◌, cond, Option, Some, None, List, [], ◌∷◌, ◌++◌, refl, sym, ap, subst, ◌∙◌, Contains, true≢false, unwrap_or, arith}, proofs.lemmas.Bool.{eqb-true, true_from_ne_false}, proofs.lemmas.List.Elements.{Contains-push}, proofs.lemmas.List.Folds.{find-append}, specs.Cmp.{nat_eq_equiv}, specs.List.{find}, specs.Option.{option_map_or}}
 use Rattle.capbits.specs.Sets.{and_parts}
-use Rattle.capsteps.{proofs.Lockmachine.Exact.{ends_not, begins_not, serves_not, settled}, proofs.Lockmachine.Moving.{IsMove, first_is}, proofs.Lockmachine.Queue.{least_served, moved-kept}, proofs.Lockmachine.Rest.{same_part_is}, specs.Caprules.Serving.{passed_as}, specs.Lockmachine.Moves.{may_end, may_begin, may_serve, is_first, is_servable, begun_locks, gathered_locks, IsAtRest}, specs.Lockmachine.Requests.{part_place, same_part, part_of_ask}}
-use Rattle.capcore.proofs.Common.{As_judged, Ask, awaited_as, Began, Begin, ClientId, coming_state, End, ended_in, first_for, first_move, found_by_number, Gather, Gathered, Ino, is_at, is_for, is_numbered, is_of_ticket, is_rejection, IsLockMap, IsQuiet, judged_again, lock_at, LockMap, LockPlace, LockState, Made, MakesAll, MayEndAs, next_request, no_moves, Outcome, outcome_reply, outcome_unless, Part, present_state, Rejection, Reply, Request, Scene, Serve, Served, Stable, Ticket, with_lock, with_lock-each, with_request, Without_memory}
+use Rattle.capsteps.{proofs.Lockmachine.Exact.{ends_not, begins_not, serves_not, settled}, proofs.Lockmachine.Moving.{IsMove, first_is}, proofs.Lockmachine.Queue.{least_served, moved-kept}, proofs.Lockmachine.Rest.{same_part_is}, specs.Caprules.Serving.{passed_as}, specs.Lockmachine.Moves.{may_end, may_begin, may_serve, is_first, is_servable, begun_locks, gathered_locks, IsAtRest}, specs.Lockmachine.Requests.{part_place, same_part, part_of_operation}}
+use Rattle.capcore.proofs.Common.{As_judged, Operation, awaited_as, Began, Begin, ClientId, coming_state, End, ended_in, first_for, first_move, found_by_number, Gather, Gathered, Ino, is_at, is_for, is_numbered, is_of_ticket, is_rejection, IsLockMap, IsQuiet, judged_again, lock_at, LockMap, LockId, LockState, Made, MakesAll, MayEndAs, next_request, no_moves, Outcome, outcome_reply, outcome_unless, Part, present_state, Rejection, Reply, Request, Scene, Serve, Served, Stable, Ticket, with_lock, with_lock-each, with_request, Without_memory}
 
 -- ---- how a request ends that nothing rejects
 
@@ -11,12 +11,12 @@ module _ (ticket : Ticket) where
   abbrev answered : Outcome → Reply
   answered o = unwrap_or (outcome_reply o) (Reply.Waiting ticket)
 
-  passed-unstopped : (s : Scene) (ino : ℕ) (ask : Ask) → is_rejection (answered (passed_as s ino ask)) ≡ false
-  passed-unstopped s ino ask = grind arith
+  passed-unstopped : (s : Scene) (ino : ℕ) (operation : Operation) → is_rejection (answered (passed_as s ino operation)) ≡ false
+  passed-unstopped s ino operation = grind arith
 
   -- it is neither denied nor refused
   unstopped : (s : Scene) (q : Request) (o : Outcome) → judged_again s q ≡ None → MayEndAs s q o → is_rejection (answered o) ≡ false
-  unstopped s q o free (As_judged) = ap (λ (j : Option Rejection). is_rejection (answered (outcome_unless s q j))) free ∙ passed-unstopped s q.ino.0 q.ask
+  unstopped s q o free (As_judged) = ap (λ (j : Option Rejection). is_rejection (answered (outcome_unless s q j))) free ∙ passed-unstopped s q.ino.0 q.operation
   unstopped s q o free (Without_memory nothing takes) = refl
 
 -- ---- a request that has just come to wait
@@ -24,18 +24,18 @@ module _ (ticket : Ticket) where
 -- the queue is still this, and no lock has moved but this one
 record IsMovedAlone (old : Scene) (queue : List Request) (ino : ℕ) (part : Part) (locks : LockMap) : Type 0 where
   same_queue : locks.queue ≡ queue
-  others : (place : LockPlace) → is_at ino part place ≡ false → lock_at locks place.0 place.1 ≡ lock_at old.locks place.0 place.1
+  others : (id : LockId) → is_at ino part id ≡ false → lock_at locks id.0 id.1 ≡ lock_at old.locks id.0 id.1
   order : IsLockMap locks
 
-module _ (old : Scene) (client : ClientId) (inode : Ino) (ask : Ask) (rest : IsAtRest old) where
+module _ (old : Scene) (client : ClientId) (inode : Ino) (operation : Operation) (rest : IsAtRest old) where
   abbrev q : Request
-  q = next_request old.locks client inode ask
+  q = next_request old.locks client inode operation
 
   abbrev ino : ℕ
   ino = inode.0
 
   abbrev part : Part
-  part = part_of_ask ask
+  part = part_of_operation operation
 
   abbrev queue : List Request
   queue = old.locks.queue ++ q ∷ []
@@ -51,14 +51,14 @@ module _ (old : Scene) (client : ClientId) (inode : Ino) (ask : Ask) (rest : IsA
   -- ---- who is first for a lock
 
   -- and for no other
-  for_no_other : (place : LockPlace) → is_at ino part place ≡ false → is_for place.0 place.1 q ≡ false
-  for_no_other place off = (λ i. nat_eq_equiv.symm ino place.0 i && nat_eq_equiv.symm (part_place part) (part_place place.1) i) ∙ off
+  for_no_other : (id : LockId) → is_at ino part id ≡ false → is_for id.0 id.1 q ≡ false
+  for_no_other id off = (λ i. nat_eq_equiv.symm ino id.0 i && nat_eq_equiv.symm (part_place part) (part_place id.1) i) ∙ off
 
-  its_place : (i : ℕ) (p : Part) → is_at ino part (i, p) ≡ true → (i ≡ ino) × (p ≡ part)
-  its_place i p here = let both = and_parts (i == ino) (same_part p part) here in (eqb-true i ino both.0, same_part_is p part both.1)
+  its_lock : (i : ℕ) (p : Part) → is_at ino part (i, p) ≡ true → (i ≡ ino) × (p ≡ part)
+  its_lock i p here = let both = and_parts (i == ino) (same_part p part) here in (eqb-true i ino both.0, same_part_is p part both.1)
 
-  first_elsewhere : (place : LockPlace) → is_at ino part place ≡ false → first_for queue place.0 place.1 ≡ first_for old.locks.queue place.0 place.1
-  first_elsewhere place off = grind (arith, find-append, for_no_other)
+  first_elsewhere : (id : LockId) → is_at ino part id ≡ false → first_for queue id.0 id.1 ≡ first_for old.locks.queue id.0 id.1
+  first_elsewhere id off = grind (arith, find-append, for_no_other)
 
   first_here : first_for old.locks.queue ino part ≡ None → first_for queue ino part ≡ Some q
   first_here nobody = grind (arith, find-append)
@@ -66,45 +66,45 @@ module _ (old : Scene) (client : ClientId) (inode : Ino) (ask : Ask) (rest : IsA
   -- ---- every other lock is quiet
 
   module _ (locks : LockMap) (alone : IsAlone locks) where
-    quiet-other : (place : LockPlace) → is_at ino part place ≡ false → IsQuiet (now locks) place.0 place.1 (lock_at locks place.0 place.1)
-    quiet-other place off = grind (arith, first_elsewhere)
+    quiet-other : (id : LockId) → is_at ino part id ≡ false → IsQuiet (now locks) id.0 id.1 (lock_at locks id.0 id.1)
+    quiet-other id off = grind (arith, first_elsewhere)
 
     -- so what moves is its own
-    only_here : (p : LockPlace → Bool) → ((place : LockPlace) → is_at ino part place ≡ false → p place ≡ false) → (place : LockPlace) → p place ≡ true → is_at ino part place ≡ true
-    only_here p elsewhere place passes = true_from_ne_false (is_at ino part place) (λ e. true≢false (sym passes ∙ elsewhere place e))
+    only_here : (p : LockId → Bool) → ((id : LockId) → is_at ino part id ≡ false → p id ≡ false) → (id : LockId) → p id ≡ true → is_at ino part id ≡ true
+    only_here p elsewhere id passes = true_from_ne_false (is_at ino part id) (λ e. true≢false (sym passes ∙ elsewhere id e))
 
-    begins_here : (place : LockPlace) → may_begin (now locks) place ≡ true → is_at ino part place ≡ true
-    begins_here = only_here (may_begin (now locks)) (λ place off. begins_not (now locks) place (lock_at locks place.0 place.1) (quiet-other place off))
+    begins_here : (id : LockId) → may_begin (now locks) id ≡ true → is_at ino part id ≡ true
+    begins_here = only_here (may_begin (now locks)) (λ id off. begins_not (now locks) id (lock_at locks id.0 id.1) (quiet-other id off))
 
-    ends_here : (place : LockPlace) → may_end (now locks) place ≡ true → is_at ino part place ≡ true
-    ends_here = only_here (may_end (now locks)) (λ place off. ends_not (now locks) place (lock_at locks place.0 place.1) (quiet-other place off))
+    ends_here : (id : LockId) → may_end (now locks) id ≡ true → is_at ino part id ≡ true
+    ends_here = only_here (may_end (now locks)) (λ id off. ends_not (now locks) id (lock_at locks id.0 id.1) (quiet-other id off))
 
     -- and a move of it leaves it alone
     still_alone : (i : ℕ) (p : Part) (lock : LockState) → is_at ino part (i, p) ≡ true → IsLockMap (with_lock locks i p lock) → IsAlone (with_lock locks i p lock)
-    still_alone i p lock here order = record { same_queue = alone.same_queue; others = λ place off. kept place off ∙ alone.others place off; order = order }
+    still_alone i p lock here order = record { same_queue = alone.same_queue; others = λ id off. kept id off ∙ alone.others id off; order = order }
       where
-        same_place : (place : LockPlace) → is_at i p place ≡ is_at ino part place
-        same_place place = let same = its_place i p here in λ k. is_at (same.0 k) (same.1 k) place
+        same_id : (id : LockId) → is_at i p id ≡ is_at ino part id
+        same_id id = let same = its_lock i p here in λ k. is_at (same.0 k) (same.1 k) id
 
-        kept : (place : LockPlace) → is_at ino part place ≡ false → lock_at (with_lock locks i p lock) place.0 place.1 ≡ lock_at locks place.0 place.1
-        kept place off =
-            with_lock-each locks i p lock (λ b (place : LockPlace) o. b ≡ false → o ≡ lock_at locks place.0 place.1) (λ e. absurd (true≢false e)) (λ place e. refl) place
-            (same_place place ∙ off)
+        kept : (id : LockId) → is_at ino part id ≡ false → lock_at (with_lock locks i p lock) id.0 id.1 ≡ lock_at locks id.0 id.1
+        kept id off =
+            with_lock-each locks i p lock (λ b (id : LockId) o. b ≡ false → o ≡ lock_at locks id.0 id.1) (λ e. absurd (true≢false e)) (λ id e. refl) id
+            (same_id id ∙ off)
 
     -- ---- what is served first
 
     module _ (nobody : first_for old.locks.queue ino part ≡ None) where
-      of_it : (r : Request) → may_serve locks r ≡ true → is_at ino part (r.ino.0, part_of_ask r.ask) ≡ true
-      of_it r may = true_from_ne_false (is_at ino part (r.ino.0, part_of_ask r.ask))
-          (λ e. true≢false (sym may ∙ serves_not (now locks) r (lock_at locks r.ino.0 (part_of_ask r.ask)) (quiet-other (r.ino.0, part_of_ask r.ask) e)))
+      of_it : (r : Request) → may_serve locks r ≡ true → is_at ino part (r.ino.0, part_of_operation r.operation) ≡ true
+      of_it r may = true_from_ne_false (is_at ino part (r.ino.0, part_of_operation r.operation))
+          (λ e. true≢false (sym may ∙ serves_not (now locks) r (lock_at locks r.ino.0 (part_of_operation r.operation)) (quiet-other (r.ino.0, part_of_operation r.operation) e)))
 
       its_number : (r : Request) → may_serve locks r ≡ true → q.ticket.0 ≡ r.ticket.0
       its_number r may =
-          let same = its_place r.ino.0 (part_of_ask r.ask) (of_it r may) in
+          let same = its_lock r.ino.0 (part_of_operation r.operation) (of_it r may) in
           let first = (and_parts (is_first locks.queue r) (is_servable locks r) may).0 in
           eqb-true q.ticket.0 r.ticket.0
           (sym
-          (ap (λ rs. option_map_or (is_numbered r.ticket.0) (first_for rs r.ino.0 (part_of_ask r.ask)) false) alone.same_queue
+          (ap (λ rs. option_map_or (is_numbered r.ticket.0) (first_for rs r.ino.0 (part_of_operation r.operation)) false) alone.same_queue
           ∙ (λ k. option_map_or (is_numbered r.ticket.0) (first_for queue (same.0 k) (same.1 k)) false)
           ∙ ap (λ o. option_map_or (is_numbered r.ticket.0) o false) (first_here nobody))
           ∙ first)
@@ -138,25 +138,25 @@ module _ (old : Scene) (client : ClientId) (inode : Ino) (ask : Ask) (rest : IsA
         ap (λ b. is_rejection (awaited_as q.ticket (cond b (Some (record { client = r.client; ticket = r.ticket; outcome = o })) (find (is_of_ticket q.ticket) (ended_in moves))))) number
         ∙ unstopped q.ticket (now locks) q o free (subst (λ (x : Request). MayEndAs (now locks) x o) itself may)
 
-  module _ (order : IsLockMap (with_request old.locks client inode ask)) where
+  module _ (order : IsLockMap (with_request old.locks client inode operation)) where
     abbrev waiting : LockMap
-    waiting = with_request old.locks client inode ask
+    waiting = with_request old.locks client inode operation
 
     alone-first : IsAlone waiting
-    alone-first = record { same_queue = refl; others = λ place off. refl; order = order }
+    alone-first = record { same_queue = refl; others = λ id off. refl; order = order }
 
     -- behind an open gather it waits on, and nothing moves
     rests-on : IsQuiet (now waiting) ino part (lock_at waiting ino part) → IsAtRest (now waiting)
     rests-on here = record {
       each = λ i p. elim (is_at ino part (i, p)) as (λ b. is_at ino part (i, p) ≡ b → IsQuiet (now waiting) i p (lock_at waiting i p)) [
-        | true ↦ λ e. (let same = its_place i p e in
-            subst (λ (place : LockPlace). IsQuiet (now waiting) place.0 place.1 (lock_at waiting place.0 place.1)) (λ k. (sym same.0 k, sym same.1 k)) here)
+        | true ↦ λ e. (let same = its_lock i p e in
+            subst (λ (id : LockId). IsQuiet (now waiting) id.0 id.1 (lock_at waiting id.0 id.1)) (λ k. (sym same.0 k, sym same.1 k)) here)
         | false ↦ λ off. quiet-other waiting alone-first (i, p) off
       ] refl;
     }
 
-    pub own-not_stopped : (moves : List Made) (last : Scene) → judged_again old q ≡ None → MakesAll (now waiting) moves last → NotRejected moves
-    own-not_stopped moves last free made = by_lock (lock_at old.locks ino part) refl (rest.each ino part)
+    pub own-not_rejected : (moves : List Made) (last : Scene) → judged_again old q ≡ None → MakesAll (now waiting) moves last → NotRejected moves
+    own-not_rejected moves last free made = by_lock (lock_at old.locks ino part) refl (rest.each ino part)
       where
         by_lock : (o : Option LockState) → lock_at old.locks ino part ≡ o → IsQuiet old ino part o → NotRejected moves
         by_lock None is quiet = not-rejection free quiet waiting moves last alone-first made

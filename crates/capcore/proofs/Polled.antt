@@ -39,11 +39,11 @@ module _ (old : State) (sound : IsSound old) (table : IsTable old.scene.table) (
       nothing_left = λ i. record old { scene = sound-ends old sound table i; messages = append-nil old.messages i }
 
   pub poll-answered : (said : Said) → first_failing (session_tests old.scene.sessions client.0) ≡ None
-      → said.reply ≡ Reply.Messages (first_messages old client max) → said.kept ≡ said.reply → said.ended ≡ []
+      → said.reply ≡ Reply.Messages (first_messages old client max) → said.for_history ≡ said.reply → said.ended ≡ []
       → IsAnswered old (Event.Poll client max) said (with_given old client (first_messages old client max))
-  poll-answered said is answers kept none = record {
+  poll-answered said is answers for_history none = record {
     step = subst (λ (ended : List Ended). Step old poll said.reply ended new) (sym none) (subst (λ (r : Reply). Step old poll r [] new) (sym answers) (polled-step is));
-    kept = kept;
+    for_history = for_history;
     sound = shown-sound old (Gives client max) sound table;
     issued = subst (λ (s : State). IssuesExactly s.scene new.scene) (sym (same_state (judged old.scene poll))) (shown-issued old.scene old (Gives client max) table (has-due old sound));
     given = λ count given. later-given count new (shown-given count old (Gives client max) given);

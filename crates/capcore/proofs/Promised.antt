@@ -1,23 +1,23 @@
 -- The main promise, from what a step is.
 use Rattle.std.{proofs.Common.{true≢false, ◌≡◌, Bool, true, false, ◌||◌, List, Option, Some, None, refl, sym, ap, subst, ◌∙◌, IsTrue, arith}, proofs.lemmas.List.Elements.{All-contains}, specs.List.{find}, specs.Option.{option_map_or}}
 use Rattle.capsteps.specs.Caprules.{Finish.{due}, Headline.{DeniedExactly, DeniesByName}}
-use Rattle.capcore.proofs.{Asked.{asking, asking-rejection, asking-direct, asking-again, order-of_ask}, Common.{Access, after, Ask, asks_for, before, Direct, direct, effect, effect_unless, Ended, ended_in, EntryRow, Event, found, found-contains, has, Holder, is_rejection, is_row_of, IsDirect, IsLockMap, IsSound, IsSoundEntry, IssuesExactly, IsTable, judged, Made, MakesAll, needs, Rejection, rejection-only, rejection_reply, Reply, reply_of, Rule, Scene, State, state_after, Step}, OwnServed.{own-not_stopped}, Servings.{denial-exact, denial-by_name}}
+use Rattle.capcore.proofs.{LockRequests.{enqueuing, enqueuing-rejection, enqueuing-direct, enqueuing-again, order-of_operation}, Common.{Access, after, Operation, operation_by, before, Direct, direct, effect, effect_unless, Ended, ended_in, EntryRow, Event, found, found-contains, has, Holder, is_rejection, is_row_of, IsDirect, IsLockMap, IsSound, IsSoundEntry, IssuesExactly, IsTable, judged, Made, MakesAll, needs, Rejection, rejection-only, rejection_reply, Reply, reply_of, Rule, Scene, State, state_after, Step}, OwnServed.{own-not_rejected}, Servings.{denial-exact, denial-by_name}}
 
 -- ---- an event that nothing rejects
 
 -- one that waits for no lock
-effect-not_rejected : (old last : State) (ended : List Ended) (e : Event) → asks_for e ≡ None → is_rejection (reply_of last ended (effect old e).answer) ≡ false
+effect-not_rejected : (old last : State) (ended : List Ended) (e : Event) → operation_by e ≡ None → is_rejection (reply_of last ended (effect old e).answer) ≡ false
 effect-not_rejected old last ended e none = grind arith
 
 -- one that waits for a lock: if it is served in the step, then on the tree and the sessions on which it came
-asking-not_rejected : (old last : State) (e : Event) (k : Holder) (ask : Ask) (moves : List Made) (s : Scene) → IsSound old → IsLockMap old.scene.locks → asks_for e ≡ Some (k, ask) → judged old.scene e ≡ None
+enqueuing-not_rejected : (old last : State) (e : Event) (k : Holder) (operation : Operation) (moves : List Made) (s : Scene) → IsSound old → IsLockMap old.scene.locks → operation_by e ≡ Some (k, operation) → judged old.scene e ≡ None
     → MakesAll (direct old e).state.scene moves s → is_rejection (reply_of last (ended_in moves) (effect old e).answer) ≡ false
-asking-not_rejected old last e k ask moves s sound order is free made =
-    let a = asking e k ask is in
-    let passed = sym (asking-rejection e k ask old.scene is) ∙ free in
+enqueuing-not_rejected old last e k operation moves s sound order is free made =
+    let a = enqueuing e k operation is in
+    let passed = sym (enqueuing-rejection e k operation old.scene is) ∙ free in
     ap (λ (d : Direct). is_rejection (reply_of last (ended_in moves) d.answer)) (a.effect_is old)
-    ∙ own-not_stopped old.scene k.client k.ino ask sound.at_rest (order-of_ask old.scene k ask order passed) moves s (asking-again old.scene k ask passed)
-    (subst (λ (d : Direct). MakesAll d.state.scene moves s) (asking-direct old e k ask is free) made)
+    ∙ own-not_rejected old.scene k.client k.ino operation sound.at_rest (order-of_operation old.scene k operation order passed) moves s (enqueuing-again old.scene k operation passed)
+    (subst (λ (d : Direct). MakesAll d.state.scene moves s) (enqueuing-direct old e k operation is free) made)
 
 -- ---- denials
 
@@ -25,14 +25,14 @@ reply-denied : (x : Rejection) (access : Access) (rules : List Rule) → rejecti
 reply-denied x access rules is = grind arith
 
 -- an answer that is what rejects the event, or no rejection
-denied-stops : (answer : Reply) (stopped : Option Rejection) → ((x : Rejection) → stopped ≡ Some x → answer ≡ rejection_reply x) → (stopped ≡ None → is_rejection answer ≡ false)
-    → (access : Access) (rules : List Rule) → answer ≡ Reply.Denied access rules → stopped ≡ Some (Rejection.ByPolicy access rules)
-denied-stops answer (Some x) stops free access rules is = ap Some (reply-denied x access rules (sym (stops x refl) ∙ is))
-denied-stops answer None stops free access rules is = absurd (true≢false (ap is_rejection (sym is) ∙ free refl))
+denied-rejects : (answer : Reply) (rejected : Option Rejection) → ((x : Rejection) → rejected ≡ Some x → answer ≡ rejection_reply x) → (rejected ≡ None → is_rejection answer ≡ false)
+    → (access : Access) (rules : List Rule) → answer ≡ Reply.Denied access rules → rejected ≡ Some (Rejection.ByPolicy access rules)
+denied-rejects answer (Some x) rejects free access rules is = ap Some (reply-denied x access rules (sym (rejects x refl) ∙ is))
+denied-rejects answer None rejects free access rules is = absurd (true≢false (ap is_rejection (sym is) ∙ free refl))
 
-module _ (answer : Reply) (stopped : Option Rejection) (stops : (x : Rejection) → stopped ≡ Some x → answer ≡ rejection_reply x) (free : stopped ≡ None → is_rejection answer ≡ false) where
-  rejected-stops : is_rejection answer ≡ true → (x : Rejection) × (stopped ≡ Some x)
-  rejected-stops is = grind arith
+module _ (answer : Reply) (rejected : Option Rejection) (rejects : (x : Rejection) → rejected ≡ Some x → answer ≡ rejection_reply x) (free : rejected ≡ None → is_rejection answer ≡ false) where
+  rejected-rejects : is_rejection answer ≡ true → (x : Rejection) × (rejected ≡ Some x)
+  rejected-rejects is = grind arith
 
 module _ (old : State) (e : Event) (answer : Reply) (done : List Ended) (new : State) (step : Step old e answer done new) (sound : IsSound old) (order : IsLockMap old.scene.locks) where
   -- the state in which the answer is read off
@@ -43,28 +43,28 @@ module _ (old : State) (e : Event) (answer : Reply) (done : List Ended) (new : S
   unfolding last
   answered o is = let by = step.1 in by.answer_is ∙ ap (λ (o : Option Rejection). reply_of last (ended_in step.0) (effect_unless old e o).answer) is
 
-  stops : (x : Rejection) → judged old.scene e ≡ Some x → answer ≡ rejection_reply x
-  stops x is = answered (Some x) is
+  rejects : (x : Rejection) → judged old.scene e ≡ Some x → answer ≡ rejection_reply x
+  rejects x is = answered (Some x) is
 
-  not_rejected : (a : Option (Holder × Ask)) → asks_for e ≡ a → judged old.scene e ≡ None → is_rejection (reply_of last (ended_in step.0) (effect old e).answer) ≡ false
+  not_rejected : (a : Option (Holder × Operation)) → operation_by e ≡ a → judged old.scene e ≡ None → is_rejection (reply_of last (ended_in step.0) (effect old e).answer) ≡ false
   not_rejected None is none = effect-not_rejected old last (ended_in step.0) e is
-  not_rejected (Some (k, ask)) is none = let by = step.1 in asking-not_rejected old last e k ask step.0 by.settled sound order is none by.settles.made
+  not_rejected (Some (k, operation)) is none = let by = step.1 in enqueuing-not_rejected old last e k operation step.0 by.settled sound order is none by.settles.made
 
   free : judged old.scene e ≡ None → is_rejection answer ≡ false
-  free none = ap is_rejection (answered None none) ∙ not_rejected (asks_for e) refl none
+  free none = ap is_rejection (answered None none) ∙ not_rejected (operation_by e) refl none
 
   pub denied-exactly : DeniedExactly old.scene e answer
   denied-exactly =
       denial-exact old.scene (before old.scene e) (needs old.scene e) (after old.scene e) (λ access rules. answer ≡ Reply.Denied access rules)
-      (λ access rules. (denied-stops answer (judged old.scene e) stops free access rules, stops (Rejection.ByPolicy access rules)))
+      (λ access rules. (denied-rejects answer (judged old.scene e) rejects free access rules, rejects (Rejection.ByPolicy access rules)))
 
   pub denies-by_name : DeniesByName old.scene e answer
   denies-by_name =
       denial-by_name old.scene (before old.scene e) (needs old.scene e) (after old.scene e) (λ access rules. answer ≡ Reply.Denied access rules)
-      (denied-stops answer (judged old.scene e) stops free)
+      (denied-rejects answer (judged old.scene e) rejects free)
 
   pub rejection-unchanged : IsTable old.scene.table → IsTrue (is_rejection answer) → new ≡ old
-  rejection-unchanged table h = let s = rejected-stops answer (judged old.scene e) stops free h in let only = rejection-only old new e s.0 answer done sound table s.1 step in only.2
+  rejection-unchanged table h = let s = rejected-rejects answer (judged old.scene e) rejects free h in let only = rejection-only old new e s.0 answer done sound table s.1 step in only.2
 
 -- ---- caps
 

@@ -28,14 +28,14 @@ module _ (old : State) (sound : IsSound old) (count : ℕ) where
   recalled-finished table = same-finished new recalled-sound (IsTable-recalled old.scene.table count table) old.scene (λ row inside. refl)
 
   pub recall-answered : (said : Said) → IsTable old.scene.table → said.reply ≡ Reply.Recalled (take count old.scene.table.recall)
-      → said.kept ≡ Reply.Recalled (take count old.scene.table.recall) → said.ended ≡ []
+      → said.for_history ≡ Reply.Recalled (take count old.scene.table.recall) → said.ended ≡ []
       → IsAnswered old (Event.Recall count) said (with_table old (recalled old.scene.table count))
-  recall-answered said table answers kept none =
+  recall-answered said table answers for_history none =
       direct-answered old new (Event.Recall count) refl (Reply.Recalled (take count old.scene.table.recall)) (record { answer_is = refl; state_is = refl })
       recalled-sound (recalled-finished table) said
       (λ most given. later-given most new (
       subst (λ t. AreGiven most (with_table old t)) (sym (recalled-retold old.scene.table count))
-      (record { entries = All-map (λ row. row.entry.seq ≤ most) (retold as_told as_sized (asked_too named)) old.scene.table.rows given.entries; last = given.last; made = given.made }))) answers kept none
+      (record { entries = All-map (λ row. row.entry.seq ≤ most) (retold as_told as_sized (asked_too named)) old.scene.table.rows given.entries; last = given.last; made = given.made }))) answers for_history none
 
   -- each entry holds what it held
   pub recalled-kept : (sets : KnownSets) → AreKept sets old.scene → AreKept sets (with_table old (recalled old.scene.table count)).scene

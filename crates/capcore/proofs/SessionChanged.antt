@@ -146,7 +146,7 @@ module _ (old : State) (client : ClientId) (change : SessionChange) (sound : IsS
     session_changed-affects = record {
       same = outside-then from old.scene with_theirs first outside-sessions (outside-left (is_end change));
       states = left-states (is_end change);
-      known = λ other. refl;
+      exist = λ other. refl;
       locked = λ other. ap (λ (m : StateMap). map.contains_key m other) (left-states (is_end change)) ∙ sound.locked other;
       waiting = left-waiting (is_end change) refl;
       messages = left-messages (is_end change) refl;

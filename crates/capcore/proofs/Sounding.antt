@@ -2,7 +2,7 @@
 use Rattle.std.{proofs.Common.{◌≡◌, ℕ, ◌+◌, List, [], Option, Some, None, sym, ap, ◌∙◌, is_some, arith, IsTrue}, proofs.lemmas.List.Elements.{All-nil, All-same}, specs.List.{find}, specs.Option.{option_map}}
 use Rattle.std.specs.FinMap as map
 use Rattle.capsteps.proofs.{LeftAlone.{some_same}, Lockmachine.Idle.{InSync, idle}, Lockmachine.Rest.{at_rest}}
-use Rattle.capcore.proofs.Common.{AreGiven, EntryRow, first_for, has_session, HasNoStray, in_sync, InodeLocks, is_row_of, IsOpening, IsSound, IsSoundEntry, Node, Nodes, place, State}
+use Rattle.capcore.proofs.Common.{AreGiven, EntryRow, first_for, has_session, HasNoStray, in_sync, InodeLocks, is_row_of, IsOpening, IsSound, IsSoundEntry, Node, Nodes, presence, State}
 
 -- ---- numbers
 
@@ -21,7 +21,7 @@ opening-sound fs tree s none is = record {
   waiting = All-same (λ q. IsTrue (has_session s.scene.sessions q.client.0)) s.scene.locks.queue [] is.queue_is (All-nil (λ q. IsTrue (has_session s.scene.sessions q.client.0)));
   messages = All-same (λ m. IsTrue (has_session s.scene.sessions m.client.0)) s.messages [] is.messages_are (All-nil (λ m. IsTrue (has_session s.scene.sessions m.client.0)));
   locked = λ ino. ap is_some (is.locks_are ino) ∙ some_same (map.get tree.nodes ino) ∙ ap (λ t. is_some (map.get t.nodes ino)) (sym is.tree_is);
-  strays = λ ino gone. absurd (none ino (ap (λ t. place t.nodes ino) (sym is.tree_is) ∙ gone));
+  strays = λ ino gone. absurd (none ino (ap (λ t. presence t.nodes ino) (sym is.tree_is) ∙ gone));
   in_place = λ row part found. absurd (not_found row (sym (ap (find (is_row_of row.holder)) no_rows) ∙ found));
   at_rest = at_rest s.scene (λ ino part none. ap (λ queue. first_for queue ino part) is.queue_is) (idle s.scene no_rows is.queue_is sync);
 }

@@ -40,10 +40,10 @@ module _ (old new : State) (e : Event) (still : session_changed_by e ≡ None) (
           ∙ subst (λ (s : State). finished old.scene s.scene s.scene ≡ s.scene) is.state_is finishes
 
   pub direct-answered : (says : Said) → ((count : ℕ) → AreGiven count old → AreGiven (count + 1) new)
-      → says.reply ≡ answer → says.kept ≡ answer → says.ended ≡ [] → IsAnswered old e says new
-  direct-answered says given answers kept none = record {
+      → says.reply ≡ answer → says.for_history ≡ answer → says.ended ≡ [] → IsAnswered old e says new
+  direct-answered says given answers for_history none = record {
     step = subst (λ (ended : List Ended). Step old e says.reply ended new) (sym none) (subst (λ (r : Reply). Step old e r [] new) (sym answers) whole_step);
-    kept = kept ∙ sym answers;
+    for_history = for_history ∙ sym answers;
     sound = sound;
     issued = issues-exactly old e answer new is sound;
     given = given;
@@ -95,9 +95,9 @@ module _ (old : State) (sound : IsSound old) (tree : IsTree old.scene.tree) wher
     left : IsLeft old new
     left = subst (IsLeft old) (sym is.state_is) (left_unless e alone (judged old.scene e) refl)
 
-    pub alone-answered : (says : Said) → IsTable old.scene.table → says.reply ≡ answer → says.kept ≡ answer → says.ended ≡ [] → IsAnswered old e says new
-    alone-answered says table answers kept none =
+    pub alone-answered : (says : Said) → IsTable old.scene.table → says.reply ≡ answer → says.for_history ≡ answer → says.ended ≡ [] → IsAnswered old e says new
+    alone-answered says table answers for_history none =
         direct-answered old new e alone.2 answer is
         (subst IsSound (sym left.is) (kept-sound old sound new.scene.tree new.scene.sessions new.scene.locks.states left.leaves))
         (subst (λ (s : State). finished old.scene s.scene s.scene ≡ s.scene) (sym left.is) (kept-finished old sound new.scene.tree new.scene.sessions new.scene.locks.states left.leaves table)) says
-        (λ count given. later-given count new (subst (AreGiven count) (sym left.is) (record { entries = given.entries; last = given.last; made = given.made }))) answers kept none
+        (λ count given. later-given count new (subst (AreGiven count) (sym left.is) (record { entries = given.entries; last = given.last; made = given.made }))) answers for_history none

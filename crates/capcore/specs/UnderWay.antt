@@ -2,9 +2,9 @@
 use Rattle.std.specs.Prelude.{◌≡◌, ◌≤◌, ◌+◌, ℕ, List, [], All, length, None, vec_capacity}
 use Rattle.capbits.specs.declared.{ids.ClientId.{ClientId}, ids.Ino.{Ino}}
 use Rattle.captable.specs.Table.{IsTable}
-use Rattle.capsteps.specs.{Affected.{Affects, Knows}, Begun.{ArePermittedIn, IsReady, among}, Capacts.Known.{KnownSets, known_in, AreKnown, StillKnown}, Capacts.declared.asks.Asked.{Asked}, Capacts.declared.asks.Asked.TheVariants.{Get, Alter, Unlink, Rmdir, Rename}, Capevents.declared.event.Event.{Event}, Capevents.declared.outcome.Ended.{Ended}, Capevents.declared.reply.Reply.{Reply}, Capnotes.DueEndings.{HasRoom, but_for}, Caprules.Direct.{direct}, Caprules.Judge.{judged}, Caprules.Noted.{view_of}, Caprules.Sound.{IsSound, AreGiven, NumbersLeft}, Caprules.State.{State}, Capview.Changes.{AreChanges}, EntryRequest.{entry_event, entry_answer}, Lockmachine.Locks.{IsLockMap}, Lockmachine.declared.scene.Scene.{Scene}, SessionChange.{session_event}, declared.endings.Endings.{Endings}}
+use Rattle.capsteps.specs.{Affected.{Affects, Knows}, Begun.{ArePermittedIn, IsReady, among}, Capacts.Known.{KnownSets, known_in, AreKnown, StillKnown}, Capacts.declared.operations.OperationRef.{OperationRef}, Capacts.declared.operations.OperationRef.TheVariants.{Get, Alter, Unlink, Rmdir, Rename}, Capevents.declared.event.Event.{Event}, Capevents.declared.outcome.Ended.{Ended}, Capevents.declared.reply.Reply.{Reply}, Capnotes.DueEndings.{HasRoom, but_for}, Caprules.Direct.{direct}, Caprules.Judge.{judged}, Caprules.Noted.{view_of}, Caprules.Sound.{IsSound, AreGiven, NumbersLeft}, Caprules.State.{State}, Capview.Changes.{AreChanges}, EntryRequest.{entry_event, entry_answer}, Lockmachine.Locks.{IsLockMap}, Lockmachine.declared.scene.Scene.{Scene}, SessionChange.{session_event}, declared.endings.Endings.{Endings}}
 use Rattle.capsteps.specs.Caprules.Direct as rules
-use Rattle.capcore.specs.declared.{parts.Answer.{Answer}, parts.Answer.TheVariants.{Done, Dropped, Touched, Awaited}, parts.Asking.{Asking}, parts.Asking.TheVariants.{OfEntry, OfLock, Flush, OfSession}, parts.Effect.{Effect}, parts.Parts.{Parts}}
+use Rattle.capcore.specs.declared.{parts.Answer.{Answer}, parts.Answer.TheVariants.{Done, Dropped, Requested, Awaited}, parts.MovingEvent.{MovingEvent}, parts.MovingEvent.TheVariants.{OfEntry, OfLock, Flush, OfSession}, parts.Effect.{Effect}, parts.Parts.{Parts}}
 
 abbrev pub state_of : Parts → State
 state_of p = record { scene = p.scene; messages = p.messages.items }
@@ -19,17 +19,17 @@ IsWhole p = IsSound (state_of p) × HasRoom p.messages p.scene.locks × AreKept 
 
 -- ---- the event
 
--- the client asks for it
-abbrev pub asked_event : ClientId → Ino → Asked → Event
-asked_event client ino (Get part) = Event.Get client ino part
-asked_event client ino (Alter change) = Event.Alter client ino change.now
-asked_event client ino Unlink = Event.Unlink client ino
-asked_event client ino Rmdir = Event.Rmdir client ino
-asked_event client ino (Rename dir name) = Event.Rename client ino dir name.now
+-- the event of a client's operation
+abbrev pub operation_event : ClientId → Ino → OperationRef → Event
+operation_event client ino (Get part) = Event.Get client ino part
+operation_event client ino (Alter change) = Event.Alter client ino change.now
+operation_event client ino Unlink = Event.Unlink client ino
+operation_event client ino Rmdir = Event.Rmdir client ino
+operation_event client ino (Rename dir name) = Event.Rename client ino dir name.now
 
-abbrev pub event_of : Asking → Event
+abbrev pub event_of : MovingEvent → Event
 event_of (OfEntry k request) = entry_event k.client k.ino request
-event_of (OfLock k asked) = asked_event k.client k.ino asked
+event_of (OfLock k operation) = operation_event k.client k.ino operation
 event_of (Flush k change) = Event.Flush k.client k.ino change.now
 event_of (OfSession client change) = session_event client change
 
@@ -44,7 +44,7 @@ pub record MayBegin (p : Parts) (e : Event) : Type 0 where
 -- ---- what it leaves by itself
 
 abbrev pub answer_of : Answer → rules.Answer
-answer_of (Touched k request) = entry_answer k request
+answer_of (Requested k request) = entry_answer k request
 answer_of (Awaited ticket) = rules.Awaits ticket
 answer_of answer = rules.Says Reply.Done
 
@@ -54,8 +54,8 @@ dropped_of answer = []
 
 -- of the requests that the step ends, those of earlier steps
 abbrev pub earlier_of : Answer → List Ended → List Ended
-earlier_of (Awaited ticket) told = but_for ticket told
-earlier_of answer told = told
+earlier_of (Awaited ticket) for_clients = but_for ticket for_clients
+earlier_of answer for_clients = for_clients
 
 -- the last number of a request, before and after: the one that is awaited, is new
 abbrev pub IsNumbered : Answer → ℕ → ℕ → Type 0

@@ -3,43 +3,45 @@ ghost use Rattle.std.specs.Prelude.{◌≡◌, ◌++◌, ◌∷◌, []};
 ghost use Rattle.capbits.specs.Refusal.{first_failing};
 ghost use Rattle.inotree.specs.Tests.{inode_tests, exists_test};
 ghost use Rattle.sessiontab.specs.Tests.{connected_test, session_tests};
-ghost use Rattle.capsteps.specs.{Capacts.Known.{AreKnown}, Caprules.Judge.{asked_tests, before, judged, rejection_of}, Caprules.Needs.{need}, EntryRequest.{entry_event}};
+ghost use Rattle.capsteps.specs.{Capacts.Known.{AreKnown}, Caprules.Judge.{basic_tests, before, judged, rejection_of}, Caprules.Needs.{need}, EntryRequest.{entry_event}};
 ghost use Rattle.capsteps.specs.Capevents.declared.event.Event.TheVariants as event;
 ghost use Rattle.capcore.specs.UnderWay.{event_of};
 
-use crate::parts::Asking;
+use crate::parts::MovingEvent;
 use capbits::{Cap, CapSet, Part, Refusal};
 use capgrant::Access;
 use capsteps::client::session_change_refusal;
 use capsteps::entry_request::{EntryRequest, revoked_of};
-use capsteps::judge::{ask_rejection, change_access, change_refusal, denial};
+use capsteps::judge::{change_access, change_refusal, denial, operation_rejection};
 use capsteps::{Change, OpenMode, Rejection, Scene};
 use captable::{Holder, Known};
 use inotree::Tree;
 use sessiontab::Sessions;
 
 // What rejects an event.
-pub(crate) fn rejection(scene: &Scene, known: &Known, asking: &Asking) -> Option<Rejection>
-    ensures { AreKnown known.now.sets scene.now → result ≡ judged scene.now (event_of asking.now) }
+pub(crate) fn rejection(scene: &Scene, known: &Known, moving: &MovingEvent) -> Option<Rejection>
+    ensures { AreKnown known.now.sets scene.now → result ≡ judged scene.now (event_of moving.now) }
 {
-    match asking {
-        Asking::OfEntry(holder, EntryRequest::Open(mode)) => open_rejection(scene, *holder, *mode),
-        Asking::OfEntry(holder, request) => {
+    match moving {
+        MovingEvent::OfEntry(holder, EntryRequest::Open(mode)) => open_rejection(
+            scene, *holder, *mode,
+        ),
+        MovingEvent::OfEntry(holder, request) => {
             Some(Rejection::ByTest(entry_refusal(scene, known, *holder, request)?))
         }
         // It is judged as when it is served, and there has to be room for it in the queue.
-        Asking::OfLock(holder, asked) => {
+        MovingEvent::OfLock(holder, operation) => {
             if let Some(refusal) = scene.sessions.session_refusal(holder.client) {
                 return Some(Rejection::ByTest(refusal));
             }
-            if let Some(rejection) = ask_rejection(scene, *holder, *asked) {
+            if let Some(rejection) = operation_rejection(scene, *holder, *operation) {
                 return Some(rejection);
             }
             let refusal = scene.locks.enqueue_refusal()?;
             Some(Rejection::ByTest(refusal))
         }
-        Asking::Flush(holder, change) => flush_rejection(scene, *holder, *change),
-        Asking::OfSession(client, change) => {
+        MovingEvent::Flush(holder, change) => flush_rejection(scene, *holder, *change),
+        MovingEvent::OfSession(client, change) => {
             let refusal = session_change_refusal(&scene.sessions, *client, *change)?;
             Some(Rejection::ByTest(refusal))
         }
@@ -49,7 +51,7 @@ pub(crate) fn rejection(scene: &Scene, known: &Known, asking: &Asking) -> Option
 // ---- the tests before policy
 
 // The first test of the client's session and of the inode that fails.
-pub(crate) fn asked_refusal(sessions: &Sessions, tree: &Tree, holder: Holder) -> Option<Refusal>
+pub(crate) fn basic_refusal(sessions: &Sessions, tree: &Tree, holder: Holder) -> Option<Refusal>
     ensures { result ≡ first_failing (session_tests sessions.now holder.client.0 ++ inode_tests tree.now holder.ino.0) }
 {
     let Holder { client, ino } = holder;
@@ -73,10 +75,10 @@ fn connected_refusal(sessions: &Sessions, tree: &Tree, holder: Holder) -> Option
 
 // What rejects a request that needs one access to an inode that it names, before any other test.
 pub(crate) fn access_rejection(scene: &Scene, holder: Holder, access: Access) -> Option<Rejection>
-    ensures { result ≡ rejection_of scene.now (asked_tests scene.now holder.client holder.ino.0) (need holder.client holder.ino.0 access ∷ []) [] }
+    ensures { result ≡ rejection_of scene.now (basic_tests scene.now holder.client holder.ino.0) (need holder.client holder.ino.0 access ∷ []) [] }
 {
     let (tree, sessions) = (&scene.tree, &scene.sessions);
-    match asked_refusal(sessions, tree, holder) {
+    match basic_refusal(sessions, tree, holder) {
         Some(refusal) => Some(Rejection::ByTest(refusal)),
         None => denial(&scene.fs, tree, sessions, holder, access),
     }
@@ -89,7 +91,7 @@ fn open_rejection(scene: &Scene, holder: Holder, mode: OpenMode) -> Option<Rejec
     ensures { result ≡ judged scene.now (event.Open holder.client holder.ino mode) }
 {
     let (fs, tree, sessions) = (&scene.fs, &scene.tree, &scene.sessions);
-    if let Some(refusal) = asked_refusal(sessions, tree, holder) {
+    if let Some(refusal) = basic_refusal(sessions, tree, holder) {
         return Some(Rejection::ByTest(refusal));
     }
     if let OpenMode::Read | OpenMode::ReadWrite = mode {
@@ -126,8 +128,8 @@ fn entry_refusal(
     let Holder { client, ino } = holder;
     let (tree, sessions, table) = (&scene.tree, &scene.sessions, &scene.table);
     match request {
-        EntryRequest::Open(_) => asked_refusal(sessions, tree, holder),
-        EntryRequest::Want(_) => match asked_refusal(sessions, tree, holder) {
+        EntryRequest::Open(_) => basic_refusal(sessions, tree, holder),
+        EntryRequest::Want(_) => match basic_refusal(sessions, tree, holder) {
             Some(refusal) => Some(refusal),
             None => table.entry_refusal(client, ino),
         },

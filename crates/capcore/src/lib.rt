@@ -16,11 +16,12 @@ mod step_laws;
 mod world;
 
 pub use capbits::Refusal;
-pub use capsteps::serving_laws::{a_serving_changes_what_it_moves, a_serving_keeps_what_is_known};
+pub use capsteps::serving_laws::{a_serving_changes_what_it_moves, a_serving_keeps_what_exists};
 pub use capsteps::stop::Stop;
 pub use capsteps::{
-    Ask, Change, Ended, EndedList, Event, Locks, Message, MessageList, Move, OpenMode, Outcome,
-    PartValues, Question, Rejection, Reply, Row, Unknown, View, ViewChange, Wants, wants_on,
+    Change, Ended, EndedList, Event, Locks, Message, MessageList, Move, OpenMode, Operation,
+    Outcome, PartValues, Question, Rejection, Reply, Row, Unknown, View, ViewChange, Wants,
+    wants_on,
 };
 pub use giving::{a_recall_leaves_all_but_the_marks, telling_leaves_all_but_what_was_told};
 pub use laws::{

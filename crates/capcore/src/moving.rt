@@ -3,9 +3,9 @@ ghost use Rattle.std.specs.{List.{find}, Prelude.{◌≡◌, ◌+◌, ◌≤◌,
 ghost use Rattle.captable.specs.{Known.{known_of}, declared.entry.Holder.{Holder}};
 ghost use Rattle.capsteps.specs.{Begun.{ArePermittedIn}, Capacts.Known.{AreKnown, HaveRoom}, Capevents.declared.outcome.Ended.{Ended as AnEnded}, Capnotes.DueEndings.{HaveOwnNumbers, but_for, is_of_ticket}, Caprules.Direct.{awaited_as, reply_of, shown}, Caprules.State.{State}, SessionChange.{session_changed, session_event}};
 ghost use Rattle.capsteps.specs.Capevents.declared.event.Event.TheVariants as event;
-ghost use Rattle.capcore.specs.UnderWay.{HasBegun, HasPlaces, IsWhole, MayBegin, answer_of, asked_event, dropped_of, earlier_of, event_of, state_of};
+ghost use Rattle.capcore.specs.UnderWay.{HasBegun, HasPlaces, IsWhole, MayBegin, answer_of, operation_event, dropped_of, earlier_of, event_of, state_of};
 
-use crate::parts::{Answer, Asking, Effect, Parts};
+use crate::parts::{Answer, Effect, MovingEvent, Parts};
 use capbits::{ClientId, Ticket};
 use capsteps::client::{Room, apply_session_change};
 use capsteps::endings::Endings;
@@ -15,7 +15,9 @@ use capsteps::renewing::{renew_changed, renew_client};
 use capsteps::said::Said;
 use capsteps::serving::alter;
 use capsteps::settle::Affected;
-use capsteps::{Asked, Change, Ended, EndedList, Policy, Reply, Scene, copy_of_ask, copy_of_reply};
+use capsteps::{
+    Change, Ended, EndedList, OperationRef, Policy, Reply, Scene, copy_of_operation, copy_of_reply,
+};
 use captable::{Holder, Known};
 use inotree::NonEmptyInoSet;
 use std::alloc::AllocError;
@@ -26,42 +28,46 @@ impl Parts {
 
     pub(crate) fn begin(
         &mut self,
-        asking: &Asking,
+        moving: &MovingEvent,
         endings: &mut Endings,
     ) -> Result<Effect, AllocError>
-        requires may { MayBegin self.old (event_of asking.now) }
-        ensures begun { IfOk result (λ effect. HasBegun self.old (event_of asking.now) effect self.new endings.new) }
+        requires may { MayBegin self.old (event_of moving.now) }
+        ensures begun { IfOk result (λ effect. HasBegun self.old (event_of moving.now) effect self.new endings.new) }
         ensures err { OnErr result (state_of self.new ≡ state_of self.old) }
         ensures whole { OnErr result (IsWhole self.new) }
         ensures changes { OnErr result (endings.new.changes.items ≡ endings.old.changes.items) }
     {
-        match asking {
+        match moving {
             // What is asked of an entry is done to it.
-            Asking::OfEntry(holder, request) => {
+            MovingEvent::OfEntry(holder, request) => {
                 let waiting = self.scene.locks.waiting();
                 endings.begin(waiting, waiting + 1)?;
                 apply_request(&mut self.scene, &mut self.known, *holder, request)?;
                 endings.changes.clear();
                 Ok(Effect {
                     affected: Affected::Entry(*holder),
-                    answer: Answer::Touched(*holder, *request),
+                    answer: Answer::Requested(*holder, *request),
                 })
             }
-            Asking::OfLock(holder, asked) => self.lock_request(*holder, *asked, endings),
-            Asking::Flush(holder, change) => self.flush(*holder, *change, endings),
-            Asking::OfSession(client, change) => self.session_change(*client, *change, endings),
+            MovingEvent::OfLock(holder, operation) => self.lock_request(
+                *holder, *operation, endings,
+            ),
+            MovingEvent::Flush(holder, change) => self.flush(*holder, *change, endings),
+            MovingEvent::OfSession(client, change) => self.session_change(
+                *client, *change, endings,
+            ),
         }
     }
 
-    // What is asked waits: only that is copied, and the room for how it ends can't be lost.
+    // The operation waits: it alone is copied, and the room for how it ends can't be lost.
     fn lock_request(
         &mut self,
         holder: Holder,
-        asked: Asked,
+        operation: OperationRef,
         endings: &mut Endings,
     ) -> Result<Effect, AllocError>
-        requires may { MayBegin self.old (asked_event holder.client holder.ino asked) }
-        ensures begun { IfOk result (λ effect. HasBegun self.old (asked_event holder.client holder.ino asked.entry) effect self.new endings.new) }
+        requires may { MayBegin self.old (operation_event holder.client holder.ino operation) }
+        ensures begun { IfOk result (λ effect. HasBegun self.old (operation_event holder.client holder.ino operation.entry) effect self.new endings.new) }
         ensures err { OnErr result (state_of self.new ≡ state_of self.old) }
         ensures whole { OnErr result (IsWhole self.new) }
         ensures changes { OnErr result (endings.new.changes.items ≡ endings.old.changes.items) }
@@ -69,14 +75,14 @@ impl Parts {
         let waiting = self.scene.locks.waiting() + 1;
         endings.begin(waiting, waiting + 1)?;
         let alloc = *self.messages.allocator();
-        let ask = copy_of_ask(alloc, asked)?;
+        let copy = copy_of_operation(alloc, operation)?;
         if let Err(refused) = self.messages.reserve(waiting) {
-            drop(ask);
+            drop(copy);
             return Err(refused);
         }
         endings.changes.clear();
         let locks = &mut self.scene.locks;
-        let ticket = locks.enqueue_tested(holder.client, holder.ino, ask);
+        let ticket = locks.enqueue_tested(holder.client, holder.ino, copy);
         endings.judged = Some(ticket);
         Ok(Effect {
             affected: Affected::Inodes(NonEmptyInoSet::of(alloc, holder.ino)),
@@ -156,55 +162,55 @@ impl Parts {
     // What the step says: clients are to be told of the requests that it ended, and the history keeps them; of those that were
     // dropped, which come first there, nobody is told.
     pub(crate) fn close(&mut self, answer: Answer, endings: &mut Endings) -> Said
-        requires differ { HaveOwnNumbers endings.old.told.items }
-        requires same { endings.old.kept.items ≡ endings.old.told.items }
-        requires room { length self.old.messages.items + length endings.old.told.items ≤ vec_capacity self.old.messages }
-        requires places { HasPlaces answer (length endings.old.told.items) }
+        requires differ { HaveOwnNumbers endings.old.for_clients.items }
+        requires same { endings.old.for_history.items ≡ endings.old.for_clients.items }
+        requires room { length self.old.messages.items + length endings.old.for_clients.items ≤ vec_capacity self.old.messages }
+        requires places { HasPlaces answer (length endings.old.for_clients.items) }
         requires known { AreKnown self.old.known.sets self.old.scene }
         ensures reply { (ms : List AnEnded) → let last : State = record { scene = self.old.scene; messages = ms } in
-            result.reply ≡ reply_of last endings.old.told.items (answer_of answer) }
+            result.reply ≡ reply_of last endings.old.for_clients.items (answer_of answer) }
         ensures shown { (ms : List AnEnded) → let last : State = record { scene = self.old.scene; messages = ms } in
             record { scene = self.new.scene; messages = ms } ≡ shown (answer_of answer) last }
-        ensures kept { result.kept ≡ result.reply }
-        ensures ended { result.ended ≡ dropped_of answer ++ earlier_of answer endings.old.told.items }
+        ensures for_history { result.for_history ≡ result.reply }
+        ensures ended { result.ended ≡ dropped_of answer ++ earlier_of answer endings.old.for_clients.items }
         ensures changes { endings.new.changes ≡ endings.old.changes }
-        ensures messages { self.new.messages.items ≡ self.old.messages.items ++ earlier_of answer endings.old.told.items }
+        ensures messages { self.new.messages.items ≡ self.old.messages.items ++ earlier_of answer endings.old.for_clients.items }
         ensures room { vec_capacity self.old.messages ≤ vec_capacity self.new.messages }
         ensures known { self.new.known ≡ self.old.known }
     {
         let mut ended = Vec::new(endings.alloc());
-        let (reply, kept) = match answer {
+        let (reply, for_history) = match answer {
             Answer::Done => (Reply::Done, Reply::Done),
             Answer::Dropped(mut dropped) => {
-                let Ok(()) = dropped.append(&mut endings.kept) else {
+                let Ok(()) = dropped.append(&mut endings.for_history) else {
                     unreachable!()
                 };
                 ended = dropped;
                 (Reply::Done, Reply::Done)
             }
-            Answer::Touched(holder, request) => {
+            Answer::Requested(holder, request) => {
                 let reply = show_reply(&mut self.scene.table, &self.known, holder, &request);
-                let kept = copy_of_reply(&reply);
-                (reply, kept)
+                let for_history = copy_of_reply(&reply);
+                (reply, for_history)
             }
             Answer::Awaited(ticket) => {
-                let reply = awaited(&mut endings.told, ticket);
-                let kept = awaited(&mut endings.kept, ticket);
-                (reply, kept)
+                let reply = awaited(&mut endings.for_clients, ticket);
+                let for_history = awaited(&mut endings.for_history, ticket);
+                (reply, for_history)
             }
         };
         // Where none is left there, its room stays.
-        if !endings.kept.is_empty() {
-            swap(&mut ended, &mut endings.kept);
+        if !endings.for_history.is_empty() {
+            swap(&mut ended, &mut endings.for_history);
         }
         // The history keeps the list for good, but not the room for all who waited.
         ended.shrink_to_fit();
-        let Ok(()) = self.messages.append(&mut endings.told) else {
+        let Ok(()) = self.messages.append(&mut endings.for_clients) else {
             unreachable!()
         };
         Said {
             reply,
-            kept,
+            for_history,
             ended: EndedList::from(ended),
         }
     }

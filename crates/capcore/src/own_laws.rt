@@ -2,14 +2,14 @@
 
 ghost use Rattle.std.specs.Prelude.{◌≡◌, ◌+◌, false, List, None};
 ghost use Rattle.capbits.specs.declared.{ids.ClientId.{ClientId}, ids.Ino.{Ino}};
-ghost use Rattle.capsteps.specs.{Caprules.Direct.{Awaits, reply_of}, Caprules.Headline.{is_rejection}, Caprules.Serving.{judged_again}, Caprules.Settle.{Made, MakesAll, ended_in}, Caprules.Sound.{IsSound}, Caprules.State.{State}, Lockmachine.Locks.{IsLockMap, next_request, with_request}, Lockmachine.declared.request.Ask.{Ask}, Lockmachine.declared.scene.Scene.{Scene}};
+ghost use Rattle.capsteps.specs.{Caprules.Direct.{Awaits, reply_of}, Caprules.Headline.{is_rejection}, Caprules.Serving.{judged_again}, Caprules.Settle.{Made, MakesAll, ended_in}, Caprules.Sound.{IsSound}, Caprules.State.{State}, Lockmachine.Locks.{IsLockMap, next_request, with_request}, Lockmachine.declared.request.Operation.{Operation}, Lockmachine.declared.scene.Scene.{Scene}};
 
 /// A request that nothing rejects when it comes, and that is served in the same step, is neither denied nor refused: no
 /// request of an earlier step is served before it, so it is judged on the tree and the sessions on which it came.
 pub fn what_is_served_at_once_is_not_rejected()
-    ensures { (old last : State) (client : ClientId) (ino : Ino) (ask : Ask) (moves : List Made) (settled : Scene)
-        → IsSound old → IsLockMap (with_request old.scene.locks client ino ask)
-        → judged_again old.scene (next_request old.scene.locks client ino ask) ≡ None
-        → MakesAll (record old.scene { locks = with_request old.scene.locks client ino ask }) moves settled
+    ensures { (old last : State) (client : ClientId) (ino : Ino) (operation : Operation) (moves : List Made) (settled : Scene)
+        → IsSound old → IsLockMap (with_request old.scene.locks client ino operation)
+        → judged_again old.scene (next_request old.scene.locks client ino operation) ≡ None
+        → MakesAll (record old.scene { locks = with_request old.scene.locks client ino operation }) moves settled
         → is_rejection (reply_of last (ended_in moves) (Awaits (record { 0 = old.scene.locks.last + 1 }))) ≡ false }
 {}

@@ -4,7 +4,7 @@ use capbits::{ClientId, Ticket};
 use capsteps::entry_request::EntryRequest;
 use capsteps::leaving::SessionChange;
 use capsteps::settle::Affected;
-use capsteps::{Asked, Change, Ended, Scene};
+use capsteps::{Change, Ended, OperationRef, Scene};
 use captable::{Holder, Known};
 
 // Tree, sessions, entries and locks, and what clients are still to be told.
@@ -28,11 +28,11 @@ impl Drop for Parts {
     }
 }
 
-// What an event asks for that may move locks.
+// An event that may move locks, borrowed.
 #[derive(Clone, Copy)]
-pub(crate) enum Asking<'a> {
+pub(crate) enum MovingEvent<'a> {
     OfEntry(Holder, EntryRequest),
-    OfLock(Holder, Asked<'a>),
+    OfLock(Holder, OperationRef<'a>),
     // The holder, which alone may change a part, has changed it.
     Flush(Holder, &'a Change),
     OfSession(ClientId, SessionChange<'a>),
@@ -51,8 +51,8 @@ pub(crate) enum Answer {
     Done,
     // That it is done, where these requests were dropped.
     Dropped(Vec<Ended>),
-    // What is answered where this was asked of the holder's entry.
-    Touched(Holder, EntryRequest),
+    // What is answered where this was requested of the holder's entry.
+    Requested(Holder, EntryRequest),
     // How the request with this number ended, if it did.
     Awaited(Ticket),
 }

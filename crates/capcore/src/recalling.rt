@@ -18,12 +18,12 @@ impl World {
     {
         let alloc = *self.parts.messages.allocator();
         // The list once for the history and once for the reply, both before an entry is marked.
-        let kept = self.parts.scene.table.first_to_recall(count)?;
+        let for_history = self.parts.scene.table.first_to_recall(count)?;
         let named = self.parts.scene.table.recall(count)?;
         endings.changes.clear();
         Ok(Said {
             reply: Reply::Recalled(named),
-            kept: Reply::Recalled(kept),
+            for_history: Reply::Recalled(for_history),
             ended: EndedList::new(alloc),
         })
     }

@@ -82,12 +82,16 @@ impl Core {
         ensures err { OnErr result (self.new ≡ self.old) }
     {
         let nth = make_room(&mut self.rows, self.max_rows, pass)?;
-        let Said { reply, kept, ended } = self.world.step(&event, &mut self.endings)?;
+        let Said {
+            reply,
+            for_history,
+            ended,
+        } = self.world.step(&event, &mut self.endings)?;
         let row = Row {
             pass,
             nth,
             event,
-            reply: kept,
+            reply: for_history,
             ended,
         };
         let Ok(()) = self.rows.push(row) else {
@@ -135,7 +139,7 @@ impl Core {
     pub fn history(&self) -> &[Row]
         ensures rows { result.now ≡ self.now.rows }
         // It is legal, and leads to the state that the other calls show, which is sound.
-        ensures told { IsRecorded self.now }
+        ensures recorded { IsRecorded self.now }
     {
         self.rows.as_slice()
     }

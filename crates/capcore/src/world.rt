@@ -9,8 +9,8 @@ ghost use Rattle.capsteps.specs.{Affected.{affected_by, session_changed_by, is_l
 ghost use Rattle.capsteps.specs.Capevents.declared.event.Event.TheVariants as event;
 ghost use Rattle.capcore.specs.UnderWay.{event_of};
 
-use crate::judging::{access_rejection, asked_refusal, rejection};
-use crate::parts::{Asking, Effect, Parts};
+use crate::judging::{access_rejection, basic_refusal, rejection};
+use crate::parts::{Effect, MovingEvent, Parts};
 use capbits::{Caller, ClientId, Ino, Mode, Refusal};
 use capgrant::{Access, Attr};
 use capspec::{FsName, Grants};
@@ -24,7 +24,8 @@ use capsteps::said::Said;
 use capsteps::settle::end;
 use capsteps::start::first_locks;
 use capsteps::{
-    Asked, ChangeList, EndedList, EndedTickets, Event, Reply, Scene, ViewChange, copy_of_messages,
+    ChangeList, EndedList, EndedTickets, Event, OperationRef, Reply, Scene, ViewChange,
+    copy_of_messages,
 };
 use captable::{CapTable, Holder, Known};
 use inotree::{Kind, Tree};
@@ -95,41 +96,59 @@ impl World {
         match event {
             &Event::Open { client, ino, mode } => {
                 let request = EntryRequest::Open(mode);
-                self.move_locks(&Asking::OfEntry(Holder { client, ino }, request), endings)
+                self.move_locks(
+                    &MovingEvent::OfEntry(Holder { client, ino }, request),
+                    endings,
+                )
             }
             &Event::Want { client, ino, caps } => {
                 let request = EntryRequest::Want(caps);
-                self.move_locks(&Asking::OfEntry(Holder { client, ino }, request), endings)
+                self.move_locks(
+                    &MovingEvent::OfEntry(Holder { client, ino }, request),
+                    endings,
+                )
             }
             &Event::Ack { client, ino, seq } => {
                 let request = EntryRequest::Ack(seq);
-                self.move_locks(&Asking::OfEntry(Holder { client, ino }, request), endings)
+                self.move_locks(
+                    &MovingEvent::OfEntry(Holder { client, ino }, request),
+                    endings,
+                )
             }
             &Event::Release { client, ino, caps } => {
                 let request = EntryRequest::Release(caps);
-                self.move_locks(&Asking::OfEntry(Holder { client, ino }, request), endings)
+                self.move_locks(
+                    &MovingEvent::OfEntry(Holder { client, ino }, request),
+                    endings,
+                )
             }
             &Event::Get { client, ino, part } => {
-                let asked = Asked::Get(part);
-                self.move_locks(&Asking::OfLock(Holder { client, ino }, asked), endings)
+                let operation = OperationRef::Get(part);
+                self.move_locks(
+                    &MovingEvent::OfLock(Holder { client, ino }, operation),
+                    endings,
+                )
             }
             &Event::Alter {
                 client,
                 ino,
                 ref change,
             } => {
-                let asked = Asked::Alter(change);
-                self.move_locks(&Asking::OfLock(Holder { client, ino }, asked), endings)
+                let operation = OperationRef::Alter(change);
+                self.move_locks(
+                    &MovingEvent::OfLock(Holder { client, ino }, operation),
+                    endings,
+                )
             }
             &Event::Unlink { client, ino } => {
                 self.move_locks(
-                    &Asking::OfLock(Holder { client, ino }, Asked::Unlink),
+                    &MovingEvent::OfLock(Holder { client, ino }, OperationRef::Unlink),
                     endings,
                 )
             }
             &Event::Rmdir { client, ino } => {
                 self.move_locks(
-                    &Asking::OfLock(Holder { client, ino }, Asked::Rmdir),
+                    &MovingEvent::OfLock(Holder { client, ino }, OperationRef::Rmdir),
                     endings,
                 )
             }
@@ -139,28 +158,37 @@ impl World {
                 dir,
                 ref name,
             } => {
-                let asked = Asked::Rename { dir, name };
-                self.move_locks(&Asking::OfLock(Holder { client, ino }, asked), endings)
+                let operation = OperationRef::Rename { dir, name };
+                self.move_locks(
+                    &MovingEvent::OfLock(Holder { client, ino }, operation),
+                    endings,
+                )
             }
             &Event::Flush {
                 client,
                 ino,
                 ref change,
-            } => self.move_locks(&Asking::Flush(Holder { client, ino }, change), endings),
+            } => self.move_locks(&MovingEvent::Flush(Holder { client, ino }, change), endings),
             &Event::Poll { client, max } => self.poll(client, max, endings),
             &Event::CloseSession { client } => {
-                self.move_locks(&Asking::OfSession(client, SessionChange::Close), endings)
+                self.move_locks(
+                    &MovingEvent::OfSession(client, SessionChange::Close),
+                    endings,
+                )
             }
             &Event::Mark { client, status } => {
                 let change = SessionChange::Mark(status);
-                self.move_locks(&Asking::OfSession(client, change), endings)
+                self.move_locks(&MovingEvent::OfSession(client, change), endings)
             }
             &Event::Regrant { client, ref grants } => {
                 let change = SessionChange::Regrant(grants);
-                self.move_locks(&Asking::OfSession(client, change), endings)
+                self.move_locks(&MovingEvent::OfSession(client, change), endings)
             }
             &Event::Evict { client } => {
-                self.move_locks(&Asking::OfSession(client, SessionChange::Evict), endings)
+                self.move_locks(
+                    &MovingEvent::OfSession(client, SessionChange::Evict),
+                    endings,
+                )
             }
             &Event::Recall { count } => self.recall(count, endings),
             Event::Session { .. }
@@ -191,19 +219,23 @@ impl World {
 
     // A step that may move locks: what rejects its event is answered. Else it has its effect, the locks settle of all that it affected,
     // and it ends there.
-    fn move_locks(&mut self, asking: &Asking, endings: &mut Endings) -> Result<Said, AllocError>
+    fn move_locks(
+        &mut self,
+        moving: &MovingEvent,
+        endings: &mut Endings,
+    ) -> Result<Said, AllocError>
         requires numbers { NumbersLeft self.old }
         requires table { IsTable self.old.scene.table }
         requires locks { IsLockMap self.old.scene.locks }
-        ensures answered { IfOk result (λ said. IsAnswered self.old (event_of asking.now) said self.new) }
+        ensures answered { IfOk result (λ said. IsAnswered self.old (event_of moving.now) said self.new) }
         ensures changes { OnOk result (AreChanges endings.new.changes.items (view_of self.old) (view_of self.new)) }
         ensures err { OnErr result ((self.new ≡ self.old) × (endings.new.changes.items ≡ endings.old.changes.items)) }
     {
-        if let Some(rejection) = rejection(&self.parts.scene, &self.parts.known, asking) {
+        if let Some(rejection) = rejection(&self.parts.scene, &self.parts.known, moving) {
             endings.changes.clear();
             return Ok(Said::alone(*self.parts.messages.allocator(), rejection.into_reply()));
         }
-        let Effect { affected, answer } = self.parts.begin(asking, endings)?;
+        let Effect { affected, answer } = self.parts.begin(moving, endings)?;
         let (scene, known) = (&mut self.parts.scene, &mut self.parts.known);
         end(scene, known, affected, endings);
         Ok(self.parts.close(answer, endings))
@@ -236,7 +268,7 @@ impl World {
             client,
             max,
         )?;
-        let kept = copy_of_messages(alloc, given.as_slice())?;
+        let for_history = copy_of_messages(alloc, given.as_slice())?;
         let told = EndedTickets::of(alloc, given.as_slice())?;
         endings.changes.clear();
         give(&mut self.parts.scene.table, client, given.as_slice());
@@ -244,7 +276,7 @@ impl World {
         remove_given(&mut self.parts.messages, client, &told);
         Ok(Said {
             reply: Reply::Messages(given),
-            kept: Reply::Messages(kept),
+            for_history: Reply::Messages(for_history),
             ended: EndedList::new(alloc),
         })
     }
@@ -476,7 +508,7 @@ fn lookup(
         let s : State = record { scene = scene fs.now tree.now sessions.now table locks; messages = messages } in
         Says result ≡ (direct s (event.Lookup client dir name.now)).answer }
 {
-    if let Some(refusal) = asked_refusal(sessions, tree, Holder { client, ino: dir }) {
+    if let Some(refusal) = basic_refusal(sessions, tree, Holder { client, ino: dir }) {
         return Reply::Refused(refusal);
     }
     if !is_directory(tree, dir) {

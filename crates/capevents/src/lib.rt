@@ -12,8 +12,8 @@ mod row;
 pub use copies::{copy_of_messages, copy_of_outcome, copy_of_reply, copy_of_rules};
 pub use event::{Event, OpenMode};
 pub use lockmachine::{
-    Ask, Bytes, Change, InodeLocks, Locks, Move, Policy, Request, Scene, Wants, allowed_under,
-    permitted, permitted_on, told_under, verdict_on, want_of_permitted, wants_on,
+    Bytes, Change, InodeLocks, Locks, Move, Operation, Policy, Request, Scene, Wants,
+    allowed_under, permitted, permitted_on, told_under, verdict_on, want_of_permitted, wants_on,
 };
 pub use outcome::{Ended, Message, MessageList, Outcome, PartValues};
 pub use reply::Reply;

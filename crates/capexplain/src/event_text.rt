@@ -93,7 +93,7 @@ fn print_arguments(text: &mut Vec<u8>, event: &Event) -> Result<(), AllocError>
             ino,
             dir,
             name,
-        } => print_new_place(text, *client, *ino, *dir, name),
+        } => print_new_site(text, *client, *ino, *dir, name),
         Event::Poll { client, max } => {
             print_numbers(text, &[u64::from(client.0), u64::from(*max)])
         },
@@ -228,7 +228,7 @@ fn print_new_inode(
 }
 
 // A client, an inode, a directory and a name in it.
-fn print_new_place(
+fn print_new_site(
     text: &mut Vec<u8>,
     client: ClientId,
     ino: Ino,

@@ -4,7 +4,7 @@ use Rattle.capbits.specs.Caps.{Caps, bits_of}
 use Rattle.capspec.specs.Grants.{Reads}
 use Rattle.capspec.specs.declared.grant.Grant.{Grant}
 use Rattle.capgrant.specs.declared.answer.Verdict.{Verdict}
-use Rattle.locktable.specs.declared.states.State.{State}
+use Rattle.locktable.specs.declared.states.StableState.{StableState as TableState}
 use Rattle.capffi.specs.declared.passed.Answer.{Answer}
 use Rattle.capffi.specs.declared.passed.Fault.{Fault}
 use Rattle.capffi.specs.declared.passed.Question.{Question}
@@ -41,7 +41,7 @@ caps_bits (Ok caps) = bits_of caps
 caps_bits (Err trouble) = 0
 
 -- a state as numbers, or zeros
-abbrev pub state_numbers : Result State Trouble → StableState
+abbrev pub state_numbers : Result TableState Trouble → StableState
 state_numbers (Ok state) = numbers_of state
 state_numbers (Err trouble) = record { kind = 0; holder = 0 }
 
@@ -75,7 +75,7 @@ TellsForm text before after len told why = (said : Result (List ℕ) Trouble) ×
 
 -- the status and the numbers are those of the target
 abbrev pub TellsTarget : ℕ → StableState → Wants → ℕ → StableState → Type 0
-TellsTarget part state w told target = (said : Result State Trouble) × IsTargetOf part state w said × (told ≡ status said) × (target ≡ state_numbers said)
+TellsTarget part state w told target = (said : Result TableState Trouble) × IsTargetOf part state w said × (told ≡ status said) × (target ≡ state_numbers said)
 
 -- the status and the answer are those of the verdict of the grants that the block says
 abbrev pub TellsVerdictBy : Block → List ℕ → List ℕ → List ℕ → Question → ℕ → Answer → Type 0

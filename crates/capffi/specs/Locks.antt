@@ -5,8 +5,8 @@ use Rattle.capbits.specs.declared.cap.Part.{Part}
 use Rattle.capbits.specs.declared.cap.Part.TheVariants.{A, L, X, F}
 use Rattle.capbits.specs.declared.ids.ClientId.{ClientId}
 use Rattle.capbits.specs.Caps.{Caps, bits_of}
-use Rattle.locktable.specs.declared.states.State.{State}
-use Rattle.locktable.specs.declared.states.State.TheVariants as states
+use Rattle.locktable.specs.declared.states.StableState.{StableState as TableState}
+use Rattle.locktable.specs.declared.states.StableState.TheVariants as states
 use Rattle.locktable.specs.declared.states.LockState.{LockState}
 use Rattle.locktable.specs.declared.states.LockState.TheVariants.{Stable, Gather}
 use Rattle.locktable.specs.declared.targets.Head.{Head}
@@ -33,7 +33,7 @@ part_of part =
     else None)))
 
 -- the state of two numbers
-unfoldable pub state_of : StableState → Option State
+unfoldable pub state_of : StableState → Option TableState
 state_of s =
     if s.kind == 0 then Some states.Sync
     else (if s.kind == 1 then Some states.Lock
@@ -42,19 +42,19 @@ state_of s =
     else None)))
 
 -- the numbers of a state
-abbrev pub numbers_of : State → StableState
+abbrev pub numbers_of : TableState → StableState
 numbers_of states.Sync = record { kind = 0; holder = 0 }
 numbers_of states.Lock = record { kind = 1; holder = 0 }
 numbers_of states.Mix = record { kind = 2; holder = 0 }
 numbers_of (states.Excl holder) = record { kind = 3; holder = holder.0 }
 
 -- a lock at rest in a state, if that is one
-abbrev pub stable_in : Option State → Option LockState
+abbrev pub stable_in : Option TableState → Option LockState
 stable_in None = None
 stable_in (Some state) = Some (Stable state)
 
 -- a lock on its way between two states, if they are two
-abbrev pub gather_between : Option State → Option State → Option LockState
+abbrev pub gather_between : Option TableState → Option TableState → Option LockState
 gather_between None to = None
 gather_between (Some from) None = None
 gather_between (Some from) (Some to) = Some (Gather from to)
@@ -95,9 +95,9 @@ IsLoner w None = w.loners ≡ 0
 IsLoner w (Some loner) = (w.loners ≢ 0) × (loner.0 ≡ client_of w.loner) × IsCapSet w.loner_wants loner.1
 
 -- where the lock of a part is to go
-pub record IsTarget (part : ℕ) (state : StableState) (w : Wants) (target : State) : Type 0 where
+pub record IsTarget (part : ℕ) (state : StableState) (w : Wants) (target : TableState) : Type 0 where
   pub the_part : Part
-  pub the_state : State
+  pub the_state : TableState
   pub head : Head
   pub loner : Option (ClientId × Caps)
   pub wanted : Caps
@@ -118,5 +118,5 @@ IsTargetTrouble part state w troubles.Caps =
 IsTargetTrouble part state w trouble = ⊥
 
 -- the target, or why none is told
-abbrev pub IsTargetOf : ℕ → StableState → Wants → Result State Trouble → Type 0
+abbrev pub IsTargetOf : ℕ → StableState → Wants → Result TableState Trouble → Type 0
 IsTargetOf part state w said = MatchResult said (IsTarget part state w) (IsTargetTrouble part state w)

@@ -6,7 +6,7 @@ ghost use Rattle.capffi.specs.Locks.{part_of, state_of, lock_of, head_of, number
 use crate::passed::{Lock, StableState, Wants};
 use crate::trouble::Trouble;
 use capbits::{CapSet, ClientId, Part};
-use locktable::{Head, LockState, State, allowed, target};
+use locktable::{Head, LockState, StableState as TableState, allowed, target};
 
 /// The caps of a part that a client may hold under a lock.
 pub(crate) fn allowed_by(part: u32, lock: &Lock, client: u32) -> Result<CapSet, Trouble>
@@ -22,7 +22,11 @@ pub(crate) fn allowed_by(part: u32, lock: &Lock, client: u32) -> Result<CapSet, 
 }
 
 /// Where the lock of a part is to go.
-pub(crate) fn target_of(part: u32, state: &StableState, wants: &Wants) -> Result<State, Trouble>
+pub(crate) fn target_of(
+    part: u32,
+    state: &StableState,
+    wants: &Wants,
+) -> Result<TableState, Trouble>
     ensures { IsTargetOf part state.now wants.now result }
 {
     let Some(part) = read_part(part) else {
@@ -40,14 +44,14 @@ pub(crate) fn target_of(part: u32, state: &StableState, wants: &Wants) -> Result
 }
 
 /// A state as numbers.
-pub(crate) fn numbers_of(state: State) -> StableState
+pub(crate) fn numbers_of(state: TableState) -> StableState
     ensures { result ≡ numbers_of state }
 {
     match state {
-        State::Sync => StableState { kind: 0, holder: 0 },
-        State::Lock => StableState { kind: 1, holder: 0 },
-        State::Mix => StableState { kind: 2, holder: 0 },
-        State::Excl(holder) => StableState {
+        TableState::Sync => StableState { kind: 0, holder: 0 },
+        TableState::Lock => StableState { kind: 1, holder: 0 },
+        TableState::Mix => StableState { kind: 2, holder: 0 },
+        TableState::Excl(holder) => StableState {
             kind: 3,
             holder: holder.0,
         },
@@ -70,14 +74,14 @@ fn read_part(part: u32) -> Option<Part>
 
 // The state of these numbers.
 #[tactic(auto, unfolding(crate::specs::Locks::state_of))]
-fn read_state(state: &StableState) -> Option<State>
+fn read_state(state: &StableState) -> Option<TableState>
     ensures { result ≡ state_of state.now }
 {
     match state.kind {
-        0 => Some(State::Sync),
-        1 => Some(State::Lock),
-        2 => Some(State::Mix),
-        3 => Some(State::Excl(ClientId(state.holder))),
+        0 => Some(TableState::Sync),
+        1 => Some(TableState::Lock),
+        2 => Some(TableState::Mix),
+        3 => Some(TableState::Excl(ClientId(state.holder))),
         _ => None,
     }
 }

@@ -8,7 +8,7 @@ use Rattle.numbered.proofs.Maps.{change-none, change-is, insert-here}
 use Rattle.inotree.specs.{Calls.{changed, moved, new_node, unlinked, with_new}, Inodes.{InodeMap, with_attr}, Tree.{Nodes}, declared.node.Kind.{Kind}, declared.node.Node.{Node}, declared.node.Site.{Site}, declared.node.Site.TheVariants.{Under}}
 use Rattle.sessiontab.specs.Connected.{SessionMap}
 use Rattle.capview.{proofs.Likeness.{like-unseen, like-settled, shows-tree}, proofs.Telling.{changes-none, changes-more, changes-alike}, specs.Changes.{AreChanges, kind_by, tree_by, view_by}, specs.Sight.{IsLike, Shows, sight_of}, specs.declared.change.ViewChange.{ViewChange}, specs.declared.view.View.{View}}
-use Rattle.capevents.specs.{Lockmachine.declared.request.Ask.TheVariants.{Unlink, Rmdir}, Lockmachine.declared.request.Change.{Change}, Lockmachine.declared.request.Request.{Request}, declared.outcome.Outcome.{Outcome}, declared.outcome.Outcome.TheVariants.{Done}}
+use Rattle.capevents.specs.{Lockmachine.declared.request.Operation.TheVariants.{Unlink, Rmdir}, Lockmachine.declared.request.Change.{Change}, Lockmachine.declared.request.Request.{Request}, declared.outcome.Outcome.{Outcome}, declared.outcome.Outcome.TheVariants.{Done}}
 use Rattle.capnotes.specs.{Changing.{tree_changed, tree_after, tree_with}, Noted.{LeadOn, sets_attr, view}}
 
 -- nothing was noted, and the tree stays
@@ -84,9 +84,9 @@ module _ (items : List ViewChange) (before after : Nodes) (ino : Ino) where
   pub stands : (dir : ℕ) (name : List ℕ) → after ≡ moved before ino.0 dir name → (node : Node) → map.get after.nodes ino.0 ≡ Some node → node.site ≡ Under (record { 0 = dir }) name
   stands dir name is node here = let from = changed_from (λ n. record n { site = Under (record { 0 = dir }) name }) is node here in ap (λ (n : Node). n.site) from.1
 
-  pub leads-place : (dir : ℕ) (name : List ℕ) → after ≡ moved before ino.0 dir name → (node : Node) → map.get after.nodes ino.0 ≡ Some node → (d : Ino) (n : List ℕ) → node.site ≡ Under d n
+  pub leads-site : (dir : ℕ) (name : List ℕ) → after ≡ moved before ino.0 dir name → (node : Node) → map.get after.nodes ino.0 ≡ Some node → (d : Ino) (n : List ℕ) → node.site ≡ Under d n
       → LeadOn items (items ++ ViewChange.Moved ino d n ∷ []) before after
-  leads-place dir name is node here d n site =
+  leads-site dir name is node here d n site =
       let told : List ViewChange = items ++ ViewChange.Moved ino d n ∷ [] in
       subst (LeadOn items told before) (ap (λ (s : Site). changed (λ m. record m { site = s }) before ino.0) (sym site ∙ stands dir name is node here) ∙ sym is) (leads-more items before (ViewChange.Moved ino d n) (λ sessions. refl))
 
@@ -126,12 +126,12 @@ module _ (items : List ViewChange) (before after : Nodes) (ino : Ino) where
   leads-not_set c seen is = grind (arith, leads-unseen)
 
 -- an inode that was unlinked, or removed, is a stray
-pub leads-unlinked : (items : List ViewChange) (before after : Nodes) (q : Request) (o : Outcome) → o ≡ Done → (q.ask ≡ Unlink) ⊎ (q.ask ≡ Rmdir) → after ≡ tree_after before q o
+pub leads-unlinked : (items : List ViewChange) (before after : Nodes) (q : Request) (o : Outcome) → o ≡ Done → (q.operation ≡ Unlink) ⊎ (q.operation ≡ Rmdir) → after ≡ tree_after before q o
     → LeadOn items (items ++ ViewChange.Removed q.ino ∷ []) before after
 leads-unlinked items before after q o done asked is =
     subst (LeadOn items (items ++ ViewChange.Removed q.ino ∷ []) before) (sym (is ∙ ap (tree_after before q) done ∙ by asked)) (leads-more items before (ViewChange.Removed q.ino) (λ sessions. refl))
   where
-    by : (q.ask ≡ Unlink) ⊎ (q.ask ≡ Rmdir) → tree_with before q.ino.0 q.ask ≡ unlinked before q.ino.0
+    by : (q.operation ≡ Unlink) ⊎ (q.operation ≡ Rmdir) → tree_with before q.ino.0 q.operation ≡ unlinked before q.ino.0
     by (inl e) = ap (tree_with before q.ino.0) e
     by (inr e) = ap (tree_with before q.ino.0) e
 

@@ -1,7 +1,7 @@
 -- What becomes of a tree when a request is served.
 use Rattle.std.specs.Prelude.{ℕ}
 use Rattle.inotree.specs.{Calls.{changed, unlinked, moved}, Inodes.{with_setting, with_attribute, without_attribute}, Tree.{Nodes}}
-use Rattle.capevents.specs.{Lockmachine.declared.request.Ask.{Ask}, Lockmachine.declared.request.Ask.TheVariants.{Get, Alter, Unlink, Rmdir, Rename}, Lockmachine.declared.request.Change.{Change}, Lockmachine.declared.request.Change.TheVariants.{Set, SetXattr, RemoveXattr}, Lockmachine.declared.request.Request.{Request}, declared.outcome.Outcome.{Outcome}}
+use Rattle.capevents.specs.{Lockmachine.declared.request.Operation.{Operation}, Lockmachine.declared.request.Operation.TheVariants.{Get, Alter, Unlink, Rmdir, Rename}, Lockmachine.declared.request.Change.{Change}, Lockmachine.declared.request.Change.TheVariants.{Set, SetXattr, RemoveXattr}, Lockmachine.declared.request.Request.{Request}, declared.outcome.Outcome.{Outcome}}
 
 -- the tree with the change of the inode
 abbrev pub tree_changed : Nodes → ℕ → Change → Nodes
@@ -9,8 +9,8 @@ tree_changed tree ino (Set setting) = changed (with_setting setting) tree ino
 tree_changed tree ino (SetXattr name value) = changed (with_attribute name value) tree ino
 tree_changed tree ino (RemoveXattr name) = changed (without_attribute name) tree ino
 
--- the tree with what is asked for
-abbrev pub tree_with : Nodes → ℕ → Ask → Nodes
+-- the tree that the operation makes
+abbrev pub tree_with : Nodes → ℕ → Operation → Nodes
 tree_with tree ino (Get part) = tree
 tree_with tree ino (Alter change) = tree_changed tree ino change
 tree_with tree ino Unlink = unlinked tree ino
@@ -19,5 +19,5 @@ tree_with tree ino (Rename dir name) = moved tree ino dir.0 name
 
 -- a request that ends otherwise than as done changes nothing
 abbrev pub tree_after : Nodes → Request → Outcome → Nodes
-tree_after tree q Outcome.Done = tree_with tree q.ino.0 q.ask
+tree_after tree q Outcome.Done = tree_with tree q.ino.0 q.operation
 tree_after tree q o = tree

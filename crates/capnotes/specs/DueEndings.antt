@@ -9,7 +9,7 @@ DueEndings = Vec Ended
 
 -- there is room for each request that waits, when it ends
 abbrev pub HasRoom : DueEndings → LockMap → Type 0
-HasRoom untold locks = length untold.items + length locks.queue ≤ vec_capacity untold
+HasRoom due locks = length due.items + length locks.queue ≤ vec_capacity due
 
 -- the others of a list
 abbrev pub but_for : Ticket → List Ended → List Ended

@@ -6,7 +6,7 @@ ghost use Rattle.capview.specs.Changes.{kind_by};
 ghost use Rattle.capnotes.specs.{Changing.{tree_changed, tree_after}, Noted.{LeadOn, sets_attr}};
 
 use capbits::Ino;
-use capevents::{Ask, Change, Outcome, Request};
+use capevents::{Change, Operation, Outcome, Request};
 use capview::ViewChange;
 use inotree::{Kind, Node, Setting, Site, Tree};
 use std::alloc::{AllocError, Global};
@@ -194,12 +194,12 @@ impl ChangeList {
     {
         let ino = request.ino;
         match outcome {
-            Outcome::Done => match &request.ask {
-                Ask::Get(_) => {}
-                Ask::Alter(change) => self.note_change(tree, ino, change),
-                Ask::Unlink | Ask::Rmdir => self.push(ViewChange::Removed { ino }),
+            Outcome::Done => match &request.operation {
+                Operation::Get(_) => {}
+                Operation::Alter(change) => self.note_change(tree, ino, change),
+                Operation::Unlink | Operation::Rmdir => self.push(ViewChange::Removed { ino }),
                 // Where it stands now is read off the tree.
-                Ask::Rename { .. } => {
+                Operation::Rename { .. } => {
                     if let Some(node) = tree.node(ino) {
                         if let Site::Under { dir, name } = &node.site {
                             let (dir, name) = (*dir, name.copy());

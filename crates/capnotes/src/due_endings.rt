@@ -9,15 +9,15 @@ use capbits::ClientId;
 use capevents::Ended;
 
 /// The client's requests with these numbers, of which messages told it, are due no more.
-pub fn remove_given(due: &mut Vec<Ended>, client: ClientId, told: &EndedTickets)
-    ensures items { (given : List Message) → AreEndsOf given told.now → due.new.items ≡ filter (is_left client given) due.old.items }
+pub fn remove_given(due: &mut Vec<Ended>, client: ClientId, tickets: &EndedTickets)
+    ensures items { (given : List Message) → AreEndsOf given tickets.now → due.new.items ≡ filter (is_left client given) due.old.items }
     ensures room { vec_capacity due.new ≡ vec_capacity due.old }
 {
     // Most polls tell of no request that ended.
-    if let [] = told.as_slice() {
+    if let [] = tickets.as_slice() {
         return;
     }
-    due.retain(|ended| !(ended.client.0 == client.0 && told.contains(ended.ticket)));
+    due.retain(|ended| !(ended.client.0 == client.0 && tickets.contains(ended.ticket)));
 }
 
 /// Nothing is due to the client any more.

@@ -8,10 +8,10 @@ pub mod due_endings;
 mod ended_tickets;
 
 pub use capevents::{
-    Ask, Bytes, Change, Ended, EndedList, Event, InodeLocks, Locks, Message, MessageList, Move,
-    OpenMode, Outcome, PartValues, Policy, Reply, Request, Row, Scene, Wants, allowed_under,
-    copy_of_messages, copy_of_outcome, copy_of_reply, copy_of_rules, permitted, permitted_on,
-    told_under, verdict_on, want_of_permitted, wants_on,
+    Bytes, Change, Ended, EndedList, Event, InodeLocks, Locks, Message, MessageList, Move,
+    OpenMode, Operation, Outcome, PartValues, Policy, Reply, Request, Row, Scene, Wants,
+    allowed_under, copy_of_messages, copy_of_outcome, copy_of_reply, copy_of_rules, permitted,
+    permitted_on, told_under, verdict_on, want_of_permitted, wants_on,
 };
 pub use capview::{Question, Unknown, View, ViewChange};
 pub use changes::{ChangeList, sets_attr};

@@ -4,9 +4,9 @@ use Rattle.std.specs.FinMap as map
 use Rattle.capbits.specs.{Caps.{Caps}, Sets.{caps_in, union}, declared.cap.Cap.TheVariants.{P, Fs, Fx, Fc, Fr, Fw, Fb}, declared.ids.ClientId.{ClientId}, declared.ids.Ino.{Ino}, declared.ids.Ticket.{Ticket}, declared.mode.Mode.{Mode}}
 use Rattle.capgrant.specs.declared.access.Attr.{Attr}
 use Rattle.inotree.specs.{Calls.{with_new, changed}, Inodes.{with_snapshot, without_snapshot}, Tree.{Nodes, child}, declared.node.Kind.{Kind}, declared.node.Kind.TheVariants.{Directory, File}}
-use Rattle.captable.specs.{Calls.{opened, wanting, acked, released, touched, told, recalled, without_client, changed as changed_entry}, Table.{Table, holder, is_row_of, entry_at}, declared.entry.EntryRow.{EntryRow}, declared.entry.Holder.{Holder}}
+use Rattle.captable.specs.{Calls.{opened, wanting, acked, released, touched, with_told, recalled, without_client, changed as changed_entry}, Table.{Table, holder, is_row_of, entry_at}, declared.entry.EntryRow.{EntryRow}, declared.entry.Holder.{Holder}}
 use Rattle.sessiontab.specs.{Calls.{with_session, without_session, with_status, with_grants, with_evicted, without_blocked}, Table.{SessionTable}, declared.session.Session.{Session}}
-use Rattle.capnotes.specs.{Capevents.Replies.{outcome_reply}, Capevents.declared.event.Event.{Event}, Capevents.declared.event.OpenMode.{OpenMode}, Capevents.declared.outcome.Ended.{Ended}, Capevents.declared.reply.Reply.{Reply}, Changing.{tree_changed}, DueEndings.{is_of_ticket, is_to}, Lockmachine.Locks.{with_ino, with_request, requests_of, without_requests_of}, Lockmachine.Scene.{told_set}, Lockmachine.declared.request.Ask.{Ask}, Lockmachine.declared.request.Ask.TheVariants.{Get, Alter, Unlink, Rmdir, Rename}, Lockmachine.declared.request.Change.{Change}, Lockmachine.declared.scene.Scene.{Scene}}
+use Rattle.capnotes.specs.{Capevents.Replies.{outcome_reply}, Capevents.declared.event.Event.{Event}, Capevents.declared.event.OpenMode.{OpenMode}, Capevents.declared.outcome.Ended.{Ended}, Capevents.declared.reply.Reply.{Reply}, Changing.{tree_changed}, DueEndings.{is_of_ticket, is_to}, Lockmachine.Locks.{with_ino, with_request, requests_of, without_requests_of}, Lockmachine.Scene.{told_set}, Lockmachine.declared.request.Operation.{Operation}, Lockmachine.declared.request.Operation.TheVariants.{Get, Alter, Unlink, Rmdir, Rename}, Lockmachine.declared.request.Change.{Change}, Lockmachine.declared.scene.Scene.{Scene}}
 use Rattle.caprules.specs.{Judge.{judged, rejection_reply, revoked_of}, Messages.{first_messages, with_given}, Serving.{dropped_of}, State.{State}, declared.rejection.Rejection.{Rejection}}
 
 abbrev pub with_scene : State → Scene → State
@@ -42,7 +42,7 @@ reply_of last ended (Awaits ticket) = awaited_as ticket (find (is_of_ticket tick
 
 -- what is shown or given, the client was told of
 abbrev pub shown : Answer → State → State
-shown (Shows k) last = with_scene last (record last.scene { table = changed_entry last.scene.table k told })
+shown (Shows k) last = with_scene last (record last.scene { table = changed_entry last.scene.table k with_told })
 shown (Gives client max) last = with_given last client (first_messages last client max)
 shown answer last = last
 
@@ -116,10 +116,10 @@ shows s k = record { state = s; answer = Shows k; dropped = [] }
 
 -- ---- of what may wait for a lock
 
--- what the client asks waits for the lock, with the next number; the moves of the step may serve it, and else that number is answered
-abbrev pub asks : State → ClientId → Ino → Ask → Direct
-asks s client ino ask = record {
-  state = with_scene s (record s.scene { locks = with_request s.scene.locks client ino ask });
+-- the operation waits for the lock, with the next number; the moves of the step may serve it, and else that number is answered
+abbrev pub enqueues : State → ClientId → Ino → Operation → Direct
+enqueues s client ino operation = record {
+  state = with_scene s (record s.scene { locks = with_request s.scene.locks client ino operation });
   answer = Awaits (record { 0 = s.scene.locks.last + 1 });
   dropped = [];
 }
@@ -175,11 +175,11 @@ effect s (Event.Want client ino caps) =
 effect s (Event.Ack client ino seq) =
     says (with_table s (acked s.scene.table (holder client ino) (revoked_of s.scene (holder client ino)))) Reply.Done
 effect s (Event.Release client ino caps) = says (with_table s (released s.scene.table (holder client ino) caps)) Reply.Done
-effect s (Event.Get client ino part) = asks s client ino (Get part)
-effect s (Event.Alter client ino change) = asks s client ino (Alter change)
-effect s (Event.Unlink client ino) = asks s client ino Unlink
-effect s (Event.Rmdir client ino) = asks s client ino Rmdir
-effect s (Event.Rename client ino dir name) = asks s client ino (Rename dir name)
+effect s (Event.Get client ino part) = enqueues s client ino (Get part)
+effect s (Event.Alter client ino change) = enqueues s client ino (Alter change)
+effect s (Event.Unlink client ino) = enqueues s client ino Unlink
+effect s (Event.Rmdir client ino) = enqueues s client ino Rmdir
+effect s (Event.Rename client ino dir name) = enqueues s client ino (Rename dir name)
 effect s (Event.Flush client ino change) = says (with_flush s (holder client ino) change) Reply.Done
 effect s (Event.Poll client max) = record { state = s; answer = Gives client max; dropped = [] }
 

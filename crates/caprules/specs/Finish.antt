@@ -3,7 +3,7 @@
 use Rattle.std.specs.{List.{find, list_any}, Prelude.{ℕ, Bool, true, not, ◌||◌, List, [], ◌∷◌, map, Option, Some, None, if◌then◌else◌}}
 use Rattle.std.specs.FinMap as finite
 use Rattle.capbits.specs.{Caps.{Caps, has}, Sets.{no_caps, caps_in, union, meet}, declared.cap.Cap.TheVariants.{P, Fc}, declared.cap.Part.{Part}, declared.cap.Part.TheVariants.{A, L, X, F}, declared.ids.Ino.{Ino}}
-use Rattle.inotree.specs.Tree.{place}
+use Rattle.inotree.specs.Tree.{presence}
 use Rattle.captable.specs.{Calls.{issued, renumbered, with_size_due, is_of_inode}, Many.{changed_where}, Table.{is_row_of}, declared.entry.Entry.{Entry}, declared.entry.EntryRow.{EntryRow}}
 use Rattle.capnotes.specs.Lockmachine.{Locks.{lock_at}, Scene.{told_set}, Wants.{effective_want}, declared.scene.Scene.{Scene}}
 pub use Rattle.capnotes.specs.Lockmachine.Under.{allowed_by}
@@ -51,7 +51,7 @@ issue s = record s { table = record s.table { rows = map (issue_row s) s.table.r
 
 -- the inode is no stray, or somebody has an entry on it
 abbrev pub is_in_use : Scene → ℕ → Bool
-is_in_use s ino = not (is_gone (place s.tree.nodes ino)) || list_any (is_of_inode (record { 0 = ino })) s.table.rows
+is_in_use s ino = not (is_gone (presence s.tree.nodes ino)) || list_any (is_of_inode (record { 0 = ino })) s.table.rows
 
 -- the others go, with their locks
 abbrev pub forget : Scene → Scene

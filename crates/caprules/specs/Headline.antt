@@ -3,9 +3,9 @@ use Rattle.std.specs.{List.{find, list_any}, Option.{option_map_or}, Prelude.{�
 use Rattle.capbits.specs.{Caps.{has}, Refusal.{Test, first_failing}, Sets.{IsSubset, of_part, no_caps}, declared.cap.Cap.{Cap}, declared.cap.Part.{Part}}
 use Rattle.capgrant.specs.declared.{access.Access.{Access}, rule.Rule.{Rule}}
 use Rattle.captable.specs.{Table.{is_row_of}, declared.entry.EntryRow.{EntryRow}, declared.entry.Holder.{Holder}}
-use Rattle.locktable.specs.{Conflicts.{conflict}, Rows.{row_of}, declared.states.LockState.{LockState}, declared.states.LockState.TheVariants.{Stable, Gather}, declared.states.State.{State as LockGoal}}
+use Rattle.locktable.specs.{Conflicts.{conflict}, Rows.{row_of}, declared.states.LockState.{LockState}, declared.states.LockState.TheVariants.{Stable, Gather}, declared.states.StableState.{StableState}}
 use Rattle.capnotes.specs.{Capevents.declared.event.Event.{Event}, Capevents.declared.outcome.Ended.{Ended}, Capevents.declared.outcome.Outcome.{Outcome}, Capevents.declared.reply.Reply.{Reply}, Lockmachine.Locks.{LockMap, lock_at}, Lockmachine.Moves.{is_open}, Lockmachine.Policy.{failures, permitted}, Lockmachine.Requests.{same_part}, Lockmachine.Runs.{AreFew}, Lockmachine.Scene.{against}, Lockmachine.declared.moves.Move.{Move}, Lockmachine.declared.moves.Move.TheVariants.{Begin, End, Serve}, Lockmachine.declared.request.Request.{Request}, Lockmachine.declared.scene.Scene.{Scene}}
-use Rattle.caprules.specs.{Asks.{ask_before, ask_needs}, Direct.{direct}, Finish.{due}, Judge.{before, needs, first_denied}, Needs.{Need}, Settle.{Made, Began, Gathered, Served, MakesAll, ended_in}, State.{State}, Step.{StepBy}}
+use Rattle.caprules.specs.{Operations.{operation_before, operation_needs}, Direct.{direct}, Finish.{due}, Judge.{before, needs, first_denied}, Needs.{Need}, Settle.{Made, Began, Gathered, Served, MakesAll, ended_in}, State.{State}, Step.{StepBy}}
 
 -- ---- denials
 
@@ -44,12 +44,12 @@ is_rejection answer = false
 -- no grant at that moment
 abbrev pub ServedDenied : Scene → Request → Outcome → Type 0
 ServedDenied s q o =
-    DenialIsExact s (ask_before s q.ino.0 q.ask) (ask_needs s q.client q.ino.0 q.ask) (λ access rules. o ≡ Outcome.Denied access rules)
+    DenialIsExact s (operation_before s q.ino.0 q.operation) (operation_needs s q.client q.ino.0 q.operation) (λ access rules. o ≡ Outcome.Denied access rules)
 
 -- and it is denied by name
 abbrev pub ServedByName : Scene → Request → Outcome → Type 0
 ServedByName s q o =
-    DenialIsByName s (ask_before s q.ino.0 q.ask) (ask_needs s q.client q.ino.0 q.ask) (λ access rules. o ≡ Outcome.Denied access rules)
+    DenialIsByName s (operation_before s q.ino.0 q.operation) (operation_needs s q.client q.ino.0 q.operation) (λ access rules. o ≡ Outcome.Denied access rules)
 
 -- so it is of each serving among the moves, on the scene in which it was made
 abbrev pub EachServing : (Scene → Request → Outcome → Type 0) → Scene → List Made → Type 0
@@ -102,12 +102,12 @@ abbrev pub IssuesExactly : Scene → Scene → Type 0
 IssuesExactly first last = (k : Holder) (cap : Cap) → holds last k cap ≡ (holds first k cap || is_due last k cap)
 
 -- what the entry holds of the part is in the row of this state
-abbrev pub IsInRow : EntryRow → Part → LockGoal → Type 0
+abbrev pub IsInRow : EntryRow → Part → StableState → Type 0
 IsInRow row part state = IsSubset (of_part part row.entry.held) (row_of part state row.holder.client)
 
 -- what it holds of the part outside the row of this state is being revoked, and keeps a gather to this state open. It says what
 -- revoking and an open gather come to: it follows from these two words alone, and what a step could break is the row
-abbrev pub IsRevoked : Scene → EntryRow → Part → LockGoal → Type 0
+abbrev pub IsRevoked : Scene → EntryRow → Part → StableState → Type 0
 IsRevoked s row part to =
     (cap : Cap) → IsTrue (has (of_part part row.entry.held) cap) → IsFalse (has (row_of part to row.holder.client) cap) →
     IsTrue (has (against s row) cap) × IsTrue (is_open s row.holder.ino.0 part to)

@@ -3,7 +3,7 @@ use Rattle.std.specs.{Option.{option_map}, Prelude.{length, ◌≤◌, ◌≡◌
 use Rattle.std.specs.FinMap as map
 use Rattle.std.specs.FinSet as set
 use Rattle.capbits.specs.declared.ids.PassId.{PassId}
-use Rattle.inotree.specs.{Tree.{Nodes, place}, declared.node.Place.TheVariants.{Gone}}
+use Rattle.inotree.specs.{Tree.{Nodes, presence}, declared.node.Presence.TheVariants.{Gone}}
 use Rattle.captable.specs.Table as table
 use Rattle.capnotes.specs.{Capevents.declared.event.Event.{Event}, Capevents.declared.outcome.Ended.{Ended}, Capevents.declared.reply.Reply.{Reply}, Capevents.declared.row.Row.{Row}, Capview.declared.change.ViewChange.{ViewChange}, Lockmachine.Inodes.{in_sync}}
 use Rattle.caprules.specs.{Numbers.{rows_of, AreNumbered}, Shown.{AreShown}, Sound.{IsSound, AreGiven}, State.{State}, Step.{Step}}
@@ -23,7 +23,7 @@ recorded state rows max_rows changes = record { state = state; rows = rows; max_
 
 -- the tree has no stray
 abbrev pub HasNoStray : Nodes → Type 0
-HasNoStray tree = (ino : ℕ) → place tree.nodes ino ≢ Gone
+HasNoStray tree = (ino : ℕ) → presence tree.nodes ino ≢ Gone
 
 -- on this file system and tree nobody is connected, nobody has an entry, nobody waits or has waited, and each lock is in SYNC
 pub record IsOpening (fs : List ℕ) (tree : Nodes) (s : State) : Type 0 where

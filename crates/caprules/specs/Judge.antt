@@ -5,8 +5,8 @@ use Rattle.capgrant.specs.declared.{access.Access.{Access}, access.Access.TheVar
 use Rattle.inotree.specs.{Tests.{exists_test, inode_tests, directory_test, file_test, found_test, new_inode_tests, new_snapshot_tests, old_snapshot_tests}, Tree.{Nodes, child}}
 use Rattle.captable.specs.{Table.{Table, holder, is_row_of, entry_at}, Tests.{open_tests, entry_test, ack_tests, release_tests}, declared.entry.Holder.{Holder}}
 use Rattle.sessiontab.specs.{Table.{SessionTable}, Tests.{connected_test, session_tests, mark_tests, new_session_tests, evict_tests, blocked_test}}
-use Rattle.capnotes.specs.{Capevents.declared.event.Event.{Event}, Capevents.declared.event.OpenMode.{OpenMode}, Capevents.declared.reply.Reply.{Reply}, Lockmachine.Locks.{queue_tests}, Lockmachine.Policy.{is_granted, failures}, Lockmachine.Requests.{part_of_change}, Lockmachine.Scene.{against}, Lockmachine.declared.request.Ask.{Ask}, Lockmachine.declared.request.Ask.TheVariants.{Get, Alter, Unlink, Rmdir, Rename}, Lockmachine.declared.request.Change.{Change}, Lockmachine.declared.scene.Scene.{Scene}}
-use Rattle.caprules.specs.{Asks.{ask_before, ask_needs, ask_after, change_access, change_tests, exclusive}, Needs.{Need, need, need_if}, declared.rejection.Rejection.{Rejection}, declared.rejection.Rejection.TheVariants.{ByPolicy, ByTest}}
+use Rattle.capnotes.specs.{Capevents.declared.event.Event.{Event}, Capevents.declared.event.OpenMode.{OpenMode}, Capevents.declared.reply.Reply.{Reply}, Lockmachine.Locks.{queue_tests}, Lockmachine.Policy.{is_granted, failures}, Lockmachine.Requests.{part_of_change}, Lockmachine.Scene.{against}, Lockmachine.declared.request.Operation.{Operation}, Lockmachine.declared.request.Operation.TheVariants.{Get, Alter, Unlink, Rmdir, Rename}, Lockmachine.declared.request.Change.{Change}, Lockmachine.declared.scene.Scene.{Scene}}
+use Rattle.caprules.specs.{Operations.{operation_before, operation_needs, operation_after, change_access, change_tests, exclusive}, Needs.{Need, need, need_if}, declared.rejection.Rejection.{Rejection}, declared.rejection.Rejection.TheVariants.{ByPolicy, ByTest}}
 
 -- ---- by event
 
@@ -19,12 +19,12 @@ abbrev pub connected_tests : Scene → ClientId → ℕ → List Test
 connected_tests s client ino = connected_test s.sessions client.0 ∷ exists_test s.tree ino ∷ []
 
 -- the client has an open session, and the inode is there and has a path
-abbrev pub asked_tests : Scene → ClientId → ℕ → List Test
-asked_tests s client ino = session_tests s.sessions client.0 ++ inode_tests s.tree ino
+abbrev pub basic_tests : Scene → ClientId → ℕ → List Test
+basic_tests s client ino = session_tests s.sessions client.0 ++ inode_tests s.tree ino
 
 -- of what may wait for a lock, the tests that stand before policy
-abbrev pub asking_tests : Scene → ClientId → ℕ → Ask → List Test
-asking_tests s client ino ask = session_tests s.sessions client.0 ++ ask_before s ino ask
+abbrev pub arrival_tests : Scene → ClientId → ℕ → Operation → List Test
+arrival_tests s client ino operation = session_tests s.sessions client.0 ++ operation_before s ino operation
 
 -- the accesses that an opening needs, in order
 abbrev pub opening_needs : ClientId → ℕ → OpenMode → List Need
@@ -42,8 +42,8 @@ opening_tests s k OpenMode.Read = room_for s.table k
 opening_tests s k mode = file_test s.tree k.ino.0 ∷ room_for s.table k
 
 -- what may wait for a lock has its own tests, and there is room for it in the queue
-abbrev pub waiting_tests : Scene → ℕ → Ask → List Test
-waiting_tests s ino ask = ask_after s ino ask ++ queue_tests s.locks
+abbrev pub waiting_tests : Scene → ℕ → Operation → List Test
+waiting_tests s ino operation = operation_after s ino operation ++ queue_tests s.locks
 
 -- the holder has an entry, and holds the cap with which it changes the part by itself, which counts while it is being revoked;
 -- and the change has its own tests
@@ -64,17 +64,17 @@ without_policy tests = record { first = tests; accesses = []; last = [] }
 -- an inode is to be made in the directory
 abbrev pub birth_tests : Scene → ClientId → Ino → List ℕ → Tests
 birth_tests s client dir name = record {
-  first = asked_tests s client dir.0;
+  first = basic_tests s client dir.0;
   accesses = need client dir.0 Write ∷ [];
   last = new_inode_tests s.tree dir.0 name;
 }
 
 -- what may wait for a lock
-abbrev pub request_tests : Scene → ClientId → Ino → Ask → Tests
-request_tests s client ino ask = record {
-  first = asking_tests s client ino.0 ask;
-  accesses = ask_needs s client ino.0 ask;
-  last = waiting_tests s ino.0 ask;
+abbrev pub request_tests : Scene → ClientId → Ino → Operation → Tests
+request_tests s client ino operation = record {
+  first = arrival_tests s client ino.0 operation;
+  accesses = operation_needs s client ino.0 operation;
+  last = waiting_tests s ino.0 operation;
 }
 
 -- of each event
@@ -87,28 +87,28 @@ tests_of s (Event.Evict client) = without_policy (evict_tests s.sessions client.
 tests_of s (Event.Unblock client) = without_policy (blocked_test s.sessions client.0 ∷ [])
 tests_of s (Event.Recall count) = without_policy []
 tests_of s (Event.Lookup client dir name) = record {
-  first = asked_tests s client dir.0 ++ directory_test s.tree dir.0 ∷ found_test s.tree dir.0 name ∷ [];
+  first = basic_tests s client dir.0 ++ directory_test s.tree dir.0 ∷ found_test s.tree dir.0 name ∷ [];
   accesses = need_if client (child s.tree.nodes dir.0 name) Read;
   last = [];
 }
 tests_of s (Event.Create client dir name mode) = birth_tests s client dir name
 tests_of s (Event.Mkdir client dir name mode) = birth_tests s client dir name
 tests_of s (Event.MakeSnapshot client ino name) = record {
-  first = asked_tests s client ino.0;
+  first = basic_tests s client ino.0;
   accesses = need client ino.0 Snapshot ∷ [];
   last = new_snapshot_tests s.tree ino.0 name;
 }
 tests_of s (Event.RemoveSnapshot client ino name) = record {
-  first = asked_tests s client ino.0;
+  first = basic_tests s client ino.0;
   accesses = need client ino.0 Snapshot ∷ [];
   last = old_snapshot_tests s.tree ino.0 name;
 }
 tests_of s (Event.Open client ino mode) = record {
-  first = asked_tests s client ino.0;
+  first = basic_tests s client ino.0;
   accesses = opening_needs client ino.0 mode;
   last = opening_tests s (holder client ino) mode;
 }
-tests_of s (Event.Want client ino caps) = without_policy (asked_tests s client ino.0 ++ entry_test s.table (holder client ino) ∷ [])
+tests_of s (Event.Want client ino caps) = without_policy (basic_tests s client ino.0 ++ entry_test s.table (holder client ino) ∷ [])
 tests_of s (Event.Ack client ino seq) =
     without_policy (connected_tests s client ino.0 ++ ack_tests s.table (holder client ino) seq (revoked_of s (holder client ino)))
 tests_of s (Event.Release client ino caps) =
@@ -119,7 +119,7 @@ tests_of s (Event.Unlink client ino) = request_tests s client ino Unlink
 tests_of s (Event.Rmdir client ino) = request_tests s client ino Rmdir
 tests_of s (Event.Rename client ino dir name) = request_tests s client ino (Rename dir name)
 tests_of s (Event.Flush client ino change) = record {
-  first = asked_tests s client ino.0;
+  first = basic_tests s client ino.0;
   accesses = need client ino.0 (change_access change) ∷ [];
   last = flush_tests s (holder client ino) change;
 }

@@ -1,5 +1,5 @@
 pub mod Needs
-pub mod Asks
+pub mod Operations
 pub mod Judge
 pub mod Serving
 pub mod Finish

@@ -3,7 +3,7 @@ use Rattle.std.specs.{List.{flat_map, list_any}, Prelude.{ℕ, Bool, false, ◌=
 use Rattle.std.specs.FinMap as finite
 use Rattle.capbits.specs.declared.{ids.ClientId.{ClientId}, ids.Ino.{Ino}}
 use Rattle.inotree.specs.declared.node.Node.{Node}
-use Rattle.captable.specs.{Calls.{is_of_client, told, with_asked, with_size_due}, Many.{changed_where}, declared.entry.Entry.{Entry}, declared.entry.EntryRow.{EntryRow}}
+use Rattle.captable.specs.{Calls.{is_of_client, with_told, with_asked, with_size_due}, Many.{changed_where}, declared.entry.Entry.{Entry}, declared.entry.EntryRow.{EntryRow}}
 use Rattle.capnotes.specs.{Capevents.declared.outcome.Ended.{Ended}, Capevents.declared.outcome.Message.{Message}, DueEndings.{is_to, is_left}, Lockmachine.Scene.{told_set}, Lockmachine.declared.scene.Scene.{Scene}}
 use Rattle.caprules.specs.State.{State}
 
@@ -67,7 +67,7 @@ is_recall_of ino (Message.Recall i) = i.0 == ino.0
 is_recall_of ino m = false
 
 abbrev pub told_if : Bool → Entry → Entry
-told_if b e = if b then told e else e
+told_if b e = if b then with_told e else e
 
 abbrev pub sized_if : Bool → Entry → Entry
 sized_if b e = if b then with_size_due false e else e

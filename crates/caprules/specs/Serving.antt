@@ -3,12 +3,12 @@ use Rattle.std.specs.Prelude.{◌≡◌, ℕ, Bool, true, false, IsTrue, Option,
 use Rattle.std.specs.FinMap as map
 use Rattle.capbits.specs.declared.{cap.Part.{Part}, cap.Part.TheVariants.{A, L, X, F}}
 use Rattle.inotree.specs.declared.node.Node.{Node}
-use Rattle.capnotes.specs.{Capevents.declared.outcome.Ended.{Ended}, Capevents.declared.outcome.Outcome.{Outcome}, Capevents.declared.outcome.PartValues.{PartValues}, Changing.{tree_after}, Lockmachine.Moves.{moved as moved_locks}, Lockmachine.declared.moves.Move.TheVariants.{Serve}, Lockmachine.declared.request.Ask.{Ask}, Lockmachine.declared.request.Ask.TheVariants.{Get, Alter, Rename}, Lockmachine.declared.request.Change.{Change}, Lockmachine.declared.request.Change.TheVariants.{SetXattr}, Lockmachine.declared.request.Request.{Request}, Lockmachine.declared.scene.Scene.{Scene}}
-use Rattle.caprules.specs.{Asks.{ask_before, ask_needs, ask_after}, Judge.{rejection_of}, declared.rejection.Rejection.{Rejection}, declared.rejection.Rejection.TheVariants.{ByPolicy, ByTest}}
+use Rattle.capnotes.specs.{Capevents.declared.outcome.Ended.{Ended}, Capevents.declared.outcome.Outcome.{Outcome}, Capevents.declared.outcome.PartValues.{PartValues}, Changing.{tree_after}, Lockmachine.Moves.{moved as moved_locks}, Lockmachine.declared.moves.Move.TheVariants.{Serve}, Lockmachine.declared.request.Operation.{Operation}, Lockmachine.declared.request.Operation.TheVariants.{Get, Alter, Rename}, Lockmachine.declared.request.Change.{Change}, Lockmachine.declared.request.Change.TheVariants.{SetXattr}, Lockmachine.declared.request.Request.{Request}, Lockmachine.declared.scene.Scene.{Scene}}
+use Rattle.caprules.specs.{Operations.{operation_before, operation_needs, operation_after}, Judge.{rejection_of}, declared.rejection.Rejection.{Rejection}, declared.rejection.Rejection.TheVariants.{ByPolicy, ByTest}}
 
 -- what rejects the request now
 abbrev pub judged_again : Scene → Request → Option Rejection
-judged_again s q = rejection_of s (ask_before s q.ino.0 q.ask) (ask_needs s q.client q.ino.0 q.ask) (ask_after s q.ino.0 q.ask)
+judged_again s q = rejection_of s (operation_before s q.ino.0 q.operation) (operation_needs s q.client q.ino.0 q.operation) (operation_after s q.ino.0 q.operation)
 
 -- ---- what it does
 
@@ -23,9 +23,9 @@ abbrev pub values_outcome : Part → Option Node → Outcome
 values_outcome part None = Outcome.Done
 values_outcome part (Some node) = Outcome.Values (values_of part node)
 
-abbrev pub passed_as : Scene → ℕ → Ask → Outcome
+abbrev pub passed_as : Scene → ℕ → Operation → Outcome
 passed_as s ino (Get part) = values_outcome part (map.get s.tree.nodes ino)
-passed_as s ino ask = Outcome.Done
+passed_as s ino operation = Outcome.Done
 
 -- what rejected it, as its outcome
 abbrev pub rejection_outcome : Rejection → Outcome
@@ -34,23 +34,23 @@ rejection_outcome (ByTest refusal) = Outcome.Refused refusal
 
 abbrev pub outcome_unless : Scene → Request → Option Rejection → Outcome
 outcome_unless s q (Some rejection) = rejection_outcome rejection
-outcome_unless s q None = passed_as s q.ino.0 q.ask
+outcome_unless s q None = passed_as s q.ino.0 q.operation
 
 abbrev pub change_takes_memory : Change → Bool
 change_takes_memory (SetXattr name value) = true
 change_takes_memory change = false
 
 -- an attribute that is set, a new name and a list of attributes take memory
-abbrev pub takes_memory : Ask → Bool
+abbrev pub takes_memory : Operation → Bool
 takes_memory (Get X) = true
 takes_memory (Alter change) = change_takes_memory change
 takes_memory (Rename dir name) = true
-takes_memory ask = false
+takes_memory operation = false
 
 -- how it may end: as it is judged now; or nothing rejects it, but it takes memory and finds none
 pub data MayEndAs (s : Scene) (q : Request) : Outcome → Type 0 where
   As_judged : MayEndAs s q (outcome_unless s q (judged_again s q))
-  Without_memory : judged_again s q ≡ None → IsTrue (takes_memory q.ask) → MayEndAs s q Outcome.OutOfMemory
+  Without_memory : judged_again s q ≡ None → IsTrue (takes_memory q.operation) → MayEndAs s q Outcome.OutOfMemory
 
 -- it waits no more
 abbrev pub served : Scene → Request → Outcome → Scene

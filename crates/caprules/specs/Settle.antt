@@ -2,13 +2,13 @@
 use Rattle.std.specs.{List.{filter_map}, Prelude.{◌≡◌, Bool, true, false, ◌&&◌, List, [], ◌∷◌, Option, Some, None, if◌then◌else◌}}
 use Rattle.capbits.specs.declared.{cap.Part.{Part}, ids.Ino.{Ino}}
 use Rattle.inotree.specs.declared.node.Setting.{Setting}
-use Rattle.locktable.specs.declared.states.State.{State as LockGoal}
-use Rattle.capnotes.specs.{Capevents.declared.outcome.Ended.{Ended}, Capevents.declared.outcome.Outcome.{Outcome}, Lockmachine.Locks.{request_at}, Lockmachine.Moves.{first_move, with_moved}, Lockmachine.declared.moves.Move.TheVariants.{Begin, End, Serve, Settled}, Lockmachine.declared.request.Ask.{Ask}, Lockmachine.declared.request.Ask.TheVariants.{Alter}, Lockmachine.declared.request.Change.TheVariants.{Set}, Lockmachine.declared.request.Request.{Request}, Lockmachine.declared.scene.Scene.{Scene}}
+use Rattle.locktable.specs.declared.states.StableState.{StableState}
+use Rattle.capnotes.specs.{Capevents.declared.outcome.Ended.{Ended}, Capevents.declared.outcome.Outcome.{Outcome}, Lockmachine.Locks.{request_at}, Lockmachine.Moves.{first_move, with_moved}, Lockmachine.declared.moves.Move.TheVariants.{Begin, End, Serve, Settled}, Lockmachine.declared.request.Operation.{Operation}, Lockmachine.declared.request.Operation.TheVariants.{Alter}, Lockmachine.declared.request.Change.TheVariants.{Set}, Lockmachine.declared.request.Request.{Request}, Lockmachine.declared.scene.Scene.{Scene}}
 use Rattle.caprules.specs.Serving.{MayEndAs, served}
 
 -- a move that was made
 pub data Made : Type 0 where
-  Began : Ino → Part → LockGoal → Made
+  Began : Ino → Part → StableState → Made
   Gathered : Ino → Part → Made
   Served : Request → Outcome → Made
 
@@ -43,9 +43,9 @@ ended_in moves = filter_map ended_by moves
 -- ---- sizes
 
 -- the request sets the size of its inode
-abbrev pub sets_size : Ask → Bool
+abbrev pub sets_size : Operation → Bool
 sets_size (Alter (Set (Setting.Size size))) = true
-sets_size ask = false
+sets_size operation = false
 
 abbrev pub is_done : Outcome → Bool
 is_done Outcome.Done = true
@@ -53,7 +53,7 @@ is_done outcome = false
 
 -- the inode whose size a move changed
 abbrev pub sized_by : Made → Option Ino
-sized_by (Served q o) = if sets_size q.ask && is_done o then Some q.ino else None
+sized_by (Served q o) = if sets_size q.operation && is_done o then Some q.ino else None
 sized_by m = None
 
 -- the inodes whose sizes the moves changed

@@ -3,7 +3,7 @@
 use Rattle.std.specs.{List.{list_any}, Prelude.{◌≡◌, ◌≤◌, ◌<◌, ◌^◌, ℕ, IsTrue, All}}
 use Rattle.std.specs.FinMap as map
 use Rattle.capbits.specs.{Caps.{has}, Sets.{IsSubset}, declared.cap.Cap.TheVariants.{P}}
-use Rattle.inotree.specs.{Tree.{place}, declared.node.Place.TheVariants.{Gone}}
+use Rattle.inotree.specs.{Tree.{presence}, declared.node.Presence.TheVariants.{Gone}}
 use Rattle.captable.specs.{Calls.{is_of_inode}, declared.entry.EntryRow.{EntryRow}}
 use Rattle.sessiontab.specs.Calls.{has_session}
 use Rattle.capnotes.specs.Lockmachine.{Moves.{IsAtRest}, declared.scene.Scene.{Scene}}
@@ -29,7 +29,7 @@ pub record IsSound (s : State) : Type 0 where
   -- the inodes that are there have locks, and no others
   pub locked : (ino : ℕ) → map.contains_key s.scene.locks.states ino ≡ map.contains_key s.scene.tree.nodes ino
   -- somebody has an entry on each stray
-  pub strays : (ino : ℕ) → place s.scene.tree.nodes ino ≡ Gone →
+  pub strays : (ino : ℕ) → presence s.scene.tree.nodes ino ≡ Gone →
       IsTrue (list_any (is_of_inode (record { 0 = ino })) s.scene.table.rows)
   -- what is held is where it may be, and the locks are at rest, so that who waits, waits at a gather that is open
   pub in_place : AreInPlace s.scene

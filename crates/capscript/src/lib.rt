@@ -7,7 +7,7 @@ mod running;
 mod serve_fault;
 
 pub use capcore::{
-    Ask, Core, Event, Locks, Message, MessageList, Move, Outcome, Question, Reply, Row, Stop,
+    Core, Event, Locks, Message, MessageList, Move, Operation, Outcome, Question, Reply, Row, Stop,
     Unknown, View, ViewChange, Wants, wants_on,
 };
 pub use capstreams::{

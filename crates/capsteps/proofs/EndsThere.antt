@@ -3,7 +3,7 @@ use Rattle.std.{proofs.Common.{◌≡◌, ℕ, ◌==◌, Bool, true, false, cond
 use Rattle.std.specs.FinMap as finite
 use Rattle.capbits.specs.Caps.{has}
 use Rattle.capacts.proofs.Lockmachine.Told.{told-same}
-use Rattle.capsteps.{proofs.Common.{AreKnown, Cap, Caps, due, Entry, entry_at, entry_of, EntryRow, find-map, find_passes, finished, forget, has-union, Holder, is_gone, is_in_use, is_of_inode, is_row_of, IsSound, IsSoundEntry, IsSubset, issue, issue_row, IssuesExactly, IsTable, IsTree, known_anew, known_of, KnownAnew, KnownSets, lock_at, lock_in, Made, meet, number_row, or_inside, Part, permitted, permitted-kept, place, remade, renumbered, row_found, same, same-is, Scene, State, Table, told_before, told_set}, proofs.Finishing.{each-alike, same-issue_row, same-renumbered, kept_by}, proofs.Forgotten.{due-left}, proofs.LeftAlone.{found-contains}, proofs.Moved.{moved-all}, proofs.SameOff.{row_elsewhere, any_elsewhere, IsSameFrom, from-first}, proofs.Strays.{retained-here, kept-held, goes, alike-retained}, proofs.Telling.{any-map_same}, specs.Affected.{Affects, SettlesAt, Knows, stays, told_then, finished_entry, finished_at}}
+use Rattle.capsteps.{proofs.Common.{AreKnown, Cap, Caps, due, Entry, entry_at, entry_of, EntryRow, find-map, find_passes, finished, forget, has-union, Holder, is_gone, is_in_use, is_of_inode, is_row_of, IsSound, IsSoundEntry, IsSubset, issue, issue_row, IssuesExactly, IsTable, IsTree, known_anew, known_of, KnownAnew, KnownSets, lock_at, lock_in, Made, meet, number_row, or_inside, Part, permitted, permitted-kept, presence, remade, renumbered, row_found, same, same-is, Scene, State, Table, told_before, told_set}, proofs.Finishing.{each-alike, same-issue_row, same-renumbered, kept_by}, proofs.Forgotten.{due-left}, proofs.LeftAlone.{found-contains}, proofs.Moved.{moved-all}, proofs.SameOff.{row_elsewhere, any_elsewhere, IsSameFrom, from-first}, proofs.Strays.{retained-here, kept-held, goes, alike-retained}, proofs.Telling.{any-map_same}, specs.Affected.{Affects, SettlesAt, Knows, stays, told_then, finished_entry, finished_at}}
 
 -- ---- an entry at the end
 
@@ -59,9 +59,9 @@ module _ (at : ℕ → Bool) (known : Holder → Caps) (old : State) (now : Scen
   -- ---- which inodes are kept
 
   kept_elsewhere : (q : ℕ) → at q ≡ false → is_in_use (issue now) q ≡ true
-  kept_elsewhere q off = kept_by (place now.tree.nodes q) _ (λ gone.
+  kept_elsewhere q off = kept_by (presence now.tree.nodes q) _ (λ gone.
       any-map_same (is_of_inode (record { 0 = q })) (issue_row now) (λ row. refl) now.table.rows
-      ∙ any_elsewhere at old.scene.table now.table same_from.entries q off ∙ sound.strays q (sym (same_from.places q off) ∙ gone))
+      ∙ any_elsewhere at old.scene.table now.table same_from.entries q off ∙ sound.strays q (sym (same_from.presences q off) ∙ gone))
 
   pub holder_ended : (row : EntryRow) → (ended row).holder ≡ row.holder
   holder_ended row =
@@ -75,10 +75,10 @@ module _ (at : ℕ → Bool) (known : Holder → Caps) (old : State) (now : Scen
 
   -- once they are issued as once they are numbered, the same inodes are kept
   kept_issued : (q : ℕ) → is_in_use (issue now) q ≡ is_in_use now q
-  kept_issued q = ap (λ b. not (is_gone (place now.tree.nodes q)) || b) (any_issued q)
+  kept_issued q = ap (λ b. not (is_gone (presence now.tree.nodes q)) || b) (any_issued q)
 
   kept_numbered : (q : ℕ) → is_in_use numbered q ≡ is_in_use now q
-  kept_numbered q = ap (λ b. not (is_gone (place now.tree.nodes q)) || b) (any_ended q)
+  kept_numbered q = ap (λ b. not (is_gone (presence now.tree.nodes q)) || b) (any_ended q)
 
   -- and all others are
   stays_so : (q : ℕ) → is_in_use (issue now) q ≡ stays at numbered q

@@ -5,8 +5,8 @@ use Rattle.std.specs.FinMap as map
 use Rattle.capbits.specs.{Caps.{has}, Sets.{no_caps}}
 use Rattle.capgrant.proofs.Pins.{pin_of_read, pin_of_write}
 use Rattle.captable.{proofs.ByInode.{entries_on-changed, entries_on-opened, entries_on-without}, proofs.Moves.{IsTable-touched}, proofs.Tables.{IsTable-changed, IsTable-opened, IsTable-without}, specs.Tests.{open_tests}}
-use Rattle.capacts.{proofs.Lockmachine.SameBut.{same-entries}, specs.Caprules.Direct.{with_table}, specs.Caprules.Judge.{before, needs, after, asked_tests, room_for}}
-use Rattle.capsteps.{proofs.Common.{and_parts, AreGiven, change_rows, changed, ClientId, Direct, effect, effective_want, entries_on, Entry, entry_at, entry_of, EntryRow, Event, first_failing, given_back, has-caps_in, has-meet, has-none, has-of_part, has-union, has_session, Holder, holder, Ino, is_of_inode, is_open, is_row_of, IsInRow, IsInRowOf, IsQuiet, IsSound, IsSoundEntry, IsSubset, IsTable, judged, lock_at, lock_in, LockGoal, LockState, new_entry, opened, opening_wants, OpenMode, P, Part, part_of_ask, permitted, revoked_of, row_found, row_of-entry, same_equiv, Scene, State, StateMap, Table, taken, union, WaitAt, wanting, without}, proofs.EntryKept.{IsLess, IsMade, each-after}, proofs.Forgotten.{all_rows}, proofs.Judging.{no_test}, proofs.LeftAlone.{found-contains}, proofs.Moved.{sound-waits}, proofs.Placed.{placed-in_row}, specs.Affected.{IsAffectedEntry, AffectsOne}, specs.EntryRequest.{table_after, entry_event, entry_request_tests}, specs.declared.entry_request.EntryRequest.{EntryRequest}, specs.declared.entry_request.EntryRequest.TheVariants.{Open, Want, Ack, Release}}
+use Rattle.capacts.{proofs.Lockmachine.SameBut.{same-entries}, specs.Caprules.Direct.{with_table}, specs.Caprules.Judge.{before, needs, after, basic_tests, room_for}}
+use Rattle.capsteps.{proofs.Common.{and_parts, AreGiven, change_rows, changed, ClientId, Direct, effect, effective_want, entries_on, Entry, entry_at, entry_of, EntryRow, Event, first_failing, without_released, has-caps_in, has-meet, has-none, has-of_part, has-union, has_session, Holder, holder, Ino, is_of_inode, is_open, is_row_of, IsInRow, IsInRowOf, IsQuiet, IsSound, IsSoundEntry, IsSubset, IsTable, judged, lock_at, lock_in, StableState, LockState, new_entry, opened, opening_wants, OpenMode, P, Part, part_of_operation, permitted, revoked_of, row_found, row_of-entry, same_equiv, Scene, State, StateMap, Table, without_acked, union, WaitAt, wanting, without}, proofs.EntryKept.{IsLess, IsMade, each-after}, proofs.Forgotten.{all_rows}, proofs.Judging.{no_test}, proofs.LeftAlone.{found-contains}, proofs.Moved.{sound-waits}, proofs.Placed.{placed-in_row}, specs.Affected.{IsAffectedEntry, AffectsOne}, specs.EntryRequest.{table_after, entry_event, entry_request_tests}, specs.declared.entry_request.EntryRequest.{EntryRequest}, specs.declared.entry_request.EntryRequest.TheVariants.{Open, Want, Ack, Release}}
 
 -- ---- the tests of an event that nothing rejects
 
@@ -38,9 +38,9 @@ IsKeptEntry s row = IsSoundEntry s row × ((part : Part) → IsInRow s row part)
 -- so an event may leave it, where its client has a session still, and the same inodes and locks are there
 pub kept-left : (s new : Scene) (row : EntryRow) → has_session new.sessions row.holder.client.0 ≡ has_session s.sessions row.holder.client.0 → new.locks.states ≡ s.locks.states
     → ((ino : ℕ) → map.contains_key new.tree.nodes ino ≡ map.contains_key s.tree.nodes ino) → IsKeptEntry s row → IsAffectedEntry new row
-kept-left s new row sessions states known (entry, in_row) = record {
+kept-left s new row sessions states exist (entry, in_row) = record {
   of_session = sessions ∙ entry.of_session;
-  on_inode = known row.holder.ino.0 ∙ entry.on_inode;
+  on_inode = exist row.holder.ino.0 ∙ entry.on_inode;
   wants_pin = entry.wants_pin;
   pin = ap (λ b. b || has (effective_want new.fs new.tree new.sessions row) P) entry.holds_pin;
   in_row = λ part. subst (λ (m : StateMap). IsInRowOf row part (option_map (lock_in part) (map.get m row.holder.ino.0))) (sym states) (in_row part);
@@ -62,7 +62,7 @@ sound-kept old sound table =
 -- so all are left, where the same sessions, inodes and locks are there
 pub all-left : (old : State) (new : Scene) → IsSound old → IsTable old.scene.table → new.sessions ≡ old.scene.sessions → new.locks.states ≡ old.scene.locks.states
     → ((ino : ℕ) → map.contains_key new.tree.nodes ino ≡ map.contains_key old.scene.tree.nodes ino) → All (IsAffectedEntry new) old.scene.table.rows
-all-left old new sound table sessions states known = grind (arith, kept-left, sound-kept)
+all-left old new sound table sessions states exist = grind (arith, kept-left, sound-kept)
 
 -- what becomes of it holds no more
 less-in_row : (row : EntryRow) (e : Entry) (part : Part) (o : Option LockState) → IsSubset e.held row.entry.held → IsInRowOf row part o → IsInRowOf (record row { entry = e }) part o
@@ -81,12 +81,12 @@ row_with k e = record { holder = k; entry = e }
 none_in_row : (row : EntryRow) (part : Part) (o : Option LockState) → row.entry.held ≡ no_caps → IsInRowOf row part o
 none_in_row row part o none = grind (arith, has-of_part, has-none)
 
-module _ (s : Scene) (client : ClientId) (ino : Ino) (asked : first_failing (asked_tests s client ino.0) ≡ None) where
-  pub asked-session : has_session s.sessions client.0 ≡ true
-  asked-session = grind arith
+module _ (s : Scene) (client : ClientId) (ino : Ino) (passed : first_failing (basic_tests s client ino.0) ≡ None) where
+  pub basic-session : has_session s.sessions client.0 ≡ true
+  basic-session = grind arith
 
-  pub asked-there : map.contains_key s.tree.nodes ino.0 ≡ true
-  asked-there = grind arith
+  pub basic-there : map.contains_key s.tree.nodes ino.0 ≡ true
+  basic-there = grind arith
 
   -- it holds nothing, and wants what the opening takes: the pin is due
   new-affected : has (permitted s.fs s.tree s.sessions (holder client ino)) P ≡ true → (t : Table) (mode : OpenMode)
@@ -107,7 +107,7 @@ change-new (row ∷ rows) k f e none =
     ] none
 
 -- what is outside of a state, still is where an opening has made an entry
-opened-open : (s : Scene) (k : Holder) (mode : OpenMode) (ino : ℕ) (part : Part) (to : LockGoal) → entry_at s.table k ≡ None → is_open s ino part to ≡ true
+opened-open : (s : Scene) (k : Holder) (mode : OpenMode) (ino : ℕ) (part : Part) (to : StableState) → entry_at s.table k ≡ None → is_open s ino part to ≡ true
     → is_open (record s { table = table_after s k (Open mode) }) ino part to ≡ true
 opened-open s k mode ino part to none is = grind (arith, change-new, filter-append {X = EntryRow}, list_any-append {X = EntryRow})
 
@@ -127,8 +127,8 @@ less-table false t k g is = IsTable-changed t k g is
 table-after : (s : Scene) (k : Holder) (request : EntryRequest) → IsTable s.table → first_failing (entry_request_tests s k request) ≡ None → IsTable (table_after s k request)
 table-after s k (Open mode) is passed = IsTable-touched _ k (IsTable-changed _ k _ (entry-table s.table k is passed (entry_at s.table k) refl))
 table-after s k (Want caps) is passed = IsTable-touched _ k (IsTable-changed s.table k _ is)
-table-after s k (Ack seq) is passed = less-table (has (revoked_of s k) P) s.table k (taken (revoked_of s k)) is
-table-after s k (Release caps) is passed = less-table (has caps P) s.table k (given_back caps) is
+table-after s k (Ack seq) is passed = less-table (has (revoked_of s k) P) s.table k (without_acked (revoked_of s k)) is
+table-after s k (Release caps) is passed = less-table (has caps P) s.table k (without_released caps) is
 
 -- no entry has a higher number, and at most one more entry is made and one more request numbered
 abbrev pub AreBelow : ℕ → State → Type 0
@@ -187,13 +187,13 @@ module _ (old : State) (k : Holder) (request : EntryRequest) (table : IsTable ol
         (λ row was less inside found none. (let e = All-contains (IsSoundEntry old.scene) rows (record row { entry = was }) sound.entries inside in absurd (true≢false (sym (less.pin e.holds_pin) ∙ none))))
         (λ row m none. subst (λ r. WaitAt (λ q. false) (record old.scene { table = table_after old.scene k r })) (sym m.is) (λ q waits off.
         let held = sound-waits old sound q waits off in
-        record { from = held.from; to = held.to; gathers = held.gathers; is_held = opened-open old.scene k m.mode q.ino.0 (part_of_ask q.ask) held.to m.none held.is_held }))
+        record { from = held.from; to = held.to; gathers = held.gathers; is_held = opened-open old.scene k m.mode q.ino.0 (part_of_operation q.operation) held.to m.none held.is_held }))
 
     pub affects-of_request : AffectsOne k.ino.0 old next
     affects-of_request = record {
       same = same-entries k.ino.0 old.scene next.table (λ other apart. others-affected old.scene k other (λ same. apart (ap (λ (i : Ino). i.0) same)) request);
       states = refl;
-      known = λ other. refl;
+      exist = λ other. refl;
       locked = sound.locked;
       waiting = sound.waiting;
       at_lock = λ part none. subst (IsQuiet old.scene k.ino.0 part) none (sound.at_rest.each k.ino.0 part);

@@ -2,7 +2,7 @@
 use Rattle.std.{proofs.Common.{◌≡◌, ℕ, suc, Bool, true, cond, not, ◌||◌, Some, None, List, [], ◌∷◌, refl, sym, ap, ◌∙◌, Contains, arith, map}, proofs.lemmas.List.{map-id}, proofs.lemmas.List.Elements.{All-contains}, specs.Cmp.{nat_cmp_total}, specs.List.{find}, specs.Ordering.{nat_cmp}}
 use Rattle.std.specs.FinMap as finite
 use Rattle.capbits.specs.Caps.{has}
-use Rattle.inotree.specs.declared.node.Place.{Place}
+use Rattle.inotree.specs.declared.node.Presence.{Presence}
 pub use Rattle.capacts.proofs.Held.{same-renumbered}
 use Rattle.capsteps.proofs.Common.{due, Entry, EntryRow, finished, forget, Gone, has-union, is_gone, is_row_of, IsSound, IsSoundEntry, IsSubset, issue, issue_row, IsTable, number, number_row, or_inside, row_found, same_caps, Scene, settled, Settles, sizes_owed, State, told_before, told_set, union}
 
@@ -36,7 +36,7 @@ same-number_row old s row found told = ap (λ (e : Entry). record row { entry = 
 
 -- ---- strays
 
-pub kept_by : (p : Place) (rest : Bool) → (p ≡ Gone → rest ≡ true) → (not (is_gone p) || rest) ≡ true
+pub kept_by : (p : Presence) (rest : Bool) → (p ≡ Gone → rest ≡ true) → (not (is_gone p) || rest) ≡ true
 kept_by p rest held = grind arith
 
 pub same_kept : {X : Type 0} (m : finite.FinMap nat_cmp X) (p : ℕ → Bool) → ((q : ℕ) → p q ≡ true) → finite.retain_keys m p ≡ m

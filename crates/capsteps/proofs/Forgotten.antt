@@ -2,7 +2,7 @@
 use Rattle.std.{proofs.Common.{◌≡◌, ℕ, Bool, true, false, cond, ◌||◌, Option, Some, None, List, [], ◌∷◌, refl, sym, ap, subst, ◌∙◌, Contains, true≢false, IsTrue, All, filter, arith}, proofs.lemmas.List.Elements.{All-contains, All-contains_itself, All-weaker}, specs.List.{list_any}, specs.Option.{option_map}}
 use Rattle.std.specs.FinMap as map
 use Rattle.capacts.specs.Lockmachine.{Scene.{target_by}, Wants.{in_all, Want}}
-use Rattle.capsteps.{proofs.Common.{due, effective_want, EntryRow, first_for, Gone, has_session, is_in_use, is_of_inode, is_row_of, IsAtRest, IsInRow, IsQuiet, IsSound, IsSoundEntry, IsTree, lock_at, lock_in, LockState, Part, place, Scene, Stable, State, wants-kept, with_scene}, proofs.LeftAlone.{found-contains}, proofs.Placed.{placed}, proofs.Strays.{retained, retained-here, retained-gone, kept-held, stays-kept, goes, alike-retained}, specs.Affected.{stays, forget_among}}
+use Rattle.capsteps.{proofs.Common.{due, effective_want, EntryRow, first_for, Gone, has_session, is_in_use, is_of_inode, is_row_of, IsAtRest, IsInRow, IsQuiet, IsSound, IsSoundEntry, IsTree, lock_at, lock_in, LockState, Part, presence, Scene, Stable, State, wants-kept, with_scene}, proofs.LeftAlone.{found-contains}, proofs.Placed.{placed}, proofs.Strays.{retained, retained-here, retained-gone, kept-held, stays-kept, goes, alike-retained}, specs.Affected.{stays, forget_among}}
 
 -- ---- what is due
 
@@ -35,7 +35,7 @@ pub record IsSoundBut (at : ℕ → Bool) (s : State) : Type 0 where
   pub waiting : All (λ q. IsTrue (has_session s.scene.sessions q.client.0)) s.scene.locks.queue
   pub messages : All (λ m. IsTrue (has_session s.scene.sessions m.client.0)) s.messages
   pub locked : (q : ℕ) → map.contains_key s.scene.locks.states q ≡ map.contains_key s.scene.tree.nodes q
-  pub strays : (q : ℕ) → at q ≡ false → place s.scene.tree.nodes q ≡ Gone → IsTrue (list_any (is_of_inode (record { 0 = q })) s.scene.table.rows)
+  pub strays : (q : ℕ) → at q ≡ false → presence s.scene.tree.nodes q ≡ Gone → IsTrue (list_any (is_of_inode (record { 0 = q })) s.scene.table.rows)
   pub in_rows : All (λ row. (part : Part) → IsInRow s.scene row part) s.scene.table.rows
   pub at_rest : IsAtRest s.scene
 

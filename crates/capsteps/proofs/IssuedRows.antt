@@ -1,7 +1,7 @@
 -- What the end of a step makes of an entry on an inode that it affected: it gains what is due, which its locks allow, and its number may rise.
 use Rattle.std.{proofs.Common.{◌≡◌, ◌≤◌, ℕ, ◌+◌, Bool, true, false, not, cond, ◌&&◌, ◌||◌, Option, Some, List, [], ◌∷◌, refl, sym, ap, subst, ◌∙◌, ◌⊎◌, arith, ◌==◌, map as each, filter, if◌then◌else◌}, proofs.lemmas.Bool.{or_left}, proofs.lemmas.Simd.{map-map}, specs.List.{list_any}}
 use Rattle.capbits.{proofs.Covering.{one_part, same_cap-pin}, specs.Caps.{has}, specs.Sets.{no_caps, covers}}
-use Rattle.locktable.specs.{Rows.{allowed_of, allowed_covers}, declared.states.State.{State}}
+use Rattle.locktable.specs.{Rows.{allowed_of, allowed_covers}, declared.states.StableState.{StableState}}
 use Rattle.sessiontab.specs.{Calls.{status_of}, Tests.{is_open as is_open_status}}
 use Rattle.capacts.specs.Caprules.Finish.{allowed_part, allowed_by}
 use Rattle.capsteps.{proofs.Common.{allowed_to, and_parts, Cap, Caps, caps_in, changed_where, due, effective_want, Entry, EntryRow, filter-map, Gather, has-caps_in, has-meet, has-minus, has-none, has-of_part, has-union, Holder, is_empty, is_of_inode, is_open, IsAtRest, IsInRow, IsQuiet, lock_at, LockState, meet, Nodes, of_part, outside, P, Part, permitted, remade, row_of, same_caps, Scene, second_true, SessionTable, union, wants}, specs.Affected.{finished_entry}}
@@ -81,7 +81,7 @@ module _ (known : Holder → Caps) (s : Scene) (row : EntryRow) where
   in_row-ended part was = grind (arith, held_or_due, and_parts, has-meet)
 
   -- what is outside of a gather's target stays so
-  pub outside-ended : (part : Part) (from to : State) → lock_at s.locks row.holder.ino.0 part ≡ Some (Gather from to) → outside part to (ended_row known s row) ≡ outside part to row
+  pub outside-ended : (part : Part) (from to : StableState) → lock_at s.locks row.holder.ino.0 part ≡ Some (Gather from to) → outside part to (ended_row known s row) ≡ outside part to row
   unfolding allowed_of
   outside-ended part from to lock = same_caps _ _ (λ c. simp (has-minus, has-of_part, held-ended, has-union)
       (absorbed (has row.entry.held c) (has (due s row) c) (covers c part) (has (row_of part to row.holder.client) c) (inside c)))
@@ -125,7 +125,7 @@ module _ (known : Holder → Caps) (s : Scene) (at : ℕ → Bool) where
 
   -- ---- a gather stays open
 
-  module _ (i : ℕ) (part : Part) (from to : State) (lock : lock_at s.locks i part ≡ Some (Gather from to)) where
+  module _ (i : ℕ) (part : Part) (from to : StableState) (lock : lock_at s.locks i part ≡ Some (Gather from to)) where
     abbrev on : EntryRow → Bool
     on = is_of_inode (record { 0 = i })
 

@@ -4,13 +4,13 @@ use Rattle.std.specs.FinMap as map
 use Rattle.capbits.specs.{Caps.{has, caps_where}, Sets.{no_caps}}
 use Rattle.locktable.specs.{Targets.{target_of}, declared.targets.Head.TheVariants.{Empty}}
 use Rattle.capacts.specs.Lockmachine.Scene.{rows_on, wanted}
-use Rattle.capsteps.proofs.Common.{against, AreKnown, EntryRow, finished, first_for, has_session, in_sync, is_open, is_row_of, IsInPlace, IsQuiet, IsSound, IsSoundEntry, IsTable, KnownSets, lock_at, lock_in, LockGoal, LockState, minus, Node, Nodes, Part, row_of-entry, Scene, SessionTable, Stable, State, StateMap, Sync, wants, wants-kept, with_scene, X}
+use Rattle.capsteps.proofs.Common.{against, AreKnown, EntryRow, finished, first_for, has_session, in_sync, is_open, is_row_of, IsInPlace, IsQuiet, IsSound, IsSoundEntry, IsTable, KnownSets, lock_at, lock_in, StableState, LockState, minus, Node, Nodes, Part, row_of-entry, Scene, SessionTable, Stable, State, StateMap, Sync, wants, wants-kept, with_scene, X}
 pub use Rattle.capsteps.proofs.Common.{found-contains}
 use Rattle.capsteps.{proofs.Finishing.{same-finished}, specs.Leaving.{with_parts, LeavesEntries}}
 
 -- a quiet lock stays quiet where the same requests wait, clients want the same of its inode, and its gather is as open
 pub still_quiet : (old new : Scene) (ino : ℕ) (part : Part) → new.locks.queue ≡ old.locks.queue → wants new ino ≡ wants old ino
-    → ((goal : LockGoal) → is_open new ino part goal ≡ is_open old ino part goal) → (lock : Option LockState) → IsQuiet old ino part lock → IsQuiet new ino part lock
+    → ((goal : StableState) → is_open new ino part goal ≡ is_open old ino part goal) → (lock : Option LockState) → IsQuiet old ino part lock → IsQuiet new ino part lock
 still_quiet old new ino part queue wanted as_open lock quiet = grind arith
 
 -- ---- lists of rows

@@ -21,7 +21,7 @@ pub mod SameLocks
 pub mod SameOff
 pub mod StayingSound
 pub mod Strays
-pub mod Stopping
+pub mod Rejecting
 pub mod SizesOwed
 pub mod EntryRequests
 pub mod Telling

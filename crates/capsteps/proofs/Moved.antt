@@ -3,8 +3,8 @@
 use Rattle.std.{proofs.Common.{◌≡◌, ℕ, Bool, not, Option, None, is_some, List, [], ◌∷◌, ◌++◌, refl, sym, subst, ◌∙◌, Contains, true≢false, ◌+◌, length, ap, arith, false, All}, proofs.lemmas.List.{length-append}, proofs.lemmas.List.Elements.{All-contains, All-contains_itself, All-cons, All-weaker, All-nil}, specs.Option.{option_map}}
 use Rattle.std.specs.FinMap as map
 use Rattle.capbits.specs.Caps.{has}
-use Rattle.capacts.{proofs.Lockmachine.Finding.{fails_at, find_none}, proofs.Lockmachine.InRows.{one_keeps}, proofs.Lockmachine.Moving.{with_lock-each}, proofs.Lockmachine.Queue.{moved-kept, taken_alone}, specs.Caprules.Headline.{move_of}, specs.Caprules.Serving.{served}, specs.Lockmachine.Locks.{with_lock}, specs.Lockmachine.Moves.{LockPlace, coming_state, moved, with_moved, present_state}, specs.Lockmachine.Requests.{is_for}, specs.Lockmachine.Runs.{Runs}, specs.Lockmachine.declared.moves.Move.{Move}, specs.Lockmachine.declared.moves.Move.TheVariants.{Begin, End}}
-use Rattle.capsteps.proofs.{Common.{A, Ask, Began, contains-filter, Ended, ended_in, EntryRow, first_for, first_move, Gather, Gathered, is_numbered, IsInRow, IsLockMap, IsSound, IsSoundEntry, IsTree, known-changed, lock_at, lock_in, LockMap, LockState, Made, Makes, MakesAll, Nodes, Outcome, P, Part, quiet-waits-at, Request, Scene, Serve, Served, served-at, Stable, State, Table, tree_with, WaitAt, waits-kept-at, without_request}, LeftAlone.{found-contains}, OneChange.{by_ask, sound-after}}
+use Rattle.capacts.{proofs.Lockmachine.Finding.{fails_at, find_none}, proofs.Lockmachine.InRows.{one_keeps}, proofs.Lockmachine.Moving.{with_lock-each}, proofs.Lockmachine.Queue.{moved-kept, taken_alone}, specs.Caprules.Headline.{move_of}, specs.Caprules.Serving.{served}, specs.Lockmachine.Locks.{with_lock}, specs.Lockmachine.Moves.{LockId, coming_state, moved, with_moved, present_state}, specs.Lockmachine.Requests.{is_for}, specs.Lockmachine.Runs.{Runs}, specs.Lockmachine.declared.moves.Move.{Move}, specs.Lockmachine.declared.moves.Move.TheVariants.{Begin, End}}
+use Rattle.capsteps.proofs.{Common.{A, Operation, Began, contains-filter, Ended, ended_in, EntryRow, first_for, first_move, Gather, Gathered, is_numbered, IsInRow, IsLockMap, IsSound, IsSoundEntry, IsTree, exist-changed, lock_at, lock_in, LockMap, LockState, Made, Makes, MakesAll, Nodes, Outcome, P, Part, quiet-waits-at, Request, Scene, Serve, Served, served-at, Stable, State, Table, tree_with, WaitAt, waits-kept-at, without_request}, LeftAlone.{found-contains}, OneChange.{by_operation, sound-after}}
 
 pub record IsMoved (first now : Scene) : Type 0 where
   pub table : now.table ≡ first.table
@@ -43,7 +43,7 @@ HasLock locks q = is_some (lock_at locks q A)
 
 lock-kept : (locks : LockMap) (ino : ℕ) (part : Part) (lock : LockState) (q : ℕ) → HasLock (with_lock locks ino part lock) q ≡ HasLock locks q
 lock-kept locks ino part lock q =
-    with_lock-each locks ino part lock (λ b (at : LockPlace) o. is_some o ≡ is_some (lock_at locks at.0 at.1)) (some-mapped (λ _. lock) (lock_at locks ino part)) (λ at. refl) (q, A)
+    with_lock-each locks ino part lock (λ b (at : LockId) o. is_some o ≡ is_some (lock_at locks at.0 at.1)) (some-mapped (λ _. lock) (lock_at locks ino part)) (λ at. refl) (q, A)
 
 lock-moved : (locks : LockMap) (step : Move) (q : ℕ) → HasLock (moved locks step) q ≡ HasLock locks q
 lock-moved locks (Begin ino part to) q = lock-kept locks ino.0 part (Gather (present_state (lock_at locks ino.0 part)) to) q
@@ -72,8 +72,8 @@ all-waiting Fact first now is all =
 
 -- ---- which inodes are there
 
-nodes-with : (tree : Nodes) (ino : ℕ) (ask : Ask) (q : ℕ) → map.contains_key (tree_with tree ino ask).nodes q ≡ map.contains_key tree.nodes q
-nodes-with tree ino ask q = by_ask tree ino (λ t. map.contains_key t.nodes q ≡ map.contains_key tree.nodes q) refl (λ f. known-changed tree f ino q) ask
+nodes-with : (tree : Nodes) (ino : ℕ) (operation : Operation) (q : ℕ) → map.contains_key (tree_with tree ino operation).nodes q ≡ map.contains_key tree.nodes q
+nodes-with tree ino operation q = by_operation tree ino (λ t. map.contains_key t.nodes q ≡ map.contains_key tree.nodes q) refl (λ f. exist-changed tree f ino q) operation
 
 -- ---- the moves
 

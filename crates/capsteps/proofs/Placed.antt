@@ -2,7 +2,7 @@
 -- what revoking is.
 use Rattle.std.{proofs.Common.{◌≡◌, Bool, true, false, not, ◌||◌, ◌&&◌, Option, Some, List, filter, refl, ap, ◌∙◌, Contains, arith}, proofs.lemmas.List.Folds.{list_any_at}, specs.Cmp.{nat_eq_equiv}, specs.List.{list_any}}
 use Rattle.capbits.{proofs.Emptiness.{has-is_empty}, specs.Caps.{has}}
-use Rattle.locktable.specs.declared.states.State.{State}
+use Rattle.locktable.specs.declared.states.StableState.{StableState}
 use Rattle.capacts.specs.{Caprules.Headline.{IsRevoked, AreRevoked}, Lockmachine.Scene.{against_lock, against_part, against_locks, against_policy}}
 use Rattle.capsteps.proofs.Common.{against, Cap, EntryRow, filter-contains, Gather, has-minus, has-union, is_empty, is_of_inode, IsInPlace, IsInRow, IsInRowOf, lock_at, LockState, of_part, outside, Part, permitted, row_of, Scene, second_true, told_set}
 
@@ -19,7 +19,7 @@ part_in_all s row part c h = has-union (against_locks s row) (against_policy s r
 
 module _ (s : Scene) (row : EntryRow) (inside : Contains s.table.rows row) (part : Part) where
   -- what is outside the row of a gather's target is being revoked, and keeps the gather open
-  taken_back : (from to : State) → lock_at s.locks row.holder.ino.0 part ≡ Some (Gather from to) → IsRevoked s row part to
+  taken_back : (from to : StableState) → lock_at s.locks row.holder.ino.0 part ≡ Some (Gather from to) → IsRevoked s row part to
   taken_back from to is c held out =
       let is_outside : has (outside part to row) c ≡ true = has-minus (of_part part row.entry.held) (row_of part to row.holder.client) c ∙ (λ i. held i && not (out i)) in (
         part_in_all s row part c (ap (λ o. has (against_lock part row o) c) is ∙ is_outside),

@@ -3,7 +3,7 @@ use Rattle.std.{proofs.Common.{Contains, Option, ◌≡◌, ◌≤◌, ◌-◌, 
 use Rattle.std.specs.FinMap as finite
 use Rattle.capbits.specs.Sets.{no_caps}
 use Rattle.capacts.specs.Caprules.Messages.{size_message}
-use Rattle.capsteps.proofs.{Common.{after_messages, AreKnown, Caps, changed, changed_where, ClientId, end_messages, Ended, Entry, entry_at, entry_of, EntryRow, first_messages, fold-changed_by, holder, Ino, is_among, is_caps_of, is_due, is_of_client, is_recall_of, is_size_of, IsTable, known_in, KnownSets, Message, remade, row_found, row_messages, Scene, State, Table, told, told_set, with_asked, with_size_due}, Telling.{retold, told_given, size_given, asked_given, given_table}}
+use Rattle.capsteps.proofs.{Common.{after_messages, AreKnown, Caps, changed, changed_where, ClientId, end_messages, Ended, Entry, entry_at, entry_of, EntryRow, first_messages, fold-changed_by, holder, Ino, is_among, is_caps_of, is_due, is_of_client, is_recall_of, is_size_of, IsTable, known_in, KnownSets, Message, remade, row_found, row_messages, Scene, State, Table, with_told, told_set, with_asked, with_size_due}, Telling.{retold, told_given, size_given, asked_given, given_table}}
 
 -- ---- the first of a list
 
@@ -127,9 +127,9 @@ module _ (g : EntryRow → Entry) (given : List Message) (client : ClientId) (in
   one-given t is = fold-changed_by g t (holder client ino ∷ []) is (tt, tt) ∙ (λ i. record t { rows = map (λ row. each_row row i) t.rows })
 
 pub caps-given : (client : ClientId) (ino : Ino) (seq : ℕ) (caps : Caps) (t : Table) → IsTable t
-    → changed t (holder client ino) told ≡ changed_where (is_of_client client) (after_messages (Message.Caps ino seq caps ∷ [])) t
+    → changed t (holder client ino) with_told ≡ changed_where (is_of_client client) (after_messages (Message.Caps ino seq caps ∷ [])) t
 caps-given client ino seq caps t is =
-    one-given (λ row. told row.entry) (Message.Caps ino seq caps ∷ []) client ino (λ row. grind arith) t is
+    one-given (λ row. with_told row.entry) (Message.Caps ino seq caps ∷ []) client ino (λ row. grind arith) t is
 
 pub size-given : (client : ClientId) (ino : Ino) (size : ℕ) (t : Table) → IsTable t
     → changed t (holder client ino) (with_size_due false) ≡ changed_where (is_of_client client) (after_messages (Message.Size ino size ∷ [])) t

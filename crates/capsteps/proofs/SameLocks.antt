@@ -1,13 +1,13 @@
 -- Locks of an inode that are compared as equal are the same.
 use Rattle.std.{proofs.Common.{◌≡◌, true, Option, Some, None, refl, sym, ap, true≢false}, specs.Option.{option_eq}}
 use Rattle.capbits.specs.Sets.{true_eq}
-use Rattle.locktable.specs.declared.{states.State.{State}, states.State.TheVariants.{Lock, Mix, Excl}}
+use Rattle.locktable.specs.declared.{states.StableState.{StableState}, states.StableState.TheVariants.{Lock, Mix, Excl}}
 use Rattle.locktable.specs.contracts.states.LockStatePartialEq.TheImpl as lock_states
-use Rattle.locktable.specs.contracts.states.StatePartialEq.TheImpl as states
+use Rattle.locktable.specs.contracts.states.StableStatePartialEq.TheImpl as states
 use Rattle.capacts.specs.Lockmachine.contracts.states.InodeLocksPartialEq.TheImpl as inode_locks
 use Rattle.capsteps.proofs.Common.{and_parts, Gather, InodeLocks, LockState, Stable, Sync}
 
-same-state : (a b : State) → states.eq-value.it a b ≡ true → a ≡ b
+same-state : (a b : StableState) → states.eq-value.it a b ≡ true → a ≡ b
 same-state Sync Sync is = refl
 same-state Lock Lock is = refl
 same-state Mix Mix is = refl

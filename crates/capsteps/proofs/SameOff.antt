@@ -2,7 +2,7 @@
 use Rattle.std.{proofs.Common.{◌≡◌, ℕ, Bool, true, false, List, refl, sym, ap, subst, ◌∙◌, Contains, filter, true≢false, eq-eqb, arith}, proofs.lemmas.Bool.{false_from_ne_true}, proofs.lemmas.Map.Views.{any-filter_same}, specs.List.{list_any}}
 use Rattle.std.specs.FinMap as map
 use Rattle.capacts.{proofs.Lockmachine.SameOutside.{alike-trans}, specs.Lockmachine.Elsewhere.{IsSameOutside}}
-use Rattle.capsteps.{proofs.Common.{contains-filter, entries_on, EntryRow, filter-contains, Ino, is_of_inode, IsAlike, lock_at, Part, place, Scene, SessionTable, Table}, specs.Affected.{IsSameOff}}
+use Rattle.capsteps.{proofs.Common.{contains-filter, entries_on, EntryRow, filter-contains, Ino, is_of_inode, IsAlike, lock_at, Part, presence, Scene, SessionTable, Table}, specs.Affected.{IsSameOff}}
 
 -- ---- one after another
 
@@ -15,7 +15,7 @@ off-trans at a b c first then = record {
   sessions = then.sessions ∙ first.sessions;
   table = then.table ∙ first.table;
   locks = λ other part off. then.locks other part off ∙ first.locks other part off;
-  places = λ other off. then.places other off ∙ first.places other off;
+  presences = λ other off. then.presences other off ∙ first.presences other off;
   alike = λ row inside off.
       alike-trans a.tree b.tree c.tree row.holder.ino.0 (first.alike row inside off)
       (then.alike row (subst (λ (t : Table). Contains t.rows row) (sym first.table) inside) off);
@@ -28,7 +28,7 @@ off-wider at wider a b less same = record {
   sessions = same.sessions;
   table = same.table;
   locks = λ other part off. same.locks other part (less other off);
-  places = λ other off. same.places other (less other off);
+  presences = λ other off. same.presences other (less other off);
   alike = λ row inside off. same.alike row inside (less row.holder.ino.0 off);
 }
 
@@ -66,7 +66,7 @@ pub record IsSameFrom (at : ℕ → Bool) (old now : Scene) : Type 0 where
       map.get now.sessions.sessions row.holder.client.0 ≡ map.get old.sessions.sessions row.holder.client.0
   pub entries : (other : Ino) → at other.0 ≡ false → entries_on now.table other ≡ entries_on old.table other
   pub locks : (other : ℕ) (part : Part) → at other ≡ false → lock_at now.locks other part ≡ lock_at old.locks other part
-  pub places : (other : ℕ) → at other ≡ false → place now.tree.nodes other ≡ place old.tree.nodes other
+  pub presences : (other : ℕ) → at other ≡ false → presence now.tree.nodes other ≡ presence old.tree.nodes other
   pub alike : (row : EntryRow) → Contains now.table.rows row → at row.holder.ino.0 ≡ false → IsAlike old.tree now.tree row.holder.ino.0
 
 module _ (at from : ℕ → Bool) (old first settled : Scene) (among : (q : ℕ) → from q ≡ true → at q ≡ true) (outside : IsSameOutside from old first) (off : IsSameOff at first settled) where
@@ -84,7 +84,7 @@ module _ (at from : ℕ → Bool) (old first settled : Scene) (among : (q : ℕ)
         ∙ outside.sessions row (row_elsewhere from old.table first.table outside.entries row (was_first row inside) (fewer row.holder.ino.0 out)) (fewer row.holder.ino.0 out);
     entries = λ other out. ap (λ (t : Table). entries_on t other) off.table ∙ outside.entries other (fewer other.0 out);
     locks = λ other part out. off.locks other part out ∙ outside.locks other part (fewer other out);
-    places = λ other out. off.places other out ∙ outside.places other (fewer other out);
+    presences = λ other out. off.presences other out ∙ outside.presences other (fewer other out);
     alike = λ row inside out.
         alike-trans old.tree first.tree settled.tree row.holder.ino.0 (outside.alike row.holder.ino.0 (fewer row.holder.ino.0 out))
         (off.alike row (was_first row inside) out);

@@ -4,7 +4,7 @@ use Rattle.capbits.specs.Caps.{has}
 use Rattle.inotree.specs.Tree.{child}
 use Rattle.captable.{proofs.ByHolder.{entry_at-changed, entry_at-without_client, entry_at-without_client_other, entry_at-recalled, entry_at-recalled_other, entry_at-without_other, entry_at-changed_other}, proofs.Shown.{shown-numbered, shown-less, shown-told}, specs.Calls.{recalled, without_client, released}, specs.Shown.{IsShown}}
 use Rattle.capacts.{proofs.Lockmachine.Exact.{settled as at_rest_settled}, specs.Capevents.declared.row.Row.{Row}, specs.Caprules.Direct.{with_wanted, found, opened_as, with_opening}, specs.Caprules.Messages.{messages_to, end_message}, specs.Caprules.Shown.{AreShown, shown_by, shown_of, shown_opened, shown_in}}
-use Rattle.capsteps.proofs.{Common.{acked, after_messages, against, Caps, changed, ClientId, contains-filter, Direct, direct, effect, effect_unless, end_messages, Ended, ended_in, Entry, entry_at, entry_at-opened_other, entry_at-without, entry_of, EntryRow, Event, Fc, find-map, first_messages, forget, given_back, Gives, has-against, has-minus, has-told, Holder, holder, Ino, is_among, is_caps_of, is_of_client, is_recall_of, is_revoked, is_row_of, is_size_of, is_sized, is_to, IsSound, issue, issue_row, IsTable, judged, Made, Message, minus, no_entry, number_row, opened, OpenMode, owed, P, Rejection, rejection_reply, remade, renumbered, Reply, reply_of, revoked_of, row_found, row_messages, row_of-entry, same, same-is, same_caps, same_equiv, same_holder, Scene, Settles, shown, Shows, sized_if, sized_in, sizes_owed, State, state_after, Step, Table, taken, told, told_before, told_if, told_set, touched, unasked_if, with_asked, with_entry, with_size_due, without}, EndsThere.{held-renumbered}, Finishing.{sound-ends}, LeftAlone.{found-contains}, Moved.{moved-all}, Revoking.{revoked-found}, Stopping.{no_moves, rejection-only}, Telling.{given_fields, given-fields}}
+use Rattle.capsteps.proofs.{Common.{acked, after_messages, against, Caps, changed, ClientId, contains-filter, Direct, direct, effect, effect_unless, end_messages, Ended, ended_in, Entry, entry_at, entry_at-opened_other, entry_at-without, entry_of, EntryRow, Event, Fc, find-map, first_messages, forget, without_released, Gives, has-against, has-minus, has-told, Holder, holder, Ino, is_among, is_caps_of, is_of_client, is_recall_of, is_revoked, is_row_of, is_size_of, is_sized, is_to, IsSound, issue, issue_row, IsTable, judged, Made, Message, minus, no_entry, number_row, opened, OpenMode, owed, P, Rejection, rejection_reply, remade, renumbered, Reply, reply_of, revoked_of, row_found, row_messages, row_of-entry, same, same-is, same_caps, same_equiv, same_holder, Scene, Settles, shown, Shows, sized_if, sized_in, sizes_owed, State, state_after, Step, Table, without_acked, with_told, told_before, told_if, told_set, touched, unasked_if, with_asked, with_entry, with_size_due, without}, EndsThere.{held-renumbered}, Finishing.{sound-ends}, LeftAlone.{found-contains}, Moved.{moved-all}, Revoking.{revoked-found}, Rejecting.{no_moves, rejection-only}, Telling.{given_fields, given-fields}}
 
 abbrev pub at : Holder → Entry → EntryRow
 at k e = record { holder = k; entry = e }
@@ -18,9 +18,9 @@ less_than : (h g t : Bool) → ((h && not g) && not t) ≡ ((h && not t) && not 
 less_than h g t = grind arith
 
 -- once some was released
-given-told : (s : Scene) (k : Holder) (e : Entry) (caps : Caps) → told_set s (at k (given_back caps e)) ≡ minus (told_set s (at k e)) caps
-given-told s k e caps = same_caps _ _ (λ c.
-    has-told s (at k (given_back caps e)) c ∙ ap (λ b. b && not (is_revoked s k c)) (has-minus e.held caps c)
+without_released-told : (s : Scene) (k : Holder) (e : Entry) (caps : Caps) → told_set s (at k (without_released caps e)) ≡ minus (told_set s (at k e)) caps
+without_released-told s k e caps = same_caps _ _ (λ c.
+    has-told s (at k (without_released caps e)) c ∙ ap (λ b. b && not (is_revoked s k c)) (has-minus e.held caps c)
     ∙ less_than (has e.held c) (has caps c) (is_revoked s k c)
     ∙ sym (has-minus (told_set s (at k e)) caps c ∙ ap (λ b. b && not (has caps c)) (has-told s (at k e) c)))
 
@@ -28,9 +28,9 @@ no_more : (h t : Bool) → ((h && not (h && t)) && not t) ≡ (h && not t)
 no_more h t = grind arith
 
 -- and once what is being revoked was taken
-taken-told : (s : Scene) (k : Holder) (e : Entry) → told_set s (at k (taken (against s (at k e)) e)) ≡ told_set s (at k e)
-taken-told s k e = same_caps _ _ (λ c.
-    has-told s (at k (taken (against s (at k e)) e)) c
+without_acked-told : (s : Scene) (k : Holder) (e : Entry) → told_set s (at k (without_acked (against s (at k e)) e)) ≡ told_set s (at k e)
+without_acked-told s k e = same_caps _ _ (λ c.
+    has-told s (at k (without_acked (against s (at k e)) e)) c
     ∙ ap (λ b. b && not (is_revoked s k c)) (has-minus e.held (against s (at k e)) c ∙ ap (λ b. has e.held c && not b) (has-against s (at k e) c))
     ∙ no_more (has e.held c) (is_revoked s k c) ∙ sym (has-told s (at k e) c))
 
@@ -176,13 +176,13 @@ module _ (old : State) (sound : IsSound old) (table : IsTable old.scene.table) (
   -- what a release leaves
   left-released : (j : Holder) (caps : Caps) → Left (released t j caps) (λ k. cond (same k j) (minus (before k) caps) (before k))
   left-released j caps k f there =
-      let m = changed-as (has caps P) t j (given_back caps) k f there in
+      let m = changed-as (has caps P) t j (without_released caps) k f there in
       let known = known-old k m.before m.there in
       elim (same k j) as (λ b. same k j ≡ b → IsKnown old.scene k (cond b (minus (before k) caps) (before k)) f) [
         | false ↦ λ off. subst (IsKnown old.scene k (before k)) (sym (m.other off)) known
         | true ↦ λ on. subst (IsKnown old.scene k (minus (before k) caps)) (sym (m.own on)) (record {
-          says = subst (λ (told_of : Caps). IsShown (minus (before k) caps) told_of (given_back caps m.before)) (sym (given-told old.scene k m.before caps))
-              (shown-less (before k) (told_set old.scene (at k m.before)) caps m.before (given_back caps m.before) refl refl refl known.says);
+          says = subst (λ (told_of : Caps). IsShown (minus (before k) caps) told_of (without_released caps m.before)) (sym (without_released-told old.scene k m.before caps))
+              (shown-less (before k) (told_set old.scene (at k m.before)) caps m.before (without_released caps m.before) refl refl refl known.says);
           below = known.below;
         })
       ] refl
@@ -190,16 +190,16 @@ module _ (old : State) (sound : IsSound old) (table : IsTable old.scene.table) (
   -- what an acknowledgement leaves
   left-acked : (j : Holder) → Left (acked t j (revoked_of old.scene j)) before
   left-acked j k f there =
-      let m = changed-as (has (revoked_of old.scene j) P) t j (taken (revoked_of old.scene j)) k f there in
+      let m = changed-as (has (revoked_of old.scene j) P) t j (without_acked (revoked_of old.scene j)) k f there in
       let e : Entry = m.before in
       let known = known-old k e m.there in
       elim (cases_Bool (same k j)) [
         | inr off ↦ subst (IsKnown old.scene k (before k)) (sym (m.other off)) known
         | inl on ↦
             let all : revoked_of old.scene j ≡ against old.scene (at k e) = ap (revoked_of old.scene) (sym (same-is k j on)) ∙ revoked-found old.scene k e m.there in
-            subst (IsKnown old.scene k (before k)) (sym (m.own on ∙ ap (λ (caps : Caps). taken caps e) all)) (record {
-              says = subst (λ (told_of : Caps). IsShown (before k) told_of (taken (against old.scene (at k e)) e)) (sym (taken-told old.scene k e))
-                  (same-numbers (before k) (told_set old.scene (at k e)) e (taken (against old.scene (at k e)) e) refl known.says);
+            subst (IsKnown old.scene k (before k)) (sym (m.own on ∙ ap (λ (caps : Caps). without_acked caps e) all)) (record {
+              says = subst (λ (told_of : Caps). IsShown (before k) told_of (without_acked (against old.scene (at k e)) e)) (sym (without_acked-told old.scene k e))
+                  (same-numbers (before k) (told_set old.scene (at k e)) e (without_acked (against old.scene (at k e)) e) refl known.says);
               below = known.below;
             })
       ]
@@ -251,19 +251,19 @@ module _ (old : State) (sound : IsSound old) (table : IsTable old.scene.table) (
         → IsShown (cond (same k j) (shown_opened (before k) (reply_of st (ended_in moves) (Shows j))) (before k)) (told_set st.scene (at k e)) e
     by_show j left k e last = elim (same k j) as (λ b. same k j ≡ b → IsShown (cond b (shown_opened (before k) (reply_of st (ended_in moves) (Shows j))) (before k)) (told_set st.scene (at k e)) e) [
       | true ↦ λ on. own (same-is k j on)
-      | false ↦ λ off. numbered k (before k) (λ g was. left k g off was) e (sym (entry_at-changed_other st.scene.table j k told (apart-of k j off)) ∙ last)
+      | false ↦ λ off. numbered k (before k) (λ g was. left k g off was) e (sym (entry_at-changed_other st.scene.table j k with_told (apart-of k j off)) ∙ last)
     ] refl
       where
         own : k ≡ j → IsShown (shown_opened (before k) (reply_of st (ended_in moves) (Shows j))) (told_set st.scene (at k e)) e
         own is =
-            let now : entry_at (changed st.scene.table j told) k ≡ option_map told (entry_at st.scene.table k) =
-            ap (entry_at (changed st.scene.table j told)) is ∙ entry_at-changed st.scene.table j told ∙ ap (λ (q : Holder). option_map told (entry_at st.scene.table q)) (sym is) in
-            let found_it = mapped told (entry_at st.scene.table k) e (sym now ∙ last) in
+            let now : entry_at (changed st.scene.table j with_told) k ≡ option_map with_told (entry_at st.scene.table k) =
+            ap (entry_at (changed st.scene.table j with_told)) is ∙ entry_at-changed st.scene.table j with_told ∙ ap (λ (q : Holder). option_map with_told (entry_at st.scene.table q)) (sym is) in
+            let found_it = mapped with_told (entry_at st.scene.table k) e (sym now ∙ last) in
             let f : Entry = found_it.0 in
             let answers : reply_of st (ended_in moves) (Shows j) ≡ Reply.Opened f.seq (told_set st.scene (at k f)) =
             ap (λ (q : Holder). opened_as st.scene (find (is_row_of q) st.scene.table.rows)) (sym is) ∙ ap (opened_as st.scene) (row_of-entry st.scene.table k f found_it.1) in
             subst (λ (x : Entry). IsShown (shown_opened (before k) (reply_of st (ended_in moves) (Shows j))) (told_set st.scene (at k x)) x) (sym found_it.2)
-            (subst (λ (r : Reply). IsShown (shown_opened (before k) r) (told_set st.scene (at k (told f))) (told f)) (sym answers) (shown-told (told_set st.scene (at k f)) f))
+            (subst (λ (r : Reply). IsShown (shown_opened (before k) r) (told_set st.scene (at k (with_told f))) (with_told f)) (sym answers) (shown-told (told_set st.scene (at k f)) f))
 
   -- ---- by event
 
@@ -315,7 +315,7 @@ module _ (old : State) (sound : IsSound old) (table : IsTable old.scene.table) (
         ] refl
       where
         fields : (b z c : Bool) → IsShown (cond b (told_set old.scene (at k e)) (before k)) (told_set old.scene (at k (given_fields b z c e))) (given_fields b z c e)
-        fields true z c = same-numbers (told_set old.scene (at k e)) (told_set old.scene (at k e)) (told e) (given_fields true z c e) refl (shown-told (told_set old.scene (at k e)) e)
+        fields true z c = same-numbers (told_set old.scene (at k e)) (told_set old.scene (at k e)) (with_told e) (given_fields true z c e) refl (shown-told (told_set old.scene (at k e)) e)
         fields false z c = same-numbers (before k) (told_set old.scene (at k e)) e (given_fields false z c e) refl (was_shown k e there)
 
         by_tests : (b z c : Bool) → IsShown (cond b (told_set old.scene (at k e)) (before k)) (told_set old.scene (at k (unasked_if c (sized_if z (told_if b e))))) (unasked_if c (sized_if z (told_if b e)))

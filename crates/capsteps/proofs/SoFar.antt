@@ -3,21 +3,21 @@ use Rattle.std.{proofs.Common.{◌≡◌, ◌≢◌, ◌+◌, ◌≤◌, ◌==�
 use Rattle.std.specs.FinMap as map
 use Rattle.std.specs.FinSet as set
 use Rattle.capacts.{proofs.Lockmachine.Alone.{nobody-held, served-alone}, proofs.Lockmachine.Exact.{begins_not}, proofs.Lockmachine.SameBut.{begin-alike, first-moved}, proofs.Lockmachine.Turns.{served-ends, ends-turn}, proofs.Lockmachine.Waiting.{waits-wider, waits-less-at}, specs.Lockmachine.Moves.{may_begin, is_servable, IsQuietOutside}, specs.Lockmachine.Turns.{NobodyElsewhere, NothingEnds}}
-use Rattle.capsteps.{proofs.Among.{none-besides}, proofs.Common.{alike-itself, Began, contains-filter, Ended, ended_by, ended_in, ends_not, entries_on, EntryRow, first_for, first_move, Gathered, Ino, InoSet, is_numbered, is_of_inode, is_rename, is_within, IsAlike, IsLockMap, IsTree, IsTurnOf, lock_at, Made, Makes, MakesAll, Nodes, Part, part_of_ask, quiet-waits-at, Reaches, Request, request_at, Scene, Serve, Served, served-at, Settled, sized_by, sized_in, Ticket, tree_after, WaitAt, Widens, without_request}, proofs.Moved.{makes-append, one-less}, proofs.OneChange.{alike-apart, place-after}, proofs.SameOff.{off-refl, off-trans, off-wider}, proofs.Sweeping.{still-kept}, specs.Affected.{IsSameOff}, specs.Serves.{Serves, SettlesWith}, specs.Sweep.{AreStill, IsSwept, StandsAt, IsFirstPlace, IsTurnOfLeast, changed_alone}, specs.declared.settle.SweepPlace.{SweepPlace}}
+use Rattle.capsteps.{proofs.Among.{none-besides}, proofs.Common.{alike-itself, Began, contains-filter, Ended, ended_by, ended_in, ends_not, entries_on, EntryRow, first_for, first_move, Gathered, Ino, InoSet, is_numbered, is_of_inode, is_rename, is_within, IsAlike, IsLockMap, IsTree, IsTurnOf, lock_at, Made, Makes, MakesAll, Nodes, Part, part_of_operation, quiet-waits-at, Reaches, Request, request_at, Scene, Serve, Served, served-at, Settled, sized_by, sized_in, Ticket, tree_after, WaitAt, Widens, without_request}, proofs.Moved.{makes-append, one-less}, proofs.OneChange.{alike-apart, presence-after}, proofs.SameOff.{off-refl, off-trans, off-wider}, proofs.Sweeping.{still-kept}, specs.Affected.{IsSameOff}, specs.Serves.{Serves, SettlesWith}, specs.Sweep.{AreStill, IsSwept, StandsAt, IsFirstPlace, IsTurnOfLeast, changed_alone}, specs.declared.settle.SweepPlace.{SweepPlace}}
 
 -- these moves were made and these requests ended; nothing changed but at the inodes that are affected, among which are those of the
 -- event; elsewhere nothing moves, and who waits there is held up
-pub record IsSoFar (from : ℕ → Bool) (affected : InoSet) (first now : Scene) (told : List Ended) (sized : List Ino) : Type 0 where
+pub record IsSoFar (from : ℕ → Bool) (affected : InoSet) (first now : Scene) (for_clients : List Ended) (sized : List Ino) : Type 0 where
   pub moves : List Made
   pub made : MakesAll first moves now
-  pub ended_is : told ≡ ended_in moves
+  pub ended_is : for_clients ≡ ended_in moves
   pub sized_is : sized ≡ sized_in moves
   pub among : (other : ℕ) → from other ≡ true → set.contains affected other ≡ true
   pub same : IsSameOff (set.contains affected) first now
   pub states : (other : ℕ) → set.contains affected other ≡ false → map.get now.locks.states other ≡ map.get first.locks.states other
   pub still : AreStill (set.contains affected) now
   pub waits : WaitAt (set.contains affected) now
-  pub count : length told + length now.locks.queue ≡ length first.locks.queue
+  pub count : length for_clients + length now.locks.queue ≡ length first.locks.queue
 
 -- ---- at first
 
@@ -68,7 +68,7 @@ abbrev pub GoesOnBehind : SweepPlace → Option Ino → InoSet → SweepPlace �
 GoesOnBehind place changed affected next =
     ((next ≡ place) × ((i : Ino) × (changed ≡ Some i) × (place.at.0 ≤ i.0))) ⊎ IsFirstPlace affected next
 
-module _ (from : ℕ → Bool) (affected : InoSet) (first now : Scene) (told : List Ended) (sized : List Ino) (so : IsSoFar from affected first now told sized) where
+module _ (from : ℕ → Bool) (affected : InoSet) (first now : Scene) (for_clients : List Ended) (sized : List Ino) (so : IsSoFar from affected first now for_clients sized) where
   -- ---- gathers began and ended
 
   module _ (new : Scene) (swept : IsSwept (set.contains affected) now new) where
@@ -81,11 +81,11 @@ module _ (from : ℕ → Bool) (affected : InoSet) (first now : Scene) (told : L
     by_left : (P : Scene → Type 0) → P left → P new
     by_left P is = subst P (sym swept.is) is
 
-    pub so-far-swept : IsSoFar from affected first new told sized
+    pub so-far-swept : IsSoFar from affected first new for_clients sized
     so-far-swept = grind (arith, makes-append, append-nil, filter_map-append, none-sized, by_left, off-trans, swept_off, still-kept)
 
   -- and where no move applies, it has settled
-  pub so-far-settled : first_move now ≡ Settled → SettlesWith (set.contains affected) from first now told sized
+  pub so-far-settled : first_move now ≡ Settled → SettlesWith (set.contains affected) from first now for_clients sized
   so-far-settled rests = grind arith
 
   -- ---- a request was served
@@ -154,7 +154,7 @@ module _ (from : ℕ → Bool) (affected : InoSet) (first now : Scene) (told : L
       sessions = refl;
       table = refl;
       locks = λ other part off. refl;
-      places = λ other off. place-after now q ended.outcome serves.may other (another other off);
+      presences = λ other off. presence-after now q ended.outcome serves.may other (another other off);
       alike = row_alike;
     }
 
@@ -195,7 +195,7 @@ module _ (from : ℕ → Bool) (affected : InoSet) (first now : Scene) (told : L
     turn_served : IsTurnOfLeast kept new
     turn_served = by_after (IsTurnOfLeast kept) turn_after
 
-    pub so-far-served : IsSoFar from kept first new (told ++ ended ∷ []) (sized ++ sized_in (Served q ended.outcome ∷ []))
+    pub so-far-served : IsSoFar from kept first new (for_clients ++ ended ∷ []) (sized ++ sized_in (Served q ended.outcome ∷ []))
     so-far-served = record {
       moves = so.moves ++ Served q ended.outcome ∷ [];
       made = makes-append first so.moves now (Served q ended.outcome ∷ []) new so.made (new, makes, refl);
@@ -215,7 +215,7 @@ module _ (from : ℕ → Bool) (affected : InoSet) (first now : Scene) (told : L
           (waits-wider (set.contains affected) (set.contains kept) after wider (waits-less-at (set.contains affected) now (tree_after now.tree q ended.outcome) q.ticket.0 so.waits));
       count = (
           let queue : length new.locks.queue ≡ length (without_request now.locks q.ticket.0).queue = ap (λ (s : Scene). length s.locks.queue) is_after in
-          let more : length (told ++ ended ∷ []) ≡ length told + 1 = length-append told (ended ∷ []) in
+          let more : length (for_clients ++ ended ∷ []) ≡ length for_clients + 1 = length-append for_clients (ended ∷ []) in
           let less = one-less now.locks q order inside in
           omega (arith, queue, more, less, so.count)
           );
@@ -224,7 +224,7 @@ module _ (from : ℕ → Bool) (affected : InoSet) (first now : Scene) (told : L
     -- ---- where the sweep goes on
 
     -- where it moves no inode, others stay as they were, and it stays an inode's turn that is not behind its own
-    turn_stays : (at : ℕ) → is_rename q.ask ≡ false → at ≤ q.ino.0 → IsTurnOf now at → IsTurnOf after at
+    turn_stays : (at : ℕ) → is_rename q.operation ≡ false → at ≤ q.ino.0 → IsTurnOf now at → IsTurnOf after at
     turn_stays at stays before turn = ends-turn after at (served-ends now ticket move) (λ other part below.
         let off : other ≢ q.ino.0 = λ same. omega (arith, before, below, same) in
         let alike = alike-apart now q ended.outcome other tree serves.may off (λ moves. absurd (true≢false (sym moves ∙ stays))) in
@@ -236,10 +236,10 @@ module _ (from : ℕ → Bool) (affected : InoSet) (first now : Scene) (told : L
         let was = contains-filter (λ (other : Request). not (is_numbered q.ticket.0 other)) now.locks.queue r waits in
         let there : q.ino.0 ≡ at = served-alone now at ticket order nobody move q serves.waits in
         let off : r.ino.0 ≢ q.ino.0 = λ same. eqb-false r.ino.0 at away (same ∙ there) in
-        ap (λ (o : Option Request). option_map_or (is_numbered r.ticket.0) o false && is_servable now.locks r) (first_same r.ino.0 (part_of_ask r.ask) off)
+        ap (λ (o : Option Request). option_map_or (is_numbered r.ticket.0) o false && is_servable now.locks r) (first_same r.ino.0 (part_of_operation r.operation) off)
         ∙ nobody r was away
 
-    alone_by : (i : Ino) → changed_alone q ≡ Some i → (is_rename q.ask ≡ false) × (i ≡ q.ino)
+    alone_by : (i : Ino) → changed_alone q ≡ Some i → (is_rename q.operation ≡ false) × (i ≡ q.ino)
     alone_by i is = grind arith
 
     pub stands-behind : (place next : SweepPlace) (changed : Option Ino) → StandsAt (set.contains affected) place now → changed ≡ changed_alone q

@@ -4,7 +4,7 @@ use Rattle.std.specs.FinMap as map
 use Rattle.capbits.specs.Caps.{has}
 use Rattle.captable.proofs.Searches.{find-filter_kept}
 use Rattle.capacts.{proofs.Lockmachine.Rest.{at_rest}, specs.Caprules.Step.{earlier}}
-use Rattle.capsteps.{proofs.Common.{allowed_to, AreGiven, Caps, ClientId, due, ended_in, EntryRow, Gone, has_session, Holder, is_of_inode, is_row_of, IsAtRest, IsInRow, IsLockMap, IsSound, IsSoundEntry, IsSubset, IsTable, IsTree, Made, meet, P, Part, place, row_found, same-is, Scene, SessionTable, State, state_at_end, Table}, proofs.EndsThere.{off_due}, proofs.EntryRequests.{IsKeptEntry, kept-left, kept-row}, proofs.Forgotten.{all_rows, sound-forgotten}, proofs.IssuedRows.{ended_row, want-ended, told-ended, revoked-ended, seq-ended, effective-ended, holds-due, holds-pin, in_row-ended, on_it, last_row, issued_at, by_place, of_inode-last, rest-issued}, proofs.Moved.{IsMoved, moved-all, nobody-moved, all-waiting, Waited, ended-waited, nothing-served}, proofs.SameOff.{not-among, row_elsewhere, any_elsewhere, IsSameFrom, from-first}, proofs.Telling.{any-map_same}, specs.Affected.{Affects, SettlesAt, Knows, finished_at, IsAffectedEntry}}
+use Rattle.capsteps.{proofs.Common.{allowed_to, AreGiven, Caps, ClientId, due, ended_in, EntryRow, Gone, has_session, Holder, is_of_inode, is_row_of, IsAtRest, IsInRow, IsLockMap, IsSound, IsSoundEntry, IsSubset, IsTable, IsTree, Made, meet, P, Part, presence, row_found, same-is, Scene, SessionTable, State, state_at_end, Table}, proofs.EndsThere.{off_due}, proofs.EntryRequests.{IsKeptEntry, kept-left, kept-row}, proofs.Forgotten.{all_rows, sound-forgotten}, proofs.IssuedRows.{ended_row, want-ended, told-ended, revoked-ended, seq-ended, effective-ended, holds-due, holds-pin, in_row-ended, on_it, last_row, issued_at, by_place, of_inode-last, rest-issued}, proofs.Moved.{IsMoved, moved-all, nobody-moved, all-waiting, Waited, ended-waited, nothing-served}, proofs.SameOff.{not-among, row_elsewhere, any_elsewhere, IsSameFrom, from-first}, proofs.Telling.{any-map_same}, specs.Affected.{Affects, SettlesAt, Knows, finished_at, IsAffectedEntry}}
 
 -- ---- the step
 
@@ -52,7 +52,7 @@ module _ (at from : ℕ → Bool) (known : Holder → Caps) (old affected : Stat
     affected_row row inside =
         elim (from row.holder.ino.0) as (λ b. from row.holder.ino.0 ≡ b → IsAffectedEntry first row) [
           | true ↦ λ is. affects.each row (first_row row inside) is
-          | false ↦ λ off. kept-left old.scene first row (ap is_some (affects.same.sessions row (old_row row inside off) off)) affects.states affects.known (kept_row row inside off)
+          | false ↦ λ off. kept-left old.scene first row (ap is_some (affects.same.sessions row (old_row row inside off) off)) affects.states affects.exist (kept_row row inside off)
         ] refl
 
     -- ---- what is held is in its rows
@@ -88,7 +88,7 @@ module _ (at from : ℕ → Bool) (known : Holder → Caps) (old affected : Stat
 
     -- the same inodes are there
     there_still : (q : ℕ) → map.contains_key settled.tree.nodes q ≡ map.contains_key old.scene.tree.nodes q
-    there_still q = moved.nodes q ∙ affects.known q
+    there_still q = moved.nodes q ∙ affects.exist q
 
     entry_elsewhere : (row : EntryRow) → Contains rows row → on row ≡ false → IsSoundEntry last row
     entry_elsewhere row inside off =
@@ -112,11 +112,11 @@ module _ (at from : ℕ → Bool) (known : Holder → Caps) (old affected : Stat
     locked_last : (q : ℕ) → map.contains_key settled.locks.states q ≡ map.contains_key settled.tree.nodes q
     locked_last q = moved.states q ∙ affects.locked q ∙ sym (moved.nodes q)
 
-    strays_last : (q : ℕ) → at q ≡ false → place settled.tree.nodes q ≡ Gone → IsTrue (list_any (is_of_inode (record { 0 = q })) last.table.rows)
+    strays_last : (q : ℕ) → at q ≡ false → presence settled.tree.nodes q ≡ Gone → IsTrue (list_any (is_of_inode (record { 0 = q })) last.table.rows)
     strays_last q off gone =
         let of_it = is_of_inode (record { 0 = q }) in
         any-map_same of_it last_of (of_inode-last known settled at q) rows
-        ∙ any_elsewhere at old.scene.table settled.table same.entries q off ∙ sound.strays q (sym (same.places q off) ∙ gone)
+        ∙ any_elsewhere at old.scene.table settled.table same.entries q off ∙ sound.strays q (sym (same.presences q off) ∙ gone)
 
     -- ---- all together
 

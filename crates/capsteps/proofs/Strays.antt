@@ -3,8 +3,8 @@ use Rattle.std.{proofs.Common.{◌≡◌, ◌≢◌, ℕ, Bool, true, false, con
 use Rattle.std.specs.FinMap as map
 use Rattle.std.specs.FinSet as set
 use Rattle.numbered.proofs.Maps.{same_or_other, remove-here, remove-other}
-use Rattle.inotree.{proofs.Elsewhere.{path_of-kept}, specs.Tree.{IsUnder}, specs.declared.node.Place.TheVariants.{Here}}
-use Rattle.capsteps.{proofs.Common.{EntryRow, Gone, InoSet, is_in_use, is_of_inode, IsAlike, IsListOf, IsTree, Node, Nodes, place, Scene}, proofs.Finishing.{same_kept}, proofs.ManyInodes.{same_number}, specs.Affected.{stays, forget_at, forget_among}}
+use Rattle.inotree.{proofs.Elsewhere.{path_of-kept}, specs.Tree.{IsUnder}, specs.declared.node.Presence.TheVariants.{Here}}
+use Rattle.capsteps.{proofs.Common.{EntryRow, Gone, InoSet, is_in_use, is_of_inode, IsAlike, IsListOf, IsTree, Node, Nodes, presence, Scene}, proofs.Finishing.{same_kept}, proofs.ManyInodes.{same_number}, specs.Affected.{stays, forget_at, forget_among}}
 
 -- ---- a map of which some keys are kept
 
@@ -29,13 +29,13 @@ stays-kept at s q is = or_right (not (at q)) (is_in_use s q) is
 
 -- what goes is one of these, and a stray that nobody has an entry on
 pub goes : (at : ℕ → Bool) (s : Scene) (q : ℕ) → stays at s q ≡ false
-    → (at q ≡ true) × (place s.tree.nodes q ≡ Gone) × (list_any (is_of_inode (record { 0 = q })) s.table.rows ≡ false)
+    → (at q ≡ true) × (presence s.tree.nodes q ≡ Gone) × (list_any (is_of_inode (record { 0 = q })) s.table.rows ≡ false)
 goes at s q out = grind arith
 
 -- ---- what is read of the others
 
 -- no inode stands in a stray, so that each other has its path still
-pub alike-retained : (tree : Nodes) (p : ℕ → Bool) → IsTree tree → ((q : ℕ) → p q ≡ false → place tree.nodes q ≡ Gone) → (ino : ℕ) → p ino ≡ true
+pub alike-retained : (tree : Nodes) (p : ℕ → Bool) → IsTree tree → ((q : ℕ) → p q ≡ false → presence tree.nodes q ≡ Gone) → (ino : ℕ) → p ino ≡ true
     → IsAlike tree (record tree { nodes = map.retain_keys tree.nodes p }) ino
 alike-retained tree p sound strays ino here = record {
   path = path_of-kept tree.nodes (map.retain_keys tree.nodes p) (λ i. p i ≡ true) (λ i is. ap (option_map (λ (n : Node). n.site)) (retained-here tree.nodes p i is)) above ino here;
@@ -44,8 +44,8 @@ alike-retained tree p sound strays ino here = record {
   where
     above : (i d : ℕ) (a : List ℕ) → p i ≡ true → IsUnder tree.nodes i d a → p d ≡ true
     above i d a is under = true_from_ne_false (p d) (λ e.
-        let here : place tree.nodes d ≡ Here = (sound.parents i d a under).1 in
-        let gone : place tree.nodes d ≡ Gone = strays d e in cc)
+        let here : presence tree.nodes d ≡ Here = (sound.parents i d a under).1 in
+        let gone : presence tree.nodes d ≡ Gone = strays d e in cc)
 
 -- ---- one after another
 

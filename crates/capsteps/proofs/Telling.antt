@@ -1,7 +1,7 @@
 -- What a client is told changes three fields of entries, by which nothing is judged, moved or issued.
 use Rattle.std.{proofs.Common.{◌≡◌, ◌≤◌, ℕ, Bool, true, false, cond, not, ◌&&◌, ◌||◌, Option, List, [], ◌∷◌, filter, map, refl, sym, ap, subst, ◌∙◌, arith, IsTrue, All}, proofs.lemmas.List.Elements.{All-map, All-weaker, All-filter, All-from_recursion, recursion_from_All}, proofs.lemmas.Simd.{map-map}, specs.List.{find, list_any, AllByRecursion, IsDistinct}, specs.Option.{option_map}}
 use Rattle.capacts.specs.{Capnotes.DueEndings.{is_end_of}, Caprules.Direct.{Answer}}
-use Rattle.capsteps.proofs.{Common.{after_messages, AreGiven, change_rows, changed, changed_where, ClientId, due, Ended, Entry, EntryRow, filter-map, find-map, first_messages, fold-changed_by, Gives, has_session, Holder, Ino, is_among, is_caps_of, is_of_client, is_of_inode, is_open, is_recall_of, is_row_of, is_size_of, is_to, IsInPlace, IsSound, IsSoundEntry, IssuesExactly, IsTable, lock_at, LockGoal, LockState, Message, Part, remade, same, Scene, shown, Shows, sized_if, State, Table, told, told_if, unasked_if, wants, with_scene}, LeftAlone.{still_quiet}}
+use Rattle.capsteps.proofs.{Common.{after_messages, AreGiven, change_rows, changed, changed_where, ClientId, due, Ended, Entry, EntryRow, filter-map, find-map, first_messages, fold-changed_by, Gives, has_session, Holder, Ino, is_among, is_caps_of, is_of_client, is_of_inode, is_open, is_recall_of, is_row_of, is_size_of, is_to, IsInPlace, IsSound, IsSoundEntry, IssuesExactly, IsTable, lock_at, StableState, LockState, Message, Part, remade, same, Scene, shown, Shows, sized_if, State, Table, with_told, told_if, unasked_if, wants, with_scene}, LeftAlone.{still_quiet}}
 
 -- ---- lists that are mapped
 
@@ -36,7 +36,7 @@ module _ (s : State) (told_as : EntryRow → ℕ) (size_as asked_as : EntryRow �
   same_wants : (ino : ℕ) → wants new ino ≡ wants s.scene ino
   same_wants ino = grind (arith, same_on, map-map)
 
-  same_open : (ino : ℕ) (part : Part) (goal : LockGoal) → is_open new ino part goal ≡ is_open s.scene ino part goal
+  same_open : (ino : ℕ) (part : Part) (goal : StableState) → is_open new ino part goal ≡ is_open s.scene ino part goal
   same_open ino part goal = grind (arith, same_on, any-map_same)
 
   place_kept : (row : EntryRow) (part : Part) (o : Option LockState) → IsInPlace s.scene row part o → IsInPlace new (to row) part o
@@ -79,13 +79,13 @@ as_asked row = row.entry.asked
 abbrev pub as_sized : EntryRow → Bool
 as_sized row = row.entry.size_due
 
-told_row : (row : EntryRow) (b : Bool) → cond b (remade (λ row. told row.entry) row) row
+told_row : (row : EntryRow) (b : Bool) → cond b (remade (λ row. with_told row.entry) row) row
     ≡ record row { entry = record row.entry { told_seq = cond b row.entry.seq row.entry.told_seq; asked = row.entry.asked; size_due = row.entry.size_due } }
 told_row row b = grind arith
 
-shown_table : (t : Table) (k : Holder) → IsTable t → changed t k told ≡ retold_table (told_where (named k)) as_sized as_asked t
+shown_table : (t : Table) (k : Holder) → IsTable t → changed t k with_told ≡ retold_table (told_where (named k)) as_sized as_asked t
 unfolding IsDistinct
-shown_table t k is = fold-changed_by (λ row. told row.entry) t (k ∷ []) is (tt, tt) ∙ (λ i. record t { rows = map (λ row. told_row row (named k row) i) t.rows })
+shown_table t k is = fold-changed_by (λ row. with_told row.entry) t (k ∷ []) is (tt, tt) ∙ (λ i. record t { rows = map (λ row. told_row row (named k row) i) t.rows })
 
 told_below : (b : Bool) (seq told_seq : ℕ) → told_seq ≤ seq → cond b seq told_seq ≤ seq
 told_below b seq told_seq below = grind arith
@@ -141,10 +141,10 @@ module _ (count : ℕ) where
   abbrev IsGiven : EntryRow → Type 0
   IsGiven row = row.entry.seq ≤ count
 
-  given-change : (rows : List EntryRow) (k : Holder) → AllByRecursion IsGiven rows → AllByRecursion IsGiven (change_rows rows k told)
+  given-change : (rows : List EntryRow) (k : Holder) → AllByRecursion IsGiven rows → AllByRecursion IsGiven (change_rows rows k with_told)
   given-change [] k all = tt
   given-change (row ∷ rows) k all =
-      elim (is_row_of k row) as (λ b. AllByRecursion IsGiven (cond b (record row { entry = told row.entry } ∷ rows) (row ∷ change_rows rows k told)))
+      elim (is_row_of k row) as (λ b. AllByRecursion IsGiven (cond b (record row { entry = with_told row.entry } ∷ rows) (row ∷ change_rows rows k with_told)))
       [ true ↦ (all.0, all.1) | false ↦ (all.0, given-change rows k all.1) ]
 
   given-where : (client : ClientId) (given : List Message) (t : Table) → All IsGiven t.rows → All IsGiven (changed_where (is_of_client client) (after_messages given) t).rows

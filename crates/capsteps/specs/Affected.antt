@@ -2,10 +2,10 @@
 use Rattle.std.specs.Prelude.{◌≡◌, ◌≤◌, ℕ, Bool, true, false, not, ◌||◌, List, Option, Some, None, Contains, IsTrue, All, if◌then◌else◌}
 use Rattle.std.specs.FinMap as map
 use Rattle.capbits.specs.{Caps.{Caps, has}, Sets.{meet}, declared.cap.Cap.TheVariants.{P}, declared.cap.Part.{Part}, declared.ids.ClientId.{ClientId}}
-use Rattle.inotree.specs.{Alike.{IsAlike}, Calls.{forgotten}, Tree.{place}}
+use Rattle.inotree.specs.{Alike.{IsAlike}, Calls.{forgotten}, Tree.{presence}}
 use Rattle.captable.specs.{Calls.{entries_on, renumbered}, Many.{changed_where}, Table.{Table, holder}, declared.entry.Entry.{Entry}, declared.entry.EntryRow.{EntryRow}, declared.entry.Holder.{Holder}}
 use Rattle.sessiontab.specs.Calls.{has_session}
-use Rattle.capacts.specs.{Capevents.declared.event.Event.{Event}, Caprules.Finish.{issue_row, is_in_use}, Caprules.Settle.{Made, Settles}, Caprules.State.{State}, Lockmachine.Elsewhere.{IsSameBut, IsSameOutside}, Lockmachine.Locks.{lock_at, without_ino}, Lockmachine.Requests.{first_for}, Lockmachine.Rows.{IsInRow}, Lockmachine.Scene.{told_set}, Lockmachine.Turns.{WaitAt}, Lockmachine.Wants.{effective_want}, Lockmachine.declared.request.Ask.{Ask}, Lockmachine.declared.request.Ask.TheVariants.{Get, Alter, Unlink, Rmdir, Rename}, Lockmachine.declared.scene.Scene.{Scene}}
+use Rattle.capacts.specs.{Capevents.declared.event.Event.{Event}, Caprules.Finish.{issue_row, is_in_use}, Caprules.Settle.{Made, Settles}, Caprules.State.{State}, Lockmachine.Elsewhere.{IsSameBut, IsSameOutside}, Lockmachine.Locks.{lock_at, without_ino}, Lockmachine.Requests.{first_for}, Lockmachine.Rows.{IsInRow}, Lockmachine.Scene.{told_set}, Lockmachine.Turns.{WaitAt}, Lockmachine.Wants.{effective_want}, Lockmachine.declared.request.Operation.{Operation}, Lockmachine.declared.request.Operation.TheVariants.{Get, Alter, Unlink, Rmdir, Rename}, Lockmachine.declared.scene.Scene.{Scene}}
 
 -- what an event is about
 pub data Scope : Type 0 where
@@ -15,8 +15,8 @@ pub data Scope : Type 0 where
   OfClient : ClientId → Scope
   -- who asks, and of which inode, where it is about the entry on it
   OnEntry : Holder → Scope
-  -- and where it may wait for a lock of the inode, what it asks for
-  Waiting : Holder → Ask → Scope
+  -- and where it may wait for a lock of the inode, its operation
+  Waiting : Holder → Operation → Scope
   -- it is answered with a list: of messages, or of who is asked to release
   Listing : Scope
 
@@ -41,7 +41,7 @@ scope e = Alone
 
 abbrev pub affected_in : Scope → Option Holder
 affected_in (OnEntry k) = Some k
-affected_in (Waiting k ask) = Some k
+affected_in (Waiting k operation) = Some k
 affected_in about = None
 
 -- who asks, and of which inode, where the event is about one that is there already: about an entry on it, or about what it keeps
@@ -56,13 +56,13 @@ session_changed_in about = None
 abbrev pub session_changed_by : Event → Option ClientId
 session_changed_by e = session_changed_in (scope e)
 
-abbrev pub asks_in : Scope → Option (Holder × Ask)
-asks_in (Waiting k ask) = Some (k, ask)
-asks_in about = None
+abbrev pub operation_in : Scope → Option (Holder × Operation)
+operation_in (Waiting k operation) = Some (k, operation)
+operation_in about = None
 
--- of an event that waits for a lock, who asks, of which inode, and what
-abbrev pub asks_for : Event → Option (Holder × Ask)
-asks_for e = asks_in (scope e)
+-- of an event that waits for a lock, whose operation it is, on which inode, and which
+abbrev pub operation_by : Event → Option (Holder × Operation)
+operation_by e = operation_in (scope e)
 
 abbrev pub lists_in : Scope → Bool
 lists_in Listing = true
@@ -92,7 +92,7 @@ pub record Affects (from : ℕ → Bool) (old affected : State) : Type 0 where
   -- no lock has moved yet
   pub states : affected.scene.locks.states ≡ old.scene.locks.states
   -- the same inodes are there, each with its locks and no others
-  pub known : (other : ℕ) → map.contains_key affected.scene.tree.nodes other ≡ map.contains_key old.scene.tree.nodes other
+  pub exist : (other : ℕ) → map.contains_key affected.scene.tree.nodes other ≡ map.contains_key old.scene.tree.nodes other
   pub locked : (other : ℕ) → map.contains_key affected.scene.locks.states other ≡ map.contains_key affected.scene.tree.nodes other
   -- who waits or is still to be told has a session, and who waits at one of these, waits for a lock that is there
   pub waiting : All (λ q. IsTrue (has_session affected.scene.sessions q.client.0)) affected.scene.locks.queue
@@ -107,7 +107,7 @@ pub record Affects (from : ℕ → Bool) (old affected : State) : Type 0 where
 pub record AffectsOne (ino : ℕ) (old : State) (first : Scene) : Type 0 where
   pub same : IsSameBut ino old.scene first
   pub states : first.locks.states ≡ old.scene.locks.states
-  pub known : (other : ℕ) → map.contains_key first.tree.nodes other ≡ map.contains_key old.scene.tree.nodes other
+  pub exist : (other : ℕ) → map.contains_key first.tree.nodes other ≡ map.contains_key old.scene.tree.nodes other
   pub locked : (other : ℕ) → map.contains_key first.locks.states other ≡ map.contains_key first.tree.nodes other
   pub waiting : All (λ q. IsTrue (has_session first.sessions q.client.0)) first.locks.queue
   pub at_lock : (part : Part) → lock_at first.locks ino part ≡ None → first_for first.locks.queue ino part ≡ None
@@ -126,7 +126,7 @@ pub record IsSameOff (at : ℕ → Bool) (old new : Scene) : Type 0 where
   pub sessions : new.sessions ≡ old.sessions
   pub table : new.table ≡ old.table
   pub locks : (other : ℕ) (part : Part) → at other ≡ false → lock_at new.locks other part ≡ lock_at old.locks other part
-  pub places : (other : ℕ) → at other ≡ false → place new.tree.nodes other ≡ place old.tree.nodes other
+  pub presences : (other : ℕ) → at other ≡ false → presence new.tree.nodes other ≡ presence old.tree.nodes other
   pub alike : (row : EntryRow) → Contains old.table.rows row → at row.holder.ino.0 ≡ false → IsAlike old.tree new.tree row.holder.ino.0
 
 -- by these moves the locks have settled, and nothing has changed but at these inodes, among which are those of the event
@@ -153,7 +153,7 @@ finished_entry known settled row =
 abbrev pub forget_at : ℕ → Scene → Scene
 forget_at ino s = if is_in_use s ino then s else record s { tree = forgotten s.tree ino; locks = without_ino s.locks ino }
 
--- the inode is none of these, or it is kept
+-- the inode is none of these, or it stays
 abbrev pub stays : (ℕ → Bool) → Scene → ℕ → Bool
 stays at s ino = not (at ino) || is_in_use s ino
 

@@ -7,7 +7,7 @@ use Rattle.capsteps.specs.declared.said.Said.{Said}
 -- what is wanted, permitted and allowed, and no number rises by more than one
 pub record IsAnswered (old : State) (e : Event) (said : Said) (new : State) : Type 0 where
   pub step : Step old e said.reply said.ended new
-  pub kept : said.kept ≡ said.reply
+  pub for_history : said.for_history ≡ said.reply
   pub sound : IsSound new
   pub issued : IssuesExactly (direct old e).state.scene new.scene
   pub given : (count : ℕ) → AreGiven count old → AreGiven (count + 1) new

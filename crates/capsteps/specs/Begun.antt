@@ -27,11 +27,11 @@ pub record MayEnd (known : KnownSets) (s : Scene) : Type 0 where
 
 -- no request has ended and no size was changed yet, and there is room for so many
 pub record HaveRoomFor (waiting : ℕ) (endings : Endings) : Type 0 where
-  pub told : endings.told.items ≡ []
-  pub kept : endings.kept.items ≡ []
+  pub for_clients : endings.for_clients.items ≡ []
+  pub for_history : endings.for_history.items ≡ []
   pub sized : endings.sized.items ≡ []
-  pub told_room : waiting ≤ vec_capacity endings.told
-  pub kept_room : waiting ≤ vec_capacity endings.kept
+  pub clients_room : waiting ≤ vec_capacity endings.for_clients
+  pub history_room : waiting ≤ vec_capacity endings.for_history
   pub sized_room : waiting ≤ vec_capacity endings.sized
 
 -- there is a place for the change of each request that waits and of each inode; and where one entry alone was affected, the others

@@ -26,7 +26,7 @@ pub record IsFirstPlace (affected : InoSet) (place : SweepPlace) : Type 0 where
 
 -- the inode that a request changes and no other; none where it moves its inode
 abbrev pub changed_alone : Request → Option Ino
-changed_alone q = if is_rename q.ask then None else Some q.ino
+changed_alone q = if is_rename q.operation then None else Some q.ino
 
 -- at all others no gather may begin or end
 pub record AreStill (at : ℕ → Bool) (s : Scene) : Type 0 where

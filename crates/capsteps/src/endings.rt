@@ -12,8 +12,8 @@ use std::fmt;
 /// changed; what the step changes of what readers see; and the request that came with the step and was judged then, until one is
 /// served. Between steps the changes are those of the last; of the others the room alone is of use.
 pub struct Endings {
-    pub told: Vec<Ended>,
-    pub kept: Vec<Ended>,
+    pub for_clients: Vec<Ended>,
+    pub for_history: Vec<Ended>,
     pub sized: Vec<Ino>,
     pub changes: ChangeList,
     pub judged: Option<Ticket>,
@@ -23,8 +23,8 @@ pub struct Endings {
 impl Drop for Endings {
     fn drop(self) {
         let Endings {
-            told: _,
-            kept: _,
+            for_clients: _,
+            for_history: _,
             sized: _,
             changes: _,
             judged: _,
@@ -45,8 +45,8 @@ impl Endings {
         ensures changes { result.changes.items ≡ [] }
     {
         Endings {
-            told: Vec::new(alloc),
-            kept: Vec::new(alloc),
+            for_clients: Vec::new(alloc),
+            for_history: Vec::new(alloc),
             sized: Vec::new(alloc),
             changes: ChangeList::new(alloc),
             judged: None,
@@ -61,13 +61,13 @@ impl Endings {
         ensures judged { OnOk result (self.new.judged ≡ None) }
     {
         self.judged = None;
-        self.told.clear();
-        self.kept.clear();
+        self.for_clients.clear();
+        self.for_history.clear();
         self.sized.clear();
         // Mostly nobody waits.
         if room != 0 {
-            self.told.reserve(room)?;
-            self.kept.reserve(room)?;
+            self.for_clients.reserve(room)?;
+            self.for_history.reserve(room)?;
             self.sized.reserve(room)?;
         }
         self.changes.begin(places)
@@ -75,34 +75,37 @@ impl Endings {
 
     /// The allocator of the lists.
     pub fn alloc(&self) -> Global {
-        *self.told.allocator()
+        *self.for_clients.allocator()
     }
 
     /// A client's request with this number ended so, and changed the size of this inode, if of any.
     pub fn push(&mut self, client: ClientId, ticket: Ticket, served: Served, sized: Option<Ino>)
-        requires told { length self.old.told.items < vec_capacity self.old.told }
-        requires kept { length self.old.kept.items < vec_capacity self.old.kept }
+        requires for_clients { length self.old.for_clients.items < vec_capacity self.old.for_clients }
+        requires for_history { length self.old.for_history.items < vec_capacity self.old.for_history }
         requires sized { length self.old.sized.items < vec_capacity self.old.sized }
-        ensures told { self.new.told.items ≡ self.old.told.items ++ record { client = client; ticket = ticket; outcome = served.outcome } ∷ [] }
-        ensures kept { self.new.kept.items ≡ self.old.kept.items ++ record { client = client; ticket = ticket; outcome = served.kept } ∷ [] }
+        ensures for_clients { self.new.for_clients.items ≡ self.old.for_clients.items ++ record { client = client; ticket = ticket; outcome = served.outcome } ∷ [] }
+        ensures for_history { self.new.for_history.items ≡ self.old.for_history.items ++ record { client = client; ticket = ticket; outcome = served.for_history } ∷ [] }
         ensures sized { self.new.sized.items ≡ self.old.sized.items ++ filter_map (λ ino. ino) (sized ∷ []) }
-        ensures room { (vec_capacity self.old.told ≤ vec_capacity self.new.told) × (vec_capacity self.old.kept ≤ vec_capacity self.new.kept)
+        ensures room { (vec_capacity self.old.for_clients ≤ vec_capacity self.new.for_clients) × (vec_capacity self.old.for_history ≤ vec_capacity self.new.for_history)
             × (vec_capacity self.old.sized ≤ vec_capacity self.new.sized) }
         ensures changes { self.new.changes ≡ self.old.changes }
         ensures judged { self.new.judged ≡ self.old.judged }
     {
-        let Served { outcome, kept } = served;
-        let told = self.told.push(Ended {
+        let Served {
+            outcome,
+            for_history,
+        } = served;
+        let for_clients = self.for_clients.push(Ended {
             client,
             ticket,
             outcome,
         });
-        let kept = self.kept.push(Ended {
+        let for_history = self.for_history.push(Ended {
             client,
             ticket,
-            outcome: kept,
+            outcome: for_history,
         });
-        let (Ok(()), Ok(())) = (told, kept) else {
+        let (Ok(()), Ok(())) = (for_clients, for_history) else {
             unreachable!()
         };
         if let Some(ino) = sized {

@@ -14,7 +14,7 @@ use capacts::finishing::finish_row;
 use capacts::{ChangeList, InodeLocks, Locks, Policy, Scene, ViewChange};
 use capbits::{ClientId, Ino};
 use captable::{CapTable, EntryRow, Holder, Known};
-use inotree::{NonEmptyInoSet, Place};
+use inotree::{NonEmptyInoSet, Presence};
 use sessiontab::{MAX_SESSIONS, Sessions};
 
 // ---- at the affected inodes
@@ -106,7 +106,7 @@ fn forget_affected(scene: &mut Scene, affected: &NonEmptyInoSet, changes: &mut C
 {
     let mut walk = affected.numbers();
     'inodes: while let Some(ino) = walk.next() {
-        if matches!(scene.tree.place(ino), Place::Gone) && !scene.table.is_held(ino) {
+        if matches!(scene.tree.presence(ino), Presence::Gone) && !scene.table.is_held(ino) {
             scene.tree.forget(ino);
             scene.locks.drop_ino(ino);
             changes.push(ViewChange::Forgotten { ino });

@@ -9,7 +9,7 @@ use std::alloc::Global;
 #[derive(Drop)]
 pub struct Said {
     pub reply: Reply,
-    pub kept: Reply,
+    pub for_history: Reply,
     pub ended: EndedList,
 }
 
@@ -18,11 +18,15 @@ impl Said {
     pub fn alone(alloc: Global, reply: Reply) -> Said
         requires { has_list reply ≡ false }
         ensures reply { result.reply ≡ reply }
-        ensures kept { result.kept ≡ reply }
+        ensures for_history { result.for_history ≡ reply }
         ensures ended { result.ended ≡ [] }
     {
-        let kept = copy_of_reply(&reply);
+        let for_history = copy_of_reply(&reply);
         let ended = EndedList::new(alloc);
-        Said { reply, kept, ended }
+        Said {
+            reply,
+            for_history,
+            ended,
+        }
     }
 }

@@ -13,7 +13,7 @@ use crate::finish::{finish, finish_alone};
 use capacts::reach::reach;
 use capacts::renewing::renew_served;
 use capacts::serving::{Served, serve};
-use capacts::{Ask, Change, Locks, Move, Outcome, Policy, Request, Scene};
+use capacts::{Change, Locks, Move, Operation, Outcome, Policy, Request, Scene};
 use capbits::{Ino, Ticket};
 use captable::{CapTable, Holder, Known};
 use inotree::{InoSet, NonEmptyInoSet, Setting};
@@ -31,11 +31,11 @@ pub enum Affected {
 /// the state was sound before.
 pub fn end(scene: &mut Scene, known: &mut Known, affected: Affected, endings: &mut Endings)
     requires ready { IsReady affected known.old.sets scene.old endings.old }
-    ensures ends { EndsWith (among affected) known.old.sets known.new.sets scene.old scene.new endings.new.told.items }
-    ensures kept { endings.new.kept.items ≡ endings.new.told.items }
+    ensures ends { EndsWith (among affected) known.old.sets known.new.sets scene.old scene.new endings.new.for_clients.items }
+    ensures for_history { endings.new.for_history.items ≡ endings.new.for_clients.items }
     ensures lead { LeadOn endings.old.changes.items endings.new.changes.items scene.old.tree scene.new.tree }
     // As many waited as wait and have ended.
-    ensures count { length endings.new.told.items + length scene.new.locks.queue ≡ length scene.old.locks.queue }
+    ensures count { length endings.new.for_clients.items + length scene.new.locks.queue ≡ length scene.old.locks.queue }
 {
     match affected {
         Affected::Entry(holder) => {
@@ -44,7 +44,7 @@ pub fn end(scene: &mut Scene, known: &mut Known, affected: Affected, endings: &m
             settle(scene, known, &mut reached, endings);
             // Most steps of such events serve nobody, by which the tree could have changed, and leave these locks as they were; by
             // the same locks and the same tree the others on the inode still have all that the end would give them.
-            if endings.told.is_empty()
+            if endings.for_clients.is_empty()
                 && reached.is_single()
                 && scene.locks.of_ino(holder.ino) == before
             {
@@ -73,10 +73,10 @@ fn settle(
     requires room { HaveRoomFor (length scene.old.locks.queue) endings.old }
     requires places { HavePlaces endings.old.changes scene.old.locks affected.old }
     requires permitted { ArePermittedIn known.old.sets scene.old }
-    ensures settles { SettlesWith (set.contains affected.new) (set.contains affected.old) scene.old scene.new endings.new.told.items endings.new.sized.items }
+    ensures settles { SettlesWith (set.contains affected.new) (set.contains affected.old) scene.old scene.new endings.new.for_clients.items endings.new.sized.items }
     ensures tree { IsTree scene.old.tree }
-    ensures kept { endings.new.kept.items ≡ endings.new.told.items }
-    ensures count { length endings.new.told.items + length scene.new.locks.queue ≡ length scene.old.locks.queue }
+    ensures for_history { endings.new.for_history.items ≡ endings.new.for_clients.items }
+    ensures count { length endings.new.for_clients.items + length scene.new.locks.queue ≡ length scene.old.locks.queue }
     ensures lead { LeadOn endings.old.changes.items endings.new.changes.items scene.old.tree scene.new.tree }
     ensures places { HavePlaces endings.new.changes scene.new.locks affected.new }
     ensures told { (k : Holder) → known_of known.new.sets k ≡ known_of known.old.sets k }
@@ -190,15 +190,15 @@ fn serve_next(
     requires permitted { ArePermittedIn known.old.sets scene.old }
     requires walked { AreWalked walked.old scene.old.tree scene.old.table affected.old }
     requires waits { (q : Request) × (request_at scene.old.locks ticket.0 ≡ Some q) }
-    requires told { length endings.old.told.items < vec_capacity endings.old.told }
-    requires kept { length endings.old.kept.items < vec_capacity endings.old.kept }
+    requires for_clients { length endings.old.for_clients.items < vec_capacity endings.old.for_clients }
+    requires for_history { length endings.old.for_history.items < vec_capacity endings.old.for_history }
     requires sized { length endings.old.sized.items < vec_capacity endings.old.sized }
     requires place { length endings.old.changes.items < endings.old.changes.room }
     requires judged { IsJudged endings.old.judged scene.old }
     ensures judged { endings.new.judged ≡ None }
     ensures served { (ended : Ended) × Serves scene.old ticket ended scene.new
-        × (endings.new.told.items ≡ endings.old.told.items ++ ended ∷ [])
-        × (endings.new.kept.items ≡ endings.old.kept.items ++ ended ∷ [])
+        × (endings.new.for_clients.items ≡ endings.old.for_clients.items ++ ended ∷ [])
+        × (endings.new.for_history.items ≡ endings.old.for_history.items ++ ended ∷ [])
         × ((q : Request) → request_at scene.old.locks ticket.0 ≡ Some q
         → endings.new.sized.items ≡ endings.old.sized.items ++ sized_in (Serving q ended.outcome ∷ [])) }
     ensures reached { (q : Request) → request_at scene.old.locks ticket.0 ≡ Some q
@@ -206,7 +206,7 @@ fn serve_next(
     // By the tree of before.
     ensures walked { AreWalked walked.new scene.old.tree scene.old.table affected.new }
     ensures changed { (q : Request) → request_at scene.old.locks ticket.0 ≡ Some q → result ≡ changed_alone q }
-    ensures room { (vec_capacity endings.old.told ≤ vec_capacity endings.new.told) × (vec_capacity endings.old.kept ≤ vec_capacity endings.new.kept)
+    ensures room { (vec_capacity endings.old.for_clients ≤ vec_capacity endings.new.for_clients) × (vec_capacity endings.old.for_history ≤ vec_capacity endings.new.for_history)
         × (vec_capacity endings.old.sized ≤ vec_capacity endings.new.sized) }
     // At most one change is noted, and there is a place more for each inode that is affected besides.
     ensures lead { LeadOn endings.old.changes.items endings.new.changes.items scene.old.tree scene.new.tree }
@@ -239,9 +239,9 @@ fn changed_inodes(request: &Request, served: &Served) -> (Option<Ino>, Option<In
     ensures alone { result.1 ≡ changed_alone request.now }
 {
     let own = Some(request.ino);
-    match (&request.ask, &served.outcome) {
-        (Ask::Rename { .. }, _) => (None, None),
-        (Ask::Alter(Change::Set(Setting::Size(_))), Outcome::Done) => (own, own),
+    match (&request.operation, &served.outcome) {
+        (Operation::Rename { .. }, _) => (None, None),
+        (Operation::Alter(Change::Set(Setting::Size(_))), Outcome::Done) => (own, own),
         _ => (None, own),
     }
 }

@@ -14,7 +14,7 @@ use Rattle.captable.specs.declared.entry.Holder.{Holder}
 use Rattle.captable.specs.declared.entry.Entry.{Entry}
 use Rattle.captable.specs.declared.entry.EntryRow.{EntryRow}
 use Rattle.captable.specs.Table.{Table, IsTable, same, is_row_of, entry_of, entry_at, is_among, holders_of_rows}
-use Rattle.captable.specs.Calls.{new_entry, opened, change_rows, changed, given_back, with_asked, released, without, without_client, asked_row, recalled, is_of_client, taken, acked}
+use Rattle.captable.specs.Calls.{new_entry, opened, change_rows, changed, without_released, with_asked, released, without, without_client, asked_row, recalled, is_of_client, without_acked, acked}
 use Rattle.captable.proofs.Tables.{same_equiv, same-is}
 use Rattle.captable.proofs.Changes.{no_entry}
 use Rattle.captable.proofs.Searches.{find_passes, find-filter_kept, find-filter_gone, find-map}
@@ -117,22 +117,22 @@ entry_at-without_client_other t client k apart =
 -- ---- a release
 
 pub entry_at-released_pin : (t : Table) (k : Holder) (caps : Caps) → has caps P ≡ true → entry_at (released t k caps) k ≡ None
-entry_at-released_pin t k caps pin = ap (λ b. entry_at (cond b (without t k) (changed t k (given_back caps))) k) pin ∙ entry_at-without t k
+entry_at-released_pin t k caps pin = ap (λ b. entry_at (cond b (without t k) (changed t k (without_released caps))) k) pin ∙ entry_at-without t k
 
-pub entry_at-released : (t : Table) (k : Holder) (caps : Caps) → has caps P ≡ false → entry_at (released t k caps) k ≡ option_map (given_back caps) (entry_at t k)
-entry_at-released t k caps no_pin = ap (λ b. entry_at (cond b (without t k) (changed t k (given_back caps))) k) no_pin ∙ entry_at-changed t k (given_back caps)
+pub entry_at-released : (t : Table) (k : Holder) (caps : Caps) → has caps P ≡ false → entry_at (released t k caps) k ≡ option_map (without_released caps) (entry_at t k)
+entry_at-released t k caps no_pin = ap (λ b. entry_at (cond b (without t k) (changed t k (without_released caps))) k) no_pin ∙ entry_at-changed t k (without_released caps)
 
 pub entry_at-released_other : (t : Table) (k j : Holder) (caps : Caps) → j ≢ k → entry_at (released t k caps) j ≡ entry_at t j
 entry_at-released_other t k j caps apart =
-    elim (has caps P) as (λ b. entry_at (cond b (without t k) (changed t k (given_back caps))) j ≡ entry_at t j)
-    [ true ↦ entry_at-without_other t k j apart | false ↦ entry_at-changed_other t k j (given_back caps) apart ]
+    elim (has caps P) as (λ b. entry_at (cond b (without t k) (changed t k (without_released caps))) j ≡ entry_at t j)
+    [ true ↦ entry_at-without_other t k j apart | false ↦ entry_at-changed_other t k j (without_released caps) apart ]
 
 -- ---- an acknowledgement
 
 pub entry_at-acked_other : (t : Table) (k j : Holder) (against : Caps) → j ≢ k → entry_at (acked t k against) j ≡ entry_at t j
 entry_at-acked_other t k j against apart =
-    elim (has against P) as (λ b. entry_at (cond b (without t k) (changed t k (taken against))) j ≡ entry_at t j)
-    [ true ↦ entry_at-without_other t k j apart | false ↦ entry_at-changed_other t k j (taken against) apart ]
+    elim (has against P) as (λ b. entry_at (cond b (without t k) (changed t k (without_acked against))) j ≡ entry_at t j)
+    [ true ↦ entry_at-without_other t k j apart | false ↦ entry_at-changed_other t k j (without_acked against) apart ]
 
 -- ---- a recall
 

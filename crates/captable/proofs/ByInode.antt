@@ -11,7 +11,7 @@ use Rattle.captable.specs.declared.entry.Holder.{Holder}
 use Rattle.captable.specs.declared.entry.Entry.{Entry}
 use Rattle.captable.specs.declared.entry.EntryRow.{EntryRow}
 use Rattle.captable.specs.Table.{Table, is_row_of}
-use Rattle.captable.specs.Calls.{new_entry, opened, change_rows, changed, given_back, released, without, without_client, asked_row, recalled, is_of_client, is_of_inode, entries_on}
+use Rattle.captable.specs.Calls.{new_entry, opened, change_rows, changed, without_released, released, without, without_client, asked_row, recalled, is_of_client, is_of_inode, entries_on}
 use Rattle.captable.proofs.Tables.{same-is}
 use Rattle.captable.proofs.ByHolder.{holder-asked}
 use Rattle.captable.proofs.Searches.{filter-filter_kept, filter-filter, filter-map}
@@ -58,8 +58,8 @@ entries_on-without t k ino apart = filter-filter_kept (is_of_inode ino) (λ row.
 
 pub entries_on-released : (t : Table) (k : Holder) (caps : Caps) (ino : Ino) → ino ≢ k.ino → entries_on (released t k caps) ino ≡ entries_on t ino
 entries_on-released t k caps ino apart =
-    elim (has caps P) as (λ b. entries_on (cond b (without t k) (changed t k (given_back caps))) ino ≡ entries_on t ino)
-    [ true ↦ entries_on-without t k ino apart | false ↦ entries_on-changed t k (given_back caps) ino apart ]
+    elim (has caps P) as (λ b. entries_on (cond b (without t k) (changed t k (without_released caps))) ino ≡ entries_on t ino)
+    [ true ↦ entries_on-without t k ino apart | false ↦ entries_on-changed t k (without_released caps) ino apart ]
 
 pub entries_on-without_client : (t : Table) (client : ClientId) (ino : Ino) → entries_on (without_client t client) ino ≡ filter (λ row. not (is_of_client client row)) (entries_on t ino)
 entries_on-without_client t client ino = filter-filter (is_of_inode ino) (λ row. not (is_of_client client row)) t.rows

@@ -13,7 +13,7 @@ use Rattle.captable.specs.declared.entry.Slot.{Slot}
 use Rattle.captable.specs.Table.{Table, is_row_of}
 use Rattle.captable.specs.Calls.{changed, without, is_of_client, is_due_entry}
 use Rattle.captable.specs.Nodes.{holder_of, table_of, IsKeyOf}
-use Rattle.captable.specs.Kept.{Kept}
+use Rattle.captable.specs.Linked.{IsLinked}
 use Rattle.captable.specs.Places.{same_client, is_due_at, ArePlaced}
 use Rattle.captable.specs.Polls.{AreCounted, recounted}
 use Rattle.captable.proofs.Polled.{left}
@@ -24,7 +24,7 @@ use Rattle.captable.proofs.Placed.{has-first}
 use Rattle.captable.proofs.Reading.{entry-found}
 use Rattle.std.specs.List.{find}
 
-module _ (t t' : Lists Slot) (made : ℕ) (h : Holder) (key : ℕ) (is_kept : Kept t made) (found : IsKeyOf t h key)
+module _ (t t' : Lists Slot) (made : ℕ) (h : Holder) (key : ℕ) (is_linked : IsLinked t made) (found : IsKeyOf t h key)
     (n : Node Slot) (there : node_at t key ≡ Some n) (own : holder_of n ≡ h) (kept kept' : ClientId → Option ℕ) (was is : Bool) (was_is : was ≡ is_due_at t key)
     (placed : ArePlaced t kept)
     (updates : (q : ClientId) → kept' q ≡ cond (same_client h.client q) (option_map (recounted was is) (kept q)) (kept q))
@@ -33,14 +33,14 @@ module _ (t t' : Lists Slot) (made : ℕ) (h : Holder) (key : ℕ) (is_kept : Ke
   row = record { holder = h; entry = n.value.entry }
 
   row-found : find (is_row_of h) (table_of t made).rows ≡ Some row
-  row-found = row_of-entry (table_of t made) h n.value.entry (entry-found t made is_kept h key n found there)
+  row-found = row_of-entry (table_of t made) h n.value.entry (entry-found t made is_linked h key n found there)
 
   was-due : is_due_entry n.value.entry ≡ was
   was-due = sym (was_is ∙ ap (λ o. option_map_or (λ (node : Node Slot). is_due_entry node.value.entry) o false) there)
 
   counted : is_some (kept h.client) ≡ true
   counted =
-      let listed : is_among (keys t (OfClient h.client)) key ≡ true = is_in t is_kept.sound (OfClient h.client) key n there (eq-eqb n.client.0 h.client.0 (ap (λ (k : Holder). k.client.0) own)) in
+      let listed : is_among (keys t (OfClient h.client)) key ≡ true = is_in t is_linked.sound (OfClient h.client) key n there (eq-eqb n.client.0 h.client.0 (ap (λ (k : Holder). k.client.0) own)) in
       placed h.client ∙ has-first (keys t (OfClient h.client)) key listed
 
   -- the holder has another entry
@@ -50,13 +50,13 @@ module _ (t t' : Lists Slot) (made : ℕ) (h : Holder) (key : ℕ) (is_kept : Ke
       (counted-set (table_of t made).rows h row row-found kept kept' was is was-due counted updates all x (sym is_is))
 
   -- the holder has none any more, and the count goes with the client's last
-  pub counted-gone : is ≡ false → table_of t' made ≡ without (table_of t made) h → Kept t' made
+  pub counted-gone : is ≡ false → table_of t' made ≡ without (table_of t made) h → IsLinked t' made
       → (kept'' : ClientId → Option ℕ)
       → ((q : ClientId) → kept'' q ≡ cond (same_client h.client q) (left (slice_get (keys t' (OfClient h.client)) 0) (kept' q)) (kept' q))
       → AreCounted (table_of t' made).rows kept''
-  counted-gone gone table is_kept' kept'' ends =
+  counted-gone gone table is_linked' kept'' ends =
       let again : AreCounted (table_of t' made).rows kept' =
       subst (λ (u : Table). AreCounted u.rows kept') (sym table)
-      (counted-without (table_of t made).rows h row row-found kept kept' was is was-due counted updates all gone is_kept.table.one_row) in
+      (counted-without (table_of t made).rows h row row-found kept kept' was is was-due counted updates all gone is_linked.table.one_row) in
       counted-ended (table_of t' made).rows h.client (slice_get (keys t' (OfClient h.client)) 0) kept' kept'' ends
-      (λ none. no_entry t' h.client (filter (is_of_client h.client) (table_of t' made).rows) (is_kept'.clients h.client) none) again
+      (λ none. no_entry t' h.client (filter (is_of_client h.client) (table_of t' made).rows) (is_linked'.clients h.client) none) again

@@ -8,7 +8,7 @@ use Rattle.cap_arena.specs.Heads.{ends_or_none}
 use Rattle.cap_arena.specs.declared.nodes.Ends.{Ends}
 use Rattle.cap_arena.specs.Lists.{Lists, ListName, OfInode, OfClient, OfRecall, IsList, IsLists, empty}
 use Rattle.captable.specs.declared.entry.Slot.{Slot}
-use Rattle.captable.specs.Kept.{Kept}
+use Rattle.captable.specs.Linked.{IsLinked}
 use Rattle.captable.specs.Places.{AreQuiet}
 use Rattle.captable.proofs.Tables.{IsTable-empty}
 
@@ -30,9 +30,9 @@ no_lists =
       room = omega arith;
     }
 
-pub Kept-empty : (t : Lists Slot) → t ≡ empty → Kept t 0
-Kept-empty t nodes =
-    subst (λ (t : Lists Slot). Kept t 0) (sym nodes)
+pub IsLinked-empty : (t : Lists Slot) → t ≡ empty → IsLinked t 0
+IsLinked-empty t nodes =
+    subst (λ (t : Lists Slot). IsLinked t 0) (sym nodes)
     record {
       sound = no_lists;
       table = IsTable-empty;

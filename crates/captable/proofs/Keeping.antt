@@ -14,7 +14,7 @@ use Rattle.captable.specs.declared.entry.Slot.{Slot}
 use Rattle.captable.specs.Table.{IsTable, same, is_row_of}
 use Rattle.captable.specs.Calls.{new_entry, opened, changed, change_rows, without, moved_last, touched}
 use Rattle.captable.specs.Nodes.{holder_of, row_of, with_entry, has_number, with_first, nodes_at, nodes_in, by_number, table_by, IsKeyOf, is_key_of}
-use Rattle.captable.specs.Kept.{AreBelow, Kept}
+use Rattle.captable.specs.Linked.{AreBelow, IsLinked}
 use Rattle.captable.specs.Places.{number_at}
 use Rattle.captable.proofs.Tables.{same_equiv}
 use Rattle.captable.proofs.OneByOne.{one_at_once, if_passing}
@@ -167,7 +167,7 @@ one-key at (k ∷ ks) once q r m n is_q is_r alike there_q there_r =
         let turned : same (holder_of n) (holder_of m) ≡ true = same_equiv.symm (holder_of n) (holder_of m) ∙ alike in cc)
     both false false e f in_q in_r found = found in_q in_r
 
-module _ (t : Lists Slot) (made : ℕ) (is : Kept t made) where
+module _ (t : Lists Slot) (made : ℕ) (is : IsLinked t made) where
   node-of : (k : Holder) (o : Option (Node Slot)) → option_map holder_of o ≡ Some k → (n : Node Slot) × (o ≡ Some n) × (holder_of n ≡ k)
   node-of k None e = absurd (cc)
   node-of k (Some n) e = (n, refl, let is : holder_of n ≡ k = cc in is)

@@ -6,7 +6,7 @@ use Rattle.std.proofs.lemmas.Bool.{eqb-true, eq-eqb, lt-ltb, ltb-true, ltb-false
 use Rattle.cap_arena.specs.declared.nodes.Node.{Node}
 use Rattle.captable.specs.declared.entry.Slot.{Slot}
 use Rattle.captable.specs.Nodes.{has_number, by_number}
-use Rattle.captable.specs.Kept.{AreBelow}
+use Rattle.captable.specs.Linked.{AreBelow}
 use Rattle.captable.proofs.Searches.{filter-filter, filter-map}
 
 -- a number that differs

@@ -16,7 +16,7 @@ use Rattle.captable.specs.Table.{Table, IsTable, same, entry_at}
 use Rattle.captable.specs.Calls.{new_entry, opened, is_of_client, is_of_inode}
 use Rattle.captable.specs.Tests.{open_tests}
 use Rattle.captable.specs.Nodes.{holder_of, row_of, has_number, with_first, nodes_at, nodes_in, table_by, table_of}
-use Rattle.captable.specs.Kept.{AreBelow, Kept}
+use Rattle.captable.specs.Linked.{AreBelow, IsLinked}
 use Rattle.captable.specs.Places.{number_at, AreInOrder}
 use Rattle.captable.proofs.Orders.{order-same, order-wider}
 use Rattle.captable.proofs.Tables.{IsTable-opened}
@@ -24,7 +24,7 @@ use Rattle.captable.proofs.NodesAt.{nodes-append, nodes-same}
 use Rattle.captable.proofs.Numbers.{below-more, below-append, once-next}
 use Rattle.captable.proofs.Keeping.{not_in, number-below, table-added}
 
-module _ (t t' : Lists Slot) (made : ℕ) (key : ℕ) (x : Node Slot) (is : Kept t made) (adds : Adds t t' key x)
+module _ (t t' : Lists Slot) (made : ℕ) (key : ℕ) (x : Node Slot) (is : IsLinked t made) (adds : Adds t t' key x)
     (entry : x.value.entry ≡ new_entry) (number : x.value.number ≡ made) (new : entry_at (table_of t made) (holder_of x) ≡ None) where
   -- the nodes that were there
   node-before : (name : ListName) (k : ℕ) → is_among (keys t name) k ≡ true → node_at t' k ≡ node_at t k
@@ -81,8 +81,8 @@ module _ (t t' : Lists Slot) (made : ℕ) (key : ℕ) (x : Node Slot) (is : Kept
       by_test true = order-wider (number_at t') (keys t (OfClient client)) key less (order-same (number_at t) (number_at t') (keys t (OfClient client)) stays (is.ordered client))
       by_test false = order-same (number_at t) (number_at t') (keys t (OfClient client)) stays (is.ordered client)
 
-  pub Kept-more : IsLists t' → first_failing (open_tests (table_of t made)) ≡ None → Kept t' (made + 1)
-  Kept-more sound passed =
+  pub IsLinked-more : IsLists t' → first_failing (open_tests (table_of t made)) ≡ None → IsLinked t' (made + 1)
+  IsLinked-more sound passed =
       let next : made + 1 ≡ suc made = omega arith in
       record {
         sound = sound;

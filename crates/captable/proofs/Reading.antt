@@ -19,7 +19,7 @@ use Rattle.captable.specs.Calls.{newer_in, is_of_client, is_of_inode}
 use Rattle.captable.specs.Tests.{open_tests}
 use Rattle.captable.specs.Nodes.{holder_of, row_of, nodes_in, by_number, table_of, AreLists, IsKeyOf, is_key_of}
 use Rattle.captable.specs.Walks.{first_holder}
-use Rattle.captable.specs.Kept.{Kept}
+use Rattle.captable.specs.Linked.{IsLinked}
 use Rattle.captable.proofs.Tables.{same-is}
 use Rattle.captable.proofs.Searches.{find-filter_kept}
 use Rattle.captable.proofs.Numbers.{length-by_number}
@@ -34,7 +34,7 @@ first-mapped : (ns : List (Node Slot)) → slice_get (map holder_of ns) 0 ≡ fi
 first-mapped [] = refl
 first-mapped (n ∷ ns) = refl
 
-module _ (t : Lists Slot) (made : ℕ) (is : Kept t made) where
+module _ (t : Lists Slot) (made : ℕ) (is : IsLinked t made) where
   -- the row of a holder is found among those on its inode
   on_inode : (h : Holder) → find (is_row_of h) (table_of t made).rows ≡ find (is_row_of h) (map row_of (nodes_in t (OfInode h.ino)))
   on_inode h =

@@ -12,7 +12,7 @@ use Rattle.captable.specs.declared.entry.Slot.{Slot}
 use Rattle.captable.specs.Table.{Table, IsTable, is_row_of}
 use Rattle.captable.specs.Calls.{without, is_of_client, is_of_inode}
 use Rattle.captable.specs.Nodes.{row_of, has_number, nodes_at, nodes_in, table_by, table_of, IsKeyOf}
-use Rattle.captable.specs.Kept.{AreBelow, Kept}
+use Rattle.captable.specs.Linked.{AreBelow, IsLinked}
 use Rattle.captable.specs.Places.{number_at, AreInOrder}
 use Rattle.captable.proofs.Orders.{order-same, order-left, left-apart}
 use Rattle.captable.proofs.Tables.{IsTable-without}
@@ -21,7 +21,7 @@ use Rattle.captable.proofs.NodesAt.{is_held_by, nodes-removed}
 use Rattle.captable.proofs.Numbers.{below-filter, once-filter}
 use Rattle.captable.proofs.Keeping.{filter-mapped, held, table-removed}
 
-module _ (t t' : Lists Slot) (made : ℕ) (h : Holder) (key : ℕ) (is : Kept t made) (found : IsKeyOf t h key) (removes : Removes t t' key) where
+module _ (t t' : Lists Slot) (made : ℕ) (h : Holder) (key : ℕ) (is : IsLinked t made) (found : IsKeyOf t h key) (removes : Removes t t' key) where
   nodes-left : (name : ListName) → nodes_in t' name ≡ filter (λ m. not (is_held_by h m)) (nodes_in t name)
   nodes-left name =
       let o = held t made is h key found in
@@ -45,8 +45,8 @@ module _ (t t' : Lists Slot) (made : ℕ) (h : Holder) (key : ℕ) (is : Kept t 
       number-stays : (k : ℕ) → nat_eq k key ≡ false → number_at t' k ≡ number_at t k
       number-stays k apart = ap (λ o. option_map_or (λ (node : Node Slot). node.value.number) o 0) (removes.nodes k ∙ ap (λ b. cond b None (node_at t k)) apart)
 
-  pub Kept-left : IsLists t' → Kept t' made
-  Kept-left sound =
+  pub IsLinked-left : IsLists t' → IsLinked t' made
+  IsLinked-left sound =
       record {
         sound = sound;
         table = subst IsTable (sym table-left) (IsTable-without (table_of t made) h is.table);

@@ -10,7 +10,7 @@ use Rattle.captable.specs.declared.entry.Slot.{Slot}
 use Rattle.captable.specs.Table.{IsTable, is_row_of}
 use Rattle.captable.specs.Calls.{changed, is_of_client, is_of_inode}
 use Rattle.captable.specs.Nodes.{row_of, with_entry, has_number, nodes_at, nodes_in, table_by, table_of, SetsEntry, IsKeyOf}
-use Rattle.captable.specs.Kept.{AreBelow, Kept}
+use Rattle.captable.specs.Linked.{AreBelow, IsLinked}
 use Rattle.captable.specs.Places.{number_at, AreInOrder}
 use Rattle.captable.proofs.Orders.{order-same}
 use Rattle.captable.proofs.Tables.{IsTable-changed}
@@ -20,7 +20,7 @@ use Rattle.captable.proofs.NodesAt.{set_in, nodes-set}
 use Rattle.captable.proofs.Numbers.{below-map, once-map}
 use Rattle.captable.proofs.Keeping.{held, keeps_number, row_in, rows-set, rows-changed, table-set}
 
-module _ (t t' : Lists Slot) (made : ℕ) (h : Holder) (key : ℕ) (x : Entry) (is : Kept t made) (found : IsKeyOf t h key)
+module _ (t t' : Lists Slot) (made : ℕ) (h : Holder) (key : ℕ) (x : Entry) (is : IsLinked t made) (found : IsKeyOf t h key)
     (sets : SetsEntry t t' key x) where
   nodes-now : (name : ListName) → nodes_in t' name ≡ map (set_in h x) (nodes_in t name)
   nodes-now name =
@@ -47,8 +47,8 @@ module _ (t t' : Lists Slot) (made : ℕ) (h : Holder) (key : ℕ) (x : Entry) (
       by_test true (Some m) = refl
       by_test false o = refl
 
-  pub Kept-put : IsLists t' → Kept t' made
-  Kept-put sound =
+  pub IsLinked-put : IsLists t' → IsLinked t' made
+  IsLinked-put sound =
       record {
         sound = sound;
         table = subst IsTable (sym table-put) (IsTable-changed (table_of t made) h (λ _. x) is.table);

@@ -19,7 +19,7 @@ use Rattle.captable.specs.declared.entry.Entry.{Entry}
 use Rattle.captable.specs.declared.entry.EntryRow.{EntryRow}
 use Rattle.captable.specs.Table.{Table, IsTable, same, is_row_of, holders_of_rows, is_among, entry_of, entry_at, empty}
 use Rattle.captable.specs.Tests.{open_tests}
-use Rattle.captable.specs.Calls.{new_entry, opened, change_rows, changed, given_back, asked_row, recalled, released, without, without_client}
+use Rattle.captable.specs.Calls.{new_entry, opened, change_rows, changed, without_released, asked_row, recalled, released, without, without_client}
 
 pub same_equiv : IsEquivalence same
 same_equiv =
@@ -179,5 +179,5 @@ IsTable-recalled t n is = IsTable-asked t (take n t.recall) is
 
 pub IsTable-released : (t : Table) (k : Holder) (caps : Caps) → IsTable t → IsTable (released t k caps)
 IsTable-released t k caps is =
-    elim (has caps P) as (λ b. IsTable (cond b (without t k) (changed t k (given_back caps))))
-    [ true ↦ IsTable-without t k is | false ↦ IsTable-changed t k (given_back caps) is ]
+    elim (has caps P) as (λ b. IsTable (cond b (without t k) (changed t k (without_released caps))))
+    [ true ↦ IsTable-without t k is | false ↦ IsTable-changed t k (without_released caps) is ]

@@ -9,7 +9,7 @@ use Rattle.captable.specs.declared.entry.Slot.{Slot}
 use Rattle.captable.specs.Table.{Table, IsTable, same}
 use Rattle.captable.specs.Calls.{touched, is_of_client, is_of_inode}
 use Rattle.captable.specs.Nodes.{row_of, has_number, with_first, nodes_at, nodes_in, table_by, table_of, IsKeyOf}
-use Rattle.captable.specs.Kept.{AreBelow, Kept}
+use Rattle.captable.specs.Linked.{AreBelow, IsLinked}
 use Rattle.captable.specs.Places.{number_at, AreInOrder}
 use Rattle.captable.proofs.Orders.{order-same}
 use Rattle.captable.proofs.Moves.{IsTable-touched}
@@ -17,7 +17,7 @@ use Rattle.captable.proofs.NodesAt.{is_held_by, nodes-append, nodes-same, nodes-
 use Rattle.captable.proofs.Numbers.{number-moved, below-append, below-filter}
 use Rattle.captable.proofs.Keeping.{held, is_in, table-touched}
 
-module _ (t t' : Lists Slot) (made : ℕ) (h : Holder) (key : ℕ) (is : Kept t made) (found : IsKeyOf t h key) (touches : Touches t t' key) where
+module _ (t t' : Lists Slot) (made : ℕ) (h : Holder) (key : ℕ) (is : IsLinked t made) (found : IsKeyOf t h key) (touches : Touches t t' key) where
   -- the nodes in the order of recall, this one last
   moved : List (Node Slot)
   moved = filter (λ m. not (is_held_by h m)) (nodes_in t OfRecall) ++ filter (is_held_by h) (nodes_in t OfRecall)
@@ -50,8 +50,8 @@ module _ (t t' : Lists Slot) (made : ℕ) (h : Holder) (key : ℕ) (is : Kept t 
   unfolding moved
   once-now number = rw (number-moved (is_held_by h) (nodes_in t OfRecall) number (is.once number)) (is.once number)
 
-  pub Kept-touched : IsLists t' → Kept t' made
-  Kept-touched sound =
+  pub IsLinked-touched : IsLists t' → IsLinked t' made
+  IsLinked-touched sound =
       record {
         sound = sound;
         table = subst IsTable (sym table-moved) (IsTable-touched (table_of t made) h is.table);

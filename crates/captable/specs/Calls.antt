@@ -54,12 +54,12 @@ abbrev pub issued : Caps → Entry → Entry
 issued caps e = record e { held = union e.held caps }
 
 -- these are held no more
-abbrev pub taken : Caps → Entry → Entry
-taken caps e = record e { held = minus e.held caps }
+abbrev pub without_acked : Caps → Entry → Entry
+without_acked caps e = record e { held = minus e.held caps }
 
 -- these are neither held nor wanted
-abbrev pub given_back : Caps → Entry → Entry
-given_back caps e = record e { held = minus e.held caps; want = minus e.want caps }
+abbrev pub without_released : Caps → Entry → Entry
+without_released caps e = record e { held = minus e.held caps; want = minus e.want caps }
 
 -- what the client is to know of was one set and is another: the entry's number rises if the sets differ, and it is the
 -- number of a revocation too if a cap went
@@ -69,8 +69,8 @@ renumbered before after e =
     else if not (is_empty (minus after before)) then record e { seq = e.seq + 1 } else e
 
 -- the client was told of the last change
-abbrev pub told : Entry → Entry
-told e = record e { told_seq = e.seq }
+abbrev pub with_told : Entry → Entry
+with_told e = record e { told_seq = e.seq }
 
 abbrev pub with_asked : Bool → Entry → Entry
 with_asked asked e = record e { asked = asked }
@@ -89,12 +89,12 @@ is_due row = is_due_entry row.entry
 
 -- the table after a release: with the pin the whole entry goes
 abbrev pub released : Table → Holder → Caps → Table
-released table k caps = if has caps P then without table k else changed table k (given_back caps)
+released table k caps = if has caps P then without table k else changed table k (without_released caps)
 
 -- the table after an acknowledgement, where these are being revoked: with the pin among them the whole entry goes, whatever else
 -- it holds
 abbrev pub acked : Table → Holder → Caps → Table
-acked table k against = if has against P then without table k else changed table k (taken against)
+acked table k against = if has against P then without table k else changed table k (without_acked against)
 
 -- ---- the order of recall
 

@@ -2,7 +2,7 @@ pub mod Table
 pub mod Calls
 pub mod Codes
 pub mod Edits
-pub mod Kept
+pub mod Linked
 pub mod Known
 pub mod Many
 pub mod Nodes

@@ -62,9 +62,9 @@ pub(crate) enum Edit {
     // It holds these too.
     Issue(CapSet),
     // It holds these no more.
-    Take(CapSet),
+    Ack(CapSet),
     // It neither holds nor wants these.
-    GiveBack(CapSet),
+    Release(CapSet),
     // What it is to know of changed.
     Renumber {
         before: CapSet,
@@ -115,11 +115,11 @@ impl Entry {
         match edit {
             Edit::Want(want) => Entry { want, ..*self },
             Edit::Issue(caps) => self.issued(caps),
-            Edit::Take(caps) => Entry {
+            Edit::Ack(caps) => Entry {
                 held: self.held.minus(caps),
                 ..*self
             },
-            Edit::GiveBack(caps) => Entry {
+            Edit::Release(caps) => Entry {
                 held: self.held.minus(caps),
                 want: self.want.minus(caps),
                 ..*self

@@ -13,8 +13,8 @@ ghost use Rattle.captable.specs.declared.entry.Holder.{Holder};
 ghost use Rattle.captable.specs.declared.entry.Entry.{Entry};
 ghost use Rattle.captable.specs.declared.entry.EntryRow.{EntryRow};
 ghost use Rattle.captable.specs.Table.{Table, IsTable, same, is_row_of, entry_at, is_among, holders_of_rows};
-ghost use Rattle.captable.specs.Calls.{new_entry, opened, changed, given_back, with_asked, released, without, without_client, touched, asked_row, recalled, is_of_client, is_of_inode, entries_on};
-ghost use Rattle.captable.specs.Calls.{told, renumbered};
+ghost use Rattle.captable.specs.Calls.{new_entry, opened, changed, without_released, with_asked, released, without, without_client, touched, asked_row, recalled, is_of_client, is_of_inode, entries_on};
+ghost use Rattle.captable.specs.Calls.{with_told, renumbered};
 ghost use Rattle.captable.specs.Shown.{IsShown};
 ghost use Rattle.captable.specs.Tests.{open_tests};
 ghost use Rattle.captable.specs.Many.{changed_by, changed_where, remade};
@@ -37,7 +37,7 @@ pub fn entries_are_of_their_holders()
     // A release with the pin takes the entry out.
     ensures released_pin { (t : Table) (k : Holder) (caps : Caps) → IsTrue (has caps P) → entry_at (released t k caps) k ≡ None }
     ensures released { (t : Table) (k : Holder) (caps : Caps) → IsFalse (has caps P)
-        → entry_at (released t k caps) k ≡ option_map (given_back caps) (entry_at t k) }
+        → entry_at (released t k caps) k ≡ option_map (without_released caps) (entry_at t k) }
     ensures released_others { (t : Table) (k j : Holder) (caps : Caps) → j ≢ k → entry_at (released t k caps) j ≡ entry_at t j }
     ensures touched { (t : Table) (k j : Holder) → entry_at (touched t k) j ≡ entry_at t j }
     ensures recalled { (t : Table) (n : ℕ) (k : Holder) → IsTrue (is_among (take n t.recall) k)
@@ -91,5 +91,5 @@ pub fn numbers_say_what_was_shown()
         → IsShown shown after (renumbered before after e) }
     ensures less { (shown told caps : Caps) (e f : Entry) → f.seq ≡ e.seq → f.revoke_seq ≡ e.revoke_seq
         → f.told_seq ≡ e.told_seq → IsShown shown told e → IsShown (minus shown caps) (minus told caps) f }
-    ensures told { (now : Caps) (e : Entry) → IsShown now now (told e) }
+    ensures told { (now : Caps) (e : Entry) → IsShown now now (with_told e) }
 {}

@@ -41,7 +41,7 @@ impl Model for CapTable {
     ghost use Rattle.captable.specs.Table.{Table};
     ghost use Rattle.captable.specs.Codes.{table_code};
     ghost use Rattle.captable.specs.Nodes.{table_of};
-    ghost use Rattle.captable.specs.Kept.{Kept};
+    ghost use Rattle.captable.specs.Linked.{IsLinked};
     ghost use Rattle.captable.specs.Places.{AreQuiet, ArePlaced};
     ghost use Rattle.captable.specs.Polls.{AreCounted, places_of, counts_of};
 
@@ -51,7 +51,7 @@ impl Model for CapTable {
 
     ghost view = { λ t. table_of t.lists t.made };
 
-    ghost invariant = { λ t. Kept t.lists t.made × AreQuiet t.lists (places_of t.polls) × ArePlaced t.lists (places_of t.polls)
+    ghost invariant = { λ t. IsLinked t.lists t.made × AreQuiet t.lists (places_of t.polls) × ArePlaced t.lists (places_of t.polls)
         × AreCounted (table_of t.lists t.made).rows (counts_of t.polls) };
 }
 
@@ -93,7 +93,7 @@ impl CapTable {
     ghost use Rattle.capbits.specs.Refusal.{first_failing};
     ghost use Rattle.captable.specs.Tests.{open_tests, open_entry_tests, entry_test, ack_tests, release_tests};
     ghost use Rattle.captable.specs.Edits.{edited, is_numbering};
-    ghost use Rattle.captable.specs.Calls.{opened, with_entry, changed, wanting, issued, acked, renumbered, told, with_asked, with_size_due, released, without, without_client, newer_in, touched, recalled, is_of_client, is_of_inode, is_due};
+    ghost use Rattle.captable.specs.Calls.{opened, with_entry, changed, wanting, issued, acked, renumbered, with_told, with_asked, with_size_due, released, without, without_client, newer_in, touched, recalled, is_of_client, is_of_inode, is_due};
 
     /// A table without entries, of which none was made yet. No clause can say that the memory for it is there.
     pub fn new(alloc: Global) -> Result<CapTable, AllocError>
@@ -340,7 +340,7 @@ impl CapTable {
         if against.has(Cap::P) {
             self.remove(holder);
         } else {
-            let _found = self.edit(holder, Edit::Take(against));
+            let _found = self.edit(holder, Edit::Ack(against));
         }
     }
 
@@ -378,7 +378,7 @@ impl CapTable {
     /// The client was told of the entry's last change. Where it has no entry, nothing happens. It answers what the entry was.
     pub fn tell(&mut self, client: ClientId, ino: Ino) -> Option<Entry>
         ensures was { result ≡ entry_at self.old (holder client ino) }
-        ensures told { self.new ≡ changed self.old (holder client ino) told }
+        ensures told { self.new ≡ changed self.old (holder client ino) with_told }
     {
         self.edit(Holder { client, ino }, Edit::Tell)
     }
@@ -444,7 +444,7 @@ impl CapTable {
         if caps.has(Cap::P) {
             self.remove(holder);
         } else {
-            let _found = self.edit(holder, Edit::GiveBack(caps));
+            let _found = self.edit(holder, Edit::Release(caps));
         }
     }
 

@@ -6,9 +6,9 @@ use Rattle.capgrant.specs.declared.answer.Verdict.{Verdict}
 use Rattle.capgrant.specs.Question.{question}
 use Rattle.capgrant.specs.Verdict.{verdict_of}
 use Rattle.inotree.specs.declared.node.Node.{Node}
-use Rattle.inotree.specs.declared.node.Place.TheVariants.{Here}
+use Rattle.inotree.specs.declared.node.Presence.TheVariants.{Here}
 use Rattle.inotree.specs.Inodes.{InodeMap}
-use Rattle.inotree.specs.Tree.{place, path_of, path_at, names_up}
+use Rattle.inotree.specs.Tree.{presence, path_of, path_at, names_up}
 use Rattle.sessiontab.specs.declared.session.Session.{Session}
 use Rattle.capview.specs.declared.answer.Question.{Question}
 use Rattle.capview.specs.declared.answer.Unknown.{Unknown}
@@ -16,7 +16,7 @@ use Rattle.capview.specs.declared.answer.Unknown.TheVariants as unknown
 use Rattle.capview.specs.declared.view.View.{View}
 use Rattle.capview.specs.Answers.{IsAnswer, IsConnected, IsJudged}
 use Rattle.capview.specs.Sight.{Shows, guest_of}
-use Rattle.capview.proofs.Likeness.{like-path, like-place, like-attr}
+use Rattle.capview.proofs.Likeness.{like-path, like-presence, like-attr}
 
 module _ (fs : List ℕ) (a b : View) (asked : Question) (shows : Shows a b) where
   connected : IsConnected a asked → IsConnected b asked
@@ -24,8 +24,8 @@ module _ (fs : List ℕ) (a b : View) (asked : Question) (shows : Shows a b) whe
 
   pub like-answer : (r : Result Verdict Unknown) → IsAnswer fs a asked r → IsAnswer fs b asked r
   like-answer (Err unknown.NoSession) is = sym (shows.sessions.each asked.client.0) ∙ is
-  like-answer (Err unknown.NoIno) is = (connected is.0, sym (like-place a.tree b.tree asked.ino.0 shows.tree) ∙ is.1)
-  like-answer (Err unknown.Gone) is = (connected is.0, sym (like-place a.tree b.tree asked.ino.0 shows.tree) ∙ is.1)
+  like-answer (Err unknown.NoIno) is = (connected is.0, sym (like-presence a.tree b.tree asked.ino.0 shows.tree) ∙ is.1)
+  like-answer (Err unknown.Gone) is = (connected is.0, sym (like-presence a.tree b.tree asked.ino.0 shows.tree) ∙ is.1)
   like-answer (Err unknown.NoView) is = is
   like-answer (Ok verdict) is = record {
     by = is.by;
@@ -37,8 +37,8 @@ module _ (fs : List ℕ) (a b : View) (asked : Question) (shows : Shows a b) whe
     verdict_is = is.verdict_is;
   }
 
--- an inode that has its place in the tree has a path
-pub here-path : (nodes : InodeMap) (ino : ℕ) → place nodes ino ≡ Here → path_of nodes ino ≡ None → ⊥
+-- an inode that is present in the tree has a path
+pub here-path : (nodes : InodeMap) (ino : ℕ) → presence nodes ino ≡ Here → path_of nodes ino ≡ None → ⊥
 unfolding path_of
 here-path nodes ino here none = let is : path_at Here (names_up 32 nodes ino) ≡ None = ap (λ p. path_at p (names_up 32 nodes ino)) (sym here) ∙ none in cc
 

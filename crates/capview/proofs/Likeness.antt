@@ -10,7 +10,7 @@ use Rattle.inotree.specs.declared.node.Site.{Site}
 use Rattle.inotree.specs.declared.node.Site.TheVariants.{Stray, Under}
 use Rattle.inotree.specs.Alike.{attr_of}
 use Rattle.inotree.specs.Inodes.{InodeMap, with_site, with_attr}
-use Rattle.inotree.specs.Tree.{Nodes, path_of, place, place_at}
+use Rattle.inotree.specs.Tree.{Nodes, path_of, presence, presence_at}
 use Rattle.inotree.specs.Calls.{new_node, changed}
 use Rattle.inotree.proofs.Elsewhere.{path_of-kept}
 use Rattle.sessiontab.specs.declared.session.Session.{Session}
@@ -132,8 +132,8 @@ like-field of_sight a b like i = field_seen of_sight (map.get a.nodes i) ∙ ap 
 pub like-path : (a b : Nodes) (i : ℕ) → IsLike a b → path_of a.nodes i ≡ path_of b.nodes i
 like-path a b i like = path_of-kept b.nodes a.nodes (λ j. Unit {0}) (λ j kept. like-field (λ s. s.site) a b like j) (λ j d name kept under. tt) i tt
 
-pub like-place : (a b : Nodes) (i : ℕ) → IsLike a b → place a.nodes i ≡ place b.nodes i
-like-place a b i like = ap place_at (like-field (λ s. s.site) a b like i)
+pub like-presence : (a b : Nodes) (i : ℕ) → IsLike a b → presence a.nodes i ≡ presence b.nodes i
+like-presence a b i like = ap presence_at (like-field (λ s. s.site) a b like i)
 
 pub like-attr : (a b : Nodes) (i : ℕ) → IsLike a b → attr_of a.nodes i ≡ attr_of b.nodes i
 like-attr a b i like = like-field (λ s. s.attr) a b like i

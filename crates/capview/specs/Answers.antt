@@ -4,9 +4,9 @@ use Rattle.capgrant.specs.declared.access.Attr.{Attr}
 use Rattle.capgrant.specs.declared.answer.Verdict.{Verdict}
 use Rattle.capgrant.specs.Question.{question}
 use Rattle.capgrant.specs.Verdict.{verdict_of}
-use Rattle.inotree.specs.declared.node.Place.TheVariants.{NoIno, Gone}
+use Rattle.inotree.specs.declared.node.Presence.TheVariants.{NoIno, Gone}
 use Rattle.inotree.specs.Alike.{attr_of}
-use Rattle.inotree.specs.Tree.{place, path_of}
+use Rattle.inotree.specs.Tree.{presence, path_of}
 use Rattle.capview.specs.declared.answer.Question.{Question}
 use Rattle.capview.specs.declared.answer.Unknown.{Unknown}
 use Rattle.capview.specs.declared.answer.Unknown.TheVariants as unknown
@@ -30,7 +30,7 @@ pub record IsJudged (fs : List ℕ) (view : View) (asked : Question) (verdict : 
 -- first whether the client is connected, then whether there is such an inode, then whether it has a path, then the verdict
 abbrev pub IsAnswer : List ℕ → View → Question → Result Verdict Unknown → Type 0
 IsAnswer fs view asked (Err unknown.NoSession) = guest view.sessions asked.client.0 ≡ None
-IsAnswer fs view asked (Err unknown.NoIno) = IsConnected view asked × (place view.tree.nodes asked.ino.0 ≡ NoIno)
-IsAnswer fs view asked (Err unknown.Gone) = IsConnected view asked × (place view.tree.nodes asked.ino.0 ≡ Gone)
+IsAnswer fs view asked (Err unknown.NoIno) = IsConnected view asked × (presence view.tree.nodes asked.ino.0 ≡ NoIno)
+IsAnswer fs view asked (Err unknown.Gone) = IsConnected view asked × (presence view.tree.nodes asked.ino.0 ≡ Gone)
 IsAnswer fs view asked (Err unknown.NoView) = ⊥
 IsAnswer fs view asked (Ok verdict) = IsJudged fs view asked verdict

@@ -3,15 +3,15 @@ ghost use Rattle.std.specs.Prelude.{◌≡◌, Some};
 ghost use Rattle.std.specs.FinMap as map;
 ghost use Rattle.capview.specs.declared.view.View.{View};
 ghost use Rattle.capview.specs.Sight.{Shows};
-ghost use Rattle.inotree.specs.declared.node.Place.TheVariants.{Here};
-ghost use Rattle.inotree.specs.Tree.{place};
+ghost use Rattle.inotree.specs.declared.node.Presence.TheVariants.{Here};
+ghost use Rattle.inotree.specs.Tree.{presence};
 ghost use Rattle.capview.specs.Answers.{IsAnswer, IsJudged};
 
 use crate::view::View;
 use capbits::{ClientId, Ino};
 use capgrant::{Access, Verdict, verdict};
 use capspec::FsName;
-use inotree::Place;
+use inotree::Presence;
 use sessiontab::Session;
 
 /// May a client make this access to an inode?
@@ -54,16 +54,16 @@ impl View {
         let Some(session) = self.sessions.get(question.client) else {
             return Err(Unknown::NoSession);
         };
-        match self.tree.place(question.ino) {
-            Place::NoIno => Err(Unknown::NoIno),
-            Place::Gone => Err(Unknown::Gone),
-            Place::Here => Ok(self.judged(fs, session, question)),
+        match self.tree.presence(question.ino) {
+            Presence::NoIno => Err(Unknown::NoIno),
+            Presence::Gone => Err(Unknown::Gone),
+            Presence::Here => Ok(self.judged(fs, session, question)),
         }
     }
 
     // The verdict on an inode that has a path, by the grants of a session.
     fn judged(&self, fs: &FsName, session: &Session, question: &Question) -> Verdict
-        requires here { place self.now.tree.nodes question.now.ino.0 ≡ Here }
+        requires here { presence self.now.tree.nodes question.now.ino.0 ≡ Here }
         requires session { map.get self.now.sessions question.now.client.0 ≡ Some session.now }
         ensures { IsJudged fs.now self.now question.now result }
     {

@@ -11,7 +11,7 @@ use crate::change::ViewChange;
 use capbits::{Caller, ClientId, Ino};
 use capgrant::Attr;
 use capspec::{Grants, KeptGrants};
-use inotree::{Name, Place, Tree};
+use inotree::{Name, Presence, Tree};
 use sessiontab::{Connected, Session, Status};
 use std::alloc::AllocError;
 
@@ -91,7 +91,7 @@ fn moved(tree: &mut Tree, ino: Ino, dir: Ino, name: &Name) -> Result<(), AllocEr
     if tree.inode_refusal(dir).is_some() {
         return Err(AllocError);
     }
-    if tree.new_place_refusal(ino, dir, name.as_bytes()).is_some() {
+    if tree.new_site_refusal(ino, dir, name.as_bytes()).is_some() {
         return Err(AllocError);
     }
     tree.rename_tested(ino, dir, name.as_bytes())
@@ -117,12 +117,12 @@ fn forgotten(tree: &mut Tree, ino: Ino) -> Result<(), AllocError>
     ensures ok { OnOk result (tree.new ≡ tree_by tree.old (change.Forgotten ino)) }
     ensures err { OnErr result (tree.new ≡ tree.old) }
 {
-    match tree.place(ino) {
-        Place::Gone => {
+    match tree.presence(ino) {
+        Presence::Gone => {
             tree.forget(ino);
             Ok(())
         }
-        Place::NoIno | Place::Here => Err(AllocError),
+        Presence::NoIno | Presence::Here => Err(AllocError),
     }
 }
 

@@ -7,7 +7,7 @@ ghost use Rattle.inotree.specs.declared.node.Node.{Node};
 ghost use Rattle.inotree.specs.Alike.{attr_of};
 ghost use Rattle.inotree.specs.Inodes.{with_attr};
 ghost use Rattle.inotree.specs.Calls.{changed};
-ghost use Rattle.inotree.specs.Tree.{Nodes, place, path_of};
+ghost use Rattle.inotree.specs.Tree.{Nodes, presence, path_of};
 ghost use Rattle.sessiontab.specs.declared.session.Session.{Session};
 ghost use Rattle.sessiontab.specs.Connected.{SessionMap, change_session};
 ghost use Rattle.capview.specs.declared.answer.Question.{Question};
@@ -26,11 +26,11 @@ pub fn views_alike_stay_alike()
     ensures through { (shown middle real : View) → Shows shown middle → Shows middle real → Shows shown real }
 {}
 
-/// In views that show the same, each inode has the same path, the same place, and the same owner, group and mode; and a
+/// In views that show the same, each inode has the same path, the same presence, and the same owner, group and mode; and a
 /// question has the same answer.
 pub fn views_alike_answer_alike()
     ensures paths { (shown real : Nodes) (ino : ℕ) → IsLike shown real → path_of shown.nodes ino ≡ path_of real.nodes ino }
-    ensures places { (shown real : Nodes) (ino : ℕ) → IsLike shown real → place shown.nodes ino ≡ place real.nodes ino }
+    ensures presences { (shown real : Nodes) (ino : ℕ) → IsLike shown real → presence shown.nodes ino ≡ presence real.nodes ino }
     ensures attrs { (shown real : Nodes) (ino : ℕ) → IsLike shown real → attr_of shown.nodes ino ≡ attr_of real.nodes ino }
     ensures answers { (fs : List ℕ) (shown real : View) (asked : Question) (answer : Result Verdict Unknown) → Shows shown real
         → IsAnswer fs shown asked answer → IsAnswer fs real asked answer }

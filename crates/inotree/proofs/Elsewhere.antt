@@ -6,12 +6,12 @@ use Rattle.std.specs.Option.{option_map, option_map_or}
 use Rattle.capgrant.specs.declared.access.Attr.{Attr}
 use Rattle.inotree.specs.declared.node.Kind.{Kind}
 use Rattle.inotree.specs.declared.node.Node.{Node}
-use Rattle.inotree.specs.declared.node.Place.TheVariants.{NoIno, Gone, Here}
+use Rattle.inotree.specs.declared.node.Presence.TheVariants.{NoIno, Gone, Here}
 use Rattle.inotree.specs.declared.node.Site.{Site}
 use Rattle.inotree.specs.declared.node.Site.TheVariants.{Root, Under, Stray}
 use Rattle.capbits.specs.Maps.{change_at}
 use Rattle.inotree.specs.Inodes.{InodeMap}
-use Rattle.inotree.specs.Tree.{Nodes, IsTree, IsUnder, site_of, place, place_at, path_at, path_of, upward, names_up}
+use Rattle.inotree.specs.Tree.{Nodes, IsTree, IsUnder, site_of, presence, presence_at, path_at, path_of, upward, names_up}
 use Rattle.inotree.specs.Calls.{new_node, with_new, changed, forgotten}
 use Rattle.inotree.specs.Alike.{IsAlike}
 use Rattle.numbered.proofs.Maps.{insert-here, insert-other, remove-other}
@@ -33,7 +33,7 @@ module _ (m n : InodeMap) (P : ℕ → Type 0) (same : (i : ℕ) → P i → sit
 
   pub path_of-kept : (i : ℕ) → P i → path_of n i ≡ path_of m i
   unfolding path_of
-  path_of-kept i kept = ap (λ s. path_at (place_at s) (names_up 32 n i)) (same i kept) ∙ ap (path_at (place m i)) (names_up-kept 32 i kept)
+  path_of-kept i kept = ap (λ s. path_at (presence_at s) (names_up 32 n i)) (same i kept) ∙ ap (path_at (presence m i)) (names_up-kept 32 i kept)
 
 -- ---- one inode changes, and stays where it stands
 
@@ -71,14 +71,14 @@ alike-new tree kind dir name attr ino sound off =
     alike-other tree (with_new tree kind dir name attr) (tree.last + 1)
     (insert-other nat_cmp_total map.nat_cmp-IsAntisymmetric tree.nodes (tree.last + 1) (new_node kind dir name attr))
     (λ i a under.
-    let here : place tree.nodes (tree.last + 1) ≡ Here = (sound.parents i (tree.last + 1) a under).1 in
-    let none : place tree.nodes (tree.last + 1) ≡ NoIno = ap (λ o. place_at (option_map (λ (n : Node). n.site) o)) (sound.given (tree.last + 1) (omega arith)) in cc)
+    let here : presence tree.nodes (tree.last + 1) ≡ Here = (sound.parents i (tree.last + 1) a under).1 in
+    let none : presence tree.nodes (tree.last + 1) ≡ NoIno = ap (λ o. presence_at (option_map (λ (n : Node). n.site) o)) (sound.given (tree.last + 1) (omega arith)) in cc)
     ino off
 
-pub alike-forgotten : (tree : Nodes) (k ino : ℕ) → IsTree tree → place tree.nodes k ≡ Gone → (ino ≡ k → ⊥) → IsAlike tree (forgotten tree k) ino
+pub alike-forgotten : (tree : Nodes) (k ino : ℕ) → IsTree tree → presence tree.nodes k ≡ Gone → (ino ≡ k → ⊥) → IsAlike tree (forgotten tree k) ino
 alike-forgotten tree k ino sound gone off =
     alike-other tree (forgotten tree k) k (remove-other nat_cmp_total map.nat_cmp-IsAntisymmetric tree.nodes k)
-    (λ i a under. let here : place tree.nodes k ≡ Here = (sound.parents i k a under).1 in cc)
+    (λ i a under. let here : presence tree.nodes k ≡ Here = (sound.parents i k a under).1 in cc)
     ino off
 
 -- an inode that is there does not have the next number

@@ -5,11 +5,11 @@ use Rattle.std.specs.FinMap as map
 use Rattle.inotree.specs.declared.index.Slot.{Slot}
 use Rattle.inotree.specs.declared.node.Node.{Node}
 use Rattle.inotree.specs.declared.node.Site.TheVariants.{Root, Under}
-use Rattle.inotree.specs.declared.node.Place.TheVariants.{Here}
+use Rattle.inotree.specs.declared.node.Presence.TheVariants.{Here}
 use Rattle.inotree.specs.Names.{is_bad_name}
 use Rattle.inotree.specs.Inodes.{InodeMap}
 use Rattle.inotree.specs.Index.{NameIndex}
-use Rattle.inotree.specs.Tree.{IsTree, IsIndexed, IsUnder, Climbs, AllHaveGoodNames, site_of, kind_of, place, place_at, is_directory, is_directory_kind, is_in, upward, names_up, lies_below, depth, reaches}
+use Rattle.inotree.specs.Tree.{IsTree, IsIndexed, IsUnder, Climbs, AllHaveGoodNames, site_of, kind_of, presence, presence_at, is_directory, is_directory_kind, is_in, upward, names_up, lies_below, depth, reaches}
 use Rattle.numbered.proofs.Found.{and_true, any_found}
 use Rattle.numbered.proofs.Maps.{same_or_other, insert-here, insert-other, remove-here, remove-other}
 use Rattle.inotree.proofs.Named.{node_of}
@@ -74,7 +74,7 @@ module _ (m n : InodeMap) (last next k d : ℕ) (a : List ℕ) (t : IsTree (reco
     (fresh : (i : ℕ) → next < i → map.get n i ≡ None)
     (now : IsUnder n k d a)
     (was_no_root : site_of m k ≡ Some Root → ⊥)
-    (dir_kind : is_directory m d ≡ true) (dir_here : place m d ≡ Here) (dir_off : d ≡ k → ⊥)
+    (dir_kind : is_directory m d ≡ true) (dir_here : presence m d ≡ Here) (dir_off : d ≡ k → ⊥)
     (good : is_bad_name a ≡ false) (free : (j : ℕ) → IsUnder m j d a → ⊥) where
   one_off : (1 ≡ k) → ⊥
   one_off e = was_no_root (subst (λ y. site_of m y ≡ Some Root) e t.root)
@@ -99,11 +99,11 @@ module _ (m n : InodeMap) (last next k d : ℕ) (a : List ℕ) (t : IsTree (reco
         let names : b ≡ a = one_name n k e d b a mine now in
         free j (subst (λ y. IsUnder m j y a) dirs (subst (λ y. IsUnder m j e y) names his))
 
-  module _ (dir_still : (i e : ℕ) (b : List ℕ) → IsUnder m i e b → (is_directory n e ≡ true) × (place n e ≡ Here))
-      (reached : (i : ℕ) → place n i ≡ Here → (up : List (List ℕ)) × (length up ≤ 32) × Climbs n i up 1)
+  module _ (dir_still : (i e : ℕ) (b : List ℕ) → IsUnder m i e b → (is_directory n e ≡ true) × (presence n e ≡ Here))
+      (reached : (i : ℕ) → presence n i ≡ Here → (up : List (List ℕ)) × (length up ≤ 32) × Climbs n i up 1)
       (inner : AllHaveGoodNames n) where
-    pub tree-placed : IsTree (record { nodes = n; last = next })
-    tree-placed = record {
+    pub tree-sited : IsTree (record { nodes = n; last = next })
+    tree-sited = record {
       root = other 1 one_off ∙ t.root;
       root_kind = ap is_directory_kind (kinds 1 one_off) ∙ t.root_kind;
       one_root = λ i e. elim (same_ino i k) [
@@ -113,7 +113,7 @@ module _ (m n : InodeMap) (last next k d : ℕ) (a : List ℕ) (t : IsTree (reco
       parents = λ i e b u. elim (same_ino i k) [
         | inl same ↦
             let dirs : e ≡ d = one_dir n k e d b a (subst (λ y. IsUnder n y e b) same u) now in
-            subst (λ y. (is_directory n y ≡ true) × (place n y ≡ Here)) (sym dirs) (ap is_directory_kind (kinds d dir_off) ∙ dir_kind, ap place_at (other d dir_off) ∙ dir_here)
+            subst (λ y. (is_directory n y ≡ true) × (presence n y ≡ Here)) (sym dirs) (ap is_directory_kind (kinds d dir_off) ∙ dir_kind, ap presence_at (other d dir_off) ∙ dir_here)
         | inr off ↦ dir_still i e b (stays i e b u off)
       ];
       siblings = grown_siblings;
@@ -215,11 +215,11 @@ module _ (m n : InodeMap) (last : ℕ) (t : IsTree (record { nodes = m; last = l
     one_root = λ i e. t.one_root i (sym (sites i) ∙ e);
     parents = λ i d a u.
         let was = t.parents i d a (sym (sites i) ∙ u) in
-        (ap is_directory_kind (kinds d) ∙ was.0, ap place_at (sites d) ∙ was.1);
+        (ap is_directory_kind (kinds d) ∙ was.0, ap presence_at (sites d) ∙ was.1);
     siblings = λ i j d a u v. t.siblings i j d a (sym (sites i) ∙ u) (sym (sites j) ∙ v);
     names = λ i d a u. t.names i d a (sym (sites i) ∙ u);
     inner_names = inner;
-    reached = λ i h. let r = t.reached i (sym (ap place_at (sites i)) ∙ h) in (r.0, r.1, still_climbs i r.0 1 r.2);
+    reached = λ i h. let r = t.reached i (sym (ap presence_at (sites i)) ∙ h) in (r.0, r.1, still_climbs i r.0 1 r.2);
     given = fresh;
   }
 

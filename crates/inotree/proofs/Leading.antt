@@ -6,9 +6,9 @@ use Rattle.std.specs.FinMap as map
 use Rattle.std.specs.List.{list_any}
 use Rattle.std.specs.Option.{option_map}
 use Rattle.inotree.specs.declared.node.Node.{Node}
-use Rattle.inotree.specs.declared.node.Place.{Place}
-use Rattle.inotree.specs.declared.node.Place.TheVariants.{NoIno, Gone, Here}
-use Rattle.inotree.specs.Tree.{Nodes, IsTree, IsUnder, Climbs, place, path_at, path_of, names_up, is_at, child, follow}
+use Rattle.inotree.specs.declared.node.Presence.{Presence}
+use Rattle.inotree.specs.declared.node.Presence.TheVariants.{NoIno, Gone, Here}
+use Rattle.inotree.specs.Tree.{Nodes, IsTree, IsUnder, Climbs, presence, path_at, path_of, names_up, is_at, child, follow}
 use Rattle.numbered.proofs.Found.{found, any_found}
 use Rattle.inotree.proofs.Growing.{climb-names}
 use Rattle.inotree.proofs.Named.{first_some, first_none, node_of, at_under, under_at}
@@ -31,7 +31,7 @@ module _ (t : Nodes) (tree : IsTree t) where
   follow-climb [] acc i top c = ap (λ k. follow t.nodes (Some k) acc) (sym c)
   follow-climb (a ∷ up) acc i top c = follow-climb up (a ∷ acc) c.0 top c.2 ∙ ap (λ o. follow t.nodes o acc) (child-is i c.0 a c.1)
 
-  at_here : (i : ℕ) (p : Place) (up names : List (List ℕ)) → path_at p up ≡ Some names → (p ≡ Here) × (reverse up ≡ names)
+  at_here : (i : ℕ) (p : Presence) (up names : List (List ℕ)) → path_at p up ≡ Some names → (p ≡ Here) × (reverse up ≡ names)
   at_here i NoIno up names e = cc
   at_here i Gone up names e = cc
   at_here i Here up names e = (refl, cc)
@@ -39,7 +39,7 @@ module _ (t : Nodes) (tree : IsTree t) where
   pub path_leads : (i : ℕ) (names : List (List ℕ)) → path_of t.nodes i ≡ Some names → follow t.nodes (Some 1) names ≡ Some i
   unfolding path_of
   path_leads i names e =
-      let h = at_here i (place t.nodes i) (names_up 32 t.nodes i) names e in
+      let h = at_here i (presence t.nodes i) (names_up 32 t.nodes i) names e in
       let r = tree.reached i h.0 in
       let up : names_up 32 t.nodes i ≡ r.0 = climb-names t.nodes r.0 i 32 tree.root r.1 r.2 in
       ap (follow t.nodes (Some 1)) (sym h.1 ∙ ap reverse up) ∙ follow-climb r.0 [] i 1 r.2

@@ -9,14 +9,14 @@ use Rattle.inotree.specs.declared.node.Node.{Node}
 use Rattle.inotree.specs.declared.node.Site.{Site}
 use Rattle.inotree.specs.declared.node.Site.TheVariants.{Root, Under, Stray}
 use Rattle.inotree.specs.Inodes.{InodeMap, with_site}
-use Rattle.inotree.specs.Tree.{Nodes, IsTree, IsUnder, site_of, place, place_at, path_at, path_of, upward, names_up, lies_below, is_within}
+use Rattle.inotree.specs.Tree.{Nodes, IsTree, IsUnder, site_of, presence, presence_at, path_at, path_of, upward, names_up, lies_below, is_within}
 use Rattle.inotree.specs.Calls.{changed, moved}
 use Rattle.inotree.specs.Alike.{IsAlike}
 use Rattle.inotree.specs.Tests.{rename_tests}
 use Rattle.inotree.proofs.Changes.{moves}
 use Rattle.inotree.proofs.Growing.{off_here, off_next}
 use Rattle.inotree.proofs.Leading.{child-is}
-use Rattle.inotree.proofs.OneInode.{get-changed, place-other}
+use Rattle.inotree.proofs.OneInode.{get-changed, presence-other}
 use Rattle.inotree.proofs.Passing.{slot_site, passed-rename}
 use Rattle.inotree.proofs.Shape.{same_ino}
 use Rattle.inotree.proofs.Within.{below-split}
@@ -42,7 +42,7 @@ module _ (m n : InodeMap) (k : ℕ) (other : (i : ℕ) → (i ≡ k → ⊥) →
 
   path-off : (i : ℕ) → is_within m i k ≡ false → path_of n i ≡ path_of m i
   unfolding path_of is_within
-  path-off i out = ap (λ s. path_at (place_at s) (names_up 32 n i)) (other i (off_here 32 m i k out)) ∙ ap (path_at (place m i)) (names_up-off 32 i out)
+  path-off i out = ap (λ s. path_at (presence_at s) (names_up 32 n i)) (other i (off_here 32 m i k out)) ∙ ap (path_at (presence m i)) (names_up-off 32 i out)
 
 pub moved-alike : (tree : Nodes) (ino dir : ℕ) (name : List ℕ) (other : ℕ) → is_within tree.nodes other ino ≡ false → IsAlike tree (moved tree ino dir name) other
 unfolding is_within
@@ -51,8 +51,8 @@ moved-alike tree ino dir name other out = record {
   attr = ap (option_map (λ (n : Node). n.attr)) (get-changed (with_site (Under (record { 0 = dir }) name)) tree.nodes ino other (off_here 32 tree.nodes other ino out));
 }
 
-pub moved-places : (tree : Nodes) (ino dir : ℕ) (name : List ℕ) (other : ℕ) → (other ≡ ino → ⊥) → place (moved tree ino dir name).nodes other ≡ place tree.nodes other
-moved-places tree ino dir name other off = place-other tree (with_site (Under (record { 0 = dir }) name)) ino other off
+pub moved-presences : (tree : Nodes) (ino dir : ℕ) (name : List ℕ) (other : ℕ) → (other ≡ ino → ⊥) → presence (moved tree ino dir name).nodes other ≡ presence tree.nodes other
+moved-presences tree ino dir name other off = presence-other tree (with_site (Under (record { 0 = dir }) name)) ino other off
 
 pub moved-tree : (tree : Nodes) (ino dir : ℕ) (name : List ℕ) → IsTree tree → first_failing (rename_tests tree ino dir name) ≡ None → IsTree (moved tree ino dir name)
 moved-tree tree ino dir name sound passing =

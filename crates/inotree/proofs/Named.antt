@@ -9,10 +9,10 @@ use Rattle.inotree.specs.declared.index.Slot.{Slot}
 use Rattle.inotree.specs.declared.node.Node.{Node}
 use Rattle.inotree.specs.declared.node.Site.{Site}
 use Rattle.inotree.specs.declared.node.Site.TheVariants.{Root, Under, Stray}
-use Rattle.inotree.specs.declared.node.Place.TheVariants.{NoIno, Here}
+use Rattle.inotree.specs.declared.node.Presence.TheVariants.{NoIno, Here}
 use Rattle.inotree.specs.Inodes.{InodeMap}
 use Rattle.inotree.specs.Index.{NameIndex, index_reaches, AreInodes}
-use Rattle.inotree.specs.Tree.{IsTree, IsIndexed, IsUnder, StandInDirectories, site_of, is_directory, place, place_at, is_at, is_in, child, first_where, reaches}
+use Rattle.inotree.specs.Tree.{IsTree, IsIndexed, IsUnder, StandInDirectories, site_of, is_directory, presence, presence_at, is_at, is_in, child, first_where, reaches}
 use Rattle.numbered.proofs.Found.{both_true, and_true, same_bool, all_map, any_some, any-filter, found, any_found}
 use Rattle.numbered.proofs.Maps.{tied, tied_here}
 use Rattle.inotree.proofs.Order.{name_total, name_same}
@@ -101,9 +101,9 @@ module _ (m : InodeMap) (index : NameIndex) (x : IsIndexed m index) where
   index_inodes last t fits = all_map (map.entries index) (λ e h.
       let u : IsUnder m e.1 e.0.dir e.0.name = x.real e.1 e.0.dir e.0.name h in
       within e.0.dir (t.parents e.1 e.0.dir e.0.name u).1) (found slot_total slot_same index) where
-        within : (d : ℕ) → place m d ≡ Here → d < 2 ^ 64
+        within : (d : ℕ) → presence m d ≡ Here → d < 2 ^ 64
         within d here = elim (cases_lt last d) [
-          | inl above ↦ let none : place m d ≡ NoIno = ap (λ o. place_at (option_map (λ (n : Node). n.site) o)) (t.given d above) in cc
+          | inl above ↦ let none : presence m d ≡ NoIno = ap (λ o. presence_at (option_map (λ (n : Node). n.site) o)) (t.given d above) in cc
           | inr le ↦ omega arith
         ]
 

@@ -14,7 +14,7 @@ use Rattle.inotree.specs.declared.node.Site.TheVariants.{Root, Stray}
 use Rattle.inotree.specs.Names.{is_bad_attribute}
 use Rattle.capbits.specs.Maps.{change_at}
 use Rattle.inotree.specs.Inodes.{InodeMap, with_site, with_setting, with_attribute, without_attribute}
-use Rattle.inotree.specs.Tree.{Nodes, IsTree, IsChildless, HasGoodNames, site_of, place, place_at, path_of, is_directory, reaches}
+use Rattle.inotree.specs.Tree.{Nodes, IsTree, IsChildless, HasGoodNames, site_of, presence, presence_at, path_of, is_directory, reaches}
 use Rattle.inotree.specs.Calls.{changed, unlinked}
 use Rattle.inotree.specs.Alike.{IsAlike}
 use Rattle.inotree.specs.Tests.{inode_tests, root_test, file_test, directory_test, childless_test, empty_test, new_attribute_tests, unlink_tests, rmdir_tests, detach_tests, is_root_site, test_at}
@@ -39,19 +39,19 @@ is_some-map f None = refl
 is_some-map f (Some x) = refl
 
 -- no inode comes, and none goes
-pub known-changed : (tree : Nodes) (f : Node → Node) (ino other : ℕ) → map.contains_key (changed f tree ino).nodes other ≡ map.contains_key tree.nodes other
-known-changed tree f ino other =
+pub exist-changed : (tree : Nodes) (f : Node → Node) (ino other : ℕ) → map.contains_key (changed f tree ino).nodes other ≡ map.contains_key tree.nodes other
+exist-changed tree f ino other =
     let nothing : Node → Bool = λ n. false in
     sym (is_some-map nothing (map.get (change_at f tree.nodes ino) other)) ∙ ap is_some (field-changed f nothing (λ n. refl) tree.nodes ino other) ∙ is_some-map nothing (map.get tree.nodes other)
 
-pub place-other : (tree : Nodes) (f : Node → Node) (ino other : ℕ) → (other ≡ ino → ⊥) → place (changed f tree ino).nodes other ≡ place tree.nodes other
-place-other tree f ino other off = ap (λ o. place_at (option_map (λ (n : Node). n.site) o)) (get-changed f tree.nodes ino other off)
+pub presence-other : (tree : Nodes) (f : Node → Node) (ino other : ℕ) → (other ≡ ino → ⊥) → presence (changed f tree ino).nodes other ≡ presence tree.nodes other
+presence-other tree f ino other off = ap (λ o. presence_at (option_map (λ (n : Node). n.site) o)) (get-changed f tree.nodes ino other off)
 
 -- ---- the inode stays where it stands
 
 module _ (f : Node → Node) (site : (n : Node) → (f n).site ≡ n.site) where
-  pub place-changed : (tree : Nodes) (ino other : ℕ) → place (changed f tree ino).nodes other ≡ place tree.nodes other
-  place-changed tree ino other = ap place_at (field-changed f (λ n. n.site) site tree.nodes ino other)
+  pub presence-changed : (tree : Nodes) (ino other : ℕ) → presence (changed f tree ino).nodes other ≡ presence tree.nodes other
+  presence-changed tree ino other = ap presence_at (field-changed f (λ n. n.site) site tree.nodes ino other)
 
   pub path-changed : (tree : Nodes) (ino other : ℕ) → path_of (changed f tree ino).nodes other ≡ path_of tree.nodes other
   path-changed tree ino other =
@@ -113,7 +113,7 @@ sound-unlinked tree ino sound passed childless = sound-any tree (with_site Stray
     no_root : site_of tree.nodes ino ≡ Some Root → ⊥
     no_root is = let no = (passed-if (is_root_site (site_of tree.nodes ino)) refusal.Root _ passed).0 in let yes = ap is_root_site is in cc
 
--- the tests of what leaves its place, as they are made: of the inode and the root first
+-- the tests of what leaves its site, as they are made: of the inode and the root first
 leaving : (tree : Nodes) (ino : ℕ) → first_failing (inode_tests tree ino ++ root_test tree ino ∷ []) ≡ None → first_failing (root_test tree ino ∷ []) ≡ None
 leaving tree ino passed = (here tree ino _ passed).1
 

@@ -14,27 +14,27 @@ use Rattle.inotree.specs.declared.index.Slot.{Slot}
 use Rattle.inotree.specs.declared.node.Node.{Node}
 use Rattle.inotree.specs.declared.node.Site.{Site}
 use Rattle.inotree.specs.declared.node.Site.TheVariants.{Root, Under, Stray}
-use Rattle.inotree.specs.declared.node.Place.{Place}
-use Rattle.inotree.specs.declared.node.Place.TheVariants.{NoIno, Gone, Here}
+use Rattle.inotree.specs.declared.node.Presence.{Presence}
+use Rattle.inotree.specs.declared.node.Presence.TheVariants.{NoIno, Gone, Here}
 use Rattle.inotree.specs.Names.{is_bad_name, is_bad_attribute}
 use Rattle.inotree.specs.Inodes.{InodeMap}
 use Rattle.inotree.specs.Index.{NameIndex}
-use Rattle.inotree.specs.Tree.{Nodes, IsTree, IsIndexed, IsChildless, site_of, place, place_at, slot_at, is_directory, child, depth, reaches, is_within}
+use Rattle.inotree.specs.Tree.{Nodes, IsTree, IsIndexed, IsChildless, site_of, presence, presence_at, slot_at, is_directory, child, depth, reaches, is_within}
 use Rattle.inotree.specs.Tests.{is_no_ino, is_gone, is_root_site, test_at, create_tests, detach_tests, rename_tests, set_xattr_tests, remove_xattr_tests, snap_add_tests, snap_remove_tests}
 use Rattle.inotree.proofs.Growing.{reach_up}
 use Rattle.inotree.proofs.Inner.{long_name, no_long_attribute, no_long_snapshot}
 use Rattle.inotree.proofs.Named.{child-index}
 
-gone_at : (s : Option Site) → place_at s ≡ Gone → s ≡ Some Stray
+gone_at : (s : Option Site) → presence_at s ≡ Gone → s ≡ Some Stray
 gone_at None e = cc
 gone_at (Some Stray) e = refl
 gone_at (Some Root) e = cc
 gone_at (Some (Under dir name)) e = cc
 
-pub gone_site : (m : InodeMap) (i : ℕ) → place m i ≡ Gone → site_of m i ≡ Some Stray
+pub gone_site : (m : InodeMap) (i : ℕ) → presence m i ≡ Gone → site_of m i ≡ Some Stray
 gone_site m i e = gone_at (site_of m i) e
 
--- an inode that has a place in the index stands there
+-- an inode that has a slot in the index stands there
 pub slot_site : (s : Option Site) (p : Slot) → slot_at s ≡ Some p → s ≡ Some (Under (record { 0 = p.dir }) p.name)
 slot_site None p e = cc
 slot_site (Some Root) p e = cc
@@ -43,7 +43,7 @@ slot_site (Some (Under dir name)) p e =
     let same : ◌≡◌ {A = Slot} (record { dir = dir.0; name = name }) p = cc in
     λ i. Some (Under (record { 0 = (same i).dir }) (same i).name)
 
-here_by : (p : Place) → is_no_ino p ≡ false → is_gone p ≡ false → p ≡ Here
+here_by : (p : Presence) → is_no_ino p ≡ false → is_gone p ≡ false → p ≡ Here
 here_by NoIno is was = cc
 here_by Gone is was = cc
 here_by Here is was = refl
@@ -53,24 +53,24 @@ none_of None e = refl
 none_of (Some x) e = cc
 
 -- an inode that passed its tests is there, and so what comes behind them passed
-pub here : (t : Nodes) (i : ℕ) (rest : Option Refusal) → (if is_no_ino (place t.nodes i) then Some refusal.NoIno else if is_gone (place t.nodes i) then Some refusal.Gone else rest) ≡ None →
-    (place t.nodes i ≡ Here) × (rest ≡ None)
+pub here : (t : Nodes) (i : ℕ) (rest : Option Refusal) → (if is_no_ino (presence t.nodes i) then Some refusal.NoIno else if is_gone (presence t.nodes i) then Some refusal.Gone else rest) ≡ None →
+    (presence t.nodes i ≡ Here) × (rest ≡ None)
 here t i rest passed =
-    let no = passed-if (is_no_ino (place t.nodes i)) refusal.NoIno _ passed in
-    let gone = passed-if (is_gone (place t.nodes i)) refusal.Gone rest no.1 in
-    (here_by (place t.nodes i) no.0 gone.0, gone.1)
+    let no = passed-if (is_no_ino (presence t.nodes i)) refusal.NoIno _ passed in
+    let gone = passed-if (is_gone (presence t.nodes i)) refusal.Gone rest no.1 in
+    (here_by (presence t.nodes i) no.0 gone.0, gone.1)
 
 -- the new name and its directory
-pub record Placeable (m : InodeMap) (d : ℕ) (a : List ℕ) : Type 0 where
+pub record IsFreeSite (m : InodeMap) (d : ℕ) (a : List ℕ) : Type 0 where
   pub kind : is_directory m d ≡ true
-  pub here : place m d ≡ Here
+  pub here : presence m d ≡ Here
   pub good : is_bad_name a ≡ false
   pub free : child m d a ≡ None
 
-placeable : (t : Nodes) (d : ℕ) (a : List ℕ) (rest : Option Refusal) →
-    (if is_no_ino (place t.nodes d) then Some refusal.NoIno else if is_gone (place t.nodes d) then Some refusal.Gone else if not (is_directory t.nodes d) then Some refusal.NotDir else
-    if is_bad_name a then Some refusal.NameBad else if is_some (child t.nodes d a) then Some refusal.Exists else rest) ≡ None → Placeable t.nodes d a × (rest ≡ None)
-placeable t d a rest passed =
+free_site : (t : Nodes) (d : ℕ) (a : List ℕ) (rest : Option Refusal) →
+    (if is_no_ino (presence t.nodes d) then Some refusal.NoIno else if is_gone (presence t.nodes d) then Some refusal.Gone else if not (is_directory t.nodes d) then Some refusal.NotDir else
+    if is_bad_name a then Some refusal.NameBad else if is_some (child t.nodes d a) then Some refusal.Exists else rest) ≡ None → IsFreeSite t.nodes d a × (rest ≡ None)
+free_site t d a rest passed =
     let at = here t d _ passed in
     let dir = passed-if (not (is_directory t.nodes d)) refusal.NotDir _ at.1 in
     let bad = passed-if (is_bad_name a) refusal.NameBad _ dir.1 in
@@ -83,9 +83,9 @@ below_limit n e = grind (arith, nat_tests)
 not_last : (n : ℕ) → (n == 18446744073709551615) ≡ false → n ≡ 18446744073709551615 → ⊥
 not_last n e is = grind (arith, nat_tests)
 
-pub passed-create : (t : Nodes) (d : ℕ) (a : List ℕ) → first_failing (create_tests t d a) ≡ None → Placeable t.nodes d a × (depth t.nodes d < 32) × (t.last ≡ 18446744073709551615 → ⊥)
+pub passed-create : (t : Nodes) (d : ℕ) (a : List ℕ) → first_failing (create_tests t d a) ≡ None → IsFreeSite t.nodes d a × (depth t.nodes d < 32) × (t.last ≡ 18446744073709551615 → ⊥)
 passed-create t d a passed =
-    let p = placeable t d a _ passed in
+    let p = free_site t d a _ passed in
     let deep = passed-if (nat_le 32 (depth t.nodes d)) refusal.TooDeep _ p.1 in
     let full = passed-if (nat_le 65536 (map.len t.nodes) || (t.last == 18446744073709551615)) refusal.Limit _ deep.1 in
     (p.0, below_limit (depth t.nodes d) deep.0, not_last t.last (or_parts (nat_le 65536 (map.len t.nodes)) (t.last == 18446744073709551615) full.0).1)
@@ -94,23 +94,23 @@ passed-create t d a passed =
 pub short : (a : List ℕ) → (255 < length a → ⊥) → length a ≤ 255
 short a not_long = elim (cases_lt 255 (length a)) [ inl long ↦ absurd (not_long long) | inr fits ↦ fits ]
 
-known_at : (o : Option Node) → place_at (option_map (λ n. n.site) o) ≡ Here → (n : Node) × (o ≡ Some n)
+known_at : (o : Option Node) → presence_at (option_map (λ n. n.site) o) ≡ Here → (n : Node) × (o ≡ Some n)
 known_at None at = cc
 known_at (Some n) at = (n, refl)
 
-known : (t : Nodes) (i : ℕ) → place t.nodes i ≡ Here → (n : Node) × (map.get t.nodes i ≡ Some n)
+known : (t : Nodes) (i : ℕ) → presence t.nodes i ≡ Here → (n : Node) × (map.get t.nodes i ≡ Some n)
 known t i at = known_at (map.get t.nodes i) at
 
 -- an inode that is not the root, and has a path, stands in a directory
-stands : (s : Option Site) → place_at s ≡ Here → is_root_site s ≡ false → (slot : Slot) × (slot_at s ≡ Some slot)
+stands : (s : Option Site) → presence_at s ≡ Here → is_root_site s ≡ false → (slot : Slot) × (slot_at s ≡ Some slot)
 stands None at root = cc
 stands (Some Root) at root = cc
 stands (Some Stray) at root = cc
 stands (Some (Under dir name)) at root = (record { dir = dir.0; name = name }, refl)
 
--- so does one that may leave its place
+-- so does one that may leave its site
 leaves : (t : Nodes) (i : ℕ) (rest : Option Refusal) →
-    (if is_no_ino (place t.nodes i) then Some refusal.NoIno else if is_gone (place t.nodes i) then Some refusal.Gone else if is_root_site (site_of t.nodes i) then Some refusal.Root else rest) ≡ None →
+    (if is_no_ino (presence t.nodes i) then Some refusal.NoIno else if is_gone (presence t.nodes i) then Some refusal.Gone else if is_root_site (site_of t.nodes i) then Some refusal.Root else rest) ≡ None →
     ((slot : Slot) × (slot_at (site_of t.nodes i) ≡ Some slot)) × (rest ≡ None)
 leaves t i rest passed =
     let at = here t i _ passed in
@@ -123,10 +123,10 @@ passed-detach t i passed =
     (p.0, (passed-if (reaches 1 t.nodes i) refusal.NotEmpty _ p.1).0)
 
 pub passed-rename : (t : Nodes) (i d : ℕ) (a : List ℕ) → first_failing (rename_tests t i d a) ≡ None →
-    ((slot : Slot) × (slot_at (site_of t.nodes i) ≡ Some slot)) × Placeable t.nodes d a × (is_within t.nodes d i ≡ false) × (reaches (32 - depth t.nodes d) t.nodes i ≡ false)
+    ((slot : Slot) × (slot_at (site_of t.nodes i) ≡ Some slot)) × IsFreeSite t.nodes d a × (is_within t.nodes d i ≡ false) × (reaches (32 - depth t.nodes d) t.nodes i ≡ false)
 passed-rename t i d a passed =
     let p = leaves t i _ passed in
-    let q = placeable t d a _ p.1 in
+    let q = free_site t d a _ p.1 in
     let loop = passed-if (is_within t.nodes d i) refusal.Loop _ q.1 in
     let deep = passed-if (reaches (32 - depth t.nodes d) t.nodes i) refusal.TooDeep _ loop.1 in
     (p.0, q.0, loop.0, deep.0)

@@ -162,9 +162,9 @@ rise-moved m n heights k other kinds rise i d a u = elim (same_ino i k) [
 ]
 
 -- one inode, in which none stands, changes, and what is kept of it
-pub rise-placed : (m n : InodeMap) (old new : HeightMap) (k : ℕ) → ((i : ℕ) → (i ≡ k → ⊥) → site_of n i ≡ site_of m i) → ((i : ℕ) → (i ≡ k → ⊥) → kind_of n i ≡ kind_of m i) → SameBut k old new
+pub rise-sited : (m n : InodeMap) (old new : HeightMap) (k : ℕ) → ((i : ℕ) → (i ≡ k → ⊥) → site_of n i ≡ site_of m i) → ((i : ℕ) → (i ≡ k → ⊥) → kind_of n i ≡ kind_of m i) → SameBut k old new
     → IsChildless m k → HeightsRise m old → HeightsRiseBut n new k
-rise-placed m n old new k other kinds same childless rise i d a u = elim (same_ino i k) [
+rise-sited m n old new k other kinds same childless rise i d a u = elim (same_ino i k) [
   | inl here ↦ inl here
   | inr off ↦
       let was : IsUnder m i d a = sym (other i off) ∙ u in

@@ -5,10 +5,10 @@ use Rattle.std.specs.FinMap as map
 use Rattle.capbits.specs.declared.ids.Ino.{Ino}
 use Rattle.inotree.specs.declared.index.Slot.{Slot}
 use Rattle.inotree.specs.declared.node.Site.TheVariants.{Root}
-use Rattle.inotree.specs.declared.node.Place.TheVariants.{Here}
+use Rattle.inotree.specs.declared.node.Presence.TheVariants.{Here}
 use Rattle.inotree.specs.Inodes.{InodeMap}
 use Rattle.inotree.specs.Index.{NameIndex}
-use Rattle.inotree.specs.Tree.{IsTree, IsIndexed, IsUnder, Climbs, AllHaveGoodNames, site_of, kind_of, place, place_at, is_directory_kind}
+use Rattle.inotree.specs.Tree.{IsTree, IsIndexed, IsUnder, Climbs, AllHaveGoodNames, site_of, kind_of, presence, presence_at, is_directory_kind}
 use Rattle.numbered.proofs.Maps.{same_or_other, remove-here, remove-other}
 use Rattle.inotree.proofs.Slots.{slot_total, slot_same}
 
@@ -26,8 +26,8 @@ module _ (m : InodeMap) (i d e : ℕ) (a b : List ℕ) (one : IsUnder m i d a) (
   one_name = cc
 
 -- what stands somewhere has a path
-pub under_here : (m : InodeMap) (i d : ℕ) (a : List ℕ) → IsUnder m i d a → place m i ≡ Here
-under_here m i d a u = ap place_at u
+pub under_here : (m : InodeMap) (i d : ℕ) (a : List ℕ) → IsUnder m i d a → presence m i ≡ Here
+under_here m i d a u = ap presence_at u
 
 -- The site of one inode changes, and no other.
 module _ (m n : InodeMap) (k : ℕ) (other : (i : ℕ) → (i ≡ k → ⊥) → site_of n i ≡ site_of m i) where
@@ -58,7 +58,7 @@ module _ (m n : InodeMap) (last k : ℕ) (t : IsTree (record { nodes = m; last =
     (fresh : (i : ℕ) → last < i → map.get n i ≡ None)
     (no_site : (d : ℕ) (a : List ℕ) → IsUnder n k d a → ⊥)
     (no_root : site_of n k ≡ Some Root → ⊥)
-    (not_here : place n k ≡ Here → ⊥)
+    (not_here : presence n k ≡ Here → ⊥)
     (was_no_root : site_of m k ≡ Some Root → ⊥)
     (childless : (i : ℕ) (a : List ℕ) → IsUnder m i k a → ⊥) where
   stays : (i d : ℕ) (a : List ℕ) → IsUnder n i d a → (i ≡ k → ⊥) × IsUnder m i d a
@@ -81,13 +81,13 @@ module _ (m n : InodeMap) (last k : ℕ) (t : IsTree (record { nodes = m; last =
     parents = λ i d a u.
         let was = (stays i d a u).1 in
         let off : d ≡ k → ⊥ = λ same. childless i a (subst (λ y. IsUnder m i y a) same was) in
-        (ap is_directory_kind (kinds d off) ∙ (t.parents i d a was).0, ap place_at (other d off) ∙ (t.parents i d a was).1);
+        (ap is_directory_kind (kinds d off) ∙ (t.parents i d a was).0, ap presence_at (other d off) ∙ (t.parents i d a was).1);
     siblings = λ i j d a u v. t.siblings i j d a (stays i d a u).1 (stays j d a v).1;
     names = λ i d a u. t.names i d a (stays i d a u).1;
     inner_names = inner;
     reached = λ i h. elim (same_ino i k) [
-      | inl same ↦ absurd (not_here (subst (λ y. place n y ≡ Here) same h))
-      | inr off ↦ let r = t.reached i (sym (ap place_at (other i off)) ∙ h) in (r.0, r.1, climb_keep m n k other childless i r.0 1 off r.2)
+      | inl same ↦ absurd (not_here (subst (λ y. presence n y ≡ Here) same h))
+      | inr off ↦ let r = t.reached i (sym (ap presence_at (other i off)) ∙ h) in (r.0, r.1, climb_keep m n k other childless i r.0 1 off r.2)
     ];
     given = fresh;
   }

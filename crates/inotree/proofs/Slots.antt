@@ -1,4 +1,4 @@
--- The order of places for names is total, only equal places tie, and the places of a directory stand together.
+-- The order of slots is total, only equal slots tie, and the slots of a directory stand together.
 use Rattle.std.proofs.Common.{◌≡◌, ℕ, ◌+◌, ◌^◌, ◌<◌, Bool, true, cond, not, ◌&&◌, nat_le, ◌==◌, List, [], ◌∷◌, ap, refl, ◌∙◌, arith}
 use Rattle.std.proofs.lemmas.Bool.Decides.{nat_tests}
 use Rattle.std.specs.declared.ops.Bound.TheVariants.{Included, Excluded, Unbounded}

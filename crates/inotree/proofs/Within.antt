@@ -5,10 +5,10 @@ use Rattle.std.proofs.lemmas.List.{length-reverse}
 use Rattle.std.proofs.lemmas.Bool.{or_left, or_right}
 use Rattle.inotree.specs.declared.node.Site.{Site}
 use Rattle.inotree.specs.declared.node.Site.TheVariants.{Root, Under, Stray}
-use Rattle.inotree.specs.declared.node.Place.{Place}
-use Rattle.inotree.specs.declared.node.Place.TheVariants.{NoIno, Gone, Here}
+use Rattle.inotree.specs.declared.node.Presence.{Presence}
+use Rattle.inotree.specs.declared.node.Presence.TheVariants.{NoIno, Gone, Here}
 use Rattle.inotree.specs.Inodes.{InodeMap}
-use Rattle.inotree.specs.Tree.{Nodes, IsTree, IsUnder, Climbs, site_of, upward, names_up, lies_below, is_within, depth, path_at, path_of, place}
+use Rattle.inotree.specs.Tree.{Nodes, IsTree, IsUnder, Climbs, site_of, upward, names_up, lies_below, is_within, depth, path_at, path_of, presence}
 use Rattle.inotree.proofs.Shape.{one_dir, under_here}
 use Rattle.inotree.proofs.Walks.{lies_below-none, lies_below-step, is_within-is, same_test, test_same}
 
@@ -64,14 +64,14 @@ within-climbs t i above tree = (
   λ c. is_within-is t.nodes i above ∙ below_of c.0 32 t.nodes i above (climb_fits t tree c.0 i above c.1) c.1,
 )
 
-names_of : (p : Place) (up names : List (List ℕ)) → path_at p up ≡ Some names → reverse up ≡ names
+names_of : (p : Presence) (up names : List (List ℕ)) → path_at p up ≡ Some names → reverse up ≡ names
 names_of NoIno up names e = cc
 names_of Gone up names e = cc
 names_of Here up names e = cc
 
 pub depth-path : (m : InodeMap) (i : ℕ) (names : List (List ℕ)) → path_of m i ≡ Some names → depth m i ≡ length names
 unfolding depth path_of
-depth-path m i names e = sym (length-reverse (names_up 32 m i)) ∙ ap length (names_of (place m i) (names_up 32 m i) names e)
+depth-path m i names e = sym (length-reverse (names_up 32 m i)) ∙ ap length (names_of (presence m i) (names_up 32 m i) names e)
 
 -- Each inode that stands somewhere stood there before, or is one of some that may have moved.
 module _ (m n : InodeMap) (P : ℕ → Type 0) (was : (i d : ℕ) (a : List ℕ) → IsUnder n i d a → IsUnder m i d a ⊎ P i) where

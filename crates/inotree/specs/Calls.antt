@@ -34,7 +34,7 @@ changed f tree ino = record tree { nodes = change_at f tree.nodes ino }
 abbrev pub unlinked : Nodes → ℕ → Nodes
 unlinked = changed (with_site Stray)
 
--- the tree with the inode at a new place
+-- the tree with the inode at a new site
 abbrev pub moved : Nodes → ℕ → ℕ → List ℕ → Nodes
 moved tree ino dir name = changed (with_site (Under (record { 0 = dir }) name)) tree ino
 

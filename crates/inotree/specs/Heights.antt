@@ -60,6 +60,6 @@ AreAllKnown nodes heights = (ino : ℕ) → height nodes heights ino < 32
 abbrev pub IsLowered : InodeMap → NameIndex → ℕ → ℕ → HeightMap → HeightMap → Type 0
 IsLowered nodes index ino steps old new = AreAllKnown nodes old → index_reaches steps index ino ≡ false → height nodes new ino < steps
 
--- the index and the heights of these inodes
-abbrev pub AreKept : InodeMap → NameIndex → HeightMap → Type 0
-AreKept nodes index heights = IsIndexed nodes index × HeightsRise nodes heights
+-- the index and the heights fit these inodes
+abbrev pub AreConsistent : InodeMap → NameIndex → HeightMap → Type 0
+AreConsistent nodes index heights = IsIndexed nodes index × HeightsRise nodes heights

@@ -11,11 +11,11 @@ use Rattle.inotree.specs.declared.index.Slot.{Slot}
 use Rattle.inotree.specs.contracts.index.Slot as slot
 use Rattle.inotree.specs.Names.{name_cmp}
 
--- places for names are ordered by directory, then by name
+-- slots are ordered by directory, then by name
 abbrev pub slot_cmp : Slot → Slot → Ordering
 slot_cmp a b = ordering_then (nat_cmp a.dir b.dir) (name_cmp a.name b.name)
 
--- the number of the inode in each place that is taken
+-- the number of the inode in each slot that is taken
 abbrev pub NameIndex : Type 0
 NameIndex = FinMap slot_cmp ℕ
 

@@ -32,7 +32,7 @@ with_setting (Time time) n = record n { time = time }
 abbrev pub with_attr : Attr → Node → Node
 with_attr attr n = record n { attr = attr }
 
--- the inode at another place
+-- the inode at another site
 abbrev pub with_site : Site → Node → Node
 with_site site n = record n { site = site }
 

@@ -11,32 +11,32 @@ use Rattle.inotree.specs.declared.error.TreeError.TheVariants.{Refused, NoMemory
 use Rattle.inotree.specs.declared.node.Node.{Node}
 use Rattle.inotree.specs.declared.node.Site.{Site}
 use Rattle.inotree.specs.declared.node.Site.TheVariants.{Root, Under, Stray}
-use Rattle.inotree.specs.declared.node.Place.{Place}
-use Rattle.inotree.specs.declared.node.Place.TheVariants as place_kind
+use Rattle.inotree.specs.declared.node.Presence.{Presence}
+use Rattle.inotree.specs.declared.node.Presence.TheVariants as presence_kind
 use Rattle.inotree.specs.declared.node.Setting.{Setting}
 use Rattle.inotree.specs.declared.node.Setting.TheVariants.{Mode, Uid, Gid, Size, Time}
 use Rattle.inotree.specs.Names.{is_bad_name, is_bad_attribute}
-use Rattle.inotree.specs.Tree.{Nodes, site_of, place, is_directory, child, depth, is_within, reaches}
+use Rattle.inotree.specs.Tree.{Nodes, site_of, presence, is_directory, child, depth, is_within, reaches}
 
 -- ---- of an inode
 
-abbrev pub is_no_ino : Place → Bool
-is_no_ino place_kind.NoIno = true
-is_no_ino place_kind.Gone = false
-is_no_ino place_kind.Here = false
+abbrev pub is_no_ino : Presence → Bool
+is_no_ino presence_kind.NoIno = true
+is_no_ino presence_kind.Gone = false
+is_no_ino presence_kind.Here = false
 
-abbrev pub is_gone : Place → Bool
-is_gone place_kind.Gone = true
-is_gone place_kind.NoIno = false
-is_gone place_kind.Here = false
+abbrev pub is_gone : Presence → Bool
+is_gone presence_kind.Gone = true
+is_gone presence_kind.NoIno = false
+is_gone presence_kind.Here = false
 
 -- there is such an inode
 abbrev pub exists_test : Nodes → ℕ → Test
-exists_test tree ino = refused_if (is_no_ino (place tree.nodes ino)) refusal.NoIno
+exists_test tree ino = refused_if (is_no_ino (presence tree.nodes ino)) refusal.NoIno
 
 -- the inode is no stray
 abbrev pub here_test : Nodes → ℕ → Test
-here_test tree ino = refused_if (is_gone (place tree.nodes ino)) refusal.Gone
+here_test tree ino = refused_if (is_gone (presence tree.nodes ino)) refusal.Gone
 
 -- there is such an inode, and it has a path
 abbrev pub inode_tests : Nodes → ℕ → List Test
@@ -101,8 +101,8 @@ move_tests tree ino dir =
     ∷ []
 
 -- the inode may stand in the directory, under the name
-abbrev pub new_place_tests : Nodes → ℕ → ℕ → List ℕ → List Test
-new_place_tests tree ino dir name = directory_test tree dir ∷ name_tests tree dir name ++ move_tests tree ino dir
+abbrev pub new_site_tests : Nodes → ℕ → ℕ → List ℕ → List Test
+new_site_tests tree ino dir name = directory_test tree dir ∷ name_tests tree dir name ++ move_tests tree ino dir
 
 -- ---- of what an inode keeps
 
@@ -153,7 +153,7 @@ abbrev pub detach_tests : Nodes → ℕ → List Test
 detach_tests tree ino = inode_tests tree ino ++ root_test tree ino ∷ childless_test tree ino ∷ []
 
 abbrev pub rename_tests : Nodes → ℕ → ℕ → List ℕ → List Test
-rename_tests tree ino dir name = inode_tests tree ino ++ root_test tree ino ∷ inode_tests tree dir ++ new_place_tests tree ino dir name
+rename_tests tree ino dir name = inode_tests tree ino ++ root_test tree ino ∷ inode_tests tree dir ++ new_site_tests tree ino dir name
 
 abbrev pub set_tests : Nodes → ℕ → Setting → List Test
 set_tests tree ino setting = inode_tests tree ino ++ setting_tests tree ino setting

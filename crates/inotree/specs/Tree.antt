@@ -12,8 +12,8 @@ use Rattle.inotree.specs.declared.node.Kind.TheVariants.{Directory, File}
 use Rattle.inotree.specs.declared.node.Site.{Site}
 use Rattle.inotree.specs.declared.node.Site.TheVariants.{Root, Under, Stray}
 use Rattle.inotree.specs.declared.index.Slot.{Slot}
-use Rattle.inotree.specs.declared.node.Place.{Place}
-use Rattle.inotree.specs.declared.node.Place.TheVariants.{NoIno, Gone, Here}
+use Rattle.inotree.specs.declared.node.Presence.{Presence}
+use Rattle.inotree.specs.declared.node.Presence.TheVariants.{NoIno, Gone, Here}
 use Rattle.inotree.specs.Names.{name_cmp, is_bad_name, is_bad_attribute}
 use Rattle.inotree.specs.Inodes.{InodeMap, inode_map_code}
 use Rattle.inotree.specs.Index.{NameIndex, names_in}
@@ -36,14 +36,14 @@ abbrev pub kind_of : InodeMap → ℕ → Option Kind
 kind_of nodes ino = option_map (λ n. n.kind) (map.get nodes ino)
 
 -- whether the tree has the inode
-abbrev pub place_at : Option Site → Place
-place_at None = NoIno
-place_at (Some Stray) = Gone
-place_at (Some Root) = Here
-place_at (Some (Under dir name)) = Here
+abbrev pub presence_at : Option Site → Presence
+presence_at None = NoIno
+presence_at (Some Stray) = Gone
+presence_at (Some Root) = Here
+presence_at (Some (Under dir name)) = Here
 
-abbrev pub place : InodeMap → ℕ → Place
-place nodes ino = place_at (site_of nodes ino)
+abbrev pub presence : InodeMap → ℕ → Presence
+presence nodes ino = presence_at (site_of nodes ino)
 
 abbrev pub is_directory_kind : Option Kind → Bool
 is_directory_kind (Some Directory) = true
@@ -72,7 +72,7 @@ dir_at (Some (Under dir name)) = Some dir.0
 abbrev pub parent : InodeMap → ℕ → Option ℕ
 parent nodes ino = dir_at (site_of nodes ino)
 
--- the place in the index of an inode's name
+-- the slot of an inode's name in the index
 abbrev pub slot_at : Option Site → Option Slot
 slot_at None = None
 slot_at (Some Root) = None
@@ -130,15 +130,15 @@ depth nodes ino = length (names_up 32 nodes ino)
 unfoldable pub is_within : InodeMap → ℕ → ℕ → Bool
 is_within nodes ino above = lies_below 32 nodes ino above
 
--- the names from the root to an inode at a place
-abbrev pub path_at : Place → List (List ℕ) → Option (List (List ℕ))
+-- the names from the root to an inode, by its presence
+abbrev pub path_at : Presence → List (List ℕ) → Option (List (List ℕ))
 path_at NoIno names = None
 path_at Gone names = None
 path_at Here names = Some (reverse names)
 
 -- the names from the root to an inode, where it has a path
 unfoldable pub path_of : InodeMap → ℕ → Option (List (List ℕ))
-path_of nodes ino = path_at (place nodes ino) (names_up 32 nodes ino)
+path_of nodes ino = path_at (presence nodes ino) (names_up 32 nodes ino)
 
 -- the inode below a directory to which the names lead
 abbrev pub follow : InodeMap → Option ℕ → List (List ℕ) → Option ℕ
@@ -167,7 +167,7 @@ pub record IsTree (tree : Nodes) : Type 0 where
   pub root_kind : is_directory tree.nodes 1 ≡ true
   pub one_root : (ino : ℕ) → site_of tree.nodes ino ≡ Some Root → ino ≡ 1
   -- each parent is a directory, and no stray
-  pub parents : (ino dir : ℕ) (name : List ℕ) → IsUnder tree.nodes ino dir name → (is_directory tree.nodes dir ≡ true) × (place tree.nodes dir ≡ Here)
+  pub parents : (ino dir : ℕ) (name : List ℕ) → IsUnder tree.nodes ino dir name → (is_directory tree.nodes dir ≡ true) × (presence tree.nodes dir ≡ Here)
   -- siblings have different names
   pub siblings : (ino other dir : ℕ) (name : List ℕ) → IsUnder tree.nodes ino dir name → IsUnder tree.nodes other dir name → ino ≡ other
   -- names are names that can be given
@@ -175,7 +175,7 @@ pub record IsTree (tree : Nodes) : Type 0 where
   -- so are those of attributes and of snapshots
   pub inner_names : AllHaveGoodNames tree.nodes
   -- the root is reached in at most 32 steps
-  pub reached : (ino : ℕ) → place tree.nodes ino ≡ Here → (up : List (List ℕ)) × (length up ≤ 32) × Climbs tree.nodes ino up 1
+  pub reached : (ino : ℕ) → presence tree.nodes ino ≡ Here → (up : List (List ℕ)) × (length up ≤ 32) × Climbs tree.nodes ino up 1
   -- no inode has a number above the last
   pub given : (ino : ℕ) → tree.last < ino → map.get tree.nodes ino ≡ None
 

@@ -56,11 +56,11 @@ impl Tree {
     {
         let here = self.inode_refusal(ino);
         let before = here.or(self.root_refusal(ino)).or(self.inode_refusal(dir));
-        // Whether the new place will do may take a walk over all below.
+        // Whether the new site will do may take a walk over all below.
         if let Some(refusal) = before {
             return Some(refusal);
         }
-        self.new_place_refusal(ino, dir, name)
+        self.new_site_refusal(ino, dir, name)
     }
 
     // ---- changes

@@ -2,9 +2,9 @@
 ghost use Rattle.std.specs.Prelude.{◌≡◌, ◌-◌, IfOk, OnOk, OnErr};
 ghost use Rattle.std.specs.FinMap as map;
 ghost use Rattle.capbits.specs.Maps.{change_at};
-ghost use Rattle.inotree.specs.declared.node.Place.TheVariants.{Here};
+ghost use Rattle.inotree.specs.declared.node.Presence.TheVariants.{Here};
 ghost use Rattle.inotree.specs.Index.{AreInodes};
-ghost use Rattle.inotree.specs.Tree.{IsIndexed, depth, place};
+ghost use Rattle.inotree.specs.Tree.{IsIndexed, depth, presence};
 ghost use Rattle.inotree.specs.Heights.{height, AreOfTree, AreNoHigher, IsLowered, HeightsRise, HeightsRiseBut, SameBut};
 
 use crate::index::Index;
@@ -156,7 +156,7 @@ impl Heights {
     // Raises the directory of an inode above it, and each above that, until one is high enough. It takes no memory.
     pub(crate) fn raise_above(&mut self, inodes: &Inodes, ino: u64)
         requires tree { AreOfTree inodes.now }
-        requires here { place inodes.now ino ≡ Here }
+        requires here { presence inodes.now ino ≡ Here }
         requires rise { HeightsRiseBut inodes.now self.old ino }
         ensures { HeightsRise inodes.now self.new }
     {

@@ -31,7 +31,7 @@ impl Drop for Slot {
 }
 
 impl Slot {
-    // The same place once more, which takes no memory.
+    // The same slot once more, which takes no memory.
     pub(crate) fn copy(&self) -> Slot
         ensures { result ≡ self.now }
     {

@@ -6,10 +6,10 @@ ghost use Rattle.capbits.specs.Refusal.{first_failing};
 ghost use Rattle.capgrant.specs.declared.access.Attr.{Attr};
 ghost use Rattle.inotree.specs.declared.node.Kind.{Kind};
 ghost use Rattle.inotree.specs.declared.node.Node.{Node};
-ghost use Rattle.inotree.specs.declared.node.Place.TheVariants.{Gone};
+ghost use Rattle.inotree.specs.declared.node.Presence.TheVariants.{Gone};
 ghost use Rattle.inotree.specs.declared.node.Setting.{Setting};
 ghost use Rattle.inotree.specs.Inodes.{InodeMap, with_setting, with_attribute, without_attribute, with_snapshot, without_snapshot};
-ghost use Rattle.inotree.specs.Tree.{Nodes, IsTree, IsUnder, IsChildless, Climbs, place, child, is_within, depth, reaches, path_of};
+ghost use Rattle.inotree.specs.Tree.{Nodes, IsTree, IsUnder, IsChildless, Climbs, presence, child, is_within, depth, reaches, path_of};
 ghost use Rattle.inotree.specs.Calls.{with_new, changed, unlinked, moved, forgotten};
 ghost use Rattle.inotree.specs.Alike.{IsAlike};
 ghost use Rattle.inotree.specs.Tests.{inode_tests, root_test, file_test, directory_test, empty_test, new_attribute_tests, rename_tests};
@@ -31,7 +31,7 @@ pub fn names_lead_up()
 pub fn what_is_made_or_kept_leaves_the_others()
     ensures new { (tree : Nodes) (kind : Kind) (dir : ℕ) (name : List ℕ) (attr : Attr) (ino : ℕ) → IsTree tree → ino ≢ tree.last + 1
         → IsAlike tree (with_new tree kind dir name attr) ino }
-    ensures forgotten { (tree : Nodes) (stray ino : ℕ) → IsTree tree → place tree.nodes stray ≡ Gone → ino ≢ stray
+    ensures forgotten { (tree : Nodes) (stray ino : ℕ) → IsTree tree → presence tree.nodes stray ≡ Gone → ino ≢ stray
         → IsAlike tree (forgotten tree stray) ino }
     ensures any { (tree : Nodes) (f : Node → Node) (at ino : ℕ)
         → ((n : Node) → (f n).site ≡ n.site) → ((n : Node) → (f n).attr ≡ n.attr)
@@ -40,42 +40,42 @@ pub fn what_is_made_or_kept_leaves_the_others()
     ensures goes { (tree : Nodes) (name : List ℕ) (at ino : ℕ) → IsAlike tree (changed (without_snapshot name) tree at) ino }
 {}
 
-/// A change of one inode makes none and takes none. Where the inode stays where it stands, so do the path and the place of
+/// A change of one inode makes none and takes none. Where the inode stays where it stands, so do the path and the presence of
 /// every inode, and each other keeps its owner, its group and its mode. A field that is set is such a change; an attribute
 /// that comes or goes leaves the owner, the group and the mode of its own inode too.
 pub fn a_change_of_one_inode_leaves_the_others()
-    ensures known { (tree : Nodes) (f : Node → Node) (ino other : ℕ) → map.contains_key (changed f tree ino).nodes other ≡ map.contains_key tree.nodes other }
+    ensures exist { (tree : Nodes) (f : Node → Node) (ino other : ℕ) → map.contains_key (changed f tree ino).nodes other ≡ map.contains_key tree.nodes other }
     ensures last { (tree : Nodes) (f : Node → Node) (ino : ℕ) → (changed f tree ino).last ≡ tree.last }
     ensures alike { (tree : Nodes) (f : Node → Node) (ino other : ℕ) → ((n : Node) → (f n).site ≡ n.site) → other ≢ ino
         → IsAlike tree (changed f tree ino) other }
     ensures paths { (tree : Nodes) (f : Node → Node) (ino other : ℕ) → ((n : Node) → (f n).site ≡ n.site)
         → path_of (changed f tree ino).nodes other ≡ path_of tree.nodes other }
-    ensures places { (tree : Nodes) (f : Node → Node) (ino other : ℕ) → ((n : Node) → (f n).site ≡ n.site)
-        → place (changed f tree ino).nodes other ≡ place tree.nodes other }
+    ensures presences { (tree : Nodes) (f : Node → Node) (ino other : ℕ) → ((n : Node) → (f n).site ≡ n.site)
+        → presence (changed f tree ino).nodes other ≡ presence tree.nodes other }
     ensures set { (tree : Nodes) (setting : Setting) (ino other : ℕ) → other ≢ ino → IsAlike tree (changed (with_setting setting) tree ino) other }
-    ensures set_places { (tree : Nodes) (setting : Setting) (ino other : ℕ) → place (changed (with_setting setting) tree ino).nodes other ≡ place tree.nodes other }
+    ensures set_presences { (tree : Nodes) (setting : Setting) (ino other : ℕ) → presence (changed (with_setting setting) tree ino).nodes other ≡ presence tree.nodes other }
     ensures comes { (tree : Nodes) (name value : List ℕ) (ino other : ℕ) → IsAlike tree (changed (with_attribute name value) tree ino) other }
-    ensures comes_places { (tree : Nodes) (name value : List ℕ) (ino other : ℕ) → place (changed (with_attribute name value) tree ino).nodes other ≡ place tree.nodes other }
+    ensures comes_presences { (tree : Nodes) (name value : List ℕ) (ino other : ℕ) → presence (changed (with_attribute name value) tree ino).nodes other ≡ presence tree.nodes other }
     ensures goes { (tree : Nodes) (name : List ℕ) (ino other : ℕ) → IsAlike tree (changed (without_attribute name) tree ino) other }
-    ensures goes_places { (tree : Nodes) (name : List ℕ) (ino other : ℕ) → place (changed (without_attribute name) tree ino).nodes other ≡ place tree.nodes other }
+    ensures goes_presences { (tree : Nodes) (name : List ℕ) (ino other : ℕ) → presence (changed (without_attribute name) tree ino).nodes other ≡ presence tree.nodes other }
 {}
 
-/// An inode in which none stands, and that becomes a stray, leaves the path, the place, the owner, the group and the mode
+/// An inode in which none stands, and that becomes a stray, leaves the path, the presence, the owner, the group and the mode
 /// of every other. None stands in a file, nor in a directory that is empty.
 pub fn an_inode_without_children_leaves_the_others()
     ensures alike { (tree : Nodes) (ino other : ℕ) → IsChildless tree.nodes ino → other ≢ ino → IsAlike tree (unlinked tree ino) other }
-    ensures places { (tree : Nodes) (ino other : ℕ) → other ≢ ino → place (unlinked tree ino).nodes other ≡ place tree.nodes other }
+    ensures presences { (tree : Nodes) (ino other : ℕ) → other ≢ ino → presence (unlinked tree ino).nodes other ≡ presence tree.nodes other }
     ensures file { (tree : Nodes) (ino : ℕ) → IsTree tree → first_failing (file_test tree ino ∷ []) ≡ None → IsChildless tree.nodes ino }
     ensures empty { (tree : Nodes) (ino : ℕ) → first_failing (directory_test tree ino ∷ empty_test tree ino ∷ []) ≡ None → IsChildless tree.nodes ino }
 {}
 
 /// A move leaves the path, the owner, the group and the mode of every inode that is not within the one that moves, and the
-/// place of every other. Where its tests were passed, it leaves a tree a tree.
+/// presence of every other. Where its tests were passed, it leaves a tree a tree.
 pub fn a_move_leaves_what_is_not_below()
     ensures alike { (tree : Nodes) (ino dir : ℕ) (name : List ℕ) (other : ℕ) → is_within tree.nodes other ino ≡ false
         → IsAlike tree (moved tree ino dir name) other }
-    ensures places { (tree : Nodes) (ino dir : ℕ) (name : List ℕ) (other : ℕ) → other ≢ ino
-        → place (moved tree ino dir name).nodes other ≡ place tree.nodes other }
+    ensures presences { (tree : Nodes) (ino dir : ℕ) (name : List ℕ) (other : ℕ) → other ≢ ino
+        → presence (moved tree ino dir name).nodes other ≡ presence tree.nodes other }
     ensures tree { (tree : Nodes) (ino dir : ℕ) (name : List ℕ) → IsTree tree → first_failing (rename_tests tree ino dir name) ≡ None
         → IsTree (moved tree ino dir name) }
 {}

@@ -28,7 +28,7 @@ pub use laws::{
 };
 pub use name::{MAX_NAME, Name, is_bad_attribute, is_bad_name};
 pub use names::{MAX_NAMES, Names};
-pub use node::{Kind, Node, Place, Setting, Site};
+pub use node::{Kind, Node, Presence, Setting, Site};
 pub use nonempty_ino_set::{InosLeft, NonEmptyInoSet};
 pub use snapshots::{MAX_SNAPSHOTS, Snapshots};
 pub use tree::{MAX_INODES, ROOT, Tree};

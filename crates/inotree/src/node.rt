@@ -144,7 +144,7 @@ pub enum Setting {
 
 /// Whether the tree has an inode.
 #[derive(Clone, Copy, Debug, PartialEq, Eq)]
-pub enum Place {
+pub enum Presence {
     /// There is no inode of this number: it was not given, or the inode was forgotten.
     NoIno,
     /// The inode is a stray.

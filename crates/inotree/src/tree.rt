@@ -5,8 +5,8 @@ ghost use Rattle.std.specs.FinMap as map;
 ghost use Rattle.capwords.specs.Paths.{is_name};
 ghost use Rattle.inotree.specs.Inodes.{with_setting, with_attr, with_attribute, without_attribute, with_snapshot, without_snapshot};
 ghost use Rattle.capbits.specs.Refusal.{first_failing};
-ghost use Rattle.inotree.specs.Tree.{IsTree, place, parent, child, follow, path_of, is_directory, is_within, depth, reaches};
-ghost use Rattle.inotree.specs.Tests.{exists_test, inode_tests, root_test, file_test, directory_test, childless_test, empty_test, name_tests, new_inode_tests, new_place_tests, setting_tests, test_at, new_attribute_tests, old_attribute_tests, new_snapshot_tests, old_snapshot_tests};
+ghost use Rattle.inotree.specs.Tree.{IsTree, presence, parent, child, follow, path_of, is_directory, is_within, depth, reaches};
+ghost use Rattle.inotree.specs.Tests.{exists_test, inode_tests, root_test, file_test, directory_test, childless_test, empty_test, name_tests, new_inode_tests, new_site_tests, setting_tests, test_at, new_attribute_tests, old_attribute_tests, new_snapshot_tests, old_snapshot_tests};
 ghost use Rattle.inotree.specs.Tests.{create_tests, unlink_tests, rmdir_tests, detach_tests, rename_tests, set_tests, set_xattr_tests, remove_xattr_tests, snap_add_tests, snap_remove_tests};
 ghost use Rattle.inotree.specs.Calls.{first_tree, with_new, changed, unlinked, moved, forgotten};
 
@@ -16,7 +16,7 @@ use crate::index::{Index, Slot};
 use crate::inodes::Inodes;
 use crate::name::{Name, is_bad_attribute, is_bad_name};
 use crate::names::{MAX_NAMES, Names};
-use crate::node::{Kind, Node, Place, Setting, Site};
+use crate::node::{Kind, Node, Presence, Setting, Site};
 use crate::snapshots::{MAX_SNAPSHOTS, Snapshots};
 use capbits::{Ino, Refusal};
 use capgrant::Attr;
@@ -44,7 +44,7 @@ pub struct Tree {
 
 impl Model for Tree {
     ghost use Rattle.inotree.specs.Tree.{Nodes, nodes_code, IsTree};
-    ghost use Rattle.inotree.specs.Heights.{AreKept};
+    ghost use Rattle.inotree.specs.Heights.{AreConsistent};
 
     ghost Value = { Nodes };
 
@@ -52,7 +52,7 @@ impl Model for Tree {
 
     ghost view = { λ t. record { nodes = t.inodes; last = t.last } };
 
-    ghost invariant = { λ t. IsTree (record { nodes = t.inodes; last = t.last }) × AreKept t.inodes t.names t.heights };
+    ghost invariant = { λ t. IsTree (record { nodes = t.inodes; last = t.last }) × AreConsistent t.inodes t.names t.heights };
 }
 
 // The inodes tell all. The names are found by them once more, and the heights tell how much of the tree was looked at: a change that
@@ -142,14 +142,14 @@ impl Tree {
     }
 
     /// Whether the tree has an inode, and whether it has a path.
-    pub fn place(&self, ino: Ino) -> Place
-        ensures { result ≡ place self.now.nodes ino.0 }
+    pub fn presence(&self, ino: Ino) -> Presence
+        ensures { result ≡ presence self.now.nodes ino.0 }
     {
         match self.inodes.get(ino.0) {
-            None => Place::NoIno,
+            None => Presence::NoIno,
             Some(node) => match &node.site {
-                Site::Stray => Place::Gone,
-                Site::Root | Site::Under { .. } => Place::Here,
+                Site::Stray => Presence::Gone,
+                Site::Root | Site::Under { .. } => Presence::Here,
             },
         }
     }
@@ -208,7 +208,7 @@ impl Tree {
         self.inodes.read_names_up(ino.0, names);
         if names.is_empty() {
             // It is the root, or has no path.
-            return matches!(self.place(ino), Place::Here);
+            return matches!(self.presence(ino), Presence::Here);
         }
         names.reverse();
         true
@@ -264,9 +264,9 @@ impl Tree {
     pub fn exists_refusal(&self, ino: Ino) -> Option<Refusal>
         ensures { result ≡ first_failing (exists_test self.now ino.0 ∷ []) }
     {
-        match self.place(ino) {
-            Place::NoIno => Some(Refusal::NoIno),
-            Place::Gone | Place::Here => None,
+        match self.presence(ino) {
+            Presence::NoIno => Some(Refusal::NoIno),
+            Presence::Gone | Presence::Here => None,
         }
     }
 
@@ -274,14 +274,14 @@ impl Tree {
     pub fn inode_refusal(&self, ino: Ino) -> Option<Refusal>
         ensures { result ≡ first_failing (inode_tests self.now ino.0) }
     {
-        match self.place(ino) {
-            Place::NoIno => Some(Refusal::NoIno),
-            Place::Gone => Some(Refusal::Gone),
-            Place::Here => None,
+        match self.presence(ino) {
+            Presence::NoIno => Some(Refusal::NoIno),
+            Presence::Gone => Some(Refusal::Gone),
+            Presence::Here => None,
         }
     }
 
-    /// Why an inode can't leave its place: it is the root.
+    /// Why an inode can't leave its site: it is the root.
     pub fn root_refusal(&self, ino: Ino) -> Option<Refusal>
         ensures { result ≡ first_failing (root_test self.now ino.0 ∷ []) }
     {
@@ -357,8 +357,8 @@ impl Tree {
     }
 
     /// Why an inode can't stand in a directory under a name.
-    pub fn new_place_refusal(&self, ino: Ino, dir: Ino, name: &[u8]) -> Option<Refusal>
-        ensures { result ≡ first_failing (new_place_tests self.now ino.0 dir.0 name.now) }
+    pub fn new_site_refusal(&self, ino: Ino, dir: Ino, name: &[u8]) -> Option<Refusal>
+        ensures { result ≡ first_failing (new_site_tests self.now ino.0 dir.0 name.now) }
     {
         if let Some(of_name) = self.name_refusal(dir, name) {
             return Some(of_name);
@@ -641,7 +641,7 @@ impl Tree {
 
     /// Forgets a stray. Its number is not given again.
     pub fn forget(&mut self, ino: Ino)
-        requires { place self.old.nodes ino.0 ≡ Place.Gone }
+        requires { presence self.old.nodes ino.0 ≡ Presence.Gone }
         ensures { self.new ≡ forgotten self.old ino.0 }
     {
         self.inodes.remove(ino.0);

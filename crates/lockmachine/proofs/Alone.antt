@@ -7,7 +7,7 @@ use Rattle.std.proofs.lemmas.Bool.{eqb-true, eqb-false}
 use Rattle.capbits.specs.declared.cap.Part.{Part}
 use Rattle.capbits.specs.declared.ids.Ticket.{Ticket}
 use Rattle.locktable.specs.Targets.{target_of}
-use Rattle.locktable.specs.declared.states.State.{State}
+use Rattle.locktable.specs.declared.states.StableState.{StableState}
 use Rattle.locktable.specs.declared.states.LockState.{LockState}
 use Rattle.locktable.specs.declared.states.LockState.TheVariants.{Stable, Gather}
 use Rattle.lockmachine.specs.declared.moves.Move.{Move}
@@ -16,7 +16,7 @@ use Rattle.lockmachine.specs.declared.moves.Sought.{Sought}
 use Rattle.lockmachine.specs.declared.moves.Sought.TheVariants.{Everybody, Here, Nobody}
 use Rattle.lockmachine.specs.declared.request.Request.{Request}
 use Rattle.lockmachine.specs.declared.wants.Wants.{Wants}
-use Rattle.lockmachine.specs.Requests.{first_for, head_of, head_of_ask, part_of_ask, same_part, waits_for}
+use Rattle.lockmachine.specs.Requests.{first_for, head_of, head_of_operation, part_of_operation, same_part, waits_for}
 use Rattle.lockmachine.specs.Locks.{LockMap, IsLockMap, lock_at, request_at}
 use Rattle.lockmachine.specs.Scene.{Scene, target_by}
 use Rattle.lockmachine.specs.Moves.{same_state, parts, may_begin_in, may_begin_by, may_serve, is_first, is_servable, is_served_in, first_move, beginning, beginning_by, present_state}
@@ -50,10 +50,10 @@ none-here locks ino none = find_none (λ q. waits_for ino q && may_serve locks q
 none-first : (queue : List Request) (ino : ℕ) → list_any (waits_for ino) queue ≡ false → (part : Part) → first_for queue ino part ≡ None
 none-first [] ino none part = refl
 none-first (q ∷ queue) ino none part =
-    ap (λ b. cond (b && same_part (part_of_ask q.ask) part) (Some q) (first_for queue ino part)) (neither (waits_for ino q) (list_any (waits_for ino) queue) none).0
+    ap (λ b. cond (b && same_part (part_of_operation q.operation) part) (Some q) (first_for queue ino part)) (neither (waits_for ino q) (list_any (waits_for ino) queue) none).0
     ∙ none-first queue ino (neither (waits_for ino q) (list_any (waits_for ino) queue) none).1 part
 
-same-target : (queue : List Request) (wants : Wants) (ino : ℕ) → list_any (waits_for ino) queue ≡ false → (part : Part) (state : State) → target_by [] wants ino part state ≡ target_by queue wants ino part state
+same-target : (queue : List Request) (wants : Wants) (ino : ℕ) → list_any (waits_for ino) queue ≡ false → (part : Part) (state : StableState) → target_by [] wants ino part state ≡ target_by queue wants ino part state
 same-target queue wants ino none part state = ap (λ o. target_of part state (head_of o) wants.loner wants.wanted) (sym (none-first queue ino none part))
 
 same-begin : (queue : List Request) (wants : Wants) (ino : ℕ) → list_any (waits_for ino) queue ≡ false → (part : Part) (lock : Option LockState) → may_begin_in [] wants (ino, part) lock ≡ may_begin_in queue wants (ino, part) lock
@@ -93,9 +93,9 @@ served-here locks ino nobody = find_same _ _ locks.queue (λ q inside. by_place 
 -- moves at the inode leave it so
 pub nobody-kept : (ino : ℕ) (old new : LockMap) → ChangesLocksOf ino old new → NobodyElsewhere old ino → NobodyElsewhere new ino
 nobody-kept ino old new changes nobody q inside away =
-    let part = part_of_ask q.ask in
+    let part = part_of_operation q.operation in
     ap (λ queue. is_first queue q && is_servable new q) changes.queue
-    ∙ ap (λ o. is_first old.queue q && is_served_in o (head_of_ask q.client q.ask)) (changes.others q.ino.0 part (eqb-false q.ino.0 ino away))
+    ∙ ap (λ o. is_first old.queue q && is_served_in o (head_of_operation q.client q.operation)) (changes.others q.ino.0 part (eqb-false q.ino.0 ino away))
     ∙ nobody q (subst (λ (qs : List Request). Contains qs q) changes.queue inside) away
 
 pub suffices-kept : (sought : Sought) (ino : ℕ) (old new : LockMap) → ChangesLocksOf ino old new → Suffices sought old ino → Suffices sought new ino

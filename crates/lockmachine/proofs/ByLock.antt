@@ -20,7 +20,7 @@ use Rattle.captable.proofs.Keeping.{filter-mapped}
 use Rattle.captable.proofs.Searches.{filter-filter}
 use Rattle.lockmachine.specs.declared.request.Request.{Request}
 use Rattle.lockmachine.specs.declared.waiters.Waiter.{Waiter}
-use Rattle.lockmachine.specs.Requests.{part_place, part_of_ask, is_for, waits_for, is_numbered, first_for, head_of}
+use Rattle.lockmachine.specs.Requests.{part_place, part_of_operation, is_for, waits_for, is_numbered, first_for, head_of}
 use Rattle.lockmachine.specs.Locks.{LockMap}
 use Rattle.lockmachine.specs.Waiters.{waiter_of, lock_number, lock_of, is_at, is_at_inode, AreSorted, AreLower, StandAlike}
 use Rattle.lockmachine.proofs.Alone.{find_same}
@@ -52,7 +52,7 @@ numbers a p b q low_p low_q = elim (cases_eq (a * 4 + p) (b * 4 + q)) as (λ _. 
 
 -- a request is for the lock at which its waiter is
 for-lock : (ino : ℕ) (part : Part) (q : Request) → is_for ino part q ≡ is_at (lock_number ino part) (waiter_of q)
-for-lock ino part q = numbers q.ino.0 (part_place (part_of_ask q.ask)) ino (part_place part) (part-below (part_of_ask q.ask)) (part-below part)
+for-lock ino part q = numbers q.ino.0 (part_place (part_of_operation q.operation)) ino (part_place part) (part-below (part_of_operation q.operation)) (part-below part)
 
 -- what stands at a place, by a read of it
 abbrev pub IsRead : List Waiter → ℕ → Waiter → Type 0

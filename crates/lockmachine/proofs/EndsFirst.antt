@@ -20,19 +20,19 @@ use Rattle.lockmachine.specs.Inodes.{lock_in}
 use Rattle.lockmachine.specs.Requests.{same_part}
 use Rattle.lockmachine.specs.Locks.{LockMap, lock_at}
 use Rattle.lockmachine.specs.Scene.{scene}
-use Rattle.lockmachine.specs.Moves.{LockPlace, parts, places_of, may_end_in, may_end_by, coming_state, first_move, moved}
+use Rattle.lockmachine.specs.Moves.{LockId, parts, lock_ids_of, may_end_in, may_end_by, coming_state, first_move, moved}
 use Rattle.lockmachine.specs.Runs.{Runs, is_end, EndLittle, ChangesLocksOf}
 use Rattle.lockmachine.proofs.Ending.{few}
 use Rattle.lockmachine.proofs.Finding.{no_part}
 use Rattle.lockmachine.proofs.Moving.{with_lock-each}
-use Rattle.lockmachine.proofs.Places.{find-each, first_found, end_first}
+use Rattle.lockmachine.proofs.LockIds.{find-each, first_found, end_first}
 use Rattle.lockmachine.proofs.Rest.{not_found}
 use Rattle.lockmachine.proofs.Settling.{runs_more, one_changed}
 
 -- ---- what an end leaves
 
 -- a lock that does not gather has none to end
-ended_not : (table : Table) (at : LockPlace) (o : Option LockState) → may_end_in table at (option_map (λ _. Stable (coming_state o)) o) ≡ false
+ended_not : (table : Table) (at : LockId) (o : Option LockState) → may_end_in table at (option_map (λ _. Stable (coming_state o)) o) ≡ false
 ended_not table at None = refl
 ended_not table at (Some lock) = refl
 
@@ -41,7 +41,7 @@ module _ (table : Table) (t : LockMap) (ino : ℕ) (part : Part) where
   after = moved t (End (record { 0 = ino }) part)
 
   -- where no gather might end, none may
-  stays_ended : (at : LockPlace) → may_end_by table t at ≡ false → may_end_by table after at ≡ false
+  stays_ended : (at : LockId) → may_end_by table t at ≡ false → may_end_by table after at ≡ false
   stays_ended =
       with_lock-each t ino part (Stable (coming_state (lock_at t ino part))) (λ b at o. may_end_by table t at ≡ false → may_end_in table at o ≡ false)
       (λ was. ended_not table (ino, part) (lock_at t ino part)) (λ at was. was)
@@ -101,7 +101,7 @@ module _ (table : Table) (first now : LockMap) (ino : ℕ) (done : List Part) (p
       ap (may_end_in table (other, p)) (so.elsewhere.others other p off) ∙ below other p less
 
   -- it is the first there
-  first_there : find (may_end_by table now) (places_of ino) ≡ Some (ino, part)
+  first_there : find (may_end_by table now) (lock_ids_of ino) ≡ Some (ino, part)
   first_there =
       find-each (may_end_by table now) (λ (p : Part). (ino, p)) parts
       ∙ ap (option_map (λ p. (ino, p)))

@@ -12,7 +12,7 @@ use Rattle.capbits.specs.declared.ids.Ticket.{Ticket}
 use Rattle.captable.proofs.Searches.{find_passes}
 use Rattle.lockmachine.specs.declared.request.Request.{Request}
 use Rattle.lockmachine.specs.declared.waiters.Waiter.{Waiter}
-use Rattle.lockmachine.specs.Requests.{same_part, part_of_ask, is_for, waits_for, is_numbered, first_for}
+use Rattle.lockmachine.specs.Requests.{same_part, part_of_operation, is_for, waits_for, is_numbered, first_for}
 use Rattle.lockmachine.specs.Locks.{LockMap, IsLockMap, request_at}
 use Rattle.lockmachine.specs.Moves.{is_first, is_servable, may_serve, served_of}
 use Rattle.lockmachine.specs.Waiters.{waiter_of, earlier}
@@ -90,21 +90,21 @@ module _ (locks : LockMap) (sound : IsLockMap locks) (ino : ℕ) where
   -- the first for a lock that serves it may be served
   first-may : (part : Part) (q : Request) → first_for locks.queue ino part ≡ Some q → is_servable locks q ≡ true → may q ≡ true
   first-may part q is serves =
-      let for = and_parts (q.ino.0 == ino) (same_part (part_of_ask q.ask) part) (find_passes (is_for ino part) locks.queue q is) in
+      let for = and_parts (q.ino.0 == ino) (same_part (part_of_operation q.operation) part) (find_passes (is_for ino part) locks.queue q is) in
       let here : q.ino.0 ≡ ino = eqb-true q.ino.0 ino for.0 in
-      let own : part_of_ask q.ask ≡ part = same_part_is (part_of_ask q.ask) part for.1 in
-      let front : first_for locks.queue q.ino.0 (part_of_ask q.ask) ≡ Some q = ap (λ n. first_for locks.queue n (part_of_ask q.ask)) here ∙ ap (first_for locks.queue ino) own ∙ is in
+      let own : part_of_operation q.operation ≡ part = same_part_is (part_of_operation q.operation) part for.1 in
+      let front : first_for locks.queue q.ino.0 (part_of_operation q.operation) ≡ Some q = ap (λ n. first_for locks.queue n (part_of_operation q.operation)) here ∙ ap (first_for locks.queue ino) own ∙ is in
       let leads : is_first locks.queue q ≡ true = ap (λ o. option_map_or (is_numbered q.ticket.0) o false) front ∙ nat_eq_equiv.refl q.ticket.0 in
       and_from (waits_for ino q) (may_serve locks q) for.0 (and_from (is_first locks.queue q) (is_servable locks q) leads serves)
 
   -- and who may is the first for its lock
-  is-first : (q : Request) → Contains locks.queue q → is_first locks.queue q ≡ true → first_for locks.queue q.ino.0 (part_of_ask q.ask) ≡ Some q
-  is-first q inside leads = by_first (first_for locks.queue q.ino.0 (part_of_ask q.ask)) refl leads
+  is-first : (q : Request) → Contains locks.queue q → is_first locks.queue q ≡ true → first_for locks.queue q.ino.0 (part_of_operation q.operation) ≡ Some q
+  is-first q inside leads = by_first (first_for locks.queue q.ino.0 (part_of_operation q.operation)) refl leads
     where
-      by_first : (o : Option Request) → first_for locks.queue q.ino.0 (part_of_ask q.ask) ≡ o → option_map_or (is_numbered q.ticket.0) o false ≡ true → o ≡ Some q
+      by_first : (o : Option Request) → first_for locks.queue q.ino.0 (part_of_operation q.operation) ≡ o → option_map_or (is_numbered q.ticket.0) o false ≡ true → o ≡ Some q
       by_first None is numbered = absurd (cc)
       by_first (Some r) is numbered =
-          let there = least (is_for q.ino.0 (part_of_ask q.ask)) locks.queue r sound.rising is in
+          let there = least (is_for q.ino.0 (part_of_operation q.operation)) locks.queue r sound.rising is in
           let same : r.ticket.0 ≡ q.ticket.0 = eqb-true r.ticket.0 q.ticket.0 numbered in
           let both : Some r ≡ Some q = sym (found_by_number locks r sound there.waits) ∙ ap (request_at locks) same ∙ found_by_number locks q sound inside in
           both
@@ -135,12 +135,12 @@ module _ (locks : LockMap) (sound : IsLockMap locks) (ino : ℕ) where
         | false ↦ λ _. tt
       ] refl
 
-  own-number : (q : Request) → IsLeast may locks.queue q → number (part_of_ask q.ask) ≡ Some q.ticket
+  own-number : (q : Request) → IsLeast may locks.queue q → number (part_of_operation q.operation) ≡ Some q.ticket
   own-number q lowest =
       let here = and_parts (waits_for ino q) (may_serve locks q) lowest.passes in
       let both = and_parts (is_first locks.queue q) (is_servable locks q) here.1 in
-      let front : first_for locks.queue q.ino.0 (part_of_ask q.ask) ≡ Some q = is-first q lowest.waits both.0 in
-      ap (λ n. served_of locks (first_for locks.queue n (part_of_ask q.ask))) (sym (eqb-true q.ino.0 ino here.0)) ∙ ap (served_of locks) front
+      let front : first_for locks.queue q.ino.0 (part_of_operation q.operation) ≡ Some q = is-first q lowest.waits both.0 in
+      ap (λ n. served_of locks (first_for locks.queue n (part_of_operation q.operation))) (sym (eqb-true q.ino.0 ino here.0)) ∙ ap (served_of locks) front
       ∙ ap (λ b. cond b (Some q.ticket) None) both.1
 
   pub first_of_four : earlier (earlier (served_of locks (first_for locks.queue ino A)) (served_of locks (first_for locks.queue ino L)))
@@ -155,4 +155,4 @@ module _ (locks : LockMap) (sound : IsLockMap locks) (ino : ℕ) where
           ∙ ap (λ o. earlier o (number F)) (none-of-four none X) ∙ none-of-four none F
       by_found (Some q) found =
           let lowest = least may locks.queue q sound.rising found in
-          least_of_four number q.ticket (from-least q lowest) (part_of_ask q.ask) (own-number q lowest)
+          least_of_four number q.ticket (from-least q lowest) (part_of_operation q.operation) (own-number q lowest)

@@ -7,7 +7,7 @@ use Rattle.capbits.specs.declared.cap.Part.{Part}
 use Rattle.capbits.specs.Caps.{has}
 use Rattle.capbits.specs.Sets.{IsSubset, of_part, is_empty, has-minus}
 use Rattle.capbits.proofs.Emptiness.{has-is_empty}
-use Rattle.locktable.specs.declared.states.State.{State}
+use Rattle.locktable.specs.declared.states.StableState.{StableState}
 use Rattle.locktable.specs.declared.states.LockState.{LockState}
 use Rattle.locktable.specs.declared.states.LockState.TheVariants.{Stable, Gather}
 use Rattle.locktable.specs.Rows.{row_of}
@@ -17,7 +17,7 @@ use Rattle.lockmachine.specs.declared.moves.Move.{Move}
 use Rattle.lockmachine.specs.declared.moves.Move.TheVariants.{Begin, End, Serve, Settled}
 use Rattle.lockmachine.specs.Locks.{lock_at}
 use Rattle.lockmachine.specs.Scene.{Scene, outside}
-use Rattle.lockmachine.specs.Moves.{LockPlace, may_end_in, present_state, coming_state, first_move, with_moved}
+use Rattle.lockmachine.specs.Moves.{LockId, may_end_in, present_state, coming_state, first_move, with_moved}
 use Rattle.lockmachine.specs.Runs.{Runs}
 use Rattle.lockmachine.specs.Rows.{IsInRowOf, IsInRow}
 use Rattle.lockmachine.proofs.Moving.{IsMove, first_is, with_lock-each}
@@ -43,7 +43,7 @@ fails p ino (x ∷ xs) row none (suc k, room, is) at = fails p ino xs row (later
     later true e = elim (p x) as (λ b. (b || list_any p rest) ≡ false → list_any p rest ≡ false) [ true ↦ λ e. absurd (cc) | false ↦ λ e. e ] e
 
 -- what has nothing outside of a row is in it
-inside : (part : Part) (to : State) (row : EntryRow) → not (is_empty (outside part to row)) ≡ false → IsSubset (of_part part row.entry.held) (row_of part to row.holder.client)
+inside : (part : Part) (to : StableState) (row : EntryRow) → not (is_empty (outside part to row)) ≡ false → IsSubset (of_part part row.entry.held) (row_of part to row.holder.client)
 inside part to row none c held =
     by_test (has (row_of part to row.holder.client) c) refl
   where
@@ -58,12 +58,12 @@ inside part to row none c held =
         ∙ has-minus (of_part part row.entry.held) (row_of part to row.holder.client) c ∙ (λ k. held k && not (e k))
 
 module _ (s : Scene) (row : EntryRow) (among : Contains s.table.rows row) where
-  begun : (part : Part) (to : State) (o : Option LockState) → IsInRowOf row part o → IsInRowOf row part (option_map (λ _. Gather (present_state o) to) o)
+  begun : (part : Part) (to : StableState) (o : Option LockState) → IsInRowOf row part o → IsInRowOf row part (option_map (λ _. Gather (present_state o) to) o)
   begun part to None was = was
   begun part to (Some (Stable state)) was = was
   begun part to (Some (Gather from on)) was = was
 
-  ended : (at : LockPlace) (o : Option LockState) → may_end_in s.table at o ≡ true → row.holder.ino.0 ≡ at.0 → IsInRowOf row at.1 (option_map (λ _. Stable (coming_state o)) o)
+  ended : (at : LockId) (o : Option LockState) → may_end_in s.table at o ≡ true → row.holder.ino.0 ≡ at.0 → IsInRowOf row at.1 (option_map (λ _. Stable (coming_state o)) o)
   ended at None may here = absurd (cc)
   ended at (Some (Stable state)) may here = absurd (cc)
   ended at (Some (Gather from to)) may here =
@@ -74,7 +74,7 @@ module _ (s : Scene) (row : EntryRow) (among : Contains s.table.rows row) where
       was_false true e = absurd (cc)
 
   -- what is held at a lock that was in its row is in it
-  abbrev Kept : Bool → LockPlace → Option LockState → Type 0
+  abbrev Kept : Bool → LockId → Option LockState → Type 0
   Kept b at o = IsInRowOf row at.1 (lock_at s.locks at.0 at.1) → row.holder.ino.0 ≡ at.0 → IsInRowOf row at.1 o
 
   kept : (step : Move) → IsMove s step → (part : Part) → IsInRow s row part → IsInRow (with_moved s step) row part

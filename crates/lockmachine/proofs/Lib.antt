@@ -4,7 +4,7 @@ pub mod Rest
 pub mod Exact
 pub mod Queue
 pub mod Finding
-pub mod Places
+pub mod LockIds
 pub mod Moving
 pub mod Ending
 pub mod Settling

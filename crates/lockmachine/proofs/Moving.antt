@@ -19,7 +19,7 @@ use Rattle.lockmachine.specs.Inodes.{StateMap, lock_in, with_lock_in}
 use Rattle.lockmachine.specs.Requests.{same_part}
 use Rattle.lockmachine.specs.Locks.{LockMap, lock_at, with_lock}
 use Rattle.lockmachine.specs.Scene.{Scene, target}
-use Rattle.lockmachine.specs.Moves.{LockPlace, places, may_end, may_begin, may_serve, present_state, begin_or_rest, serve_or_begin, end_or_serve, first_move}
+use Rattle.lockmachine.specs.Moves.{LockId, lock_ids, may_end, may_begin, may_serve, present_state, begin_or_rest, serve_or_begin, end_or_serve, first_move}
 use Rattle.lockmachine.proofs.Rest.{same_part_is}
 
 -- ---- what the first move is
@@ -31,26 +31,26 @@ IsMove s (Serve ticket) = (q : Request) × (find (may_serve s.locks) s.locks.que
 IsMove s Settled = Unit {0}
 
 module _ (s : Scene) where
-  by_begin : (o : Option LockPlace) → find (may_begin s) (places s.locks) ≡ o → IsMove s (begin_or_rest s o)
+  by_begin : (o : Option LockId) → find (may_begin s) (lock_ids s.locks) ≡ o → IsMove s (begin_or_rest s o)
   by_begin None found = tt
-  by_begin (Some at) found = (find_passes (may_begin s) (places s.locks) at found, refl)
+  by_begin (Some at) found = (find_passes (may_begin s) (lock_ids s.locks) at found, refl)
 
   by_serve : (o : Option Request) → find (may_serve s.locks) s.locks.queue ≡ o → IsMove s (serve_or_begin s o)
-  by_serve None found = by_begin (find (may_begin s) (places s.locks)) refl
+  by_serve None found = by_begin (find (may_begin s) (lock_ids s.locks)) refl
   by_serve (Some q) found = (q, found)
 
-  by_end : (o : Option LockPlace) → find (may_end s) (places s.locks) ≡ o → IsMove s (end_or_serve s o)
+  by_end : (o : Option LockId) → find (may_end s) (lock_ids s.locks) ≡ o → IsMove s (end_or_serve s o)
   by_end None found = by_serve (find (may_serve s.locks) s.locks.queue) refl
-  by_end (Some at) found = find_passes (may_end s) (places s.locks) at found
+  by_end (Some at) found = find_passes (may_end s) (lock_ids s.locks) at found
 
   pub first_is : IsMove s (first_move s)
   unfolding first_move
-  first_is = by_end (find (may_end s) (places s.locks)) refl
+  first_is = by_end (find (may_end s) (lock_ids s.locks)) refl
 
 -- ---- one lock in another state
 
--- the place is that of the part of the inode
-abbrev pub is_at : ℕ → Part → LockPlace → Bool
+-- the lock is that of the part of the inode
+abbrev pub is_at : ℕ → Part → LockId → Bool
 is_at ino part at = (at.0 == ino) && same_part at.1 part
 
 with_lock-is : (part q : Part) (lock : LockState) (l : InodeLocks) → Some (lock_in q (with_lock_in part lock l)) ≡ cond (same_part q part) (Some lock) (Some (lock_in q l))
@@ -89,26 +89,26 @@ module _ (t : LockMap) (ino : ℕ) (part : Part) (lock : LockState) where
   here None q is = ap (option_map (lock_in q)) is ∙ neither (same_part q part)
   here (Some l) q is = ap (option_map (lock_in q)) (insert-here nat_cmp_total map.nat_cmp-IsAntisymmetric t.states ino (with_lock_in part lock l)) ∙ with_lock-is part q lock l
 
-  by_test : (at : LockPlace) (b : Bool) → (at.0 == ino) ≡ b
+  by_test : (at : LockId) (b : Bool) → (at.0 == ino) ≡ b
       → lock_at (with_lock t ino part lock) at.0 at.1 ≡ cond (b && same_part at.1 part) (option_map (λ _. lock) (lock_at t at.0 at.1)) (lock_at t at.0 at.1)
   by_test at true e =
       subst (λ i. lock_at (with_lock t ino part lock) i at.1 ≡ cond (same_part at.1 part) (option_map (λ _. lock) (lock_at t i at.1)) (lock_at t i at.1)) (sym (eqb-true at.0 ino e))
       (here (map.get t.states ino) at.1 refl)
   by_test at false e = ap (option_map (lock_in at.1)) (elsewhere (map.get t.states ino) at.0 (eqb-false at.0 ino e))
 
-  same_place : (at : LockPlace) → is_at ino part at ≡ true → ◌≡◌ {A = LockPlace} (ino, part) at
-  same_place at e =
+  same_id : (at : LockId) → is_at ino part at ≡ true → ◌≡◌ {A = LockId} (ino, part) at
+  same_id at e =
       let both = and_parts (at.0 == ino) (same_part at.1 part) e in
       let inos = sym (eqb-true at.0 ino both.0) in
       let parts = sym (same_part_is at.1 part both.1) in
       λ k. (inos k, parts k)
 
   -- what holds of the lock in the other state, and of each other lock as it is, holds of each lock
-  pub with_lock-each : (P : Bool → LockPlace → Option LockState → Type 0) → P true (ino, part) (option_map (λ _. lock) (lock_at t ino part)) → ((at : LockPlace) → P false at (lock_at t at.0 at.1))
-      → (at : LockPlace) → P (is_at ino part at) at (lock_at (with_lock t ino part lock) at.0 at.1)
+  pub with_lock-each : (P : Bool → LockId → Option LockState → Type 0) → P true (ino, part) (option_map (λ _. lock) (lock_at t ino part)) → ((at : LockId) → P false at (lock_at t at.0 at.1))
+      → (at : LockId) → P (is_at ino part at) at (lock_at (with_lock t ino part lock) at.0 at.1)
   with_lock-each P changed kept at =
       subst (P (is_at ino part at) at) (sym (by_test at (at.0 == ino) refl))
       (elim (is_at ino part at) as (λ b. is_at ino part at ≡ b → P b at (cond b (option_map (λ _. lock) (lock_at t at.0 at.1)) (lock_at t at.0 at.1))) [
-        | true ↦ λ e. subst (λ (p : LockPlace). P true p (option_map (λ _. lock) (lock_at t p.0 p.1))) (same_place at e) changed
+        | true ↦ λ e. subst (λ (p : LockId). P true p (option_map (λ _. lock) (lock_at t p.0 p.1))) (same_id at e) changed
         | false ↦ λ e. kept at
       ] refl)

@@ -17,14 +17,14 @@ use Rattle.capbits.specs.declared.ids.ClientId.{ClientId}
 use Rattle.capbits.specs.declared.ids.Ino.{Ino}
 use Rattle.capbits.specs.declared.ids.Ticket.{Ticket}
 use Rattle.captable.proofs.Searches.{find_passes}
-use Rattle.lockmachine.specs.declared.request.Ask.{Ask}
+use Rattle.lockmachine.specs.declared.request.Operation.{Operation}
 use Rattle.lockmachine.specs.declared.request.Request.{Request}
 use Rattle.lockmachine.specs.declared.moves.Move.{Move}
 use Rattle.lockmachine.specs.declared.moves.Move.TheVariants.{Begin, End, Serve, Settled}
 use Rattle.lockmachine.specs.Requests.{is_numbered, is_of_client, AreTicketsRising}
 use Rattle.lockmachine.specs.Locks.{LockMap, IsLockMap, TakesOnly, request_at, next_request, with_request, without_request, requests_of, without_requests_of}
 use Rattle.lockmachine.specs.Scene.{Scene}
-use Rattle.lockmachine.specs.Moves.{LockPlace, places, may_end, may_serve, begin_or_rest, serve_or_begin, end_or_serve, first_move, moved, IsFirstServed}
+use Rattle.lockmachine.specs.Moves.{LockId, lock_ids, may_end, may_serve, begin_or_rest, serve_or_begin, end_or_serve, first_move, moved, IsFirstServed}
 use Rattle.lockmachine.proofs.Rest.{not_found}
 
 -- ---- a queue whose numbers rise
@@ -144,7 +144,7 @@ least p (x ∷ xs) q rising found = elim (p x) as (λ b. p x ≡ b → cond b (S
       least = of_both fails is;
     }
 
-begins_not : (s : Scene) (ticket : Ticket) (o : Option LockPlace) → begin_or_rest s o ≡ Serve ticket → ⊥
+begins_not : (s : Scene) (ticket : Ticket) (o : Option LockId) → begin_or_rest s o ≡ Serve ticket → ⊥
 begins_not s ticket None is = absurd (cc)
 begins_not s ticket (Some at) is = absurd (cc)
 
@@ -152,14 +152,14 @@ serving : (s : Scene) (ticket : Ticket) (o : Option Request) → serve_or_begin 
 serving s ticket None is = absurd (begins_not s ticket _ is)
 serving s ticket (Some q) is = (q, refl, cc)
 
-ending : (s : Scene) (ticket : Ticket) (o : Option LockPlace) → end_or_serve s o ≡ Serve ticket → serve_or_begin s (find (may_serve s.locks) s.locks.queue) ≡ Serve ticket
+ending : (s : Scene) (ticket : Ticket) (o : Option LockId) → end_or_serve s o ≡ Serve ticket → serve_or_begin s (find (may_serve s.locks) s.locks.queue) ≡ Serve ticket
 ending s ticket None is = is
 ending s ticket (Some at) is = absurd (cc)
 
 pub least_served : (s : Scene) (ticket : Ticket) → IsLockMap s.locks → first_move s ≡ Serve ticket → (q : Request) × (q.ticket ≡ ticket) × IsFirstServed s.locks q
 unfolding first_move
 least_served s ticket is move =
-    let v = serving s ticket (find (may_serve s.locks) s.locks.queue) (ending s ticket (find (may_end s) (places s.locks)) move) in
+    let v = serving s ticket (find (may_serve s.locks) s.locks.queue) (ending s ticket (find (may_end s) (lock_ids s.locks)) move) in
     let l = least (may_serve s.locks) s.locks.queue v.0 is.rising v.1 in
     (v.0, v.2, record { waits = l.waits; may = l.passes; least = l.least })
 
@@ -208,11 +208,11 @@ moved-kept locks (End ino part) is = record { rising = is.rising; given = is.giv
 moved-kept locks (Serve ticket) is = without_request-kept locks ticket.0 is
 moved-kept locks Settled is = is
 
-pub with_request-kept : (locks : LockMap) (client : ClientId) (ino : Ino) (ask : Ask) → IsLockMap locks → length locks.queue < 1024 → IsLockMap (with_request locks client ino ask)
-with_request-kept locks client ino ask is room = record {
-  rising = all_pairs_push (λ earlier later. earlier.ticket.0 < later.ticket.0) locks.queue (next_request locks client ino ask) is.rising (λ k d inside. (let g = is.given k d inside in omega (arith, g.1)));
-  given = All-push (λ q. (1 ≤ q.ticket.0) × (q.ticket.0 ≤ locks.last + 1)) locks.queue (next_request locks client ino ask)
+pub with_request-kept : (locks : LockMap) (client : ClientId) (ino : Ino) (operation : Operation) → IsLockMap locks → length locks.queue < 1024 → IsLockMap (with_request locks client ino operation)
+with_request-kept locks client ino operation is room = record {
+  rising = all_pairs_push (λ earlier later. earlier.ticket.0 < later.ticket.0) locks.queue (next_request locks client ino operation) is.rising (λ k d inside. (let g = is.given k d inside in omega (arith, g.1)));
+  given = All-push (λ q. (1 ≤ q.ticket.0) × (q.ticket.0 ≤ locks.last + 1)) locks.queue (next_request locks client ino operation)
       (All-weaker (λ q. (1 ≤ q.ticket.0) × (q.ticket.0 ≤ locks.last)) (λ q. (1 ≤ q.ticket.0) × (q.ticket.0 ≤ locks.last + 1)) (λ q g. (g.0, omega (arith, g.1))) locks.queue is.given)
       (omega arith, omega arith);
-  room = let one_more = length-append locks.queue (next_request locks client ino ask ∷ []) in omega arith;
+  room = let one_more = length-append locks.queue (next_request locks client ino operation ∷ []) in omega arith;
 }

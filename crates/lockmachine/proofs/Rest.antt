@@ -10,48 +10,48 @@ use Rattle.capbits.specs.declared.cap.Part.{Part}
 use Rattle.capbits.specs.declared.cap.Part.TheVariants.{A, L, X, F}
 use Rattle.capbits.specs.declared.ids.ClientId.{ClientId}
 use Rattle.capbits.specs.Sets.{and_parts}
-use Rattle.locktable.specs.declared.states.State.{State}
-use Rattle.locktable.specs.declared.states.State.TheVariants.{Sync, Lock, Mix, Excl}
+use Rattle.locktable.specs.declared.states.StableState.{StableState}
+use Rattle.locktable.specs.declared.states.StableState.TheVariants.{Sync, Lock, Mix, Excl}
 use Rattle.locktable.specs.declared.states.LockState.{LockState}
 use Rattle.locktable.specs.declared.states.LockState.TheVariants.{Stable, Gather}
 use Rattle.locktable.specs.declared.targets.Head.TheVariants.{Empty}
 use Rattle.locktable.specs.Targets.{is_served, target_of, target_serves}
 use Rattle.lockmachine.specs.declared.states.InodeLocks.{InodeLocks}
-use Rattle.lockmachine.specs.declared.request.Ask.{Ask}
-use Rattle.lockmachine.specs.declared.request.Ask.TheVariants.{Get, Alter, Unlink, Rmdir, Rename}
+use Rattle.lockmachine.specs.declared.request.Operation.{Operation}
+use Rattle.lockmachine.specs.declared.request.Operation.TheVariants.{Get, Alter, Unlink, Rmdir, Rename}
 use Rattle.lockmachine.specs.declared.request.Request.{Request}
 use Rattle.lockmachine.specs.declared.moves.Move.TheVariants.{Settled}
-use Rattle.lockmachine.specs.Requests.{part_place, same_part, part_of_ask, head_of_ask, is_for, first_for, is_numbered}
+use Rattle.lockmachine.specs.Requests.{part_place, same_part, part_of_operation, head_of_operation, is_for, first_for, is_numbered}
 use Rattle.lockmachine.specs.Inodes.{lock_in}
 use Rattle.lockmachine.specs.Locks.{lock_at}
 use Rattle.lockmachine.specs.Scene.{Scene, target, loner, wanted}
-use Rattle.lockmachine.specs.Moves.{LockPlace, same_state, is_open, places_of, places, may_end, may_begin, may_serve, is_served_in, begin_or_rest, serve_or_begin, end_or_serve, first_move, IsQuiet, IsAtRest, WaitAtLocks}
+use Rattle.lockmachine.specs.Moves.{LockId, same_state, is_open, lock_ids_of, lock_ids, may_end, may_begin, may_serve, is_served_in, begin_or_rest, serve_or_begin, end_or_serve, first_move, IsQuiet, IsAtRest, WaitAtLocks}
 
 -- ---- what is known where no move applies
 
 record NoMove (s : Scene) : Type 0 where
-  ends : find (may_end s) (places s.locks) ≡ None
+  ends : find (may_end s) (lock_ids s.locks) ≡ None
   serves : find (may_serve s.locks) s.locks.queue ≡ None
-  begins : find (may_begin s) (places s.locks) ≡ None
+  begins : find (may_begin s) (lock_ids s.locks) ≡ None
 
-no_end : (s : Scene) (o : Option LockPlace) → end_or_serve s o ≡ Settled → (o ≡ None) × (serve_or_begin s (find (may_serve s.locks) s.locks.queue) ≡ Settled)
+no_end : (s : Scene) (o : Option LockId) → end_or_serve s o ≡ Settled → (o ≡ None) × (serve_or_begin s (find (may_serve s.locks) s.locks.queue) ≡ Settled)
 no_end s None is = (refl, is)
 no_end s (Some at) is = absurd (cc)
 
-no_serve : (s : Scene) (o : Option Request) → serve_or_begin s o ≡ Settled → (o ≡ None) × (begin_or_rest s (find (may_begin s) (places s.locks)) ≡ Settled)
+no_serve : (s : Scene) (o : Option Request) → serve_or_begin s o ≡ Settled → (o ≡ None) × (begin_or_rest s (find (may_begin s) (lock_ids s.locks)) ≡ Settled)
 no_serve s None is = (refl, is)
 no_serve s (Some q) is = absurd (cc)
 
-no_begin : (s : Scene) (o : Option LockPlace) → begin_or_rest s o ≡ Settled → o ≡ None
+no_begin : (s : Scene) (o : Option LockId) → begin_or_rest s o ≡ Settled → o ≡ None
 no_begin s None is = refl
 no_begin s (Some at) is = absurd (cc)
 
 no_move : (s : Scene) → first_move s ≡ Settled → NoMove s
 unfolding first_move
 no_move s is =
-    let e = no_end s (find (may_end s) (places s.locks)) is in
+    let e = no_end s (find (may_end s) (lock_ids s.locks)) is in
     let v = no_serve s (find (may_serve s.locks) s.locks.queue) e.1 in
-    record { ends = e.0; serves = v.0; begins = no_begin s (find (may_begin s) (places s.locks)) v.1 }
+    record { ends = e.0; serves = v.0; begins = no_begin s (find (may_begin s) (lock_ids s.locks)) v.1 }
 
 -- ---- what a test that finds nothing says
 
@@ -76,10 +76,10 @@ pub same_key : (ino x : ℕ) → eq_by_cmp nat_cmp ino x ≡ true → x ≡ ino
 same_key ino x e = sym (eqb-true ino x (sym (unsigned_tied ino x) ∙ e))
 
 -- a test that finds none of the locks fails at each
-pub none_at : (p : LockPlace → Bool) (inos : List ℕ) → find p (flat_map places_of inos) ≡ None → (ino : ℕ) → list_any (eq_by_cmp nat_cmp ino) inos ≡ true → (part : Part) → p (ino, part) ≡ false
+pub none_at : (p : LockId → Bool) (inos : List ℕ) → find p (flat_map lock_ids_of inos) ≡ None → (ino : ℕ) → list_any (eq_by_cmp nat_cmp ino) inos ≡ true → (part : Part) → p (ino, part) ≡ false
 none_at p [] none ino among part = absurd (cc)
 none_at p (y ∷ ys) none ino among part =
-    let later = flat_map places_of ys in
+    let later = flat_map lock_ids_of ys in
     let a = not_found p (y, A) ((y, L) ∷ (y, X) ∷ (y, F) ∷ later) none in
     let l = not_found p (y, L) ((y, X) ∷ (y, F) ∷ later) a.1 in
     let x = not_found p (y, X) ((y, F) ∷ later) l.1 in
@@ -115,7 +115,7 @@ part_at-place F = refl
 pub same_part_is : (a b : Part) → same_part a b ≡ true → a ≡ b
 same_part_is a b e = sym (part_at-place a) ∙ ap part_at (eqb-true (part_place a) (part_place b) e) ∙ part_at-place b
 
-same_state_is : (a b : State) → same_state a b ≡ true → a ≡ b
+same_state_is : (a b : StableState) → same_state a b ≡ true → a ≡ b
 same_state_is Sync Sync e = refl
 same_state_is Lock Lock e = refl
 same_state_is Mix Mix e = refl
@@ -136,7 +136,7 @@ same_state_is (Excl c) Mix e = absurd (cc)
 -- ---- one lock
 
 -- a request is something at the head of a queue
-no_empty_head : (client : ClientId) (ask : Ask) → head_of_ask client ask ≢ Empty
+no_empty_head : (client : ClientId) (operation : Operation) → head_of_operation client operation ≢ Empty
 no_empty_head client (Get part) e = absurd (cc)
 no_empty_head client (Alter change) e = absurd (cc)
 no_empty_head client Unlink e = absurd (cc)
@@ -144,23 +144,23 @@ no_empty_head client Rmdir e = absurd (cc)
 no_empty_head client (Rename dir name) e = absurd (cc)
 
 -- where nothing may be served, a lock at its target has no queue
-module _ (s : Scene) (ino : ℕ) (part : Part) (state : State) (stable : lock_at s.locks ino part ≡ Some (Stable state)) (none : find (may_serve s.locks) s.locks.queue ≡ None) where
-  unserved : (q : Request) → first_for s.locks.queue ino part ≡ Some q → is_served state (head_of_ask q.client q.ask) ≡ false
+module _ (s : Scene) (ino : ℕ) (part : Part) (state : StableState) (stable : lock_at s.locks ino part ≡ Some (Stable state)) (none : find (may_serve s.locks) s.locks.queue ≡ None) where
+  unserved : (q : Request) → first_for s.locks.queue ino part ≡ Some q → is_served state (head_of_operation q.client q.operation) ≡ false
   unserved q first =
       let f = found_not (is_for ino part) (may_serve s.locks) s.locks.queue q first none in
-      let both = and_parts (q.ino.0 == ino) (same_part (part_of_ask q.ask) part) f.0 in
+      let both = and_parts (q.ino.0 == ino) (same_part (part_of_operation q.operation) part) f.0 in
       let at_ino : q.ino.0 ≡ ino = eqb-true q.ino.0 ino both.0 in
-      let at_part : part_of_ask q.ask ≡ part = same_part_is (part_of_ask q.ask) part both.1 in
-      let no : (option_map_or (is_numbered q.ticket.0) (first_for s.locks.queue ino part) false && is_served_in (lock_at s.locks ino part) (head_of_ask q.client q.ask)) ≡ false = rw (at_ino, at_part) at f.1 in
-      let no' : ((q.ticket.0 == q.ticket.0) && is_served state (head_of_ask q.client q.ask)) ≡ false = rw (first, stable) at no in
-      second_false (q.ticket.0 == q.ticket.0) (is_served state (head_of_ask q.client q.ask)) (nat_eq_equiv.refl q.ticket.0) no'
+      let at_part : part_of_operation q.operation ≡ part = same_part_is (part_of_operation q.operation) part both.1 in
+      let no : (option_map_or (is_numbered q.ticket.0) (first_for s.locks.queue ino part) false && is_served_in (lock_at s.locks ino part) (head_of_operation q.client q.operation)) ≡ false = rw (at_ino, at_part) at f.1 in
+      let no' : ((q.ticket.0 == q.ticket.0) && is_served state (head_of_operation q.client q.operation)) ≡ false = rw (first, stable) at no in
+      second_false (q.ticket.0 == q.ticket.0) (is_served state (head_of_operation q.client q.operation)) (nat_eq_equiv.refl q.ticket.0) no'
 
   no_queue : (o : Option Request) → first_for s.locks.queue ino part ≡ o → target s ino part state ≡ state → first_for s.locks.queue ino part ≡ None
   no_queue None is here = is
   no_queue (Some q) is here =
-      let first = head_of_ask q.client q.ask in
+      let first = head_of_operation q.client q.operation in
       let there : target_of part state first (loner s ino) (wanted s ino) ≡ state = rw is at here in
-      let served = target_serves part state first (loner s ino) (wanted s ino) (no_empty_head q.client q.ask) in
+      let served = target_serves part state first (loner s ino) (wanted s ino) (no_empty_head q.client q.operation) in
       absurd (both_ways _ (unserved q is) (subst (λ st. is_served st first ≡ true) there served))
 
 module _ (s : Scene) (n : NoMove s) (ino : ℕ) (part : Part) (among : list_any (eq_by_cmp nat_cmp ino) (map.keys s.locks.states) ≡ true) where

@@ -6,7 +6,7 @@ use Rattle.std.proofs.lemmas.Bool.{eqb-true}
 use Rattle.capbits.specs.declared.cap.Part.{Part}
 use Rattle.capbits.specs.Sets.{is_empty}
 use Rattle.inotree.specs.Alike.{IsAlike}
-use Rattle.locktable.specs.declared.states.State.{State}
+use Rattle.locktable.specs.declared.states.StableState.{StableState}
 use Rattle.locktable.specs.declared.states.LockState.{LockState}
 use Rattle.locktable.specs.declared.states.LockState.TheVariants.{Stable, Gather}
 use Rattle.locktable.specs.Targets.{target_of}
@@ -78,12 +78,12 @@ module _ (ino : ℕ) (old new : Scene) (same : IsSameThere ino old new) where
       ∙ each_passing (want_of old.fs old.tree old.sessions) (want_of old.fs new.tree new.sessions) (is_of_inode (record { 0 = ino })) old.table.rows
       (λ row inside passes. want_same row inside (eqb-true row.holder.ino.0 ino passes))
 
-  target_same : (part : Part) (state : State) → target new ino part state ≡ target old ino part state
+  target_same : (part : Part) (state : StableState) → target new ino part state ≡ target old ino part state
   target_same part state =
       ap (λ (all : List Want). target_by new.locks.queue (in_all all) ino part state) wants_same
       ∙ ap (λ first. target_of part state (head_of first) (loner old ino) (wanted old ino)) (same.waiting part)
 
-  open_same : (part : Part) (to : State)
+  open_same : (part : Part) (to : StableState)
       → list_any (λ row. not (is_empty (outside part to row))) (entries_on new.table (record { 0 = ino })) ≡ list_any (λ row. not (is_empty (outside part to row))) (entries_on old.table (record { 0 = ino }))
   open_same part to = ap (list_any (λ row. not (is_empty (outside part to row)))) same.entries
 

@@ -5,11 +5,11 @@ use Rattle.std.proofs.lemmas.List.{append-nil}
 use Rattle.capbits.specs.declared.cap.Part.{Part}
 use Rattle.capbits.specs.declared.ids.ClientId.{ClientId}
 use Rattle.capbits.specs.declared.ids.Ino.{Ino}
-use Rattle.inotree.specs.Tree.{Nodes, place}
+use Rattle.inotree.specs.Tree.{Nodes, presence}
 use Rattle.inotree.specs.Alike.{IsAlike}
 use Rattle.captable.specs.Table.{Table}
 use Rattle.captable.specs.Calls.{entries_on}
-use Rattle.lockmachine.specs.declared.request.Ask.{Ask}
+use Rattle.lockmachine.specs.declared.request.Operation.{Operation}
 use Rattle.lockmachine.specs.declared.request.Request.{Request}
 use Rattle.lockmachine.specs.Requests.{is_for, first_for}
 use Rattle.lockmachine.specs.Locks.{LockMap, IsLockMap, next_request, with_request, without_request}
@@ -31,7 +31,7 @@ same-trans ino a b c first then = record {
   entries = λ other off. then.entries other off ∙ first.entries other off;
   locks = λ other part off. then.locks other part off ∙ first.locks other part off;
   waiting = λ other part off. then.waiting other part off ∙ first.waiting other part off;
-  places = λ other off. then.places other off ∙ first.places other off;
+  presences = λ other off. then.presences other off ∙ first.presences other off;
   alike = λ other off. alike-trans a.tree b.tree c.tree other (first.alike other off) (then.alike other off);
 }
 
@@ -44,7 +44,7 @@ same-locks ino s locks changes = record {
   entries = λ other off. refl;
   locks = changes.others;
   waiting = λ other part off. ap (λ (queue : List Request). first_for queue other part) changes.queue;
-  places = λ other off. refl;
+  presences = λ other off. refl;
   alike = λ other off. alike-itself s.tree other;
 }
 
@@ -56,19 +56,19 @@ same-entries ino s table entries = record {
   entries = entries;
   locks = λ other part off. refl;
   waiting = λ other part off. refl;
-  places = λ other off. refl;
+  presences = λ other off. refl;
   alike = λ other off. alike-itself s.tree other;
 }
 
-pub same-tree : (ino : ℕ) (s : Scene) (tree : Nodes) → ((other : ℕ) → other ≢ ino → place tree.nodes other ≡ place s.tree.nodes other)
+pub same-tree : (ino : ℕ) (s : Scene) (tree : Nodes) → ((other : ℕ) → other ≢ ino → presence tree.nodes other ≡ presence s.tree.nodes other)
     → ((other : ℕ) → other ≢ ino → IsAlike s.tree tree other) → IsSameBut ino s (record s { tree = tree })
-same-tree ino s tree places alike = record {
+same-tree ino s tree presences alike = record {
   fs = refl;
   sessions = refl;
   entries = λ other off. refl;
   locks = λ other part off. refl;
   waiting = λ other part off. refl;
-  places = places;
+  presences = presences;
   alike = alike;
 }
 
@@ -77,16 +77,16 @@ find_without : {T : Type 0} (p : T → Bool) (earlier : List T) (x : T) (later :
 find_without p [] x later fails = ap (λ b. cond b (Some x) (find p later)) fails
 find_without p (y ∷ ys) x later fails = ap (cond (p y) (Some y)) (find_without p ys x later fails)
 
-pub same-request : (s : Scene) (client : ClientId) (ino : Ino) (ask : Ask) → IsSameBut ino.0 s (record s { locks = with_request s.locks client ino ask })
-same-request s client ino ask = record {
+pub same-request : (s : Scene) (client : ClientId) (ino : Ino) (operation : Operation) → IsSameBut ino.0 s (record s { locks = with_request s.locks client ino operation })
+same-request s client ino operation = record {
   fs = refl;
   sessions = refl;
   entries = λ other off. refl;
   locks = λ other part off. refl;
   waiting = λ other part off.
-      find_without (is_for other part) s.locks.queue (next_request s.locks client ino ask) [] (not_for (next_request s.locks client ino ask) other part off)
+      find_without (is_for other part) s.locks.queue (next_request s.locks client ino operation) [] (not_for (next_request s.locks client ino operation) other part off)
       ∙ ap (find (is_for other part)) (append-nil s.locks.queue);
-  places = λ other off. refl;
+  presences = λ other off. refl;
   alike = λ other off. alike-itself s.tree other;
 }
 

@@ -12,7 +12,7 @@ use Rattle.captable.specs.Calls.{is_of_inode}
 use Rattle.inotree.specs.Tree.{Nodes}
 use Rattle.inotree.specs.Alike.{IsAlike}
 use Rattle.lockmachine.specs.declared.request.Request.{Request}
-use Rattle.lockmachine.specs.Requests.{same_part, part_of_ask, is_for, is_of_client}
+use Rattle.lockmachine.specs.Requests.{same_part, part_of_operation, is_for, is_of_client}
 use Rattle.lockmachine.specs.Locks.{without_requests_of}
 use Rattle.lockmachine.specs.Scene.{Scene}
 use Rattle.lockmachine.specs.Moves.{IsAtRest, IsQuietOutside}
@@ -30,7 +30,7 @@ outside-itself at s = record {
   entries = λ other off. refl;
   locks = λ other part off. refl;
   waiting = λ other part off. refl;
-  places = λ other off. refl;
+  presences = λ other off. refl;
   alike = λ other off. alike-itself s.tree other;
 }
 
@@ -42,7 +42,7 @@ outside-one ino old new same = record {
   entries = λ other off. same.entries other (eqb-false other.0 ino off);
   locks = λ other part off. same.locks other part (eqb-false other ino off);
   waiting = λ other part off. same.waiting other part (eqb-false other ino off);
-  places = λ other off. same.places other (eqb-false other ino off);
+  presences = λ other off. same.presences other (eqb-false other ino off);
   alike = λ other off. same.alike other (eqb-false other ino off);
 }
 
@@ -64,7 +64,7 @@ outside-then at a b c first then = record {
   entries = λ other off. then.entries other off ∙ first.entries other off;
   locks = λ other part off. then.locks other part off ∙ first.locks other part off;
   waiting = λ other part off. then.waiting other part off ∙ first.waiting other part off;
-  places = λ other off. then.places other off ∙ first.places other off;
+  presences = λ other off. then.presences other off ∙ first.presences other off;
   alike = λ other off. alike-trans a.tree b.tree c.tree other (first.alike other off) (then.alike other off);
 }
 
@@ -72,7 +72,7 @@ outside-then at a b c first then = record {
 
 -- a request for a lock of another inode is not for this one
 pub not_for : (q : Request) (other : ℕ) (part : Part) → other ≢ q.ino.0 → is_for other part q ≡ false
-not_for q other part off = ap (λ b. b && same_part (part_of_ask q.ask) part) (ne_eqb q.ino.0 other (λ same. off (sym same)))
+not_for q other part off = ap (λ b. b && same_part (part_of_operation q.operation) part) (ne_eqb q.ino.0 other (λ same. off (sym same)))
 
 -- a search passes over what fails its test
 find_fewer : (p r : Request → Bool) (qs : List Request) → ((q : Request) → Contains qs q → r q ≡ true → p q ≡ false) → find p (filter (λ q. not (r q)) qs) ≡ find p qs
@@ -93,7 +93,7 @@ outside-dropped at s client waited = record {
   locks = λ other part off. refl;
   waiting = λ other part off. find_fewer (is_for other part) (is_of_client client) s.locks.queue
       (λ q inside mine. not_for q other part (λ same. true≢false (sym (waited q inside mine) ∙ ap at (sym same) ∙ off)));
-  places = λ other off. refl;
+  presences = λ other off. refl;
   alike = λ other off. alike-itself s.tree other;
 }
 

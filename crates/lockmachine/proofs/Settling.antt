@@ -11,7 +11,7 @@ use Rattle.lockmachine.specs.declared.moves.Move.TheVariants.{Begin, End, Serve,
 use Rattle.lockmachine.specs.Requests.{same_part}
 use Rattle.lockmachine.specs.Locks.{LockMap, lock_at, with_lock}
 use Rattle.lockmachine.specs.Scene.{Scene}
-use Rattle.lockmachine.specs.Moves.{LockPlace, present_state, coming_state, first_move, moved, with_moved}
+use Rattle.lockmachine.specs.Moves.{LockId, present_state, coming_state, first_move, moved, with_moved}
 use Rattle.lockmachine.specs.Runs.{is_of_lock, Runs, is_begin_of, is_end_of, ChangesLocksOf}
 use Rattle.lockmachine.specs.Turns.{IsTurnOf, IsNextAt}
 use Rattle.lockmachine.proofs.Moving.{IsMove, first_is, with_lock-each}
@@ -20,7 +20,7 @@ use Rattle.lockmachine.proofs.Turns.{turn-kept}
 
 -- ---- the moves that are left at the inode
 
-abbrev pub lock_left : Scene → LockPlace → ℕ
+abbrev pub lock_left : Scene → LockId → ℕ
 lock_left s at = begins_left s at (locks_of s at) + ends_left s at (locks_of s at)
 
 abbrev pub moves_left : Scene → ℕ → ℕ
@@ -33,7 +33,7 @@ IsMoveAt ino (End i part) = i.0 ≡ ino
 IsMoveAt ino (Serve ticket) = ⊥
 IsMoveAt ino Settled = ⊥
 
-abbrev made : Move → LockPlace → ℕ
+abbrev made : Move → LockId → ℕ
 made step at = cond (is_begin_of at step) 1 0 + cond (is_end_of at step) 1 0
 
 one_made : (ino : ℕ) (step : Move) → IsMoveAt ino step → 0 < made step (ino, A) + made step (ino, L) + made step (ino, X) + made step (ino, F)
@@ -99,7 +99,7 @@ of_one t ino Settled at = absurd at
 
 elsewhere_kept : (t : LockMap) (ino : ℕ) (p : Part) (lock : LockState) (other : ℕ) (part : Part) → other ≢ ino → lock_at (with_lock t ino p lock) other part ≡ lock_at t other part
 elsewhere_kept t ino p lock other part =
-    with_lock-each t ino p lock (λ b (at : LockPlace) o. at.0 ≢ ino → o ≡ lock_at t at.0 at.1) (λ off. absurd (off refl)) (λ at off. refl) (other, part)
+    with_lock-each t ino p lock (λ b (at : LockId) o. at.0 ≢ ino → o ≡ lock_at t at.0 at.1) (λ off. absurd (off refl)) (λ at off. refl) (other, part)
 
 pub runs_more : (a : Scene) (steps : List Move) (b : Scene) (step : Move) → Runs a steps b → first_move b ≡ step → IsTrue (is_of_lock step) → Runs a (steps ++ step ∷ []) (with_moved b step)
 runs_more a steps b step runs first of_lock = runs-then a steps b (step ∷ []) (with_moved b step) runs (first, of_lock, refl)

@@ -11,7 +11,7 @@ use Rattle.lockmachine.specs.declared.moves.Move.TheVariants.{Serve, Settled}
 use Rattle.lockmachine.specs.Inodes.{lock_in}
 use Rattle.lockmachine.specs.Locks.{LockMap}
 use Rattle.lockmachine.specs.Scene.{Scene}
-use Rattle.lockmachine.specs.Moves.{LockPlace, places, may_end, may_end_in, may_begin, may_serve, begin_or_rest, serve_or_begin, end_or_serve, first_move}
+use Rattle.lockmachine.specs.Moves.{LockId, lock_ids, may_end, may_end_in, may_begin, may_serve, begin_or_rest, serve_or_begin, end_or_serve, first_move}
 use Rattle.lockmachine.specs.Runs.{ChangesLocksOf}
 use Rattle.lockmachine.specs.Elsewhere.{IsSameBut}
 use Rattle.lockmachine.specs.Turns.{IsTurnOf, IsDoneAt, NothingEnds}
@@ -47,14 +47,14 @@ pub turn-rests : (s : Scene) (a : ℕ) → IsTurnOf s a → IsDoneAt s a
     → ((other : ℕ) (part : Part) → a < other → may_begin s (other, part) ≡ false) → first_move s ≡ Settled
 unfolding first_move
 turn-rests s a turn done above =
-    ap (end_or_serve s) (find_none (may_end s) (places s.locks) (λ at inside. done-ends s a turn done at.0 at.1))
+    ap (end_or_serve s) (find_none (may_end s) (lock_ids s.locks) (λ at inside. done-ends s a turn done at.0 at.1))
     ∙ ap (serve_or_begin s) (find_none (may_serve s.locks) s.locks.queue done.serves)
-    ∙ ap (begin_or_rest s) (find_none (may_begin s) (places s.locks) (λ at inside. done-begins s a turn done at.0 at.1 (above at.0 at.1)))
+    ∙ ap (begin_or_rest s) (find_none (may_begin s) (lock_ids s.locks) (λ at inside. done-begins s a turn done at.0 at.1 (above at.0 at.1)))
 
 -- ---- what is served, and what no gather's end comes before
 
 -- a search of all locks that finds no gather to end
-no_end_found : (s : Scene) (ticket : Ticket) (o : Option LockPlace) → end_or_serve s o ≡ Serve ticket → o ≡ None
+no_end_found : (s : Scene) (ticket : Ticket) (o : Option LockId) → end_or_serve s o ≡ Serve ticket → o ≡ None
 no_end_found s ticket None is = refl
 no_end_found s ticket (Some at) is = absurd (cc)
 
@@ -65,7 +65,7 @@ served-ends s ticket is ino part = by_locks (map.get s.locks.states ino) refl
     by_locks : (o : Option InodeLocks) → map.get s.locks.states ino ≡ o → may_end s (ino, part) ≡ false
     by_locks None gone = ap (λ l. may_end_in s.table (ino, part) (option_map (lock_in part) l)) gone
     by_locks (Some locks) has =
-        none_at (may_end s) (map.keys s.locks.states) (no_end_found s ticket (find (may_end s) (places s.locks)) is) ino
+        none_at (may_end s) (map.keys s.locks.states) (no_end_found s ticket (find (may_end s) (lock_ids s.locks)) is) ino
         (sym (map.contains_key-keys s.locks.states ino) ∙ ap is_some has) part
 
 -- ---- what is kept elsewhere

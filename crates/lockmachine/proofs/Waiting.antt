@@ -7,16 +7,16 @@ use Rattle.std.specs.Option.{option_map_or}
 use Rattle.capbits.specs.declared.cap.Part.{Part}
 use Rattle.capbits.specs.declared.ids.Ticket.{Ticket}
 use Rattle.inotree.specs.Tree.{Nodes}
-use Rattle.locktable.specs.declared.states.State.{State}
+use Rattle.locktable.specs.declared.states.StableState.{StableState}
 use Rattle.locktable.specs.declared.states.LockState.{LockState}
 use Rattle.locktable.specs.declared.states.LockState.TheVariants.{Stable, Gather}
 use Rattle.lockmachine.specs.declared.request.Request.{Request}
 use Rattle.lockmachine.specs.declared.moves.Move.{Move}
 use Rattle.lockmachine.specs.declared.moves.Move.TheVariants.{Begin, End, Serve, Settled}
-use Rattle.lockmachine.specs.Requests.{same_part, part_of_ask, head_of_ask, is_for, first_for, is_numbered}
+use Rattle.lockmachine.specs.Requests.{same_part, part_of_operation, head_of_operation, is_for, first_for, is_numbered}
 use Rattle.lockmachine.specs.Locks.{LockMap, IsLockMap, lock_at, request_at, without_request}
 use Rattle.lockmachine.specs.Scene.{Scene, wanted_in_all}
-use Rattle.lockmachine.specs.Moves.{LockPlace, is_open, may_end_in, may_begin_in, may_serve, is_served_in, present_state, coming_state, first_move, moved, with_moved, IsQuiet, IsQuietOutside}
+use Rattle.lockmachine.specs.Moves.{LockId, is_open, may_end_in, may_begin_in, may_serve, is_served_in, present_state, coming_state, first_move, moved, with_moved, IsQuiet, IsQuietOutside}
 use Rattle.lockmachine.specs.Runs.{is_of_lock, Runs}
 use Rattle.lockmachine.specs.Turns.{IsHeldUp, WaitAt}
 use Rattle.lockmachine.proofs.Finding.{fails_at, contains-filter}
@@ -29,20 +29,20 @@ use Rattle.lockmachine.proofs.Queue.{found_by_number, least_served}
 some_first : (p : Request → Bool) (qs : List Request) (q : Request) → Contains qs q → p q ≡ true → find p qs ≢ None
 some_first p qs q inside passes none = true≢false (sym passes ∙ fails_at p qs none q inside)
 
-for_itself : (q : Request) → is_for q.ino.0 (part_of_ask q.ask) q ≡ true
-for_itself q = rw (nat_eq_equiv.refl q.ino.0) (itself (part_of_ask q.ask))
+for_itself : (q : Request) → is_for q.ino.0 (part_of_operation q.operation) q ≡ true
+for_itself q = rw (nat_eq_equiv.refl q.ino.0) (itself (part_of_operation q.operation))
   where
     itself : (part : Part) → same_part part part ≡ true
     itself part = nat_eq_equiv.refl _
 
 pub quiet-waits-at : (at : ℕ → Bool) (s : Scene) → IsQuietOutside at s → WaitAt at s
 quiet-waits-at at s quiet q inside off =
-    let part = part_of_ask q.ask in
+    let part = part_of_operation q.operation in
     let first = some_first (is_for q.ino.0 part) s.locks.queue q inside (for_itself q) in
     held first (lock_at s.locks q.ino.0 part) refl (quiet.each_other q.ino.0 part off)
   where
-    held : first_for s.locks.queue q.ino.0 (part_of_ask q.ask) ≢ None → (o : Option LockState) → lock_at s.locks q.ino.0 (part_of_ask q.ask) ≡ o
-        → IsQuiet s q.ino.0 (part_of_ask q.ask) o → IsHeldUp s q
+    held : first_for s.locks.queue q.ino.0 (part_of_operation q.operation) ≢ None → (o : Option LockState) → lock_at s.locks q.ino.0 (part_of_operation q.operation) ≡ o
+        → IsQuiet s q.ino.0 (part_of_operation q.operation) o → IsHeldUp s q
     held first None is none = absurd (first none)
     held first (Some (Stable state)) is stays = absurd (first stays.1)
     held first (Some (Gather from to)) is stays = record { from = from; to = to; gathers = is; is_held = stays }
@@ -53,8 +53,8 @@ and_false false = refl
 
 pub held-up-unserved : (s : Scene) (q : Request) → IsHeldUp s q → may_serve s.locks q ≡ false
 held-up-unserved s q held =
-    let first = option_map_or (is_numbered q.ticket.0) (first_for s.locks.queue q.ino.0 (part_of_ask q.ask)) false in
-    ap (λ o. first && is_served_in o (head_of_ask q.client q.ask)) held.gathers ∙ and_false first
+    let first = option_map_or (is_numbered q.ticket.0) (first_for s.locks.queue q.ino.0 (part_of_operation q.operation)) false in
+    ap (λ o. first && is_served_in o (head_of_operation q.client q.operation)) held.gathers ∙ and_false first
 
 -- and so outside of more
 pub waits-wider : (at wider : ℕ → Bool) (s : Scene) → ((q : ℕ) → wider q ≡ false → at q ≡ false) → WaitAt at s → WaitAt wider s
@@ -70,25 +70,25 @@ queue-moved locks (Serve ticket) of_lock = absurd (true≢false (sym of_lock))
 queue-moved locks Settled of_lock = absurd (true≢false (sym of_lock))
 
 -- the lock is in a gather that is open
-abbrev IsOpenGather : Scene → LockPlace → State → State → Option LockState → Type 0
+abbrev IsOpenGather : Scene → LockId → StableState → StableState → Option LockState → Type 0
 IsOpenGather s at from to o = (is_open s at.0 at.1 to ≡ true) × (o ≡ Some (Gather from to))
 
-begun_not : (s : Scene) (at : LockPlace) (from to : State) (o : Option LockState) → IsOpenGather s at from to o → may_begin_in s.locks.queue (wanted_in_all s at.0) at o ≢ true
+begun_not : (s : Scene) (at : LockId) (from to : StableState) (o : Option LockState) → IsOpenGather s at from to o → may_begin_in s.locks.queue (wanted_in_all s at.0) at o ≢ true
 begun_not s at from to o held may = true≢false (sym may ∙ ap (may_begin_in s.locks.queue (wanted_in_all s at.0) at) held.1)
 
-ended_not : (s : Scene) (at : LockPlace) (from to : State) (o : Option LockState) → IsOpenGather s at from to o → may_end_in s.table at o ≢ true
+ended_not : (s : Scene) (at : LockId) (from to : StableState) (o : Option LockState) → IsOpenGather s at from to o → may_end_in s.table at o ≢ true
 ended_not s at from to o held may = true≢false (sym may ∙ ap (may_end_in s.table at) held.1 ∙ ap not held.0)
 
 -- a move leaves it so
-open-moved : (s : Scene) (step : Move) → IsMove s step → IsTrue (is_of_lock step) → (at : LockPlace) (from to : State)
+open-moved : (s : Scene) (step : Move) → IsMove s step → IsTrue (is_of_lock step) → (at : LockId) (from to : StableState)
     → IsOpenGather s at from to (lock_at s.locks at.0 at.1) → lock_at (moved s.locks step) at.0 at.1 ≡ Some (Gather from to)
 open-moved s (Begin ino part goes) is of_lock at from to =
     with_lock-each s.locks ino.0 part (Gather (present_state (lock_at s.locks ino.0 part)) goes)
-    (λ b (p : LockPlace) o. IsOpenGather s p from to (lock_at s.locks p.0 p.1) → o ≡ Some (Gather from to))
+    (λ b (p : LockId) o. IsOpenGather s p from to (lock_at s.locks p.0 p.1) → o ≡ Some (Gather from to))
     (λ held. absurd (begun_not s (ino.0, part) from to (lock_at s.locks ino.0 part) held is.0)) (λ p held. held.1) at
 open-moved s (End ino part) is of_lock at from to =
     with_lock-each s.locks ino.0 part (Stable (coming_state (lock_at s.locks ino.0 part)))
-    (λ b (p : LockPlace) o. IsOpenGather s p from to (lock_at s.locks p.0 p.1) → o ≡ Some (Gather from to))
+    (λ b (p : LockId) o. IsOpenGather s p from to (lock_at s.locks p.0 p.1) → o ≡ Some (Gather from to))
     (λ held. absurd (ended_not s (ino.0, part) from to (lock_at s.locks ino.0 part) held is)) (λ p held. held.1) at
 open-moved s (Serve ticket) is of_lock at from to = absurd (true≢false (sym of_lock))
 open-moved s Settled is of_lock at from to = absurd (true≢false (sym of_lock))
@@ -97,7 +97,7 @@ held-moved : (s : Scene) (step : Move) → IsMove s step → IsTrue (is_of_lock 
 held-moved s step is of_lock q held = record {
   from = held.from;
   to = held.to;
-  gathers = open-moved s step is of_lock (q.ino.0, part_of_ask q.ask) held.from held.to (held.is_held, held.gathers);
+  gathers = open-moved s step is of_lock (q.ino.0, part_of_operation q.operation) held.from held.to (held.is_held, held.gathers);
   is_held = held.is_held;
 }
 

@@ -10,7 +10,7 @@ use Rattle.capbits.specs.declared.refusal.Refusal.TheVariants as refusal
 use Rattle.capbits.specs.Refusal.{Test, refused_if}
 use Rattle.capbits.specs.Maps.{change_at}
 use Rattle.locktable.specs.declared.states.LockState.{LockState}
-use Rattle.lockmachine.specs.declared.request.Ask.{Ask}
+use Rattle.lockmachine.specs.declared.request.Operation.{Operation}
 use Rattle.lockmachine.specs.declared.request.Request.{Request}
 use Rattle.lockmachine.specs.Requests.{is_numbered, is_of_client, AreTicketsRising}
 use Rattle.lockmachine.specs.Inodes.{StateMap, lock_in, with_lock_in, in_sync}
@@ -59,13 +59,13 @@ queue_tests locks = refused_if (nat_le 1024 (length locks.queue)) refusal.Limit 
 abbrev pub request_at : LockMap → ℕ → Option Request
 request_at locks ticket = find (is_numbered ticket) locks.queue
 
--- what a client asks for, under the next number
-abbrev pub next_request : LockMap → ClientId → Ino → Ask → Request
-next_request locks client ino ask = record { ticket = record { 0 = locks.last + 1 }; client = client; ino = ino; ask = ask }
+-- a client's operation, under the next number
+abbrev pub next_request : LockMap → ClientId → Ino → Operation → Request
+next_request locks client ino operation = record { ticket = record { 0 = locks.last + 1 }; client = client; ino = ino; operation = operation }
 
 -- it waits, and comes last
-abbrev pub with_request : LockMap → ClientId → Ino → Ask → LockMap
-with_request locks client ino ask = record locks { queue = locks.queue ++ next_request locks client ino ask ∷ []; last = locks.last + 1 }
+abbrev pub with_request : LockMap → ClientId → Ino → Operation → LockMap
+with_request locks client ino operation = record locks { queue = locks.queue ++ next_request locks client ino operation ∷ []; last = locks.last + 1 }
 
 -- the request with this number waits no more
 abbrev pub without_request : LockMap → ℕ → LockMap

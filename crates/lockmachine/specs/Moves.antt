@@ -6,8 +6,8 @@ use Rattle.std.specs.FinMap as map
 use Rattle.capbits.specs.declared.cap.Part.{Part}
 use Rattle.capbits.specs.declared.cap.Part.TheVariants.{A, L, X, F}
 use Rattle.capbits.specs.declared.ids.Ticket.{Ticket}
-use Rattle.locktable.specs.declared.states.State.{State}
-use Rattle.locktable.specs.declared.states.State.TheVariants.{Sync}
+use Rattle.locktable.specs.declared.states.StableState.{StableState}
+use Rattle.locktable.specs.declared.states.StableState.TheVariants.{Sync}
 use Rattle.locktable.specs.declared.states.LockState.{LockState}
 use Rattle.locktable.specs.declared.states.LockState.TheVariants.{Stable, Gather}
 use Rattle.locktable.specs.declared.targets.Head.{Head}
@@ -17,14 +17,14 @@ use Rattle.lockmachine.specs.declared.request.Request.{Request}
 use Rattle.lockmachine.specs.declared.wants.Wants.{Wants}
 use Rattle.lockmachine.specs.declared.moves.Move.{Move}
 use Rattle.lockmachine.specs.declared.moves.Move.TheVariants.{Begin, End, Serve, Settled}
-use Rattle.lockmachine.specs.Requests.{first_for, part_of_ask, head_of_ask, is_numbered}
+use Rattle.lockmachine.specs.Requests.{first_for, part_of_operation, head_of_operation, is_numbered}
 use Rattle.lockmachine.specs.Locks.{LockMap, lock_at, with_lock, request_at, without_request}
 use Rattle.lockmachine.specs.Scene.{Scene, wanted_in_all, target_by, target}
 pub use Rattle.onelock.specs.Held.{is_held_outside}
-pub use Rattle.onelock.specs.Lock.{same_state, LockPlace, may_end_in}
+pub use Rattle.onelock.specs.Lock.{same_state, LockId, may_end_in}
 
 -- some caps are still to be acknowledged or released before the lock can be in its target
-abbrev pub is_open : Scene → ℕ → Part → State → Bool
+abbrev pub is_open : Scene → ℕ → Part → StableState → Bool
 is_open s ino part to = is_held_outside s.table (record { 0 = ino }) part to
 
 -- ---- which moves apply
@@ -34,31 +34,31 @@ abbrev pub parts : List Part
 parts = A ∷ L ∷ X ∷ F ∷ []
 
 -- the locks, by inode and then in the order A, L, X, F
-abbrev pub places_of : ℕ → List LockPlace
-places_of ino = each (λ part. (ino, part)) parts
+abbrev pub lock_ids_of : ℕ → List LockId
+lock_ids_of ino = each (λ part. (ino, part)) parts
 
-abbrev pub places : LockMap → List LockPlace
-places locks = flat_map places_of (map.keys locks.states)
+abbrev pub lock_ids : LockMap → List LockId
+lock_ids locks = flat_map lock_ids_of (map.keys locks.states)
 
 -- the lock is in a gather that is not open, by the entries of the table
-abbrev pub may_end_by : Table → LockMap → LockPlace → Bool
+abbrev pub may_end_by : Table → LockMap → LockId → Bool
 may_end_by table locks at = may_end_in table at (lock_at locks at.0 at.1)
 
 -- and so in the scene
-abbrev pub may_end : Scene → LockPlace → Bool
+abbrev pub may_end : Scene → LockId → Bool
 may_end s at = may_end_by s.table s.locks at
 
-abbrev pub may_begin_in : List Request → Wants → LockPlace → Option LockState → Bool
+abbrev pub may_begin_in : List Request → Wants → LockId → Option LockState → Bool
 may_begin_in queue wants at None = false
 may_begin_in queue wants at (Some (Gather from to)) = false
 may_begin_in queue wants at (Some (Stable state)) = not (same_state (target_by queue wants at.0 at.1 state) state)
 
 -- the lock is stable, and not at its target, by what is wanted of its inode
-abbrev pub may_begin_by : LockMap → Wants → LockPlace → Bool
+abbrev pub may_begin_by : LockMap → Wants → LockId → Bool
 may_begin_by locks wants at = may_begin_in locks.queue wants at (lock_at locks at.0 at.1)
 
 -- and so in the scene
-abbrev pub may_begin : Scene → LockPlace → Bool
+abbrev pub may_begin : Scene → LockId → Bool
 may_begin s at = may_begin_by s.locks (wanted_in_all s at.0) at
 
 abbrev pub is_served_in : Option LockState → Head → Bool
@@ -68,11 +68,11 @@ is_served_in (Some (Stable state)) head = is_served state head
 
 -- no other request waits longer for its lock
 abbrev pub is_first : List Request → Request → Bool
-is_first queue q = option_map_or (is_numbered q.ticket.0) (first_for queue q.ino.0 (part_of_ask q.ask)) false
+is_first queue q = option_map_or (is_numbered q.ticket.0) (first_for queue q.ino.0 (part_of_operation q.operation)) false
 
 -- its lock is stable in a state that serves it
 abbrev pub is_servable : LockMap → Request → Bool
-is_servable locks q = is_served_in (lock_at locks q.ino.0 (part_of_ask q.ask)) (head_of_ask q.client q.ask)
+is_servable locks q = is_served_in (lock_at locks q.ino.0 (part_of_operation q.operation)) (head_of_operation q.client q.operation)
 
 -- the number of a request whose lock serves it
 abbrev pub served_of : LockMap → Option Request → Option Ticket
@@ -92,47 +92,47 @@ pub record IsFirstServed (locks : LockMap) (q : Request) : Type 0 where
 -- ---- the first that applies
 
 -- the state that a lock has reached, or leaves in a gather
-abbrev pub present_state : Option LockState → State
+abbrev pub present_state : Option LockState → StableState
 present_state None = Sync
 present_state (Some (Stable state)) = state
 present_state (Some (Gather from to)) = from
 
 -- the state that a lock has reached, or is to reach
-abbrev pub coming_state : Option LockState → State
+abbrev pub coming_state : Option LockState → StableState
 coming_state None = Sync
 coming_state (Some (Stable state)) = state
 coming_state (Some (Gather from to)) = to
 
 -- the beginning of a gather that brings the lock to its target, by what is wanted of its inode
-abbrev pub beginning : LockMap → Wants → LockPlace → Move
+abbrev pub beginning : LockMap → Wants → LockId → Move
 beginning locks wants at =
     Begin (record { 0 = at.0 }) at.1 (target_by locks.queue wants at.0 at.1 (present_state (lock_at locks at.0 at.1)))
 
 -- the same, where these requests wait
-abbrev pub beginning_by : List Request → LockMap → Wants → LockPlace → Move
+abbrev pub beginning_by : List Request → LockMap → Wants → LockId → Move
 beginning_by queue locks wants at =
     Begin (record { 0 = at.0 }) at.1 (target_by queue wants at.0 at.1 (present_state (lock_at locks at.0 at.1)))
 
-abbrev pub begin_or_rest : Scene → Option LockPlace → Move
+abbrev pub begin_or_rest : Scene → Option LockId → Move
 begin_or_rest s None = Settled
 begin_or_rest s (Some at) = beginning s.locks (wanted_in_all s at.0) at
 
 abbrev pub serve_or_begin : Scene → Option Request → Move
-serve_or_begin s None = begin_or_rest s (find (may_begin s) (places s.locks))
+serve_or_begin s None = begin_or_rest s (find (may_begin s) (lock_ids s.locks))
 serve_or_begin s (Some q) = Serve q.ticket
 
-abbrev pub end_or_serve : Scene → Option LockPlace → Move
+abbrev pub end_or_serve : Scene → Option LockId → Move
 end_or_serve s None = serve_or_begin s (find (may_serve s.locks) s.locks.queue)
 end_or_serve s (Some at) = End (record { 0 = at.0 }) at.1
 
 -- the least gather that may end; else the oldest request that may be served; else the least lock that may begin
 unfoldable pub first_move : Scene → Move
-first_move s = end_or_serve s (find (may_end s) (places s.locks))
+first_move s = end_or_serve s (find (may_end s) (lock_ids s.locks))
 
 -- ---- what they do
 
 -- the lock gathers
-abbrev pub begun_locks : LockMap → ℕ → Part → State → LockMap
+abbrev pub begun_locks : LockMap → ℕ → Part → StableState → LockMap
 begun_locks locks ino part to = with_lock locks ino part (Gather (present_state (lock_at locks ino part)) to)
 
 -- the lock is stable in the target of its gather

@@ -10,8 +10,8 @@ use Rattle.locktable.specs.declared.targets.Head.{Head}
 use Rattle.locktable.specs.declared.targets.Head.TheVariants as kind
 use Rattle.lockmachine.specs.declared.request.Change.{Change}
 use Rattle.lockmachine.specs.declared.request.Change.TheVariants.{Set, SetXattr, RemoveXattr}
-use Rattle.lockmachine.specs.declared.request.Ask.{Ask}
-use Rattle.lockmachine.specs.declared.request.Ask.TheVariants.{Get, Alter, Unlink, Rmdir, Rename}
+use Rattle.lockmachine.specs.declared.request.Operation.{Operation}
+use Rattle.lockmachine.specs.declared.request.Operation.TheVariants.{Get, Alter, Unlink, Rmdir, Rename}
 use Rattle.lockmachine.specs.declared.request.Request.{Request}
 
 -- parts count in the order A, L, X, F
@@ -38,28 +38,28 @@ part_of_change (SetXattr name value) = X
 part_of_change (RemoveXattr name) = X
 
 -- the part whose lock a request waits for
-abbrev pub part_of_ask : Ask → Part
-part_of_ask (Get part) = part
-part_of_ask (Alter change) = part_of_change change
-part_of_ask Unlink = L
-part_of_ask Rmdir = L
-part_of_ask (Rename dir name) = L
+abbrev pub part_of_operation : Operation → Part
+part_of_operation (Get part) = part
+part_of_operation (Alter change) = part_of_change change
+part_of_operation Unlink = L
+part_of_operation Rmdir = L
+part_of_operation (Rename dir name) = L
 
 -- what a lock sees of a request that is first in its queue: who reads, or that something is to change
-abbrev pub head_of_ask : ClientId → Ask → Head
-head_of_ask client (Get part) = kind.Read client
-head_of_ask client (Alter change) = kind.Change
-head_of_ask client Unlink = kind.Change
-head_of_ask client Rmdir = kind.Change
-head_of_ask client (Rename dir name) = kind.Change
+abbrev pub head_of_operation : ClientId → Operation → Head
+head_of_operation client (Get part) = kind.Read client
+head_of_operation client (Alter change) = kind.Change
+head_of_operation client Unlink = kind.Change
+head_of_operation client Rmdir = kind.Change
+head_of_operation client (Rename dir name) = kind.Change
 
 abbrev pub head_of : Option Request → Head
 head_of None = kind.Empty
-head_of (Some q) = head_of_ask q.client q.ask
+head_of (Some q) = head_of_operation q.client q.operation
 
 -- the request waits for the lock of this part
 abbrev pub is_for : ℕ → Part → Request → Bool
-is_for ino part q = (q.ino.0 == ino) && same_part (part_of_ask q.ask) part
+is_for ino part q = (q.ino.0 == ino) && same_part (part_of_operation q.operation) part
 
 -- it waits for a lock of this inode
 abbrev pub waits_for : ℕ → Request → Bool

@@ -7,7 +7,7 @@ use Rattle.lockmachine.specs.declared.moves.Move.TheVariants.{Begin, End, Serve,
 use Rattle.lockmachine.specs.Requests.{same_part}
 use Rattle.lockmachine.specs.Locks.{LockMap, lock_at}
 use Rattle.lockmachine.specs.Scene.{Scene}
-use Rattle.lockmachine.specs.Moves.{LockPlace, first_move, with_moved}
+use Rattle.lockmachine.specs.Moves.{LockId, first_move, with_moved}
 
 -- the move begins or ends a gather
 abbrev pub is_of_lock : Move → Bool
@@ -22,14 +22,14 @@ Runs old [] new = new ≡ old
 Runs old (step ∷ steps) new = (first_move old ≡ step) × IsTrue (is_of_lock step) × Runs (with_moved old step) steps new
 
 -- the move begins a gather of this lock
-abbrev pub is_begin_of : LockPlace → Move → Bool
+abbrev pub is_begin_of : LockId → Move → Bool
 is_begin_of at (Begin ino part to) = (at.0 == ino.0) && same_part at.1 part
 is_begin_of at (End ino part) = false
 is_begin_of at (Serve ticket) = false
 is_begin_of at Settled = false
 
 -- the move ends a gather of this lock
-abbrev pub is_end_of : LockPlace → Move → Bool
+abbrev pub is_end_of : LockId → Move → Bool
 is_end_of at (Begin ino part to) = false
 is_end_of at (End ino part) = (at.0 == ino.0) && same_part at.1 part
 is_end_of at (Serve ticket) = false
@@ -37,8 +37,8 @@ is_end_of at Settled = false
 
 -- each lock begins at most one gather and ends at most two
 pub record AreFew (steps : List Move) : Type 0 where
-  pub begun : (at : LockPlace) → count_by (is_begin_of at) steps ≤ 1
-  pub ended : (at : LockPlace) → count_by (is_end_of at) steps ≤ 2
+  pub begun : (at : LockId) → count_by (is_begin_of at) steps ≤ 1
+  pub ended : (at : LockId) → count_by (is_end_of at) steps ≤ 2
 
 -- some such moves lead from one scene to the other
 abbrev pub MoveLittle : Scene → Scene → Type 0

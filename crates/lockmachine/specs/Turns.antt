@@ -3,14 +3,14 @@ use Rattle.std.specs.Prelude.{◌≡◌, ◌≢◌, ◌<◌, ◌==◌, ℕ, Bool
 use Rattle.std.specs.List.{list_any}
 use Rattle.capbits.specs.declared.cap.Part.{Part}
 use Rattle.capbits.specs.declared.ids.Ticket.{Ticket}
-use Rattle.locktable.specs.declared.states.State.{State}
+use Rattle.locktable.specs.declared.states.StableState.{StableState}
 use Rattle.locktable.specs.declared.states.LockState.TheVariants.{Gather}
 use Rattle.lockmachine.specs.declared.request.Request.{Request}
 use Rattle.lockmachine.specs.declared.moves.Sought.{Sought}
 use Rattle.lockmachine.specs.declared.moves.Sought.TheVariants.{Everybody, Here, Nobody}
 use Rattle.lockmachine.specs.declared.moves.Move.{Move}
 use Rattle.lockmachine.specs.declared.moves.Move.TheVariants.{Begin, End, Serve, Settled}
-use Rattle.lockmachine.specs.Requests.{part_of_ask, waits_for}
+use Rattle.lockmachine.specs.Requests.{part_of_operation, waits_for}
 use Rattle.lockmachine.specs.Locks.{LockMap, lock_at}
 use Rattle.lockmachine.specs.Scene.{Scene}
 use Rattle.lockmachine.specs.Moves.{is_open, may_end, may_begin, may_serve, first_move}
@@ -48,10 +48,10 @@ IsDue s ino (Some ticket) = first_move s ≡ Serve ticket
 
 -- the request waits for a lock in a gather that is open
 pub record IsHeldUp (s : Scene) (q : Request) : Type 0 where
-  pub from : State
-  pub to : State
-  pub gathers : lock_at s.locks q.ino.0 (part_of_ask q.ask) ≡ Some (Gather from to)
-  pub is_held : is_open s q.ino.0 (part_of_ask q.ask) to ≡ true
+  pub from : StableState
+  pub to : StableState
+  pub gathers : lock_at s.locks q.ino.0 (part_of_operation q.operation) ≡ Some (Gather from to)
+  pub is_held : is_open s q.ino.0 (part_of_operation q.operation) to ≡ true
 
 -- who waits at an inode that is not among these, is held up
 abbrev pub WaitAt : (ℕ → Bool) → Scene → Type 0

@@ -6,11 +6,11 @@ use Rattle.capbits.specs.declared.cap.Part.{Part}
 use Rattle.capbits.specs.declared.ids.Ticket.{Ticket}
 use Rattle.lockmachine.specs.declared.request.Request.{Request}
 use Rattle.lockmachine.specs.declared.waiters.Waiter.{Waiter}
-use Rattle.lockmachine.specs.Requests.{part_place, part_of_ask, head_of_ask}
+use Rattle.lockmachine.specs.Requests.{part_place, part_of_operation, head_of_operation}
 
 -- what is kept of a request
 abbrev pub waiter_of : Request → Waiter
-waiter_of q = record { ino = q.ino; part = part_of_ask q.ask; ticket = q.ticket; client = q.client; head = head_of_ask q.client q.ask }
+waiter_of q = record { ino = q.ino; part = part_of_operation q.operation; ticket = q.ticket; client = q.client; head = head_of_operation q.client q.operation }
 
 -- locks count by inode, and then in the order A, L, X, F
 abbrev pub lock_number : ℕ → Part → ℕ

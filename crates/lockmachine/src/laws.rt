@@ -10,7 +10,7 @@ ghost use Rattle.capbits.specs.declared.ids.Ino.{Ino};
 ghost use Rattle.capbits.specs.declared.ids.Ticket.{Ticket};
 ghost use Rattle.capbits.specs.declared.cap.Part.{Part};
 ghost use Rattle.captable.specs.declared.entry.EntryRow.{EntryRow};
-ghost use Rattle.lockmachine.specs.declared.request.Ask.{Ask};
+ghost use Rattle.lockmachine.specs.declared.request.Operation.{Operation};
 ghost use Rattle.lockmachine.specs.declared.request.Request.{Request};
 ghost use Rattle.lockmachine.specs.declared.moves.Move.{Move};
 ghost use Rattle.lockmachine.specs.declared.moves.Move.TheVariants.{Serve, Settled};
@@ -66,8 +66,8 @@ pub fn a_number_names_its_request()
 /// requests. Where the client has none, nothing changes.
 pub fn the_queue_keeps_its_order()
     ensures moved { (locks : LockMap) (step : Move) → IsLockMap locks → IsLockMap (moved locks step) }
-    ensures new { (locks : LockMap) (client : ClientId) (ino : Ino) (ask : Ask) → IsLockMap locks
-        → length locks.queue < 1024 → IsLockMap (with_request locks client ino ask) }
+    ensures new { (locks : LockMap) (client : ClientId) (ino : Ino) (operation : Operation) → IsLockMap locks
+        → length locks.queue < 1024 → IsLockMap (with_request locks client ino operation) }
     ensures dropped { (locks : LockMap) (client : ClientId) → IsLockMap locks → IsLockMap (without_requests_of locks client) }
     ensures none { (locks : LockMap) (client : ClientId)
         → option_map (λ (q : Request). q.ticket) (find (is_of_client client) locks.queue) ≡ None

@@ -23,7 +23,7 @@ pub use laws::{
 pub use locks::Locks;
 pub use moves::Move;
 pub use policy::{Policy, verdict_on};
-pub use request::{Ask, Change, Request};
+pub use request::{Change, Operation, Request};
 pub use scene::Scene;
 pub use states::InodeLocks;
 pub use under::{allowed_under, told_under};

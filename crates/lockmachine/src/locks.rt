@@ -22,7 +22,7 @@ ghost use Rattle.lockmachine.specs.Turns.{IsTurnOf, IsNextAt, IsDue, NobodyElsew
 
 use crate::moves::{Move, Sought, Turn};
 use crate::policy::Policy;
-use crate::request::{Ask, Request};
+use crate::request::{Operation, Request};
 use crate::states::{InodeLocks, States};
 use crate::waiters::{MAX_WAITING, Waiter, Waiters};
 use crate::wants::{Wants, given_or_found, wants_on};
@@ -30,7 +30,7 @@ use capbits::{ClientId, Ino, Part, Refusal, Ticket};
 use capspec::FsName;
 use captable::{CapTable, Known};
 use inotree::Tree;
-use locktable::{Head, LockState, State, serves, target};
+use locktable::{Head, LockState, StableState, serves, target};
 use onelock::{is_off_target, may_end};
 use sessiontab::Sessions;
 use std::alloc::{AllocError, Global};
@@ -162,26 +162,31 @@ impl Locks {
         None
     }
 
-    /// Lets what a client asks for wait behind all others, under the next number, which it answers. It takes no memory. It is
-    /// refused as Limit, and what was asked for is dropped then.
-    pub fn enqueue(&mut self, client: ClientId, ino: Ino, ask: Ask) -> Result<Ticket, Refusal>
+    /// Lets a client's operation wait behind all others, under the next number, which it answers. It takes no memory. It is
+    /// refused as Limit, and the operation is dropped then.
+    pub fn enqueue(
+        &mut self,
+        client: ClientId,
+        ino: Ino,
+        operation: Operation,
+    ) -> Result<Ticket, Refusal>
         requires numbers { self.old.last < 2 ^ 64 - 1 }
         ensures refused { result_err result ≡ first_failing (words.queue_tests self.old) }
-        ensures ok { OnOk result (self.new ≡ words.with_request self.old client ino ask) }
+        ensures ok { OnOk result (self.new ≡ words.with_request self.old client ino operation) }
         ensures ticket { IfOk result (λ ticket. ticket.0 ≡ self.old.last + 1) }
         ensures err { OnErr result (self.new ≡ self.old) }
     {
         if let Some(refusal) = self.enqueue_refusal() {
             return Err(refusal);
         }
-        Ok(self.enqueue_tested(client, ino, ask))
+        Ok(self.enqueue_tested(client, ino, operation))
     }
 
     /// The same, where fewer wait than may.
-    pub fn enqueue_tested(&mut self, client: ClientId, ino: Ino, ask: Ask) -> Ticket
+    pub fn enqueue_tested(&mut self, client: ClientId, ino: Ino, operation: Operation) -> Ticket
         requires room { first_failing (words.queue_tests self.old) ≡ None }
         requires numbers { self.old.last < 2 ^ 64 - 1 }
-        ensures queued { self.new ≡ words.with_request self.old client ino ask }
+        ensures queued { self.new ≡ words.with_request self.old client ino operation }
         ensures ticket { result.0 ≡ self.old.last + 1 }
     {
         let ticket = Ticket(self.last + 1);
@@ -190,7 +195,7 @@ impl Locks {
             ticket,
             client,
             ino,
-            ask,
+            operation,
         };
         self.waiters.add(Waiter::of(&request));
         let Ok(()) = self.queue.push(request) else {
@@ -295,7 +300,7 @@ impl Locks {
     // The first lock of all that may end its gather.
     fn first_end_of_all(&self, table: &CapTable) -> Option<(Ino, Part)>
         ensures { option_map (λ at. (at.0.0, at.1)) result
-            ≡ find (moves.may_end_by table.now self.now) (moves.places self.now) }
+            ≡ find (moves.may_end_by table.now self.now) (moves.lock_ids self.now) }
     {
         for number in self.states.inos() {
             let ino = Ino(*number);
@@ -315,7 +320,7 @@ impl Locks {
         table: &CapTable,
     ) -> Move
         ensures { let s = scene fs.now tree.now sessions.now table.now self.now in
-            result ≡ moves.begin_or_rest s (find (moves.may_begin s) (moves.places self.now)) }
+            result ≡ moves.begin_or_rest s (find (moves.may_begin s) (moves.lock_ids self.now)) }
     {
         for number in self.states.inos() {
             let ino = Ino(*number);
@@ -378,7 +383,14 @@ impl Locks {
     }
 
     // Where the lock is to go, stable in this state.
-    fn target_for(&self, waits: bool, ino: Ino, part: Part, state: State, wants: &Wants) -> State
+    fn target_for(
+        &self,
+        waits: bool,
+        ino: Ino,
+        part: Part,
+        state: StableState,
+        wants: &Wants,
+    ) -> StableState
         ensures { result ≡ target_by (waiting.queue_if waits self.now.queue) wants.now ino.0 part state }
     {
         let head = self.head(waits, ino, part);
@@ -413,8 +425,8 @@ impl Locks {
     {
         self.serves(
             request.ino,
-            request.ask.part(),
-            request.ask.head(request.client),
+            request.operation.part(),
+            request.operation.head(request.client),
         )
     }
 
@@ -432,7 +444,7 @@ impl Locks {
     fn is_first(&self, request: &Request) -> bool
         ensures { result ≡ moves.is_first self.now.queue request.now }
     {
-        match self.waiters.first_at(request.ino, request.ask.part()) {
+        match self.waiters.first_at(request.ino, request.operation.part()) {
             Some(first) => first.ticket.0 == request.ticket.0,
             None => false,
         }
@@ -506,24 +518,24 @@ impl Locks {
     }
 
     // The state that the lock has reached, or leaves in a gather.
-    pub(crate) fn present_state(&self, ino: Ino, part: Part) -> State
+    pub(crate) fn present_state(&self, ino: Ino, part: Part) -> StableState
         ensures { result ≡ moves.present_state (words.lock_at self.now ino.0 part) }
     {
         match self.state(ino, part) {
             Some(LockState::Stable(state)) => state,
             Some(LockState::Gather { from, .. }) => from,
-            None => State::Sync,
+            None => StableState::Sync,
         }
     }
 
     // The state that the lock has reached, or is to reach.
-    fn coming_state(&self, ino: Ino, part: Part) -> State
+    fn coming_state(&self, ino: Ino, part: Part) -> StableState
         ensures { result ≡ moves.coming_state (words.lock_at self.now ino.0 part) }
     {
         match self.state(ino, part) {
             Some(LockState::Stable(state)) => state,
             Some(LockState::Gather { to, .. }) => to,
-            None => State::Sync,
+            None => StableState::Sync,
         }
     }
 

@@ -3,7 +3,7 @@ ghost use Rattle.std.specs.Prelude.{◌≡◌};
 ghost use Rattle.lockmachine.specs.Turns.{may_wait};
 
 use capbits::{Ino, Part, Ticket};
-use locktable::State;
+use locktable::StableState;
 
 /// What is done next to bring the locks to rest.
 #[derive(Clone, Copy, Debug, PartialEq, Eq)]
@@ -15,7 +15,7 @@ pub enum Move {
         /// The part that the lock guards.
         part: Part,
         /// The state.
-        to: State,
+        to: StableState,
     },
     /// A gather is over: the lock is stable in its target.
     End {

@@ -38,9 +38,9 @@ impl Drop for Change {
     }
 }
 
-/// What a request that waits for a lock asks to do with its inode.
+/// What a request that waits for a lock does with its inode.
 #[derive(Debug)]
-pub enum Ask {
+pub enum Operation {
     /// Tell what the inode keeps of this part.
     Get(Part),
     /// Change it.
@@ -59,14 +59,14 @@ pub enum Ask {
 }
 
 // By hand, so that whoever lets one go has one call to prove.
-impl Drop for Ask {
+impl Drop for Operation {
     fn drop(self) {
         match self {
-            Ask::Get(_) => {}
-            Ask::Alter(_) => {}
-            Ask::Unlink => {}
-            Ask::Rmdir => {}
-            Ask::Rename { dir: _, name: _ } => {}
+            Operation::Get(_) => {}
+            Operation::Alter(_) => {}
+            Operation::Unlink => {}
+            Operation::Rmdir => {}
+            Operation::Rename { dir: _, name: _ } => {}
         }
     }
 }
@@ -80,8 +80,8 @@ pub struct Request {
     pub client: ClientId,
     /// The inode whose lock it waits for.
     pub ino: Ino,
-    /// What is asked for.
-    pub ask: Ask,
+    /// What it does.
+    pub operation: Operation,
 }
 
 // By hand, so that whoever lets one go has one call to prove.
@@ -91,7 +91,7 @@ impl Drop for Request {
             ticket: _,
             client: _,
             ino: _,
-            ask: _,
+            operation: _,
         } = self;
     }
 }
@@ -132,25 +132,26 @@ impl Change {
     }
 }
 
-impl Ask {
+impl Operation {
     // The part whose lock the request waits for.
     pub(crate) fn part(&self) -> Part
-        ensures { result ≡ words.part_of_ask self.now }
+        ensures { result ≡ words.part_of_operation self.now }
     {
         match self {
-            Ask::Get(part) => *part,
-            Ask::Alter(change) => change.part(),
-            Ask::Unlink | Ask::Rmdir | Ask::Rename { .. } => Part::L,
+            Operation::Get(part) => *part,
+            Operation::Alter(change) => change.part(),
+            Operation::Unlink | Operation::Rmdir | Operation::Rename { .. } => Part::L,
         }
     }
 
     // What the lock sees of the request, where it is the first in its queue.
     pub(crate) fn head(&self, client: ClientId) -> Head
-        ensures { result ≡ words.head_of_ask client self.now }
+        ensures { result ≡ words.head_of_operation client self.now }
     {
         match self {
-            Ask::Get(_) => Head::Read(client),
-            Ask::Alter(_) | Ask::Unlink | Ask::Rmdir | Ask::Rename { .. } => Head::Change,
+            Operation::Get(_) => Head::Read(client),
+            Operation::Alter(_) | Operation::Unlink | Operation::Rmdir | Operation::Rename { .. } =>
+                Head::Change,
         }
     }
 }
@@ -160,6 +161,6 @@ impl Request {
     pub(crate) fn is_for(&self, ino: Ino, part: Part) -> bool
         ensures { result ≡ words.is_for ino.0 part self.now }
     {
-        self.ino.0 == ino.0 && self.ask.part() == part
+        self.ino.0 == ino.0 && self.operation.part() == part
     }
 }

@@ -6,7 +6,7 @@ ghost use Rattle.capbits.specs.Maps.{change_at};
 ghost use Rattle.lockmachine.specs.Inodes as words;
 
 use capbits::{Ino, Part};
-use locktable::{LockState, State};
+use locktable::{LockState, StableState};
 use numbered::Numbered;
 use std::alloc::{AllocError, Global};
 use std::collections::btree_map::Keys;
@@ -30,7 +30,7 @@ impl InodeLocks {
     pub(crate) fn new() -> InodeLocks
         ensures { result ≡ words.in_sync }
     {
-        let sync = LockState::Stable(State::Sync);
+        let sync = LockState::Stable(StableState::Sync);
         InodeLocks {
             auth: sync,
             link: sync,

@@ -32,10 +32,10 @@ impl Waiter {
     {
         Waiter {
             ino: request.ino,
-            part: request.ask.part(),
+            part: request.operation.part(),
             ticket: request.ticket,
             client: request.client,
-            head: request.ask.head(request.client),
+            head: request.operation.head(request.client),
         }
     }
 

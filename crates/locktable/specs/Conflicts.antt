@@ -10,8 +10,8 @@ use Rattle.capbits.specs.declared.cap.Part.TheVariants.{A, L, X, F}
 use Rattle.capbits.specs.declared.ids.ClientId.{ClientId}
 use Rattle.capbits.specs.Caps.{Caps, has}
 use Rattle.capbits.specs.Sets.{caps_in, no_caps, meet, same_cap, true_eq, all_in, and_parts, IsSubset, has-none, has-meet, has-caps_in}
-use Rattle.locktable.specs.declared.states.State.{State}
-use Rattle.locktable.specs.declared.states.State.TheVariants.{Sync, Lock, Mix, Excl}
+use Rattle.locktable.specs.declared.states.StableState.{StableState}
+use Rattle.locktable.specs.declared.states.StableState.TheVariants.{Sync, Lock, Mix, Excl}
 use Rattle.locktable.specs.declared.states.LockState.{LockState}
 use Rattle.locktable.specs.declared.states.LockState.TheVariants.{Stable, Gather}
 use Rattle.locktable.specs.Rows.{cell_of, is_for, row_of, allowed_of, states_of}
@@ -64,7 +64,7 @@ shared_apart cs false e h = none_left _
 shared_apart cs true false h = none_right _
 
 -- no cell that two clients have has a conflict, and no two have that of EXCL
-cells_apart : (part : Part) (state : State) (a b : ClientId) → a ≢ b → IsTrue (is_for a state) → IsTrue (is_for b state) → AreApart (caps_in (cell_of part state)) (caps_in (cell_of part state))
+cells_apart : (part : Part) (state : StableState) (a b : ClientId) → a ≢ b → IsTrue (is_for a state) → IsTrue (is_for b state) → AreApart (caps_in (cell_of part state)) (caps_in (cell_of part state))
 cells_apart A Sync a b ne ha hb = lists_apart (cell_of A Sync) refl
 cells_apart L Sync a b ne ha hb = lists_apart (cell_of L Sync) refl
 cells_apart X Sync a b ne ha hb = lists_apart (cell_of X Sync) refl
@@ -80,7 +80,7 @@ cells_apart F Mix a b ne ha hb = lists_apart (cell_of F Mix) refl
 cells_apart part (Excl h) a b ne ha hb = absurd (ne (λ i. record { 0 = (sym (true_eq _ _ ha) ∙ true_eq _ _ hb) i }))
 
 -- the rows of two clients in one state have no conflict
-pub rows_apart : (part : Part) (state : State) (a b : ClientId) → a ≢ b → AreApart (row_of part state a) (row_of part state b)
+pub rows_apart : (part : Part) (state : StableState) (a b : ClientId) → a ≢ b → AreApart (row_of part state a) (row_of part state b)
 unfolding row_of
 rows_apart part state a b ne = shared_apart (cell_of part state) (is_for a state) (is_for b state) (cells_apart part state a b ne)
 
@@ -96,10 +96,10 @@ meet_inside a b = ((λ c h. (and_parts (has a c) (has b c) (sym (has-meet a b c)
 pub allowed_inside : (part : Part) (lock : LockState) (client : ClientId) → All (λ state. IsSubset (allowed_of part lock client) (row_of part state client)) (states_of lock)
 unfolding allowed_of
 allowed_inside part (Stable state) client =
-    let Inside : State → Type 0 = λ s. IsSubset (row_of part state client) (row_of part s client) in
+    let Inside : StableState → Type 0 = λ s. IsSubset (row_of part state client) (row_of part s client) in
     All-cons Inside state [] (λ c h. h) (All-nil Inside)
 allowed_inside part (Gather from to) client =
-    let Inside : State → Type 0 = λ s. IsSubset (meet (row_of part from client) (row_of part to client)) (row_of part s client) in
+    let Inside : StableState → Type 0 = λ s. IsSubset (meet (row_of part from client) (row_of part to client)) (row_of part s client) in
     All-cons Inside from (to ∷ []) (meet_inside _ _).0 (All-cons Inside to [] (meet_inside _ _).1 (All-nil Inside))
 
 -- what one lock allows two clients has no conflict
@@ -109,7 +109,7 @@ allowed_apart part (Stable state) a b ne = rows_apart part state a b ne
 allowed_apart part (Gather from to) a b ne = inside_apart _ _ _ _ (meet_inside _ _).0 (meet_inside _ _).0 (rows_apart part from a b ne)
 
 -- the same of a set that is known to be the row, or what the lock allows
-pub a_row_apart : (s : Caps) (part : Part) (state : State) (a b : ClientId) → s ≡ row_of part state a → a ≢ b → AreApart s (row_of part state b)
+pub a_row_apart : (s : Caps) (part : Part) (state : StableState) (a b : ClientId) → s ≡ row_of part state a → a ≢ b → AreApart s (row_of part state b)
 a_row_apart s part state a b e ne = subst (λ s. AreApart s (row_of part state b)) (sym e) (rows_apart part state a b ne)
 
 pub an_allowed_apart : (s : Caps) (part : Part) (lock : LockState) (a b : ClientId) → s ≡ allowed_of part lock a → a ≢ b → AreApart s (allowed_of part lock b)

@@ -9,13 +9,13 @@ use Rattle.capbits.specs.declared.cap.Part.TheVariants.{A, L, X, F}
 use Rattle.capbits.specs.declared.ids.ClientId.{ClientId}
 use Rattle.capbits.specs.Caps.{Caps, has}
 use Rattle.capbits.specs.Sets.{caps_of_part}
-use Rattle.locktable.specs.declared.states.State.{State}
-use Rattle.locktable.specs.declared.states.State.TheVariants.{Sync, Lock, Mix, Excl}
+use Rattle.locktable.specs.declared.states.StableState.{StableState}
+use Rattle.locktable.specs.declared.states.StableState.TheVariants.{Sync, Lock, Mix, Excl}
 use Rattle.locktable.specs.declared.targets.Head.{Head}
 use Rattle.locktable.specs.declared.targets.Head.TheVariants.{Empty, Change, Read}
 
 -- whether a lock that is stable in a state serves the head of its queue
-abbrev pub is_served : State → Head → Bool
+abbrev pub is_served : StableState → Head → Bool
 is_served Lock Change = true
 is_served Lock (Read asker) = true
 is_served Sync (Read asker) = true
@@ -34,23 +34,23 @@ taking X = Xx ∷ []
 taking F = Fx ∷ Fw ∷ Fb ∷ []
 
 -- the state in which clients share a part: the file lock mixes where somebody wants to write
-abbrev pub shared_state : Part → Caps → State
+abbrev pub shared_state : Part → Caps → StableState
 shared_state F wanted = if has wanted Fw then Mix else Sync
 shared_state part wanted = Sync
 
 -- the state for a part that somebody wants
-abbrev pub wanted_state : Part → Option (ClientId × Caps) → Caps → State
+abbrev pub wanted_state : Part → Option (ClientId × Caps) → Caps → StableState
 wanted_state part None wanted = shared_state part wanted
 wanted_state part (Some loner) wanted = if has_any loner.1 (taking part) then Excl loner.0 else shared_state part wanted
 
 -- the target: LOCK for a change, a state that serves a read, else a state for what is wanted, if anything is
-unfoldable pub target_of : Part → State → Head → Option (ClientId × Caps) → Caps → State
+unfoldable pub target_of : Part → StableState → Head → Option (ClientId × Caps) → Caps → StableState
 target_of part state Change loner wanted = Lock
 target_of part state (Read asker) loner wanted = if is_served state (Read asker) then state else Sync
 target_of part state Empty loner wanted = if has_any wanted (caps_of_part part) then wanted_state part loner wanted else state
 
 -- the target serves the head, if there is one
-pub target_serves : (part : Part) (state : State) (head : Head) (loner : Option (ClientId × Caps)) (wanted : Caps) → head ≢ Empty → IsTrue (is_served (target_of part state head loner wanted) head)
+pub target_serves : (part : Part) (state : StableState) (head : Head) (loner : Option (ClientId × Caps)) (wanted : Caps) → head ≢ Empty → IsTrue (is_served (target_of part state head loner wanted) head)
 unfolding target_of
 target_serves part state Empty loner wanted ne = absurd (ne refl)
 target_serves part state Change loner wanted ne = refl
@@ -61,7 +61,7 @@ target_serves part state (Read asker) loner wanted ne =
     ] refl
 
 -- a lock at its target stays there
-pub target_stays : (part : Part) (state : State) (head : Head) (loner : Option (ClientId × Caps)) (wanted : Caps) → target_of part (target_of part state head loner wanted) head loner wanted ≡ target_of part state head loner wanted
+pub target_stays : (part : Part) (state : StableState) (head : Head) (loner : Option (ClientId × Caps)) (wanted : Caps) → target_of part (target_of part state head loner wanted) head loner wanted ≡ target_of part state head loner wanted
 unfolding target_of
 target_stays part state Empty loner wanted =
     elim (has_any wanted (caps_of_part part)) as (λ b. (if b then wanted_state part loner wanted else (if b then wanted_state part loner wanted else state)) ≡ (if b then wanted_state part loner wanted else state)) [

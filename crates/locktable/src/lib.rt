@@ -8,5 +8,5 @@ mod states;
 mod targets;
 
 pub use rows::{allowed, row};
-pub use states::{LockState, State};
+pub use states::{LockState, StableState};
 pub use targets::{Head, serves, target};

@@ -3,7 +3,7 @@ use capbits::ClientId;
 
 /// A stable state of the lock of a part.
 #[derive(Clone, Copy, PartialEq, Eq, Hash, Debug)]
-pub enum State {
+pub enum StableState {
     /// Every client may read the part and keep what it read.
     Sync,
     /// No client may hold anything of the part, but what it has read of a file's data, so the server may change it.
@@ -18,12 +18,12 @@ pub enum State {
 #[derive(Clone, Copy, PartialEq, Eq, Hash, Debug)]
 pub enum LockState {
     /// At rest.
-    Stable(State),
+    Stable(StableState),
     /// Waiting until the clients have acknowledged or released what the target doesn't allow.
     Gather {
         /// The state that the lock leaves.
-        from: State,
+        from: StableState,
         /// The target.
-        to: State,
+        to: StableState,
     },
 }

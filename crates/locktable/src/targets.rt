@@ -3,7 +3,7 @@ ghost use Rattle.std.specs.Prelude.{◌≡◌, ◌≢◌, IsTrue};
 ghost use Rattle.locktable.specs.Targets.{is_served, has_any, taking, shared_state, wanted_state, target_of};
 ghost use Rattle.locktable.specs.declared.targets.Head.TheVariants.{Empty};
 
-use crate::states::State;
+use crate::states::StableState;
 use capbits::{Cap, CapSet, ClientId, Part};
 
 /// What stands first in the queue of a lock.
@@ -19,12 +19,13 @@ pub enum Head {
 
 /// Whether a lock that is stable in `state` serves the head of its queue: a change in `Lock`; a read in `Sync`,
 /// in `Lock`, and in the `Excl` of the client that asks.
-pub fn serves(state: State, head: Head) -> bool
+pub fn serves(state: StableState, head: Head) -> bool
     ensures { result ≡ is_served state head }
 {
     match (state, head) {
-        (State::Lock, Head::Change | Head::Read(_)) | (State::Sync, Head::Read(_)) => true,
-        (State::Excl(holder), Head::Read(asker)) => holder == asker,
+        (StableState::Lock, Head::Change | Head::Read(_)) | (StableState::Sync, Head::Read(_)) =>
+            true,
+        (StableState::Excl(holder), Head::Read(asker)) => holder == asker,
         _ => false,
     }
 }
@@ -38,41 +39,41 @@ pub fn serves(state: State, head: Head) -> bool
 #[tactic(auto, using(crate::specs::Targets::target_serves, crate::specs::Targets::target_stays), unfolding(crate::specs::Targets::target_of))]
 pub fn target(
     part: Part,
-    state: State,
+    state: StableState,
     head: Head,
     loner: Option<(ClientId, CapSet)>,
     wanted: CapSet,
-) -> State
+) -> StableState
     ensures table { result ≡ target_of part state head loner wanted }
     ensures serves_the_head { head ≢ Empty → IsTrue (is_served result head) }
     ensures stays { target_of part result head loner wanted ≡ result }
 {
     match head {
-        Head::Change => State::Lock,
+        Head::Change => StableState::Lock,
         Head::Read(_) if serves(state, head) => state,
-        Head::Read(_) => State::Sync,
+        Head::Read(_) => StableState::Sync,
         Head::Empty if wants_any(wanted, part.caps()) => for_wanted(part, loner, wanted),
         Head::Empty => state,
     }
 }
 
 // The state for a part that somebody wants.
-fn for_wanted(part: Part, loner: Option<(ClientId, CapSet)>, wanted: CapSet) -> State
+fn for_wanted(part: Part, loner: Option<(ClientId, CapSet)>, wanted: CapSet) -> StableState
     ensures { result ≡ wanted_state part loner wanted }
 {
     match loner {
-        Some((client, wants)) if wants_any(wants, taking_caps(part)) => State::Excl(client),
+        Some((client, wants)) if wants_any(wants, taking_caps(part)) => StableState::Excl(client),
         _ => for_sharers(part, wanted),
     }
 }
 
 // The state in which clients share a part.
-fn for_sharers(part: Part, wanted: CapSet) -> State
+fn for_sharers(part: Part, wanted: CapSet) -> StableState
     ensures { result ≡ shared_state part wanted }
 {
     match part {
-        Part::F if wanted.has(Cap::Fw) => State::Mix,
-        _ => State::Sync,
+        Part::F if wanted.has(Cap::Fw) => StableState::Mix,
+        _ => StableState::Sync,
     }
 }
 

@@ -2,14 +2,14 @@
 use Rattle.std.specs.Prelude.{ℕ, Bool, true, false, not, ◌==◌, Option, Some, None}
 use Rattle.capbits.specs.declared.cap.Part.{Part}
 use Rattle.capbits.specs.declared.ids.Ino.{Ino}
-use Rattle.locktable.specs.declared.states.State.{State}
-use Rattle.locktable.specs.declared.states.State.TheVariants.{Sync, Lock, Mix, Excl}
+use Rattle.locktable.specs.declared.states.StableState.{StableState}
+use Rattle.locktable.specs.declared.states.StableState.TheVariants.{Sync, Lock, Mix, Excl}
 use Rattle.locktable.specs.declared.states.LockState.{LockState}
 use Rattle.locktable.specs.declared.states.LockState.TheVariants.{Stable, Gather}
 use Rattle.captable.specs.Table.{Table}
 use Rattle.onelock.specs.Held.{is_held_outside}
 
-abbrev pub same_state : State → State → Bool
+abbrev pub same_state : StableState → StableState → Bool
 same_state Sync Sync = true
 same_state Lock Lock = true
 same_state Mix Mix = true
@@ -17,11 +17,11 @@ same_state (Excl a) (Excl b) = a.0 == b.0
 same_state a b = false
 
 -- a lock, by its inode and part
-abbrev pub LockPlace : Type 0
-LockPlace = ℕ × Part
+abbrev pub LockId : Type 0
+LockId = ℕ × Part
 
 -- the lock, where there is one, is in a gather that is not open
-abbrev pub may_end_in : Table → LockPlace → Option LockState → Bool
+abbrev pub may_end_in : Table → LockId → Option LockState → Bool
 may_end_in table at None = false
 may_end_in table at (Some (Stable state)) = false
 may_end_in table at (Some (Gather from to)) = not (is_held_outside table (record { 0 = at.0 }) at.1 to)

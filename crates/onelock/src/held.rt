@@ -6,15 +6,15 @@ ghost use Rattle.onelock.specs.Held.{outside};
 
 use capbits::{Ino, Part};
 use captable::{CapTable, EntryRow};
-use locktable::{State, row};
+use locktable::StableState;
 
 /// Whether some client has caps of the part that it may not hold where the part's lock is stable in a state.
-pub fn is_held_outside(table: &CapTable, ino: Ino, part: Part, state: State) -> bool
+pub fn is_held_outside(table: &CapTable, ino: Ino, part: Part, state: StableState) -> bool
     ensures { result ≡ words.is_held_outside table.now ino part state }
 {
     let mut walk = table.holders_of(ino);
-    'rows: while let Some(entry) = walk.next() {
-        if has_outside(part, state, entry) {
+    'rows: while let Some(row) = walk.next() {
+        if has_outside(part, state, row) {
             return true;
         }
     }
@@ -22,9 +22,11 @@ pub fn is_held_outside(table: &CapTable, ino: Ino, part: Part, state: State) -> 
 }
 
 // Whether the entry's client has such caps.
-fn has_outside(part: Part, state: State, entry: EntryRow) -> bool
-    ensures { result ≡ not (is_empty (outside part state entry)) }
+fn has_outside(part: Part, state: StableState, row: EntryRow) -> bool
+    ensures { result ≡ not (is_empty (outside part state row)) }
 {
-    let held = entry.entry.held.part(part);
-    !held.minus(row(part, state, entry.holder.client)).is_empty()
+    let held = row.entry.held.part(part);
+    !held
+        .minus(locktable::row(part, state, row.holder.client))
+        .is_empty()
 }

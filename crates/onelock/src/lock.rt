@@ -6,7 +6,7 @@ ghost use Rattle.onelock.specs.Lock.{same_state, may_end_in};
 use crate::held::is_held_outside;
 use capbits::{CapSet, ClientId, Ino, Part};
 use captable::CapTable;
-use locktable::{Head, LockState, State, target};
+use locktable::{Head, LockState, StableState, target};
 
 /// Whether the lock of the part, which is in this state, is in a gather that is not open.
 pub fn may_end(table: &CapTable, ino: Ino, part: Part, lock: LockState) -> bool
@@ -22,7 +22,7 @@ pub fn may_end(table: &CapTable, ino: Ino, part: Part, lock: LockState) -> bool
 /// the pin of its inode, and by what all want of it.
 pub fn is_off_target(
     part: Part,
-    state: State,
+    state: StableState,
     head: Head,
     loner: Option<(ClientId, CapSet)>,
     wanted: CapSet,

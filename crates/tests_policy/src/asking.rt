@@ -22,7 +22,7 @@ pub enum Beside {
 }
 
 /// A line, and the lines that are answered or why none are.
-pub type Ask = (&'static str, &'static str);
+pub type Exchange = (&'static str, &'static str);
 
 /// A line, the lines that are answered or why none are, and what is seen then.
 pub type Step = (&'static str, &'static str, &'static str);
@@ -58,7 +58,7 @@ fn answers(
     alloc: Global,
     core: &mut Core,
     pass: u32,
-    (line, wanted): Ask,
+    (line, wanted): Exchange,
     title: &'static str,
 ) {
     let answer = core.apply(PassId(pass), event(rt, alloc, line));
@@ -67,8 +67,8 @@ fn answers(
 }
 
 /// Asks one by one, by pass 1, and compares what is answered.
-pub fn ask(rt: &impl Abort, alloc: Global, core: &mut Core, asks: &[Ask]) {
-    for line in asks {
+pub fn ask(rt: &impl Abort, alloc: Global, core: &mut Core, exchanges: &[Exchange]) {
+    for line in exchanges {
         answers(rt, alloc, core, 1, *line, "asked");
     }
 }
@@ -121,9 +121,9 @@ fn fresh(alloc: Global, max_rows: u32) -> Result<Core, AllocError> {
 }
 
 /// A core that was asked this by pass 1, and answered so.
-pub fn core_of(rt: &(impl AllocGlobal + Abort), asks: &[Ask]) -> Core {
+pub fn core_of(rt: &(impl AllocGlobal + Abort), exchanges: &[Exchange]) -> Core {
     let mut core = made(rt, fresh(rt.alloc(), 100), "a core");
-    ask(rt, rt.alloc(), &mut core, asks);
+    ask(rt, rt.alloc(), &mut core, exchanges);
     core
 }
 

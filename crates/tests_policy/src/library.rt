@@ -7,7 +7,7 @@ use capgrant::{Access, Attr, Verdict, verdict};
 use capspec::{FsName, Grants};
 use captable::{AddError, CapTable};
 use inotree::{ROOT, Tree, TreeError};
-use locktable::{Head, State, row, target};
+use locktable::{Head, StableState, row, target};
 use sessiontab::{SessionError, Sessions};
 use std::alloc::Global;
 use std::process::Abort;
@@ -29,7 +29,13 @@ fn grant_to_write(
 // What two clients may hold of a file's content that the first alone wants to write.
 fn one_writes(one: ClientId, two: ClientId) -> (CapSet, CapSet) {
     let wants = CapSet::of(&[Cap::P, Cap::Fr, Cap::Fw]);
-    let state = target(Part::F, State::Sync, Head::Empty, Some((one, wants)), wants);
+    let state = target(
+        Part::F,
+        StableState::Sync,
+        Head::Empty,
+        Some((one, wants)),
+        wants,
+    );
     (row(Part::F, state, one), row(Part::F, state, two))
 }
 
@@ -60,7 +66,7 @@ fn thrown_out(
 }
 
 // A client releases what it holds to write, and answers what it still holds.
-fn given_back(alloc: Global, client: ClientId, ino: Ino) -> Result<CapSet, AddError> {
+fn left_after_release(alloc: Global, client: ClientId, ino: Ino) -> Result<CapSet, AddError> {
     let mut table = CapTable::new(alloc)?;
     table.open_entry(client, ino)?;
     table.issue(client, ino, CapSet::of(&[Cap::P, Cap::Fr, Cap::Fw]));
@@ -102,7 +108,7 @@ fn layers_are_used_alone(rt: HostRuntime) {
         Err(_error) => None,
     };
     same(&rt, gone, Some(Refusal::NoSession), "the sessions");
-    let left = match given_back(rt.alloc(), one, Ino(2)) {
+    let left = match left_after_release(rt.alloc(), one, Ino(2)) {
         Ok(held) => held,
         Err(_error) => CapSet::empty(),
     };

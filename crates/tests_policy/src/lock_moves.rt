@@ -1,18 +1,18 @@
 //! Locks: the inodes that have them, the requests that wait for them, and the moves that they make for what is wanted and held.
 
-use crate::asking::{Ask as Asked, core_of};
+use crate::asking::{Exchange, core_of};
 use crate::asserting::{made, same};
 use crate::entries::{ONE_2, ONE_3, TWO_2, open, release};
 use crate::texts::{caps, cephfs};
 use capbits::{CapSet, ClientId, Ino, Part, Refusal, Ticket};
-use capscript::{Ask, Core, Locks, Move, Wants, wants_on};
+use capscript::{Core, Locks, Move, Operation, Wants, wants_on};
 use capspec::FsName;
 use captable::{CapTable, Holder};
-use locktable::{LockState, State};
+use locktable::{LockState, StableState};
 use std::process::Abort;
 
 // The files 2 and 3, and 4, which was unlinked. The clients 1 and 2 may do all, and 3 may read; 4 is stale, and 5 has no session.
-const FILES_AND_CLIENTS: &[Asked] = &[
+const FILES_AND_CLIENTS: &[Exchange] = &[
     ("session 1 1 1 - allow rw", "done"),
     ("session 2 2 2 - allow rw", "done"),
     ("session 3 3 3 - allow r", "done"),
@@ -63,7 +63,7 @@ fn enqueue(locks: &mut Locks, holder: Holder, part: Part) -> Result<Ticket, Refu
     if locks.last() == u64::MAX {
         return Err(Refusal::Limit);
     }
-    locks.enqueue(holder.client, holder.ino, Ask::Get(part))
+    locks.enqueue(holder.client, holder.ino, Operation::Get(part))
 }
 
 // As many wait as may, under the numbers from 1 on.
@@ -194,11 +194,11 @@ const READER: &str = "pFscr";
 
 const WRITER: &str = "pFsxcrwb";
 
-const FIRST: State = State::Excl(ClientId(1));
+const FIRST: StableState = StableState::Excl(ClientId(1));
 
-const SECOND: State = State::Excl(ClientId(2));
+const SECOND: StableState = StableState::Excl(ClientId(2));
 
-const SYNC: Option<LockState> = Some(LockState::Stable(State::Sync));
+const SYNC: Option<LockState> = Some(LockState::Stable(StableState::Sync));
 
 const NOTHING_MOVES: &[Step] = &[
     Moves(&[]),
@@ -249,13 +249,13 @@ const F_BEGINS_SECOND: Move = Move::Begin {
 const F_BEGINS_MIX: Move = Move::Begin {
     ino: Ino(2),
     part: Part::F,
-    to: State::Mix,
+    to: StableState::Mix,
 };
 
 const F_BEGINS_SYNC: Move = Move::Begin {
     ino: Ino(2),
     part: Part::F,
-    to: State::Sync,
+    to: StableState::Sync,
 };
 
 // Of one inode the parts move in their order.
@@ -310,7 +310,7 @@ const GOALS: &[Step] = &[
 
 const TO_MIX: Option<LockState> = Some(LockState::Gather {
     from: FIRST,
-    to: State::Mix,
+    to: StableState::Mix,
 });
 
 // A gather stays open while somebody holds what its target does not let it hold.
@@ -326,7 +326,7 @@ const WAITING: &[Step] = &[
     Moves(&[]),
     Release(ONE_2, "Fxb"),
     Moves(&[END_F]),
-    Lock(2, Part::F, Some(LockState::Stable(State::Mix))),
+    Lock(2, Part::F, Some(LockState::Stable(StableState::Mix))),
     // Then the first stops to write, and both read.
     Release(ONE_2, "Fw"),
     Moves(&[F_BEGINS_SYNC, END_F]),
@@ -363,7 +363,7 @@ const F3_BEGINS_FIRST: Move = Move::Begin {
 const F3_BEGINS_MIX: Move = Move::Begin {
     ino: Ino(3),
     part: Part::F,
-    to: State::Mix,
+    to: StableState::Mix,
 };
 
 const END_F3: Move = Move::End {

@@ -2,21 +2,26 @@
 
 use crate::asserting::same;
 use capbits::{Cap, CapSet, ClientId, Part};
-use locktable::{Head, LockState, State, allowed, row, serves, target};
+use locktable::{Head, LockState, StableState, allowed, row, serves, target};
 use std::process::Abort;
 
 const ONE: ClientId = ClientId(1);
 
 const TWO: ClientId = ClientId(2);
 
-const OWN: State = State::Excl(ONE);
+const OWN: StableState = StableState::Excl(ONE);
 
-const THEIRS: State = State::Excl(TWO);
+const THEIRS: StableState = StableState::Excl(TWO);
 
 // A part, a state or a gather from one to another, and what the clients 1 and 2 may hold then.
-type Cell = (Part, (State, Option<State>), &'static [Cap], &'static [Cap]);
+type Cell = (
+    Part,
+    (StableState, Option<StableState>),
+    &'static [Cap],
+    &'static [Cap],
+);
 
-fn lock_of(from: State, to: Option<State>) -> LockState {
+fn lock_of(from: StableState, to: Option<StableState>) -> LockState {
     match to {
         Some(to) => LockState::Gather { from, to },
         None => LockState::Stable(from),
@@ -44,18 +49,18 @@ const ALL_OF_FILE: &[Cap] = &[Cap::Fs, Cap::Fx, Cap::Fc, Cap::Fr, Cap::Fw, Cap::
 const LAZY: &[Cap] = &[Cap::Fr, Cap::Fl];
 
 const CELLS: &[Cell] = &[
-    (Part::A, (State::Sync, None), &[Cap::As], &[Cap::As]),
-    (Part::L, (State::Sync, None), &[Cap::Ls], &[Cap::Ls]),
-    (Part::X, (State::Sync, None), &[Cap::Xs], &[Cap::Xs]),
-    (Part::F, (State::Sync, None), ALL_READ, ALL_READ),
-    (Part::A, (State::Lock, None), &[], &[]),
-    (Part::L, (State::Lock, None), &[], &[]),
-    (Part::X, (State::Lock, None), &[], &[]),
-    (Part::F, (State::Lock, None), &[Cap::Fc], &[Cap::Fc]),
-    (Part::A, (State::Mix, None), &[], &[]),
-    (Part::L, (State::Mix, None), &[], &[]),
-    (Part::X, (State::Mix, None), &[], &[]),
-    (Part::F, (State::Mix, None), ALL_WRITE, ALL_WRITE),
+    (Part::A, (StableState::Sync, None), &[Cap::As], &[Cap::As]),
+    (Part::L, (StableState::Sync, None), &[Cap::Ls], &[Cap::Ls]),
+    (Part::X, (StableState::Sync, None), &[Cap::Xs], &[Cap::Xs]),
+    (Part::F, (StableState::Sync, None), ALL_READ, ALL_READ),
+    (Part::A, (StableState::Lock, None), &[], &[]),
+    (Part::L, (StableState::Lock, None), &[], &[]),
+    (Part::X, (StableState::Lock, None), &[], &[]),
+    (Part::F, (StableState::Lock, None), &[Cap::Fc], &[Cap::Fc]),
+    (Part::A, (StableState::Mix, None), &[], &[]),
+    (Part::L, (StableState::Mix, None), &[], &[]),
+    (Part::X, (StableState::Mix, None), &[], &[]),
+    (Part::F, (StableState::Mix, None), ALL_WRITE, ALL_WRITE),
     (Part::A, (OWN, None), &[Cap::As, Cap::Ax], &[]),
     (Part::L, (OWN, None), &[Cap::Ls, Cap::Lx], &[]),
     (Part::X, (OWN, None), &[Cap::Xs, Cap::Xx], &[]),
@@ -63,21 +68,46 @@ const CELLS: &[Cell] = &[
     (Part::A, (THEIRS, None), &[], &[Cap::As, Cap::Ax]),
     (Part::F, (THEIRS, None), &[], ALL_OF_FILE),
     // A gather allows what both rows have.
-    (Part::F, (OWN, Some(State::Mix)), &[Cap::Fr, Cap::Fw], &[]),
     (
         Part::F,
-        (OWN, Some(State::Sync)),
+        (OWN, Some(StableState::Mix)),
+        &[Cap::Fr, Cap::Fw],
+        &[],
+    ),
+    (
+        Part::F,
+        (OWN, Some(StableState::Sync)),
         &[Cap::Fs, Cap::Fc, Cap::Fr],
         &[],
     ),
     (Part::F, (OWN, Some(THEIRS)), &[], &[]),
-    (Part::F, (State::Sync, Some(State::Mix)), LAZY, LAZY),
-    (Part::F, (State::Mix, Some(State::Sync)), LAZY, LAZY),
-    (Part::F, (State::Mix, Some(State::Lock)), &[], &[]),
-    (Part::A, (State::Sync, Some(OWN)), &[Cap::As], &[]),
-    (Part::A, (OWN, Some(State::Sync)), &[Cap::As], &[]),
-    (Part::A, (State::Sync, Some(State::Lock)), &[], &[]),
-    (Part::X, (State::Lock, Some(OWN)), &[], &[]),
+    (
+        Part::F,
+        (StableState::Sync, Some(StableState::Mix)),
+        LAZY,
+        LAZY,
+    ),
+    (
+        Part::F,
+        (StableState::Mix, Some(StableState::Sync)),
+        LAZY,
+        LAZY,
+    ),
+    (
+        Part::F,
+        (StableState::Mix, Some(StableState::Lock)),
+        &[],
+        &[],
+    ),
+    (Part::A, (StableState::Sync, Some(OWN)), &[Cap::As], &[]),
+    (Part::A, (OWN, Some(StableState::Sync)), &[Cap::As], &[]),
+    (
+        Part::A,
+        (StableState::Sync, Some(StableState::Lock)),
+        &[],
+        &[],
+    ),
+    (Part::X, (StableState::Lock, Some(OWN)), &[], &[]),
 ];
 
 #[test]
@@ -88,16 +118,16 @@ fn every_cell_of_the_table(rt: HostRuntime) {
 }
 
 // A state, a request at the head, and whether the state serves it. None serves an empty queue.
-const SERVED: &[(State, Head, bool)] = &[
-    (State::Sync, Head::Change, false),
-    (State::Sync, Head::Read(ONE), true),
-    (State::Sync, Head::Empty, false),
-    (State::Lock, Head::Change, true),
-    (State::Lock, Head::Read(ONE), true),
-    (State::Lock, Head::Empty, false),
-    (State::Mix, Head::Change, false),
-    (State::Mix, Head::Read(ONE), false),
-    (State::Mix, Head::Empty, false),
+const SERVED: &[(StableState, Head, bool)] = &[
+    (StableState::Sync, Head::Change, false),
+    (StableState::Sync, Head::Read(ONE), true),
+    (StableState::Sync, Head::Empty, false),
+    (StableState::Lock, Head::Change, true),
+    (StableState::Lock, Head::Read(ONE), true),
+    (StableState::Lock, Head::Empty, false),
+    (StableState::Mix, Head::Change, false),
+    (StableState::Mix, Head::Read(ONE), false),
+    (StableState::Mix, Head::Empty, false),
     (OWN, Head::Change, false),
     (OWN, Head::Read(ONE), true),
     (OWN, Head::Read(TWO), false),
@@ -115,8 +145,8 @@ fn what_each_state_serves(rt: HostRuntime) {
 // its lock goes, and where: none where it stays.
 type Goal = (
     (Head, Part, &'static [Cap], bool),
-    &'static [State],
-    Option<State>,
+    &'static [StableState],
+    Option<StableState>,
 );
 
 // Sees where the lock of a part goes from each of these states.
@@ -130,9 +160,9 @@ fn goes(rt: &impl Abort, ((head, part, caps, is_alone), states, to): Goal) {
     }
 }
 
-const RESTING: &[State] = &[State::Sync, State::Lock, OWN, THEIRS];
+const RESTING: &[StableState] = &[StableState::Sync, StableState::Lock, OWN, THEIRS];
 
-const SHARED: &[State] = &[State::Sync, State::Lock, OWN];
+const SHARED: &[StableState] = &[StableState::Sync, StableState::Lock, OWN];
 
 const OWNER: &[Cap] = &[Cap::P, Cap::As, Cap::Ax];
 
@@ -142,9 +172,9 @@ const ALL_WRITES: &[Cap] = &[Cap::P, Cap::Ax, Cap::Fx, Cap::Fw, Cap::Fb];
 
 const READER: &[Cap] = &[Cap::Fs, Cap::Fc, Cap::Fr];
 
-const SYNC: Option<State> = Some(State::Sync);
+const SYNC: Option<StableState> = Some(StableState::Sync);
 
-const LOCK: Option<State> = Some(State::Lock);
+const LOCK: Option<StableState> = Some(StableState::Lock);
 
 // A request at the head decides, whoever wants the part.
 const BY_THE_HEAD: &[Goal] = &[
@@ -156,7 +186,7 @@ const BY_THE_HEAD: &[Goal] = &[
     ((Head::Read(ONE), Part::F, ALL_WRITES, false), SHARED, None),
     (
         (Head::Read(ONE), Part::F, ALL_WRITES, true),
-        &[State::Mix],
+        &[StableState::Mix],
         SYNC,
     ),
     ((Head::Read(TWO), Part::A, ALL_WRITES, true), &[OWN], SYNC),
@@ -166,7 +196,11 @@ const BY_THE_HEAD: &[Goal] = &[
 // A part that nobody wants leaves its lock where it is.
 const UNWANTED: &[Goal] = &[
     ((Head::Empty, Part::F, OWNER, false), RESTING, None),
-    ((Head::Empty, Part::F, OWNER, false), &[State::Mix], None),
+    (
+        (Head::Empty, Part::F, OWNER, false),
+        &[StableState::Mix],
+        None,
+    ),
     ((Head::Empty, Part::A, WRITER, false), RESTING, None),
     ((Head::Empty, Part::L, WRITER, false), RESTING, None),
     ((Head::Empty, Part::A, &[Cap::P], false), RESTING, None),
@@ -191,7 +225,7 @@ const OF_SEVERAL: &[Goal] = &[
     (
         (Head::Empty, Part::F, WRITER, false),
         SHARED,
-        Some(State::Mix),
+        Some(StableState::Mix),
     ),
     ((Head::Empty, Part::F, READER, false), SHARED, SYNC),
     ((Head::Empty, Part::F, &[Cap::Fx], false), SHARED, SYNC),

@@ -1,6 +1,6 @@
 //! Sessions: what is kept of each client, a copy of them, and what each call on them is refused as.
 
-use crate::asking::{Ask, core_of};
+use crate::asking::{Exchange, core_of};
 use crate::asserting::{made, present, same};
 use crate::texts::{caller_of, grants_of, line_of};
 use capbits::{ClientId, Refusal};
@@ -39,7 +39,7 @@ fn same_in_a_copy(rt: &impl Abort, alloc: Global, connected: &Connected) {
     same(rt, found.as_str(), wanted.as_str(), "a copy");
 }
 
-const COMING_AND_GOING: &[Ask] = &[
+const COMING_AND_GOING: &[Exchange] = &[
     ("session 1 1 1 - allow rws", "done"),
     ("session 3 3 3 - allow r path=/a, allow rwps", "done"),
     ("session 2 2 2 - allow rw", "done"),

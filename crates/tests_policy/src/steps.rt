@@ -5,16 +5,20 @@ use crate::texts::text_of;
 use capbits::{ClientId, Ino, Part, write_caps};
 use capscript::Core;
 use captable::Entry;
-use locktable::{LockState, State};
+use locktable::{LockState, StableState};
 use std::alloc::Global;
 use std::process::Abort;
 
-fn state_text(rt: &impl Abort, alloc: Global, state: State) -> String {
+fn state_text(rt: &impl Abort, alloc: Global, state: StableState) -> String {
     let word = match state {
-        State::Sync => "SYNC",
-        State::Lock => "LOCK",
-        State::Mix => "MIX",
-        State::Excl(client) => return made(rt, format!(in alloc; "EXCL({client})"), "a state"),
+        StableState::Sync => "SYNC",
+        StableState::Lock => "LOCK",
+        StableState::Mix => "MIX",
+        StableState::Excl(client) => return made(
+            rt,
+            format!(in alloc; "EXCL({client})"),
+            "a state",
+        ),
     };
     text_of(rt, alloc, word.as_bytes())
 }

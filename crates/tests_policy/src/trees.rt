@@ -1,16 +1,16 @@
 //! Trees: where inodes stand, a copy that goes its own way, and what each call is refused as.
 
-use crate::asking::{Ask, ask, core_of};
+use crate::asking::{Exchange, ask, core_of};
 use crate::asserting::{made, present, same};
 use crate::texts::{attr_of, line_of};
 use capbits::{Ino, Refusal};
 use capscript::Core;
-use inotree::{Place, Setting, Tree, TreeError};
+use inotree::{Presence, Setting, Tree, TreeError};
 use std::alloc::Global;
 use std::process::Abort;
 
 // A file with an owner and an attribute, in a directory with a snapshot, beside a stray. Whoever has a file open keeps it as a stray.
-const BEFORE: &[Ask] = &[
+const BEFORE: &[Exchange] = &[
     ("session 1 10 10 - allow rwps", "done"),
     ("mkdir 1 1 d 0755", "ino 2"),
     ("create 1 2 f 0755", "ino 3"),
@@ -25,7 +25,7 @@ const BEFORE: &[Ask] = &[
     ("open 1 3 r", "caps 1 pFscr"),
 ];
 
-const BEHIND: &[Ask] = &[
+const BEHIND: &[Exchange] = &[
     ("alter 1 3 chown 15", "done"),
     ("alter 1 3 chgrp 16", "done"),
     ("alter 1 3 chmod 0777", "done"),
@@ -50,8 +50,8 @@ fn inodes_text(rt: &impl Abort, alloc: Global, tree: &Tree) -> String {
 fn see(rt: &impl Abort, tree: &Tree) {
     let names: &[&[u8]] = &[b"d", b"f"];
     let file = [tree.resolve(names), tree.child(Ino(2), b"f")];
-    let beside = (tree.parent(Ino(3)), tree.place(Ino(4)), tree.last());
-    let wanted = ([Some(Ino(3)); 2], (Some(Ino(2)), Place::Gone, Ino(4)));
+    let beside = (tree.parent(Ino(3)), tree.presence(Ino(4)), tree.last());
+    let wanted = ([Some(Ino(3)); 2], (Some(Ino(2)), Presence::Gone, Ino(4)));
     same(
         rt,
         (file, beside),

@@ -1,6 +1,6 @@
 //! Worked runs: a view that follows a server by the changes that it is told, and what it answers.
 
-use crate::asking::{Ask, core_of};
+use crate::asking::{Exchange, core_of};
 use crate::asserting::{made, present, same};
 use crate::texts::{Owner, attr_of, caller_of, cephfs, grants_of};
 use capbits::{ClientId, Ino};
@@ -35,7 +35,7 @@ type Look = (u32, u64, Access, &'static str);
 type Round = (&'static [(Told, bool)], &'static [Look]);
 
 // What it shows, what a core was asked whose view it is, and the rounds.
-type Case = (&'static str, &'static [Ask], &'static [Round]);
+type Case = (&'static str, &'static [Exchange], &'static [Round]);
 
 // Where a test fails: the case, the number of the round, and of what is told or asked in it.
 type At = (&'static str, usize, usize);
@@ -294,7 +294,7 @@ const WITH_A_SNAPSHOT: &[Round] = &[(
 )];
 
 // A directory with a snapshot, and nobody has a session.
-const A_SNAPSHOT: &[Ask] = &[
+const A_SNAPSHOT: &[Exchange] = &[
     ("session 9 10 10 - allow rws", "done"),
     ("mkdir 9 1 d 0755", "ino 2"),
     ("mksnap 9 2 s", "done"),

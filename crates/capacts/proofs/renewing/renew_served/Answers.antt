@@ -1,6 +1,6 @@
 use Rattle.std.proofs.Common.{◌≡◌, ◌⊎◌, inl, inr, false, ℕ, List, sym, ap, subst, ◌∙◌, rules, ◌==◌, ◌&&◌}
 use Rattle.std.specs.FinSet as set
-use Rattle.capacts.{proofs.Common.{ArePermitted, Ask, Nodes, permitted, Rmdir, Scene, tree_after, tree_with, Unlink}, proofs.Renewed.{along-begins, along-ends, alike-off, alike-far, inodes-more, is_at, permitted-on, room-told}, specs.Known.{KnownSets}, specs.Renewing.{has_entry}, specs.Served.{is_rename}}
+use Rattle.capacts.{proofs.Common.{ArePermitted, Operation, Nodes, permitted, Rmdir, Scene, tree_after, tree_with, Unlink}, proofs.Renewed.{along-begins, along-ends, alike-off, alike-far, inodes-more, is_at, permitted-on, room-told}, specs.Known.{KnownSets}, specs.Renewing.{has_entry}, specs.Served.{is_rename}}
 use Rattle.capacts.proofs.renewing.renew_served.Goals as goal
 
 -- the tree is that of before
@@ -40,14 +40,14 @@ pub returns-in-Alter-clause-permitted : goal.returns-in-Alter-clause-permitted
 returns-in-Alter-clause-permitted c = λ tree served are.
     c.renew_changed.ensures.permitted tree (served.after ∙ ap (tree_after tree c.args.request.now) c.in-Done.is ∙ ap (tree_with tree c.args.request.now.ino.0) c.in-Alter.is) are
 
-not_moved : (ask : Ask) → (ask ≡ Unlink) ⊎ (ask ≡ Rmdir) → is_rename ask ≡ false
-not_moved ask (inl is) = ap is_rename is
-not_moved ask (inr is) = ap is_rename is
+not_moved : (operation : Operation) → (operation ≡ Unlink) ⊎ (operation ≡ Rmdir) → is_rename operation ≡ false
+not_moved operation (inl is) = ap is_rename is
+not_moved operation (inr is) = ap is_rename is
 
 pub returns-in-Unlink-clause-permitted : goal.returns-in-Unlink-clause-permitted
 returns-in-Unlink-clause-permitted c = λ tree served are.
     permitted-on c.args.scene.now.fs tree c.args.scene.now.tree c.args.scene.now.sessions c.args.scene.now.table c.args.known.now.sets c.renew_on-in-Unlink.new.known.sets (λ n. n == c.args.request.now.ino.0) c.renew_on-in-Unlink.ensures
-    (λ k e there off. alike-off tree c.args.request.now c.args.outcome.now c.args.affected.now c.args.scene.now served (not_moved c.args.request.now.ask c.in-Unlink.is) k off) are
+    (λ k e there off. alike-off tree c.args.request.now c.args.outcome.now c.args.affected.now c.args.scene.now served (not_moved c.args.request.now.operation c.in-Unlink.is) k off) are
 
 pub inodes-init : goal.inodes-init
 inodes-init c =

@@ -1,24 +1,24 @@
 use Rattle.std.proofs.Common.{◌≡◌, Option, None, refl, sym, ap, ◌∙◌}
 use Rattle.caprules.specs.Lockmachine.Scene.{scene}
-use Rattle.capacts.proofs.{Again.{calls-passed, ends-rejection, ends-passed, ends-without_memory, tree-passed}, Common.{Ask, ask_after, ask_before, ask_needs, judged_again, Outcome, Rejection, rejection_of, Request, Scene, tree_after}, Memory.{rename-takes}, serving.serve.Goals.{After-carry_out-arg-2-1, then-not-judged+in_default, else-not-judged}}
+use Rattle.capacts.proofs.{Again.{calls-passed, ends-rejection, ends-passed, ends-without_memory, tree-passed}, Common.{Operation, operation_after, operation_before, operation_needs, judged_again, Outcome, Rejection, rejection_of, Request, Scene, tree_after}, Memory.{rename-takes}, serving.serve.Goals.{After-carry_out-arg-2-1, then-not-judged+in_default, else-not-judged}}
 use Rattle.capacts.proofs.serving.serve.Goals as goal
 
 -- it is judged as it asks
-again : (s : Scene) (q : Request) (ask : Ask) (r : Option Rejection) → ask ≡ q.ask
-    → r ≡ rejection_of s (ask_before s q.ino.0 ask) (ask_needs s q.client q.ino.0 ask) (ask_after s q.ino.0 ask) → r ≡ judged_again s q
-again s q ask r lent is = is ∙ ap (λ (a : Ask). rejection_of s (ask_before s q.ino.0 a) (ask_needs s q.client q.ino.0 a) (ask_after s q.ino.0 a)) lent
+again : (s : Scene) (q : Request) (operation : Operation) (r : Option Rejection) → operation ≡ q.operation
+    → r ≡ rejection_of s (operation_before s q.ino.0 operation) (operation_needs s q.client q.ino.0 operation) (operation_after s q.ino.0 operation) → r ≡ judged_again s q
+again s q operation r lent is = is ∙ ap (λ (a : Operation). rejection_of s (operation_before s q.ino.0 a) (operation_needs s q.client q.ino.0 a) (operation_after s q.ino.0 a)) lent
 
 -- nothing rejects it
 free : (c : After-carry_out-arg-2-1) → judged_again c.args.scene.now c.args.request.now ≡ None
 free c = elim c.if-not-judged.branch [
-  | then-not-judged+in_default w ↦ sym (again c.args.scene.now c.args.request.now _ _ w.lend-asked.ensures w.ask_rejection.ensures) ∙ w.in_default.is
+  | then-not-judged+in_default w ↦ sym (again c.args.scene.now c.args.request.now _ _ w.operation_ref-operation.ensures w.operation_rejection.ensures) ∙ w.in_default.is
   | else-not-judged w ↦ c.requires.judged w.if-not-judged.false
 ]
 
 pub returns-in-Some-clause-ends : goal.returns-in-Some-clause-ends
 returns-in-Some-clause-ends c = λ table locks.
     ends-rejection (scene c.args.scene.now.fs c.args.scene.now.tree c.args.scene.now.sessions table locks) c.args.request.now c.in-Some.rejection c.rejected.result.outcome
-    (sym (again c.args.scene.now c.args.request.now _ _ c.lend-asked.ensures c.ask_rejection.ensures) ∙ c.in-Some.is) c.rejected.ensures.outcome
+    (sym (again c.args.scene.now c.args.request.now _ _ c.operation_ref-operation.ensures c.operation_rejection.ensures) ∙ c.in-Some.is) c.rejected.ensures.outcome
 
 pub carry_out-requires : goal.carry_out-requires
 carry_out-requires c =
@@ -38,9 +38,9 @@ pub returns-then-not-room-clause-ends : goal.returns-then-not-room-clause-ends
 returns-then-not-room-clause-ends c = λ table locks.
     ends-without_memory (scene c.args.scene.now.fs c.args.scene.now.tree c.args.scene.now.sessions table locks) c.args.request.now Outcome.OutOfMemory
     (elim c.if-not-judged.branch [
-      | then-not-judged+in_default w ↦ sym (again c.args.scene.now c.args.request.now _ _ w.lend-asked.ensures w.ask_rejection.ensures) ∙ w.in_default.is
+      | then-not-judged+in_default w ↦ sym (again c.args.scene.now c.args.request.now _ _ w.operation_ref-operation.ensures w.operation_rejection.ensures) ∙ w.in_default.is
       | else-not-judged w ↦ c.requires.judged w.if-not-judged.false
-    ]) (rename-takes c.args.request.now.ask (c.requires.room search)) refl
+    ]) (rename-takes c.args.request.now.operation (c.requires.room search)) refl
 
 pub returns-in-Err-clause-ends : goal.returns-in-Err-clause-ends
 returns-in-Err-clause-ends c = λ table locks.

@@ -11,7 +11,7 @@ use Rattle.capcommand.proofs.commands.answer.Goals as goal
 use Rattle.capcommand.proofs.commands.answer.Goals.{in-Explain, in-Grants, in-Compare, in-Lint, in-Who, in-Audit, in-Log}
 
 pub returns-in-Err-clause-err : goal.returns-in-Err-clause-err
-returns-in-Err-clause-err g c = elim c.match-ask.branch [
+returns-in-Err-clause-err g c = elim c.match-invocation.branch [
   | in-Explain w ↦
       let stops = λ (fault : AnswerFault). StopsInquiry w.in-Explain.inquiry fault (g.R.Read.remaining (inner_of c.args.reader.now)) (has_failed w.inquire-answered.new.reader) (has_failed w.inquire-answered.new.writer) (g.W.Write.contents (inner_of c.args.writer.now)) (g.W.Write.contents (inner_of w.inquire-answered.new.writer)) in
       rw (w.in-Explain.is, w.reader-is, w.writer-is) (IfErr-at_err stops (sym w.answered-is ∙ c.in-Err.is) w.inquire-answered.ensures.err)

@@ -1,6 +1,6 @@
 use Rattle.std.proofs.Common.{[], ◌∷◌, None, sym, ap, ◌∙◌}
 use Rattle.capsteps.proofs.Capacts.Again.{denial-rejection}
-use Rattle.capcore.proofs.Common.{asked_tests, first_denied, need, rejection-before, rejection_by, Scene}
+use Rattle.capcore.proofs.Common.{basic_tests, first_denied, need, rejection-before, rejection_by, Scene}
 use Rattle.capcore.proofs.judging.access_rejection.Goals as goal
 
 pub returns-in-Some : goal.returns-in-Some
@@ -8,7 +8,7 @@ returns-in-Some c =
     let s : Scene = c.args.scene.now in
     let client = c.args.holder.client in
     let ino = c.args.holder.ino.0 in
-    sym (rejection-before s (asked_tests s client ino) (need client ino c.args.access ∷ []) [] c.in-Some.refusal (sym c.asked_refusal.ensures ∙ c.in-Some.is))
+    sym (rejection-before s (basic_tests s client ino) (need client ino c.args.access ∷ []) [] c.in-Some.refusal (sym c.basic_refusal.ensures ∙ c.in-Some.is))
 
 pub returns-in-None : goal.returns-in-None
 returns-in-None c =
@@ -17,4 +17,4 @@ returns-in-None c =
     let ino = c.args.holder.ino.0 in
     c.denial.ensures
     ∙ denial-rejection s client ino c.args.access
-    ∙ ap (λ o. rejection_by s o (first_denied s (need client ino c.args.access ∷ [])) None) (sym (sym c.asked_refusal.ensures ∙ c.in-None.is))
+    ∙ ap (λ o. rejection_by s o (first_denied s (need client ino c.args.access ∷ [])) None) (sym (sym c.basic_refusal.ensures ∙ c.in-None.is))

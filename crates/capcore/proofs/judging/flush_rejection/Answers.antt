@@ -1,6 +1,6 @@
 use Rattle.std.{proofs.Common.{◌≡◌, [], ◌∷◌, sym, ap, ◌∙◌}, specs.Option.{option_map}}
 use Rattle.capsteps.specs.Capevents.declared.event.Event.TheVariants.{Flush}
-use Rattle.capcore.proofs.{Common.{Access, after, asked_tests, before, ByTest, Cap, Caps, caps_in, change_tests, Event, exclusive, failing-front, first_failing, need, needs, part_of_change, passed, passed-front, rejection, rejection_of, release_tests, Scene}, judging.flush_rejection.Goals.{After-access_rejection, After-release_refusal, in-A, in-L, in-X, in-F}}
+use Rattle.capcore.proofs.{Common.{Access, after, basic_tests, before, ByTest, Cap, Caps, caps_in, change_tests, Event, exclusive, failing-front, first_failing, need, needs, part_of_change, passed, passed-front, rejection, rejection_of, release_tests, Scene}, judging.flush_rejection.Goals.{After-access_rejection, After-release_refusal, in-A, in-L, in-X, in-F}}
 use Rattle.capcore.proofs.judging.flush_rejection.Goals as goal
 
 -- what the session, the inode and the grants reject
@@ -15,7 +15,7 @@ module _ (c : After-access_rejection) where
   granted =
       let k = c.args.holder in
       c.access_rejection.ensures
-      ∙ ap (λ (access : Access). rejection_of s (asked_tests s k.client k.ino.0) (need k.client k.ino.0 access ∷ []) []) c.change_access.ensures
+      ∙ ap (λ (access : Access). rejection_of s (basic_tests s k.client k.ino.0) (need k.client k.ino.0 access ∷ []) []) c.change_access.ensures
 
 -- what is to be held
 abbrev held_for : After-release_refusal → Caps

@@ -9,4 +9,4 @@ returns-clause-items c =
 
 pub returns-in-empty-clause-items : goal.returns-in-empty-clause-items
 returns-in-empty-clause-items c =
-    λ given ends. all_left c.args.client given c.args.told.now c.args.due.now.items (omega (arith, c.in-empty.len_below, ap length c.as_slice.ensures)) ends
+    λ given ends. all_left c.args.client given c.args.tickets.now c.args.due.now.items (omega (arith, c.in-empty.len_below, ap length c.as_slice.ensures)) ends

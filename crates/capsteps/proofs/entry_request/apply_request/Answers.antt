@@ -2,7 +2,7 @@ use Rattle.std.{proofs.Common.{◌≡◌, Option, Some, None, cond, false, Bool,
 use Rattle.capbits.specs.Caps.{has}
 use Rattle.captable.specs.Tests.{ack_tests}
 use Rattle.capacts.specs.Caprules.Direct.{with_want}
-use Rattle.capsteps.{proofs.Common.{acked, Caps, changed, Entry, entry_at, first_failing, given_back, Holder, KnownSets, opening_wants, OpenMode, P, same_found, Scene, sets_of, Table, taken, touched, union, wanting, with_entry, without}, proofs.EntryKept.{kept-changed, kept-itself}, proofs.entry_request.apply_request.Goals.{in-Want, in-Open+in_ok-before-in-Open}, specs.EntryRequest.{entry_request_tests, table_after, StillKept}, specs.declared.entry_request.EntryRequest.{EntryRequest}}
+use Rattle.capsteps.{proofs.Common.{acked, Caps, changed, Entry, entry_at, first_failing, without_released, Holder, KnownSets, opening_wants, OpenMode, P, same_found, Scene, sets_of, Table, without_acked, touched, union, wanting, with_entry, without}, proofs.EntryKept.{kept-changed, kept-itself}, proofs.entry_request.apply_request.Goals.{in-Want, in-Open+in_ok-before-in-Open}, specs.EntryRequest.{entry_request_tests, table_after, StillKept}, specs.declared.entry_request.EntryRequest.{EntryRequest}}
 use Rattle.capsteps.proofs.entry_request.apply_request.Goals as goal
 
 -- the wanted set of an entry that is known is written, or changed
@@ -33,11 +33,11 @@ left-kept s sets now k gone g new is = kept-changed s s.table new sets sets now 
 
 pub returns-in-Ack-clause-kept : goal.returns-in-Ack-clause-kept
 returns-in-Ack-clause-kept c =
-    left-kept c.args.scene.now c.args.known.now.sets c.remove_unheld.new.self.sets c.args.holder (has c.revoked_of-revoked.result P) (taken c.revoked_of-revoked.result) c.ack_tested.new.self c.ack_tested.ensures c.remove_unheld.ensures
+    left-kept c.args.scene.now c.args.known.now.sets c.remove_unheld.new.self.sets c.args.holder (has c.revoked_of-revoked.result P) (without_acked c.revoked_of-revoked.result) c.ack_tested.new.self c.ack_tested.ensures c.remove_unheld.ensures
 
 pub returns-in-Release-clause-kept : goal.returns-in-Release-clause-kept
 returns-in-Release-clause-kept c =
-    left-kept c.args.scene.now c.args.known.now.sets c.remove_unheld-in-Release.new.self.sets c.args.holder (has c.in-Release.caps P) (given_back c.in-Release.caps) c.release_tested.new.self c.release_tested.ensures c.remove_unheld-in-Release.ensures
+    left-kept c.args.scene.now c.args.known.now.sets c.remove_unheld-in-Release.new.self.sets c.args.holder (has c.in-Release.caps P) (without_released c.in-Release.caps) c.release_tested.new.self c.release_tested.ensures c.remove_unheld-in-Release.ensures
 
 pub returns-clause-ok : goal.returns-clause-ok
 returns-clause-ok c =

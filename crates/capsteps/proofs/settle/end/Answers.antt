@@ -41,12 +41,12 @@ module _ (c : After-settle) where
   -- the locks settle, and the step ends
   ends_there : (sized : List Ino) → c.settle.new.endings.sized.items ≡ sized → (sets : KnownSets) (last : Scene)
       → EndsAt (set.contains c.settle.new.affected) sized c.settle.new.known.sets sets c.settle.new.scene last
-      → EndsWith (λ other. other == ino) c.args.known.now.sets sets c.args.scene.now last c.settle.new.endings.told.items
+      → EndsWith (λ other. other == ino) c.args.known.now.sets sets c.args.scene.now last c.settle.new.endings.for_clients.items
   ends_there sized are sets last ends =
       let settles = c.settle.ensures.settles in
-      subst (λ (from : ℕ → Bool). EndsWith from c.args.known.now.sets sets c.args.scene.now last c.settle.new.endings.told.items) only
+      subst (λ (from : ℕ → Bool). EndsWith from c.args.known.now.sets sets c.args.scene.now last c.settle.new.endings.for_clients.items) only
       (settled-ends (set.contains c.settle.new.affected) (set.contains c.of-reached.result) c.args.known.now.sets c.settle.new.known.sets sets c.args.scene.now c.settle.new.scene last
-      c.settle.new.endings.told.items c.settle.new.endings.sized.items settles c.settle.ensures.tree c.settle.ensures.told c.settle.ensures.permitted
+      c.settle.new.endings.for_clients.items c.settle.new.endings.sized.items settles c.settle.ensures.tree c.settle.ensures.told c.settle.ensures.permitted
       (subst (λ (sized : List Ino). EndsAt (set.contains c.settle.new.affected) sized c.settle.new.known.sets sets c.settle.new.scene last) (sym are) ends))
 
   may_end : MayEnd c.settle.new.known.sets c.settle.new.scene
@@ -56,9 +56,9 @@ pub finish_alone-requires-clause-others : goal.finish_alone-requires-clause-othe
 finish_alone-requires-clause-others c =
     let here = (goal.at.finish_alone-requires-clause-others c).After-settle in
     let ready = ready_was here in
-    let nobody : c.settle.new.endings.told.items ≡ [] = nil_from_length c.settle.new.endings.told.items (omega (arith, eqb-true (vec_len c.settle.new.endings.told) 0 (sym c.is_empty.ensures ∙ c.if-is_empty.true))) in
+    let nobody : c.settle.new.endings.for_clients.items ≡ [] = nil_from_length c.settle.new.endings.for_clients.items (omega (arith, eqb-true (vec_len c.settle.new.endings.for_clients) 0 (sym c.is_empty.ensures ∙ c.if-is_empty.true))) in
     let same = sym c.of_ino.ensures ∙ same-locks c.of_ino.result c.of_ino-before.result (sym c.eq.ensures ∙ c.if-eq.true) ∙ c.of_ino-before.ensures in
-    others-still (set.contains c.settle.new.affected) (set.contains c.of-reached.result) c.args.scene.now c.settle.new.scene c.settle.new.endings.told.items c.settle.new.endings.sized.items
+    others-still (set.contains c.settle.new.affected) (set.contains c.of-reached.result) c.args.scene.now c.settle.new.scene c.settle.new.endings.for_clients.items c.settle.new.endings.sized.items
     c.settle.ensures.settles nobody c.args.known.now.sets c.settle.new.known.sets c.in-Entry.holder c.settle.ensures.told same ready.at.1
 
 pub finish_alone-requires-clause-entries : goal.finish_alone-requires-clause-entries
@@ -76,8 +76,8 @@ finish-requires-clause-entries c = may_end (goal.at.finish-requires-clause-entri
 pub returns-then-eq-clause-ends : goal.returns-then-eq-clause-ends
 returns-then-eq-clause-ends c =
     let here = (goal.at.returns-then-eq-clause-ends c).After-settle in
-    let nobody : c.settle.new.endings.told.items ≡ [] = nil_from_length c.settle.new.endings.told.items (omega (arith, eqb-true (vec_len c.settle.new.endings.told) 0 (sym c.is_empty.ensures ∙ c.if-is_empty.true))) in
-    let none = served_none (set.contains c.settle.new.affected) (set.contains c.of-reached.result) c.args.scene.now c.settle.new.scene c.settle.new.endings.told.items c.settle.new.endings.sized.items
+    let nobody : c.settle.new.endings.for_clients.items ≡ [] = nil_from_length c.settle.new.endings.for_clients.items (omega (arith, eqb-true (vec_len c.settle.new.endings.for_clients) 0 (sym c.is_empty.ensures ∙ c.if-is_empty.true))) in
+    let none = served_none (set.contains c.settle.new.affected) (set.contains c.of-reached.result) c.args.scene.now c.settle.new.scene c.settle.new.endings.for_clients.items c.settle.new.endings.sized.items
     c.settle.ensures.settles nobody in
     rw c.in-Entry.is (ends_there here [] none.0 c.finish_alone.new.known.sets c.finish_alone.new.scene c.finish_alone.ensures.ends)
 
@@ -90,8 +90,8 @@ pub returns-in-Entry-clause-ends : goal.returns-in-Entry-clause-ends
 returns-in-Entry-clause-ends c =
     let here = (goal.at.returns-in-Entry-clause-ends c).After-settle in
     rw c.in-Entry.is
-    (subst (λ (told : List Ended). EndsWith (λ other. other == ino here) c.args.known.now.sets c.finish.new.known.sets c.args.scene.now c.finish.new.scene told)
-    (sym (ap (λ (e : Endings). e.told.items) c.finish.ensures.rest))
+    (subst (λ (for_clients : List Ended). EndsWith (λ other. other == ino here) c.args.known.now.sets c.finish.new.known.sets c.args.scene.now c.finish.new.scene for_clients)
+    (sym (ap (λ (e : Endings). e.for_clients.items) c.finish.ensures.rest))
     (ends_there here c.settle.new.endings.sized.items refl c.finish.new.known.sets c.finish.new.scene c.finish.ensures.ends))
 
 pub returns-in-Entry-clause-lead : goal.returns-in-Entry-clause-lead
@@ -119,10 +119,10 @@ pub returns-clause-ends : goal.returns-clause-ends
 returns-clause-ends c =
     let settled : Scene = c.settle-in-Inodes.new.scene in
     rw c.in-Inodes.is
-    (subst (λ (told : List Ended). EndsWith (set.contains c.in-Inodes.inos) c.args.known.now.sets c.finish-in-Inodes.new.known.sets c.args.scene.now c.finish-in-Inodes.new.scene told)
-    (sym (ap (λ (e : Endings). e.told.items) c.finish-in-Inodes.ensures.rest))
+    (subst (λ (for_clients : List Ended). EndsWith (set.contains c.in-Inodes.inos) c.args.known.now.sets c.finish-in-Inodes.new.known.sets c.args.scene.now c.finish-in-Inodes.new.scene for_clients)
+    (sym (ap (λ (e : Endings). e.for_clients.items) c.finish-in-Inodes.ensures.rest))
     (settled-ends (set.contains c.settle-in-Inodes.new.affected) (set.contains c.in-Inodes.inos) c.args.known.now.sets c.settle-in-Inodes.new.known.sets c.finish-in-Inodes.new.known.sets
-    c.args.scene.now settled c.finish-in-Inodes.new.scene c.settle-in-Inodes.new.endings.told.items c.settle-in-Inodes.new.endings.sized.items
+    c.args.scene.now settled c.finish-in-Inodes.new.scene c.settle-in-Inodes.new.endings.for_clients.items c.settle-in-Inodes.new.endings.sized.items
     c.settle-in-Inodes.ensures.settles c.settle-in-Inodes.ensures.tree c.settle-in-Inodes.ensures.told c.settle-in-Inodes.ensures.permitted c.finish-in-Inodes.ensures.ends))
 
 pub returns-clause-lead : goal.returns-clause-lead

@@ -28,8 +28,8 @@ returns-clause-served c =
     } in (
       ended outcome,
       serves,
-      c.push.ensures.told,
-      c.push.ensures.kept ∙ ap (λ (o : Outcome). c.args.endings.now.kept.items ++ ended o ∷ []) c.serve-served.ensures.kept,
+      c.push.ensures.for_clients,
+      c.push.ensures.for_history ∙ ap (λ (o : Outcome). c.args.endings.now.for_history.items ++ ended o ∷ []) c.serve-served.ensures.for_history,
       λ q there.
           let same : request ≡ q = (let both : Some request ≡ Some q = c.in-Some.ensures.request ∙ there in cc) in
           c.push.ensures.sized

@@ -38,24 +38,24 @@ servings-init c =
     let room = c.requires.room in
     record {
       so_far =
-          subst (λ (told : List Ended). IsSoFar at c.args.affected.now first now told c.args.endings.now.sized.items) (sym c.requires.room.told)
+          subst (λ (for_clients : List Ended). IsSoFar at c.args.affected.now first now for_clients c.args.endings.now.sized.items) (sym c.requires.room.for_clients)
           (subst (IsSoFar at c.args.affected.now first now []) (sym c.requires.room.sized) so);
       stands = stands-first c.args.affected.now now c.first-place.result (turn-of_least c.args.affected.now now so.still c.end_gathers.ensures.ends) so.waits c.first-place.ensures;
       walked = none-walked c.new-walked.result c.args.scene.now.tree c.args.scene.now.table c.args.affected.now c.new-walked.ensures;
       judged = still-judged c.args.endings.now.judged first now.locks swept.queue c.requires.judged;
-      same = c.requires.room.kept ∙ sym c.requires.room.told;
+      same = c.requires.room.for_history ∙ sym c.requires.room.for_clients;
       lead = leads-none c.args.endings.now.changes.items c.args.scene.now.tree;
       places = omega (arith, queue, c.requires.places);
       known = λ k. refl;
       permitted = c.requires.permitted;
-      told = omega (arith, queue, ap length room.told, room.told_room);
-      kept = omega (arith, queue, ap length room.kept, room.kept_room);
+      for_clients = omega (arith, queue, ap length room.for_clients, room.clients_room);
+      for_history = omega (arith, queue, ap length room.for_history, room.history_room);
       sized = omega (arith, queue, ap length room.sized, room.sized_room);
     }
 
 -- a serving changes at most one size
 few-sized : (sized more : List Ino) (q : Request) (o : Outcome) → more ≡ sized ++ sized_in (Served q o ∷ []) → length more ≤ length sized + 1
-few-sized sized more q o is = elim (sets_size q.ask && is_done o) as (λ b. more ≡ sized ++ filter_map (λ (ino : Option Ino). ino) (cond b (Some q.ino) None ∷ []) → length more ≤ length sized + 1) [
+few-sized sized more q o is = elim (sets_size q.operation && is_done o) as (λ b. more ≡ sized ++ filter_map (λ (ino : Option Ino). ino) (cond b (Some q.ino) None ∷ []) → length more ≤ length sized + 1) [
   | true ↦ λ is. let long = ap length is in omega (arith, long, length-append sized (q.ino ∷ []))
   | false ↦ λ is. let none : List Ino = [] in let long = ap length is in omega (arith, long, length-append sized none)
 ] is
@@ -75,8 +75,8 @@ module _ (c : In-Some) where
   mid = c.sweep.new.scene
 
   -- gathers began and ended
-  swept : IsSoFar (from c) c.servings.affected first mid c.servings.endings.told.items c.servings.endings.sized.items
-  swept = so-far-swept (set.contains c.args.affected.now) c.servings.affected first now c.servings.endings.told.items c.servings.endings.sized.items c.servings.invariant.so_far mid c.sweep.ensures.swept
+  swept : IsSoFar (from c) c.servings.affected first mid c.servings.endings.for_clients.items c.servings.endings.sized.items
+  swept = so-far-swept (set.contains c.args.affected.now) c.servings.affected first now c.servings.endings.for_clients.items c.servings.endings.sized.items c.servings.invariant.so_far mid c.sweep.ensures.swept
 
   -- the moves so far leave the requests in their order, and a tree
   order : IsLockMap mid.locks
@@ -124,11 +124,11 @@ serve_next-changed-requires-clause-judged c =
     let judged = c.servings.endings.judged in
     subst (IsJudged judged) (sym is.is) (still-judged judged c.servings.scene c.sweep.new.scene.locks is.queue c.servings.invariant.judged)
 
-pub serve_next-changed-requires-clause-told : goal.serve_next-changed-requires-clause-told
-serve_next-changed-requires-clause-told c = let some = some_wait (goal.at.serve_next-changed-requires-clause-told c).In-Some in omega (arith, some, c.servings.invariant.told)
+pub serve_next-changed-requires-clause-for_clients : goal.serve_next-changed-requires-clause-for_clients
+serve_next-changed-requires-clause-for_clients c = let some = some_wait (goal.at.serve_next-changed-requires-clause-for_clients c).In-Some in omega (arith, some, c.servings.invariant.for_clients)
 
-pub serve_next-changed-requires-clause-kept : goal.serve_next-changed-requires-clause-kept
-serve_next-changed-requires-clause-kept c = let some = some_wait (goal.at.serve_next-changed-requires-clause-kept c).In-Some in omega (arith, some, c.servings.invariant.kept)
+pub serve_next-changed-requires-clause-for_history : goal.serve_next-changed-requires-clause-for_history
+serve_next-changed-requires-clause-for_history c = let some = some_wait (goal.at.serve_next-changed-requires-clause-for_history c).In-Some in omega (arith, some, c.servings.invariant.for_history)
 
 pub serve_next-changed-requires-clause-sized : goal.serve_next-changed-requires-clause-sized
 serve_next-changed-requires-clause-sized c = let some = some_wait (goal.at.serve_next-changed-requires-clause-sized c).In-Some in omega (arith, some, c.servings.invariant.sized)
@@ -152,13 +152,13 @@ module _ (c : After-serve_next-changed) where
   abbrev reaches : Reaches serves.request c.sweep.new.scene.tree c.serve_next-changed.new.scene.tree c.sweep.new.scene.table c.servings.affected c.serve_next-changed.new.affected
   reaches = c.serve_next-changed.ensures.reached serves.request serves.waits
 
-  served : IsSoFar (from (before_serving c)) c.serve_next-changed.new.affected (first (before_serving c)) new (c.servings.endings.told.items ++ ended ∷ []) (c.servings.endings.sized.items ++ sized_in (Served serves.request ended.outcome ∷ []))
+  served : IsSoFar (from (before_serving c)) c.serve_next-changed.new.affected (first (before_serving c)) new (c.servings.endings.for_clients.items ++ ended ∷ []) (c.servings.endings.sized.items ++ sized_in (Served serves.request ended.outcome ∷ []))
   served =
-      so-far-served (from (before_serving c)) c.servings.affected (first (before_serving c)) (mid (before_serving c)) c.servings.endings.told.items c.servings.endings.sized.items (swept (before_serving c))
+      so-far-served (from (before_serving c)) c.servings.affected (first (before_serving c)) (mid (before_serving c)) c.servings.endings.for_clients.items c.servings.endings.sized.items (swept (before_serving c))
       c.in-Some.ticket ended new c.serve_next-changed.new.affected (order (before_serving c)) (tree (before_serving c)) (move (before_serving c)) serves reaches
 
-  one_more : length (c.servings.endings.told.items ++ ended ∷ []) ≡ length c.servings.endings.told.items + 1
-  one_more = length-append c.servings.endings.told.items (ended ∷ [])
+  one_more : length (c.servings.endings.for_clients.items ++ ended ∷ []) ≡ length c.servings.endings.for_clients.items + 1
+  one_more = length-append c.servings.endings.for_clients.items (ended ∷ [])
 
   one_less : length c.serve_next-changed.new.scene.locks.queue + 1 ≡ length c.servings.scene.locks.queue
   one_less =
@@ -182,21 +182,21 @@ Holds c next = invariant-servings (record {
 holds : (c : After-serve_next-changed) (next : SweepPlace) → GoesOnBehind c.sweep.new.place c.serve_next-changed.result c.serve_next-changed.new.affected next → Holds c next
 holds c next goes =
     let all = c.serve_next-changed.ensures.served in
-    let same : c.serve_next-changed.new.endings.kept.items ≡ c.serve_next-changed.new.endings.told.items = all.3 ∙ ap (λ ms. ms ++ ended c ∷ []) c.servings.invariant.same ∙ sym all.2 in
+    let same : c.serve_next-changed.new.endings.for_history.items ≡ c.serve_next-changed.new.endings.for_clients.items = all.3 ∙ ap (λ ms. ms ++ ended c ∷ []) c.servings.invariant.same ∙ sym all.2 in
     let request = (serves c).request in
     let sizes : c.serve_next-changed.new.endings.sized.items ≡ c.servings.endings.sized.items ++ sized_in (Served request (ended c).outcome ∷ []) = all.4 request (serves c).waits in
     let few_sizes : length c.serve_next-changed.new.endings.sized.items ≤ length c.servings.endings.sized.items + 1 = few-sized c.servings.endings.sized.items c.serve_next-changed.new.endings.sized.items request (ended c).outcome sizes in
-    let more : length c.serve_next-changed.new.endings.told.items ≡ length c.servings.endings.told.items + 1 = ap length all.2 ∙ one_more c in
+    let more : length c.serve_next-changed.new.endings.for_clients.items ≡ length c.servings.endings.for_clients.items + 1 = ap length all.2 ∙ one_more c in
     let less = one_less c in
-    let kept_more : length c.serve_next-changed.new.endings.kept.items ≡ length c.servings.endings.kept.items + 1 = ap length same ∙ more ∙ ap (λ (ms : List Ended). length ms + 1) (sym c.servings.invariant.same) in
+    let history_more : length c.serve_next-changed.new.endings.for_history.items ≡ length c.servings.endings.for_history.items + 1 = ap length same ∙ more ∙ ap (λ (ms : List Ended). length ms + 1) (sym c.servings.invariant.same) in
     let room = c.serve_next-changed.ensures.room in
     let is = stays (before_serving c) in
     record {
       so_far =
-          subst (λ (told : List Ended). IsSoFar (from (before_serving c)) c.serve_next-changed.new.affected (first (before_serving c)) (new c) told c.serve_next-changed.new.endings.sized.items) (sym all.2)
-          (subst (IsSoFar (from (before_serving c)) c.serve_next-changed.new.affected (first (before_serving c)) (new c) (c.servings.endings.told.items ++ ended c ∷ [])) (sym sizes) (served c));
+          subst (λ (for_clients : List Ended). IsSoFar (from (before_serving c)) c.serve_next-changed.new.affected (first (before_serving c)) (new c) for_clients c.serve_next-changed.new.endings.sized.items) (sym all.2)
+          (subst (IsSoFar (from (before_serving c)) c.serve_next-changed.new.affected (first (before_serving c)) (new c) (c.servings.endings.for_clients.items ++ ended c ∷ [])) (sym sizes) (served c));
       stands =
-          stands-behind (from (before_serving c)) c.servings.affected (first (before_serving c)) (mid (before_serving c)) c.servings.endings.told.items c.servings.endings.sized.items (swept (before_serving c))
+          stands-behind (from (before_serving c)) c.servings.affected (first (before_serving c)) (mid (before_serving c)) c.servings.endings.for_clients.items c.servings.endings.sized.items (swept (before_serving c))
           c.in-Some.ticket (ended c) (new c) c.serve_next-changed.new.affected (order (before_serving c)) (tree (before_serving c)) (move (before_serving c)) (serves c) (reaches c)
           c.sweep.new.place next c.serve_next-changed.result c.sweep.ensures.place (c.serve_next-changed.ensures.changed (serves c).request (serves c).waits) goes;
       walked =
@@ -210,8 +210,8 @@ holds c next goes =
       places = omega (arith, less, c.serve_next-changed.ensures.noted, c.serve_next-changed.ensures.places, c.servings.invariant.places);
       known = λ k. c.serve_next-changed.ensures.told k ∙ c.servings.invariant.known k;
       permitted = c.serve_next-changed.ensures.permitted;
-      told = omega (arith, more, less, room.0, c.servings.invariant.told);
-      kept = omega (arith, kept_more, less, room.1, c.servings.invariant.kept);
+      for_clients = omega (arith, more, less, room.0, c.servings.invariant.for_clients);
+      for_history = omega (arith, history_more, less, room.1, c.servings.invariant.for_history);
       sized = omega (arith, few_sizes, less, room.2, c.servings.invariant.sized);
     }
 
@@ -233,8 +233,8 @@ returns-clause-settles c =
     let first : Scene = c.args.scene.now in
     let now : Scene = c.servings.scene in
     let last : Scene = c.sweep.new.scene in
-    so-far-settled (set.contains c.args.affected.now) c.servings.affected first last c.servings.endings.told.items c.servings.endings.sized.items
-    (so-far-swept (set.contains c.args.affected.now) c.servings.affected first now c.servings.endings.told.items c.servings.endings.sized.items c.servings.invariant.so_far last c.sweep.ensures.swept)
+    so-far-settled (set.contains c.args.affected.now) c.servings.affected first last c.servings.endings.for_clients.items c.servings.endings.sized.items
+    (so-far-swept (set.contains c.args.affected.now) c.servings.affected first now c.servings.endings.for_clients.items c.servings.endings.sized.items c.servings.invariant.so_far last c.sweep.ensures.swept)
     (subst (GoesOn last) c.in_default.is c.sweep.ensures.next)
 
 pub returns-clause-lead : goal.returns-clause-lead

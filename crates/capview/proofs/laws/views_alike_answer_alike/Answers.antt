@@ -1,12 +1,12 @@
-use Rattle.capview.proofs.Likeness.{like-path, like-place, like-attr}
+use Rattle.capview.proofs.Likeness.{like-path, like-presence, like-attr}
 use Rattle.capview.proofs.Answering.{like-answer}
 use Rattle.capview.proofs.laws.views_alike_answer_alike.Goals as goal
 
 pub returns-clause-paths : goal.returns-clause-paths
 returns-clause-paths c = like-path
 
-pub returns-clause-places : goal.returns-clause-places
-returns-clause-places c = like-place
+pub returns-clause-presences : goal.returns-clause-presences
+returns-clause-presences c = like-presence
 
 pub returns-clause-attrs : goal.returns-clause-attrs
 returns-clause-attrs c = like-attr

@@ -1,13 +1,13 @@
 use Rattle.inotree.specs.declared.node.Site.TheVariants.{Stray}
 use Rattle.inotree.specs.Inodes.{with_site}
-use Rattle.inotree.proofs.OneInode.{place-other, alike-unlinked, childless-file, childless-empty}
+use Rattle.inotree.proofs.OneInode.{presence-other, alike-unlinked, childless-file, childless-empty}
 use Rattle.inotree.proofs.laws.an_inode_without_children_leaves_the_others.Goals as goal
 
 pub returns-clause-alike : goal.returns-clause-alike
 returns-clause-alike c = alike-unlinked
 
-pub returns-clause-places : goal.returns-clause-places
-returns-clause-places c = λ tree ino other off. place-other tree (with_site Stray) ino other off
+pub returns-clause-presences : goal.returns-clause-presences
+returns-clause-presences c = λ tree ino other off. presence-other tree (with_site Stray) ino other off
 
 pub returns-clause-file : goal.returns-clause-file
 returns-clause-file c = childless-file

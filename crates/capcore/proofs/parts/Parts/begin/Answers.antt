@@ -1,6 +1,6 @@
 use Rattle.std.proofs.Common.{◌≡◌, length, refl, sym, ap, subst, arith}
 use Rattle.capsteps.{proofs.EntryKept.{request-less, others-have_all}, proofs.EntryRequests.{below-of_request, effect-affected, keeps-of_request, affects-of_request, request-table}, proofs.Knowing.{still-all}, specs.EntryRequest.{StillKept, table_after}}
-use Rattle.capcore.{proofs.Begun.{on_err, one-begun}, proofs.Common.{Affected, changes-still, effect, effect_unless, Endings, entry_event, Event, Holder, none-judged, room-for, Scene, State, view_of}, proofs.EntryWhole.{effect-answer}, specs.UnderWay.{HasBegun, IsWhole, MayBegin, event_of, state_of}, specs.declared.parts.Answer.TheVariants.{Touched}, specs.declared.parts.Asking.{Asking}, specs.declared.parts.Effect.{Effect}, specs.declared.parts.Parts.{Parts}}
+use Rattle.capcore.{proofs.Begun.{on_err, one-begun}, proofs.Common.{Affected, changes-still, effect, effect_unless, Endings, entry_event, Event, Holder, none-judged, room-for, Scene, State, view_of}, proofs.EntryWhole.{effect-answer}, specs.UnderWay.{HasBegun, IsWhole, MayBegin, event_of, state_of}, specs.declared.parts.Answer.TheVariants.{Requested}, specs.declared.parts.MovingEvent.{MovingEvent}, specs.declared.parts.Effect.{Effect}, specs.declared.parts.Parts.{Parts}}
 use Rattle.capcore.proofs.parts.Parts.begin.Goals as goal
 
 -- for want of memory the entries are as they were, and all is still known
@@ -19,21 +19,21 @@ returns-in_ok-apply_request-in-OfEntry-clause-begun c =
     let k : Holder = c.in-OfEntry.holder in
     let request = c.in-OfEntry.request in
     let e : Event = entry_event k.client k.ino request in
-    let may : MayBegin p e = subst (λ (a : Asking). MayBegin p (event_of a)) c.in-OfEntry.is c.requires.may in
+    let may : MayBegin p e = subst (λ (a : MovingEvent). MayBegin p (event_of a)) c.in-OfEntry.is c.requires.may in
     let known = c.apply_request.new.known in
     let after : Scene = record p.scene { table = table_after p.scene k request } in
     let ok : c.apply_request.new.scene ≡ after = c.in_ok-apply_request-in-OfEntry.ensures.ok in
     let q : Parts = record { scene = after; known = known; messages = p.messages } in
     let endings : Endings = record c.begin.new.self { changes = c.clear.new.self } in
     let old : State = state_of p in
-    let touched : Effect = record { affected = Affected.Entry k; answer = Touched k request } in
+    let requested : Effect = record { affected = Affected.Entry k; answer = Requested k request } in
     let kept = subst (λ (s : Scene). StillKept p.scene s.table p.known.sets known.sets) ok c.apply_request.ensures.kept in
     let begun = c.in_ok-begin-in-OfEntry.ensures in
     let none = ap length c.clear.ensures.items in
-    subst (λ (a : Asking). HasBegun p (event_of a) touched (record q { scene = c.apply_request.new.scene }) endings) (sym c.in-OfEntry.is)
-    (subst (λ (s : Scene). HasBegun p e touched (record q { scene = s }) endings) (sym ok)
+    subst (λ (a : MovingEvent). HasBegun p (event_of a) requested (record q { scene = c.apply_request.new.scene }) endings) (sym c.in-OfEntry.is)
+    (subst (λ (s : Scene). HasBegun p e requested (record q { scene = s }) endings) (sym ok)
     (one-begun p q endings e k may (effect old e) (ap (effect_unless old e) may.passed) (keeps-of_request old k request) (below-of_request old k request may.table may.passed)
-    (sym (ap (λ (s : State). s.scene) (effect-affected old k.client k.ino request))) refl touched.affected touched.answer refl (sym (effect-answer old k.client k.ino request)) refl refl
+    (sym (ap (λ (s : State). s.scene) (effect-affected old k.client k.ino request))) refl requested.affected requested.answer refl (sym (effect-answer old k.client k.ino request)) refl refl
     (affects-of_request old k request may.table may.passed may.whole.0) (request-table old k request may.table may.passed) kept.known (kept.permitted may.whole.2.1) (request-less p.scene k request) may.order
     (room-for c.begin.new.self endings.changes endings.judged c.waiting-waiting.result (length p.scene.locks.queue) begun.room (omega (arith, c.waiting-waiting.ensures.waiting)))
     (none-judged endings.judged after begun.judged)

@@ -1,26 +1,26 @@
 use Rattle.std.proofs.Common.{◌≡◌, ◌≤◌, length, [], refl, ap, ◌∙◌, arith, vec_capacity, vec_len}
-use Rattle.capcore.{proofs.Begun.{few-earlier}, proofs.Common.{DueEndings, has_list, State}, proofs.EntryWhole.{no_list-request, request-reply}, proofs.parts.Parts.close.Goals.{in-Done, in-Dropped+in-Ok, in-Touched, in-Awaited, then-not-is_empty, else-not-is_empty}, specs.declared.parts.Answer.TheVariants.{Awaited}}
+use Rattle.capcore.{proofs.Begun.{few-earlier}, proofs.Common.{DueEndings, has_list, State}, proofs.EntryWhole.{no_list-request, request-reply}, proofs.parts.Parts.close.Goals.{in-Done, in-Dropped+in-Ok, in-Requested, in-Awaited, then-not-is_empty, else-not-is_empty}, specs.declared.parts.Answer.TheVariants.{Awaited}}
 use Rattle.capcore.proofs.parts.Parts.close.Goals as goal
 
-pub copy_of_reply-kept-requires : goal.copy_of_reply-kept-requires
-copy_of_reply-kept-requires c =
+pub copy_of_reply-for_history-requires : goal.copy_of_reply-for_history-requires
+copy_of_reply-for_history-requires c =
     let s : State = record { scene = c.args.self.now.scene; messages = [] } in
-    ap has_list (c.show_reply-reply.ensures.reply s refl c.requires.known) ∙ no_list-request s c.in-Touched.holder c.in-Touched.request
+    ap has_list (c.show_reply-reply.ensures.reply s refl c.requires.known) ∙ no_list-request s c.in-Requested.holder c.in-Requested.request
 
 -- those that are left to be told of are no more than all
 pub unreachable-requires-in_default-append : goal.unreachable-requires-in_default-append
 unreachable-requires-in_default-append c =
-    let left : (c.match-answer.self.messages ≡ c.args.self.now.messages) × (length c.match-answer.endings.told.items ≤ length c.args.endings.now.told.items) = elim c.match-answer.branch [
+    let left : (c.match-answer.self.messages ≡ c.args.self.now.messages) × (length c.match-answer.endings.for_clients.items ≤ length c.args.endings.now.for_clients.items) = elim c.match-answer.branch [
       | in-Done w ↦ rw (w.self-is, w.endings-is) (refl, omega arith)
       | in-Dropped+in-Ok w ↦ rw (w.self-is, w.endings-is) (refl, omega arith)
-      | in-Touched w ↦ rw (w.self-is, w.endings-is) (refl, omega arith)
-      | in-Awaited w ↦ rw (w.self-is, w.endings-is, w.awaited-reply.ensures.left) (refl, few-earlier (Awaited w.in-Awaited.ticket) c.args.endings.now.told.items)
+      | in-Requested w ↦ rw (w.self-is, w.endings-is) (refl, omega arith)
+      | in-Awaited w ↦ rw (w.self-is, w.endings-is, w.awaited-reply.ensures.left) (refl, few-earlier (Awaited w.in-Awaited.ticket) c.args.endings.now.for_clients.items)
     ] in
-    let told : c.if-not-is_empty.endings.told ≡ c.match-answer.endings.told = elim c.if-not-is_empty.branch [
+    let for_clients : c.if-not-is_empty.endings.for_clients ≡ c.match-answer.endings.for_clients = elim c.if-not-is_empty.branch [
       | then-not-is_empty w ↦ rw w.endings-is refl
       | else-not-is_empty w ↦ rw w.endings-is refl
     ] in
-    omega (arith, ap (λ (m : DueEndings). vec_len m) told, ap (λ (m : DueEndings). vec_len m) left.0, ap (λ (m : DueEndings). vec_capacity m) left.0, left.1, c.requires.room, c.in_default-append.ensures.full)
+    omega (arith, ap (λ (m : DueEndings). vec_len m) for_clients, ap (λ (m : DueEndings). vec_len m) left.0, ap (λ (m : DueEndings). vec_capacity m) left.0, left.1, c.requires.room, c.in_default-append.ensures.full)
 
 pub returns-clause-reply : goal.returns-clause-reply
 returns-clause-reply c = λ ms.
@@ -28,6 +28,6 @@ returns-clause-reply c = λ ms.
     elim c.match-answer.branch [
       | in-Done w ↦ rw (w.reply-is, w.in-Done.is) refl
       | in-Dropped+in-Ok w ↦ rw (w.reply-is, w.in-Dropped.is) refl
-      | in-Touched w ↦ rw (w.reply-is, w.in-Touched.is) (w.show_reply-reply.ensures.reply s refl c.requires.known ∙ request-reply s c.args.endings.now.told.items w.in-Touched.holder w.in-Touched.request)
+      | in-Requested w ↦ rw (w.reply-is, w.in-Requested.is) (w.show_reply-reply.ensures.reply s refl c.requires.known ∙ request-reply s c.args.endings.now.for_clients.items w.in-Requested.holder w.in-Requested.request)
       | in-Awaited w ↦ rw (w.reply-is, w.in-Awaited.is) w.awaited-reply.ensures.reply
     ]

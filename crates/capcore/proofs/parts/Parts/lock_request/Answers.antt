@@ -1,16 +1,16 @@
 use Rattle.std.proofs.{Common.{Contains, Some, is_some, ◌≡◌, ◌+◌, ◌∷◌, [], length, None, refl, sym, ap, subst, ◌∙◌, arith}, lemmas.List.{length-append}, lemmas.List.Elements.{Contains-push}}
 use Rattle.std.specs.FinSet as set
-use Rattle.capcore.{proofs.Asked.{asked-for, asking-again, asking-direct, asking-rejection, asking-affects, below-of_ask, order-of_ask, room-left}, proofs.Begun.{one-begun}, proofs.Common.{Affected, AffectsOne, alike-less, Ask, ask_needs, ask_of, asking_tests, asks, Awaits, changes-still, direct, Endings, Event, found_by_number, Holder, InoSet, IsJudged, IsLockMap, judged_again, LockMap, next_request, one-counts, one-inode, rejection_of, Request, request_at, room-for, Scene, still-there, Ticket, view_of, waiting_tests, with_request}, specs.UnderWay.{asked_event, state_of}, specs.declared.parts.Answer.TheVariants.{Awaited}, specs.declared.parts.Parts.{Parts}}
+use Rattle.capcore.{proofs.LockRequests.{operation-for, enqueuing-again, enqueuing-direct, enqueuing-rejection, enqueuing-affects, below-of_operation, order-of_operation, room-left}, proofs.Begun.{one-begun}, proofs.Common.{Affected, AffectsOne, alike-less, Operation, operation_needs, operation_of, arrival_tests, enqueues, Awaits, changes-still, direct, Endings, Event, found_by_number, Holder, InoSet, IsJudged, IsLockMap, judged_again, LockMap, next_request, one-counts, one-inode, rejection_of, Request, request_at, room-for, Scene, still-there, Ticket, view_of, waiting_tests, with_request}, specs.UnderWay.{operation_event, state_of}, specs.declared.parts.Answer.TheVariants.{Awaited}, specs.declared.parts.Parts.{Parts}}
 use Rattle.capcore.proofs.parts.Parts.lock_request.Goals as goal
 
 pub enqueue_tested-ticket-requires-clause-room : goal.enqueue_tested-ticket-requires-clause-room
 enqueue_tested-ticket-requires-clause-room c =
     let s = c.args.self.now.scene in
     let k : Holder = c.args.holder in
-    let ask : Ask = ask_of c.args.asked in
-    let free : rejection_of s (asking_tests s k.client k.ino.0 ask) (ask_needs s k.client k.ino.0 ask) (waiting_tests s k.ino.0 ask) ≡ None =
-    sym (asking-rejection (asked_event k.client k.ino c.args.asked) k ask s (asked-for k.client k.ino c.args.asked)) ∙ c.requires.may.passed in
-    room-left s k ask free
+    let operation : Operation = operation_of c.args.operation in
+    let free : rejection_of s (arrival_tests s k.client k.ino.0 operation) (operation_needs s k.client k.ino.0 operation) (waiting_tests s k.ino.0 operation) ≡ None =
+    sym (enqueuing-rejection (operation_event k.client k.ino c.args.operation) k operation s (operation-for k.client k.ino c.args.operation)) ∙ c.requires.may.passed in
+    room-left s k operation free
 
 pub enqueue_tested-ticket-requires-clause-numbers : goal.enqueue_tested-ticket-requires-clause-numbers
 enqueue_tested-ticket-requires-clause-numbers c =
@@ -19,47 +19,47 @@ enqueue_tested-ticket-requires-clause-numbers c =
     omega (arith, given.last, left.2)
 
 -- it is judged on the tree of its arrival
-judged_once : (s : Scene) (k : Holder) (ask : Ask) (locks : LockMap) → locks ≡ with_request s.locks k.client k.ino ask → IsLockMap locks
-    → rejection_of s (asking_tests s k.client k.ino.0 ask) (ask_needs s k.client k.ino.0 ask) (waiting_tests s k.ino.0 ask) ≡ None
+judged_once : (s : Scene) (k : Holder) (operation : Operation) (locks : LockMap) → locks ≡ with_request s.locks k.client k.ino operation → IsLockMap locks
+    → rejection_of s (arrival_tests s k.client k.ino.0 operation) (operation_needs s k.client k.ino.0 operation) (waiting_tests s k.ino.0 operation) ≡ None
     → (ticket : Ticket) → ticket.0 ≡ s.locks.last + 1 → IsJudged (Some ticket) (record s { locks = locks })
-judged_once s k ask locks queued order free ticket next = λ t q own there.
-    let request : Request = next_request s.locks k.client k.ino ask in
+judged_once s k operation locks queued order free ticket next = λ t q own there.
+    let request : Request = next_request s.locks k.client k.ino operation in
     let same : ticket ≡ t = cc in
     let found = found_by_number locks request order (subst (λ (l : LockMap). Contains l.queue request) (sym queued) (Contains-push s.locks.queue request)) in
     let both : Some request ≡ Some q = sym found ∙ ap (request_at locks) (sym next ∙ ap (λ (n : Ticket). n.0) same) ∙ there in
     let itself : request ≡ q = cc in
-    subst (λ (r : Request). judged_again (record s { locks = locks }) r ≡ None) itself (asking-again s k ask free)
+    subst (λ (r : Request). judged_again (record s { locks = locks }) r ≡ None) itself (enqueuing-again s k operation free)
 
 pub returns-clause-begun : goal.returns-clause-begun
 returns-clause-begun c =
     let p : Parts = c.args.self.now in
     let k : Holder = c.args.holder in
-    let ask : Ask = ask_of c.args.asked in
-    let e : Event = asked_event k.client k.ino c.args.asked in
+    let operation : Operation = operation_of c.args.operation in
+    let e : Event = operation_event k.client k.ino c.args.operation in
     let may = c.requires.may in
     let locks : LockMap = c.enqueue_tested-ticket.new.self in
     let ticket = c.enqueue_tested-ticket.result in
     let q : Parts = record { scene = record p.scene { locks = locks }; known = p.known; messages = c.reserve.new.self } in
     let endings : Endings = record c.begin.new.self { changes = c.clear.new.self; judged = Some ticket } in
-    let queued : locks ≡ with_request p.scene.locks k.client k.ino ask = c.enqueue_tested-ticket.ensures.queued ∙ ap (with_request p.scene.locks k.client k.ino) c.in_ok-ask.ensures in
-    let by_itself : direct (state_of p) e ≡ asks (state_of p) k.client k.ino ask = asking-direct (state_of p) e k ask (asked-for k.client k.ino c.args.asked) may.passed in
-    let free : rejection_of p.scene (asking_tests p.scene k.client k.ino.0 ask) (ask_needs p.scene k.client k.ino.0 ask) (waiting_tests p.scene k.ino.0 ask) ≡ None =
-    sym (asking-rejection e k ask p.scene (asked-for k.client k.ino c.args.asked)) ∙ may.passed in
+    let queued : locks ≡ with_request p.scene.locks k.client k.ino operation = c.enqueue_tested-ticket.ensures.queued ∙ ap (with_request p.scene.locks k.client k.ino) c.in_ok-copy.ensures in
+    let by_itself : direct (state_of p) e ≡ enqueues (state_of p) k.client k.ino operation = enqueuing-direct (state_of p) e k operation (operation-for k.client k.ino c.args.operation) may.passed in
+    let free : rejection_of p.scene (arrival_tests p.scene k.client k.ino.0 operation) (operation_needs p.scene k.client k.ino.0 operation) (waiting_tests p.scene k.ino.0 operation) ≡ None =
+    sym (enqueuing-rejection e k operation p.scene (operation-for k.client k.ino c.args.operation)) ∙ may.passed in
     let next = c.enqueue_tested-ticket.ensures.ticket in
     let queue : length locks.queue ≡ length p.scene.locks.queue + 1 =
-    ap (λ (l : LockMap). length l.queue) queued ∙ length-append p.scene.locks.queue (next_request p.scene.locks k.client k.ino ask ∷ []) in
-    let order : IsLockMap locks = subst IsLockMap (sym queued) (order-of_ask p.scene k ask may.order free) in
+    ap (λ (l : LockMap). length l.queue) queued ∙ length-append p.scene.locks.queue (next_request p.scene.locks k.client k.ino operation ∷ []) in
+    let order : IsLockMap locks = subst IsLockMap (sym queued) (order-of_operation p.scene k operation may.order free) in
     let begun = c.in_ok-begin.ensures in
     let none = ap length c.clear.ensures.items in
     let one = ap (λ (inos : InoSet). set.len inos) c.of.ensures ∙ one-counts k.ino.0 in
     let left = ap length c.reserve.ensures.items in
-    one-begun p q endings e k may (asks (state_of p) k.client k.ino ask) by_itself (refl, refl) (λ count given. below-of_ask count (state_of p) k ask given)
+    one-begun p q endings e k may (enqueues (state_of p) k.client k.ino operation) by_itself (refl, refl) (λ count given. below-of_operation count (state_of p) k operation given)
     (λ i. record p.scene { locks = queued i }) c.reserve.ensures.items
     (Affected.Inodes c.of.result) (Awaited ticket) (ap set.contains c.of.ensures ∙ one-inode k.ino.0) (ap (λ n. Awaits (record { 0 = n })) next) refl (next, ap (λ (l : LockMap). l.last) queued)
-    (subst (λ (l : LockMap). AffectsOne k.ino.0 (state_of p) (record p.scene { locks = l })) (sym queued) (asking-affects (state_of p) k ask may.whole.0 may.table free)) may.table
+    (subst (λ (l : LockMap). AffectsOne k.ino.0 (state_of p) (record p.scene { locks = l })) (sym queued) (enqueuing-affects (state_of p) k operation may.whole.0 may.table free)) may.table
     (still-there p.scene.table p.scene.table p.known.sets p.known.sets (λ j f there. ap is_some there) (λ j f there. refl)) may.whole.2.1 (alike-less p.scene.table p.scene.table (λ j f there. (f, there, refl))) order
     (room-for c.begin.new.self endings.changes (Some ticket) (c.waiting-waiting.result + 1) (length locks.queue) begun.room (omega (arith, queue, c.waiting-waiting.ensures.waiting)))
-    (judged_once p.scene k ask locks queued order free ticket next)
+    (judged_once p.scene k operation locks queued order free ticket next)
     (omega (arith, none, one, queue, begun.places, c.clear.ensures.room, c.waiting-waiting.ensures.waiting))
     (omega (arith, queue, left, c.in_default.ensures.ok, c.waiting-waiting.ensures.waiting))
     tt (changes-still endings.changes.items (view_of (state_of p)) c.clear.ensures.items)

@@ -1,6 +1,6 @@
 use Rattle.std.proofs.Common.{◌≡◌, ◌+◌, ◌++◌, ◌∷◌, [], List, length, refl, ap, sym, subst, ◌∙◌}
 use Rattle.capsteps.{proofs.Placed.{all-revoked}, specs.Caprules.History.{made_row}}
-use Rattle.capcore.{proofs.Apart.{held-apart}, proofs.Bounded.{direct-order, moves-bounded, by-moves}, proofs.Common.{AreBounded, direct, EachServing, IsAnswered, IsSound, Recorded, recorded, Reply, Row, rows_of, ServedByName, ServedDenied, ShowsWhatIsTold, State, Step, step-shown}, proofs.Growing.{more-told, replays-more}, proofs.Kept.{IsKept, recorded-kept}, proofs.OtherLocks.{other-locks}, proofs.Promised.{denied-exactly, denies-by_name, rejection-unchanged}, proofs.Servings.{served-denied, served-by_name}, proofs.ShownWords.{takes-only_so, shows-told, shows-permitted, all-takes_unshown}, proofs.step.Core.apply.Goals.{In-Ok}, specs.Promised.{IsPromised}}
+use Rattle.capcore.{proofs.Apart.{held-apart}, proofs.Bounded.{direct-order, moves-bounded, by-moves}, proofs.Common.{AreBounded, direct, EachServing, IsAnswered, IsSound, Recorded, recorded, Reply, Row, rows_of, ServedByName, ServedDenied, ShowsWhatIsTold, State, Step, step-shown}, proofs.Growing.{more-recorded, replays-more}, proofs.Kept.{IsKept, recorded-kept}, proofs.OtherLocks.{other-locks}, proofs.Promised.{denied-exactly, denies-by_name, rejection-unchanged}, proofs.Servings.{served-denied, served-by_name}, proofs.ShownWords.{takes-only_so, shows-told, shows-permitted, all-takes_unshown}, proofs.step.Core.apply.Goals.{In-Ok}, specs.Promised.{IsPromised}}
 use Rattle.capcore.proofs.step.Core.apply.Goals as goal
 
 pub step-requires-clause-table : goal.step-requires-clause-table
@@ -17,10 +17,10 @@ answered_of c = c.in_ok-reply.ensures.answered
 step_of : (c : In-Ok) → Step c.self.inside.world c.args.event c.in_ok-reply.field-0.reply c.in_ok-reply.field-0.ended c.step.new.self
 step_of c = let all = answered_of c in all.step
 
-kept_step : (c : In-Ok) → Step c.self.inside.world c.args.event c.in_ok-reply.field-0.kept c.in_ok-reply.field-0.ended c.step.new.self
-kept_step c =
+step_for_history : (c : In-Ok) → Step c.self.inside.world c.args.event c.in_ok-reply.field-0.for_history c.in_ok-reply.field-0.ended c.step.new.self
+step_for_history c =
     let all = answered_of c in
-    subst (λ (answer : Reply). Step c.self.inside.world c.args.event answer c.in_ok-reply.field-0.ended c.step.new.self) (sym all.kept) all.step
+    subst (λ (answer : Reply). Step c.self.inside.world c.args.event answer c.in_ok-reply.field-0.ended c.step.new.self) (sym all.for_history) all.step
 
 -- the world has its entries and requests in order before the step
 kept_of : (c : In-Ok) → IsKept c.self.inside.world
@@ -32,12 +32,12 @@ next c = let all = answered_of c in all.sound
 
 -- its row, which comes last
 abbrev row_of : In-Ok → Row
-row_of c = record { pass = c.args.pass; nth = c.in_ok-nth.nth; event = c.args.event; reply = c.in_ok-reply.field-0.kept; ended = c.in_ok-reply.field-0.ended }
+row_of c = record { pass = c.args.pass; nth = c.in_ok-nth.nth; event = c.args.event; reply = c.in_ok-reply.field-0.for_history; ended = c.in_ok-reply.field-0.ended }
 
 row_is : (c : In-Ok) → row_of c ≡ made_row c.args.pass (rows_of c.args.pass c.self.inside.rows.items + 1) c.args.event c.in_ok-reply.field-0.reply c.in_ok-reply.field-0.ended
 row_is c =
     let all = answered_of c in
-    λ i. record { pass = c.args.pass; nth = c.in_ok-nth.ensures.number i; event = c.args.event; reply = all.kept i; ended = c.in_ok-reply.field-0.ended }
+    λ i. record { pass = c.args.pass; nth = c.in_ok-nth.ensures.number i; event = c.args.event; reply = all.for_history i; ended = c.in_ok-reply.field-0.ended }
 
 added : (c : In-Ok) → c.push.new.self.items ≡ c.self.inside.rows.items ++ row_of c ∷ []
 added c = c.in-Ok.ensures.items ∙ ap (λ rows. rows ++ row_of c ∷ []) c.make_room.ensures.items
@@ -45,16 +45,16 @@ added c = c.in-Ok.ensures.items ∙ ap (λ rows. rows ++ row_of c ∷ []) c.make
 pub invariant_of-self-2 : goal.invariant_of-self-2
 invariant_of-self-2 c =
     let row : Row = row_of c in
-    let step : Step c.self.inside.world row.event row.reply row.ended c.step.new.self = kept_step c in
+    let step : Step c.self.inside.world row.event row.reply row.ended c.step.new.self = step_for_history c in
     let all = answered_of c in
     rw (c.in-Ok.ensures.items, c.make_room.ensures.items)
-    (more-told (recorded c.self.inside.world c.self.inside.rows.items c.self.inside.max_rows c.self.inside.endings.changes.items) row c.step.new.self c.step.new.endings.changes.items c.self.invariant step c.in_ok-nth.ensures.number c.in_ok-nth.ensures.room.0
+    (more-recorded (recorded c.self.inside.world c.self.inside.rows.items c.self.inside.max_rows c.self.inside.endings.changes.items) row c.step.new.self c.step.new.endings.changes.items c.self.invariant step c.in_ok-nth.ensures.number c.in_ok-nth.ensures.room.0
     (kept_of c).0 all.sound (all.given (length c.self.inside.rows.items) c.self.invariant.given))
 
 shows_told : (c : In-Ok) → ShowsWhatIsTold (c.self.inside.rows.items ++ row_of c ∷ []) c.step.new.self.scene
 shows_told c =
     shows-told (c.self.inside.rows.items ++ row_of c ∷ []) c.step.new.self (next c)
-    (step-shown c.self.inside.world c.step.new.self c.self.inside.rows.items (row_of c) c.self.invariant.sound (kept_of c).0 c.self.invariant.shown (kept_step c))
+    (step-shown c.self.inside.world c.step.new.self c.self.inside.rows.items (row_of c) c.self.invariant.sound (kept_of c).0 c.self.invariant.shown (step_for_history c))
 
 -- what the core was, and what it is with these rows
 abbrev before : In-Ok → Recorded
@@ -106,7 +106,7 @@ promised c =
       sound = sound;
       at_rest = sound.at_rest;
       unchanged = rejection-unchanged old event reply ended new one c.self.invariant.sound locks table;
-      legal = λ first past. replays-more first rows old (row_of c) new past (kept_step c);
+      legal = λ first past. replays-more first rows old (row_of c) new past (step_for_history c);
       changes = c.in_ok-reply.ensures.changes;
     }
 

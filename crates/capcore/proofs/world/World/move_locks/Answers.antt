@@ -8,9 +8,9 @@ use Rattle.capcore.proofs.world.World.move_locks.Goals as goal
 pub returns-in-Some-clause-answered : goal.returns-in-Some-clause-answered
 returns-in-Some-clause-answered c =
     let s = c.args.self.now in
-    rejection-answered s (event_of c.args.asking.now) c.in-Some.rejection c.alone.result (subst IsSound c.self.view_is c.self.invariant.0) c.requires.table
-    (judged-at _ s (event_of c.args.asking.now) c.rejection.result c.self.view_is (c.rejection.ensures c.self.invariant.2.0) ∙ c.in-Some.is)
-    (c.alone.ensures.reply ∙ c.into_reply.ensures.reply) (c.alone.ensures.kept ∙ sym c.alone.ensures.reply) c.alone.ensures.ended
+    rejection-answered s (event_of c.args.moving.now) c.in-Some.rejection c.alone.result (subst IsSound c.self.view_is c.self.invariant.0) c.requires.table
+    (judged-at _ s (event_of c.args.moving.now) c.rejection.result c.self.view_is (c.rejection.ensures c.self.invariant.2.0) ∙ c.in-Some.is)
+    (c.alone.ensures.reply ∙ c.into_reply.ensures.reply) (c.alone.ensures.for_history ∙ sym c.alone.ensures.reply) c.alone.ensures.ended
 
 pub returns-in-Some-clause-changes : goal.returns-in-Some-clause-changes
 returns-in-Some-clause-changes c = changes-still c.clear.new.self.items (view_of c.args.self.now) c.clear.ensures.items
@@ -46,11 +46,11 @@ module _ (c : After-end) where
   abbrev endings : Endings
   endings = c.begin.new.endings
 
-  abbrev told : List Ended
-  told = c.end.new.endings.told.items
+  abbrev for_clients : List Ended
+  for_clients = c.end.new.endings.for_clients.items
 
   abbrev e : Event
-  e = event_of c.args.asking.now
+  e = event_of c.args.moving.now
 
   abbrev effect : Effect
   effect = c.in_ok-affected.field-0
@@ -68,16 +68,16 @@ module _ (c : After-end) where
   begun = c.in_ok-affected.ensures.begun
 
   kept : AreKept last.known.sets last.scene
-  kept = let ends = c.end.ensures.ends in (ended-known p q endings e effect may begun last.known.sets last.scene told ends, ends.permitted)
+  kept = let ends = c.end.ensures.ends in (ended-known p q endings e effect may begun last.known.sets last.scene for_clients ends, ends.permitted)
 
 pub close-requires : goal.close-requires
 close-requires g =
     let c = (goal.at.close-requires g).After-end in
     record {
-      differ = ended-numbers (p c) (q c) (endings c) (e c) (effect c) (may c) (begun c) (last c).known.sets (last c).scene (told c) c.end.ensures.ends;
-      same = c.end.ensures.kept;
+      differ = ended-numbers (p c) (q c) (endings c) (e c) (effect c) (may c) (begun c) (last c).known.sets (last c).scene (for_clients c) c.end.ensures.ends;
+      same = c.end.ensures.for_history;
       room = omega (arith, c.end.ensures.count, (begun c).room);
-      places = fewer-places (effect c).answer (length (q c).scene.locks.queue) (length (told c)) (omega (arith, c.end.ensures.count)) (begun c).places;
+      places = fewer-places (effect c).answer (length (q c).scene.locks.queue) (length (for_clients c)) (omega (arith, c.end.ensures.count)) (begun c).places;
       known = (kept c).0;
     }
 
@@ -89,7 +89,7 @@ module _ (g : After-close) where
   new = g.close.new.self
 
   abbrev left : List Ended
-  left = (q c).messages.items ++ earlier_of (effect c).answer (told c)
+  left = (q c).messages.items ++ earlier_of (effect c).answer (for_clients c)
 
   abbrev closed : State
   closed = record { scene = (last c).scene; messages = left }
@@ -105,8 +105,8 @@ module _ (g : After-close) where
 
   whole : IsAnswered (state_of (p c)) (e c) g.close.result (state_of new)
   whole =
-      ended-answered (p c) (q c) (endings c) (e c) (effect c) (may c) (begun c) (last c).known.sets (last c).scene (told c) g.end.ensures.ends g.close.result (state_of new)
-      (g.close.ensures.reply left) g.close.ensures.kept g.close.ensures.ended new_is
+      ended-answered (p c) (q c) (endings c) (e c) (effect c) (may c) (begun c) (last c).known.sets (last c).scene (for_clients c) g.end.ensures.ends g.close.result (state_of new)
+      (g.close.ensures.reply left) g.close.ensures.for_history g.close.ensures.ended new_is
 
 pub returns-clause-answered : goal.returns-clause-answered
 returns-clause-answered g = subst (λ (s : State). IsAnswered s (e (c g)) g.close.result (state_of (new g))) g.self.view_is (whole g)
@@ -114,8 +114,8 @@ returns-clause-answered g = subst (λ (s : State). IsAnswered s (e (c g)) g.clos
 pub invariant_of-self-2 : goal.invariant_of-self-2
 invariant_of-self-2 g =
     let w = whole g in
-    let items = ap length (items g) ∙ length-append (q (c g)).messages.items (earlier_of (effect (c g)).answer (told (c g))) in
-    let few = few-earlier (effect (c g)).answer (told (c g)) in
+    let items = ap length (items g) ∙ length-append (q (c g)).messages.items (earlier_of (effect (c g)).answer (for_clients (c g))) in
+    let few = few-earlier (effect (c g)).answer (for_clients (c g)) in
     let queue = ap (λ (s : Scene). length s.locks.queue) (rest g) in (
       w.sound,
       omega (arith, items, few, queue, g.close.ensures.room, g.end.ensures.count, (begun (c g)).room),

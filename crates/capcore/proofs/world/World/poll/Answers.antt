@@ -13,7 +13,7 @@ returns-in-Some-clause-answered c =
     ap (λ (w : State). first_failing (session_tests w.scene.sessions c.args.client.0)) (sym c.self.view_is) ∙ sym c.session_refusal.ensures ∙ c.in-Some.is in
     rejection-answered s (Event.Poll c.args.client c.args.max) (ByTest c.in-Some.refusal) c.alone.result sound c.requires.table
     (rejection-before s.scene (session_tests s.scene.sessions c.args.client.0) [] [] c.in-Some.refusal failed)
-    c.alone.ensures.reply (c.alone.ensures.kept ∙ sym c.alone.ensures.reply) c.alone.ensures.ended
+    c.alone.ensures.reply (c.alone.ensures.for_history ∙ sym c.alone.ensures.reply) c.alone.ensures.ended
 
 -- ---- an open session
 
@@ -27,13 +27,13 @@ module _ (c : After-drop-told) where
   new = record { scene = record old.scene { table = c.skip_quiet.new.self }; messages = c.remove_given.new.due.items }
 
   abbrev said : Said
-  said = record { reply = Reply.Messages c.in_ok-given.given; kept = Reply.Messages c.in_ok-kept.kept; ended = c.new.result }
+  said = record { reply = Reply.Messages c.in_ok-given.given; for_history = Reply.Messages c.in_ok-for_history.for_history; ended = c.new.result }
 
   first : c.in_ok-given.given ≡ first_messages old c.args.client c.args.max
   first = c.in_ok-given.ensures old refl refl c.self.invariant.2.0 (sym c.as_slice-ended.ensures.value)
 
-  same : c.in_ok-kept.kept ≡ c.in_ok-given.given
-  same = c.in_ok-kept.ensures ∙ c.as_slice.ensures
+  same : c.in_ok-for_history.for_history ≡ c.in_ok-given.given
+  same = c.in_ok-for_history.ensures ∙ c.as_slice.ensures
 
   kept_items : c.remove_given.new.due.items ≡ filter (is_left c.args.client c.in_ok-given.given) old.messages
   kept_items =

@@ -12,12 +12,12 @@ module _ (c : After-new) where
   new = with_table old c.recall.new.self
 
   abbrev said : Said
-  said = record { reply = Reply.Recalled c.in_ok-named.named; kept = Reply.Recalled c.in_ok-kept.kept; ended = c.new.result }
+  said = record { reply = Reply.Recalled c.in_ok-named.named; for_history = Reply.Recalled c.in_ok-for_history.for_history; ended = c.new.result }
 
   whole : IsAnswered old (Event.Recall c.args.count) said new
   whole =
       subst (λ t. IsAnswered old (Event.Recall c.args.count) said (with_table old t)) (sym c.in_ok-named.ensures.ok)
-      (recall-answered old c.self.invariant.0 c.args.count said c.first_to_recall.ensures.sound (ap Reply.Recalled c.in_ok-named.ensures.named) (ap Reply.Recalled c.in_ok-kept.ensures.named) c.new.ensures)
+      (recall-answered old c.self.invariant.0 c.args.count said c.first_to_recall.ensures.sound (ap Reply.Recalled c.in_ok-named.ensures.named) (ap Reply.Recalled c.in_ok-for_history.ensures.named) c.new.ensures)
 
 pub invariant_of-self : goal.invariant_of-self
 invariant_of-self c = rw c.in_err-named.ensures.err c.self.invariant

@@ -12,13 +12,13 @@ held : (g : Over) (c : goal.After-sessions g) → IsHeld c.self.inside.core c.se
 held g c = held_of c.self.inside.publisher c.take.result c.in-Some.publisher (IsHeld c.self.inside.core c.self.inside.calls.total) c.self.invariant.3 c.take.ensures.value c.in-Some.is
 
 pub mend-requires-clause-legal : goal.mend-requires-clause-legal
-mend-requires-clause-legal g c = legal_of g.L.Server.opening c.self.inside.core c.history.result.now c.self.invariant.2.replays c.history.ensures.told c.history.ensures.rows
+mend-requires-clause-legal g c = legal_of g.L.Server.opening c.self.inside.core c.history.result.now c.self.invariant.2.replays c.history.ensures.recorded c.history.ensures.rows
 
 pub mend-requires-clause-begins : goal.mend-requires-clause-begins
 mend-requires-clause-begins g c = subst (IsPrefix c.in-Some.publisher.rows) (sym c.history.ensures.rows) (held g c).begins
 
 pub mend-requires-clause-room : goal.mend-requires-clause-room
-mend-requires-clause-room g c = room_of c.self.inside.core c.history.result.now (held g c).room c.history.ensures.told c.history.ensures.rows
+mend-requires-clause-room g c = room_of c.self.inside.core c.history.result.now (held g c).room c.history.ensures.recorded c.history.ensures.rows
 
 pub publish-publisher-requires : goal.publish-publisher-requires
 publish-publisher-requires g c =
@@ -27,7 +27,7 @@ publish-publisher-requires g c =
     let calls = c.self.inside.calls.total in
     let mended = held_mended core calls c.self.inside.publisher c.take.result c.in-Some.publisher c.mend.new.self c.history.result.now (record { tree = c.tree.result.now; sessions = c.sessions.result.now.sessions })
     c.self.invariant.3 c.take.ensures.value c.in-Some.is c.history.ensures.rows (λ i. record { tree = c.tree.ensures i; sessions = (c.sessions.ensures i).sessions }) c.mend.ensures.begins c.mend.ensures.kept c.mend.ensures.rows c.mend.ensures.view in
-    ready_of o core calls c.mend.new.self c.self.invariant.2.replays mended c.history.ensures.told.legal.numbered
+    ready_of o core calls c.mend.new.self c.self.invariant.2.replays mended c.history.ensures.recorded.legal.numbered
 
 pub invariant_of-self : goal.invariant_of-self
 invariant_of-self g c =

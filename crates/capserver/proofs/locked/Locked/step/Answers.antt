@@ -22,7 +22,7 @@ returns-clause-promised g c =
 pub follow-requires-clause-legal : goal.follow-requires-clause-legal
 follow-requires-clause-legal g c =
     let o = g.L.Server.opening in
-    legal_of o c.make.new.core c.history.result.now (c.in_ok-reply.ensures.promised.legal o c.self.invariant.2.replays) c.history.ensures.told c.history.ensures.rows
+    legal_of o c.make.new.core c.history.result.now (c.in_ok-reply.ensures.promised.legal o c.self.invariant.2.replays) c.history.ensures.recorded c.history.ensures.rows
 
 pub follow-requires-clause-begins : goal.follow-requires-clause-begins
 follow-requires-clause-begins g c =
@@ -33,7 +33,7 @@ follow-requires-clause-begins g c =
 pub follow-requires-clause-room : goal.follow-requires-clause-room
 follow-requires-clause-room g c =
     let held = subst (λ (q : Option Publishing). MatchOption q ⊥ (IsHeld c.self.inside.core c.self.inside.calls.total)) (sym c.as_mut.ensures.value ∙ ap option_copied_mut c.in-Some.is) c.self.invariant.3 in
-    room_of c.make.new.core c.history.result.now (subst (λ (n : ℕ). n ≤ 4294967295) (sym c.in_ok-reply.ensures.promised.next.max_rows) held.room) c.history.ensures.told c.history.ensures.rows
+    room_of c.make.new.core c.history.result.now (subst (λ (n : ℕ). n ≤ 4294967295) (sym c.in_ok-reply.ensures.promised.next.max_rows) held.room) c.history.ensures.recorded c.history.ensures.rows
 
 pub invariant_of-self-2 : goal.invariant_of-self-2
 invariant_of-self-2 g c =

@@ -12,7 +12,7 @@ use Rattle.captable.specs.Nodes.{SetsEntry, IsKeyOf, table_of}
 use Rattle.captable.specs.Polls.{places_of, counts_of, recounted}
 use Rattle.captable.specs.Calls.{changed, is_due_entry}
 use Rattle.captable.specs.Edits.{edited}
-use Rattle.captable.specs.Kept.{Kept}
+use Rattle.captable.specs.Linked.{IsLinked}
 use Rattle.captable.specs.Places.{lowered, is_due_at}
 use Rattle.captable.proofs.Changes.{put_found, none_found}
 use Rattle.captable.proofs.Counting.{count-fits, counted-same}
@@ -22,7 +22,7 @@ use Rattle.captable.proofs.Placed.{placed-set, placed-alike, placed-same, quiet-
 use Rattle.captable.proofs.Polled.{if_part, places-changed, places-kept, counts-changed, counts-kept, counts-placed}
 use Rattle.captable.proofs.Quiet.{quiet-set, quiet-due}
 use Rattle.captable.proofs.Reading.{entry-found, entry-none, node-there}
-use Rattle.captable.proofs.Setting.{Kept-put, table-put}
+use Rattle.captable.proofs.Setting.{IsLinked-put, table-put}
 use Rattle.captable.proofs.table.CapTable.edit.Goals as goal
 use Rattle.captable.proofs.table.CapTable.edit.Goals.{Joined-is, then-is, else-is}
 
@@ -38,9 +38,9 @@ returns-in_err-key-clause-changed c =
     (ap (λ t. entry_at t h) (sym c.self.view_is) ∙ entry-none c.self.inside.lists c.self.inside.made c.self.invariant.0 h c.in_err-key.ensures.none)
 
 -- the node that is found tells the holder's entry
-found_there : (t : Lists Slot) (made : ℕ) (kept : Kept t made) (now : Table) (h : Holder) (key : ℕ) (n : Node Slot) → table_of t made ≡ now → IsKeyOf t h key → Some n ≡ node_at t key
+found_there : (t : Lists Slot) (made : ℕ) (linked : IsLinked t made) (now : Table) (h : Holder) (key : ℕ) (n : Node Slot) → table_of t made ≡ now → IsKeyOf t h key → Some n ≡ node_at t key
     → Some n.value.entry ≡ entry_at now h
-found_there t made kept now h key n is found there = sym (entry-found t made kept h key n found (sym there)) ∙ ap (λ t. entry_at t h) is
+found_there t made linked now h key n is found there = sym (entry-found t made linked h key n found (sym there)) ∙ ap (λ t. entry_at t h) is
 
 pub edited-entry-requires : goal.edited-entry-requires
 edited-entry-requires c = λ numbering.
@@ -71,12 +71,12 @@ invariant_of-self c =
     let x = c.edited-entry.result in
     let found : IsKeyOf t h key = c.in_ok-key.ensures.found in
     let sets : SetsEntry t c.set_entry.new.lists key x = c.set_entry.ensures.there (node-there t made c.self.invariant.0 h key found) in
-    let kept : Kept c.set_entry.new.lists made = Kept-put t c.set_entry.new.lists made h key x c.self.invariant.0 found sets c.set_entry.ensures.sound in
+    let linked : IsLinked c.set_entry.new.lists made = IsLinked-put t c.set_entry.new.lists made h key x c.self.invariant.0 found sets c.set_entry.ensures.sound in
     let o = held t made c.self.invariant.0 h key found in
     let same_places = places-kept m h.client n (recounted c.is_due.result c.is_due-is.result) c.count_again.ensures in
     let places = places-changed n h.client l (lowered c.set_entry.new.lists key) c.lower_place.ensures in (
-      kept,
-      quiet-due t c.set_entry.new.lists key x sets (places_of n) (quiet-same t (places_of m) (places_of n) same_places c.self.invariant.1) c.self.invariant.0.sound kept.ordered
+      linked,
+      quiet-due t c.set_entry.new.lists key x sets (places_of n) (quiet-same t (places_of m) (places_of n) same_places c.self.invariant.1) c.self.invariant.0.sound linked.ordered
           h.client o.0 o.1.there (ap (λ (q : Holder). q.client) o.2) (places_of l) places,
       placed-set t c.set_entry.new.lists key x sets h.client (lowered c.set_entry.new.lists key) (places_of n) (places_of l) places
           (placed-same t (places_of m) (places_of n) same_places c.self.invariant.2),
@@ -100,7 +100,7 @@ invariant_of-self-else-is c =
     let sets : SetsEntry t c.set_entry.new.lists key x = c.set_entry.ensures.there (node-there t made c.self.invariant.0 h key found) in
     let o = held t made c.self.invariant.0 h key found in
     let same_places = places-kept m h.client n (recounted c.is_due.result c.is_due-is.result) c.count_again.ensures in (
-      Kept-put t c.set_entry.new.lists made h key x c.self.invariant.0 found sets c.set_entry.ensures.sound,
+      IsLinked-put t c.set_entry.new.lists made h key x c.self.invariant.0 found sets c.set_entry.ensures.sound,
       quiet-set t c.set_entry.new.lists key x sets (places_of n) (quiet-same t (places_of m) (places_of n) same_places c.self.invariant.1) (sym c.is_due-is.ensures ∙ c.if-is.false),
       placed-alike t c.set_entry.new.lists (places_of m) (places_of n) (λ q. sets.lists (OfClient q)) (λ q. ap is_some (same_places q)) c.self.invariant.2,
       counted-put t c.set_entry.new.lists made h key c.self.invariant.0 found o.0 o.1.there o.2 (counts_of m) (counts_of n) c.is_due.result c.is_due-is.result

@@ -4,14 +4,14 @@ use Rattle.captable.specs.declared.entry.Slot.{Slot}
 use Rattle.captable.specs.Nodes.{table_of}
 use Rattle.captable.specs.Polls.{places_of, counts_of}
 use Rattle.captable.proofs.Counting.{AreCounted-empty}
-use Rattle.captable.proofs.Empty.{Kept-empty, AreQuiet-empty}
+use Rattle.captable.proofs.Empty.{IsLinked-empty, AreQuiet-empty}
 use Rattle.captable.proofs.Placed.{ArePlaced-empty}
 use Rattle.captable.proofs.Polled.{part-none}
 use Rattle.captable.proofs.table.CapTable.new.Goals as goal
 
 pub invariant_of-result : goal.invariant_of-result
 invariant_of-result c = (
-  Kept-empty c.in_ok-lists.lists c.in_ok-lists.ensures,
+  IsLinked-empty c.in_ok-lists.lists c.in_ok-lists.ensures,
   AreQuiet-empty c.in_ok-lists.lists (places_of c.new-polls.result) (part-none (λ poll. poll.place) c.new-polls.result c.new-polls.ensures),
   ArePlaced-empty c.in_ok-lists.lists (places_of c.new-polls.result) c.in_ok-lists.ensures (part-none (λ poll. poll.place) c.new-polls.result c.new-polls.ensures),
   AreCounted-empty (table_of c.in_ok-lists.lists 0).rows (counts_of c.new-polls.result) (ap (λ (t : Lists Slot). (table_of t 0).rows) c.in_ok-lists.ensures)

@@ -9,7 +9,7 @@ use Rattle.captable.specs.Nodes.{table_of}
 use Rattle.captable.specs.Table.{Table, holder, entry_at}
 use Rattle.captable.specs.Calls.{opened, new_entry, is_due_entry}
 use Rattle.captable.specs.Tests.{open_tests}
-use Rattle.captable.specs.Kept.{Kept}
+use Rattle.captable.specs.Linked.{IsLinked}
 use Rattle.captable.specs.Places.{AreQuiet, ArePlaced}
 use Rattle.captable.specs.Polls.{Polls, AreCounted, places_of, counts_of, begun, ended}
 use Rattle.captable.proofs.Counting.{counted-more}
@@ -17,7 +17,7 @@ use Rattle.captable.proofs.Placed.{quiet-begun, placed-begun, begun-there}
 use Rattle.captable.proofs.Polled.{begun_at, part-begun, part-there, begun-back}
 use Rattle.captable.proofs.Quiet.{quiet-added}
 use Rattle.captable.proofs.Reading.{refused-alike}
-use Rattle.captable.proofs.Opening.{Kept-more, table-more}
+use Rattle.captable.proofs.Opening.{IsLinked-more, table-more}
 use Rattle.captable.proofs.table.CapTable.open_entry_tested.Goals as goal
 
 pub add_node-added-requires-clause-passed : goal.add_node-added-requires-clause-passed
@@ -28,7 +28,7 @@ pub invariant_of-self : goal.invariant_of-self
 invariant_of-self c =
     let t = c.self.inside.lists in
     let made = c.self.inside.made in
-    subst (λ (m : Polls). Kept t made × AreQuiet t (places_of m) × ArePlaced t (places_of m) × AreCounted (table_of t made).rows (counts_of m)) (sym c.in_err-begin_poll.ensures.err) (
+    subst (λ (m : Polls). IsLinked t made × AreQuiet t (places_of m) × ArePlaced t (places_of m) × AreCounted (table_of t made).rows (counts_of m)) (sym c.in_err-begin_poll.ensures.err) (
       c.self.invariant.0,
       c.self.invariant.1,
       c.self.invariant.2,
@@ -46,8 +46,8 @@ invariant_of-self-in_default c =
     c.end_poll.ensures ∙ ap (λ (n : Polls). ended (slice_get (keys c.add_node-added.new.lists (OfClient client)) 0) n client) c.in_ok-begin_poll.ensures.ok
     ∙ ap (λ (u : Lists Slot). ended (slice_get (keys u (OfClient client)) 0) (begun m client) client) c.in_default.ensures.err
     ∙ begun-back m client (slice_get (keys t (OfClient client)) 0) (part-there (λ (poll : Poll). poll.place) (map.get m client.0) ∙ c.self.invariant.2 client) in
-    subst (λ (u : Lists Slot). Kept u made × AreQuiet u (places_of left) × ArePlaced u (places_of left) × AreCounted (table_of u made).rows (counts_of left)) (sym c.in_default.ensures.err)
-    (subst (λ (m : Polls). Kept t made × AreQuiet t (places_of m) × ArePlaced t (places_of m) × AreCounted (table_of t made).rows (counts_of m)) (sym again) (
+    subst (λ (u : Lists Slot). IsLinked u made × AreQuiet u (places_of left) × ArePlaced u (places_of left) × AreCounted (table_of u made).rows (counts_of left)) (sym c.in_default.ensures.err)
+    (subst (λ (m : Polls). IsLinked t made × AreQuiet t (places_of m) × ArePlaced t (places_of m) × AreCounted (table_of t made).rows (counts_of m)) (sym again) (
       c.self.invariant.0,
       c.self.invariant.1,
       c.self.invariant.2,
@@ -71,7 +71,7 @@ invariant_of-self-2 c =
     let rows = (table_of t made).rows in
     let more : table_of t' (made + 1) ≡ opened (table_of t made) h =
     table-more t t' made key x c.self.invariant.0 c.in-Ok.ensures.ok c.new-entry.ensures refl new in (
-      Kept-more t t' made key x c.self.invariant.0 c.in-Ok.ensures.ok c.new-entry.ensures refl new c.in-Ok.ensures.sound
+      IsLinked-more t t' made key x c.self.invariant.0 c.in-Ok.ensures.ok c.new-entry.ensures refl new c.in-Ok.ensures.sound
           (ap (λ t. first_failing (open_tests t)) c.self.view_is ∙ c.requires.passed),
       quiet-added t t' key x c.in-Ok.ensures.ok (ap is_due_entry c.new-entry.ensures) (places_of n) (quiet-begun t client (places_of m) (places_of n) places c.self.invariant.2 c.self.invariant.1),
       placed-begun t client (begun_at None) (begun-there None) (places_of m) (places_of n) places t' key x c.in-Ok.ensures.ok refl c.self.invariant.2,

@@ -9,7 +9,7 @@ use Rattle.cap_arena.specs.Lists.{OfClient, keys}
 use Rattle.captable.specs.declared.entry.Holder.{Holder}
 use Rattle.captable.specs.Table.{IsTable, entry_at}
 use Rattle.captable.specs.Calls.{without}
-use Rattle.captable.specs.Kept.{Kept}
+use Rattle.captable.specs.Linked.{IsLinked}
 use Rattle.captable.specs.Nodes.{IsKeyOf, table_of}
 use Rattle.captable.specs.Places.{same_client, AreQuiet, moved_on}
 use Rattle.captable.specs.Polls.{places_of, counts_of, recounted}
@@ -22,7 +22,7 @@ use Rattle.captable.proofs.Placed.{quiet-ended, placed-removed}
 use Rattle.captable.proofs.Polled.{if_part, part-ended, places-changed, places-kept, counts-changed, counts-kept, counts-placed}
 use Rattle.captable.proofs.Quiet.{quiet-removed}
 use Rattle.captable.proofs.WalkOn.{next-of-client}
-use Rattle.captable.proofs.Removing.{Kept-left, table-left}
+use Rattle.captable.proofs.Removing.{IsLinked-left, table-left}
 use Rattle.captable.proofs.table.CapTable.remove.Goals as goal
 
 pub remove_node-requires-clause-there : goal.remove_node-requires-clause-there
@@ -65,16 +65,16 @@ invariant_of-self c =
     quiet-removed t left c.in-Some.key c.remove_node.ensures.removed c.self.invariant.0.sound client o.0 o.1.there of
     c.next_of_client-next.result (c.next_of_client-next.ensures.next ∙ next-of-client t c.self.invariant.0.sound client c.in-Some.key o.0 o.1.there listed)
     (places_of m) (places_of again) moves c.self.invariant.1 in
-    let kept : Kept left c.self.inside.made =
-    Kept-left t c.remove_node.new.lists c.self.inside.made c.args.holder c.in-Some.key c.self.invariant.0
+    let linked : IsLinked left c.self.inside.made =
+    IsLinked-left t c.remove_node.new.lists c.self.inside.made c.args.holder c.in-Some.key c.self.invariant.0
     found c.remove_node.ensures.removed c.remove_node.ensures.sound in (
-      kept,
+      linked,
       quiet-ended left client first (places_of again) (places_of last) (part-ended (λ poll. poll.place) again client first last c.end_poll.ensures) moved,
       placed-removed left client first (places_of again) (places_of last) (part-ended (λ poll. poll.place) again client first last c.end_poll.ensures)
           t c.in-Some.key c.remove_node.ensures.removed c.self.invariant.0.sound o.0 o.1.there of refl next (places_of m) moves c.self.invariant.2,
       counted-gone t left c.self.inside.made c.args.holder c.in-Some.key c.self.invariant.0 found o.0 o.1.there o.2 (counts_of m) (counts_of again)
           c.is_due_at-was.result false c.is_due_at-was.ensures (counts-placed t m c.self.invariant.2) recounts c.self.invariant.3 refl
-          (table-left t left c.self.inside.made c.args.holder c.in-Some.key c.self.invariant.0 found c.remove_node.ensures.removed) kept
+          (table-left t left c.self.inside.made c.args.holder c.in-Some.key c.self.invariant.0 found c.remove_node.ensures.removed) linked
           (counts_of last) (part-ended (λ poll. poll.due) again client first last c.end_poll.ensures),
     )
 

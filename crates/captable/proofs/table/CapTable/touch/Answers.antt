@@ -7,7 +7,7 @@ use Rattle.captable.proofs.Absent.{touched-none}
 use Rattle.captable.proofs.Reading.{entry-none, node-there}
 use Rattle.captable.proofs.Placed.{placed-touched}
 use Rattle.captable.proofs.Quiet.{quiet-touched}
-use Rattle.captable.proofs.Touching.{Kept-touched, table-moved}
+use Rattle.captable.proofs.Touching.{IsLinked-touched, table-moved}
 use Rattle.captable.proofs.table.CapTable.touch.Goals as goal
 
 pub touch_node-requires-clause-there : goal.touch_node-requires-clause-there
@@ -20,7 +20,7 @@ invariant_of-self c =
     let moved : table_of c.touch_node.new.lists c.self.inside.made ≡ touched (table_of c.self.inside.lists c.self.inside.made) h =
     table-moved c.self.inside.lists c.touch_node.new.lists c.self.inside.made h c.in-Some.key c.self.invariant.0
     c.in-Some.ensures.found c.touch_node.ensures.touched in (
-      Kept-touched c.self.inside.lists c.touch_node.new.lists c.self.inside.made (holder c.args.client c.args.ino) c.in-Some.key c.self.invariant.0
+      IsLinked-touched c.self.inside.lists c.touch_node.new.lists c.self.inside.made (holder c.args.client c.args.ino) c.in-Some.key c.self.invariant.0
           c.in-Some.ensures.found c.touch_node.ensures.touched c.touch_node.ensures.sound,
       quiet-touched c.self.inside.lists c.touch_node.new.lists c.in-Some.key c.touch_node.ensures.touched (places_of c.self.inside.polls) c.self.invariant.1,
       placed-touched c.self.inside.lists c.touch_node.new.lists c.in-Some.key c.touch_node.ensures.touched (places_of c.self.inside.polls) c.self.invariant.2,

@@ -9,7 +9,7 @@ use Rattle.inotree.specs.Tree.{Nodes}
 use Rattle.capbits.specs.Refusal.{first_failing}
 use Rattle.inotree.specs.Calls.{new_node}
 use Rattle.inotree.specs.Tests.{create_tests}
-use Rattle.inotree.proofs.Changes.{kept-added, kept_at, raisable_at}
+use Rattle.inotree.proofs.Changes.{consistent-added, consistent_at, raisable_at}
 use Rattle.numbered.proofs.Maps.{put_back}
 use Rattle.inotree.proofs.Named.{child-index}
 use Rattle.inotree.proofs.Passing.{passed-create}
@@ -26,7 +26,7 @@ overflow_add-ino c =
 
 pub invariant_of-self : goal.invariant_of-self
 invariant_of-self c =
-    kept_at c.self.inside.heights c.self.inside.inodes _ c.self.inside.last c.self.inside.names _ (at_err c.insert.result c.if-is_err.ensures.value c.insert.ensures.err) refl
+    consistent_at c.self.inside.heights c.self.inside.inodes _ c.self.inside.last c.self.inside.names _ (at_err c.insert.result c.if-is_err.ensures.value c.insert.ensures.err) refl
     (c.self.invariant.0, c.self.invariant.1)
 
 pub invariant_of-self-then-is_err-2 : goal.invariant_of-self-then-is_err-2
@@ -36,7 +36,7 @@ invariant_of-self-then-is_err-2 c =
     let node : Node = record { kind = c.args.kind; site = Under c.args.dir c.of.result; attr = c.args.attr; size = 0; time = 0; attributes = c.new.result; snapshots = c.new-2.result } in
     let fresh : map.get m k ≡ None = c.self.invariant.0.given k (omega arith) in
     let added : c.insert.new.self ≡ map.insert m k node = at_ok c.insert.result c.if-is_err.ensures.value c.insert.ensures.ok in
-    kept_at c.self.inside.heights m _ c.self.inside.last c.self.inside.names _
+    consistent_at c.self.inside.heights m _ c.self.inside.last c.self.inside.names _
     (c.remove.ensures ∙ ap (λ (n : InodeMap). map.remove n k) added ∙ put_back nat_cmp_total map.nat_cmp-IsAntisymmetric m k node fresh)
     (at_err c.insert-2.result c.if-is_err-2.ensures.value c.insert-2.ensures.err)
     (c.self.invariant.0, c.self.invariant.1)
@@ -67,7 +67,7 @@ raise_above-requires c =
     let added : c.insert.new.self ≡ map.insert m k (new_node c.args.kind d a c.args.attr) = at_ok c.insert.result c.if-is_err.ensures.value c.insert.ensures.ok ∙ ap (map.insert m k) same in
     let named : c.insert-2.new.self ≡ map.insert index (record { dir = d; name = a }) k = at_ok c.insert-2.result c.if-is_err-2.ensures.value c.insert-2.ensures.ok ∙ ap (λ b. map.insert index (record { dir = d; name = b }) k) c.of-2.ensures in
     let now = raisable_at _ _ k k _ _ _ added named
-    (kept-added m c.self.inside.last d a c.args.kind c.args.attr index c.self.inside.heights c.begin.new.self c.self.invariant.0 c.self.invariant.1 passed.0.kind passed.0.here passed.0.good free passed.1 c.begin.ensures) in
+    (consistent-added m c.self.inside.last d a c.args.kind c.args.attr index c.self.inside.heights c.begin.new.self c.self.invariant.0 c.self.invariant.1 passed.0.kind passed.0.here passed.0.good free passed.1 c.begin.ensures) in
     record { tree = (k, now.0); here = now.2; rise = now.3 }
 
 pub invariant_of-self-2 : goal.invariant_of-self-2
@@ -86,5 +86,5 @@ invariant_of-self-2 c =
     let added : c.insert.new.self ≡ map.insert m k (new_node c.args.kind d a c.args.attr) = at_ok c.insert.result c.if-is_err.ensures.value c.insert.ensures.ok ∙ ap (map.insert m k) same in
     let named : c.insert-2.new.self ≡ map.insert index (record { dir = d; name = a }) k = at_ok c.insert-2.result c.if-is_err-2.ensures.value c.insert-2.ensures.ok ∙ ap (λ b. map.insert index (record { dir = d; name = b }) k) c.of-2.ensures in
     let now = raisable_at _ _ k k _ _ _ added named
-    (kept-added m c.self.inside.last d a c.args.kind c.args.attr index c.self.inside.heights c.begin.new.self c.self.invariant.0 c.self.invariant.1 passed.0.kind passed.0.here passed.0.good free passed.1 c.begin.ensures) in
+    (consistent-added m c.self.inside.last d a c.args.kind c.args.attr index c.self.inside.heights c.begin.new.self c.self.invariant.0 c.self.invariant.1 passed.0.kind passed.0.here passed.0.good free passed.1 c.begin.ensures) in
     (now.0, (now.1, c.raise_above.ensures))

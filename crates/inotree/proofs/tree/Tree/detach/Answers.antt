@@ -3,7 +3,7 @@ use Rattle.inotree.specs.Inodes.{InodeMap}
 use Rattle.inotree.specs.Tree.{Nodes, IsUnder, site_of}
 use Rattle.capbits.specs.Refusal.{first_failing}
 use Rattle.inotree.specs.Tests.{detach_tests}
-use Rattle.inotree.proofs.Changes.{kept-unlinked, kept_at}
+use Rattle.inotree.proofs.Changes.{consistent-unlinked, consistent_at}
 use Rattle.inotree.proofs.Passing.{slot_site, passed-detach, childless_empty}
 use Rattle.inotree.proofs.tree.Tree.detach.Goals as goal
 
@@ -14,6 +14,6 @@ invariant_of-self c =
     let before : Nodes = record { nodes = m; last = c.self.inside.last } in
     let passed : first_failing (detach_tests before k) ≡ None = subst (λ (t : Nodes). first_failing (detach_tests t k) ≡ None) (sym c.self.view_is) c.requires.passed in
     let under : IsUnder m k c.in-Some.slot.dir c.in-Some.slot.name = slot_site (site_of m k) c.in-Some.slot (sym c.in-Some.ensures) in
-    kept_at c.self.inside.heights _ _ c.self.inside.last _ _ c.set_site.ensures c.remove.ensures
-    (kept-unlinked c.self.inside.heights m c.self.inside.last k c.in-Some.slot.dir c.in-Some.slot.name c.self.inside.names c.self.invariant.0 c.self.invariant.1 under
+    consistent_at c.self.inside.heights _ _ c.self.inside.last _ _ c.set_site.ensures c.remove.ensures
+    (consistent-unlinked c.self.inside.heights m c.self.inside.last k c.in-Some.slot.dir c.in-Some.slot.name c.self.inside.names c.self.invariant.0 c.self.invariant.1 under
     (childless_empty m k (passed-detach before k passed).1))

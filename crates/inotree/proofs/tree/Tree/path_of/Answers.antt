@@ -1,22 +1,22 @@
 use Rattle.std.proofs.Common.{◌≡◌, ℕ, Bool, List, None, Some, reverse, ap, subst, ◌∙◌, All}
 use Rattle.std.specs.Prelude.{if◌then◌else◌}
-use Rattle.inotree.specs.declared.node.Place.{Place}
-use Rattle.inotree.specs.declared.node.Place.TheVariants.{NoIno, Gone, Here}
+use Rattle.inotree.specs.declared.node.Presence.{Presence}
+use Rattle.inotree.specs.declared.node.Presence.TheVariants.{NoIno, Gone, Here}
 use Rattle.inotree.proofs.Leading.{path_leads}
 use Rattle.inotree.proofs.Naming.{IsName, turned_names, names_of_walk}
 use Rattle.inotree.specs.Inodes.{InodeMap}
-use Rattle.inotree.specs.Tree.{IsTree, place, path_of, path_at, names_up}
+use Rattle.inotree.specs.Tree.{IsTree, presence, path_of, path_at, names_up}
 use Rattle.inotree.proofs.tree.Tree.path_of.Goals as goal
 
 -- a path is the walk up, turned round
-turned : (p : Place) (up names : List (List ℕ)) → path_at p up ≡ Some names → names ≡ reverse up
+turned : (p : Presence) (up names : List (List ℕ)) → path_at p up ≡ Some names → names ≡ reverse up
 turned NoIno up names is = cc
 turned Gone up names is = cc
 turned Here up names is = cc
 
 path_turned : (nodes : InodeMap) (ino : ℕ) (names : List (List ℕ)) → path_of nodes ino ≡ Some names → names ≡ reverse (names_up 32 nodes ino)
 unfolding path_of
-path_turned nodes ino names is = turned (place nodes ino) (names_up 32 nodes ino) names is
+path_turned nodes ino names is = turned (presence nodes ino) (names_up 32 nodes ino) names is
 
 path_is : (c : goal.Then-read_path) → path_of c.args.self.now.nodes c.args.ino.0 ≡ Some c.read_path.new.names
 path_is c = c.read_path.ensures ∙ ap (λ (there : Bool). if there then Some c.read_path.new.names else None) c.if-read_path.true

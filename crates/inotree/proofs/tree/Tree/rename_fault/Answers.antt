@@ -1,7 +1,7 @@
 use Rattle.std.proofs.Common.{◌≡◌, List, ◌∷◌, ◌++◌, [], sym, ◌∙◌}
 use Rattle.capbits.specs.Refusal.{Test, first_failing}
 use Rattle.capbits.proofs.Tests.{failing-front}
-use Rattle.inotree.specs.Tests.{inode_tests, root_test, new_place_tests}
+use Rattle.inotree.specs.Tests.{inode_tests, root_test, new_site_tests}
 use Rattle.inotree.proofs.FirstOf.{first-both, first-last}
 use Rattle.inotree.proofs.tree.Tree.rename_fault.Goals as goal
 
@@ -13,7 +13,7 @@ returns-in-Some c =
     let leaves : List Test = inode_tests t i ++ root_test t i ∷ [] in
     let before : c.or-before.result ≡ first_failing (leaves ++ inode_tests t d) = first-both leaves (inode_tests t d) _ _ _ c.or-before.ensures
     (first-both (inode_tests t i) (root_test t i ∷ []) _ _ _ c.or.ensures c.inode_refusal-here.ensures c.root_refusal.ensures) c.inode_refusal.ensures in
-    sym (failing-front (leaves ++ inode_tests t d) (new_place_tests t i d c.args.name.now) c.in-Some.refusal (sym before ∙ c.in-Some.is))
+    sym (failing-front (leaves ++ inode_tests t d) (new_site_tests t i d c.args.name.now) c.in-Some.refusal (sym before ∙ c.in-Some.is))
 
 pub returns : goal.returns
 returns c =
@@ -23,4 +23,4 @@ returns c =
     let leaves : List Test = inode_tests t i ++ root_test t i ∷ [] in
     let before : c.or-before.result ≡ first_failing (leaves ++ inode_tests t d) = first-both leaves (inode_tests t d) _ _ _ c.or-before.ensures
     (first-both (inode_tests t i) (root_test t i ∷ []) _ _ _ c.or.ensures c.inode_refusal-here.ensures c.root_refusal.ensures) c.inode_refusal.ensures in
-    c.new_place_refusal.ensures ∙ first-last (leaves ++ inode_tests t d) (new_place_tests t i d c.args.name.now) (sym before ∙ c.in_default.is)
+    c.new_site_refusal.ensures ∙ first-last (leaves ++ inode_tests t d) (new_site_tests t i d c.args.name.now) (sym before ∙ c.in_default.is)

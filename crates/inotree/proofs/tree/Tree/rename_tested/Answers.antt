@@ -7,7 +7,7 @@ use Rattle.inotree.specs.Index.{NameIndex}
 use Rattle.inotree.specs.Tree.{Nodes, IsIndexed, IsUnder, site_of}
 use Rattle.capbits.specs.Refusal.{first_failing}
 use Rattle.inotree.specs.Tests.{rename_tests}
-use Rattle.inotree.proofs.Changes.{kept-moved, raisable_at}
+use Rattle.inotree.proofs.Changes.{consistent-moved, raisable_at}
 use Rattle.inotree.proofs.Named.{child-index, index_inodes}
 use Rattle.inotree.proofs.Passing.{slot_site, passed-rename}
 use Rattle.inotree.proofs.Results.{at_ok, at_err}
@@ -46,7 +46,7 @@ raise_above-requires c =
     let now = raisable_at _ _ c.self.inside.last k _ _ _
     (c.set_site.ensures ∙ ap (λ b. change_at (with_site (Under c.args.dir b)) m k) c.of-2.ensures)
     (c.remove.ensures ∙ ap (λ (x : NameIndex). map.remove x c.in-Some.old) added)
-    (kept-moved m c.self.inside.last k d c.in-Some.old.dir a c.in-Some.old.name index c.lower_to_fit.new.self c.self.invariant.0 (c.self.invariant.1.0, c.lower_to_fit.ensures.rise) under
+    (consistent-moved m c.self.inside.last k d c.in-Some.old.dir a c.in-Some.old.name index c.lower_to_fit.new.self c.self.invariant.0 (c.self.invariant.1.0, c.lower_to_fit.ensures.rise) under
     passed.1.kind passed.1.here passed.1.good free passed.2 passed.3) in
     record { tree = (c.self.inside.last, now.0); here = now.2; rise = now.3 }
 
@@ -67,6 +67,6 @@ invariant_of-self-2 c =
     let now = raisable_at _ _ c.self.inside.last k _ _ _
     (c.set_site.ensures ∙ ap (λ b. change_at (with_site (Under c.args.dir b)) m k) c.of-2.ensures)
     (c.remove.ensures ∙ ap (λ (x : NameIndex). map.remove x c.in-Some.old) added)
-    (kept-moved m c.self.inside.last k d c.in-Some.old.dir a c.in-Some.old.name index c.lower_to_fit.new.self c.self.invariant.0 (c.self.invariant.1.0, c.lower_to_fit.ensures.rise) under
+    (consistent-moved m c.self.inside.last k d c.in-Some.old.dir a c.in-Some.old.name index c.lower_to_fit.new.self c.self.invariant.0 (c.self.invariant.1.0, c.lower_to_fit.ensures.rise) under
     passed.1.kind passed.1.here passed.1.good free passed.2 passed.3) in
     (now.0, (now.1, c.raise_above.ensures))

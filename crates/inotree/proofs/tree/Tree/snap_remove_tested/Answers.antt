@@ -1,15 +1,15 @@
 use Rattle.std.proofs.Common.{refl, subst}
 use Rattle.inotree.specs.Inodes.{without_snapshot}
 use Rattle.inotree.specs.Tree.{IsTree}
-use Rattle.inotree.proofs.Changes.{kept-any, kept_at}
+use Rattle.inotree.proofs.Changes.{consistent-any, consistent_at}
 use Rattle.inotree.proofs.Inner.{no_snapshot_good}
 use Rattle.inotree.proofs.Passing.{short_snapshot}
 use Rattle.inotree.proofs.tree.Tree.snap_remove_tested.Goals as goal
 
 pub invariant_of-self : goal.invariant_of-self
 invariant_of-self c =
-    kept_at c.self.inside.heights _ _ c.self.inside.last _ _ c.remove_snapshot.ensures refl
-    (kept-any c.self.inside.heights c.self.inside.inodes c.self.inside.last c.args.ino.0 (without_snapshot c.in-Some.name) c.self.inside.names c.self.invariant.0 c.self.invariant.1 (λ y. refl) (λ y. refl) (no_snapshot_good c.in-Some.name))
+    consistent_at c.self.inside.heights _ _ c.self.inside.last _ _ c.remove_snapshot.ensures refl
+    (consistent-any c.self.inside.heights c.self.inside.inodes c.self.inside.last c.args.ino.0 (without_snapshot c.in-Some.name) c.self.inside.names c.self.invariant.0 c.self.invariant.1 (λ y. refl) (λ y. refl) (no_snapshot_good c.in-Some.name))
 
 pub unreachable-requires : goal.unreachable-requires
 unreachable-requires c =

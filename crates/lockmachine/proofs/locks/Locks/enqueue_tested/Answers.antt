@@ -20,11 +20,11 @@ invariant_of-self c =
     let same : length c.self.inside.queue.items ≡ length c.args.self.now.queue = ap (λ (l : LockMap). length l.queue) c.self.view_is in
     let few : length c.args.self.now.queue < 1024 = fills (length c.args.self.now.queue) c.requires.room in
     let room : length c.self.inside.queue.items < 1024 = omega arith in
-    let more : StandAlike c.add.new.self (c.self.inside.waiters ++ waiter_of (next_request old c.args.client c.args.ino c.args.ask) ∷ []) =
+    let more : StandAlike c.add.new.self (c.self.inside.waiters ++ waiter_of (next_request old c.args.client c.args.ino c.args.operation) ∷ []) =
     subst (λ (w : Waiter). StandAlike c.add.new.self (c.self.inside.waiters ++ w ∷ [])) c.of.ensures c.add.ensures in (
       subst (λ (qs : List Request). IsLockMap (record { states = c.self.inside.states; queue = qs; last = c.self.inside.last + 1 })) (sym c.in-Ok.ensures.items)
-          (with_request-kept old c.args.client c.args.ino c.args.ask c.self.invariant.0 room),
+          (with_request-kept old c.args.client c.args.ino c.args.operation c.self.invariant.0 room),
       omega (arith, c.self.invariant.1, c.push.ensures.capacity),
       subst (λ (qs : List Request). StandAlike c.add.new.self (map waiter_of qs)) (sym c.in-Ok.ensures.items)
-          (added c.self.inside.queue.items (next_request old c.args.client c.args.ino c.args.ask) c.self.inside.waiters c.add.new.self c.self.invariant.2 more),
+          (added c.self.inside.queue.items (next_request old c.args.client c.args.ino c.args.operation) c.self.inside.waiters c.add.new.self c.self.invariant.2 more),
     )

@@ -6,14 +6,14 @@ use Rattle.std.proofs.lemmas.Map.Iter.{rest_more}
 use Rattle.lockmachine.specs.declared.moves.Move.{Move}
 use Rattle.lockmachine.specs.Scene.{Scene, scene}
 use Rattle.lockmachine.specs.Moves.{parts, beginning, may_begin_by, may_begin, begin_or_rest}
-use Rattle.lockmachine.proofs.Places.{places_in, begin-places_in}
+use Rattle.lockmachine.proofs.LockIds.{lock_ids_in, begin-lock_ids_in}
 use Rattle.lockmachine.proofs.locks.Locks.first_begin_of_all.Goals as goal
 
 pub returns-in-Some-first_begin : goal.returns-in-Some-first_begin
 returns-in-Some-first_begin c =
     let s : Scene = scene c.args.fs.now c.args.tree.now c.args.sessions.now c.args.table.now c.args.self.now in
-    let first : List ℕ → Move = λ inos. begin_or_rest s (find (may_begin s) (places_in inos)) in
+    let first : List ℕ → Move = λ inos. begin_or_rest s (find (may_begin s) (lock_ids_in inos)) in
     ap (λ o. unwrap_or o (first c.next.new.self)) (sym c.in-Some-first_begin.is ∙ c.first_begin.ensures
     ∙ ap (λ wants. option_map (λ part. beginning s.locks wants (c.in-Some.number.now, part)) (find (λ part. may_begin_by s.locks wants (c.in-Some.number.now, part)) parts)) c.wants_on-wants.ensures)
-    ∙ sym (begin-places_in s c.in-Some.number.now c.next.new.self)
+    ∙ sym (begin-lock_ids_in s c.in-Some.number.now c.next.new.self)
     ∙ ap first (sym (rest_more deref _ _ _ _ c.in-Some.is c.next.ensures.steps)) ∙ c.loop-number.invariant

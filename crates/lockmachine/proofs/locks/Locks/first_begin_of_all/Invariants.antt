@@ -1,11 +1,11 @@
 use Rattle.std.proofs.Common.{◌≡◌}
 use Rattle.std.specs.List.{find}
 use Rattle.lockmachine.specs.Scene.{scene}
-use Rattle.lockmachine.specs.Moves.{may_begin, places, begin_or_rest}
-use Rattle.lockmachine.proofs.Places.{places_in}
+use Rattle.lockmachine.specs.Moves.{may_begin, lock_ids, begin_or_rest}
+use Rattle.lockmachine.proofs.LockIds.{lock_ids_in}
 use Rattle.lockmachine.proofs.locks.Locks.first_begin_of_all.Given as goal
 
 abbrev pub invariant-loop-number : goal.invariant-loop-number
 invariant-loop-number l =
     let s = scene l.fs l.tree l.sessions l.table l.self in
-    begin_or_rest s (find (may_begin s) (places_in l.number-iterator)) ≡ begin_or_rest s (find (may_begin s) (places l.self))
+    begin_or_rest s (find (may_begin s) (lock_ids_in l.number-iterator)) ≡ begin_or_rest s (find (may_begin s) (lock_ids l.self))

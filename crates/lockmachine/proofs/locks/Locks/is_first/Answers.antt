@@ -2,14 +2,14 @@ use Rattle.std.proofs.Common.{sym, ap, ◌∙◌}
 use Rattle.std.specs.List.{find}
 use Rattle.std.specs.Option.{option_copied}
 use Rattle.lockmachine.specs.Locks.{LockMap}
-use Rattle.lockmachine.specs.Requests.{part_of_ask, first_for}
+use Rattle.lockmachine.specs.Requests.{part_of_operation, first_for}
 use Rattle.lockmachine.specs.Waiters.{lock_number, is_at}
 use Rattle.lockmachine.proofs.ByLock.{seen-first, number-is, no-number}
 use Rattle.lockmachine.proofs.locks.Locks.is_first.Goals as goal
 
 pub returns-in-Some : goal.returns-in-Some
 returns-in-Some c =
-    let part = part_of_ask c.args.request.now.ask in
+    let part = part_of_operation c.args.request.now.operation in
     let ino = c.args.request.now.ino.0 in
     number-is (first_for c.args.self.now.queue ino part) c.in-Some.first.now c.args.request.now.ticket.0
     (sym (seen-first c.args.self.now c.self.inside.queue.items c.self.inside.waiters (ap (λ (l : LockMap). l.queue) c.self.view_is) c.self.invariant.2 ino part)
@@ -17,7 +17,7 @@ returns-in-Some c =
 
 pub returns-in-None : goal.returns-in-None
 returns-in-None c =
-    let part = part_of_ask c.args.request.now.ask in
+    let part = part_of_operation c.args.request.now.operation in
     let ino = c.args.request.now.ino.0 in
     no-number (first_for c.args.self.now.queue ino part) c.args.request.now.ticket.0
     (sym (seen-first c.args.self.now c.self.inside.queue.items c.self.inside.waiters (ap (λ (l : LockMap). l.queue) c.self.view_is) c.self.invariant.2 ino part)

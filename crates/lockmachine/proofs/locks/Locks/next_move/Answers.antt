@@ -1,7 +1,7 @@
 use Rattle.std.proofs.Common.{ap, sym, ◌∙◌}
 use Rattle.std.specs.Option.{option_map}
 use Rattle.lockmachine.specs.Scene.{Scene, scene}
-use Rattle.lockmachine.proofs.Places.{end_first, serve_first, begin_first}
+use Rattle.lockmachine.proofs.LockIds.{end_first, serve_first, begin_first}
 use Rattle.lockmachine.proofs.locks.Locks.next_move.Goals as goal
 
 pub returns-in-Some : goal.returns-in-Some

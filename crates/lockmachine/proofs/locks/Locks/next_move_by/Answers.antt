@@ -6,7 +6,7 @@ use Rattle.lockmachine.specs.Scene.{Scene, scene_by}
 use Rattle.lockmachine.specs.Moves.{parts, beginning, may_begin, may_begin_by}
 use Rattle.lockmachine.specs.Turns.{IsNextAt}
 use Rattle.lockmachine.proofs.Alone.{sought-beginning}
-use Rattle.lockmachine.proofs.Places.{ends_at, next_begin, end_first, serve_first}
+use Rattle.lockmachine.proofs.LockIds.{ends_at, next_begin, end_first, serve_first}
 use Rattle.lockmachine.proofs.locks.Locks.next_move_by.Goals as goal
 
 pub returns-in-Some-clause-next : goal.returns-in-Some-clause-next

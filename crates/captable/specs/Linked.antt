@@ -1,4 +1,4 @@
--- What the parts of a table keep.
+-- How the parts of a table fit together.
 use Rattle.std.specs.Prelude.{◌≡◌, ◌<◌, ◌≤◌, ℕ, List, map, filter, length}
 use Rattle.std.specs.List.{AllByRecursion}
 use Rattle.capbits.specs.declared.ids.ClientId.{ClientId}
@@ -17,7 +17,7 @@ AreBelow end nodes = AllByRecursion (λ node. node.value.number < end) nodes
 
 -- the nodes stand in their lists, and for a table; they have different numbers, all below that of the next one; the list of
 -- an inode, and that of a client, are in the order of making; the numbers of a client's rise
-pub record Kept (lists : Lists Slot) (made : ℕ) : Type 0 where
+pub record IsLinked (lists : Lists Slot) (made : ℕ) : Type 0 where
   pub sound : IsLists lists
   pub table : IsTable (table_of lists made)
   pub below : AreBelow made (nodes_in lists OfRecall)

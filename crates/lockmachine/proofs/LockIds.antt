@@ -18,7 +18,7 @@ use Rattle.lockmachine.specs.declared.moves.Move.TheVariants.{End, Serve, Settle
 use Rattle.lockmachine.specs.Inodes.{lock_in}
 use Rattle.lockmachine.specs.Locks.{LockMap}
 use Rattle.lockmachine.specs.Scene.{Scene, wanted_in_all}
-use Rattle.lockmachine.specs.Moves.{LockPlace, parts, places_of, places, may_end, may_end_in, may_serve, may_begin, may_begin_in, beginning, begin_or_rest, serve_or_begin, end_or_serve, first_move}
+use Rattle.lockmachine.specs.Moves.{LockId, parts, lock_ids_of, lock_ids, may_end, may_end_in, may_serve, may_begin, may_begin_in, beginning, begin_or_rest, serve_or_begin, end_or_serve, first_move}
 use Rattle.lockmachine.specs.Turns.{IsTurnOf, IsNextAt}
 use Rattle.lockmachine.proofs.Finding.{fails_at, no_part}
 use Rattle.lockmachine.proofs.Rest.{same_key}
@@ -26,8 +26,8 @@ use Rattle.lockmachine.proofs.Rest.{same_key}
 -- ---- one inode after another
 
 -- the locks of these inodes
-abbrev pub places_in : List ℕ → List LockPlace
-places_in inos = flat_map places_of inos
+abbrev pub lock_ids_in : List ℕ → List LockId
+lock_ids_in inos = flat_map lock_ids_of inos
 
 -- a search of what a function makes of each
 pub find-each : {A B : Type 0} (p : B → Bool) (f : A → B) (xs : List A) → find p (each f xs) ≡ option_map f (find (λ x. p (f x)) xs)
@@ -38,18 +38,18 @@ find-each p f (x ∷ xs) = elim (p (f x)) as (λ b. cond b (Some (f x)) (find p 
 ]
 
 -- what is found at an inode, else what is found later
-pub find-places_in : (p : LockPlace → Bool) (ino : ℕ) (inos : List ℕ)
-    → find p (places_in (ino ∷ inos)) ≡ option_or (option_map (λ part. (ino, part)) (find (λ part. p (ino, part)) parts)) (find p (places_in inos))
-find-places_in p ino inos = find-append p (places_of ino) (places_in inos) ∙ ap (λ o. option_or o (find p (places_in inos))) (find-each p (λ (part : Part). (ino, part)) parts)
+pub find-lock_ids_in : (p : LockId → Bool) (ino : ℕ) (inos : List ℕ)
+    → find p (lock_ids_in (ino ∷ inos)) ≡ option_or (option_map (λ part. (ino, part)) (find (λ part. p (ino, part)) parts)) (find p (lock_ids_in inos))
+find-lock_ids_in p ino inos = find-append p (lock_ids_of ino) (lock_ids_in inos) ∙ ap (λ o. option_or o (find p (lock_ids_in inos))) (find-each p (λ (part : Part). (ino, part)) parts)
 
 -- the first beginning at an inode, else what begins later
-pub begin-places_in : (s : Scene) (ino : ℕ) (inos : List ℕ)
-    → begin_or_rest s (find (may_begin s) (places_in (ino ∷ inos)))
-    ≡ unwrap_or (option_map (λ part. beginning s.locks (wanted_in_all s ino) (ino, part)) (find (λ part. may_begin s (ino, part)) parts)) (begin_or_rest s (find (may_begin s) (places_in inos)))
-begin-places_in s ino inos = ap (begin_or_rest s) (find-places_in (may_begin s) ino inos) ∙ by_found (find (λ part. may_begin s (ino, part)) parts)
+pub begin-lock_ids_in : (s : Scene) (ino : ℕ) (inos : List ℕ)
+    → begin_or_rest s (find (may_begin s) (lock_ids_in (ino ∷ inos)))
+    ≡ unwrap_or (option_map (λ part. beginning s.locks (wanted_in_all s ino) (ino, part)) (find (λ part. may_begin s (ino, part)) parts)) (begin_or_rest s (find (may_begin s) (lock_ids_in inos)))
+begin-lock_ids_in s ino inos = ap (begin_or_rest s) (find-lock_ids_in (may_begin s) ino inos) ∙ by_found (find (λ part. may_begin s (ino, part)) parts)
   where
-    later : Option LockPlace
-    later = find (may_begin s) (places_in inos)
+    later : Option LockId
+    later = find (may_begin s) (lock_ids_in inos)
 
     by_found : (o : Option Part) → begin_or_rest s (option_or (option_map (λ part. (ino, part)) o) later) ≡ unwrap_or (option_map (λ part. beginning s.locks (wanted_in_all s ino) (ino, part)) o) (begin_or_rest s later)
     by_found None = refl
@@ -57,43 +57,43 @@ begin-places_in s ino inos = ap (begin_or_rest s) (find-places_in (may_begin s) 
 
 -- ---- a test that passes at the locks of one inode alone
 
-none_here : (p : LockPlace → Bool) (i : ℕ) → ((part : Part) → p (i, part) ≡ false) → find p (places_of i) ≡ None
+none_here : (p : LockId → Bool) (i : ℕ) → ((part : Part) → p (i, part) ≡ false) → find p (lock_ids_of i) ≡ None
 none_here p i fails = rw (fails A, fails L, fails X, fails F) refl
 
-module _ (p : LockPlace → Bool) (ino : ℕ) (elsewhere : (other : ℕ) (part : Part) → other ≢ ino → p (other, part) ≡ false) where
-  at_inode : (i : ℕ) (b : Bool) → eq_by_cmp nat_cmp ino i ≡ b → find p (places_of i) ≡ cond b (find p (places_of ino)) None
-  at_inode i true e = ap (λ j. find p (places_of j)) (same_key ino i e)
+module _ (p : LockId → Bool) (ino : ℕ) (elsewhere : (other : ℕ) (part : Part) → other ≢ ino → p (other, part) ≡ false) where
+  at_inode : (i : ℕ) (b : Bool) → eq_by_cmp nat_cmp ino i ≡ b → find p (lock_ids_of i) ≡ cond b (find p (lock_ids_of ino)) None
+  at_inode i true e = ap (λ j. find p (lock_ids_of j)) (same_key ino i e)
   at_inode i false e = none_here p i (λ part. elsewhere i part (λ same. true≢false (sym (unsigned_tied ino i ∙ eq-eqb ino i (sym same)) ∙ e)))
 
-  either : (a b : Bool) (o : Option LockPlace) → option_or (cond a o None) (cond b o None) ≡ cond (a || b) o None
+  either : (a b : Bool) (o : Option LockId) → option_or (cond a o None) (cond b o None) ≡ cond (a || b) o None
   either false b o = refl
   either true b (Some x) = refl
   either true true None = refl
   either true false None = refl
 
-  among : (inos : List ℕ) → find p (places_in inos) ≡ cond (list_any (eq_by_cmp nat_cmp ino) inos) (find p (places_of ino)) None
+  among : (inos : List ℕ) → find p (lock_ids_in inos) ≡ cond (list_any (eq_by_cmp nat_cmp ino) inos) (find p (lock_ids_of ino)) None
   among [] = refl
   among (i ∷ is) =
-      find-append p (places_of i) (places_in is) ∙ (λ k. option_or (at_inode i (eq_by_cmp nat_cmp ino i) refl k) (among is k))
-      ∙ either (eq_by_cmp nat_cmp ino i) (list_any (eq_by_cmp nat_cmp ino) is) (find p (places_of ino))
+      find-append p (lock_ids_of i) (lock_ids_in is) ∙ (λ k. option_or (at_inode i (eq_by_cmp nat_cmp ino i) refl k) (among is k))
+      ∙ either (eq_by_cmp nat_cmp ino i) (list_any (eq_by_cmp nat_cmp ino) is) (find p (lock_ids_of ino))
 
   -- it is found among all as at the inode, where it fails if there is no lock
-  pub found_at : (locks : LockMap) → (map.get locks.states ino ≡ None → (part : Part) → p (ino, part) ≡ false) → find p (places locks) ≡ find p (places_of ino)
+  pub found_at : (locks : LockMap) → (map.get locks.states ino ≡ None → (part : Part) → p (ino, part) ≡ false) → find p (lock_ids locks) ≡ find p (lock_ids_of ino)
   found_at locks gone =
-      among (map.keys locks.states) ∙ ap (λ b. cond b (find p (places_of ino)) None) (sym (map.contains_key-keys locks.states ino)) ∙ by_locks (map.get locks.states ino) refl
+      among (map.keys locks.states) ∙ ap (λ b. cond b (find p (lock_ids_of ino)) None) (sym (map.contains_key-keys locks.states ino)) ∙ by_locks (map.get locks.states ino) refl
     where
-      by_locks : (o : Option InodeLocks) → map.get locks.states ino ≡ o → cond (is_some o) (find p (places_of ino)) None ≡ find p (places_of ino)
+      by_locks : (o : Option InodeLocks) → map.get locks.states ino ≡ o → cond (is_some o) (find p (lock_ids_of ino)) None ≡ find p (lock_ids_of ino)
       by_locks None is = sym (none_here p ino (gone is))
       by_locks (Some l) is = refl
 
 -- ---- the first move, by what is found
 
 module _ (s : Scene) where
-  pub end_first : (ino : ℕ) (part : Part) → find (may_end s) (places s.locks) ≡ Some (ino, part) → first_move s ≡ End (record { 0 = ino }) part
+  pub end_first : (ino : ℕ) (part : Part) → find (may_end s) (lock_ids s.locks) ≡ Some (ino, part) → first_move s ≡ End (record { 0 = ino }) part
   unfolding first_move
   end_first ino part found = ap (end_or_serve s) found
 
-  pub serve_first : (ticket : Ticket) → find (may_end s) (places s.locks) ≡ None → Some ticket ≡ option_map (λ q. q.ticket) (find (may_serve s.locks) s.locks.queue) → first_move s ≡ Serve ticket
+  pub serve_first : (ticket : Ticket) → find (may_end s) (lock_ids s.locks) ≡ None → Some ticket ≡ option_map (λ q. q.ticket) (find (may_serve s.locks) s.locks.queue) → first_move s ≡ Serve ticket
   unfolding first_move
   serve_first ticket no_end found = ap (end_or_serve s) no_end ∙ by_found (find (may_serve s.locks) s.locks.queue) found
     where
@@ -101,12 +101,12 @@ module _ (s : Scene) where
       by_found None is = absurd (cc)
       by_found (Some q) is = cc
 
-  pub begin_first : find (may_end s) (places s.locks) ≡ None → None ≡ option_map (λ (q : Request). q.ticket) (find (may_serve s.locks) s.locks.queue)
-      → first_move s ≡ begin_or_rest s (find (may_begin s) (places s.locks))
+  pub begin_first : find (may_end s) (lock_ids s.locks) ≡ None → None ≡ option_map (λ (q : Request). q.ticket) (find (may_serve s.locks) s.locks.queue)
+      → first_move s ≡ begin_or_rest s (find (may_begin s) (lock_ids s.locks))
   unfolding first_move
   begin_first no_end none_served = ap (end_or_serve s) no_end ∙ by_found (find (may_serve s.locks) s.locks.queue) none_served
     where
-      by_found : (o : Option Request) → None ≡ option_map (λ (q : Request). q.ticket) o → serve_or_begin s o ≡ begin_or_rest s (find (may_begin s) (places s.locks))
+      by_found : (o : Option Request) → None ≡ option_map (λ (q : Request). q.ticket) o → serve_or_begin s o ≡ begin_or_rest s (find (may_begin s) (lock_ids s.locks))
       by_found None is = refl
       by_found (Some q) is = absurd (cc)
 
@@ -137,29 +137,29 @@ above i ino (e ∷ es) h among =
       | false ↦ λ tie among. above i ino es rise.1 among
     ] refl among
 
-module _ (p : LockPlace → Bool) (ino : ℕ) (lower : (other : ℕ) (part : Part) → other < ino → p (other, part) ≡ false) (at : LockPlace) (found : find p (places_of ino) ≡ Some at) where
-  first_among : (es : List (ℕ × InodeLocks)) → T (is_sorted nat_cmp es) → list_any (eq_by_cmp nat_cmp ino) (inos_of es) ≡ true → find p (places_in (inos_of es)) ≡ Some at
+module _ (p : LockId → Bool) (ino : ℕ) (lower : (other : ℕ) (part : Part) → other < ino → p (other, part) ≡ false) (at : LockId) (found : find p (lock_ids_of ino) ≡ Some at) where
+  first_among : (es : List (ℕ × InodeLocks)) → T (is_sorted nat_cmp es) → list_any (eq_by_cmp nat_cmp ino) (inos_of es) ≡ true → find p (lock_ids_in (inos_of es)) ≡ Some at
   first_among [] sorted among = absurd (true≢false (sym among))
   first_among (e ∷ es) sorted among =
       let rise = both_T (below_all nat_cmp e.0 es) (is_sorted nat_cmp es) sorted in
-      let later : Option LockPlace = find p (places_in (inos_of es)) in
-      find-append p (places_of e.0) (places_in (inos_of es))
-      ∙ elim (eq_by_cmp nat_cmp ino e.0) as (λ b. eq_by_cmp nat_cmp ino e.0 ≡ b → (b || list_any (eq_by_cmp nat_cmp ino) (inos_of es)) ≡ true → option_or (find p (places_of e.0)) later ≡ Some at) [
-        | true ↦ λ tie among. ap (λ i. option_or (find p (places_of i)) later) (same_key ino e.0 tie) ∙ ap (λ o. option_or o later) found
+      let later : Option LockId = find p (lock_ids_in (inos_of es)) in
+      find-append p (lock_ids_of e.0) (lock_ids_in (inos_of es))
+      ∙ elim (eq_by_cmp nat_cmp ino e.0) as (λ b. eq_by_cmp nat_cmp ino e.0 ≡ b → (b || list_any (eq_by_cmp nat_cmp ino) (inos_of es)) ≡ true → option_or (find p (lock_ids_of e.0)) later ≡ Some at) [
+        | true ↦ λ tie among. ap (λ i. option_or (find p (lock_ids_of i)) later) (same_key ino e.0 tie) ∙ ap (λ o. option_or o later) found
         | false ↦ λ tie among.
             ap (λ o. option_or o later) (none_here p e.0 (λ part. lower e.0 part (above e.0 ino es rise.0 among)))
             ∙ first_among es rise.1 among
       ] refl among
 
   -- what is found at the inode, which has locks, is found among all
-  pub first_found : (locks : LockMap) → map.contains_key locks.states ino ≡ true → find p (places locks) ≡ Some at
+  pub first_found : (locks : LockMap) → map.contains_key locks.states ino ≡ true → find p (lock_ids locks) ≡ Some at
   first_found locks has =
       first_among (map.entries locks.states) (map.entries_sorted locks.states) (sym (map.contains_key-keys locks.states ino) ∙ has)
 
 -- ---- where it is an inode's turn
 
 module _ (s : Scene) (ino : ℕ) (turn : IsTurnOf s ino) where
-  pub ends_at : find (may_end s) (places s.locks) ≡ option_map (λ part. (ino, part)) (find (λ part. may_end s (ino, part)) parts)
+  pub ends_at : find (may_end s) (lock_ids s.locks) ≡ option_map (λ part. (ino, part)) (find (λ part. may_end s (ino, part)) parts)
   ends_at =
       found_at (may_end s) ino turn.ends s.locks (λ none part. ap (λ o. may_end_in s.table (ino, part) (option_map (lock_in part) o)) none)
       ∙ find-each (may_end s) (λ (part : Part). (ino, part)) parts
@@ -170,7 +170,7 @@ module _ (s : Scene) (ino : ℕ) (turn : IsTurnOf s ino) where
       absurd (true≢false (sym may ∙ ap (λ o. may_begin_in s.locks.queue (wanted_in_all s ino) (ino, part) (option_map (lock_in part) o)) gone))
   has_locks part may (Some l) has = refl
 
-  begins_at : (part : Part) → find (λ part. may_begin s (ino, part)) parts ≡ Some part → find (may_begin s) (places s.locks) ≡ Some (ino, part)
+  begins_at : (part : Part) → find (λ part. may_begin s (ino, part)) parts ≡ Some part → find (may_begin s) (lock_ids s.locks) ≡ Some (ino, part)
   begins_at part found =
       let may = find_passes (λ part. may_begin s (ino, part)) parts part found in
       first_found (may_begin s) ino turn.begins (ino, part)

@@ -1,7 +1,7 @@
 use Rattle.std.proofs.Common.{sym, ◌∙◌, ◌∷◌}
 use Rattle.capbits.proofs.Tests.{failing-front}
 use Rattle.inotree.specs.Tests.{directory_test, name_tests, move_tests}
-use Rattle.inotree.proofs.tree.Tree.new_place_refusal.Goals as goal
+use Rattle.inotree.proofs.tree.Tree.new_site_refusal.Goals as goal
 
 pub returns-in-Some : goal.returns-in-Some
 returns-in-Some c =

@@ -1,0 +1,11 @@
+-- The operation of a request, as it is judged.
+use Rattle.caprules.specs.Lockmachine.declared.request.Operation.{Operation}
+use Rattle.capacts.specs.declared.{operations.OperationRef.{OperationRef}, operations.OperationRef.TheVariants.{Get, Alter, Unlink, Rmdir, Rename}}
+
+-- the operation that waits
+abbrev pub operation_of : OperationRef → Operation
+operation_of (Get part) = Operation.Get part
+operation_of (Alter change) = Operation.Alter change.now
+operation_of Unlink = Operation.Unlink
+operation_of Rmdir = Operation.Rmdir
+operation_of (Rename dir name) = Operation.Rename dir name.now
