@@ -2,8 +2,8 @@
 use Rattle.std.proofs.Common.{◌≡◌, ◌⊎◌, inl, inr, ℕ, true, List, [], ◌∷◌, Option, Some, None, refl, sym, ap, subst, ◌∙◌, arith}
 use Rattle.capbits.{proofs.Tests.{pass-both}, specs.Refusal.{Test}, specs.declared.cap.Part.{Part}}
 use Rattle.inotree.specs.declared.node.Node.{Node}
-use Rattle.caprules.specs.{Operations.{change_tests}, Judge.{first_denied, rejection_by}, Serving.{MayEndAs, As_judged, Without_memory, passed_as, values_outcome, rejection_outcome, outcome_unless}, declared.rejection.Rejection.TheVariants.{ByTest}}
-use Rattle.capacts.{proofs.Common.{Access, Alter, Operation, operation_after, operation_before, Change, ClientId, denial_of, first_failing, judged_again, Need, need, Nodes, Outcome, Refusal, Rejection, rejection_of, Request, Scene, takes_memory, tree_after, tree_with}, specs.Served.{call_tests, change_call_tests}}
+use Rattle.caprules.specs.{Judge.{first_denied, rejection_by}, Operations.{change_tests}, Serving.{MayEndAs, As_judged, Without_memory, passed_as, values_outcome, rejection_outcome, outcome_unless}, declared.rejection.Rejection.TheVariants.{ByTest}}
+use Rattle.capacts.{proofs.Common.{Access, Alter, Change, ClientId, denial_of, first_failing, judged_again, Need, need, Nodes, Operation, operation_after, operation_before, Outcome, Refusal, Rejection, rejection_of, Request, Scene, takes_memory, tree_after, tree_with}, specs.Served.{call_tests, change_call_tests}}
 
 -- ---- policy alone
 
@@ -37,7 +37,7 @@ change-passed s ino change one more = grind (arith, pass-both)
 operation_passed : (s : Scene) (ino : ℕ) (operation : Operation) → first_failing (operation_before s ino operation) ≡ None → first_failing (operation_after s ino operation) ≡ None → first_failing (call_tests s.tree ino operation) ≡ None
 operation_passed s ino operation one more = grind (arith, change-passed, pass-both)
 
--- the call that does what an unstopped request asks for finds its tests passed
+-- the call that carries out a request that nothing rejects finds its tests passed
 pub calls-passed : (s : Scene) (q : Request) → judged_again s q ≡ None → first_failing (call_tests s.tree q.ino.0 q.operation) ≡ None
 calls-passed s q free = grind (arith, passed-all, operation_passed)
 
@@ -45,7 +45,7 @@ calls-passed s q free = grind (arith, passed-all, operation_passed)
 pub ends-rejection : (s : Scene) (q : Request) (rejection : Rejection) (o : Outcome) → judged_again s q ≡ Some rejection → o ≡ rejection_outcome rejection → MayEndAs s q o
 ends-rejection s q rejection o is ends = subst (MayEndAs s q) (sym (ends ∙ ap (outcome_unless s q) (sym is))) As_judged
 
--- and one that nothing rejects as what it asks for
+-- and one that nothing rejects as its operation ends
 pub ends-passed : (s : Scene) (q : Request) (o : Outcome) → judged_again s q ≡ None → o ≡ passed_as s q.ino.0 q.operation → MayEndAs s q o
 ends-passed s q o free ends = subst (MayEndAs s q) (sym (ends ∙ ap (outcome_unless s q) (sym free))) As_judged
 

@@ -3,7 +3,7 @@ pub use Rattle.capbits.specs.{Caps.{Caps}, Refusal.{first_failing}, Sets.{no_cap
 pub use Rattle.capgrant.specs.declared.access.Access.{Access}
 pub use Rattle.inotree.specs.{Alike.{IsAlike}, InoSets.{InoSet}, Tree.{Nodes}}
 pub use Rattle.captable.{proofs.ByHolder.{row_of-entry}, proofs.Tables.{among-filter, holders-filter, same-is, same_equiv}, specs.Calls.{renumbered}, specs.Known.{no_sets}, specs.Table.{Table, entry_at, holders_of_rows, is_among, is_row_of, same}, specs.declared.entry.Entry.{Entry}, specs.declared.entry.EntryRow.{EntryRow}, specs.declared.entry.Holder.{Holder}, specs.declared.on_inode.Sets.{Sets}}
-pub use Rattle.caprules.specs.{Operations.{operation_after, operation_before, operation_needs}, Judge.{denial_of, rejection_of}, Needs.{Need, need}, Numbers.{rows_of}, Serving.{judged_again, takes_memory}, declared.rejection.Rejection.{Rejection}}
+pub use Rattle.caprules.specs.{Judge.{denial_of, rejection_of}, Needs.{Need, need}, Numbers.{rows_of}, Operations.{operation_after, operation_before, operation_needs}, Serving.{judged_again, takes_memory}, declared.rejection.Rejection.{Rejection}}
 pub use Rattle.caprules.specs.Capevents.{declared.outcome.Outcome.{Outcome}, declared.row.Row.{Row}}
 pub use Rattle.caprules.specs.Capnotes.Changing.{tree_after, tree_with}
-pub use Rattle.caprules.specs.Lockmachine.{Policy.{ArePermitted, permitted}, Requests.{is_of_client}, declared.request.Operation.{Operation}, declared.request.Operation.TheVariants.{Alter, Rmdir, Unlink}, declared.request.Change.{Change}, declared.request.Request.{Request}, declared.scene.Scene.{Scene}}
+pub use Rattle.caprules.specs.Lockmachine.{Policy.{ArePermitted, permitted}, Requests.{is_of_client}, declared.request.Change.{Change}, declared.request.Operation.{Operation}, declared.request.Operation.TheVariants.{Alter, Rmdir, Unlink}, declared.request.Request.{Request}, declared.scene.Scene.{Scene}}

@@ -2,7 +2,7 @@
 use Rattle.caprules.specs.Lockmachine.declared.request.Operation.{Operation}
 use Rattle.capacts.specs.declared.{operations.OperationRef.{OperationRef}, operations.OperationRef.TheVariants.{Get, Alter, Unlink, Rmdir, Rename}}
 
--- the operation that waits
+-- the borrowed operation, as it waits in the queue
 abbrev pub operation_of : OperationRef → Operation
 operation_of (Get part) = Operation.Get part
 operation_of (Alter change) = Operation.Alter change.now

@@ -1,8 +1,8 @@
--- What the tests of a request ask of the tree before it does what it asks for.
+-- The tests that the tree has to pass before the operation of a request is carried out.
 use Rattle.std.specs.Prelude.{ℕ, Bool, true, false, List}
 use Rattle.capbits.specs.Refusal.{Test}
 use Rattle.inotree.specs.{Tests.{inode_tests, unlink_tests, rmdir_tests, rename_tests, set_tests, set_xattr_tests, remove_xattr_tests}, Tree.{Nodes}}
-use Rattle.caprules.specs.Lockmachine.{declared.request.Operation.{Operation}, declared.request.Operation.TheVariants.{Get, Alter, Unlink, Rmdir, Rename}, declared.request.Change.{Change}, declared.request.Change.TheVariants.{Set, SetXattr, RemoveXattr}}
+use Rattle.caprules.specs.Lockmachine.{declared.request.Change.{Change}, declared.request.Change.TheVariants.{Set, SetXattr, RemoveXattr}, declared.request.Operation.{Operation}, declared.request.Operation.TheVariants.{Get, Alter, Unlink, Rmdir, Rename}}
 
 -- the tests of the call that makes a change
 abbrev pub change_call_tests : Nodes → ℕ → Change → List Test

@@ -1,7 +1,7 @@
 //! What rejects a request: its tests and what grants say of the accesses that it needs.
 ghost use Rattle.std.specs.Prelude.{◌≡◌, []};
 ghost use Rattle.capbits.specs.Refusal.{first_failing};
-ghost use Rattle.caprules.specs.{Operations.{operation_before, operation_needs, operation_after}, Judge.{denial_of, rejection_of}};
+ghost use Rattle.caprules.specs.{Judge.{denial_of, rejection_of}, Operations.{operation_before, operation_needs, operation_after}};
 ghost use Rattle.caprules.specs.Operations as words;
 ghost use Rattle.capacts.specs.Operations.{operation_of};
 

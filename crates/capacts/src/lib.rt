@@ -1,5 +1,6 @@
-//! The acts of a step, each on one thing: a request that is judged, or served and what it reaches; an inode, or a client, of whose
-//! entries it is kept anew what is permitted; an entry at the end of the step; a client that leaves; room for a row of the history.
+//! The acts of a step, each on one thing: a request that is judged, or served and what it reaches; an inode, or a client, on
+//! whose entries the permitted caps are kept anew; an entry at the end of the step; a client that leaves; room for a row of the
+//! history.
 //!
 //! `capsteps` goes over all that a step affects with them.
 #![tactic(auto)]

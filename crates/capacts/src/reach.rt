@@ -29,12 +29,9 @@ pub fn reach(
     ensures places { changes.old.room + set.len affected.new ≤ changes.new.room + set.len affected.old }
     ensures room { changes.old.room ≤ changes.new.room }
 {
-    match request.operation {
-        Operation::Rename { .. } => {}
-        Operation::Get(_) | Operation::Alter(_) | Operation::Unlink | Operation::Rmdir => return Ok(
-            (),
-        ),
-    }
+    let Operation::Rename { .. } = request.operation else {
+        return Ok(());
+    };
     // Where a rename of the step has walked from it before, what lies there now was affected then, or when it was moved there.
     if walked.contains(request.ino) {
         return Ok(());

@@ -67,7 +67,7 @@ pub fn renew_changed(
         → ArePermitted known.new.sets policy.now.fs.now policy.now.tree.now policy.now.sessions.now table.now }
     ensures told { (k : Holder) → known_of known.new.sets k ≡ known_of known.old.sets k }
 {
-    // Policy looks at nothing else of an inode.
+    // Of what a change may set, policy reads the owner, the group and the mode alone.
     if sets_attr(change) {
         renew_on(policy, table, known, ino);
     }

@@ -1,4 +1,4 @@
-//! How a request that waited for a lock is served: it is judged again, and then does what it asks for.
+//! How a request that waited for a lock is served: it is judged again, and then its operation is carried out.
 ghost use Rattle.std.specs.Prelude.{◌≡◌, None, Some, true, false, IfOk, OnOk, OnErr};
 ghost use Rattle.capbits.specs.Refusal.{first_failing};
 ghost use Rattle.captable.specs.Table.{Table};
@@ -22,8 +22,9 @@ pub struct Served {
     pub for_history: Outcome,
 }
 
-/// Serves a request: what rejects it now, or what it asks for. One that was judged on this tree when it came is not judged again. A
-/// request that moves its inode and found no room for what it reaches ends as out of memory, unless something rejects it.
+/// Serves a request: it ends by what rejects it now, or its operation is carried out. One that was judged on this tree when it
+/// came is not judged again. A request that moves its inode and found no room for what it reaches ends as out of memory, unless
+/// something rejects it.
 pub fn serve(
     alloc: Global,
     scene: &mut Scene,
@@ -64,7 +65,7 @@ pub fn serve(
 
 // ---- what it does
 
-// Does what is asked for. For want of memory nothing changes.
+// For want of memory nothing changes.
 fn carry_out(
     alloc: Global,
     tree: &mut Tree,

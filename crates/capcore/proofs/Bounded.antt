@@ -1,7 +1,7 @@
 -- How many requests a step serves, and how often its locks move between two servings.
 use Rattle.std.proofs.Common.{◌≡◌, ◌++◌, ℕ, List, [], ◌∷◌, Option, Some, None, map, refl, subst, arith}
 use Rattle.capsteps.{proofs.Lockmachine.Ending.{few}, proofs.Moved.{served-count}, specs.Lockmachine.Runs.{Runs}}
-use Rattle.capcore.proofs.{LockRequests.{order-of_operation}, Common.{Alter, AreBounded, ByMoves, child, direct, effect, effect_unless, Ended, ended_in, Event, found, Get, holder, IsLockMap, judged, Made, MakesAll, move_of, Rejection, Rename, Reply, Rmdir, Scene, Served, State, Step, Unlink, without_requests_of-kept}}
+use Rattle.capcore.proofs.{Common.{Alter, AreBounded, ByMoves, child, direct, effect, effect_unless, Ended, ended_in, Event, found, Get, holder, IsLockMap, judged, Made, MakesAll, move_of, Rejection, Rename, Reply, Rmdir, Scene, Served, State, Step, Unlink, without_requests_of-kept}, LockRequests.{order-of_operation}}
 
 -- ---- the queue stays in order, whatever the event
 

@@ -1,7 +1,7 @@
 -- What the calls of the step of an event about one inode come to.
 use Rattle.std.proofs.{Common.{◌≡◌, ◌≤◌, ◌<◌, ◌^◌, ◌-◌, ℕ, ◌+◌, ◌==◌, Bool, true, false, is_some, List, Contains, refl, sym, ap, subst, ◌∙◌, arith, IsTrue, All}, lemmas.Bool.{eqb-true}, lemmas.List.Elements.{All-weaker, All-contains}}
-use Rattle.capsteps.{proofs.Forgotten.{all_rows}, proofs.Lockmachine.SameOutside.{outside-one, rest-outside}, proofs.ManyInodes.{table-where}, specs.Affected.{finished_entry}, specs.Caprules.Finish.{is_sized, owed}}
-use Rattle.capcore.proofs.{Common.{Affects, AffectsOne, ArePermittedIn, but_for, earlier, Ended, EndsWith, entries_on, EntryRow, filter-contains, first_for, has_session, HaveOwnNumbers, Ino, is_of_inode, IsAffectedEntry, IsLockMap, IsSound, IsSoundEntry, IsTable, known_in, KnownSets, lock_at, MakesAll, MayEnd, MaySettle, moved-all, row_elsewhere, Scene, SessionTable, SettlesWith, sizes_owed, State, Ticket, with_scene}, EndedIn.{earlier-all, earlier-but_own, own-numbers}}
+use Rattle.capsteps.{proofs.Forgotten.{all_rows}, proofs.Lockmachine.SameOutside.{outside-one, rest-outside}, specs.Affected.{finished_entry}}
+use Rattle.capcore.proofs.{Common.{Affects, AffectsOne, ArePermittedIn, but_for, earlier, Ended, EndsWith, entries_on, EntryRow, filter-contains, first_for, has_session, HaveOwnNumbers, Ino, is_of_inode, is_sized, IsAffectedEntry, IsLockMap, IsSound, IsSoundEntry, IsTable, known_in, KnownSets, lock_at, MakesAll, MayEnd, MaySettle, moved-all, owed, row_elsewhere, Scene, SessionTable, SettlesWith, sizes_owed, State, table-where, Ticket, with_scene}, EndedIn.{earlier-all, earlier-but_own, own-numbers}}
 
 -- ---- the numbers of those that a settling ends
 

@@ -3,7 +3,7 @@
 use Rattle.std.{proofs.Common.{◌≡◌, ◌≢◌, ◌⊎◌, ◌↔◌, ◌≤◌, ℕ, zero, suc, not, cond, List, [], ◌∷◌, Option, Some, refl, sym, ap, subst, ◌∙◌, inl, inr, All, Contains, arith, nat_le, unwrap_or, filter, ◌+◌, ◌++◌, append_assoc}, proofs.lemmas.Bool.{le-leb, ne_eqb}, proofs.lemmas.List.{append_cancel_left}, proofs.lemmas.List.Elements.{All-weaker, All-filter, All-contains, All-push, Contains-append_right, All-head, All-tail}, proofs.lemmas.Option.{same_Some}, specs.Cmp.{nat_eq_equiv}, specs.List.{find}}
 use Rattle.capbits.specs.declared.ids.PassId.{PassId}
 use Rattle.capsteps.{proofs.Capnotes.Taking.{own-head, own-tail}, specs.Caprules.Numbers.{AreNumbered}, specs.Caprules.Serving.{served}, specs.Caprules.Step.{StepBy}, specs.Lockmachine.Moves.{with_moved}, specs.Lockmachine.Requests.{is_of_client}, specs.Lockmachine.declared.moves.Move.TheVariants.{Settled}}
-use Rattle.capcore.{proofs.Bounded.{direct-order}, proofs.Common.{all_ended, Alter, Answer, As_judged, Operation, enqueues, awaited_as, Awaits, Began, Begin, child, ClientId, contains-filter, Direct, direct, earlier, effect, End, Ended, ended-waited, ended_in, Event, filter-contains, finished, first_move, found, Gathered, Get, HaveOwnNumbers, Ino, is_of_ticket, IsLockMap, IsOpening, Made, Makes, MakesAll, MayEndAs, move_of, moved-all, next_request, no_moves, Nodes, Outcome, outcome_reply, Rename, Replays, Reply, reply_of, Request, request_at, Rmdir, Row, rows_of, Scene, Serve, Served, shown, sized_in, sizes_owed, State, state_after, Step, Ticket, Unlink, Waited, Without_memory}, proofs.EndedIn.{own-numbers}, specs.SameEvents.{FoundMemory, AllFoundMemory, events_of, ends_of, passes_of}}
+use Rattle.capcore.{proofs.Bounded.{direct-order}, proofs.Common.{all_ended, Alter, Answer, As_judged, awaited_as, Awaits, Began, Begin, child, ClientId, contains-filter, Direct, direct, earlier, effect, End, Ended, ended-waited, ended_in, enqueues, Event, filter-contains, finished, first_move, found, Gathered, Get, HaveOwnNumbers, Ino, is_of_ticket, IsLockMap, IsOpening, Made, Makes, MakesAll, MayEndAs, move_of, moved-all, next_request, no_moves, Nodes, Operation, Outcome, outcome_reply, Rename, Replays, Reply, reply_of, Request, request_at, Rmdir, Row, rows_of, Scene, Serve, Served, shown, sized_in, sizes_owed, State, state_after, Step, Ticket, Unlink, Waited, Without_memory}, proofs.EndedIn.{own-numbers}, specs.SameEvents.{FoundMemory, AllFoundMemory, events_of, ends_of, passes_of}}
 
 -- ---- moves
 

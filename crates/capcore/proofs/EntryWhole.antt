@@ -1,8 +1,7 @@
 -- What the calls of the step of an event about one entry come to.
 use Rattle.std.proofs.Common.{◌≡◌, false, [], List, refl, arith}
-use Rattle.captable.specs.Calls.{with_told}
-use Rattle.capsteps.{proofs.EntryKept.{alike-changed}, specs.declared.entry_request.EntryRequest.TheVariants.{Release}}
-use Rattle.capcore.proofs.Common.{Ack, ClientId, effect, Ended, entry_answer, entry_event, EntryRequest, has_list, HoldAlike, Holder, holder, Ino, reply_of, shown, State}
+use Rattle.capsteps.proofs.EntryKept.{alike-changed}
+use Rattle.capcore.proofs.Common.{Ack, ClientId, effect, Ended, entry_answer, entry_event, EntryRequest, has_list, HoldAlike, Holder, holder, Ino, Release, reply_of, shown, State, with_told}
 
 pub effect-answer : (old : State) (client : ClientId) (ino : Ino) (request : EntryRequest) → (effect old (entry_event client ino request)).answer ≡ entry_answer (holder client ino) request
 effect-answer old client ino request = grind arith

@@ -1,8 +1,8 @@
 -- Each state that a history leads to has one row for each entry, and its requests in their order.
 use Rattle.std.proofs.{Common.{◌≡◌, List, [], ◌∷◌, None, sym, subst}, lemmas.Simd.{map-map}}
-use Rattle.captable.{proofs.Tables.{IsTable-changed, IsTable-empty, IsTable-recalled, IsTable-rows, IsTable-without_client}, specs.Calls.{with_told}}
-use Rattle.capsteps.{proofs.EntryRequests.{request-table}, proofs.ManyInodes.{table-where}, specs.Caprules.Direct.{Shows}, specs.Caprules.Finish.{is_sized, owed}, specs.Caprules.History.{IsRecorded}, specs.declared.entry_request.EntryRequest.TheVariants.{Open, Want, Release}}
-use Rattle.capcore.proofs.{Bounded.{direct-keeps, found-keeps}, Common.{Ack, after_messages, Answer, child, direct, effect, Ended, Event, finished, first_messages, Gives, holder, is_of_client, IsLockMap, IsTable, judged, moved-all, Recorded, Replays, Reply, Row, Scene, shown, sized_in, sizes_owed, State, state_after, Step}, Determined.{opening-order, step-order}, Flushed.{flush-table}}
+use Rattle.captable.proofs.Tables.{IsTable-changed, IsTable-empty, IsTable-rows}
+use Rattle.capsteps.specs.declared.entry_request.EntryRequest.TheVariants.{Open, Want}
+use Rattle.capcore.proofs.{Bounded.{direct-keeps, found-keeps}, Common.{Ack, after_messages, Answer, child, direct, effect, Ended, Event, finished, first_messages, Gives, holder, is_of_client, is_sized, IsLockMap, IsRecorded, IsTable, IsTable-recalled, IsTable-without_client, judged, moved-all, owed, Recorded, Release, Replays, Reply, request-table, Row, Scene, shown, Shows, sized_in, sizes_owed, State, state_after, Step, table-where, with_told}, Determined.{opening-order, step-order}, Flushed.{flush-table}}
 
 -- ---- one row for each entry
 

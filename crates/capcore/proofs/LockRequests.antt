@@ -3,7 +3,7 @@ use Rattle.std.{proofs.Common.{◌≡◌, ℕ, ◌<◌, cond, true, Option, Some
 use Rattle.std.specs.FinMap as map
 use Rattle.capbits.proofs.Tests.{passed-if}
 use Rattle.capsteps.{proofs.EntryRequests.{basic-session, basic-there}, proofs.Lockmachine.Queue.{with_request-kept}, proofs.Lockmachine.SameBut.{same-request}, specs.Capacts.declared.operations.OperationRef.{OperationRef}}
-use Rattle.capcore.{proofs.Common.{AffectsOne, all-left, AreBelow, AreGiven, Operation, operation_after, operation_before, operation_needs, operation_of, basic_tests, arrival_tests, enqueues, operation_by, ClientId, direct, effect, effect_unless, Event, first_denied, first_failing, has_session, Holder, holder, Ino, inode_tests, InodeLocks, is_of_inode, IsAffectedEntry, IsLockMap, IsSound, IsTable, judged, judged_again, lock_in, Need, next_request, Part, pass-both, passed-both, queue_tests, Refusal, rejection_by, rejection_of, Request, Scene, session_tests, sound-pinned, State, waiting_tests, with_request}, specs.UnderWay.{operation_event}}
+use Rattle.capcore.{proofs.Common.{AffectsOne, all-left, AreBelow, AreGiven, arrival_tests, basic_tests, ClientId, direct, effect, effect_unless, enqueues, Event, first_denied, first_failing, has_session, Holder, holder, Ino, inode_tests, InodeLocks, is_of_inode, IsAffectedEntry, IsLockMap, IsSound, IsTable, judged, judged_again, lock_in, Need, next_request, Operation, operation_after, operation_before, operation_by, operation_needs, operation_of, Part, pass-both, passed-both, queue_tests, Refusal, rejection_by, rejection_of, Request, Scene, session_tests, sound-pinned, State, waiting_tests, with_request}, specs.UnderWay.{operation_event}}
 
 -- ---- which events have an operation, and which
 

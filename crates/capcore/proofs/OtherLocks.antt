@@ -2,7 +2,7 @@
 use Rattle.std.{proofs.Common.{◌≡◌, ℕ, Bool, true, false, Some, List, [], ◌∷◌, refl, sym, ap, ◌∙◌, true≢false, arith}, proofs.lemmas.Bool.{or_parts}, specs.List.{list_any}, specs.Option.{option_map}}
 use Rattle.std.specs.FinMap as map
 use Rattle.capsteps.{proofs.Strays.{retained-here, retained-gone}, specs.Caprules.Finish.{is_in_use, issue}, specs.Caprules.Headline.{OtherLocksStay, is_of_lock_at}}
-use Rattle.capcore.proofs.Common.{Answer, Began, ByMoves, coming_state, direct, Ended, Event, Gather, Gathered, is_at, lock_at, lock_in, LockMap, LockId, LockState, Made, Makes, MakesAll, Part, present_state, Reply, Scene, Served, shown, sized_in, sizes_owed, Stable, State, state_after, Step, with_lock, with_lock-each}
+use Rattle.capcore.proofs.Common.{Answer, Began, ByMoves, coming_state, direct, Ended, Event, Gather, Gathered, is_at, lock_at, lock_in, LockId, LockMap, LockState, Made, Makes, MakesAll, Part, present_state, Reply, Scene, Served, shown, sized_in, sizes_owed, Stable, State, state_after, Step, with_lock, with_lock-each}
 
 -- ---- the moves
 

@@ -3,7 +3,7 @@
 use Rattle.std.{proofs.Common.{◌≡◌, ℕ, Bool, true, false, ◌&&◌, ◌==◌, cond, Option, Some, None, List, [], ◌∷◌, ◌++◌, refl, sym, ap, subst, ◌∙◌, Contains, true≢false, unwrap_or, arith}, proofs.lemmas.Bool.{eqb-true, true_from_ne_false}, proofs.lemmas.List.Elements.{Contains-push}, proofs.lemmas.List.Folds.{find-append}, specs.Cmp.{nat_eq_equiv}, specs.List.{find}, specs.Option.{option_map_or}}
 use Rattle.capbits.specs.Sets.{and_parts}
 use Rattle.capsteps.{proofs.Lockmachine.Exact.{ends_not, begins_not, serves_not, settled}, proofs.Lockmachine.Moving.{IsMove, first_is}, proofs.Lockmachine.Queue.{least_served, moved-kept}, proofs.Lockmachine.Rest.{same_part_is}, specs.Caprules.Serving.{passed_as}, specs.Lockmachine.Moves.{may_end, may_begin, may_serve, is_first, is_servable, begun_locks, gathered_locks, IsAtRest}, specs.Lockmachine.Requests.{part_place, same_part, part_of_operation}}
-use Rattle.capcore.proofs.Common.{As_judged, Operation, awaited_as, Began, Begin, ClientId, coming_state, End, ended_in, first_for, first_move, found_by_number, Gather, Gathered, Ino, is_at, is_for, is_numbered, is_of_ticket, is_rejection, IsLockMap, IsQuiet, judged_again, lock_at, LockMap, LockId, LockState, Made, MakesAll, MayEndAs, next_request, no_moves, Outcome, outcome_reply, outcome_unless, Part, present_state, Rejection, Reply, Request, Scene, Serve, Served, Stable, Ticket, with_lock, with_lock-each, with_request, Without_memory}
+use Rattle.capcore.proofs.Common.{As_judged, awaited_as, Began, Begin, ClientId, coming_state, End, ended_in, first_for, first_move, found_by_number, Gather, Gathered, Ino, is_at, is_for, is_numbered, is_of_ticket, is_rejection, IsLockMap, IsQuiet, judged_again, lock_at, LockId, LockMap, LockState, Made, MakesAll, MayEndAs, next_request, no_moves, Operation, Outcome, outcome_reply, outcome_unless, Part, present_state, Rejection, Reply, Request, Scene, Serve, Served, Stable, Ticket, with_lock, with_lock-each, with_request, Without_memory}
 
 -- ---- how a request ends that nothing rejects
 
@@ -11,13 +11,13 @@ module _ (ticket : Ticket) where
   abbrev answered : Outcome → Reply
   answered o = unwrap_or (outcome_reply o) (Reply.Waiting ticket)
 
-  passed-unstopped : (s : Scene) (ino : ℕ) (operation : Operation) → is_rejection (answered (passed_as s ino operation)) ≡ false
-  passed-unstopped s ino operation = grind arith
+  passed-unrejected : (s : Scene) (ino : ℕ) (operation : Operation) → is_rejection (answered (passed_as s ino operation)) ≡ false
+  passed-unrejected s ino operation = grind arith
 
   -- it is neither denied nor refused
-  unstopped : (s : Scene) (q : Request) (o : Outcome) → judged_again s q ≡ None → MayEndAs s q o → is_rejection (answered o) ≡ false
-  unstopped s q o free (As_judged) = ap (λ (j : Option Rejection). is_rejection (answered (outcome_unless s q j))) free ∙ passed-unstopped s q.ino.0 q.operation
-  unstopped s q o free (Without_memory nothing takes) = refl
+  unrejected : (s : Scene) (q : Request) (o : Outcome) → judged_again s q ≡ None → MayEndAs s q o → is_rejection (answered o) ≡ false
+  unrejected s q o free (As_judged) = ap (λ (j : Option Rejection). is_rejection (answered (outcome_unless s q j))) free ∙ passed-unrejected s q.ino.0 q.operation
+  unrejected s q o free (Without_memory nothing takes) = refl
 
 -- ---- a request that has just come to wait
 
@@ -136,7 +136,7 @@ module _ (old : Scene) (client : ClientId) (inode : Ino) (operation : Operation)
         let itself : r ≡ q = served-itself locks alone nobody r first found inside in
         let number : (r.ticket.0 == q.ticket.0) ≡ true = ap (λ (x : Request). x.ticket.0 == q.ticket.0) itself ∙ nat_eq_equiv.refl q.ticket.0 in
         ap (λ b. is_rejection (awaited_as q.ticket (cond b (Some (record { client = r.client; ticket = r.ticket; outcome = o })) (find (is_of_ticket q.ticket) (ended_in moves))))) number
-        ∙ unstopped q.ticket (now locks) q o free (subst (λ (x : Request). MayEndAs (now locks) x o) itself may)
+        ∙ unrejected q.ticket (now locks) q o free (subst (λ (x : Request). MayEndAs (now locks) x o) itself may)
 
   module _ (order : IsLockMap (with_request old.locks client inode operation)) where
     abbrev waiting : LockMap

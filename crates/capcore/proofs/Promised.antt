@@ -1,7 +1,7 @@
 -- The main promise, from what a step is.
 use Rattle.std.{proofs.Common.{true≢false, ◌≡◌, Bool, true, false, ◌||◌, List, Option, Some, None, refl, sym, ap, subst, ◌∙◌, IsTrue, arith}, proofs.lemmas.List.Elements.{All-contains}, specs.List.{find}, specs.Option.{option_map_or}}
 use Rattle.capsteps.specs.Caprules.{Finish.{due}, Headline.{DeniedExactly, DeniesByName}}
-use Rattle.capcore.proofs.{LockRequests.{enqueuing, enqueuing-rejection, enqueuing-direct, enqueuing-again, order-of_operation}, Common.{Access, after, Operation, operation_by, before, Direct, direct, effect, effect_unless, Ended, ended_in, EntryRow, Event, found, found-contains, has, Holder, is_rejection, is_row_of, IsDirect, IsLockMap, IsSound, IsSoundEntry, IssuesExactly, IsTable, judged, Made, MakesAll, needs, Rejection, rejection-only, rejection_reply, Reply, reply_of, Rule, Scene, State, state_after, Step}, OwnServed.{own-not_rejected}, Servings.{denial-exact, denial-by_name}}
+use Rattle.capcore.proofs.{Common.{Access, after, before, Direct, direct, effect, effect_unless, Ended, ended_in, EntryRow, Event, found, found-contains, has, Holder, is_rejection, is_row_of, IsDirect, IsLockMap, IsSound, IsSoundEntry, IssuesExactly, IsTable, judged, Made, MakesAll, needs, Operation, operation_by, Rejection, rejection-only, rejection_reply, Reply, reply_of, Rule, Scene, State, state_after, Step}, LockRequests.{enqueuing, enqueuing-rejection, enqueuing-direct, enqueuing-again, order-of_operation}, OwnServed.{own-not_rejected}, Servings.{denial-exact, denial-by_name}}
 
 -- ---- an event that nothing rejects
 

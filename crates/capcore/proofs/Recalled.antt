@@ -1,8 +1,7 @@
 -- A recall is a whole step: it marks entries as asked for, by which nothing is judged, moved or issued.
 use Rattle.std.proofs.{Common.{◌≡◌, ◌≤◌, ℕ, Bool, true, ◌||◌, List, [], take, refl, sym, subst, arith}, lemmas.List.Elements.{All-map}}
-use Rattle.captable.proofs.Tables.{IsTable-recalled}
 use Rattle.capsteps.proofs.{Finishing.{same-finished}, Telling.{as_told, as_sized, retold, retold_table, retold-sound}}
-use Rattle.capcore.{proofs.Common.{alike-where, AreGiven, EntryRow, Event, finished, HoldAlike, Holder, is_among, IsAnswered, IsSound, IsTable, KnownSets, recalled, Reply, Said, State, Table, with_table}, proofs.Sounding.{later-given}, proofs.Steps.{direct-answered}, proofs.Unaffected.{alike-kept}, specs.UnderWay.{AreKept}}
+use Rattle.capcore.{proofs.Common.{alike-where, AreGiven, EntryRow, Event, finished, HoldAlike, Holder, is_among, IsAnswered, IsSound, IsTable, IsTable-recalled, KnownSets, recalled, Reply, Said, State, Table, with_table}, proofs.Sounding.{later-given}, proofs.Steps.{direct-answered}, proofs.Unaffected.{alike-kept}, specs.UnderWay.{AreKept}}
 
 -- who was named is asked, and who was asked before
 abbrev asked_too : List Holder → EntryRow → Bool

@@ -1,7 +1,7 @@
 -- Requests that are served among the moves of a step.
 use Rattle.std.proofs.Common.{◌≡◌, List, [], ◌∷◌, ◌++◌, Option, Some, None, sym, subst, arith, ◌↔◌, ap}
 use Rattle.capsteps.specs.{Caprules.Headline.{DenialIsExact, DenialIsByName}, Lockmachine.Policy.{failures}}
-use Rattle.capcore.proofs.Common.{Access, As_judged, operation_after, operation_before, operation_needs, EachServing, first_denied, first_failing, judged_again, Made, Makes, MakesAll, MayEndAs, Need, Outcome, outcome_unless, Refusal, Rejection, rejection_by, rejection_of, Request, Rule, Scene, Served, ServedByName, ServedDenied, Test, Without_memory}
+use Rattle.capcore.proofs.Common.{Access, As_judged, EachServing, first_denied, first_failing, judged_again, Made, Makes, MakesAll, MayEndAs, Need, operation_after, operation_before, operation_needs, Outcome, outcome_unless, Refusal, Rejection, rejection_by, rejection_of, Request, Rule, Scene, Served, ServedByName, ServedDenied, Test, Without_memory}
 
 -- ---- what is denied
 

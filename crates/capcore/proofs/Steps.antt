@@ -1,7 +1,7 @@
 -- A session, a lookup, a new inode or a snapshot by itself is a whole step: it leaves alone all that entries and requests depend on.
 use Rattle.std.proofs.Common.{◌≡◌, ℕ, ◌+◌, Bool, true, false, List, [], ◌++◌, Option, None, refl, sym, ap, subst, ◌∙◌, append-nil, arith}
-use Rattle.capsteps.{proofs.Finishing.{none-sized}, specs.Affected.{affected_by, session_changed_by, is_listing}, specs.Caprules.Direct.{Shows}}
-use Rattle.capcore.proofs.{Bounded.{found-keeps}, Common.{Answer, AreGiven, Awaits, child, Direct, direct, Directory, effect, effect_unless, Ended, Event, File, finished, first_failing, Gives, has_list, IsAnswered, IsDirect, IsSound, IsTable, IsTree, judged, kept-finished, kept-sound, LeavesEntries, new_session_tests, no_test, Rejection, Reply, reply_of, Said, Says, Settles, shown, sizes_owed, sound-settles, State, state_after, Step, with_parts, with_scene, with_snapshot, without_snapshot}, Promised.{issues-exactly}, Sounding.{later-given}, Unaffected.{nothing-leaves, session-leaves, unblocked-leaves, changed-leaves, birth-leaves}}
+use Rattle.capsteps.{proofs.Finishing.{none-sized}, specs.Affected.{affected_by, session_changed_by, is_listing}}
+use Rattle.capcore.proofs.{Bounded.{found-keeps}, Common.{Answer, AreGiven, Awaits, child, Direct, direct, Directory, effect, effect_unless, Ended, Event, File, finished, first_failing, Gives, has_list, IsAnswered, IsDirect, IsSound, IsTable, IsTree, judged, kept-finished, kept-sound, LeavesEntries, new_session_tests, no_test, Rejection, Reply, reply_of, Said, Says, Settles, shown, Shows, sizes_owed, sound-settles, State, state_after, Step, with_parts, with_scene, with_snapshot, without_snapshot}, Promised.{issues-exactly}, Sounding.{later-given}, Unaffected.{nothing-leaves, session-leaves, unblocked-leaves, changed-leaves, birth-leaves}}
 
 -- the event is about no entry, no request and no session that is there, and is answered with no list
 abbrev pub IsAlone : Event → Type 0

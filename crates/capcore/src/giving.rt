@@ -1,4 +1,4 @@
-//! What a client is told at the end of a step, and what it is asked for. No program needs to call these laws.
+//! What a client is told at the end of a step, and a recall. No program needs to call these laws.
 
 ghost use Rattle.std.specs.Prelude.{◌≡◌, ℕ};
 ghost use Rattle.captable.specs.{Calls.{recalled}, Table.{IsTable}};
@@ -12,8 +12,8 @@ pub fn telling_leaves_all_but_what_was_told()
         → IssuesExactly first (shown answer s).scene }
 {}
 
-/// A recall marks entries as asked for, and leaves a sound state sound; no client is to know of anything else than before, and
-/// nothing is to be issued, forgotten or numbered.
+/// A recall marks entries whose clients are asked to release, and leaves a sound state sound; no client is to know of anything else
+/// than before, and nothing is to be issued, forgotten or numbered.
 pub fn a_recall_leaves_all_but_the_marks()
     ensures sound { (s : State) (n : ℕ) → IsSound s → IsSound (with_table s (recalled s.scene.table n)) }
     ensures finished { (s : State) (n : ℕ) → IsSound s → IsTable s.scene.table

@@ -29,7 +29,7 @@ pub(crate) fn rejection(scene: &Scene, known: &Known, moving: &MovingEvent) -> O
         MovingEvent::OfEntry(holder, request) => {
             Some(Rejection::ByTest(entry_refusal(scene, known, *holder, request)?))
         }
-        // It is judged as when it is served, and there has to be room for it in the queue.
+        // Its session and the room in the queue are tested besides; else it is judged as when it is served.
         MovingEvent::OfLock(holder, operation) => {
             if let Some(refusal) = scene.sessions.session_refusal(holder.client) {
                 return Some(Rejection::ByTest(refusal));
@@ -73,7 +73,7 @@ fn connected_refusal(sessions: &Sessions, tree: &Tree, holder: Holder) -> Option
 
 // ---- one access
 
-// What rejects a request that needs one access to an inode that it names, before any other test.
+// What rejects a request that needs one access to an inode that it names, apart from the tests behind policy.
 pub(crate) fn access_rejection(scene: &Scene, holder: Holder, access: Access) -> Option<Rejection>
     ensures { result ≡ rejection_of scene.now (basic_tests scene.now holder.client holder.ino.0) (need holder.client holder.ino.0 access ∷ []) [] }
 {
@@ -84,7 +84,7 @@ pub(crate) fn access_rejection(scene: &Scene, holder: Holder, access: Access) ->
     }
 }
 
-// ---- what is asked of an entry
+// ---- requests on an entry
 
 // What rejects an opening.
 fn open_rejection(scene: &Scene, holder: Holder, mode: OpenMode) -> Option<Rejection>

@@ -38,7 +38,7 @@ impl Parts {
         ensures changes { OnErr result (endings.new.changes.items ≡ endings.old.changes.items) }
     {
         match moving {
-            // What is asked of an entry is done to it.
+            // The request is applied to the entry.
             MovingEvent::OfEntry(holder, request) => {
                 let waiting = self.scene.locks.waiting();
                 endings.begin(waiting, waiting + 1)?;
@@ -178,14 +178,13 @@ impl Parts {
         ensures room { vec_capacity self.old.messages ≤ vec_capacity self.new.messages }
         ensures known { self.new.known ≡ self.old.known }
     {
-        let mut ended = Vec::new(endings.alloc());
         let (reply, for_history) = match answer {
             Answer::Done => (Reply::Done, Reply::Done),
             Answer::Dropped(mut dropped) => {
                 let Ok(()) = dropped.append(&mut endings.for_history) else {
                     unreachable!()
                 };
-                ended = dropped;
+                endings.for_history = dropped;
                 (Reply::Done, Reply::Done)
             }
             Answer::Requested(holder, request) => {
@@ -199,15 +198,18 @@ impl Parts {
                 (reply, for_history)
             }
         };
-        // Where none is left there, its room stays.
+        let mut ended = Vec::new(endings.alloc());
+        // Where none ended, the room stays.
         if !endings.for_history.is_empty() {
             swap(&mut ended, &mut endings.for_history);
+            // The history keeps the list for good, but not the room for all who waited.
+            ended.shrink_to_fit();
         }
-        // The history keeps the list for good, but not the room for all who waited.
-        ended.shrink_to_fit();
-        let Ok(()) = self.messages.append(&mut endings.for_clients) else {
-            unreachable!()
-        };
+        if !endings.for_clients.is_empty() {
+            let Ok(()) = self.messages.append(&mut endings.for_clients) else {
+                unreachable!()
+            };
+        }
         Said {
             reply,
             for_history,

@@ -1,4 +1,4 @@
-//! The parts of the core that a step changes, and what its event asks for and leaves.
+//! The parts of the core that a step changes, the events that may move locks, and what such an event leaves.
 
 use capbits::{ClientId, Ticket};
 use capsteps::entry_request::EntryRequest;
@@ -51,7 +51,7 @@ pub(crate) enum Answer {
     Done,
     // That it is done, where these requests were dropped.
     Dropped(Vec<Ended>),
-    // What is answered where this was requested of the holder's entry.
+    // The reply to this request on the holder's entry.
     Requested(Holder, EntryRequest),
     // How the request with this number ended, if it did.
     Awaited(Ticket),

@@ -10,7 +10,7 @@ use capsteps::{EndedList, Reply};
 use std::alloc::AllocError;
 
 impl World {
-    // A step that marks the first entries in the order of recall as asked for, and names them. It moves none.
+    // A step that marks the first entries in the order of recall as asked to release caps, and names them. The order stays.
     pub(crate) fn recall(&mut self, count: u32, endings: &mut Endings) -> Result<Said, AllocError>
         ensures answered { IfOk result (λ said. IsAnswered self.old (event.Recall count) said self.new) }
         ensures changes { OnOk result (AreChanges endings.new.changes.items (view_of self.old) (view_of self.new)) }

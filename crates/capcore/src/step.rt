@@ -11,7 +11,6 @@ use capbits::{ClientId, Ino, Part, PassId};
 use capspec::FsName;
 use capsteps::endings::Endings;
 use capsteps::history::make_room;
-use capsteps::said::Said;
 use capsteps::stop::Stop;
 use capsteps::{Event, Reply, Row, ViewChange};
 use captable::Entry;
@@ -82,22 +81,18 @@ impl Core {
         ensures err { OnErr result (self.new ≡ self.old) }
     {
         let nth = make_room(&mut self.rows, self.max_rows, pass)?;
-        let Said {
-            reply,
-            for_history,
-            ended,
-        } = self.world.step(&event, &mut self.endings)?;
-        let row = Row {
+        let said = self.world.step(&event, &mut self.endings)?;
+        let Ok(()) = self.rows.push(Row {
             pass,
             nth,
             event,
-            reply: for_history,
-            ended,
-        };
-        let Ok(()) = self.rows.push(row) else {
+            reply: said.for_history,
+            ended: said.ended,
+        })
+        else {
             unreachable!()
         };
-        Ok(reply)
+        Ok(said.reply)
     }
 
     /// The client's entry on the inode, where it has one.

@@ -93,112 +93,65 @@ impl World {
         ensures changes { OnOk result (AreChanges endings.new.changes.items (view_of self.old) (view_of self.new)) }
         ensures err { OnErr result ((self.new ≡ self.old) × (endings.new.changes.items ≡ endings.old.changes.items)) }
     {
-        match event {
+        let moving = match event {
             &Event::Open { client, ino, mode } => {
-                let request = EntryRequest::Open(mode);
-                self.move_locks(
-                    &MovingEvent::OfEntry(Holder { client, ino }, request),
-                    endings,
-                )
+                MovingEvent::OfEntry(Holder { client, ino }, EntryRequest::Open(mode))
             }
             &Event::Want { client, ino, caps } => {
-                let request = EntryRequest::Want(caps);
-                self.move_locks(
-                    &MovingEvent::OfEntry(Holder { client, ino }, request),
-                    endings,
-                )
+                MovingEvent::OfEntry(Holder { client, ino }, EntryRequest::Want(caps))
             }
             &Event::Ack { client, ino, seq } => {
-                let request = EntryRequest::Ack(seq);
-                self.move_locks(
-                    &MovingEvent::OfEntry(Holder { client, ino }, request),
-                    endings,
-                )
+                MovingEvent::OfEntry(Holder { client, ino }, EntryRequest::Ack(seq))
             }
             &Event::Release { client, ino, caps } => {
-                let request = EntryRequest::Release(caps);
-                self.move_locks(
-                    &MovingEvent::OfEntry(Holder { client, ino }, request),
-                    endings,
-                )
+                MovingEvent::OfEntry(Holder { client, ino }, EntryRequest::Release(caps))
             }
             &Event::Get { client, ino, part } => {
-                let operation = OperationRef::Get(part);
-                self.move_locks(
-                    &MovingEvent::OfLock(Holder { client, ino }, operation),
-                    endings,
-                )
+                MovingEvent::OfLock(Holder { client, ino }, OperationRef::Get(part))
             }
             &Event::Alter {
                 client,
                 ino,
                 ref change,
-            } => {
-                let operation = OperationRef::Alter(change);
-                self.move_locks(
-                    &MovingEvent::OfLock(Holder { client, ino }, operation),
-                    endings,
-                )
-            }
+            } => MovingEvent::OfLock(Holder { client, ino }, OperationRef::Alter(change)),
             &Event::Unlink { client, ino } => {
-                self.move_locks(
-                    &MovingEvent::OfLock(Holder { client, ino }, OperationRef::Unlink),
-                    endings,
-                )
+                MovingEvent::OfLock(Holder { client, ino }, OperationRef::Unlink)
             }
             &Event::Rmdir { client, ino } => {
-                self.move_locks(
-                    &MovingEvent::OfLock(Holder { client, ino }, OperationRef::Rmdir),
-                    endings,
-                )
+                MovingEvent::OfLock(Holder { client, ino }, OperationRef::Rmdir)
             }
             &Event::Rename {
                 client,
                 ino,
                 dir,
                 ref name,
-            } => {
-                let operation = OperationRef::Rename { dir, name };
-                self.move_locks(
-                    &MovingEvent::OfLock(Holder { client, ino }, operation),
-                    endings,
-                )
-            }
+            } => MovingEvent::OfLock(Holder { client, ino }, OperationRef::Rename { dir, name }),
             &Event::Flush {
                 client,
                 ino,
                 ref change,
-            } => self.move_locks(&MovingEvent::Flush(Holder { client, ino }, change), endings),
-            &Event::Poll { client, max } => self.poll(client, max, endings),
+            } => MovingEvent::Flush(Holder { client, ino }, change),
             &Event::CloseSession { client } => {
-                self.move_locks(
-                    &MovingEvent::OfSession(client, SessionChange::Close),
-                    endings,
-                )
+                MovingEvent::OfSession(client, SessionChange::Close)
             }
             &Event::Mark { client, status } => {
-                let change = SessionChange::Mark(status);
-                self.move_locks(&MovingEvent::OfSession(client, change), endings)
+                MovingEvent::OfSession(client, SessionChange::Mark(status))
             }
             &Event::Regrant { client, ref grants } => {
-                let change = SessionChange::Regrant(grants);
-                self.move_locks(&MovingEvent::OfSession(client, change), endings)
+                MovingEvent::OfSession(client, SessionChange::Regrant(grants))
             }
-            &Event::Evict { client } => {
-                self.move_locks(
-                    &MovingEvent::OfSession(client, SessionChange::Evict),
-                    endings,
-                )
-            }
-            &Event::Recall { count } => self.recall(count, endings),
+            &Event::Evict { client } => MovingEvent::OfSession(client, SessionChange::Evict),
+            &Event::Poll { client, max } => return self.poll(client, max, endings),
+            &Event::Recall { count } => return self.recall(count, endings),
             Event::Session { .. }
             | Event::Unblock { .. }
             | Event::Lookup { .. }
             | Event::Create { .. }
             | Event::Mkdir { .. }
             | Event::MakeSnapshot { .. }
-            | Event::RemoveSnapshot { .. } => self.act_alone(event, endings),
-        }
+            | Event::RemoveSnapshot { .. } => return self.act_alone(event, endings),
+        };
+        self.move_locks(&moving, endings)
     }
 
     // A step that leaves alone what entries and requests depend on: no lock moves, and all is done when the event is.
@@ -211,7 +164,7 @@ impl World {
         ensures changes { OnOk result (AreChanges endings.new.changes.items (view_of self.old) (view_of self.new)) }
         ensures err { OnErr result ((self.new ≡ self.old) × (endings.new.changes.items ≡ endings.old.changes.items)) }
     {
-        // Asked of the tree, whose contract tells the proof that it is one.
+        // From the tree, whose contract tells the proof that it is one.
         let alloc = self.parts.scene.tree.alloc();
         let reply = self.act(event, &mut endings.changes)?;
         Ok(Said::alone(alloc, reply))
@@ -446,7 +399,7 @@ impl World {
         ensures ino { IfOk result (λ ino. ino.0 ≡ self.old.scene.tree.last + 1) }
         ensures err { OnErr result (self.new ≡ self.old) }
     {
-        // The locks first: they can be dropped again, and a number that was given can't be taken back.
+        // The locks first: they can be dropped again, but the number of an inode is never given again.
         let ino = Ino(self.parts.scene.tree.last().0 + 1);
         self.parts.scene.locks.add_ino(ino)?;
         match make_in(&mut self.parts.scene.tree, kind, dir, name, attr) {

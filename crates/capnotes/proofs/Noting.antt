@@ -8,7 +8,7 @@ use Rattle.numbered.proofs.Maps.{change-none, change-is, insert-here}
 use Rattle.inotree.specs.{Calls.{changed, moved, new_node, unlinked, with_new}, Inodes.{InodeMap, with_attr}, Tree.{Nodes}, declared.node.Kind.{Kind}, declared.node.Node.{Node}, declared.node.Site.{Site}, declared.node.Site.TheVariants.{Under}}
 use Rattle.sessiontab.specs.Connected.{SessionMap}
 use Rattle.capview.{proofs.Likeness.{like-unseen, like-settled, shows-tree}, proofs.Telling.{changes-none, changes-more, changes-alike}, specs.Changes.{AreChanges, kind_by, tree_by, view_by}, specs.Sight.{IsLike, Shows, sight_of}, specs.declared.change.ViewChange.{ViewChange}, specs.declared.view.View.{View}}
-use Rattle.capevents.specs.{Lockmachine.declared.request.Operation.TheVariants.{Unlink, Rmdir}, Lockmachine.declared.request.Change.{Change}, Lockmachine.declared.request.Request.{Request}, declared.outcome.Outcome.{Outcome}, declared.outcome.Outcome.TheVariants.{Done}}
+use Rattle.capevents.specs.{Lockmachine.declared.request.Change.{Change}, Lockmachine.declared.request.Operation.TheVariants.{Unlink, Rmdir}, Lockmachine.declared.request.Request.{Request}, declared.outcome.Outcome.{Outcome}, declared.outcome.Outcome.TheVariants.{Done}}
 use Rattle.capnotes.specs.{Changing.{tree_changed, tree_after, tree_with}, Noted.{LeadOn, sets_attr, view}}
 
 -- nothing was noted, and the tree stays

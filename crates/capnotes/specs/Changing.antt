@@ -1,7 +1,7 @@
 -- What becomes of a tree when a request is served.
 use Rattle.std.specs.Prelude.{ℕ}
 use Rattle.inotree.specs.{Calls.{changed, unlinked, moved}, Inodes.{with_setting, with_attribute, without_attribute}, Tree.{Nodes}}
-use Rattle.capevents.specs.{Lockmachine.declared.request.Operation.{Operation}, Lockmachine.declared.request.Operation.TheVariants.{Get, Alter, Unlink, Rmdir, Rename}, Lockmachine.declared.request.Change.{Change}, Lockmachine.declared.request.Change.TheVariants.{Set, SetXattr, RemoveXattr}, Lockmachine.declared.request.Request.{Request}, declared.outcome.Outcome.{Outcome}}
+use Rattle.capevents.specs.{Lockmachine.declared.request.Change.{Change}, Lockmachine.declared.request.Change.TheVariants.{Set, SetXattr, RemoveXattr}, Lockmachine.declared.request.Operation.{Operation}, Lockmachine.declared.request.Operation.TheVariants.{Get, Alter, Unlink, Rmdir, Rename}, Lockmachine.declared.request.Request.{Request}, declared.outcome.Outcome.{Outcome}}
 
 -- the tree with the change of the inode
 abbrev pub tree_changed : Nodes → ℕ → Change → Nodes

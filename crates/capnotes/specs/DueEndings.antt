@@ -1,5 +1,5 @@
 -- The requests that ended and that no client was told of, and the room for them.
-use Rattle.std.specs.{List.{list_any}, Prelude.{◌≡◌, ◌≢◌, ℕ, ◌+◌, ◌≤◌, Bool, false, ◌==◌, ◌&&◌, not, List, AllPairs, length, filter, vec_capacity}, Global.{Vec}}
+use Rattle.std.specs.{Global.{Vec}, List.{list_any}, Prelude.{◌≡◌, ◌≢◌, ℕ, ◌+◌, ◌≤◌, Bool, false, ◌==◌, ◌&&◌, not, List, AllPairs, length, filter, vec_capacity}}
 use Rattle.capbits.specs.declared.{ids.ClientId.{ClientId}, ids.Ticket.{Ticket}}
 use Rattle.capevents.specs.{Lockmachine.Locks.{LockMap}, declared.outcome.Ended.{Ended}, declared.outcome.Message.{Message}}
 

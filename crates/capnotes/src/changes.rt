@@ -17,10 +17,10 @@ use std::marker::Model;
 // kept.
 const MAX_KEPT_PLACES: usize = 1152;
 
-// How many places are made beyond those that are asked for, since the next step often wants one more.
+// How many places are made beyond those that a step needs, since the next step often wants one more.
 const SPARE_PLACES: usize = 64;
 
-/// In the order in which they were made. Their room is made before a step changes anything.
+/// Changes, in the order in which they were made. There is room for each before it is made.
 pub struct ChangeList {
     items: Vec<ViewChange>,
     // For how many the step may count on room. The vector may have more, as it grows by more than one at a time.

@@ -54,7 +54,7 @@ impl EndedTickets {
     pub fn contains(&self, ticket: Ticket) -> bool
         ensures { result ≡ list_any (λ number. number == ticket.0) self.now }
     {
-        // Where it would stand if the numbers had no gaps, as those of a client that asks alone have none.
+        // Where it would stand if the numbers had no gaps, as those of a client that alone makes requests have none.
         let first = self.sorted.first().copied().unwrap_or(0);
         let guess = ticket.0.saturating_sub(first) as usize;
         match self.sorted.get(guess) {

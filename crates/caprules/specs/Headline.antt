@@ -5,7 +5,7 @@ use Rattle.capgrant.specs.declared.{access.Access.{Access}, rule.Rule.{Rule}}
 use Rattle.captable.specs.{Table.{is_row_of}, declared.entry.EntryRow.{EntryRow}, declared.entry.Holder.{Holder}}
 use Rattle.locktable.specs.{Conflicts.{conflict}, Rows.{row_of}, declared.states.LockState.{LockState}, declared.states.LockState.TheVariants.{Stable, Gather}, declared.states.StableState.{StableState}}
 use Rattle.capnotes.specs.{Capevents.declared.event.Event.{Event}, Capevents.declared.outcome.Ended.{Ended}, Capevents.declared.outcome.Outcome.{Outcome}, Capevents.declared.reply.Reply.{Reply}, Lockmachine.Locks.{LockMap, lock_at}, Lockmachine.Moves.{is_open}, Lockmachine.Policy.{failures, permitted}, Lockmachine.Requests.{same_part}, Lockmachine.Runs.{AreFew}, Lockmachine.Scene.{against}, Lockmachine.declared.moves.Move.{Move}, Lockmachine.declared.moves.Move.TheVariants.{Begin, End, Serve}, Lockmachine.declared.request.Request.{Request}, Lockmachine.declared.scene.Scene.{Scene}}
-use Rattle.caprules.specs.{Operations.{operation_before, operation_needs}, Direct.{direct}, Finish.{due}, Judge.{before, needs, first_denied}, Needs.{Need}, Settle.{Made, Began, Gathered, Served, MakesAll, ended_in}, State.{State}, Step.{StepBy}}
+use Rattle.caprules.specs.{Direct.{direct}, Finish.{due}, Judge.{before, needs, first_denied}, Needs.{Need}, Operations.{operation_before, operation_needs}, Settle.{Made, Began, Gathered, Served, MakesAll, ended_in}, State.{State}, Step.{StepBy}}
 
 -- ---- denials
 
@@ -105,8 +105,8 @@ IssuesExactly first last = (k : Holder) (cap : Cap) → holds last k cap ≡ (ho
 abbrev pub IsInRow : EntryRow → Part → StableState → Type 0
 IsInRow row part state = IsSubset (of_part part row.entry.held) (row_of part state row.holder.client)
 
--- what it holds of the part outside the row of this state is being revoked, and keeps a gather to this state open. It says what
--- revoking and an open gather come to: it follows from these two words alone, and what a step could break is the row
+-- what it holds of the part outside the row of this state is being revoked, and keeps a gather to this state open. This
+-- follows from the definitions `against` and `is_open` alone, and explains them: what a step could break is the row
 abbrev pub IsRevoked : Scene → EntryRow → Part → StableState → Type 0
 IsRevoked s row part to =
     (cap : Cap) → IsTrue (has (of_part part row.entry.held) cap) → IsFalse (has (row_of part to row.holder.client) cap) →
@@ -125,8 +125,8 @@ AreInPlace s =
     (row : EntryRow) (part : Part) → find (is_row_of row.holder) s.table.rows ≡ Some row →
     IsInPlace s row part (lock_at s.locks row.holder.ino.0 part)
 
--- what is held and is not permitted, by the grants of now and where the inode stands now, is being revoked. It says what revoking
--- comes to; what clients know of it is said where it is said what they were shown
+-- what is held and is not permitted, by the grants of now and where the inode stands now, is being revoked. This
+-- follows from the definition of `against`; what clients know of it is said in `Shown`
 abbrev pub AreRevoked : Scene → Type 0
 AreRevoked s =
     (row : EntryRow) (cap : Cap) → find (is_row_of row.holder) s.table.rows ≡ Some row → IsTrue (has row.entry.held cap) →

@@ -76,7 +76,7 @@ abbrev pub unasked_if : Bool → Entry → Entry
 unasked_if b e = if b then with_asked false e else e
 
 -- the entry, once its client was given these messages: it was told of the last change if one of them says it, and of the size if
--- one does, and is asked no more if one of them asks it
+-- one does, and is no longer asked to release if one of them asks it
 abbrev pub after_messages : List Message → EntryRow → Entry
 after_messages given row =
     unasked_if (list_any (is_recall_of row.holder.ino) given)

@@ -17,7 +17,7 @@ pub record IsSoundEntry (s : Scene) (row : EntryRow) : Type 0 where
   pub holds_pin : IsTrue (has row.entry.held P)
   pub wants_pin : IsTrue (has row.entry.want P)
   pub has_due : IsSubset (due s row) row.entry.held
-  -- neither the change of which its client was told last nor the one that took something last comes after the last of all
+  -- neither the change of which its client was told last nor the one that revoked something last comes after the last of all
   pub told : row.entry.told_seq ≤ row.entry.seq
   pub revoked : row.entry.revoke_seq ≤ row.entry.seq
 

@@ -1,7 +1,7 @@
 //! The rules of a step, as definitions: how an event is judged, what it does by itself, which moves follow, what is issued and numbered,
 //! what clients are told, and when a history is legal.
 //!
-//! No body goes by them here: `capacts`, `capsteps` and `capcore` do, and what stands beside the core knows nothing else of it.
+//! The code that goes by them is in `capacts`, `capsteps` and `capcore`; what stands beside the core knows nothing of it but these.
 #![tactic(auto)]
 
 mod rejection;

@@ -3,8 +3,8 @@ use Rattle.std.proofs.Common.{◌≡◌, ◌≢◌, ℕ, true, false, None, ◌�
 use Rattle.std.specs.FinMap as map
 use Rattle.capbits.proofs.Tests.{pass-both}
 use Rattle.inotree.{proofs.Moving.{moved-alike, moved-tree, moved-within, changed-within}, proofs.OneInode.{presence-other, alike-unlinked, childless-file, childless-empty, sound-setting, sound-attribute, sound-no-attribute, sound-unlink, sound-rmdir}, specs.Calls.{changed}}
-use Rattle.capacts.{proofs.Again.{leaves-or-makes, passed-all}, specs.Capnotes.Changing.{tree_changed}, specs.Caprules.Operations.{operation_before, operation_needs, operation_after, change_tests}, specs.Caprules.Serving.{MayEndAs}, specs.Lockmachine.declared.request.Operation.TheVariants.{Get, Alter, Unlink, Rmdir, Rename}, specs.Lockmachine.declared.request.Change.{Change}, specs.Lockmachine.declared.request.Change.TheVariants.{Set, SetXattr, RemoveXattr}}
-use Rattle.capsteps.proofs.Common.{alike-itself, Operation, first_failing, is_rename, is_within, IsAlike, IsTree, exist-changed, Node, Nodes, Outcome, presence, Request, Scene, tree_after, tree_with}
+use Rattle.capacts.{proofs.Again.{leaves-or-makes, passed-all}, specs.Capnotes.Changing.{tree_changed}, specs.Caprules.Operations.{operation_before, operation_needs, operation_after, change_tests}, specs.Caprules.Serving.{MayEndAs}, specs.Lockmachine.declared.request.Change.{Change}, specs.Lockmachine.declared.request.Change.TheVariants.{Set, SetXattr, RemoveXattr}, specs.Lockmachine.declared.request.Operation.TheVariants.{Get, Alter, Unlink, Rmdir, Rename}}
+use Rattle.capsteps.proofs.Common.{alike-itself, exist-changed, first_failing, is_rename, is_within, IsAlike, IsTree, Node, Nodes, Operation, Outcome, presence, Request, Scene, tree_after, tree_with}
 pub use Rattle.capacts.proofs.Renewed.{alike_change}
 
 -- ---- whatever the operation

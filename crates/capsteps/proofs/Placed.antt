@@ -2,9 +2,8 @@
 -- what revoking is.
 use Rattle.std.{proofs.Common.{◌≡◌, Bool, true, false, not, ◌||◌, ◌&&◌, Option, Some, List, filter, refl, ap, ◌∙◌, Contains, arith}, proofs.lemmas.List.Folds.{list_any_at}, specs.Cmp.{nat_eq_equiv}, specs.List.{list_any}}
 use Rattle.capbits.{proofs.Emptiness.{has-is_empty}, specs.Caps.{has}}
-use Rattle.locktable.specs.declared.states.StableState.{StableState}
 use Rattle.capacts.specs.{Caprules.Headline.{IsRevoked, AreRevoked}, Lockmachine.Scene.{against_lock, against_part, against_locks, against_policy}}
-use Rattle.capsteps.proofs.Common.{against, Cap, EntryRow, filter-contains, Gather, has-minus, has-union, is_empty, is_of_inode, IsInPlace, IsInRow, IsInRowOf, lock_at, LockState, of_part, outside, Part, permitted, row_of, Scene, second_true, told_set}
+use Rattle.capsteps.proofs.Common.{against, Cap, EntryRow, filter-contains, Gather, has-minus, has-union, is_empty, is_of_inode, IsInPlace, IsInRow, IsInRowOf, lock_at, LockState, of_part, outside, Part, permitted, row_of, Scene, second_true, StableState, told_set}
 
 -- a row that passes two tests is found by both
 pub any_found : (p q : EntryRow → Bool) (rows : List EntryRow) (row : EntryRow) → Contains rows row → p row ≡ true → q row ≡ true → list_any q (filter p rows) ≡ true
@@ -19,15 +18,15 @@ part_in_all s row part c h = has-union (against_locks s row) (against_policy s r
 
 module _ (s : Scene) (row : EntryRow) (inside : Contains s.table.rows row) (part : Part) where
   -- what is outside the row of a gather's target is being revoked, and keeps the gather open
-  taken_back : (from to : StableState) → lock_at s.locks row.holder.ino.0 part ≡ Some (Gather from to) → IsRevoked s row part to
-  taken_back from to is c held out =
+  revoked_in : (from to : StableState) → lock_at s.locks row.holder.ino.0 part ≡ Some (Gather from to) → IsRevoked s row part to
+  revoked_in from to is c held out =
       let is_outside : has (outside part to row) c ≡ true = has-minus (of_part part row.entry.held) (row_of part to row.holder.client) c ∙ (λ i. held i && not (out i)) in (
         part_in_all s row part c (ap (λ o. has (against_lock part row o) c) is ∙ is_outside),
         any_found (is_of_inode row.holder.ino) (λ r. not (is_empty (outside part to r))) s.table.rows row inside (nat_eq_equiv.refl row.holder.ino.0) (grind (arith, has-is_empty)),
       )
 
   by_lock : (o : Option LockState) → lock_at s.locks row.holder.ino.0 part ≡ o → IsInRowOf row part o → IsInPlace s row part o
-  by_lock (Some (Gather from to)) is in_row = (in_row, taken_back from to is)
+  by_lock (Some (Gather from to)) is in_row = (in_row, revoked_in from to is)
   by_lock o is in_row = in_row
 
   pub placed : IsInRow s row part → IsInPlace s row part (lock_at s.locks row.holder.ino.0 part)

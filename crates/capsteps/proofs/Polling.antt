@@ -3,7 +3,7 @@ use Rattle.std.{proofs.Common.{Contains, Option, ◌≡◌, ◌≤◌, ◌-◌, 
 use Rattle.std.specs.FinMap as finite
 use Rattle.capbits.specs.Sets.{no_caps}
 use Rattle.capacts.specs.Caprules.Messages.{size_message}
-use Rattle.capsteps.proofs.{Common.{after_messages, AreKnown, Caps, changed, changed_where, ClientId, end_messages, Ended, Entry, entry_at, entry_of, EntryRow, first_messages, fold-changed_by, holder, Ino, is_among, is_caps_of, is_due, is_of_client, is_recall_of, is_size_of, IsTable, known_in, KnownSets, Message, remade, row_found, row_messages, Scene, State, Table, with_told, told_set, with_asked, with_size_due}, Telling.{retold, told_given, size_given, asked_given, given_table}}
+use Rattle.capsteps.proofs.{Common.{after_messages, AreKnown, Caps, changed, changed_where, ClientId, end_messages, Ended, Entry, entry_at, entry_of, EntryRow, first_messages, fold-changed_by, holder, Ino, is_among, is_caps_of, is_due, is_of_client, is_recall_of, is_size_of, IsTable, known_in, KnownSets, Message, remade, row_found, row_messages, Scene, State, Table, told_set, with_asked, with_size_due, with_told}, Telling.{retold, told_given, size_given, asked_given, given_table}}
 
 -- ---- the first of a list
 

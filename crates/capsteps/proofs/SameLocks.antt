@@ -1,11 +1,11 @@
 -- Locks of an inode that are compared as equal are the same.
 use Rattle.std.{proofs.Common.{◌≡◌, true, Option, Some, None, refl, sym, ap, true≢false}, specs.Option.{option_eq}}
 use Rattle.capbits.specs.Sets.{true_eq}
-use Rattle.locktable.specs.declared.{states.StableState.{StableState}, states.StableState.TheVariants.{Lock, Mix, Excl}}
+use Rattle.locktable.specs.declared.states.StableState.TheVariants.{Lock, Mix, Excl}
 use Rattle.locktable.specs.contracts.states.LockStatePartialEq.TheImpl as lock_states
 use Rattle.locktable.specs.contracts.states.StableStatePartialEq.TheImpl as states
 use Rattle.capacts.specs.Lockmachine.contracts.states.InodeLocksPartialEq.TheImpl as inode_locks
-use Rattle.capsteps.proofs.Common.{and_parts, Gather, InodeLocks, LockState, Stable, Sync}
+use Rattle.capsteps.proofs.Common.{and_parts, Gather, InodeLocks, LockState, Stable, StableState, Sync}
 
 same-state : (a b : StableState) → states.eq-value.it a b ≡ true → a ≡ b
 same-state Sync Sync is = refl

@@ -9,13 +9,13 @@ use Rattle.capacts.specs.{Capevents.declared.event.Event.{Event}, Caprules.Finis
 
 -- what an event is about
 pub data Scope : Type 0 where
-  -- a new session, a new inode, or what nobody holds
+  -- no entry and no session that is there: a new session, an unblocked client, a look-up, a new inode, or a snapshot
   Alone : Scope
   -- whose session it ends or marks, or whose grants it replaces
   OfClient : ClientId → Scope
-  -- who asks, and of which inode, where it is about the entry on it
+  -- the client and the inode, where it is about the client's entry there
   OnEntry : Holder → Scope
-  -- and where it may wait for a lock of the inode, its operation
+  -- and its operation too, where that may wait for a lock of the inode
   Waiting : Holder → Operation → Scope
   -- it is answered with a list: of messages, or of who is asked to release
   Listing : Scope
@@ -44,7 +44,7 @@ affected_in (OnEntry k) = Some k
 affected_in (Waiting k operation) = Some k
 affected_in about = None
 
--- who asks, and of which inode, where the event is about one that is there already: about an entry on it, or about what it keeps
+-- the client and the inode of an event that is about an entry, or whose operation may wait for a lock
 abbrev pub affected_by : Event → Option Holder
 affected_by e = affected_in (scope e)
 
@@ -60,7 +60,7 @@ abbrev pub operation_in : Scope → Option (Holder × Operation)
 operation_in (Waiting k operation) = Some (k, operation)
 operation_in about = None
 
--- of an event that waits for a lock, whose operation it is, on which inode, and which
+-- of an event whose operation may wait for a lock: the client and the inode, and the operation
 abbrev pub operation_by : Event → Option (Holder × Operation)
 operation_by e = operation_in (scope e)
 

@@ -7,7 +7,7 @@ use Rattle.captable.specs.{Calls.{is_of_client}, Table.{Table}, declared.entry.E
 use Rattle.sessiontab.specs.{Calls.{without_session, with_status, with_grants, with_evicted}, Table.{SessionTable}, Tests.{connected_test, mark_tests, evict_tests}}
 use Rattle.capacts.specs.{Capevents.declared.event.Event.{Event}, Capnotes.Noted.{view}, Caprules.State.{State}, Capview.Changes.{AreChanges}, Capview.declared.change.ViewChange.{ViewChange}, Left.{is_end, table_left, locks_left, messages_left}, Lockmachine.Locks.{LockMap}, Lockmachine.Requests.{is_of_client as is_asked_by}, Lockmachine.declared.request.Request.{Request}, declared.leaving.SessionChange.{SessionChange}, declared.leaving.SessionChange.TheVariants.{Close, Mark, Regrant, Evict}}
 
--- the event by which it does
+-- the event that changes the session so
 abbrev pub session_event : ClientId → SessionChange → Event
 session_event client Close = Event.CloseSession client
 session_event client (Mark status) = Event.Mark client status

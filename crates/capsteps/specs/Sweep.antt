@@ -1,4 +1,4 @@
--- How the locks of several inodes settle: in the order of their numbers, and anew once an inode was moved.
+-- How the locks of several inodes settle: in the order of their numbers, and anew once one changed that was passed, or was moved.
 use Rattle.std.specs.Prelude.{◌≡◌, ℕ, Bool, true, false, List, [], Option, Some, None, if◌then◌else◌}
 use Rattle.std.specs.FinMap as map
 use Rattle.std.specs.FinSet as set

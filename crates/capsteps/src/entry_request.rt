@@ -1,4 +1,4 @@
-//! What an event asks of one entry, and what of the entry that changes.
+//! The requests of a client on one entry, and what they change of it.
 ghost use Rattle.std.specs.{Option.{option_map}, Prelude.{◌≡◌, ◌<◌, ◌^◌, ◌-◌, [], None, Some, IfOk, OnOk, OnErr}};
 ghost use Rattle.capbits.specs.Refusal.{first_failing};
 ghost use Rattle.captable.specs.Table.{entry_at};
@@ -11,7 +11,7 @@ use capbits::{Cap, CapSet};
 use captable::{CapTable, Holder, Known, Sets};
 use std::alloc::AllocError;
 
-/// What is asked of a client's entry on an inode.
+/// A request of a client on its entry on an inode.
 #[derive(Clone, Copy)]
 pub enum EntryRequest {
     /// The client opens the inode.
@@ -118,7 +118,7 @@ fn opening_wants(mode: OpenMode) -> CapSet
     }
 }
 
-/// What is answered to it at the end of the step. What an opening or a want shows, the holder's client is told.
+/// The reply to the request at the end of the step; the entry is marked as told of what an opening or a want shows.
 pub fn show_reply(
     table: &mut CapTable,
     known: &Known,

@@ -19,8 +19,8 @@ use sessiontab::{MAX_SESSIONS, Sessions};
 
 // ---- at the affected inodes
 
-/// Ends the step at the affected inodes, whose locks have settled, where sizes were changed: for each entry on them; and those that
-/// are strays without an entry are forgotten.
+/// Ends the step at the affected inodes, whose locks have settled: clients are to be told the sizes that changed, it ends for each
+/// entry on these inodes, and strays without an entry are forgotten.
 pub fn finish(
     scene: &mut Scene,
     known: &mut Known,
@@ -75,7 +75,7 @@ pub fn finish_alone(
 }
 
 // Ends the step for the entries on each affected inode. Each is gone through once, since an entry that was renumbered may have
-// used up its number.
+// no number left.
 fn finish_affected(
     policy: &Policy<'_>,
     table: &mut CapTable,

@@ -73,7 +73,7 @@ fn ended_messages(
     Ok(list)
 }
 
-// Adds those that are due to the client of an entry, so far as no more than the most are listed.
+// Adds the messages that are due to the client of an entry, until `max` are listed.
 fn add_due(
     list: &mut MessageList,
     max: u32,
@@ -134,7 +134,7 @@ fn add_size(list: &mut MessageList, max: u32, tree: &Tree, row: &EntryRow) -> Re
     Ok(())
 }
 
-// Adds a message, if fewer than the most are listed.
+// Adds a message, if fewer than `max` are listed.
 fn add(list: &mut MessageList, max: u32, message: Message) -> Result<(), AllocError>
     requires room { length list.old ≤ max }
     ensures ok { OnOk result (list.new ≡ take max (list.old ++ message ∷ [])) }
@@ -145,7 +145,7 @@ fn add(list: &mut MessageList, max: u32, message: Message) -> Result<(), AllocEr
     Ok(())
 }
 
-/// The client is told of the changes and the sizes that these messages say, and asked no more where they ask.
+/// The client is told of the changes and the sizes that these messages say, and is no longer asked to release where one asks it.
 pub fn give(table: &mut CapTable, client: ClientId, given: &[Message])
     requires { IsTable table.old }
     ensures { table.new ≡ changed_where (is_of_client client) (after_messages given.now) table.old }
@@ -155,7 +155,7 @@ pub fn give(table: &mut CapTable, client: ClientId, given: &[Message])
     }
 }
 
-// The client is told what this message says, and asked no more where it asks.
+// The same of one message.
 fn give_one(table: &mut CapTable, client: ClientId, message: &Message)
     requires { IsTable table.old }
     ensures { table.new ≡ changed_where (is_of_client client) (after_messages (message.now ∷ [])) table.old }

@@ -177,7 +177,7 @@ fn sweep(
 // ---- servings
 
 // Serves the request with this number, notes what that changes for readers, and answers the inode that it changes alone. If it moves
-// its inode, each inode that is at or below it and has entries is affected; for want of memory for that it ends so.
+// its inode, each inode that is at or below it and has entries is affected; without memory for that it ends as out of memory.
 fn serve_next(
     scene: &mut Scene,
     known: &mut Known,

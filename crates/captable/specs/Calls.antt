@@ -110,11 +110,11 @@ moved_last holders k = filter (λ h. not (same k h)) holders ++ filter (same k) 
 abbrev pub touched : Table → Holder → Table
 touched table k = record table { recall = moved_last table.recall k }
 
--- the entry is asked, if its holder is among those named
+-- the entry is marked as asked to release caps, if its holder is among those named
 abbrev pub asked_row : List Holder → EntryRow → EntryRow
 asked_row named row = if is_among named row.holder then record row { entry = with_asked true row.entry } else row
 
--- the first n in the order of recall are asked
+-- the first n in the order of recall are marked as asked to release caps
 abbrev pub recalled : Table → ℕ → Table
 recalled table n = record table { rows = map (asked_row (take n table.recall)) table.rows }
 

@@ -10,7 +10,7 @@ use Rattle.captable.specs.Calls.{changed, with_asked}
 abbrev pub changed_by : (EntryRow → Entry) → Table → Holder → Table
 changed_by g table k = changed table k (λ e. g (record { holder = k; entry = e }))
 
--- the entry of a row, which is asked
+-- the entry of a row, marked as asked to release caps
 abbrev pub asking : EntryRow → Entry
 asking row = with_asked true row.entry
 

@@ -41,7 +41,7 @@ IsQuiet lists client place = IsQuietIn (keys lists (OfClient client)) (is_due_at
 abbrev pub AreQuiet : Lists Slot → (ClientId → Option (Option ℕ)) → Type 0
 AreQuiet lists places = (client : ClientId) (place : Option ℕ) → places client ≡ Some place → IsQuiet lists client place
 
--- who has an entry has a place, or whatever is kept of clients, and nobody else
+-- a value, as a place, is kept of each client with an entry, and of nobody else
 abbrev pub ArePlaced : {V : Type 0} → Lists Slot → (ClientId → Option V) → Type 0
 ArePlaced lists places = (client : ClientId) → is_some (places client) ≡ is_some (slice_get (keys lists (OfClient client)) 0)
 

@@ -1,4 +1,4 @@
--- The tests of what is asked of the table, each with what is answered where it fails.
+-- The tests of the calls on the table, each with its refusal where it fails.
 use Rattle.std.specs.Prelude.{ℕ, Bool, false, not, nat_lt, nat_le, ◌==◌, List, [], ◌∷◌, ◌++◌, length, is_some, if◌then◌else◌}
 use Rattle.std.specs.Option.{option_map_or}
 use Rattle.capbits.specs.Caps.{Caps}

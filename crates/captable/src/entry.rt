@@ -20,13 +20,13 @@ pub struct Holder {
 /// names a number when it acknowledges.
 #[derive(Clone, Copy, Debug)]
 pub struct Entry {
-    /// The caps that were issued to the client, and neither acknowledged nor released.
+    /// The caps that were issued to the client, and not given up since by an acknowledgement or a release.
     pub held: CapSet,
-    /// The caps that the client asks for.
+    /// The caps that the client wants.
     pub want: CapSet,
     /// The number of the last change of what the client is to know of.
     pub seq: u64,
-    /// The number of the last change that took a cap away, 0 if none did.
+    /// The number of the last change that revoked a cap, 0 if none did.
     pub revoke_seq: u64,
     /// The number of the last change that the client was told of.
     pub told_seq: u64,
@@ -78,7 +78,7 @@ pub(crate) enum Edit {
     },
     // It was told of the last change.
     Tell,
-    // Whether it is asked.
+    // Whether it is asked to release caps.
     Ask(bool),
     // Whether it is to be told the size.
     OweSize(bool),

@@ -39,7 +39,7 @@ pub struct KnownOn<'a> {
 }
 
 impl<'a> KnownOn<'a> {
-    /// What is kept of the client there, nothing of whom has no entry. `place` is a guess at how many of those there were added
+    /// What is kept of the client there; empty sets where nothing is. `place` is a guess at how many of those there were added
     /// before it: a right one spares the search.
     pub fn of(&self, client: ClientId, place: usize) -> Sets
         ensures { result ≡ unwrap_or (sets_on (option_copied self.now.on) client) no_sets }
@@ -100,7 +100,7 @@ impl Known {
         self.put(holder, Sets { permitted, ..kept }, place);
     }
 
-    /// Keeps nothing of a new holder, so that there is room for its sets. For want of memory nothing changes.
+    /// Keeps empty sets of a new holder, so that there is room for its sets. For want of memory nothing changes.
     pub fn add(&mut self, holder: Holder) -> Result<(), AllocError>
         ensures own { OnOk result (IsSome (sets_of self.new.sets holder)) }
         ensures others { (k : Holder) → k ≢ holder → sets_of self.new.sets k ≡ sets_of self.old.sets k }

@@ -26,8 +26,8 @@ struct KnownRow {
     sets: Sets,
 }
 
-// What is kept on an inode, of each client once, in the order in which it was added. Most inodes are open at one client, and ask
-// for no list.
+// What is kept on an inode, of each client once, in the order in which it was added. Most inodes are open at one client, and
+// need no list.
 #[derive(Debug, Drop)]
 pub(crate) struct OnInode {
     first: KnownRow,
@@ -48,7 +48,7 @@ impl Model for OnInode {
 }
 
 impl Sets {
-    // Nothing.
+    // Empty sets.
     pub(crate) fn none() -> Sets
         ensures { result ≡ no_sets }
     {
@@ -60,7 +60,7 @@ impl Sets {
 }
 
 impl OnInode {
-    // Nothing, of this client alone.
+    // Empty sets, of this client alone.
     pub(crate) fn new(alloc: Global, client: ClientId) -> OnInode
         ensures { result ≡ record { client = client; sets = no_sets } ∷ [] }
     {
@@ -105,7 +105,7 @@ impl OnInode {
         }
     }
 
-    // Keeps nothing of the client, in a row behind the others if it has none. For want of memory nothing changes.
+    // Keeps empty sets of the client, in a row behind the others if it has none. For want of memory nothing changes.
     pub(crate) fn add(&mut self, client: ClientId) -> Result<(), AllocError>
         ensures own { OnOk result (IsSome (sets_among self.new client)) }
         ensures others { (other : ClientId) → other ≢ client → sets_among self.new other ≡ sets_among self.old other }

@@ -33,7 +33,7 @@ pub struct CapTable {
     polls: Numbered<Poll>,
     // How many entries were made so far.
     made: u64,
-    // A guess at the key of the node that is asked for next.
+    // A guess at the key of the node that is looked for next.
     near: usize,
 }
 
@@ -68,8 +68,8 @@ impl Drop for CapTable {
     }
 }
 
-// All but what is kept for polls, and the guess: they are no part of the table, but tell how far polls have come, and who
-// was asked for last.
+// All but what is kept for polls, and the guess: they are no part of the table, but tell how far polls have come, and which
+// entry was looked for last.
 impl fmt::Debug for CapTable {
     fn fmt<W: fmt::Write>(&self, f: &mut fmt::Formatter<W>) -> fmt::Result {
         f.debug_struct("CapTable")
@@ -158,7 +158,7 @@ impl CapTable {
         self.lists.add_refusal()
     }
 
-    /// Why nothing can be asked of the client's entry on the inode: it has none.
+    /// Why a request on the client's entry on the inode is refused: it has none.
     pub fn entry_refusal(&self, client: ClientId, ino: Ino) -> Option<Refusal>
         ensures { result ≡ first_failing (entry_test self.now (holder client ino) ∷ []) }
     {
@@ -168,7 +168,7 @@ impl CapTable {
         }
     }
 
-    /// Why an acknowledgement is not taken that names the message with the number `seq`, where the caps of
+    /// Why an acknowledgement is refused that names the message with the number `seq`, where the caps of
     /// `against` are being revoked.
     pub fn ack_refusal(
         &self,
@@ -315,7 +315,7 @@ impl CapTable {
         Some(found)
     }
 
-    /// The client asks for these caps from now on. Where it has no entry, nothing happens.
+    /// The client wants these caps from now on. Where it has no entry, nothing happens.
     pub fn set_want(&mut self, client: ClientId, ino: Ino, want: CapSet)
         ensures { self.new ≡ changed self.old (holder client ino) (wanting want) }
     {
@@ -383,7 +383,7 @@ impl CapTable {
         self.edit(Holder { client, ino }, Edit::Tell)
     }
 
-    /// Marks the client's entry as asked for caps, or as not asked. Where it has no entry, nothing happens.
+    /// Marks the client's entry as asked to release caps, or as not asked. Where it has no entry, nothing happens.
     pub fn ask(&mut self, client: ClientId, ino: Ino, asked: bool)
         ensures { self.new ≡ changed self.old (holder client ino) (with_asked asked) }
     {
@@ -534,8 +534,8 @@ impl CapTable {
         self.lists.first_of_ino(ino).is_some()
     }
 
-    /// Marks the first `n` entries in the order of recall as asked for caps, and answers whose they are, in this
-    /// order; all of them if there are fewer. It moves none. For want of memory nothing changes.
+    /// Marks the first `n` entries in the order of recall as asked to release caps, and answers whose they are, in this
+    /// order; all of them if there are fewer. The order stays. For want of memory nothing changes.
     pub fn recall(&mut self, n: u32) -> Result<Holders, AllocError>
         ensures named { IfOk result (λ named. named ≡ take n self.old.recall) }
         ensures ok { OnOk result (self.new ≡ recalled self.old n) }
@@ -556,7 +556,7 @@ impl CapTable {
         Ok(Holders::from_vec(named))
     }
 
-    // Marks the entries of these holders as asked for caps.
+    // Marks the entries of these holders as asked to release caps.
     fn ask_all(&mut self, holders: &[Holder])
         ensures { self.new ≡ fold (changed_by asking) self.old holders.now }
     {

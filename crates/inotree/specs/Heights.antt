@@ -28,7 +28,7 @@ height nodes heights ino = if is_directory nodes ino then bound heights ino else
 abbrev pub IsHigher : InodeMap → HeightMap → ℕ → ℕ → Type 0
 IsHigher nodes heights dir ino = height nodes heights dir < 32 → height nodes heights ino < height nodes heights dir
 
--- each directory is higher than what stands in it
+-- each directory is higher than what stands in it, where its height is known
 pub record HeightsRise (nodes : InodeMap) (heights : HeightMap) : Type 0 where
   pub higher : (ino dir : ℕ) (name : List ℕ) → IsUnder nodes ino dir name → IsHigher nodes heights dir ino
 
@@ -36,7 +36,7 @@ pub record HeightsRise (nodes : InodeMap) (heights : HeightMap) : Type 0 where
 abbrev pub HeightsRiseBut : InodeMap → HeightMap → ℕ → Type 0
 HeightsRiseBut nodes heights but = (ino dir : ℕ) (name : List ℕ) → IsUnder nodes ino dir name → (ino ≡ but) ⊎ IsHigher nodes heights dir ino
 
--- each directory is higher than any way down from it by the index is long
+-- where its height is known, a directory is at least as high as any way down from it by the index is long
 abbrev pub AreBounds : InodeMap → HeightMap → NameIndex → Type 0
 AreBounds nodes heights index = (steps ino : ℕ) → index_reaches steps index ino ≡ true → height nodes heights ino < 32 → steps ≤ height nodes heights ino
 

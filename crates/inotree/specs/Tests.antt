@@ -1,4 +1,4 @@
--- The tests of what is asked of a tree, each with what is answered where it fails.
+-- The tests of the calls on a tree, each with its refusal where it fails.
 use Rattle.std.specs.Prelude.{ℕ, ◌-◌, ◌==◌, ◌&&◌, ◌||◌, Bool, true, false, not, nat_le, nat_lt, List, [], ◌∷◌, ◌++◌, length, Option, None, Some, is_some, Result, Ok, Err}
 use Rattle.std.specs.Option.{option_map_or}
 use Rattle.std.specs.FinMap as map

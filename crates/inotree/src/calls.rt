@@ -1,5 +1,5 @@
 //! The changes of a tree that make their tests themselves. Each is refused by the first that fails, in the order in which its
-//! page names them, and changes nothing then; want of memory comes last.
+//! comment names them, and changes nothing then; want of memory comes last.
 ghost use Rattle.std.specs.Prelude.{◌≡◌, ◌+◌, IfOk, OnOk, OnErr};
 ghost use Rattle.std.specs.Result.{result_err};
 ghost use Rattle.capbits.specs.Refusal.{first_failing};
@@ -165,7 +165,7 @@ impl Tree {
         Ok(())
     }
 
-    /// Takes an attribute from an inode. It is refused as NoIno, Gone, or NoXattr.
+    /// Removes an attribute from an inode. It is refused as NoIno, Gone, or NoXattr.
     pub fn remove_xattr(&mut self, ino: Ino, name: &[u8]) -> Result<(), Refusal>
         ensures refused { result_err result ≡ first_failing (remove_xattr_tests self.old ino.0 name.now) }
         ensures ok { OnOk result (self.new ≡ changed (without_attribute name.now) self.old ino.0) }
@@ -192,7 +192,7 @@ impl Tree {
         Ok(())
     }
 
-    /// Takes a snapshot name from a directory. It is refused as NoIno, Gone, NotDir, or NoEnt.
+    /// Removes a snapshot name from a directory. It is refused as NoIno, Gone, NotDir, or NoEnt.
     pub fn snap_remove(&mut self, ino: Ino, name: &[u8]) -> Result<(), Refusal>
         ensures refused { result_err result ≡ first_failing (snap_remove_tests self.old ino.0 name.now) }
         ensures ok { OnOk result (self.new ≡ changed (without_snapshot name.now) self.old ino.0) }

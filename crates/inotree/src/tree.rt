@@ -291,7 +291,7 @@ impl Tree {
         }
     }
 
-    /// Why an inode can't be unlinked or be given a size: it is a directory.
+    /// Why what needs a file, as to unlink or to set a size, is refused: the inode is a directory.
     pub fn file_refusal(&self, ino: Ino) -> Option<Refusal>
         ensures { result ≡ first_failing (file_test self.now ino.0 ∷ []) }
     {
@@ -407,7 +407,7 @@ impl Tree {
         }
     }
 
-    /// Why an attribute can't be taken from an inode: it has none of this name.
+    /// Why an attribute can't be removed from an inode: it has none of this name.
     pub fn old_attribute_refusal(&self, ino: Ino, name: &[u8]) -> Option<Refusal>
         ensures { result ≡ first_failing (old_attribute_tests self.now ino.0 name.now) }
     {
@@ -440,7 +440,7 @@ impl Tree {
         None
     }
 
-    /// Why a snapshot can't be taken from an inode.
+    /// Why a snapshot can't be removed from an inode.
     pub fn old_snapshot_refusal(&self, ino: Ino, name: &[u8]) -> Option<Refusal>
         ensures { result ≡ first_failing (old_snapshot_tests self.now ino.0 name.now) }
     {
@@ -606,7 +606,7 @@ impl Tree {
         self.inodes.set_attribute(ino.0, Name::of(name), value)
     }
 
-    /// Takes an attribute from an inode.
+    /// Removes an attribute from an inode.
     pub fn remove_xattr_tested(&mut self, ino: Ino, name: &[u8])
         requires passed { first_failing (remove_xattr_tests self.old ino.0 name.now) ≡ None }
         ensures { self.new ≡ changed (without_attribute name.now) self.old ino.0 }
@@ -627,7 +627,7 @@ impl Tree {
         self.inodes.add_snapshot(ino.0, Name::of(name))
     }
 
-    /// Takes a snapshot name from a directory.
+    /// Removes a snapshot name from a directory.
     pub fn snap_remove_tested(&mut self, ino: Ino, name: &[u8])
         requires passed { first_failing (snap_remove_tests self.old ino.0 name.now) ≡ None }
         ensures { self.new ≡ changed (without_snapshot name.now) self.old ino.0 }

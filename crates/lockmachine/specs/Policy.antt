@@ -22,7 +22,7 @@ use Rattle.captable.specs.Table.{Table, entry_at}
 use Rattle.captable.specs.Known as known
 use Rattle.captable.specs.Known.{KnownSets}
 
--- all that a verdict reads: who asks, with which grants, and of the inode its path and whose it is
+-- all that a verdict reads: the caller with its grants, and of the inode its path and whose it is
 pub record Subject : Type 0 where
   pub caller : Caller
   pub grants : List Grant

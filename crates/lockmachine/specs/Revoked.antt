@@ -14,7 +14,7 @@ use Rattle.lockmachine.specs.Locks.{lock_at}
 use Rattle.lockmachine.specs.Policy.{permitted}
 use Rattle.lockmachine.specs.Scene.{Scene}
 
--- the lock takes it from the client: it gathers, and the row of its target is without it
+-- the lock revokes the cap: it gathers, and the row of its target is without it
 abbrev pub is_revoked_by : Part → ClientId → Cap → Option LockState → Bool
 is_revoked_by part client c None = false
 is_revoked_by part client c (Some (Stable state)) = false
@@ -23,7 +23,7 @@ is_revoked_by part client c (Some (Gather from to)) = covers c part && not (has 
 abbrev pub is_revoked_of : Scene → Holder → Cap → Part → Bool
 is_revoked_of s k c part = is_revoked_by part k.client c (lock_at s.locks k.ino.0 part)
 
--- a lock takes it from the holder, or it is not permitted
+-- a lock revokes the cap, or it is not permitted to the holder
 abbrev pub is_revoked : Scene → Holder → Cap → Bool
 is_revoked s k c =
     (is_revoked_of s k c A || (is_revoked_of s k c L || (is_revoked_of s k c X || is_revoked_of s k c F)))

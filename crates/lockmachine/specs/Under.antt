@@ -24,7 +24,7 @@ against_lock part row None = no_caps
 against_lock part row (Some (Stable state)) = no_caps
 against_lock part row (Some (Gather from to)) = outside part to row
 
--- what the locks do
+-- what the locks revoke of the entry
 abbrev pub against_under : Option InodeLocks → EntryRow → Caps
 against_under locks row =
     union (against_lock A row (lock_under locks A))

@@ -397,7 +397,7 @@ impl Locks {
         target(part, state, head, wants.loner, wants.wanted)
     }
 
-    // What stands first in the queue of a lock, by the same.
+    // What stands first in the queue of a lock, where no request waits unless `waits` says that one may.
     fn head(&self, waits: bool, ino: Ino, part: Part) -> Head
         ensures { result ≡ head_in (waiting.queue_if waits self.now.queue) ino.0 part }
     {

@@ -1,4 +1,4 @@
-//! By what a client is judged, and what its grants say.
+//! What policy reads, and what the grants of a client say of an access.
 ghost use Rattle.std.specs.Prelude.{◌≡◌, []};
 ghost use Rattle.capgrant.specs.Verdict.{is_allowed, IfDenied};
 ghost use Rattle.capgrant.specs.declared.answer.Verdict.TheVariants as verdict_kind;
@@ -11,7 +11,7 @@ use captable::Holder;
 use inotree::{Names, Tree};
 use sessiontab::Sessions;
 
-/// By what it is judged what a client is permitted: the name of the file system, the tree, and the sessions with their grants.
+/// What decides what clients are permitted: the name of the file system, the tree, and the sessions with their grants.
 #[derive(Clone, Copy)]
 pub struct Policy<'a> {
     pub fs: &'a FsName,

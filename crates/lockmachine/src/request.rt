@@ -76,7 +76,7 @@ impl Drop for Operation {
 pub struct Request {
     /// Its number, which is greater than those of all earlier ones.
     pub ticket: Ticket,
-    /// Who asks.
+    /// The client that sent it.
     pub client: ClientId,
     /// The inode whose lock it waits for.
     pub ino: Ino,

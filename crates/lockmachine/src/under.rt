@@ -27,7 +27,7 @@ fn against_under(row: &EntryRow, locks: &Option<InodeLocks>) -> CapSet
     auth.union(link.union(xattr.union(file)))
 }
 
-// And what the lock of one part: where it gathers, what is held outside the row of its target.
+// What the lock of one part revokes of the entry: where it gathers, what is held outside the row of its target.
 fn against_part(part: Part, row: &EntryRow, locks: &Option<InodeLocks>) -> CapSet
     ensures { result ≡ words.against_lock part row.now (words.lock_under locks.now part) }
 {

@@ -2,7 +2,7 @@ use Rattle.std.proofs.Common.{◌≡◌, ℕ, [], ◌∷◌, ◌++◌, Option, S
 use Rattle.capbits.proofs.Tests.{failing-front}
 use Rattle.inotree.specs.Tests.{inode_tests, root_test}
 use Rattle.caprules.specs.Lockmachine.declared.request.Operation.TheVariants.{Get, Rename}
-use Rattle.capacts.{proofs.Common.{Alter, Operation, operation_before, first_failing, Nodes, Refusal, Rmdir, Scene, Unlink}, specs.Operations.{operation_of}, specs.declared.operations.OperationRef.{OperationRef}}
+use Rattle.capacts.{proofs.Common.{Alter, first_failing, Nodes, Operation, operation_before, Refusal, Rmdir, Scene, Unlink}, specs.Operations.{operation_of}, specs.declared.operations.OperationRef.{OperationRef}}
 use Rattle.capacts.proofs.judge.before_refusal.Goals as goal
 
 -- each operation is on an inode that is there and has a path

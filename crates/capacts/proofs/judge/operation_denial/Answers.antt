@@ -2,7 +2,7 @@ use Rattle.std.{proofs.Common.{◌≡◌, List, [], ◌∷◌, ◌++◌, Option,
 use Rattle.capgrant.specs.declared.access.Access.TheVariants.{Read, Write}
 use Rattle.inotree.specs.Tree.{parent}
 use Rattle.caprules.specs.Needs.{need_if}
-use Rattle.capacts.{proofs.Again.{denied-first}, proofs.Common.{Access, operation_needs, denial_of, Holder, Ino, Need, need, Rejection, rejection_of, Scene}, proofs.judge.operation_denial.Goals.{in-Get, in-Alter, in-Unlink, in-Rename}, specs.Operations.{operation_of}, specs.declared.operations.OperationRef.{OperationRef}}
+use Rattle.capacts.{proofs.Again.{denied-first}, proofs.Common.{Access, denial_of, Holder, Ino, Need, need, operation_needs, Rejection, rejection_of, Scene}, proofs.judge.operation_denial.Goals.{in-Get, in-Alter, in-Unlink, in-Rename}, specs.Operations.{operation_of}, specs.declared.operations.OperationRef.{OperationRef}}
 use Rattle.capacts.proofs.judge.operation_denial.Goals as goal
 
 -- the first access is denied

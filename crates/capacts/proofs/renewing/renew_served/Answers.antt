@@ -1,6 +1,6 @@
 use Rattle.std.proofs.Common.{◌≡◌, ◌⊎◌, inl, inr, false, ℕ, List, sym, ap, subst, ◌∙◌, rules, ◌==◌, ◌&&◌}
 use Rattle.std.specs.FinSet as set
-use Rattle.capacts.{proofs.Common.{ArePermitted, Operation, Nodes, permitted, Rmdir, Scene, tree_after, tree_with, Unlink}, proofs.Renewed.{along-begins, along-ends, alike-off, alike-far, inodes-more, is_at, permitted-on, room-told}, specs.Known.{KnownSets}, specs.Renewing.{has_entry}, specs.Served.{is_rename}}
+use Rattle.capacts.{proofs.Common.{ArePermitted, Nodes, Operation, permitted, Rmdir, Scene, tree_after, tree_with, Unlink}, proofs.Renewed.{along-begins, along-ends, alike-off, alike-far, inodes-more, is_at, permitted-on, room-told}, specs.Known.{KnownSets}, specs.Renewing.{has_entry}, specs.Served.{is_rename}}
 use Rattle.capacts.proofs.renewing.renew_served.Goals as goal
 
 -- the tree is that of before

@@ -1,6 +1,6 @@
 use Rattle.std.proofs.Common.{◌≡◌, Option, None, refl, sym, ap, ◌∙◌}
 use Rattle.caprules.specs.Lockmachine.Scene.{scene}
-use Rattle.capacts.proofs.{Again.{calls-passed, ends-rejection, ends-passed, ends-without_memory, tree-passed}, Common.{Operation, operation_after, operation_before, operation_needs, judged_again, Outcome, Rejection, rejection_of, Request, Scene, tree_after}, Memory.{rename-takes}, serving.serve.Goals.{After-carry_out-arg-2-1, then-not-judged+in_default, else-not-judged}}
+use Rattle.capacts.proofs.{Again.{calls-passed, ends-rejection, ends-passed, ends-without_memory, tree-passed}, Common.{judged_again, Operation, operation_after, operation_before, operation_needs, Outcome, Rejection, rejection_of, Request, Scene, tree_after}, Memory.{rename-takes}, serving.serve.Goals.{After-carry_out-arg-2-1, then-not-judged+in_default, else-not-judged}}
 use Rattle.capacts.proofs.serving.serve.Goals as goal
 
 -- it is judged as it asks

@@ -1,5 +1,5 @@
 use Rattle.std.{proofs.Common.{sym, ap, ◌∙◌}, specs.Option.{option_map}}
-use Rattle.capcore.{proofs.LockRequests.{operation-for, enqueuing-rejection}, proofs.Common.{Operation, operation_after, operation_before, operation_needs, operation_of, ByTest, Holder, judged, queue_tests, Scene, session_tests}, proofs.Rejections.{rejection-within, rejection-behind}, specs.UnderWay.{operation_event, event_of}, specs.declared.parts.MovingEvent.{MovingEvent}}
+use Rattle.capcore.{proofs.Common.{ByTest, Holder, judged, Operation, operation_after, operation_before, operation_needs, operation_of, queue_tests, Scene, session_tests}, proofs.LockRequests.{operation-for, enqueuing-rejection}, proofs.Rejections.{rejection-within, rejection-behind}, specs.UnderWay.{operation_event, event_of}, specs.declared.parts.MovingEvent.{MovingEvent}}
 use Rattle.capcore.proofs.judging.rejection.Goals as goal
 
 -- the tests before it is judged, and the one behind

@@ -1,6 +1,6 @@
 use Rattle.std.{proofs.Common.{rules, tests, ◌≡◌, Some, unwrap_or, sym, ap, ◌∙◌}, proofs.lemmas.Iterator.{YieldsList-from_slice}, proofs.lemmas.Iterator.Search.{position_from_yields_List}, specs.List.{find, position}}
 use Rattle.capsteps.proofs.{Capnotes.Taking.{taken, none_taken}, Lockmachine.Positions.{no_position}}
-use Rattle.capcore.{proofs.Common.{awaited_as, but_for, is_of_ticket, outcome_reply, Reply}, proofs.moving.awaited.Goals.{After-position, After-into_reply}}
+use Rattle.capcore.proofs.{Common.{awaited_as, but_for, is_of_ticket, outcome_reply, Reply}, moving.awaited.Goals.{After-position, After-into_reply}}
 use Rattle.capcore.proofs.moving.awaited.Goals as goal
 
 placed : (c : After-position) → c.position.result ≡ position (is_of_ticket c.args.ticket) c.args.due.now.items

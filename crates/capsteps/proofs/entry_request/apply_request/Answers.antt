@@ -2,7 +2,7 @@ use Rattle.std.{proofs.Common.{◌≡◌, Option, Some, None, cond, false, Bool,
 use Rattle.capbits.specs.Caps.{has}
 use Rattle.captable.specs.Tests.{ack_tests}
 use Rattle.capacts.specs.Caprules.Direct.{with_want}
-use Rattle.capsteps.{proofs.Common.{acked, Caps, changed, Entry, entry_at, first_failing, without_released, Holder, KnownSets, opening_wants, OpenMode, P, same_found, Scene, sets_of, Table, without_acked, touched, union, wanting, with_entry, without}, proofs.EntryKept.{kept-changed, kept-itself}, proofs.entry_request.apply_request.Goals.{in-Want, in-Open+in_ok-before-in-Open}, specs.EntryRequest.{entry_request_tests, table_after, StillKept}, specs.declared.entry_request.EntryRequest.{EntryRequest}}
+use Rattle.capsteps.{proofs.Common.{acked, Caps, changed, Entry, entry_at, first_failing, Holder, KnownSets, opening_wants, OpenMode, P, same_found, Scene, sets_of, Table, touched, union, wanting, with_entry, without, without_acked, without_released}, proofs.EntryKept.{kept-changed, kept-itself}, proofs.entry_request.apply_request.Goals.{in-Want, in-Open+in_ok-before-in-Open}, specs.EntryRequest.{entry_request_tests, table_after, StillKept}, specs.declared.entry_request.EntryRequest.{EntryRequest}}
 use Rattle.capsteps.proofs.entry_request.apply_request.Goals as goal
 
 -- the wanted set of an entry that is known is written, or changed

@@ -1,6 +1,6 @@
 use Rattle.std.proofs.{Common.{Contains, Some, is_some, ◌≡◌, ◌+◌, ◌∷◌, [], length, None, refl, sym, ap, subst, ◌∙◌, arith}, lemmas.List.{length-append}, lemmas.List.Elements.{Contains-push}}
 use Rattle.std.specs.FinSet as set
-use Rattle.capcore.{proofs.LockRequests.{operation-for, enqueuing-again, enqueuing-direct, enqueuing-rejection, enqueuing-affects, below-of_operation, order-of_operation, room-left}, proofs.Begun.{one-begun}, proofs.Common.{Affected, AffectsOne, alike-less, Operation, operation_needs, operation_of, arrival_tests, enqueues, Awaits, changes-still, direct, Endings, Event, found_by_number, Holder, InoSet, IsJudged, IsLockMap, judged_again, LockMap, next_request, one-counts, one-inode, rejection_of, Request, request_at, room-for, Scene, still-there, Ticket, view_of, waiting_tests, with_request}, specs.UnderWay.{operation_event, state_of}, specs.declared.parts.Answer.TheVariants.{Awaited}, specs.declared.parts.Parts.{Parts}}
+use Rattle.capcore.{proofs.Begun.{one-begun}, proofs.Common.{Affected, AffectsOne, alike-less, arrival_tests, Awaits, changes-still, direct, Endings, enqueues, Event, found_by_number, Holder, InoSet, IsJudged, IsLockMap, judged_again, LockMap, next_request, one-counts, one-inode, Operation, operation_needs, operation_of, rejection_of, Request, request_at, room-for, Scene, still-there, Ticket, view_of, waiting_tests, with_request}, proofs.LockRequests.{operation-for, enqueuing-again, enqueuing-direct, enqueuing-rejection, enqueuing-affects, below-of_operation, order-of_operation, room-left}, specs.UnderWay.{operation_event, state_of}, specs.declared.parts.Answer.TheVariants.{Awaited}, specs.declared.parts.Parts.{Parts}}
 use Rattle.capcore.proofs.parts.Parts.lock_request.Goals as goal
 
 pub enqueue_tested-ticket-requires-clause-room : goal.enqueue_tested-ticket-requires-clause-room
