@@ -1,7 +1,8 @@
 -- A conflict is listed exactly where two holdings are not apart.
-use Rattle.std.proofs.Common.{◌≡◌, Bool, true, false, ◌&&◌, ◌||◌, None, get_or, refl, sym, ap, ◌∙◌}
+use Rattle.std.proofs.Common.{◌≡◌, Bool, true, false, ◌&&◌, None, get_or, refl, sym, ap, ◌∙◌}
 use Rattle.std.specs.Prelude.{◌≢◌, ◌↔◌, IsTrue}
 use Rattle.std.specs.List.{list_any}
+use Rattle.std.proofs.Math.Bool.{or_comm}
 use Rattle.std.proofs.lemmas.Bool.{ne_eqb}
 use Rattle.std.proofs.lemmas.Option.{none-some}
 use Rattle.std.proofs.lemmas.List.Folds.{list_any_none}
@@ -15,14 +16,8 @@ use Rattle.capaudit.specs.declared.pairs.Holding.{Holding}
 use Rattle.capaudit.specs.Conflicts.{rivals, conflict_of}
 use Rattle.capaudit.proofs.Rivals.{test, in_all}
 
-or_swap : (a b : Bool) → (a || b) ≡ (b || a)
-or_swap true true = refl
-or_swap true false = refl
-or_swap false true = refl
-or_swap false false = refl
-
 either_way : (c d : Cap) → conflict c d ≡ conflict d c
-either_way c d = or_swap (list_any (same_cap d) (barred_by c)) (list_any (same_cap c) (barred_by d))
+either_way c d = or_comm (list_any (same_cap d) (barred_by c)) (list_any (same_cap c) (barred_by d))
 
 has-rivals : (caps : Caps) (d : Cap) → has (rivals caps) d ≡ list_any (test caps d) all_caps
 unfolding rivals

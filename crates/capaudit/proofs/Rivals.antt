@@ -1,9 +1,9 @@
 -- What conflicts with what a client holds.
-use Rattle.std.proofs.Common.{◌≡◌, ℕ, ◌+◌, ◌<◌, Bool, true, false, ◌&&◌, List, [], ◌∷◌, ◌++◌, length, get_or, take, drop, ◌≤◌, refl, sym, ap, ◌∙◌, append_assoc, Option}
+use Rattle.std.proofs.Common.{◌≡◌, ℕ, ◌+◌, ◌<◌, Bool, true, false, ◌&&◌, List, [], ◌∷◌, ◌++◌, length, get_or, take, ◌≤◌, refl, sym, ap, ◌∙◌, append_assoc, Option}
 use Rattle.std.specs.Prelude.{filter_map}
 use Rattle.std.specs.List.{list_any, list_all, cons_option}
 use Rattle.std.proofs.lemmas.Bool.{and_left}
-use Rattle.std.proofs.lemmas.List.{drop_more, take_more}
+use Rattle.std.proofs.lemmas.List.{take_more}
 use Rattle.std.proofs.lemmas.List.Elements.{filter_map-append}
 use Rattle.capbits.specs.declared.cap.Cap.{Cap}
 use Rattle.capbits.specs.declared.cap.Cap.TheVariants.{P, As, Ax, Ls, Lx, Xs, Xx, Fs, Fx, Fc, Fr, Fw, Fb, Fa, Fl}
@@ -12,7 +12,7 @@ use Rattle.capbits.specs.Sets.{same_cap, caps_in, union, same_caps, has-where, h
 use Rattle.locktable.specs.Conflicts.{conflict}
 use Rattle.capaudit.specs.declared.pairs.Holding.{Holding}
 use Rattle.capaudit.specs.declared.pairs.Conflict.{Conflict}
-use Rattle.capaudit.specs.Conflicts.{rivals, conflicting, conflict_of, conflicts_of}
+use Rattle.capaudit.specs.Conflicts.{rivals, conflicting, conflict_of}
 use Rattle.capaudit.proofs.Gathering.{IsGathered, one_more, no_more, all_of}
 
 pub in_all : (c : Cap) → list_any (same_cap c) all_caps ≡ true
@@ -73,15 +73,6 @@ no_rival_more caps found after i d within gathered out is_after = no_more (test 
 pub are_rivals : (caps found : Caps) (i : ℕ) → length all_caps ≤ i → IsGathered (test caps) (take i all_caps) found → found ≡ rivals caps
 unfolding rivals
 are_rivals caps found i end gathered = same_caps found (rivals caps) (λ c. all_of (test caps) all_caps found i end gathered c ∙ sym (has-where (λ e. list_any (test caps e) all_caps) c))
-
--- ---- the loop over the holdings
-
-pub one_holding_more : (found more : List Conflict) (hs : List Holding) (i : ℕ) (one : Holding) → i < length hs → one ≡ get_or hs i one → found ++ conflicts_of (drop i hs) ≡ conflicts_of hs → more ≡ found ++ filter_map (conflict_of one) (drop (i + 1) hs) → more ++ conflicts_of (drop (i + 1) hs) ≡ conflicts_of hs
-one_holding_more found more hs i one within at before is =
-    ap (λ (xs : List Conflict). xs ++ conflicts_of (drop (i + 1) hs)) is
-    ∙ append_assoc found (filter_map (conflict_of one) (drop (i + 1) hs)) (conflicts_of (drop (i + 1) hs))
-    ∙ ap (λ (xs : List Holding). found ++ conflicts_of xs) (sym (drop_more hs i one within ∙ ap (λ (x : Holding). x ∷ drop (i + 1) hs) (sym at)))
-    ∙ before
 
 -- ---- the loop over the others
 

@@ -122,7 +122,7 @@ before_number k = codes "grant " ++ (decimal k ++ codes " rule ")
 in_front : (k : ℕ) (r : Rule) (s : List ℕ) → failure_text (k, r) ++ s ≡ before_number k ++ (decimal (rule_number r) ++ 32 ∷ (rule_word r ++ s))
 in_front k r s = simp append_assoc
 
-one_failure : (k : ℕ) (r q : Rule) (s t : List ℕ) → failure_text (k, r) ++ s ≡ failure_text (k, q) ++ t → (r ≡ q) × (s ≡ t)
+pub one_failure : (k : ℕ) (r q : Rule) (s t : List ℕ) → failure_text (k, r) ++ s ≡ failure_text (k, q) ++ t → (r ≡ q) × (s ≡ t)
 one_failure k r q s t same =
     let behind = append_cancel_left (before_number k) (decimal (rule_number r) ++ 32 ∷ (rule_word r ++ s)) (decimal (rule_number q) ++ 32 ∷ (rule_word q ++ t)) (sym (in_front k r s) ∙ same ∙ in_front k q t) in
     let small = (has_number r).1 in

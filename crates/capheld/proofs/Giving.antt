@@ -9,9 +9,6 @@ module _ {X Y : Type 0} (Gives : X → List Y → Type 0) (xs : List X) where
   abbrev pub IsGiven : ℕ → List Y → Type 0
   IsGiven i before = (rest : List Y) → Give Gives (drop i xs) rest → Give Gives xs (before ++ rest)
 
-  pub none_given : (before : List Y) → before ≡ [] → IsGiven 0 before
-  none_given before none rest given = subst (λ (t : List Y). Give Gives xs (t ++ rest)) (sym none) given
-
   pub one_given : (i : ℕ) (x : X) (before after some : List Y) → i < length xs → x ≡ get_or xs i x → IsGiven i before → after ≡ before ++ some → Gives x some → IsGiven (i + 1) after
   one_given i x before after some inside is begun added gives rest given =
       let here : drop i xs ≡ x ∷ drop (i + 1) xs = drop_more xs i x inside ∙ ap (λ (y : X). y ∷ drop (i + 1) xs) (sym is) in

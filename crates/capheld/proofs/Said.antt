@@ -13,11 +13,6 @@ module _ {X : Type 0} (Says : X → List ℕ → List ℕ → Type 0) (xs : List
   pub none_yet : IsBegun 0 [] []
   none_yet rest more said = said
 
-  pub nothing_yet : (found unknown : List ℕ) → found ≡ [] → unknown ≡ [] → IsBegun 0 found unknown
-  nothing_yet found unknown none_found none_unknown rest more said =
-      subst (λ (t : List ℕ). AreSaid Says xs (t ++ rest) (unknown ++ more)) (sym none_found)
-      (subst (λ (t : List ℕ). AreSaid Says xs rest (t ++ more)) (sym none_unknown) said)
-
   pub one_further : (i : ℕ) (x : X) (found unknown : List ℕ) → i < length xs → x ≡ get_or xs i x → IsBegun i found unknown → (f u : List ℕ) → Says x f u → IsBegun (i + 1) (found ++ f) (unknown ++ u)
   one_further i x found unknown inside is begun f u says rest more said =
       let here : drop i xs ≡ x ∷ drop (i + 1) xs = drop_more xs i x inside ∙ ap (λ (y : X). y ∷ drop (i + 1) xs) (sym is) in

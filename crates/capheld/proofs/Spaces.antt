@@ -4,14 +4,11 @@ use Rattle.std.specs.Prelude.{codes}
 use Rattle.std.specs.Fmt.{decimal, digit_glyph}
 use Rattle.std.specs.List.{list_all, flat_map}
 use Rattle.std.proofs.lemmas.Bool.{and_parts, and_from, or_parts, ltb-true, ltb-false, lt-ltb, ne_eqb, not_from_false}
-use Rattle.std.proofs.lemmas.List.{append_cancel_left}
-use Rattle.std.proofs.lemmas.List.Folds.{list_all-append}
 use Rattle.capbits.specs.Caps.{Caps}
 use Rattle.capbits.specs.Text.{text_of}
 use Rattle.capexplain.specs.PartTexts.{byte_text}
 use Rattle.capexplain.specs.Quoting.{is_control, is_mark, is_plain, escaped, quoted}
-use Rattle.capexplain.proofs.Quoted.{alone}
-use Rattle.capheld.proofs.Words.{is_digit, is_letter, differs, until, are_digits, are_letters}
+use Rattle.capheld.proofs.Words.{is_digit, is_letter, differs, are_digits, are_letters}
 
 -- outside of quotes, inside, and inside behind a backslash
 pub data Side : Type 0 where
@@ -50,7 +47,7 @@ past_plain xs s all = past is_plain xs s refl refl all
 
 -- ---- texts in quotes
 
--- hexadecimal digits are no quote, no backslash and no line feed
+-- hexadecimal digits are no quote and no backslash
 abbrev is_glyph : ℕ → Bool
 is_glyph b = nat_lt 47 b && not (b == 92)
 
@@ -95,48 +92,3 @@ past_quoted xs s =
       | true ↦ λ plain. past_plain xs s plain
       | false ↦ λ other. ap (beyond inside) (append_assoc (flat_map escaped xs) (codes "\"") s) ∙ past_escaped xs (34 ∷ s)
     ] refl
-
--- ---- a line feed stands in no quotes
-
-abbrev is_other : ℕ → Bool
-is_other b = not (b == 10)
-
-other : (x : ℕ) → (x == 10) ≡ false → is_other x ≡ true
-other x apart = not_from_false (x == 10) apart
-
-all_plain : (xs : List ℕ) → list_all is_plain xs ≡ true → list_all is_other xs ≡ true
-all_plain [] all = refl
-all_plain (x ∷ xs) all =
-    let parts = and_parts (is_plain x) (list_all is_plain xs) all in
-    and_from (is_other x) (list_all is_other xs) (other x (differs is_plain x 10 parts.0 refl)) (all_plain xs parts.1)
-
-all_glyphs : (h l : ℕ) → list_all is_other (92 ∷ 120 ∷ digit_glyph false h ∷ digit_glyph false l ∷ []) ≡ true
-all_glyphs h l =
-    let high = digit_glyph false h in
-    let low = digit_glyph false l in
-    and_from (is_other high) (is_other low && true) (other high (differs is_glyph high 10 (glyph h) refl)) (and_from (is_other low) true (other low (differs is_glyph low 10 (glyph l) refl)) refl)
-
-all_of_byte : (x : ℕ) → list_all is_other (escaped x) ≡ true
-all_of_byte x =
-    elim (is_control x) as (λ c. is_control x ≡ c → list_all is_other (cond c (codes "\\x" ++ byte_text x) (cond (is_mark x) (92 ∷ x ∷ []) (x ∷ []))) ≡ true) [
-      | true ↦ λ e. all_glyphs (x / 16) (x % 16)
-      | false ↦ λ e.
-          let apart = other x (differs (λ b. not (is_control b)) x 10 (not_from_false (is_control x) e) refl) in
-          elim (is_mark x) as (λ m. list_all is_other (cond m (92 ∷ x ∷ []) (x ∷ [])) ≡ true) [ true ↦ and_from (is_other x) true apart refl | false ↦ and_from (is_other x) true apart refl ]
-    ] refl
-
-all_escaped : (xs : List ℕ) → list_all is_other (flat_map escaped xs) ≡ true
-all_escaped [] = refl
-all_escaped (x ∷ xs) = list_all-append is_other (escaped x) (flat_map escaped xs) ∙ and_from (list_all is_other (escaped x)) (list_all is_other (flat_map escaped xs)) (all_of_byte x) (all_escaped xs)
-
-all_quoted : (xs : List ℕ) → list_all is_other (quoted xs) ≡ true
-all_quoted xs =
-    elim (list_all is_plain xs) as (λ b. list_all is_plain xs ≡ b → list_all is_other (cond b xs (codes "\"" ++ (flat_map escaped xs ++ codes "\""))) ≡ true) [
-      | true ↦ λ plain. all_plain xs plain
-      | false ↦ λ e. list_all-append is_other (flat_map escaped xs) (codes "\"") ∙ and_from (list_all is_other (flat_map escaped xs)) true (all_escaped xs) refl
-    ] refl
-
-pub before_feed : (xs ys s t : List ℕ) → quoted xs ++ 10 ∷ s ≡ quoted ys ++ 10 ∷ t → (xs ≡ ys) × (s ≡ t)
-before_feed xs ys s t same =
-    let both = until is_other (quoted xs) (quoted ys) (10 ∷ s) (10 ∷ t) (all_quoted xs) (all_quoted ys) refl refl same in
-    (alone xs ys both.0, append_cancel_left (codes "\n") s t both.1)

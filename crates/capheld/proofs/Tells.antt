@@ -16,14 +16,14 @@ use Rattle.capexplain.specs.Explaining.{path_text}
 use Rattle.capexplain.specs.Quoting.{quoted}
 use Rattle.capexplain.specs.Standing.{fault_word, unread_line}
 use Rattle.capexplain.proofs.Clients.{one_fault}
-use Rattle.capexplain.proofs.Quoted.{first_byte, clash, bare, before_word, before_a_space}
+use Rattle.capexplain.proofs.Quoted.{first_byte, clash, bare, before_word, before_a_line_feed, before_a_space}
 use Rattle.capheld.specs.declared.notes.Detail.TheVariants.{Each, Groups}
 use Rattle.capheld.specs.declared.summary.Counts.{Counts}
 use Rattle.capheld.specs.Lines.{why_text, revoked_text, place_text, who_text, on_inode, holder_text}
-use Rattle.capheld.specs.Told.{Line, HasNumbers, AreCounts, line_text, reasons, IsOneInode, IsOneClient, TellTheSame, AllTellTheSame}
+use Rattle.capheld.specs.Told.{Line, HasNumbers, AreCounts, line_text, IsOneInode, IsOneClient, TellTheSame, AllTellTheSame}
 use Rattle.capheld.specs.Told as told
 use Rattle.capheld.proofs.Words.{is_digit, number, no_number, one_caps, before_why, one_revoked, one_why}
-use Rattle.capheld.proofs.Spaces.{behind, past_quoted, before_feed}
+use Rattle.capheld.proofs.Spaces.{behind, past_quoted}
 use Rattle.capheld.proofs.Openings.{opening, opening_path, kind_of, none, place_is, of_held, of_strange, on_path, of_group, of_clash, of_pathless, on_number, of_unnamed, of_unlisted, plain_fault, of_unread, of_nothing, of_summary}
 
 -- ---- a line and what stands behind it, part by part
@@ -312,7 +312,7 @@ one_pathless k l c d m n i j s t small also same =
     let who = one_holder m n (Some c) (Some d) u v small.1 also.1 refl refl (append_cancel_left (codes ": no path: ") (who_text c m ++ u) (who_text d n ++ v) inode.1) in
     let names : Some c ≡ Some d = who.1 in
     let name : c ≡ d = cc in
-    let issued = before_feed i j s t (append_cancel_left (codes " holds ") (quoted i ++ 10 ∷ s) (quoted j ++ 10 ∷ t) who.2) in
+    let issued = before_a_line_feed i j s t (append_cancel_left (codes " holds ") (quoted i ++ 10 ∷ s) (quoted j ++ 10 ∷ t) who.2) in
     ((inode.0, name, who.0, issued.0), issued.1)
 
 one_summary : (m n : Counts) (s t : List ℕ) → AreCounts m → AreCounts n → laid (told.summary m) s ≡ laid (told.summary n) t → (m ≡ n) × (s ≡ t)

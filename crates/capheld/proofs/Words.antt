@@ -1,9 +1,9 @@
--- Words in a line: the digits of numbers, and the letters of sets of caps and of rules.
+-- Words in a line: the digits of numbers, and the letters of sets of caps.
 use Rattle.std.proofs.Common.{◌≡◌, ℕ, ◌+◌, ◌<◌, ◌^◌, ◌%◌, ◌==◌, ◌&&◌, Bool, true, false, nat_lt, cond, Option, Some, None, List, [], ◌∷◌, ◌++◌, map, filter, drop, refl, sym, ap, ◌∙◌, append_assoc, arith}
 use Rattle.std.specs.Prelude.{codes, ◌||◌}
 use Rattle.std.specs.Fmt.{decimal}
 use Rattle.std.specs.List.{list_all, flat_map, enumerate_from}
-use Rattle.std.proofs.lemmas.Bool.{false≢true, and_parts, and_from, and_left, or_from, lt-ltb, le-ltb, ne_eqb}
+use Rattle.std.proofs.lemmas.Bool.{false≢true, and_parts, and_from, lt-ltb, ne_eqb}
 use Rattle.std.proofs.lemmas.Fmt.{decimal_by_steps, decimal_injective}
 use Rattle.std.proofs.lemmas.List.{append_cancel_left}
 use Rattle.std.proofs.lemmas.List.Folds.{list_all-append}
@@ -18,15 +18,13 @@ use Rattle.capbits.proofs.Emptiness.{is_empty-no_caps}
 use Rattle.capbits.proofs.Following.{text_of-injective}
 use Rattle.capgrant.specs.declared.access.Access.{Access}
 use Rattle.capgrant.specs.declared.rule.Rule.{Rule}
-use Rattle.capgrant.specs.declared.rule.Rule.TheVariants as rules
-use Rattle.capgrant.specs.Rule.{rule_number, rule_word}
 use Rattle.capexplain.specs.Explaining.{failure_text, failures_text}
-use Rattle.capexplain.proofs.Answered.{one_list}
+use Rattle.capexplain.proofs.Answered.{one_failure}
 use Rattle.capexplain.proofs.Quoted.{first_byte, clash}
 use Rattle.capheld.specs.Lines.{why_text, revoked_text}
 use Rattle.capheld.specs.Told.{reasons}
 
--- a dash is no letter, but stands for no caps, and in the words of rules
+-- a dash is no letter, but stands for no caps
 abbrev pub is_letter : ℕ → Bool
 is_letter byte = (nat_lt 58 byte && nat_lt byte 128) || (byte == 45)
 
@@ -158,49 +156,8 @@ one_revoked r q s t =
 
 -- ---- rules
 
-fits : (r : Rule) → rule_number r < 2 ^ 64
-fits rules.FsName = omega arith
-fits r = omega arith
-
-all_of_word : (r : Rule) → list_all is_letter (rule_word r) ≡ true
-all_of_word rules.FsName = refl
-all_of_word r = refl
-
--- a rule is told by its number and its word, as in the text of one grant
-abbrev of_grant : ℕ → List ℕ → List ℕ
-of_grant n word = (codes "grant " ++ decimal 1 ++ codes " rule " ++ decimal n ++ codes " " ++ word) ++ []
-
-abbrev first_rule : Rule → List Rule → Rule
-first_rule other [] = other
-first_rule other (r ∷ more) = r
-
-one_rule : (r q : Rule) → rule_number r ≡ rule_number q → rule_word r ≡ rule_word q → r ≡ q
-one_rule r q numbers words =
-    let line : failures_text (r ∷ []) ≡ failures_text (q ∷ []) = λ i. of_grant (numbers i) (words i) in
-    ap (first_rule r) (one_list (r ∷ []) (q ∷ []) line)
-
-abbrev before_number : ℕ → List ℕ
-before_number k = codes "grant " ++ (decimal k ++ codes " rule ")
-
-in_front : (k : ℕ) (r : Rule) (s : List ℕ) → failure_text (k, r) ++ s ≡ before_number k ++ (decimal (rule_number r) ++ 32 ∷ (rule_word r ++ s))
-in_front k r s = simp append_assoc
-
-one_failure : (k : ℕ) (r q : Rule) (s t : List ℕ) → is_letter (first_byte s) ≡ false → is_letter (first_byte t) ≡ false → failure_text (k, r) ++ s ≡ failure_text (k, q) ++ t → (r ≡ q) × (s ≡ t)
-one_failure k r q s t ends too same =
-    let behind = append_cancel_left (before_number k) (decimal (rule_number r) ++ 32 ∷ (rule_word r ++ s)) (decimal (rule_number q) ++ 32 ∷ (rule_word q ++ t)) (sym (in_front k r s) ∙ same ∙ in_front k q t) in
-    let numbers = number (rule_number r) (rule_number q) (32 ∷ (rule_word r ++ s)) (32 ∷ (rule_word q ++ t)) (fits r) (fits q) refl refl behind in
-    let words = until is_letter (rule_word r) (rule_word q) s t (all_of_word r) (all_of_word q) ends too (append_cancel_left (codes " ") (rule_word r ++ s) (rule_word q ++ t) numbers.1) in
-    (one_rule r q numbers.0 words.0, words.1)
-
 abbrev further : ℕ × Rule → List ℕ
 further failure = codes ", " ++ failure_text failure
-
-no_letter : (b : ℕ) → b < 44 → is_letter b ≡ false
-no_letter b below = or_from (nat_lt 58 b && nat_lt b 128) (b == 45) (and_left (nat_lt 58 b) (nat_lt b 128) (le-ltb 58 b (omega arith))) (ne_eqb b 45 (λ e. omega arith))
-
-row_ends : (n : ℕ) (rs : List Rule) (s : List ℕ) → first_byte s < 44 → is_letter (first_byte (flat_map further (enumerate_from n rs) ++ s)) ≡ false
-row_ends n [] s below = no_letter (first_byte s) below
-row_ends n (r ∷ rs) s below = refl
 
 -- behind the last no comma stands
 one_row : (n : ℕ) (rs qs : List Rule) (s t : List ℕ) → first_byte s < 44 → first_byte t < 44 → flat_map further (enumerate_from n rs) ++ s ≡ flat_map further (enumerate_from n qs) ++ t → (rs ≡ qs) × (s ≡ t)
@@ -211,7 +168,7 @@ one_row n (r ∷ rs) (q ∷ qs) s t below too same =
     let u : List ℕ = flat_map further (enumerate_from (n + 1) rs) in
     let v : List ℕ = flat_map further (enumerate_from (n + 1) qs) in
     let behind = append_cancel_left (codes ", ") ((failure_text (n, r) ++ u) ++ s) ((failure_text (n, q) ++ v) ++ t) same in
-    let both = one_failure n r q (u ++ s) (v ++ t) (row_ends (n + 1) rs s below) (row_ends (n + 1) qs t too) (sym (append_assoc (failure_text (n, r)) u s) ∙ behind ∙ append_assoc (failure_text (n, q)) v t) in
+    let both = one_failure n r q (u ++ s) (v ++ t) (sym (append_assoc (failure_text (n, r)) u s) ∙ behind ∙ append_assoc (failure_text (n, q)) v t) in
     let more = one_row (n + 1) rs qs s t below too both.1 in
     let here : r ≡ q = both.0 in
     let rest : rs ≡ qs = more.0 in
@@ -224,7 +181,7 @@ one_reason (r ∷ rs) [] s t below too same = clash 103 110 (omega arith) (ap fi
 one_reason (r ∷ rs) (q ∷ qs) s t below too same =
     let u : List ℕ = flat_map further (enumerate_from 2 rs) in
     let v : List ℕ = flat_map further (enumerate_from 2 qs) in
-    let both = one_failure 1 r q (u ++ s) (v ++ t) (row_ends 2 rs s below) (row_ends 2 qs t too) (sym (append_assoc (failure_text (1, r)) u s) ∙ same ∙ append_assoc (failure_text (1, q)) v t) in
+    let both = one_failure 1 r q (u ++ s) (v ++ t) (sym (append_assoc (failure_text (1, r)) u s) ∙ same ∙ append_assoc (failure_text (1, q)) v t) in
     let more = one_row 2 rs qs s t below too both.1 in
     let here : r ≡ q = both.0 in
     let rest : rs ≡ qs = more.0 in

@@ -1,11 +1,11 @@
 -- Values without a float, which nest at most so deep.
 use Rattle.std.proofs.Common.{◌≡◌, ℕ, suc, ◌≤◌, Bool, true, false, cond, List, [], ◌∷◌, map, Option, None, Some, Ordering, Less, Equal, Greater, nat_cmp, refl, sym, subst, arith}
-use Rattle.std.specs.Prelude.{⊤, ◌||◌, codes}
+use Rattle.std.specs.Prelude.{⊤, codes}
 use Rattle.std.specs.Cmp.Lexicographic.{slice_cmp}
 use Rattle.std.specs.List.{enumerate_from}
 use Rattle.std.specs.Ordering.{match_ordering}
 use Rattle.std.specs.Str.{is_utf8}
-use Rattle.std.proofs.lemmas.Bool.{or_parts}
+use Rattle.std.proofs.lemmas.Bool.{or_parts, or_from}
 use Rattle.hex.specs.Hex.{encode_lower}
 use Rattle.serde_json.specs.Data.{Data, string, object, Members, no_members, member, put, depth, items_depth, members_depth}
 use Rattle.serde_json.specs.View.{items_of}
@@ -22,11 +22,9 @@ use Rattle.capgrant.specs.Question.{Question, question}
 use Rattle.capgrant.specs.Rule.{rule_number, rule_word}
 use Rattle.capexplain.specs.Explaining.{path_text}
 use Rattle.capexplain.specs.PartTexts.{mode_text}
-use Rattle.capexplain.specs.Standing.{fault_word}
 use Rattle.capremarks.specs.declared.differences.Difference.{Difference}
 use Rattle.capremarks.specs.declared.differences.Difference.TheVariants.{OtherFileSystem, AttributeByFlag, ModeByBits, LargeUid}
 use Rattle.capremarks.specs.declared.differences.Otherwise.{Otherwise}
-use Rattle.capspec.specs.declared.fault.SpecFault.{SpecFault}
 use Rattle.capremarks.specs.Capcompare.declared.witness.Witness.{Witness}
 use Rattle.capexplain.specs.Capwho.declared.standing.Standing.{Standing}
 use Rattle.capexplain.specs.Capwho.declared.standing.Standing.TheVariants as standings
@@ -39,7 +37,7 @@ use Rattle.capjson.specs.Values.{Table, with_all, object_of, natural, numbers_va
 use Rattle.capjson.specs.Answers.{place_table, caller_table, attr_table, with_question, rule_value, rules_value, allowing_table, verdict_table, difference_value, otherwise_value, otherwise_table, remarks_table, answer_value, verdict_word}
 use Rattle.capjson.specs.Changes.{with_witness, change_table, change_value}
 use Rattle.capjson.specs.Findings.{finding_table, undone_value}
-use Rattle.capjson.specs.Standings.{known_table, with_client, standing_table, standing_value, fault_table, unread_value}
+use Rattle.capjson.specs.Standings.{known_table, with_client, standing_table, standing_value}
 
 -- ---- any values
 
@@ -49,16 +47,13 @@ IsFlat n d = (has_float d ≡ false) × (depth d ≤ n)
 abbrev pub AreFlat : ℕ → Members → Type 0
 AreFlat n ms = (members_have_float ms ≡ false) × (members_depth ms ≤ n)
 
-neither : (a b : Bool) → a ≡ false → b ≡ false → (a || b) ≡ false
-neither a b p q = rw (p, q) refl
-
 ordered : (P : Members → Type 0) (o : Ordering) (a b c : Members) → P a → P b → P c → P (match_ordering o a b c)
 ordered P Less a b c p q r = p
 ordered P Equal a b c p q r = q
 ordered P Greater a b c p q r = r
 
 flat-member : (n : ℕ) (k : List ℕ) (d : Data) (ms : Members) → IsFlat n d → AreFlat n ms → AreFlat n (member k d ms)
-flat-member n k d ms p q = (neither (has_float d) (members_have_float ms) p.0 q.0, omega (arith, p.1, q.1))
+flat-member n k d ms p q = (or_from (has_float d) (members_have_float ms) p.0 q.0, omega (arith, p.1, q.1))
 
 flat-put : (n : ℕ) (k : List ℕ) (d : Data) (ms : Members) → IsFlat n d → AreFlat n ms → AreFlat n (put k d ms)
 flat-put n k d no_members p q = flat-member n k d no_members p q
@@ -91,7 +86,7 @@ flat-items n f each [] = (refl, omega arith)
 flat-items n f each (x ∷ xs) =
     let here = each x in
     let more = flat-items n f each xs in
-    (neither (has_float (f x)) (items_have_float (items_of (map f xs))) here.0 more.0, omega (arith, here.1, more.1))
+    (or_from (has_float (f x)) (items_have_float (items_of (map f xs))) here.0 more.0, omega (arith, here.1, more.1))
 
 -- ---- those of answers
 
@@ -216,11 +211,6 @@ plain-standing client w attr standing other =
     let judged = with_all (standing_table standing) asked in
     plain-object (with_all (otherwise_table other) judged) (flat-with_all 2 (otherwise_table other) judged (flat-other other) (flat-with_all 2 (standing_table standing) asked (flat-standing standing) (flat-client client w attr)))
 
-pub plain-unread : (client : List ℕ) (w : Wanted) (attr : Option Attr) (fault : SpecFault) → IsPlain (unread_value client w attr fault)
-plain-unread client w attr fault =
-    let asked = with_client client w attr no_members in
-    plain-object (with_all (fault_table fault) asked) (flat-with_all 2 (fault_table fault) asked (flat-string 2 (codes "unread"), (flat-string 2 (fault_word fault.kind), (flat-natural 2 fault.at, tt))) (flat-client client w attr))
-
 -- ---- those of changes and findings
 
 flat-witness : (key : List ℕ) (w : Witness) (ms : Members) → AreFlat 2 ms → AreFlat 2 (with_witness key w ms)
@@ -231,9 +221,6 @@ flat-witness key w ms flat =
 flat-change : (change : List ℕ) → AreFlat 2 (with_all (change_table change) no_members)
 flat-change change = flat-with_all 2 (change_table change) no_members (flat-string 2 change, tt) (none 2)
 
-pub plain-none : (change : List ℕ) → IsPlain (object_of (change_table change))
-plain-none change = plain-object (with_all (change_table change) no_members) (flat-change change)
-
 pub plain-change : (change : List ℕ) (w : Witness) → IsPlain (change_value change w)
 plain-change change w =
     let begun = with_all (change_table change) no_members in
@@ -241,9 +228,6 @@ plain-change change w =
 
 flat-finding : (finding : List ℕ) (grant : ℕ) → AreFlat 2 (with_all (finding_table finding grant) no_members)
 flat-finding finding grant = flat-with_all 2 (finding_table finding grant) no_members (flat-string 2 finding, (flat-natural 2 grant, tt)) (none 2)
-
-pub plain-finding : (finding : List ℕ) (grant : ℕ) → IsPlain (object_of (finding_table finding grant))
-plain-finding finding grant = plain-object (with_all (finding_table finding grant) no_members) (flat-finding finding grant)
 
 pub plain-undone : (grant : ℕ) (w : Witness) → IsPlain (undone_value grant w)
 plain-undone grant w =

@@ -1,7 +1,7 @@
 -- Group numbers between commas: what a loop over the pieces knows of the whole text.
-use Rattle.std.proofs.Common.{◌≡◌, ℕ, ◌^◌, ◌<◌, ◌≤◌, Bool, true, false, zero, suc, List, [], ◌∷◌, ◌++◌, length, map, get_or, refl, sym, ap, subst, ◌∙◌, arith, inl, inr}
+use Rattle.std.proofs.Common.{◌≡◌, ℕ, ◌^◌, ◌<◌, ◌≤◌, Bool, true, false, zero, suc, List, [], ◌∷◌, ◌++◌, length, get_or, refl, sym, ap, subst, ◌∙◌, arith, inl, inr}
 use Rattle.std.specs.List.{slice_split}
-use Rattle.std.specs.Prelude.{◌⊎◌, nat_lt, nat_le, ◌&&◌, bytes_eq, codes, Option, Some, None, Result, Ok, Err, IsOk, OnOk, is_err, IsErrAnd, if◌then◌else◌}
+use Rattle.std.specs.Prelude.{◌⊎◌, nat_lt, nat_le, ◌&&◌, bytes_eq, codes, Result, Ok, Err, IsOk, OnOk, is_err, IsErrAnd, if◌then◌else◌}
 use Rattle.std.specs.Str.Parse.{digits_value}
 use Rattle.std.proofs.lemmas.Bool.{false≢true}
 use Rattle.std.proofs.lemmas.Bool.Decides.{nat_tests}

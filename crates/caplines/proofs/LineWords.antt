@@ -85,14 +85,6 @@ cut_more text parts all rest word behind pushed cut next =
 
 -- ---- a line whose third part is all that is left of it
 
--- one word has nothing behind it
-pub no_argument : (text : List ℕ) → words text ≡ text ∷ [] → arguments_in text ≡ []
-no_argument text whole = ap (λ (ws : List (List ℕ)). drop 1 (six_parts ws)) whole
-
--- and of two words the second alone is behind the first
-pub only_argument : (text word behind : List ℕ) → words text ≡ word ∷ words behind → words behind ≡ behind ∷ [] → arguments_in text ≡ behind ∷ []
-only_argument text word behind first whole = ap (λ (ws : List (List ℕ)). drop 1 (six_parts ws)) (first ∙ ap (λ (ws : List (List ℕ)). word ∷ ws) whole)
-
 -- the words from the third on may be joined as one, and what they are with spaces between them stays
 joined : (a b c : List ℕ) (ws : List (List ℕ)) → (more : List (List ℕ)) × (six_parts (a ∷ b ∷ c ∷ ws) ≡ a ∷ b ∷ c ∷ more) × (spaced (c ∷ more) ≡ spaced (c ∷ ws))
 joined a b c [] = ([], refl, refl)

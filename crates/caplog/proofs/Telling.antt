@@ -11,14 +11,6 @@ pub record SoFar (fs log rest told : List ℕ) (number passed : ℕ) : Type 0 wh
   pub left : number + length rest ≤ length log + 1
   pub few : passed < number
 
-pub nothing_yet : (fs log told : List ℕ) → told ≡ [] → SoFar fs log log told 1 0
-nothing_yet fs log told none = record {
-  begun = λ more all. subst (λ (t : List ℕ). AreTold fs 1 (lines log) (t ++ more)) (sym none) all;
-  counted = omega arith;
-  left = omega arith;
-  few = omega arith;
-}
-
 -- one line more
 pub one_more : (fs log rest told line behind after : List ℕ) (number passed one : ℕ) → SoFar fs log rest told number passed → lines rest ≡ line ∷ lines behind → length behind < length rest
     → ((more : List ℕ) × (after ≡ told ++ more) × IsTold fs number line more) → one ≡ passed_over line → one ≤ 1 → SoFar fs log behind after (number + 1) (passed + one)

@@ -12,9 +12,6 @@ use Rattle.capquestion.specs.declared.clients.Telling.{Telling}
 abbrev pub IsBegun : Telling → Wanted → Option Attr → List Named → ℕ → List ℕ → Type 0
 IsBegun telling w attr es i text = (rest : List ℕ) → AreLines telling w attr (drop i es) rest → AreLines telling w attr es (text ++ rest)
 
-pub nothing_yet : (telling : Telling) (w : Wanted) (attr : Option Attr) (es : List Named) (text : List ℕ) → text ≡ [] → IsBegun telling w attr es 0 text
-nothing_yet telling w attr es text none rest lines = subst (λ (t : List ℕ). AreLines telling w attr es (t ++ rest)) (sym none) lines
-
 module _ (telling : Telling) (w : Wanted) (attr : Option Attr) (es : List Named) (i : ℕ) (e : Named) (text : List ℕ) (inside : i < length es) (is : e ≡ get_or es i e) (begun : IsBegun telling w attr es i text) where
   here : drop i es ≡ e ∷ drop (i + 1) es
   here = drop_more es i e inside ∙ ap (λ (x : Named). x ∷ drop (i + 1) es) (sym is)

@@ -3,21 +3,13 @@ use Rattle.std.proofs.Common.{◌≡◌, ℕ, ◌+◌, ◌<◌, ◌≤◌, Bool,
 use Rattle.std.specs.Prelude.{◌⊎◌, ◌≢◌, IsTrue, IsFalse, filter, Option, Some, None, IfSome, Result, Ok, Err, OnOk, OnErr, IfErr, IsErrAnd}
 use Rattle.std.specs.Io.KnownBytes.{Appends, Consumes, IsAtEnd}
 use Rattle.std.specs.List.{AllByRecursion}
-use Rattle.std.specs.FinMap as map
-use Rattle.std.specs.Ordering.{nat_cmp, eq_by_cmp}
-use Rattle.std.specs.Option.{option_map}
-use Rattle.std.proofs.lemmas.Cmp.{nat_cmp_total}
 use Rattle.std.proofs.lemmas.List.{map-append, append-nil}
 use Rattle.std.proofs.lemmas.List.Concat.{flat_map-append}
-use Rattle.inotree.specs.declared.node.Node.{Node}
-use Rattle.std.specs.FinSet as set
-use Rattle.capcore.specs.Lockmachine.Inodes.{in_sync}
 use Rattle.inotree.specs.Calls.{first_tree}
 use Rattle.capcore.specs.Capevents.declared.event.Event.{Event}
 use Rattle.capcore.specs.Capevents.declared.row.Row.{Row}
 use Rattle.capcore.specs.Caprules.Numbers.{AreNumbered, rows_of}
 use Rattle.capcore.specs.Caprules.History.{Recorded, IsOpening, Replays}
-use Rattle.capcore.specs.Caprules.State.{State}
 use Rattle.capbits.specs.declared.ids.ClientId.{ClientId}
 use Rattle.capstreams.specs.Caplines.Events.{Reads}
 use Rattle.capstreams.specs.Caplines.Faults.{IsStop}
@@ -30,41 +22,6 @@ use Rattle.capcore.proofs.Growing.{replays-more}
 use Rattle.capcore.proofs.Capacts.Numbered.{numbered-nil, numbered-snoc}
 use Rattle.capstreams.proofs.Caplines.SaidLines.{not_skipped}
 use Rattle.capstreams.proofs.KnownBytes.{none_appended, appends_more, appends_same}
-
--- ---- there is an opening state on the first tree
-
-abbrev first_state : State
-first_state = record {
-  scene = record {
-    fs = fs_name;
-    tree = first_tree root_attr;
-    sessions = record { sessions = map.empty; blocked = set.empty };
-    table = record { rows = []; recall = []; made = 0 };
-    locks = record { states = map.insert map.empty 1 in_sync; queue = []; last = 0 };
-  };
-  messages = [];
-}
-
-locks_by_test : (node : Node) (ino : ℕ) (b : Bool) → cond b (Some in_sync) (map.get {R = nat_cmp} map.empty ino) ≡ option_map (λ (n : Node). in_sync) (cond b (Some node) (map.get {R = nat_cmp} map.empty ino))
-locks_by_test node ino true = refl
-locks_by_test node ino false = map.get-empty nat_cmp ino ∙ ap (option_map (λ (n : Node). in_sync)) (sym (map.get-empty nat_cmp ino))
-
-locks_alone : (node : Node) (ino : ℕ) → map.get {R = nat_cmp} (map.insert map.empty 1 in_sync) ino ≡ option_map (λ (n : Node). in_sync) (map.get {R = nat_cmp} (map.insert map.empty 1 node) ino)
-locks_alone node ino =
-    map.get-insert nat_cmp_total map.empty 1 in_sync ino ∙ locks_by_test node ino (eq_by_cmp nat_cmp ino 1)
-    ∙ ap (option_map (λ (n : Node). in_sync)) (sym (map.get-insert nat_cmp_total map.empty 1 node ino))
-
-opens_first : IsOpening fs_name (first_tree root_attr) first_state
-opens_first = record {
-  fs_is = refl;
-  tree_is = refl;
-  sessions_are = refl;
-  table_is = refl;
-  locks_are = λ ino. locks_alone _ ino;
-  queue_is = refl;
-  last_is = refl;
-  messages_are = refl;
-}
 
 -- ---- lines
 

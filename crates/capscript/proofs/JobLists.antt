@@ -1,14 +1,13 @@
 -- Lists of jobs, of which one gets an event more, and how many events they have.
 use Rattle.std.proofs.Common.{◌≡◌, ◌==◌, ℕ, suc, ◌+◌, ◌<◌, ◌≤◌, Bool, true, false, not, cond, Some, None, List, [], ◌∷◌, ◌++◌, length, get_or, set, refl, sym, ap, subst, ◌∙◌, nat_lt, ◌||◌, arith}
-use Rattle.std.specs.Prelude.{map, if◌then◌else◌, IsFalse}
-use Rattle.std.specs.List.{position, position_or_len, list_any, sum_by}
+use Rattle.std.specs.Prelude.{map, if◌then◌else◌}
+use Rattle.std.specs.List.{position, position_or_len}
 use Rattle.std.proofs.lemmas.Bool.{ltb-false}
-use Rattle.std.proofs.lemmas.List.Sums.{sum_by-cons}
 use Rattle.capcore.proofs.Lockmachine.Positions.{at_position}
 use Rattle.capbits.specs.declared.ids.ClientId.{ClientId}
 use Rattle.capcore.specs.Capevents.declared.event.Event.{Event}
 use Rattle.capscript.specs.declared.plan.Job.{Job}
-use Rattle.capscript.specs.Jobs.{Calls, calls_by, calls_of, is_of, is_known, with_event, job_events}
+use Rattle.capscript.specs.Jobs.{Calls, calls_by, calls_of, is_known, with_event}
 
 abbrev pub of : ClientId → Job → Bool
 of client job = job.client.0 == client.0
@@ -73,10 +72,3 @@ unknown client (x ∷ xs) none =
 
 pub is_unknown : (client : ClientId) (xs : List Job) → position (of client) xs ≡ None → is_known client (map calls_of xs) ≡ false
 is_unknown client xs is = unknown client xs (no_place client xs is)
-
--- ---- how many events
-
-pub events_of_jobs : (xs : List Job) → job_events (map calls_of xs) ≡ sum_by (λ job. length job.events.items) xs
-events_of_jobs [] = refl
-events_of_jobs (x ∷ xs) =
-    sum_by-cons (λ job. length job.events) (calls_of x) (map calls_of xs) ∙ ap (λ (n : ℕ). length x.events.items + n) (events_of_jobs xs) ∙ sym (sum_by-cons (λ job. length job.events.items) x xs)

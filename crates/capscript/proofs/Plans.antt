@@ -1,5 +1,5 @@
 -- Plans that grow line by line.
-use Rattle.std.proofs.Common.{◌≡◌, ℕ, ◌+◌, ◌≤◌, ◌<◌, List, [], ◌∷◌, length, refl, sym, subst, arith, inl, inr}
+use Rattle.std.proofs.Common.{◌≡◌, ℕ, ◌+◌, ◌≤◌, ◌<◌, List, ◌∷◌, length, sym, subst, arith, inl, inr}
 use Rattle.std.specs.Prelude.{Result, Ok, Err, IfErr, IsErrAnd}
 use Rattle.capstreams.specs.Caplines.Lines.{lines}
 use Rattle.capscript.specs.declared.serve_fault.ServeFault.{ServeFault}
@@ -11,18 +11,12 @@ pub record SoFar (now : Work) (script rest : List ℕ) (number : ℕ) : Type 0 w
   pub stops : (fault : ServeFault) → StopsAt now number (lines rest) fault → StopsAt no_work 1 (lines script) fault
   pub left : number + length rest ≤ length script + 1
 
-pub so_far_none : (now : Work) (script : List ℕ) → now ≡ no_work → SoFar now script script 1
-so_far_none now script none = subst (λ (w : Work). SoFar w script script 1) (sym none) (record { work = λ new all. all; stops = λ fault at. at; left = omega arith })
-
 pub so_far_more : (now mid : Work) (script rest text behind : List ℕ) (number : ℕ) → SoFar now script rest number → lines rest ≡ text ∷ lines behind → length behind < length rest → Takes now text mid → SoFar mid script behind (number + 1)
 so_far_more now mid script rest text behind number so is shorter takes = record {
   work = λ new all. so.work new (subst (λ (ls : List (List ℕ)). TakesAll now ls new) (sym is) (mid, takes, all));
   stops = λ fault at. so.stops fault (subst (λ (ls : List (List ℕ)). StopsAt now number ls fault) (sym is) (inr (mid, takes, at)));
   left = omega (arith, so.left, shorter);
 }
-
-pub all_taken : (now mid : Work) (script rest : List ℕ) (number : ℕ) → SoFar now script rest number → lines rest ≡ rest ∷ [] → Takes now rest mid → TakesAll no_work (lines script) mid
-all_taken now mid script rest number so is takes = so.work mid (subst (λ (ls : List (List ℕ)). TakesAll now ls mid) (sym is) (mid, takes, refl))
 
 pub stopped_at : (now : Work) (script rest text : List ℕ) (more : List (List ℕ)) (number : ℕ) (fault : ServeFault) → SoFar now script rest number → lines rest ≡ text ∷ more → IsFaultAt now number text fault → StopsAt no_work 1 (lines script) fault
 stopped_at now script rest text more number fault so is at = so.stops fault (subst (λ (ls : List (List ℕ)). StopsAt now number ls fault) (sym is) (inl at))

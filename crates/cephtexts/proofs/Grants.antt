@@ -1,8 +1,9 @@
 -- The grants of a text, one after the other.
-use Rattle.std.proofs.Common.{◌≡◌, ℕ, Bool, true, false, eqb, ◌&&◌, ◌||◌, List, [], ◌∷◌, ◌++◌, drop, Some, None, Option, map, refl, sym, ap, subst, ◌∙◌, append_assoc, arith, inl, inr}
+use Rattle.std.proofs.Common.{◌≡◌, ℕ, Bool, true, false, eqb, ◌||◌, List, [], ◌∷◌, ◌++◌, drop, Some, None, Option, map, refl, sym, ap, subst, ◌∙◌, append_assoc, arith, inl, inr}
 use Rattle.std.specs.Prelude.{codes, if◌then◌else◌}
 use Rattle.std.specs.List.{list_all}
 use Rattle.std.specs.Option.{option_or}
+use Rattle.std.proofs.Math.Bool.{and-false}
 use Rattle.std.proofs.lemmas.Bool.{and_parts}
 use Rattle.std.proofs.lemmas.Bool.Decides.{nat_tests}
 use Rattle.std.proofs.lemmas.List.{append-nil}
@@ -15,6 +16,7 @@ use Rattle.capspec.specs.Bytes.{begins, is_white, is_mark, ends_grant}
 use Rattle.capspec.specs.Grants.{IsGrant}
 use Rattle.capspec.specs.Separated.{AreSeparated}
 use Rattle.capspec.specs.Words.{next, goes_on, is_digit}
+use Rattle.capspec.proofs.Complete.{flags_letter, grant_end_not_white, blank_no_digit, mark_not_white}
 use Rattle.capspec.proofs.Fronts.{which, rest_is}
 use Rattle.cephtexts.specs.declared.unread.Unread.{Unread}
 use Rattle.cephtexts.specs.declared.unread.Unread.TheVariants.{WhiteSpace}
@@ -24,13 +26,6 @@ use Rattle.cephtexts.proofs.Words.{is_plain, white_ends, gap_ends, words_end, be
 
 -- ---- the front of a grant
 
-mark_not_white : (b : ℕ) → is_mark b ≡ true → is_white b ≡ false
-mark_not_white b h = grind (arith, nat_tests)
-
-end_not_white : (end : List ℕ) → ends_grant end ≡ true → begins is_white end ≡ false
-end_not_white [] ends = refl
-end_not_white (b ∷ bs) ends = mark_not_white b ends
-
 end_ends : (end : List ℕ) → ends_grant end ≡ true → goes_on end ≡ false → can_end end ≡ true
 end_ends [] ends stops = refl
 end_ends (b ∷ bs) ends stops = rw (mark_not_white b ends, ends, stops) refl
@@ -38,15 +33,6 @@ end_ends (b ∷ bs) ends stops = rw (mark_not_white b ends, ends, stops) refl
 white_then : (white end : List ℕ) → list_all is_white white ≡ true → can_end end ≡ true → can_end (white ++ end) ≡ true
 white_then [] end blank ends = ends
 white_then (w ∷ ws) end blank ends = white_ends w (ws ++ end) (and_parts (is_white w) (list_all is_white ws) blank).0
-
-flags_letter : (word tail : List ℕ) (flags : Flags4) → IsFlags word flags → begins is_white (word ++ tail) ≡ false
-flags_letter word tail R is = rw is refl
-flags_letter word tail Rw is = rw is refl
-flags_letter word tail Rwp is = rw is refl
-flags_letter word tail Rws is = rw is refl
-flags_letter word tail Rwps (inl is) = rw is refl
-flags_letter word tail Rwps (inr (inl is)) = rw is refl
-flags_letter word tail Rwps (inr (inr is)) = rw is refl
 
 flags_plain : (word : List ℕ) (flags : Flags4) → IsFlags word flags → list_all is_plain word ≡ true
 flags_plain word R is = rw is refl
@@ -73,7 +59,7 @@ items_of text s end begin =
     ap (λ (t : List ℕ). next (behind_word t)) here ∙ ap next (behind_plain (codes "allow") behind refl (gap_ends is.gap flags_text is.is_gap)) ∙ rest_is is_white is.gap flags_text is.is_gap.0 (flags_letter is.flags items_text s.grant.flags is.are_flags) in
     let third : behind_word (next (behind_word (next text))) ≡ items_text =
     ap behind_word second ∙ behind_plain is.flags items_text (flags_plain is.flags s.grant.flags is.are_flags) (words_end is.words tail is.items is.are_words tail_ends) in
-    let next_end : next tail ≡ end = rest_is is_white is.after end is.blank_after (end_not_white end begin.ends) in
+    let next_end : next tail ≡ end = rest_is is_white is.after end is.blank_after (grant_end_not_white end begin.ends) in
     let has : HasItems (behind_word (next (behind_word (next text)))) is.items tail = record {
       words = is.words;
       parts = third;
@@ -105,25 +91,14 @@ row_begins text s (t ∷ more) row =
     let here = piece_begins row.0 (row.2 ∷ row.1) s row.5 in
     (here.0, row.3 ∙ here.1, here.2)
 
-white_no_digit : (b : ℕ) → is_white b ≡ true → is_digit b ≡ false
-white_no_digit b h = grind (arith, nat_tests)
-
-blank_no_digit : (white tail : List ℕ) → list_all is_white white ≡ true → begins is_digit tail ≡ false → begins is_digit (white ++ tail) ≡ false
-blank_no_digit [] tail blank none = none
-blank_no_digit (w ∷ ws) tail blank none = white_no_digit w (and_parts (is_white w) (list_all is_white ws) blank).0
-
 row_no_digit : (text : List ℕ) (s : Standing) (more : List Standing) → AreSeparated is_mark Stands text (s ∷ more) → begins is_digit text ≡ false
 row_no_digit text s more row =
     let here = row_begins text s more row in
     ap (begins is_digit) here.1 ∙ blank_no_digit s.before (codes "allow" ++ here.0) here.2 refl
 
-and_false : (b : Bool) → (b && false) ≡ false
-and_false true = refl
-and_false false = refl
-
 first_of : (text : List ℕ) (s : Standing) (more : List Standing) → AreSeparated is_mark Stands text (s ∷ more) → (end : List ℕ) × Begins text s end × Follow end more
 first_of text s [] row = ([], record { piece = text; parts = sym (append-nil text); stands = row; ends = refl; stops = refl }, refl)
-first_of text s (t ∷ more) row = (row.2 ∷ row.1, record { piece = row.0; parts = row.3; stands = row.5; ends = row.4; stops = rw (row_no_digit row.1 t more row.6) (and_false (eqb row.2 44)) }, row.6)
+first_of text s (t ∷ more) row = (row.2 ∷ row.1, record { piece = row.0; parts = row.3; stands = row.5; ends = row.4; stops = rw (row_no_digit row.1 t more row.6) (and-false (eqb row.2 44)) }, row.6)
 
 -- ---- spaces round a separator
 
@@ -161,7 +136,7 @@ module _ (rest : List ℕ) (before : Option Unread) (told : List (Option Unread)
   next_is : (s : Standing) (end : List ℕ) → Begins rest s end → (next behind ≡ end) × (list_all is_white s.after ≡ true)
   next_is s end begin =
       let blank : list_all is_white s.after ≡ true = ap (list_all is_white) begin.stands.3 ∙ begin.stands.0.blank_after in
-      (ap next (scan s end begin).1 ∙ rest_is is_white s.after end blank (end_not_white end begin.ends), blank)
+      (ap next (scan s end begin).1 ∙ rest_is is_white s.after end blank (grant_end_not_white end begin.ends), blank)
 
   all_of : (around : List ℕ) (left : List Standing) → AreSeparated is_mark Stands rest left → before ≡ wrong_white around → told ++ why_each around left ≡ why_each [] standings → next behind ≡ []
       → told ++ found ∷ [] ≡ why_each [] standings

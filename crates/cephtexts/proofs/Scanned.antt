@@ -6,11 +6,12 @@ use Rattle.capspec.specs.Bytes.{is_white, ends_grant}
 use Rattle.capspec.specs.Items.{Item}
 use Rattle.capspec.specs.Words.{next}
 use Rattle.capspec.proofs.Fronts.{rest_is, rest_stops}
+use Rattle.capspec.proofs.Complete.{item_letter, item_goes_on}
 use Rattle.cephtexts.specs.declared.key.Key.{Key}
 use Rattle.cephtexts.specs.declared.unread.Unread.{Unread}
 use Rattle.cephtexts.specs.Scanning.{behind_item, key_at, wrong_at, HasItems}
 use Rattle.cephtexts.specs.Standing.{key_of, wrong_behind, first_wrong}
-use Rattle.cephtexts.proofs.Words.{words_end, behind_item_is, item_letter, item_goes_on, key_at_is, wrong_at_is, next_shorter, item_shorter}
+use Rattle.cephtexts.proofs.Words.{words_end, behind_item_is, key_at_is, wrong_at_is, next_shorter, item_shorter}
 
 -- What is left of the items at the place where a loop over them stands: with what it found and the last key, their first reason is what is to be told.
 pub record IsLeft (rest : List ℕ) (last : Option Key) (found told : Option Unread) (tail : List ℕ) : Type 0 where

@@ -97,20 +97,6 @@ behind_item_is word tail RootSquash is ends = rw (is.1, is.2) (behind_plain [] t
 
 -- ---- what the front of an item tells
 
-pub item_letter : (word tail : List ℕ) (item : Item) → IsItem word item → begins is_white (word ++ tail) ≡ false
-item_letter word tail (FsName name) is = rw is.1 refl
-item_letter word tail (Path names) is = rw is.1 refl
-item_letter word tail (Uid uid) is = rw is.1 refl
-item_letter word tail (Gids gids) is = rw is.1 refl
-item_letter word tail RootSquash is = rw is.1 refl
-
-pub item_goes_on : (word tail : List ℕ) (item : Item) → IsItem word item → ends_grant (word ++ tail) ≡ false
-item_goes_on word tail (FsName name) is = rw is.1 refl
-item_goes_on word tail (Path names) is = rw is.1 refl
-item_goes_on word tail (Uid uid) is = rw is.1 refl
-item_goes_on word tail (Gids gids) is = rw is.1 refl
-item_goes_on word tail RootSquash is = rw is.1 refl
-
 pub key_at_is : (word tail : List ℕ) (item : Item) → IsItem word item → key_at (word ++ tail) ≡ key_of item
 key_at_is word tail (FsName name) is = rw is.1 refl
 key_at_is word tail (Path names) is = rw is.1 refl

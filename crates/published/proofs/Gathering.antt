@@ -27,11 +27,6 @@ legal_begin opening last xs ys legal =
     let run = replays_begin opening last xs ys legal.replays in
     record { last = run.0; is_legal = record { replays = run.1; numbered = numbered_begin xs ys legal.numbered } }
 
-pub prefix_take : {A : Type 0} (xs ys : List A) → IsPrefix xs ys → xs ≡ take (length xs) ys
-prefix_take [] ys p = refl
-prefix_take (x ∷ xs) [] p = absurd (cc (p.1))
-prefix_take (x ∷ xs) (y ∷ ys) p = let rest = prefix_take xs ys (p.0, cc (p.1)) in cc (p.1, rest)
-
 pub take_begins : {A : Type 0} (n : ℕ) (ys : List A) → IsPrefix (take n ys) ys
 take_begins zero [] = ([], refl)
 take_begins zero (y ∷ ys) = (y ∷ ys, refl)

@@ -28,10 +28,6 @@ words_away zero away k lt e = omega arith
 words_away (suc rows) away zero lt e = absurd (cc e)
 words_away (suc rows) away (suc k) lt e = let rest = words_away rows away k (omega arith) e in omega arith
 
--- the first two words stand before them
-pub cells-length : (rows away : ℕ) → length (cells_of rows away) ≡ rows + away + 2
-cells-length rows away = omega (arith, words-length rows away)
-
 pub cells_away : (rows away k : ℕ) → k + 2 < length (cells_of rows away) → (cell (cells_of rows away) (k + 2)).1 ≡ false → rows ≤ k
 cells_away rows away k lt e =
     let behind : k + 2 ≡ suc (suc k) = omega arith in

@@ -1,7 +1,7 @@
 use Rattle.std.proofs.Common.{ap, ◌∙◌}
 use Rattle.capbits.specs.Caps.{Caps, has}
 use Rattle.capbits.specs.Sets.{union}
-use Rattle.capgrant.specs.Permitted.{for_writers, caps_if}
+use Rattle.capgrant.specs.Permitted.{caps_if}
 use Rattle.capaudit.proofs.Somebody.{put_together}
 use Rattle.capaudit.proofs.callers.caps_for.Goals as goal
 

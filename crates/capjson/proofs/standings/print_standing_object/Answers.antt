@@ -1,9 +1,9 @@
-use Rattle.std.proofs.Common.{◌≡◌, ◌++◌, ap, subst, ◌∙◌}
-use Rattle.serde_json.specs.Data.{Members, object, no_members}
+use Rattle.std.proofs.Common.{◌≡◌, ap, ◌∙◌}
+use Rattle.serde_json.specs.Data.{object, no_members}
 use Rattle.serde_json.specs.View.{members_view}
 use Rattle.capjson.specs.Answers.{otherwise_table}
 use Rattle.capjson.specs.Standings.{standing_table, standing_value, with_client}
-use Rattle.capjson.specs.Values.{ReadsBack, json_line, with_all}
+use Rattle.capjson.specs.Values.{with_all}
 use Rattle.capjson.proofs.Plain.{plain-as, plain-standing}
 use Rattle.capjson.proofs.standings.print_standing_object.Goals as goal
 

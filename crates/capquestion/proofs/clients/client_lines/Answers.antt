@@ -1,4 +1,4 @@
-use Rattle.std.proofs.Common.{◌≡◌, ◌<◌, length, ap, sym, ◌∙◌}
+use Rattle.std.proofs.Common.{ap, sym, ◌∙◌}
 use Rattle.capquestion.proofs.ClientLines.{one_line, no_line, all_lines}
 use Rattle.capquestion.proofs.clients.client_lines.Goals as goal
 use Rattle.capquestion.proofs.clients.client_lines.Goals.{then-is_client+in_ok-print_client, else-is_client}

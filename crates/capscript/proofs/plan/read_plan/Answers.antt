@@ -1,7 +1,7 @@
 use Rattle.std.proofs.Common.{arith}
 use Rattle.capstreams.specs.Caplines.Lines.{lines}
 use Rattle.capscript.specs.Jobs.{work_of, no_work, StopsAt}
-use Rattle.capscript.proofs.Plans.{so_far_none, so_far_more, all_taken, stopped_at, handed_on}
+use Rattle.capscript.proofs.Plans.{so_far_more, stopped_at, handed_on}
 use Rattle.capscript.proofs.plan.read_plan.Goals as goal
 
 pub overflow_add-number : goal.overflow_add-number

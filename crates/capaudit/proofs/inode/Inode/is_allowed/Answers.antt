@@ -1,4 +1,3 @@
-use Rattle.std.proofs.Common.{sym, ◌∙◌}
 use Rattle.std.proofs.lemmas.Bool.{both_ways}
 use Rattle.capaudit.proofs.Somebody.{if_allowed, if_not}
 use Rattle.capaudit.proofs.inode.Inode.is_allowed.Goals as goal

@@ -1,7 +1,7 @@
 use Rattle.std.proofs.Common.{◌≡◌, List, get_or, ap, rules}
 use Rattle.capcore.specs.Capevents.declared.event.Event.{Event}
 use Rattle.capscript.specs.declared.plan.Job.{Job}
-use Rattle.capscript.specs.Jobs.{Work, Calls, calls_by}
+use Rattle.capscript.specs.Jobs.{Calls, calls_by}
 use Rattle.capscript.proofs.JobLists.{known_gets_event}
 use Rattle.capscript.proofs.plan.Plan.add_event.Goals as goal
 

@@ -1,6 +1,6 @@
 use Rattle.std.proofs.Common.{List, map, inr, refl, ap, ◌∙◌, arith}
 use Rattle.capscript.specs.declared.plan.Job.{Job}
-use Rattle.capscript.specs.Jobs.{Work, Calls, calls_of}
+use Rattle.capscript.specs.Jobs.{Calls, calls_of}
 use Rattle.capscript.proofs.JobLists.{new_gets_job, is_unknown}
 use Rattle.capscript.proofs.plan.Plan.add_job.Goals as goal
 
