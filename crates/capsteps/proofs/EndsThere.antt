@@ -1,5 +1,5 @@
 -- The step of an event ends at the inodes that it affected.
-use Rattle.std.{proofs.Common.{◌≡◌, ℕ, ◌==◌, Bool, true, false, cond, not, ◌||◌, Option, Some, None, List, [], map, refl, sym, ap, subst, ◌∙◌, Contains, arith}, proofs.lemmas.List.Elements.{All-contains}, proofs.lemmas.Simd.{map-map}, specs.List.{find, list_any}, specs.Option.{option_map, option_map_or}, specs.Ordering.{nat_cmp}}
+use Rattle.std.{proofs.Common.{◌≡◌, ℕ, ◌==◌, Bool, true, false, cond, not, ◌||◌, Option, Some, None, List, map, refl, sym, ap, subst, ◌∙◌, Contains, arith}, proofs.lemmas.List.Elements.{All-contains}, proofs.lemmas.Simd.{map-map}, specs.List.{find, list_any}, specs.Option.{option_map, option_map_or}, specs.Ordering.{nat_cmp}}
 use Rattle.std.specs.FinMap as finite
 use Rattle.capbits.specs.Caps.{has}
 use Rattle.capacts.proofs.Lockmachine.Told.{told-same}

@@ -4,7 +4,7 @@ use Rattle.std.specs.FinMap as map
 use Rattle.capbits.specs.{Caps.{has, caps_where}, Sets.{no_caps}}
 use Rattle.locktable.specs.{Targets.{target_of}, declared.targets.Head.TheVariants.{Empty}}
 use Rattle.capacts.specs.Lockmachine.Scene.{rows_on, wanted}
-use Rattle.capsteps.proofs.Common.{against, AreKnown, EntryRow, finished, first_for, has_session, in_sync, is_open, is_row_of, IsInPlace, IsQuiet, IsSound, IsSoundEntry, IsTable, KnownSets, lock_at, lock_in, LockState, minus, Node, Nodes, Part, row_of-entry, Scene, SessionTable, Stable, StableState, State, StateMap, Sync, wants, wants-kept, with_scene, X}
+use Rattle.capsteps.proofs.Common.{against, AreKnown, EntryRow, finished, first_for, has_session, in_sync, is_open, is_row_of, IsInPlace, IsQuiet, IsSound, IsSoundEntry, IsTable, KnownSets, lock_at, lock_in, LockState, minus, Node, Nodes, Part, row_of-entry, Scene, SessionTable, Stable, StableState, State, StateMap, Sync, wants, wants-kept, with_scene}
 pub use Rattle.capsteps.proofs.Common.{found-contains}
 use Rattle.capsteps.{proofs.Finishing.{same-finished}, specs.Leaving.{with_parts, LeavesEntries}}
 

@@ -1,5 +1,5 @@
 -- A step shows clients what it tells them, and its numbers say so.
-use Rattle.std.{proofs.Common.{◌≡◌, ◌≢◌, ◌≤◌, ◌+◌, ◌==◌, ℕ, Bool, true, false, cond, not, ◌&&◌, ◌||◌, inl, inr, Option, Some, None, is_some, List, [], ◌∷◌, ◌++◌, map, take, refl, sym, ap, subst, ◌∙◌, Contains, true≢false, append-nil, eq-eqb, arith, All, filter}, proofs.lemmas.Bool.{eqb-true, cases_Bool}, proofs.lemmas.List.Elements.{All-contains, All-contains_itself, All-cons, All-weaker, All-nil, All-head, All-tail, All-append, All-take, filter_passes}, proofs.lemmas.List.Sums.{fold-append}, specs.List.{find, list_any, fold, flat_map}, specs.Option.{option_map}}
+use Rattle.std.{proofs.Common.{◌≡◌, ◌≢◌, ◌≤◌, ◌==◌, ℕ, Bool, true, false, cond, not, ◌&&◌, ◌||◌, inl, inr, Option, Some, None, is_some, List, [], ◌∷◌, ◌++◌, map, take, refl, sym, ap, subst, ◌∙◌, Contains, true≢false, append-nil, eq-eqb, arith, All, filter}, proofs.lemmas.Bool.{eqb-true, cases_Bool}, proofs.lemmas.List.Elements.{All-contains, All-contains_itself, All-cons, All-weaker, All-nil, All-head, All-tail, All-append, All-take, filter_passes}, proofs.lemmas.List.Sums.{fold-append}, specs.List.{find, list_any, fold, flat_map}, specs.Option.{option_map}}
 use Rattle.capbits.specs.Caps.{has}
 use Rattle.inotree.specs.Tree.{child}
 use Rattle.captable.{proofs.ByHolder.{entry_at-changed, entry_at-without_client, entry_at-without_client_other, entry_at-recalled, entry_at-recalled_other, entry_at-without_other, entry_at-changed_other}, proofs.Shown.{shown-numbered, shown-less, shown-told}, specs.Calls.{recalled, without_client, released}, specs.Shown.{IsShown}}

@@ -1,5 +1,5 @@
 -- Where the settling of a step has come to, between two servings.
-use Rattle.std.{proofs.Common.{◌≡◌, ◌≢◌, ◌+◌, ◌≤◌, ◌==◌, ◌&&◌, not, ℕ, Bool, true, false, inl, inr, ◌⊎◌, Option, Some, List, [], ◌∷◌, ◌++◌, length, refl, sym, ap, subst, ◌∙◌, Contains, append-nil, arith, true≢false}, proofs.lemmas.Bool.{eqb-true, false_from_ne_true, eqb-false}, proofs.lemmas.List.{length-append}, proofs.lemmas.List.Elements.{All-contains, filter_map-append, filter_passes}, specs.Option.{option_map_or}}
+use Rattle.std.{proofs.Common.{◌≡◌, ◌≢◌, ◌+◌, ◌≤◌, ◌==◌, ◌&&◌, not, ℕ, Bool, true, false, inl, inr, ◌⊎◌, Option, Some, List, [], ◌∷◌, ◌++◌, length, refl, sym, ap, subst, ◌∙◌, Contains, append-nil, arith, true≢false}, proofs.lemmas.Bool.{eqb-true, false_from_ne_true, eqb-false, ne_eqb}, proofs.lemmas.List.{length-append}, proofs.lemmas.List.Elements.{All-contains, filter_map-append, filter_passes}, specs.Option.{option_map_or}}
 use Rattle.std.specs.FinMap as map
 use Rattle.std.specs.FinSet as set
 use Rattle.capacts.{proofs.Lockmachine.Alone.{nobody-held, served-alone}, proofs.Lockmachine.Exact.{begins_not}, proofs.Lockmachine.SameBut.{begin-alike, first-moved}, proofs.Lockmachine.Turns.{served-ends, ends-turn}, proofs.Lockmachine.Waiting.{waits-wider, waits-less-at}, specs.Lockmachine.Moves.{may_begin, is_servable, IsQuietOutside}, specs.Lockmachine.Turns.{NobodyElsewhere, NothingEnds}}
@@ -48,6 +48,19 @@ none-sized (Served q o ∷ moves) none = absurd (cc)
 -- where nothing ends, it is the turn of the least one
 pub turn-of_least : (inos : InoSet) (s : Scene) → AreStill (set.contains inos) s → NothingEnds s → IsTurnOfLeast inos s
 turn-of_least inos s still ends a least = ends-turn s a ends (λ other part below. still.begins other part (least.least other (omega arith) below))
+
+-- where one alone is affected, it is its turn
+turn-of_only : (inos : InoSet) (s : Scene) → AreStill (set.contains inos) s → set.len inos ≡ 1 → IsTurnOfLeast inos s
+turn-of_only inos s still one a least = record {
+  ends = λ other part off. still.ends other part (ap (λ (among : ℕ → Bool). among other) (none-besides inos a one least.has) ∙ ne_eqb other a off);
+  begins = λ other part below. still.begins other part (least.least other (omega arith) below);
+}
+
+pub turn-at_first : (inos : InoSet) (s : Scene) → AreStill (set.contains inos) s → (set.len inos ≢ 1 → NothingEnds s) → IsTurnOfLeast inos s
+turn-at_first inos s still ends = elim (set.len inos == 1) as (λ b. (set.len inos == 1) ≡ b → IsTurnOfLeast inos s) [
+  | true ↦ λ one. turn-of_only inos s still (eqb-true (set.len inos) 1 one)
+  | false ↦ λ many. turn-of_least inos s still (ends (eqb-false (set.len inos) 1 many))
+] refl
 
 -- ---- where the sweep begins
 

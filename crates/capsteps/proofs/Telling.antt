@@ -1,7 +1,7 @@
 -- What a client is told changes three fields of entries, by which nothing is judged, moved or issued.
 use Rattle.std.{proofs.Common.{◌≡◌, ◌≤◌, ℕ, Bool, true, false, cond, not, ◌&&◌, ◌||◌, Option, List, [], ◌∷◌, filter, map, refl, sym, ap, subst, ◌∙◌, arith, IsTrue, All}, proofs.lemmas.List.Elements.{All-map, All-weaker, All-filter, All-from_recursion, recursion_from_All}, proofs.lemmas.Simd.{map-map}, specs.List.{find, list_any, AllByRecursion, IsDistinct}, specs.Option.{option_map}}
 use Rattle.capacts.specs.{Capnotes.DueEndings.{is_end_of}, Caprules.Direct.{Answer}}
-use Rattle.capsteps.proofs.{Common.{after_messages, AreGiven, change_rows, changed, changed_where, ClientId, due, Ended, Entry, EntryRow, filter-map, find-map, first_messages, fold-changed_by, Gives, has_session, Holder, Ino, is_among, is_caps_of, is_of_client, is_of_inode, is_open, is_recall_of, is_row_of, is_size_of, is_to, IsInPlace, IsSound, IsSoundEntry, IssuesExactly, IsTable, lock_at, LockState, Message, Part, remade, same, Scene, shown, Shows, sized_if, StableState, State, Table, told_if, unasked_if, wants, with_scene, with_told}, LeftAlone.{still_quiet}}
+use Rattle.capsteps.proofs.{Common.{after_messages, AreGiven, change_rows, changed, changed_where, ClientId, Ended, Entry, EntryRow, filter-map, find-map, first_messages, fold-changed_by, Gives, has_session, Holder, Ino, is_among, is_caps_of, is_of_client, is_of_inode, is_open, is_recall_of, is_row_of, is_size_of, is_to, IsInPlace, IsSound, IsSoundEntry, IssuesExactly, IsTable, lock_at, LockState, Message, Part, remade, same, Scene, shown, Shows, sized_if, StableState, State, Table, told_if, unasked_if, wants, with_scene, with_told}, LeftAlone.{still_quiet}}
 
 -- ---- lists that are mapped
 

@@ -14,14 +14,14 @@ session_event client (Mark status) = Event.Mark client status
 session_event client (Regrant grants) = Event.Regrant client grants.now
 session_event client Evict = Event.Evict client
 
--- what is tested
+-- what is tested, as `tests_of` has it
 abbrev pub session_change_tests : SessionTable → ClientId → SessionChange → List Test
 session_change_tests sessions client Close = connected_test sessions client.0 ∷ []
 session_change_tests sessions client (Mark status) = mark_tests sessions client.0 status
 session_change_tests sessions client (Regrant grants) = connected_test sessions client.0 ∷ []
 session_change_tests sessions client Evict = evict_tests sessions client.0
 
--- the sessions then
+-- the sessions then, as `effect` has them
 abbrev pub changed_sessions : SessionTable → ClientId → SessionChange → SessionTable
 changed_sessions sessions client Close = without_session sessions client.0
 changed_sessions sessions client (Mark status) = with_status sessions client.0 status

@@ -1,5 +1,5 @@
 //! The locks settle at the inodes that a step affects, and who waits for them is served.
-ghost use Rattle.std.specs.Prelude.{◌≡◌, ◌≤◌, ◌<◌, ◌+◌, ◌++◌, ◌∷◌, [], true, false, length, ℕ, List, Some, None, vec_capacity};
+ghost use Rattle.std.specs.Prelude.{◌≡◌, ◌≢◌, ◌≤◌, ◌<◌, ◌+◌, ◌++◌, ◌∷◌, [], true, false, length, ℕ, List, Some, None, vec_capacity};
 ghost use Rattle.std.specs.FinSet as set;
 ghost use Rattle.capbits.specs.declared.cap.Part.{Part};
 ghost use Rattle.inotree.specs.Tree.{IsTree, Nodes};
@@ -119,17 +119,21 @@ impl SweepPlace {
     }
 }
 
-// Ends the gathers of the affected inodes that may end, one inode after the other. No gather of another inode may.
+// Ends the gathers of the affected inodes that may end, one inode after the other, but where one alone is affected, which looks for
+// them in its turn. No gather of another inode may.
 fn end_gathers(table: &CapTable, locks: &mut Locks, affected: &NonEmptyInoSet)
     requires elsewhere { (other : ℕ) (part : Part) → set.contains affected.now other ≡ false
         → may_end_by table.now locks.old (other, part) ≡ false }
-    ensures ends { (other : ℕ) (part : Part) → may_end_by table.now locks.new (other, part) ≡ false }
+    ensures ends { set.len affected.now ≢ 1 → (other : ℕ) (part : Part) → may_end_by table.now locks.new (other, part) ≡ false }
     // Each is the first move that applies, whatever the tree and the sessions are.
     ensures swept { (fs : List ℕ) (tree : Nodes) (sessions : SessionTable)
         → WaitAt (set.contains affected.now) (scene_of fs tree sessions table.now locks.old)
         → IsSwept (set.contains affected.now) (scene_of fs tree sessions table.now locks.old)
         (scene_of fs tree sessions table.now locks.new) }
 {
+    if affected.is_single() {
+        return;
+    }
     let mut at = affected.first();
     'inodes: loop {
         locks.end_gathers_at(table, at);

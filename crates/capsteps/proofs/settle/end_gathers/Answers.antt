@@ -1,9 +1,16 @@
-use Rattle.std.proofs.Common.{◌≡◌, ◌<◌, ◌+◌, ℕ, Bool, List, Some, false, refl, subst, ◌∙◌, arith}
+use Rattle.std.proofs.Common.{◌≡◌, ◌<◌, ◌+◌, ℕ, Bool, List, Some, false, refl, sym, subst, ◌∙◌, arith}
+use Rattle.std.proofs.lemmas.Bool.{eqb-true}
 use Rattle.std.specs.FinMap as map
 use Rattle.std.specs.FinSet as set
 use Rattle.capacts.proofs.Lockmachine.Ending.{ends-little}
 use Rattle.capsteps.{proofs.Common.{IsNext, may_end_by, Nodes, Part, scene, SessionTable, WaitAt}, proofs.Sweeping.{fewer_behind, swept-begins, swept-on, ends-passed, same-elsewhere}, proofs.settle.end_gathers.Goals.{After-end_gathers_at}, specs.Sweep.{IsSwept}}
 use Rattle.capsteps.proofs.settle.end_gathers.Goals as goal
+
+pub returns-then-is_single-clause-ends : goal.returns-then-is_single-clause-ends
+returns-then-is_single-clause-ends c many = absurd (many (eqb-true (set.len c.args.affected.now) 1 (sym c.is_single.ensures ∙ c.if-is_single.true)))
+
+pub returns-then-is_single-clause-swept : goal.returns-then-is_single-clause-swept
+returns-then-is_single-clause-swept c = λ fs tree sessions waits. swept-begins (set.contains c.args.affected.now) (scene fs tree sessions c.args.table.now c.args.locks.now) waits
 
 pub inodes-init : goal.inodes-init
 inodes-init c = let least = c.first-at.ensures in record {
@@ -56,7 +63,7 @@ pub returns-in_default-clause-ends : goal.returns-in_default-clause-ends
 returns-in_default-clause-ends c =
     let here = (goal.at.returns-in_default-clause-ends c).After-end_gathers_at in
     let beyond = subst (IsNext c.args.affected.now (c.inodes.at.0 + 1)) c.in_default.is c.after.ensures in
-    λ other part. passed here other part (λ above. beyond other (omega (arith, above)))
+    λ many other part. passed here other part (λ above. beyond other (omega (arith, above)))
 
 pub returns-in_default-clause-swept : goal.returns-in_default-clause-swept
 returns-in_default-clause-swept c = swept (goal.at.returns-in_default-clause-swept c).After-end_gathers_at

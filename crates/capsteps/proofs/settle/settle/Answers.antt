@@ -1,7 +1,7 @@
 use Rattle.std.{proofs.Common.{◌≡◌, ◌<◌, ◌≤◌, ◌+◌, ◌++◌, ◌∷◌, [], ℕ, Bool, true, false, cond, ◌&&◌, length, List, Option, Some, None, Contains, refl, sym, ap, subst, ◌∙◌, arith, inl, inr}, proofs.lemmas.List.{length-append}, specs.List.{filter_map}}
 use Rattle.std.specs.FinSet as set
 use Rattle.capacts.{proofs.Walked.{none-walked}, specs.Caprules.Settle.{sets_size, is_done}}
-use Rattle.capsteps.{proofs.Common.{AreWalked, Covers, Ended, ends_not, first_move, Ino, InoSet, IsLockMap, IsTree, LeadOn, leads-none, leads-then, lock_at, Nodes, Outcome, Reaches, Request, request_at, Scene, Serve, Served, served-at, sized_in, Table, tree_after}, proofs.Judged.{none-judged, still-judged}, proofs.Moved.{moved-all, tree-moved}, proofs.OneChange.{within-after}, proofs.SoFar.{GoesOnBehind, IsSoFar, so-far-begins, so-far-served, so-far-settled, so-far-swept, stands-behind, stands-first, turn-of_least}, proofs.settle.settle.Goals.{In-Some, After-serve_next-changed}, proofs.settle.settle.Invariants.{invariant-servings}, specs.Begun.{ArePermittedIn}, specs.Judged.{IsJudged}, specs.Serves.{Serves}, specs.Sweep.{IsSwept, GoesOn}, specs.declared.settle.SweepPlace.{SweepPlace}}
+use Rattle.capsteps.{proofs.Common.{AreWalked, Covers, Ended, ends_not, first_move, Ino, InoSet, IsLockMap, IsTree, LeadOn, leads-none, leads-then, lock_at, Nodes, Outcome, Reaches, Request, request_at, Scene, Serve, Served, served-at, sized_in, Table, tree_after}, proofs.Judged.{none-judged, still-judged}, proofs.Moved.{moved-all, tree-moved}, proofs.OneChange.{within-after}, proofs.SoFar.{GoesOnBehind, IsSoFar, so-far-begins, so-far-served, so-far-settled, so-far-swept, stands-behind, stands-first, turn-at_first}, proofs.settle.settle.Goals.{In-Some, After-serve_next-changed}, proofs.settle.settle.Invariants.{invariant-servings}, specs.Begun.{ArePermittedIn}, specs.Judged.{IsJudged}, specs.Serves.{Serves}, specs.Sweep.{IsSwept, GoesOn}, specs.declared.settle.SweepPlace.{SweepPlace}}
 use Rattle.capsteps.proofs.settle.settle.Goals as goal
 
 -- What a rename walked over in a step is affected until its end.
@@ -39,7 +39,7 @@ servings-init c =
       so_far =
           subst (λ (for_clients : List Ended). IsSoFar at c.args.affected.now first now for_clients c.args.endings.now.sized.items) (sym c.requires.room.for_clients)
           (subst (IsSoFar at c.args.affected.now first now []) (sym c.requires.room.sized) so);
-      stands = stands-first c.args.affected.now now c.first-place.result (turn-of_least c.args.affected.now now so.still c.end_gathers.ensures.ends) so.waits c.first-place.ensures;
+      stands = stands-first c.args.affected.now now c.first-place.result (turn-at_first c.args.affected.now now so.still c.end_gathers.ensures.ends) so.waits c.first-place.ensures;
       walked = none-walked c.new-walked.result c.args.scene.now.tree c.args.scene.now.table c.args.affected.now c.new-walked.ensures;
       judged = still-judged c.args.endings.now.judged first now.locks swept.queue c.requires.judged;
       same = c.requires.room.for_history ∙ sym c.requires.room.for_clients;
