@@ -2,53 +2,43 @@
 
 use capspec::{SpecFault, SpecFaultKind};
 use std::alloc::AllocError;
-use std::error::Error;
 use std::fmt;
+use thiserror::Error;
 
 /// What is wrong with a line. It prints as the name of its kind; that of a grant text has the fault of the text behind it.
-#[derive(Clone, Copy, PartialEq, Eq)]
+#[derive(Clone, Copy, PartialEq, Eq, Error)]
 pub enum LineFault {
     /// The first word is no command.
+    #[error("Command")]
     Command,
     /// The command wants fewer words or more of them, or the line is too long.
+    #[error("Count")]
     Count,
     /// A word is no number of its size, or no list of group numbers.
+    #[error("Number")]
     Number,
     /// A word spells no set of caps.
+    #[error("Caps")]
     Caps,
     /// A word is no mode of a file, or nothing that an inode is opened for.
+    #[error("Mode")]
     Mode,
     /// A word is no part of what an inode keeps.
+    #[error("Part")]
     Part,
     /// A word begins no change.
+    #[error("Change")]
     Change,
     /// A word writes no bytes.
+    #[error("Hex")]
     Hex,
     /// The rest of the line is no grant text.
+    #[error("Grants {0}")]
     Grants(SpecFault),
 }
 
-impl fmt::Display for LineFault {
-    fn fmt<W: fmt::Write>(&self, f: &mut fmt::Formatter<W>) -> fmt::Result {
-        let kind = match self {
-            LineFault::Command => "Command",
-            LineFault::Count => "Count",
-            LineFault::Number => "Number",
-            LineFault::Caps => "Caps",
-            LineFault::Mode => "Mode",
-            LineFault::Part => "Part",
-            LineFault::Change => "Change",
-            LineFault::Hex => "Hex",
-            LineFault::Grants(fault) => return write!(f, "Grants {fault}"),
-        };
-        f.write_str(kind)
-    }
-}
-
-impl Error for LineFault {}
-
 /// Why a script stopped before its end.
-#[derive(Clone, Copy, PartialEq, Eq, thiserror::Error)]
+#[derive(Clone, Copy, PartialEq, Eq, Error)]
 pub enum ScriptFault {
     /// The script could not be read, or is too long.
     #[error("read failed")]

@@ -13,6 +13,7 @@ use capgrant::{Access, Verdict, verdict};
 use capspec::FsName;
 use inotree::Presence;
 use sessiontab::Session;
+use thiserror::Error;
 
 /// May a client make this access to an inode?
 #[derive(Clone, Copy)]
@@ -25,16 +26,20 @@ pub struct Question {
     pub access: Access,
 }
 
-/// Why a question has no verdict.
-#[derive(Clone, Copy, Debug)]
+/// Why a question has no verdict. Each prints as its name.
+#[derive(Clone, Copy, Debug, Error)]
 pub enum Unknown {
     /// The client is not connected.
+    #[error("NoSession")]
     NoSession,
     /// There is no such inode.
+    #[error("NoIno")]
     NoIno,
     /// The inode is a stray, which has no path.
+    #[error("Gone")]
     Gone,
     /// No view could be read. A view never answers this.
+    #[error("NoView")]
     NoView,
 }
 

@@ -3,13 +3,16 @@ ghost use Rattle.std.specs.Prelude.{◌≡◌};
 
 use capbits::Refusal;
 use std::alloc::AllocError;
+use thiserror::Error;
 
-/// Why a call that takes memory was not carried out. Nothing has changed.
-#[derive(Clone, Copy)]
+/// Why a call that takes memory was not carried out. Nothing has changed. It prints as the name of the refusal, or as `NoMemory`.
+#[derive(Clone, Copy, Debug, Error)]
 pub enum SessionError {
     /// A test fails, which is the first that does.
+    #[error("{0}")]
     Refused(Refusal),
     /// Every test is passed, and there was no memory left.
+    #[error("NoMemory")]
     NoMemory,
 }
 

@@ -6,6 +6,7 @@ ghost use Rattle.sessiontab.specs.Tests.{is_open};
 use capbits::Caller;
 use capspec::KeptGrants;
 use std::alloc::AllocError;
+use thiserror::Error;
 
 /// Whether a client is still heard of.
 #[derive(Clone, Copy, Debug, PartialEq, Eq)]
@@ -26,7 +27,8 @@ impl Status {
 }
 
 /// A client has no session that could be changed.
-#[derive(Clone, Copy, Debug)]
+#[derive(Clone, Copy, Debug, Error)]
+#[error("NoSession")]
 pub struct NoSession;
 
 /// What the server keeps of a client while it is connected.
