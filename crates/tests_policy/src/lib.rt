@@ -17,6 +17,10 @@ mod caps;
 #[cfg(test)]
 mod entries;
 #[cfg(test)]
+mod errors;
+#[cfg(test)]
+mod event_lines;
+#[cfg(test)]
 mod failing_streams;
 #[cfg(test)]
 mod gathers;
@@ -50,6 +54,8 @@ mod runs;
 mod sessions;
 #[cfg(test)]
 mod sessions_end;
+#[cfg(test)]
+mod small_lists;
 #[cfg(test)]
 mod steps;
 #[cfg(test)]
