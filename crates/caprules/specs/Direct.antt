@@ -191,6 +191,10 @@ effect_unless s e None = effect s e
 abbrev pub direct : State → Event → Direct
 direct s e = effect_unless s e (judged s.scene e)
 
+-- the scene to which the event leads by itself
+abbrev pub begun : State → Event → Scene
+begun s e = (direct s e).state.scene
+
 -- the event answers this, whatever the step still does, and leads by itself to this state. An event whose answer is read off
 -- at the end of the step has no such answer
 pub record IsDirect (old : State) (e : Event) (answer : Reply) (new : State) : Type 0 where

@@ -4,8 +4,8 @@ use Rattle.capbits.specs.{Caps.{has}, Refusal.{Test, first_failing}, Sets.{IsSub
 use Rattle.capgrant.specs.declared.{access.Access.{Access}, rule.Rule.{Rule}}
 use Rattle.captable.specs.{Table.{is_row_of}, declared.entry.EntryRow.{EntryRow}, declared.entry.Holder.{Holder}}
 use Rattle.locktable.specs.{Conflicts.{conflict}, Rows.{row_of}, declared.states.LockState.{LockState}, declared.states.LockState.TheVariants.{Stable, Gather}, declared.states.StableState.{StableState}}
-use Rattle.capnotes.specs.{Capevents.declared.event.Event.{Event}, Capevents.declared.outcome.Ended.{Ended}, Capevents.declared.outcome.Outcome.{Outcome}, Capevents.declared.reply.Reply.{Reply}, Lockmachine.Locks.{LockMap, lock_at}, Lockmachine.Moves.{is_open}, Lockmachine.Policy.{failures, permitted}, Lockmachine.Requests.{same_part}, Lockmachine.Runs.{AreFew}, Lockmachine.Scene.{against}, Lockmachine.declared.moves.Move.{Move}, Lockmachine.declared.moves.Move.TheVariants.{Begin, End, Serve}, Lockmachine.declared.request.Request.{Request}, Lockmachine.declared.scene.Scene.{Scene}}
-use Rattle.caprules.specs.{Direct.{direct}, Finish.{due}, Judge.{before, needs, first_denied}, Needs.{Need}, Operations.{operation_before, operation_needs}, Settle.{Made, Began, Gathered, Served, MakesAll, ended_in}, State.{State}, Step.{StepBy}}
+use Rattle.capnotes.specs.{Capevents.declared.event.Event.{Event}, Capevents.declared.outcome.Outcome.{Outcome}, Capevents.declared.reply.Reply.{Reply}, Lockmachine.Locks.{LockMap, lock_at}, Lockmachine.Moves.{is_open}, Lockmachine.Policy.{failures, permitted}, Lockmachine.Requests.{same_part}, Lockmachine.Runs.{AreFew}, Lockmachine.Scene.{against}, Lockmachine.declared.moves.Move.{Move}, Lockmachine.declared.moves.Move.TheVariants.{Begin, End, Serve}, Lockmachine.declared.request.Request.{Request}, Lockmachine.declared.scene.Scene.{Scene}}
+use Rattle.caprules.specs.{Finish.{due}, Judge.{before, needs, first_denied}, Needs.{Need}, Operations.{operation_before, operation_needs}, Settle.{Made, Began, Gathered, Served, MakesAll, ended_in}}
 
 -- ---- denials
 
@@ -58,11 +58,6 @@ EachServing Fact first moves =
     moves ≡ before_it ++ Served q o ∷ behind_it → MakesAll first before_it s → Fact s q o
 
 -- ---- the moves of a step
-
--- some moves make the step, with this answer and these requests that it ended, and of them this is so, from the scene that the
--- event leads to by itself
-abbrev pub ByMoves : (Scene → List Made → Type 0) → State → Event → Reply → List Ended → State → Type 0
-ByMoves Fact old e answer ended new = (moves : List Made) × StepBy old e moves answer ended new × Fact (direct old e).state.scene moves
 
 -- a move that was made, as a move of the locks
 abbrev pub move_of : Made → Move
