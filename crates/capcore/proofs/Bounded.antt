@@ -1,7 +1,7 @@
 -- How many requests a step serves, and how often its locks move between two servings.
 use Rattle.std.proofs.Common.{◌≡◌, ◌++◌, ℕ, List, [], ◌∷◌, Option, Some, None, map, refl, subst, arith}
 use Rattle.capsteps.{proofs.Lockmachine.Ending.{few}, proofs.Moved.{served-count}, specs.Lockmachine.Runs.{Runs}}
-use Rattle.capcore.proofs.{Common.{Alter, AreBounded, ByMoves, child, direct, effect, effect_unless, Ended, ended_in, Event, found, Get, holder, IsLockMap, judged, Made, MakesAll, move_of, Rejection, Rename, Reply, Rmdir, Scene, Served, State, Step, Unlink, without_requests_of-kept}, LockRequests.{order-of_operation}}
+use Rattle.capcore.proofs.{Common.{Alter, AreBounded, child, direct, effect, effect_unless, ended_in, Event, found, Get, holder, IsLockMap, judged, Made, MakesAll, move_of, Rejection, Rename, Rmdir, Scene, Served, State, Unlink, without_requests_of-kept}, LockRequests.{order-of_operation}}
 
 -- ---- the queue stays in order, whatever the event
 
@@ -56,10 +56,3 @@ moves-bounded s ms t order made = record {
       let then = makes-split first.0 some behind_it t first.2 in
       few first.0 (map move_of some) then.0 (made-runs first.0 some then.0 then.1 none);
 }
-
--- ---- the moves of a step
-
--- what is so of all moves that are made, is so of those of a step
-pub by-moves : (Fact : Scene → List Made → Type 0) (old : State) (e : Event) (answer : Reply) (ended : List Ended) (new : State) → Step old e answer ended new
-    → ((ms : List Made) (t : Scene) → MakesAll (direct old e).state.scene ms t → Fact (direct old e).state.scene ms) → ByMoves Fact old e answer ended new
-by-moves Fact old e answer ended new (moves, by) fact = (moves, by, fact moves by.settled by.settles.made)

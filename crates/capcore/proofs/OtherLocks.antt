@@ -2,7 +2,7 @@
 use Rattle.std.{proofs.Common.{◌≡◌, ℕ, Bool, true, false, Some, List, [], ◌∷◌, refl, sym, ap, ◌∙◌, true≢false, arith}, proofs.lemmas.Bool.{or_parts}, specs.List.{list_any}, specs.Option.{option_map}}
 use Rattle.std.specs.FinMap as map
 use Rattle.capsteps.{proofs.Strays.{retained-here, retained-gone}, specs.Caprules.Finish.{is_in_use, issue}, specs.Caprules.Headline.{OtherLocksStay, is_of_lock_at}}
-use Rattle.capcore.proofs.Common.{Answer, Began, ByMoves, coming_state, direct, Ended, Event, Gather, Gathered, is_at, lock_at, lock_in, LockId, LockMap, LockState, Made, Makes, MakesAll, Part, present_state, Reply, Scene, Served, shown, sized_in, sizes_owed, Stable, State, state_after, Step, with_lock, with_lock-each}
+use Rattle.capcore.proofs.Common.{Answer, Began, coming_state, direct, Ended, Event, Gather, Gathered, is_at, lock_at, lock_in, LockId, LockMap, LockState, Made, Makes, MakesAll, Part, present_state, Reply, Scene, Served, shown, sized_in, sizes_owed, Stable, State, state_after, StepBy, with_lock, with_lock-each}
 
 -- ---- the moves
 
@@ -38,15 +38,11 @@ lock_before : (s : Scene) (kept : ℕ → Bool) (ino : ℕ) (part : Part) (lock 
 lock_before s kept ino part lock there = grind (arith, retained-here, retained-gone)
 
 -- locks change by the moves of the step alone
-pub other-locks : (old : State) (e : Event) (answer : Reply) (ended : List Ended) (new : State) → Step old e answer ended new
-    → ByMoves (OtherLocksStay new.scene.locks) old e answer ended new
-other-locks old e answer ended new (moves, by) = (
-  moves,
-  by,
-  λ ino part lock off there.
-      let last = state_after old (direct old e) moves by.settled in
-      let at_end : lock_at last.scene.locks ino part ≡ Some lock =
-      sym (ap (λ (s : State). lock_at s.scene.locks ino part) by.new_is ∙ ap (λ (locks : LockMap). lock_at locks ino part) (shown_locks (direct old e).answer last)) ∙ there in
-      sym (all_stay (direct old e).state.scene moves by.settled ino part by.settles.made off)
-      ∙ lock_before by.settled (is_in_use (issue (sizes_owed (sized_in moves) by.settled))) ino part lock at_end,
-)
+pub other-locks : (old : State) (e : Event) (moves : List Made) (answer : Reply) (ended : List Ended) (new : State) → StepBy old e moves answer ended new
+    → OtherLocksStay new.scene.locks (direct old e).state.scene moves
+other-locks old e moves answer ended new by ino part lock off there =
+    let last = state_after old (direct old e) moves by.settled in
+    let at_end : lock_at last.scene.locks ino part ≡ Some lock =
+    sym (ap (λ (s : State). lock_at s.scene.locks ino part) by.new_is ∙ ap (λ (locks : LockMap). lock_at locks ino part) (shown_locks (direct old e).answer last)) ∙ there in
+    sym (all_stay (direct old e).state.scene moves by.settled ino part by.settles.made off)
+    ∙ lock_before by.settled (is_in_use (issue (sizes_owed (sized_in moves) by.settled))) ino part lock at_end

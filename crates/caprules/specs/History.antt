@@ -6,7 +6,7 @@ use Rattle.capbits.specs.declared.ids.PassId.{PassId}
 use Rattle.inotree.specs.{Tree.{Nodes, presence}, declared.node.Presence.TheVariants.{Gone}}
 use Rattle.captable.specs.Table as table
 use Rattle.capnotes.specs.{Capevents.declared.event.Event.{Event}, Capevents.declared.outcome.Ended.{Ended}, Capevents.declared.reply.Reply.{Reply}, Capevents.declared.row.Row.{Row}, Capview.declared.change.ViewChange.{ViewChange}, Lockmachine.Inodes.{in_sync}}
-use Rattle.caprules.specs.{Numbers.{rows_of, AreNumbered}, Shown.{AreShown}, Sound.{IsSound, AreGiven}, State.{State}, Step.{Step}}
+use Rattle.caprules.specs.{Numbers.{rows_of, AreNumbered}, Settle.{Made}, Shown.{AreShown}, Sound.{IsSound, AreGiven}, State.{State}, Step.{Step, StepBy}}
 
 -- a state, the history that led to it, how many rows it may have, and what the last step changed of what readers see
 pub record Recorded : Type 0 where
@@ -53,16 +53,13 @@ pub record IsLegal (first : State) (rows : List Row) (last : State) : Type 0 whe
 abbrev pub made_row : PassId → ℕ → Event → Reply → List Ended → Row
 made_row pass nth e answer ended = record { pass = pass; nth = nth; event = e; reply = answer; ended = ended }
 
--- the event is one step, and adds its row
+-- the event is one step, by these moves, and adds its row, which says which requests of earlier steps it ended
 pub record IsNext (old : Recorded) (pass : PassId) (e : Event) (answer : Reply) (new : Recorded) : Type 0 where
+  pub moves : List Made
   pub ended : List Ended
-  pub step : Step old.state e answer ended new.state
+  pub step : StepBy old.state e moves answer ended new.state
   pub rows : new.rows ≡ old.rows ++ made_row pass (rows_of pass old.rows + 1) e answer ended ∷ []
   pub max_rows : new.max_rows ≡ old.max_rows
-
--- one row was added, and this is so of the requests that it says were ended
-abbrev pub InItsRow : List Row → List Row → (List Ended → Type 0) → Type 0
-InItsRow old new Fact = (row : Row) × (new ≡ old ++ row ∷ []) × Fact row.ended
 
 -- ---- what every core keeps
 

@@ -91,7 +91,7 @@ runs_more first now next before line text event ran reads answered =
     let is = answered.next in
     let row : Row = record { pass = record { 0 = 1 }; nth = rows_of (record { 0 = 1 }) now.rows + 1; event = event; reply = answered.answer; ended = is.ended } in
     record {
-      replays = rw is.rows (replays-more first.state now.rows now.state row next.state ran.replays is.step);
+      replays = rw is.rows (replays-more first.state now.rows now.state row next.state ran.replays (is.moves, is.step));
       numbered = rw is.rows (numbered-snoc now.rows row ran.numbered refl);
       say = rw (is.rows, map-append (λ (r : Row). r.event) now.rows (row ∷ [])) (say_more before (map (λ (r : Row). r.event) now.rows) line event ran.say reads);
       few = omega (arith, ran.few, length-append before (line ∷ []), ap length is.rows, length-append now.rows (row ∷ []));

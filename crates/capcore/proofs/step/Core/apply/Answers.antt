@@ -1,6 +1,6 @@
 use Rattle.std.proofs.Common.{◌≡◌, ◌+◌, ◌++◌, ◌∷◌, [], List, length, refl, ap, sym, subst, ◌∙◌}
 use Rattle.capsteps.{proofs.Placed.{all-revoked}, specs.Caprules.History.{made_row}}
-use Rattle.capcore.{proofs.Apart.{held-apart}, proofs.Bounded.{direct-order, moves-bounded, by-moves}, proofs.Common.{AreBounded, direct, EachServing, IsAnswered, IsSound, Recorded, recorded, Reply, Row, rows_of, ServedByName, ServedDenied, ShowsWhatIsTold, State, Step, step-shown}, proofs.Growing.{more-recorded, replays-more}, proofs.Kept.{IsKept, recorded-kept}, proofs.OtherLocks.{other-locks}, proofs.Promised.{denied-exactly, denies-by_name, rejection-unchanged}, proofs.Servings.{served-denied, served-by_name}, proofs.ShownWords.{takes-only_so, shows-told, shows-permitted, all-takes_unshown}, proofs.step.Core.apply.Goals.{In-Ok}, specs.Promised.{IsPromised}}
+use Rattle.capcore.{proofs.Apart.{held-apart}, proofs.Bounded.{direct-order, moves-bounded}, proofs.Common.{direct, IsAnswered, IsSound, Recorded, recorded, Reply, Row, rows_of, Scene, ShowsWhatIsTold, State, Step, step-shown}, proofs.Growing.{more-recorded, replays-more}, proofs.Kept.{IsKept, recorded-kept}, proofs.OtherLocks.{other-locks}, proofs.Promised.{denied-exactly, rejection-unchanged}, proofs.Servings.{served-denied}, proofs.ShownWords.{takes-only_so, shows-told, shows-permitted, all-takes_unshown}, proofs.step.Core.apply.Goals.{In-Ok}, specs.Promised.{IsPromised}}
 use Rattle.capcore.proofs.step.Core.apply.Goals as goal
 
 pub step-requires-clause-table : goal.step-requires-clause-table
@@ -75,26 +75,15 @@ promised c =
     let one = step_of c in
     let sound = next c in
     let table = (kept_of c).0 in
-    let locks = (kept_of c).1 in record {
-      next = record { ended = ended; step = one; rows = ap (λ (row : Row). rows ++ row ∷ []) (row_is c); max_rows = refl };
+    let locks = (kept_of c).1 in
+    let first : Scene = (direct old event).state.scene in
+    let by = one.1 in
+    let made = by.settles.made in record {
+      next = record { moves = one.0; ended = ended; step = by; rows = ap (λ (row : Row). rows ++ row ∷ []) (row_is c); max_rows = refl };
       denied = denied-exactly old event reply ended new one c.self.invariant.sound locks;
-      named = denies-by_name old event reply ended new one c.self.invariant.sound locks;
-      served_denied = (
-        row_of c,
-        refl,
-        by-moves (EachServing ServedDenied) old event reply ended new one (λ moves last made. served-denied (direct old event).state.scene last moves made),
-      );
-      served_named = (
-        row_of c,
-        refl,
-        by-moves (EachServing ServedByName) old event reply ended new one (λ moves last made. served-by_name (direct old event).state.scene last moves made),
-      );
-      bounded = (
-        row_of c,
-        refl,
-        by-moves AreBounded old event reply ended new one (λ moves last made. moves-bounded (direct old event).state.scene moves last (direct-order old event locks) made),
-      );
-      other_locks = (row_of c, refl, other-locks old event reply ended new one);
+      served_denied = served-denied first by.settled one.0 made;
+      bounded = moves-bounded first one.0 by.settled (direct-order old event locks) made;
+      other_locks = other-locks old event one.0 reply ended new by;
       issued = all.issued;
       in_place = sound.in_place;
       lost = all-revoked new.scene;
