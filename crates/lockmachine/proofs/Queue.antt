@@ -1,5 +1,5 @@
 -- The queue: requests stand in it by their numbers.
-use Rattle.std.proofs.Common.{◌≡◌, ℕ, zero, suc, ◌+◌, ◌<◌, ◌≤◌, Bool, true, false, not, cond, Option, Some, None, List, [], ◌∷◌, ◌++◌, length, take, drop, get_or, refl, sym, ap, ◌∙◌, All, Contains, arith, drop-cons}
+use Rattle.std.proofs.Common.{◌≡◌, ℕ, zero, suc, ◌+◌, ◌<◌, ◌≤◌, Bool, true, false, not, cond, Option, Some, None, List, [], ◌∷◌, ◌++◌, length, take, drop, get_or, refl, sym, ap, subst, ◌∙◌, All, Contains, arith, drop-cons}
 use Rattle.std.specs.Prelude.{filter}
 use Rattle.std.specs.List.{find, position, remove, slice_get}
 use Rattle.std.specs.Option.{option_map}
@@ -22,7 +22,7 @@ use Rattle.lockmachine.specs.declared.request.Request.{Request}
 use Rattle.lockmachine.specs.declared.moves.Move.{Move}
 use Rattle.lockmachine.specs.declared.moves.Move.TheVariants.{Begin, End, Serve, Settled}
 use Rattle.lockmachine.specs.Requests.{is_numbered, is_of_client, AreTicketsRising}
-use Rattle.lockmachine.specs.Locks.{LockMap, IsLockMap, TakesOnly, request_at, next_request, with_request, without_request, requests_of, without_requests_of}
+use Rattle.lockmachine.specs.Locks.{LockMap, IsLockMap, TakesOnly, request_at, next_request, with_request, without_request, requests_of, oldest_of, without_requests_of}
 use Rattle.lockmachine.specs.Scene.{Scene}
 use Rattle.lockmachine.specs.Moves.{LockId, lock_ids, may_end, may_serve, begin_or_rest, serve_or_begin, end_or_serve, first_move, moved, IsFirstServed}
 use Rattle.lockmachine.proofs.Rest.{not_found}
@@ -181,6 +181,17 @@ none_left locks client none =
     nothing_passes p (x ∷ xs) none =
         let n = not_found p x xs none in
         ap (λ b. cond b (x ∷ filter p xs) (filter p xs)) n.0 ∙ nothing_passes p xs n.1
+
+-- a client's oldest request has the least number of its own
+pub oldest-least : (locks : LockMap) (client : ClientId) (ticket : Ticket) → IsLockMap locks → oldest_of locks client ≡ Some ticket
+    → (q : Request) → Contains locks.queue q → is_of_client client q ≡ true → ticket.0 ≤ q.ticket.0
+oldest-least locks client ticket order oldest q inside own = by_found (find (is_of_client client) locks.queue) refl oldest
+  where
+    by_found : (o : Option Request) → find (is_of_client client) locks.queue ≡ o → option_map (λ (r : Request). r.ticket) o ≡ Some ticket → ticket.0 ≤ q.ticket.0
+    by_found None found is = absurd (cc)
+    by_found (Some r) found is =
+        let number : r.ticket ≡ ticket = cc in
+        subst (λ (t : Ticket). t.0 ≤ q.ticket.0) number ((least (is_of_client client) locks.queue r order.rising found).least q inside own)
 
 -- ---- what keeps the order
 

@@ -6,6 +6,7 @@ use Rattle.std.specs.FinMap as map
 use Rattle.capbits.specs.declared.cap.Part.{Part}
 use Rattle.capbits.specs.declared.ids.ClientId.{ClientId}
 use Rattle.capbits.specs.declared.ids.Ino.{Ino}
+use Rattle.capbits.specs.declared.ids.Ticket.{Ticket}
 use Rattle.capbits.specs.declared.refusal.Refusal.TheVariants as refusal
 use Rattle.capbits.specs.Refusal.{Test, refused_if}
 use Rattle.capbits.specs.Maps.{change_at}
@@ -83,6 +84,10 @@ pub record TakesOnly (q : Request) (old new : LockMap) : Type 0 where
 -- the requests of a client, the oldest first
 abbrev pub requests_of : LockMap → ClientId → List Request
 requests_of locks client = filter (is_of_client client) locks.queue
+
+-- the number of the oldest of them, if any
+abbrev pub oldest_of : LockMap → ClientId → Option Ticket
+oldest_of locks client = option_map (λ q. q.ticket) (find (is_of_client client) locks.queue)
 
 -- none of them waits any more
 abbrev pub without_requests_of : LockMap → ClientId → LockMap

@@ -1,8 +1,6 @@
 //! Laws of the locks. No program needs to call them.
 
 ghost use Rattle.std.specs.Prelude.{◌≡◌, ◌<◌, ℕ, List, [], None, Some, Contains, length};
-ghost use Rattle.std.specs.List.{find};
-ghost use Rattle.std.specs.Option.{option_map};
 ghost use Rattle.std.specs.FinMap as map;
 ghost use Rattle.lockmachine.specs.declared.states.InodeLocks.{InodeLocks};
 ghost use Rattle.capbits.specs.declared.ids.ClientId.{ClientId};
@@ -15,9 +13,8 @@ ghost use Rattle.lockmachine.specs.declared.request.Request.{Request};
 ghost use Rattle.lockmachine.specs.declared.moves.Move.{Move};
 ghost use Rattle.lockmachine.specs.declared.moves.Move.TheVariants.{Serve, Settled};
 ghost use Rattle.lockmachine.specs.Inodes.{in_sync};
-ghost use Rattle.lockmachine.specs.Requests.{is_of_client};
 ghost use Rattle.lockmachine.specs.Scene.{Scene};
-ghost use Rattle.lockmachine.specs.Locks.{LockMap, IsLockMap, TakesOnly, request_at, requests_of, with_request, without_request, without_requests_of};
+ghost use Rattle.lockmachine.specs.Locks.{LockMap, IsLockMap, TakesOnly, request_at, requests_of, oldest_of, with_request, without_request, without_requests_of};
 ghost use Rattle.lockmachine.specs.Moves.{first_move, moved, with_moved, IsFirstServed, IsAtRest, WaitAtLocks};
 ghost use Rattle.lockmachine.specs.Runs.{Runs, AreFew, MoveLittle, EndLittle};
 ghost use Rattle.lockmachine.specs.Rows.{IsInRow};
@@ -70,6 +67,6 @@ pub fn the_queue_keeps_its_order()
         → length locks.queue < 1024 → IsLockMap (with_request locks client ino operation) }
     ensures dropped { (locks : LockMap) (client : ClientId) → IsLockMap locks → IsLockMap (without_requests_of locks client) }
     ensures none { (locks : LockMap) (client : ClientId)
-        → option_map (λ (q : Request). q.ticket) (find (is_of_client client) locks.queue) ≡ None
+        → oldest_of locks client ≡ None
         → (requests_of locks client ≡ []) × (without_requests_of locks client ≡ locks) }
 {}

@@ -1,5 +1,5 @@
 //! The locks by inode, the queue, and the moves of both.
-ghost use Rattle.std.specs.Prelude.{◌≡◌, ◌==◌, ◌&&◌, ◌+◌, ◌-◌, ◌<◌, ◌^◌, ℕ, List, None, true, false, length, position, IfOk, IfSome, OnOk, OnErr};
+ghost use Rattle.std.specs.Prelude.{◌≡◌, ◌==◌, ◌&&◌, ◌+◌, ◌-◌, ◌<◌, ◌≤◌, ◌^◌, ℕ, IsTrue, Contains, List, None, true, false, length, position, IfOk, IfSome, OnOk, OnErr};
 ghost use Rattle.std.specs.List.{find, list_any};
 ghost use Rattle.std.specs.Option.{option_map};
 ghost use Rattle.std.specs.Result.{result_err};
@@ -9,6 +9,7 @@ ghost use Rattle.capbits.specs.declared.cap.Part.{Part};
 ghost use Rattle.inotree.specs.Tree.{Nodes};
 ghost use Rattle.sessiontab.specs.Table.{SessionTable};
 ghost use Rattle.lockmachine.specs.declared.moves.Move.TheVariants.{Settled};
+ghost use Rattle.lockmachine.specs.declared.request.Request.{Request};
 ghost use Rattle.lockmachine.specs.Locks as words;
 ghost use Rattle.lockmachine.specs.Requests as requests;
 ghost use Rattle.lockmachine.specs.Requests.{waits_for};
@@ -223,6 +224,34 @@ impl Locks {
         } else {
             self.waiters.drop_those_of(client);
         }
+    }
+
+    /// Takes a client's oldest request out of the queue, and answers its number, which is the least of the client's. Where none of
+    /// them waits it answers None, and nothing changes. It takes no memory. Whoever calls it until then has dropped all, and has gone
+    /// over the queue once for each; `drop_requests_of` goes over it once.
+    pub fn drop_client(&mut self, client: ClientId) -> Option<Ticket>
+        ensures ticket { result ≡ words.oldest_of self.old client }
+        ensures least { IfSome result (λ ticket. (q : Request) → Contains self.old.queue q → IsTrue (requests.is_of_client client q)
+            → ticket.0 ≤ q.ticket.0) }
+        ensures left { IfSome result (λ ticket. self.new ≡ words.without_request self.old ticket.0) }
+        ensures none { result ≡ None → self.new ≡ self.old }
+    {
+        let ticket = self.oldest_of(client)?;
+        let _dropped = self.take_request(ticket);
+        Some(ticket)
+    }
+
+    // The number of a client's oldest request.
+    fn oldest_of(&self, client: ClientId) -> Option<Ticket>
+        ensures oldest { result ≡ words.oldest_of self.now client }
+        ensures sound { words.IsLockMap self.now }
+    {
+        for waiting in &self.queue {
+            if is_of_client(client, waiting) {
+                return Some(waiting.ticket);
+            }
+        }
+        None
     }
 
     // ---- which move comes next

@@ -46,6 +46,8 @@ enum Step {
     Fill(Holder, Part),
     // The requests of a client are dropped.
     DropRequests(u32),
+    // The oldest of them alone: its number.
+    DropOldest(u32, Option<Ticket>),
     // How many requests wait, and the last number that was given.
     Queue(usize, u64),
     // The locks make these moves, and no more.
@@ -142,6 +144,7 @@ fn take(
         Refuses(h, part, want) => same(rt, enqueue(locks, *h, *part), Err(*want), at),
         Fill(h, part) => fill(rt, locks, *h, *part),
         DropRequests(client) => locks.drop_requests_of(ClientId(*client)),
+        DropOldest(client, want) => same(rt, locks.drop_client(ClientId(*client)), *want, at),
         Queue(count, last) => same(rt, (locks.waiting(), locks.last()), (*count, *last), at),
         Moves(want) => make(rt, (known, table), locks, want, at),
         Wanted(text, loner) => same(rt, wants(known, table), wants_of(text, *loner), at),
@@ -448,6 +451,29 @@ const FULL: &[Step] = &[
     Queue(1, 1025),
 ];
 
+// A client's requests are dropped one by one, the oldest first, and nobody else's.
+const DROPPED_ONE_BY_ONE: &[Step] = &[
+    DropOldest(1, None),
+    Waits(ONE_2, Part::F, 1),
+    Waits(TWO_2, Part::F, 2),
+    Waits(ONE_3, Part::A, 3),
+    Waits(TWO_3, Part::A, 4),
+    Waits(ONE_2, Part::F, 5),
+    DropOldest(3, None),
+    Queue(5, 5),
+    DropOldest(1, Some(Ticket(1))),
+    Queue(4, 5),
+    DropOldest(1, Some(Ticket(3))),
+    DropOldest(1, Some(Ticket(5))),
+    DropOldest(1, None),
+    Queue(2, 5),
+    // Who is left is served, and is not there to be dropped then.
+    Moves(&[Move::Serve(Ticket(2))]),
+    DropOldest(2, Some(Ticket(4))),
+    DropOldest(2, None),
+    Queue(0, 5),
+];
+
 const COMING_AND_GOING: &[Step] = &[
     Lock(1, Part::F, None),
     Lock(2, Part::A, SYNC),
@@ -508,6 +534,10 @@ const CASES: &[(&str, &[Step])] = &[
     ("moves come in their order", IN_ORDER),
     ("requests wait under numbers", REQUESTS),
     ("no more than 1,024 requests wait", FULL),
+    (
+        "a client's requests are dropped one by one",
+        DROPPED_ONE_BY_ONE,
+    ),
     (
         "an inode has locks from its making to its end",
         COMING_AND_GOING,
