@@ -56,6 +56,7 @@ turn-of_only inos s still one a least = record {
   begins = λ other part below. still.begins other part (least.least other (omega arith) below);
 }
 
+-- it is the turn of the least one where nothing ends, or one alone is affected
 pub turn-at_first : (inos : InoSet) (s : Scene) → AreStill (set.contains inos) s → (set.len inos ≢ 1 → NothingEnds s) → IsTurnOfLeast inos s
 turn-at_first inos s still ends = elim (set.len inos == 1) as (λ b. (set.len inos == 1) ≡ b → IsTurnOfLeast inos s) [
   | true ↦ λ one. turn-of_only inos s still (eqb-true (set.len inos) 1 one)

@@ -85,6 +85,7 @@ impl Room {
         // What the last step changed stays listed.
         ensures changes { endings.new.changes.items ≡ endings.old.changes.items }
     {
+        // What settles is not empty, and the client may be at no inode; the root is always there.
         let mut inodes = NonEmptyInoSet::of(alloc, ROOT);
         reach_entries(table, client, &mut inodes)?;
         reach_requests(locks, client, &mut inodes)?;

@@ -5,7 +5,7 @@ ghost use Rattle.capbits.specs.declared.cap.Part.{Part};
 ghost use Rattle.inotree.specs.Tree.{IsTree, Nodes};
 ghost use Rattle.captable.specs.{Known.{known_of}, declared.entry.Holder.{Holder}};
 ghost use Rattle.sessiontab.specs.Table.{SessionTable};
-ghost use Rattle.capacts.specs.{Capevents.declared.outcome.Ended.{Ended}, Capnotes.Noted.{HavePlaces, LeadOn}, Caprules.Settle.{Served as Serving, sized_by, sized_in}, Lockmachine.Locks.{request_at}, Lockmachine.Moves.{may_end_by}, Lockmachine.Scene.{scene as scene_of}, Lockmachine.Turns.{WaitAt}, Lockmachine.declared.request.Request.{Request}, Reach.{AreWalked, Reaches}};
+ghost use Rattle.capacts.specs.{Capevents.declared.outcome.Ended.{Ended}, Capnotes.Noted.{HavePlaces, LeadOn}, Caprules.Settle.{Served as Serving, sized_by, sized_in}, Lockmachine.Locks.{request_at}, Lockmachine.Scene.{scene as scene_of}, Lockmachine.Turns.{WaitAt, may_end_by}, Lockmachine.declared.request.Request.{Request}, Reach.{AreWalked, Reaches}};
 ghost use Rattle.capsteps.specs.{Begun.{ArePermittedIn, HaveRoomFor, IsReady, MaySettle, among}, Judged.{IsJudged}, Serves.{Serves, SettlesWith, EndsWith}, Sweep.{AreStill, GoesOn, IsFirstPlace, IsSwept, StandsAt, changed_alone}};
 
 use crate::endings::Endings;

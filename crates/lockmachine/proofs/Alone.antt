@@ -19,9 +19,9 @@ use Rattle.lockmachine.specs.declared.wants.Wants.{Wants}
 use Rattle.lockmachine.specs.Requests.{first_for, head_of, head_of_operation, part_of_operation, same_part, waits_for}
 use Rattle.lockmachine.specs.Locks.{LockMap, IsLockMap, lock_at, request_at}
 use Rattle.lockmachine.specs.Scene.{Scene, target_by}
-use Rattle.lockmachine.specs.Moves.{same_state, parts, may_begin_in, may_begin_by, may_serve, is_first, is_servable, is_served_in, first_move, beginning, beginning_by, present_state}
+use Rattle.lockmachine.specs.Moves.{same_state, parts, may_begin_in, may_serve, is_first, is_servable, is_served_in, first_move, present_state}
 use Rattle.lockmachine.specs.Runs.{ChangesLocksOf}
-use Rattle.lockmachine.specs.Turns.{IsDoneAt, NobodyElsewhere, Suffices, WaitAt, may_wait}
+use Rattle.lockmachine.specs.Turns.{IsDoneAt, NobodyElsewhere, Suffices, WaitAt, may_wait, may_begin_by, beginning, beginning_by}
 use Rattle.lockmachine.specs.Waiters.{queue_if}
 use Rattle.lockmachine.proofs.Finding.{find_none}
 use Rattle.lockmachine.proofs.Queue.{found_by_number, least_served}

@@ -20,7 +20,8 @@ use Rattle.lockmachine.specs.Inodes.{lock_in}
 use Rattle.lockmachine.specs.Requests.{same_part}
 use Rattle.lockmachine.specs.Locks.{LockMap, lock_at}
 use Rattle.lockmachine.specs.Scene.{scene}
-use Rattle.lockmachine.specs.Moves.{LockId, parts, lock_ids_of, may_end_in, may_end_by, coming_state, first_move, moved}
+use Rattle.lockmachine.specs.Moves.{LockId, parts, lock_ids_of, may_end_in, coming_state, first_move, moved}
+use Rattle.lockmachine.specs.Turns.{may_end_by}
 use Rattle.lockmachine.specs.Runs.{Runs, is_end, EndLittle, ChangesLocksOf}
 use Rattle.lockmachine.proofs.Ending.{few}
 use Rattle.lockmachine.proofs.Finding.{no_part}

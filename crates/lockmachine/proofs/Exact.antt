@@ -11,7 +11,9 @@ use Rattle.lockmachine.specs.declared.moves.Move.TheVariants.{Settled}
 use Rattle.lockmachine.specs.Requests.{part_of_operation, head_of_operation, first_for, is_numbered}
 use Rattle.lockmachine.specs.Locks.{lock_at}
 use Rattle.lockmachine.specs.Scene.{Scene, wanted_in_all}
-use Rattle.lockmachine.specs.Moves.{LockId, same_state, lock_ids, may_end, may_end_in, may_begin, may_begin_in, may_serve, is_served_in, serve_or_begin, begin_or_rest, end_or_serve, first_move, IsQuiet, IsAtRest}
+use Rattle.lockmachine.specs.Moves.{LockId, same_state, lock_ids, may_end, may_end_in, may_begin, may_begin_in, may_serve, is_served_in, first_move, IsQuiet, IsAtRest}
+use Rattle.lockmachine.specs.Turns.{serve_or_begin, begin_or_rest, end_or_serve}
+use Rattle.lockmachine.proofs.FirstMove.{first-found}
 use Rattle.lockmachine.proofs.Finding.{find_none}
 
 and_false : (b : Bool) → (b && false) ≡ false
@@ -41,8 +43,8 @@ serves_not s r (Some (Gather from to)) q = and_false _
 serves_not s r (Some (Stable state)) q = ap (λ f. option_map_or (is_numbered r.ticket.0) f false && is_served_in (Some (Stable state)) (head_of_operation r.client r.operation)) q.1
 
 pub settled : (s : Scene) → IsAtRest s → first_move s ≡ Settled
-unfolding first_move
 settled s rest =
-    ap (end_or_serve s) (find_none (may_end s) (lock_ids s.locks) (λ at inside. ends_not s at (lock_at s.locks at.0 at.1) (rest.each at.0 at.1)))
+    first-found s
+    ∙ ap (end_or_serve s) (find_none (may_end s) (lock_ids s.locks) (λ at inside. ends_not s at (lock_at s.locks at.0 at.1) (rest.each at.0 at.1)))
     ∙ ap (serve_or_begin s) (find_none (may_serve s.locks) s.locks.queue (λ r inside. serves_not s r (lock_at s.locks r.ino.0 (part_of_operation r.operation)) (rest.each r.ino.0 (part_of_operation r.operation))))
     ∙ ap (begin_or_rest s) (find_none (may_begin s) (lock_ids s.locks) (λ at inside. begins_not s at (lock_at s.locks at.0 at.1) (rest.each at.0 at.1)))

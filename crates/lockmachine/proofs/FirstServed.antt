@@ -14,7 +14,8 @@ use Rattle.lockmachine.specs.declared.request.Request.{Request}
 use Rattle.lockmachine.specs.declared.waiters.Waiter.{Waiter}
 use Rattle.lockmachine.specs.Requests.{same_part, part_of_operation, is_for, waits_for, is_numbered, first_for}
 use Rattle.lockmachine.specs.Locks.{LockMap, IsLockMap, request_at}
-use Rattle.lockmachine.specs.Moves.{is_first, is_servable, may_serve, served_of}
+use Rattle.lockmachine.specs.Moves.{is_first, is_servable, may_serve}
+use Rattle.lockmachine.specs.Turns.{served_of}
 use Rattle.lockmachine.specs.Waiters.{waiter_of, earlier}
 use Rattle.lockmachine.proofs.Finding.{fails_at}
 use Rattle.lockmachine.proofs.Queue.{IsLeast, least, found_by_number}

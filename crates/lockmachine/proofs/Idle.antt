@@ -16,7 +16,9 @@ use Rattle.lockmachine.specs.declared.states.InodeLocks.{InodeLocks}
 use Rattle.lockmachine.specs.declared.moves.Move.TheVariants.{Settled}
 use Rattle.lockmachine.specs.Inodes.{lock_in, in_sync}
 use Rattle.lockmachine.specs.Scene.{Scene, target}
-use Rattle.lockmachine.specs.Moves.{LockId, lock_ids, may_end, may_begin, may_serve, serve_or_begin, begin_or_rest, end_or_serve, first_move}
+use Rattle.lockmachine.specs.Moves.{LockId, lock_ids, may_end, may_begin, may_serve, first_move}
+use Rattle.lockmachine.specs.Turns.{serve_or_begin, begin_or_rest, end_or_serve}
+use Rattle.lockmachine.proofs.FirstMove.{first-found}
 use Rattle.lockmachine.proofs.Finding.{find_none}
 
 -- the locks of an inode, if it has any, are in SYNC
@@ -50,8 +52,8 @@ module _ (s : Scene) (rows : s.table.rows ≡ []) (queue : s.locks.queue ≡ [])
   at_target at (Some locks) is = rw (is, sync at.0 locks is, each_in_sync at.1, stays at.0 at.1 Sync) refl
 
   pub idle : first_move s ≡ Settled
-  unfolding first_move
   idle =
-      ap (end_or_serve s) (find_none (may_end s) (lock_ids s.locks) (λ at inside. in_no_gather at (map.get s.locks.states at.0) refl))
+      first-found s
+      ∙ ap (end_or_serve s) (find_none (may_end s) (lock_ids s.locks) (λ at inside. in_no_gather at (map.get s.locks.states at.0) refl))
       ∙ ap (λ q. serve_or_begin s (find (may_serve s.locks) q)) queue
       ∙ ap (begin_or_rest s) (find_none (may_begin s) (lock_ids s.locks) (λ at inside. at_target at (map.get s.locks.states at.0) refl))

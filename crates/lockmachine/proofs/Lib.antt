@@ -4,6 +4,7 @@ pub mod Rest
 pub mod Exact
 pub mod Queue
 pub mod Finding
+pub mod FirstMove
 pub mod LockIds
 pub mod Moving
 pub mod Ending

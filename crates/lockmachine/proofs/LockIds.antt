@@ -18,8 +18,9 @@ use Rattle.lockmachine.specs.declared.moves.Move.TheVariants.{End, Serve, Settle
 use Rattle.lockmachine.specs.Inodes.{lock_in}
 use Rattle.lockmachine.specs.Locks.{LockMap}
 use Rattle.lockmachine.specs.Scene.{Scene, wanted_in_all}
-use Rattle.lockmachine.specs.Moves.{LockId, parts, lock_ids_of, lock_ids, may_end, may_end_in, may_serve, may_begin, may_begin_in, beginning, begin_or_rest, serve_or_begin, end_or_serve, first_move}
-use Rattle.lockmachine.specs.Turns.{IsTurnOf, IsNextAt}
+use Rattle.lockmachine.specs.Moves.{LockId, parts, lock_ids_of, lock_ids, may_end, may_end_in, may_serve, may_begin, may_begin_in, first_move}
+use Rattle.lockmachine.specs.Turns.{IsTurnOf, IsNextAt, beginning, begin_or_rest, serve_or_begin, end_or_serve}
+use Rattle.lockmachine.proofs.FirstMove.{first-found}
 use Rattle.lockmachine.proofs.Finding.{fails_at, no_part}
 use Rattle.lockmachine.proofs.Rest.{same_key}
 
@@ -90,12 +91,10 @@ module _ (p : LockId → Bool) (ino : ℕ) (elsewhere : (other : ℕ) (part : Pa
 
 module _ (s : Scene) where
   pub end_first : (ino : ℕ) (part : Part) → find (may_end s) (lock_ids s.locks) ≡ Some (ino, part) → first_move s ≡ End (record { 0 = ino }) part
-  unfolding first_move
-  end_first ino part found = ap (end_or_serve s) found
+  end_first ino part found = first-found s ∙ ap (end_or_serve s) found
 
   pub serve_first : (ticket : Ticket) → find (may_end s) (lock_ids s.locks) ≡ None → Some ticket ≡ option_map (λ q. q.ticket) (find (may_serve s.locks) s.locks.queue) → first_move s ≡ Serve ticket
-  unfolding first_move
-  serve_first ticket no_end found = ap (end_or_serve s) no_end ∙ by_found (find (may_serve s.locks) s.locks.queue) found
+  serve_first ticket no_end found = first-found s ∙ ap (end_or_serve s) no_end ∙ by_found (find (may_serve s.locks) s.locks.queue) found
     where
       by_found : (o : Option Request) → Some ticket ≡ option_map (λ q. q.ticket) o → serve_or_begin s o ≡ Serve ticket
       by_found None is = absurd (cc)
@@ -103,8 +102,7 @@ module _ (s : Scene) where
 
   pub begin_first : find (may_end s) (lock_ids s.locks) ≡ None → None ≡ option_map (λ (q : Request). q.ticket) (find (may_serve s.locks) s.locks.queue)
       → first_move s ≡ begin_or_rest s (find (may_begin s) (lock_ids s.locks))
-  unfolding first_move
-  begin_first no_end none_served = ap (end_or_serve s) no_end ∙ by_found (find (may_serve s.locks) s.locks.queue) none_served
+  begin_first no_end none_served = first-found s ∙ ap (end_or_serve s) no_end ∙ by_found (find (may_serve s.locks) s.locks.queue) none_served
     where
       by_found : (o : Option Request) → None ≡ option_map (λ (q : Request). q.ticket) o → serve_or_begin s o ≡ begin_or_rest s (find (may_begin s) (lock_ids s.locks))
       by_found None is = refl

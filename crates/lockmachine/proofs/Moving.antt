@@ -19,7 +19,9 @@ use Rattle.lockmachine.specs.Inodes.{StateMap, lock_in, with_lock_in}
 use Rattle.lockmachine.specs.Requests.{same_part}
 use Rattle.lockmachine.specs.Locks.{LockMap, lock_at, with_lock}
 use Rattle.lockmachine.specs.Scene.{Scene, target}
-use Rattle.lockmachine.specs.Moves.{LockId, lock_ids, may_end, may_begin, may_serve, present_state, begin_or_rest, serve_or_begin, end_or_serve, first_move}
+use Rattle.lockmachine.specs.Moves.{LockId, lock_ids, may_end, may_begin, may_serve, present_state, first_move}
+use Rattle.lockmachine.specs.Turns.{begin_or_rest, serve_or_begin, end_or_serve}
+use Rattle.lockmachine.proofs.FirstMove.{first-found}
 use Rattle.lockmachine.proofs.Rest.{same_part_is}
 
 -- ---- what the first move is
@@ -44,8 +46,7 @@ module _ (s : Scene) where
   by_end (Some at) found = find_passes (may_end s) (lock_ids s.locks) at found
 
   pub first_is : IsMove s (first_move s)
-  unfolding first_move
-  first_is = by_end (find (may_end s) (lock_ids s.locks)) refl
+  first_is = subst (IsMove s) (sym (first-found s)) (by_end (find (may_end s) (lock_ids s.locks)) refl)
 
 -- ---- one lock in another state
 

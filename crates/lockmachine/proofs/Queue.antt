@@ -24,7 +24,9 @@ use Rattle.lockmachine.specs.declared.moves.Move.TheVariants.{Begin, End, Serve,
 use Rattle.lockmachine.specs.Requests.{is_numbered, is_of_client, AreTicketsRising}
 use Rattle.lockmachine.specs.Locks.{LockMap, IsLockMap, TakesOnly, request_at, next_request, with_request, without_request, requests_of, oldest_of, without_requests_of}
 use Rattle.lockmachine.specs.Scene.{Scene}
-use Rattle.lockmachine.specs.Moves.{LockId, lock_ids, may_end, may_serve, begin_or_rest, serve_or_begin, end_or_serve, first_move, moved, IsFirstServed}
+use Rattle.lockmachine.specs.Moves.{LockId, lock_ids, may_end, may_serve, first_move, moved, IsFirstServed}
+use Rattle.lockmachine.specs.Turns.{begin_or_rest, serve_or_begin, end_or_serve}
+use Rattle.lockmachine.proofs.FirstMove.{first-found}
 use Rattle.lockmachine.proofs.Rest.{not_found}
 
 -- ---- a queue whose numbers rise
@@ -157,9 +159,8 @@ ending s ticket None is = is
 ending s ticket (Some at) is = absurd (cc)
 
 pub least_served : (s : Scene) (ticket : Ticket) → IsLockMap s.locks → first_move s ≡ Serve ticket → (q : Request) × (q.ticket ≡ ticket) × IsFirstServed s.locks q
-unfolding first_move
 least_served s ticket is move =
-    let v = serving s ticket (find (may_serve s.locks) s.locks.queue) (ending s ticket (find (may_end s) (lock_ids s.locks)) move) in
+    let v = serving s ticket (find (may_serve s.locks) s.locks.queue) (ending s ticket (find (may_end s) (lock_ids s.locks)) (sym (first-found s) ∙ move)) in
     let l = least (may_serve s.locks) s.locks.queue v.0 is.rising v.1 in
     (v.0, v.2, record { waits = l.waits; may = l.passes; least = l.least })
 

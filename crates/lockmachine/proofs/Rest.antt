@@ -25,7 +25,9 @@ use Rattle.lockmachine.specs.Requests.{part_place, same_part, part_of_operation,
 use Rattle.lockmachine.specs.Inodes.{lock_in}
 use Rattle.lockmachine.specs.Locks.{lock_at}
 use Rattle.lockmachine.specs.Scene.{Scene, target, loner, wanted}
-use Rattle.lockmachine.specs.Moves.{LockId, same_state, is_open, lock_ids_of, lock_ids, may_end, may_begin, may_serve, is_served_in, begin_or_rest, serve_or_begin, end_or_serve, first_move, IsQuiet, IsAtRest, WaitAtLocks}
+use Rattle.lockmachine.specs.Moves.{LockId, same_state, is_open, lock_ids_of, lock_ids, may_end, may_begin, may_serve, is_served_in, first_move, IsQuiet, IsAtRest, WaitAtLocks}
+use Rattle.lockmachine.specs.Turns.{begin_or_rest, serve_or_begin, end_or_serve}
+use Rattle.lockmachine.proofs.FirstMove.{first-found}
 
 -- ---- what is known where no move applies
 
@@ -47,9 +49,8 @@ no_begin s None is = refl
 no_begin s (Some at) is = absurd (cc)
 
 no_move : (s : Scene) → first_move s ≡ Settled → NoMove s
-unfolding first_move
 no_move s is =
-    let e = no_end s (find (may_end s) (lock_ids s.locks)) is in
+    let e = no_end s (find (may_end s) (lock_ids s.locks)) (sym (first-found s) ∙ is) in
     let v = no_serve s (find (may_serve s.locks) s.locks.queue) e.1 in
     record { ends = e.0; serves = v.0; begins = no_begin s (find (may_begin s) (lock_ids s.locks)) v.1 }
 

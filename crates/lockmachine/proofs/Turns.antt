@@ -11,10 +11,11 @@ use Rattle.lockmachine.specs.declared.moves.Move.TheVariants.{Serve, Settled}
 use Rattle.lockmachine.specs.Inodes.{lock_in}
 use Rattle.lockmachine.specs.Locks.{LockMap}
 use Rattle.lockmachine.specs.Scene.{Scene}
-use Rattle.lockmachine.specs.Moves.{LockId, lock_ids, may_end, may_end_in, may_begin, may_serve, begin_or_rest, serve_or_begin, end_or_serve, first_move}
+use Rattle.lockmachine.specs.Moves.{LockId, lock_ids, may_end, may_end_in, may_begin, may_serve, first_move}
 use Rattle.lockmachine.specs.Runs.{ChangesLocksOf}
 use Rattle.lockmachine.specs.Elsewhere.{IsSameBut}
-use Rattle.lockmachine.specs.Turns.{IsTurnOf, IsDoneAt, NothingEnds}
+use Rattle.lockmachine.specs.Turns.{IsTurnOf, IsDoneAt, NothingEnds, begin_or_rest, serve_or_begin, end_or_serve}
+use Rattle.lockmachine.proofs.FirstMove.{first-found}
 use Rattle.lockmachine.proofs.Finding.{find_none}
 use Rattle.lockmachine.proofs.Rest.{none_at}
 use Rattle.lockmachine.proofs.Finding.{find_none, by_number}
@@ -45,9 +46,9 @@ turn-passes s a b turn done less between =
 
 pub turn-rests : (s : Scene) (a : ℕ) → IsTurnOf s a → IsDoneAt s a
     → ((other : ℕ) (part : Part) → a < other → may_begin s (other, part) ≡ false) → first_move s ≡ Settled
-unfolding first_move
 turn-rests s a turn done above =
-    ap (end_or_serve s) (find_none (may_end s) (lock_ids s.locks) (λ at inside. done-ends s a turn done at.0 at.1))
+    first-found s
+    ∙ ap (end_or_serve s) (find_none (may_end s) (lock_ids s.locks) (λ at inside. done-ends s a turn done at.0 at.1))
     ∙ ap (serve_or_begin s) (find_none (may_serve s.locks) s.locks.queue done.serves)
     ∙ ap (begin_or_rest s) (find_none (may_begin s) (lock_ids s.locks) (λ at inside. done-begins s a turn done at.0 at.1 (above at.0 at.1)))
 
@@ -59,13 +60,12 @@ no_end_found s ticket None is = refl
 no_end_found s ticket (Some at) is = absurd (cc)
 
 pub served-ends : (s : Scene) (ticket : Ticket) → first_move s ≡ Serve ticket → NothingEnds s
-unfolding first_move
 served-ends s ticket is ino part = by_locks (map.get s.locks.states ino) refl
   where
     by_locks : (o : Option InodeLocks) → map.get s.locks.states ino ≡ o → may_end s (ino, part) ≡ false
     by_locks None gone = ap (λ l. may_end_in s.table (ino, part) (option_map (lock_in part) l)) gone
     by_locks (Some locks) has =
-        none_at (may_end s) (map.keys s.locks.states) (no_end_found s ticket (find (may_end s) (lock_ids s.locks)) is) ino
+        none_at (may_end s) (map.keys s.locks.states) (no_end_found s ticket (find (may_end s) (lock_ids s.locks)) (sym (first-found s) ∙ is)) ino
         (sym (map.contains_key-keys s.locks.states ino) ∙ ap is_some has) part
 
 -- ---- what is kept elsewhere

@@ -1,18 +1,16 @@
 -- Which move comes next, what each does to the locks, and when they are at rest.
-use Rattle.std.specs.Prelude.{◌≡◌, ◌≤◌, ℕ, Bool, true, false, ◌&&◌, not, IsTrue, List, [], ◌∷◌, Option, Some, None, Contains, map as each, if◌then◌else◌}
-use Rattle.std.specs.List.{find, flat_map}
+use Rattle.std.specs.Prelude.{◌≡◌, ◌≤◌, ℕ, Bool, true, false, ◌&&◌, not, IsTrue, List, [], ◌∷◌, ◌++◌, Option, Some, None, Contains, get_or, map as each}
+use Rattle.std.specs.List.{filter, flat_map}
 use Rattle.std.specs.Option.{option_map_or}
 use Rattle.std.specs.FinMap as map
 use Rattle.capbits.specs.declared.cap.Part.{Part}
 use Rattle.capbits.specs.declared.cap.Part.TheVariants.{A, L, X, F}
-use Rattle.capbits.specs.declared.ids.Ticket.{Ticket}
 use Rattle.locktable.specs.declared.states.StableState.{StableState}
 use Rattle.locktable.specs.declared.states.StableState.TheVariants.{Sync}
 use Rattle.locktable.specs.declared.states.LockState.{LockState}
 use Rattle.locktable.specs.declared.states.LockState.TheVariants.{Stable, Gather}
 use Rattle.locktable.specs.declared.targets.Head.{Head}
 use Rattle.locktable.specs.Targets.{is_served}
-use Rattle.captable.specs.Table.{Table}
 use Rattle.lockmachine.specs.declared.request.Request.{Request}
 use Rattle.lockmachine.specs.declared.wants.Wants.{Wants}
 use Rattle.lockmachine.specs.declared.moves.Move.{Move}
@@ -40,26 +38,19 @@ lock_ids_of ino = each (λ part. (ino, part)) parts
 abbrev pub lock_ids : LockMap → List LockId
 lock_ids locks = flat_map lock_ids_of (map.keys locks.states)
 
--- the lock is in a gather that is not open, by the entries of the table
-abbrev pub may_end_by : Table → LockMap → LockId → Bool
-may_end_by table locks at = may_end_in table at (lock_at locks at.0 at.1)
-
--- and so in the scene
+-- the lock is in a gather that is not open
 abbrev pub may_end : Scene → LockId → Bool
-may_end s at = may_end_by s.table s.locks at
+may_end s at = may_end_in s.table at (lock_at s.locks at.0 at.1)
 
+-- the lock is stable, and not at its target, by the requests that wait and by what is wanted of its inode
 abbrev pub may_begin_in : List Request → Wants → LockId → Option LockState → Bool
 may_begin_in queue wants at None = false
 may_begin_in queue wants at (Some (Gather from to)) = false
 may_begin_in queue wants at (Some (Stable state)) = not (same_state (target_by queue wants at.0 at.1 state) state)
 
--- the lock is stable, and not at its target, by what is wanted of its inode
-abbrev pub may_begin_by : LockMap → Wants → LockId → Bool
-may_begin_by locks wants at = may_begin_in locks.queue wants at (lock_at locks at.0 at.1)
-
 -- and so in the scene
 abbrev pub may_begin : Scene → LockId → Bool
-may_begin s at = may_begin_by s.locks (wanted_in_all s at.0) at
+may_begin s at = may_begin_in s.locks.queue (wanted_in_all s at.0) at (lock_at s.locks at.0 at.1)
 
 abbrev pub is_served_in : Option LockState → Head → Bool
 is_served_in None head = false
@@ -73,11 +64,6 @@ is_first queue q = option_map_or (is_numbered q.ticket.0) (first_for queue q.ino
 -- its lock is stable in a state that serves it
 abbrev pub is_servable : LockMap → Request → Bool
 is_servable locks q = is_served_in (lock_at locks q.ino.0 (part_of_operation q.operation)) (head_of_operation q.client q.operation)
-
--- the number of a request whose lock serves it
-abbrev pub served_of : LockMap → Option Request → Option Ticket
-served_of locks None = None
-served_of locks (Some q) = if is_servable locks q then Some q.ticket else None
 
 -- both hold of the request
 abbrev pub may_serve : LockMap → Request → Bool
@@ -103,31 +89,28 @@ coming_state None = Sync
 coming_state (Some (Stable state)) = state
 coming_state (Some (Gather from to)) = to
 
--- the beginning of a gather that brings the lock to its target, by what is wanted of its inode
-abbrev pub beginning : LockMap → Wants → LockId → Move
-beginning locks wants at =
-    Begin (record { 0 = at.0 }) at.1 (target_by locks.queue wants at.0 at.1 (present_state (lock_at locks at.0 at.1)))
+-- the lock's gather ends
+abbrev pub end_of : LockId → Move
+end_of at = End (record { 0 = at.0 }) at.1
 
--- the same, where these requests wait
-abbrev pub beginning_by : List Request → LockMap → Wants → LockId → Move
-beginning_by queue locks wants at =
-    Begin (record { 0 = at.0 }) at.1 (target_by queue wants at.0 at.1 (present_state (lock_at locks at.0 at.1)))
+-- the request is served
+abbrev pub serve_of : Request → Move
+serve_of q = Serve q.ticket
 
-abbrev pub begin_or_rest : Scene → Option LockId → Move
-begin_or_rest s None = Settled
-begin_or_rest s (Some at) = beginning s.locks (wanted_in_all s at.0) at
+-- a gather begins that brings the lock to its target
+abbrev pub begin_of : Scene → LockId → Move
+begin_of s at = Begin (record { 0 = at.0 }) at.1 (target s at.0 at.1 (present_state (lock_at s.locks at.0 at.1)))
 
-abbrev pub serve_or_begin : Scene → Option Request → Move
-serve_or_begin s None = begin_or_rest s (find (may_begin s) (lock_ids s.locks))
-serve_or_begin s (Some q) = Serve q.ticket
+-- the moves that apply: the gathers that may end, the requests that may be served, the locks that may begin a gather
+abbrev pub applicable : Scene → List Move
+applicable s =
+    each end_of (filter (may_end s) (lock_ids s.locks))
+    ++ each serve_of (filter (may_serve s.locks) s.locks.queue)
+    ++ each (begin_of s) (filter (may_begin s) (lock_ids s.locks))
 
-abbrev pub end_or_serve : Scene → Option LockId → Move
-end_or_serve s None = serve_or_begin s (find (may_serve s.locks) s.locks.queue)
-end_or_serve s (Some at) = End (record { 0 = at.0 }) at.1
-
--- the least gather that may end; else the oldest request that may be served; else the least lock that may begin
+-- the first of them: the least gather that may end; else the oldest request that may be served; else the least lock that may begin
 unfoldable pub first_move : Scene → Move
-first_move s = end_or_serve s (find (may_end s) (lock_ids s.locks))
+first_move s = get_or (applicable s) 0 Settled
 
 -- ---- what they do
 

@@ -1,19 +1,60 @@
 -- Whose turn it is, where a step affects many inodes: a caller goes over them in the order of their numbers.
-use Rattle.std.specs.Prelude.{◌≡◌, ◌≢◌, ◌<◌, ◌==◌, ℕ, Bool, true, false, IsTrue, Option, Some, None, Contains}
-use Rattle.std.specs.List.{list_any}
+use Rattle.std.specs.Prelude.{◌≡◌, ◌≢◌, ◌<◌, ◌==◌, ℕ, Bool, true, false, IsTrue, List, Option, Some, None, Contains, if◌then◌else◌}
+use Rattle.std.specs.List.{list_any, find}
 use Rattle.capbits.specs.declared.cap.Part.{Part}
 use Rattle.capbits.specs.declared.ids.Ticket.{Ticket}
 use Rattle.locktable.specs.declared.states.StableState.{StableState}
 use Rattle.locktable.specs.declared.states.LockState.TheVariants.{Gather}
+use Rattle.captable.specs.Table.{Table}
 use Rattle.lockmachine.specs.declared.request.Request.{Request}
+use Rattle.lockmachine.specs.declared.wants.Wants.{Wants}
 use Rattle.lockmachine.specs.declared.moves.Sought.{Sought}
 use Rattle.lockmachine.specs.declared.moves.Sought.TheVariants.{Everybody, Here, Nobody}
 use Rattle.lockmachine.specs.declared.moves.Move.{Move}
 use Rattle.lockmachine.specs.declared.moves.Move.TheVariants.{Begin, End, Serve, Settled}
 use Rattle.lockmachine.specs.Requests.{part_of_operation, waits_for}
 use Rattle.lockmachine.specs.Locks.{LockMap, lock_at}
-use Rattle.lockmachine.specs.Scene.{Scene}
-use Rattle.lockmachine.specs.Moves.{is_open, may_end, may_begin, may_serve, first_move}
+use Rattle.lockmachine.specs.Scene.{Scene, wanted_in_all, target_by}
+use Rattle.lockmachine.specs.Moves.{LockId, lock_ids, is_open, may_end, may_end_in, may_begin, may_begin_in, may_serve, is_servable, present_state, first_move}
+
+-- ---- the first move, by what a search finds
+
+-- the lock is in a gather that is not open, by the entries of the table
+abbrev pub may_end_by : Table → LockMap → LockId → Bool
+may_end_by table locks at = may_end_in table at (lock_at locks at.0 at.1)
+
+-- the lock is stable, and not at its target, by what is wanted of its inode
+abbrev pub may_begin_by : LockMap → Wants → LockId → Bool
+may_begin_by locks wants at = may_begin_in locks.queue wants at (lock_at locks at.0 at.1)
+
+-- the number of a request whose lock serves it
+abbrev pub served_of : LockMap → Option Request → Option Ticket
+served_of locks None = None
+served_of locks (Some q) = if is_servable locks q then Some q.ticket else None
+
+-- the beginning of a gather that brings the lock to its target, where these requests wait and by what is wanted of its inode
+abbrev pub beginning_by : List Request → LockMap → Wants → LockId → Move
+beginning_by queue locks wants at =
+    Begin (record { 0 = at.0 }) at.1 (target_by queue wants at.0 at.1 (present_state (lock_at locks at.0 at.1)))
+
+-- the same, where all requests wait that do
+abbrev pub beginning : LockMap → Wants → LockId → Move
+beginning locks wants at = beginning_by locks.queue locks wants at
+
+-- of a lock that may begin a gather, if any
+abbrev pub begin_or_rest : Scene → Option LockId → Move
+begin_or_rest s None = Settled
+begin_or_rest s (Some at) = beginning s.locks (wanted_in_all s at.0) at
+
+-- of a request that may be served, if any; else what begins
+abbrev pub serve_or_begin : Scene → Option Request → Move
+serve_or_begin s None = begin_or_rest s (find (may_begin s) (lock_ids s.locks))
+serve_or_begin s (Some q) = Serve q.ticket
+
+-- of a gather that may end, if any; else what is served or begins
+abbrev pub end_or_serve : Scene → Option LockId → Move
+end_or_serve s None = serve_or_begin s (find (may_serve s.locks) s.locks.queue)
+end_or_serve s (Some at) = End (record { 0 = at.0 }) at.1
 
 -- ---- whose turn it is
 

@@ -19,6 +19,7 @@ ghost use Rattle.lockmachine.specs.Waiters as waiting;
 ghost use Rattle.lockmachine.specs.Moves as moves;
 ghost use Rattle.lockmachine.specs.Moves.{first_move, moved, handed};
 ghost use Rattle.lockmachine.specs.Runs.{MoveLittle, EndLittle, ChangesLocksOf};
+ghost use Rattle.lockmachine.specs.Turns as turns;
 ghost use Rattle.lockmachine.specs.Turns.{IsTurnOf, IsNextAt, IsDue, NobodyElsewhere, Suffices};
 
 use crate::moves::{Move, Sought, Turn};
@@ -329,7 +330,7 @@ impl Locks {
     // The first lock of all that may end its gather.
     fn first_end_of_all(&self, table: &CapTable) -> Option<(Ino, Part)>
         ensures { option_map (λ at. (at.0.0, at.1)) result
-            ≡ find (moves.may_end_by table.now self.now) (moves.lock_ids self.now) }
+            ≡ find (turns.may_end_by table.now self.now) (moves.lock_ids self.now) }
     {
         for number in self.states.inos() {
             let ino = Ino(*number);
@@ -349,7 +350,7 @@ impl Locks {
         table: &CapTable,
     ) -> Move
         ensures { let s = scene fs.now tree.now sessions.now table.now self.now in
-            result ≡ moves.begin_or_rest s (find (moves.may_begin s) (moves.lock_ids self.now)) }
+            result ≡ turns.begin_or_rest s (find (moves.may_begin s) (moves.lock_ids self.now)) }
     {
         for number in self.states.inos() {
             let ino = Ino(*number);
@@ -365,7 +366,7 @@ impl Locks {
 
     // The first part of an inode whose lock may end its gather.
     fn first_end(&self, table: &CapTable, ino: Ino) -> Option<Part>
-        ensures { result ≡ find (λ part. moves.may_end_by table.now self.now (ino.0, part)) moves.parts }
+        ensures { result ≡ find (λ part. turns.may_end_by table.now self.now (ino.0, part)) moves.parts }
     {
         // The inode's locks are looked up once, and not for each part. Mostly none of them is in a gather.
         let four = self.states.get(ino)?;
@@ -380,7 +381,7 @@ impl Locks {
 
     // The beginning of the first lock of an inode that may begin, where no request waits unless `waits` says that one may.
     fn first_begin(&self, waits: bool, ino: Ino, wants: &Wants) -> Option<Move>
-        ensures { result ≡ option_map (λ part. moves.beginning_by (waiting.queue_if waits self.now.queue) self.now wants.now (ino.0, part))
+        ensures { result ≡ option_map (λ part. turns.beginning_by (waiting.queue_if waits self.now.queue) self.now wants.now (ino.0, part))
             (find (λ part. moves.may_begin_in (waiting.queue_if waits self.now.queue) wants.now (ino.0, part) (words.lock_at self.now ino.0 part)) moves.parts) }
     {
         let part = self.first_to_begin(waits, ino, wants)?;
@@ -495,7 +496,7 @@ impl Locks {
 
     // The first request for a lock, where it may be served.
     fn first_where_served(&self, ino: Ino, part: Part) -> Option<Ticket>
-        ensures number { result ≡ moves.served_of self.now (requests.first_for self.now.queue ino.0 part) }
+        ensures number { result ≡ turns.served_of self.now (requests.first_for self.now.queue ino.0 part) }
         ensures sound { words.IsLockMap self.now }
     {
         let first = self.waiters.first_at(ino, part)?;
@@ -628,12 +629,12 @@ impl Locks {
     /// Where no gather of a lower inode may end, ends those of an inode that may, in the order of the parts. It looks at
     /// the entries of this inode alone, and takes no memory.
     pub fn end_gathers_at(&mut self, table: &CapTable, ino: Ino)
-        requires lower { (other : ℕ) (part : Part) → other < ino.0 → moves.may_end_by table.now self.old (other, part) ≡ false }
+        requires lower { (other : ℕ) (part : Part) → other < ino.0 → turns.may_end_by table.now self.old (other, part) ≡ false }
 
         // Each is the first move that applies to all, whatever the tree and the sessions are.
         ensures ends { (fs : List ℕ) (tree : Nodes) (sessions : SessionTable)
             → EndLittle (scene fs tree sessions table.now self.old) (scene fs tree sessions table.now self.new) }
-        ensures done { (part : Part) → moves.may_end_by table.now self.new (ino.0, part) ≡ false }
+        ensures done { (part : Part) → turns.may_end_by table.now self.new (ino.0, part) ≡ false }
         ensures elsewhere { ChangesLocksOf ino.0 self.old self.new }
     {
         // At most inodes no lock is in a gather, which one look at the four tells.
@@ -652,7 +653,7 @@ impl Locks {
 
     // Whether the lock of an inode's part is in a gather that is not open.
     fn may_end_at(&self, table: &CapTable, ino: Ino, part: Part) -> bool
-        ensures { result ≡ moves.may_end_by table.now self.now (ino.0, part) }
+        ensures { result ≡ turns.may_end_by table.now self.now (ino.0, part) }
     {
         match self.state(ino, part) {
             Some(lock) => may_end(table, ino, part, lock),

@@ -5,7 +5,8 @@ use Rattle.std.specs.Map.Iter.{deref}
 use Rattle.std.proofs.lemmas.Map.Iter.{rest_more}
 use Rattle.lockmachine.specs.declared.moves.Move.{Move}
 use Rattle.lockmachine.specs.Scene.{Scene, scene}
-use Rattle.lockmachine.specs.Moves.{parts, beginning, may_begin_by, may_begin, begin_or_rest}
+use Rattle.lockmachine.specs.Moves.{parts, may_begin}
+use Rattle.lockmachine.specs.Turns.{beginning, may_begin_by, begin_or_rest}
 use Rattle.lockmachine.proofs.LockIds.{lock_ids_in, begin-lock_ids_in}
 use Rattle.lockmachine.proofs.locks.Locks.first_begin_of_all.Goals as goal
 

@@ -1,7 +1,8 @@
 use Rattle.std.proofs.Common.{◌≡◌}
 use Rattle.std.specs.List.{find}
 use Rattle.lockmachine.specs.Scene.{scene}
-use Rattle.lockmachine.specs.Moves.{may_begin, lock_ids, begin_or_rest}
+use Rattle.lockmachine.specs.Moves.{may_begin, lock_ids}
+use Rattle.lockmachine.specs.Turns.{begin_or_rest}
 use Rattle.lockmachine.proofs.LockIds.{lock_ids_in}
 use Rattle.lockmachine.proofs.locks.Locks.first_begin_of_all.Given as goal
 

@@ -1,6 +1,7 @@
 use Rattle.std.proofs.Common.{◌≡◌}
 use Rattle.std.specs.List.{find}
-use Rattle.lockmachine.specs.Moves.{may_end_by, lock_ids}
+use Rattle.lockmachine.specs.Moves.{lock_ids}
+use Rattle.lockmachine.specs.Turns.{may_end_by}
 use Rattle.lockmachine.proofs.LockIds.{lock_ids_in}
 use Rattle.lockmachine.proofs.locks.Locks.first_end_of_all.Given as goal
 

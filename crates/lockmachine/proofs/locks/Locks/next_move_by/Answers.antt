@@ -3,8 +3,8 @@ use Rattle.std.specs.List.{find}
 use Rattle.std.specs.Option.{option_map}
 use Rattle.lockmachine.specs.declared.moves.Move.TheVariants.{Settled}
 use Rattle.lockmachine.specs.Scene.{Scene, scene_by}
-use Rattle.lockmachine.specs.Moves.{parts, beginning, may_begin, may_begin_by}
-use Rattle.lockmachine.specs.Turns.{IsNextAt}
+use Rattle.lockmachine.specs.Moves.{parts, may_begin}
+use Rattle.lockmachine.specs.Turns.{IsNextAt, beginning, may_begin_by}
 use Rattle.lockmachine.proofs.Alone.{sought-beginning}
 use Rattle.lockmachine.proofs.LockIds.{ends_at, next_begin, end_first, serve_first}
 use Rattle.lockmachine.proofs.locks.Locks.next_move_by.Goals as goal
