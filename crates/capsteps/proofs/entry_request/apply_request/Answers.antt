@@ -33,11 +33,11 @@ left-kept s sets now k gone g new is = kept-changed s s.table new sets sets now 
 
 pub returns-in-Ack-clause-kept : goal.returns-in-Ack-clause-kept
 returns-in-Ack-clause-kept c =
-    left-kept c.args.scene.now c.args.known.now.sets c.remove_unheld.new.self.sets c.args.holder (has c.revoked_of-revoked.result P && test_at has_pin c.args.scene.now.table c.args.holder) (without_acked c.revoked_of-revoked.result) c.ack_tested.new.self c.ack_tested.ensures c.remove_unheld.ensures
+    left-kept c.args.scene.now c.args.known.now.sets c.remove_unheld.new.self.sets c.args.holder (has c.revoked_of-revoked.result P && test_at has_pin c.args.scene.now.table c.args.holder) (without_acked c.revoked_of-revoked.result) c.ack_tested.new.self c.ack_tested.ensures c.remove_unheld.ensures.others
 
 pub returns-in-Release-clause-kept : goal.returns-in-Release-clause-kept
 returns-in-Release-clause-kept c =
-    left-kept c.args.scene.now c.args.known.now.sets c.remove_unheld-in-Release.new.self.sets c.args.holder (has c.in-Release.caps P) (without_released c.in-Release.caps) c.release_tested.new.self c.release_tested.ensures c.remove_unheld-in-Release.ensures
+    left-kept c.args.scene.now c.args.known.now.sets c.remove_unheld-in-Release.new.self.sets c.args.holder (has c.in-Release.caps P) (without_released c.in-Release.caps) c.release_tested.new.self c.release_tested.ensures c.remove_unheld-in-Release.ensures.others
 
 pub returns-clause-ok : goal.returns-clause-ok
 returns-clause-ok c =
