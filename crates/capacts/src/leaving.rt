@@ -1,5 +1,5 @@
 //! What goes with a client's session where it ends.
-ghost use Rattle.std.specs.Prelude.{Some, ◌≡◌, ◌+◌, ◌≤◌, ◌++◌, length, map as each, vec_capacity};
+ghost use Rattle.std.specs.Prelude.{true, None, Some, ◌≡◌, ◌+◌, ◌≤◌, ◌++◌, length, map as each, vec_capacity};
 ghost use Rattle.captable.specs.{Table.{entry_at}, declared.entry.Entry.{Entry}, declared.entry.Holder.{Holder}};
 ghost use Rattle.caprules.specs.{Lockmachine.Locks.{requests_of, without_requests_of}, Serving.{dropped_of}};
 ghost use Rattle.capacts.specs.{Known.{sets_of}, Left.{is_end}};
@@ -36,6 +36,7 @@ pub fn leave(
 )
     requires room { length dropped.old.items + length scene.old.locks.queue ≤ vec_capacity dropped.old }
     ensures table { scene.new.table ≡ words.table_left (is_end change.entry) scene.old.table client }
+    ensures gone { is_end change.entry ≡ true → (k : Holder) (e : Entry) → k.client ≡ client → entry_at scene.old.table k ≡ Some e → sets_of known.new.sets k ≡ None }
     ensures known { (k : Holder) (e : Entry) → entry_at scene.new.table k ≡ Some e → sets_of known.new.sets k ≡ sets_of known.old.sets k }
     ensures locks { scene.new.locks ≡ words.locks_left (is_end change.entry) scene.old.locks client }
     ensures rest { scene.new ≡ record scene.old { table = scene.new.table; locks = scene.new.locks } }

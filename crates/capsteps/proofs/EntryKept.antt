@@ -1,7 +1,7 @@
 -- What an event about one entry leaves of each entry, and of what is kept of it.
 use Rattle.std.{proofs.Common.{◌≡◌, ◌≢◌, ◌⊎◌, inl, inr, Bool, true, false, cond, Some, None, is_some, [], ◌∷◌, refl, sym, ap, ◌∙◌, arith}, proofs.lemmas.List.Elements.{All-contains}, specs.List.{find}, specs.Option.{option_map}}
 use Rattle.capbits.specs.{Caps.{has}, Sets.{no_caps}}
-use Rattle.capsteps.{proofs.Common.{AreKnown, ArePermitted, caps_in, changed, Entry, entry_at, entry_at-opened, entry_at-opened_other, entry_at-without, entry_of, has-caps_in, has-minus, has-none, has-union, Holder, is_row_of, is_still_known, IsSound, IsSoundEntry, IsSubset, known_of, KnownSets, new_entry, opened, opening_wants, OpenMode, OthersHaveAll, P, permitted, permitted_of, revoked_of, row_of-entry, same, same-is, same_equiv, Scene, Sets, sets_of, State, StillKnown, Table, union, wanting, without, without_acked, without_released}, proofs.Knowing.{held_at, HoldAlike, still-known}, proofs.LeftAlone.{found-contains}, proofs.ShownSteps.{IsOf, apart-of, changed-as}, specs.EntryRequest.{table_after, StillKept}, specs.declared.entry_request.EntryRequest.{EntryRequest}, specs.declared.entry_request.EntryRequest.TheVariants.{Open, Want, Ack, Release}}
+use Rattle.capsteps.{proofs.Common.{AreKnown, ArePermitted, caps_in, changed, Entry, entry_at, entry_at-opened, entry_at-opened_other, entry_at-without, entry_of, has-caps_in, has-minus, has-none, has-union, Holder, is_row_of, is_still_known, IsSound, IsSoundEntry, IsSubset, known_of, KnownSets, new_entry, opened, opening_wants, OpenMode, OthersHaveAll, P, permitted, permitted_of, revoked_of, row_of-entry, same, same-is, same_equiv, Scene, Sets, sets_of, State, StillKnown, Table, union, wanting, without, without_acked, without_released}, proofs.Knowing.{held_at, HoldAlike, still-known}, proofs.LeftAlone.{found-contains}, proofs.Revoking.{pin-goes}, proofs.ShownSteps.{IsOf, apart-of, changed-as}, specs.EntryRequest.{table_after, StillKept}, specs.declared.entry_request.EntryRequest.{EntryRequest}, specs.declared.entry_request.EntryRequest.TheVariants.{Open, Want, Ack, Release}}
 
 -- ---- what is kept of each
 
@@ -127,7 +127,8 @@ module _ (s : Scene) (k : Holder) where
         | None ↦ λ none here. opened-after mode j e none here (same j k) refl
       ] refl here
   each-after (Want caps) j e here = inl (left (Want caps) s.table j e here)
-  each-after (Ack seq) j e here = inl (left (Ack seq) s.table j e here)
+  each-after (Ack seq) j e here =
+      inl (left (Ack seq) s.table j e (ap (λ b. entry_at (cond b (without s.table k) (changed s.table k (without_acked (revoked_of s k)))) j) (sym (pin-goes s k)) ∙ here))
   each-after (Release caps) j e here = inl (left (Release caps) s.table j e here)
 
   -- nobody holds more, since a new entry holds nothing

@@ -1,10 +1,10 @@
 -- An event about one entry, by itself: it changes entries of its inode alone, and leaves of each what every state keeps, but that
 -- what is due is held. It drops no request and leaves the messages.
-use Rattle.std.{proofs.Common.{◌≡◌, ◌≢◌, ◌≤◌, inl, inr, ℕ, ◌+◌, Bool, true, false, cond, ◌||◌, Option, Some, None, is_some, List, [], ◌∷◌, ◌++◌, refl, sym, ap, subst, ◌∙◌, Contains, true≢false, arith, All}, proofs.lemmas.Bool.{or_right, and_from}, proofs.lemmas.List.Elements.{All-contains, All-filter, filter-append}, proofs.lemmas.List.Folds.{list_any-append}, specs.List.{find}, specs.Option.{option_map}}
+use Rattle.std.{proofs.Common.{◌≡◌, ◌≢◌, ◌≤◌, inl, inr, ℕ, ◌+◌, Bool, true, false, cond, ◌&&◌, ◌||◌, Option, Some, None, is_some, List, [], ◌∷◌, ◌++◌, refl, sym, ap, subst, ◌∙◌, Contains, true≢false, arith, All}, proofs.lemmas.Bool.{or_right, and_from}, proofs.lemmas.List.Elements.{All-contains, All-filter, filter-append}, proofs.lemmas.List.Folds.{list_any-append}, specs.List.{find}, specs.Option.{option_map}}
 use Rattle.std.specs.FinMap as map
 use Rattle.capbits.specs.{Caps.{has}, Sets.{no_caps}}
 use Rattle.capgrant.proofs.Pins.{pin_of_read, pin_of_write}
-use Rattle.captable.{proofs.ByInode.{entries_on-changed, entries_on-opened, entries_on-without}, proofs.Moves.{IsTable-touched}, proofs.Tables.{IsTable-changed, IsTable-opened, IsTable-without}, specs.Tests.{open_tests}}
+use Rattle.captable.{proofs.ByInode.{entries_on-changed, entries_on-opened, entries_on-without}, proofs.Moves.{IsTable-touched}, proofs.Tables.{IsTable-changed, IsTable-opened, IsTable-without}, specs.Calls.{has_pin}, specs.Tests.{open_tests, test_at}}
 use Rattle.capacts.{proofs.Lockmachine.SameBut.{same-entries}, specs.Caprules.Direct.{with_table}, specs.Caprules.Judge.{before, needs, after, basic_tests, room_for}}
 use Rattle.capsteps.{proofs.Common.{and_parts, AreGiven, change_rows, changed, ClientId, Direct, effect, effective_want, entries_on, Entry, entry_at, entry_of, EntryRow, Event, first_failing, has-caps_in, has-meet, has-none, has-of_part, has-union, has_session, Holder, holder, Ino, is_of_inode, is_open, is_row_of, IsInRow, IsInRowOf, IsQuiet, IsSound, IsSoundEntry, IsSubset, IsTable, judged, lock_at, lock_in, LockState, new_entry, opened, opening_wants, OpenMode, P, Part, part_of_operation, permitted, revoked_of, row_found, row_of-entry, same_equiv, Scene, StableState, State, StateMap, Table, union, WaitAt, wanting, without, without_acked, without_released}, proofs.EntryKept.{IsLess, IsMade, each-after}, proofs.Forgotten.{all_rows}, proofs.Judging.{no_test}, proofs.LeftAlone.{found-contains}, proofs.Moved.{sound-waits}, proofs.Placed.{placed-in_row}, specs.Affected.{IsAffectedEntry, AffectsOne}, specs.EntryRequest.{table_after, entry_event, entry_request_tests}, specs.declared.entry_request.EntryRequest.{EntryRequest}, specs.declared.entry_request.EntryRequest.TheVariants.{Open, Want, Ack, Release}}
 
@@ -127,7 +127,7 @@ less-table false t k g is = IsTable-changed t k g is
 table-after : (s : Scene) (k : Holder) (request : EntryRequest) → IsTable s.table → first_failing (entry_request_tests s k request) ≡ None → IsTable (table_after s k request)
 table-after s k (Open mode) is passed = IsTable-touched _ k (IsTable-changed _ k _ (entry-table s.table k is passed (entry_at s.table k) refl))
 table-after s k (Want caps) is passed = IsTable-touched _ k (IsTable-changed s.table k _ is)
-table-after s k (Ack seq) is passed = less-table (has (revoked_of s k) P) s.table k (without_acked (revoked_of s k)) is
+table-after s k (Ack seq) is passed = less-table (has (revoked_of s k) P && test_at has_pin s.table k) s.table k (without_acked (revoked_of s k)) is
 table-after s k (Release caps) is passed = less-table (has caps P) s.table k (without_released caps) is
 
 -- no entry has a higher number, and at most one more entry is made and one more request numbered

@@ -1,7 +1,8 @@
 -- What is being revoked of a holder's entry, by what is found of it, and the tests that stand behind others.
-use Rattle.std.{proofs.Common.{◌≡◌, Option, Some, None, List, [], ◌∷◌, ◌++◌, refl, ap, ◌∙◌, if◌then◌else◌}, specs.List.{find}, specs.Option.{option_map_or}}
-use Rattle.capbits.{proofs.Tests.{passed-if}, specs.Sets.{no_caps}}
-use Rattle.capsteps.proofs.Common.{against, Entry, entry_at, EntryRow, first_failing, Holder, is_row_of, no_entry, revoked_of, row_of-entry, Scene, Test}
+use Rattle.std.{proofs.Common.{◌≡◌, Bool, true, false, ◌&&◌, Option, Some, None, List, [], ◌∷◌, ◌++◌, refl, sym, ap, ◌∙◌, if◌then◌else◌, arith}, specs.List.{find}, specs.Option.{option_map_or}}
+use Rattle.capbits.{proofs.Tests.{passed-if}, specs.Caps.{has}, specs.Sets.{no_caps}}
+use Rattle.captable.specs.{Calls.{has_pin}, Tests.{test_at}}
+use Rattle.capsteps.proofs.Common.{against, Entry, entry_at, entry_of, EntryRow, first_failing, has-against, has-none, Holder, is_revoked, is_row_of, no_entry, P, revoked_of, row_of-entry, Scene, Test}
 
 -- where it has one
 pub revoked-found : (s : Scene) (k : Holder) (e : Entry) → entry_at s.table k ≡ Some e → revoked_of s k ≡ against s (record { holder = k; entry = e })
@@ -10,6 +11,19 @@ revoked-found s k e is = ap (λ (o : Option EntryRow). option_map_or (against s)
 -- and where it has none
 pub revoked-none : (s : Scene) (k : Holder) → entry_at s.table k ≡ None → revoked_of s k ≡ no_caps
 revoked-none s k none = ap (λ o. option_map_or (against s) o no_caps) (no_entry (find (is_row_of k) s.table.rows) none)
+
+-- what is being revoked is held, so the pin goes with it if it is among it
+pub pin-goes : (s : Scene) (k : Holder) → (has (revoked_of s k) P && test_at has_pin s.table k) ≡ has (revoked_of s k) P
+pin-goes s k = by_row (find (is_row_of k) s.table.rows)
+  where
+    held : (h r : Bool) → ((h && r) && h) ≡ (h && r)
+    held true true = refl
+    held true false = refl
+    held false r = refl
+
+    by_row : (o : Option EntryRow) → (has (option_map_or (against s) o no_caps) P && option_map_or has_pin (entry_of o) false) ≡ has (option_map_or (against s) o no_caps) P
+    by_row None = grind (arith, has-none)
+    by_row (Some row) = ap (λ b. b && has row.entry.held P) (has-against s row P) ∙ held (has row.entry.held P) (is_revoked s row.holder P) ∙ sym (has-against s row P)
 
 -- where the tests before pass, those behind them decide
 pub passed-front : (one more : List Test) → first_failing one ≡ None → first_failing (one ++ more) ≡ first_failing more

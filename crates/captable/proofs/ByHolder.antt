@@ -1,5 +1,5 @@
 -- The entry of a holder, after a change of the table.
-use Rattle.std.proofs.Common.{◌≡◌, ℕ, Bool, true, false, not, cond, Option, Some, None, List, [], ◌∷◌, take, refl, sym, ap, ◌∙◌}
+use Rattle.std.proofs.Common.{◌≡◌, ℕ, Bool, true, false, not, ◌&&◌, cond, Option, Some, None, List, [], ◌∷◌, take, refl, sym, ap, ◌∙◌}
 use Rattle.std.specs.Prelude.{◌≢◌, ◌==◌}
 use Rattle.std.specs.List.{find, AllByRecursion, Contains, IsDistinct}
 use Rattle.std.specs.Option.{option_map, option_or}
@@ -14,7 +14,8 @@ use Rattle.captable.specs.declared.entry.Holder.{Holder}
 use Rattle.captable.specs.declared.entry.Entry.{Entry}
 use Rattle.captable.specs.declared.entry.EntryRow.{EntryRow}
 use Rattle.captable.specs.Table.{Table, IsTable, same, is_row_of, entry_of, entry_at, is_among, holders_of_rows}
-use Rattle.captable.specs.Calls.{new_entry, opened, change_rows, changed, without_released, with_asked, released, without, without_client, asked_row, recalled, is_of_client, without_acked, acked}
+use Rattle.captable.specs.Tests.{test_at}
+use Rattle.captable.specs.Calls.{new_entry, opened, change_rows, changed, without_released, with_asked, released, without, without_client, asked_row, recalled, is_of_client, without_acked, has_pin, acked}
 use Rattle.captable.proofs.Tables.{same_equiv, same-is}
 use Rattle.captable.proofs.Changes.{no_entry}
 use Rattle.captable.proofs.Searches.{find_passes, find-filter_kept, find-filter_gone, find-map}
@@ -131,7 +132,7 @@ entry_at-released_other t k j caps apart =
 
 pub entry_at-acked_other : (t : Table) (k j : Holder) (against : Caps) → j ≢ k → entry_at (acked t k against) j ≡ entry_at t j
 entry_at-acked_other t k j against apart =
-    elim (has against P) as (λ b. entry_at (cond b (without t k) (changed t k (without_acked against))) j ≡ entry_at t j)
+    elim (has against P && test_at has_pin t k) as (λ b. entry_at (cond b (without t k) (changed t k (without_acked against))) j ≡ entry_at t j)
     [ true ↦ entry_at-without_other t k j apart | false ↦ entry_at-changed_other t k j (without_acked against) apart ]
 
 -- ---- a recall

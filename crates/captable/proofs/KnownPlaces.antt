@@ -1,5 +1,5 @@
 -- What is kept of a client among those on its inode, and so of a holder.
-use Rattle.std.proofs.Common.{◌≡◌, ◌≢◌, ℕ, zero, suc, ◌<◌, nat_lt, Bool, true, false, cond, not, ◌==◌, Option, Some, None, IsSome, is_some, List, [], ◌∷◌, ◌++◌, length, map, get_or, set, refl, sym, ap, subst, ◌∙◌, arith}
+use Rattle.std.proofs.Common.{◌≡◌, ◌≢◌, ℕ, zero, suc, ◌<◌, nat_lt, Bool, true, false, cond, not, ◌==◌, Option, Some, None, is_some, List, [], ◌∷◌, ◌++◌, length, map, get_or, set, refl, sym, ap, subst, ◌∙◌, arith}
 use Rattle.std.specs.Cmp.{nat_eq_equiv}
 use Rattle.std.specs.FinMap as map
 use Rattle.std.specs.List.{find, position, position_or_len, slice_get, slice_index_or, remove}
@@ -77,12 +77,12 @@ pub none-kept : (client : ClientId) (sets : List (KnownRow)) → position (is_of
 none-kept client sets none = ap (option_map (λ (k : KnownRow). k.sets)) (no_position (is_of client) sets none)
 
 module _ (client : ClientId) (sets : List (KnownRow)) (caps : Sets) where
-  pub add-own : IsSome (sets_among (sets ++ (record { client = client; sets = caps }) ∷ []) client)
-  add-own = rw find-append (by_found (find (is_of client) sets))
+  pub add-own : sets_among sets client ≡ None → sets_among (sets ++ (record { client = client; sets = caps }) ∷ []) client ≡ Some caps
+  add-own none = rw find-append (by_found (find (is_of client) sets) none)
     where
-      by_found : (o : Option (KnownRow)) → IsSome (option_map (λ (k : KnownRow). k.sets) (option_or o (find (is_of client) ((record { client = client; sets = caps }) ∷ []))))
-      by_found (Some kept) = refl
-      by_found None = rw nat_eq_equiv.refl refl
+      by_found : (o : Option (KnownRow)) → option_map (λ (k : KnownRow). k.sets) o ≡ None → option_map (λ (k : KnownRow). k.sets) (option_or o (find (is_of client) ((record { client = client; sets = caps }) ∷ []))) ≡ Some caps
+      by_found (Some kept) none = absurd (cc)
+      by_found None none = rw nat_eq_equiv.refl refl
 
   pub add-others : (other : ClientId) → other ≢ client → sets_among (sets ++ (record { client = client; sets = caps }) ∷ []) other ≡ sets_among sets other
   add-others other apart =
@@ -179,6 +179,35 @@ none-each client (row ∷ rows) none zero d within = not_first client row rows n
 none-each client (row ∷ rows) none (suc k) d within =
     none-each client rows (sym (first-other row client (λ e. not_first client row rows none (one_number row.client client e)) rows) ∙ none) k d (omega arith)
 
+-- where no row is of a client, nothing is kept of it
+none_of : (client : ClientId) (rows : List KnownRow) → ((k : ℕ) (d : KnownRow) → k < length rows → (get_or rows k d).client ≢ client) → sets_among rows client ≡ None
+none_of client [] none = refl
+none_of client (row ∷ rows) none =
+    first-other row client (λ is. none 0 row (omega arith) (one_number row.client client is)) rows ∙ none_of client rows (λ k d within. none (suc k) d (omega arith))
+
+-- so it is behind the row of a client
+none-behind : (client : ClientId) (first : KnownRow) (rows : List KnownRow) → AreApart (first ∷ rows) → first.client.0 ≡ client.0 → sets_among rows client ≡ None
+none-behind client first rows apart own =
+    none_of client rows (λ k d within is. apart 0 (suc k) d (omega arith) (omega arith) (one_number first.client client own ∙ sym is))
+
+-- and where that was taken out
+none-left : (client : ClientId) (rows : List KnownRow) (i : ℕ) (d : KnownRow) → AreApart rows → i < length rows → (get_or rows i d).client.0 ≡ client.0 → sets_among (remove rows i) client ≡ None
+none-left client [] i d apart within own = absurd (omega arith)
+none-left client (row ∷ rows) zero d apart within own = none-behind client row rows apart own
+none-left client (row ∷ rows) (suc i) d apart within own =
+    first-other row client (λ is. apart 0 (suc i) d (omega arith) within (one_number row.client (get_or rows i d).client (is ∙ sym own))) (remove rows i)
+    ∙ none-left client rows i d (apart-behind row rows apart) (omega arith) own
+
+pub place-left : (client : ClientId) (rows : List KnownRow) (i : ℕ) → AreApart rows → position (is_of client) rows ≡ Some i → sets_among (remove rows i) client ≡ None
+place-left client rows i apart at =
+    let row : KnownRow = record { client = client; sets = no_sets } in
+    none-left client rows i row apart (inside-at client rows i at) (eqb-true _ _ (position-Some (is_of client) rows i row at).1)
+
+-- and where the next row took the place of the first
+pub first-left : (client : ClientId) (first : KnownRow) (rows : List KnownRow) (next : KnownRow) → first.client.0 ≡ client.0 → 0 < length rows → next ≡ slice_index_or rows 0 next → AreApart (first ∷ rows)
+    → sets_among (next ∷ remove rows 0) client ≡ None
+first-left client first rows next own some is apart = ap (λ xs. sets_among xs client) (taken rows next some is) ∙ none-behind client first rows apart own
+
 pub apart-more : (rows : List KnownRow) (row : KnownRow) → AreApart rows → sets_among rows row.client ≡ None → AreApart (rows ++ row ∷ [])
 apart-more rows row apart none = all_pairs_push (λ (a b : KnownRow). a.client ≢ b.client) rows row apart (none-each row.client rows none)
 
@@ -221,6 +250,18 @@ module _ (was : KnownSets) (h : Holder) where
         by_inode : (b : Bool) → (h.ino.0 == k.ino.0) ≡ b → sets_on (cond b (Some rows) (map.get was k.ino.0)) k.client ≡ sets_of was k
         by_inode true on = others k.client (other_client k apart on) ∙ ap (λ q. sets_on (map.get was q) k.client) (eqb-true h.ino.0 k.ino.0 on)
         by_inode false off = refl
+
+    -- where the same is kept of each on its inode, all is
+    pub kept-all : ((c : ClientId) → sets_among rows c ≡ sets_on (map.get was h.ino.0) c) → (k : Holder) → sets_of now k ≡ sets_of was k
+    kept-all all k = on_inode k ∙ by_inode (h.ino.0 == k.ino.0) refl
+      where
+        by_inode : (b : Bool) → (h.ino.0 == k.ino.0) ≡ b → sets_on (cond b (Some rows) (map.get was k.ino.0)) k.client ≡ sets_of was k
+        by_inode true on = all k.client ∙ ap (λ q. sets_on (map.get was q) k.client) (eqb-true h.ino.0 k.ino.0 on)
+        by_inode false off = refl
+
+    -- without them nothing is kept of it
+    pub gone-own : sets_of (map.remove now h.ino.0) h ≡ None
+    gone-own = ap (λ o. sets_on o h.client) (remove-at now h.ino.0 h.ino.0) ∙ ap (λ b. sets_on (cond b None (map.get now h.ino.0)) h.client) (nat_eq_equiv.refl h.ino.0)
 
     -- if there is none of another client, they may as well be gone
     pub kept-none : ((c : ClientId) → c ≢ h.client → sets_among rows c ≡ None) → (k : Holder) → k ≢ h → sets_of (map.remove now h.ino.0) k ≡ sets_of now k

@@ -5,6 +5,7 @@ pub mod Changes
 pub mod Counting
 pub mod Counted
 pub mod Empty
+pub mod Gone
 pub mod Keeping
 pub mod Keyed
 pub mod KnownPlaces

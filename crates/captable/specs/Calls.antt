@@ -1,5 +1,5 @@
 -- What each call on the table changes and answers.
-use Rattle.std.specs.Prelude.{ℕ, ◌+◌, Bool, true, false, not, ◌==◌, ◌||◌, nat_lt, Option, None, List, [], ◌∷◌, ◌++◌, map, filter, take, slice_get, is_some, if◌then◌else◌}
+use Rattle.std.specs.Prelude.{ℕ, ◌+◌, Bool, true, false, not, ◌==◌, ◌&&◌, ◌||◌, nat_lt, Option, None, List, [], ◌∷◌, ◌++◌, map, filter, take, slice_get, is_some, if◌then◌else◌}
 use Rattle.capbits.specs.declared.cap.Cap.TheVariants.{P}
 use Rattle.capbits.specs.declared.ids.ClientId.{ClientId}
 use Rattle.capbits.specs.declared.ids.Ino.{Ino}
@@ -9,6 +9,7 @@ use Rattle.captable.specs.declared.entry.Holder.{Holder}
 use Rattle.captable.specs.declared.entry.Entry.{Entry}
 use Rattle.captable.specs.declared.entry.EntryRow.{EntryRow}
 use Rattle.captable.specs.Table.{Table, same, is_row_of, is_among, entry_at}
+use Rattle.captable.specs.Tests.{test_at}
 
 -- ---- one holder's entry
 
@@ -91,10 +92,14 @@ is_due row = is_due_entry row.entry
 abbrev pub released : Table → Holder → Caps → Table
 released table k caps = if has caps P then without table k else changed table k (without_released caps)
 
--- the table after an acknowledgement, where these are being revoked: with the pin among them the whole entry goes, whatever else
--- it holds
+-- the pin is held
+abbrev pub has_pin : Entry → Bool
+has_pin e = has e.held P
+
+-- the table after an acknowledgement, where these are being revoked: with the pin, if that is held and among them, the whole entry
+-- goes, whatever else it holds
 abbrev pub acked : Table → Holder → Caps → Table
-acked table k against = if has against P then without table k else changed table k (without_acked against)
+acked table k against = if has against P && test_at has_pin table k then without table k else changed table k (without_acked against)
 
 -- ---- the order of recall
 

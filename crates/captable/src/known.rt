@@ -1,5 +1,5 @@
 //! What is kept of each entry.
-ghost use Rattle.std.specs.Prelude.{◌≡◌, ◌≢◌, None, IsSome, OnOk, Some, unwrap_or};
+ghost use Rattle.std.specs.Prelude.{◌≡◌, ◌≢◌, None, IsSome, OnErr, OnOk, Some, unwrap_or};
 ghost use Rattle.std.specs.Option.{option_copied};
 ghost use Rattle.std.specs.FinMap as map;
 ghost use Rattle.captable.specs.declared.entry.Entry.{Entry};
@@ -102,8 +102,9 @@ impl Known {
 
     /// Keeps empty sets of a new holder, so that there is room for its sets. For want of memory nothing changes.
     pub fn add(&mut self, holder: Holder) -> Result<(), AllocError>
-        ensures own { OnOk result (IsSome (sets_of self.new.sets holder)) }
+        ensures own { OnOk result (sets_of self.new.sets holder ≡ Some no_sets) }
         ensures others { (k : Holder) → k ≢ holder → sets_of self.new.sets k ≡ sets_of self.old.sets k }
+        ensures err { OnErr result ((k : Holder) → sets_of self.new.sets k ≡ sets_of self.old.sets k) }
     {
         let alone = OnInode::new(self.alloc, holder.client);
         if self.sets.add(holder.ino.0, alone)? {
@@ -117,7 +118,8 @@ impl Known {
 
     /// Keeps nothing of the holder any more.
     pub fn remove(&mut self, holder: Holder)
-        ensures { (k : Holder) → k ≢ holder → sets_of self.new.sets k ≡ sets_of self.old.sets k }
+        ensures own { sets_of self.new.sets holder ≡ None }
+        ensures others { (k : Holder) → k ≢ holder → sets_of self.new.sets k ≡ sets_of self.old.sets k }
     {
         let Some(on) = self.sets.get_mut(holder.ino.0) else {
             return;
@@ -129,7 +131,8 @@ impl Known {
 
     /// Nor of the holder, where it has no entry any more.
     pub fn remove_unheld(&mut self, table: &CapTable, holder: Holder)
-        ensures { (k : Holder) (e : Entry) → entry_at table.now k ≡ Some e → sets_of self.new.sets k ≡ sets_of self.old.sets k }
+        ensures gone { entry_at table.now holder ≡ None → sets_of self.new.sets holder ≡ None }
+        ensures others { (k : Holder) (e : Entry) → entry_at table.now k ≡ Some e → sets_of self.new.sets k ≡ sets_of self.old.sets k }
     {
         match table.find(holder.client, holder.ino) {
             Some(_entry) => {}
@@ -139,7 +142,8 @@ impl Known {
 
     /// Nor of any entry of the client.
     pub fn remove_client(&mut self, table: &CapTable, client: ClientId)
-        ensures { (k : Holder) → k.client ≢ client → sets_of self.new.sets k ≡ sets_of self.old.sets k }
+        ensures gone { (k : Holder) (e : Entry) → k.client ≡ client → entry_at table.now k ≡ Some e → sets_of self.new.sets k ≡ None }
+        ensures others { (k : Holder) → k.client ≢ client → sets_of self.new.sets k ≡ sets_of self.old.sets k }
     {
         let mut walk = table.entries_of(client);
         'rows: while let Some(row) = walk.next() {

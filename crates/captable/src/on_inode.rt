@@ -1,5 +1,5 @@
 //! What is kept on one inode.
-ghost use Rattle.std.specs.Prelude.{◌≡◌, ◌≢◌, [], ◌∷◌, None, IsSome, OnOk, Some, unwrap_or, is_some};
+ghost use Rattle.std.specs.Prelude.{◌≡◌, ◌≢◌, [], ◌∷◌, None, OnErr, OnOk, Some, unwrap_or, is_some};
 ghost use Rattle.std.specs.Bool.{OnTrue, OnFalse};
 ghost use Rattle.std.specs.List.{position};
 ghost use Rattle.capbits.specs.declared.ids.ClientId.{ClientId};
@@ -107,8 +107,9 @@ impl OnInode {
 
     // Keeps empty sets of the client, in a row behind the others if it has none. For want of memory nothing changes.
     pub(crate) fn add(&mut self, client: ClientId) -> Result<(), AllocError>
-        ensures own { OnOk result (IsSome (sets_among self.new client)) }
+        ensures own { OnOk result (sets_among self.new client ≡ Some no_sets) }
         ensures others { (other : ClientId) → other ≢ client → sets_among self.new other ≡ sets_among self.old other }
+        ensures err { OnErr result (self.new ≡ self.old) }
     {
         if self.put(client, Sets::none(), 0) {
             return Ok(());
@@ -120,6 +121,7 @@ impl OnInode {
 
     // Keeps nothing of the client any more, and answers whether nothing is kept of another: then it stays as it is, and may go.
     pub(crate) fn remove(&mut self, client: ClientId) -> bool
+        ensures gone { OnFalse result (sets_among self.new client ≡ None) }
         ensures others { (other : ClientId) → other ≢ client → sets_among self.new other ≡ sets_among self.old other }
         ensures alone { OnTrue result ((other : ClientId) → other ≢ client → sets_among self.new other ≡ None) }
     {

@@ -91,9 +91,9 @@ impl CapTable {
     ghost use Rattle.captable.specs.Walks.{first_holder};
     ghost use Rattle.captable.specs.Many.{changed_by, asking};
     ghost use Rattle.capbits.specs.Refusal.{first_failing};
-    ghost use Rattle.captable.specs.Tests.{open_tests, open_entry_tests, entry_test, ack_tests, release_tests};
+    ghost use Rattle.captable.specs.Tests.{open_tests, open_entry_tests, entry_test, ack_tests, release_tests, test_at};
     ghost use Rattle.captable.specs.Edits.{edited, is_numbering};
-    ghost use Rattle.captable.specs.Calls.{opened, with_entry, changed, wanting, issued, acked, renumbered, with_told, with_asked, with_size_due, released, without, without_client, newer_in, touched, recalled, is_of_client, is_of_inode, is_due};
+    ghost use Rattle.captable.specs.Calls.{opened, with_entry, changed, wanting, issued, has_pin, acked, renumbered, with_told, with_asked, with_size_due, released, without, without_client, newer_in, touched, recalled, is_of_client, is_of_inode, is_due};
 
     /// A table without entries, of which none was made yet. No clause can say that the memory for it is there.
     pub fn new(alloc: Global) -> Result<CapTable, AllocError>
@@ -232,7 +232,7 @@ impl CapTable {
     }
 
     /// Takes an acknowledgement, which names the message with the number `seq`: the client no longer holds any cap
-    /// of `against`, which are being revoked. With the pin among them its whole entry
+    /// of `against`, which are being revoked. If it held the pin and that is among them, its whole entry
     /// goes, whatever else it holds, from both orders. It is refused as NoEntry, as NothingToAck, as BadSeq, or as OldSeq.
     pub fn ack(
         &mut self,
@@ -330,17 +330,27 @@ impl CapTable {
     }
 
     /// Takes an acknowledgement, which names the message with the number `seq`: the client no longer holds any cap
-    /// of `against`, which are being revoked. With the pin among them its whole entry
+    /// of `against`, which are being revoked. If it held the pin and that is among them, its whole entry
     /// goes, whatever else it holds, from both orders.
     pub fn ack_tested(&mut self, client: ClientId, ino: Ino, seq: u64, against: CapSet)
         requires passed { first_failing (ack_tests self.old (holder client ino) seq against) ≡ None }
         ensures { self.new ≡ acked self.old (holder client ino) against }
     {
         let holder = Holder { client, ino };
-        if against.has(Cap::P) {
+        if against.has(Cap::P) && self.has_pin(holder) {
             self.remove(holder);
         } else {
             let _found = self.edit(holder, Edit::Ack(against));
+        }
+    }
+
+    // Whether the holder has an entry and holds the pin.
+    fn has_pin(&self, holder: Holder) -> bool
+        ensures { result ≡ test_at has_pin self.now holder }
+    {
+        match self.find(holder.client, holder.ino) {
+            Some(entry) => entry.held.has(Cap::P),
+            None => false,
         }
     }
 

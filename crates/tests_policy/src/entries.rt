@@ -281,6 +281,11 @@ const ACKNOWLEDGED: &[Step] = &[
     // With the pin the entry goes.
     Ack(ONE_2, 3, "pFr", Ok(())),
     Keeps(ONE_2, None),
+    // A pin that is not held takes nothing with it.
+    Open(ONE_2, None),
+    Give(ONE_2, "Fr"),
+    Ack(ONE_2, 0, "pFr", Ok(())),
+    Keeps(ONE_2, EMPTY),
 ];
 
 const ORDERS: &[Step] = &[

@@ -1,6 +1,6 @@
-use Rattle.std.{proofs.Common.{◌≡◌, Option, Some, None, cond, false, Bool, refl, sym, ap, ◌∙◌}, specs.Option.{option_map}}
+use Rattle.std.{proofs.Common.{◌≡◌, Option, Some, None, cond, false, ◌&&◌, Bool, refl, sym, ap, ◌∙◌}, specs.Option.{option_map}}
 use Rattle.capbits.specs.Caps.{has}
-use Rattle.captable.specs.Tests.{ack_tests}
+use Rattle.captable.specs.{Calls.{has_pin}, Tests.{ack_tests, test_at}}
 use Rattle.capacts.specs.Caprules.Direct.{with_want}
 use Rattle.capsteps.{proofs.Common.{acked, Caps, changed, Entry, entry_at, first_failing, Holder, KnownSets, opening_wants, OpenMode, P, same_found, Scene, sets_of, Table, touched, union, wanting, with_entry, without, without_acked, without_released}, proofs.EntryKept.{kept-changed, kept-itself}, proofs.entry_request.apply_request.Goals.{in-Want, in-Open+in_ok-before-in-Open}, specs.EntryRequest.{entry_request_tests, table_after, StillKept}, specs.declared.entry_request.EntryRequest.{EntryRequest}}
 use Rattle.capsteps.proofs.entry_request.apply_request.Goals as goal
@@ -33,11 +33,11 @@ left-kept s sets now k gone g new is = kept-changed s s.table new sets sets now 
 
 pub returns-in-Ack-clause-kept : goal.returns-in-Ack-clause-kept
 returns-in-Ack-clause-kept c =
-    left-kept c.args.scene.now c.args.known.now.sets c.remove_unheld.new.self.sets c.args.holder (has c.revoked_of-revoked.result P) (without_acked c.revoked_of-revoked.result) c.ack_tested.new.self c.ack_tested.ensures c.remove_unheld.ensures
+    left-kept c.args.scene.now c.args.known.now.sets c.remove_unheld.new.self.sets c.args.holder (has c.revoked_of-revoked.result P && test_at has_pin c.args.scene.now.table c.args.holder) (without_acked c.revoked_of-revoked.result) c.ack_tested.new.self c.ack_tested.ensures c.remove_unheld.ensures.others
 
 pub returns-in-Release-clause-kept : goal.returns-in-Release-clause-kept
 returns-in-Release-clause-kept c =
-    left-kept c.args.scene.now c.args.known.now.sets c.remove_unheld-in-Release.new.self.sets c.args.holder (has c.in-Release.caps P) (without_released c.in-Release.caps) c.release_tested.new.self c.release_tested.ensures c.remove_unheld-in-Release.ensures
+    left-kept c.args.scene.now c.args.known.now.sets c.remove_unheld-in-Release.new.self.sets c.args.holder (has c.in-Release.caps P) (without_released c.in-Release.caps) c.release_tested.new.self c.release_tested.ensures c.remove_unheld-in-Release.ensures.others
 
 pub returns-clause-ok : goal.returns-clause-ok
 returns-clause-ok c =

@@ -1,4 +1,4 @@
-use Rattle.std.{proofs.Common.{◌≡◌, Some, None, sym, ap, subst, ◌∙◌}, specs.Option.{option_map}}
+use Rattle.std.{proofs.Common.{◌≡◌, Some, None, IsSome, refl, sym, ap, subst, ◌∙◌}, specs.Option.{option_map}}
 use Rattle.capsteps.{proofs.Common.{Entry, entry_at, entry_at-opened, Scene, Sets, Table}, proofs.EntryKept.{kept-but, kept-itself, kept-opened}, specs.EntryRequest.{StillKept}}
 use Rattle.capsteps.proofs.entry_request.find_or_open.Goals as goal
 
@@ -14,10 +14,10 @@ returns-in-Err-clause-kept c =
     let s : Scene = c.args.scene.now in
     let none : entry_at s.table c.args.holder ≡ None = cc in
     subst (λ (t : Table). StillKept s t c.args.known.now.sets c.remove.new.self.sets) (sym c.in-Err.ensures.err)
-    (kept-but s c.args.holder c.args.known.now.sets c.remove.new.self.sets none (λ k apart. c.remove.ensures k apart ∙ c.add.ensures.others k apart))
+    (kept-but s c.args.holder c.args.known.now.sets c.remove.new.self.sets none (λ k apart. c.remove.ensures.others k apart ∙ c.add.ensures.others k apart))
 
 pub put-requires : goal.put-requires
-put-requires c = record { there = c.in_ok-add-in-None.ensures.own }
+put-requires c = record { there = subst IsSome (sym c.in_ok-add-in-None.ensures.own) refl }
 
 pub returns-in_default-clause-wants : goal.returns-in_default-clause-wants
 returns-in_default-clause-wants c =

@@ -1,4 +1,4 @@
-use Rattle.std.proofs.Common.{◌≡◌, Some, None, IsSome, Option, is_some, false, ◌∷◌, refl, sym, ap, subst, ◌∙◌}
+use Rattle.std.proofs.Common.{◌≡◌, Some, None, Option, is_some, false, ◌∷◌, refl, sym, ap, subst, ◌∙◌}
 use Rattle.std.specs.Bool.{OnTrue, OnFalse}
 use Rattle.captable.specs.declared.on_inode.Sets.{Sets}
 use Rattle.captable.specs.Known.{sets_among}
@@ -7,7 +7,7 @@ use Rattle.captable.proofs.on_inode.OnInode.add.Goals as goal
 
 pub returns-then-put-clause-own : goal.returns-then-put-clause-own
 returns-then-put-clause-own c =
-    subst IsSome (sym (subst (λ b. OnTrue b (sets_among c.put.new.self c.args.client ≡ Some c.none.result)) c.if-put.true c.put.ensures.own)) refl
+    subst (λ b. OnTrue b (sets_among c.put.new.self c.args.client ≡ Some c.none.result)) c.if-put.true c.put.ensures.own ∙ ap Some c.none.ensures
 
 not_some : (o : Option Sets) → is_some o ≡ false → o ≡ None
 not_some None e = refl
@@ -16,7 +16,9 @@ not_some (Some s) e = cc
 pub returns-clause-own : goal.returns-clause-own
 returns-clause-own c =
     let first = c.self.inside.first in
-    subst (λ xs. IsSome (sets_among (first ∷ xs) c.args.client)) (sym c.in_ok-push.ensures.items) (add-own c.args.client (first ∷ c.self.inside.others.items) c.none-sets.result)
+    let stays : c.put.new.self ≡ c.args.self.now = subst (λ b. OnFalse b (c.put.new.self ≡ c.args.self.now)) c.if-put.false c.put.ensures.none in
+    let none = ap (λ xs. sets_among xs c.args.client) (c.self.view_is ∙ stays) ∙ not_some (sets_among c.args.self.now c.args.client) (sym c.put.ensures.there ∙ c.if-put.false) in
+    ap (λ xs. sets_among (first ∷ xs) c.args.client) c.in_ok-push.ensures.items ∙ add-own c.args.client (first ∷ c.self.inside.others.items) c.none-sets.result none ∙ ap Some c.none-sets.ensures
 
 pub returns-clause-others : goal.returns-clause-others
 returns-clause-others c = λ other apart.
