@@ -2,7 +2,7 @@
 
 use crate::asserting::{made, same};
 use crate::looking::{Look, row_text};
-use crate::steps::locks_text;
+use crate::steps::{auth_lock_text, locks_text};
 use crate::texts::text_of;
 use crate::viewing::changes_text;
 use crate::{gathers, histories, moved_entries, recalls, sessions_end, viewing, waits};
@@ -17,6 +17,8 @@ pub enum Beside {
     /// The file lock of inode 2, and what the clients 1 and 2 hold of it with the number of the last change, and `due`
     /// where they are not told of it yet.
     Locks,
+    /// The auth lock of an inode.
+    AuthLock(u64),
     /// What the last step that was answered says that it changed of what readers see.
     Changes,
 }
@@ -33,7 +35,8 @@ pub type Part = (u32, Beside, &'static [Step]);
 /// What it shows, how many rows the history takes, the parts, and what its rows tell behind them.
 pub type Case = (&'static str, u32, &'static [Part], &'static [Look]);
 
-fn event(rt: &impl Abort, alloc: Global, line: &str) -> Event {
+/// The event that a line says.
+pub fn event(rt: &impl Abort, alloc: Global, line: &str) -> Event {
     match read_line(alloc, 1, line.as_bytes()) {
         Ok(Some((_, event))) => event,
         _ => panic!(rt; "no event: {line}"),
@@ -76,6 +79,7 @@ pub fn ask(rt: &impl Abort, alloc: Global, core: &mut Core, exchanges: &[Exchang
 fn beside_text(rt: &impl Abort, alloc: Global, core: &Core, beside: Beside) -> String {
     match beside {
         Beside::Locks => locks_text(rt, alloc, core),
+        Beside::AuthLock(ino) => auth_lock_text(rt, alloc, core, ino),
         Beside::Changes => changes_text(rt, alloc, core),
     }
 }

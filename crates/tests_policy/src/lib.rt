@@ -17,6 +17,10 @@ mod caps;
 #[cfg(test)]
 mod entries;
 #[cfg(test)]
+mod errors;
+#[cfg(test)]
+mod event_lines;
+#[cfg(test)]
 mod failing_streams;
 #[cfg(test)]
 mod gathers;

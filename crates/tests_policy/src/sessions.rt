@@ -4,8 +4,9 @@ use crate::asking::{Exchange, core_of};
 use crate::asserting::{made, present, same};
 use crate::texts::{caller_of, grants_of, line_of};
 use capbits::{ClientId, Refusal};
+use capscript::Core;
 use capspec::Flags4;
-use sessiontab::{Connected, MAX_BLOCKED, MAX_SESSIONS, SessionError, Sessions, Status};
+use sessiontab::{Connected, MAX_BLOCKED, MAX_SESSIONS, Session, SessionError, Sessions, Status};
 use std::alloc::Global;
 use std::process::Abort;
 
@@ -31,6 +32,27 @@ fn see(rt: &impl Abort, sessions: &Sessions, (number, status, blocked, uid, flag
     );
 }
 
+// Without what the core promises of it.
+fn session(core: &Core, number: u32) -> Option<&Session> {
+    core.session(ClientId(number))
+}
+
+// Sees that the core shows the same of the client's session.
+fn see_in_core(rt: &impl Abort, core: &Core, (number, status, _, uid, flags): Look) {
+    let (shown, user, first) = match session(core, number) {
+        None => (None, None, None),
+        Some(session) => {
+            let first = present(rt, session.grants.grants().get(0), "a grant");
+            (
+                Some(session.status),
+                Some(session.caller.uid),
+                Some(first.flags),
+            )
+        }
+    };
+    same(rt, (shown, user, first), (status, uid, flags), number);
+}
+
 // Sees that a copy has the same clients, each with the same in each field of its session.
 fn same_in_a_copy(rt: &impl Abort, alloc: Global, connected: &Connected) {
     let copy = made(rt, connected.copy(), "a copy");
@@ -53,6 +75,8 @@ const COMING_AND_GOING: &[Exchange] = &[
     // Other grants are for a stale session too, and leave all else.
     ("regrant 3 allow rwp", "done"),
     ("regrant 2 allow rwp", "refused NoSession"),
+    ("session 5 5 5 - allow rw", "done"),
+    ("close 5", "done"),
 ];
 
 const LEFT: &[Look] = &[
@@ -60,6 +84,7 @@ const LEFT: &[Look] = &[
     (2, None, true, None, None),
     (3, Some(Status::Stale), false, Some(3), Some(Flags4::Rwp)),
     (4, Some(Status::Open), false, Some(4), Some(Flags4::Rw)),
+    (5, None, false, None, None),
     (9, None, false, None, None),
 ];
 
@@ -69,6 +94,7 @@ fn each_client_has_its_own_session(rt: HostRuntime) {
     let core = core_of(&rt, COMING_AND_GOING);
     for look in LEFT {
         see(&rt, core.sessions(), *look);
+        see_in_core(&rt, &core, *look);
     }
     same_in_a_copy(&rt, rt.alloc(), core.sessions().connected());
     drop(core);
