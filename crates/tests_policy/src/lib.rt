@@ -55,6 +55,8 @@ mod sessions;
 #[cfg(test)]
 mod sessions_end;
 #[cfg(test)]
+mod small_lists;
+#[cfg(test)]
 mod steps;
 #[cfg(test)]
 mod texts;
