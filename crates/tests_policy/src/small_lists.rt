@@ -75,6 +75,6 @@ fn a_set_has_what_was_taken_in(rt: HostRuntime) {
 fn a_path_is_made_of_names(rt: HostRuntime) {
     let path = made(&rt, TreePath::of(rt.alloc(), &[]), "no name");
     same(&rt, path.as_bytes(), b"", "no name");
-    let path = made(&rt, TreePath::of(rt.alloc(), &[b"a", b"\xffbc"]), "names");
-    same(&rt, path.as_bytes(), b"/a/\xffbc", "names");
+    let path = made(&rt, TreePath::of(rt.alloc(), &[b"a", b"\xff"]), "names");
+    same(&rt, path.as_bytes(), b"/a/\xff", "names");
 }
