@@ -1,0 +1,36 @@
+//! Cases of sets of caps, their texts and their numbers.
+#![tactic(auto, unfolding(
+    capbits::specs::Caps::bits_of,
+    capbits::specs::Caps::caps_of,
+    capbits::specs::Caps::caps_where,
+    capbits::specs::Caps::has,
+    capbits::specs::Sets::caps_in,
+    capbits::specs::Sets::no_caps,
+    capbits::specs::Text::group_of,
+    capbits::specs::Text::groups_in,
+    capbits::specs::Text::letters_in,
+    capbits::specs::Text::text_of
+))]
+
+ghost use Rattle.std.specs.Prelude.{◌≡◌, ◌≢◌, [], ◌∷◌, codes};
+ghost use Rattle.capbits.specs.declared.cap.Cap.TheVariants.{P, As, Ax, Ls, Xs, Xx, Fs, Fx, Fc, Fr, Fw, Fb};
+ghost use Rattle.capbits.specs.Caps.{Caps, all_caps, bits_of, caps_of};
+ghost use Rattle.capbits.specs.Sets.{caps_in, no_caps};
+ghost use Rattle.capbits.specs.Text.{IsLongestBeginning, text_of};
+
+/// Sets and the texts that they have.
+pub fn texts_of_sets()
+    ensures none { text_of no_caps ≡ codes "-" }
+    ensures most { text_of (caps_in (P ∷ As ∷ Ax ∷ Ls ∷ Xs ∷ Xx ∷ Fs ∷ Fx ∷ Fc ∷ Fr ∷ Fw ∷ Fb ∷ [])) ≡ codes "pAsxLsXsxFsxcrwb" }
+    ensures file { text_of (caps_in (P ∷ Fs ∷ Fx ∷ Fc ∷ Fr ∷ Fw ∷ Fb ∷ [])) ≡ codes "pFsxcrwb" }
+    ensures file_in_another_order { text_of (caps_in (Fb ∷ Fw ∷ Fr ∷ Fc ∷ Fx ∷ Fs ∷ P ∷ [])) ≡ codes "pFsxcrwb" }
+{}
+
+/// Sets and the numbers that they have.
+pub fn bits_of_sets()
+    ensures none { bits_of no_caps ≡ 0 }
+    ensures most { bits_of (caps_in (P ∷ As ∷ Ax ∷ Ls ∷ Xs ∷ Xx ∷ Fs ∷ Fx ∷ Fc ∷ Fr ∷ Fw ∷ Fb ∷ [])) ≡ 16349 }
+    ensures file { bits_of (caps_in (P ∷ Fs ∷ Fx ∷ Fc ∷ Fr ∷ Fw ∷ Fb ∷ [])) ≡ 16129 }
+    ensures all { caps_of 65533 ≡ caps_in all_caps }
+    ensures all_bits { bits_of (caps_in all_caps) ≡ 65533 }
+{}
