@@ -1,7 +1,7 @@
 -- The first fault of a text, derived test by test.
-use Rattle.std.specs.Prelude.{◌≡◌, ◌<◌, ◌≤◌, ◌-◌, ◌==◌, ℕ, zero, suc, ◌+◌, Bool, true, false, ◌||◌, Option, Some, None, Result, Ok, Err, List, [], ◌∷◌, ◌++◌, length, codes, bytes_eq, refl, inl, inr, IsTrue, IsFalse}
+use Rattle.std.specs.Prelude.{◌≡◌, ◌<◌, ◌≤◌, ◌-◌, ◌==◌, ℕ, zero, suc, ◌+◌, Bool, true, false, ◌||◌, Option, Some, None, Result, Ok, Err, List, [], ◌∷◌, ◌++◌, length, get_or, codes, bytes_eq, refl, IsTrue, IsFalse}
 use Rattle.std.specs.List.{list_all, list_any}
-use Rattle.std.proofs.Common.{arith, lit<, lit≤, ap, sym, ◌∙◌, true≢false}
+use Rattle.std.proofs.Common.{arith, inl, inr, lit<, lit≤, ap, sym, ◌∙◌, true≢false}
 use Rattle.capwords.specs.declared.flags.Flags4.{Flags4}
 use Rattle.capwords.specs.declared.flags.Flags4.TheVariants.{R, Rw, Rwp, Rws, Rwps}
 use Rattle.capwords.specs.Flags.{IsFlags}
@@ -9,18 +9,13 @@ use Rattle.capspec.specs.declared.fault.SpecFault.{SpecFault}
 use Rattle.capspec.specs.declared.fault.SpecFaultKind.{SpecFaultKind}
 use Rattle.capspec.specs.declared.fault.SpecFaultKind.TheVariants as kinds
 use Rattle.capspec.specs.declared.grant.Grant.{Grant}
-use Rattle.capspec.specs.declared.items.Key.{Key}
-use Rattle.capspec.specs.declared.items.Key.TheVariants as keys
-use Rattle.capspec.specs.declared.reading.Refusal.{Refusal}
 use Rattle.capspec.specs.Bytes.{is_white, is_bare_path_byte}
-use Rattle.capspec.specs.Faults.{IsFault, ItemsGive, GrantGives, GrantsGive, fault_at}
-use Rattle.capspec.specs.Faults.ItemsGive.{grant_ends, wrong_item, next_item}
-use Rattle.capspec.specs.Faults.GrantGives.{wrong_first, wrong_second, wrong_items, right_grant}
-use Rattle.capspec.specs.Faults.GrantsGive.{wrong_grant, last_grant, next_grant}
+use Rattle.capspec.specs.Faults.{IsFault, ItemsGive, grant_ends, wrong_item, next_item, GrantGives, wrong_first, wrong_second, wrong_items, right_grant, GrantsGive, wrong_grant, next_grant, fault_at, stood}
 use Rattle.capspec.specs.Grants.{AreItemsOf}
 use Rattle.capspec.specs.Items.{Item, IsNumber, IsPlainOrQuoted, IsValue, key_of, key_text}
 use Rattle.capspec.specs.Items.Item.{FsName, Path, Uid, Gids, RootSquash}
-use Rattle.capspec.specs.Words.{BeginsWithItem, IsKeyed, IsNoValue}
+use Rattle.capspec.specs.Words.{BeginsWithItem, IsKeyed, IsWrongItem, IsWrongOther, plain_word}
+use Rattle.capspec.proofs.Drafting.{no_key}
 use Rattle.worked_cases.specs.GrantTexts.{fault, behind_others}
 use Rattle.worked_cases.specs.Verdicts.{allow}
 
@@ -49,25 +44,23 @@ begins_key : List ℕ → Bool
 begins_key [] = false
 begins_key (b ∷ bs) = list_any (λ c. c == b) (codes "fpugr")
 
-no_key : (text : List ℕ) → IsFalse (begins_key text) → (key : Key) (value : List ℕ) → IsKeyed key text value → ⊥
+one_of_five : (text : List ℕ) → IsFalse (begins_key text) → (k : ℕ) → k < 5 → (value : List ℕ)
+    → IsKeyed (get_or (key_of (Path []) ∷ key_of (Uid 0) ∷ key_of (Gids []) ∷ key_of (FsName None) ∷ key_of RootSquash ∷ []) k (key_of RootSquash)) text value → ⊥
 unfolding begins_key
-no_key text none keys.FsName value is = told_apart begins_key text _ is.parts none refl
-no_key text none keys.Path value is = told_apart begins_key text _ is.parts none refl
-no_key text none keys.Uid value is = told_apart begins_key text _ is.parts none refl
-no_key text none keys.Gids value is = told_apart begins_key text _ is.parts none refl
-no_key text none keys.RootSquash value is = told_apart begins_key text _ is.parts none refl
+one_of_five text none zero _ value is = told_apart begins_key text _ is.parts none refl
+one_of_five text none (suc zero) _ value is = told_apart begins_key text _ is.parts none refl
+one_of_five text none (suc (suc zero)) _ value is = told_apart begins_key text _ is.parts none refl
+one_of_five text none (suc (suc (suc zero))) _ value is = told_apart begins_key text _ is.parts none refl
+one_of_five text none (suc (suc (suc (suc zero)))) _ value is = told_apart begins_key text _ is.parts none refl
+one_of_five text none (suc (suc (suc (suc (suc k))))) few value is = absurd (omega (arith, few))
 
-is_squash : Key → Bool
-is_squash keys.FsName = false
-is_squash keys.Path = false
-is_squash keys.Uid = false
-is_squash keys.Gids = false
-is_squash keys.RootSquash = true
+-- a text that begins with no key
+unkeyed : (text : List ℕ) → IsFalse (begins_key text) → (kind : SpecFaultKind) → IsWrongOther (plain_word text) kind → IsWrongItem (stood []) text kind
+unkeyed text none kind wrong = inl (no_key text 5 (lit≤ tt) (one_of_five text none), wrong)
 
 -- a text behind a key that has a value
-keyed : (key : Key) (text value : List ℕ) → IsFalse (is_squash key) → text ≡ key_text key ++ value → IsKeyed key text value
-unfolding is_squash
-keyed key text value other parts = record { parts = parts; whole = λ e. absurd (told_apart is_squash key keys.RootSquash e other refl) }
+keyed : (item : Item) (text value : List ℕ) → IsFalse (stood (RootSquash ∷ []) (key_of item)) → text ≡ key_text (key_of item) ++ value → IsKeyed (key_of item) text value
+keyed item text value other parts = record { parts = parts; whole = λ e. absurd (told_apart (stood (RootSquash ∷ [])) _ _ e other refl) }
 
 -- ---- one grant
 
@@ -98,46 +91,29 @@ wrong_behind behind left kind wrong = first_grant _ left kind refl (wrong_items 
 
 pub left_out_item : IsFault (codes "allow rw network 10.0.0.0/8") (fault kinds.LeftOut 9)
 unfolding begins_key
-left_out_item = wrong_behind (codes "network 10.0.0.0/8") (codes "network 10.0.0.0/8") kinds.LeftOut (wrong_item refl (inl (no_key _ refl, inl (refl, refl))))
+left_out_item = wrong_behind (codes "network 10.0.0.0/8") (codes "network 10.0.0.0/8") kinds.LeftOut (wrong_item refl (unkeyed _ refl _ (inl (refl, refl))))
 
 is_network : List ℕ → Bool
 is_network word = bytes_eq word (codes "network")
 
 pub bad_item : IsFault (codes "allow rw quota") (fault kinds.BadItem 9)
 unfolding begins_key is_network
-bad_item = wrong_behind (codes "quota") (codes "quota") kinds.BadItem (wrong_item refl (inl (no_key _ refl, inr ((λ e. told_apart is_network _ _ e refl refl), refl))))
+bad_item = wrong_behind (codes "quota") (codes "quota") kinds.BadItem (wrong_item refl (unkeyed _ refl _ (inr ((λ e. told_apart is_network _ _ e refl refl), refl))))
 
 pub open_quote : IsFault (codes "allow rw path=\"/a") (fault kinds.OpenQuote 9)
-unfolding is_squash
-open_quote = wrong_behind (codes "path=\"/a") (codes "path=\"/a") kinds.OpenQuote (wrong_item refl (inr (keys.Path, (codes "\"/a", (keyed keys.Path _ _ refl refl, refl)))))
+open_quote = wrong_behind (codes "path=\"/a") (codes "path=\"/a") kinds.OpenQuote (wrong_item refl (inr (key_of (Path []), (codes "\"/a", (keyed (Path []) _ _ refl refl, refl)))))
 
 -- ---- values
 
-is_uid : Key → Bool
-is_uid keys.Uid = true
-is_uid keys.FsName = false
-is_uid keys.Path = false
-is_uid keys.Gids = false
-is_uid keys.RootSquash = false
-
-too_large : (item : Item) → key_of item ≡ keys.Uid → IsValue (codes "4294967296") item → ⊥
-unfolding is_uid
-too_large (FsName name) e is = told_apart is_uid _ _ e refl refl
-too_large (Path names) e is = told_apart is_uid _ _ e refl refl
-too_large (Uid n) e is = omega (arith, is.value, is.small)
-too_large (Gids gids) e is = told_apart is_uid _ _ e refl refl
-too_large RootSquash e is = told_apart is_uid _ _ e refl refl
+too_large : (item : Item) → key_of item ≡ key_of (Uid 0) → IsValue (codes "4294967296") item → ⊥
+too_large (FsName name) e is = told_apart (stood (Uid 0 ∷ [])) _ _ e refl refl
+too_large (Path names) e is = told_apart (stood (Uid 0 ∷ [])) _ _ e refl refl
+too_large (Uid n) e is = let large : 4294967296 ≡ n = is.value in omega (arith, large, is.small)
+too_large (Gids gids) e is = told_apart (stood (Uid 0 ∷ [])) _ _ e refl refl
+too_large RootSquash e is = told_apart (stood (Uid 0 ∷ [])) _ _ e refl refl
 
 pub bad_number : IsFault (codes "allow rw uid=4294967296") (fault kinds.BadNumber 9)
-unfolding is_squash
-bad_number = wrong_behind (codes "uid=4294967296") (codes "uid=4294967296") kinds.BadNumber (wrong_item refl (inr (keys.Uid, (codes "4294967296", (keyed keys.Uid _ _ refl refl, (too_large, refl))))))
-
-is_path_key : Key → Bool
-is_path_key keys.Path = true
-is_path_key keys.FsName = false
-is_path_key keys.Uid = false
-is_path_key keys.Gids = false
-is_path_key keys.RootSquash = false
+bad_number = wrong_behind (codes "uid=4294967296") (codes "uid=4294967296") kinds.BadNumber (wrong_item refl (inr (key_of (Uid 0), (codes "4294967296", (keyed (Uid 0) _ _ refl refl, (too_large, refl))))))
 
 begins_with_quote : List ℕ → Bool
 begins_with_quote [] = false
@@ -149,28 +125,19 @@ no_such_path path (inl bare) = true≢false (sym bare.all_in ∙ ap (list_all is
 no_such_path path (inr (inl quoted)) = told_apart begins_with_quote _ _ quoted.parts refl refl
 no_such_path path (inr (inr quoted)) = told_apart begins_with_quote _ _ quoted.parts refl refl
 
-no_path : (item : Item) → key_of item ≡ keys.Path → IsValue (codes "/a*") item → ⊥
-unfolding is_path_key
-no_path (FsName name) e is = told_apart is_path_key _ _ e refl refl
+no_path : (item : Item) → key_of item ≡ key_of (Path []) → IsValue (codes "/a*") item → ⊥
+no_path (FsName name) e is = told_apart (stood (Path [] ∷ [])) _ _ e refl refl
 no_path (Path names) e is = no_such_path is.0 is.1.written
-no_path (Uid n) e is = told_apart is_path_key _ _ e refl refl
-no_path (Gids gids) e is = told_apart is_path_key _ _ e refl refl
-no_path RootSquash e is = told_apart is_path_key _ _ e refl refl
+no_path (Uid n) e is = told_apart (stood (Path [] ∷ [])) _ _ e refl refl
+no_path (Gids gids) e is = told_apart (stood (Path [] ∷ [])) _ _ e refl refl
+no_path RootSquash e is = told_apart (stood (Path [] ∷ [])) _ _ e refl refl
 
 pub bad_path : IsFault (codes "allow rw path=/a*") (fault kinds.BadPath 9)
-unfolding is_squash
-bad_path = wrong_behind (codes "path=/a*") (codes "path=/a*") kinds.BadPath (wrong_item refl (inr (keys.Path, (codes "/a*", (keyed keys.Path _ _ refl refl, (no_path, refl))))))
+bad_path = wrong_behind (codes "path=/a*") (codes "path=/a*") kinds.BadPath (wrong_item refl (inr (key_of (Path []), (codes "/a*", (keyed (Path []) _ _ refl refl, (no_path, refl))))))
 
 -- one digit
 pub one_is : IsNumber (codes "1") 1
 one_is = record { numeral = (lit< tt, (lit< tt, tt)); value = refl; small = lit< tt }
-
-is_gids : Key → Bool
-is_gids keys.Gids = true
-is_gids keys.FsName = false
-is_gids keys.Path = false
-is_gids keys.Uid = false
-is_gids keys.RootSquash = false
 
 begins_with_gids : BeginsWithItem (codes "gids=1") (Gids (1 ∷ [])) []
 begins_with_gids = record {
@@ -182,15 +149,13 @@ pub gids_without_uid : IsFault (codes "allow rw gids=1") (fault kinds.GidsWithou
 gids_without_uid = wrong_behind (codes "gids=1") (codes "gids=1") kinds.GidsWithoutUid (next_item (Gids (1 ∷ [])) [] refl refl begins_with_gids (grant_ends refl))
 
 begins_with_uid : BeginsWithItem (codes "uid=1 uid=2") (Uid 1) (codes " uid=2")
-unfolding is_gids
 begins_with_uid = record {
   takes = (record { front = codes "uid=1"; parts = refl; holds = (codes "1", (refl, one_is)) }, refl);
-  whole = λ e. absurd (told_apart is_gids _ _ e refl refl);
+  whole = λ e. absurd (told_apart (stood (Gids [] ∷ [])) _ _ e refl refl);
 }
 
 pub twice : IsFault (codes "allow rw uid=1 uid=2") (fault kinds.Twice 15)
-unfolding is_squash
-twice = wrong_behind (codes "uid=1 uid=2") (codes "uid=2") kinds.Twice (next_item (Uid 1) (codes " uid=2") refl refl begins_with_uid (wrong_item refl (inr (keys.Uid, (codes "2", (keyed keys.Uid _ _ refl refl, refl))))))
+twice = wrong_behind (codes "uid=1 uid=2") (codes "uid=2") kinds.Twice (next_item (Uid 1) (codes " uid=2") refl refl begins_with_uid (wrong_item refl (inr (key_of (Uid 0), (codes "2", (keyed (Uid 0) _ _ refl refl, refl))))))
 
 -- ---- many grants
 
@@ -201,8 +166,8 @@ right_items = record { fsname = refl; path = refl; uid = refl; gids = refl; root
 read_only : (before : ℕ) (rest : List ℕ) → before < 16 → GrantGives before (codes "allow r," ++ rest) (Ok (allow R, codes "," ++ rest))
 read_only before rest few = right_grant [] (few, refl) refl (grant_ends refl) right_items
 
-one_more : (grants : List Grant) (rest : List ℕ) (refusal : Refusal) → length grants < 16 → GrantsGive (grants ++ allow R ∷ []) rest (Err refusal) → GrantsGive grants (codes "allow r," ++ rest) (Err refusal)
-one_more grants rest refusal few on = next_grant (allow R) 44 rest (read_only (length grants) rest few) on
+one_more : (grants : List Grant) (rest left : List ℕ) (kind : SpecFaultKind) → length grants < 16 → GrantsGive (grants ++ allow R ∷ []) rest (Err (fault_at left kind)) → GrantsGive grants (codes "allow r," ++ rest) (Err (fault_at left kind))
+one_more grants rest left kind few on = next_grant (allow R) 44 rest (read_only (length grants) rest few) on
 
 is_nothing : List ℕ → Bool
 is_nothing [] = true
@@ -210,7 +175,7 @@ is_nothing (b ∷ bs) = false
 
 pub not_allow : IsFault (codes "allow r,") (fault kinds.NotAllow 8)
 unfolding is_nothing
-not_allow = (fault_at [] kinds.NotAllow, (inr (refl, one_more [] [] _ (lit< tt) (wrong_grant (wrong_first (inr (lit< tt, ((λ e. told_apart is_nothing (codes "allow") [] (sym e) refl refl), refl)))))), refl))
+not_allow = (fault_at [] kinds.NotAllow, (inr (refl, one_more [] [] [] kinds.NotAllow (lit< tt) (wrong_grant (wrong_first (inr (lit< tt, ((λ e. told_apart is_nothing (codes "allow") [] (sym e) refl refl), refl)))))), refl))
 
 length_more : (grants : List Grant) → length (grants ++ allow R ∷ []) ≡ suc (length grants)
 length_more [] = refl
@@ -219,7 +184,7 @@ length_more (g ∷ grants) = ap suc (length_more grants)
 -- with so many still to come, and sixteen in all
 all_of_them : (n : ℕ) (grants : List Grant) → n + length grants ≡ 16 → GrantsGive grants (behind_others n) (Err (fault_at (codes "allow r") kinds.TooMany))
 all_of_them zero grants e = wrong_grant (wrong_first (inl (omega (arith, e), refl)))
-all_of_them (suc n) grants e = one_more grants (behind_others n) _ (omega (arith, e)) (all_of_them n (grants ++ allow R ∷ []) (omega (arith, e, length_more grants)))
+all_of_them (suc n) grants e = one_more grants (behind_others n) (codes "allow r") kinds.TooMany (omega (arith, e)) (all_of_them n (grants ++ allow R ∷ []) (omega (arith, e, length_more grants)))
 
 pub too_many : IsFault (behind_others 16) (fault kinds.TooMany 128)
 too_many = (fault_at (codes "allow r") kinds.TooMany, (inr (refl, all_of_them 16 [] refl), refl))

@@ -1,6 +1,6 @@
 -- Texts that read, taken apart.
-use Rattle.std.specs.Prelude.{◌≡◌, ℕ, Bool, true, false, Option, Some, List, [], ◌∷◌, ◌++◌, codes, refl, inl, inr}
-use Rattle.std.proofs.Common.{lit<, lit≤, ap, sym, true≢false}
+use Rattle.std.specs.Prelude.{◌≡◌, ℕ, Bool, true, false, Option, Some, List, [], ◌∷◌, ◌++◌, codes, refl}
+use Rattle.std.proofs.Common.{inl, inr, lit<, lit≤, ap, sym, true≢false}
 use Rattle.capwords.specs.declared.flags.Flags4.TheVariants.{R, Rw, Rwps}
 use Rattle.capspec.specs.declared.grant.Grant.{Grant}
 use Rattle.capspec.specs.Grants.{IsGrant, Reads}

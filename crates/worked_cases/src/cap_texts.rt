@@ -1,16 +1,5 @@
 //! Cases of sets of caps, their texts and their numbers.
-#![tactic(auto, unfolding(
-    capbits::specs::Caps::bits_of,
-    capbits::specs::Caps::caps_of,
-    capbits::specs::Caps::caps_where,
-    capbits::specs::Caps::has,
-    capbits::specs::Sets::caps_in,
-    capbits::specs::Sets::no_caps,
-    capbits::specs::Text::group_of,
-    capbits::specs::Text::groups_in,
-    capbits::specs::Text::letters_in,
-    capbits::specs::Text::text_of
-))]
+#![tactic(auto, unfolding(crate::proofs::Unfolded::sets))]
 
 ghost use Rattle.std.specs.Prelude.{◌≡◌, ◌≢◌, [], ◌∷◌, codes};
 ghost use Rattle.capbits.specs.declared.cap.Cap.TheVariants.{P, As, Ax, Ls, Xs, Xx, Fs, Fx, Fc, Fr, Fw, Fb};
@@ -33,4 +22,11 @@ pub fn bits_of_sets()
     ensures file { bits_of (caps_in (P ∷ Fs ∷ Fx ∷ Fc ∷ Fr ∷ Fw ∷ Fb ∷ [])) ≡ 16129 }
     ensures all { caps_of 65533 ≡ caps_in all_caps }
     ensures all_bits { bits_of (caps_in all_caps) ≡ 65533 }
+{}
+
+/// How many first bytes of a text begin the text of some set: here a cap text has its fault.
+pub fn longest_beginnings()
+    ensures another_order { IsLongestBeginning (codes "pFcs") 3 }
+    ensures capital_alone { IsLongestBeginning (codes "pF") 2 }
+    ensures nothing { IsLongestBeginning [] 0 }
 {}

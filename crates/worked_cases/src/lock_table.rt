@@ -1,18 +1,5 @@
 //! Cases of the lock table.
-#![tactic(auto, unfolding(
-    capbits::specs::Caps::caps_where,
-    capbits::specs::Caps::has,
-    capbits::specs::Sets::caps_in,
-    capbits::specs::Sets::meet,
-    capbits::specs::Sets::no_caps,
-    capbits::specs::Text::group_of,
-    capbits::specs::Text::groups_in,
-    capbits::specs::Text::letters_in,
-    capbits::specs::Text::text_of,
-    locktable::specs::Rows::allowed_of,
-    locktable::specs::Rows::row_of,
-    locktable::specs::Targets::target_of
-))]
+#![tactic(auto, unfolding(crate::proofs::Unfolded::locks))]
 
 ghost use Rattle.std.specs.Prelude.{◌≡◌, [], ◌∷◌, codes, Some, None};
 ghost use Rattle.capbits.specs.declared.ids.ClientId.{ClientId};
@@ -24,10 +11,10 @@ ghost use Rattle.capbits.specs.Sets.{caps_in, no_caps};
 ghost use Rattle.locktable.specs.declared.states.StableState.{StableState};
 ghost use Rattle.locktable.specs.declared.states.StableState.TheVariants.{Sync, Lock, Mix, Excl};
 ghost use Rattle.locktable.specs.declared.states.LockState.TheVariants.{Gather};
-ghost use Rattle.locktable.specs.declared.targets.Head.TheVariants.{Empty, Change, Read};
+ghost use Rattle.locktable.specs.declared.targets.Head.TheVariants.{Change, Read};
 ghost use Rattle.locktable.specs.Targets.{target_of};
 ghost use Rattle.worked_cases.specs.Clients.{first, second};
-ghost use Rattle.worked_cases.specs.LockTable.{allowed, cells};
+ghost use Rattle.worked_cases.specs.LockTable.{allowed, cells, goes};
 
 /// What a client may hold of the parts A, L, X and F, by the state of their locks. MIX is a state of the file lock alone.
 pub fn lock_cells()
@@ -47,7 +34,7 @@ pub fn gathers()
     ensures auth_to_lock { (c : ClientId) → allowed A (Gather Sync Lock) c ≡ codes "-" }
 {}
 
-/// Where a lock goes: to LOCK for a change, to a state that serves who reads, and else by what is wanted.
+/// Where a lock goes for what stands first in its queue: to LOCK for a change, and for a read to a state that serves it.
 pub fn lock_targets()
     ensures change { (part : Part) (state : StableState) (wanted : Caps) → target_of part state Change None wanted ≡ Lock }
     ensures read_in_sync { target_of A Sync (Read first) None no_caps ≡ Sync }
@@ -55,6 +42,21 @@ pub fn lock_targets()
     ensures read_by_the_holder { target_of A (Excl first) (Read first) None no_caps ≡ Excl first }
     ensures read_by_another { target_of A (Excl first) (Read second) None no_caps ≡ Sync }
     ensures read_in_mix { target_of F Mix (Read first) None no_caps ≡ Sync }
-    ensures nothing_wanted { (part : Part) (state : StableState) → target_of part state Empty None no_caps ≡ state }
-    ensures pin_alone { (part : Part) (state : StableState) → target_of part state Empty None (caps_in (P ∷ [])) ≡ state }
+{}
+
+/// Where a lock goes for which nobody waits, by what the clients want of its inode: nowhere, where they want nothing of the part.
+pub fn wanted_targets()
+    ensures nobody { (part : Part) (state : StableState) → goes part state [] ≡ state }
+    ensures pin_alone { (part : Part) (state : StableState) → goes part state ((first, caps_in (P ∷ [])) ∷ []) ≡ state }
+    ensures another_part { goes A (Excl second) ((first, caps_in (P ∷ Fs ∷ Fw ∷ [])) ∷ []) ≡ Excl second }
+    ensures loner_writes { goes F Sync ((first, caps_in (P ∷ Fw ∷ [])) ∷ []) ≡ Excl first }
+    ensures loner_keeps_to_itself { goes F Sync ((first, caps_in (P ∷ Fx ∷ [])) ∷ []) ≡ Excl first }
+    ensures loner_buffers { goes F Sync ((first, caps_in (P ∷ Fb ∷ [])) ∷ []) ≡ Excl first }
+    ensures loner_reads { goes F Mix ((first, caps_in (P ∷ Fs ∷ Fc ∷ Fr ∷ [])) ∷ []) ≡ Sync }
+    ensures loner_beside_a_pin { goes F Sync ((first, caps_in (P ∷ Fw ∷ [])) ∷ (second, caps_in (P ∷ [])) ∷ []) ≡ Excl first }
+    ensures one_of_two_writes { goes F (Excl first) ((first, caps_in (P ∷ Fs ∷ Fx ∷ Fc ∷ Fr ∷ Fw ∷ Fb ∷ [])) ∷ (second, caps_in (P ∷ Fs ∷ Fc ∷ Fr ∷ [])) ∷ []) ≡ Mix }
+    ensures both_read { goes F (Excl first) ((first, caps_in (P ∷ Fs ∷ Fr ∷ [])) ∷ (second, caps_in (P ∷ Fs ∷ Fc ∷ Fr ∷ [])) ∷ []) ≡ Sync }
+    ensures loner_changes_auth { goes A Sync ((first, caps_in (P ∷ As ∷ Ax ∷ [])) ∷ []) ≡ Excl first }
+    ensures loner_shares_auth { goes A (Excl second) ((first, caps_in (P ∷ As ∷ [])) ∷ []) ≡ Sync }
+    ensures two_change_auth { goes A (Excl first) ((first, caps_in (P ∷ Ax ∷ [])) ∷ (second, caps_in (P ∷ Ax ∷ [])) ∷ []) ≡ Sync }
 {}

@@ -1,20 +1,5 @@
 //! Cases of what grants allow.
-#![tactic(auto, unfolding(
-    capgrant::specs::Failing::fails_fsname,
-    capgrant::specs::Failing::fails_gids,
-    capgrant::specs::Failing::fails_mode_bits,
-    capgrant::specs::Failing::fails_no_p,
-    capgrant::specs::Failing::fails_no_s,
-    capgrant::specs::Failing::fails_no_write,
-    capgrant::specs::Failing::fails_not_own_group,
-    capgrant::specs::Failing::fails_not_owner,
-    capgrant::specs::Failing::fails_path,
-    capgrant::specs::Failing::fails_root_squash,
-    capgrant::specs::Failing::fails_uid,
-    capgrant::specs::Failing::first_failing,
-    capgrant::specs::Question::listed_gids,
-    capgrant::specs::Verdict::verdict_of
-))]
+#![tactic(auto, unfolding(crate::proofs::Unfolded::rules))]
 
 ghost use Rattle.std.specs.Prelude.{◌≡◌, [], ◌∷◌, codes, Some, true};
 ghost use Rattle.capwords.specs.declared.flags.Flags4.TheVariants.{R, Rw, Rwp, Rws};
@@ -25,11 +10,9 @@ ghost use Rattle.worked_cases.specs.Verdicts.{allow, caller, owned, says};
 
 /// Each grant is denied by the first rule that it fails.
 pub fn rules_in_order()
-    ensures path_and_no_write {
-        says (record (allow Rw) { fsname = Some (codes "cephfs"); path = codes "a" ∷ [] } ∷ record (allow R) { fsname = Some (codes "cephfs") } ∷ [])
+    ensures path_and_no_write { says (record (allow Rw) { fsname = Some (codes "cephfs"); path = codes "a" ∷ [] } ∷ record (allow R) { fsname = Some (codes "cephfs") } ∷ [])
         (caller 9 50) access.Write (codes "b" ∷ codes "x" ∷ []) (owned 7 50 0o640)
-        ≡ Denied (rule.Path ∷ rule.NoWrite ∷ [])
-    }
+        ≡ Denied (rule.Path ∷ rule.NoWrite ∷ []) }
     ensures fsname { says (record (allow R) { fsname = Some (codes "other"); path = codes "a" ∷ [] } ∷ []) (caller 9 50) access.Read [] (owned 0 0 0o755) ≡ Denied (rule.FsName ∷ []) }
     ensures uid { says (record (allow R) { uid = Some 8; gids = 50 ∷ [] } ∷ []) (caller 9 51) access.Read [] (owned 0 0 0o755) ≡ Denied (rule.Uid ∷ []) }
     ensures gids { says (record (allow R) { uid = Some 9; gids = 50 ∷ [] } ∷ []) (caller 9 51) access.Read [] (owned 0 0 0o755) ≡ Denied (rule.Gids ∷ []) }
