@@ -1,7 +1,7 @@
 -- Questions to the table of the locks.
 use Rattle.std.specs.Prelude.{ℕ, List, [], ◌∷◌, map}
-use Rattle.capbits.specs.{Caps.{Caps}, Sets.{no_caps}, Text.{text_of}, declared.cap.Part.{Part}, declared.cap.Part.TheVariants.{A, L, X, F}, declared.ids.ClientId.{ClientId}}
-use Rattle.locktable.specs.{Rows.{row_of, allowed_of}, declared.states.LockState.{LockState}, declared.states.StableState.{StableState}, declared.targets.Head.TheVariants.{Empty}}
+use Rattle.capbits.specs.{Text.{text_of}, declared.cap.Part.{Part}, declared.cap.Part.TheVariants.{A, L, X, F}, declared.ids.ClientId.{ClientId}}
+use Rattle.locktable.specs.{Rows.{row_of, allowed_of}, declared.states.LockState.{LockState}, declared.states.StableState.{StableState}}
 use Rattle.caprules.specs.Lockmachine.{Scene.{target_by}, Wants.{Want, in_all}}
 
 abbrev pub parts : List Part

@@ -4,7 +4,7 @@
 ghost use Rattle.std.specs.Prelude.{◌≡◌, [], ◌∷◌, codes, Some, None};
 ghost use Rattle.capbits.specs.declared.ids.ClientId.{ClientId};
 ghost use Rattle.capbits.specs.declared.cap.Part.{Part};
-ghost use Rattle.capbits.specs.declared.cap.Part.TheVariants.{A, L, X, F};
+ghost use Rattle.capbits.specs.declared.cap.Part.TheVariants.{A, F};
 ghost use Rattle.capbits.specs.Caps.{Caps};
 ghost use Rattle.capbits.specs.declared.cap.Cap.TheVariants.{P, As, Ax, Fs, Fx, Fc, Fr, Fw, Fb};
 ghost use Rattle.capbits.specs.Sets.{caps_in, no_caps};
