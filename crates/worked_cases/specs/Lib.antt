@@ -2,4 +2,3 @@ pub mod Clients
 pub mod LockTable
 pub mod Verdicts
 pub mod GrantTexts
-pub mod Scenes

@@ -4,11 +4,9 @@
 mod cap_texts;
 mod grant_texts;
 mod lock_table;
-mod steps;
 mod verdicts;
 
 pub use cap_texts::{bits_of_sets, longest_beginnings, texts_of_sets};
 pub use grant_texts::{first_faults, read_and_written};
 pub use lock_table::{gathers, lock_cells, lock_targets, wanted_targets};
-pub use steps::{acknowledged, alone, beside_another, without_grants};
 pub use verdicts::{mode_bits, paths_by_names, root_is_squashed, rules_in_order};
