@@ -1,0 +1,8 @@
+-- Who takes part in the cases.
+use Rattle.capbits.specs.declared.ids.ClientId.{ClientId}
+
+abbrev pub first : ClientId
+first = record { 0 = 1 }
+
+abbrev pub second : ClientId
+second = record { 0 = 2 }

@@ -1,0 +1,20 @@
+-- Questions to the table of the locks.
+use Rattle.std.specs.Prelude.{ℕ, List, [], ◌∷◌, map}
+use Rattle.capbits.specs.{Text.{text_of}, declared.cap.Part.{Part}, declared.cap.Part.TheVariants.{A, L, X, F}, declared.ids.ClientId.{ClientId}}
+use Rattle.locktable.specs.{Rows.{row_of, allowed_of}, declared.states.LockState.{LockState}, declared.states.StableState.{StableState}}
+use Rattle.lockmachine.specs.{Scene.{target_by}, Wants.{Want, in_all}}
+
+abbrev pub parts : List Part
+parts = A ∷ L ∷ X ∷ F ∷ []
+
+-- what a client may hold in a stable state: a text for each part, in the order A, L, X, F
+abbrev pub cells : StableState → ClientId → List (List ℕ)
+cells state client = map (λ part. text_of (row_of part state client)) parts
+
+-- what a client may hold of a part under a lock, as a text
+abbrev pub allowed : Part → LockState → ClientId → List ℕ
+allowed part lock client = text_of (allowed_of part lock client)
+
+-- where a stable lock goes for which nobody waits, where these clients want this of its inode
+abbrev pub goes : Part → StableState → List Want → StableState
+goes part state wants = target_by [] (in_all wants) 2 part state

@@ -1,0 +1,23 @@
+-- Grants, and questions to them.
+use Rattle.std.specs.Prelude.{ℕ, false, List, [], ◌∷◌, None, codes}
+use Rattle.capbits.specs.declared.caller.Caller.{Caller}
+use Rattle.capwords.specs.declared.flags.Flags4.{Flags4}
+use Rattle.capspec.specs.declared.grant.Grant.{Grant}
+use Rattle.capgrant.specs.declared.{access.Access.{Access}, access.Attr.{Attr}, answer.Verdict.{Verdict}}
+use Rattle.capgrant.specs.{Question.{question}, Verdict.{verdict_of}}
+
+-- `allow`, these flags and no item
+abbrev pub allow : Flags4 → Grant
+allow flags = record { flags = flags; fsname = None; path = []; uid = None; gids = []; root_squash = false }
+
+-- a caller in one group
+abbrev pub caller : ℕ → ℕ → Caller
+caller uid gid = record { uid = uid; gid = gid; groups = [] }
+
+-- owner, group and mode of an inode
+abbrev pub owned : ℕ → ℕ → ℕ → Attr
+owned uid gid mode = record { uid = uid; gid = gid; mode = mode }
+
+-- what the grants say on the file system `cephfs`
+abbrev pub says : List Grant → Caller → Access → List (List ℕ) → Attr → Verdict
+says grants by access path attr = verdict_of (question (codes "cephfs") by path attr access) grants
