@@ -1,7 +1,7 @@
 -- The main promise, from what a step is.
-use Rattle.std.{proofs.Common.{true≢false, ◌≡◌, Bool, true, false, ◌||◌, List, Option, Some, None, refl, sym, ap, subst, ◌∙◌, IsTrue, arith}, proofs.lemmas.List.Elements.{All-contains}, specs.List.{find}, specs.Option.{option_map_or}}
-use Rattle.capsteps.specs.Caprules.{Finish.{due}, Headline.{DeniedExactly, DeniesByName}}
-use Rattle.capcore.proofs.{Common.{Access, after, before, Direct, direct, effect, effect_unless, Ended, ended_in, EntryRow, Event, found, found-contains, has, Holder, is_rejection, is_row_of, IsDirect, IsLockMap, IsSound, IsSoundEntry, IssuesExactly, IsTable, judged, Made, MakesAll, needs, Operation, operation_by, Rejection, rejection-only, rejection_reply, Reply, reply_of, Rule, Scene, State, state_after, Step}, LockRequests.{enqueuing, enqueuing-rejection, enqueuing-direct, enqueuing-again, order-of_operation}, OwnServed.{own-not_rejected}, Servings.{denial-exact, denial-by_name}}
+use Rattle.std.{proofs.Common.{◌≡◌, Bool, true, false, ◌||◌, List, Option, Some, None, refl, sym, ap, subst, ◌∙◌, IsTrue, arith}, proofs.lemmas.List.Elements.{All-contains}, specs.List.{find}, specs.Option.{option_map_or}}
+use Rattle.capsteps.specs.Caprules.{Finish.{due}, Headline.{DeniedExactly, denied_in}}
+use Rattle.capcore.proofs.{Common.{after, before, Direct, direct, effect, effect_unless, Ended, ended_in, EntryRow, Event, found, found-contains, has, Holder, is_rejection, is_row_of, IsDirect, IsLockMap, IsSound, IsSoundEntry, IssuesExactly, IsTable, judged, Made, MakesAll, needs, Operation, operation_by, Rejection, rejection-only, rejection_reply, Reply, reply_of, Scene, State, state_after, Step}, LockRequests.{enqueuing, enqueuing-rejection, enqueuing-direct, enqueuing-again, order-of_operation}, OwnServed.{own-not_rejected}, Servings.{denial_in, denial-judged}}
 
 -- ---- an event that nothing rejects
 
@@ -21,14 +21,15 @@ enqueuing-not_rejected old last e k operation moves s sound order is free made =
 
 -- ---- denials
 
-reply-denied : (x : Rejection) (access : Access) (rules : List Rule) → rejection_reply x ≡ Reply.Denied access rules → x ≡ Rejection.ByPolicy access rules
-reply-denied x access rules is = grind arith
+free-denied : (answer : Reply) → is_rejection answer ≡ false → denied_in answer ≡ None
+free-denied answer free = grind arith
 
 -- an answer that is what rejects the event, or no rejection
-denied-rejects : (answer : Reply) (rejected : Option Rejection) → ((x : Rejection) → rejected ≡ Some x → answer ≡ rejection_reply x) → (rejected ≡ None → is_rejection answer ≡ false)
-    → (access : Access) (rules : List Rule) → answer ≡ Reply.Denied access rules → rejected ≡ Some (Rejection.ByPolicy access rules)
-denied-rejects answer (Some x) rejects free access rules is = ap Some (reply-denied x access rules (sym (rejects x refl) ∙ is))
-denied-rejects answer None rejects free access rules is = absurd (true≢false (ap is_rejection (sym is) ∙ free refl))
+rejected-denied : (answer : Reply) (rejected : Option Rejection) → ((x : Rejection) → rejected ≡ Some x → answer ≡ rejection_reply x) → (rejected ≡ None → is_rejection answer ≡ false)
+    → denied_in answer ≡ denial_in rejected
+rejected-denied answer (Some (Rejection.ByPolicy access rules)) rejects free = ap denied_in (rejects (Rejection.ByPolicy access rules) refl)
+rejected-denied answer (Some (Rejection.ByTest refusal)) rejects free = ap denied_in (rejects (Rejection.ByTest refusal) refl)
+rejected-denied answer None rejects free = free-denied answer (free refl)
 
 module _ (answer : Reply) (rejected : Option Rejection) (rejects : (x : Rejection) → rejected ≡ Some x → answer ≡ rejection_reply x) (free : rejected ≡ None → is_rejection answer ≡ false) where
   rejected-rejects : is_rejection answer ≡ true → (x : Rejection) × (rejected ≡ Some x)
@@ -55,13 +56,8 @@ module _ (old : State) (e : Event) (answer : Reply) (done : List Ended) (new : S
 
   pub denied-exactly : DeniedExactly old.scene e answer
   denied-exactly =
-      denial-exact old.scene (before old.scene e) (needs old.scene e) (after old.scene e) (λ access rules. answer ≡ Reply.Denied access rules)
-      (λ access rules. (denied-rejects answer (judged old.scene e) rejects free access rules, rejects (Rejection.ByPolicy access rules)))
-
-  pub denies-by_name : DeniesByName old.scene e answer
-  denies-by_name =
-      denial-by_name old.scene (before old.scene e) (needs old.scene e) (after old.scene e) (λ access rules. answer ≡ Reply.Denied access rules)
-      (denied-rejects answer (judged old.scene e) rejects free)
+      rejected-denied answer (judged old.scene e) rejects free
+      ∙ denial-judged old.scene (before old.scene e) (needs old.scene e) (after old.scene e)
 
   pub rejection-unchanged : IsTable old.scene.table → IsTrue (is_rejection answer) → new ≡ old
   rejection-unchanged table h = let s = rejected-rejects answer (judged old.scene e) rejects free h in let only = rejection-only old new e s.0 answer done sound table s.1 step in only.2

@@ -1,38 +1,33 @@
 -- Requests that are served among the moves of a step.
-use Rattle.std.proofs.Common.{◌≡◌, List, [], ◌∷◌, ◌++◌, Option, Some, None, sym, subst, arith, ◌↔◌, ap}
-use Rattle.capsteps.specs.{Caprules.Headline.{DenialIsExact, DenialIsByName}, Lockmachine.Policy.{failures}}
-use Rattle.capcore.proofs.Common.{Access, As_judged, EachServing, first_denied, first_failing, judged_again, Made, Makes, MakesAll, MayEndAs, Need, operation_after, operation_before, operation_needs, Outcome, outcome_unless, Refusal, Rejection, rejection_by, rejection_of, Request, Rule, Scene, Served, ServedByName, ServedDenied, Test, Without_memory}
+use Rattle.std.{proofs.Common.{◌≡◌, List, [], ◌∷◌, ◌++◌, Option, Some, None, is_some, if◌then◌else◌, refl, sym, subst, arith, ◌∙◌, ap}, specs.Option.{option_map}}
+use Rattle.capsteps.specs.{Caprules.Headline.{denial, denied_as}, Lockmachine.Policy.{failures}}
+use Rattle.capcore.proofs.Common.{Access, As_judged, first_denied, first_failing, judged_again, Made, Makes, MakesAll, MayEndAs, Need, operation_after, operation_before, operation_needs, Outcome, outcome_unless, Refusal, Rejection, rejection_by, rejection_of, Request, Rule, Scene, Served, ServedDenied, Test, Without_memory}
 
 -- ---- what is denied
 
-module _ (s : Scene) (tests : List Test) (needed : List Need) (more : List Test) where
-  -- the denial with which an event or a request is rejected that has to pass these
-  abbrev Rejects : Access → List Rule → Type 0
-  Rejects access rules = rejection_of s tests needed more ≡ Some (Rejection.ByPolicy access rules)
+-- the denial among what rejects
+abbrev pub denial_in : Option Rejection → Option (Access × List Rule)
+denial_in (Some (Rejection.ByPolicy access rules)) = Some (access, rules)
+denial_in rejected = None
 
-  why : (o : Option Refusal) (d : Option Need) (l : Option Refusal) (access : Access) (rules : List Rule) → rejection_by s o d l ≡ Some (Rejection.ByPolicy access rules)
-      → (n : Need) × ((o ≡ None) × (d ≡ Some n)) × (access ≡ n.access) × (rules ≡ failures s.fs s.tree s.sessions n.holder n.access)
-  why o d l access rules is = grind arith
+by_policy : (s : Scene) (o : Option Refusal) (d : Option Need) (l : Option Refusal)
+    → denial_in (rejection_by s o d l) ≡ (if is_some o then None else option_map (λ n. (n.access, failures s.fs s.tree s.sessions n.holder n.access)) d)
+by_policy s (Some refusal) d l = refl
+by_policy s None (Some n) l = refl
+by_policy s None None (Some refusal) = refl
+by_policy s None None None = refl
 
-  rejected : (o : Option Refusal) (d : Option Need) (l : Option Refusal) (n : Need) → o ≡ None → d ≡ Some n → rejection_by s o d l ≡ Some (Rejection.ByPolicy n.access (failures s.fs s.tree s.sessions n.holder n.access))
-  rejected o d l n none some = grind arith
-
-  pub denial-by_name : (Denied : Access → List Rule → Type 0) → ((access : Access) (rules : List Rule) → Denied access rules → Rejects access rules) → DenialIsByName s tests needed Denied
-  denial-by_name Denied rejects access rules at = why (first_failing tests) (first_denied s needed) (first_failing more) access rules (rejects access rules at)
-
-  pub denial-exact : (Denied : Access → List Rule → Type 0) → ((access : Access) (rules : List Rule) → Denied access rules ↔ Rejects access rules) → DenialIsExact s tests needed Denied
-  denial-exact Denied is = (
-    (λ h. let w = denial-by_name Denied (λ access rules. (is access rules).0) h.0 h.1 h.2 in (w.0, w.1)),
-    (λ h. let rules = failures s.fs s.tree s.sessions h.0.holder h.0.access in (h.0.access, rules, (is h.0.access rules).1 (rejected (first_failing tests) (first_denied s needed) (first_failing more) h.0 h.1.0 h.1.1))),
-  )
+-- of what rejects an event or a request that has to pass these, the denial
+pub denial-judged : (s : Scene) (tests : List Test) (needed : List Need) (more : List Test) → denial_in (rejection_of s tests needed more) ≡ denial s tests needed
+denial-judged s tests needed more = by_policy s (first_failing tests) (first_denied s needed) (first_failing more)
 
 -- a request that is served
-outcome-denied : (s : Scene) (q : Request) (j : Option Rejection) (access : Access) (rules : List Rule) → outcome_unless s q j ≡ Outcome.Denied access rules → j ≡ Some (Rejection.ByPolicy access rules)
-outcome-denied s q j access rules is = grind arith
+outcome-denied : (s : Scene) (q : Request) (j : Option Rejection) → denied_as (outcome_unless s q j) ≡ denial_in j
+outcome-denied s q j = grind arith
 
-denied-as : (s : Scene) (q : Request) (o : Outcome) → MayEndAs s q o → (access : Access) (rules : List Rule) → (o ≡ Outcome.Denied access rules) ↔ (judged_again s q ≡ Some (Rejection.ByPolicy access rules))
-denied-as s q o (As_judged) access rules = (outcome-denied s q (judged_again s q) access rules, λ is. ap (outcome_unless s q) is)
-denied-as s q o (Without_memory free takes) access rules = ((λ is. absurd (cc)), (λ is. absurd (cc)))
+ended-denied : (s : Scene) (q : Request) (o : Outcome) → MayEndAs s q o → denied_as o ≡ denial_in (judged_again s q)
+ended-denied s q o (As_judged) = outcome-denied s q (judged_again s q)
+ended-denied s q o (Without_memory free takes) = sym (ap denial_in free)
 
 -- ---- each among the moves
 
@@ -54,12 +49,7 @@ may_end first last s (m ∷ ms) (x ∷ xs) later q o (mid, one, rest) splits (mi
     let here : mid' ≡ mid = same_next first mid' mid x one' (subst (λ (m : Made). Makes first m mid) same one) in
     may_end mid last s ms xs later q o rest tail (subst (λ (t : Scene). MakesAll t xs s) here rest')
 
-pub served-denied : (first last : Scene) (moves : List Made) → MakesAll first moves last → EachServing ServedDenied first moves
+pub served-denied : (first last : Scene) (moves : List Made) → MakesAll first moves last → ServedDenied first moves
 served-denied first last moves made earlier later q o s splits there =
-    denial-exact s (operation_before s q.ino.0 q.operation) (operation_needs s q.client q.ino.0 q.operation) (operation_after s q.ino.0 q.operation) (λ access rules. o ≡ Outcome.Denied access rules)
-    (denied-as s q o (may_end first last s moves earlier later q o made splits there))
-
-pub served-by_name : (first last : Scene) (moves : List Made) → MakesAll first moves last → EachServing ServedByName first moves
-served-by_name first last moves made earlier later q o s splits there =
-    denial-by_name s (operation_before s q.ino.0 q.operation) (operation_needs s q.client q.ino.0 q.operation) (operation_after s q.ino.0 q.operation) (λ access rules. o ≡ Outcome.Denied access rules)
-    (λ access rules. (denied-as s q o (may_end first last s moves earlier later q o made splits there) access rules).0)
+    ended-denied s q o (may_end first last s moves earlier later q o made splits there)
+    ∙ denial-judged s (operation_before s q.ino.0 q.operation) (operation_needs s q.client q.ino.0 q.operation) (operation_after s q.ino.0 q.operation)

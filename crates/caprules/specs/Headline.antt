@@ -1,5 +1,5 @@
 -- What the core promises of every step, in the words of its users.
-use Rattle.std.specs.{List.{find, list_any}, Option.{option_map_or}, Prelude.{◌≡◌, ◌==◌, ◌≤◌, ◌↔◌, ℕ, Bool, true, false, ◌||◌, ◌&&◌, IsTrue, IsFalse, List, [], ◌∷◌, ◌++◌, length, map, Option, Some, None}}
+use Rattle.std.specs.{List.{find, list_any}, Option.{option_map, option_map_or}, Prelude.{◌≡◌, ◌==◌, ◌≤◌, ℕ, Bool, true, false, ◌||◌, ◌&&◌, IsTrue, IsFalse, List, [], ◌∷◌, ◌++◌, length, map, Option, Some, None, is_some, if◌then◌else◌}}
 use Rattle.capbits.specs.{Caps.{has}, Refusal.{Test, first_failing}, Sets.{IsSubset, of_part, no_caps}, declared.cap.Cap.{Cap}, declared.cap.Part.{Part}}
 use Rattle.capgrant.specs.declared.{access.Access.{Access}, rule.Rule.{Rule}}
 use Rattle.captable.specs.{Table.{is_row_of}, declared.entry.EntryRow.{EntryRow}, declared.entry.Holder.{Holder}}
@@ -9,53 +9,39 @@ use Rattle.caprules.specs.{Finish.{due}, Judge.{before, needs, first_denied}, Ne
 
 -- ---- denials
 
--- the tests pass, and this is the first of the accesses that has no grant
-abbrev pub IsFirstDenied : Scene → List Test → List Need → Need → Type 0
-IsFirstDenied s tests needed n = (first_failing tests ≡ None) × (first_denied s needed ≡ Some n)
+-- where the tests pass: the first of the accesses that has no grant, and the rule by which each grant fails first
+abbrev pub denial : Scene → List Test → List Need → Option (Access × List Rule)
+denial s tests needed =
+    if is_some (first_failing tests) then None
+    else option_map (λ n. (n.access, failures s.fs s.tree s.sessions n.holder n.access)) (first_denied s needed)
 
--- there is a denial exactly if the tests pass and an access has no grant
-abbrev pub DenialIsExact : Scene → List Test → List Need → (Access → List Rule → Type 0) → Type 0
-DenialIsExact s tests needed Denied =
-    ((access : Access) × (rules : List Rule) × Denied access rules) ↔ ((n : Need) × IsFirstDenied s tests needed n)
+-- the access and the rules of an answer that is a denial
+abbrev pub denied_in : Reply → Option (Access × List Rule)
+denied_in (Reply.Denied access rules) = Some (access, rules)
+denied_in answer = None
 
--- a denial names the first such access, and the rule by which each grant fails first
-abbrev pub DenialIsByName : Scene → List Test → List Need → (Access → List Rule → Type 0) → Type 0
-DenialIsByName s tests needed Denied =
-    (access : Access) (rules : List Rule) → Denied access rules →
-    (n : Need) × IsFirstDenied s tests needed n × (access ≡ n.access) × (rules ≡ failures s.fs s.tree s.sessions n.holder n.access)
+-- and of an outcome that is one
+abbrev pub denied_as : Outcome → Option (Access × List Rule)
+denied_as (Outcome.Denied access rules) = Some (access, rules)
+denied_as outcome = None
 
--- an event is denied exactly if it passes the tests that stand before policy and an access that it needs has no grant
+-- an event is denied exactly if it passes the tests that stand before policy and an access that it needs has no grant; and the
+-- denial names the first such access, and the rule by which each grant fails first
 abbrev pub DeniedExactly : Scene → Event → Reply → Type 0
-DeniedExactly s e answer = DenialIsExact s (before s e) (needs s e) (λ access rules. answer ≡ Reply.Denied access rules)
+DeniedExactly s e answer = denied_in answer ≡ denial s (before s e) (needs s e)
 
--- and it is denied by name
-abbrev pub DeniesByName : Scene → Event → Reply → Type 0
-DeniesByName s e answer = DenialIsByName s (before s e) (needs s e) (λ access rules. answer ≡ Reply.Denied access rules)
+-- so is each request that these moves serve, on the scene in which it is served
+abbrev pub ServedDenied : Scene → List Made → Type 0
+ServedDenied first moves =
+    (before_it behind_it : List Made) (q : Request) (o : Outcome) (s : Scene) →
+    moves ≡ before_it ++ Served q o ∷ behind_it → MakesAll first before_it s →
+    denied_as o ≡ denial s (operation_before s q.ino.0 q.operation) (operation_needs s q.client q.ino.0 q.operation)
 
 -- whether the answer is a denial or a refusal
 abbrev pub is_rejection : Reply → Bool
 is_rejection (Reply.Denied access rules) = true
 is_rejection (Reply.Refused refusal) = true
 is_rejection answer = false
-
--- ---- denials of requests that waited
-
--- a request that is served is denied exactly if it passes the tests that stand before policy and an access that it needs has
--- no grant at that moment
-abbrev pub ServedDenied : Scene → Request → Outcome → Type 0
-ServedDenied s q o =
-    DenialIsExact s (operation_before s q.ino.0 q.operation) (operation_needs s q.client q.ino.0 q.operation) (λ access rules. o ≡ Outcome.Denied access rules)
-
--- and it is denied by name
-abbrev pub ServedByName : Scene → Request → Outcome → Type 0
-ServedByName s q o =
-    DenialIsByName s (operation_before s q.ino.0 q.operation) (operation_needs s q.client q.ino.0 q.operation) (λ access rules. o ≡ Outcome.Denied access rules)
-
--- so it is of each serving among the moves, on the scene in which it was made
-abbrev pub EachServing : (Scene → Request → Outcome → Type 0) → Scene → List Made → Type 0
-EachServing Fact first moves =
-    (before_it behind_it : List Made) (q : Request) (o : Outcome) (s : Scene) →
-    moves ≡ before_it ++ Served q o ∷ behind_it → MakesAll first before_it s → Fact s q o
 
 -- ---- the moves of a step
 
@@ -100,8 +86,9 @@ IssuesExactly first last = (k : Holder) (cap : Cap) → holds last k cap ≡ (ho
 abbrev pub IsInRow : EntryRow → Part → StableState → Type 0
 IsInRow row part state = IsSubset (of_part part row.entry.held) (row_of part state row.holder.client)
 
--- what it holds of the part outside the row of this state is being revoked, and keeps a gather to this state open. This
--- follows from the definitions `against` and `is_open` alone, and explains them: what a step could break is the row
+-- what it holds of the part outside the row of this state is being revoked, and keeps a gather to this state open. This holds
+-- by the definition of "being revoked" (`against`, `is_open`) in every scene: no step could break it. What refuses a wrong step
+-- is the row
 abbrev pub IsRevoked : Scene → EntryRow → Part → StableState → Type 0
 IsRevoked s row part to =
     (cap : Cap) → IsTrue (has (of_part part row.entry.held) cap) → IsFalse (has (row_of part to row.holder.client) cap) →
@@ -120,8 +107,9 @@ AreInPlace s =
     (row : EntryRow) (part : Part) → find (is_row_of row.holder) s.table.rows ≡ Some row →
     IsInPlace s row part (lock_at s.locks row.holder.ino.0 part)
 
--- what is held and is not permitted, by the grants of now and where the inode stands now, is being revoked. This
--- follows from the definition of `against`; what clients know of it is said in `Shown`
+-- what is held and is not permitted, by the grants of now and where the inode stands now, is being revoked. This holds by the
+-- definition of "being revoked" (`against`) in every scene: no step could break it. What refuses a wrong step is what its client
+-- was shown (`ShowsWhatIsTold`, `ShowsOnlyPermitted`)
 abbrev pub AreRevoked : Scene → Type 0
 AreRevoked s =
     (row : EntryRow) (cap : Cap) → find (is_row_of row.holder) s.table.rows ≡ Some row → IsTrue (has row.entry.held cap) →

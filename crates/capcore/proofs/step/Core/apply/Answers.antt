@@ -1,6 +1,6 @@
 use Rattle.std.proofs.Common.{◌≡◌, ◌+◌, ◌++◌, ◌∷◌, [], List, length, refl, ap, sym, subst, ◌∙◌}
 use Rattle.capsteps.{proofs.Placed.{all-revoked}, specs.Caprules.History.{made_row}}
-use Rattle.capcore.{proofs.Apart.{held-apart}, proofs.Bounded.{direct-order, moves-bounded}, proofs.Common.{direct, IsAnswered, IsSound, Recorded, recorded, Reply, Row, rows_of, Scene, ShowsWhatIsTold, State, Step, step-shown}, proofs.Growing.{more-recorded, replays-more}, proofs.Kept.{IsKept, recorded-kept}, proofs.OtherLocks.{other-locks}, proofs.Promised.{denied-exactly, denies-by_name, rejection-unchanged}, proofs.Servings.{served-denied, served-by_name}, proofs.ShownWords.{takes-only_so, shows-told, shows-permitted, all-takes_unshown}, proofs.step.Core.apply.Goals.{In-Ok}, specs.Promised.{IsPromised}}
+use Rattle.capcore.{proofs.Apart.{held-apart}, proofs.Bounded.{direct-order, moves-bounded}, proofs.Common.{direct, IsAnswered, IsSound, Recorded, recorded, Reply, Row, rows_of, Scene, ShowsWhatIsTold, State, Step, step-shown}, proofs.Growing.{more-recorded, replays-more}, proofs.Kept.{IsKept, recorded-kept}, proofs.OtherLocks.{other-locks}, proofs.Promised.{denied-exactly, rejection-unchanged}, proofs.Servings.{served-denied}, proofs.ShownWords.{takes-only_so, shows-told, shows-permitted, all-takes_unshown}, proofs.step.Core.apply.Goals.{In-Ok}, specs.Promised.{IsPromised}}
 use Rattle.capcore.proofs.step.Core.apply.Goals as goal
 
 pub step-requires-clause-table : goal.step-requires-clause-table
@@ -81,9 +81,7 @@ promised c =
     let made = by.settles.made in record {
       next = record { moves = one.0; ended = ended; step = by; rows = ap (λ (row : Row). rows ++ row ∷ []) (row_is c); max_rows = refl };
       denied = denied-exactly old event reply ended new one c.self.invariant.sound locks;
-      named = denies-by_name old event reply ended new one c.self.invariant.sound locks;
       served_denied = served-denied first by.settled one.0 made;
-      served_named = served-by_name first by.settled one.0 made;
       bounded = moves-bounded first one.0 by.settled (direct-order old event locks) made;
       other_locks = other-locks old event one.0 reply ended new by;
       issued = all.issued;
