@@ -6,16 +6,12 @@ use Rattle.capbits.specs.{Caps.{Caps}, Sets.{meet}}
 use Rattle.inotree.specs.{InoSets.{InoSet}, Tree.{Nodes}}
 use Rattle.captable.specs.{Calls.{issued, renumbered}, declared.entry.Entry.{Entry}, declared.entry.EntryRow.{EntryRow}, declared.entry.Holder.{Holder}}
 use Rattle.sessiontab.specs.Table.{SessionTable}
-use Rattle.caprules.specs.Lockmachine.{Inodes.{StateMap}, Policy.{permitted}, Wants.{effective_want}, declared.states.InodeLocks.{InodeLocks}}
-pub use Rattle.caprules.specs.Lockmachine.Under.{allowed_under, told_under}
+use Rattle.caprules.specs.Lockmachine.{Inodes.{StateMap}, Policy.{permitted}, declared.states.InodeLocks.{InodeLocks}}
+pub use Rattle.caprules.specs.{Finish.{due_under}, Lockmachine.Under.{told_under}}
 
 -- the clients of these entries
 abbrev pub clients_of : List EntryRow → List ℕ
 clients_of rows = each (λ row. row.holder.client.0) rows
-
--- what its client effectively wants and the locks allow
-abbrev pub due_under : List ℕ → Nodes → SessionTable → Option InodeLocks → EntryRow → Caps
-due_under fs tree sessions locks row = meet (effective_want fs tree sessions row) (allowed_under locks row)
 
 -- the entry, once this was issued: it has a new number if its client is told of another set than was known, so far as it still
 -- held that

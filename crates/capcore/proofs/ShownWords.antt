@@ -1,8 +1,8 @@
 -- What numbers say of what was shown, in the words of users.
 use Rattle.std.{proofs.Common.{◌≡◌, ◌≤◌, ℕ, Bool, true, false, cond, not, ◌&&◌, Contains, List, Some, None, refl, sym, ap, subst, ◌∙◌, arith, ◌==◌, ◌||◌, inl, inr, Option, take, true≢false}, proofs.lemmas.Bool.{ltb-false, cases_Bool, or_parts, true_from_ne_false}, proofs.lemmas.List.Elements.{All-contains}, specs.Option.{option_map, option_map_or}}
 use Rattle.capbits.specs.{Sets.{has-minus}, declared.cap.Cap.TheVariants.{P}}
-use Rattle.captable.{proofs.ByHolder.{entry_at-changed_other, entry_at-acked_other, entry_at-released, entry_at-released_other, entry_at-recalled, entry_at-recalled_other, entry_at-changed}, proofs.Tables.{same-is}, specs.Calls.{without_acked, without, acked, released, with_asked, changed}}
-use Rattle.capsteps.{proofs.Lockmachine.Told.{has-against, has-told, pin-takes_all}, proofs.Placed.{told-permitted}, proofs.Revoking.{revoked-found}, proofs.ShownSteps.{at, apart-of, entry_at-entry_other}, specs.Capevents.declared.event.OpenMode.{OpenMode}, specs.Caprules.Direct.{with_entry, with_opening}, specs.Caprules.Headline.{is_due, holds}, specs.Caprules.Shown.{AreShown, ShowsOnlyPermitted, TakesUnshown, shown_of, may_take, TakesOnlySo}, specs.Lockmachine.Revoked.{is_revoked}, specs.Lockmachine.Scene.{against}}
+use Rattle.captable.{proofs.ByHolder.{entry_at-changed_other, entry_at-acked_other, entry_at-released, entry_at-released_other, entry_at-recalled, entry_at-recalled_other, entry_at-changed}, proofs.Tables.{same-is}, specs.Calls.{without_acked, without, acked, released, with_asked, with_entry, changed}}
+use Rattle.capsteps.{proofs.Lockmachine.Told.{has-against, has-told, pin-takes_all}, proofs.Placed.{told-permitted}, proofs.Revoking.{revoked-found}, proofs.ShownSteps.{at, apart-of, entry_at-entry_other}, specs.Capevents.declared.event.OpenMode.{OpenMode}, specs.Caprules.Direct.{with_opening}, specs.Caprules.Headline.{is_due, holds}, specs.Caprules.Shown.{AreShown, ShowsOnlyPermitted, TakesUnshown, shown_of, may_take, TakesOnlySo}, specs.Lockmachine.Revoked.{is_revoked}, specs.Lockmachine.Scene.{against}}
 use Rattle.capcore.proofs.Common.{Ack, apart_client, Cap, Caps, child, ClientId, Direct, direct, effect, effect_unless, Entry, entry_at, entry_at-without_client_other, EntryRow, Event, found, found-contains, has, Holder, holder, Ino, is_among, is_row_of, IsSound, IsSoundEntry, IssuesExactly, judged, recalled, Rejection, revoked_of, Row, row_of-entry, same, Scene, ShowsWhatIsTold, State, Table, without_client}
 
 pub shows-told : (rows : List Row) (s : State) → IsSound s → AreShown rows s.scene → ShowsWhatIsTold rows s.scene

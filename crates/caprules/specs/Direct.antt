@@ -1,10 +1,10 @@
 -- What an event does by itself, before any lock moves; and what it answers and shows, some of it once all has moved.
-use Rattle.std.specs.{List.{find}, Prelude.{◌≡◌, ℕ, ◌+◌, List, [], ◌∷◌, map as each, filter, not, take, Option, Some, None, is_some, unwrap_or, if◌then◌else◌}}
+use Rattle.std.specs.{List.{find}, Prelude.{◌≡◌, ℕ, ◌+◌, List, [], ◌∷◌, map as each, filter, not, take, Option, Some, None, unwrap_or}}
 use Rattle.std.specs.FinMap as map
 use Rattle.capbits.specs.{Caps.{Caps}, Sets.{caps_in, union}, declared.cap.Cap.TheVariants.{P, Fs, Fx, Fc, Fr, Fw, Fb}, declared.ids.ClientId.{ClientId}, declared.ids.Ino.{Ino}, declared.ids.Ticket.{Ticket}, declared.mode.Mode.{Mode}}
 use Rattle.capgrant.specs.declared.access.Attr.{Attr}
 use Rattle.inotree.specs.{Calls.{with_new, changed}, Inodes.{with_snapshot, without_snapshot}, Tree.{Nodes, child}, declared.node.Kind.{Kind}, declared.node.Kind.TheVariants.{Directory, File}}
-use Rattle.captable.specs.{Calls.{opened, wanting, acked, released, touched, with_told, recalled, without_client, changed as changed_entry}, Table.{Table, holder, is_row_of, entry_at}, declared.entry.EntryRow.{EntryRow}, declared.entry.Holder.{Holder}}
+use Rattle.captable.specs.{Calls.{with_entry, wanting, acked, released, touched, with_told, recalled, without_client, changed as changed_entry}, Table.{Table, holder, is_row_of}, declared.entry.EntryRow.{EntryRow}, declared.entry.Holder.{Holder}}
 use Rattle.sessiontab.specs.{Calls.{with_session, without_session, with_status, with_grants, with_evicted, without_blocked}, Table.{SessionTable}, declared.session.Session.{Session}}
 use Rattle.capnotes.specs.{Capevents.Replies.{outcome_reply}, Capevents.declared.event.Event.{Event}, Capevents.declared.event.OpenMode.{OpenMode}, Capevents.declared.outcome.Ended.{Ended}, Capevents.declared.reply.Reply.{Reply}, Changing.{tree_changed}, DueEndings.{is_of_ticket, is_to}, Lockmachine.Locks.{with_ino, with_request, requests_of, without_requests_of}, Lockmachine.Scene.{told_set}, Lockmachine.declared.request.Change.{Change}, Lockmachine.declared.request.Operation.{Operation}, Lockmachine.declared.request.Operation.TheVariants.{Get, Alter, Unlink, Rmdir, Rename}, Lockmachine.declared.scene.Scene.{Scene}}
 use Rattle.caprules.specs.{Judge.{judged, rejection_reply, revoked_of}, Messages.{first_messages, with_given}, Serving.{dropped_of}, State.{State}, declared.rejection.Rejection.{Rejection}}
@@ -90,10 +90,6 @@ abbrev pub opening_wants : OpenMode → Caps
 opening_wants OpenMode.Read = caps_in (P ∷ Fs ∷ Fc ∷ Fr ∷ [])
 opening_wants OpenMode.Write = caps_in (P ∷ Fx ∷ Fw ∷ Fb ∷ [])
 opening_wants OpenMode.ReadWrite = caps_in (P ∷ Fs ∷ Fx ∷ Fc ∷ Fr ∷ Fw ∷ Fb ∷ [])
-
--- the table with the holder's entry, made where there is none
-abbrev pub with_entry : Table → Holder → Table
-with_entry table k = if is_some (entry_at table k) then table else opened table k
 
 -- the holder's entry wants something else, and comes last in the order of recall
 abbrev pub with_want : Table → Holder → (Caps → Caps) → Table

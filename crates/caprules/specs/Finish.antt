@@ -1,13 +1,12 @@
 -- What a step does once the locks have settled: where a size was changed, it is to be told; then it issues what may be held,
 -- forgets strays that nobody has an entry on, and numbers what changed.
-use Rattle.std.specs.{List.{find, list_any}, Prelude.{ℕ, Bool, true, not, ◌||◌, List, [], ◌∷◌, map, Option, Some, None, if◌then◌else◌}}
+use Rattle.std.specs.{List.{find, list_any}, Option.{option_map_or}, Prelude.{ℕ, Bool, true, not, ◌||◌, List, map, Option, if◌then◌else◌}}
 use Rattle.std.specs.FinMap as finite
-use Rattle.capbits.specs.{Caps.{Caps, has}, Sets.{no_caps, caps_in, union, meet}, declared.cap.Cap.TheVariants.{P, Fc}, declared.cap.Part.{Part}, declared.cap.Part.TheVariants.{A, L, X, F}, declared.ids.Ino.{Ino}}
-use Rattle.inotree.specs.Tree.{presence}
+use Rattle.capbits.specs.{Caps.{Caps, has}, Sets.{no_caps, meet}, declared.cap.Cap.TheVariants.{Fc}, declared.ids.Ino.{Ino}}
+use Rattle.inotree.specs.{Tests.{is_gone}, Tree.{Nodes, presence}}
 use Rattle.captable.specs.{Calls.{issued, renumbered, with_size_due, is_of_inode}, Many.{changed_where}, Table.{is_row_of}, declared.entry.Entry.{Entry}, declared.entry.EntryRow.{EntryRow}}
-use Rattle.capnotes.specs.Lockmachine.{Locks.{lock_at}, Scene.{told_set}, Wants.{effective_want}, declared.scene.Scene.{Scene}}
-pub use Rattle.capnotes.specs.Lockmachine.Under.{allowed_by}
-use Rattle.inotree.specs.Tests.{is_gone}
+use Rattle.sessiontab.specs.Table.{SessionTable}
+use Rattle.capnotes.specs.Lockmachine.{Scene.{told_set}, Under.{allowed_under}, Wants.{effective_want}, declared.scene.Scene.{Scene}, declared.states.InodeLocks.{InodeLocks}}
 
 -- ---- sizes
 
@@ -26,18 +25,13 @@ sizes_owed sized s = record s { table = changed_where (is_sized sized) owed s.ta
 
 -- ---- issue
 
-abbrev pub allowed_part : Scene → EntryRow → Part → Caps
-allowed_part s row part = allowed_by part row (lock_at s.locks row.holder.ino.0 part)
+-- what the entry's client effectively wants, and these locks of its inode allow
+abbrev pub due_under : List ℕ → Nodes → SessionTable → Option InodeLocks → EntryRow → Caps
+due_under fs tree sessions locks row = meet (effective_want fs tree sessions row) (allowed_under locks row)
 
--- what the locks let the entry's client hold, and the pin always
-abbrev pub allowed_to : Scene → EntryRow → Caps
-allowed_to s row =
-    union (caps_in (P ∷ []))
-    (union (allowed_part s row A) (union (allowed_part s row L) (union (allowed_part s row X) (allowed_part s row F))))
-
--- what the entry's client effectively wants and the locks allow
+-- and by the locks of the scene
 abbrev pub due : Scene → EntryRow → Caps
-due s row = meet (effective_want s.fs s.tree s.sessions row) (allowed_to s row)
+due s row = due_under s.fs s.tree s.sessions (finite.get s.locks.states row.holder.ino.0) row
 
 -- the entry gains it
 abbrev pub issue_row : Scene → EntryRow → EntryRow
@@ -62,21 +56,19 @@ forget s = record s {
 
 -- ---- numbers
 
--- of what an entry still holds right after the event, what was not being revoked when the event came, by the locks, the tree and
--- the grants of then; an entry that the event made holds nothing
-abbrev pub told_before : Scene → Option EntryRow → Caps
-told_before old None = no_caps
-told_before old (Some row) = told_set old row
+-- what its client knew and still holds: what this row, which stands behind the event, holds and was not being revoked before it
+abbrev pub still_known : Scene → Option EntryRow → Caps
+still_known before row = option_map_or (told_set before) row no_caps
 
--- the entry, renumbered where its client is to know at the end of another set than was known so
+-- the entry, renumbered where its client is to know another set in the last scene
 abbrev pub number_row : Scene → Scene → Scene → EntryRow → EntryRow
-number_row old first last row =
-    record row { entry = renumbered (told_before old (find (is_row_of row.holder) first.table.rows)) (told_set last row) row.entry }
+number_row before behind last row =
+    record row { entry = renumbered (still_known before (find (is_row_of row.holder) behind.table.rows)) (told_set last row) row.entry }
 
 -- of each entry
 abbrev pub number : Scene → Scene → Scene → Scene
-number old first last = record last { table = record last.table { rows = map (number_row old first last) last.table.rows } }
+number before behind last = record last { table = record last.table { rows = map (number_row before behind last) last.table.rows } }
 
--- the end of a step: from the scene before the event, the one after it, and the one in which the locks have settled
+-- the end of a step: from the scenes before and behind the event, and the one in which the locks have settled
 abbrev pub finished : Scene → Scene → Scene → Scene
-finished old first settled = number old first (forget (issue settled))
+finished before behind settled = number before behind (forget (issue settled))

@@ -11,17 +11,14 @@ earlier last ended = filter (λ m. nat_le m.ticket.0 last) ended
 abbrev pub all_ended : State → Direct → List Made → List Ended
 all_ended old d moves = d.dropped ++ earlier old.scene.locks.last (ended_in moves)
 
--- the state at the end, but for what the answer tells. What the event dropped is told to nobody, as the session of its client
--- has ended
-abbrev pub state_after : State → Direct → List Made → Scene → State
-state_after old d moves settled = record d.state {
-  scene = finished old.scene d.state.scene (sizes_owed (sized_in moves) settled);
-  messages = d.state.messages ++ earlier old.scene.locks.last (ended_in moves);
-}
-
--- and so it is at the end of a step by these moves that leads to this scene, where the state was `affected` right after the event
+-- the state at the end of a step by these moves that leads to this scene, but for what the answer tells, where the state was
+-- `affected` right after the event. What the event dropped is told to nobody, as the session of its client has ended
 abbrev pub state_at_end : State → State → List Made → Scene → State
 state_at_end old affected moves last = record affected { scene = last; messages = affected.messages ++ earlier old.scene.locks.last (ended_in moves) }
+
+-- and where these moves have settled the locks
+abbrev pub state_after : State → Direct → List Made → Scene → State
+state_after old d moves settled = state_at_end old d.state moves (finished old.scene d.state.scene (sizes_owed (sized_in moves) settled))
 
 -- a step by these moves
 pub record StepBy (old : State) (e : Event) (moves : List Made) (answer : Reply) (ended : List Ended) (new : State) : Type 0 where

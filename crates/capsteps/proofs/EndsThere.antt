@@ -3,7 +3,7 @@ use Rattle.std.{proofs.Common.{◌≡◌, ℕ, ◌==◌, Bool, true, false, cond
 use Rattle.std.specs.FinMap as finite
 use Rattle.capbits.specs.Caps.{has}
 use Rattle.capacts.proofs.Lockmachine.Told.{told-same}
-use Rattle.capsteps.{proofs.Common.{AreKnown, Cap, Caps, due, Entry, entry_at, entry_of, EntryRow, find-map, find_passes, finished, forget, has-union, Holder, is_gone, is_in_use, is_of_inode, is_row_of, IsSound, IsSoundEntry, IsSubset, issue, issue_row, IssuesExactly, IsTable, IsTree, known_anew, known_of, KnownAnew, KnownSets, lock_at, lock_in, Made, meet, number_row, or_inside, Part, permitted, permitted-kept, presence, remade, renumbered, row_found, same, same-is, Scene, State, Table, told_before, told_set}, proofs.Finishing.{each-alike, same-issue_row, same-renumbered, kept_by}, proofs.Forgotten.{due-left}, proofs.LeftAlone.{found-contains}, proofs.Moved.{moved-all}, proofs.SameOff.{row_elsewhere, any_elsewhere, IsSameFrom, from-first}, proofs.Strays.{retained-here, kept-held, goes, alike-retained}, proofs.Telling.{any-map_same}, specs.Affected.{Affects, SettlesAt, Knows, stays, told_then, finished_entry, finished_at}}
+use Rattle.capsteps.{proofs.Common.{AreKnown, Cap, Caps, due, Entry, entry_at, entry_of, EntryRow, find-map, find_passes, finished, forget, has-union, Holder, is_gone, is_in_use, is_of_inode, is_row_of, IsSound, IsSoundEntry, IsSubset, issue, issue_row, IssuesExactly, IsTable, IsTree, known_anew, known_of, KnownAnew, KnownSets, lock_at, lock_in, Made, meet, number_row, or_inside, Part, permitted, permitted-kept, presence, remade, renumbered, row_found, same, same-is, Scene, State, Table, still_known, told_set}, proofs.Finishing.{each-alike, same-issue_row, same-renumbered, kept_by}, proofs.Forgotten.{due-left}, proofs.LeftAlone.{found-contains}, proofs.Moved.{moved-all}, proofs.SameOff.{row_elsewhere, any_elsewhere, IsSameFrom, from-first}, proofs.Strays.{retained-here, kept-held, goes, alike-retained}, proofs.Telling.{any-map_same}, specs.Affected.{Affects, SettlesAt, Knows, stays, told_then, finished_entry, finished_at}}
 
 -- ---- an entry at the end
 
@@ -107,8 +107,8 @@ module _ (at : ℕ → Bool) (known : Holder → Caps) (old : State) (now : Scen
 
   numbered_row : (row : EntryRow) → Contains now.table.rows row → number_row old.scene now last (issue_row now row) ≡ remade (finished_entry known now) row
   numbered_row row inside =
-      let before : told_before old.scene (find (is_row_of row.holder) now.table.rows) ≡ meet (known row.holder) row.entry.held =
-      ap (told_before old.scene) (row_found now.table row is_table inside) ∙ sym (knows row inside) in
+      let before : still_known old.scene (find (is_row_of row.holder) now.table.rows) ≡ meet (known row.holder) row.entry.held =
+      ap (still_known old.scene) (row_found now.table row is_table inside) ∙ sym (knows row inside) in
       λ i. record row { entry = renumbered (before i) (told_last row inside (issue_row now row).entry i) (issue_row now row).entry }
 
   -- elsewhere none has another number

@@ -4,7 +4,7 @@ use Rattle.std.specs.FinMap as finite
 use Rattle.capbits.specs.Caps.{has}
 use Rattle.inotree.specs.declared.node.Presence.{Presence}
 pub use Rattle.capacts.proofs.Held.{same-renumbered}
-use Rattle.capsteps.proofs.Common.{due, Entry, EntryRow, finished, forget, Gone, has-union, is_gone, is_row_of, IsSound, IsSoundEntry, IsSubset, issue, issue_row, IsTable, number, number_row, or_inside, row_found, same_caps, Scene, settled, Settles, sizes_owed, State, told_before, told_set, union}
+use Rattle.capsteps.proofs.Common.{due, Entry, EntryRow, finished, forget, Gone, has-union, is_gone, is_row_of, IsSound, IsSoundEntry, IsSubset, issue, issue_row, IsTable, number, number_row, or_inside, row_found, same_caps, Scene, settled, Settles, sizes_owed, State, still_known, told_set, union}
 
 -- ---- lists of rows that stay
 
@@ -32,7 +32,7 @@ same-issue_row s row all =
 -- ---- numbers
 
 same-number_row : (old s : Scene) (row : EntryRow) → find (is_row_of row.holder) s.table.rows ≡ Some row → told_set old row ≡ told_set s row → number_row old s s row ≡ row
-same-number_row old s row found told = ap (λ (e : Entry). record row { entry = e }) (same-renumbered _ _ row.entry (ap (told_before old) found ∙ told))
+same-number_row old s row found told = ap (λ (e : Entry). record row { entry = e }) (same-renumbered _ _ row.entry (ap (still_known old) found ∙ told))
 
 -- ---- strays
 

@@ -1,12 +1,19 @@
 -- What the end of a step makes of an entry on an inode that it affected: it gains what is due, which its locks allow, and its number may rise.
 use Rattle.std.{proofs.Common.{◌≡◌, ◌≤◌, ℕ, ◌+◌, Bool, true, false, not, cond, ◌&&◌, ◌||◌, Option, Some, List, [], ◌∷◌, refl, sym, ap, subst, ◌∙◌, ◌⊎◌, arith, ◌==◌, map as each, filter, if◌then◌else◌}, proofs.lemmas.Bool.{or_left}, proofs.lemmas.Simd.{map-map}, specs.List.{list_any}}
+use Rattle.std.specs.FinMap as map
 use Rattle.capbits.{proofs.Covering.{one_part, same_cap-pin}, specs.Caps.{has}, specs.Sets.{no_caps, covers}}
 use Rattle.locktable.specs.Rows.{allowed_of, allowed_covers}
 use Rattle.sessiontab.specs.{Calls.{status_of}, Tests.{is_open as is_open_status}}
-use Rattle.capacts.specs.Caprules.Finish.{allowed_part, allowed_by}
-use Rattle.capsteps.{proofs.Common.{allowed_to, and_parts, Cap, Caps, caps_in, changed_where, due, effective_want, Entry, EntryRow, filter-map, Gather, has-caps_in, has-meet, has-minus, has-none, has-of_part, has-union, Holder, is_empty, is_of_inode, is_open, IsAtRest, IsInRow, IsQuiet, lock_at, LockState, meet, Nodes, of_part, outside, P, Part, permitted, remade, row_of, same_caps, Scene, second_true, SessionTable, StableState, union, wants}, specs.Affected.{finished_entry}}
+use Rattle.capacts.specs.Lockmachine.Under.{allowed_by, allowed_under}
+use Rattle.capsteps.{proofs.Common.{and_parts, Cap, Caps, caps_in, changed_where, due, effective_want, Entry, EntryRow, filter-map, Gather, has-caps_in, has-meet, has-minus, has-none, has-of_part, has-union, Holder, is_empty, is_of_inode, is_open, IsAtRest, IsInRow, IsQuiet, lock_at, LockState, meet, Nodes, of_part, outside, P, Part, permitted, remade, row_of, same_caps, Scene, second_true, SessionTable, StableState, union, wants}, specs.Affected.{finished_entry}}
 
 -- ---- what the locks allow of a part
+
+abbrev allowed_part : Scene → EntryRow → Part → Caps
+allowed_part s row part = allowed_by part row (lock_at s.locks row.holder.ino.0 part)
+
+abbrev allowed_to : Scene → EntryRow → Caps
+allowed_to s row = allowed_under (map.get s.locks.states row.holder.ino.0) row
 
 part_covers : (s : Scene) (row : EntryRow) (part : Part) (c : Cap) → has (allowed_part s row part) c ≡ true → covers c part ≡ true
 part_covers s row part c h = grind (arith, has-none, allowed_covers)

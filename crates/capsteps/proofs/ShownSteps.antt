@@ -4,7 +4,7 @@ use Rattle.capbits.specs.Caps.{has}
 use Rattle.inotree.specs.Tree.{child}
 use Rattle.captable.{proofs.ByHolder.{entry_at-changed, entry_at-without_client, entry_at-without_client_other, entry_at-recalled, entry_at-recalled_other, entry_at-without_other, entry_at-changed_other}, proofs.Shown.{shown-numbered, shown-less, shown-told}, specs.Calls.{recalled, without_client, released}, specs.Shown.{IsShown}}
 use Rattle.capacts.{proofs.Lockmachine.Exact.{settled as at_rest_settled}, specs.Capevents.declared.row.Row.{Row}, specs.Caprules.Direct.{with_wanted, found, opened_as, with_opening}, specs.Caprules.Messages.{messages_to, end_message}, specs.Caprules.Shown.{AreShown, shown_by, shown_of, shown_opened, shown_in}}
-use Rattle.capsteps.proofs.{Common.{acked, after_messages, against, Caps, changed, ClientId, contains-filter, Direct, direct, effect, effect_unless, end_messages, Ended, ended_in, Entry, entry_at, entry_at-opened_other, entry_at-without, entry_of, EntryRow, Event, Fc, find-map, first_messages, forget, Gives, has-against, has-minus, has-told, Holder, holder, Ino, is_among, is_caps_of, is_of_client, is_recall_of, is_revoked, is_row_of, is_size_of, is_sized, is_to, IsSound, issue, issue_row, IsTable, judged, Made, Message, minus, no_entry, number_row, opened, OpenMode, owed, P, Rejection, rejection_reply, remade, renumbered, Reply, reply_of, revoked_of, row_found, row_messages, row_of-entry, same, same-is, same_caps, same_equiv, same_holder, Scene, Settles, shown, Shows, sized_if, sized_in, sizes_owed, State, state_after, Step, Table, told_before, told_if, told_set, touched, unasked_if, with_asked, with_entry, with_size_due, with_told, without, without_acked, without_released}, EndsThere.{held-renumbered}, Finishing.{sound-ends}, LeftAlone.{found-contains}, Moved.{moved-all}, Rejecting.{no_moves, rejection-only}, Revoking.{revoked-found}, Telling.{given_fields, given-fields}}
+use Rattle.capsteps.proofs.{Common.{acked, after_messages, against, Caps, changed, ClientId, contains-filter, Direct, direct, effect, effect_unless, end_messages, Ended, ended_in, Entry, entry_at, entry_at-opened_other, entry_at-without, entry_of, EntryRow, Event, Fc, find-map, first_messages, forget, Gives, has-against, has-minus, has-told, Holder, holder, Ino, is_among, is_caps_of, is_of_client, is_recall_of, is_revoked, is_row_of, is_size_of, is_sized, is_to, IsSound, issue, issue_row, IsTable, judged, Made, Message, minus, no_entry, number_row, opened, OpenMode, owed, P, Rejection, rejection_reply, remade, renumbered, Reply, reply_of, revoked_of, row_found, row_messages, row_of-entry, same, same-is, same_caps, same_equiv, same_holder, Scene, Settles, shown, Shows, sized_if, sized_in, sizes_owed, State, state_after, Step, Table, still_known, told_if, told_set, touched, unasked_if, with_asked, with_entry, with_size_due, with_told, without, without_acked, without_released}, EndsThere.{held-renumbered}, Finishing.{sound-ends}, LeftAlone.{found-contains}, Moved.{moved-all}, Rejecting.{no_moves, rejection-only}, Revoking.{revoked-found}, Telling.{given_fields, given-fields}}
 
 abbrev pub at : Holder → Entry → EntryRow
 at k e = record { holder = k; entry = e }
@@ -238,7 +238,7 @@ module _ (old : State) (sound : IsSound old) (table : IsTable old.scene.table) (
         let now_told : Caps = told_set ended (at k more) in
         let says = known o.0 there in
         let same : numbers more ≡ numbers o.0 = ap numbers m.2 ∙ ap numbers o.2 ∙ numbers-owed (at k o.0) (is_sized (sized_in moves) (at k o.0)) (has o.0.held Fc) in
-        let e_is : e ≡ renumbered then_told now_told more = n.2 ∙ ap (λ (caps : Caps). renumbered caps now_told more) (ap (told_before old.scene) (row_of-entry first.table k o.0 there)) in
+        let e_is : e ≡ renumbered then_told now_told more = n.2 ∙ ap (λ (caps : Caps). renumbered caps now_told more) (ap (still_known old.scene) (row_of-entry first.table k o.0 there)) in
         subst (λ (x : Entry). IsShown was (told_set st.scene (at k x)) x) (sym e_is)
         (subst (λ (now : Caps). IsShown was now (renumbered then_told now_told more)) (sym (told-held st.scene k more (renumbered then_told now_told more) (held-renumbered then_told now_told more)))
         (shown-numbered was then_told now_told more (subst (λ (n : ℕ × (ℕ × ℕ)). n.1.1 ≤ n.0) (sym same) says.below) (same-numbers was then_told o.0 more same says.says)))

@@ -3,8 +3,8 @@ use Rattle.std.{proofs.Common.{◌≡◌, ◌≤◌, ℕ, ◌+◌, ◌==◌, Boo
 use Rattle.std.specs.FinMap as map
 use Rattle.capbits.specs.Caps.{has}
 use Rattle.captable.proofs.Searches.{find-filter_kept}
-use Rattle.capacts.{proofs.Lockmachine.Rest.{at_rest}, specs.Caprules.Step.{earlier}}
-use Rattle.capsteps.{proofs.Common.{allowed_to, AreGiven, Caps, ClientId, due, ended_in, EntryRow, Gone, has_session, Holder, is_of_inode, is_row_of, IsAtRest, IsInRow, IsLockMap, IsSound, IsSoundEntry, IsSubset, IsTable, IsTree, Made, meet, P, Part, presence, row_found, same-is, Scene, SessionTable, State, state_at_end, Table}, proofs.EndsThere.{off_due}, proofs.EntryRequests.{IsKeptEntry, kept-left, kept-row}, proofs.Forgotten.{all_rows, sound-forgotten}, proofs.IssuedRows.{ended_row, want-ended, told-ended, revoked-ended, seq-ended, effective-ended, holds-due, holds-pin, in_row-ended, on_it, last_row, issued_at, by_place, of_inode-last, rest-issued}, proofs.Moved.{IsMoved, moved-all, nobody-moved, all-waiting, Waited, ended-waited, nothing-served}, proofs.SameOff.{not-among, row_elsewhere, any_elsewhere, IsSameFrom, from-first}, proofs.Telling.{any-map_same}, specs.Affected.{Affects, SettlesAt, Knows, finished_at, IsAffectedEntry}}
+use Rattle.capacts.{proofs.Lockmachine.Rest.{at_rest}, specs.Caprules.Step.{earlier}, specs.Lockmachine.Under.{allowed_under}}
+use Rattle.capsteps.{proofs.Common.{AreGiven, Caps, ClientId, due, ended_in, EntryRow, Gone, has_session, Holder, is_of_inode, is_row_of, IsAtRest, IsInRow, IsLockMap, IsSound, IsSoundEntry, IsSubset, IsTable, IsTree, Made, meet, P, Part, presence, row_found, same-is, Scene, SessionTable, State, state_at_end, Table}, proofs.EndsThere.{off_due}, proofs.EntryRequests.{IsKeptEntry, kept-left, kept-row}, proofs.Forgotten.{all_rows, sound-forgotten}, proofs.IssuedRows.{ended_row, want-ended, told-ended, revoked-ended, seq-ended, effective-ended, holds-due, holds-pin, in_row-ended, on_it, last_row, issued_at, by_place, of_inode-last, rest-issued}, proofs.Moved.{IsMoved, moved-all, nobody-moved, all-waiting, Waited, ended-waited, nothing-served}, proofs.SameOff.{not-among, row_elsewhere, any_elsewhere, IsSameFrom, from-first}, proofs.Telling.{any-map_same}, specs.Affected.{Affects, SettlesAt, Knows, finished_at, IsAffectedEntry}}
 
 -- ---- the step
 
@@ -81,7 +81,7 @@ module _ (at from : ℕ → Bool) (known : Holder → Caps) (old affected : Stat
     }
       where
         due_as_before : due last (ended_row known settled row) ≡ due settled row
-        due_as_before = λ i. meet (effective-ended known settled row settled.fs settled.tree settled.sessions i) (allowed_to settled row)
+        due_as_before = λ i. meet (effective-ended known settled row settled.fs settled.tree settled.sessions i) (allowed_under (map.get settled.locks.states row.holder.ino.0) row)
 
     settled_table : IsTable settled.table
     settled_table = subst IsTable (sym moved.table) table

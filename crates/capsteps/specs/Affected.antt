@@ -3,9 +3,9 @@ use Rattle.std.specs.Prelude.{◌≡◌, ◌≤◌, ℕ, Bool, true, false, not,
 use Rattle.std.specs.FinMap as map
 use Rattle.capbits.specs.{Caps.{Caps, has}, Sets.{meet}, declared.cap.Cap.TheVariants.{P}, declared.cap.Part.{Part}, declared.ids.ClientId.{ClientId}}
 use Rattle.inotree.specs.{Alike.{IsAlike}, Calls.{forgotten}, Tree.{presence}}
-use Rattle.captable.specs.{Calls.{entries_on, renumbered}, Many.{changed_where}, Table.{Table, holder}, declared.entry.Entry.{Entry}, declared.entry.EntryRow.{EntryRow}, declared.entry.Holder.{Holder}}
+use Rattle.captable.specs.{Calls.{entries_on}, Many.{changed_where}, Table.{Table, holder}, declared.entry.Entry.{Entry}, declared.entry.EntryRow.{EntryRow}, declared.entry.Holder.{Holder}}
 use Rattle.sessiontab.specs.Calls.{has_session}
-use Rattle.capacts.specs.{Capevents.declared.event.Event.{Event}, Caprules.Finish.{issue_row, is_in_use}, Caprules.Settle.{Made, Settles}, Caprules.State.{State}, Lockmachine.Elsewhere.{IsSameBut, IsSameOutside}, Lockmachine.Locks.{lock_at, without_ino}, Lockmachine.Requests.{first_for}, Lockmachine.Rows.{IsInRow}, Lockmachine.Scene.{told_set}, Lockmachine.Turns.{WaitAt}, Lockmachine.Wants.{effective_want}, Lockmachine.declared.request.Operation.{Operation}, Lockmachine.declared.request.Operation.TheVariants.{Get, Alter, Unlink, Rmdir, Rename}, Lockmachine.declared.scene.Scene.{Scene}}
+use Rattle.capacts.specs.{Capevents.declared.event.Event.{Event}, Caprules.Finish.{due, issue_row, is_in_use}, Caprules.Settle.{Made, Settles}, Caprules.State.{State}, Finishing.{numbered_as}, Lockmachine.Elsewhere.{IsSameBut, IsSameOutside}, Lockmachine.Locks.{lock_at, without_ino}, Lockmachine.Requests.{first_for}, Lockmachine.Rows.{IsInRow}, Lockmachine.Scene.{told_set}, Lockmachine.Turns.{WaitAt}, Lockmachine.Wants.{effective_want}, Lockmachine.declared.request.Operation.{Operation}, Lockmachine.declared.request.Operation.TheVariants.{Get, Alter, Unlink, Rmdir, Rename}, Lockmachine.declared.scene.Scene.{Scene}}
 
 -- what an event is about
 pub data Scope : Type 0 where
@@ -146,8 +146,7 @@ told_then settled row = told_set settled (issue_row settled row)
 -- the entry at the end: it gains what is due, and has a new number if its client is to know of another set than was known when
 -- the event came, so far as it still held that right after the event
 abbrev pub finished_entry : (Holder → Caps) → Scene → EntryRow → Entry
-finished_entry known settled row =
-    renumbered (meet (known row.holder) row.entry.held) (told_then settled row) (issue_row settled row).entry
+finished_entry known settled row = numbered_as (known row.holder) (told_then settled row) (due settled row) row
 
 -- the inode goes with its locks, if it is a stray that nobody has an entry on
 abbrev pub forget_at : ℕ → Scene → Scene
