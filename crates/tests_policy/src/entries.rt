@@ -43,9 +43,9 @@ enum Step {
     // A client's entries that are not due are walked over, up to the first that is.
     SkipQuiet(u32),
     Keeps(Holder, Option<Kept>),
-    // The order of recall, one by one.
+    // The order of recall, one by one, by holders and by nodes.
     Order(Places),
-    // The orders of making: of an inode, and of a client.
+    // The orders of making: of an inode, and of a client, by walks and by nodes.
     HoldersOf(u64, Rows),
     EntriesOf(u32, Rows),
     // The client's entries from the first on that may be due.
@@ -137,13 +137,49 @@ fn goes_by(rt: &impl Abort, walk: Walk<'_>, want: Rows, at: At) {
     same(rt, walk.next().is_none(), true, at);
 }
 
+// Whose node has the key.
+fn holder_at(table: &CapTable, key: Option<usize>) -> Option<Holder> {
+    let node = table.lists().get(key?)?;
+    Some(Holder {
+        client: node.client,
+        ino: node.ino,
+    })
+}
+
+// The order of recall, by holders and by nodes.
 fn is_order(rt: &impl Abort, table: &CapTable, want: Places, at: At) {
     let mut next = table.oldest();
+    let mut key = table.lists().oldest();
     for holder in want {
         same(rt, next, Some(*holder), at);
+        same(rt, holder_at(table, key), Some(*holder), at);
         next = table.newer(holder.client, holder.ino);
+        key = table.lists().newer(key.unwrap_or(0));
     }
     same(rt, next, None, at);
+    same(rt, key, None, at);
+}
+
+// The entries on an inode, and their nodes.
+fn on_inode(rt: &impl Abort, table: &CapTable, ino: Ino, want: Rows, at: At) {
+    goes_by(rt, table.holders_of(ino), want, at);
+    let mut key = table.lists().first_of_ino(ino);
+    for (holder, _asked) in want {
+        same(rt, holder_at(table, key), Some(*holder), at);
+        key = table.lists().next_of_ino(key.unwrap_or(0));
+    }
+    same(rt, key, None, at);
+}
+
+// The entries of a client, and their nodes.
+fn of_client(rt: &impl Abort, table: &CapTable, client: ClientId, want: Rows, at: At) {
+    goes_by(rt, table.entries_of(client), want, at);
+    let mut key = table.lists().first_of_client(client);
+    for (holder, _asked) in want {
+        same(rt, holder_at(table, key), Some(*holder), at);
+        key = table.lists().next_of_client(key.unwrap_or(0));
+    }
+    same(rt, key, None, at);
 }
 
 // ---- whole runs
@@ -167,8 +203,8 @@ fn take(rt: &impl Abort, table: &mut CapTable, step: &Step, at: At) {
         SkipQuiet(client) => table.skip_quiet(ClientId(*client)),
         Keeps(h, want) => keeps(rt, table.find(h.client, h.ino), *want, at),
         Order(want) => is_order(rt, table, want, at),
-        HoldersOf(ino, want) => goes_by(rt, table.holders_of(Ino(*ino)), want, at),
-        EntriesOf(client, want) => goes_by(rt, table.entries_of(ClientId(*client)), want, at),
+        HoldersOf(ino, want) => on_inode(rt, table, Ino(*ino), want, at),
+        EntriesOf(client, want) => of_client(rt, table, ClientId(*client), want, at),
         DueOf(client, want) => goes_by(rt, table.due_of(ClientId(*client)), want, at),
     }
 }
