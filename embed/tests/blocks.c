@@ -1,6 +1,6 @@
-/* Grants that are read once: a block says what their text says, whatever is asked; a room that is too short, a block that is cut off
- * and one with other bytes, each of its own in turn too, get a status or a verdict, and never a crash; eight threads ask the same
- * blocks. */
+/* Grants that are read once: a block says what their text says, whatever is asked, and soon where they are for everybody; a room that is
+ * too short, a block that is cut off and one with other bytes, each of its own in turn too, get a status or a verdict, and never a crash;
+ * eight threads ask the same blocks. */
 #include "baybowl.h"
 #include "check.h"
 
@@ -382,6 +382,39 @@ static void *ask_shared(void *given) {
     return NULL;
 }
 
+static uint32_t told_soon(const struct baybowl_block *block, size_t len, const char *path, int by_mask, struct baybowl_answer *denied) {
+    static const struct baybowl_check check = {9, 50, 7, 50, 0640, BAYBOWL_MAY_WRITE, 0, 0};
+    const uint8_t *text = (const uint8_t *)(block + 1), *at = (const uint8_t *)path;
+    size_t text_len = len - sizeof *block;
+    return by_mask ? capffi_soon_mask(block, text, text_len, at, strlen(path), &check, denied)
+                   : capffi_soon(block, text, text_len, at, strlen(path), &question, denied);
+}
+
+/* One grant or several, which are for everybody, are answered soon, by a question and by a mask. If they were not, the whole verdict
+ * would say the same, and only take longer. */
+static void soon(void) {
+    const struct {
+        const char *grants, *path;
+        uint32_t told, count;
+        uint8_t rules[16];
+    } rows[] = {
+        {"allow rw path=/a", "/a/x", 1, 0, {0}},
+        {"allow rw path=/a", "/c", 17, 1, {BAYBOWL_RULE_PATH}},
+        {open_grants, "/a/x", 3, 0, {0}},
+        {open_grants, "/c", 17, 4, {BAYBOWL_RULE_PATH, BAYBOWL_RULE_PATH, BAYBOWL_RULE_PATH, BAYBOWL_RULE_NO_WRITE}},
+    };
+    for (size_t row = 0; row < sizeof rows / sizeof rows[0]; row++) {
+        size_t len;
+        const struct baybowl_block *block = read_at_the_end(rows[row].grants, &len);
+        for (int by_mask = 0; by_mask < 2; by_mask++) {
+            struct baybowl_answer denied = {0};
+            CHECK(told_soon(block, len, rows[row].path, by_mask, &denied) == rows[row].told);
+            CHECK(denied.grant == 0 && denied.count == rows[row].count);
+            CHECK(memcmp(denied.rules, rows[row].rules, sizeof denied.rules) == 0);
+        }
+    }
+}
+
 static void threads(void) {
     pthread_t running[THREADS];
     size_t wrong[THREADS];
@@ -409,6 +442,7 @@ int main(void) {
     slashes();
     same_verdicts();
     masks();
+    soon();
     threads();
     return told();
 }

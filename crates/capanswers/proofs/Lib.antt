@@ -4,4 +4,5 @@ pub mod Grown
 pub mod Inquired
 pub mod Surveyed
 pub mod Logged
+pub mod Matches
 pub use Rattle.capquestion.proofs as Capquestion

@@ -1,4 +1,6 @@
 //! The file of a keyring, of an auth list, or of a tree.
+ghost use Rattle.std.specs.Prelude.{◌≡◌, ◌≢◌, codes, IfOk, MatchOption};
+ghost use Rattle.capanswers.specs.Files.{ReadsFile};
 
 use crate::command_line::{INPUT, Invocation};
 use crate::fault::AnswerFault;
@@ -9,7 +11,9 @@ use std::fs::{Files, open};
 pub fn keyring_file<E: Files>(
     files: &E,
     invocation: &Invocation,
-) -> Result<Option<E::File>, AnswerFault> {
+) -> Result<Option<E::File>, AnswerFault>
+    ensures { IfOk result (λ file. MatchOption file (¬ ReadsFile invocation.now) (λ opened. ReadsFile invocation.now)) }
+{
     match invocation {
         Invocation::Explain(inquiry) => match &inquiry.source {
             Source::Keyring { file, .. } => {
@@ -39,7 +43,9 @@ pub(crate) fn open_file<E: Files>(
     files: &E,
     name: &[u8],
     fault: AnswerFault,
-) -> Result<Option<E::File>, AnswerFault> {
+) -> Result<Option<E::File>, AnswerFault>
+    ensures { IfOk result (λ file. MatchOption file (name.now ≡ codes "-") (λ opened. name.now ≢ codes "-")) }
+{
     if name == INPUT {
         return Ok(None);
     }

@@ -1,6 +1,7 @@
 //! What the words of the command line ask for, or what is said of them.
-ghost use Rattle.std.specs.Prelude.{◌≡◌, ◌≤◌};
+ghost use Rattle.std.specs.Prelude.{◌≡◌, ◌≤◌, IfErr};
 ghost use Rattle.std.specs.Io.KnownBytes.{Keeps};
+ghost use Rattle.capanswers.specs.Words.{SaysSomething, ShowsHelp};
 
 use crate::command_line::{Invocation, parse};
 use crate::fault::AnswerFault;
@@ -12,7 +13,7 @@ use std::io::Write;
 
 /// What is said of words that ask for no command.
 pub enum Said {
-    /// The help that they ask for.
+    /// The help that they ask for, or the version.
     Help(Vec<u8>),
     /// What is wrong with them.
     Usage(Vec<u8>),
@@ -33,19 +34,24 @@ impl Drop for Said {
 
 /// What the words behind the program's name ask for, or what the parser of the command line says of them, with the words in it as they
 /// came.
-pub fn read_words(alloc: Global, words: &[Vec<u8>]) -> Result<Invocation, Said> {
+pub fn read_words(alloc: Global, words: &[Vec<u8>]) -> Result<Invocation, Said>
+    ensures { IfErr result SaysSomething }
+{
     match parse(alloc, words) {
         Ok(invocation) => Ok(invocation),
         Err(error) => Err(said_by(alloc, &error)),
     }
 }
 
-fn said_by(alloc: Global, error: &clap::Error) -> Said {
+// Help without a byte would be none.
+fn said_by(alloc: Global, error: &clap::Error) -> Said
+    ensures { SaysSomething result }
+{
     if error.kind() == ErrorKind::OutOfMemory {
         return Said::NoMemory;
     }
     match shown(alloc, error) {
-        Ok(text) if error.use_stderr() => Said::Usage(text),
+        Ok(text) if error.use_stderr() || text.is_empty() => Said::Usage(text),
         Ok(text) => Said::Help(text),
         Err(_) => Said::NoMemory,
     }
@@ -59,6 +65,7 @@ fn shown(alloc: Global, error: &clap::Error) -> Result<Vec<u8>, AllocError> {
 /// Writes what is said of words, the help on `writer`, what is wrong on `faults`, and returns the status.
 pub fn show<W: Write, F: Write>(said: &Said, writer: &mut W, faults: &mut F) -> u8
     ensures status { result ≤ USAGE }
+    ensures help { result ≡ DONE → ShowsHelp said.now (W.contents writer.old) (W.contents writer.new) }
     ensures done { result ≡ DONE → Keeps (F.contents faults.old) (F.contents faults.new) }
     ensures usage { result ≡ USAGE → Keeps (W.contents writer.old) (W.contents writer.new) }
 {

@@ -20,14 +20,14 @@ row_line row = audit_text row ++ codes "\n"
 abbrev pub audit_lines : List Row → List ℕ
 audit_lines rows = flat_map row_line rows
 
--- the rows are a legal history on a root alone that leads to this state, one for each event
+-- the rows are a legal history on a root alone that leads to this state, as many as there are events
 pub record IsHistory (work : Work) (rows : List Row) (last : State) : Type 0 where
   pub opening : State
   pub opens : IsOpening fs_name (first_tree root_attr) opening
   pub legal : IsLegal opening rows last
   pub counted : length rows ≡ event_count work
 
--- The text has the lines of a legal history on a root alone, which has a row for each event that the lines say.
+-- The text has the lines of a legal history on a root alone, which has as many rows as the lines say events.
 pub record IsServed (script : List (List ℕ)) (text : List ℕ) : Type 0 where
   pub work : Work
   pub taken : TakesAll no_work script work

@@ -100,7 +100,7 @@ fn serve_text<T: Threads + Wait + Sync>(
 }
 
 /// Serves a plan on a root alone: its first events by pass 1, then each client's by a thread and a pass of its own, numbered 2, 3 and so on
-/// in the order of the jobs. The core is answered when all threads have ended. It has a row for each event.
+/// in the order of the jobs. The core is answered when all threads have ended. It has as many rows as the plan has events.
 pub fn serve_plan<T: Threads + Wait + Sync, G: Gate + Send + Sync>(
     rt: &T,
     alloc: Global,

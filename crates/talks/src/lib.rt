@@ -16,7 +16,7 @@ mod text;
 
 pub use book::{Talk, read_talks};
 pub use fault::{BookFault, Place, Stop};
-pub use limits::Limits;
+pub use limits::{Limits, Reads};
 pub use page::Page;
 pub use run::{Outcome, Program, Run};
 pub use streams::{Input, Output};

@@ -1,12 +1,22 @@
 //! What the streams of a run take before they fail.
 
 use crate::fault::BookFault;
+use std::io::ErrorKind;
+
+/// Reads of one byte each, and the one behind them, which fails.
+#[derive(Clone, Copy)]
+pub struct Reads {
+    /// How many there are before the one that fails.
+    pub count: usize,
+    /// How that one fails.
+    pub fault: ErrorKind,
+}
 
 /// What the streams of a run take before they fail.
 #[derive(Clone, Copy)]
 pub struct Limits {
-    /// How many reads there are, of one byte each; none where no read fails.
-    pub reads: Option<usize>,
+    /// The reads that there are; none where no read fails.
+    pub reads: Option<Reads>,
     /// How many bytes the output takes.
     pub room: usize,
     /// How many bytes the stream for faults takes.
@@ -28,13 +38,24 @@ impl Limits {
         let (stream, number) = split_at_last_space(text);
         let number = read_number(number)?;
         match stream {
-            b"reads" if self.reads.is_none() => self.reads = Some(number),
+            b"reads" if self.reads.is_none() => self.reads = fails_after(
+                number,
+                ErrorKind::BrokenPipe,
+            ),
+            b"waits" if self.reads.is_none() => self.reads = fails_after(
+                number,
+                ErrorKind::WouldBlock,
+            ),
             b"room" if self.room == usize::MAX => self.room = number,
             b"fault room" if self.fault_room == usize::MAX => self.fault_room = number,
             _ => return Err(BookFault::NotUnderstood),
         }
         Ok(())
     }
+}
+
+fn fails_after(count: usize, fault: ErrorKind) -> Option<Reads> {
+    Some(Reads { count, fault })
 }
 
 // What stands before the last space, and what behind it.

@@ -1,33 +1,34 @@
 //! The streams of a run, which may fail.
 ghost use Rattle.std.specs.Prelude.{Some};
 
+use crate::limits::Reads;
 use std::io;
 use std::io::{ErrorKind, Read, Write};
 
-/// What a run reads. Where its reads are counted, each gives one byte, and they fail once there were so many.
+/// What a run reads. Where its reads are counted, each gives one byte, and the one behind them fails.
 #[derive(Drop)]
 pub struct Input<'a> {
     bytes: &'a [u8],
-    reads_left: Option<usize>,
+    reads: Option<Reads>,
 }
 
 impl<'a> Input<'a> {
-    /// These bytes, by so many reads, or by as many as there are.
-    pub fn new(bytes: &'a [u8], reads: Option<usize>) -> Input<'a> {
-        Input {
-            bytes,
-            reads_left: reads,
-        }
+    /// These bytes, by these reads, or by as many as there are.
+    pub fn new(bytes: &'a [u8], reads: Option<Reads>) -> Input<'a> {
+        Input { bytes, reads }
     }
 }
 
 impl Read for Input<'_> {
     fn read(&mut self, buf: &mut [u8]) -> io::Result<usize> {
-        let at_once = match self.reads_left {
+        let at_once = match self.reads {
             None => buf.len(),
-            Some(0) => return Err(io::Error::from(ErrorKind::BrokenPipe)),
-            Some(left) => {
-                self.reads_left = Some(left - 1);
+            Some(Reads { count: 0, fault }) => return Err(io::Error::from(fault)),
+            Some(Reads { count, fault }) => {
+                self.reads = Some(Reads {
+                    count: count - 1,
+                    fault,
+                });
                 buf.len().min(1)
             }
         };
