@@ -1,4 +1,1 @@
 pub mod Unfolded
-pub mod Faults
-pub mod Reading
-pub mod CapTexts

@@ -1,4 +1,3 @@
 pub mod Clients
 pub mod LockTable
 pub mod Verdicts
-pub mod GrantTexts
