@@ -17,6 +17,10 @@ const TURNS: u32 = 16;
 // So often it looks round in between, so that twenty calls take longer than a thread takes to start while others run.
 const LOOKS: u32 = 200_000;
 
+// So often the script is served. A busy machine may start a thread when the other has made its calls: then it is served once more. Where
+// one thread waits for the other to end, that is so each time.
+const TRIES: u32 = 200;
+
 // What calls see of each other.
 #[derive(Drop)]
 struct Signs {
@@ -90,27 +94,36 @@ fn span(rows: &[Numbers], pass: u32) -> Option<(usize, usize)> {
     span
 }
 
-// Sees that both passes have made their calls, and that neither has waited for the other to end.
-fn alternate(rt: &impl Abort, rows: &[Numbers]) {
+// Whether neither pass has waited for the other to end. Both have made their calls.
+fn alternate(rt: &impl Abort, rows: &[Numbers]) -> bool {
     same(rt, count_numbered(rows, 2), Some(20), "pass 2");
     same(rt, count_numbered(rows, 3), Some(19), "pass 3");
     let two = present(rt, span(rows, 2), "pass 2");
     let three = present(rt, span(rows, 3), "pass 3");
-    holds(rt, two.0 < three.1, "pass 2 waits for pass 3");
-    holds(rt, three.0 < two.1, "pass 3 waits for pass 2");
+    two.0 < three.1 && three.0 < two.1
 }
 
-#[test]
-fn two_clients_of_a_script_call_at_once(rt: HostRuntime) {
+// Serves the script, and says whether its clients have called at once. No two calls are under the lock then.
+fn call_at_once<R: AllocGlobal + Abort + Threads + Wait + Sync>(rt: &R) -> bool {
     let signs = Signs {
         taken: AtomicU64::new(0),
         met: AtomicU64::new(0),
     };
-    let signs = present(&rt, Arc::new(rt.alloc(), signs).ok(), "signs");
-    let theirs = present(&rt, Arc::try_clone(&signs).ok(), "signs");
+    let signs = present(rt, Arc::new(rt.alloc(), signs).ok(), "signs");
+    let theirs = present(rt, Arc::try_clone(&signs).ok(), "signs");
     let slow = Slow { signs: theirs };
-    let rows = present(&rt, served_slowly(&rt, TWO_CLIENTS, slow), "serving");
+    let rows = present(rt, served_slowly(rt, TWO_CLIENTS, slow), "serving");
     let met = signs.met.load(Ordering::SeqCst);
-    same(&rt, met, 0, "calls under the lock at once");
-    alternate(&rt, rows.as_slice());
+    same(rt, met, 0, "calls under the lock at once");
+    alternate(rt, rows.as_slice())
+}
+
+#[test]
+fn two_clients_of_a_script_call_at_once(rt: HostRuntime) {
+    for _ in 0..TRIES {
+        if call_at_once(&rt) {
+            return;
+        }
+    }
+    holds(&rt, false, "one pass waits for the other");
 }
