@@ -1,3 +1,4 @@
 pub mod Clients
 pub mod LockTable
 pub mod Verdicts
+pub mod GrantTexts
