@@ -2,3 +2,4 @@ pub mod Clients
 pub mod LockTable
 pub mod Verdicts
 pub mod GrantTexts
+pub mod Entries
