@@ -1,1 +1,4 @@
 pub mod Unfolded
+pub mod Faults
+pub mod Reading
+pub mod CapTexts

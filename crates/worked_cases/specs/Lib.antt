@@ -1,3 +1,5 @@
 pub mod Clients
 pub mod LockTable
 pub mod Verdicts
+pub mod GrantTexts
+pub mod Entries

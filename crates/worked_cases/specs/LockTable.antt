@@ -2,7 +2,7 @@
 use Rattle.std.specs.Prelude.{ℕ, List, [], ◌∷◌, map}
 use Rattle.capbits.specs.{Text.{text_of}, declared.cap.Part.{Part}, declared.cap.Part.TheVariants.{A, L, X, F}, declared.ids.ClientId.{ClientId}}
 use Rattle.locktable.specs.{Rows.{row_of, allowed_of}, declared.states.LockState.{LockState}, declared.states.StableState.{StableState}}
-use Rattle.caprules.specs.Lockmachine.{Scene.{target_by}, Wants.{Want, in_all}}
+use Rattle.lockmachine.specs.{Scene.{target_by}, Wants.{Want, in_all}}
 
 abbrev pub parts : List Part
 parts = A ∷ L ∷ X ∷ F ∷ []

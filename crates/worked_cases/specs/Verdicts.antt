@@ -1,5 +1,5 @@
 -- Grants, and questions to them.
-use Rattle.std.specs.Prelude.{ℕ, false, List, [], ◌∷◌, None, codes}
+use Rattle.std.specs.Prelude.{ℕ, false, List, [], None, codes}
 use Rattle.capbits.specs.declared.caller.Caller.{Caller}
 use Rattle.capwords.specs.declared.flags.Flags4.{Flags4}
 use Rattle.capspec.specs.declared.grant.Grant.{Grant}

@@ -1,0 +1,14 @@
+use Rattle.std.specs.Prelude.{refl}
+use Rattle.std.specs.Fmt.{digits}
+use Rattle.worked_cases.proofs.Reading.{reads, all_flags}
+use Rattle.worked_cases.proofs.grant_texts.read_and_written.Goals as goal
+
+pub returns-clause-reads : goal.returns-clause-reads
+returns-clause-reads c = reads
+
+pub returns-clause-is_written : goal.returns-clause-is_written
+unfolding digits
+returns-clause-is_written c = refl
+
+pub returns-clause-all_flags : goal.returns-clause-all_flags
+returns-clause-all_flags c = all_flags
