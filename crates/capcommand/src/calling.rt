@@ -1,5 +1,5 @@
 //! The calls of a plan, each client's by a thread and a pass of its own.
-ghost use Rattle.std.specs.Prelude.{◌≡◌, ◌≤◌, ◌+◌, length, vec_len, IfOk, IfErr, IsTrue};
+ghost use Rattle.std.specs.Prelude.{◌≡◌, ◌≤◌, ◌+◌, length, map, reverse, vec_len, IfOk, IfErr, IsTrue};
 ghost use Rattle.std.specs.List.{sum_by};
 ghost use Rattle.capserver.specs.Cappass.Passes.{AllNew};
 ghost use Rattle.capscript.specs.Jobs.{work_of, event_count};
@@ -65,13 +65,14 @@ struct Task<L: Server> {
 impl<L: Server> Task<L> {
     fn new(pass: Pass<L>, events: Vec<Event>) -> Task<L>
         requires { pass.calls ≡ 0 }
-        ensures { result.events ≡ events }
+        ensures pass { result.pass ≡ pass }
+        ensures events { result.events ≡ events }
     {
         Task { pass, events }
     }
 }
 
-// A task for each job, the last one first.
+// A task for each job, with the pass at its place, the last one first.
 fn tasks_of<L: Server>(
     alloc: Global,
     passes: Vec<Pass<L>>,
@@ -80,7 +81,10 @@ fn tasks_of<L: Server>(
     requires many { vec_len passes ≡ vec_len jobs }
     requires new { sum_by (λ p. p.calls) passes.items ≡ 0 }
     ensures many { IfOk result (λ tasks. vec_len tasks ≡ vec_len jobs) }
-    ensures events { IfOk result (λ tasks. sum_by (λ t. length t.events.items) tasks.items ≡ sum_by (λ j. length j.events.items) jobs.items) }
+    ensures count { IfOk result (λ tasks. sum_by (λ t. length t.events.items) tasks.items ≡ sum_by (λ j. length j.events.items) jobs.items) }
+    // With the passes and the events of the jobs.
+    ensures passes { IfOk result (λ tasks. map (λ t. t.pass) tasks.items ≡ reverse passes.items) }
+    ensures events { IfOk result (λ tasks. map (λ t. t.events.items) tasks.items ≡ reverse (map (λ j. j.events.items) jobs.items)) }
 {
     let (mut passes, mut jobs) = (passes, jobs);
     let mut tasks = Vec::new(alloc);
