@@ -20,7 +20,7 @@ fn handed_on<E: Error>(error: E) -> anyhow::Result<()> {
     Ok(())
 }
 
-fn prints<E: Error + Copy>(rt: &impl Abort, alloc: Global, (error, wanted): (E, &str)) {
+fn prints<E: Error + Copy>(rt: &impl Abort, alloc: Global, error: E, wanted: &str) {
     let text = shown(rt, alloc, error);
     same(rt, text.as_str(), wanted, wanted);
     match handed_on(error) {
@@ -33,8 +33,8 @@ fn prints<E: Error + Copy>(rt: &impl Abort, alloc: Global, (error, wanted): (E, 
 }
 
 fn print<E: Error + Copy>(rt: &impl Abort, alloc: Global, errors: &[(E, &str)]) {
-    for error in errors {
-        prints(rt, alloc, *error);
+    for (error, wanted) in errors {
+        prints(rt, alloc, *error, wanted);
     }
 }
 
