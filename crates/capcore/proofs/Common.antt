@@ -3,7 +3,7 @@ pub use Rattle.capbits.{proofs.Tests.{failing-front, pass-both, passed-both}, sp
 pub use Rattle.capgrant.specs.declared.{access.Access.{Access}, access.Access.TheVariants.{Snapshot, Write}, access.Attr.{Attr}, rule.Rule.{Rule}}
 pub use Rattle.numbered.proofs.Maps.{change-at}
 pub use Rattle.inotree.specs.{InoSets.{InoSet}, Inodes.{with_snapshot, without_snapshot}, Tests.{create_tests, inode_tests, new_inode_tests, new_snapshot_tests, old_snapshot_tests}, Tree.{IsTree, Nodes, child, presence}, declared.node.Kind.{Kind}, declared.node.Kind.TheVariants.{Directory, File}, declared.node.Node.{Node}}
-pub use Rattle.captable.{proofs.ByHolder.{entry_at-without_client_other, row_of-entry}, proofs.Tables.{IsTable-recalled, IsTable-without_client}, specs.Calls.{entries_on, is_of_client, is_of_inode, recalled, with_told, without_client}, specs.Known.{permitted_of}, specs.Many.{changed_where}, specs.Table.{IsTable, Table, entry_at, holder, is_among, is_row_of, same}, specs.Tests.{release_tests}, specs.declared.entry.Entry.{Entry}, specs.declared.entry.EntryRow.{EntryRow}, specs.declared.entry.Holder.{Holder}, specs.declared.on_inode.Sets.{Sets}}
+pub use Rattle.captable.{proofs.ByHolder.{entry_at-without_client_other, row_of-entry}, proofs.Tables.{IsTable-recalled, IsTable-without_client}, specs.Calls.{entries_on, is_of_client, is_of_inode, recalled, with_told, without_client}, specs.Known.{permitted_of}, specs.Many.{changed_where}, specs.Table.{IsTable, Table, entry_at, holder, is_among, is_row_of, same}, specs.Tests.{release_tests}, specs.declared.entry.Entry.{Entry}, specs.declared.entry.EntryRow.{EntryRow}, specs.declared.entry.Holder.{Holder}, specs.declared.entry.Sets.{Sets}}
 pub use Rattle.locktable.specs.declared.{states.LockState.{LockState}, states.LockState.TheVariants.{Gather, Stable}}
 pub use Rattle.sessiontab.specs.{Calls.{has_session}, Table.{SessionTable}, Tests.{new_session_tests, session_tests}, declared.session.Session.{Session}}
 pub use Rattle.capsteps.{proofs.Among.{one-counts, one-inode}, proofs.Begun.{room-for}, proofs.EntryRequests.{AreBelow, all-left, request-table}, proofs.Finishing.{sound-settles}, proofs.Judged.{none-judged}, proofs.Judging.{no_test, passed, rejection}, proofs.Knowing.{HoldAlike, alike-less, alike-where, still-knows, still-there}, proofs.LeftAlone.{found-contains, kept-finished, kept-sound, no_locks}, proofs.ManyInodes.{table-where}, proofs.Moved.{Waited, ended-waited, moved-all, sound-pinned}, proofs.Rejecting.{no_moves, rejection-only, rejection-step}, proofs.Revoking.{passed-front}, proofs.SameOff.{row_elsewhere}, proofs.ShownSteps.{apart_client, step-shown}, proofs.Telling.{shown-given, shown-issued, shown-sound}, specs.Affected.{Affects, AffectsOne, IsAffectedEntry, Knows, SettlesAt, finished_at, operation_by}, specs.Answered.{IsAnswered}, specs.Begun.{ArePermittedIn, HaveRoomFor, MayEnd, MaySettle}, specs.EntryRequest.{entry_answer, entry_event}, specs.Judged.{IsJudged}, specs.Leaving.{LeavesEntries, with_parts}, specs.Serves.{EndsWith, SettlesWith}, specs.SessionChange.{changed_sessions, session_changed, session_event}, specs.declared.endings.Endings.{Endings}, specs.declared.entry_request.EntryRequest.{EntryRequest}, specs.declared.entry_request.EntryRequest.TheVariants.{Ack, Release}, specs.declared.said.Said.{Said}, specs.declared.settle.Affected.{Affected}}

@@ -46,19 +46,20 @@ touched-none t k is none =
 
 -- ---- a client
 
+-- whoever is not the client, is not one of its holders
+pub other-client : (client : ClientId) (k : Holder) → (k.client.0 == client.0) ≡ true → (h : Holder) → not (h.client.0 == client.0) ≡ true → not (same k h) ≡ true
+other-client client k of h stays = by_test (same k h) refl
+  where
+    by_test : (b : Bool) → same k h ≡ b → not b ≡ true
+    by_test false e = refl
+    by_test true e = absurd (let c : not (k.client.0 == client.0) ≡ true = ap (λ (j : Holder). not (j.client.0 == client.0)) (same-is k h e) ∙ stays in let d : not (k.client.0 == client.0) ≡ false = ap not of in cc)
+
 -- what is left by one of its holders first
 pub without-one : (t : Table) (client : ClientId) (k : Holder) → (k.client.0 == client.0) ≡ true → without_client (without t k) client ≡ without_client t client
 without-one t client k of =
-    let rows = filter-filter_kept (λ row. not (is_of_client client row)) (λ row. not (is_row_of k row)) (λ row stays. other row.holder stays) t.rows in
-    let recall = filter-filter_kept (λ h. not (h.client.0 == client.0)) (λ h. not (same k h)) (λ h stays. other h stays) t.recall in
+    let rows = filter-filter_kept (λ row. not (is_of_client client row)) (λ row. not (is_row_of k row)) (λ row stays. other-client client k of row.holder stays) t.rows in
+    let recall = filter-filter_kept (λ h. not (h.client.0 == client.0)) (λ h. not (same k h)) (λ h stays. other-client client k of h stays) t.recall in
     λ i. record t { rows = rows i; recall = recall i }
-  where
-    other : (h : Holder) → not (h.client.0 == client.0) ≡ true → not (same k h) ≡ true
-    other h stays = by_test (same k h) refl
-      where
-        by_test : (b : Bool) → same k h ≡ b → not b ≡ true
-        by_test false e = refl
-        by_test true e = absurd (let c : not (k.client.0 == client.0) ≡ true = ap (λ (j : Holder). not (j.client.0 == client.0)) (same-is k h e) ∙ stays in let d : not (k.client.0 == client.0) ≡ false = ap not of in cc)
 
 -- the first holder of some rows of a client
 pub first-of : (client : ClientId) (rows : List EntryRow) (k : Holder) → first_holder (filter (is_of_client client) rows) ≡ Some k → (k.client.0 == client.0) ≡ true
@@ -89,14 +90,15 @@ none-first : (rows : List EntryRow) → first_holder rows ≡ None → rows ≡ 
 none-first [] e = refl
 none-first (row ∷ rows) e = absurd (cc)
 
-rows-stay : (client : ClientId) (rows : List EntryRow) → filter (is_of_client client) rows ≡ [] → filter (λ row. not (is_of_client client row)) rows ≡ rows
-rows-stay client [] e = refl
-rows-stay client (row ∷ rows) e = by_test (is_of_client client row) (rows-stay client rows) e
+-- where none passes, all others are all
+pub all-stay : {X : Type 0} (p : X → Bool) (xs : List X) → filter p xs ≡ [] → filter (λ x. not (p x)) xs ≡ xs
+all-stay p [] e = refl
+all-stay {X} p (x ∷ xs) e = by_test (p x) (all-stay p xs) e
   where
-    by_test : (b : Bool) → (filter (is_of_client client) rows ≡ [] → filter (λ row. not (is_of_client client row)) rows ≡ rows) → cond b (row ∷ filter (is_of_client client) rows) (filter (is_of_client client) rows) ≡ []
-        → cond (not b) (row ∷ filter (λ row. not (is_of_client client row)) rows) (filter (λ row. not (is_of_client client row)) rows) ≡ row ∷ rows
+    by_test : (b : Bool) → (filter p xs ≡ [] → filter (λ (x : X). not (p x)) xs ≡ xs) → cond b (x ∷ filter p xs) (filter p xs) ≡ []
+        → cond (not b) (x ∷ filter (λ (x : X). not (p x)) xs) (filter (λ (x : X). not (p x)) xs) ≡ x ∷ xs
     by_test true rest e = absurd (cc)
-    by_test false rest e = ap (λ xs. row ∷ xs) (rest e)
+    by_test false rest e = ap (λ ys. x ∷ ys) (rest e)
 
 holders-stay : (p : Holder → Bool) (hs : List Holder) → ((k : Holder) → is_among hs k ≡ true → p k ≡ false) → filter (λ h. not (p h)) hs ≡ hs
 holders-stay p [] out = refl
@@ -108,15 +110,19 @@ holders-stay p (h ∷ hs) out =
     or_true true = refl
     or_true false = refl
 
--- where the client has no entry, nothing goes
+-- where the client has no entry, no holder is the client
+pub no-holder : (t : Table) (client : ClientId) → first_holder (filter (is_of_client client) t.rows) ≡ None → filter (λ (h : Holder). h.client.0 == client.0) (holders_of_rows t.rows) ≡ []
+no-holder t client none = sym (holders-filter (λ h. h.client.0 == client.0) t.rows) ∙ ap holders_of_rows (none-first (filter (is_of_client client) t.rows) none)
+
+-- and nothing goes
 pub without-nobody : (t : Table) (client : ClientId) → IsTable t → first_holder (filter (is_of_client client) t.rows) ≡ None → without_client t client ≡ t
 without-nobody t client is none =
     let no_rows : filter (is_of_client client) t.rows ≡ [] = none-first (filter (is_of_client client) t.rows) none in
     let p : Holder → Bool = λ h. h.client.0 == client.0 in
-    let nobody : filter p (holders_of_rows t.rows) ≡ [] = sym (holders-filter p t.rows) ∙ ap holders_of_rows no_rows in
+    let nobody : filter p (holders_of_rows t.rows) ≡ [] = no-holder t client none in
     let recall : filter (λ (h : Holder). not (h.client.0 == client.0)) t.recall ≡ t.recall =
     holders-stay p t.recall (λ k there. sym (and_true (p k)) ∙ ap (λ b. p k && b) (sym (sym (is.in_both k) ∙ there)) ∙ sym (among-filter p (holders_of_rows t.rows) k) ∙ ap (λ hs. is_among hs k) nobody) in
-    λ i. record t { rows = rows-stay client t.rows no_rows i; recall = recall i }
+    λ i. record t { rows = all-stay (is_of_client client) t.rows no_rows i; recall = recall i }
   where
     and_true : (b : Bool) → (b && true) ≡ b
     and_true true = refl

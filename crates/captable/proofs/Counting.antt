@@ -75,7 +75,7 @@ count-more client [] row = omega (arith, due-first client row [])
 count-more client (r ∷ rows) row = omega (arith, due-first client r (rows ++ row ∷ []), due-first client r rows, count-more client rows row)
 
 -- without a holder that has no row all stay
-none-left : (k : Holder) (rows : List EntryRow) → AllByRecursion (λ h. same k h ≡ false) (holders_of_rows rows) → filter (λ row. not (is_row_of k row)) rows ≡ rows
+pub none-left : (k : Holder) (rows : List EntryRow) → AllByRecursion (λ h. same k h ≡ false) (holders_of_rows rows) → filter (λ row. not (is_row_of k row)) rows ≡ rows
 none-left k [] apart = refl
 none-left k (row ∷ rows) apart =
     ap (λ b. cond (not b) (row ∷ filter (λ row. not (is_row_of k row)) rows) (filter (λ row. not (is_row_of k row)) rows)) apart.0

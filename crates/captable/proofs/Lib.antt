@@ -1,4 +1,5 @@
 pub mod Absent
+pub mod Beside
 pub mod ByHolder
 pub mod ByInode
 pub mod Changes
@@ -7,6 +8,7 @@ pub mod Counted
 pub mod Empty
 pub mod Gone
 pub mod Keeping
+pub mod Kept
 pub mod Keyed
 pub mod KnownPlaces
 pub mod Moves
@@ -27,5 +29,6 @@ pub mod Searches
 pub mod Setting
 pub mod Shown
 pub mod Tables
+pub mod Tally
 pub mod Touching
 pub mod WalkOn

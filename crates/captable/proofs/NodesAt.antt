@@ -13,6 +13,7 @@ use Rattle.captable.specs.declared.entry.Slot.{Slot}
 use Rattle.captable.specs.Table.{same, is_row_of}
 use Rattle.captable.specs.Calls.{newer_in}
 use Rattle.captable.specs.Nodes.{holder_of, row_of, with_entry, with_first, nodes_at}
+use Rattle.captable.specs.Walks.{IsPlaceIn}
 
 -- the node of a holder
 abbrev pub is_held_by : Holder → Node Slot → Bool
@@ -36,6 +37,13 @@ head_in k ks = ap (λ b. b || is_among ks k) (eq-eqb k k refl)
 
 pub rest_in : (k : ℕ) (ks : List ℕ) (j : ℕ) → is_among ks j ≡ true → is_among (k ∷ ks) j ≡ true
 rest_in k ks j there = or_right (nat_eq j k) (is_among ks j) there
+
+-- the first key is a place in the list, and so is the end
+pub place-first : (ks : List ℕ) (o : Option ℕ) → o ≡ slice_get ks 0 → IsPlaceIn ks o
+place-first [] None first = tt
+place-first [] (Some k) first = absurd (cc)
+place-first (k ∷ ks) None first = tt
+place-first (k ∷ ks) (Some j) first = (let same : j ≡ k = cc in ap (is_among (k ∷ ks)) same ∙ head_in k ks)
 
 first-append : (o : Option (Node Slot)) (xs ys : List (Node Slot)) → with_first o (xs ++ ys) ≡ with_first o xs ++ ys
 first-append None xs ys = refl
@@ -161,16 +169,20 @@ module _ (at : ℕ → Option (Node Slot)) (h : Holder) (key : ℕ) (n : Node Sl
           ∙ ap (λ b. cond b (slice_get (map holder_of (nodes_at at ks)) 0) (newer_in (map holder_of (nodes_at at ks)) h)) (held.alone k m e ∙ is)
           ∙ rest
 
--- the node has another entry
-abbrev pub set_in : Holder → Entry → Node Slot → Node Slot
-set_in h e m = cond (is_held_by h m) (with_entry e m) m
+-- the node is another
+abbrev pub change_in : Holder → (Node Slot → Node Slot) → Node Slot → Node Slot
+change_in h g m = cond (is_held_by h m) (g m) m
 
-pub nodes-set : (at at' : ℕ → Option (Node Slot)) (h : Holder) (key : ℕ) (n : Node Slot) (x : Entry) → IsHeld at h key n
-    → ((k : ℕ) → at' k ≡ cond (nat_eq k key) (option_map (with_entry x) (at k)) (at k)) → (ks : List ℕ) → nodes_at at' ks ≡ map (set_in h x) (nodes_at at ks)
-nodes-set at at' h key n x held set [] = refl
-nodes-set at at' h key n x held set (k ∷ ks) = by_node (at k) refl (nodes-set at at' h key n x held set ks)
+-- it has another entry
+abbrev pub set_in : Holder → Entry → Node Slot → Node Slot
+set_in h e = change_in h (with_entry e)
+
+pub nodes-changed : (at at' : ℕ → Option (Node Slot)) (h : Holder) (key : ℕ) (n : Node Slot) (g : Node Slot → Node Slot) → IsHeld at h key n
+    → ((k : ℕ) → at' k ≡ cond (nat_eq k key) (option_map g (at k)) (at k)) → (ks : List ℕ) → nodes_at at' ks ≡ map (change_in h g) (nodes_at at ks)
+nodes-changed at at' h key n g held set [] = refl
+nodes-changed at at' h key n g held set (k ∷ ks) = by_node (at k) refl (nodes-changed at at' h key n g held set ks)
   where
-    split : (b : Bool) (m : Node Slot) → with_first (cond b (Some (with_entry x m)) (Some m)) (nodes_at at' ks) ≡ cond b (with_entry x m) m ∷ nodes_at at' ks
+    split : (b : Bool) (m : Node Slot) → with_first (cond b (Some (g m)) (Some m)) (nodes_at at' ks) ≡ cond b (g m) m ∷ nodes_at at' ks
     split true m = refl
     split false m = refl
 
@@ -178,14 +190,18 @@ nodes-set at at' h key n x held set (k ∷ ks) = by_node (at k) refl (nodes-set 
     either true o = refl
     either false o = refl
 
-    by_node : (o : Option (Node Slot)) → at k ≡ o → nodes_at at' ks ≡ map (set_in h x) (nodes_at at ks) → with_first (at' k) (nodes_at at' ks) ≡ map (set_in h x) (with_first (at k) (nodes_at at ks))
+    by_node : (o : Option (Node Slot)) → at k ≡ o → nodes_at at' ks ≡ map (change_in h g) (nodes_at at ks) → with_first (at' k) (nodes_at at' ks) ≡ map (change_in h g) (with_first (at k) (nodes_at at ks))
     by_node None e rest =
-        ap (λ o. with_first o (nodes_at at' ks)) (set k ∙ ap (λ o. cond (nat_eq k key) (option_map (with_entry x) o) o) e ∙ either (nat_eq k key) None) ∙ rest
-        ∙ sym (ap (λ o. map (set_in h x) (with_first o (nodes_at at ks))) e)
+        ap (λ o. with_first o (nodes_at at' ks)) (set k ∙ ap (λ o. cond (nat_eq k key) (option_map g o) o) e ∙ either (nat_eq k key) None) ∙ rest
+        ∙ sym (ap (λ o. map (change_in h g) (with_first o (nodes_at at ks))) e)
     by_node (Some m) e rest =
-        ap (λ o. with_first o (nodes_at at' ks)) (set k ∙ ap (λ o. cond (nat_eq k key) (option_map (with_entry x) o) o) e) ∙ split (nat_eq k key) m
-        ∙ ap (λ b. cond b (with_entry x m) m ∷ nodes_at at' ks) (nat_eq_equiv.symm k key ∙ sym (held.alone k m e)) ∙ ap (λ ms. set_in h x m ∷ ms) rest
-        ∙ sym (ap (λ o. map (set_in h x) (with_first o (nodes_at at ks))) e)
+        ap (λ o. with_first o (nodes_at at' ks)) (set k ∙ ap (λ o. cond (nat_eq k key) (option_map g o) o) e) ∙ split (nat_eq k key) m
+        ∙ ap (λ b. cond b (g m) m ∷ nodes_at at' ks) (nat_eq_equiv.symm k key ∙ sym (held.alone k m e)) ∙ ap (λ ms. change_in h g m ∷ ms) rest
+        ∙ sym (ap (λ o. map (change_in h g) (with_first o (nodes_at at ks))) e)
+
+pub nodes-set : (at at' : ℕ → Option (Node Slot)) (h : Holder) (key : ℕ) (n : Node Slot) (x : Entry) → IsHeld at h key n
+    → ((k : ℕ) → at' k ≡ cond (nat_eq k key) (option_map (with_entry x) (at k)) (at k)) → (ks : List ℕ) → nodes_at at' ks ≡ map (set_in h x) (nodes_at at ks)
+nodes-set at at' h key n x held set ks = nodes-changed at at' h key n (with_entry x) held set ks
 
 -- ---- a holder with no key
 

@@ -14,14 +14,16 @@ use Rattle.captable.specs.declared.entry.EntryRow.{EntryRow}
 use Rattle.captable.specs.declared.entry.Slot.{Slot}
 use Rattle.captable.specs.Table.{Table, IsTable, same, entry_at}
 use Rattle.captable.specs.Calls.{new_entry, opened, is_of_client, is_of_inode}
+use Rattle.captable.specs.Kept.{kept_more, no_sets}
 use Rattle.captable.specs.Tests.{open_tests}
-use Rattle.captable.specs.Nodes.{holder_of, row_of, has_number, with_first, nodes_at, nodes_in, table_by, table_of}
+use Rattle.captable.specs.Nodes.{holder_of, row_of, has_number, with_first, nodes_at, nodes_in, table_by, table_of, kept_by, kept_of}
 use Rattle.captable.specs.Linked.{AreBelow, IsLinked}
 use Rattle.captable.specs.Places.{number_at, AreInOrder}
 use Rattle.captable.proofs.Orders.{order-same, order-wider}
 use Rattle.captable.proofs.Tables.{IsTable-opened}
 use Rattle.captable.proofs.NodesAt.{nodes-append, nodes-same}
 use Rattle.captable.proofs.Numbers.{below-more, below-append, once-next}
+use Rattle.captable.proofs.Beside.{kept-added}
 use Rattle.captable.proofs.Keeping.{not_in, number-below, table-added}
 
 module _ (t t' : Lists Slot) (made : ℕ) (key : ℕ) (x : Node Slot) (is : IsLinked t made) (adds : Adds t t' key x)
@@ -52,6 +54,9 @@ module _ (t t' : Lists Slot) (made : ℕ) (key : ℕ) (x : Node Slot) (is : IsLi
 
   pub table-more : table_of t' (made + 1) ≡ opened (table_of t made) (holder_of x)
   table-more = ap (λ ns. table_by ns (made + 1)) (nodes-more OfRecall) ∙ table-added (nodes_in t OfRecall) x made entry number is.below
+
+  pub kept-more : x.value.sets ≡ no_sets → kept_of t' (made + 1) ≡ kept_more (kept_of t made) (holder_of x)
+  kept-more sets = ap (λ ns. kept_by ns (made + 1)) (nodes-more OfRecall) ∙ kept-added (nodes_in t OfRecall) x made sets number is.below
 
   list-more : (name : ListName) (q : EntryRow → Bool) → q (row_of x) ≡ belongs name x → map row_of (nodes_in t name) ≡ filter q (table_of t made).rows
       → map row_of (nodes_in t' name) ≡ filter q (table_of t' (made + 1)).rows

@@ -8,9 +8,10 @@ use Rattle.cap_arena.specs.Walks.{is_among, key_after}
 use Rattle.cap_arena.specs.Calls.{Adds, Removes, Touches, keys_without}
 use Rattle.cap_arena.specs.Lists.{Lists, OfClient, belongs, node_at, keys, IsLists}
 use Rattle.captable.specs.declared.entry.Entry.{Entry}
+use Rattle.captable.specs.declared.entry.Sets.{Sets}
 use Rattle.captable.specs.declared.entry.Slot.{Slot}
 use Rattle.captable.specs.Calls.{is_due_entry}
-use Rattle.captable.specs.Nodes.{with_entry, SetsEntry}
+use Rattle.captable.specs.Nodes.{with_entry, with_sets, SetsEntry, KeepsSets}
 use Rattle.captable.specs.Walks.{keys_on, keys_from}
 use Rattle.captable.specs.Places.{same_client, is_due_at, number_at, AreInOrder, IsQuietIn, IsQuiet, AreQuiet, is_before, lowered, moved_on}
 use Rattle.captable.proofs.WalkOn.{of-list, next-listed, keys-next}
@@ -161,6 +162,18 @@ pub quiet-touched : (t t' : Lists Slot) (key : ℕ) → Touches t t' key → (pl
 quiet-touched t t' key touches places all client place e =
     subst (λ ks. IsQuietIn ks (is_due_at t') place) (sym (touches.clients client))
     (quiet-fewer (keys t (OfClient client)) (is_due_at t) (is_due_at t') place (λ k there is. sym (ap due_of (touches.nodes k)) ∙ is) (all client place e))
+
+-- ---- other sets beside an entry
+
+pub quiet-kept : (t t' : Lists Slot) (key : ℕ) (s : Sets) → KeepsSets t t' key s → (places : ClientId → Option (Option ℕ)) → AreQuiet t places → AreQuiet t' places
+quiet-kept t t' key s keeps places all client place e =
+    subst (λ ks. IsQuietIn ks (is_due_at t') place) (sym (keeps.lists (OfClient client)))
+    (quiet-fewer (keys t (OfClient client)) (is_due_at t) (is_due_at t') place (λ k there is. sym (ap due_of (keeps.nodes k) ∙ by_test (nat_eq k key) (node_at t k)) ∙ is) (all client place e))
+  where
+    by_test : (b : Bool) (o : Option (Node Slot)) → due_of (cond b (option_map (with_sets s) o) o) ≡ due_of o
+    by_test true None = refl
+    by_test true (Some m) = refl
+    by_test false o = refl
 
 -- ---- a step over an entry that is not due
 

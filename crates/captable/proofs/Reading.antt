@@ -5,6 +5,7 @@ use Rattle.std.specs.List.{find}
 use Rattle.std.specs.Option.{option_map, option_and_then}
 use Rattle.std.proofs.lemmas.Bool.{eq-eqb}
 use Rattle.capbits.specs.declared.ids.ClientId.{ClientId}
+use Rattle.capbits.specs.declared.ids.Ino.{Ino}
 use Rattle.cap_arena.specs.declared.nodes.Node.{Node}
 use Rattle.capbits.specs.declared.refusal.Refusal.TheVariants.{Limit}
 use Rattle.capbits.specs.Refusal.{first_failing, refused_if}
@@ -14,8 +15,8 @@ use Rattle.cap_arena.specs.Lists.{Lists, OfInode, OfClient, OfRecall, node_at, c
 use Rattle.cap_arena.proofs.Counts.{length-recall}
 use Rattle.captable.specs.declared.entry.Holder.{Holder}
 use Rattle.captable.specs.declared.entry.Slot.{Slot}
-use Rattle.captable.specs.Table.{is_row_of, entry_of, entry_at}
-use Rattle.captable.specs.Calls.{newer_in, is_of_client, is_of_inode}
+use Rattle.captable.specs.Table.{is_row_of, entry_of, entry_at, holders_of_rows}
+use Rattle.captable.specs.Calls.{newer_in, entries_on, is_of_client, is_of_inode}
 use Rattle.captable.specs.Tests.{open_tests}
 use Rattle.captable.specs.Nodes.{holder_of, row_of, nodes_in, by_number, table_of, AreLists, IsKeyOf, is_key_of}
 use Rattle.captable.specs.Walks.{first_holder}
@@ -66,6 +67,31 @@ module _ (t : Lists Slot) (made : ℕ) (is : IsLinked t made) where
   first-found client o first =
       ap (λ o. option_and_then (λ k. option_map holder_of (node_at t k)) o) first ∙ sym (first-held (node_at t) (keys t (OfClient client)) (all_have t is.sound (OfClient client)))
       ∙ first-mapped (nodes_in t (OfClient client)) ∙ ap first_holder (is.clients client)
+
+  -- the holders on an inode are those of its nodes
+  holders-on : (ino : Ino) → map holder_of (nodes_in t (OfInode ino)) ≡ holders_of_rows (entries_on (table_of t made) ino)
+  holders-on ino = sym (of_rows (nodes_in t (OfInode ino))) ∙ ap holders_of_rows (is.inodes ino)
+    where
+      of_rows : (ns : List (Node Slot)) → holders_of_rows (map row_of ns) ≡ map holder_of ns
+      of_rows [] = refl
+      of_rows (n ∷ ns) = ap (λ hs. holder_of n ∷ hs) (of_rows ns)
+
+  pub first-on : (ino : Ino) (o : Option ℕ) → o ≡ slice_get (keys t (OfInode ino)) 0
+      → option_and_then (λ k. option_map holder_of (node_at t k)) o ≡ slice_get (holders_of_rows (entries_on (table_of t made) ino)) 0
+  first-on ino o first =
+      ap (λ o. option_and_then (λ k. option_map holder_of (node_at t k)) o) first ∙ sym (first-held (node_at t) (keys t (OfInode ino)) (all_have t is.sound (OfInode ino)))
+      ∙ ap (λ hs. slice_get hs 0) (holders-on ino)
+
+  pub next-on : (h : Holder) (key : ℕ) → IsKeyOf t h key → newer_in (holders_of_rows (entries_on (table_of t made) h.ino)) h
+      ≡ option_and_then (λ k. option_map holder_of (node_at t k)) (option_and_then (λ (node : Node Slot). key_after (keys t (OfInode node.ino)) key) (node_at t key))
+  next-on h key found =
+      let o = held t made is h key found in
+      ap (λ hs. newer_in hs h) (sym (holders-on h.ino)) ∙ newer-held (node_at t) h key o.0 o.1 (keys t (OfInode h.ino)) (all_have t is.sound (OfInode h.ino))
+      ∙ sym (ap (λ q. option_and_then (λ k. option_map holder_of (node_at t k)) (option_and_then (λ (node : Node Slot). key_after (keys t (OfInode node.ino)) key) q)) o.1.there
+      ∙ ap (λ (k : Holder). option_and_then (λ q. option_map holder_of (node_at t q)) (key_after (keys t (OfInode k.ino)) key)) o.2)
+
+  pub none-next : (h : Holder) → ((key : ℕ) → is_key_of t h key ≡ false) → newer_in (holders_of_rows (entries_on (table_of t made) h.ino)) h ≡ None
+  none-next h none = ap (λ hs. newer_in hs h) (sym (holders-on h.ino)) ∙ newer-free (node_at t) h (free t h none) (keys t (OfInode h.ino))
 
   pub newer-none : (h : Holder) → ((key : ℕ) → is_key_of t h key ≡ false) → newer_in (table_of t made).recall h ≡ None
   newer-none h none = newer-free (node_at t) h (free t h none) (keys t OfRecall)

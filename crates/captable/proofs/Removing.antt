@@ -11,7 +11,8 @@ use Rattle.captable.specs.declared.entry.EntryRow.{EntryRow}
 use Rattle.captable.specs.declared.entry.Slot.{Slot}
 use Rattle.captable.specs.Table.{Table, IsTable, is_row_of}
 use Rattle.captable.specs.Calls.{without, is_of_client, is_of_inode}
-use Rattle.captable.specs.Nodes.{row_of, has_number, nodes_at, nodes_in, table_by, table_of, IsKeyOf}
+use Rattle.captable.specs.Kept.{kept_without}
+use Rattle.captable.specs.Nodes.{row_of, has_number, nodes_at, nodes_in, table_by, table_of, kept_by, kept_of, IsKeyOf}
 use Rattle.captable.specs.Linked.{AreBelow, IsLinked}
 use Rattle.captable.specs.Places.{number_at, AreInOrder}
 use Rattle.captable.proofs.Orders.{order-same, order-left, left-apart}
@@ -19,6 +20,7 @@ use Rattle.captable.proofs.Tables.{IsTable-without}
 use Rattle.captable.proofs.Searches.{filter-filter}
 use Rattle.captable.proofs.NodesAt.{is_held_by, nodes-removed}
 use Rattle.captable.proofs.Numbers.{below-filter, once-filter}
+use Rattle.captable.proofs.Beside.{kept-removed}
 use Rattle.captable.proofs.Keeping.{filter-mapped, held, table-removed}
 
 module _ (t t' : Lists Slot) (made : ℕ) (h : Holder) (key : ℕ) (is : IsLinked t made) (found : IsKeyOf t h key) (removes : Removes t t' key) where
@@ -30,6 +32,9 @@ module _ (t t' : Lists Slot) (made : ℕ) (h : Holder) (key : ℕ) (is : IsLinke
 
   pub table-left : table_of t' made ≡ without (table_of t made) h
   table-left = ap (λ ns. table_by ns made) (nodes-left OfRecall) ∙ table-removed (nodes_in t OfRecall) h made
+
+  pub kept-left : kept_of t' made ≡ kept_without (kept_of t made) h
+  kept-left = ap (λ ns. kept_by ns made) (nodes-left OfRecall) ∙ kept-removed (nodes_in t OfRecall) h made
 
   list-left : (name : ListName) (q : EntryRow → Bool) → map row_of (nodes_in t name) ≡ filter q (table_of t made).rows → map row_of (nodes_in t' name) ≡ filter q (table_of t' made).rows
   list-left name q was =

@@ -9,7 +9,7 @@ use Rattle.captable.specs.declared.entry.EntryRow.{EntryRow}
 use Rattle.captable.specs.declared.entry.Slot.{Slot}
 use Rattle.captable.specs.Table.{IsTable, is_row_of}
 use Rattle.captable.specs.Calls.{changed, is_of_client, is_of_inode}
-use Rattle.captable.specs.Nodes.{row_of, with_entry, has_number, nodes_at, nodes_in, table_by, table_of, SetsEntry, IsKeyOf}
+use Rattle.captable.specs.Nodes.{row_of, with_entry, has_number, nodes_at, nodes_in, table_by, table_of, kept_by, kept_of, SetsEntry, IsKeyOf}
 use Rattle.captable.specs.Linked.{AreBelow, IsLinked}
 use Rattle.captable.specs.Places.{number_at, AreInOrder}
 use Rattle.captable.proofs.Orders.{order-same}
@@ -17,6 +17,7 @@ use Rattle.captable.proofs.Tables.{IsTable-changed}
 use Rattle.captable.proofs.Searches.{filter-map}
 use Rattle.captable.proofs.OneByOne.{same_holder}
 use Rattle.captable.proofs.NodesAt.{set_in, nodes-set}
+use Rattle.captable.proofs.Beside.{kept-entry}
 use Rattle.captable.proofs.Numbers.{below-map, once-map}
 use Rattle.captable.proofs.Keeping.{held, keeps_number, row_in, rows-set, rows-changed, table-set}
 
@@ -29,6 +30,9 @@ module _ (t t' : Lists Slot) (made : ℕ) (h : Holder) (key : ℕ) (x : Entry) (
 
   pub table-put : table_of t' made ≡ changed (table_of t made) h (λ _. x)
   table-put = ap (λ ns. table_by ns made) (nodes-now OfRecall) ∙ table-set (nodes_in t OfRecall) h x made is.table
+
+  pub kept-put : kept_of t' made ≡ kept_of t made
+  kept-put = ap (λ ns. kept_by ns made) (nodes-now OfRecall) ∙ kept-entry (nodes_in t OfRecall) h x made
 
   rows-now : (table_of t' made).rows ≡ map (row_in h x) (table_of t made).rows
   rows-now = ap (λ ns. (table_by ns made).rows) (nodes-now OfRecall) ∙ rows-changed (nodes_in t OfRecall) h x made

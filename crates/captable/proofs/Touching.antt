@@ -8,13 +8,14 @@ use Rattle.captable.specs.declared.entry.Holder.{Holder}
 use Rattle.captable.specs.declared.entry.Slot.{Slot}
 use Rattle.captable.specs.Table.{Table, IsTable, same}
 use Rattle.captable.specs.Calls.{touched, is_of_client, is_of_inode}
-use Rattle.captable.specs.Nodes.{row_of, has_number, with_first, nodes_at, nodes_in, table_by, table_of, IsKeyOf}
+use Rattle.captable.specs.Nodes.{row_of, has_number, with_first, nodes_at, nodes_in, table_by, table_of, kept_by, kept_of, IsKeyOf}
 use Rattle.captable.specs.Linked.{AreBelow, IsLinked}
 use Rattle.captable.specs.Places.{number_at, AreInOrder}
 use Rattle.captable.proofs.Orders.{order-same}
 use Rattle.captable.proofs.Moves.{IsTable-touched}
 use Rattle.captable.proofs.NodesAt.{is_held_by, nodes-append, nodes-same, nodes-removed, nodes-one}
 use Rattle.captable.proofs.Numbers.{number-moved, below-append, below-filter}
+use Rattle.captable.proofs.Beside.{kept-touched}
 use Rattle.captable.proofs.Keeping.{held, is_in, table-touched}
 
 module _ (t t' : Lists Slot) (made : ℕ) (h : Holder) (key : ℕ) (is : IsLinked t made) (found : IsKeyOf t h key) (touches : Touches t t' key) where
@@ -36,6 +37,10 @@ module _ (t t' : Lists Slot) (made : ℕ) (h : Holder) (key : ℕ) (is : IsLinke
   pub table-moved : table_of t' made ≡ touched (table_of t made) h
   unfolding moved
   table-moved = ap (λ ns. table_by ns made) recall-now ∙ table-touched (nodes_in t OfRecall) h made is.once
+
+  pub kept-moved : kept_of t' made ≡ kept_of t made
+  unfolding moved
+  kept-moved = ap (λ ns. kept_by ns made) recall-now ∙ kept-touched (nodes_in t OfRecall) h made is.once
 
   nodes-stay : (name : ListName) → keys t' name ≡ keys t name → nodes_in t' name ≡ nodes_in t name
   nodes-stay name same = ap (nodes_at (node_at t')) same ∙ nodes-same (node_at t) (node_at t') (keys t name) (λ k there. touches.nodes k)

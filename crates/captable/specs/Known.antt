@@ -7,10 +7,10 @@ use Rattle.std.specs.Option.{option_and_then, option_map}
 use Rattle.std.specs.Ordering.{nat_cmp}
 use Rattle.capbits.specs.declared.ids.ClientId.{ClientId}
 use Rattle.capbits.specs.Caps.{Caps}
-use Rattle.capbits.specs.Sets.{no_caps}
 use Rattle.captable.specs.declared.entry.Holder.{Holder}
 use Rattle.captable.specs.declared.on_inode.KnownRow.{KnownRow}
-use Rattle.captable.specs.declared.on_inode.Sets.{Sets}
+use Rattle.captable.specs.declared.entry.Sets.{Sets}
+pub use Rattle.captable.specs.Kept.{no_sets}
 
 -- what is kept on each inode, each with its client
 abbrev pub KnownSets : Type 0
@@ -35,10 +35,6 @@ sets_on on client = option_and_then (λ (rows : List KnownRow). sets_among rows 
 -- what is kept of a holder, where something is
 abbrev pub sets_of : KnownSets → Holder → Option Sets
 sets_of sets k = sets_on (map.get sets k.ino.0) k.client
-
--- where nothing is kept
-abbrev pub no_sets : Sets
-no_sets = record { told = no_caps; permitted = no_caps }
 
 -- what the client is to know of, and what it is permitted, where something is kept of the holder
 abbrev pub known_of : KnownSets → Holder → Option Caps

@@ -3,6 +3,7 @@ pub mod Calls
 pub mod Codes
 pub mod Edits
 pub mod Linked
+pub mod Kept
 pub mod Known
 pub mod Many
 pub mod Nodes

@@ -8,9 +8,11 @@ use Rattle.cap_arena.specs.Lists.{Lists, ListName, OfInode, OfClient, OfRecall, 
 use Rattle.captable.specs.declared.entry.Holder.{Holder}
 use Rattle.captable.specs.declared.entry.Entry.{Entry}
 use Rattle.captable.specs.declared.entry.EntryRow.{EntryRow}
+use Rattle.captable.specs.declared.entry.Sets.{Sets}
 use Rattle.captable.specs.declared.entry.Slot.{Slot}
 use Rattle.captable.specs.Table.{Table, holder, same, entry_at}
 use Rattle.captable.specs.Calls.{is_of_client, entries_on}
+use Rattle.captable.specs.Kept.{KeptRow, KeptTable}
 
 -- ---- one node
 
@@ -22,6 +24,13 @@ row_of node = record { holder = holder_of node; entry = node.value.entry }
 
 abbrev pub with_entry : Entry → Node Slot → Node Slot
 with_entry entry node = record node { value = record node.value { entry = entry } }
+
+-- what is kept beside its entry
+abbrev pub kept_row_of : Node Slot → KeptRow
+kept_row_of node = record { holder = holder_of node; sets = node.value.sets }
+
+abbrev pub with_sets : Sets → Node Slot → Node Slot
+with_sets sets node = record node { value = record node.value { sets = sets } }
 
 -- whether so many entries were made before it
 abbrev pub has_number : ℕ → Node Slot → Bool
@@ -64,11 +73,27 @@ table_by nodes made = record { rows = map row_of (by_number made nodes); recall 
 abbrev pub table_of : Lists Slot → ℕ → Table
 table_of lists made = table_by (nodes_in lists OfRecall) made
 
+-- what is kept beside the entries, in the order of making
+abbrev pub kept_by : List (Node Slot) → ℕ → List KeptRow
+kept_by nodes made = map kept_row_of (by_number made nodes)
+
+abbrev pub kept_of : Lists Slot → ℕ → List KeptRow
+kept_of lists made = kept_by (nodes_in lists OfRecall) made
+
+-- both
+abbrev pub both_of : Lists Slot → ℕ → KeptTable
+both_of lists made = record { entries = table_of lists made; kept = kept_of lists made }
+
 -- ---- a change of one node
 
 -- the node has this entry, and nothing else changes
 pub record SetsEntry (old new : Lists Slot) (key : ℕ) (entry : Entry) : Type 0 where
   pub nodes : (k : ℕ) → node_at new k ≡ (if nat_eq k key then option_map (with_entry entry) (node_at old k) else node_at old k)
+  pub lists : (name : ListName) → keys new name ≡ keys old name
+
+-- beside its entry stand these sets, and nothing else changes
+pub record KeepsSets (old new : Lists Slot) (key : ℕ) (sets : Sets) : Type 0 where
+  pub nodes : (k : ℕ) → node_at new k ≡ (if nat_eq k key then option_map (with_sets sets) (node_at old k) else node_at old k)
   pub lists : (name : ListName) → keys new name ≡ keys old name
 
 -- ---- the lists that a table lends

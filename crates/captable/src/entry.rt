@@ -3,6 +3,7 @@
 ghost use Rattle.std.specs.Prelude.{◌≡◌, ◌<◌, ◌^◌, ◌-◌, true};
 ghost use Rattle.captable.specs.Calls as words;
 ghost use Rattle.captable.specs.Edits.{edited, is_numbering};
+ghost use Rattle.captable.specs.Kept.{no_sets};
 
 use capbits::{CapSet, ClientId, Ino};
 
@@ -45,11 +46,22 @@ pub struct EntryRow {
     pub entry: Entry,
 }
 
-/// What is kept with the node of a holder: its entry, and how many entries were made before it.
+/// What is kept beside an entry, so that it is not found anew.
+#[derive(Clone, Copy, Debug)]
+pub struct Sets {
+    /// The set that its client is to know of.
+    pub told: CapSet,
+    /// What its client is permitted to hold.
+    pub permitted: CapSet,
+}
+
+/// What is kept with the node of a holder: its entry, the sets beside it, and how many entries were made before it.
 #[derive(Clone, Copy, Debug)]
 pub struct Slot {
     /// The entry.
     pub entry: Entry,
+    /// The sets beside it.
+    pub sets: Sets,
     /// How many entries were made before it, those that are gone too.
     pub number: u64,
 }
@@ -82,6 +94,18 @@ pub(crate) enum Edit {
     Ask(bool),
     // Whether it is to be told the size.
     OweSize(bool),
+}
+
+impl Sets {
+    // Empty sets.
+    pub(crate) fn none() -> Sets
+        ensures { result ≡ no_sets }
+    {
+        Sets {
+            told: CapSet::empty(),
+            permitted: CapSet::empty(),
+        }
+    }
 }
 
 impl Entry {

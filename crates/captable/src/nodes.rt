@@ -6,10 +6,10 @@ ghost use Rattle.cap_arena.specs.Lists.{IsLists, OfInode, OfRecall, belongs_at, 
 ghost use Rattle.cap_arena.specs.Walks.{is_among};
 ghost use Rattle.cap_arena.specs.Calls.{node, add_tests, Adds, Removes, Touches};
 ghost use Rattle.captable.specs.Nodes as words;
-ghost use Rattle.captable.specs.Nodes.{holder_of, nodes_in, SetsEntry, IsKeyOf};
+ghost use Rattle.captable.specs.Nodes.{holder_of, nodes_in, SetsEntry, KeepsSets, IsKeyOf};
 ghost use Rattle.captable.specs.Walks.{IsPlaceOf, keys_from};
 
-use crate::entry::{Entry, EntryRow, Holder, Slot};
+use crate::entry::{Entry, EntryRow, Holder, Sets, Slot};
 use cap_arena::{LinkWrites, Node, TripleLists};
 use capbits::Ino;
 use std::alloc::{AllocError, Global};
@@ -117,8 +117,33 @@ pub(crate) fn set_entry(lists: &mut TripleLists<Slot>, key: usize, entry: Entry)
     ensures sound { IsLists lists.new }
 {
     if let Some(node) = lists.get(key) {
-        let number = node.value.number;
-        lists.set(key, Slot { entry, number });
+        let Slot { sets, number, .. } = node.value;
+        lists.set(
+            key,
+            Slot {
+                entry,
+                sets,
+                number,
+            },
+        );
+    }
+}
+
+// Keeps these sets beside the entry of the node, where the key has one.
+pub(crate) fn keep_sets(lists: &mut TripleLists<Slot>, key: usize, sets: Sets)
+    ensures there { IsSome (node_at lists.old key) → KeepsSets lists.old lists.new key sets }
+    ensures sound { IsLists lists.new }
+{
+    if let Some(node) = lists.get(key) {
+        let Slot { entry, number, .. } = node.value;
+        lists.set(
+            key,
+            Slot {
+                entry,
+                sets,
+                number,
+            },
+        );
     }
 }
 

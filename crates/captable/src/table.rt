@@ -1,10 +1,10 @@
 //! The table of entries.
 ghost use Rattle.std.specs.Prelude.{◌≡◌, ◌<◌, ◌^◌, ◌-◌, true, false, [], ◌∷◌, IfSome, IfOk, OnOk, OnErr, None, length, slice_get, take, filter};
 
-use crate::entry::{Edit, Entry, Holder, Slot};
+use crate::entry::{Edit, Entry, Holder, Sets, Slot};
 use crate::holders::Holders;
 use crate::nodes::{
-    add_node, first_holders, holder_at, key_of, remove_node, set_entry, touch_node,
+    add_node, first_holders, holder_at, keep_sets, key_of, remove_node, set_entry, touch_node,
 };
 use crate::places::is_due_at;
 use crate::polls::{
@@ -38,18 +38,18 @@ pub struct CapTable {
 }
 
 impl Model for CapTable {
-    ghost use Rattle.captable.specs.Table.{Table};
-    ghost use Rattle.captable.specs.Codes.{table_code};
-    ghost use Rattle.captable.specs.Nodes.{table_of};
+    ghost use Rattle.captable.specs.Kept.{KeptTable};
+    ghost use Rattle.captable.specs.Codes.{kept_table_code};
+    ghost use Rattle.captable.specs.Nodes.{both_of, table_of};
     ghost use Rattle.captable.specs.Linked.{IsLinked};
     ghost use Rattle.captable.specs.Places.{AreQuiet, ArePlaced};
     ghost use Rattle.captable.specs.Polls.{AreCounted, places_of, counts_of};
 
-    ghost Value = { Table };
+    ghost Value = { KeptTable };
 
-    ghost coded = { table_code };
+    ghost coded = { kept_table_code };
 
-    ghost view = { λ t. table_of t.lists t.made };
+    ghost view = { λ t. both_of t.lists t.made };
 
     ghost invariant = { λ t. IsLinked t.lists t.made × AreQuiet t.lists (places_of t.polls) × ArePlaced t.lists (places_of t.polls)
         × AreCounted (table_of t.lists t.made).rows (counts_of t.polls) };
@@ -81,23 +81,24 @@ impl fmt::Debug for CapTable {
 }
 
 impl CapTable {
-    ghost use Rattle.captable.specs.Table as words;
+    ghost use Rattle.captable.specs.Kept as words;
+    ghost use Rattle.captable.specs.Kept.{AreBeside, sets_beside, permitted_beside, permitting, telling};
     ghost use Rattle.std.specs.List.{fold, list_any};
     ghost use Rattle.std.specs.Result.{result_err};
     ghost use Rattle.cap_arena.specs.Lists.{IsLists};
     ghost use Rattle.cap_arena.specs.Calls.{refusal_in};
-    ghost use Rattle.captable.specs.Table.{IsTable, holder, entry_at};
+    ghost use Rattle.captable.specs.Table.{IsTable, holder, entry_at, holders_of_rows};
     ghost use Rattle.captable.specs.Nodes.{AreLists};
     ghost use Rattle.captable.specs.Walks.{first_holder};
     ghost use Rattle.captable.specs.Many.{changed_by, asking};
     ghost use Rattle.capbits.specs.Refusal.{first_failing};
     ghost use Rattle.captable.specs.Tests.{open_tests, open_entry_tests, entry_test, ack_tests, release_tests, test_at};
     ghost use Rattle.captable.specs.Edits.{edited, is_numbering};
-    ghost use Rattle.captable.specs.Calls.{opened, with_entry, changed, wanting, issued, has_pin, acked, renumbered, with_told, with_asked, with_size_due, released, without, without_client, newer_in, touched, recalled, is_of_client, is_of_inode, is_due};
+    ghost use Rattle.captable.specs.Calls.{wanting, issued, has_pin, renumbered, with_told, with_asked, with_size_due, newer_in, touched, recalled, entries_on, is_of_client, is_of_inode, is_due};
 
     /// A table without entries, of which none was made yet. No clause can say that the memory for it is there.
     pub fn new(alloc: Global) -> Result<CapTable, AllocError>
-        ensures { IfOk result (λ table. table ≡ words.empty) }
+        ensures { IfOk result (λ table. table ≡ words.nothing) }
     {
         let lists = TripleLists::new(alloc)?;
         let polls = Numbered::new(alloc);
@@ -112,15 +113,15 @@ impl CapTable {
 
     /// How many entries were made so far, those that are gone too.
     pub fn made(&self) -> u64
-        ensures { result ≡ self.now.made }
+        ensures { result ≡ self.now.entries.made }
     {
         self.made
     }
 
     /// The client's entry on the inode, where it has one.
     pub fn find(&self, client: ClientId, ino: Ino) -> Option<Entry>
-        ensures entry { result ≡ entry_at self.now (holder client ino) }
-        ensures sound { IsTable self.now }
+        ensures entry { result ≡ entry_at self.now.entries (holder client ino) }
+        ensures sound { IsTable self.now.entries }
     {
         let key = key_of(&self.lists, Holder { client, ino }, self.near)?;
         let node = self.lists.get(key)?;
@@ -129,7 +130,7 @@ impl CapTable {
 
     /// The client's entry on the inode, guessed to stand at a place. If it does, it is not searched for.
     pub fn find_near(&self, client: ClientId, ino: Ino, place: usize) -> Option<Entry>
-        ensures { result ≡ entry_at self.now (holder client ino) }
+        ensures { result ≡ entry_at self.now.entries (holder client ino) }
     {
         if let Some(node) = self.lists.get(place) {
             if node.client.0 == client.0 && node.ino.0 == ino.0 {
@@ -153,14 +154,14 @@ impl CapTable {
 
     /// Why no entry can be made: there are as many as there may be.
     pub fn open_refusal(&self) -> Option<Refusal>
-        ensures { result ≡ first_failing (open_tests self.now) }
+        ensures { result ≡ first_failing (open_tests self.now.entries) }
     {
         self.lists.add_refusal()
     }
 
     /// Why a request on the client's entry on the inode is refused: it has none.
     pub fn entry_refusal(&self, client: ClientId, ino: Ino) -> Option<Refusal>
-        ensures { result ≡ first_failing (entry_test self.now (holder client ino) ∷ []) }
+        ensures { result ≡ first_failing (entry_test self.now.entries (holder client ino) ∷ []) }
     {
         match self.find(client, ino) {
             Some(_entry) => None,
@@ -177,7 +178,7 @@ impl CapTable {
         seq: u64,
         against: CapSet,
     ) -> Option<Refusal>
-        ensures { result ≡ first_failing (ack_tests self.now (holder client ino) seq against) }
+        ensures { result ≡ first_failing (ack_tests self.now.entries (holder client ino) seq against) }
     {
         let Some(entry) = self.find(client, ino) else {
             return Some(Refusal::NoEntry);
@@ -197,7 +198,7 @@ impl CapTable {
 
     /// Why the client can't release these caps: it has no entry on the inode, or does not hold each of them.
     pub fn release_refusal(&self, client: ClientId, ino: Ino, caps: CapSet) -> Option<Refusal>
-        ensures { result ≡ first_failing (release_tests self.now (holder client ino) caps) }
+        ensures { result ≡ first_failing (release_tests self.now.entries (holder client ino) caps) }
     {
         let Some(entry) = self.find(client, ino) else {
             return Some(Refusal::NoEntry);
@@ -214,8 +215,8 @@ impl CapTable {
     /// refused as Limit where there are as many as there may be, or the last number was given. Where the client has an
     /// entry, nothing happens.
     pub fn open_entry(&mut self, client: ClientId, ino: Ino) -> Result<(), AddError>
-        ensures refused { refusal_in result ≡ first_failing (open_entry_tests self.old (holder client ino)) }
-        ensures ok { OnOk result (self.new ≡ with_entry self.old (holder client ino)) }
+        ensures refused { refusal_in result ≡ first_failing (open_entry_tests self.old.entries (holder client ino)) }
+        ensures ok { OnOk result (self.new ≡ words.with_entry self.old (holder client ino)) }
         ensures err { OnErr result (self.new ≡ self.old) }
     {
         if self.find(client, ino).is_some() {
@@ -241,8 +242,8 @@ impl CapTable {
         seq: u64,
         against: CapSet,
     ) -> Result<(), Refusal>
-        ensures refused { result_err result ≡ first_failing (ack_tests self.old (holder client ino) seq against) }
-        ensures ok { OnOk result (self.new ≡ acked self.old (holder client ino) against) }
+        ensures refused { result_err result ≡ first_failing (ack_tests self.old.entries (holder client ino) seq against) }
+        ensures ok { OnOk result (self.new ≡ words.with_acked self.old (holder client ino) against) }
         ensures err { OnErr result (self.new ≡ self.old) }
     {
         if let Some(refusal) = self.ack_refusal(client, ino, seq, against) {
@@ -255,8 +256,8 @@ impl CapTable {
     /// The client releases these caps: it neither holds nor wants them any more. With the pin among them its
     /// whole entry goes, from both orders. It is refused as NoEntry, or as NotHeld.
     pub fn release(&mut self, client: ClientId, ino: Ino, caps: CapSet) -> Result<(), Refusal>
-        ensures refused { result_err result ≡ first_failing (release_tests self.old (holder client ino) caps) }
-        ensures ok { OnOk result (self.new ≡ released self.old (holder client ino) caps) }
+        ensures refused { result_err result ≡ first_failing (release_tests self.old.entries (holder client ino) caps) }
+        ensures ok { OnOk result (self.new ≡ words.with_released self.old (holder client ino) caps) }
         ensures err { OnErr result (self.new ≡ self.old) }
     {
         if let Some(refusal) = self.release_refusal(client, ino, caps) {
@@ -271,10 +272,10 @@ impl CapTable {
     /// Makes the client's entry on the inode, last in both orders, which holds and wants nothing. For want of memory
     /// nothing changes.
     pub fn open_entry_tested(&mut self, client: ClientId, ino: Ino) -> Result<(), AllocError>
-        requires new { entry_at self.old (holder client ino) ≡ None }
-        requires made { self.old.made < 2 ^ 64 - 1 }
-        requires passed { first_failing (open_tests self.old) ≡ None }
-        ensures ok { OnOk result (self.new ≡ opened self.old (holder client ino)) }
+        requires new { entry_at self.old.entries (holder client ino) ≡ None }
+        requires made { self.old.entries.made < 2 ^ 64 - 1 }
+        requires passed { first_failing (open_tests self.old.entries) ≡ None }
+        ensures ok { OnOk result (self.new ≡ words.with_opened self.old (holder client ino)) }
         ensures err { OnErr result (self.new ≡ self.old) }
     {
         let holder = Holder { client, ino };
@@ -282,7 +283,12 @@ impl CapTable {
         begin_poll(&mut self.polls, client)?;
         let entry = Entry::new();
         let number = self.made;
-        let slot = Slot { entry, number };
+        let sets = Sets::none();
+        let slot = Slot {
+            entry,
+            sets,
+            number,
+        };
         let added = add_node::<Brand>(&mut self.lists, holder, slot, Blank::new(1));
         let Ok(key) = added else {
             end_poll(&mut self.polls, &self.lists, client);
@@ -295,9 +301,9 @@ impl CapTable {
 
     // Changes the holder's entry, where it has one, by one search, and answers what it was. It is looked at first the next time.
     fn edit(&mut self, holder: Holder, edit: Edit) -> Option<Entry>
-        requires { is_numbering edit ≡ true → IfSome (entry_at self.old holder) (λ entry. entry.seq < 2 ^ 64 - 1) }
-        ensures was { result ≡ entry_at self.old holder }
-        ensures changed { self.new ≡ changed self.old holder (edited edit) }
+        requires { is_numbering edit ≡ true → IfSome (entry_at self.old.entries holder) (λ entry. entry.seq < 2 ^ 64 - 1) }
+        ensures was { result ≡ entry_at self.old.entries holder }
+        ensures changed { self.new ≡ words.with_changed self.old holder (edited edit) }
     {
         let key = key_of(&self.lists, holder, self.near)?;
         let Some(node) = self.lists.get(key) else {
@@ -317,14 +323,14 @@ impl CapTable {
 
     /// The client wants these caps from now on. Where it has no entry, nothing happens.
     pub fn set_want(&mut self, client: ClientId, ino: Ino, want: CapSet)
-        ensures { self.new ≡ changed self.old (holder client ino) (wanting want) }
+        ensures { self.new ≡ words.with_changed self.old (holder client ino) (wanting want) }
     {
         let _found = self.edit(Holder { client, ino }, Edit::Want(want));
     }
 
     /// The client holds these caps too from now on. Where it has no entry, nothing happens.
     pub fn issue(&mut self, client: ClientId, ino: Ino, caps: CapSet)
-        ensures { self.new ≡ changed self.old (holder client ino) (issued caps) }
+        ensures { self.new ≡ words.with_changed self.old (holder client ino) (issued caps) }
     {
         let _found = self.edit(Holder { client, ino }, Edit::Issue(caps));
     }
@@ -333,8 +339,8 @@ impl CapTable {
     /// of `against`, which are being revoked. If it held the pin and that is among them, its whole entry
     /// goes, whatever else it holds, from both orders.
     pub fn ack_tested(&mut self, client: ClientId, ino: Ino, seq: u64, against: CapSet)
-        requires passed { first_failing (ack_tests self.old (holder client ino) seq against) ≡ None }
-        ensures { self.new ≡ acked self.old (holder client ino) against }
+        requires passed { first_failing (ack_tests self.old.entries (holder client ino) seq against) ≡ None }
+        ensures { self.new ≡ words.with_acked self.old (holder client ino) against }
     {
         let holder = Holder { client, ino };
         if against.has(Cap::P) && self.has_pin(holder) {
@@ -346,7 +352,7 @@ impl CapTable {
 
     // Whether the holder has an entry and holds the pin.
     fn has_pin(&self, holder: Holder) -> bool
-        ensures { result ≡ test_at has_pin self.now holder }
+        ensures { result ≡ test_at has_pin self.now.entries holder }
     {
         match self.find(holder.client, holder.ino) {
             Some(entry) => entry.held.has(Cap::P),
@@ -358,8 +364,8 @@ impl CapTable {
     /// differ, the entry's number rises by one, and if a cap went, the new number is that of a revocation too.
     /// Where the client has no entry, nothing happens.
     pub fn renumber(&mut self, client: ClientId, ino: Ino, before: CapSet, after: CapSet)
-        requires { IfSome (entry_at self.old (holder client ino)) (λ entry. entry.seq < 2 ^ 64 - 1) }
-        ensures { self.new ≡ changed self.old (holder client ino) (renumbered before after) }
+        requires { IfSome (entry_at self.old.entries (holder client ino)) (λ entry. entry.seq < 2 ^ 64 - 1) }
+        ensures { self.new ≡ words.with_changed self.old (holder client ino) (renumbered before after) }
     {
         let _found = self.edit(Holder { client, ino }, Edit::Renumber { before, after });
     }
@@ -374,8 +380,8 @@ impl CapTable {
         before: CapSet,
         after: CapSet,
     )
-        requires { IfSome (entry_at self.old (holder client ino)) (λ entry. entry.seq < 2 ^ 64 - 1) }
-        ensures { self.new ≡ changed self.old (holder client ino) (λ entry. renumbered before after (issued caps entry)) }
+        requires { IfSome (entry_at self.old.entries (holder client ino)) (λ entry. entry.seq < 2 ^ 64 - 1) }
+        ensures { self.new ≡ words.with_changed self.old (holder client ino) (λ entry. renumbered before after (issued caps entry)) }
     {
         let edit = Edit::IssueNumbered {
             caps,
@@ -387,15 +393,15 @@ impl CapTable {
 
     /// The client was told of the entry's last change. Where it has no entry, nothing happens. It answers what the entry was.
     pub fn tell(&mut self, client: ClientId, ino: Ino) -> Option<Entry>
-        ensures was { result ≡ entry_at self.old (holder client ino) }
-        ensures told { self.new ≡ changed self.old (holder client ino) with_told }
+        ensures was { result ≡ entry_at self.old.entries (holder client ino) }
+        ensures told { self.new ≡ words.with_changed self.old (holder client ino) with_told }
     {
         self.edit(Holder { client, ino }, Edit::Tell)
     }
 
     /// Marks the client's entry as asked to release caps, or as not asked. Where it has no entry, nothing happens.
     pub fn ask(&mut self, client: ClientId, ino: Ino, asked: bool)
-        ensures { self.new ≡ changed self.old (holder client ino) (with_asked asked) }
+        ensures { self.new ≡ words.with_changed self.old (holder client ino) (with_asked asked) }
     {
         let _found = self.edit(Holder { client, ino }, Edit::Ask(asked));
     }
@@ -403,22 +409,95 @@ impl CapTable {
     /// The client is to be told the inode's size, in a message that is due from now on. Where it has no entry, nothing
     /// happens.
     pub fn owe_size(&mut self, client: ClientId, ino: Ino)
-        ensures { self.new ≡ changed self.old (holder client ino) (with_size_due true) }
+        ensures { self.new ≡ words.with_changed self.old (holder client ino) (with_size_due true) }
     {
         let _found = self.edit(Holder { client, ino }, Edit::OweSize(true));
     }
 
     /// The client was told the inode's size. Where it has no entry, nothing happens.
     pub fn tell_size(&mut self, client: ClientId, ino: Ino)
-        ensures { self.new ≡ changed self.old (holder client ino) (with_size_due false) }
+        ensures { self.new ≡ words.with_changed self.old (holder client ino) (with_size_due false) }
     {
         let _found = self.edit(Holder { client, ino }, Edit::OweSize(false));
     }
 
+    // ---- what is kept beside the entries
+
+    /// What is kept beside the client's entry on the inode, where it has one.
+    pub fn kept(&self, client: ClientId, ino: Ino) -> Option<Sets>
+        ensures kept { result ≡ sets_beside self.now.kept (holder client ino) }
+        ensures beside { AreBeside self.now }
+        ensures sound { IsTable self.now.entries }
+    {
+        let key = key_of(&self.lists, Holder { client, ino }, self.near)?;
+        let beside = self.lists.get(key)?;
+        Some(beside.value.sets)
+    }
+
+    /// What the client is permitted to hold of the inode, as it is kept beside its entry, where it has one.
+    pub fn kept_permitted(&self, client: ClientId, ino: Ino) -> Option<CapSet>
+        ensures { result ≡ permitted_beside self.now.kept (holder client ino) }
+    {
+        Some(self.kept(client, ino)?.permitted)
+    }
+
+    /// Keeps this beside the client's entry on the inode, from now on, as what it is permitted to hold. Where it has no entry,
+    /// nothing happens. It takes no memory.
+    pub fn keep_permitted(&mut self, client: ClientId, ino: Ino, permitted: CapSet)
+        ensures { self.new ≡ words.with_kept self.old (holder client ino) (permitting permitted) }
+    {
+        if let Some(kept) = self.kept(client, ino) {
+            self.keep(client, ino, Sets { permitted, ..kept });
+        }
+    }
+
+    /// Keeps this beside the client's entry on the inode, from now on, as what it is to know of. Where it has no entry, nothing
+    /// happens. It takes no memory.
+    pub fn keep_told(&mut self, client: ClientId, ino: Ino, told: CapSet)
+        ensures { self.new ≡ words.with_kept self.old (holder client ino) (telling told) }
+    {
+        if let Some(kept) = self.kept(client, ino) {
+            self.keep(client, ino, Sets { told, ..kept });
+        }
+    }
+
+    /// Keeps these sets beside the client's entry on the inode from now on. Where it has no entry, nothing happens. It takes no
+    /// memory.
+    pub fn keep(&mut self, client: ClientId, ino: Ino, sets: Sets)
+        ensures { self.new ≡ words.with_kept self.old (holder client ino) (λ _. sets) }
+    {
+        if let Some(key) = key_of(&self.lists, Holder { client, ino }, self.near) {
+            keep_sets(&mut self.lists, key, sets);
+            self.near = key;
+        }
+    }
+
+    /// The first holder on the inode, in the order of making. With `next_on` a walk over them one by one, in which what is kept may
+    /// change.
+    pub fn first_on(&self, ino: Ino) -> Option<Holder>
+        ensures first { result ≡ slice_get (holders_of_rows (entries_on self.now.entries ino)) 0 }
+        ensures sound { IsTable self.now.entries }
+    {
+        let key = self.lists.first_of_ino(ino)?;
+        holder_at(&self.lists, key)
+    }
+
+    /// The holder on the same inode that comes after this one in the order of making; none if it is the last, or has no entry.
+    pub fn next_on(&self, client: ClientId, ino: Ino) -> Option<Holder>
+        ensures after { result ≡ newer_in (holders_of_rows (entries_on self.now.entries ino)) (holder client ino) }
+        ensures sound { IsTable self.now.entries }
+    {
+        let key = key_of(&self.lists, Holder { client, ino }, self.near)?;
+        let next = self.lists.next_of_ino(key)?;
+        holder_at(&self.lists, next)
+    }
+
+    // ---- the order of recall, and walks
+
     /// The first holder in the order of recall.
     pub fn oldest(&self) -> Option<Holder>
-        ensures first { result ≡ slice_get self.now.recall 0 }
-        ensures sound { IsTable self.now }
+        ensures first { result ≡ slice_get self.now.entries.recall 0 }
+        ensures sound { IsTable self.now.entries }
     {
         let key = self.lists.oldest()?;
         holder_at(&self.lists, key)
@@ -426,8 +505,8 @@ impl CapTable {
 
     /// The holder after this one in the order of recall; none if it is the last, or has no entry.
     pub fn newer(&self, client: ClientId, ino: Ino) -> Option<Holder>
-        ensures after { result ≡ newer_in self.now.recall (holder client ino) }
-        ensures sound { IsTable self.now }
+        ensures after { result ≡ newer_in self.now.entries.recall (holder client ino) }
+        ensures sound { IsTable self.now.entries }
     {
         let key = key_of(&self.lists, Holder { client, ino }, self.near)?;
         let next = self.lists.newer(key)?;
@@ -436,7 +515,7 @@ impl CapTable {
 
     /// The client's entry becomes the last in the order of recall. Where it has no entry, nothing happens.
     pub fn touch(&mut self, client: ClientId, ino: Ino)
-        ensures { self.new ≡ touched self.old (holder client ino) }
+        ensures { self.new ≡ record self.old { entries = touched self.old.entries (holder client ino) } }
     {
         if let Some(key) = key_of(&self.lists, Holder { client, ino }, self.near) {
             touch_node::<Brand>(&mut self.lists, key, Blank::new(1));
@@ -447,8 +526,8 @@ impl CapTable {
     /// The client releases these caps: it neither holds nor wants them any more. With the pin among them its
     /// whole entry goes, from both orders.
     pub fn release_tested(&mut self, client: ClientId, ino: Ino, caps: CapSet)
-        requires passed { first_failing (release_tests self.old (holder client ino) caps) ≡ None }
-        ensures { self.new ≡ released self.old (holder client ino) caps }
+        requires passed { first_failing (release_tests self.old.entries (holder client ino) caps) ≡ None }
+        ensures { self.new ≡ words.with_released self.old (holder client ino) caps }
     {
         let holder = Holder { client, ino };
         if caps.has(Cap::P) {
@@ -460,7 +539,7 @@ impl CapTable {
 
     // Takes the holder out of both orders.
     fn remove(&mut self, holder: Holder)
-        ensures { self.new ≡ without self.old holder }
+        ensures { self.new ≡ words.with_none self.old holder }
     {
         if let Some(key) = key_of(&self.lists, holder, self.near) {
             let next = self.lists.next_of_client(key);
@@ -476,8 +555,9 @@ impl CapTable {
 
     // The holder of the client's first entry.
     fn first_of(&self, client: ClientId) -> Option<Holder>
-        ensures first { result ≡ first_holder (filter (is_of_client client) self.now.rows) }
-        ensures sound { IsTable self.now }
+        ensures first { result ≡ first_holder (filter (is_of_client client) self.now.entries.rows) }
+        ensures sound { IsTable self.now.entries }
+        ensures beside { AreBeside self.now }
     {
         let key = self.lists.first_of_client(client)?;
         holder_at(&self.lists, key)
@@ -485,7 +565,7 @@ impl CapTable {
 
     /// All entries of the client go, from both orders.
     pub fn drop_client(&mut self, client: ClientId)
-        ensures { self.new ≡ without_client self.old client }
+        ensures { self.new ≡ words.with_no_client self.old client }
     {
         'entries: while let Some(first) = self.first_of(client) {
             self.remove(first);
@@ -494,8 +574,8 @@ impl CapTable {
 
     /// The client's entries, in the order of making.
     pub fn entries_of(&self, client: ClientId) -> Walk<'_>
-        ensures rows { result ≡ filter (is_of_client client) self.now.rows }
-        ensures sound { IsTable self.now }
+        ensures rows { result ≡ filter (is_of_client client) self.now.entries.rows }
+        ensures sound { IsTable self.now.entries }
     {
         Walk::of_client(&self.lists, client)
     }
@@ -503,8 +583,8 @@ impl CapTable {
     /// The client's entries from the place on that `skip_quiet` came to, or from an earlier one, of which an entry is due
     /// since then, in the order of making: among them each entry that is due.
     pub fn due_of(&self, client: ClientId) -> Walk<'_>
-        ensures due { filter is_due result ≡ filter is_due (filter (is_of_client client) self.now.rows) }
-        ensures sound { IsTable self.now }
+        ensures due { filter is_due result ≡ filter is_due (filter (is_of_client client) self.now.entries.rows) }
+        ensures sound { IsTable self.now.entries }
     {
         let at = quiet_place(&self.polls, &self.lists, client);
         Walk::from_place(&self.lists, client, at)
@@ -512,7 +592,7 @@ impl CapTable {
 
     /// How many of the client's entries are due.
     pub fn due_count(&self, client: ClientId) -> usize
-        ensures { result ≡ length (filter is_due (filter (is_of_client client) self.now.rows)) }
+        ensures { result ≡ length (filter is_due (filter (is_of_client client) self.now.entries.rows)) }
     {
         count_of(&self.polls, client)
     }
@@ -531,15 +611,15 @@ impl CapTable {
 
     /// The entries on the inode, in the order of making.
     pub fn holders_of(&self, ino: Ino) -> Walk<'_>
-        ensures rows { result ≡ filter (is_of_inode ino) self.now.rows }
-        ensures sound { IsTable self.now }
+        ensures rows { result ≡ filter (is_of_inode ino) self.now.entries.rows }
+        ensures sound { IsTable self.now.entries }
     {
         Walk::of_inode(&self.lists, ino)
     }
 
     /// Whether somebody has an entry on the inode.
     pub fn is_held(&self, ino: Ino) -> bool
-        ensures { result ≡ list_any (is_of_inode ino) self.now.rows }
+        ensures { result ≡ list_any (is_of_inode ino) self.now.entries.rows }
     {
         self.lists.first_of_ino(ino).is_some()
     }
@@ -547,8 +627,8 @@ impl CapTable {
     /// Marks the first `n` entries in the order of recall as asked to release caps, and answers whose they are, in this
     /// order; all of them if there are fewer. The order stays. For want of memory nothing changes.
     pub fn recall(&mut self, n: u32) -> Result<Holders, AllocError>
-        ensures named { IfOk result (λ named. named ≡ take n self.old.recall) }
-        ensures ok { OnOk result (self.new ≡ recalled self.old n) }
+        ensures named { IfOk result (λ named. named ≡ take n self.old.entries.recall) }
+        ensures ok { OnOk result (self.new ≡ record self.old { entries = recalled self.old.entries n }) }
         ensures err { OnErr result (self.new ≡ self.old) }
     {
         // All are named before one is marked, since the list of them may want memory.
@@ -559,8 +639,8 @@ impl CapTable {
 
     /// The first `n` holders in the order of recall, all of them if there are fewer: those that `recall` would name.
     pub fn first_to_recall(&self, n: u32) -> Result<Holders, AllocError>
-        ensures named { IfOk result (λ named. named ≡ take n self.now.recall) }
-        ensures sound { IsTable self.now }
+        ensures named { IfOk result (λ named. named ≡ take n self.now.entries.recall) }
+        ensures sound { IsTable self.now.entries }
     {
         let named = first_holders(&self.lists, self.alloc, n)?;
         Ok(Holders::from_vec(named))
@@ -568,7 +648,7 @@ impl CapTable {
 
     // Marks the entries of these holders as asked to release caps.
     fn ask_all(&mut self, holders: &[Holder])
-        ensures { self.new ≡ fold (changed_by asking) self.old holders.now }
+        ensures { self.new ≡ record self.old { entries = fold (changed_by asking) self.old.entries holders.now } }
     {
         for holder in holders {
             self.ask(holder.client, holder.ino, true);
@@ -578,7 +658,7 @@ impl CapTable {
     /// The nodes of the entries, in three lists at once: those on each inode and those of each client, both in the order
     /// of making, and all of them in the order of recall.
     pub fn lists(&self) -> &TripleLists<Slot>
-        ensures lists { AreLists self.now result.now }
+        ensures lists { AreLists self.now.entries result.now }
         ensures sound { IsLists result.now }
     {
         &self.lists

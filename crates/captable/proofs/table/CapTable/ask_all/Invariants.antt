@@ -4,4 +4,4 @@ use Rattle.captable.specs.Many.{changed_by, asking}
 use Rattle.captable.proofs.table.CapTable.ask_all.Given as goal
 
 abbrev pub invariant-loop-holder : goal.invariant-loop-holder
-invariant-loop-holder l = l.self ≡ fold (changed_by asking) l.fn.self (take l.holder-index l.holders)
+invariant-loop-holder l = l.self ≡ record l.fn.self { entries = fold (changed_by asking) l.fn.self.entries (take l.holder-index l.holders) }

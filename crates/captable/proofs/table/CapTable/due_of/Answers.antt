@@ -3,6 +3,7 @@ use Rattle.cap_arena.specs.Lists.{OfClient, keys}
 use Rattle.captable.specs.Table.{Table}
 use Rattle.captable.specs.Calls.{is_of_client, is_due}
 use Rattle.captable.proofs.QuietKeys.{rows-due}
+use Rattle.captable.proofs.Beside.{entries_are}
 use Rattle.captable.proofs.table.CapTable.due_of.Goals as goal
 
 pub returns-clause-due : goal.returns-clause-due
@@ -12,4 +13,4 @@ returns-clause-due c =
     ap (filter is_due) c.from_place.ensures
     ∙ rows-due t (keys t (OfClient client)) c.quiet_place-at.result (c.self.invariant.0.sound.lists (OfClient client)).once c.quiet_place-at.ensures.quiet
     ∙ ap (filter is_due) (c.self.invariant.0.clients client)
-    ∙ ap (λ (u : Table). filter is_due (filter (is_of_client client) u.rows)) c.self.view_is
+    ∙ ap (λ (u : Table). filter is_due (filter (is_of_client client) u.rows)) (entries_are c.self.view_is)

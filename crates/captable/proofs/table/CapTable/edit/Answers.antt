@@ -8,10 +8,11 @@ use Rattle.captable.specs.declared.entry.Entry.{Entry}
 use Rattle.captable.specs.declared.entry.Holder.{Holder}
 use Rattle.captable.specs.declared.entry.Slot.{Slot}
 use Rattle.captable.specs.Table.{Table, entry_at}
-use Rattle.captable.specs.Nodes.{SetsEntry, IsKeyOf, table_of}
+use Rattle.captable.specs.Nodes.{SetsEntry, IsKeyOf, table_of, both_of}
 use Rattle.captable.specs.Polls.{places_of, counts_of, recounted}
 use Rattle.captable.specs.Calls.{changed, is_due_entry}
 use Rattle.captable.specs.Edits.{edited}
+use Rattle.captable.specs.Kept.{with_changed}
 use Rattle.captable.specs.Linked.{IsLinked}
 use Rattle.captable.specs.Places.{lowered, is_due_at}
 use Rattle.captable.proofs.Changes.{put_found, none_found}
@@ -22,20 +23,22 @@ use Rattle.captable.proofs.Placed.{placed-set, placed-alike, placed-same, quiet-
 use Rattle.captable.proofs.Polled.{if_part, places-changed, places-kept, counts-changed, counts-kept, counts-placed}
 use Rattle.captable.proofs.Quiet.{quiet-set, quiet-due}
 use Rattle.captable.proofs.Reading.{entry-found, entry-none, node-there}
-use Rattle.captable.proofs.Setting.{IsLinked-put, table-put}
+use Rattle.captable.proofs.Setting.{IsLinked-put, table-put, kept-put}
+use Rattle.captable.proofs.Beside.{two, entries_are, kept_are}
 use Rattle.captable.proofs.table.CapTable.edit.Goals as goal
 use Rattle.captable.proofs.table.CapTable.edit.Goals.{Joined-is, then-is, else-is}
 
 pub returns-in_err-key-clause-was : goal.returns-in_err-key-clause-was
 returns-in_err-key-clause-was c =
     let h = c.args.holder in
-    c.from_residual.ensures ∙ sym (entry-none c.self.inside.lists c.self.inside.made c.self.invariant.0 h c.in_err-key.ensures.none) ∙ ap (λ t. entry_at t h) c.self.view_is
+    c.from_residual.ensures ∙ sym (entry-none c.self.inside.lists c.self.inside.made c.self.invariant.0 h c.in_err-key.ensures.none) ∙ ap (λ t. entry_at t h) (entries_are c.self.view_is)
 
 pub returns-in_err-key-clause-changed : goal.returns-in_err-key-clause-changed
 returns-in_err-key-clause-changed c =
     let h = c.args.holder in
-    none_found c.args.self.now h (edited c.args.edit)
-    (ap (λ t. entry_at t h) (sym c.self.view_is) ∙ entry-none c.self.inside.lists c.self.inside.made c.self.invariant.0 h c.in_err-key.ensures.none)
+    ap (λ (es : Table). record c.args.self.now { entries = es })
+    (none_found c.args.self.now.entries h (edited c.args.edit)
+    (ap (λ t. entry_at t h) (sym (entries_are c.self.view_is)) ∙ entry-none c.self.inside.lists c.self.inside.made c.self.invariant.0 h c.in_err-key.ensures.none))
 
 -- the node that is found tells the holder's entry
 found_there : (t : Lists Slot) (made : ℕ) (linked : IsLinked t made) (now : Table) (h : Holder) (key : ℕ) (n : Node Slot) → table_of t made ≡ now → IsKeyOf t h key → Some n ≡ node_at t key
@@ -44,7 +47,7 @@ found_there t made linked now h key n is found there = sym (entry-found t made l
 
 pub edited-entry-requires : goal.edited-entry-requires
 edited-entry-requires c = λ numbering.
-    subst (λ o. IfSome o (λ (entry : Entry). entry.seq < 18446744073709551615)) (sym (found_there c.self.inside.lists c.self.inside.made c.self.invariant.0 c.args.self.now c.args.holder c.in_ok-key.key c.in-Some.node c.self.view_is c.in_ok-key.ensures.found c.in-Some.ensures.node)) (c.requires numbering)
+    subst (λ o. IfSome o (λ (entry : Entry). entry.seq < 18446744073709551615)) (sym (found_there c.self.inside.lists c.self.inside.made c.self.invariant.0 c.args.self.now.entries c.args.holder c.in_ok-key.key c.in-Some.node (entries_are c.self.view_is) c.in_ok-key.ensures.found c.in-Some.ensures.node)) (c.requires numbering)
 
 pub count_again-requires : goal.count_again-requires
 count_again-requires c =
@@ -111,10 +114,10 @@ invariant_of-self-else-is c =
 
 pub returns-clause-was : goal.returns-clause-was
 returns-clause-was c =
-    found_there c.self.inside.lists c.self.inside.made c.self.invariant.0 c.args.self.now c.args.holder c.in_ok-key.key c.in-Some.node c.self.view_is c.in_ok-key.ensures.found c.in-Some.ensures.node
+    found_there c.self.inside.lists c.self.inside.made c.self.invariant.0 c.args.self.now.entries c.args.holder c.in_ok-key.key c.in-Some.node (entries_are c.self.view_is) c.in_ok-key.ensures.found c.in-Some.ensures.node
 
 -- what the table is once the node has the entry
-put_there : (c : Joined-is) → table_of c.set_entry.new.lists c.self.inside.made ≡ changed c.args.self.now c.args.holder (edited c.args.edit)
+put_there : (c : Joined-is) → both_of c.set_entry.new.lists c.self.inside.made ≡ with_changed c.args.self.now c.args.holder (edited c.args.edit)
 put_there c =
     let t = c.self.inside.lists in
     let made = c.self.inside.made in
@@ -122,11 +125,13 @@ put_there c =
     let key = c.in_ok-key.key in
     let x = c.edited-entry.result in
     let found : IsKeyOf t h key = c.in_ok-key.ensures.found in
-    table-put t c.set_entry.new.lists made h key x c.self.invariant.0 found (c.set_entry.ensures.there (node-there t made c.self.invariant.0 h key found))
-    ∙ ap (λ t. changed t h (λ _. x)) c.self.view_is
-    ∙ put_found c.args.self.now h c.in-Some.node.value.entry x (edited c.args.edit)
-    (sym (found_there c.self.inside.lists c.self.inside.made c.self.invariant.0 c.args.self.now c.args.holder c.in_ok-key.key c.in-Some.node c.self.view_is c.in_ok-key.ensures.found c.in-Some.ensures.node))
-    c.edited-entry.ensures
+    let sets : SetsEntry t c.set_entry.new.lists key x = c.set_entry.ensures.there (node-there t made c.self.invariant.0 h key found) in
+    let there = found_there t made c.self.invariant.0 c.args.self.now.entries h key c.in-Some.node (entries_are c.self.view_is) found c.in-Some.ensures.node in
+    two
+    (table-put t c.set_entry.new.lists made h key x c.self.invariant.0 found sets
+    ∙ ap (λ t. changed t h (λ _. x)) (entries_are c.self.view_is)
+    ∙ put_found c.args.self.now.entries h c.in-Some.node.value.entry x (edited c.args.edit) (sym there) c.edited-entry.ensures)
+    (kept-put t c.set_entry.new.lists made h key x c.self.invariant.0 found sets ∙ kept_are c.self.view_is)
 
 pub returns-clause-changed : goal.returns-clause-changed
 returns-clause-changed c = elim c.if-is.branch [

@@ -5,6 +5,7 @@ use Rattle.captable.specs.declared.entry.Holder.{Holder}
 use Rattle.captable.specs.Nodes.{holder_of}
 use Rattle.captable.specs.Table.{holder, entry_at}
 use Rattle.captable.proofs.Reading.{entry-found}
+use Rattle.captable.proofs.Beside.{entries_are}
 use Rattle.captable.proofs.table.CapTable.find_near.Goals as goal
 
 -- the node that stands at the place is the holder's, so the holder's key is this place
@@ -15,4 +16,4 @@ returns-then-node-ino c =
     let mine : holder_of c.in-Some.node ≡ h = λ i. holder (record { 0 = c.if-node-client.true i }) (record { 0 = c.if-node-ino.true i }) in
     let key = ap (option_map holder_of) there ∙ ap Some mine in
     sym (entry-found c.self.inside.lists c.self.inside.made c.self.invariant.0 h c.args.place c.in-Some.node key there)
-    ∙ ap (λ t. entry_at t h) c.self.view_is
+    ∙ ap (λ t. entry_at t h) (entries_are c.self.view_is)

@@ -5,6 +5,7 @@ use Rattle.captable.specs.declared.entry.EntryRow.{EntryRow}
 use Rattle.captable.specs.Calls.{is_of_inode}
 use Rattle.captable.specs.Table.{Table}
 use Rattle.captable.proofs.WalkOn.{some-first}
+use Rattle.captable.proofs.Beside.{entries_are}
 use Rattle.captable.proofs.table.CapTable.is_held.Goals as goal
 
 some_pass : (p : EntryRow → Bool) (rows : List EntryRow) → list_any (λ _. true) (filter p rows) ≡ list_any p rows
@@ -16,5 +17,5 @@ returns c =
     let on : EntryRow → Bool = is_of_inode c.args.ino in
     c.is_some.ensures ∙ ap is_some c.first_of_ino.ensures.first ∙ some-first c.self.inside.lists c.first_of_ino.ensures.sound (OfInode c.args.ino)
     ∙ ap (list_any (λ _. true)) (c.self.invariant.0.inodes c.args.ino)
-    ∙ ap (λ (t : Table). list_any (λ _. true) (filter on t.rows)) c.self.view_is
-    ∙ some_pass on c.args.self.now.rows
+    ∙ ap (λ (t : Table). list_any (λ _. true) (filter on t.rows)) (entries_are c.self.view_is)
+    ∙ some_pass on c.args.self.now.entries.rows

@@ -5,13 +5,14 @@ use Rattle.captable.specs.Table.{Table, holder}
 use Rattle.captable.specs.Calls.{newer_in}
 use Rattle.captable.specs.Nodes.{holder_of}
 use Rattle.captable.proofs.Reading.{newer-found, newer-none}
+use Rattle.captable.proofs.Beside.{entries_are}
 use Rattle.captable.proofs.table.CapTable.newer.Goals as goal
 
 pub returns-in_err-key-clause-after : goal.returns-in_err-key-clause-after
 returns-in_err-key-clause-after c =
     let h = holder c.args.client c.args.ino in
     c.from_residual.ensures ∙ sym (newer-none c.self.inside.lists c.self.inside.made c.self.invariant.0 h c.in_err-key.ensures.none)
-    ∙ ap (λ (t : Table). newer_in t.recall h) c.self.view_is
+    ∙ ap (λ (t : Table). newer_in t.recall h) (entries_are c.self.view_is)
 
 pub returns-in_err-next-clause-after : goal.returns-in_err-next-clause-after
 returns-in_err-next-clause-after c =
@@ -20,7 +21,7 @@ returns-in_err-next-clause-after c =
     c.from_residual-in_err-next.ensures
     ∙ ap (λ o. option_and_then (λ k. option_map holder_of (node_at t k)) o) c.in_err-next.ensures.next
     ∙ sym (newer-found t c.self.inside.made c.self.invariant.0 h c.in_ok-key.key c.in_ok-key.ensures.found)
-    ∙ ap (λ (t : Table). newer_in t.recall h) c.self.view_is
+    ∙ ap (λ (t : Table). newer_in t.recall h) (entries_are c.self.view_is)
 
 pub returns-clause-after : goal.returns-clause-after
 returns-clause-after c =
@@ -29,4 +30,4 @@ returns-clause-after c =
     c.holder_at.ensures
     ∙ ap (λ o. option_and_then (λ k. option_map holder_of (node_at t k)) o) c.in_ok-next.ensures.next
     ∙ sym (newer-found t c.self.inside.made c.self.invariant.0 h c.in_ok-key.key c.in_ok-key.ensures.found)
-    ∙ ap (λ (t : Table). newer_in t.recall h) c.self.view_is
+    ∙ ap (λ (t : Table). newer_in t.recall h) (entries_are c.self.view_is)

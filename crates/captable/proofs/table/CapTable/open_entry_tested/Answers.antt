@@ -17,12 +17,14 @@ use Rattle.captable.proofs.Placed.{quiet-begun, placed-begun, begun-there}
 use Rattle.captable.proofs.Polled.{begun_at, part-begun, part-there, begun-back}
 use Rattle.captable.proofs.Quiet.{quiet-added}
 use Rattle.captable.proofs.Reading.{refused-alike}
-use Rattle.captable.proofs.Opening.{IsLinked-more, table-more}
+use Rattle.captable.proofs.Opening.{IsLinked-more, table-more, kept-more}
+use Rattle.captable.proofs.Beside.{two, entries_are, kept_are}
+use Rattle.captable.specs.Kept as words
 use Rattle.captable.proofs.table.CapTable.open_entry_tested.Goals as goal
 
 pub add_node-added-requires-clause-passed : goal.add_node-added-requires-clause-passed
 add_node-added-requires-clause-passed c =
-    refused-alike c.self.inside.lists c.self.inside.made c.self.invariant.0 ∙ ap (λ t. first_failing (open_tests t)) c.self.view_is ∙ c.requires.passed
+    refused-alike c.self.inside.lists c.self.inside.made c.self.invariant.0 ∙ ap (λ t. first_failing (open_tests t)) (entries_are c.self.view_is) ∙ c.requires.passed
 
 pub invariant_of-self : goal.invariant_of-self
 invariant_of-self c =
@@ -62,8 +64,8 @@ invariant_of-self-2 c =
     let client = c.args.client in
     let key = c.in-Ok.key in
     let h = holder client c.args.ino in
-    let x : Node Slot = record { client = client; ino = c.args.ino; value = record { entry = c.new-entry.result; number = made } } in
-    let new = ap (λ t. entry_at t h) c.self.view_is ∙ c.requires.new in
+    let x : Node Slot = record { client = client; ino = c.args.ino; value = record { entry = c.new-entry.result; sets = c.none-sets.result; number = made } } in
+    let new = ap (λ t. entry_at t h) (entries_are c.self.view_is) ∙ c.requires.new in
     let m = c.self.inside.polls in
     let n = c.begin_poll.new.polls in
     let places = part-begun (λ (poll : Poll). poll.place) m client n c.in_ok-begin_poll.ensures.ok in
@@ -72,7 +74,7 @@ invariant_of-self-2 c =
     let more : table_of t' (made + 1) ≡ opened (table_of t made) h =
     table-more t t' made key x c.self.invariant.0 c.in-Ok.ensures.ok c.new-entry.ensures refl new in (
       IsLinked-more t t' made key x c.self.invariant.0 c.in-Ok.ensures.ok c.new-entry.ensures refl new c.in-Ok.ensures.sound
-          (ap (λ t. first_failing (open_tests t)) c.self.view_is ∙ c.requires.passed),
+          (ap (λ t. first_failing (open_tests t)) (entries_are c.self.view_is) ∙ c.requires.passed),
       quiet-added t t' key x c.in-Ok.ensures.ok (ap is_due_entry c.new-entry.ensures) (places_of n) (quiet-begun t client (places_of m) (places_of n) places c.self.invariant.2 c.self.invariant.1),
       placed-begun t client (begun_at None) (begun-there None) (places_of m) (places_of n) places t' key x c.in-Ok.ensures.ok refl c.self.invariant.2,
       subst (λ (u : Table). AreCounted u.rows (counts_of n)) (sym more)
@@ -82,6 +84,11 @@ invariant_of-self-2 c =
 pub returns-clause-ok : goal.returns-clause-ok
 returns-clause-ok c =
     let h = holder c.args.client c.args.ino in
-    let x : Node Slot = record { client = c.args.client; ino = c.args.ino; value = record { entry = c.new-entry.result; number = c.self.inside.made } } in
-    table-more c.self.inside.lists c.add_node-added.new.lists c.self.inside.made c.in-Ok.key x c.self.invariant.0 c.in-Ok.ensures.ok
-    c.new-entry.ensures refl (ap (λ t. entry_at t h) c.self.view_is ∙ c.requires.new) ∙ ap (λ t. opened t h) c.self.view_is
+    let t = c.self.inside.lists in
+    let made = c.self.inside.made in
+    let x : Node Slot = record { client = c.args.client; ino = c.args.ino; value = record { entry = c.new-entry.result; sets = c.none-sets.result; number = made } } in
+    let new = ap (λ t. entry_at t h) (entries_are c.self.view_is) ∙ c.requires.new in
+    two
+    (table-more t c.add_node-added.new.lists made c.in-Ok.key x c.self.invariant.0 c.in-Ok.ensures.ok c.new-entry.ensures refl new ∙ ap (λ t. opened t h) (entries_are c.self.view_is))
+    (kept-more t c.add_node-added.new.lists made c.in-Ok.key x c.self.invariant.0 c.in-Ok.ensures.ok c.new-entry.ensures refl new c.none-sets.ensures
+    ∙ ap (λ kept. words.kept_more kept h) (kept_are c.self.view_is))

@@ -9,6 +9,7 @@ use Rattle.cap_arena.specs.Lists.{OfClient, keys}
 use Rattle.captable.specs.declared.entry.Holder.{Holder}
 use Rattle.captable.specs.Table.{IsTable, entry_at}
 use Rattle.captable.specs.Calls.{without}
+use Rattle.captable.specs.Kept.{kept_without}
 use Rattle.captable.specs.Linked.{IsLinked}
 use Rattle.captable.specs.Nodes.{IsKeyOf, table_of}
 use Rattle.captable.specs.Places.{same_client, AreQuiet, moved_on}
@@ -22,7 +23,9 @@ use Rattle.captable.proofs.Placed.{quiet-ended, placed-removed}
 use Rattle.captable.proofs.Polled.{if_part, part-ended, places-changed, places-kept, counts-changed, counts-kept, counts-placed}
 use Rattle.captable.proofs.Quiet.{quiet-removed}
 use Rattle.captable.proofs.WalkOn.{next-of-client}
-use Rattle.captable.proofs.Removing.{IsLinked-left, table-left}
+use Rattle.captable.proofs.Removing.{IsLinked-left, table-left, kept-left}
+use Rattle.captable.proofs.Beside.{two, entries_are, kept_are}
+use Rattle.captable.proofs.Kept.{kept-without-none}
 use Rattle.captable.proofs.table.CapTable.remove.Goals as goal
 
 pub remove_node-requires-clause-there : goal.remove_node-requires-clause-there
@@ -81,12 +84,18 @@ invariant_of-self c =
 pub returns-in-Some : goal.returns-in-Some
 returns-in-Some c =
     let h = c.args.holder in
-    table-left c.self.inside.lists c.remove_node.new.lists c.self.inside.made h c.in-Some.key c.self.invariant.0
-    c.in-Some.ensures.found c.remove_node.ensures.removed ∙ ap (λ t. without t h) c.self.view_is
+    let t = c.self.inside.lists in
+    two
+    (table-left t c.remove_node.new.lists c.self.inside.made h c.in-Some.key c.self.invariant.0 c.in-Some.ensures.found c.remove_node.ensures.removed
+    ∙ ap (λ t. without t h) (entries_are c.self.view_is))
+    (kept-left t c.remove_node.new.lists c.self.inside.made h c.in-Some.key c.self.invariant.0 c.in-Some.ensures.found c.remove_node.ensures.removed
+    ∙ ap (λ kept. kept_without kept h) (kept_are c.self.view_is))
 
 pub returns-in_default : goal.returns-in_default
 returns-in_default c =
     let h = c.args.holder in
     let none = c.in_default.ensures.none in
-    without-none c.args.self.now h (subst IsTable c.self.view_is c.self.invariant.0.table)
-    (ap (λ t. entry_at t h) (sym c.self.view_is) ∙ entry-none c.self.inside.lists c.self.inside.made c.self.invariant.0 h none)
+    two
+    (without-none c.args.self.now.entries h (subst IsTable (entries_are c.self.view_is) c.self.invariant.0.table)
+    (ap (λ t. entry_at t h) (sym (entries_are c.self.view_is)) ∙ entry-none c.self.inside.lists c.self.inside.made c.self.invariant.0 h none))
+    (sym (ap (λ kept. kept_without kept h) (sym (kept_are c.self.view_is)) ∙ kept-without-none c.self.inside.lists c.self.inside.made c.self.invariant.0 h none ∙ kept_are c.self.view_is))

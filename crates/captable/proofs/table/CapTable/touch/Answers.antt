@@ -7,7 +7,8 @@ use Rattle.captable.proofs.Absent.{touched-none}
 use Rattle.captable.proofs.Reading.{entry-none, node-there}
 use Rattle.captable.proofs.Placed.{placed-touched}
 use Rattle.captable.proofs.Quiet.{quiet-touched}
-use Rattle.captable.proofs.Touching.{IsLinked-touched, table-moved}
+use Rattle.captable.proofs.Touching.{IsLinked-touched, table-moved, kept-moved}
+use Rattle.captable.proofs.Beside.{two, entries_are, kept_are}
 use Rattle.captable.proofs.table.CapTable.touch.Goals as goal
 
 pub touch_node-requires-clause-there : goal.touch_node-requires-clause-there
@@ -30,12 +31,17 @@ invariant_of-self c =
 pub returns-in-Some : goal.returns-in-Some
 returns-in-Some c =
     let h = holder c.args.client c.args.ino in
-    table-moved c.self.inside.lists c.touch_node.new.lists c.self.inside.made h c.in-Some.key c.self.invariant.0
-    c.in-Some.ensures.found c.touch_node.ensures.touched ∙ ap (λ t. touched t h) c.self.view_is
+    let t = c.self.inside.lists in
+    two
+    (table-moved t c.touch_node.new.lists c.self.inside.made h c.in-Some.key c.self.invariant.0 c.in-Some.ensures.found c.touch_node.ensures.touched
+    ∙ ap (λ t. touched t h) (entries_are c.self.view_is))
+    (kept-moved t c.touch_node.new.lists c.self.inside.made h c.in-Some.key c.self.invariant.0 c.in-Some.ensures.found c.touch_node.ensures.touched
+    ∙ kept_are c.self.view_is)
 
 pub returns-in_default : goal.returns-in_default
 returns-in_default c =
     let h = holder c.args.client c.args.ino in
     let none = c.in_default.ensures.none in
-    touched-none c.args.self.now h (subst IsTable c.self.view_is c.self.invariant.0.table)
-    (ap (λ t. entry_at t h) (sym c.self.view_is) ∙ entry-none c.self.inside.lists c.self.inside.made c.self.invariant.0 h none)
+    ap (λ (es : Table). record c.args.self.now { entries = es })
+    (touched-none c.args.self.now.entries h (subst IsTable (entries_are c.self.view_is) c.self.invariant.0.table)
+    (ap (λ t. entry_at t h) (sym (entries_are c.self.view_is)) ∙ entry-none c.self.inside.lists c.self.inside.made c.self.invariant.0 h none))
