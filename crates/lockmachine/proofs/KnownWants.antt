@@ -9,7 +9,7 @@ use Rattle.sessiontab.specs.Table.{SessionTable}
 use Rattle.inotree.specs.Tree.{Nodes}
 use Rattle.captable.specs.declared.entry.EntryRow.{EntryRow}
 use Rattle.captable.specs.declared.on_inode.KnownRow.{KnownRow}
-use Rattle.captable.specs.declared.on_inode.Sets.{Sets}
+use Rattle.captable.specs.declared.entry.Sets.{Sets}
 use Rattle.captable.specs.Table.{Table, IsTable, entry_of}
 use Rattle.captable.specs.Calls.{is_of_inode, entries_on}
 use Rattle.captable.specs.Known.{KnownSets, no_sets, sets_on}

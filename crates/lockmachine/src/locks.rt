@@ -260,7 +260,7 @@ impl Locks {
     /// The first move that applies: the least gather that may end; else the oldest request that may be served; else the
     /// least lock that may begin; else none is left. It looks at all inodes.
     pub fn next_move(&self, table: &CapTable, sessions: &Sessions, tree: &Tree, fs: &FsName) -> Move
-        ensures { result ≡ first_move (scene fs.now tree.now sessions.now table.now self.now) }
+        ensures { result ≡ first_move (scene fs.now tree.now sessions.now table.now.entries self.now) }
     {
         if let Some((ino, part)) = self.first_end_of_all(table) {
             return Move::End { ino, part };
@@ -281,12 +281,12 @@ impl Locks {
         turn: Turn,
         wanted: &mut Option<Wants>,
     ) -> Move
-        requires turn { IsTurnOf (scene_by policy.now table.now self.now) turn.ino.0 }
+        requires turn { IsTurnOf (scene_by policy.now table.now.entries self.now) turn.ino.0 }
         requires sought { Suffices turn.sought self.now turn.ino.0 }
-        requires permitted { ArePermittedOn known.now.sets policy.now.fs.now policy.now.tree.now policy.now.sessions.now table.now turn.ino.0 }
-        requires wanted { IfSome wanted.old (λ wants. wants ≡ wanted_in_all (scene_by policy.now table.now self.now) turn.ino.0) }
-        ensures next { IsNextAt (scene_by policy.now table.now self.now) turn.ino.0 result }
-        ensures wanted { IfSome wanted.new (λ wants. wants ≡ wanted_in_all (scene_by policy.now table.now self.now) turn.ino.0) }
+        requires permitted { ArePermittedOn known.now.sets policy.now.fs.now policy.now.tree.now policy.now.sessions.now table.now.entries turn.ino.0 }
+        requires wanted { IfSome wanted.old (λ wants. wants ≡ wanted_in_all (scene_by policy.now table.now.entries self.now) turn.ino.0) }
+        ensures next { IsNextAt (scene_by policy.now table.now.entries self.now) turn.ino.0 result }
+        ensures wanted { IfSome wanted.new (λ wants. wants ≡ wanted_in_all (scene_by policy.now table.now.entries self.now) turn.ino.0) }
     {
         let Turn { ino, sought } = turn;
         if let Some(part) = self.first_end(table, ino) {
@@ -330,7 +330,7 @@ impl Locks {
     // The first lock of all that may end its gather.
     fn first_end_of_all(&self, table: &CapTable) -> Option<(Ino, Part)>
         ensures { option_map (λ at. (at.0.0, at.1)) result
-            ≡ find (turns.may_end_by table.now self.now) (moves.lock_ids self.now) }
+            ≡ find (turns.may_end_by table.now.entries self.now) (moves.lock_ids self.now) }
     {
         for number in self.states.inos() {
             let ino = Ino(*number);
@@ -349,7 +349,7 @@ impl Locks {
         sessions: &Sessions,
         table: &CapTable,
     ) -> Move
-        ensures { let s = scene fs.now tree.now sessions.now table.now self.now in
+        ensures { let s = scene fs.now tree.now sessions.now table.now.entries self.now in
             result ≡ turns.begin_or_rest s (find (moves.may_begin s) (moves.lock_ids self.now)) }
     {
         for number in self.states.inos() {
@@ -366,7 +366,7 @@ impl Locks {
 
     // The first part of an inode whose lock may end its gather.
     fn first_end(&self, table: &CapTable, ino: Ino) -> Option<Part>
-        ensures { result ≡ find (λ part. turns.may_end_by table.now self.now (ino.0, part)) moves.parts }
+        ensures { result ≡ find (λ part. turns.may_end_by table.now.entries self.now (ino.0, part)) moves.parts }
     {
         // The inode's locks are looked up once, and not for each part. Mostly none of them is in a gather.
         let four = self.states.get(ino)?;
@@ -587,15 +587,15 @@ impl Locks {
         ino: Ino,
         alone: bool,
     ) -> Option<Ticket>
-        requires turn { IsTurnOf (scene_by policy.now table.now self.old) ino.0 }
-        requires permitted { ArePermittedOn known.now.sets policy.now.fs.now policy.now.tree.now policy.now.sessions.now table.now ino.0 }
+        requires turn { IsTurnOf (scene_by policy.now table.now.entries self.old) ino.0 }
+        requires permitted { ArePermittedOn known.now.sets policy.now.fs.now policy.now.tree.now policy.now.sessions.now table.now.entries ino.0 }
         requires alone { alone ≡ true → NobodyElsewhere self.old ino.0 }
 
         // Each lock begins at most one gather and ends at most two.
-        ensures moves { MoveLittle (scene_by policy.now table.now self.old)
-            (scene_by policy.now table.now self.new) }
-        ensures due { IsDue (scene_by policy.now table.now self.new) ino.0 result }
-        ensures turn { IsTurnOf (scene_by policy.now table.now self.new) ino.0 }
+        ensures moves { MoveLittle (scene_by policy.now table.now.entries self.old)
+            (scene_by policy.now table.now.entries self.new) }
+        ensures due { IsDue (scene_by policy.now table.now.entries self.new) ino.0 result }
+        ensures turn { IsTurnOf (scene_by policy.now table.now.entries self.new) ino.0 }
         ensures elsewhere { ChangesLocksOf ino.0 self.old self.new }
     {
         // A move of a lock changes nothing of what is wanted, which is found once, and not where a request is served first; nor of who
@@ -629,12 +629,12 @@ impl Locks {
     /// Where no gather of a lower inode may end, ends those of an inode that may, in the order of the parts. It looks at
     /// the entries of this inode alone, and takes no memory.
     pub fn end_gathers_at(&mut self, table: &CapTable, ino: Ino)
-        requires lower { (other : ℕ) (part : Part) → other < ino.0 → turns.may_end_by table.now self.old (other, part) ≡ false }
+        requires lower { (other : ℕ) (part : Part) → other < ino.0 → turns.may_end_by table.now.entries self.old (other, part) ≡ false }
 
         // Each is the first move that applies to all, whatever the tree and the sessions are.
         ensures ends { (fs : List ℕ) (tree : Nodes) (sessions : SessionTable)
-            → EndLittle (scene fs tree sessions table.now self.old) (scene fs tree sessions table.now self.new) }
-        ensures done { (part : Part) → turns.may_end_by table.now self.new (ino.0, part) ≡ false }
+            → EndLittle (scene fs tree sessions table.now.entries self.old) (scene fs tree sessions table.now.entries self.new) }
+        ensures done { (part : Part) → turns.may_end_by table.now.entries self.new (ino.0, part) ≡ false }
         ensures elsewhere { ChangesLocksOf ino.0 self.old self.new }
     {
         // At most inodes no lock is in a gather, which one look at the four tells.
@@ -653,7 +653,7 @@ impl Locks {
 
     // Whether the lock of an inode's part is in a gather that is not open.
     fn may_end_at(&self, table: &CapTable, ino: Ino, part: Part) -> bool
-        ensures { result ≡ turns.may_end_by table.now self.now (ino.0, part) }
+        ensures { result ≡ turns.may_end_by table.now.entries self.now (ino.0, part) }
     {
         match self.state(ino, part) {
             Some(lock) => may_end(table, ino, part, lock),

@@ -26,7 +26,7 @@ pub struct Wants {
 
 /// What is wanted of an inode, by what the grants say now of each client with an entry there.
 pub fn wants_on(fs: &FsName, tree: &Tree, sessions: &Sessions, table: &CapTable, ino: Ino) -> Wants
-    ensures { result ≡ words.in_all (words.wants_on fs.now tree.now sessions.now table.now ino) }
+    ensures { result ≡ words.in_all (words.wants_on fs.now tree.now sessions.now table.now.entries ino) }
 {
     let mut tally = Tally::new();
     let mut walk = table.holders_of(ino);
@@ -44,8 +44,8 @@ pub(crate) fn wants_by_known(
     known: &Known,
     ino: Ino,
 ) -> Wants
-    requires { ArePermittedOn known.now.sets policy.now.fs.now policy.now.tree.now policy.now.sessions.now table.now ino.0 }
-    ensures { result ≡ words.in_all (words.wants_on policy.now.fs.now policy.now.tree.now policy.now.sessions.now table.now ino) }
+    requires { ArePermittedOn known.now.sets policy.now.fs.now policy.now.tree.now policy.now.sessions.now table.now.entries ino.0 }
+    ensures { result ≡ words.in_all (words.wants_on policy.now.fs.now policy.now.tree.now policy.now.sessions.now table.now.entries ino) }
 {
     let mut tally = Tally::new();
     let mut walk = table.holders_of(ino);
@@ -69,9 +69,9 @@ pub(crate) fn given_or_found(
     known: &Known,
     ino: Ino,
 ) -> Wants
-    requires found { IfSome found (λ wants. wants ≡ words.in_all (words.wants_on policy.now.fs.now policy.now.tree.now policy.now.sessions.now table.now ino)) }
-    requires permitted { ArePermittedOn known.now.sets policy.now.fs.now policy.now.tree.now policy.now.sessions.now table.now ino.0 }
-    ensures { result ≡ words.in_all (words.wants_on policy.now.fs.now policy.now.tree.now policy.now.sessions.now table.now ino) }
+    requires found { IfSome found (λ wants. wants ≡ words.in_all (words.wants_on policy.now.fs.now policy.now.tree.now policy.now.sessions.now table.now.entries ino)) }
+    requires permitted { ArePermittedOn known.now.sets policy.now.fs.now policy.now.tree.now policy.now.sessions.now table.now.entries ino.0 }
+    ensures { result ≡ words.in_all (words.wants_on policy.now.fs.now policy.now.tree.now policy.now.sessions.now table.now.entries ino) }
 {
     match found {
         Some(wants) => wants,

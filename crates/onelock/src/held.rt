@@ -10,7 +10,7 @@ use locktable::StableState;
 
 /// Whether some client has caps of the part that it may not hold where the part's lock is stable in a state.
 pub fn is_held_outside(table: &CapTable, ino: Ino, part: Part, state: StableState) -> bool
-    ensures { result ≡ words.is_held_outside table.now ino part state }
+    ensures { result ≡ words.is_held_outside table.now.entries ino part state }
 {
     let mut walk = table.holders_of(ino);
     'rows: while let Some(row) = walk.next() {

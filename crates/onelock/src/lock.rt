@@ -10,7 +10,7 @@ use locktable::{Head, LockState, StableState, target};
 
 /// Whether the lock of the part, which is in this state, is in a gather that is not open.
 pub fn may_end(table: &CapTable, ino: Ino, part: Part, lock: LockState) -> bool
-    ensures { result ≡ may_end_in table.now (ino.0, part) (Some lock) }
+    ensures { result ≡ may_end_in table.now.entries (ino.0, part) (Some lock) }
 {
     match lock {
         LockState::Gather { to, .. } => !is_held_outside(table, ino, part, to),

@@ -11,4 +11,4 @@ returns c =
     let wants : List EntryRow → List Want = each (known_want (option_copied c.on-known_on.result.on) policy.sessions.now) in
     c.wants.ensures ∙ ap (λ walk. in_all_with c.rows.tally (wants walk)) (sym c.in_default.ensures.none.0) ∙ c.rows.invariant
     ∙ ap (λ rows. in_all (wants rows)) c.holders_of-walk.ensures.rows
-    ∙ ap in_all (same_wants c.args.known.now.sets policy.fs.now policy.tree.now policy.sessions.now c.args.table.now c.args.ino _ c.on-known_on.ensures c.holders_of-walk.ensures.sound c.requires)
+    ∙ ap in_all (same_wants c.args.known.now.sets policy.fs.now policy.tree.now policy.sessions.now c.args.table.now.entries c.args.ino _ c.on-known_on.ensures c.holders_of-walk.ensures.sound c.requires)

@@ -6,12 +6,12 @@ use Rattle.lockmachine.proofs.locks.Locks.advance_at.Goals as goal
 
 pub moves-smaller : goal.moves-smaller
 moves-smaller c =
-    let now = scene_by c.args.policy.now c.args.table.now c.moves.self in
+    let now = scene_by c.args.policy.now c.args.table.now.entries c.moves.self in
     (one_more _ now c.args.ino.0 c.next_move_by.result c.make.new.self c.moves.invariant.0 c.next_move_by.ensures.next c.in_default.not-Settled c.in_default.not-Serve c.make.ensures).fewer
 
 pub moves-preserved : goal.moves-preserved
 moves-preserved c =
-    let now = scene_by c.args.policy.now c.args.table.now c.moves.self in
+    let now = scene_by c.args.policy.now c.args.table.now.entries c.moves.self in
     ((one_more _ now c.args.ino.0 c.next_move_by.result c.make.new.self c.moves.invariant.0 c.next_move_by.ensures.next c.in_default.not-Settled c.in_default.not-Serve c.make.ensures).so_far, c.next_move_by.ensures.wanted)
 
 pub returns-in-Settled-clause-moves : goal.returns-in-Settled-clause-moves

@@ -4,8 +4,8 @@ use Rattle.lockmachine.proofs.Settling.{SoFar, moves_left}
 use Rattle.lockmachine.proofs.locks.Locks.advance_at.Given as goal
 
 abbrev pub decreases-moves : goal.decreases-moves
-decreases-moves l = moves_left (scene_by l.policy l.table l.self) l.fn.ino.0
+decreases-moves l = moves_left (scene_by l.policy l.table.entries l.self) l.fn.ino.0
 
 abbrev pub invariant-moves : goal.invariant-moves
-invariant-moves l = SoFar (scene_by l.policy l.table l.fn.self) (scene_by l.policy l.table l.self) l.fn.ino.0
-    × IfSome l.wanted (λ wants. wants ≡ wanted_in_all (scene_by l.policy l.table l.self) l.fn.ino.0)
+invariant-moves l = SoFar (scene_by l.policy l.table.entries l.fn.self) (scene_by l.policy l.table.entries l.self) l.fn.ino.0
+    × IfSome l.wanted (λ wants. wants ≡ wanted_in_all (scene_by l.policy l.table.entries l.self) l.fn.ino.0)

@@ -6,18 +6,18 @@ use Rattle.lockmachine.proofs.locks.Locks.next_move.Goals as goal
 
 pub returns-in-Some : goal.returns-in-Some
 returns-in-Some c =
-    let s : Scene = scene c.args.fs.now c.args.tree.now c.args.sessions.now c.args.table.now c.args.self.now in
+    let s : Scene = scene c.args.fs.now c.args.tree.now c.args.sessions.now c.args.table.now.entries c.args.self.now in
     sym (end_first s c.in-Some.ino.0 c.in-Some.part (sym c.first_end_of_all.ensures ∙ ap (option_map (λ at. (at.0.0, at.1))) c.in-Some.is))
 
 pub returns-in-Some-first_served : goal.returns-in-Some-first_served
 returns-in-Some-first_served c =
-    let s : Scene = scene c.args.fs.now c.args.tree.now c.args.sessions.now c.args.table.now c.args.self.now in
+    let s : Scene = scene c.args.fs.now c.args.tree.now c.args.sessions.now c.args.table.now.entries c.args.self.now in
     sym (serve_first s c.in-Some-first_served.ticket (sym c.first_end_of_all.ensures ∙ ap (option_map (λ at. (at.0.0, at.1))) c.in_default.is)
     (sym c.in-Some-first_served.is ∙ c.first_served.ensures))
 
 pub returns : goal.returns
 returns c =
-    let s : Scene = scene c.args.fs.now c.args.tree.now c.args.sessions.now c.args.table.now c.args.self.now in
+    let s : Scene = scene c.args.fs.now c.args.tree.now c.args.sessions.now c.args.table.now.entries c.args.self.now in
     c.first_begin_of_all.ensures
     ∙ sym (begin_first s (sym c.first_end_of_all.ensures ∙ ap (option_map (λ at. (at.0.0, at.1))) c.in_default.is)
     (sym c.in_default-first_served.is ∙ c.first_served.ensures))
