@@ -9,6 +9,7 @@ pub mod LockIds
 pub mod Moving
 pub mod Ending
 pub mod Settling
+pub mod EachValue
 pub mod EndsFirst
 pub mod InRows
 pub mod PolicyElsewhere
@@ -23,3 +24,4 @@ pub mod ByLock
 pub mod FirstServed
 pub mod KnownWants
 pub mod Verdicts
+pub mod Counted

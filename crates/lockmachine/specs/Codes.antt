@@ -5,8 +5,10 @@ use Rattle.std.specs.FinMap as map
 use Rattle.lockmachine.specs.declared.request.Request.{Request}
 use Rattle.lockmachine.specs.contracts.request.Request as request
 use Rattle.lockmachine.specs.contracts.states.InodeLocks as inode_locks
+use Rattle.lockmachine.specs.contracts.states.Counts as inode_counts
 use Rattle.lockmachine.specs.contracts.waiters.Waiter as waiter
-use Rattle.lockmachine.specs.Inodes.{StateMap}
+use Rattle.lockmachine.specs.Counts.{CountedLocks}
+use Rattle.lockmachine.specs.Inodes.{StateMap, CountMap, CountedStates}
 use Rattle.lockmachine.specs.Locks.{LockMap}
 use Rattle.lockmachine.specs.Waiters.{WaiterList}
 
@@ -23,3 +25,14 @@ lock_map_code =
 -- who waits as a list
 abbrev pub waiters_code : Coded WaiterList
 waiters_code = coded_list waiter.the_row.coded
+
+-- the counts as the entries of a map
+abbrev pub count_map_code : Coded CountMap
+count_map_code = map.code coded_ℕ inode_counts.the_row.coded
+
+-- both, as their fields
+abbrev pub counted_states_code : Coded CountedStates
+counted_states_code = code_by (StateMap × CountMap) (coded× state_map_code count_map_code) (λ s. (s.states, s.counts)) (λ p. record { states = p.0; counts = p.1 }) (λ _. refl)
+
+abbrev pub counted_locks_code : Coded CountedLocks
+counted_locks_code = code_by (LockMap × CountMap) (coded× lock_map_code count_map_code) (λ l. (l.locks, l.counts)) (λ p. record { locks = p.0; counts = p.1 }) (λ _. refl)

@@ -1,12 +1,14 @@
 -- The locks of each inode.
-use Rattle.std.specs.Prelude.{Bool, true, false, ◌||◌}
+use Rattle.std.specs.Prelude.{◌≡◌, ℕ, ◌-◌, Bool, true, false, ◌||◌, is_some, map as each}
 use Rattle.std.specs.Ordering.{nat_cmp}
+use Rattle.std.specs.FinMap as map
 use Rattle.std.specs.FinMap.{FinMap}
 use Rattle.capbits.specs.declared.cap.Part.{Part}
 use Rattle.capbits.specs.declared.cap.Part.TheVariants.{A, L, X, F}
 use Rattle.locktable.specs.declared.states.StableState.TheVariants.{Sync}
 use Rattle.locktable.specs.declared.states.LockState.{LockState}
 use Rattle.locktable.specs.declared.states.LockState.TheVariants.{Stable, Gather}
+use Rattle.lockmachine.specs.declared.states.Counts.{Counts}
 use Rattle.lockmachine.specs.declared.states.InodeLocks.{InodeLocks}
 
 -- the locks of each inode, by its number
@@ -38,3 +40,41 @@ is_gather (Gather from to) = true
 -- one of the four is
 abbrev pub is_gathering : InodeLocks → Bool
 is_gathering locks = is_gather locks.auth || (is_gather locks.link || (is_gather locks.xattr || is_gather locks.file))
+
+-- ---- how many clients their gathers wait for
+
+-- of each inode that has locks
+abbrev pub CountMap : Type 0
+CountMap = FinMap nat_cmp Counts
+
+abbrev pub count_in : Part → Counts → ℕ
+count_in A counts = counts.auth
+count_in L counts = counts.link
+count_in X counts = counts.xattr
+count_in F counts = counts.file
+
+abbrev pub with_count_in : Part → ℕ → Counts → Counts
+with_count_in A n counts = record counts { auth = n }
+with_count_in L n counts = record counts { link = n }
+with_count_in X n counts = record counts { xattr = n }
+with_count_in F n counts = record counts { file = n }
+
+-- one less, if not 0
+abbrev pub one_less_in : Part → Counts → Counts
+one_less_in part counts = with_count_in part (count_in part counts - 1) counts
+
+abbrev pub no_counts : Counts
+no_counts = record { auth = 0; link = 0; xattr = 0; file = 0 }
+
+-- the locks of each inode, and beside them these counts
+pub record CountedStates : Type 0 where
+  pub states : StateMap
+  pub counts : CountMap
+
+-- an inode has counts where it has locks
+abbrev pub HaveCounts : StateMap → CountMap → Type 0
+HaveCounts states counts = (ino : ℕ) → is_some (map.get counts ino) ≡ is_some (map.get states ino)
+
+-- what f makes of each value
+abbrev pub each_value : {X Y : Type 0} → (X → Y) → FinMap nat_cmp X → FinMap nat_cmp Y
+each_value f m = map.from_sorted (each (λ e. (e.0, f e.1)) (map.entries m))

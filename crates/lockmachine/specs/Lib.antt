@@ -2,6 +2,7 @@ pub mod Requests
 pub mod Inodes
 pub mod Locks
 pub mod Codes
+pub mod Counts
 pub mod Under
 pub mod Policy
 pub mod Wants

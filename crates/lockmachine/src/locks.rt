@@ -6,10 +6,14 @@ ghost use Rattle.std.specs.Result.{result_err};
 ghost use Rattle.std.specs.FinMap as map;
 ghost use Rattle.capbits.specs.Refusal.{first_failing};
 ghost use Rattle.capbits.specs.declared.cap.Part.{Part};
+ghost use Rattle.captable.specs.Table.{Table};
 ghost use Rattle.inotree.specs.Tree.{Nodes};
 ghost use Rattle.sessiontab.specs.Table.{SessionTable};
 ghost use Rattle.lockmachine.specs.declared.moves.Move.TheVariants.{Settled};
 ghost use Rattle.lockmachine.specs.declared.request.Request.{Request};
+ghost use Rattle.lockmachine.specs.Counts as counted;
+ghost use Rattle.lockmachine.specs.Counts.{AreCounted, AreCountedAt};
+ghost use Rattle.lockmachine.specs.Inodes.{HaveCounts};
 ghost use Rattle.lockmachine.specs.Locks as words;
 ghost use Rattle.lockmachine.specs.Requests as requests;
 ghost use Rattle.lockmachine.specs.Requests.{waits_for};
@@ -25,7 +29,7 @@ ghost use Rattle.lockmachine.specs.Turns.{IsTurnOf, IsNextAt, IsDue, NobodyElsew
 use crate::moves::{Move, Sought, Turn};
 use crate::policy::Policy;
 use crate::request::{Operation, Request};
-use crate::states::{InodeLocks, States};
+use crate::states::{InodeLocks, LocksAt, States};
 use crate::waiters::{MAX_WAITING, Waiter, Waiters};
 use crate::wants::{Wants, given_or_found, wants_on};
 use capbits::{ClientId, Ino, Part, Refusal, Ticket};
@@ -33,7 +37,7 @@ use capspec::FsName;
 use captable::{CapTable, Known};
 use inotree::Tree;
 use locktable::{Head, LockState, StableState, serves, target};
-use onelock::{is_off_target, may_end};
+use onelock::{ends_by_count, holders_outside, is_off_target};
 use sessiontab::Sessions;
 use std::alloc::{AllocError, Global};
 use std::fmt;
@@ -66,17 +70,18 @@ impl fmt::Debug for Locks {
 
 impl Model for Locks {
     ghost use Rattle.std.specs.Prelude.{◌≤◌, map as each, vec_capacity};
+    ghost use Rattle.lockmachine.specs.Counts.{CountedLocks};
     ghost use Rattle.lockmachine.specs.Locks.{LockMap, IsLockMap};
     ghost use Rattle.lockmachine.specs.Waiters.{waiter_of, StandAlike};
-    ghost use Rattle.lockmachine.specs.Codes.{lock_map_code};
+    ghost use Rattle.lockmachine.specs.Codes.{counted_locks_code};
 
-    ghost Value = { LockMap };
+    ghost Value = { CountedLocks };
 
-    ghost coded = { lock_map_code };
+    ghost coded = { counted_locks_code };
 
-    ghost view = { λ l. record { states = l.states; queue = l.queue.items; last = l.last } };
+    ghost view = { λ l. record { locks = record { states = l.states.states; queue = l.queue.items; last = l.last }; counts = l.states.counts } };
 
-    ghost invariant = { λ l. IsLockMap (record { states = l.states; queue = l.queue.items; last = l.last })
+    ghost invariant = { λ l. IsLockMap (record { states = l.states.states; queue = l.queue.items; last = l.last })
         × (1024 ≤ vec_capacity l.queue) × StandAlike l.waiters (each waiter_of l.queue.items) };
 }
 
@@ -95,7 +100,7 @@ impl Drop for Locks {
 impl Locks {
     /// No locks, and nobody waits. It makes room for all requests that may wait.
     pub fn new(alloc: Global) -> Result<Locks, AllocError>
-        ensures { IfOk result (λ locks. locks ≡ words.no_locks) }
+        ensures { IfOk result (λ locks. locks ≡ counted.no_locks) }
     {
         let queue = Vec::with_capacity(alloc, MAX_WAITING)?;
         match Waiters::new(alloc) {
@@ -114,7 +119,7 @@ impl Locks {
 
     /// Adds the locks of a new inode, each stable in SYNC. For want of memory nothing changes.
     pub fn add_ino(&mut self, ino: Ino) -> Result<(), AllocError>
-        ensures ok { OnOk result (self.new ≡ words.with_ino self.old ino.0) }
+        ensures ok { OnOk result (self.new ≡ counted.with_ino self.old ino.0) }
         ensures err { OnErr result (self.new ≡ self.old) }
     {
         self.states.insert(ino, InodeLocks::new())
@@ -122,15 +127,15 @@ impl Locks {
 
     /// Drops the locks of an inode, where it has any.
     pub fn drop_ino(&mut self, ino: Ino)
-        ensures { self.new ≡ words.without_ino self.old ino.0 }
+        ensures { self.new ≡ counted.without_ino self.old ino.0 }
     {
         self.states.remove(ino);
     }
 
     /// The lock of an inode's part, where the inode has locks.
     pub fn state(&self, ino: Ino, part: Part) -> Option<LockState>
-        ensures state { result ≡ words.lock_at self.now ino.0 part }
-        ensures sound { words.IsLockMap self.now }
+        ensures state { result ≡ words.lock_at self.now.locks ino.0 part }
+        ensures sound { words.IsLockMap self.now.locks }
     {
         let locks = self.states.get(ino)?;
         Some(locks.of_part(part))
@@ -140,23 +145,23 @@ impl Locks {
 
     /// The last number that a request was given.
     pub fn last(&self) -> u64
-        ensures last { result ≡ self.now.last }
-        ensures sound { words.IsLockMap self.now }
+        ensures last { result ≡ self.now.locks.last }
+        ensures sound { words.IsLockMap self.now.locks }
     {
         self.last
     }
 
     /// How many requests wait.
     pub fn waiting(&self) -> usize
-        ensures waiting { result ≡ length self.now.queue }
-        ensures sound { words.IsLockMap self.now }
+        ensures waiting { result ≡ length self.now.locks.queue }
+        ensures sound { words.IsLockMap self.now.locks }
     {
         self.queue.len()
     }
 
     /// Why no request can wait: as many wait as may.
     pub fn enqueue_refusal(&self) -> Option<Refusal>
-        ensures { result ≡ first_failing (words.queue_tests self.now) }
+        ensures { result ≡ first_failing (words.queue_tests self.now.locks) }
     {
         if self.queue.len() >= MAX_WAITING {
             return Some(Refusal::Limit);
@@ -172,10 +177,10 @@ impl Locks {
         ino: Ino,
         operation: Operation,
     ) -> Result<Ticket, Refusal>
-        requires numbers { self.old.last < 2 ^ 64 - 1 }
-        ensures refused { result_err result ≡ first_failing (words.queue_tests self.old) }
-        ensures ok { OnOk result (self.new ≡ words.with_request self.old client ino operation) }
-        ensures ticket { IfOk result (λ ticket. ticket.0 ≡ self.old.last + 1) }
+        requires numbers { self.old.locks.last < 2 ^ 64 - 1 }
+        ensures refused { result_err result ≡ first_failing (words.queue_tests self.old.locks) }
+        ensures ok { OnOk result (self.new ≡ record self.old { locks = words.with_request self.old.locks client ino operation }) }
+        ensures ticket { IfOk result (λ ticket. ticket.0 ≡ self.old.locks.last + 1) }
         ensures err { OnErr result (self.new ≡ self.old) }
     {
         if let Some(refusal) = self.enqueue_refusal() {
@@ -186,10 +191,10 @@ impl Locks {
 
     /// The same, where fewer wait than may.
     pub fn enqueue_tested(&mut self, client: ClientId, ino: Ino, operation: Operation) -> Ticket
-        requires room { first_failing (words.queue_tests self.old) ≡ None }
-        requires numbers { self.old.last < 2 ^ 64 - 1 }
-        ensures queued { self.new ≡ words.with_request self.old client ino operation }
-        ensures ticket { result.0 ≡ self.old.last + 1 }
+        requires room { first_failing (words.queue_tests self.old.locks) ≡ None }
+        requires numbers { self.old.locks.last < 2 ^ 64 - 1 }
+        ensures queued { self.new ≡ record self.old { locks = words.with_request self.old.locks client ino operation } }
+        ensures ticket { result.0 ≡ self.old.locks.last + 1 }
     {
         let ticket = Ticket(self.last + 1);
         self.last = ticket.0;
@@ -208,8 +213,8 @@ impl Locks {
 
     /// The requests that wait, the oldest first.
     pub fn requests(&self) -> &[Request]
-        ensures requests { result.now ≡ self.now.queue }
-        ensures sound { words.IsLockMap self.now }
+        ensures requests { result.now ≡ self.now.locks.queue }
+        ensures sound { words.IsLockMap self.now.locks }
     {
         self.queue.as_slice()
     }
@@ -217,7 +222,7 @@ impl Locks {
     /// Takes all requests of a client out of the queue, by one pass over it, and, where others wait, one over who waits by lock. It
     /// takes no memory.
     pub fn drop_requests_of(&mut self, client: ClientId)
-        ensures { self.new ≡ words.without_requests_of self.old client }
+        ensures { self.new ≡ record self.old { locks = words.without_requests_of self.old.locks client } }
     {
         self.queue.retain(|request| !is_of_client(client, request));
         if self.queue.is_empty() {
@@ -260,9 +265,10 @@ impl Locks {
     /// The first move that applies: the least gather that may end; else the oldest request that may be served; else the
     /// least lock that may begin; else none is left. It looks at all inodes.
     pub fn next_move(&self, table: &CapTable, sessions: &Sessions, tree: &Tree, fs: &FsName) -> Move
-        ensures { result ≡ first_move (scene fs.now tree.now sessions.now table.now.entries self.now) }
+        requires counted { AreCounted table.now.entries self.now }
+        ensures { result ≡ first_move (scene fs.now tree.now sessions.now table.now.entries self.now.locks) }
     {
-        if let Some((ino, part)) = self.first_end_of_all(table) {
+        if let Some((ino, part)) = self.first_end_of_all() {
             return Move::End { ino, part };
         }
         if let Some(ticket) = self.first_served() {
@@ -281,15 +287,16 @@ impl Locks {
         turn: Turn,
         wanted: &mut Option<Wants>,
     ) -> Move
-        requires turn { IsTurnOf (scene_by policy.now table.now.entries self.now) turn.ino.0 }
-        requires sought { Suffices turn.sought self.now turn.ino.0 }
+        requires turn { IsTurnOf (scene_by policy.now table.now.entries self.now.locks) turn.ino.0 }
+        requires counted { AreCountedAt table.now.entries self.now turn.ino.0 }
+        requires sought { Suffices turn.sought self.now.locks turn.ino.0 }
         requires permitted { ArePermittedOn known.now.sets policy.now.fs.now policy.now.tree.now policy.now.sessions.now table.now.entries turn.ino.0 }
-        requires wanted { IfSome wanted.old (λ wants. wants ≡ wanted_in_all (scene_by policy.now table.now.entries self.now) turn.ino.0) }
-        ensures next { IsNextAt (scene_by policy.now table.now.entries self.now) turn.ino.0 result }
-        ensures wanted { IfSome wanted.new (λ wants. wants ≡ wanted_in_all (scene_by policy.now table.now.entries self.now) turn.ino.0) }
+        requires wanted { IfSome wanted.old (λ wants. wants ≡ wanted_in_all (scene_by policy.now table.now.entries self.now.locks) turn.ino.0) }
+        ensures next { IsNextAt (scene_by policy.now table.now.entries self.now.locks) turn.ino.0 result }
+        ensures wanted { IfSome wanted.new (λ wants. wants ≡ wanted_in_all (scene_by policy.now table.now.entries self.now.locks) turn.ino.0) }
     {
         let Turn { ino, sought } = turn;
-        if let Some(part) = self.first_end(table, ino) {
+        if let Some(part) = self.first_end(ino) {
             return Move::End { ino, part };
         }
         if let Some(served) = self.first_among(sought, ino) {
@@ -303,8 +310,8 @@ impl Locks {
 
     // The oldest request that may be served, which is among those who are sought.
     fn first_among(&self, sought: Sought, ino: Ino) -> Option<Ticket>
-        requires { Suffices sought self.now ino.0 }
-        ensures { result ≡ option_map (λ q. q.ticket) (find (moves.may_serve self.now) self.now.queue) }
+        requires { Suffices sought self.now.locks ino.0 }
+        ensures { result ≡ option_map (λ q. q.ticket) (find (moves.may_serve self.now.locks) self.now.locks.queue) }
     {
         match sought {
             Sought::Everybody => self.first_served(),
@@ -315,7 +322,7 @@ impl Locks {
 
     /// The oldest request that may be served. It looks at the locks and the queue alone.
     pub fn first_served(&self) -> Option<Ticket>
-        ensures { result ≡ option_map (λ q. q.ticket) (find (moves.may_serve self.now) self.now.queue) }
+        ensures { result ≡ option_map (λ q. q.ticket) (find (moves.may_serve self.now.locks) self.now.locks.queue) }
     {
         for request in &self.queue {
             if self.may_serve(request) {
@@ -328,13 +335,12 @@ impl Locks {
     // ---- among all
 
     // The first lock of all that may end its gather.
-    fn first_end_of_all(&self, table: &CapTable) -> Option<(Ino, Part)>
-        ensures { option_map (λ at. (at.0.0, at.1)) result
-            ≡ find (turns.may_end_by table.now.entries self.now) (moves.lock_ids self.now) }
+    fn first_end_of_all(&self) -> Option<(Ino, Part)>
+        ensures { option_map (λ at. (at.0.0, at.1)) result ≡ find (counted.ends_by self.now) (moves.lock_ids self.now.locks) }
     {
         for number in self.states.inos() {
             let ino = Ino(*number);
-            if let Some(part) = self.first_end(table, ino) {
+            if let Some(part) = self.first_end(ino) {
                 return Some((ino, part));
             }
         }
@@ -349,8 +355,8 @@ impl Locks {
         sessions: &Sessions,
         table: &CapTable,
     ) -> Move
-        ensures { let s = scene fs.now tree.now sessions.now table.now.entries self.now in
-            result ≡ turns.begin_or_rest s (find (moves.may_begin s) (moves.lock_ids self.now)) }
+        ensures { let s = scene fs.now tree.now sessions.now table.now.entries self.now.locks in
+            result ≡ turns.begin_or_rest s (find (moves.may_begin s) (moves.lock_ids self.now.locks)) }
     {
         for number in self.states.inos() {
             let ino = Ino(*number);
@@ -365,24 +371,24 @@ impl Locks {
     // ---- at one inode
 
     // The first part of an inode whose lock may end its gather.
-    fn first_end(&self, table: &CapTable, ino: Ino) -> Option<Part>
-        ensures { result ≡ find (λ part. turns.may_end_by table.now.entries self.now (ino.0, part)) moves.parts }
+    fn first_end(&self, ino: Ino) -> Option<Part>
+        ensures { result ≡ find (λ part. counted.ends_by self.now (ino.0, part)) moves.parts }
     {
         // The inode's locks are looked up once, and not for each part. Mostly none of them is in a gather.
-        let four = self.states.get(ino)?;
-        if !four.is_gathering() {
+        let LocksAt { locks, counts } = self.states.counted(ino)?;
+        if !locks.is_gathering() {
             return None;
         }
         PARTS
             .iter()
             .copied()
-            .find(|part| may_end(table, ino, *part, four.of_part(*part)))
+            .find(|part| ends_by_count(counts.of_part(*part), locks.of_part(*part)))
     }
 
     // The beginning of the first lock of an inode that may begin, where no request waits unless `waits` says that one may.
     fn first_begin(&self, waits: bool, ino: Ino, wants: &Wants) -> Option<Move>
-        ensures { result ≡ option_map (λ part. turns.beginning_by (waiting.queue_if waits self.now.queue) self.now wants.now (ino.0, part))
-            (find (λ part. moves.may_begin_in (waiting.queue_if waits self.now.queue) wants.now (ino.0, part) (words.lock_at self.now ino.0 part)) moves.parts) }
+        ensures { result ≡ option_map (λ part. turns.beginning_by (waiting.queue_if waits self.now.locks.queue) self.now.locks wants.now (ino.0, part))
+            (find (λ part. moves.may_begin_in (waiting.queue_if waits self.now.locks.queue) wants.now (ino.0, part) (words.lock_at self.now.locks ino.0 part)) moves.parts) }
     {
         let part = self.first_to_begin(waits, ino, wants)?;
         let to = self.target_for(waits, ino, part, self.present_state(ino, part), wants);
@@ -391,7 +397,7 @@ impl Locks {
 
     // The first part of an inode whose lock may begin.
     fn first_to_begin(&self, waits: bool, ino: Ino, wants: &Wants) -> Option<Part>
-        ensures { result ≡ find (λ part. moves.may_begin_in (waiting.queue_if waits self.now.queue) wants.now (ino.0, part) (words.lock_at self.now ino.0 part)) moves.parts }
+        ensures { result ≡ find (λ part. moves.may_begin_in (waiting.queue_if waits self.now.locks.queue) wants.now (ino.0, part) (words.lock_at self.now.locks ino.0 part)) moves.parts }
     {
         let four = self.states.get(ino)?;
         PARTS.iter().copied().find(|part| {
@@ -401,7 +407,7 @@ impl Locks {
 
     // Whether the lock of the part, which is in this state, is stable, and not at its target.
     fn may_begin(&self, waits: bool, ino: Ino, part: Part, lock: LockState, wants: &Wants) -> bool
-        ensures { result ≡ moves.may_begin_in (waiting.queue_if waits self.now.queue) wants.now (ino.0, part) (Some lock) }
+        ensures { result ≡ moves.may_begin_in (waiting.queue_if waits self.now.locks.queue) wants.now (ino.0, part) (Some lock) }
     {
         match lock {
             LockState::Stable(state) => {
@@ -421,7 +427,7 @@ impl Locks {
         state: StableState,
         wants: &Wants,
     ) -> StableState
-        ensures { result ≡ target_by (waiting.queue_if waits self.now.queue) wants.now ino.0 part state }
+        ensures { result ≡ target_by (waiting.queue_if waits self.now.locks.queue) wants.now ino.0 part state }
     {
         let head = self.head(waits, ino, part);
         target(part, state, head, wants.loner, wants.wanted)
@@ -429,7 +435,7 @@ impl Locks {
 
     // What stands first in the queue of a lock, where no request waits unless `waits` says that one may.
     fn head(&self, waits: bool, ino: Ino, part: Part) -> Head
-        ensures { result ≡ head_in (waiting.queue_if waits self.now.queue) ino.0 part }
+        ensures { result ≡ head_in (waiting.queue_if waits self.now.locks.queue) ino.0 part }
     {
         if !waits {
             return Head::Empty;
@@ -444,14 +450,14 @@ impl Locks {
 
     // Whether the request is the first for its lock, which is stable in a state that serves it.
     fn may_serve(&self, request: &Request) -> bool
-        ensures { result ≡ moves.may_serve self.now request.now }
+        ensures { result ≡ moves.may_serve self.now.locks request.now }
     {
         self.is_servable(request) && self.is_first(request)
     }
 
     // Whether the lock of the request is stable in a state that serves it.
     fn is_servable(&self, request: &Request) -> bool
-        ensures { result ≡ moves.is_servable self.now request.now }
+        ensures { result ≡ moves.is_servable self.now.locks request.now }
     {
         self.serves(
             request.ino,
@@ -462,7 +468,7 @@ impl Locks {
 
     // Whether a lock is stable in a state that serves this head.
     fn serves(&self, ino: Ino, part: Part, head: Head) -> bool
-        ensures { result ≡ moves.is_served_in (words.lock_at self.now ino.0 part) head }
+        ensures { result ≡ moves.is_served_in (words.lock_at self.now.locks ino.0 part) head }
     {
         match self.state(ino, part) {
             Some(LockState::Stable(state)) => serves(state, head),
@@ -472,7 +478,7 @@ impl Locks {
 
     // Whether no other request waits longer for its lock.
     fn is_first(&self, request: &Request) -> bool
-        ensures { result ≡ moves.is_first self.now.queue request.now }
+        ensures { result ≡ moves.is_first self.now.locks.queue request.now }
     {
         match self.waiters.first_at(request.ino, request.operation.part()) {
             Some(first) => first.ticket.0 == request.ticket.0,
@@ -482,7 +488,7 @@ impl Locks {
 
     // The oldest request for a lock of this inode that may be served.
     fn first_served_at(&self, ino: Ino) -> Option<Ticket>
-        ensures { result ≡ option_map (λ q. q.ticket) (find (λ q. waits_for ino.0 q && moves.may_serve self.now q) self.now.queue) }
+        ensures { result ≡ option_map (λ q. q.ticket) (find (λ q. waits_for ino.0 q && moves.may_serve self.now.locks q) self.now.locks.queue) }
     {
         // Only the first for each of its locks may.
         let auth = self.first_where_served(ino, Part::A);
@@ -496,8 +502,8 @@ impl Locks {
 
     // The first request for a lock, where it may be served.
     fn first_where_served(&self, ino: Ino, part: Part) -> Option<Ticket>
-        ensures number { result ≡ turns.served_of self.now (requests.first_for self.now.queue ino.0 part) }
-        ensures sound { words.IsLockMap self.now }
+        ensures number { result ≡ turns.served_of self.now.locks (requests.first_for self.now.locks.queue ino.0 part) }
+        ensures sound { words.IsLockMap self.now.locks }
     {
         let first = self.waiters.first_at(ino, part)?;
         self.serves(first.ino, first.part, first.head)
@@ -509,8 +515,8 @@ impl Locks {
     /// Makes a move. A request that is served waits no more, and is handed out to be judged. Where the move speaks of a
     /// lock or a request that is not there, nothing happens.
     pub fn apply_move(&mut self, step: Move) -> Option<Request>
-        ensures locks { self.new ≡ moved self.old step }
-        ensures request { result ≡ handed self.old step }
+        ensures locks { self.new ≡ record self.old { locks = moved self.old.locks step } }
+        ensures request { result ≡ handed self.old.locks step }
     {
         match step {
             Move::Begin { ino, part, to } => {
@@ -528,10 +534,29 @@ impl Locks {
         }
     }
 
+    // ---- whom gathers wait for
+
+    /// The gather of an inode's part waits for so many clients from now on: those with a cap that its target does not allow them. It is
+    /// called when the gather has begun. Where there is no such lock, nothing happens. It takes no memory.
+    pub fn await_acks(&mut self, ino: Ino, part: Part, n: u32)
+        ensures set { self.new ≡ counted.with_count self.old ino.0 part n }
+        ensures had { HaveCounts self.old.locks.states self.old.counts }
+    {
+        self.states.set_count(ino, part, n);
+    }
+
+    /// The gather of an inode's part waits for one client less. It is called when the last of the client's caps that its target does not
+    /// allow has gone. Where it waits for nobody, nothing happens. It takes no memory.
+    pub fn acked(&mut self, ino: Ino, part: Part)
+        ensures { self.new ≡ counted.with_one_less self.old ino.0 part }
+    {
+        self.states.count_down(ino, part);
+    }
+
     // Takes a request out of the queue.
     fn take_request(&mut self, ticket: Ticket) -> Option<Request>
-        ensures left { self.new ≡ words.without_request self.old ticket.0 }
-        ensures taken { result ≡ words.request_at self.old ticket.0 }
+        ensures left { self.new ≡ record self.old { locks = words.without_request self.old.locks ticket.0 } }
+        ensures taken { result ≡ words.request_at self.old.locks ticket.0 }
     {
         let place = self.place_of(ticket)?;
         self.waiters.take_out(ticket);
@@ -540,7 +565,7 @@ impl Locks {
 
     // The place of a request in the queue.
     fn place_of(&self, ticket: Ticket) -> Option<usize>
-        ensures { result ≡ position (requests.is_numbered ticket.0) self.now.queue }
+        ensures { result ≡ position (requests.is_numbered ticket.0) self.now.locks.queue }
     {
         self.queue
             .iter()
@@ -549,7 +574,7 @@ impl Locks {
 
     // The state that the lock has reached, or leaves in a gather.
     pub(crate) fn present_state(&self, ino: Ino, part: Part) -> StableState
-        ensures { result ≡ moves.present_state (words.lock_at self.now ino.0 part) }
+        ensures { result ≡ moves.present_state (words.lock_at self.now.locks ino.0 part) }
     {
         match self.state(ino, part) {
             Some(LockState::Stable(state)) => state,
@@ -560,7 +585,7 @@ impl Locks {
 
     // The state that the lock has reached, or is to reach.
     fn coming_state(&self, ino: Ino, part: Part) -> StableState
-        ensures { result ≡ moves.coming_state (words.lock_at self.now ino.0 part) }
+        ensures { result ≡ moves.coming_state (words.lock_at self.now.locks ino.0 part) }
     {
         match self.state(ino, part) {
             Some(LockState::Stable(state)) => state,
@@ -571,7 +596,7 @@ impl Locks {
 
     /// The locks of an inode, where it has any.
     pub fn of_ino(&self, ino: Ino) -> Option<InodeLocks>
-        ensures { result ≡ map.get self.now.states ino.0 }
+        ensures { result ≡ map.get self.now.locks.states ino.0 }
     {
         self.states.get(ino).copied()
     }
@@ -587,16 +612,18 @@ impl Locks {
         ino: Ino,
         alone: bool,
     ) -> Option<Ticket>
-        requires turn { IsTurnOf (scene_by policy.now table.now.entries self.old) ino.0 }
+        requires turn { IsTurnOf (scene_by policy.now table.now.entries self.old.locks) ino.0 }
         requires permitted { ArePermittedOn known.now.sets policy.now.fs.now policy.now.tree.now policy.now.sessions.now table.now.entries ino.0 }
-        requires alone { alone ≡ true → NobodyElsewhere self.old ino.0 }
+        requires counted { AreCounted table.now.entries self.old }
+        requires alone { alone ≡ true → NobodyElsewhere self.old.locks ino.0 }
 
         // Each lock begins at most one gather and ends at most two.
-        ensures moves { MoveLittle (scene_by policy.now table.now.entries self.old)
-            (scene_by policy.now table.now.entries self.new) }
-        ensures due { IsDue (scene_by policy.now table.now.entries self.new) ino.0 result }
-        ensures turn { IsTurnOf (scene_by policy.now table.now.entries self.new) ino.0 }
-        ensures elsewhere { ChangesLocksOf ino.0 self.old self.new }
+        ensures moves { MoveLittle (scene_by policy.now table.now.entries self.old.locks)
+            (scene_by policy.now table.now.entries self.new.locks) }
+        ensures due { IsDue (scene_by policy.now table.now.entries self.new.locks) ino.0 result }
+        ensures turn { IsTurnOf (scene_by policy.now table.now.entries self.new.locks) ino.0 }
+        ensures elsewhere { ChangesLocksOf ino.0 self.old.locks self.new.locks }
+        ensures counted { AreCounted table.now.entries self.new }
     {
         // A move of a lock changes nothing of what is wanted, which is found once, and not where a request is served first; nor of who
         // waits.
@@ -607,15 +634,15 @@ impl Locks {
             match self.next_move_by(policy, table, known, turn, &mut wanted) {
                 Move::Settled => return None,
                 Move::Serve(ticket) => return Some(ticket),
-                step => self.make(step),
+                step => self.make_counted(step, table),
             }
         }
     }
 
     // Among whom one that may be served is sought.
     fn sought_at(&self, ino: Ino, alone: bool) -> Sought
-        requires { alone ≡ true → NobodyElsewhere self.now ino.0 }
-        ensures { Suffices result self.now ino.0 }
+        requires { alone ≡ true → NobodyElsewhere self.now.locks ino.0 }
+        ensures { Suffices result self.now.locks ino.0 }
     {
         if !alone {
             return Sought::Everybody;
@@ -628,14 +655,17 @@ impl Locks {
 
     /// Where no gather of a lower inode may end, ends those of an inode that may, in the order of the parts. It looks at
     /// the entries of this inode alone, and takes no memory.
-    pub fn end_gathers_at(&mut self, table: &CapTable, ino: Ino)
-        requires lower { (other : ℕ) (part : Part) → other < ino.0 → turns.may_end_by table.now.entries self.old (other, part) ≡ false }
+    pub fn end_gathers_at(&mut self, ino: Ino)
 
-        // Each is the first move that applies to all, whatever the tree and the sessions are.
-        ensures ends { (fs : List ℕ) (tree : Nodes) (sessions : SessionTable)
-            → EndLittle (scene fs tree sessions table.now.entries self.old) (scene fs tree sessions table.now.entries self.new) }
-        ensures done { (part : Part) → turns.may_end_by table.now.entries self.new (ino.0, part) ≡ false }
-        ensures elsewhere { ChangesLocksOf ino.0 self.old self.new }
+        // Each is the first move that applies to all, whatever the tree and the sessions are, where the counts are those of the entries.
+        ensures ends { (fs : List ℕ) (tree : Nodes) (sessions : SessionTable) (table : Table) → AreCountedAt table self.old ino.0
+            → ((other : ℕ) (part : Part) → other < ino.0 → turns.may_end_by table self.old.locks (other, part) ≡ false)
+            → EndLittle (scene fs tree sessions table self.old.locks) (scene fs tree sessions table self.new.locks) }
+        ensures done { (table : Table) → AreCountedAt table self.old ino.0
+            → ((other : ℕ) (part : Part) → other < ino.0 → turns.may_end_by table self.old.locks (other, part) ≡ false)
+            → (part : Part) → turns.may_end_by table self.new.locks (ino.0, part) ≡ false }
+        ensures elsewhere { ChangesLocksOf ino.0 self.old.locks self.new.locks }
+        ensures counts { self.new.counts ≡ self.old.counts }
     {
         // At most inodes no lock is in a gather, which one look at the four tells.
         let Some(locks) = self.states.get(ino) else {
@@ -645,25 +675,38 @@ impl Locks {
             return;
         }
         for part in &PARTS {
-            if self.may_end_at(table, ino, *part) {
+            if self.may_end_at(ino, *part) {
                 self.make(Move::End { ino, part: *part });
             }
         }
     }
 
     // Whether the lock of an inode's part is in a gather that is not open.
-    fn may_end_at(&self, table: &CapTable, ino: Ino, part: Part) -> bool
-        ensures { result ≡ turns.may_end_by table.now.entries self.now (ino.0, part) }
+    fn may_end_at(&self, ino: Ino, part: Part) -> bool
+        ensures { result ≡ counted.ends_by self.now (ino.0, part) }
     {
-        match self.state(ino, part) {
-            Some(lock) => may_end(table, ino, part, lock),
+        match self.states.counted(ino) {
+            Some(LocksAt { locks, counts }) => {
+                ends_by_count(counts.of_part(part), locks.of_part(part))
+            }
             None => false,
         }
     }
 
-    // Makes a move that serves nobody.
+    // Makes a move that serves nobody. A gather that begins waits for each client with a cap that its target does not allow.
+    fn make_counted(&mut self, step: Move, table: &CapTable)
+        ensures locks { self.new.locks ≡ moved self.old.locks step }
+        ensures counted { AreCounted table.now.entries self.old → AreCounted table.now.entries self.new }
+    {
+        self.make(step);
+        if let Move::Begin { ino, part, to } = step {
+            self.await_acks(ino, part, holders_outside(table, ino, part, to));
+        }
+    }
+
+    // Makes a move that serves nobody. Counts stay.
     fn make(&mut self, step: Move)
-        ensures { self.new ≡ moved self.old step }
+        ensures { self.new ≡ record self.old { locks = moved self.old.locks step } }
     {
         let _nobody = self.apply_move(step);
     }

@@ -1,6 +1,6 @@
 //! The locks of each inode.
 ghost use Rattle.std.specs.Prelude.{◌≡◌, OnOk, OnErr};
-ghost use Rattle.std.specs.Option.{option_copied};
+ghost use Rattle.std.specs.Option.{option_copied, option_map};
 ghost use Rattle.std.specs.FinMap as map;
 ghost use Rattle.capbits.specs.Maps.{change_at};
 ghost use Rattle.lockmachine.specs.Inodes as words;
@@ -74,6 +74,58 @@ impl InodeLocks {
     }
 }
 
+/// How many clients the gather of each of the four locks of an inode waits for: those that hold a cap which its target does not allow
+/// them. Of a lock that is stable it says nothing.
+#[derive(Clone, Copy, Debug, PartialEq, Eq)]
+pub struct Counts {
+    /// Of its owner, group and mode.
+    pub auth: u32,
+    /// Of its link count.
+    pub link: u32,
+    /// Of its extended attributes.
+    pub xattr: u32,
+    /// Of its data, with size and times.
+    pub file: u32,
+}
+
+impl Counts {
+    // Of nobody.
+    fn none() -> Counts
+        ensures { result ≡ words.no_counts }
+    {
+        Counts {
+            auth: 0,
+            link: 0,
+            xattr: 0,
+            file: 0,
+        }
+    }
+
+    // That of a part's lock.
+    pub(crate) fn of_part(&self, part: Part) -> u32
+        ensures { result ≡ words.count_in part self.now }
+    {
+        match part {
+            Part::A => self.auth,
+            Part::L => self.link,
+            Part::X => self.xattr,
+            Part::F => self.file,
+        }
+    }
+
+    // The lock of a part has this count.
+    fn set(&mut self, part: Part, count: u32)
+        ensures { self.new ≡ words.with_count_in part count self.old }
+    {
+        match part {
+            Part::A => self.auth = count,
+            Part::L => self.link = count,
+            Part::X => self.xattr = count,
+            Part::F => self.file = count,
+        }
+    }
+}
+
 // Whether a lock is in a gather.
 fn is_gather(lock: LockState) -> bool
     ensures { result ≡ words.is_gather lock }
@@ -84,76 +136,113 @@ fn is_gather(lock: LockState) -> bool
     }
 }
 
+// The locks of an inode, and beside them the counts.
+#[derive(Clone, Copy, Debug)]
+pub(crate) struct LocksAt {
+    pub(crate) locks: InodeLocks,
+    pub(crate) counts: Counts,
+}
+
 // The locks of each inode that has any.
 #[derive(Debug)]
 pub(crate) struct States {
     // By the inode's number.
-    locks: Numbered<InodeLocks>,
+    rows: Numbered<LocksAt>,
 }
 
 // By hand, so that whoever lets one go has one call to prove.
 impl Drop for States {
     fn drop(self) {
-        let States { locks: _ } = self;
+        let States { rows: _ } = self;
     }
 }
 
 impl Model for States {
-    ghost use Rattle.lockmachine.specs.Inodes.{StateMap};
-    ghost use Rattle.lockmachine.specs.Codes.{state_map_code};
+    ghost use Rattle.lockmachine.specs.Inodes.{CountedStates, each_value};
+    ghost use Rattle.lockmachine.specs.Codes.{counted_states_code};
+    ghost use Rattle.lockmachine.specs.declared.states.LocksAt.{LocksAt};
 
-    ghost Value = { StateMap };
+    ghost Value = { CountedStates };
 
-    ghost coded = { state_map_code };
+    ghost coded = { counted_states_code };
 
-    ghost view = { λ s. s.locks };
+    ghost view = { λ s. record { states = each_value (λ (at : LocksAt). at.locks) s.rows; counts = each_value (λ (at : LocksAt). at.counts) s.rows } };
 }
 
 impl States {
     // Of no inode.
     pub(crate) fn new(alloc: Global) -> States
-        ensures { result ≡ map.empty }
+        ensures { result ≡ record { states = map.empty; counts = map.empty } }
     {
         States {
-            locks: Numbered::new(alloc),
+            rows: Numbered::new(alloc),
         }
     }
 
     // The locks of an inode, where it has any.
     pub(crate) fn get(&self, ino: Ino) -> Option<&InodeLocks>
-        ensures { option_copied result ≡ map.get self.now ino.0 }
+        ensures { option_copied result ≡ map.get self.now.states ino.0 }
     {
-        self.locks.get(ino.0)
+        Some(&self.rows.get(ino.0)?.locks)
+    }
+
+    // The locks of an inode with their counts, where it has any.
+    pub(crate) fn counted(&self, ino: Ino) -> Option<LocksAt>
+        ensures locks { option_map (λ at. at.locks) result ≡ map.get self.now.states ino.0 }
+        ensures counts { option_map (λ at. at.counts) result ≡ map.get self.now.counts ino.0 }
+    {
+        self.rows.get(ino.0).copied()
     }
 
     // The inodes that have locks, in the order of their numbers.
     pub(crate) fn inos(&self) -> Keys<'_, u64, usize>
-        ensures { result ≡ map.keys self.now }
+        ensures { result ≡ map.keys self.now.states }
     {
-        self.locks.keys()
+        self.rows.keys()
     }
 
-    // Gives an inode these locks. For want of memory nothing changes.
+    // Gives an inode these locks, whose counts are 0. For want of memory nothing changes.
     pub(crate) fn insert(&mut self, ino: Ino, locks: InodeLocks) -> Result<(), AllocError>
-        ensures ok { OnOk result (self.new ≡ map.insert self.old ino.0 locks) }
+        ensures ok { OnOk result (self.new ≡ record { states = map.insert self.old.states ino.0 locks; counts = map.insert self.old.counts ino.0 words.no_counts }) }
         ensures err { OnErr result (self.new ≡ self.old) }
     {
-        self.locks.insert(ino.0, locks)
+        let counts = Counts::none();
+        self.rows.insert(ino.0, LocksAt { locks, counts })
     }
 
-    // Takes the locks of an inode away.
+    // Takes the locks of an inode away, with their counts.
     pub(crate) fn remove(&mut self, ino: Ino)
-        ensures { self.new ≡ map.remove self.old ino.0 }
+        ensures { self.new ≡ record { states = map.remove self.old.states ino.0; counts = map.remove self.old.counts ino.0 } }
     {
-        self.locks.remove(ino.0);
+        self.rows.remove(ino.0);
     }
 
-    // Puts the lock of an inode's part, if it has one, in another state.
+    // Puts the lock of an inode's part, if it has one, in another state. Its count stays.
     pub(crate) fn set(&mut self, ino: Ino, part: Part, state: LockState)
-        ensures { self.new ≡ change_at (words.with_lock_in part state) self.old ino.0 }
+        ensures { self.new ≡ record self.old { states = change_at (words.with_lock_in part state) self.old.states ino.0 } }
     {
-        if let Some(locks) = self.locks.get_mut(ino.0) {
-            locks.set(part, state);
+        if let Some(at) = self.rows.get_mut(ino.0) {
+            at.locks.set(part, state);
+        }
+    }
+
+    // Gives the lock of an inode's part, if it has one, another count. Its state stays.
+    pub(crate) fn set_count(&mut self, ino: Ino, part: Part, count: u32)
+        ensures set { self.new ≡ record self.old { counts = change_at (words.with_count_in part count) self.old.counts ino.0 } }
+        ensures had { words.HaveCounts self.old.states self.old.counts }
+    {
+        if let Some(at) = self.rows.get_mut(ino.0) {
+            at.counts.set(part, count);
+        }
+    }
+
+    // Takes one off the count of the lock of an inode's part, if it has one, and its count is not 0.
+    pub(crate) fn count_down(&mut self, ino: Ino, part: Part)
+        ensures { self.new ≡ record self.old { counts = change_at (words.one_less_in part) self.old.counts ino.0 } }
+    {
+        if let Some(at) = self.rows.get_mut(ino.0) {
+            let count = at.counts.of_part(part);
+            at.counts.set(part, count.saturating_sub(1));
         }
     }
 }

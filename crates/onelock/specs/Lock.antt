@@ -20,6 +20,12 @@ same_state a b = false
 abbrev pub LockId : Type 0
 LockId = ℕ × Part
 
+-- the lock, where there is one, is in a gather that waits for nobody, if this is how many it waits for
+abbrev pub ends_by_count : ℕ → Option LockState → Bool
+ends_by_count n None = false
+ends_by_count n (Some (Stable state)) = false
+ends_by_count n (Some (Gather from to)) = n == 0
+
 -- the lock, where there is one, is in a gather that is not open
 abbrev pub may_end_in : Table → LockId → Option LockState → Bool
 may_end_in table at None = false

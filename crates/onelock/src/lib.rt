@@ -8,6 +8,6 @@ mod held;
 mod lock;
 mod want;
 
-pub use held::is_held_outside;
-pub use lock::{is_off_target, may_end};
+pub use held::{has_outside, holders_outside};
+pub use lock::{ends_by_count, is_off_target};
 pub use want::wanted_while;

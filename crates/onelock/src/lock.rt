@@ -1,19 +1,18 @@
 //! What becomes of a lock next.
 ghost use Rattle.std.specs.Prelude.{◌≡◌, Some, not};
 ghost use Rattle.locktable.specs.Targets.{target_of};
-ghost use Rattle.onelock.specs.Lock.{same_state, may_end_in};
+ghost use Rattle.onelock.specs.Lock as words;
+ghost use Rattle.onelock.specs.Lock.{same_state};
 
-use crate::held::is_held_outside;
-use capbits::{CapSet, ClientId, Ino, Part};
-use captable::CapTable;
+use capbits::{CapSet, ClientId, Part};
 use locktable::{Head, LockState, StableState, target};
 
-/// Whether the lock of the part, which is in this state, is in a gather that is not open.
-pub fn may_end(table: &CapTable, ino: Ino, part: Part, lock: LockState) -> bool
-    ensures { result ≡ may_end_in table.now.entries (ino.0, part) (Some lock) }
+/// Whether the lock, which is in this state, is in a gather that waits for nobody, where this is how many clients it waits for.
+pub fn ends_by_count(count: u32, lock: LockState) -> bool
+    ensures { result ≡ words.ends_by_count count (Some lock) }
 {
     match lock {
-        LockState::Gather { to, .. } => !is_held_outside(table, ino, part, to),
+        LockState::Gather { .. } => count == 0,
         LockState::Stable(_) => false,
     }
 }

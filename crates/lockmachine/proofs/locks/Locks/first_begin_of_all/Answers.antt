@@ -12,7 +12,7 @@ use Rattle.lockmachine.proofs.locks.Locks.first_begin_of_all.Goals as goal
 
 pub returns-in-Some-first_begin : goal.returns-in-Some-first_begin
 returns-in-Some-first_begin c =
-    let s : Scene = scene c.args.fs.now c.args.tree.now c.args.sessions.now c.args.table.now.entries c.args.self.now in
+    let s : Scene = scene c.args.fs.now c.args.tree.now c.args.sessions.now c.args.table.now.entries c.args.self.now.locks in
     let first : List ℕ → Move = λ inos. begin_or_rest s (find (may_begin s) (lock_ids_in inos)) in
     ap (λ o. unwrap_or o (first c.next.new.self)) (sym c.in-Some-first_begin.is ∙ c.first_begin.ensures
     ∙ ap (λ wants. option_map (λ part. beginning s.locks wants (c.in-Some.number.now, part)) (find (λ part. may_begin_by s.locks wants (c.in-Some.number.now, part)) parts)) c.wants_on-wants.ensures)

@@ -8,5 +8,5 @@ use Rattle.lockmachine.proofs.locks.Locks.first_begin_of_all.Given as goal
 
 abbrev pub invariant-loop-number : goal.invariant-loop-number
 invariant-loop-number l =
-    let s = scene l.fs l.tree l.sessions l.table.entries l.self in
-    begin_or_rest s (find (may_begin s) (lock_ids_in l.number-iterator)) ≡ begin_or_rest s (find (may_begin s) (lock_ids l.self))
+    let s = scene l.fs l.tree l.sessions l.table.entries l.self.locks in
+    begin_or_rest s (find (may_begin s) (lock_ids_in l.number-iterator)) ≡ begin_or_rest s (find (may_begin s) (lock_ids l.self.locks))

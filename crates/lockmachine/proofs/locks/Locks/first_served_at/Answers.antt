@@ -6,4 +6,4 @@ pub returns : goal.returns
 returns c =
     of_each c.earlier.ensures (of_each c.earlier-lower.ensures c.first_where_served-auth.ensures.number c.first_where_served-link.ensures.number)
     (of_each c.earlier-higher.ensures c.first_where_served-xattr.ensures.number c.first_where_served-file.ensures.number)
-    ∙ first_of_four c.args.self.now c.first_where_served-auth.ensures.sound c.args.ino.0
+    ∙ first_of_four c.args.self.now.locks c.first_where_served-auth.ensures.sound c.args.ino.0

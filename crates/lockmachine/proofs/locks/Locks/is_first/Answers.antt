@@ -5,20 +5,21 @@ use Rattle.lockmachine.specs.Locks.{LockMap}
 use Rattle.lockmachine.specs.Requests.{part_of_operation, first_for}
 use Rattle.lockmachine.specs.Waiters.{lock_number, is_at}
 use Rattle.lockmachine.proofs.ByLock.{seen-first, number-is, no-number}
+use Rattle.lockmachine.proofs.Counted.{locks_are}
 use Rattle.lockmachine.proofs.locks.Locks.is_first.Goals as goal
 
 pub returns-in-Some : goal.returns-in-Some
 returns-in-Some c =
     let part = part_of_operation c.args.request.now.operation in
     let ino = c.args.request.now.ino.0 in
-    number-is (first_for c.args.self.now.queue ino part) c.in-Some.first.now c.args.request.now.ticket.0
-    (sym (seen-first c.args.self.now c.self.inside.queue.items c.self.inside.waiters (ap (λ (l : LockMap). l.queue) c.self.view_is) c.self.invariant.2 ino part)
+    number-is (first_for c.args.self.now.locks.queue ino part) c.in-Some.first.now c.args.request.now.ticket.0
+    (sym (seen-first c.args.self.now.locks c.self.inside.queue.items c.self.inside.waiters (ap (λ (l : LockMap). l.queue) (locks_are c.self.view_is)) c.self.invariant.2 ino part)
     ∙ sym (c.first_at.ensures ∙ ap (λ p. find (is_at (lock_number ino p)) c.self.inside.waiters) c.part.ensures) ∙ ap option_copied c.in-Some.is)
 
 pub returns-in-None : goal.returns-in-None
 returns-in-None c =
     let part = part_of_operation c.args.request.now.operation in
     let ino = c.args.request.now.ino.0 in
-    no-number (first_for c.args.self.now.queue ino part) c.args.request.now.ticket.0
-    (sym (seen-first c.args.self.now c.self.inside.queue.items c.self.inside.waiters (ap (λ (l : LockMap). l.queue) c.self.view_is) c.self.invariant.2 ino part)
+    no-number (first_for c.args.self.now.locks.queue ino part) c.args.request.now.ticket.0
+    (sym (seen-first c.args.self.now.locks c.self.inside.queue.items c.self.inside.waiters (ap (λ (l : LockMap). l.queue) (locks_are c.self.view_is)) c.self.invariant.2 ino part)
     ∙ sym (c.first_at.ensures ∙ ap (λ p. find (is_at (lock_number ino p)) c.self.inside.waiters) c.part.ensures) ∙ ap option_copied c.in-None.is)

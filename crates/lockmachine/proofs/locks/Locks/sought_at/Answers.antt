@@ -3,6 +3,7 @@ use Rattle.std.specs.List.{list_any}
 use Rattle.lockmachine.specs.Locks.{LockMap}
 use Rattle.lockmachine.specs.Requests.{waits_for}
 use Rattle.lockmachine.proofs.ByLock.{any-waiter}
+use Rattle.lockmachine.proofs.Counted.{locks_are}
 use Rattle.lockmachine.proofs.locks.Locks.sought_at.Goals as goal
 
 pub returns-then-not-alone : goal.returns-then-not-alone
@@ -16,5 +17,5 @@ returns c = (
   c.requires search,
   sym
       (c.any_at.ensures ∙ any-waiter c.self.inside.queue.items c.self.inside.waiters c.self.invariant.2 c.args.ino.0
-      ∙ ap (λ (l : LockMap). list_any (waits_for c.args.ino.0) l.queue) c.self.view_is) ∙ c.if-any_at.false,
+      ∙ ap (λ (l : LockMap). list_any (waits_for c.args.ino.0) l.queue) (locks_are c.self.view_is)) ∙ c.if-any_at.false,
 )

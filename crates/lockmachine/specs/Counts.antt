@@ -1,0 +1,66 @@
+-- The locks and the queue as they are kept: with a count beside each lock of how many clients its gather waits for.
+use Rattle.std.specs.Prelude.{◌≡◌, ◌==◌, ◌-◌, ℕ, Bool, false, Unit, Option, Some, None, IsTrue, filter, length}
+use Rattle.std.specs.FinMap as map
+use Rattle.std.specs.Option.{option_map_or}
+use Rattle.capbits.specs.declared.cap.Part.{Part}
+use Rattle.capbits.specs.Maps.{change_at}
+use Rattle.locktable.specs.declared.states.LockState.{LockState}
+use Rattle.locktable.specs.declared.states.LockState.TheVariants.{Stable, Gather}
+use Rattle.captable.specs.Table.{Table}
+use Rattle.onelock.specs.Held.{holders_outside}
+use Rattle.onelock.specs.Lock.{LockId, ends_by_count}
+use Rattle.lockmachine.specs.Inodes.{CountMap, count_in, with_count_in, one_less_in, no_counts}
+use Rattle.lockmachine.specs.Locks as words
+use Rattle.lockmachine.specs.Locks.{LockMap, lock_at}
+
+-- the locks with the queue, and the counts
+pub record CountedLocks : Type 0 where
+  pub locks : LockMap
+  pub counts : CountMap
+
+-- nothing is locked, and nothing counted
+abbrev pub no_locks : CountedLocks
+no_locks = record { locks = words.no_locks; counts = map.empty }
+
+-- ---- the count of a lock
+
+-- 0 where the inode has no locks
+abbrev pub count_at : CountMap → ℕ → Part → ℕ
+count_at counts ino part = option_map_or (count_in part) (map.get counts ino) 0
+
+abbrev pub count_of : CountedLocks → LockId → ℕ
+count_of l at = count_at l.counts at.0 at.1
+
+-- the lock is in a gather, and its count is 0
+abbrev pub ends_by : CountedLocks → LockId → Bool
+ends_by l at = ends_by_count (count_of l at) (lock_at l.locks at.0 at.1)
+
+-- ---- changes
+
+abbrev pub with_count : CountedLocks → ℕ → Part → ℕ → CountedLocks
+with_count l ino part n = record l { counts = change_at (with_count_in part n) l.counts ino }
+
+abbrev pub with_one_less : CountedLocks → ℕ → Part → CountedLocks
+with_one_less l ino part = record l { counts = change_at (one_less_in part) l.counts ino }
+
+abbrev pub with_ino : CountedLocks → ℕ → CountedLocks
+with_ino l ino = record { locks = words.with_ino l.locks ino; counts = map.insert l.counts ino no_counts }
+
+abbrev pub without_ino : CountedLocks → ℕ → CountedLocks
+without_ino l ino = record { locks = words.without_ino l.locks ino; counts = map.remove l.counts ino }
+
+-- ---- when they are right
+
+-- the count of a gather is how many clients have a cap of the part that the row of its target does not allow
+abbrev pub IsCounted : Table → LockId → ℕ → Option LockState → Type 0
+IsCounted table at n None = Unit
+IsCounted table at n (Some (Stable state)) = Unit
+IsCounted table at n (Some (Gather from to)) = n ≡ holders_outside table (record { 0 = at.0 }) at.1 to
+
+-- so it is of each lock of an inode
+abbrev pub AreCountedAt : Table → CountedLocks → ℕ → Type 0
+AreCountedAt table l ino = (part : Part) → IsCounted table (ino, part) (count_of l (ino, part)) (lock_at l.locks ino part)
+
+-- and of each lock
+abbrev pub AreCounted : Table → CountedLocks → Type 0
+AreCounted table l = (ino : ℕ) → AreCountedAt table l ino
