@@ -6,4 +6,4 @@ pub use Rattle.captable.{proofs.ByHolder.{row_of-entry}, proofs.Tables.{among-fi
 pub use Rattle.caprules.specs.{Judge.{denial_of, rejection_of}, Needs.{Need, need}, Numbers.{rows_of}, Operations.{operation_after, operation_before, operation_needs}, Serving.{judged_again, takes_memory}, declared.rejection.Rejection.{Rejection}}
 pub use Rattle.caprules.specs.Capevents.{declared.outcome.Outcome.{Outcome}, declared.row.Row.{Row}}
 pub use Rattle.caprules.specs.Capnotes.Changing.{tree_after, tree_with}
-pub use Rattle.caprules.specs.Lockmachine.{Policy.{ArePermitted, permitted}, Requests.{is_of_client}, declared.request.Change.{Change}, declared.request.Operation.{Operation}, declared.request.Operation.TheVariants.{Alter, Rmdir, Unlink}, declared.request.Request.{Request}, declared.scene.Scene.{Scene}}
+pub use Rattle.caprules.specs.Lockmachine.{Policy.{ArePermitted, permitted}, Requests.{is_of_client}, declared.request.Change.{Change}, declared.request.Operation.{Operation}, declared.request.Operation.TheVariants.{Alter, Rmdir, Unlink}, declared.request.Request.{Request}, Scene.{Scene}}

@@ -2,7 +2,7 @@
 use Rattle.std.specs.{List.{find}, Prelude.{◌≡◌, Bool, true, false, Option, Some, None, IsSome, unwrap_or}}
 use Rattle.capbits.specs.{Caps.{Caps}, Sets.{no_caps, IsSubset}}
 use Rattle.captable.specs.{Table.{Table, same, is_row_of, entry_at}, declared.entry.Entry.{Entry}, declared.entry.EntryRow.{EntryRow}, declared.entry.Holder.{Holder}}
-use Rattle.caprules.specs.{Finish.{due}, Lockmachine.Scene.{told_set}, Lockmachine.declared.scene.Scene.{Scene}}
+use Rattle.caprules.specs.{Finish.{due}, Lockmachine.Scene.{told_set}, Lockmachine.Scene.{Scene}}
 pub use Rattle.captable.specs.Known.{KnownSets, sets_of, known_of, permitted_of}
 
 -- what is kept of a holder, and nothing where nothing is

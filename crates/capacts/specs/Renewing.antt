@@ -3,7 +3,7 @@ use Rattle.std.specs.Prelude.{◌≡◌, ◌≢◌, ℕ, Bool, true, false, Some
 use Rattle.capbits.specs.Caps.{Caps}
 use Rattle.inotree.specs.{Alike.{IsAlike}, InoSets.{InoSet}, Tree.{Nodes, is_within}}
 use Rattle.captable.specs.{Table.{Table, entry_at}, declared.entry.Holder.{Holder}}
-use Rattle.caprules.specs.{Capevents.declared.outcome.Outcome.{Outcome}, Capnotes.Changing.{tree_after}, Lockmachine.declared.request.Request.{Request}, Lockmachine.declared.scene.Scene.{Scene}}
+use Rattle.caprules.specs.{Capevents.declared.outcome.Outcome.{Outcome}, Capnotes.Changing.{tree_after}, Lockmachine.declared.request.Request.{Request}, Lockmachine.Scene.{Scene}}
 use Rattle.capacts.specs.{Known.{KnownSets, known_of, permitted_of}, Reach.{Covers}, Served.{is_rename}}
 
 -- the holder has an entry

@@ -2,7 +2,7 @@
 ghost use Rattle.std.specs.Prelude.{◌≡◌, None, Some, true, false, IfOk, OnOk, OnErr};
 ghost use Rattle.capbits.specs.Refusal.{first_failing};
 ghost use Rattle.captable.specs.Table.{Table};
-ghost use Rattle.caprules.specs.{Capnotes.Changing.{tree_after, tree_with, tree_changed}, Lockmachine.Locks.{LockMap}, Lockmachine.Scene.{scene as scene_of}, Lockmachine.declared.scene.Scene.{Scene}, Serving.{MayEndAs, judged_again, rejection_outcome, takes_memory, values_outcome}};
+ghost use Rattle.caprules.specs.{Capnotes.Changing.{tree_after, tree_with, tree_changed}, Lockmachine.Locks.{LockMap}, Lockmachine.Scene.{scene as scene_of}, Lockmachine.Scene.{Scene}, Serving.{MayEndAs, judged_again, rejection_outcome, takes_memory, values_outcome}};
 ghost use Rattle.caprules.specs.Lockmachine.declared.request.Operation.TheVariants as operation_kind;
 ghost use Rattle.caprules.specs.Serving as words;
 ghost use Rattle.capacts.specs.Served.{call_tests, change_call_tests, is_rename};

@@ -12,4 +12,4 @@ pub use Rattle.capsteps.specs.Capevents.{Replies.{has_list, outcome_reply}, decl
 pub use Rattle.capsteps.{proofs.Capnotes.Noting.{changes-still}, specs.Capnotes.DueEndings.{DueEndings, HasRoom, HaveOwnNumbers, but_for, is_left, is_of_ticket}, specs.Capnotes.Noted.{view}}
 pub use Rattle.capsteps.specs.Caprules.{Direct.{Answer, Awaits, Direct, Gives, IsDirect, Says, Shows, awaited_as, direct, effect, effect_unless, enqueues, found, owned_by, reply_of, says, shown, with_birth, with_flush, with_scene, with_table}, Finish.{finished, is_sized, owed, sizes_owed}, Headline.{AreBounded, IssuesExactly, ServedDenied, is_rejection, move_of}, History.{HasNoStray, IsOpening, IsRecorded, Recorded, Replays, recorded}, Judge.{after, arrival_tests, basic_tests, before, first_denied, judged, needs, rejection_by, rejection_of, rejection_reply, revoked_of, waiting_tests}, Messages.{after_messages, first_messages, with_given}, Needs.{Need, need}, Noted.{view_of}, Numbers.{rows_of}, Operations.{change_tests, exclusive, operation_after, operation_before, operation_needs}, Serving.{As_judged, MayEndAs, Without_memory, judged_again, outcome_unless}, Settle.{Began, Gathered, Made, Makes, MakesAll, Served, Settles, ended_in, sized_in}, Shown.{ShowsWhatIsTold}, Sound.{AreGiven, IsSound, IsSoundEntry, NumbersLeft}, State.{State}, Step.{Step, StepBy, all_ended, earlier, state_after, state_at_end}, declared.rejection.Rejection.{Rejection}, declared.rejection.Rejection.TheVariants.{ByTest}}
 pub use Rattle.capsteps.{proofs.Capview.Likeness.{like-unseen, shows-tree}, specs.Capview.Changes.{AreChanges}, specs.Capview.Sight.{IsLike}, specs.Capview.declared.change.ViewChange.{ViewChange}}
-pub use Rattle.capsteps.{proofs.Lockmachine.Finding.{contains-filter, filter-contains}, proofs.Lockmachine.Moving.{is_at, with_lock-each}, proofs.Lockmachine.PolicyElsewhere.{alike-itself}, proofs.Lockmachine.Queue.{found_by_number, without_requests_of-kept}, specs.Lockmachine.Inodes.{StateMap, in_sync, lock_in}, specs.Lockmachine.Locks.{IsLockMap, LockMap, lock_at, next_request, queue_tests, request_at, with_ino, with_lock, with_request}, specs.Lockmachine.Moves.{IsQuiet, LockId, coming_state, first_move, present_state}, specs.Lockmachine.Policy.{permitted}, specs.Lockmachine.Requests.{first_for, is_for, is_numbered, part_of_change}, specs.Lockmachine.declared.moves.Move.TheVariants.{Begin, End, Serve}, specs.Lockmachine.declared.request.Operation.{Operation}, specs.Lockmachine.declared.request.Operation.TheVariants.{Alter, Get, Rename, Rmdir, Unlink}, specs.Lockmachine.declared.request.Request.{Request}, specs.Lockmachine.declared.scene.Scene.{Scene}, specs.Lockmachine.declared.states.InodeLocks.{InodeLocks}}
+pub use Rattle.capsteps.{proofs.Lockmachine.Finding.{contains-filter, filter-contains}, proofs.Lockmachine.Moving.{is_at, with_lock-each}, proofs.Lockmachine.PolicyElsewhere.{alike-itself}, proofs.Lockmachine.Queue.{found_by_number, without_requests_of-kept}, specs.Lockmachine.Inodes.{StateMap, in_sync, lock_in}, specs.Lockmachine.Locks.{IsLockMap, LockMap, lock_at, next_request, queue_tests, request_at, with_ino, with_lock, with_request}, specs.Lockmachine.Moves.{IsQuiet, LockId, coming_state, first_move, present_state}, specs.Lockmachine.Policy.{permitted}, specs.Lockmachine.Requests.{first_for, is_for, is_numbered, part_of_change}, specs.Lockmachine.declared.moves.Move.TheVariants.{Begin, End, Serve}, specs.Lockmachine.declared.request.Operation.{Operation}, specs.Lockmachine.declared.request.Operation.TheVariants.{Alter, Get, Rename, Rmdir, Unlink}, specs.Lockmachine.declared.request.Request.{Request}, specs.Lockmachine.Scene.{Scene}, specs.Lockmachine.declared.states.InodeLocks.{InodeLocks}}

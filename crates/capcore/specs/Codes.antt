@@ -4,7 +4,7 @@ use Rattle.inotree.specs.Tree.{Nodes, nodes_code}
 use Rattle.captable.specs.Table.{Table}
 use Rattle.captable.specs.Codes as entries
 use Rattle.sessiontab.specs.Table.{SessionTable, table_code}
-use Rattle.capsteps.specs.{Capevents.declared.outcome.Ended.{Ended}, Capevents.declared.row.Row.{Row}, Caprules.History.{Recorded, recorded}, Caprules.State.{State}, Capview.declared.change.ViewChange.{ViewChange}, Lockmachine.Codes.{lock_map_code}, Lockmachine.Locks.{LockMap}, Lockmachine.declared.scene.Scene.{Scene}}
+use Rattle.capsteps.specs.{Capevents.declared.outcome.Ended.{Ended}, Capevents.declared.row.Row.{Row}, Caprules.History.{Recorded, recorded}, Caprules.State.{State}, Capview.declared.change.ViewChange.{ViewChange}, Lockmachine.Codes.{lock_map_code}, Lockmachine.Locks.{LockMap}, Lockmachine.Scene.{Scene}}
 use Rattle.capsteps.specs.Capview.contracts.change.ViewChange as view_change
 use Rattle.capsteps.specs.Capevents.contracts.outcome.Ended as ended
 use Rattle.capsteps.specs.Capevents.contracts.row.Row as history_row

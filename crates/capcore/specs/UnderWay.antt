@@ -2,7 +2,7 @@
 use Rattle.std.specs.Prelude.{◌≡◌, ◌≤◌, ◌+◌, ℕ, List, [], All, length, None, vec_capacity}
 use Rattle.capbits.specs.declared.{ids.ClientId.{ClientId}, ids.Ino.{Ino}}
 use Rattle.captable.specs.Table.{IsTable}
-use Rattle.capsteps.specs.{Affected.{Affects, Knows}, Begun.{ArePermittedIn, IsReady, among}, Capacts.Known.{KnownSets, known_in, AreKnown, StillKnown}, Capacts.declared.operations.OperationRef.{OperationRef}, Capacts.declared.operations.OperationRef.TheVariants.{Get, Alter, Unlink, Rmdir, Rename}, Capevents.declared.event.Event.{Event}, Capevents.declared.outcome.Ended.{Ended}, Capevents.declared.reply.Reply.{Reply}, Capnotes.DueEndings.{HasRoom, but_for}, Caprules.Direct.{direct}, Caprules.Judge.{judged}, Caprules.Noted.{view_of}, Caprules.Sound.{IsSound, AreGiven, NumbersLeft}, Caprules.State.{State}, Capview.Changes.{AreChanges}, EntryRequest.{entry_event, entry_answer}, Lockmachine.Locks.{IsLockMap}, Lockmachine.declared.scene.Scene.{Scene}, SessionChange.{session_event}, declared.endings.Endings.{Endings}}
+use Rattle.capsteps.specs.{Affected.{Affects, Knows}, Begun.{ArePermittedIn, IsReady, among}, Capacts.Known.{KnownSets, known_in, AreKnown, StillKnown}, Capacts.declared.operations.OperationRef.{OperationRef}, Capacts.declared.operations.OperationRef.TheVariants.{Get, Alter, Unlink, Rmdir, Rename}, Capevents.declared.event.Event.{Event}, Capevents.declared.outcome.Ended.{Ended}, Capevents.declared.reply.Reply.{Reply}, Capnotes.DueEndings.{HasRoom, but_for}, Caprules.Direct.{direct}, Caprules.Judge.{judged}, Caprules.Noted.{view_of}, Caprules.Sound.{IsSound, AreGiven, NumbersLeft}, Caprules.State.{State}, Capview.Changes.{AreChanges}, EntryRequest.{entry_event, entry_answer}, Lockmachine.Locks.{IsLockMap}, Lockmachine.Scene.{Scene}, SessionChange.{session_event}, declared.endings.Endings.{Endings}}
 use Rattle.capsteps.specs.Caprules.Direct as rules
 use Rattle.capcore.specs.declared.{parts.Answer.{Answer}, parts.Answer.TheVariants.{Done, Dropped, Requested, Awaited}, parts.Effect.{Effect}, parts.MovingEvent.{MovingEvent}, parts.MovingEvent.TheVariants.{OfEntry, OfLock, Flush, OfSession}, parts.Parts.{Parts}}
 

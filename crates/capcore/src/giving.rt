@@ -2,7 +2,7 @@
 
 ghost use Rattle.std.specs.Prelude.{◌≡◌, ℕ};
 ghost use Rattle.captable.specs.{Calls.{recalled}, Table.{IsTable}};
-ghost use Rattle.capsteps.specs.{Caprules.Direct.{Answer, shown, with_table}, Caprules.Finish.{finished}, Caprules.Headline.{IssuesExactly}, Caprules.Sound.{IsSound, AreGiven}, Caprules.State.{State}, Lockmachine.declared.scene.Scene.{Scene}};
+ghost use Rattle.capsteps.specs.{Caprules.Direct.{Answer, shown, with_table}, Caprules.Finish.{finished}, Caprules.Headline.{IssuesExactly}, Caprules.Sound.{IsSound, AreGiven}, Caprules.State.{State}, Lockmachine.Scene.{Scene}};
 
 /// What a client is told at the end of a step leaves a sound state sound, nothing to do and all that is held as it was.
 pub fn telling_leaves_all_but_what_was_told()

@@ -2,7 +2,7 @@
 
 ghost use Rattle.std.specs.Prelude.{◌≡◌, ◌+◌, false, List, None};
 ghost use Rattle.capbits.specs.declared.{ids.ClientId.{ClientId}, ids.Ino.{Ino}};
-ghost use Rattle.capsteps.specs.{Caprules.Direct.{Awaits, reply_of}, Caprules.Headline.{is_rejection}, Caprules.Serving.{judged_again}, Caprules.Settle.{Made, MakesAll, ended_in}, Caprules.Sound.{IsSound}, Caprules.State.{State}, Lockmachine.Locks.{IsLockMap, next_request, with_request}, Lockmachine.declared.request.Operation.{Operation}, Lockmachine.declared.scene.Scene.{Scene}};
+ghost use Rattle.capsteps.specs.{Caprules.Direct.{Awaits, reply_of}, Caprules.Headline.{is_rejection}, Caprules.Serving.{judged_again}, Caprules.Settle.{Made, MakesAll, ended_in}, Caprules.Sound.{IsSound}, Caprules.State.{State}, Lockmachine.Locks.{IsLockMap, next_request, with_request}, Lockmachine.declared.request.Operation.{Operation}, Lockmachine.Scene.{Scene}};
 
 /// A request that nothing rejects when it comes, and that is served in the same step, is neither denied nor refused: no
 /// request of an earlier step is served before it, so it is judged on the tree and the sessions on which it came.

@@ -2,7 +2,7 @@
 
 ghost use Rattle.std.specs.Prelude.{◌++◌, [], ◌∷◌, List};
 ghost use Rattle.captable.specs.Table.{IsTable};
-ghost use Rattle.capsteps.specs.{Capevents.declared.event.Event.{Event}, Capevents.declared.row.Row.{Row}, Caprules.Direct.{direct}, Caprules.Headline.{IssuesExactly}, Caprules.Shown.{AreShown, ShowsWhatIsTold, TakesUnshown, TakesOnlySo}, Caprules.Sound.{IsSound}, Caprules.State.{State}, Caprules.Step.{Step}, Lockmachine.declared.scene.Scene.{Scene}};
+ghost use Rattle.capsteps.specs.{Capevents.declared.event.Event.{Event}, Capevents.declared.row.Row.{Row}, Caprules.Direct.{direct}, Caprules.Headline.{IssuesExactly}, Caprules.Shown.{AreShown, ShowsWhatIsTold, TakesUnshown, TakesOnlySo}, Caprules.Sound.{IsSound}, Caprules.State.{State}, Caprules.Step.{Step}, Lockmachine.Scene.{Scene}};
 
 /// Where the numbers of entries say what clients were last shown, they say it after one step more.
 pub fn a_step_shows_what_it_tells()

@@ -1,7 +1,7 @@
 //! How an event becomes a step. No program needs to call this law.
 
 ghost use Rattle.std.specs.Prelude.{◌≡◌, List};
-ghost use Rattle.capsteps.specs.{Capevents.declared.event.Event.{Event}, Capevents.declared.reply.Reply.{Reply}, Caprules.Direct.{direct, reply_of, shown}, Caprules.Finish.{sizes_owed, finished}, Caprules.Settle.{Made, Settles, ended_in, sized_in}, Caprules.State.{State}, Caprules.Step.{Step, all_ended, state_at_end}, Lockmachine.declared.scene.Scene.{Scene}};
+ghost use Rattle.capsteps.specs.{Capevents.declared.event.Event.{Event}, Capevents.declared.reply.Reply.{Reply}, Caprules.Direct.{direct, reply_of, shown}, Caprules.Finish.{sizes_owed, finished}, Caprules.Settle.{Made, Settles, ended_in, sized_in}, Caprules.State.{State}, Caprules.Step.{Step, all_ended, state_at_end}, Lockmachine.Scene.{Scene}};
 
 /// An event is a whole step, once the locks have settled, the step has ended and its client was told what is answered. The
 /// requests that the event dropped and those of earlier steps that were served are what the step ended.

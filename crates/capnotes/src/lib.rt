@@ -9,7 +9,7 @@ mod ended_tickets;
 
 pub use capevents::{
     Bytes, Change, Ended, EndedList, Event, InodeLocks, Locks, Message, MessageList, Move,
-    OpenMode, Operation, Outcome, PartValues, Policy, Reply, Request, Row, Scene, Wants,
+    OpenMode, Operation, Outcome, PartValues, Policy, Reply, Request, Row, KeptScene, Wants,
     allowed_under, copy_of_messages, copy_of_outcome, copy_of_reply, copy_of_rules, permitted,
     permitted_on, told_under, verdict_on, want_of_permitted, wants_on,
 };

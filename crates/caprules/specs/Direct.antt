@@ -6,7 +6,7 @@ use Rattle.capgrant.specs.declared.access.Attr.{Attr}
 use Rattle.inotree.specs.{Calls.{with_new, changed}, Inodes.{with_snapshot, without_snapshot}, Tree.{Nodes, child}, declared.node.Kind.{Kind}, declared.node.Kind.TheVariants.{Directory, File}}
 use Rattle.captable.specs.{Calls.{with_entry, wanting, acked, released, touched, with_told, recalled, without_client, changed as changed_entry}, Table.{Table, holder, is_row_of}, declared.entry.EntryRow.{EntryRow}, declared.entry.Holder.{Holder}}
 use Rattle.sessiontab.specs.{Calls.{with_session, without_session, with_status, with_grants, with_evicted, without_blocked}, Table.{SessionTable}, declared.session.Session.{Session}}
-use Rattle.capnotes.specs.{Capevents.Replies.{outcome_reply}, Capevents.declared.event.Event.{Event}, Capevents.declared.event.OpenMode.{OpenMode}, Capevents.declared.outcome.Ended.{Ended}, Capevents.declared.reply.Reply.{Reply}, Changing.{tree_changed}, DueEndings.{is_of_ticket, is_to}, Lockmachine.Locks.{with_ino, with_request, requests_of, without_requests_of}, Lockmachine.Scene.{told_set}, Lockmachine.declared.request.Change.{Change}, Lockmachine.declared.request.Operation.{Operation}, Lockmachine.declared.request.Operation.TheVariants.{Get, Alter, Unlink, Rmdir, Rename}, Lockmachine.declared.scene.Scene.{Scene}}
+use Rattle.capnotes.specs.{Capevents.Replies.{outcome_reply}, Capevents.declared.event.Event.{Event}, Capevents.declared.event.OpenMode.{OpenMode}, Capevents.declared.outcome.Ended.{Ended}, Capevents.declared.reply.Reply.{Reply}, Changing.{tree_changed}, DueEndings.{is_of_ticket, is_to}, Lockmachine.Locks.{with_ino, with_request, requests_of, without_requests_of}, Lockmachine.Scene.{told_set}, Lockmachine.declared.request.Change.{Change}, Lockmachine.declared.request.Operation.{Operation}, Lockmachine.declared.request.Operation.TheVariants.{Get, Alter, Unlink, Rmdir, Rename}, Lockmachine.Scene.{Scene}}
 use Rattle.caprules.specs.{Judge.{judged, rejection_reply, revoked_of}, Messages.{first_messages, with_given}, Serving.{dropped_of}, State.{State}, declared.rejection.Rejection.{Rejection}}
 
 abbrev pub with_scene : State → Scene → State

@@ -6,7 +6,7 @@ use Rattle.capbits.specs.{Caps.{Caps, has}, Sets.{no_caps, meet}, declared.cap.C
 use Rattle.inotree.specs.{Tests.{is_gone}, Tree.{Nodes, presence}}
 use Rattle.captable.specs.{Calls.{issued, renumbered, with_size_due, is_of_inode}, Many.{changed_where}, Table.{is_row_of}, declared.entry.Entry.{Entry}, declared.entry.EntryRow.{EntryRow}}
 use Rattle.sessiontab.specs.Table.{SessionTable}
-use Rattle.capnotes.specs.Lockmachine.{Scene.{told_set}, Under.{allowed_under}, Wants.{effective_want}, declared.scene.Scene.{Scene}, declared.states.InodeLocks.{InodeLocks}}
+use Rattle.capnotes.specs.Lockmachine.{Scene.{told_set}, Under.{allowed_under}, Wants.{effective_want}, Scene.{Scene}, declared.states.InodeLocks.{InodeLocks}}
 
 -- ---- sizes
 

@@ -4,7 +4,7 @@ use Rattle.capbits.specs.{Caps.{has}, Refusal.{Test, first_failing}, Sets.{IsSub
 use Rattle.capgrant.specs.declared.{access.Access.{Access}, rule.Rule.{Rule}}
 use Rattle.captable.specs.{Table.{is_row_of}, declared.entry.EntryRow.{EntryRow}, declared.entry.Holder.{Holder}}
 use Rattle.locktable.specs.{Conflicts.{conflict}, Rows.{row_of}, declared.states.LockState.{LockState}, declared.states.LockState.TheVariants.{Stable, Gather}, declared.states.StableState.{StableState}}
-use Rattle.capnotes.specs.{Capevents.declared.event.Event.{Event}, Capevents.declared.outcome.Outcome.{Outcome}, Capevents.declared.reply.Reply.{Reply}, Lockmachine.Locks.{LockMap, lock_at}, Lockmachine.Moves.{is_open}, Lockmachine.Policy.{failures, permitted}, Lockmachine.Requests.{same_part}, Lockmachine.Runs.{AreFew}, Lockmachine.Scene.{against}, Lockmachine.declared.moves.Move.{Move}, Lockmachine.declared.moves.Move.TheVariants.{Begin, End, Serve}, Lockmachine.declared.request.Request.{Request}, Lockmachine.declared.scene.Scene.{Scene}}
+use Rattle.capnotes.specs.{Capevents.declared.event.Event.{Event}, Capevents.declared.outcome.Outcome.{Outcome}, Capevents.declared.reply.Reply.{Reply}, Lockmachine.Locks.{LockMap, lock_at}, Lockmachine.Moves.{is_open}, Lockmachine.Policy.{failures, permitted}, Lockmachine.Requests.{same_part}, Lockmachine.Runs.{AreFew}, Lockmachine.Scene.{against}, Lockmachine.declared.moves.Move.{Move}, Lockmachine.declared.moves.Move.TheVariants.{Begin, End, Serve}, Lockmachine.declared.request.Request.{Request}, Lockmachine.Scene.{Scene}}
 use Rattle.caprules.specs.{Finish.{due}, Judge.{before, needs, first_denied}, Needs.{Need}, Operations.{operation_before, operation_needs}, Settle.{Made, Began, Gathered, Served, MakesAll, ended_in}}
 
 -- ---- denials

@@ -5,7 +5,7 @@ use Rattle.capgrant.specs.declared.{access.Access.{Access}, access.Access.TheVar
 use Rattle.inotree.specs.{Tests.{exists_test, inode_tests, directory_test, file_test, found_test, new_inode_tests, new_snapshot_tests, old_snapshot_tests}, Tree.{Nodes, child}}
 use Rattle.captable.specs.{Table.{Table, holder, is_row_of, entry_at}, Tests.{open_tests, entry_test, ack_tests, release_tests}, declared.entry.Holder.{Holder}}
 use Rattle.sessiontab.specs.{Table.{SessionTable}, Tests.{connected_test, session_tests, mark_tests, new_session_tests, evict_tests, blocked_test}}
-use Rattle.capnotes.specs.{Capevents.declared.event.Event.{Event}, Capevents.declared.event.OpenMode.{OpenMode}, Capevents.declared.reply.Reply.{Reply}, Lockmachine.Locks.{queue_tests}, Lockmachine.Policy.{is_granted, failures}, Lockmachine.Requests.{part_of_change}, Lockmachine.Scene.{against}, Lockmachine.declared.request.Change.{Change}, Lockmachine.declared.request.Operation.{Operation}, Lockmachine.declared.request.Operation.TheVariants.{Get, Alter, Unlink, Rmdir, Rename}, Lockmachine.declared.scene.Scene.{Scene}}
+use Rattle.capnotes.specs.{Capevents.declared.event.Event.{Event}, Capevents.declared.event.OpenMode.{OpenMode}, Capevents.declared.reply.Reply.{Reply}, Lockmachine.Locks.{queue_tests}, Lockmachine.Policy.{is_granted, failures}, Lockmachine.Requests.{part_of_change}, Lockmachine.Scene.{against}, Lockmachine.declared.request.Change.{Change}, Lockmachine.declared.request.Operation.{Operation}, Lockmachine.declared.request.Operation.TheVariants.{Get, Alter, Unlink, Rmdir, Rename}, Lockmachine.Scene.{Scene}}
 use Rattle.caprules.specs.{Needs.{Need, need, need_if}, Operations.{operation_before, operation_needs, operation_after, change_access, change_tests, exclusive}, declared.rejection.Rejection.{Rejection}, declared.rejection.Rejection.TheVariants.{ByPolicy, ByTest}}
 
 -- ---- by event

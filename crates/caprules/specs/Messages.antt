@@ -4,7 +4,7 @@ use Rattle.std.specs.FinMap as finite
 use Rattle.capbits.specs.declared.{ids.ClientId.{ClientId}, ids.Ino.{Ino}}
 use Rattle.inotree.specs.declared.node.Node.{Node}
 use Rattle.captable.specs.{Calls.{is_of_client, with_told, with_asked, with_size_due}, Many.{changed_where}, declared.entry.Entry.{Entry}, declared.entry.EntryRow.{EntryRow}}
-use Rattle.capnotes.specs.{Capevents.declared.outcome.Ended.{Ended}, Capevents.declared.outcome.Message.{Message}, DueEndings.{is_to, is_left}, Lockmachine.Scene.{told_set}, Lockmachine.declared.scene.Scene.{Scene}}
+use Rattle.capnotes.specs.{Capevents.declared.outcome.Ended.{Ended}, Capevents.declared.outcome.Message.{Message}, DueEndings.{is_to, is_left}, Lockmachine.Scene.{told_set}, Lockmachine.Scene.{Scene}}
 use Rattle.caprules.specs.State.{State}
 
 -- what the client is to know that it holds has changed since it was told

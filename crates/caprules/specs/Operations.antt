@@ -3,7 +3,7 @@ use Rattle.std.specs.{Ordering.{eq_by_cmp}, Prelude.{ℕ, List, [], ◌∷◌, �
 use Rattle.capbits.specs.{Refusal.{Test}, declared.cap.Cap.{Cap}, declared.cap.Cap.TheVariants.{Ax, Lx, Xx, Fx}, declared.cap.Part.{Part}, declared.cap.Part.TheVariants.{A, L, X, F}, declared.ids.ClientId.{ClientId}}
 use Rattle.capgrant.specs.declared.access.Access.{Access}
 use Rattle.inotree.specs.{Names.{name_cmp}, Tests.{inode_tests, root_test, directory_test, file_test, empty_test, new_site_tests, setting_tests, new_attribute_tests, old_attribute_tests}, Tree.{parent}, declared.node.Setting.TheVariants.{Mode, Uid, Gid}}
-use Rattle.capnotes.specs.Lockmachine.{declared.request.Change.{Change}, declared.request.Change.TheVariants.{Set, SetXattr, RemoveXattr}, declared.request.Operation.{Operation}, declared.request.Operation.TheVariants.{Get, Alter, Unlink, Rmdir, Rename}, declared.scene.Scene.{Scene}}
+use Rattle.capnotes.specs.Lockmachine.{declared.request.Change.{Change}, declared.request.Change.TheVariants.{Set, SetXattr, RemoveXattr}, declared.request.Operation.{Operation}, declared.request.Operation.TheVariants.{Get, Alter, Unlink, Rmdir, Rename}, Scene.{Scene}}
 use Rattle.caprules.specs.Needs.{Need, need, need_if}
 
 -- ---- accesses

@@ -3,7 +3,7 @@ use Rattle.std.specs.Prelude.{◌≡◌, ℕ, Bool, true, false, IsTrue, Option,
 use Rattle.std.specs.FinMap as map
 use Rattle.capbits.specs.declared.{cap.Part.{Part}, cap.Part.TheVariants.{A, L, X, F}}
 use Rattle.inotree.specs.declared.node.Node.{Node}
-use Rattle.capnotes.specs.{Capevents.declared.outcome.Ended.{Ended}, Capevents.declared.outcome.Outcome.{Outcome}, Capevents.declared.outcome.PartValues.{PartValues}, Changing.{tree_after}, Lockmachine.Moves.{moved as moved_locks}, Lockmachine.declared.moves.Move.TheVariants.{Serve}, Lockmachine.declared.request.Change.{Change}, Lockmachine.declared.request.Change.TheVariants.{SetXattr}, Lockmachine.declared.request.Operation.{Operation}, Lockmachine.declared.request.Operation.TheVariants.{Get, Alter, Rename}, Lockmachine.declared.request.Request.{Request}, Lockmachine.declared.scene.Scene.{Scene}}
+use Rattle.capnotes.specs.{Capevents.declared.outcome.Ended.{Ended}, Capevents.declared.outcome.Outcome.{Outcome}, Capevents.declared.outcome.PartValues.{PartValues}, Changing.{tree_after}, Lockmachine.Moves.{moved as moved_locks}, Lockmachine.declared.moves.Move.TheVariants.{Serve}, Lockmachine.declared.request.Change.{Change}, Lockmachine.declared.request.Change.TheVariants.{SetXattr}, Lockmachine.declared.request.Operation.{Operation}, Lockmachine.declared.request.Operation.TheVariants.{Get, Alter, Rename}, Lockmachine.declared.request.Request.{Request}, Lockmachine.Scene.{Scene}}
 use Rattle.caprules.specs.{Judge.{rejection_of}, Operations.{operation_before, operation_needs, operation_after}, declared.rejection.Rejection.{Rejection}, declared.rejection.Rejection.TheVariants.{ByPolicy, ByTest}}
 
 -- what rejects the request now

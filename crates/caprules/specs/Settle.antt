@@ -3,7 +3,7 @@ use Rattle.std.specs.{List.{filter_map}, Prelude.{◌≡◌, Bool, true, false, 
 use Rattle.capbits.specs.declared.{cap.Part.{Part}, ids.Ino.{Ino}}
 use Rattle.inotree.specs.declared.node.Setting.{Setting}
 use Rattle.locktable.specs.declared.states.StableState.{StableState}
-use Rattle.capnotes.specs.{Capevents.declared.outcome.Ended.{Ended}, Capevents.declared.outcome.Outcome.{Outcome}, Lockmachine.Locks.{request_at}, Lockmachine.Moves.{first_move, with_moved}, Lockmachine.declared.moves.Move.TheVariants.{Begin, End, Serve, Settled}, Lockmachine.declared.request.Change.TheVariants.{Set}, Lockmachine.declared.request.Operation.{Operation}, Lockmachine.declared.request.Operation.TheVariants.{Alter}, Lockmachine.declared.request.Request.{Request}, Lockmachine.declared.scene.Scene.{Scene}}
+use Rattle.capnotes.specs.{Capevents.declared.outcome.Ended.{Ended}, Capevents.declared.outcome.Outcome.{Outcome}, Lockmachine.Locks.{request_at}, Lockmachine.Moves.{first_move, with_moved}, Lockmachine.declared.moves.Move.TheVariants.{Begin, End, Serve, Settled}, Lockmachine.declared.request.Change.TheVariants.{Set}, Lockmachine.declared.request.Operation.{Operation}, Lockmachine.declared.request.Operation.TheVariants.{Alter}, Lockmachine.declared.request.Request.{Request}, Lockmachine.Scene.{Scene}}
 use Rattle.caprules.specs.Serving.{MayEndAs, served}
 
 -- a move that was made

@@ -2,7 +2,7 @@
 use Rattle.std.specs.{List.{fold}, Prelude.{◌≡◌, Bool, false, ◌&&◌, ◌||◌, ◌==◌, nat_lt, IsTrue, IsFalse, List, Some, if◌then◌else◌}}
 use Rattle.capbits.specs.{Caps.{Caps, has}, Sets.{no_caps, minus}, declared.cap.Cap.{Cap}, declared.cap.Cap.TheVariants.{P}, declared.ids.Ino.{Ino}}
 use Rattle.captable.specs.{Shown.{IsShown}, Table.{holder, same, entry_at}, declared.entry.Entry.{Entry}, declared.entry.Holder.{Holder}}
-use Rattle.capnotes.specs.{Capevents.declared.event.Event.{Event}, Capevents.declared.outcome.Message.{Message}, Capevents.declared.reply.Reply.{Reply}, Capevents.declared.row.Row.{Row}, Lockmachine.Policy.{permitted}, Lockmachine.Scene.{told_set}, Lockmachine.declared.scene.Scene.{Scene}}
+use Rattle.capnotes.specs.{Capevents.declared.event.Event.{Event}, Capevents.declared.outcome.Message.{Message}, Capevents.declared.reply.Reply.{Reply}, Capevents.declared.row.Row.{Row}, Lockmachine.Policy.{permitted}, Lockmachine.Scene.{told_set}, Lockmachine.Scene.{Scene}}
 use Rattle.caprules.specs.Headline.{holds}
 
 -- ---- by rows alone

@@ -6,7 +6,7 @@ use Rattle.capbits.specs.{Caps.{has}, Sets.{IsSubset}, declared.cap.Cap.TheVaria
 use Rattle.inotree.specs.{Tree.{presence}, declared.node.Presence.TheVariants.{Gone}}
 use Rattle.captable.specs.{Calls.{is_of_inode}, declared.entry.EntryRow.{EntryRow}}
 use Rattle.sessiontab.specs.Calls.{has_session}
-use Rattle.capnotes.specs.Lockmachine.{Moves.{IsAtRest}, declared.scene.Scene.{Scene}}
+use Rattle.capnotes.specs.Lockmachine.{Moves.{IsAtRest}, Scene.{Scene}}
 use Rattle.caprules.specs.{Finish.{due}, Headline.{AreInPlace}, State.{State}}
 
 -- an entry

@@ -1,6 +1,6 @@
 -- The state of the core.
 use Rattle.std.specs.Prelude.{List}
-use Rattle.capnotes.specs.{Capevents.declared.outcome.Ended.{Ended}, Lockmachine.declared.scene.Scene.{Scene}}
+use Rattle.capnotes.specs.{Capevents.declared.outcome.Ended.{Ended}, Lockmachine.Scene.{Scene}}
 
 pub record State : Type 0 where
   -- the file system's name, tree, sessions, entries and locks

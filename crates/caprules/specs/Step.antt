@@ -1,6 +1,6 @@
 -- One step: the event by itself, the moves, and the end of the step.
 use Rattle.std.specs.Prelude.{◌≡◌, ℕ, nat_le, List, ◌++◌, filter}
-use Rattle.capnotes.specs.{Capevents.declared.event.Event.{Event}, Capevents.declared.outcome.Ended.{Ended}, Capevents.declared.reply.Reply.{Reply}, Lockmachine.declared.scene.Scene.{Scene}}
+use Rattle.capnotes.specs.{Capevents.declared.event.Event.{Event}, Capevents.declared.outcome.Ended.{Ended}, Capevents.declared.reply.Reply.{Reply}, Lockmachine.Scene.{Scene}}
 use Rattle.caprules.specs.{Direct.{Direct, direct, reply_of, shown}, Finish.{sizes_owed, finished}, Settle.{Made, Settles, ended_in, sized_in}, State.{State}}
 
 -- of the requests that the moves ended, those of earlier steps: they have no number above the last that was given before

@@ -9,7 +9,7 @@ mod rejection;
 pub use capnotes::{
     Bytes, Change, ChangeList, Ended, EndedList, EndedTickets, Event, InodeLocks, Locks, Message,
     MessageList, Move, OpenMode, Operation, Outcome, PartValues, Policy, Question, Reply, Request,
-    Row, Scene, Unknown, View, ViewChange, Wants, allowed_under, copy_of_messages, copy_of_outcome,
+    Row, KeptScene, Unknown, View, ViewChange, Wants, allowed_under, copy_of_messages, copy_of_outcome,
     copy_of_reply, copy_of_rules, due_endings, permitted, permitted_on, sets_attr, told_under,
     verdict_on, want_of_permitted, wants_on,
 };

@@ -8,4 +8,4 @@ pub use Rattle.capacts.{proofs.Held.{or_inside}, proofs.KeptSets.{found-stays, k
 pub use Rattle.capacts.specs.Capevents.{declared.event.Event.{Event}, declared.event.OpenMode.{OpenMode}, declared.outcome.Ended.{Ended}, declared.outcome.Message.{Message}, declared.outcome.Outcome.{Outcome}, declared.reply.Reply.{Reply}}
 pub use Rattle.capacts.{proofs.Capnotes.Noting.{leads-none, leads-then}, specs.Capnotes.Changing.{tree_after, tree_with}, specs.Capnotes.DueEndings.{is_to}, specs.Capnotes.Noted.{LeadOn}}
 pub use Rattle.capacts.specs.Caprules.{Direct.{Direct, Gives, Shows, direct, effect, effect_unless, opening_wants, reply_of, shown, with_scene}, Finish.{due, due_under, finished, forget, is_in_use, is_sized, issue, issue_row, number, number_row, owed, sizes_owed, still_known}, Headline.{IsInPlace, IssuesExactly}, Judge.{judged, rejection_reply, revoked_of}, Messages.{after_messages, end_messages, first_messages, is_caps_of, is_recall_of, is_size_of, row_messages, sized_if, told_if, unasked_if}, Settle.{Began, Gathered, Made, Makes, MakesAll, Served, Settles, ended_by, ended_in, sized_by, sized_in}, Sound.{AreGiven, IsSound, IsSoundEntry}, State.{State}, Step.{Step, state_after, state_at_end}, declared.rejection.Rejection.{Rejection}}
-pub use Rattle.capacts.{proofs.Lockmachine.Exact.{ends_not, settled}, proofs.Lockmachine.Finding.{contains-filter, filter-contains}, proofs.Lockmachine.PolicyElsewhere.{alike-itself, permitted-kept, wants-kept}, proofs.Lockmachine.Rest.{same_key}, proofs.Lockmachine.Told.{has-against, has-told, told-less}, proofs.Lockmachine.Waiting.{quiet-waits-at, served-at, waits-kept-at}, specs.Lockmachine.Inodes.{StateMap, in_sync, lock_in}, specs.Lockmachine.Locks.{IsLockMap, LockMap, lock_at, request_at, without_request}, specs.Lockmachine.Moves.{IsAtRest, IsQuiet, first_move, is_open}, specs.Lockmachine.Policy.{ArePermitted, permitted}, specs.Lockmachine.Requests.{first_for, is_numbered, part_of_operation}, specs.Lockmachine.Revoked.{is_revoked}, specs.Lockmachine.Rows.{IsInRow, IsInRowOf}, specs.Lockmachine.Scene.{against, outside, scene, told_set, wants}, specs.Lockmachine.Turns.{IsTurnOf, WaitAt, may_end_by}, specs.Lockmachine.Wants.{effective_want}, specs.Lockmachine.declared.moves.Move.TheVariants.{Serve, Settled}, specs.Lockmachine.declared.request.Operation.{Operation}, specs.Lockmachine.declared.request.Request.{Request}, specs.Lockmachine.declared.scene.Scene.{Scene}, specs.Lockmachine.declared.states.InodeLocks.{InodeLocks}}
+pub use Rattle.capacts.{proofs.Lockmachine.Exact.{ends_not, settled}, proofs.Lockmachine.Finding.{contains-filter, filter-contains}, proofs.Lockmachine.PolicyElsewhere.{alike-itself, permitted-kept, wants-kept}, proofs.Lockmachine.Rest.{same_key}, proofs.Lockmachine.Told.{has-against, has-told, told-less}, proofs.Lockmachine.Waiting.{quiet-waits-at, served-at, waits-kept-at}, specs.Lockmachine.Inodes.{StateMap, in_sync, lock_in}, specs.Lockmachine.Locks.{IsLockMap, LockMap, lock_at, request_at, without_request}, specs.Lockmachine.Moves.{IsAtRest, IsQuiet, first_move, is_open}, specs.Lockmachine.Policy.{ArePermitted, permitted}, specs.Lockmachine.Requests.{first_for, is_numbered, part_of_operation}, specs.Lockmachine.Revoked.{is_revoked}, specs.Lockmachine.Rows.{IsInRow, IsInRowOf}, specs.Lockmachine.Scene.{against, outside, scene, told_set, wants}, specs.Lockmachine.Turns.{IsTurnOf, WaitAt, may_end_by}, specs.Lockmachine.Wants.{effective_want}, specs.Lockmachine.declared.moves.Move.TheVariants.{Serve, Settled}, specs.Lockmachine.declared.request.Operation.{Operation}, specs.Lockmachine.declared.request.Request.{Request}, specs.Lockmachine.Scene.{Scene}, specs.Lockmachine.declared.states.InodeLocks.{InodeLocks}}

@@ -2,7 +2,7 @@
 use Rattle.std.specs.Prelude.{◌≡◌, ◌≤◌, ◌<◌, ◌^◌, ◌-◌, ◌+◌, ◌==◌, ℕ, Bool, [], All, IsTrue, length, vec_capacity}
 use Rattle.std.specs.FinSet as set
 use Rattle.sessiontab.specs.Calls.{has_session}
-use Rattle.capacts.specs.{Capnotes.Noted.{HavePlaces, Noted}, Known.{KnownSets, OthersHaveAll}, Lockmachine.Locks.{IsLockMap}, Lockmachine.Moves.{IsQuietOutside}, Lockmachine.Policy.{ArePermitted}, Lockmachine.declared.scene.Scene.{Scene}}
+use Rattle.capacts.specs.{Capnotes.Noted.{HavePlaces, Noted}, Known.{KnownSets, OthersHaveAll}, Lockmachine.Locks.{IsLockMap}, Lockmachine.Moves.{IsQuietOutside}, Lockmachine.Policy.{ArePermitted}, Lockmachine.Scene.{Scene}}
 use Rattle.capsteps.specs.{Judged.{IsJudged}, declared.endings.Endings.{Endings}, declared.settle.Affected.{Affected}, declared.settle.Affected.TheVariants.{Entry, Inodes}}
 
 -- the inodes whose locks may move

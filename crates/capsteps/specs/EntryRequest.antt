@@ -2,7 +2,7 @@
 use Rattle.std.specs.Prelude.{List, [], ◌∷◌}
 use Rattle.capbits.specs.{Refusal.{Test}, declared.ids.ClientId.{ClientId}, declared.ids.Ino.{Ino}}
 use Rattle.captable.specs.{Calls.{acked, released}, Table.{Table}, Tests.{entry_test, ack_tests, release_tests}, declared.entry.Holder.{Holder}}
-use Rattle.capacts.specs.{Capevents.declared.event.Event.{Event}, Capevents.declared.reply.Reply.{Reply}, Caprules.Direct.{Answer, Says, Shows, with_opening, with_wanted}, Caprules.Judge.{revoked_of, room_for}, Known.{KnownSets, StillKnown}, Lockmachine.Policy.{ArePermitted}, Lockmachine.declared.scene.Scene.{Scene}}
+use Rattle.capacts.specs.{Capevents.declared.event.Event.{Event}, Capevents.declared.reply.Reply.{Reply}, Caprules.Direct.{Answer, Says, Shows, with_opening, with_wanted}, Caprules.Judge.{revoked_of, room_for}, Known.{KnownSets, StillKnown}, Lockmachine.Policy.{ArePermitted}, Lockmachine.Scene.{Scene}}
 use Rattle.capsteps.specs.declared.{entry_request.EntryRequest.{EntryRequest}, entry_request.EntryRequest.TheVariants.{Open, Want, Ack, Release}}
 
 -- the event of the request on the client's entry on the inode

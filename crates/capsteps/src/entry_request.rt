@@ -2,7 +2,7 @@
 ghost use Rattle.std.specs.{Option.{option_map}, Prelude.{◌≡◌, ◌<◌, ◌^◌, ◌-◌, [], None, Some, IfOk, OnOk, OnErr}};
 ghost use Rattle.capbits.specs.Refusal.{first_failing};
 ghost use Rattle.captable.specs.{Calls.{with_entry}, Table.{entry_at}};
-ghost use Rattle.capacts.specs.{Caprules.Direct.{reply_of, shown, with_table}, Caprules.Judge.{revoked_of, room_for}, Caprules.State.{State}, Known.{AreKnown}, Lockmachine.declared.scene.Scene.{Scene}};
+ghost use Rattle.capacts.specs.{Caprules.Direct.{reply_of, shown, with_table}, Caprules.Judge.{revoked_of, room_for}, Caprules.State.{State}, Known.{AreKnown}, Lockmachine.Scene.{Scene}};
 ghost use Rattle.capacts.specs.Caprules.Direct as effects;
 ghost use Rattle.capsteps.specs.EntryRequest as words;
 

@@ -3,7 +3,7 @@ ghost use Rattle.std.specs.Prelude.{◌≡◌, ◌==◌, ◌≤◌, ◌<◌, ◌
 ghost use Rattle.std.specs.FinSet as set;
 ghost use Rattle.captable.specs.{Calls.{is_of_inode, entries_on}, Known.{permitted_of}, Many.{changed_where}, Table.{IsTable}, declared.entry.Holder.{Holder}};
 ghost use Rattle.sessiontab.specs.Calls.{has_session};
-ghost use Rattle.capacts.specs.{Capnotes.Noted.{LeadOn}, Known.{KnownAnew, OthersHaveAll, known_in}, Lockmachine.Policy.{ArePermitted}, Lockmachine.Scene.{scene_by}, Lockmachine.declared.scene.Scene.{Scene}};
+ghost use Rattle.capacts.specs.{Capnotes.Noted.{LeadOn}, Known.{KnownAnew, OthersHaveAll, known_in}, Lockmachine.Policy.{ArePermitted}, Lockmachine.Scene.{scene_by}, Lockmachine.Scene.{Scene}};
 ghost use Rattle.capacts.specs.Finishing as words;
 ghost use Rattle.capsteps.specs.{Affected.{forget_among}, Begun.{MayEnd}, Serves.{EndsAt}};
 

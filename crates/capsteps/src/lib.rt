@@ -17,6 +17,6 @@ pub mod start;
 pub use capacts::{
     Bytes, Change, ChangeList, Ended, EndedList, EndedTickets, Event, Locks, Message, MessageList,
     Move, OpenMode, Operation, OperationRef, Outcome, PartValues, Policy, Question, Rejection,
-    Reply, Row, Scene, Unknown, View, ViewChange, Wants, copy_of_messages, copy_of_operation,
+    Reply, Row, KeptScene, Unknown, View, ViewChange, Wants, copy_of_messages, copy_of_operation,
     copy_of_reply, due_endings, history, judge, leaving, renewing, serving, stop, wants_on,
 };

@@ -1,7 +1,7 @@
 //! The messages that a client is given when it asks for them.
 ghost use Rattle.std.specs.Prelude.{◌≡◌, ◌≤◌, ◌-◌, ◌++◌, [], ◌∷◌, true, nat_lt, length, take, if◌then◌else◌, IfOk, OnOk};
 ghost use Rattle.captable.specs.{Calls.{is_of_client, is_due}, Many.{changed_where}, Table.{IsTable}};
-ghost use Rattle.capacts.specs.{Caprules.Messages.{after_messages, caps_messages, end_messages, first_messages, row_messages, size_messages}, Caprules.State.{State}, Known.{AreKnown, known_in}, Lockmachine.Scene.{told_set}, Lockmachine.declared.scene.Scene.{Scene}};
+ghost use Rattle.capacts.specs.{Caprules.Messages.{after_messages, caps_messages, end_messages, first_messages, row_messages, size_messages}, Caprules.State.{State}, Known.{AreKnown, known_in}, Lockmachine.Scene.{told_set}, Lockmachine.Scene.{Scene}};
 
 use capacts::{Ended, Message, MessageList, Scene, copy_of_outcome};
 use capbits::ClientId;

@@ -1,13 +1,15 @@
 -- The locks and the queue as they are kept: with a count beside each lock of how many clients its gather waits for.
-use Rattle.std.specs.Prelude.{◌≡◌, ◌==◌, ◌-◌, ℕ, Bool, false, Unit, Option, Some, None, IsTrue, filter, length}
+use Rattle.std.specs.Prelude.{◌≡◌, ◌==◌, ◌-◌, ◌&&◌, ℕ, Bool, false, not, Unit, Option, Some, None, if◌then◌else◌}
 use Rattle.std.specs.FinMap as map
 use Rattle.std.specs.Option.{option_map_or}
 use Rattle.capbits.specs.declared.cap.Part.{Part}
+use Rattle.capbits.specs.Caps.{Caps}
 use Rattle.capbits.specs.Maps.{change_at}
 use Rattle.locktable.specs.declared.states.LockState.{LockState}
 use Rattle.locktable.specs.declared.states.LockState.TheVariants.{Stable, Gather}
 use Rattle.captable.specs.Table.{Table}
-use Rattle.onelock.specs.Held.{holders_outside}
+use Rattle.captable.specs.declared.entry.EntryRow.{EntryRow}
+use Rattle.onelock.specs.Held.{has_outside, holders_outside}
 use Rattle.onelock.specs.Lock.{LockId, ends_by_count}
 use Rattle.lockmachine.specs.Inodes.{CountMap, count_in, with_count_in, one_less_in, no_counts}
 use Rattle.lockmachine.specs.Locks as words
@@ -48,6 +50,19 @@ with_ino l ino = record { locks = words.with_ino l.locks ino; counts = map.inser
 
 abbrev pub without_ino : CountedLocks → ℕ → CountedLocks
 without_ino l ino = record { locks = words.without_ino l.locks ino; counts = map.remove l.counts ino }
+
+-- ---- what a client gives up
+
+-- the lock is in a gather that waits for the client of the entry, and will not once these caps alone are left to it
+abbrev pub waits_no_longer : Part → EntryRow → Caps → LockState → Bool
+waits_no_longer part row left (Stable state) = false
+waits_no_longer part row left (Gather from to) =
+    has_outside part to row && not (has_outside part to (record row { entry = record row.entry { held = left } }))
+
+-- how many less it waits for then: this one, or none
+abbrev pub given_up : EntryRow → Caps → LockId → Option LockState → ℕ
+given_up row left at None = 0
+given_up row left at (Some lock) = if (at.0 == row.holder.ino.0) && waits_no_longer at.1 row left lock then 1 else 0
 
 -- ---- when they are right
 

@@ -24,7 +24,7 @@ pub use locks::Locks;
 pub use moves::Move;
 pub use policy::{Policy, verdict_on};
 pub use request::{Change, Operation, Request};
-pub use scene::Scene;
+pub use scene::KeptScene;
 pub use states::InodeLocks;
 pub use under::{allowed_under, told_under};
 pub use waiters::MAX_WAITING;

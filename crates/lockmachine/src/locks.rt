@@ -1,7 +1,7 @@
 //! The locks by inode, the queue, and the moves of both.
 ghost use Rattle.std.specs.Prelude.{◌≡◌, ◌==◌, ◌&&◌, ◌+◌, ◌-◌, ◌<◌, ◌≤◌, ◌^◌, ℕ, IsTrue, Contains, List, None, true, false, length, position, IfOk, IfSome, OnOk, OnErr};
 ghost use Rattle.std.specs.List.{find, list_any};
-ghost use Rattle.std.specs.Option.{option_map};
+ghost use Rattle.std.specs.Option.{option_map, option_map_or};
 ghost use Rattle.std.specs.Result.{result_err};
 ghost use Rattle.std.specs.FinMap as map;
 ghost use Rattle.capbits.specs.Refusal.{first_failing};
@@ -13,12 +13,12 @@ ghost use Rattle.lockmachine.specs.declared.moves.Move.TheVariants.{Settled};
 ghost use Rattle.lockmachine.specs.declared.request.Request.{Request};
 ghost use Rattle.lockmachine.specs.Counts as counted;
 ghost use Rattle.lockmachine.specs.Counts.{AreCounted, AreCountedAt};
-ghost use Rattle.lockmachine.specs.Inodes.{HaveCounts};
+ghost use Rattle.lockmachine.specs.Inodes.{HaveCounts, is_gathering};
 ghost use Rattle.lockmachine.specs.Locks as words;
 ghost use Rattle.lockmachine.specs.Requests as requests;
 ghost use Rattle.lockmachine.specs.Requests.{waits_for};
 ghost use Rattle.lockmachine.specs.Scene.{wanted_in_all, scene, scene_by, head_in, target_by};
-ghost use Rattle.lockmachine.specs.Policy.{ArePermittedOn};
+ghost use Rattle.lockmachine.specs.Policy.{ArePermitted, ArePermittedOn};
 ghost use Rattle.lockmachine.specs.Waiters as waiting;
 ghost use Rattle.lockmachine.specs.Moves as moves;
 ghost use Rattle.lockmachine.specs.Moves.{first_move, moved, handed};
@@ -32,9 +32,9 @@ use crate::request::{Operation, Request};
 use crate::states::{InodeLocks, LocksAt, States};
 use crate::waiters::{MAX_WAITING, Waiter, Waiters};
 use crate::wants::{Wants, given_or_found, wants_on};
-use capbits::{ClientId, Ino, Part, Refusal, Ticket};
+use capbits::{CapSet, ClientId, Ino, Part, Refusal, Ticket};
 use capspec::FsName;
-use captable::{CapTable, Known};
+use captable::{CapTable, Entry, EntryRow};
 use inotree::Tree;
 use locktable::{Head, LockState, StableState, serves, target};
 use onelock::{ends_by_count, holders_outside, is_off_target};
@@ -266,6 +266,7 @@ impl Locks {
     /// least lock that may begin; else none is left. It looks at all inodes.
     pub fn next_move(&self, table: &CapTable, sessions: &Sessions, tree: &Tree, fs: &FsName) -> Move
         requires counted { AreCounted table.now.entries self.now }
+        requires permitted { ArePermitted table.now.kept fs.now tree.now sessions.now table.now.entries }
         ensures { result ≡ first_move (scene fs.now tree.now sessions.now table.now.entries self.now.locks) }
     {
         if let Some((ino, part)) = self.first_end_of_all() {
@@ -283,14 +284,13 @@ impl Locks {
         &self,
         policy: &Policy<'_>,
         table: &CapTable,
-        known: &Known,
         turn: Turn,
         wanted: &mut Option<Wants>,
     ) -> Move
         requires turn { IsTurnOf (scene_by policy.now table.now.entries self.now.locks) turn.ino.0 }
         requires counted { AreCountedAt table.now.entries self.now turn.ino.0 }
         requires sought { Suffices turn.sought self.now.locks turn.ino.0 }
-        requires permitted { ArePermittedOn known.now.sets policy.now.fs.now policy.now.tree.now policy.now.sessions.now table.now.entries turn.ino.0 }
+        requires permitted { ArePermittedOn table.now.kept policy.now.fs.now policy.now.tree.now policy.now.sessions.now table.now.entries turn.ino.0 }
         requires wanted { IfSome wanted.old (λ wants. wants ≡ wanted_in_all (scene_by policy.now table.now.entries self.now.locks) turn.ino.0) }
         ensures next { IsNextAt (scene_by policy.now table.now.entries self.now.locks) turn.ino.0 result }
         ensures wanted { IfSome wanted.new (λ wants. wants ≡ wanted_in_all (scene_by policy.now table.now.entries self.now.locks) turn.ino.0) }
@@ -302,7 +302,7 @@ impl Locks {
         if let Some(served) = self.first_among(sought, ino) {
             return Move::Serve(served);
         }
-        let wants = given_or_found(*wanted, policy, table, known, ino);
+        let wants = given_or_found(*wanted, policy, table, ino);
         *wanted = Some(wants);
         self.first_begin(sought.may_wait(), ino, &wants)
             .unwrap_or(Move::Settled)
@@ -601,6 +601,34 @@ impl Locks {
         self.states.get(ino).copied()
     }
 
+    /// Whether one of the locks of the inode is in a gather.
+    pub fn is_gathering(&self, ino: Ino) -> bool
+        ensures { result ≡ option_map_or is_gathering (map.get self.now.locks.states ino.0) false }
+    {
+        match self.states.get(ino) {
+            Some(locks) => locks.is_gathering(),
+            None => false,
+        }
+    }
+
+    /// The client of an entry gives up all that it holds there but these caps: each gather of the inode that waited for it, and will
+    /// wait for it no longer, is acknowledged once.
+    pub fn gives_up(&mut self, row: EntryRow, left: CapSet)
+        ensures counts { (at : LockId) → counted.count_of self.new at
+            ≡ counted.count_of self.old at - counted.given_up row left at (words.lock_at self.old.locks at.0 at.1) }
+        ensures locks { self.new.locks ≡ self.old.locks }
+    {
+        let ino = row.holder.ino;
+        let Some(locks) = self.of_ino(ino) else {
+            return;
+        };
+        for part in &PARTS {
+            if waits_no_longer(*part, locks.of_part(*part), row, left) {
+                self.acked(ino, *part);
+            }
+        }
+    }
+
     /// Where it is an inode's turn, begins and ends gathers there, always by the first move that applies to all, until a
     /// request is to be served, whose number it answers, or the inode is done. It is still its turn then. Where nobody who waits at
     /// another inode may be served (`alone`), it looks for the requests for this inode alone.
@@ -608,12 +636,11 @@ impl Locks {
         &mut self,
         policy: &Policy<'_>,
         table: &CapTable,
-        known: &Known,
         ino: Ino,
         alone: bool,
     ) -> Option<Ticket>
         requires turn { IsTurnOf (scene_by policy.now table.now.entries self.old.locks) ino.0 }
-        requires permitted { ArePermittedOn known.now.sets policy.now.fs.now policy.now.tree.now policy.now.sessions.now table.now.entries ino.0 }
+        requires permitted { ArePermittedOn table.now.kept policy.now.fs.now policy.now.tree.now policy.now.sessions.now table.now.entries ino.0 }
         requires counted { AreCounted table.now.entries self.old }
         requires alone { alone ≡ true → NobodyElsewhere self.old.locks ino.0 }
 
@@ -631,7 +658,7 @@ impl Locks {
         let sought = self.sought_at(ino, alone);
         let turn = Turn { ino, sought };
         'moves: loop {
-            match self.next_move_by(policy, table, known, turn, &mut wanted) {
+            match self.next_move_by(policy, table, turn, &mut wanted) {
                 Move::Settled => return None,
                 Move::Serve(ticket) => return Some(ticket),
                 step => self.make_counted(step, table),
@@ -710,6 +737,20 @@ impl Locks {
     {
         let _nobody = self.apply_move(step);
     }
+}
+
+// Whether the lock of the part is in a gather that waits for the client of the entry, and will not once these caps alone are left to it.
+fn waits_no_longer(part: Part, lock: LockState, row: EntryRow, left: CapSet) -> bool
+    ensures { result ≡ counted.waits_no_longer part row left lock }
+{
+    let LockState::Gather { to, .. } = lock else {
+        return false;
+    };
+    let entry = Entry {
+        held: left,
+        ..row.entry
+    };
+    has_outside(part, to, row) && !has_outside(part, to, EntryRow { entry, ..row })
 }
 
 // The number that was given first.

@@ -1,4 +1,4 @@
-//! All that the next move depends on.
+//! All that the next move depends on, with what is kept beside it.
 
 use crate::locks::Locks;
 use capspec::FsName;
@@ -6,9 +6,11 @@ use captable::CapTable;
 use inotree::Tree;
 use sessiontab::Sessions;
 
-/// All that the next move depends on: the name of the file system, the tree, the sessions, the entries and the locks.
+/// All that the next move depends on: the name of the file system, the tree, the sessions, the entries with the sets that are kept
+/// beside them, and the locks with the counts that are kept beside those. The rules read none of what is kept: to them it is
+/// `plain` of this.
 #[derive(Debug)]
-pub struct Scene {
+pub struct KeptScene {
     pub fs: FsName,
     pub tree: Tree,
     pub sessions: Sessions,
@@ -17,9 +19,9 @@ pub struct Scene {
 }
 
 // By hand, so that whoever lets one go has one call to prove.
-impl Drop for Scene {
+impl Drop for KeptScene {
     fn drop(self) {
-        let Scene {
+        let KeptScene {
             fs: _,
             tree: _,
             sessions: _,

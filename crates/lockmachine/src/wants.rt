@@ -10,7 +10,7 @@ ghost use Rattle.lockmachine.specs.Wants as words;
 use crate::policy::Policy;
 use capbits::{Cap, CapSet, ClientId, Ino};
 use capspec::FsName;
-use captable::{CapTable, EntryRow, Known};
+use captable::{CapTable, EntryRow};
 use inotree::{Names, Node, Tree};
 use onelock::wanted_while;
 use sessiontab::{Session, Sessions};
@@ -37,26 +37,21 @@ pub fn wants_on(fs: &FsName, tree: &Tree, sessions: &Sessions, table: &CapTable,
     tally.wants()
 }
 
-// The same, by what each client is known to be permitted, found in one walk.
-pub(crate) fn wants_by_known(
-    policy: &Policy<'_>,
-    table: &CapTable,
-    known: &Known,
-    ino: Ino,
-) -> Wants
-    requires { ArePermittedOn known.now.sets policy.now.fs.now policy.now.tree.now policy.now.sessions.now table.now.entries ino.0 }
+// The same, by what is kept that each client is permitted, found in one walk.
+pub(crate) fn wants_by_kept(policy: &Policy<'_>, table: &CapTable, ino: Ino) -> Wants
+    requires { ArePermittedOn table.now.kept policy.now.fs.now policy.now.tree.now policy.now.sessions.now table.now.entries ino.0 }
     ensures { result ≡ words.in_all (words.wants_on policy.now.fs.now policy.now.tree.now policy.now.sessions.now table.now.entries ino) }
 {
     let mut tally = Tally::new();
     let mut walk = table.holders_of(ino);
-    let known_on = known.on(ino);
-    let mut place: usize = 0;
+    // Entries that were made one after the other mostly stand so.
+    let mut place = table.first_place(ino);
     'rows: while let Some(row) = walk.next() {
         let client = row.holder.client;
-        let permitted = known_on.of(client, place).permitted;
-        let want = want_of_permitted(policy.sessions, row, permitted);
+        let kept = table.kept_near(client, ino, place);
+        let want = want_of_permitted(policy.sessions, row, kept.permitted);
         tally = tally.and(client, want);
-        place = place.wrapping_add(1);
+        place = table.place_after(place);
     }
     tally.wants()
 }
@@ -66,16 +61,15 @@ pub(crate) fn given_or_found(
     found: Option<Wants>,
     policy: &Policy<'_>,
     table: &CapTable,
-    known: &Known,
     ino: Ino,
 ) -> Wants
     requires found { IfSome found (λ wants. wants ≡ words.in_all (words.wants_on policy.now.fs.now policy.now.tree.now policy.now.sessions.now table.now.entries ino)) }
-    requires permitted { ArePermittedOn known.now.sets policy.now.fs.now policy.now.tree.now policy.now.sessions.now table.now.entries ino.0 }
+    requires permitted { ArePermittedOn table.now.kept policy.now.fs.now policy.now.tree.now policy.now.sessions.now table.now.entries ino.0 }
     ensures { result ≡ words.in_all (words.wants_on policy.now.fs.now policy.now.tree.now policy.now.sessions.now table.now.entries ino) }
 {
     match found {
         Some(wants) => wants,
-        None => wants_by_known(policy, table, known, ino),
+        None => wants_by_kept(policy, table, ino),
     }
 }
 
