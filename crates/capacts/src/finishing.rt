@@ -6,31 +6,29 @@ ghost use Rattle.capacts.specs.Known.{KnownAnew, known_in, permitted_of};
 ghost use Rattle.capacts.specs.Finishing as words;
 
 use caprules::{InodeLocks, Policy, allowed_under, told_under, want_of_permitted};
-use captable::{CapTable, Entry, EntryRow, Known, Sets};
+use captable::{CapTable, Entry, EntryRow};
 
 /// Ends the step for one entry, which is there, by what it is known to be permitted and the locks of its inode: issues due caps,
-/// raises `seq` if the told set changed, and notes the told set. `place` is a guess at how many entries on the inode were made
-/// before it.
+/// raises `seq` if the told set changed, and notes the told set. `place` is a guess at where the entry stands in the table.
 pub fn finish_row(
     policy: &Policy<'_>,
     locks: &Option<InodeLocks>,
     table: &mut CapTable,
-    known: &mut Known,
     row: EntryRow,
     place: usize,
 )
-    requires there { entry_at table.old row.holder ≡ Some row.entry }
-    requires permitted { permitted_of known.old.sets row.holder
+    requires there { entry_at table.old.entries row.holder ≡ Some row.entry }
+    requires permitted { permitted_of table.old.kept row.holder
         ≡ Some (permitted policy.now.fs.now policy.now.tree.now policy.now.sessions.now row.holder) }
     requires number { row.entry.seq < 2 ^ 64 - 1 }
-    ensures table { table.new
-        ≡ changed_by (words.entry_under (known_in known.old.sets) policy.now.fs.now policy.now.tree.now policy.now.sessions.now locks.now) table.old row.holder }
+    ensures table { table.new.entries
+        ≡ changed_by (words.entry_under (known_in table.old.kept) policy.now.fs.now policy.now.tree.now policy.now.sessions.now locks.now) table.old.entries row.holder }
     ensures known { KnownAnew (λ k. same k row.holder) (words.told_at policy.now.fs.now policy.now.tree.now policy.now.sessions.now locks.now)
-        table.old known.old.sets known.new.sets }
-    ensures permitted { (k : Holder) → permitted_of known.new.sets k ≡ permitted_of known.old.sets k }
+        table.old.entries table.old.kept table.new.kept }
+    ensures permitted { (k : Holder) → permitted_of table.new.kept k ≡ permitted_of table.old.kept k }
 {
     let (holder, entry) = (row.holder, row.entry);
-    let kept = known.of(holder, place);
+    let kept = table.kept_near(holder.client, holder.ino, place);
     // Due is what its client wants, is permitted of that, and the locks allow.
     let wanted = want_of_permitted(policy.sessions, row, kept.permitted);
     let due = wanted.meet(allowed_under(&row, locks));
@@ -43,7 +41,7 @@ pub fn finish_row(
     let told = told_under(&ended, kept.permitted, locks);
     // Most told sets of an inode stay as they are, and so do most entries.
     if told != kept.told {
-        known.put(holder, Sets { told, ..kept }, place);
+        table.keep_told(holder.client, holder.ino, told);
     }
     let before = kept.told.meet(entry.held);
     if held == entry.held && told == before {

@@ -8,7 +8,7 @@ ghost use Rattle.capacts.specs.Operations.{operation_of};
 use crate::operations::OperationRef;
 use capbits::{Ino, Refusal};
 use capgrant::{Access, Verdict};
-use caprules::{Change, Rejection, Scene, verdict_on};
+use caprules::{Change, Rejection, KeptScene, verdict_on};
 use capspec::FsName;
 use captable::Holder;
 use inotree::{Setting, Tree};
@@ -16,11 +16,11 @@ use sessiontab::Sessions;
 
 /// What rejects a request, when it comes and again when it is served.
 pub fn operation_rejection(
-    scene: &Scene,
+    scene: &KeptScene,
     holder: Holder,
     operation: OperationRef,
 ) -> Option<Rejection>
-    ensures { let s = scene.now in let o = operation_of operation.entry in
+    ensures { let s = plain scene.now in let o = operation_of operation.entry in
         result ≡ rejection_of s (operation_before s holder.ino.0 o) (operation_needs s holder.client holder.ino.0 o) (operation_after s holder.ino.0 o) }
 {
     let (tree, ino) = (&scene.tree, holder.ino);
@@ -41,8 +41,8 @@ pub fn operation_rejection(
 }
 
 // The first test before policy that fails.
-fn before_refusal(scene: &Scene, ino: Ino, operation: OperationRef) -> Option<Refusal>
-    ensures { result ≡ first_failing (operation_before scene.now ino.0 (operation_of operation.entry)) }
+fn before_refusal(scene: &KeptScene, ino: Ino, operation: OperationRef) -> Option<Refusal>
+    ensures { result ≡ first_failing (operation_before (plain scene.now) ino.0 (operation_of operation.entry)) }
 {
     let tree = &scene.tree;
     if let Some(refusal) = tree.inode_refusal(ino) {
@@ -59,8 +59,8 @@ fn before_refusal(scene: &Scene, ino: Ino, operation: OperationRef) -> Option<Re
 }
 
 // The denial of the first access that it needs and no grant of its client allows.
-fn operation_denial(scene: &Scene, holder: Holder, operation: OperationRef) -> Option<Rejection>
-    ensures { let s = scene.now in result ≡ rejection_of s [] (operation_needs s holder.client holder.ino.0 (operation_of operation.entry)) [] }
+fn operation_denial(scene: &KeptScene, holder: Holder, operation: OperationRef) -> Option<Rejection>
+    ensures { let s = plain scene.now in result ≡ rejection_of s [] (operation_needs s holder.client holder.ino.0 (operation_of operation.entry)) [] }
 {
     let (fs, tree, sessions) = (&scene.fs, &scene.tree, &scene.sessions);
     let Holder { client, ino } = holder;
@@ -117,8 +117,8 @@ pub fn change_access(change: &Change) -> Access
 }
 
 /// The first test of a change that fails.
-pub fn change_refusal(scene: &Scene, ino: Ino, change: &Change) -> Option<Refusal>
-    ensures { result ≡ first_failing (words.change_tests scene.now ino.0 change.now) }
+pub fn change_refusal(scene: &KeptScene, ino: Ino, change: &Change) -> Option<Refusal>
+    ensures { result ≡ first_failing (words.change_tests (plain scene.now) ino.0 change.now) }
 {
     let tree = &scene.tree;
     match change {

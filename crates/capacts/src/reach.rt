@@ -5,7 +5,7 @@ ghost use Rattle.captable.specs.Calls.{is_of_inode};
 ghost use Rattle.capacts.specs.{Reach.{AreWalked, Covers, Widens}, Served.{is_rename}};
 
 use capbits::Ino;
-use caprules::{ChangeList, Operation, Request, Scene};
+use caprules::{ChangeList, Operation, Request, KeptScene};
 use captable::CapTable;
 use inotree::{InoSet, NonEmptyInoSet};
 use std::alloc::AllocError;
@@ -13,16 +13,16 @@ use std::alloc::AllocError;
 /// If the request moves its inode, adds every inode at or below it that somebody has an entry on, with a place for the change of
 /// each. What renames of this step have walked over is affected, and stays so.
 pub fn reach(
-    scene: &Scene,
+    scene: &KeptScene,
     request: &Request,
     walked: &mut InoSet,
     affected: &mut NonEmptyInoSet,
     changes: &mut ChangeList,
 ) -> Result<(), AllocError>
-    requires walked { AreWalked walked.old scene.now.tree scene.now.table affected.old }
-    ensures walked { AreWalked walked.new scene.now.tree scene.now.table affected.new }
+    requires walked { AreWalked walked.old scene.now.tree scene.now.table.entries affected.old }
+    ensures walked { AreWalked walked.new scene.now.tree scene.now.table.entries affected.new }
     ensures widens { Widens affected.old affected.new }
-    ensures covers { OnOk result (Covers request.now scene.now.tree scene.now.table affected.new) }
+    ensures covers { OnOk result (Covers request.now scene.now.tree scene.now.table.entries affected.new) }
     ensures memory { OnErr result (is_rename request.now.operation ≡ true) }
     // There is a place more for each.
     ensures items { changes.new.items ≡ changes.old.items }
@@ -51,7 +51,7 @@ fn add_held(
     changes: &mut ChangeList,
 ) -> Result<(), AllocError>
     ensures widens { Widens affected.old affected.new }
-    ensures covers { OnOk result ((ino : Ino) → Contains inos.now ino → list_any (is_of_inode ino) table.now.rows ≡ true
+    ensures covers { OnOk result ((ino : Ino) → Contains inos.now ino → list_any (is_of_inode ino) table.now.entries.rows ≡ true
         → set.contains affected.new ino.0 ≡ true) }
     ensures items { changes.new.items ≡ changes.old.items }
     ensures places { changes.old.room + set.len affected.new ≤ changes.new.room + set.len affected.old }

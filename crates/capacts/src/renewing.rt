@@ -3,45 +3,44 @@ ghost use Rattle.std.specs.Prelude.{◌≡◌, ◌==◌, ◌&&◌};
 ghost use Rattle.inotree.specs.Tree.{Nodes};
 ghost use Rattle.captable.specs.declared.entry.Holder.{Holder};
 ghost use Rattle.caprules.specs.{Capnotes.Changing.{tree_changed}, Lockmachine.Policy.{ArePermitted, permitted}};
-ghost use Rattle.capacts.specs.{Known.{HaveRoom, known_of}, Renewing.{Renews, ServedFrom, has_entry}};
+ghost use Rattle.capacts.specs.{Known.{known_of}, Renewing.{Renews, ServedFrom, has_entry}};
 
 use capbits::{ClientId, Ino};
 use caprules::{
-    Change, Operation, Outcome, Policy, Request, Scene, permitted, permitted_on, sets_attr,
+    Change, Operation, Outcome, Policy, Request, KeptScene, permitted, permitted_on, sets_attr,
 };
-use captable::{CapTable, Known};
+use captable::CapTable;
 use inotree::{Names, NonEmptyInoSet};
 
 /// After a request was served that ended so, keeps anew what is permitted on all inodes where that may have changed: on its own, or
 /// on the affected ones if it has moved that.
 pub fn renew_served(
-    scene: &Scene,
-    known: &mut Known,
+    scene: &mut KeptScene,
     request: &Request,
     outcome: &Outcome,
     affected: &NonEmptyInoSet,
 )
-    requires room { HaveRoom known.old.sets scene.now.table }
-    ensures permitted { (tree : Nodes) → ServedFrom tree request.now outcome.now affected.now scene.now
-        → ArePermitted known.old.sets scene.now.fs tree scene.now.sessions scene.now.table
-        → ArePermitted known.new.sets scene.now.fs scene.now.tree scene.now.sessions scene.now.table }
-    ensures told { (k : Holder) → known_of known.new.sets k ≡ known_of known.old.sets k }
+    ensures permitted { (tree : Nodes) → ServedFrom tree request.now outcome.now affected.now (plain scene.old)
+        → ArePermitted scene.old.table.kept scene.old.fs tree scene.old.sessions scene.old.table.entries
+        → ArePermitted scene.new.table.kept scene.old.fs scene.old.tree scene.old.sessions scene.old.table.entries }
+    ensures rest { scene.new ≡ record scene.old { table = record scene.old.table { kept = scene.new.table.kept } } }
+    ensures told { (k : Holder) → known_of scene.new.table.kept k ≡ known_of scene.old.table.kept k }
 {
     let policy = Policy {
         fs: &scene.fs,
         tree: &scene.tree,
         sessions: &scene.sessions,
     };
-    let (table, own) = (&scene.table, request.ino);
+    let (table, own) = (&mut scene.table, request.ino);
     match outcome {
         Outcome::Done => match &request.operation {
             Operation::Get(_) => {}
-            Operation::Alter(change) => renew_changed(&policy, table, known, own, change),
-            Operation::Unlink | Operation::Rmdir => renew_on(&policy, table, known, own),
+            Operation::Alter(change) => renew_changed(&policy, table, own, change),
+            Operation::Unlink | Operation::Rmdir => renew_on(&policy, table, own),
             Operation::Rename { .. } => {
                 let mut inos = affected.numbers();
                 'inodes: while let Some(ino) = inos.next() {
-                    renew_on(&policy, table, known, ino);
+                    renew_on(&policy, table, ino);
                 }
             }
         },
@@ -56,39 +55,38 @@ pub fn renew_served(
 /// After the inode was changed so, keeps anew what is permitted on it, where that may have changed.
 pub fn renew_changed(
     policy: &Policy<'_>,
-    table: &CapTable,
-    known: &mut Known,
+    table: &mut CapTable,
     ino: Ino,
     change: &Change,
 )
-    requires room { HaveRoom known.old.sets table.now }
     ensures permitted { (tree : Nodes) → policy.now.tree.now ≡ tree_changed tree ino.0 change.now
-        → ArePermitted known.old.sets policy.now.fs.now tree policy.now.sessions.now table.now
-        → ArePermitted known.new.sets policy.now.fs.now policy.now.tree.now policy.now.sessions.now table.now }
-    ensures told { (k : Holder) → known_of known.new.sets k ≡ known_of known.old.sets k }
+        → ArePermitted table.old.kept policy.now.fs.now tree policy.now.sessions.now table.old.entries
+        → ArePermitted table.new.kept policy.now.fs.now policy.now.tree.now policy.now.sessions.now table.old.entries }
+    ensures told { (k : Holder) → known_of table.new.kept k ≡ known_of table.old.kept k }
+    ensures entries { table.new ≡ record table.old { kept = table.new.kept } }
 {
     // Of what a change may set, policy reads the owner, the group and the mode alone.
     if sets_attr(change) {
-        renew_on(policy, table, known, ino);
+        renew_on(policy, table, ino);
     }
 }
 
 /// Keeps of each entry on the inode what its client is permitted now.
-pub fn renew_on(policy: &Policy<'_>, table: &CapTable, known: &mut Known, ino: Ino)
-    requires room { HaveRoom known.old.sets table.now }
-    ensures { Renews (λ k. (k.ino.0 == ino.0) && has_entry table.now k)
-        (permitted policy.now.fs.now policy.now.tree.now policy.now.sessions.now) known.old.sets known.new.sets }
+pub fn renew_on(policy: &Policy<'_>, table: &mut CapTable, ino: Ino)
+    ensures renews { Renews (λ k. (k.ino.0 == ino.0) && has_entry table.old.entries k)
+        (permitted policy.now.fs.now policy.now.tree.now policy.now.sessions.now) table.old.kept table.new.kept }
+    ensures entries { table.new ≡ record table.old { kept = table.new.kept } }
 {
     if table.is_held(ino) {
-        renew_held(policy, table, known, ino);
+        renew_held(policy, table, ino);
     }
 }
 
 // Keeps it anew on an inode that somebody has an entry on. By itself, since a function makes room for the names when it is called.
-fn renew_held(policy: &Policy<'_>, table: &CapTable, known: &mut Known, ino: Ino)
-    requires room { HaveRoom known.old.sets table.now }
-    ensures { Renews (λ k. (k.ino.0 == ino.0) && has_entry table.now k)
-        (permitted policy.now.fs.now policy.now.tree.now policy.now.sessions.now) known.old.sets known.new.sets }
+fn renew_held(policy: &Policy<'_>, table: &mut CapTable, ino: Ino)
+    ensures renews { Renews (λ k. (k.ino.0 == ino.0) && has_entry table.old.entries k)
+        (permitted policy.now.fs.now policy.now.tree.now policy.now.sessions.now) table.old.kept table.new.kept }
+    ensures entries { table.new ≡ record table.old { kept = table.new.kept } }
 {
     let mut walk = table.holders_of(ino);
     // The names from the root are looked up once, and not for each entry.
@@ -105,10 +103,10 @@ fn renew_held(policy: &Policy<'_>, table: &CapTable, known: &mut Known, ino: Ino
 }
 
 /// Keeps of each entry of the client what it is permitted now.
-pub fn renew_client(policy: &Policy<'_>, table: &CapTable, known: &mut Known, client: ClientId)
-    requires room { HaveRoom known.old.sets table.now }
-    ensures { Renews (λ k. (k.client.0 == client.0) && has_entry table.now k)
-        (permitted policy.now.fs.now policy.now.tree.now policy.now.sessions.now) known.old.sets known.new.sets }
+pub fn renew_client(policy: &Policy<'_>, table: &mut CapTable, client: ClientId)
+    ensures renews { Renews (λ k. (k.client.0 == client.0) && has_entry table.old.entries k)
+        (permitted policy.now.fs.now policy.now.tree.now policy.now.sessions.now) table.old.kept table.new.kept }
+    ensures entries { table.new ≡ record table.old { kept = table.new.kept } }
 {
     let mut walk = table.entries_of(client);
     'rows: while let Some(row) = walk.next() {

@@ -10,7 +10,7 @@ ghost use Rattle.capacts.specs.Served.{call_tests, change_call_tests, is_rename}
 use crate::judge::operation_rejection;
 use crate::operations::operation_ref;
 use capbits::{Ino, Part};
-use caprules::{Change, Operation, Outcome, PartValues, Rejection, Request, Scene, copy_of_rules};
+use caprules::{Change, Operation, Outcome, PartValues, Rejection, Request, KeptScene, copy_of_rules};
 use captable::Holder;
 use inotree::{Node, Tree};
 use std::alloc::{AllocError, Global};
@@ -27,18 +27,18 @@ pub struct Served {
 /// something rejects it.
 pub fn serve(
     alloc: Global,
-    scene: &mut Scene,
+    scene: &mut KeptScene,
     request: &Request,
     room: bool,
     judged: bool,
 ) -> Served
     requires room { room ≡ false → is_rename request.now.operation ≡ true }
-    requires judged { judged ≡ true → judged_again scene.old request.now ≡ None }
+    requires judged { judged ≡ true → judged_again (plain scene.old) request.now ≡ None }
     ensures ends { (table : Table) (locks : LockMap)
         → MayEndAs (scene_of scene.old.fs scene.old.tree scene.old.sessions table locks) request.now result.outcome }
     ensures for_history { result.for_history ≡ result.outcome }
     ensures tree { scene.new.tree ≡ tree_after scene.old.tree request.now result.outcome }
-    ensures rest { scene.new ≡ record scene.old { tree = scene.new.tree } }
+    ensures rest { plain scene.new ≡ record (plain scene.old) { tree = scene.new.tree } }
     ensures stays { room ≡ false → scene.new.tree ≡ scene.old.tree }
 {
     if !judged {

@@ -13,14 +13,14 @@ use capgrant::Access;
 use capsteps::client::session_change_refusal;
 use capsteps::entry_request::{EntryRequest, revoked_of};
 use capsteps::judge::{change_access, change_refusal, denial, operation_rejection};
-use capsteps::{Change, OpenMode, Rejection, Scene};
-use captable::{Holder, Known};
+use capsteps::{Change, OpenMode, Rejection, KeptScene};
+use captable::{Holder};
 use inotree::Tree;
 use sessiontab::Sessions;
 
 // What rejects an event.
-pub(crate) fn rejection(scene: &Scene, known: &Known, moving: &MovingEvent) -> Option<Rejection>
-    ensures { AreKnown known.now.sets scene.now → result ≡ judged scene.now (event_of moving.now) }
+pub(crate) fn rejection(scene: &KeptScene, moving: &MovingEvent) -> Option<Rejection>
+    ensures { AreKnown scene.now.table.kept (plain scene.now) → result ≡ judged (plain scene.now) (event_of moving.now) }
 {
     match moving {
         MovingEvent::OfEntry(holder, EntryRequest::Open(mode)) => open_rejection(
@@ -74,8 +74,8 @@ fn connected_refusal(sessions: &Sessions, tree: &Tree, holder: Holder) -> Option
 // ---- one access
 
 // What rejects a request that needs one access to an inode that it names, apart from the tests behind policy.
-pub(crate) fn access_rejection(scene: &Scene, holder: Holder, access: Access) -> Option<Rejection>
-    ensures { result ≡ rejection_of scene.now (basic_tests scene.now holder.client holder.ino.0) (need holder.client holder.ino.0 access ∷ []) [] }
+pub(crate) fn access_rejection(scene: &KeptScene, holder: Holder, access: Access) -> Option<Rejection>
+    ensures { result ≡ rejection_of (plain scene.now) (basic_tests (plain scene.now) holder.client holder.ino.0) (need holder.client holder.ino.0 access ∷ []) [] }
 {
     let (tree, sessions) = (&scene.tree, &scene.sessions);
     match basic_refusal(sessions, tree, holder) {
@@ -87,8 +87,8 @@ pub(crate) fn access_rejection(scene: &Scene, holder: Holder, access: Access) ->
 // ---- requests on an entry
 
 // What rejects an opening.
-fn open_rejection(scene: &Scene, holder: Holder, mode: OpenMode) -> Option<Rejection>
-    ensures { result ≡ judged scene.now (event.Open holder.client holder.ino mode) }
+fn open_rejection(scene: &KeptScene, holder: Holder, mode: OpenMode) -> Option<Rejection>
+    ensures { result ≡ judged (plain scene.now) (event.Open holder.client holder.ino mode) }
 {
     let (fs, tree, sessions) = (&scene.fs, &scene.tree, &scene.sessions);
     if let Some(refusal) = basic_refusal(sessions, tree, holder) {
@@ -117,13 +117,12 @@ fn open_rejection(scene: &Scene, holder: Holder, mode: OpenMode) -> Option<Rejec
 
 // The first test before policy that fails; an opening has more behind it.
 fn entry_refusal(
-    scene: &Scene,
-    known: &Known,
+    scene: &KeptScene,
     holder: Holder,
     request: &EntryRequest,
 ) -> Option<Refusal>
-    ensures { let s = scene.now in
-        AreKnown known.now.sets s → result ≡ first_failing (before s (entry_event holder.client holder.ino request.now)) }
+    ensures { let s = plain scene.now in
+        AreKnown scene.now.table.kept s → result ≡ first_failing (before s (entry_event holder.client holder.ino request.now)) }
 {
     let Holder { client, ino } = holder;
     let (tree, sessions, table) = (&scene.tree, &scene.sessions, &scene.table);
@@ -147,8 +146,8 @@ fn entry_refusal(
 // ---- a flush
 
 // What rejects a flush: its client has to hold the cap by which it alone changes the part.
-fn flush_rejection(scene: &Scene, holder: Holder, change: &Change) -> Option<Rejection>
-    ensures { result ≡ judged scene.now (event.Flush holder.client holder.ino change.now) }
+fn flush_rejection(scene: &KeptScene, holder: Holder, change: &Change) -> Option<Rejection>
+    ensures { result ≡ judged (plain scene.now) (event.Flush holder.client holder.ino change.now) }
 {
     if let Some(rejection) = access_rejection(scene, holder, change_access(change)) {
         return Some(rejection);

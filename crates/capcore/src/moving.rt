@@ -16,9 +16,9 @@ use capsteps::said::Said;
 use capsteps::serving::alter;
 use capsteps::settle::Affected;
 use capsteps::{
-    Change, Ended, EndedList, OperationRef, Policy, Reply, Scene, copy_of_operation, copy_of_reply,
+    Change, Ended, EndedList, OperationRef, Policy, Reply, KeptScene, copy_of_operation, copy_of_reply,
 };
-use captable::{Holder, Known};
+use captable::{Holder};
 use inotree::NonEmptyInoSet;
 use std::alloc::AllocError;
 use std::mem::swap;
@@ -235,11 +235,11 @@ fn awaited(due: &mut Vec<Ended>, ticket: Ticket) -> Reply
 }
 
 // Where the client has other grants, what it is permitted is kept anew.
-fn renew_granted(scene: &Scene, known: &mut Known, client: ClientId, change: SessionChange)
-    requires room { HaveRoom known.old.sets scene.now.table }
-    ensures permitted { (old : State) → scene.now ≡ (session_changed old client change.entry).scene
-        → ArePermittedIn known.old.sets (record old.scene { table = scene.now.table }) → ArePermittedIn known.new.sets scene.now }
-    ensures told { (k : Holder) → known_of known.new.sets k ≡ known_of known.old.sets k }
+fn renew_granted(scene: &KeptScene, client: ClientId, change: SessionChange)
+    requires room { HaveRoom scene.old.table.kept scene.now.table.entries }
+    ensures permitted { (old : State) → (plain scene.now) ≡ (session_changed old client change.entry).scene
+        → ArePermittedIn scene.old.table.kept (record old.scene { table = scene.now.table.entries }) → ArePermittedIn scene.new.table.kept (plain scene.now) }
+    ensures told { (k : Holder) → known_of scene.new.table.kept k ≡ known_of scene.old.table.kept k }
 {
     match change {
         SessionChange::Regrant(_) => {

@@ -4,13 +4,13 @@ use capbits::{ClientId, Ticket};
 use capsteps::entry_request::EntryRequest;
 use capsteps::leaving::SessionChange;
 use capsteps::settle::Affected;
-use capsteps::{Change, Ended, OperationRef, Scene};
-use captable::{Holder, Known};
+use capsteps::{Change, Ended, OperationRef, KeptScene};
+use captable::{Holder};
 
 // Tree, sessions, entries and locks, and what clients are still to be told.
 #[derive(Debug)]
 pub(crate) struct Parts {
-    pub(crate) scene: Scene,
+    pub(crate) scene: KeptScene,
     // Of each entry what its client was to know of at the end of the last step, and what it is permitted.
     pub(crate) known: Known,
     // The requests that ended and that no client was told of.

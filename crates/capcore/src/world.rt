@@ -24,10 +24,10 @@ use capsteps::said::Said;
 use capsteps::settle::end;
 use capsteps::start::first_locks;
 use capsteps::{
-    ChangeList, EndedList, EndedTickets, Event, OperationRef, Reply, Scene, ViewChange,
+    ChangeList, EndedList, EndedTickets, Event, OperationRef, Reply, KeptScene, ViewChange,
     copy_of_messages,
 };
-use captable::{CapTable, Holder, Known};
+use captable::{CapTable, Holder};
 use inotree::{Kind, Tree};
 use sessiontab::Sessions;
 use std::alloc::{AllocError, Global};
@@ -69,7 +69,7 @@ impl World {
         let (Ok(sessions), Ok(table)) = (Sessions::new(alloc), CapTable::new(alloc)) else {
             return Err(AllocError);
         };
-        let scene = Scene {
+        let scene = KeptScene {
             fs,
             tree,
             sessions,

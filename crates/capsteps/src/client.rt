@@ -76,10 +76,10 @@ impl Room {
         change: SessionChange,
         endings: &mut Endings,
     ) -> Result<Room, AllocError>
-        ensures reaches { IfOk result (λ room. ReachesClient client table.now locks.now room.inodes) }
-        ensures room { OnOk result (HaveRoomFor (length locks.now.queue) endings.new) }
-        ensures dropped { IfOk result (λ room. (room.dropped.items ≡ []) × (length locks.now.queue ≤ vec_capacity room.dropped)) }
-        ensures places { IfOk result (λ room. length locks.now.queue + set.len room.inodes + 1 ≤ endings.new.changes.room) }
+        ensures reaches { IfOk result (λ room. ReachesClient client table.now.entries locks.now.locks room.inodes) }
+        ensures room { OnOk result (HaveRoomFor (length locks.now.locks.queue) endings.new) }
+        ensures dropped { IfOk result (λ room. (room.dropped.items ≡ []) × (length locks.now.locks.queue ≤ vec_capacity room.dropped)) }
+        ensures places { IfOk result (λ room. length locks.now.locks.queue + set.len room.inodes + 1 ≤ endings.new.changes.room) }
         ensures note { IfOk result (λ room. Notes (option_to_list room.note) client change.entry) }
         ensures judged { OnOk result (endings.new.judged ≡ None) }
         // What the last step changed stays listed.
@@ -119,7 +119,7 @@ fn reach_entries(
     client: ClientId,
     inodes: &mut NonEmptyInoSet,
 ) -> Result<(), AllocError>
-    ensures { OnOk result ((row : EntryRow) → Contains table.now.rows row → is_of_client client row ≡ true
+    ensures { OnOk result ((row : EntryRow) → Contains table.now.entries.rows row → is_of_client client row ≡ true
         → set.contains inodes.new row.holder.ino.0 ≡ true) }
 {
     let mut walk = table.entries_of(client);
@@ -136,7 +136,7 @@ fn reach_requests(
     inodes: &mut NonEmptyInoSet,
 ) -> Result<(), AllocError>
     ensures widens { Widens inodes.old inodes.new }
-    ensures reaches { OnOk result ((q : Request) → Contains locks.now.queue q → is_asked_by client q ≡ true
+    ensures reaches { OnOk result ((q : Request) → Contains locks.now.locks.queue q → is_asked_by client q ≡ true
         → set.contains inodes.new q.ino.0 ≡ true) }
 {
     for request in locks.requests() {

@@ -6,9 +6,9 @@ ghost use Rattle.capacts.specs.{Caprules.Direct.{reply_of, shown, with_table}, C
 ghost use Rattle.capacts.specs.Caprules.Direct as effects;
 ghost use Rattle.capsteps.specs.EntryRequest as words;
 
-use capacts::{OpenMode, Reply, Scene, permitted};
+use capacts::{OpenMode, Reply, KeptScene, permitted};
 use capbits::{Cap, CapSet};
-use captable::{CapTable, Holder, Known, Sets};
+use captable::{CapTable, Holder, Sets};
 use std::alloc::AllocError;
 
 /// A request of a client on its entry on an inode.
@@ -25,8 +25,8 @@ pub enum EntryRequest {
 }
 
 /// What is being revoked of the holder's entry, where it has one: what it holds and its client is not to know of.
-pub fn revoked_of(table: &CapTable, known: &Known, holder: Holder) -> CapSet
-    ensures { (s : Scene) → s.table ≡ table.now → AreKnown known.now.sets s → result ≡ revoked_of s holder }
+pub fn revoked_of(table: &CapTable, holder: Holder) -> CapSet
+    ensures { (s : Scene) → s.table ≡ table.now.entries → AreKnown table.now.kept s → result ≡ revoked_of s holder }
 {
     match table.find(holder.client, holder.ino) {
         Some(entry) => entry.held.minus(known.of(holder, 0).told),
@@ -36,17 +36,16 @@ pub fn revoked_of(table: &CapTable, known: &Known, holder: Holder) -> CapSet
 
 /// Applies the request to the holder's entry. An opening alone takes memory: for want of it nothing changes.
 pub fn apply_request(
-    scene: &mut Scene,
-    known: &mut Known,
+    scene: &mut KeptScene,
     holder: Holder,
     request: &EntryRequest,
 ) -> Result<(), AllocError>
-    requires made { scene.old.table.made < 2 ^ 64 - 1 }
-    requires known { AreKnown known.old.sets scene.old }
-    requires passed { first_failing (words.entry_request_tests scene.old holder request.now) ≡ None }
-    ensures ok { OnOk result (scene.new ≡ record scene.old { table = words.table_after scene.old holder request.now }) }
-    ensures err { OnErr result (scene.new ≡ scene.old) }
-    ensures kept { words.StillKept scene.old scene.new.table known.old.sets known.new.sets }
+    requires made { scene.old.table.entries.made < 2 ^ 64 - 1 }
+    requires known { AreKnown scene.old.table.kept (plain scene.old) }
+    requires passed { first_failing (words.entry_request_tests (plain scene.old) holder request.now) ≡ None }
+    ensures ok { OnOk result ((plain scene.new) ≡ record (plain scene.old) { table = words.table_after (plain scene.old) holder request.now }) }
+    ensures err { OnErr result ((plain scene.new) ≡ (plain scene.old)) }
+    ensures kept { words.StillKept (plain scene.old) scene.new.table.entries scene.old.table.kept scene.new.table.kept }
 {
     let (client, ino) = (holder.client, holder.ino);
     let wanted = match request {
@@ -74,13 +73,13 @@ pub fn apply_request(
 
 // What the holder's entry wants. Where there is none it is made: it wants nothing, nothing of it is known yet, and what its client
 // is permitted is judged. For want of memory nothing changes.
-fn find_or_open(scene: &mut Scene, known: &mut Known, holder: Holder) -> Result<CapSet, AllocError>
-    requires made { scene.old.table.made < 2 ^ 64 - 1 }
-    requires passed { first_failing (room_for scene.old.table holder) ≡ None }
-    ensures ok { OnOk result (scene.new ≡ record scene.old { table = with_entry scene.old.table holder }) }
-    ensures wants { IfOk result (λ wants. option_map (λ entry. entry.want) (entry_at scene.new.table holder) ≡ Some wants) }
-    ensures err { OnErr result (scene.new ≡ scene.old) }
-    ensures kept { words.StillKept scene.old scene.new.table known.old.sets known.new.sets }
+fn find_or_open(scene: &mut KeptScene, holder: Holder) -> Result<CapSet, AllocError>
+    requires made { scene.old.table.entries.made < 2 ^ 64 - 1 }
+    requires passed { first_failing (room_for scene.old.table.entries holder) ≡ None }
+    ensures ok { OnOk result ((plain scene.new) ≡ record (plain scene.old) { table = with_entry scene.old.table.entries holder }) }
+    ensures wants { IfOk result (λ wants. option_map (λ entry. entry.want) (entry_at scene.new.table.entries holder) ≡ Some wants) }
+    ensures err { OnErr result ((plain scene.new) ≡ (plain scene.old)) }
+    ensures kept { words.StillKept (plain scene.old) scene.new.table.entries scene.old.table.kept scene.new.table.kept }
 {
     let (client, ino) = (holder.client, holder.ino);
     match scene.table.find(client, ino) {
@@ -121,14 +120,13 @@ fn opening_wants(mode: OpenMode) -> CapSet
 /// The reply to the request at the end of the step; the entry is marked as told of what an opening or a want shows.
 pub fn show_reply(
     table: &mut CapTable,
-    known: &Known,
     holder: Holder,
     request: &EntryRequest,
 ) -> Reply
-    ensures reply { (s : State) → s.scene.table ≡ table.old → AreKnown known.now.sets s.scene
+    ensures reply { (s : State) → s.scene.table ≡ table.old.entries → AreKnown table.now.kept s.scene
         → result ≡ reply_of s [] (words.entry_answer holder request.now) }
-    ensures told { (s : State) → s.scene.table ≡ table.old
-        → with_table s table.new ≡ shown (words.entry_answer holder request.now) s }
+    ensures told { (s : State) → s.scene.table ≡ table.old.entries
+        → with_table s table.new.entries ≡ shown (words.entry_answer holder request.now) s }
 {
     match request {
         EntryRequest::Open(_) | EntryRequest::Want(_) => {

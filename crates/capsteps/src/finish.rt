@@ -11,9 +11,9 @@ use crate::endings::Endings;
 use crate::sizes::owe_sizes;
 use arrayvec::ArrayVec;
 use capacts::finishing::finish_row;
-use capacts::{ChangeList, InodeLocks, Locks, Policy, Scene, ViewChange};
+use capacts::{ChangeList, InodeLocks, Locks, Policy, KeptScene, ViewChange};
 use capbits::{ClientId, Ino};
-use captable::{CapTable, EntryRow, Holder, Known};
+use captable::{CapTable, EntryRow, Holder};
 use inotree::{NonEmptyInoSet, Presence};
 use sessiontab::{MAX_SESSIONS, Sessions};
 
@@ -22,15 +22,14 @@ use sessiontab::{MAX_SESSIONS, Sessions};
 /// Ends the step at the affected inodes, whose locks have settled: clients are to be told the sizes that changed, it ends for each
 /// entry on these inodes, and strays without an entry are forgotten.
 pub fn finish(
-    scene: &mut Scene,
-    known: &mut Known,
+    scene: &mut KeptScene,
     affected: &NonEmptyInoSet,
     endings: &mut Endings,
 )
     requires places { length endings.old.changes.items + set.len affected.now ≤ endings.old.changes.room }
-    requires entries { MayEnd known.old.sets scene.old }
-    ensures ends { EndsAt (set.contains affected.now) endings.old.sized.items known.old.sets known.new.sets scene.old scene.new }
-    ensures queue { scene.new.locks.queue ≡ scene.old.locks.queue }
+    requires entries { MayEnd scene.old.table.kept (plain scene.old) }
+    ensures ends { EndsAt (set.contains affected.now) endings.old.sized.items scene.old.table.kept scene.new.table.kept (plain scene.old) (plain scene.new) }
+    ensures queue { scene.new.locks.locks.queue ≡ scene.old.locks.locks.queue }
     ensures lead { LeadOn endings.old.changes.items endings.new.changes.items scene.old.tree scene.new.tree }
     ensures rest { endings.new ≡ record endings.old { changes = endings.new.changes } }
 {
@@ -47,18 +46,17 @@ pub fn finish(
 /// Ends the step at the holder's inode alone, where each other entry on it has all that the end would give it: only the holder's
 /// is gone through.
 pub fn finish_alone(
-    scene: &mut Scene,
-    known: &mut Known,
+    scene: &mut KeptScene,
     holder: Holder,
     affected: &NonEmptyInoSet,
     changes: &mut ChangeList,
 )
     requires alone { set.contains affected.now ≡ (λ other. other == holder.ino.0) }
-    requires others { OthersHaveAll known.old.sets scene.old holder }
+    requires others { OthersHaveAll scene.old.table.kept (plain scene.old) holder }
     requires places { length changes.old.items + set.len affected.now ≤ changes.old.room }
-    requires entries { MayEnd known.old.sets scene.old }
-    ensures ends { EndsAt (set.contains affected.now) [] known.old.sets known.new.sets scene.old scene.new }
-    ensures queue { scene.new.locks.queue ≡ scene.old.locks.queue }
+    requires entries { MayEnd scene.old.table.kept (plain scene.old) }
+    ensures ends { EndsAt (set.contains affected.now) [] scene.old.table.kept scene.new.table.kept (plain scene.old) (plain scene.new) }
+    ensures queue { scene.new.locks.locks.queue ≡ scene.old.locks.locks.queue }
     ensures lead { LeadOn changes.old.items changes.new.items scene.old.tree scene.new.tree }
 {
     if let Some(entry) = scene.table.find(holder.client, holder.ino) {
@@ -79,16 +77,15 @@ pub fn finish_alone(
 fn finish_affected(
     policy: &Policy<'_>,
     table: &mut CapTable,
-    known: &mut Known,
     locks: &Locks,
     affected: &NonEmptyInoSet,
 )
-    requires entries { MayEnd known.old.sets (scene_by policy.now table.old locks.now) }
-    ensures table { table.new
-        ≡ changed_where (words.is_on affected.now) (words.entry_by (known_in known.old.sets) policy.now.fs.now policy.now.tree.now policy.now.sessions.now locks.now.states) table.old }
-    ensures known { KnownAnew (λ k. set.contains affected.now k.ino.0) (words.told_by policy.now.fs.now policy.now.tree.now policy.now.sessions.now locks.now.states)
-        table.old known.old.sets known.new.sets }
-    ensures permitted { (k : Holder) → permitted_of known.new.sets k ≡ permitted_of known.old.sets k }
+    requires entries { MayEnd table.old.kept (scene_by policy.now table.old.entries locks.now.locks) }
+    ensures table { table.new.entries
+        ≡ changed_where (words.is_on affected.now) (words.entry_by (known_in table.old.kept) policy.now.fs.now policy.now.tree.now policy.now.sessions.now locks.now.locks.states) table.old.entries }
+    ensures known { KnownAnew (λ k. set.contains affected.now k.ino.0) (words.told_by policy.now.fs.now policy.now.tree.now policy.now.sessions.now locks.now.locks.states)
+        table.old.entries table.old.kept table.new.kept }
+    ensures permitted { (k : Holder) → permitted_of table.new.kept k ≡ permitted_of table.old.kept k }
 {
     let mut walk = affected.numbers();
     'inodes: while let Some(ino) = walk.next() {
@@ -98,10 +95,10 @@ fn finish_affected(
 }
 
 // Forgets those that are strays that nobody has an entry on, with their locks, and notes that.
-fn forget_affected(scene: &mut Scene, affected: &NonEmptyInoSet, changes: &mut ChangeList)
+fn forget_affected(scene: &mut KeptScene, affected: &NonEmptyInoSet, changes: &mut ChangeList)
     requires places { length changes.old.items + set.len affected.now ≤ changes.old.room }
-    ensures left { scene.new ≡ forget_among (set.contains affected.now) scene.old }
-    ensures queue { scene.new.locks.queue ≡ scene.old.locks.queue }
+    ensures left { plain scene.new ≡ forget_among (set.contains affected.now) (plain scene.old) }
+    ensures queue { scene.new.locks.locks.queue ≡ scene.old.locks.locks.queue }
     ensures lead { LeadOn changes.old.items changes.new.items scene.old.tree scene.new.tree }
 {
     let mut walk = affected.numbers();
@@ -120,18 +117,17 @@ fn forget_affected(scene: &mut Scene, affected: &NonEmptyInoSet, changes: &mut C
 fn finish_entries(
     policy: &Policy<'_>,
     table: &mut CapTable,
-    known: &mut Known,
     ino: Ino,
     locks: &Option<InodeLocks>,
 )
-    requires numbers { All (λ row. row.entry.seq < 2 ^ 64 - 1) (entries_on table.old ino) }
-    requires clients { All (λ row. IsTrue (has_session policy.now.sessions.now row.holder.client.0)) table.old.rows }
-    requires permitted { ArePermitted known.old.sets policy.now.fs.now policy.now.tree.now policy.now.sessions.now table.old }
-    ensures table { table.new
-        ≡ changed_where (is_of_inode ino) (words.entry_under (known_in known.old.sets) policy.now.fs.now policy.now.tree.now policy.now.sessions.now locks.now) table.old }
-    ensures known { KnownAnew (λ k. k.ino.0 == ino.0) (words.told_at policy.now.fs.now policy.now.tree.now policy.now.sessions.now locks.now)
-        table.old known.old.sets known.new.sets }
-    ensures permitted { (k : Holder) → permitted_of known.new.sets k ≡ permitted_of known.old.sets k }
+    requires numbers { All (λ row. row.entry.seq < 2 ^ 64 - 1) (entries_on table.old.entries ino) }
+    requires clients { All (λ row. IsTrue (has_session policy.now.sessions.now row.holder.client.0)) table.old.entries.rows }
+    requires permitted { ArePermitted table.old.kept policy.now.fs.now policy.now.tree.now policy.now.sessions.now table.old.entries }
+    ensures table { table.new.entries
+        ≡ changed_where (is_of_inode ino) (words.entry_under (known_in table.old.kept) policy.now.fs.now policy.now.tree.now policy.now.sessions.now locks.now.locks) table.old.entries }
+    ensures known { KnownAnew (λ k. k.ino.0 == ino.0) (words.told_at policy.now.fs.now policy.now.tree.now policy.now.sessions.now locks.now.locks)
+        table.old.entries table.old.kept table.new.kept }
+    ensures permitted { (k : Holder) → permitted_of table.new.kept k ≡ permitted_of table.old.kept k }
 {
     let clients = clients_on(policy.sessions, table, ino);
     let numbers = clients.as_slice();
@@ -155,9 +151,9 @@ fn finish_entries(
 
 /// The clients with an entry on an inode, in the order of making. Each has a session, so there is room for them.
 pub fn clients_on(sessions: &Sessions, table: &CapTable, ino: Ino) -> ArrayVec<u32, MAX_SESSIONS>
-    requires { All (λ row. IsTrue (has_session sessions.now row.holder.client.0)) table.now.rows }
-    ensures clients { result.items ≡ words.clients_of (entries_on table.now ino) }
-    ensures sound { IsTable table.now }
+    requires { All (λ row. IsTrue (has_session sessions.now row.holder.client.0)) table.now.entries.rows }
+    ensures clients { result.items ≡ words.clients_of (entries_on table.now.entries ino) }
+    ensures sound { IsTable table.now.entries }
 {
     let mut clients = sessions.room_for_clients();
     let mut walk = table.holders_of(ino);

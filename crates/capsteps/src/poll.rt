@@ -3,9 +3,9 @@ ghost use Rattle.std.specs.Prelude.{◌≡◌, ◌≤◌, ◌-◌, ◌++◌, [],
 ghost use Rattle.captable.specs.{Calls.{is_of_client, is_due}, Many.{changed_where}, Table.{IsTable}};
 ghost use Rattle.capacts.specs.{Caprules.Messages.{after_messages, caps_messages, end_messages, first_messages, row_messages, size_messages}, Caprules.State.{State}, Known.{AreKnown, known_in}, Lockmachine.Scene.{told_set}, Lockmachine.Scene.{Scene}};
 
-use capacts::{Ended, Message, MessageList, Scene, copy_of_outcome};
+use capacts::{Ended, Message, MessageList, KeptScene, copy_of_outcome};
 use capbits::ClientId;
-use captable::{CapTable, EntryRow, Known};
+use captable::{CapTable, EntryRow};
 use inotree::Tree;
 use std::alloc::{AllocError, Global};
 
@@ -13,12 +13,11 @@ use std::alloc::{AllocError, Global};
 pub fn due_messages(
     alloc: Global,
     ended: &[Ended],
-    scene: &Scene,
-    known: &Known,
+    scene: &KeptScene,
     client: ClientId,
     max: u32,
 ) -> Result<MessageList, AllocError>
-    ensures { IfOk result (λ due. (s : State) → s.scene.tree ≡ scene.now.tree → s.scene.table ≡ scene.now.table → AreKnown known.now.sets s.scene
+    ensures { IfOk result (λ due. (s : State) → s.scene.tree ≡ scene.now.tree → s.scene.table ≡ scene.now.table.entries → AreKnown scene.now.table.kept s.scene
         → s.messages ≡ ended.now
         → due ≡ first_messages s client max) }
 {
@@ -78,12 +77,11 @@ fn add_due(
     list: &mut MessageList,
     max: u32,
     tree: &Tree,
-    known: &Known,
     row: &EntryRow,
 ) -> Result<(), AllocError>
     requires room { length list.old ≤ max }
     ensures ok { OnOk result ((s : Scene) → s.tree ≡ tree.now
-        → (nat_lt row.now.entry.told_seq row.now.entry.seq ≡ true → known_in known.now.sets row.now.holder ≡ told_set s row.now)
+        → (nat_lt row.now.entry.told_seq row.now.entry.seq ≡ true → known_in table.now.kept row.now.holder ≡ told_set s row.now)
         → list.new ≡ take max (list.old ++ row_messages s row.now)) }
 {
     let ino = row.holder.ino;
@@ -99,12 +97,11 @@ fn add_due(
 fn add_caps(
     list: &mut MessageList,
     max: u32,
-    known: &Known,
     row: &EntryRow,
 ) -> Result<(), AllocError>
     requires room { length list.old ≤ max }
     ensures ok { OnOk result ((s : Scene)
-        → (nat_lt row.now.entry.told_seq row.now.entry.seq ≡ true → known_in known.now.sets row.now.holder ≡ told_set s row.now)
+        → (nat_lt row.now.entry.told_seq row.now.entry.seq ≡ true → known_in table.now.kept row.now.holder ≡ told_set s row.now)
         → list.new ≡ take max (list.old ++ caps_messages s row.now)) }
     ensures few { OnOk result (length list.new ≤ max) }
 {
@@ -147,8 +144,8 @@ fn add(list: &mut MessageList, max: u32, message: Message) -> Result<(), AllocEr
 
 /// The client is told of the changes and the sizes that these messages say, and is no longer asked to release where one asks it.
 pub fn give(table: &mut CapTable, client: ClientId, given: &[Message])
-    requires { IsTable table.old }
-    ensures { table.new ≡ changed_where (is_of_client client) (after_messages given.now) table.old }
+    requires { IsTable table.old.entries }
+    ensures { table.new.entries ≡ changed_where (is_of_client client) (after_messages given.now) table.old.entries }
 {
     for message in given {
         give_one(table, client, message);
@@ -157,8 +154,8 @@ pub fn give(table: &mut CapTable, client: ClientId, given: &[Message])
 
 // The same of one message.
 fn give_one(table: &mut CapTable, client: ClientId, message: &Message)
-    requires { IsTable table.old }
-    ensures { table.new ≡ changed_where (is_of_client client) (after_messages (message.now ∷ [])) table.old }
+    requires { IsTable table.old.entries }
+    ensures { table.new.entries ≡ changed_where (is_of_client client) (after_messages (message.now ∷ [])) table.old.entries }
 {
     match message {
         Message::Caps { ino, .. } => {

@@ -13,9 +13,9 @@ use crate::finish::{finish, finish_alone};
 use capacts::reach::reach;
 use capacts::renewing::renew_served;
 use capacts::serving::{Served, serve};
-use capacts::{Change, Locks, Move, Operation, Outcome, Policy, Request, Scene};
+use capacts::{Change, Locks, Move, Operation, Outcome, Policy, Request, KeptScene};
 use capbits::{Ino, Ticket};
-use captable::{CapTable, Holder, Known};
+use captable::{CapTable, Holder};
 use inotree::{InoSet, NonEmptyInoSet, Setting};
 
 /// Whose locks may move.
@@ -29,13 +29,13 @@ pub enum Affected {
 
 /// Lets the locks settle that an event affected, and ends the step. All other locks are quiet. Where one entry alone was affected,
 /// the state was sound before.
-pub fn end(scene: &mut Scene, known: &mut Known, affected: Affected, endings: &mut Endings)
-    requires ready { IsReady affected known.old.sets scene.old endings.old }
-    ensures ends { EndsWith (among affected) known.old.sets known.new.sets scene.old scene.new endings.new.for_clients.items }
+pub fn end(scene: &mut KeptScene, affected: Affected, endings: &mut Endings)
+    requires ready { IsReady affected scene.old.table.kept (plain scene.old) endings.old }
+    ensures ends { EndsWith (among affected) scene.old.table.kept scene.new.table.kept (plain scene.old) (plain scene.new) endings.new.for_clients.items }
     ensures for_history { endings.new.for_history.items ≡ endings.new.for_clients.items }
     ensures lead { LeadOn endings.old.changes.items endings.new.changes.items scene.old.tree scene.new.tree }
     // As many waited as wait and have ended.
-    ensures count { length endings.new.for_clients.items + length scene.new.locks.queue ≡ length scene.old.locks.queue }
+    ensures count { length endings.new.for_clients.items + length scene.new.locks.locks.queue ≡ length scene.old.locks.locks.queue }
 {
     match affected {
         Affected::Entry(holder) => {
@@ -63,24 +63,23 @@ pub fn end(scene: &mut Scene, known: &mut Known, affected: Affected, endings: &m
 // Makes the moves, always the first that applies, until none does. Each request that is served ends, once for its client and
 // once for the history. Inodes that are moved are affected besides.
 fn settle(
-    scene: &mut Scene,
-    known: &mut Known,
+    scene: &mut KeptScene,
     affected: &mut NonEmptyInoSet,
     endings: &mut Endings,
 )
-    requires settles { MaySettle (set.contains affected.old) scene.old }
-    requires judged { IsJudged endings.old.judged scene.old }
-    requires room { HaveRoomFor (length scene.old.locks.queue) endings.old }
-    requires places { HavePlaces endings.old.changes scene.old.locks affected.old }
-    requires permitted { ArePermittedIn known.old.sets scene.old }
-    ensures settles { SettlesWith (set.contains affected.new) (set.contains affected.old) scene.old scene.new endings.new.for_clients.items endings.new.sized.items }
+    requires settles { MaySettle (set.contains affected.old) (plain scene.old) }
+    requires judged { IsJudged endings.old.judged (plain scene.old) }
+    requires room { HaveRoomFor (length scene.old.locks.locks.queue) endings.old }
+    requires places { HavePlaces endings.old.changes scene.old.locks.locks affected.old }
+    requires permitted { ArePermittedIn scene.old.table.kept (plain scene.old) }
+    ensures settles { SettlesWith (set.contains affected.new) (set.contains affected.old) (plain scene.old) (plain scene.new) endings.new.for_clients.items endings.new.sized.items }
     ensures tree { IsTree scene.old.tree }
     ensures for_history { endings.new.for_history.items ≡ endings.new.for_clients.items }
-    ensures count { length endings.new.for_clients.items + length scene.new.locks.queue ≡ length scene.old.locks.queue }
+    ensures count { length endings.new.for_clients.items + length scene.new.locks.locks.queue ≡ length scene.old.locks.locks.queue }
     ensures lead { LeadOn endings.old.changes.items endings.new.changes.items scene.old.tree scene.new.tree }
-    ensures places { HavePlaces endings.new.changes scene.new.locks affected.new }
-    ensures told { (k : Holder) → known_of known.new.sets k ≡ known_of known.old.sets k }
-    ensures permitted { ArePermittedIn known.new.sets scene.new }
+    ensures places { HavePlaces endings.new.changes scene.new.locks.locks affected.new }
+    ensures told { (k : Holder) → known_of scene.new.table.kept k ≡ known_of scene.old.table.kept k }
+    ensures permitted { ArePermittedIn scene.new.table.kept (plain scene.new) }
 {
     end_gathers(&scene.table, &mut scene.locks, affected);
     // Those from which a rename has walked over all below. The allocator is the tree's, whose contract tells the proof that it is one.
@@ -123,12 +122,12 @@ impl SweepPlace {
 // them in its turn. No gather of another inode may.
 fn end_gathers(table: &CapTable, locks: &mut Locks, affected: &NonEmptyInoSet)
     requires elsewhere { (other : ℕ) (part : Part) → set.contains affected.now other ≡ false
-        → may_end_by table.now locks.old (other, part) ≡ false }
-    ensures ends { set.len affected.now ≢ 1 → (other : ℕ) (part : Part) → may_end_by table.now locks.new (other, part) ≡ false }
+        → may_end_by table.now.entries locks.old.locks (other, part) ≡ false }
+    ensures ends { set.len affected.now ≢ 1 → (other : ℕ) (part : Part) → may_end_by table.now.entries locks.new.locks (other, part) ≡ false }
     // Each is the first move that applies, whatever the tree and the sessions are.
     ensures swept { (fs : List ℕ) (tree : Nodes) (sessions : SessionTable)
-        → WaitAt (set.contains affected.now) (scene_of fs tree sessions table.now locks.old)
-        → IsSwept (set.contains affected.now) (scene_of fs tree sessions table.now locks.old)
+        → WaitAt (set.contains affected.now) (scene_of fs tree sessions table.now.entries locks.old.locks)
+        → IsSwept (set.contains affected.now) (scene_of fs tree sessions table.now.entries locks.old.locks)
         (scene_of fs tree sessions table.now locks.new) }
 {
     if affected.is_single() {
@@ -147,18 +146,17 @@ fn end_gathers(table: &CapTable, locks: &mut Locks, affected: &NonEmptyInoSet)
 // Lets the locks of the affected inodes move, one inode after the other, from where the sweep has come to, until a request is to be
 // served, whose number it answers, or no move applies.
 fn sweep(
-    scene: &mut Scene,
-    known: &Known,
+    scene: &mut KeptScene,
     affected: &NonEmptyInoSet,
     place: &mut SweepPlace,
 ) -> Option<Ticket>
-    requires place { StandsAt (set.contains affected.now) place.old scene.old }
-    requires still { AreStill (set.contains affected.now) scene.old }
-    requires waits { WaitAt (set.contains affected.now) scene.old }
-    requires permitted { ArePermittedIn known.now.sets scene.old }
-    ensures swept { IsSwept (set.contains affected.now) scene.old scene.new }
-    ensures next { GoesOn scene.new result }
-    ensures place { StandsAt (set.contains affected.now) place.new scene.new }
+    requires place { StandsAt (set.contains affected.now) place.old (plain scene.old) }
+    requires still { AreStill (set.contains affected.now) (plain scene.old) }
+    requires waits { WaitAt (set.contains affected.now) (plain scene.old) }
+    requires permitted { ArePermittedIn scene.now.table.kept (plain scene.old) }
+    ensures swept { IsSwept (set.contains affected.now) (plain scene.old) (plain scene.new) }
+    ensures next { GoesOn (plain scene.new) result }
+    ensures place { StandsAt (set.contains affected.now) place.new (plain scene.new) }
 {
     'inodes: loop {
         let policy = Policy {
@@ -183,41 +181,40 @@ fn sweep(
 // Serves the request with this number, notes what that changes for readers, and answers the inode that it changes alone. If it moves
 // its inode, each inode that is at or below it and has entries is affected; without memory for that it ends as out of memory.
 fn serve_next(
-    scene: &mut Scene,
-    known: &mut Known,
+    scene: &mut KeptScene,
     ticket: Ticket,
     affected: &mut NonEmptyInoSet,
     walked: &mut InoSet,
     endings: &mut Endings,
 ) -> Option<Ino>
     requires tree { IsTree scene.old.tree }
-    requires permitted { ArePermittedIn known.old.sets scene.old }
-    requires walked { AreWalked walked.old scene.old.tree scene.old.table affected.old }
-    requires waits { (q : Request) × (request_at scene.old.locks ticket.0 ≡ Some q) }
+    requires permitted { ArePermittedIn scene.old.table.kept (plain scene.old) }
+    requires walked { AreWalked walked.old scene.old.tree scene.old.table.entries affected.old }
+    requires waits { (q : Request) × (request_at scene.old.locks.locks ticket.0 ≡ Some q) }
     requires for_clients { length endings.old.for_clients.items < vec_capacity endings.old.for_clients }
     requires for_history { length endings.old.for_history.items < vec_capacity endings.old.for_history }
     requires sized { length endings.old.sized.items < vec_capacity endings.old.sized }
     requires place { length endings.old.changes.items < endings.old.changes.room }
-    requires judged { IsJudged endings.old.judged scene.old }
+    requires judged { IsJudged endings.old.judged (plain scene.old) }
     ensures judged { endings.new.judged ≡ None }
-    ensures served { (ended : Ended) × Serves scene.old ticket ended scene.new
+    ensures served { (ended : Ended) × Serves (plain scene.old) ticket ended (plain scene.new)
         × (endings.new.for_clients.items ≡ endings.old.for_clients.items ++ ended ∷ [])
         × (endings.new.for_history.items ≡ endings.old.for_history.items ++ ended ∷ [])
-        × ((q : Request) → request_at scene.old.locks ticket.0 ≡ Some q
+        × ((q : Request) → request_at scene.old.locks.locks ticket.0 ≡ Some q
         → endings.new.sized.items ≡ endings.old.sized.items ++ sized_in (Serving q ended.outcome ∷ [])) }
-    ensures reached { (q : Request) → request_at scene.old.locks ticket.0 ≡ Some q
-        → Reaches q scene.old.tree scene.new.tree scene.old.table affected.old affected.new }
+    ensures reached { (q : Request) → request_at scene.old.locks.locks ticket.0 ≡ Some q
+        → Reaches q scene.old.tree scene.new.tree scene.old.table.entries affected.old affected.new }
     // By the tree of before.
-    ensures walked { AreWalked walked.new scene.old.tree scene.old.table affected.new }
-    ensures changed { (q : Request) → request_at scene.old.locks ticket.0 ≡ Some q → result ≡ changed_alone q }
+    ensures walked { AreWalked walked.new scene.old.tree scene.old.table.entries affected.new }
+    ensures changed { (q : Request) → request_at scene.old.locks.locks ticket.0 ≡ Some q → result ≡ changed_alone q }
     ensures room { (vec_capacity endings.old.for_clients ≤ vec_capacity endings.new.for_clients) × (vec_capacity endings.old.for_history ≤ vec_capacity endings.new.for_history)
         × (vec_capacity endings.old.sized ≤ vec_capacity endings.new.sized) }
     // At most one change is noted, and there is a place more for each inode that is affected besides.
     ensures lead { LeadOn endings.old.changes.items endings.new.changes.items scene.old.tree scene.new.tree }
     ensures noted { length endings.new.changes.items ≤ length endings.old.changes.items + 1 }
     ensures places { endings.old.changes.room + set.len affected.new ≤ endings.new.changes.room + set.len affected.old }
-    ensures told { (k : Holder) → known_of known.new.sets k ≡ known_of known.old.sets k }
-    ensures permitted { ArePermittedIn known.new.sets scene.new }
+    ensures told { (k : Holder) → known_of scene.new.table.kept k ≡ known_of scene.old.table.kept k }
+    ensures permitted { ArePermittedIn scene.new.table.kept (plain scene.new) }
 {
     let Some(request) = scene.locks.apply_move(Move::Serve(ticket)) else {
         unreachable!()

@@ -28,7 +28,7 @@ pub fn first_locks(alloc: Global, tree: &Tree) -> Result<Locks, AllocError>
 
 // Adds the locks of an inode, where the tree has it.
 fn add_locks(locks: &mut Locks, tree: &Tree, ino: Ino) -> Result<(), AllocError>
-    ensures ok { OnOk result (locks.new ≡ (if map.contains_key tree.now.nodes ino.0 then with_ino locks.old ino.0 else locks.old)) }
+    ensures ok { OnOk result (locks.new.locks ≡ (if map.contains_key tree.now.nodes ino.0 then with_ino locks.old.locks ino.0 else locks.old.locks)) }
     ensures sound { IsTree tree.now }
 {
     if tree.node(ino).is_some() {

@@ -10,7 +10,6 @@ pub mod Gone
 pub mod Keeping
 pub mod Kept
 pub mod Keyed
-pub mod KnownPlaces
 pub mod Moves
 pub mod NodesAt
 pub mod Numbers
@@ -19,7 +18,6 @@ pub mod Opening
 pub mod Orders
 pub mod Placed
 pub mod Polled
-pub mod Positions
 pub mod Quiet
 pub mod QuietKeys
 pub mod Reading

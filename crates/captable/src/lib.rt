@@ -5,10 +5,8 @@
 
 mod entry;
 mod holders;
-mod known;
 mod laws;
 mod nodes;
-mod on_inode;
 mod places;
 mod polls;
 mod table;
@@ -17,7 +15,6 @@ mod walk;
 pub use cap_arena::AddError;
 pub use entry::{Entry, EntryRow, Holder, Sets, Slot};
 pub use holders::Holders;
-pub use known::{Known, KnownOn};
 pub use laws::{
     a_table_stays_a_table, entries_are_of_their_holders, inodes_change_by_themselves,
     numbers_say_what_was_shown, one_by_one_is_at_once,

@@ -1,4 +1,4 @@
-pub use Rattle.captable.proofs.Positions
+pub mod Positions
 pub mod Idle
 pub mod Rest
 pub mod Exact
