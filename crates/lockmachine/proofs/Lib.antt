@@ -22,6 +22,6 @@ pub mod Turns
 pub mod Alone
 pub mod ByLock
 pub mod FirstServed
-pub mod KnownWants
+pub mod KeptWants
 pub mod Verdicts
 pub mod Counted
