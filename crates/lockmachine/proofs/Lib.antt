@@ -25,3 +25,5 @@ pub mod FirstServed
 pub mod KeptWants
 pub mod Verdicts
 pub mod Counted
+pub mod GivesUp
+pub mod CountsStay
