@@ -1,6 +1,6 @@
 -- What is kept beside the entries: where it is found, and a table's parts where other sets are kept.
 use Rattle.std.specs.Prelude.{◌==◌}
-use Rattle.std.proofs.Common.{◌≡◌, ℕ, ◌<◌, ◌≤◌, Bool, true, false, not, cond, Option, Some, None, List, [], ◌∷◌, ◌++◌, map, filter, length, refl, sym, ap, subst, ◌∙◌, arith, nat_eq, zero, suc}
+use Rattle.std.proofs.Common.{◌≡◌, ℕ, ◌<◌, ◌≤◌, Bool, true, false, not, cond, Option, Some, None, unwrap_or, List, [], ◌∷◌, ◌++◌, map, filter, length, refl, sym, ap, subst, ◌∙◌, arith, nat_eq, zero, suc}
 use Rattle.std.specs.List.{find, AllByRecursion, IsDistinct}
 use Rattle.std.specs.Option.{option_map, option_map_or}
 use Rattle.std.proofs.lemmas.Bool.{eqb-true, eqb-false}
@@ -13,9 +13,9 @@ use Rattle.captable.specs.declared.entry.Sets.{Sets}
 use Rattle.captable.specs.declared.entry.Slot.{Slot}
 use Rattle.captable.specs.Table.{Table, IsTable, same, is_row_of}
 use Rattle.captable.specs.Calls.{is_of_client, is_of_inode}
-use Rattle.captable.specs.Kept.{KeptRow, KeptTable, is_kept_of, sets_beside, AreBeside, keeping, kept_without, kept_without_client}
+use Rattle.captable.specs.Kept.{KeptRow, KeptTable, is_kept_of, sets_beside, kept_entry, no_sets, AreBeside, keeping, kept_without, kept_without_client}
 use Rattle.captable.specs.Walks.{first_holder}
-use Rattle.captable.specs.Nodes.{holder_of, row_of, kept_row_of, with_sets, has_number, nodes_at, nodes_in, by_number, table_by, table_of, kept_by, kept_of, both_of, KeepsSets, IsKeyOf, is_key_of}
+use Rattle.captable.specs.Nodes.{holder_of, row_of, kept_row_of, kept_entry_of, with_first, with_sets, has_number, nodes_at, nodes_in, by_number, table_by, table_of, kept_by, kept_of, both_of, KeepsSets, IsKeyOf, is_key_of}
 use Rattle.captable.specs.Linked.{AreBelow, IsLinked}
 use Rattle.captable.specs.Places.{number_at, AreInOrder}
 use Rattle.captable.proofs.Beside.{keep_in, sets-number, sets-rows, sets-table, sets-kept}
@@ -148,6 +148,19 @@ module _ (t : Lists Slot) (made : ℕ) (is : IsLinked t made) where
       sym (by_number-filter (is_held_by h) made ns) ∙ ap (by_number made) one ∙ by_number-one made o.0 (below-one (is_held_by h) ns o.0 made one is.below) in
       ap (option_map (λ (row : KeptRow). row.sets)) (find-mapped (is_kept_of h) kept_row_of (by_number made ns) ∙ ap (option_map kept_row_of) (find-one (is_held_by h) (by_number made ns) o.0 only))
       ∙ ap (λ (m : Node Slot). Some m.value.sets) same_node
+
+  -- the entries of some nodes, each with what is kept beside it
+  pub kept-entries : (ks : List ℕ) → map kept_entry_of (nodes_at (node_at t) ks) ≡ map (kept_entry (kept_of t made)) (map row_of (nodes_at (node_at t) ks))
+  kept-entries [] = refl
+  kept-entries (key ∷ ks) = by_node (node_at t key) refl (kept-entries ks)
+    where
+      by_node : (o : Option (Node Slot)) → node_at t key ≡ o
+          → map kept_entry_of (nodes_at (node_at t) ks) ≡ map (kept_entry (kept_of t made)) (map row_of (nodes_at (node_at t) ks))
+          → map kept_entry_of (with_first o (nodes_at (node_at t) ks)) ≡ map (kept_entry (kept_of t made)) (map row_of (with_first o (nodes_at (node_at t) ks)))
+      by_node None e rest = rest
+      by_node (Some n) e rest =
+          let own = sets-found (holder_of n) key n (ap (option_map holder_of) e) e in
+          λ i. record { row = row_of n; sets = unwrap_or (sym own i) no_sets } ∷ rest i
 
   -- nothing is kept of who has no entry
   none-kept : (h : Holder) → ((key : ℕ) → is_key_of t h key ≡ false) → find (is_kept_of h) (kept_of t made) ≡ None

@@ -10,8 +10,8 @@ use Rattle.cap_arena.specs.declared.nodes.Node.{Node}
 use Rattle.cap_arena.specs.Walks.{is_among, key_after}
 use Rattle.cap_arena.specs.Lists.{Lists, ListName, OfInode, OfClient, belongs, node_at, keys, IsLists}
 use Rattle.captable.specs.declared.entry.Slot.{Slot}
-use Rattle.captable.specs.Nodes.{row_of, with_first, nodes_at, nodes_in}
-use Rattle.captable.specs.Walks.{keys_on, keys_from, rows_from, IsPlaceIn}
+use Rattle.captable.specs.Nodes.{row_of, kept_entry_of, with_first, nodes_at, nodes_in}
+use Rattle.captable.specs.Walks.{keys_on, keys_from, rows_from, kept_from, IsPlaceIn}
 use Rattle.captable.proofs.NodesAt.{head_in, rest_in}
 
 -- ---- keys
@@ -69,13 +69,22 @@ keys-next (k ∷ ks) key once there = by_test (nat_eq key k) refl there (keys-ne
 -- ---- rows
 
 module _ (t : Lists Slot) (is : IsLists t) where
-  -- the row of the node, and those behind it
+  -- the node, and those behind it
+  nodes-next : (name : ListName) (key : ℕ) (n : Node Slot) → node_at t key ≡ Some n → is_among (keys t name) key ≡ true
+      → nodes_at (node_at t) (keys_from (keys t name) (Some key)) ≡ n ∷ nodes_at (node_at t) (keys_from (keys t name) (key_after (keys t name) key))
+  nodes-next name key n there listed =
+      let behind = keys_from (keys t name) (key_after (keys t name) key) in
+      ap (nodes_at (node_at t)) (keys-next (keys t name) key (is.lists name).once listed) ∙ ap (λ o. with_first o (nodes_at (node_at t) behind)) there
+
+  -- its row, and theirs
   pub rows-next : (name : ListName) (key : ℕ) (n : Node Slot) → node_at t key ≡ Some n → is_among (keys t name) key ≡ true
       → rows_from t name (Some key) ≡ row_of n ∷ rows_from t name (key_after (keys t name) key)
-  rows-next name key n there listed =
-      let behind = keys_from (keys t name) (key_after (keys t name) key) in
-      ap (λ ks. map row_of (nodes_at (node_at t) ks)) (keys-next (keys t name) key (is.lists name).once listed)
-      ∙ ap (λ o. map row_of (with_first o (nodes_at (node_at t) behind))) there
+  rows-next name key n there listed = ap (map row_of) (nodes-next name key n there listed)
+
+  -- and with what is kept beside them
+  pub kept-next : (name : ListName) (key : ℕ) (n : Node Slot) → node_at t key ≡ Some n → is_among (keys t name) key ≡ true
+      → kept_from t name (Some key) ≡ kept_entry_of n ∷ kept_from t name (key_after (keys t name) key)
+  kept-next name key n there listed = ap (map kept_entry_of) (nodes-next name key n there listed)
 
   -- the node of a key of the list belongs into it
   pub of-list : (name : ListName) (key : ℕ) (n : Node Slot) → node_at t key ≡ Some n → is_among (keys t name) key ≡ true → belongs name n ≡ true

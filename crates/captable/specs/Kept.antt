@@ -1,5 +1,5 @@
 -- What is kept beside the entries of a table: sets that follow from the tree, the grants and the locks, and are no part of an entry.
-use Rattle.std.specs.Prelude.{◌≡◌, Bool, not, Option, List, [], ◌∷◌, ◌++◌, map, filter, ◌==◌, ◌&&◌, is_some, if◌then◌else◌}
+use Rattle.std.specs.Prelude.{◌≡◌, Bool, not, Option, List, [], ◌∷◌, ◌++◌, map, filter, ◌==◌, ◌&&◌, is_some, unwrap_or, if◌then◌else◌}
 use Rattle.std.specs.List.{find}
 use Rattle.std.specs.Option.{option_map}
 use Rattle.capbits.specs.declared.cap.Cap.TheVariants.{P}
@@ -8,6 +8,8 @@ use Rattle.capbits.specs.Caps.{Caps, has}
 use Rattle.capbits.specs.Sets.{no_caps}
 use Rattle.captable.specs.declared.entry.Holder.{Holder}
 use Rattle.captable.specs.declared.entry.Entry.{Entry}
+use Rattle.captable.specs.declared.entry.EntryRow.{EntryRow}
+use Rattle.captable.specs.declared.entry.KeptEntry.{KeptEntry}
 use Rattle.captable.specs.declared.entry.Sets.{Sets}
 use Rattle.captable.specs.Table as table
 use Rattle.captable.specs.Table.{Table, same, entry_at, holders_of_rows}
@@ -38,6 +40,14 @@ told_beside kept k = option_map (λ (sets : Sets). sets.told) (sets_beside kept 
 abbrev pub permitted_beside : List KeptRow → Holder → Option Caps
 permitted_beside kept k = option_map (λ (sets : Sets). sets.permitted) (sets_beside kept k)
 
+-- nothing is kept yet
+abbrev pub no_sets : Sets
+no_sets = record { told = no_caps; permitted = no_caps }
+
+-- an entry, with what is kept beside it
+abbrev pub kept_entry : List KeptRow → EntryRow → KeptEntry
+kept_entry kept row = record { row = row; sets = unwrap_or (sets_beside kept row.holder) no_sets }
+
 -- they are kept of the holders that have an entry, and of nobody else
 abbrev pub AreBeside : KeptTable → Type 0
 AreBeside t = map (λ (row : KeptRow). row.holder) t.kept ≡ holders_of_rows t.entries.rows
@@ -47,9 +57,6 @@ abbrev pub nothing : KeptTable
 nothing = record { entries = table.empty; kept = [] }
 
 -- ---- what the calls make of it
-
-abbrev pub no_sets : Sets
-no_sets = record { told = no_caps; permitted = no_caps }
 
 -- empty sets beside a new entry
 abbrev pub kept_more : List KeptRow → Holder → List KeptRow

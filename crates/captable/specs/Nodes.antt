@@ -8,6 +8,7 @@ use Rattle.cap_arena.specs.Lists.{Lists, ListName, OfInode, OfClient, OfRecall, 
 use Rattle.captable.specs.declared.entry.Holder.{Holder}
 use Rattle.captable.specs.declared.entry.Entry.{Entry}
 use Rattle.captable.specs.declared.entry.EntryRow.{EntryRow}
+use Rattle.captable.specs.declared.entry.KeptEntry.{KeptEntry}
 use Rattle.captable.specs.declared.entry.Sets.{Sets}
 use Rattle.captable.specs.declared.entry.Slot.{Slot}
 use Rattle.captable.specs.Table.{Table, holder, same, entry_at}
@@ -28,6 +29,10 @@ with_entry entry node = record node { value = record node.value { entry = entry 
 -- what is kept beside its entry
 abbrev pub kept_row_of : Node Slot → KeptRow
 kept_row_of node = record { holder = holder_of node; sets = node.value.sets }
+
+-- both
+abbrev pub kept_entry_of : Node Slot → KeptEntry
+kept_entry_of node = record { row = row_of node; sets = node.value.sets }
 
 abbrev pub with_sets : Sets → Node Slot → Node Slot
 with_sets sets node = record node { value = record node.value { sets = sets } }

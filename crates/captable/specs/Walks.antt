@@ -4,11 +4,12 @@ use Rattle.cap_arena.specs.Walks.{is_among}
 use Rattle.cap_arena.specs.Lists.{Lists, ListName, OfInode, OfClient, node_at, keys}
 use Rattle.captable.specs.declared.entry.Holder.{Holder}
 use Rattle.captable.specs.declared.entry.EntryRow.{EntryRow}
+use Rattle.captable.specs.declared.entry.KeptEntry.{KeptEntry}
 use Rattle.captable.specs.declared.entry.Slot.{Slot}
 use Rattle.captable.specs.declared.walk.Sought.{Sought}
 use Rattle.captable.specs.declared.walk.Sought.TheVariants as by
 use Rattle.captable.specs.Table.{holders_of_rows}
-use Rattle.captable.specs.Nodes.{row_of, nodes_at}
+use Rattle.captable.specs.Nodes.{row_of, kept_entry_of, nodes_at}
 
 -- the list that is walked
 abbrev pub name_of : Sought → ListName
@@ -28,6 +29,10 @@ keys_from keys (Some key) = keys_on keys key
 -- the rows from a place of the list on
 abbrev pub rows_from : Lists Slot → ListName → Option ℕ → List EntryRow
 rows_from lists name place = map row_of (nodes_at (node_at lists) (keys_from (keys lists name) place))
+
+-- the same, each with what is kept beside it
+abbrev pub kept_from : Lists Slot → ListName → Option ℕ → List KeptEntry
+kept_from lists name place = map kept_entry_of (nodes_at (node_at lists) (keys_from (keys lists name) place))
 
 -- the place is the end, or the key of a node of the list
 abbrev pub IsPlaceIn : List ℕ → Option ℕ → Type 0

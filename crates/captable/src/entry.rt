@@ -55,6 +55,15 @@ pub struct Sets {
     pub permitted: CapSet,
 }
 
+/// An entry with its holder, and what is kept beside it.
+#[derive(Clone, Copy)]
+pub struct KeptEntry {
+    /// The entry with its holder.
+    pub row: EntryRow,
+    /// The sets beside it.
+    pub sets: Sets,
+}
+
 /// What is kept with the node of a holder: its entry, the sets beside it, and how many entries were made before it.
 #[derive(Clone, Copy, Debug)]
 pub struct Slot {

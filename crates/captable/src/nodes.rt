@@ -9,7 +9,7 @@ ghost use Rattle.captable.specs.Nodes as words;
 ghost use Rattle.captable.specs.Nodes.{holder_of, nodes_in, SetsEntry, KeepsSets, IsKeyOf};
 ghost use Rattle.captable.specs.Walks.{IsPlaceOf, keys_from};
 
-use crate::entry::{Entry, EntryRow, Holder, Sets, Slot};
+use crate::entry::{Entry, EntryRow, Holder, KeptEntry, Sets, Slot};
 use cap_arena::{LinkWrites, Node, TripleLists};
 use capbits::Ino;
 use std::alloc::{AllocError, Global};
@@ -23,6 +23,16 @@ pub(crate) fn row_of(node: &Node<Slot>) -> EntryRow
     EntryRow {
         holder: Holder { client, ino },
         entry: node.value.entry,
+    }
+}
+
+// The node's entry, with its holder and what is kept beside it.
+pub(crate) fn kept_entry_of(node: &Node<Slot>) -> KeptEntry
+    ensures { result ≡ words.kept_entry_of node.now }
+{
+    KeptEntry {
+        row: row_of(node),
+        sets: node.value.sets,
     }
 }
 

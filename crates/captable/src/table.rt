@@ -1,5 +1,5 @@
 //! The table of entries.
-ghost use Rattle.std.specs.Prelude.{◌≡◌, ◌<◌, ◌^◌, ◌-◌, true, false, [], ◌∷◌, IfSome, IfOk, OnOk, OnErr, Some, None, length, slice_get, take, filter, unwrap_or};
+ghost use Rattle.std.specs.Prelude.{◌≡◌, ◌<◌, ◌^◌, ◌-◌, true, false, [], ◌∷◌, IfSome, IfOk, OnOk, OnErr, Some, None, length, slice_get, take, filter, map, unwrap_or};
 
 use crate::entry::{Edit, Entry, Holder, Keeping, Sets, Slot};
 use crate::holders::Holders;
@@ -11,7 +11,7 @@ use crate::polls::{
     Poll, begin_poll, count_again, count_of, end_poll, lower_place, move_place, quiet_place,
     set_place, skip_place,
 };
-use crate::walk::Walk;
+use crate::walk::{KeptWalk, Walk};
 use cap_arena::{AddError, MAX_NODES, TripleLists};
 use capbits::{Cap, CapSet, ClientId, Ino, Refusal};
 use numbered::Numbered;
@@ -655,6 +655,14 @@ impl CapTable {
         ensures sound { IsTable self.now.entries }
     {
         Walk::of_inode(&self.lists, ino)
+    }
+
+    /// The same, each with what is kept beside it.
+    pub fn kept_on(&self, ino: Ino) -> KeptWalk<'_>
+        ensures rows { result ≡ map (words.kept_entry self.now.kept) (filter (is_of_inode ino) self.now.entries.rows) }
+        ensures sound { IsTable self.now.entries }
+    {
+        KeptWalk::of_inode(&self.lists, ino)
     }
 
     /// Whether somebody has an entry on the inode.

@@ -5,8 +5,8 @@ ghost use Rattle.captable.specs.Nodes as words;
 ghost use Rattle.captable.specs.Nodes.{nodes_in};
 ghost use Rattle.captable.specs.Walks.{rows_from, IsPlaceOf};
 
-use crate::entry::{EntryRow, Slot};
-use crate::nodes::row_of;
+use crate::entry::{EntryRow, KeptEntry, Slot};
+use crate::nodes::{kept_entry_of, row_of};
 use cap_arena::TripleLists;
 use capbits::{ClientId, Ino};
 use std::marker::Model;
@@ -83,5 +83,48 @@ impl<'a> Walk<'a> {
             Sought::Inode(_ino) => self.lists.next_of_ino(key),
         };
         Some(row_of(&node))
+    }
+}
+
+/// The entries on an inode that are left of a walk, each with what is kept beside it, in the order of making.
+#[derive(Drop)]
+pub struct KeptWalk<'a> {
+    lists: &'a TripleLists<Slot>,
+    ino: Ino,
+    // The key of the next node, where there is one.
+    at: Option<usize>,
+}
+
+impl<'a> Model for KeptWalk<'a> {
+    ghost use Rattle.std.specs.Prelude.{List};
+    ghost use Rattle.cap_arena.specs.Lists.{OfInode};
+    ghost use Rattle.captable.specs.declared.entry.KeptEntry.{KeptEntry};
+    ghost use Rattle.captable.specs.Walks.{kept_from, IsPlaceOf};
+
+    ghost Value = { List KeptEntry };
+
+    ghost view = { λ w. kept_from w.lists.now (OfInode w.ino) w.at };
+
+    ghost invariant = { λ w. IsPlaceOf w.lists.now (OfInode w.ino) w.at };
+}
+
+impl<'a> KeptWalk<'a> {
+    // The entries on the inode.
+    pub(crate) fn of_inode(lists: &'a TripleLists<Slot>, ino: Ino) -> KeptWalk<'a>
+        ensures { result ≡ map words.kept_entry_of (nodes_in lists.now (OfInode ino)) }
+    {
+        let at = lists.first_of_ino(ino);
+        KeptWalk { lists, ino, at }
+    }
+
+    /// The next entry, with its holder and what is kept beside it; none at the end of the walk.
+    pub fn next(&mut self) -> Option<KeptEntry>
+        ensures some { IfSome result (λ entry. self.old ≡ entry ∷ self.new) }
+        ensures none { IfNone result ((self.old ≡ []) × (self.new ≡ [])) }
+    {
+        let key = self.at?;
+        let node = self.lists.get(key)?;
+        self.at = self.lists.next_of_ino(key);
+        Some(kept_entry_of(&node))
     }
 }

@@ -10,7 +10,7 @@ ghost use Rattle.lockmachine.specs.Wants as words;
 use crate::policy::Policy;
 use capbits::{Cap, CapSet, ClientId, Ino};
 use capspec::FsName;
-use captable::{CapTable, EntryRow};
+use captable::{CapTable, EntryRow, KeptEntry};
 use inotree::{Names, Node, Tree};
 use onelock::wanted_while;
 use sessiontab::{Session, Sessions};
@@ -43,15 +43,10 @@ pub(crate) fn wants_by_kept(policy: &Policy<'_>, table: &CapTable, ino: Ino) -> 
         → result ≡ words.in_all (words.wants_on policy.now.fs.now policy.now.tree.now policy.now.sessions.now table.now.entries ino) }
 {
     let mut tally = Tally::new();
-    let mut walk = table.holders_of(ino);
-    // Entries that were made one after the other mostly stand so.
-    let mut place = table.first_place(ino);
-    'rows: while let Some(row) = walk.next() {
-        let client = row.holder.client;
-        let kept = table.kept_near(client, ino, place);
-        let want = want_of_permitted(policy.sessions, row, kept.permitted);
-        tally = tally.and(client, want);
-        place = table.place_after(place);
+    let mut walk = table.kept_on(ino);
+    'entries: while let Some(KeptEntry { row, sets }) = walk.next() {
+        let want = want_of_permitted(policy.sessions, row, sets.permitted);
+        tally = tally.and(row.holder.client, want);
     }
     tally.wants()
 }

@@ -1,7 +1,7 @@
 use Rattle.std.proofs.Common.{◌≡◌, ◌∷◌, ◌+◌, ◌≤◌, length, sym, ap, ◌∙◌, arith}
 use Rattle.std.proofs.lemmas.List.Sums.{length-filter, count_by-le-length}
 use Rattle.captable.specs.Calls.{is_of_inode}
-use Rattle.onelock.proofs.held.holders_outside.Goals as goal
+use Rattle.onelock.proofs.held.count_outside.Goals as goal
 
 -- no more are counted than have an entry
 pub overflow_add-count : goal.overflow_add-count

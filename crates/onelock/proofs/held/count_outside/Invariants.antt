@@ -1,6 +1,6 @@
 use Rattle.std.proofs.Common.{◌≡◌, ◌+◌, ◌≤◌, filter, length}
 use Rattle.onelock.specs.Held.{has_outside}
-use Rattle.onelock.proofs.held.holders_outside.Given as goal
+use Rattle.onelock.proofs.held.count_outside.Given as goal
 
 abbrev pub decreases-rows : goal.decreases-rows
 decreases-rows l = length l.walk
