@@ -1,7 +1,7 @@
-use Rattle.std.{proofs.Common.{◌≡◌, ◌==◌, None, sym, ap, subst, ◌∙◌, rules}, proofs.lemmas.Bool.{eqb-true, false_from_ne_true}, specs.Cmp.{nat_eq_equiv}}
+use Rattle.std.{proofs.Common.{◌≡◌, ◌==◌, ◌⊎◌, inl, inr, true, None, sym, ap, subst, ◌∙◌, rules}, proofs.lemmas.Bool.{eqb-true, false_from_ne_true}, specs.Cmp.{nat_eq_equiv}}
 use Rattle.captable.{proofs.ByHolder.{entry_at-without_client}, specs.Kept.{KeptTable}}
 use Rattle.caprules.specs.Lockmachine.Counts.{AreCounted, CountedLocks}
-use Rattle.capacts.{proofs.Beside.{gone-other, gone-own}, proofs.Common.{ClientId, entry_at, Holder, Table}, specs.Known.{sets_of}}
+use Rattle.capacts.{proofs.Beside.{gone-other, gone-own}, proofs.Common.{ClientId, entry_at, Holder, Table}, specs.Known.{sets_of}, specs.Left.{is_end, table_left}}
 use Rattle.capacts.proofs.leaving.leave.Goals as goal
 
 -- whoever has an entry yet, is another client's
@@ -25,7 +25,9 @@ returns-in-Close-clause-counted c = λ counted.
 
 -- proofs of their own, so that a body which leaves something is refused without a long search
 pub returns-in-Close-clause-table : goal.returns-in-Close-clause-table
-returns-in-Close-clause-table c = ap (λ (t : KeptTable). t.entries) c.drop_client.ensures
+returns-in-Close-clause-table c =
+    let ends : is_end c.args.change ≡ true = elim c.in-Close.is [ inl e ↦ ap is_end e | inr e ↦ ap is_end e ] in
+    ap (λ (t : KeptTable). t.entries) c.drop_client.ensures ∙ ap (λ b. table_left b c.args.scene.now.table.entries c.args.client) (sym ends)
 
 pub returns-in-Close-clause-locks : goal.returns-in-Close-clause-locks
 returns-in-Close-clause-locks c = search rules
