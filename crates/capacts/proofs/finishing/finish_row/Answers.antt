@@ -50,13 +50,12 @@ kept : (c : After-meet-before) → (sets_of c.if-ne.table.kept c.args.row.holder
     × ((k : Holder) → k ≢ c.args.row.holder → sets_of c.if-ne.table.kept k ≡ sets_of c.args.table.now.kept k)
 kept c = elim c.if-ne.branch [
   | then-ne w ↦ (
-    let h : Holder = c.args.row.holder in
-    let is = w.table-is ∙ w.keep_told.ensures in
-    (
-      ap (λ (t : KeptTable). sets_of t.kept h) is ∙ keeping-own c.args.table.now.kept h (telling c.told_under-told.result) ∙ ap (option_map (telling c.told_under-told.result)) (was c).0,
-      λ k apart. ap (λ (t : KeptTable). sets_of t.kept k) is ∙ keeping-other c.args.table.now.kept h (telling c.told_under-told.result) k (same-apart h k (λ same_holder. apart (sym same_holder))),
-    )
-  )
+      let h : Holder = c.args.row.holder in
+      let is = w.table-is ∙ w.keep_told.ensures in (
+        ap (λ (t : KeptTable). sets_of t.kept h) is ∙ keeping-own c.args.table.now.kept h (telling c.told_under-told.result) ∙ ap (option_map (telling c.told_under-told.result)) (was c).0,
+        λ k apart. ap (λ (t : KeptTable). sets_of t.kept k) is ∙ keeping-other c.args.table.now.kept h (telling c.told_under-told.result) k (same-apart h k (λ same_holder. apart (sym same_holder))),
+      )
+      )
   | else-ne w ↦ (
     ap (λ (t : KeptTable). sets_of t.kept c.args.row.holder) w.table-is ∙ (was c).0
         ∙ (λ i. Some (record c.kept_near-kept.result { told = sym (same_set c.told_under-told.result c.kept_near-kept.result.told (not-false _ (sym c.ne.ensures ∙ w.if-ne.false))) i })),
