@@ -58,31 +58,31 @@ alike-kept sets s new alike kept = (known-alike sets s new alike kept.0, λ k e 
 -- ---- so they keep all that holds between two steps
 
 module _ (p : Parts) (whole : IsWhole p) where
-  left-whole : (tree : Nodes) (sessions : SessionTable) (states : StateMap) → LeavesEntries p.scene tree sessions states → IsWhole (record p { scene = with_parts p.scene tree sessions states })
+  left-whole : (tree : Nodes) (sessions : SessionTable) (states : StateMap) → LeavesEntries (plain p.scene) tree sessions states → IsWhole (record p { scene = with_parts (plain p.scene) tree sessions states })
   left-whole tree sessions states leaves = (
     kept-sound (state_of p) whole.0 tree sessions states leaves,
     whole.1,
     (
-      kept-known (state_of p) whole.0 tree sessions states leaves p.known.sets whole.2.0,
+      kept-known (state_of p) whole.0 tree sessions states leaves p.scene.table.kept whole.2.0,
       λ k e there.
           let row : EntryRow = record { holder = k; entry = e } in
-          let inside : Contains p.scene.table.rows row = found-contains (is_row_of k) p.scene.table.rows row (row_of-entry p.scene.table k e there) in
-          whole.2.1 k e there ∙ ap Some (sym (All-contains (SameMay (state_of p) whole.0 tree sessions) p.scene.table.rows row leaves.permits inside)),
+          let inside : Contains p.scene.table.entries.rows row = found-contains (is_row_of k) p.scene.table.entries.rows row (row_of-entry p.scene.table.entries k e there) in
+          whole.2.1 k e there ∙ ap Some (sym (All-contains (SameMay (state_of p) whole.0 tree sessions) p.scene.table.entries.rows row leaves.permits inside)),
     ),
   )
 
   pub session-whole : (client : ℕ) (caller : Caller) (grants : List Grant) → first_failing (new_session_tests p.scene.sessions client) ≡ None
-      → IsWhole (record p { scene = record p.scene { sessions = with_session p.scene.sessions client caller grants } })
+      → IsWhole (record p { scene = record (plain p.scene) { sessions = with_session p.scene.sessions client caller grants } })
   session-whole client caller grants passed =
-      left-whole p.scene.tree (with_session p.scene.sessions client caller grants) p.scene.locks.states (session-leaves (state_of p) whole.0 client caller grants passed)
+      left-whole p.scene.tree (with_session p.scene.sessions client caller grants) p.scene.locks.locks.states (session-leaves (state_of p) whole.0 client caller grants passed)
 
-  pub unblocked-whole : (client : ℕ) → IsWhole (record p { scene = record p.scene { sessions = without_blocked p.scene.sessions client } })
-  unblocked-whole client = left-whole p.scene.tree (without_blocked p.scene.sessions client) p.scene.locks.states (unblocked-leaves (state_of p) whole.0 client)
+  pub unblocked-whole : (client : ℕ) → IsWhole (record p { scene = record (plain p.scene) { sessions = without_blocked p.scene.sessions client } })
+  unblocked-whole client = left-whole p.scene.tree (without_blocked p.scene.sessions client) p.scene.locks.locks.states (unblocked-leaves (state_of p) whole.0 client)
 
   pub changed-whole : (f : Node → Node) (ino : ℕ) → ((n : Node) → (f n).site ≡ n.site) → ((n : Node) → (f n).attr ≡ n.attr)
-      → IsWhole (record p { scene = record p.scene { tree = changed f p.scene.tree ino } })
-  changed-whole f ino site attr = left-whole (changed f p.scene.tree ino) p.scene.sessions p.scene.locks.states (changed-leaves (state_of p) whole.0 f ino site attr)
+      → IsWhole (record p { scene = record (plain p.scene) { tree = changed f p.scene.tree ino } })
+  changed-whole f ino site attr = left-whole (changed f p.scene.tree ino) p.scene.sessions p.scene.locks.locks.states (changed-leaves (state_of p) whole.0 f ino site attr)
 
   pub birth-whole : (kind : Kind) (dir : ℕ) (name : List ℕ) (attr : Attr) → IsTree p.scene.tree → IsWhole (record p { scene = (with_birth (state_of p) kind dir name attr).scene })
   birth-whole kind dir name attr tree =
-      left-whole (with_new p.scene.tree kind dir name attr) p.scene.sessions (with_ino p.scene.locks (p.scene.tree.last + 1)).states (birth-leaves (state_of p) whole.0 kind dir name attr tree)
+      left-whole (with_new p.scene.tree kind dir name attr) p.scene.sessions (with_ino p.scene.locks.locks (p.scene.tree.last + 1)).states (birth-leaves (state_of p) whole.0 kind dir name attr tree)

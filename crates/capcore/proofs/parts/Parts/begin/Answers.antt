@@ -9,8 +9,8 @@ returns-in_err-apply_request-in-OfEntry-clause-whole c =
     let p : Parts = c.args.self.now in
     let whole = c.requires.may.whole in
     let err = c.in_err-apply_request-in-OfEntry.ensures.err in
-    let kept = subst (λ (s : Scene). StillKept p.scene s.table p.known.sets c.apply_request.new.known.sets) err c.apply_request.ensures.kept in
-    let all : IsWhole (record p { known = c.apply_request.new.known }) = (whole.0, whole.1, (still-all p.known.sets c.apply_request.new.known.sets p.scene whole.2.0 kept.known, kept.permitted whole.2.1)) in
+    let kept = subst (λ (s : Scene). StillKept (plain p.scene) s.table p.scene.table.kept c.apply_request.new.known.sets) err c.apply_request.ensures.kept in
+    let all : IsWhole (record p { known = c.apply_request.new.known }) = (whole.0, whole.1, (still-all p.scene.table.kept c.apply_request.new.known.sets (plain p.scene) whole.2.0 kept.known, kept.permitted whole.2.1)) in
     rw err (on_err _ all)
 
 pub returns-in_ok-apply_request-in-OfEntry-clause-begun : goal.returns-in_ok-apply_request-in-OfEntry-clause-begun
@@ -21,21 +21,21 @@ returns-in_ok-apply_request-in-OfEntry-clause-begun c =
     let e : Event = entry_event k.client k.ino request in
     let may : MayBegin p e = subst (λ (a : MovingEvent). MayBegin p (event_of a)) c.in-OfEntry.is c.requires.may in
     let known = c.apply_request.new.known in
-    let after : Scene = record p.scene { table = table_after p.scene k request } in
+    let after : Scene = record (plain p.scene) { table = table_after (plain p.scene) k request } in
     let ok : c.apply_request.new.scene ≡ after = c.in_ok-apply_request-in-OfEntry.ensures.ok in
     let q : Parts = record { scene = after; known = known; messages = p.messages } in
     let endings : Endings = record c.begin.new.self { changes = c.clear.new.self } in
     let old : State = state_of p in
     let requested : Effect = record { affected = Affected.Entry k; answer = Requested k request } in
-    let kept = subst (λ (s : Scene). StillKept p.scene s.table p.known.sets known.sets) ok c.apply_request.ensures.kept in
+    let kept = subst (λ (s : Scene). StillKept (plain p.scene) s.table p.scene.table.kept known.sets) ok c.apply_request.ensures.kept in
     let begun = c.in_ok-begin-in-OfEntry.ensures in
     let none = ap length c.clear.ensures.items in
     subst (λ (a : MovingEvent). HasBegun p (event_of a) requested (record q { scene = c.apply_request.new.scene }) endings) (sym c.in-OfEntry.is)
     (subst (λ (s : Scene). HasBegun p e requested (record q { scene = s }) endings) (sym ok)
     (one-begun p q endings e k may (effect old e) (ap (effect_unless old e) may.passed) (keeps-of_request old k request) (below-of_request old k request may.table may.passed)
     (sym (ap (λ (s : State). s.scene) (effect-affected old k.client k.ino request))) refl requested.affected requested.answer refl (sym (effect-answer old k.client k.ino request)) refl refl
-    (affects-of_request old k request may.table may.passed may.whole.0) (request-table old k request may.table may.passed) kept.known (kept.permitted may.whole.2.1) (request-less p.scene k request) may.order
-    (room-for c.begin.new.self endings.changes endings.judged c.waiting-waiting.result (length p.scene.locks.queue) begun.room (omega (arith, c.waiting-waiting.ensures.waiting)))
+    (affects-of_request old k request may.table may.passed may.whole.0) (request-table old k request may.table may.passed) kept.known (kept.permitted may.whole.2.1) (request-less (plain p.scene) k request) may.order
+    (room-for c.begin.new.self endings.changes endings.judged c.waiting-waiting.result (length p.scene.locks.locks.queue) begun.room (omega (arith, c.waiting-waiting.ensures.waiting)))
     (none-judged endings.judged after begun.judged)
-    (omega (arith, none, begun.places, c.clear.ensures.room, c.waiting-waiting.ensures.waiting), others-have_all p.known.sets known.sets old k request may.whole.0 may.whole.2.0 kept.known)
+    (omega (arith, none, begun.places, c.clear.ensures.room, c.waiting-waiting.ensures.waiting), others-have_all p.scene.table.kept known.sets old k request may.whole.0 may.whole.2.0 kept.known)
     may.whole.1 tt (changes-still endings.changes.items (view_of old) c.clear.ensures.items)))

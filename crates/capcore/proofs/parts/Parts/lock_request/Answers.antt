@@ -5,7 +5,7 @@ use Rattle.capcore.proofs.parts.Parts.lock_request.Goals as goal
 
 pub enqueue_tested-ticket-requires-clause-room : goal.enqueue_tested-ticket-requires-clause-room
 enqueue_tested-ticket-requires-clause-room c =
-    let s = c.args.self.now.scene in
+    let s = (plain c.args.self.now.scene) in
     let k : Holder = c.args.holder in
     let operation : Operation = operation_of c.args.operation in
     let free : rejection_of s (arrival_tests s k.client k.ino.0 operation) (operation_needs s k.client k.ino.0 operation) (waiting_tests s k.ino.0 operation) ≡ None =
@@ -39,27 +39,27 @@ returns-clause-begun c =
     let may = c.requires.may in
     let locks : LockMap = c.enqueue_tested-ticket.new.self in
     let ticket = c.enqueue_tested-ticket.result in
-    let q : Parts = record { scene = record p.scene { locks = locks }; known = p.known; messages = c.reserve.new.self } in
+    let q : Parts = record { scene = record (plain p.scene) { locks = locks }; known = p.known; messages = c.reserve.new.self } in
     let endings : Endings = record c.begin.new.self { changes = c.clear.new.self; judged = Some ticket } in
-    let queued : locks ≡ with_request p.scene.locks k.client k.ino operation = c.enqueue_tested-ticket.ensures.queued ∙ ap (with_request p.scene.locks k.client k.ino) c.in_ok-copy.ensures in
+    let queued : locks ≡ with_request p.scene.locks.locks k.client k.ino operation = c.enqueue_tested-ticket.ensures.queued ∙ ap (with_request p.scene.locks.locks k.client k.ino) c.in_ok-copy.ensures in
     let by_itself : direct (state_of p) e ≡ enqueues (state_of p) k.client k.ino operation = enqueuing-direct (state_of p) e k operation (operation-for k.client k.ino c.args.operation) may.passed in
-    let free : rejection_of p.scene (arrival_tests p.scene k.client k.ino.0 operation) (operation_needs p.scene k.client k.ino.0 operation) (waiting_tests p.scene k.ino.0 operation) ≡ None =
-    sym (enqueuing-rejection e k operation p.scene (operation-for k.client k.ino c.args.operation)) ∙ may.passed in
+    let free : rejection_of (plain p.scene) (arrival_tests (plain p.scene) k.client k.ino.0 operation) (operation_needs (plain p.scene) k.client k.ino.0 operation) (waiting_tests (plain p.scene) k.ino.0 operation) ≡ None =
+    sym (enqueuing-rejection e k operation (plain p.scene) (operation-for k.client k.ino c.args.operation)) ∙ may.passed in
     let next = c.enqueue_tested-ticket.ensures.ticket in
-    let queue : length locks.queue ≡ length p.scene.locks.queue + 1 =
-    ap (λ (l : LockMap). length l.queue) queued ∙ length-append p.scene.locks.queue (next_request p.scene.locks k.client k.ino operation ∷ []) in
-    let order : IsLockMap locks = subst IsLockMap (sym queued) (order-of_operation p.scene k operation may.order free) in
+    let queue : length locks.queue ≡ length p.scene.locks.locks.queue + 1 =
+    ap (λ (l : LockMap). length l.queue) queued ∙ length-append p.scene.locks.locks.queue (next_request p.scene.locks.locks k.client k.ino operation ∷ []) in
+    let order : IsLockMap locks = subst IsLockMap (sym queued) (order-of_operation (plain p.scene) k operation may.order free) in
     let begun = c.in_ok-begin.ensures in
     let none = ap length c.clear.ensures.items in
     let one = ap (λ (inos : InoSet). set.len inos) c.of.ensures ∙ one-counts k.ino.0 in
     let left = ap length c.reserve.ensures.items in
     one-begun p q endings e k may (enqueues (state_of p) k.client k.ino operation) by_itself (refl, refl) (λ count given. below-of_operation count (state_of p) k operation given)
-    (λ i. record p.scene { locks = queued i }) c.reserve.ensures.items
+    (λ i. record (plain p.scene) { locks = queued i }) c.reserve.ensures.items
     (Affected.Inodes c.of.result) (Awaited ticket) (ap set.contains c.of.ensures ∙ one-inode k.ino.0) (ap (λ n. Awaits (record { 0 = n })) next) refl (next, ap (λ (l : LockMap). l.last) queued)
-    (subst (λ (l : LockMap). AffectsOne k.ino.0 (state_of p) (record p.scene { locks = l })) (sym queued) (enqueuing-affects (state_of p) k operation may.whole.0 may.table free)) may.table
-    (still-there p.scene.table p.scene.table p.known.sets p.known.sets (λ j f there. ap is_some there) (λ j f there. refl)) may.whole.2.1 (alike-less p.scene.table p.scene.table (λ j f there. (f, there, refl))) order
+    (subst (λ (l : LockMap). AffectsOne k.ino.0 (state_of p) (record (plain p.scene) { locks = l })) (sym queued) (enqueuing-affects (state_of p) k operation may.whole.0 may.table free)) may.table
+    (still-there p.scene.table.entries p.scene.table.entries p.scene.table.kept p.scene.table.kept (λ j f there. ap is_some there) (λ j f there. refl)) may.whole.2.1 (alike-less p.scene.table.entries p.scene.table.entries (λ j f there. (f, there, refl))) order
     (room-for c.begin.new.self endings.changes (Some ticket) (c.waiting-waiting.result + 1) (length locks.queue) begun.room (omega (arith, queue, c.waiting-waiting.ensures.waiting)))
-    (judged_once p.scene k operation locks queued order free ticket next)
+    (judged_once (plain p.scene) k operation locks queued order free ticket next)
     (omega (arith, none, one, queue, begun.places, c.clear.ensures.room, c.waiting-waiting.ensures.waiting))
     (omega (arith, queue, left, c.in_default.ensures.ok, c.waiting-waiting.ensures.waiting))
     tt (changes-still endings.changes.items (view_of (state_of p)) c.clear.ensures.items)
