@@ -25,3 +25,4 @@ pub mod FirstServed
 pub mod KnownWants
 pub mod Verdicts
 pub mod Counted
+pub mod CountsStay
