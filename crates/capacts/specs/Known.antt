@@ -13,10 +13,6 @@ known_in sets k = unwrap_or (known_of sets k) no_caps
 abbrev pub AreKnown : KnownSets → Scene → Type 0
 AreKnown sets s = (k : Holder) (e : Entry) → entry_at s.table k ≡ Some e → known_of sets k ≡ Some (told_set s (record { holder = k; entry = e }))
 
--- something is kept of each entry, so that to keep another set of it takes no memory
-abbrev pub HaveRoom : KnownSets → Table → Type 0
-HaveRoom sets table = (k : Holder) (e : Entry) → entry_at table k ≡ Some e → IsSome (known_of sets k)
-
 -- ---- as an event leaves it
 
 -- of an entry that was there, the same is kept; of a new one something is

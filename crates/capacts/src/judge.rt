@@ -1,14 +1,14 @@
 //! What rejects a request: its tests and what grants say of the accesses that it needs.
 ghost use Rattle.std.specs.Prelude.{◌≡◌, []};
 ghost use Rattle.capbits.specs.Refusal.{first_failing};
-ghost use Rattle.caprules.specs.{Judge.{denial_of, rejection_of}, Operations.{operation_before, operation_needs, operation_after}};
+ghost use Rattle.caprules.specs.{Judge.{denial_of, rejection_of}, Lockmachine.Scene.{plain}, Operations.{operation_before, operation_needs, operation_after}};
 ghost use Rattle.caprules.specs.Operations as words;
 ghost use Rattle.capacts.specs.Operations.{operation_of};
 
 use crate::operations::OperationRef;
 use capbits::{Ino, Refusal};
 use capgrant::{Access, Verdict};
-use caprules::{Change, Rejection, KeptScene, verdict_on};
+use caprules::{Change, KeptScene, Rejection, verdict_on};
 use capspec::FsName;
 use captable::Holder;
 use inotree::{Setting, Tree};

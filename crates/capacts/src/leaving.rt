@@ -1,13 +1,13 @@
 //! What goes with a client's session where it ends.
 ghost use Rattle.std.specs.Prelude.{true, None, Some, ◌≡◌, ◌+◌, ◌≤◌, ◌++◌, length, map as each, vec_capacity};
 ghost use Rattle.captable.specs.{Calls.{without_client}, Table.{entry_at}, declared.entry.Entry.{Entry}, declared.entry.Holder.{Holder}};
-ghost use Rattle.caprules.specs.{Lockmachine.Counts.{AreCounted}, Lockmachine.Scene.{plain}, Lockmachine.Locks.{requests_of, without_requests_of}, Serving.{dropped_of}};
+ghost use Rattle.caprules.specs.{Lockmachine.Counts.{AreCounted}, Lockmachine.Locks.{requests_of, without_requests_of}, Serving.{dropped_of}};
 ghost use Rattle.capacts.specs.{Known.{sets_of}, Left.{is_end}};
 ghost use Rattle.capacts.specs.Left as words;
 
 use capbits::{CapSet, ClientId};
 use caprules::due_endings::remove_to;
-use caprules::{Ended, Locks, Outcome, KeptScene};
+use caprules::{Ended, KeptScene, Locks, Outcome};
 use capspec::Grants;
 use captable::CapTable;
 use sessiontab::Status;
@@ -39,7 +39,7 @@ pub fn leave(
     ensures known { (k : Holder) (e : Entry) → entry_at scene.new.table.entries k ≡ Some e → sets_of scene.new.table.kept k ≡ sets_of scene.old.table.kept k }
     ensures counted { AreCounted scene.old.table.entries scene.old.locks → AreCounted scene.new.table.entries scene.new.locks }
     ensures locks { scene.new.locks.locks ≡ words.locks_left (is_end change.entry) scene.old.locks.locks client }
-    ensures rest { plain scene.new ≡ record (plain scene.old) { table = scene.new.table.entries; locks = scene.new.locks.locks } }
+    ensures rest { scene.new ≡ record scene.old { table = scene.new.table; locks = scene.new.locks } }
     ensures messages { messages.new.items ≡ words.messages_left (is_end change.entry) messages.old.items client }
     ensures left { vec_capacity messages.new ≡ vec_capacity messages.old }
     ensures dropped { dropped.new.items ≡ dropped.old.items ++ words.dropped_by (is_end change.entry) scene.old.locks.locks client }

@@ -16,9 +16,9 @@ pub mod serving;
 pub mod stop;
 
 pub use caprules::{
-    Bytes, Change, ChangeList, Ended, EndedList, EndedTickets, Event, InodeLocks, Locks, Message,
-    MessageList, Move, OpenMode, Operation, Outcome, PartValues, Policy, Question, Rejection,
-    Reply, Request, Row, KeptScene, Unknown, View, ViewChange, Wants, copy_of_messages,
+    Bytes, Change, ChangeList, Ended, EndedList, EndedTickets, Event, InodeLocks, KeptScene, Locks,
+    Message, MessageList, Move, OpenMode, Operation, Outcome, PartValues, Policy, Question,
+    Rejection, Reply, Request, Row, Unknown, View, ViewChange, Wants, copy_of_messages,
     copy_of_outcome, copy_of_reply, due_endings, permitted, wants_on,
 };
 pub use operations::{OperationRef, copy_of_operation};

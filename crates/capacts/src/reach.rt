@@ -5,7 +5,7 @@ ghost use Rattle.captable.specs.Calls.{is_of_inode};
 ghost use Rattle.capacts.specs.{Reach.{AreWalked, Covers, Widens}, Served.{is_rename}};
 
 use capbits::Ino;
-use caprules::{ChangeList, Operation, Request, KeptScene};
+use caprules::{ChangeList, KeptScene, Operation, Request};
 use captable::CapTable;
 use inotree::{InoSet, NonEmptyInoSet};
 use std::alloc::AllocError;

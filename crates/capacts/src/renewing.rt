@@ -2,12 +2,12 @@
 ghost use Rattle.std.specs.Prelude.{◌≡◌, ◌==◌, ◌&&◌};
 ghost use Rattle.inotree.specs.Tree.{Nodes};
 ghost use Rattle.captable.specs.declared.entry.Holder.{Holder};
-ghost use Rattle.caprules.specs.{Capnotes.Changing.{tree_changed}, Lockmachine.Policy.{ArePermitted, permitted}};
+ghost use Rattle.caprules.specs.{Capnotes.Changing.{tree_changed}, Lockmachine.Policy.{ArePermitted, permitted}, Lockmachine.Scene.{plain}};
 ghost use Rattle.capacts.specs.{Known.{known_of}, Renewing.{Renews, ServedFrom, has_entry}};
 
 use capbits::{ClientId, Ino};
 use caprules::{
-    Change, Operation, Outcome, Policy, Request, KeptScene, permitted, permitted_on, sets_attr,
+    Change, KeptScene, Operation, Outcome, Policy, Request, permitted, permitted_on, sets_attr,
 };
 use captable::CapTable;
 use inotree::{Names, NonEmptyInoSet};
@@ -53,12 +53,7 @@ pub fn renew_served(
 }
 
 /// After the inode was changed so, keeps anew what is permitted on it, where that may have changed.
-pub fn renew_changed(
-    policy: &Policy<'_>,
-    table: &mut CapTable,
-    ino: Ino,
-    change: &Change,
-)
+pub fn renew_changed(policy: &Policy<'_>, table: &mut CapTable, ino: Ino, change: &Change)
     ensures permitted { (tree : Nodes) → policy.now.tree.now ≡ tree_changed tree ino.0 change.now
         → ArePermitted table.old.kept policy.now.fs.now tree policy.now.sessions.now table.old.entries
         → ArePermitted table.new.kept policy.now.fs.now policy.now.tree.now policy.now.sessions.now table.old.entries }
@@ -88,17 +83,15 @@ fn renew_held(policy: &Policy<'_>, table: &mut CapTable, ino: Ino)
         (permitted policy.now.fs.now policy.now.tree.now policy.now.sessions.now) table.old.kept table.new.kept }
     ensures entries { table.new ≡ record table.old { kept = table.new.kept } }
 {
-    let mut walk = table.holders_of(ino);
     // The names from the root are looked up once, and not for each entry.
     let mut names = Names::new();
     let path = policy.tree.read_path(ino, &mut names).then_some(&names);
     let node = policy.tree.node(ino);
-    let mut place: usize = 0;
-    'rows: while let Some(row) = walk.next() {
-        let client = row.holder.client;
-        let permitted = permitted_on(policy.fs, policy.sessions, client, path, node);
-        known.permit(row.holder, permitted, place);
-        place = place.wrapping_add(1);
+    let mut next = table.first_on(ino);
+    'holders: while let Some(own) = next {
+        let permitted = permitted_on(policy.fs, policy.sessions, own.client, path, node);
+        table.keep_permitted(own.client, own.ino, permitted);
+        next = table.next_on(own.client, own.ino);
     }
 }
 
@@ -108,10 +101,10 @@ pub fn renew_client(policy: &Policy<'_>, table: &mut CapTable, client: ClientId)
         (permitted policy.now.fs.now policy.now.tree.now policy.now.sessions.now) table.old.kept table.new.kept }
     ensures entries { table.new ≡ record table.old { kept = table.new.kept } }
 {
-    let mut walk = table.entries_of(client);
-    'rows: while let Some(row) = walk.next() {
-        let own = row.holder;
+    let mut next = table.first_of(client);
+    'holders: while let Some(own) = next {
         let permitted = permitted(policy.fs, policy.tree, policy.sessions, own.client, own.ino);
-        known.permit(own, permitted, 0);
+        table.keep_permitted(own.client, own.ino, permitted);
+        next = table.next_of(own.client, own.ino);
     }
 }

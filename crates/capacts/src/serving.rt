@@ -2,7 +2,7 @@
 ghost use Rattle.std.specs.Prelude.{◌≡◌, None, Some, true, false, IfOk, OnOk, OnErr};
 ghost use Rattle.capbits.specs.Refusal.{first_failing};
 ghost use Rattle.captable.specs.Table.{Table};
-ghost use Rattle.caprules.specs.{Capnotes.Changing.{tree_after, tree_with, tree_changed}, Lockmachine.Locks.{LockMap}, Lockmachine.Scene.{scene as scene_of}, Lockmachine.Scene.{Scene}, Serving.{MayEndAs, judged_again, rejection_outcome, takes_memory, values_outcome}};
+ghost use Rattle.caprules.specs.{Capnotes.Changing.{tree_after, tree_with, tree_changed}, Lockmachine.Locks.{LockMap}, Lockmachine.Scene.{Scene, plain, scene as scene_of}, Serving.{MayEndAs, judged_again, rejection_outcome, takes_memory, values_outcome}};
 ghost use Rattle.caprules.specs.Lockmachine.declared.request.Operation.TheVariants as operation_kind;
 ghost use Rattle.caprules.specs.Serving as words;
 ghost use Rattle.capacts.specs.Served.{call_tests, change_call_tests, is_rename};
@@ -10,7 +10,9 @@ ghost use Rattle.capacts.specs.Served.{call_tests, change_call_tests, is_rename}
 use crate::judge::operation_rejection;
 use crate::operations::operation_ref;
 use capbits::{Ino, Part};
-use caprules::{Change, Operation, Outcome, PartValues, Rejection, Request, KeptScene, copy_of_rules};
+use caprules::{
+    Change, KeptScene, Operation, Outcome, PartValues, Rejection, Request, copy_of_rules,
+};
 use captable::Holder;
 use inotree::{Node, Tree};
 use std::alloc::{AllocError, Global};
@@ -38,7 +40,7 @@ pub fn serve(
         → MayEndAs (scene_of scene.old.fs scene.old.tree scene.old.sessions table locks) request.now result.outcome }
     ensures for_history { result.for_history ≡ result.outcome }
     ensures tree { scene.new.tree ≡ tree_after scene.old.tree request.now result.outcome }
-    ensures rest { plain scene.new ≡ record (plain scene.old) { tree = scene.new.tree } }
+    ensures rest { scene.new ≡ record scene.old { tree = scene.new.tree } }
     ensures stays { room ≡ false → scene.new.tree ≡ scene.old.tree }
 {
     if !judged {

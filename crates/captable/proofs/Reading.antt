@@ -11,9 +11,10 @@ use Rattle.capbits.specs.declared.refusal.Refusal.TheVariants.{Limit}
 use Rattle.capbits.specs.Refusal.{first_failing, refused_if}
 use Rattle.cap_arena.specs.Walks.{key_after}
 use Rattle.cap_arena.specs.Calls.{add_tests}
-use Rattle.cap_arena.specs.Lists.{Lists, OfInode, OfClient, OfRecall, node_at, count, keys}
+use Rattle.cap_arena.specs.Lists.{Lists, ListName, OfInode, OfClient, OfRecall, node_at, count, keys}
 use Rattle.cap_arena.proofs.Counts.{length-recall}
 use Rattle.captable.specs.declared.entry.Holder.{Holder}
+use Rattle.captable.specs.declared.entry.EntryRow.{EntryRow}
 use Rattle.captable.specs.declared.entry.Slot.{Slot}
 use Rattle.captable.specs.Table.{is_row_of, entry_of, entry_at, holders_of_rows}
 use Rattle.captable.specs.Calls.{newer_in, entries_on, is_of_client, is_of_inode}
@@ -30,10 +31,6 @@ use Rattle.captable.proofs.Keeping.{held, free, is_in, all_have}
 length-mapped : {X Y : Type 0} (f : X → Y) (xs : List X) → length (map f xs) ≡ length xs
 length-mapped f [] = refl
 length-mapped f (x ∷ xs) = ap suc (length-mapped f xs)
-
-first-mapped : (ns : List (Node Slot)) → slice_get (map holder_of ns) 0 ≡ first_holder (map row_of ns)
-first-mapped [] = refl
-first-mapped (n ∷ ns) = refl
 
 module _ (t : Lists Slot) (made : ℕ) (is : IsLinked t made) where
   -- the row of a holder is found among those on its inode
@@ -61,37 +58,47 @@ module _ (t : Lists Slot) (made : ℕ) (is : IsLinked t made) where
       let o = held t made is h key found in
       newer-held (node_at t) h key o.0 o.1 (keys t OfRecall) (all_have t is.sound OfRecall)
 
-  -- the holder of a client's first node
-  pub first-found : (client : ClientId) (o : Option ℕ) → o ≡ slice_get (keys t (OfClient client)) 0
-      → option_and_then (λ k. option_map holder_of (node_at t k)) o ≡ first_holder (filter (is_of_client client) (table_of t made).rows)
-  first-found client o first =
-      ap (λ o. option_and_then (λ k. option_map holder_of (node_at t k)) o) first ∙ sym (first-held (node_at t) (keys t (OfClient client)) (all_have t is.sound (OfClient client)))
-      ∙ first-mapped (nodes_in t (OfClient client)) ∙ ap first_holder (is.clients client)
+  -- ---- the holders of a list's rows
 
-  -- the holders on an inode are those of its nodes
-  holders-on : (ino : Ino) → map holder_of (nodes_in t (OfInode ino)) ≡ holders_of_rows (entries_on (table_of t made) ino)
-  holders-on ino = sym (of_rows (nodes_in t (OfInode ino))) ∙ ap holders_of_rows (is.inodes ino)
-    where
-      of_rows : (ns : List (Node Slot)) → holders_of_rows (map row_of ns) ≡ map holder_of ns
-      of_rows [] = refl
-      of_rows (n ∷ ns) = ap (λ hs. holder_of n ∷ hs) (of_rows ns)
+  module _ (name : ListName) (rows : List EntryRow) (are : map row_of (nodes_in t name) ≡ rows) where
+    holders-in : map holder_of (nodes_in t name) ≡ holders_of_rows rows
+    holders-in = sym (of_rows (nodes_in t name)) ∙ ap holders_of_rows are
+      where
+        of_rows : (ns : List (Node Slot)) → holders_of_rows (map row_of ns) ≡ map holder_of ns
+        of_rows [] = refl
+        of_rows (n ∷ ns) = ap (λ hs. holder_of n ∷ hs) (of_rows ns)
 
-  pub first-on : (ino : Ino) (o : Option ℕ) → o ≡ slice_get (keys t (OfInode ino)) 0
-      → option_and_then (λ k. option_map holder_of (node_at t k)) o ≡ slice_get (holders_of_rows (entries_on (table_of t made) ino)) 0
-  first-on ino o first =
-      ap (λ o. option_and_then (λ k. option_map holder_of (node_at t k)) o) first ∙ sym (first-held (node_at t) (keys t (OfInode ino)) (all_have t is.sound (OfInode ino)))
-      ∙ ap (λ hs. slice_get hs 0) (holders-on ino)
+    -- that of the first node
+    pub first-in : (o : Option ℕ) → o ≡ slice_get (keys t name) 0 → option_and_then (λ k. option_map holder_of (node_at t k)) o ≡ first_holder rows
+    first-in o first =
+        ap (λ o. option_and_then (λ k. option_map holder_of (node_at t k)) o) first ∙ sym (first-held (node_at t) (keys t name) (all_have t is.sound name))
+        ∙ ap (λ hs. slice_get hs 0) holders-in
 
+    next-in : (h : Holder) (key : ℕ) → IsKeyOf t h key → newer_in (holders_of_rows rows) h ≡ option_and_then (λ k. option_map holder_of (node_at t k)) (key_after (keys t name) key)
+    next-in h key found =
+        let o = held t made is h key found in
+        ap (λ hs. newer_in hs h) (sym holders-in) ∙ newer-held (node_at t) h key o.0 o.1 (keys t name) (all_have t is.sound name)
+
+    -- where the holder has no node
+    pub none-next : (h : Holder) → ((key : ℕ) → is_key_of t h key ≡ false) → newer_in (holders_of_rows rows) h ≡ None
+    none-next h none = ap (λ hs. newer_in hs h) (sym holders-in) ∙ newer-free (node_at t) h (free t h none) (keys t name)
+
+  -- the holder after one, in the list of its node
   pub next-on : (h : Holder) (key : ℕ) → IsKeyOf t h key → newer_in (holders_of_rows (entries_on (table_of t made) h.ino)) h
       ≡ option_and_then (λ k. option_map holder_of (node_at t k)) (option_and_then (λ (node : Node Slot). key_after (keys t (OfInode node.ino)) key) (node_at t key))
   next-on h key found =
       let o = held t made is h key found in
-      ap (λ hs. newer_in hs h) (sym (holders-on h.ino)) ∙ newer-held (node_at t) h key o.0 o.1 (keys t (OfInode h.ino)) (all_have t is.sound (OfInode h.ino))
+      next-in (OfInode h.ino) (entries_on (table_of t made) h.ino) (is.inodes h.ino) h key found
       ∙ sym (ap (λ q. option_and_then (λ k. option_map holder_of (node_at t k)) (option_and_then (λ (node : Node Slot). key_after (keys t (OfInode node.ino)) key) q)) o.1.there
       ∙ ap (λ (k : Holder). option_and_then (λ q. option_map holder_of (node_at t q)) (key_after (keys t (OfInode k.ino)) key)) o.2)
 
-  pub none-next : (h : Holder) → ((key : ℕ) → is_key_of t h key ≡ false) → newer_in (holders_of_rows (entries_on (table_of t made) h.ino)) h ≡ None
-  none-next h none = ap (λ hs. newer_in hs h) (sym (holders-on h.ino)) ∙ newer-free (node_at t) h (free t h none) (keys t (OfInode h.ino))
+  pub next-of : (h : Holder) (key : ℕ) → IsKeyOf t h key → newer_in (holders_of_rows (filter (is_of_client h.client) (table_of t made).rows)) h
+      ≡ option_and_then (λ k. option_map holder_of (node_at t k)) (option_and_then (λ (node : Node Slot). key_after (keys t (OfClient node.client)) key) (node_at t key))
+  next-of h key found =
+      let o = held t made is h key found in
+      next-in (OfClient h.client) (filter (is_of_client h.client) (table_of t made).rows) (is.clients h.client) h key found
+      ∙ sym (ap (λ q. option_and_then (λ k. option_map holder_of (node_at t k)) (option_and_then (λ (node : Node Slot). key_after (keys t (OfClient node.client)) key) q)) o.1.there
+      ∙ ap (λ (k : Holder). option_and_then (λ q. option_map holder_of (node_at t q)) (key_after (keys t (OfClient k.client)) key)) o.2)
 
   pub newer-none : (h : Holder) → ((key : ℕ) → is_key_of t h key ≡ false) → newer_in (table_of t made).recall h ≡ None
   newer-none h none = newer-free (node_at t) h (free t h none) (keys t OfRecall)

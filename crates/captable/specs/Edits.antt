@@ -1,8 +1,12 @@
--- A change of an entry.
+-- A change of an entry, and of what is kept beside it.
 use Rattle.std.specs.Prelude.{Bool, true, false}
 use Rattle.captable.specs.declared.entry.Edit.{Edit}
 use Rattle.captable.specs.declared.entry.Edit.TheVariants.{Want, Issue, Ack, Release, Renumber, IssueNumbered, Tell, Ask, OweSize}
 use Rattle.captable.specs.declared.entry.Entry.{Entry}
+use Rattle.captable.specs.declared.entry.Keeping.{Keeping}
+use Rattle.captable.specs.declared.entry.Keeping.TheVariants.{Both, Told, Permitted}
+use Rattle.captable.specs.declared.entry.Sets.{Sets}
+use Rattle.captable.specs.Kept.{permitting, telling}
 use Rattle.captable.specs.Calls.{wanting, issued, without_acked, without_released, renumbered, with_told, with_asked, with_size_due}
 
 -- what becomes of the entry
@@ -22,3 +26,9 @@ abbrev pub is_numbering : Edit → Bool
 is_numbering (Renumber before after) = true
 is_numbering (IssueNumbered caps before after) = true
 is_numbering _ = false
+
+-- what becomes of the sets beside it
+abbrev pub kept_as : Keeping → Sets → Sets
+kept_as (Both sets) = λ _. sets
+kept_as (Told caps) = telling caps
+kept_as (Permitted caps) = permitting caps

@@ -1,5 +1,5 @@
 -- The entries that a walk gives.
-use Rattle.std.specs.Prelude.{◌≡◌, ℕ, true, Option, Some, None, List, [], ◌∷◌, map, nat_eq, if◌then◌else◌}
+use Rattle.std.specs.Prelude.{◌≡◌, ℕ, true, Option, Some, None, List, [], ◌∷◌, map, nat_eq, slice_get, if◌then◌else◌}
 use Rattle.cap_arena.specs.Walks.{is_among}
 use Rattle.cap_arena.specs.Lists.{Lists, ListName, OfInode, OfClient, node_at, keys}
 use Rattle.captable.specs.declared.entry.Holder.{Holder}
@@ -7,6 +7,7 @@ use Rattle.captable.specs.declared.entry.EntryRow.{EntryRow}
 use Rattle.captable.specs.declared.entry.Slot.{Slot}
 use Rattle.captable.specs.declared.walk.Sought.{Sought}
 use Rattle.captable.specs.declared.walk.Sought.TheVariants as by
+use Rattle.captable.specs.Table.{holders_of_rows}
 use Rattle.captable.specs.Nodes.{row_of, nodes_at}
 
 -- the list that is walked
@@ -38,5 +39,4 @@ IsPlaceOf lists name place = IsPlaceIn (keys lists name) place
 
 -- the holder of the first row
 abbrev pub first_holder : List EntryRow → Option Holder
-first_holder [] = None
-first_holder (row ∷ rows) = Some row.holder
+first_holder rows = slice_get (holders_of_rows rows) 0

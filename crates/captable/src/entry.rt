@@ -2,7 +2,7 @@
 
 ghost use Rattle.std.specs.Prelude.{◌≡◌, ◌<◌, ◌^◌, ◌-◌, true};
 ghost use Rattle.captable.specs.Calls as words;
-ghost use Rattle.captable.specs.Edits.{edited, is_numbering};
+ghost use Rattle.captable.specs.Edits.{edited, is_numbering, kept_as};
 ghost use Rattle.captable.specs.Kept.{no_sets};
 
 use capbits::{CapSet, ClientId, Ino};
@@ -96,6 +96,17 @@ pub(crate) enum Edit {
     OweSize(bool),
 }
 
+// A change of what is kept beside an entry.
+#[derive(Clone, Copy)]
+pub(crate) enum Keeping {
+    // Both sets.
+    Both(Sets),
+    // What the client is to know of.
+    Told(CapSet),
+    // What it is permitted to hold.
+    Permitted(CapSet),
+}
+
 impl Sets {
     // Empty sets.
     pub(crate) fn none() -> Sets
@@ -104,6 +115,17 @@ impl Sets {
         Sets {
             told: CapSet::empty(),
             permitted: CapSet::empty(),
+        }
+    }
+
+    // The sets, changed.
+    pub(crate) fn kept(self, keeping: Keeping) -> Sets
+        ensures { result ≡ kept_as keeping self }
+    {
+        match keeping {
+            Keeping::Both(sets) => sets,
+            Keeping::Told(told) => Sets { told, ..self },
+            Keeping::Permitted(permitted) => Sets { permitted, ..self },
         }
     }
 }

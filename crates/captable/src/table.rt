@@ -1,7 +1,7 @@
 //! The table of entries.
-ghost use Rattle.std.specs.Prelude.{◌≡◌, ◌<◌, ◌^◌, ◌-◌, true, false, [], ◌∷◌, IfSome, IfOk, OnOk, OnErr, None, length, slice_get, take, filter};
+ghost use Rattle.std.specs.Prelude.{◌≡◌, ◌<◌, ◌^◌, ◌-◌, true, false, [], ◌∷◌, IfSome, IfOk, OnOk, OnErr, None, length, slice_get, take, filter, unwrap_or};
 
-use crate::entry::{Edit, Entry, Holder, Sets, Slot};
+use crate::entry::{Edit, Entry, Holder, Keeping, Sets, Slot};
 use crate::holders::Holders;
 use crate::nodes::{
     add_node, first_holders, holder_at, keep_sets, key_of, remove_node, set_entry, touch_node,
@@ -93,7 +93,7 @@ impl CapTable {
     ghost use Rattle.captable.specs.Many.{changed_by, asking};
     ghost use Rattle.capbits.specs.Refusal.{first_failing};
     ghost use Rattle.captable.specs.Tests.{open_tests, open_entry_tests, entry_test, ack_tests, release_tests, test_at};
-    ghost use Rattle.captable.specs.Edits.{edited, is_numbering};
+    ghost use Rattle.captable.specs.Edits.{edited, is_numbering, kept_as};
     ghost use Rattle.captable.specs.Calls.{wanting, issued, has_pin, renumbered, with_told, with_asked, with_size_due, newer_in, touched, recalled, entries_on, is_of_client, is_of_inode, is_due};
 
     /// A table without entries, of which none was made yet. No clause can say that the memory for it is there.
@@ -441,14 +441,25 @@ impl CapTable {
         Some(self.kept(client, ino)?.permitted)
     }
 
+    /// What is kept beside the client's entry on the inode, guessed to stand at a place, as for `find_near`; empty sets where it has
+    /// no entry. If it stands there, it is not searched for.
+    pub fn kept_near(&self, client: ClientId, ino: Ino, place: usize) -> Sets
+        ensures { result ≡ unwrap_or (sets_beside self.now.kept (holder client ino)) words.no_sets }
+    {
+        if let Some(node) = self.lists.get(place) {
+            if node.client.0 == client.0 && node.ino.0 == ino.0 {
+                return node.value.sets;
+            }
+        }
+        self.kept(client, ino).unwrap_or(Sets::none())
+    }
+
     /// Keeps this beside the client's entry on the inode, from now on, as what it is permitted to hold. Where it has no entry,
     /// nothing happens. It takes no memory.
     pub fn keep_permitted(&mut self, client: ClientId, ino: Ino, permitted: CapSet)
         ensures { self.new ≡ words.with_kept self.old (holder client ino) (permitting permitted) }
     {
-        if let Some(kept) = self.kept(client, ino) {
-            self.keep(client, ino, Sets { permitted, ..kept });
-        }
+        self.keep_as(Holder { client, ino }, Keeping::Permitted(permitted));
     }
 
     /// Keeps this beside the client's entry on the inode, from now on, as what it is to know of. Where it has no entry, nothing
@@ -456,9 +467,7 @@ impl CapTable {
     pub fn keep_told(&mut self, client: ClientId, ino: Ino, told: CapSet)
         ensures { self.new ≡ words.with_kept self.old (holder client ino) (telling told) }
     {
-        if let Some(kept) = self.kept(client, ino) {
-            self.keep(client, ino, Sets { told, ..kept });
-        }
+        self.keep_as(Holder { client, ino }, Keeping::Told(told));
     }
 
     /// Keeps these sets beside the client's entry on the inode from now on. Where it has no entry, nothing happens. It takes no
@@ -466,7 +475,18 @@ impl CapTable {
     pub fn keep(&mut self, client: ClientId, ino: Ino, sets: Sets)
         ensures { self.new ≡ words.with_kept self.old (holder client ino) (λ _. sets) }
     {
-        if let Some(key) = key_of(&self.lists, Holder { client, ino }, self.near) {
+        self.keep_as(Holder { client, ino }, Keeping::Both(sets));
+    }
+
+    // Changes what is kept beside the holder's entry, where it has one, by one search. It is looked at first the next time.
+    fn keep_as(&mut self, holder: Holder, keeping: Keeping)
+        ensures { self.new ≡ words.with_kept self.old holder (kept_as keeping) }
+    {
+        if let Some(key) = key_of(&self.lists, holder, self.near) {
+            let Some(node) = self.lists.get(key) else {
+                unreachable!()
+            };
+            let sets = node.value.sets.kept(keeping);
             keep_sets(&mut self.lists, key, sets);
             self.near = key;
         }
@@ -475,7 +495,7 @@ impl CapTable {
     /// The first holder on the inode, in the order of making. With `next_on` a walk over them one by one, in which what is kept may
     /// change.
     pub fn first_on(&self, ino: Ino) -> Option<Holder>
-        ensures first { result ≡ slice_get (holders_of_rows (entries_on self.now.entries ino)) 0 }
+        ensures first { result ≡ first_holder (entries_on self.now.entries ino) }
         ensures sound { IsTable self.now.entries }
     {
         let key = self.lists.first_of_ino(ino)?;
@@ -489,6 +509,27 @@ impl CapTable {
     {
         let key = key_of(&self.lists, Holder { client, ino }, self.near)?;
         let next = self.lists.next_of_ino(key)?;
+        holder_at(&self.lists, next)
+    }
+
+    /// The holder of the client's first entry, in the order of making. With `next_of` a walk over them one by one, in which what is kept
+    /// may change.
+    pub fn first_of(&self, client: ClientId) -> Option<Holder>
+        ensures first { result ≡ first_holder (filter (is_of_client client) self.now.entries.rows) }
+        ensures sound { IsTable self.now.entries }
+        ensures beside { AreBeside self.now }
+    {
+        let key = self.lists.first_of_client(client)?;
+        holder_at(&self.lists, key)
+    }
+
+    /// The holder of the client's next entry, in the order of making; none if that on this inode is its last, or it has none there.
+    pub fn next_of(&self, client: ClientId, ino: Ino) -> Option<Holder>
+        ensures after { result ≡ newer_in (holders_of_rows (filter (is_of_client client) self.now.entries.rows)) (holder client ino) }
+        ensures sound { IsTable self.now.entries }
+    {
+        let key = key_of(&self.lists, Holder { client, ino }, self.near)?;
+        let next = self.lists.next_of_client(key)?;
         holder_at(&self.lists, next)
     }
 
@@ -551,16 +592,6 @@ impl CapTable {
             // Where all entries of a client go, this is the one that goes next.
             self.near = next.unwrap_or(0);
         }
-    }
-
-    // The holder of the client's first entry.
-    fn first_of(&self, client: ClientId) -> Option<Holder>
-        ensures first { result ≡ first_holder (filter (is_of_client client) self.now.entries.rows) }
-        ensures sound { IsTable self.now.entries }
-        ensures beside { AreBeside self.now }
-    {
-        let key = self.lists.first_of_client(client)?;
-        holder_at(&self.lists, key)
     }
 
     /// All entries of the client go, from both orders.

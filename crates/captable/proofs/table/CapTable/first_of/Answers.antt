@@ -1,22 +1,24 @@
 use Rattle.std.proofs.Common.{◌∙◌, sym, ap, subst, filter}
 use Rattle.std.specs.Option.{option_map, option_and_then}
-use Rattle.cap_arena.specs.Lists.{node_at}
+use Rattle.cap_arena.specs.Lists.{OfClient, node_at}
 use Rattle.captable.specs.Table.{Table}
 use Rattle.captable.specs.Calls.{is_of_client}
 use Rattle.captable.specs.Kept.{AreBeside}
-use Rattle.captable.specs.Nodes.{holder_of}
+use Rattle.captable.specs.Nodes.{holder_of, table_of}
 use Rattle.captable.specs.Walks.{first_holder}
 use Rattle.captable.proofs.Kept.{are_beside}
-use Rattle.captable.proofs.Reading.{first-found}
+use Rattle.captable.proofs.Reading.{first-in}
 use Rattle.captable.proofs.Beside.{entries_are}
 use Rattle.captable.proofs.table.CapTable.first_of.Goals as goal
 
 pub returns-clause-first : goal.returns-clause-first
 returns-clause-first c =
     let t = c.self.inside.lists in
+    let is = c.self.invariant.0 in
     c.holder_at.ensures
     ∙ ap (λ o. option_and_then (λ k. option_map holder_of (node_at t k)) o) (sym c.in_ok-key.was)
-    ∙ first-found t c.self.inside.made c.self.invariant.0 c.args.client c.first_of_client.result c.first_of_client.ensures.first
+    ∙ first-in t c.self.inside.made is (OfClient c.args.client) (filter (is_of_client c.args.client) (table_of t c.self.inside.made).rows) (is.clients c.args.client)
+    c.first_of_client.result c.first_of_client.ensures.first
     ∙ ap (λ (u : Table). first_holder (filter (is_of_client c.args.client) u.rows)) (entries_are c.self.view_is)
 
 pub returns-in_err-key-clause-beside : goal.returns-in_err-key-clause-beside

@@ -1,9 +1,9 @@
 use Rattle.std.proofs.Common.{◌∙◌, sym, ap}
 use Rattle.std.specs.Option.{option_map, option_and_then}
-use Rattle.cap_arena.specs.Lists.{node_at}
+use Rattle.cap_arena.specs.Lists.{OfInode, node_at}
 use Rattle.captable.specs.Table.{Table, holder, holders_of_rows}
 use Rattle.captable.specs.Calls.{newer_in, entries_on}
-use Rattle.captable.specs.Nodes.{holder_of}
+use Rattle.captable.specs.Nodes.{holder_of, table_of}
 use Rattle.captable.proofs.Reading.{next-on, none-next}
 use Rattle.captable.proofs.Beside.{entries_are}
 use Rattle.captable.proofs.table.CapTable.next_on.Goals as goal
@@ -11,7 +11,9 @@ use Rattle.captable.proofs.table.CapTable.next_on.Goals as goal
 pub returns-in_err-key-clause-after : goal.returns-in_err-key-clause-after
 returns-in_err-key-clause-after c =
     let h = holder c.args.client c.args.ino in
-    c.from_residual.ensures ∙ sym (none-next c.self.inside.lists c.self.inside.made c.self.invariant.0 h c.in_err-key.ensures.none)
+    let t = c.self.inside.lists in
+    let is = c.self.invariant.0 in
+    c.from_residual.ensures ∙ sym (none-next t c.self.inside.made is (OfInode h.ino) (entries_on (table_of t c.self.inside.made) h.ino) (is.inodes h.ino) h c.in_err-key.ensures.none)
     ∙ ap (λ (u : Table). newer_in (holders_of_rows (entries_on u c.args.ino)) h) (entries_are c.self.view_is)
 
 pub returns-in_err-next-clause-after : goal.returns-in_err-next-clause-after
