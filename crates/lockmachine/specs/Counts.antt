@@ -1,5 +1,5 @@
 -- The locks and the queue as they are kept: with a count beside each lock of how many clients its gather waits for.
-use Rattle.std.specs.Prelude.{◌≡◌, ◌==◌, ◌-◌, ◌&&◌, ℕ, Bool, false, not, Unit, Option, Some, None, if◌then◌else◌}
+use Rattle.std.specs.Prelude.{◌≡◌, ◌==◌, ◌-◌, ◌&&◌, ℕ, Bool, false, not, Option, Some, None, if◌then◌else◌}
 use Rattle.std.specs.FinMap as map
 use Rattle.std.specs.Option.{option_map_or}
 use Rattle.capbits.specs.declared.cap.Part.{Part}
@@ -9,7 +9,7 @@ use Rattle.locktable.specs.declared.states.LockState.{LockState}
 use Rattle.locktable.specs.declared.states.LockState.TheVariants.{Stable, Gather}
 use Rattle.captable.specs.Table.{Table}
 use Rattle.captable.specs.declared.entry.EntryRow.{EntryRow}
-use Rattle.onelock.specs.Held.{has_outside, holders_outside}
+pub use Rattle.onelock.specs.Held.{has_outside, holders_outside}
 use Rattle.onelock.specs.Lock.{LockId, ends_by_count}
 use Rattle.lockmachine.specs.Inodes.{CountMap, count_in, with_count_in, one_less_in, no_counts}
 use Rattle.lockmachine.specs.Locks as words
