@@ -17,10 +17,11 @@ use Rattle.captable.specs.Calls.{entries_on}
 use Rattle.onelock.proofs.Counts.{none-any}
 use Rattle.onelock.specs.Held.{has_outside, holders_outside}
 use Rattle.onelock.specs.Lock.{LockId, ends_by_count, may_end_in}
-use Rattle.lockmachine.specs.declared.states.Counts.{Counts}
+use Rattle.onelock.specs.declared.counts.Counts.{Counts}
 use Rattle.lockmachine.specs.declared.states.InodeLocks.{InodeLocks}
 use Rattle.lockmachine.specs.Counts.{CountedLocks, IsCounted, AreCountedAt, AreCounted, count_at, count_of, ends_by, with_count}
-use Rattle.lockmachine.specs.Inodes.{CountMap, HaveCounts, count_in, with_count_in, lock_in}
+use Rattle.onelock.specs.Counts.{count_in, with_count_in}
+use Rattle.lockmachine.specs.Inodes.{CountMap, HaveCounts, lock_in}
 use Rattle.lockmachine.specs.Requests.{same_part}
 use Rattle.lockmachine.specs.Locks.{LockMap, lock_at, with_lock}
 use Rattle.lockmachine.specs.Moves.{may_end_by, parts, coming_state, moved}

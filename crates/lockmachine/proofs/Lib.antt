@@ -22,7 +22,7 @@ pub mod Turns
 pub mod Alone
 pub mod ByLock
 pub mod FirstServed
-pub mod KnownWants
+pub mod KeptWants
 pub mod Verdicts
 pub mod Counted
 pub mod CountsStay

@@ -11,7 +11,8 @@ use Rattle.captable.specs.Table.{Table}
 use Rattle.captable.specs.declared.entry.EntryRow.{EntryRow}
 pub use Rattle.onelock.specs.Held.{has_outside, holders_outside}
 use Rattle.onelock.specs.Lock.{LockId, ends_by_count}
-use Rattle.lockmachine.specs.Inodes.{CountMap, count_in, with_count_in, one_less_in, no_counts}
+use Rattle.onelock.specs.Counts.{count_in, with_count_in, one_less_in, no_counts}
+use Rattle.lockmachine.specs.Inodes.{CountMap}
 use Rattle.lockmachine.specs.Locks as words
 use Rattle.lockmachine.specs.Locks.{LockMap, lock_at}
 
