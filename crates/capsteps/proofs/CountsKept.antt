@@ -1,9 +1,9 @@
 -- What changes of the entries leave of the counts of gathers.
-use Rattle.std.{proofs.Common.{◌≡◌, ◌≢◌, ℕ, ◌+◌, ◌-◌, Bool, true, false, not, cond, ◌&&◌, ◌==◌, Option, Some, None, List, [], ◌∷◌, refl, sym, ap, subst, ◌∙◌, arith, map as each, filter, length, true≢false}, specs.Cmp.{nat_eq_equiv}, specs.List.{find, IsDistinct}, specs.Option.{option_map, option_map_or}}
+use Rattle.std.{proofs.Common.{◌≡◌, ◌≢◌, ℕ, ◌+◌, ◌-◌, Bool, true, false, not, cond, ◌&&◌, ◌==◌, Option, Some, None, List, [], ◌∷◌, refl, sym, ap, subst, ◌∙◌, arith, map as each, filter, length, true≢false}, proofs.lemmas.Bool.{eqb-true, eqb-false}, specs.Cmp.{nat_eq_equiv}, specs.List.{find, IsDistinct}, specs.Option.{option_map, option_map_or}}
 use Rattle.std.specs.FinMap as map
 use Rattle.capbits.{proofs.Emptiness.{has-is_empty, is_empty-no_caps}, specs.Caps.{has}, specs.Sets.{no_caps}, specs.declared.cap.Part.TheVariants.{A, L, X, F}}
 use Rattle.captable.{proofs.ByInode.{entries_on-changed, entries_on-without}, proofs.Counting.{bit, with_change}, proofs.Tally.{passes_found, tally, tally-changed, tally-first, tally-more, tally-without}}
-use Rattle.capacts.specs.Lockmachine.{Counts.{AreCounted, CountedLocks, IsCounted, count_of, given_up, has_outside, holders_outside}, Inodes.{is_gathering, lock_in}, Moves.{LockId}}
+use Rattle.capacts.specs.Lockmachine.{Counts.{AreCounted, AreCountedAt, CountedLocks, IsCounted, count_at, count_of, given_up, has_outside, holders_outside}, Inodes.{CountMap, is_gathering, lock_in}, Moves.{LockId}, Runs.{ChangesLocksOf}}
 use Rattle.capsteps.proofs.Common.{Caps, changed, Entry, entry_at, EntryRow, Gather, has-minus, has-none, has-of_part, Holder, holders_of_rows, Ino, InodeLocks, is_empty, is_of_inode, is_row_of, IsSubset, lock_at, LockMap, LockState, minus, new_entry, no_entry, none_found, of_part, opened, outside, Part, row_of, row_of-entry, same, same_caps, Stable, StableState, Table, without}
 
 -- ---- the rows that count
@@ -42,6 +42,16 @@ counted-as l old new same_holders are ino part = by_lock (lock_at l.locks ino pa
     by_lock None is right = tt
     by_lock (Some (Stable state)) is right = tt
     by_lock (Some (Gather from to)) is right = right ∙ sym (same_holders ino part from to is)
+
+-- and where the locks of one inode changed, and those of the others with all counts are as they were
+pub counted-at : (table : Table) (old new : CountedLocks) (at : ℕ) → new.counts ≡ old.counts → ChangesLocksOf at old.locks new.locks → AreCountedAt table new at → AreCounted table old → AreCounted table new
+counted-at table old new at counts changes here are ino = by_place (ino == at) refl
+  where
+    by_place : (b : Bool) → (ino == at) ≡ b → AreCountedAt table new ino
+    by_place true on = subst (AreCountedAt table new) (sym (eqb-true ino at on)) here
+    by_place false off part =
+        subst (λ (m : CountMap). IsCounted table (ino, part) (count_at m ino part) (lock_at new.locks ino part)) (sym counts)
+        (subst (IsCounted table (ino, part) (count_of old (ino, part))) (sym (changes.others ino part (eqb-false ino at off))) (are ino part))
 
 -- rows that are each made anew, of which as many pass
 tally-each : (p : EntryRow → Bool) (f : EntryRow → EntryRow) → ((row : EntryRow) → p (f row) ≡ p row) → (rows : List EntryRow) → tally p (each f rows) ≡ tally p rows
