@@ -21,7 +21,7 @@ ghost use Rattle.lockmachine.specs.Scene.{wanted_in_all, scene, scene_by, head_i
 ghost use Rattle.lockmachine.specs.Policy.{ArePermitted, ArePermittedOn};
 ghost use Rattle.lockmachine.specs.Waiters as waiting;
 ghost use Rattle.lockmachine.specs.Moves as moves;
-ghost use Rattle.lockmachine.specs.Moves.{first_move, moved, handed};
+ghost use Rattle.lockmachine.specs.Moves.{LockId, first_move, moved, handed};
 ghost use Rattle.lockmachine.specs.Runs.{MoveLittle, EndLittle, ChangesLocksOf};
 ghost use Rattle.lockmachine.specs.Turns as turns;
 ghost use Rattle.lockmachine.specs.Turns.{IsTurnOf, IsNextAt, IsDue, NobodyElsewhere, Suffices};
