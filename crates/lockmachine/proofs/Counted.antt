@@ -1,5 +1,5 @@
 -- Counts that are those of the entries: what they say of gathers, and that moves keep them so.
-use Rattle.std.proofs.Common.{◌≡◌, ℕ, ◌+◌, ◌<◌, Bool, true, false, not, ◌&&◌, Option, Some, None, List, [], ◌∷◌, take, get_or, is_some, nat_eq, refl, sym, ap, subst, ◌∙◌, cond}
+use Rattle.std.proofs.Common.{◌≡◌, ℕ, ◌+◌, ◌-◌, ◌<◌, Bool, true, false, not, ◌&&◌, Option, Some, None, List, [], ◌∷◌, take, get_or, is_some, nat_eq, refl, sym, ap, subst, ◌∙◌, cond}
 use Rattle.std.specs.Prelude.{◌==◌}
 use Rattle.std.specs.List.{find}
 use Rattle.std.specs.Option.{option_map, option_map_or}
@@ -14,20 +14,23 @@ use Rattle.locktable.specs.declared.states.LockState.TheVariants.{Stable, Gather
 use Rattle.locktable.specs.declared.states.StableState.{StableState}
 use Rattle.captable.specs.Table.{Table}
 use Rattle.captable.specs.Calls.{entries_on}
-use Rattle.onelock.proofs.Counts.{none-any}
+use Rattle.onelock.proofs.NoneAny.{none-any}
 use Rattle.onelock.specs.Held.{has_outside, holders_outside}
 use Rattle.onelock.specs.Lock.{LockId, ends_by_count, may_end_in}
-use Rattle.lockmachine.specs.declared.states.Counts.{Counts}
+use Rattle.onelock.specs.declared.counts.Counts.{Counts}
 use Rattle.lockmachine.specs.declared.states.InodeLocks.{InodeLocks}
 use Rattle.lockmachine.specs.Counts.{CountedLocks, IsCounted, AreCountedAt, AreCounted, count_at, count_of, ends_by, with_count}
-use Rattle.lockmachine.specs.Inodes.{CountMap, HaveCounts, count_in, with_count_in, lock_in}
+use Rattle.onelock.specs.Counts.{count_in, with_count_in, one_less_in}
+use Rattle.lockmachine.specs.Inodes.{CountMap, HaveCounts, lock_in}
 use Rattle.lockmachine.specs.Requests.{same_part}
 use Rattle.lockmachine.specs.Locks.{LockMap, lock_at, with_lock}
-use Rattle.lockmachine.specs.Moves.{may_end_by, parts, coming_state, moved}
+use Rattle.lockmachine.specs.Moves.{parts, coming_state, moved}
+use Rattle.lockmachine.specs.Turns.{may_end_by}
 use Rattle.lockmachine.specs.Runs.{ChangesLocksOf}
 use Rattle.lockmachine.specs.declared.moves.Move.TheVariants.{End}
 use Rattle.lockmachine.proofs.EndsFirst.{EndsSoFar, NoneBelow, ends_none, passed_next, ended_next}
 use Rattle.lockmachine.proofs.Moving.{is_at, with_lock-each}
+use Rattle.lockmachine.proofs.Rest.{same_part_is}
 use Rattle.lockmachine.proofs.Settling.{one_changed}
 
 pub locks_are : {a b : CountedLocks} → a ≡ b → a.locks ≡ b.locks
@@ -105,6 +108,30 @@ count-set m ino i n part q there =
     by_test b None some = absurd (cc)
     by_test true (Some c) some = with_count-is part q n c
     by_test false (Some c) some = refl
+
+-- one less
+one_less-is : (part q : Part) (c : Counts) → count_in q (one_less_in part c) ≡ cond (same_part q part) (count_in q c - 1) (count_in q c)
+one_less-is part q c = with_count-is part q (count_in part c - 1) c ∙ by_part (same_part q part) refl
+  where
+    by_part : (b : Bool) → same_part q part ≡ b → cond b (count_in part c - 1) (count_in q c) ≡ cond b (count_in q c - 1) (count_in q c)
+    by_part true same = ap (λ p. count_in p c - 1) (sym (same_part_is q part same))
+    by_part false other = refl
+
+pub count-less : (m : CountMap) (ino i : ℕ) (part q : Part) → count_at (change_at (one_less_in part) m ino) i q ≡ cond (is_at ino part (i, q)) (count_at m i q - 1) (count_at m i q)
+count-less m ino i part q =
+    ap (λ o. option_map_or (count_in q) o 0) (change-at m ino i (one_less_in part)) ∙ by_test (nat_eq ino i) (map.get m i)
+    ∙ ap (λ b. cond (b && same_part q part) (count_at m i q - 1) (count_at m i q)) (nat_eq_equiv.symm ino i)
+  where
+    none : (b : Bool) → 0 ≡ cond b (0 - 1) 0
+    none true = refl
+    none false = refl
+
+    by_test : (b : Bool) (o : Option Counts) → option_map_or (count_in q) (cond b (option_map (one_less_in part) o) o) 0
+        ≡ cond (b && same_part q part) (option_map_or (count_in q) o 0 - 1) (option_map_or (count_in q) o 0)
+    by_test true None = none (same_part q part)
+    by_test true (Some c) = one_less-is part q c
+    by_test false None = refl
+    by_test false (Some c) = refl
 
 module _ (table : Table) (l : CountedLocks) (ino : ℕ) (part : Part) (from to : StableState) (n : ℕ) (have : HaveCounts (with_lock l.locks ino part (Gather from to)).states l.counts)
     (right : n ≡ holders_outside table (record { 0 = ino }) part to) where

@@ -22,7 +22,8 @@ pub mod Turns
 pub mod Alone
 pub mod ByLock
 pub mod FirstServed
-pub mod KnownWants
+pub mod KeptWants
 pub mod Verdicts
 pub mod Counted
+pub mod GivesUp
 pub mod CountsStay

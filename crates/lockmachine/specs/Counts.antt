@@ -1,5 +1,5 @@
 -- The locks and the queue as they are kept: with a count beside each lock of how many clients its gather waits for.
-use Rattle.std.specs.Prelude.{◌≡◌, ◌==◌, ◌-◌, ◌&&◌, ℕ, Bool, false, not, Unit, Option, Some, None, if◌then◌else◌}
+use Rattle.std.specs.Prelude.{◌≡◌, ◌==◌, ◌-◌, ◌&&◌, ℕ, Bool, false, not, Option, Some, None, if◌then◌else◌}
 use Rattle.std.specs.FinMap as map
 use Rattle.std.specs.Option.{option_map_or}
 use Rattle.capbits.specs.declared.cap.Part.{Part}
@@ -9,9 +9,11 @@ use Rattle.locktable.specs.declared.states.LockState.{LockState}
 use Rattle.locktable.specs.declared.states.LockState.TheVariants.{Stable, Gather}
 use Rattle.captable.specs.Table.{Table}
 use Rattle.captable.specs.declared.entry.EntryRow.{EntryRow}
-use Rattle.onelock.specs.Held.{has_outside, holders_outside}
-use Rattle.onelock.specs.Lock.{LockId, ends_by_count}
-use Rattle.lockmachine.specs.Inodes.{CountMap, count_in, with_count_in, one_less_in, no_counts}
+pub use Rattle.onelock.specs.Held.{has_outside, holders_outside}
+use Rattle.onelock.specs.Lock.{ends_by_count}
+pub use Rattle.onelock.specs.Lock.{LockId}
+use Rattle.onelock.specs.Counts.{count_in, with_count_in, one_less_in, no_counts}
+use Rattle.lockmachine.specs.Inodes.{CountMap}
 use Rattle.lockmachine.specs.Locks as words
 use Rattle.lockmachine.specs.Locks.{LockMap, lock_at}
 
@@ -68,8 +70,8 @@ given_up row left at (Some lock) = if (at.0 == row.holder.ino.0) && waits_no_lon
 
 -- the count of a gather is how many clients have a cap of the part that the row of its target does not allow
 abbrev pub IsCounted : Table → LockId → ℕ → Option LockState → Type 0
-IsCounted table at n None = Unit
-IsCounted table at n (Some (Stable state)) = Unit
+IsCounted table at n None = Unit {0}
+IsCounted table at n (Some (Stable state)) = Unit {0}
 IsCounted table at n (Some (Gather from to)) = n ≡ holders_outside table (record { 0 = at.0 }) at.1 to
 
 -- so it is of each lock of an inode

@@ -1,5 +1,5 @@
 -- The locks of each inode.
-use Rattle.std.specs.Prelude.{◌≡◌, ℕ, ◌-◌, Bool, true, false, ◌||◌, is_some, map as each}
+use Rattle.std.specs.Prelude.{◌≡◌, ℕ, Bool, true, false, ◌||◌, is_some, map as each}
 use Rattle.std.specs.Ordering.{nat_cmp}
 use Rattle.std.specs.FinMap as map
 use Rattle.std.specs.FinMap.{FinMap}
@@ -8,7 +8,7 @@ use Rattle.capbits.specs.declared.cap.Part.TheVariants.{A, L, X, F}
 use Rattle.locktable.specs.declared.states.StableState.TheVariants.{Sync}
 use Rattle.locktable.specs.declared.states.LockState.{LockState}
 use Rattle.locktable.specs.declared.states.LockState.TheVariants.{Stable, Gather}
-use Rattle.lockmachine.specs.declared.states.Counts.{Counts}
+use Rattle.onelock.specs.declared.counts.Counts.{Counts}
 use Rattle.lockmachine.specs.declared.states.InodeLocks.{InodeLocks}
 
 -- the locks of each inode, by its number
@@ -46,25 +46,6 @@ is_gathering locks = is_gather locks.auth || (is_gather locks.link || (is_gather
 -- of each inode that has locks
 abbrev pub CountMap : Type 0
 CountMap = FinMap nat_cmp Counts
-
-abbrev pub count_in : Part → Counts → ℕ
-count_in A counts = counts.auth
-count_in L counts = counts.link
-count_in X counts = counts.xattr
-count_in F counts = counts.file
-
-abbrev pub with_count_in : Part → ℕ → Counts → Counts
-with_count_in A n counts = record counts { auth = n }
-with_count_in L n counts = record counts { link = n }
-with_count_in X n counts = record counts { xattr = n }
-with_count_in F n counts = record counts { file = n }
-
--- one less, if not 0
-abbrev pub one_less_in : Part → Counts → Counts
-one_less_in part counts = with_count_in part (count_in part counts - 1) counts
-
-abbrev pub no_counts : Counts
-no_counts = record { auth = 0; link = 0; xattr = 0; file = 0 }
 
 -- the locks of each inode, and beside them these counts
 pub record CountedStates : Type 0 where

@@ -21,7 +21,7 @@ ghost use Rattle.lockmachine.specs.Scene.{wanted_in_all, scene, scene_by, head_i
 ghost use Rattle.lockmachine.specs.Policy.{ArePermitted, ArePermittedOn};
 ghost use Rattle.lockmachine.specs.Waiters as waiting;
 ghost use Rattle.lockmachine.specs.Moves as moves;
-ghost use Rattle.lockmachine.specs.Moves.{first_move, moved, handed};
+ghost use Rattle.lockmachine.specs.Moves.{LockId, first_move, moved, handed};
 ghost use Rattle.lockmachine.specs.Runs.{MoveLittle, EndLittle, ChangesLocksOf};
 ghost use Rattle.lockmachine.specs.Turns as turns;
 ghost use Rattle.lockmachine.specs.Turns.{IsTurnOf, IsNextAt, IsDue, NobodyElsewhere, Suffices};
@@ -31,7 +31,7 @@ use crate::policy::Policy;
 use crate::request::{Operation, Request};
 use crate::states::{InodeLocks, LocksAt, States};
 use crate::waiters::{MAX_WAITING, Waiter, Waiters};
-use crate::wants::{Wants, given_or_found, wants_on};
+use crate::wants::{Wants, given_or_found, wants_by_kept};
 use capbits::{CapSet, ClientId, Ino, Part, Refusal, Ticket};
 use capspec::FsName;
 use captable::{CapTable, Entry, EntryRow};
@@ -236,10 +236,10 @@ impl Locks {
     /// them waits it answers None, and nothing changes. It takes no memory. Whoever calls it until then has dropped all, and has gone
     /// over the queue once for each; `drop_requests_of` goes over it once.
     pub fn drop_client(&mut self, client: ClientId) -> Option<Ticket>
-        ensures ticket { result ≡ words.oldest_of self.old client }
-        ensures least { IfSome result (λ ticket. (q : Request) → Contains self.old.queue q → IsTrue (requests.is_of_client client q)
+        ensures ticket { result ≡ words.oldest_of self.old.locks client }
+        ensures least { IfSome result (λ ticket. (q : Request) → Contains self.old.locks.queue q → IsTrue (requests.is_of_client client q)
             → ticket.0 ≤ q.ticket.0) }
-        ensures left { IfSome result (λ ticket. self.new ≡ words.without_request self.old ticket.0) }
+        ensures left { IfSome result (λ ticket. self.new ≡ record self.old { locks = words.without_request self.old.locks ticket.0 }) }
         ensures none { result ≡ None → self.new ≡ self.old }
     {
         let ticket = self.oldest_of(client)?;
@@ -249,8 +249,8 @@ impl Locks {
 
     // The number of a client's oldest request.
     fn oldest_of(&self, client: ClientId) -> Option<Ticket>
-        ensures oldest { result ≡ words.oldest_of self.now client }
-        ensures sound { words.IsLockMap self.now }
+        ensures oldest { result ≡ words.oldest_of self.now.locks client }
+        ensures sound { words.IsLockMap self.now.locks }
     {
         for waiting in &self.queue {
             if is_of_client(client, waiting) {
@@ -275,7 +275,8 @@ impl Locks {
         if let Some(ticket) = self.first_served() {
             return Move::Serve(ticket);
         }
-        self.first_begin_of_all(fs, tree, sessions, table)
+        let policy = Policy { fs, tree, sessions };
+        self.first_begin_of_all(&policy, table)
     }
 
     // What is next where it is an inode's turn: a move at this inode, or a request that is served, by the first move that applies to
@@ -348,19 +349,14 @@ impl Locks {
     }
 
     // The beginning of the first lock of all that may begin.
-    fn first_begin_of_all(
-        &self,
-        fs: &FsName,
-        tree: &Tree,
-        sessions: &Sessions,
-        table: &CapTable,
-    ) -> Move
-        ensures { let s = scene fs.now tree.now sessions.now table.now.entries self.now.locks in
+    fn first_begin_of_all(&self, policy: &Policy<'_>, table: &CapTable) -> Move
+        requires { ArePermitted table.now.kept policy.now.fs.now policy.now.tree.now policy.now.sessions.now table.now.entries }
+        ensures { let s = scene_by policy.now table.now.entries self.now.locks in
             result ≡ turns.begin_or_rest s (find (moves.may_begin s) (moves.lock_ids self.now.locks)) }
     {
         for number in self.states.inos() {
             let ino = Ino(*number);
-            let wants = wants_on(fs, tree, sessions, table, ino);
+            let wants = wants_by_kept(policy, table, ino);
             if let Some(step) = self.first_begin(true, ino, &wants) {
                 return step;
             }
@@ -692,6 +688,7 @@ impl Locks {
             → ((other : ℕ) (part : Part) → other < ino.0 → turns.may_end_by table self.old.locks (other, part) ≡ false)
             → (part : Part) → turns.may_end_by table self.new.locks (ino.0, part) ≡ false }
         ensures elsewhere { ChangesLocksOf ino.0 self.old.locks self.new.locks }
+        ensures counted { (table : Table) → AreCountedAt table self.old ino.0 → AreCountedAt table self.new ino.0 }
         ensures counts { self.new.counts ≡ self.old.counts }
     {
         // At most inodes no lock is in a gather, which one look at the four tells.

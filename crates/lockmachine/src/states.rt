@@ -3,11 +3,13 @@ ghost use Rattle.std.specs.Prelude.{◌≡◌, OnOk, OnErr};
 ghost use Rattle.std.specs.Option.{option_copied, option_map};
 ghost use Rattle.std.specs.FinMap as map;
 ghost use Rattle.capbits.specs.Maps.{change_at};
+ghost use Rattle.onelock.specs.Counts as counted;
 ghost use Rattle.lockmachine.specs.Inodes as words;
 
 use capbits::{Ino, Part};
 use locktable::{LockState, StableState};
 use numbered::Numbered;
+use onelock::Counts;
 use std::alloc::{AllocError, Global};
 use std::collections::btree_map::Keys;
 use std::marker::Model;
@@ -70,58 +72,6 @@ impl InodeLocks {
             Part::L => self.link = state,
             Part::X => self.xattr = state,
             Part::F => self.file = state,
-        }
-    }
-}
-
-/// How many clients the gather of each of the four locks of an inode waits for: those that hold a cap which its target does not allow
-/// them. Of a lock that is stable it says nothing.
-#[derive(Clone, Copy, Debug, PartialEq, Eq)]
-pub struct Counts {
-    /// Of its owner, group and mode.
-    pub auth: u32,
-    /// Of its link count.
-    pub link: u32,
-    /// Of its extended attributes.
-    pub xattr: u32,
-    /// Of its data, with size and times.
-    pub file: u32,
-}
-
-impl Counts {
-    // Of nobody.
-    fn none() -> Counts
-        ensures { result ≡ words.no_counts }
-    {
-        Counts {
-            auth: 0,
-            link: 0,
-            xattr: 0,
-            file: 0,
-        }
-    }
-
-    // That of a part's lock.
-    pub(crate) fn of_part(&self, part: Part) -> u32
-        ensures { result ≡ words.count_in part self.now }
-    {
-        match part {
-            Part::A => self.auth,
-            Part::L => self.link,
-            Part::X => self.xattr,
-            Part::F => self.file,
-        }
-    }
-
-    // The lock of a part has this count.
-    fn set(&mut self, part: Part, count: u32)
-        ensures { self.new ≡ words.with_count_in part count self.old }
-    {
-        match part {
-            Part::A => self.auth = count,
-            Part::L => self.link = count,
-            Part::X => self.xattr = count,
-            Part::F => self.file = count,
         }
     }
 }
@@ -203,7 +153,7 @@ impl States {
 
     // Gives an inode these locks, whose counts are 0. For want of memory nothing changes.
     pub(crate) fn insert(&mut self, ino: Ino, locks: InodeLocks) -> Result<(), AllocError>
-        ensures ok { OnOk result (self.new ≡ record { states = map.insert self.old.states ino.0 locks; counts = map.insert self.old.counts ino.0 words.no_counts }) }
+        ensures ok { OnOk result (self.new ≡ record { states = map.insert self.old.states ino.0 locks; counts = map.insert self.old.counts ino.0 counted.no_counts }) }
         ensures err { OnErr result (self.new ≡ self.old) }
     {
         let counts = Counts::none();
@@ -228,7 +178,7 @@ impl States {
 
     // Gives the lock of an inode's part, if it has one, another count. Its state stays.
     pub(crate) fn set_count(&mut self, ino: Ino, part: Part, count: u32)
-        ensures set { self.new ≡ record self.old { counts = change_at (words.with_count_in part count) self.old.counts ino.0 } }
+        ensures set { self.new ≡ record self.old { counts = change_at (counted.with_count_in part count) self.old.counts ino.0 } }
         ensures had { words.HaveCounts self.old.states self.old.counts }
     {
         if let Some(at) = self.rows.get_mut(ino.0) {
@@ -238,11 +188,10 @@ impl States {
 
     // Takes one off the count of the lock of an inode's part, if it has one, and its count is not 0.
     pub(crate) fn count_down(&mut self, ino: Ino, part: Part)
-        ensures { self.new ≡ record self.old { counts = change_at (words.one_less_in part) self.old.counts ino.0 } }
+        ensures { self.new ≡ record self.old { counts = change_at (counted.one_less_in part) self.old.counts ino.0 } }
     {
         if let Some(at) = self.rows.get_mut(ino.0) {
-            let count = at.counts.of_part(part);
-            at.counts.set(part, count.saturating_sub(1));
+            at.counts.count_down(part);
         }
     }
 }

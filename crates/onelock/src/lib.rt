@@ -4,10 +4,12 @@
 //! Public source: "Capabilities in CephFS" in the Ceph documentation.
 #![tactic(auto)]
 
+mod counts;
 mod held;
 mod lock;
 mod want;
 
+pub use counts::Counts;
 pub use held::{has_outside, holders_outside};
 pub use lock::{ends_by_count, is_off_target};
 pub use want::wanted_while;

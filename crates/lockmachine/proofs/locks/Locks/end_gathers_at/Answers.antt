@@ -29,3 +29,12 @@ returns-clause-done c = λ table are below.
     let last : c.loop-part.part-index ≡ 4 = omega arith in
     all_ended table c.args.self.now.locks c.loop-part.self.locks c.args.ino.0
     (subst (λ n. EndsSoFar table c.args.self.now.locks c.loop-part.self.locks c.args.ino.0 (take n parts)) last (c.loop-part.invariant.so_far table are below))
+
+pub returns-clause-counted : goal.returns-clause-counted
+returns-clause-counted c = c.loop-part.invariant.counted
+
+pub returns-clause-elsewhere : goal.returns-clause-elsewhere
+returns-clause-elsewhere c = c.loop-part.invariant.elsewhere
+
+pub returns-clause-counts : goal.returns-clause-counts
+returns-clause-counts c = c.loop-part.invariant.counts

@@ -4,17 +4,23 @@ use Rattle.std.specs.Option.{option_map}
 use Rattle.std.specs.Map.Iter.{deref}
 use Rattle.std.proofs.lemmas.Map.Iter.{rest_more}
 use Rattle.lockmachine.specs.declared.moves.Move.{Move}
-use Rattle.lockmachine.specs.Scene.{Scene, scene}
+use Rattle.lockmachine.specs.Scene.{Scene, scene_by}
 use Rattle.lockmachine.specs.Moves.{parts, may_begin}
 use Rattle.lockmachine.specs.Turns.{beginning, may_begin_by, begin_or_rest}
+use Rattle.lockmachine.proofs.KeptWants.{permitted-on}
 use Rattle.lockmachine.proofs.LockIds.{lock_ids_in, begin-lock_ids_in}
 use Rattle.lockmachine.proofs.locks.Locks.first_begin_of_all.Goals as goal
 
 pub returns-in-Some-first_begin : goal.returns-in-Some-first_begin
 returns-in-Some-first_begin c =
-    let s : Scene = scene c.args.fs.now c.args.tree.now c.args.sessions.now c.args.table.now.entries c.args.self.now.locks in
+    let s : Scene = scene_by c.args.policy.now c.args.table.now.entries c.args.self.now.locks in
     let first : List ℕ → Move = λ inos. begin_or_rest s (find (may_begin s) (lock_ids_in inos)) in
     ap (λ o. unwrap_or o (first c.next.new.self)) (sym c.in-Some-first_begin.is ∙ c.first_begin.ensures
-    ∙ ap (λ wants. option_map (λ part. beginning s.locks wants (c.in-Some.number.now, part)) (find (λ part. may_begin_by s.locks wants (c.in-Some.number.now, part)) parts)) c.wants_on-wants.ensures)
+    ∙ ap (λ wants. option_map (λ part. beginning s.locks wants (c.in-Some.number.now, part)) (find (λ part. may_begin_by s.locks wants (c.in-Some.number.now, part)) parts)) c.wants_by_kept-wants.ensures)
     ∙ sym (begin-lock_ids_in s c.in-Some.number.now c.next.new.self)
     ∙ ap first (sym (rest_more deref _ _ _ _ c.in-Some.is c.next.ensures.steps)) ∙ c.loop-number.invariant
+
+pub wants_by_kept-wants-requires : goal.wants_by_kept-wants-requires
+wants_by_kept-wants-requires c =
+    let policy = c.args.policy.now in
+    permitted-on c.args.table.now.kept policy.fs.now policy.tree.now policy.sessions.now c.args.table.now.entries c.in-Some.number.now c.requires

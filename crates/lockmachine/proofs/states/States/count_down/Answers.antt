@@ -5,10 +5,11 @@ use Rattle.std.specs.FinMap.{FinMap}
 use Rattle.std.specs.Ordering.{nat_cmp}
 use Rattle.capbits.specs.Maps.{change_at}
 use Rattle.numbered.proofs.Maps.{change-is, change-none}
-use Rattle.lockmachine.specs.declared.states.Counts.{Counts}
+use Rattle.onelock.specs.declared.counts.Counts.{Counts}
 use Rattle.lockmachine.specs.declared.states.InodeLocks.{InodeLocks}
 use Rattle.lockmachine.specs.declared.states.LocksAt.{LocksAt}
-use Rattle.lockmachine.specs.Inodes.{CountedStates, CountMap, StateMap, each_value, one_less_in, with_count_in}
+use Rattle.onelock.specs.Counts.{one_less_in, with_count_in}
+use Rattle.lockmachine.specs.Inodes.{CountedStates, CountMap, StateMap, each_value}
 use Rattle.lockmachine.proofs.EachValue.{change-each, change-unseen}
 use Rattle.lockmachine.proofs.states.States.count_down.Goals as goal
 use Rattle.lockmachine.proofs.states.States.count_down.Goals.{in-Some, in_default}

@@ -6,10 +6,11 @@ use Rattle.std.specs.Option.{option_map}
 use Rattle.std.specs.Ordering.{nat_cmp}
 use Rattle.capbits.specs.Maps.{change_at}
 use Rattle.numbered.proofs.Maps.{change-is, change-none}
-use Rattle.lockmachine.specs.declared.states.Counts.{Counts}
+use Rattle.onelock.specs.declared.counts.Counts.{Counts}
 use Rattle.lockmachine.specs.declared.states.InodeLocks.{InodeLocks}
 use Rattle.lockmachine.specs.declared.states.LocksAt.{LocksAt}
-use Rattle.lockmachine.specs.Inodes.{CountedStates, CountMap, StateMap, HaveCounts, each_value, with_count_in}
+use Rattle.onelock.specs.Counts.{with_count_in}
+use Rattle.lockmachine.specs.Inodes.{CountedStates, CountMap, StateMap, HaveCounts, each_value}
 use Rattle.lockmachine.proofs.EachValue.{change-each, change-unseen, get-each}
 use Rattle.lockmachine.proofs.states.States.set_count.Goals as goal
 use Rattle.lockmachine.proofs.states.States.set_count.Goals.{in-Some, in_default}

@@ -1,0 +1,48 @@
+-- What is wanted of an inode, by what is kept that each client is permitted there.
+use Rattle.std.proofs.Common.{◌≡◌, zero, suc, Bool, true, false, cond, Option, Some, None, List, [], ◌∷◌, filter, map as each, unwrap_or, refl, sym, ap, ◌∙◌, Contains, ℕ, arith}
+use Rattle.std.specs.Option.{option_map}
+use Rattle.std.proofs.lemmas.Bool.{eqb-true}
+use Rattle.capbits.specs.declared.ids.Ino.{Ino}
+use Rattle.capbits.specs.Caps.{Caps}
+use Rattle.sessiontab.specs.Table.{SessionTable}
+use Rattle.inotree.specs.Tree.{Nodes}
+use Rattle.captable.specs.declared.entry.EntryRow.{EntryRow}
+use Rattle.captable.specs.declared.entry.Sets.{Sets}
+use Rattle.captable.specs.Table.{Table, IsTable, holder, entry_of}
+use Rattle.captable.specs.Calls.{is_of_inode, entries_on}
+use Rattle.captable.specs.Kept.{KeptRow, sets_beside, no_sets}
+use Rattle.captable.proofs.ByHolder.{row_found}
+use Rattle.lockmachine.specs.Policy.{ArePermitted, ArePermittedOn}
+use Rattle.lockmachine.specs.Wants.{Want, want_of, want_of_permitted}
+
+-- what the entry's client wants of what is kept that it is permitted on the inode
+abbrev pub kept_want : List KeptRow → SessionTable → Ino → EntryRow → Want
+kept_want kept sessions ino row = (row.holder.client, want_of_permitted sessions (unwrap_or (sets_beside kept (holder row.holder.client ino)) no_sets).permitted row)
+
+-- where it is so on each inode, it is so on this one
+pub permitted-on : (kept : List KeptRow) (fs : List ℕ) (tree : Nodes) (sessions : SessionTable) (table : Table) (ino : ℕ) → ArePermitted kept fs tree sessions table → ArePermittedOn kept fs tree sessions table ino
+permitted-on kept fs tree sessions table ino are k e here there = are k e there
+
+each_same : {A B : Type 0} (f g : A → B) (p : A → Bool) (xs : List A) → ((x : A) → Contains xs x → p x ≡ true → f x ≡ g x) → each f (filter p xs) ≡ each g (filter p xs)
+each_same f g p [] same = refl
+each_same f g p (x ∷ xs) same =
+    let rest = each_same f g p xs (λ y (inside : Contains xs y). same y (suc inside.0, omega (arith, inside.1), inside.2)) in
+    elim (p x) as (λ b. p x ≡ b → each f (cond b (x ∷ filter p xs) (filter p xs)) ≡ each g (cond b (x ∷ filter p xs) (filter p xs))) [
+      | true ↦ λ is i. same x (zero, omega arith, refl) is i ∷ rest i
+      | false ↦ λ is. rest
+    ] refl
+
+known_permitted : (o : Option Sets) (caps : Caps) → option_map (λ sets. sets.permitted) o ≡ Some caps → (unwrap_or o no_sets).permitted ≡ caps
+known_permitted None caps is = absurd (cc)
+known_permitted (Some sets) caps is = cc
+
+module _ (kept : List KeptRow) (fs : List ℕ) (tree : Nodes) (sessions : SessionTable) (table : Table) (ino : Ino) where
+  pub same_wants : IsTable table → ArePermittedOn kept fs tree sessions table ino.0 → each (kept_want kept sessions ino) (entries_on table ino) ≡ each (want_of fs tree sessions) (entries_on table ino)
+  same_wants sound permitted = each_same (kept_want kept sessions ino) (want_of fs tree sessions) (is_of_inode ino) table.rows same_want
+    where
+      same_want : (row : EntryRow) → Contains table.rows row → is_of_inode ino row ≡ true → kept_want kept sessions ino row ≡ want_of fs tree sessions row
+      same_want row inside here =
+          let same : row.holder.ino.0 ≡ ino.0 = eqb-true row.holder.ino.0 ino.0 here in
+          let on : holder row.holder.client ino ≡ row.holder = λ i. holder row.holder.client (record { 0 = sym same i }) in
+          let known = ap (λ k. option_map (λ sets. sets.permitted) (sets_beside kept k)) on ∙ permitted row.holder row.entry same (ap entry_of (row_found table row sound inside)) in
+          ap (λ caps. (row.holder.client, want_of_permitted sessions caps row)) (known_permitted (sets_beside kept (holder row.holder.client ino)) _ known)

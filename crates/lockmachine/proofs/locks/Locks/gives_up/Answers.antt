@@ -1,0 +1,28 @@
+use Rattle.std.proofs.Common.{◌≡◌, ◌+◌, Some, take, sym, ap, subst, ◌∙◌, arith}
+use Rattle.std.specs.FinMap as map
+use Rattle.lockmachine.specs.Counts.{waits_no_longer}
+use Rattle.lockmachine.specs.Moves.{parts}
+use Rattle.lockmachine.proofs.GivesUp.{GivesUp, gives-first, gives-none, gives-all, gives-passed, gives-less}
+use Rattle.lockmachine.proofs.locks.Locks.gives_up.Goals as goal
+use Rattle.lockmachine.proofs.locks.Locks.gives_up.Goals.{then-waits_no_longer, else-waits_no_longer}
+
+pub loop-part-init : goal.loop-part-init
+loop-part-init c = gives-first c.args.row c.args.left c.args.self.now
+
+pub loop-part-preserved : goal.loop-part-preserved
+loop-part-preserved c =
+    let row = c.args.row in
+    let left = c.args.left in
+    let first = c.args.self.now in
+    let now = c.loop-part.self in
+    let four = c.in-Some.locks in
+    let has : map.get first.locks.states row.holder.ino.0 ≡ Some four = sym c.of_ino.ensures ∙ c.in-Some.is in
+    let waits = sym (c.waits_no_longer.ensures ∙ ap (waits_no_longer _ row left) c.of_part.ensures) in
+    elim c.if-waits_no_longer.branch [
+      | then-waits_no_longer w ↦
+          subst (λ n. GivesUp row left first n (take (c.loop-part.part-index + 1) parts)) (sym (w.self-is ∙ w.acked.ensures))
+          (gives-less row left first now c.loop-part.part-index _ four c.loop-part-test.true has (waits ∙ w.if-waits_no_longer.true) c.loop-part.invariant)
+      | else-waits_no_longer w ↦
+          subst (λ n. GivesUp row left first n (take (c.loop-part.part-index + 1) parts)) (sym w.self-is)
+          (gives-passed row left first now c.loop-part.part-index _ four c.loop-part-test.true has (waits ∙ w.if-waits_no_longer.false) c.loop-part.invariant)
+    ]
