@@ -17,10 +17,6 @@ begun-entries p q e from may is affects gives permitted = by_count may.numbers
 pub on_err : {T E P : Type 0} (r : Result T E) → P → OnErr r P
 on_err r p = grind arith
 
--- the scene with what is kept beside it
-abbrev pub kept_scene : Scene → KnownSets → CountMap → KeptScene
-kept_scene s kept counts = record { fs = s.fs; tree = s.tree; sessions = s.sessions; table = record { entries = s.table; kept = kept }; locks = record { locks = s.locks; counts = counts } }
-
 -- ---- an event about one inode
 
 module _ (p q : Parts) (endings : Endings) (e : Event) (k : Holder) (may : MayBegin p e) (d : Direct) (by_itself : direct (state_of p) e ≡ d) (keeps : Keeps (state_of p) d)

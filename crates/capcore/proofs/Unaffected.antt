@@ -9,7 +9,7 @@ use Rattle.inotree.{proofs.Elsewhere.{field-changed, not_next}, specs.Calls.{wit
 use Rattle.sessiontab.{proofs.Elsewhere.{session-kept}, specs.Calls.{with_session, without_blocked}}
 use Rattle.capsteps.proofs.{Knowing.{known-alike}, LeftAlone.{none_if, kept-known}, Lockmachine.CountsStay.{counted-born}, Lockmachine.PolicyElsewhere.{permitted-session, permitted-new, permitted-changed, want-session, want-new, want-changed}}
 use Rattle.capsteps.specs.Lockmachine.Counts as counted
-use Rattle.capcore.{proofs.Begun.{kept_scene}, proofs.Common.{AreCountedIn, Attr, CountMap, EntryRow, first_failing, found-contains, HoldAlike, in_sync, InodeLocks, is_row_of, IsSound, IsTree, kept-sound, Kind, KnownSets, LeavesEntries, new_session_tests, no_locks, Node, Nodes, permitted, plain, row_of-entry, Scene, SessionTable, State, StateMap, Table, with_ino, with_parts}, specs.UnderWay.{AreKept, IsWhole, state_of}, specs.declared.parts.Parts.{Parts}}
+use Rattle.capcore.{proofs.Common.{AreCountedIn, Attr, CountMap, EntryRow, first_failing, found-contains, HoldAlike, in_sync, InodeLocks, is_row_of, IsSound, IsTree, kept-sound, KeptScene, Kind, KnownSets, LeavesEntries, new_session_tests, no_locks, Node, Nodes, permitted, plain, row_of-entry, Scene, SessionTable, State, StateMap, Table, with_ino, with_parts}, specs.UnderWay.{AreKept, IsWhole, state_of}, specs.declared.parts.Parts.{Parts}}
 
 -- the locks that an inode begins with, where there is an inode
 abbrev first_of : Option Node → Option InodeLocks
@@ -57,6 +57,10 @@ pub alike-kept : (sets : KnownSets) (s : Scene) (new : Table) → HoldAlike s.ta
 alike-kept sets s new alike kept = (known-alike sets s new alike kept.0, λ k e there. let was = alike k e there in kept.1 k was.0 was.1)
 
 -- ---- so they keep all that holds between two steps
+
+-- the scene with what is kept beside it
+abbrev pub kept_scene : Scene → KnownSets → CountMap → KeptScene
+kept_scene s kept counts = record { fs = s.fs; tree = s.tree; sessions = s.sessions; table = record { entries = s.table; kept = kept }; locks = record { locks = s.locks; counts = counts } }
 
 module _ (p : Parts) (whole : IsWhole p) where
   -- the parts with another tree, other sessions, and other locks with their counts

@@ -1,6 +1,6 @@
 use Rattle.std.{proofs.Common.{◌≡◌, [], ◌∷◌, length, refl, sym, ap, ◌∙◌, arith}, proofs.lemmas.List.{length-append}, specs.List.{fold}}
 use Rattle.capacts.{proofs.Capnotes.Noting.{leads-forgotten}, specs.Capview.declared.change.ViewChange.TheVariants.{Forgotten}}
-use Rattle.capsteps.{proofs.Common.{leads-none, leads-then, LockMap, Scene}, proofs.Strays.{forget_on, forget-all_of}, specs.Affected.{forget_at}}
+use Rattle.capsteps.{proofs.Common.{leads-none, leads-then, LockMap, plain, Scene}, proofs.Strays.{forget_on, forget-all_of}, specs.Affected.{forget_at}}
 use Rattle.capsteps.proofs.finish.forget_affected.Goals as goal
 
 pub inodes-init : goal.inodes-init
@@ -8,7 +8,7 @@ inodes-init c = record { left = refl; queue = refl; lead = leads-none c.args.cha
 
 pub inodes-preserved-then-not-is_held : goal.inodes-preserved-then-not-is_held
 inodes-preserved-then-not-is_held c =
-    let s : Scene = c.inodes.scene in
+    let s : Scene = plain c.inodes.scene in
     let gone : record s { tree = c.forget.new.self; locks = c.drop_ino.new.self } ≡ forget_at c.in-Some.ino.0 s = grind arith in
     let more = ap length c.in-Some.ensures.some in
     let notes = ap length c.push.ensures.items ∙ length-append c.inodes.changes.items (Forgotten c.in-Some.ino ∷ []) in
@@ -22,5 +22,5 @@ inodes-preserved-then-not-is_held c =
 
 pub returns-clause-left : goal.returns-clause-left
 returns-clause-left c =
-    ap (fold forget_on c.inodes.scene) (sym c.in_default.ensures.none.0) ∙ c.inodes.invariant.left
-    ∙ forget-all_of c.args.affected.now c.numbers-walk.result c.args.scene.now c.numbers-walk.ensures.list
+    ap (fold forget_on (plain c.inodes.scene)) (sym c.in_default.ensures.none.0) ∙ c.inodes.invariant.left
+    ∙ forget-all_of c.args.affected.now c.numbers-walk.result (plain c.args.scene.now) c.numbers-walk.ensures.list

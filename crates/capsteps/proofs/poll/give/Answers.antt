@@ -3,12 +3,12 @@ use Rattle.capsteps.proofs.{Common.{after_messages, changed_where, is_of_client,
 use Rattle.capsteps.proofs.poll.give.Goals as goal
 
 pub loop-message-init : goal.loop-message-init
-loop-message-init c = given-none c.args.client c.args.table.now
+loop-message-init c = given-none c.args.client c.args.table.now.entries
 
 pub give_one-requires : goal.give_one-requires
 give_one-requires c =
     subst IsTable (sym c.loop-message.invariant)
-    (table-where (is_of_client c.args.client) (after_messages (take c.loop-message.message-index c.args.given.now)) c.args.table.now c.requires)
+    (table-where (is_of_client c.args.client) (after_messages (take c.loop-message.message-index c.args.given.now)) c.args.table.now.entries c.requires)
 
 pub loop-message-preserved : goal.loop-message-preserved
 loop-message-preserved c =
@@ -19,10 +19,10 @@ loop-message-preserved c =
     take_more c.args.given.now c.loop-message.message-index m c.loop-message-test.true ∙ ap (λ x. done ++ x ∷ []) (sym c.message-item.is) in
     c.give_one.ensures
     ∙ ap (changed_where (is_of_client client) (after_messages (m ∷ []))) c.loop-message.invariant
-    ∙ given-more client done (m ∷ []) c.args.table.now
-    ∙ ap (λ given. changed_where (is_of_client client) (after_messages given) c.args.table.now) (sym more)
+    ∙ given-more client done (m ∷ []) c.args.table.now.entries
+    ∙ ap (λ given. changed_where (is_of_client client) (after_messages given) c.args.table.now.entries) (sym more)
 
 pub returns : goal.returns
 returns c =
     c.loop-message.invariant
-    ∙ ap (λ given. changed_where (is_of_client c.args.client) (after_messages given) c.args.table.now) (take_all c.loop-message.message-index c.args.given.now c.loop-message-test.false)
+    ∙ ap (λ given. changed_where (is_of_client c.args.client) (after_messages given) c.args.table.now.entries) (take_all c.loop-message.message-index c.args.given.now c.loop-message-test.false)

@@ -10,11 +10,11 @@ pub returns-then-is_single-clause-ends : goal.returns-then-is_single-clause-ends
 returns-then-is_single-clause-ends c many = absurd (many (eqb-true (set.len c.args.affected.now) 1 (sym c.is_single.ensures ∙ c.if-is_single.true)))
 
 pub returns-then-is_single-clause-swept : goal.returns-then-is_single-clause-swept
-returns-then-is_single-clause-swept c = λ fs tree sessions waits. swept-begins (set.contains c.args.affected.now) (scene fs tree sessions c.args.table.now c.args.locks.now) waits
+returns-then-is_single-clause-swept c = λ fs tree sessions waits. swept-begins (set.contains c.args.affected.now) (scene fs tree sessions c.args.table.now.entries c.args.locks.now) waits
 
 pub inodes-init : goal.inodes-init
 inodes-init c = let least = c.first-at.ensures in record {
-  swept = λ fs tree sessions waits. swept-begins (set.contains c.args.affected.now) (scene fs tree sessions c.args.table.now c.args.locks.now) waits;
+  swept = λ fs tree sessions waits. swept-begins (set.contains c.args.affected.now) (scene fs tree sessions c.args.table.now.entries c.args.locks.now) waits;
   same = λ other off. refl;
   lower = λ other part below. c.requires.elsewhere other part (least.least other (omega arith) below);
   here = least.has;
@@ -27,21 +27,21 @@ module _ (c : After-end_gathers_at) where
   abbrev at : ℕ → Bool
   at = set.contains c.args.affected.now
 
-  swept : (fs : List ℕ) (tree : Nodes) (sessions : SessionTable) → WaitAt at (scene fs tree sessions c.args.table.now c.args.locks.now)
-      → IsSwept at (scene fs tree sessions c.args.table.now c.args.locks.now) (scene fs tree sessions c.args.table.now c.end_gathers_at.new.self)
+  swept : (fs : List ℕ) (tree : Nodes) (sessions : SessionTable) → WaitAt at (scene fs tree sessions c.args.table.now.entries c.args.locks.now)
+      → IsSwept at (scene fs tree sessions c.args.table.now.entries c.args.locks.now) (scene fs tree sessions c.args.table.now.entries c.end_gathers_at.new.self)
   swept fs tree sessions waits =
-      let now = scene fs tree sessions c.args.table.now c.inodes.locks in
-      swept-on at (scene fs tree sessions c.args.table.now c.args.locks.now) now (c.inodes.invariant.swept fs tree sessions waits) c.inodes.at.0 c.inodes.invariant.here
-      c.end_gathers_at.new.self (ends-little now (scene fs tree sessions c.args.table.now c.end_gathers_at.new.self) (c.end_gathers_at.ensures.ends fs tree sessions)) c.end_gathers_at.ensures.elsewhere
+      let now = scene fs tree sessions c.args.table.now.entries c.inodes.locks in
+      swept-on at (scene fs tree sessions c.args.table.now.entries c.args.locks.now) now (c.inodes.invariant.swept fs tree sessions waits) c.inodes.at.0 c.inodes.invariant.here
+      c.end_gathers_at.new.self (ends-little now (scene fs tree sessions c.args.table.now.entries c.end_gathers_at.new.self) (c.end_gathers_at.ensures.ends fs tree sessions)) c.end_gathers_at.ensures.elsewhere
 
   same : (other : ℕ) → at other ≡ false → map.get c.end_gathers_at.new.self.states other ≡ map.get c.args.locks.now.states other
   same other off =
       same-elsewhere at c.inodes.locks c.end_gathers_at.new.self c.inodes.at.0 c.inodes.invariant.here c.end_gathers_at.ensures.elsewhere other off
       ∙ c.inodes.invariant.same other off
 
-  passed : (other : ℕ) (part : Part) → (c.inodes.at.0 < other → at other ≡ false) → may_end_by c.args.table.now c.end_gathers_at.new.self (other, part) ≡ false
+  passed : (other : ℕ) (part : Part) → (c.inodes.at.0 < other → at other ≡ false) → may_end_by c.args.table.now.entries c.end_gathers_at.new.self (other, part) ≡ false
   passed =
-      ends-passed at c.args.table.now c.args.locks.now c.inodes.locks c.end_gathers_at.new.self c.inodes.at.0 c.requires.elsewhere same c.inodes.invariant.lower
+      ends-passed at c.args.table.now.entries c.args.locks.now c.inodes.locks c.end_gathers_at.new.self c.inodes.at.0 c.requires.elsewhere same c.inodes.invariant.lower
       c.end_gathers_at.ensures.elsewhere c.end_gathers_at.ensures.done
 
 pub inodes-smaller : goal.inodes-smaller

@@ -9,9 +9,9 @@ decreases-inodes l = behind l.affected l.at.0
 
 abbrev pub invariant-inodes : goal.invariant-inodes
 invariant-inodes l = record {
-  swept : (fs : List ℕ) (tree : Nodes) (sessions : SessionTable) → WaitAt (set.contains l.affected) (scene fs tree sessions l.table l.fn.locks)
-      → IsSwept (set.contains l.affected) (scene fs tree sessions l.table l.fn.locks) (scene fs tree sessions l.table l.locks);
+  swept : (fs : List ℕ) (tree : Nodes) (sessions : SessionTable) → WaitAt (set.contains l.affected) (scene fs tree sessions l.table.entries l.fn.locks)
+      → IsSwept (set.contains l.affected) (scene fs tree sessions l.table.entries l.fn.locks) (scene fs tree sessions l.table.entries l.locks);
   same : (other : ℕ) → set.contains l.affected other ≡ false → map.get l.locks.states other ≡ map.get l.fn.locks.states other;
-  lower : (other : ℕ) (part : Part) → other < l.at.0 → may_end_by l.table l.locks (other, part) ≡ false;
+  lower : (other : ℕ) (part : Part) → other < l.at.0 → may_end_by l.table.entries l.locks (other, part) ≡ false;
   here : set.contains l.affected l.at.0 ≡ true;
 }

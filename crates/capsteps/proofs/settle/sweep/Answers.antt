@@ -1,28 +1,35 @@
 use Rattle.std.proofs.Common.{◌+◌, Some, sym, subst}
 use Rattle.std.specs.FinSet as set
 use Rattle.capacts.{proofs.Lockmachine.Alone.{nobody-done, nobody-kept}, specs.Lockmachine.Turns.{IsDue}}
-use Rattle.capsteps.{proofs.Common.{IsNext, Scene}, proofs.Sweeping.{fewer_behind, last-turn, next-turn, still-kept, swept-on}, proofs.settle.sweep.Goals.{After-advance_at}, specs.Begun.{ArePermittedIn}, specs.Sweep.{AreStill, IsSwept, StandsAt}}
+use Rattle.capsteps.{proofs.Common.{IsNext, plain, Scene}, proofs.Sweeping.{fewer_behind, last-turn, next-turn, still-kept, swept-on}, proofs.settle.sweep.Goals.{After-advance_at}, specs.Begun.{ArePermittedIn}, specs.Sweep.{AreStill, IsSwept, StandsAt}}
 use Rattle.capsteps.proofs.settle.sweep.Goals as goal
 
 module _ (c : After-advance_at) where
   abbrev first : Scene
-  first = c.args.scene.now
+  first = plain c.args.scene.now
 
   abbrev now : Scene
-  now = c.inodes.scene
+  now = plain c.inodes.scene
+
+  abbrev after : KeptScene
+  after = record c.inodes.scene { locks = c.advance_at.new.self }
 
   abbrev new : Scene
-  new = record now { locks = c.advance_at.new.self }
+  new = plain after
 
   more : IsSwept (set.contains c.args.affected.now) first new
   more =
-      swept-on (set.contains c.args.affected.now) first now c.inodes.invariant.swept c.inodes.place.at.0 c.inodes.invariant.stands.here c.advance_at.new.self
+      swept-on (set.contains c.args.affected.now) first now c.inodes.invariant.swept c.inodes.place.at.0 c.inodes.invariant.stands.here c.advance_at.new.self.locks
       c.advance_at.ensures.moves c.advance_at.ensures.elsewhere
 
   still : AreStill (set.contains c.args.affected.now) new
   still =
       let is = more in
       subst (AreStill (set.contains c.args.affected.now)) (sym is.is) (still-kept (set.contains c.args.affected.now) first new.locks c.requires.still is.queue is.states)
+
+  -- the locks alone change
+  rest : after ≡ record c.args.scene.now { locks = c.advance_at.new.self }
+  rest = ap (λ (s : KeptScene). record s { locks = c.advance_at.new.self }) c.inodes.invariant.rest
 
   -- it stands where it stood
   stands : StandsAt (set.contains c.args.affected.now) c.inodes.place new
@@ -72,5 +79,5 @@ pub advance_at-requires : goal.advance_at-requires
 advance_at-requires c = record {
   turn = c.inodes.invariant.stands.turn;
   alone = c.inodes.invariant.stands.alone;
-  permitted = λ k e on here. (let swept = c.inodes.invariant.swept in subst (ArePermittedIn c.args.known.now.sets) (sym swept.is) c.requires.permitted) k e here;
+  permitted = λ k e on here. (let swept = c.inodes.invariant.swept in subst (ArePermittedIn c.args.scene.now.table.kept) (sym swept.is) c.requires.permitted) k e here;
 }

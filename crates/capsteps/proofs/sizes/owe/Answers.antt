@@ -9,7 +9,7 @@ owed_of k e = owed (record { holder = k; entry = e })
 
 pub returns-then-has : goal.returns-then-has
 returns-then-has c =
-    let t : Table = c.args.table.now in
+    let t : Table = c.args.table.now.entries in
     let k : Holder = c.args.holder in
     let found : entry_at t k ≡ Some c.in-Some.entry = cc in
     let caches : has c.in-Some.entry.held Fc ≡ true = sym c.has.ensures ∙ c.if-has.true in
@@ -18,7 +18,7 @@ returns-then-has c =
 
 pub returns-else-has : goal.returns-else-has
 returns-else-has c =
-    let t : Table = c.args.table.now in
+    let t : Table = c.args.table.now.entries in
     let k : Holder = c.args.holder in
     let found : entry_at t k ≡ Some c.in-Some.entry = cc in
     let not_cached : has c.in-Some.entry.held Fc ≡ false = sym c.has.ensures ∙ c.if-has.false in
@@ -26,5 +26,5 @@ returns-else-has c =
 
 pub returns-in_default : goal.returns-in_default
 returns-in_default c =
-    let none : entry_at c.args.table.now c.args.holder ≡ None = cc in
-    none_found c.args.table.now c.args.holder (owed_of c.args.holder) none
+    let none : entry_at c.args.table.now.entries c.args.holder ≡ None = cc in
+    none_found c.args.table.now.entries c.args.holder (owed_of c.args.holder) none

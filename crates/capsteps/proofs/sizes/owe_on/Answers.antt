@@ -4,7 +4,7 @@ use Rattle.capsteps.proofs.sizes.owe_on.Goals as goal
 
 pub loop-number-preserved : goal.loop-number-preserved
 loop-number-preserved c =
-    let t : Table = c.args.table.now in
+    let t : Table = c.args.table.now.entries in
     let i : ℕ = c.loop-number.number-index in
     let cs : List ℕ = c.as_slice-numbers.result.now in
     let ks : List Holder = named c.args.ino cs in
@@ -18,7 +18,7 @@ loop-number-preserved c =
 
 pub returns : goal.returns
 returns c =
-    let t : Table = c.args.table.now in
+    let t : Table = c.args.table.now.entries in
     let cs : List ℕ = c.as_slice-numbers.result.now in
     let ks : List Holder = named c.args.ino cs in
     let past : length ks ≤ c.loop-number.number-index = omega (arith, c.loop-number-test.false, length-map cs (λ (n : ℕ). holder (record { 0 = n }) c.args.ino)) in

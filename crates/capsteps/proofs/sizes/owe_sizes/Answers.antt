@@ -43,7 +43,7 @@ more-owed done ino t = ap (λ (rows : List EntryRow). record t { rows = rows }) 
     all (row ∷ rows) = λ i. each_row done ino row i ∷ all rows i
 
 pub loop-ino-init : goal.loop-ino-init
-loop-ino-init c = record { owes = none-owed c.args.table.now; clients = c.requires }
+loop-ino-init c = record { owes = none-owed c.args.table.now.entries; clients = c.requires }
 
 pub loop-ino-preserved : goal.loop-ino-preserved
 loop-ino-preserved c =
@@ -55,14 +55,14 @@ loop-ino-preserved c =
       owes =
           c.owe_on.ensures
           ∙ ap (changed_where (is_of_inode ino) owed) c.loop-ino.invariant.owes
-          ∙ more-owed done ino c.args.table.now
-          ∙ ap (λ (sized : List Ino). changed_where (is_sized sized) owed c.args.table.now) (sym more);
+          ∙ more-owed done ino c.args.table.now.entries
+          ∙ ap (λ (sized : List Ino). changed_where (is_sized sized) owed c.args.table.now.entries) (sym more);
       clients =
           subst (λ (t : Table). All (λ row. IsTrue (has_session c.args.sessions.now row.holder.client.0)) t.rows) (sym c.owe_on.ensures)
-          (holders-stay (is_of_inode ino) owed (λ h. IsTrue (has_session c.args.sessions.now h.client.0)) c.loop-ino.table c.loop-ino.invariant.clients);
+          (holders-stay (is_of_inode ino) owed (λ h. IsTrue (has_session c.args.sessions.now h.client.0)) c.loop-ino.table.entries c.loop-ino.invariant.clients);
     }
 
 pub returns : goal.returns
 returns c =
     c.loop-ino.invariant.owes
-    ∙ ap (λ (sized : List Ino). changed_where (is_sized sized) owed c.args.table.now) (take_all c.loop-ino.ino-index c.args.sized.now c.loop-ino-test.false)
+    ∙ ap (λ (sized : List Ino). changed_where (is_sized sized) owed c.args.table.now.entries) (take_all c.loop-ino.ino-index c.args.sized.now c.loop-ino-test.false)

@@ -1,6 +1,6 @@
 use Rattle.std.proofs.Common.{◌≡◌, length, refl, sym, ap, subst, arith}
 use Rattle.capsteps.{proofs.EntryKept.{request-less, others-have_all}, proofs.EntryRequests.{below-of_request, effect-affected, keeps-of_request, affects-of_request}, specs.Begun.{AreCountedIn}, specs.EntryRequest.{StillKept, table_after}}
-use Rattle.capcore.{proofs.Begun.{kept_scene, on_err, one-begun}, proofs.Common.{Affected, changes-still, effect, effect_unless, Endings, entry_event, Event, Holder, none-judged, request-table, room-for, plain, Scene, State, view_of}, proofs.EntryWhole.{effect-answer}, specs.UnderWay.{HasBegun, MayBegin, event_of, state_of}, specs.declared.parts.Answer.TheVariants.{Requested}, specs.declared.parts.Effect.{Effect}, specs.declared.parts.MovingEvent.{MovingEvent}, specs.declared.parts.Parts.{Parts}}
+use Rattle.capcore.{proofs.Begun.{on_err, one-begun}, proofs.Common.{Affected, changes-still, effect, effect_unless, Endings, entry_event, Event, Holder, none-judged, request-table, room-for, plain, Scene, State, view_of}, proofs.EntryWhole.{effect-answer}, proofs.Unaffected.{kept_scene}, specs.UnderWay.{HasBegun, MayBegin, event_of, state_of}, specs.declared.parts.Answer.TheVariants.{Requested}, specs.declared.parts.Effect.{Effect}, specs.declared.parts.MovingEvent.{MovingEvent}, specs.declared.parts.Parts.{Parts}}
 use Rattle.capcore.proofs.parts.Parts.begin.Goals as goal
 
 -- for want of memory all is as it was
