@@ -20,7 +20,7 @@ on_err r p = grind arith
 -- ---- an event about one inode
 
 module _ (p q : Parts) (endings : Endings) (e : Event) (k : Holder) (may : MayBegin p e) (d : Direct) (by_itself : direct (state_of p) e ≡ d) (keeps : Keeps (state_of p) d)
-    (below : (count : ℕ) → AreGiven count (state_of p) → AreBelow count d.state) (is : (plain q.scene) ≡ d.state.scene) (left : q.messages.items ≡ p.messages.items) where
+    (below : (count : ℕ) → AreGiven count (state_of p) → AreBelow count d.state) (is : plain q.scene ≡ d.state.scene) (left : q.messages.items ≡ p.messages.items) where
   abbrev from : ℕ → Bool
   from = λ other. other == k.ino.0
 
@@ -35,12 +35,12 @@ module _ (p q : Parts) (endings : Endings) (e : Event) (k : Holder) (may : MayBe
 
   pub one-begun : (affected : Affected) (answer : Answer) → among affected ≡ from → answer_of answer ≡ d.answer → dropped_of answer ≡ []
       → IsNumbered answer p.scene.locks.locks.last q.scene.locks.locks.last → AffectsOne k.ino.0 old (plain q.scene) → IsTable q.scene.table.entries → StillKnown p.scene.table.entries q.scene.table.entries p.scene.table.kept q.scene.table.kept → ArePermittedIn q.scene.table.kept (plain q.scene)
-      → ((j : Holder) (f : Entry) → entry_at q.scene.table.entries j ≡ Some f → IsSubset f.held (held_at p.scene.table.entries j)) → IsLockMap q.scene.locks.locks
+      → ((j : Holder) (f : Entry) → entry_at q.scene.table.entries j ≡ Some f → IsSubset f.held (held_at p.scene.table.entries j)) → AreCountedIn q.scene → IsLockMap q.scene.locks.locks
       → HaveRoomFor (length q.scene.locks.locks.queue) endings → IsJudged endings.judged (plain q.scene) → MayEndAt affected q.scene.table.kept (plain q.scene) endings.changes → HasRoom q.messages q.scene.locks.locks → HasPlaces answer (length q.scene.locks.locks.queue)
       → AreChanges endings.changes.items (view_of old) (view_of (state_of q)) → HasBegun p e (record { affected = affected; answer = answer }) q endings
-  one-begun affected answer same answers none number one table still permitted less order room judged at left_room places noted =
+  one-begun affected answer same answers none number one table still permitted less counted order room judged at left_room places noted =
       let affects : Affects from old (state_of q) =
-      subst (λ (ms : List Ended). Affects from old (record { scene = (plain q.scene); messages = ms })) (sym left) (affects-one k.ino.0 old (plain q.scene) may.whole.0 one) in
+      subst (λ (ms : List Ended). Affects from old (record { scene = plain q.scene; messages = ms })) (sym left) (affects-one k.ino.0 old (plain q.scene) may.whole.0 one) in
       record {
         is = one-state;
         answer = answers ∙ sym (ap (λ (x : Direct). x.answer) by_itself);
@@ -58,6 +58,7 @@ module _ (p q : Parts) (endings : Endings) (e : Event) (k : Holder) (may : MayBe
           room = room;
           at = at;
         };
+        counted = counted;
         room = left_room;
         places = places;
         noted = noted;

@@ -23,9 +23,9 @@ left-order b locks client order = grind (arith, without_requests_of-kept)
 
 -- ---- an event that nothing rejects
 
-module _ (p q : Parts) (endings : Endings) (client : ClientId) (change : SessionChange) (may : MayBegin p (session_event client change)) (is : (plain q.scene) ≡ (session_changed (state_of p) client change).scene)
+module _ (p q : Parts) (endings : Endings) (client : ClientId) (change : SessionChange) (may : MayBegin p (session_event client change)) (is : plain q.scene ≡ (session_changed (state_of p) client change).scene)
     (left : q.messages.items ≡ messages_left (is_end change) p.messages.items client) (inos : InoSet) (reaches : ReachesClient client p.scene.table.entries p.scene.locks.locks inos)
-    (kept : (k : Holder) (f : Entry) → entry_at q.scene.table.entries k ≡ Some f → known_of q.scene.table.kept k ≡ known_of p.scene.table.kept k) (permitted : ArePermittedIn q.scene.table.kept (plain q.scene)) where
+    (kept : (k : Holder) (f : Entry) → entry_at q.scene.table.entries k ≡ Some f → known_of q.scene.table.kept k ≡ known_of p.scene.table.kept k) (permitted : ArePermittedIn q.scene.table.kept (plain q.scene)) (counted : AreCountedIn q.scene) where
   abbrev e : Event
   e = session_event client change
 
@@ -82,6 +82,7 @@ module _ (p q : Parts) (endings : Endings) (client : ClientId) (change : Session
           room = room;
           at = at;
         };
+        counted = counted;
         room = left_room;
         places = places;
         noted = noted;

@@ -2,7 +2,7 @@
 use Rattle.std.specs.Prelude.{◌≡◌, ◌≤◌, ◌+◌, ℕ, List, [], All, length, None, vec_capacity}
 use Rattle.capbits.specs.declared.{ids.ClientId.{ClientId}, ids.Ino.{Ino}}
 use Rattle.captable.specs.Table.{IsTable}
-use Rattle.capsteps.specs.{Affected.{Affects, Knows}, Begun.{ArePermittedIn, IsReady, among}, Capacts.Known.{KnownSets, known_in, AreKnown, StillKnown}, Capacts.declared.operations.OperationRef.{OperationRef}, Capacts.declared.operations.OperationRef.TheVariants.{Get, Alter, Unlink, Rmdir, Rename}, Capevents.declared.event.Event.{Event}, Capevents.declared.outcome.Ended.{Ended}, Capevents.declared.reply.Reply.{Reply}, Capnotes.DueEndings.{HasRoom, but_for}, Caprules.Direct.{direct}, Caprules.Judge.{judged}, Caprules.Noted.{view_of}, Caprules.Sound.{IsSound, AreGiven, NumbersLeft}, Caprules.State.{State}, Capview.Changes.{AreChanges}, EntryRequest.{entry_event, entry_answer}, Lockmachine.Counts.{AreCounted}, Lockmachine.Locks.{IsLockMap}, Lockmachine.Scene.{Scene, plain}, SessionChange.{session_event}, declared.endings.Endings.{Endings}}
+use Rattle.capsteps.specs.{Affected.{Affects, Knows}, Begun.{AreCountedIn, ArePermittedIn, IsReady, among}, Capacts.Known.{KnownSets, known_in, AreKnown, StillKnown}, Capacts.declared.operations.OperationRef.{OperationRef}, Capacts.declared.operations.OperationRef.TheVariants.{Get, Alter, Unlink, Rmdir, Rename}, Capevents.declared.event.Event.{Event}, Capevents.declared.outcome.Ended.{Ended}, Capevents.declared.reply.Reply.{Reply}, Capnotes.DueEndings.{HasRoom, but_for}, Caprules.Direct.{direct}, Caprules.Judge.{judged}, Caprules.Noted.{view_of}, Caprules.Sound.{IsSound, AreGiven, NumbersLeft}, Caprules.State.{State}, Capview.Changes.{AreChanges}, EntryRequest.{entry_event, entry_answer}, Lockmachine.Locks.{IsLockMap}, Lockmachine.Scene.{Scene, plain}, SessionChange.{session_event}, declared.endings.Endings.{Endings}}
 use Rattle.capsteps.specs.Caprules.Direct as rules
 use Rattle.capcore.specs.declared.{parts.Answer.{Answer}, parts.Answer.TheVariants.{Done, Dropped, Requested, Awaited}, parts.Effect.{Effect}, parts.MovingEvent.{MovingEvent}, parts.MovingEvent.TheVariants.{OfEntry, OfLock, Flush, OfSession}, parts.Parts.{Parts}}
 
@@ -16,8 +16,7 @@ AreKept sets s = AreKnown sets s × ArePermittedIn sets s
 -- what the parts are between two steps: sound, with room for each message that is to come, with these of each entry, and of each
 -- gather how many clients it waits for
 abbrev pub IsWhole : Parts → Type 0
-IsWhole p =
-    IsSound (state_of p) × HasRoom p.messages p.scene.locks.locks × AreKept p.scene.table.kept (plain p.scene) × AreCounted p.scene.table.entries p.scene.locks
+IsWhole p = IsSound (state_of p) × HasRoom p.messages p.scene.locks.locks × AreKept p.scene.table.kept (plain p.scene) × AreCountedIn p.scene
 
 -- ---- the event
 
@@ -90,7 +89,7 @@ pub record HasBegun (p : Parts) (e : Event) (effect : Effect) (q : Parts) (endin
   pub still : StillKnown p.scene.table.entries q.scene.table.entries p.scene.table.kept q.scene.table.kept
   pub knows : Knows (known_in q.scene.table.kept) (plain p.scene) q.scene.table.entries
   pub ready : IsReady effect.affected q.scene.table.kept (plain q.scene) endings
-  pub counted : AreCounted q.scene.table.entries q.scene.locks
+  pub counted : AreCountedIn q.scene
   pub room : HasRoom q.messages q.scene.locks.locks
   pub places : HasPlaces effect.answer (length q.scene.locks.locks.queue)
   pub noted : AreChanges endings.changes.items (view_of (state_of p)) (view_of (state_of q))

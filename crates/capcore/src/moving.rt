@@ -1,7 +1,7 @@
 //! The pieces of a step that may move locks: its event by itself, the settling of locks with the end of the step, and what it says.
 ghost use Rattle.std.specs.{List.{find}, Prelude.{◌≡◌, ◌+◌, ◌≤◌, ◌++◌, List, length, IfOk, OnErr, vec_capacity}};
 ghost use Rattle.captable.specs.{Known.{known_of}, declared.entry.Holder.{Holder}};
-ghost use Rattle.capsteps.specs.{Begun.{ArePermittedIn}, Capacts.Known.{AreKnown}, Capevents.declared.outcome.Ended.{Ended as AnEnded}, Capnotes.DueEndings.{HaveOwnNumbers, but_for, is_of_ticket}, Caprules.Direct.{awaited_as, reply_of, shown}, Caprules.State.{State}, Lockmachine.Counts.{AreCounted}, Lockmachine.Scene.{plain}, SessionChange.{session_changed, session_event}};
+ghost use Rattle.capsteps.specs.{Begun.{ArePermittedIn}, Capacts.Known.{AreKnown}, Capevents.declared.outcome.Ended.{Ended as AnEnded}, Capnotes.DueEndings.{HaveOwnNumbers, but_for, is_of_ticket}, Caprules.Direct.{awaited_as, reply_of, shown}, Caprules.State.{State}, Lockmachine.Scene.{plain}, SessionChange.{session_changed, session_event}};
 ghost use Rattle.capsteps.specs.Capevents.declared.event.Event.TheVariants as event;
 ghost use Rattle.capcore.specs.UnderWay.{HasBegun, HasPlaces, IsWhole, MayBegin, answer_of, operation_event, dropped_of, earlier_of, event_of, state_of};
 
@@ -177,8 +177,7 @@ impl Parts {
         ensures changes { endings.new.changes ≡ endings.old.changes }
         ensures messages { self.new.messages.items ≡ self.old.messages.items ++ earlier_of answer endings.old.for_clients.items }
         ensures room { vec_capacity self.old.messages ≤ vec_capacity self.new.messages }
-        ensures kept { self.new.scene.table.kept ≡ self.old.scene.table.kept }
-        ensures counted { AreCounted self.old.scene.table.entries self.old.scene.locks → AreCounted self.new.scene.table.entries self.new.scene.locks }
+        ensures rest { self.new.scene ≡ record self.old.scene { table = record self.old.scene.table { entries = self.new.scene.table.entries } } }
     {
         let (reply, for_history) = match answer {
             Answer::Done => (Reply::Done, Reply::Done),

@@ -25,8 +25,5 @@ pub mod FirstServed
 pub mod KeptWants
 pub mod Verdicts
 pub mod Counted
-<<<<<<< HEAD
-=======
 pub mod GivesUp
->>>>>>> 7b9ee9ac1eb0f9e0055d3b186602c4f100dac3a4
 pub mod CountsStay

@@ -37,7 +37,7 @@ use capspec::FsName;
 use captable::{CapTable, Entry, EntryRow};
 use inotree::Tree;
 use locktable::{Head, LockState, StableState, serves, target};
-use onelock::{ends_by_count, holders_outside, is_off_target};
+use onelock::{ends_by_count, has_outside, holders_outside, is_off_target};
 use sessiontab::Sessions;
 use std::alloc::{AllocError, Global};
 use std::fmt;
