@@ -20,20 +20,9 @@ use Rattle.captable.specs.Calls.{change_rows, is_of_inode}
 use Rattle.captable.specs.Table.{Table, is_row_of}
 use Rattle.onelock.specs.Held.{has_outside, holders_outside}
 use Rattle.onelock.specs.Lock.{LockId}
-<<<<<<< HEAD
-<<<<<<< HEAD
-use Rattle.lockmachine.specs.Counts.{CountedLocks, IsCounted, AreCounted, count_of, with_ino, without_ino}
-use Rattle.lockmachine.specs.Inodes.{count_in, in_sync, lock_in, no_counts}
-=======
 use Rattle.onelock.specs.Counts.{count_in, no_counts}
 use Rattle.lockmachine.specs.Counts.{CountedLocks, IsCounted, AreCounted, count_of, with_ino, without_ino}
 use Rattle.lockmachine.specs.Inodes.{in_sync, lock_in}
->>>>>>> 7b9ee9ac1eb0f9e0055d3b186602c4f100dac3a4
-=======
-use Rattle.onelock.specs.Counts.{count_in, no_counts}
-use Rattle.lockmachine.specs.Counts.{CountedLocks, IsCounted, AreCounted, count_of, with_ino, without_ino}
-use Rattle.lockmachine.specs.Inodes.{in_sync, lock_in}
->>>>>>> 43b33b10a563153f0a9a5eb883ec42b66cf8c8f1
 use Rattle.lockmachine.specs.Locks.{lock_at}
 
 -- ---- where the same is held
