@@ -497,6 +497,7 @@ impl CapTable {
     pub fn first_on(&self, ino: Ino) -> Option<Holder>
         ensures first { result ≡ first_holder (entries_on self.now.entries ino) }
         ensures sound { IsTable self.now.entries }
+        ensures beside { AreBeside self.now }
     {
         let key = self.lists.first_of_ino(ino)?;
         holder_at(&self.lists, key)
