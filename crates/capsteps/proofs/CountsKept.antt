@@ -1,10 +1,10 @@
 -- What changes of the entries leave of the counts of gathers.
-use Rattle.std.{proofs.Common.{◌≡◌, ◌≢◌, ℕ, ◌+◌, ◌-◌, Bool, true, false, not, cond, ◌&&◌, ◌==◌, Option, Some, None, List, [], ◌∷◌, refl, sym, ap, subst, ◌∙◌, arith, map as each, filter, length, true≢false}, proofs.lemmas.Bool.{eqb-true, eqb-false}, specs.Cmp.{nat_eq_equiv}, specs.List.{find, IsDistinct}, specs.Option.{option_map, option_map_or}}
+use Rattle.std.{proofs.Common.{◌≡◌, ◌≢◌, ℕ, ◌+◌, ◌-◌, Bool, true, false, not, cond, ◌&&◌, ◌==◌, Option, Some, None, List, [], ◌∷◌, refl, sym, ap, subst, ◌∙◌, arith, map as each, filter, is_some, length, true≢false}, proofs.lemmas.Bool.{eqb-true, eqb-false}, specs.Cmp.{nat_eq_equiv}, specs.List.{find, IsDistinct}, specs.Option.{option_map, option_map_or}}
 use Rattle.std.specs.FinMap as map
 use Rattle.capbits.{proofs.Emptiness.{has-is_empty, is_empty-no_caps}, specs.Caps.{has}, specs.Sets.{no_caps}, specs.declared.cap.Part.TheVariants.{A, L, X, F}}
 use Rattle.captable.{proofs.ByInode.{entries_on-changed, entries_on-without}, proofs.Counting.{bit, with_change}, proofs.Tally.{passes_found, tally, tally-changed, tally-first, tally-more, tally-without}}
 use Rattle.capacts.specs.Lockmachine.{Counts.{AreCounted, AreCountedAt, CountedLocks, IsCounted, count_at, count_of, given_up, has_outside, holders_outside}, Inodes.{CountMap, is_gathering, lock_in}, Moves.{LockId}, Runs.{ChangesLocksOf}}
-use Rattle.capsteps.proofs.Common.{Caps, changed, Entry, entry_at, EntryRow, Gather, has-minus, has-none, has-of_part, Holder, holders_of_rows, Ino, InodeLocks, is_empty, is_of_inode, is_row_of, IsSubset, lock_at, LockMap, LockState, minus, new_entry, no_entry, none_found, of_part, opened, outside, Part, row_of, row_of-entry, same, same_caps, Stable, StableState, Table, without}
+use Rattle.capsteps.proofs.Common.{Caps, changed, Entry, entry_at, EntryRow, Gather, has-minus, has-none, has-of_part, Holder, holders_of_rows, Ino, InodeLocks, is_empty, is_of_inode, is_row_of, IsSubset, lock_at, LockMap, LockState, minus, new_entry, no_entry, none_found, of_part, opened, outside, P, Part, row_of, row_of-entry, same, same_caps, Stable, StableState, Table, with_entry, without}
 
 -- ---- the rows that count
 
@@ -92,7 +92,16 @@ counted-opened l t k =
     passes : (ino : ℕ) (part : Part) (to : StableState) → is_against ino part to (record { holder = k; entry = new_entry }) ≡ false
     passes ino part to = grind (arith, nothing-outside)
 
+-- the holder has one, an old one or a new
+pub counted-entry : (l : CountedLocks) (t : Table) (k : Holder) → AreCounted t l → AreCounted (with_entry t k) l
+counted-entry l t k are = elim (is_some (entry_at t k)) as (λ b. AreCounted (cond b t (opened t k)) l) [ true ↦ are | false ↦ counted-opened l t k are ]
+
 -- ---- what a client gives up
+
+-- what is left of an entry whose client gives these up: with the pin it goes
+pub counted-less : (t : Table) (k : Holder) (caps : Caps) (g : Entry → Entry) (new : CountedLocks) → (has caps P ≡ false → AreCounted (changed t k g) new) → (has caps P ≡ true → AreCounted (without t k) new)
+    → AreCounted (cond (has caps P) (without t k) (changed t k g)) new
+counted-less t k caps g new rest gone = elim (has caps P) as (λ b. has caps P ≡ b → AreCounted (cond b (without t k) (changed t k g)) new) [ true ↦ gone | false ↦ rest ] refl
 
 -- one row goes from among those that count, or stays, as it has something outside before and after
 less_by : (now was : ℕ) (on before after : Bool) → now + bit (on && before) ≡ was + bit (on && after) → (after ≡ true → before ≡ true) → now + bit (on && (before && not after)) ≡ was
