@@ -3,6 +3,7 @@ use Rattle.std.{proofs.Common.{◌≡◌, ◌≢◌, ℕ, ◌+◌, ◌-◌, Bool
 use Rattle.std.specs.FinMap as map
 use Rattle.capbits.{proofs.Emptiness.{has-is_empty, is_empty-no_caps}, specs.Caps.{has}, specs.Sets.{no_caps}, specs.declared.cap.Part.TheVariants.{A, L, X, F}}
 use Rattle.captable.{proofs.ByInode.{entries_on-changed, entries_on-without}, proofs.Counting.{bit, with_change}, proofs.Tally.{passes_found, tally, tally-changed, tally-first, tally-more, tally-without}}
+use Rattle.capacts.proofs.GivenUp.{nothing_outside}
 use Rattle.capacts.specs.Lockmachine.{Counts.{AreCounted, AreCountedAt, CountedLocks, IsCounted, count_at, count_of, given_up, has_outside, holders_outside}, Inodes.{CountMap, is_gathering, lock_in}, Moves.{LockId}, Runs.{ChangesLocksOf}}
 use Rattle.capsteps.proofs.Common.{Caps, changed, Entry, entry_at, EntryRow, Gather, has-minus, has-none, has-of_part, Holder, holders_of_rows, Ino, InodeLocks, is_empty, is_of_inode, is_row_of, IsSubset, lock_at, LockMap, LockState, minus, new_entry, no_entry, none_found, of_part, opened, outside, P, Part, row_of, row_of-entry, same, same_caps, Stable, StableState, Table, with_entry, without}
 
@@ -75,13 +76,6 @@ outside-held part to k e f held = ap (λ (caps : Caps). not (is_empty (minus (of
 
 -- ---- a new entry
 
-nothing-outside : (part : Part) (to : StableState) (k : Holder) → has_outside part to (record { holder = k; entry = new_entry }) ≡ false
-nothing-outside part to k = ap (λ (caps : Caps). not (is_empty caps)) (same_caps (outside part to (record { holder = k; entry = new_entry })) no_caps (λ c. simp (has-minus, has-of_part, has-none))) ∙ none
-  where
-    none : not (is_empty no_caps) ≡ false
-    unfolding is_empty no_caps
-    none = refl
-
 pub counted-opened : (l : CountedLocks) (t : Table) (k : Holder) → AreCounted t l → AreCounted (opened t k) l
 counted-opened l t k =
     counted-as l t (opened t k) (λ ino part from to gathers.
@@ -90,7 +84,11 @@ counted-opened l t k =
     omega (arith, outside-tally (opened t k) ino part to, outside-tally t ino part to, tally-more p t.rows new, ap bit (passes ino part to)))
   where
     passes : (ino : ℕ) (part : Part) (to : StableState) → is_against ino part to (record { holder = k; entry = new_entry }) ≡ false
-    passes ino part to = grind (arith, nothing-outside)
+    passes ino part to = ap (λ b. is_of_inode (on_number ino) (record { holder = k; entry = new_entry }) && b) (nothing_outside part to (record { holder = k; entry = new_entry }) refl) ∙ never (k.ino.0 == ino)
+      where
+        never : (b : Bool) → (b && false) ≡ false
+        never true = refl
+        never false = refl
 
 -- the holder has one, an old one or a new
 pub counted-entry : (l : CountedLocks) (t : Table) (k : Holder) → AreCounted t l → AreCounted (with_entry t k) l
@@ -199,7 +197,7 @@ module _ (old new : CountedLocks) (t : Table) (k : Holder) (e : Entry) (left : C
   less-without none once = less (without t k) fewer
     where
       nothing : (part : Part) (to : StableState) → has_outside part to reduced ≡ false
-      nothing part to = ap (λ (caps : Caps). not (is_empty (minus (of_part part caps) (row_of part to k.client)))) none ∙ nothing-outside part to k
+      nothing part to = nothing_outside part to reduced none
 
       fewer : (ino : ℕ) (part : Part) (to : StableState) → tally (is_against ino part to) (without t k).rows + bit (goes ino part to) ≡ tally (is_against ino part to) t.rows
       fewer ino part to = less_by (tally (is_against ino part to) (without t k).rows) (tally (is_against ino part to) t.rows) (k.ino.0 == ino) (has_outside part to own) (has_outside part to reduced)
