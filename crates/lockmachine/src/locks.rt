@@ -12,7 +12,7 @@ ghost use Rattle.sessiontab.specs.Table.{SessionTable};
 ghost use Rattle.lockmachine.specs.declared.moves.Move.TheVariants.{Settled};
 ghost use Rattle.lockmachine.specs.declared.request.Request.{Request};
 ghost use Rattle.lockmachine.specs.Counts as counted;
-ghost use Rattle.lockmachine.specs.Counts.{AreCounted, AreCountedAt, LockId};
+ghost use Rattle.lockmachine.specs.Counts.{AreCounted, AreCountedAt};
 ghost use Rattle.lockmachine.specs.Inodes.{HaveCounts, is_gathering};
 ghost use Rattle.lockmachine.specs.Locks as words;
 ghost use Rattle.lockmachine.specs.Requests as requests;

@@ -1,5 +1,6 @@
-use Rattle.std.proofs.Common.{◌==◌, Bool, Option, Some, subst, ap, ◌∙◌, arith}
-use Rattle.capacts.proofs.{Common.{Caps, Holder, permitted}, Walking.{Walking, walking-begins, walking-more, walking-smaller, walking-ends}, renewing.renew_client.Goals.{After-next_of-next}}
+use Rattle.std.{proofs.Common.{◌≡◌, ◌==◌, Bool, Option, Some, subst, ap, ◌∙◌}, proofs.lemmas.Bool.{eqb-true}}
+use Rattle.captable.specs.Calls.{newer_in}
+use Rattle.capacts.proofs.{Common.{Caps, Holder, holders_of_rows, permitted}, Renewed.{passing}, Walking.{Walking, walking-begins, walking-passes, walking-more, walking-smaller, walking-ends}, renewing.renew_client.Goals.{After-next_of-next}}
 use Rattle.capacts.proofs.renewing.renew_client.Goals as goal
 
 pub holders-init : goal.holders-init
@@ -16,15 +17,23 @@ may c = permitted c.args.policy.now.fs.now c.args.policy.now.tree.now c.args.pol
 here : (c : After-next_of-next) → Walking (of c) (may c) c.args.table.now c.holders.table (Some c.in-Some.own)
 here c = subst (λ (at : Option Holder). Walking (of c) (may c) c.args.table.now c.holders.table at) c.in-Some.is c.holders.invariant
 
+-- the next of its client is the next of the client
+next : (c : After-next_of-next) → c.next_of-next.result ≡ newer_in (holders_of_rows (passing (of c) c.keep_permitted.new.self.entries)) c.in-Some.own
+next c =
+    let own = c.in-Some.own in
+    let same_client : own.client.0 ≡ c.args.client.0 =
+    eqb-true own.client.0 c.args.client.0 (walking-passes (of c) (may c) c.args.table.now c.holders.table own (here c) c.first_of-next.ensures.sound c.first_of-next.ensures.beside) in
+    c.next_of-next.ensures.after ∙ ap (λ n. newer_in (holders_of_rows (passing (λ k. k.client.0 == n) c.keep_permitted.new.self.entries)) own) same_client
+
 pub holders-preserved : goal.holders-preserved
 holders-preserved c =
     walking-more (of c) (may c) c.args.table.now c.holders.table c.in-Some.own (here c) c.first_of-next.ensures.sound c.first_of-next.ensures.beside
-    c.permitted-permitted.result c.keep_permitted.new.self c.keep_permitted.ensures c.permitted-permitted.ensures c.next_of-next.result c.next_of-next.ensures.after
+    c.permitted-permitted.result c.keep_permitted.new.self c.keep_permitted.ensures c.permitted-permitted.ensures c.next_of-next.result (next c)
 
 pub holders-smaller : goal.holders-smaller
 holders-smaller c =
     rw c.in-Some.is (walking-smaller (of c) (may c) c.args.table.now c.holders.table c.in-Some.own (here c) c.first_of-next.ensures.sound c.first_of-next.ensures.beside
-    c.permitted-permitted.result c.keep_permitted.new.self c.keep_permitted.ensures c.next_of-next.result c.next_of-next.ensures.after)
+    c.permitted-permitted.result c.keep_permitted.new.self c.keep_permitted.ensures c.next_of-next.result (next c))
 
 pub returns : goal.returns
 returns c = record {
