@@ -7,7 +7,7 @@ use Rattle.caprules.specs.Lockmachine.{Counts.{IsCounted, LockId, given_up, has_
 use Rattle.capacts.proofs.Common.{ClientId, EntryRow, Ino, no_caps, Table}
 
 -- who holds nothing, holds nothing that a state does not allow
-nothing_outside : (part : Part) (state : StableState) (row : EntryRow) → row.entry.held ≡ no_caps → has_outside part state row ≡ false
+pub nothing_outside : (part : Part) (state : StableState) (row : EntryRow) → row.entry.held ≡ no_caps → has_outside part state row ≡ false
 nothing_outside part state row nothing =
     ap not ((is_empty-no_caps (outside part state row)).1 (same_caps (outside part state row) no_caps none))
   where

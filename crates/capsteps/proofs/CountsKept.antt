@@ -5,7 +5,7 @@ use Rattle.capbits.{proofs.Emptiness.{has-is_empty, is_empty-no_caps}, specs.Cap
 use Rattle.captable.{proofs.ByInode.{entries_on-changed, entries_on-without}, proofs.Counting.{bit, with_change}, proofs.Tally.{passes_found, tally, tally-changed, tally-first, tally-more, tally-without}}
 use Rattle.capacts.proofs.GivenUp.{nothing_outside}
 use Rattle.capacts.specs.Lockmachine.{Counts.{AreCounted, AreCountedAt, CountedLocks, IsCounted, count_at, count_of, given_up, has_outside, holders_outside}, Inodes.{CountMap, is_gathering, lock_in}, Moves.{LockId}, Runs.{ChangesLocksOf}}
-use Rattle.capsteps.proofs.Common.{Caps, changed, Entry, entry_at, EntryRow, Gather, has-minus, has-none, has-of_part, Holder, holders_of_rows, Ino, InodeLocks, is_empty, is_of_inode, is_row_of, IsSubset, lock_at, LockMap, LockState, minus, new_entry, no_entry, none_found, of_part, opened, outside, P, Part, row_of, row_of-entry, same, same_caps, Stable, StableState, Table, with_entry, without}
+use Rattle.capsteps.proofs.Common.{Cap, Caps, changed, Entry, entry_at, EntryRow, Gather, has-minus, has-none, has-of_part, Holder, holders_of_rows, Ino, InodeLocks, is_empty, is_of_inode, is_row_of, IsSubset, lock_at, LockMap, LockState, minus, new_entry, no_entry, none_found, of_part, opened, outside, P, Part, row_of, row_of-entry, same, same_caps, Stable, StableState, Table, with_entry, without}
 
 -- ---- the rows that count
 
@@ -49,7 +49,7 @@ pub counted-at : (table : Table) (old new : CountedLocks) (at : ℕ) → new.cou
 counted-at table old new at counts changes here are ino = by_place (ino == at) refl
   where
     by_place : (b : Bool) → (ino == at) ≡ b → AreCountedAt table new ino
-    by_place true on = subst (AreCountedAt table new) (sym (eqb-true ino at on)) here
+    by_place true on part = subst (AreCountedAt table new) (sym (eqb-true ino at on)) here part
     by_place false off part =
         subst (λ (m : CountMap). IsCounted table (ino, part) (count_at m ino part) (lock_at new.locks ino part)) (sym counts)
         (subst (IsCounted table (ino, part) (count_of old (ino, part))) (sym (changes.others ino part (eqb-false ino at off))) (are ino part))
@@ -68,7 +68,11 @@ counted-rows l t f same_holder same_outside =
     outside-tally (record t { rows = each f t.rows }) ino part to ∙ tally-each (is_against ino part to) f (against ino part from to gathers) t.rows ∙ sym (outside-tally t ino part to))
   where
     against : (ino : ℕ) (part : Part) (from to : StableState) → lock_at l.locks ino part ≡ Some (Gather from to) → (row : EntryRow) → is_against ino part to (f row) ≡ is_against ino part to row
-    against ino part from to gathers row = grind (arith, same_holder, same_outside)
+    against ino part from to gathers row = ap (λ (h : Holder). (h.ino.0 == ino) && has_outside part to (f row)) (same_holder row) ∙ by_inode (row.holder.ino.0 == ino) refl
+      where
+        by_inode : (b : Bool) → (row.holder.ino.0 == ino) ≡ b → (b && has_outside part to (f row)) ≡ (b && has_outside part to row)
+        by_inode true here = same_outside row part from to (ap (λ n. lock_at l.locks n part) (eqb-true row.holder.ino.0 ino here) ∙ gathers)
+        by_inode false off = refl
 
 -- what is outside depends on the holder and on what is held
 outside-held : (part : Part) (to : StableState) (k : Holder) (e f : Entry) → f.held ≡ e.held → has_outside part to (record { holder = k; entry = f }) ≡ has_outside part to (record { holder = k; entry = e })
@@ -118,7 +122,7 @@ less-outside part to k e f less is = by_test (is_empty (outside part to (record 
 
     by_test : (b : Bool) → is_empty (outside part to (record { holder = k; entry = e })) ≡ b → not b ≡ true
     by_test false found = refl
-    by_test true found = sym (ap not (is_empty-no_caps (outside part to (record { holder = k; entry = f })).1 (same_caps (outside part to (record { holder = k; entry = f })) no_caps (nothing found)))) ∙ is
+    by_test true found = sym (ap not ((is_empty-no_caps (outside part to (record { holder = k; entry = f }))).1 (same_caps (outside part to (record { holder = k; entry = f })) no_caps (nothing found)))) ∙ is
 
 -- no lock of the holder's inode is in a gather
 module _ (l : CountedLocks) (t : Table) (k : Holder) (idle : option_map_or is_gathering (map.get l.locks.states k.ino.0) false ≡ false) where
@@ -215,7 +219,7 @@ module _ (l : CountedLocks) (t : Table) (k : Holder) (none : entry_at t k ≡ No
   not_found = no_entry (find (is_row_of k) t.rows) none
 
   pub none-changed : (f : Entry → Entry) → AreCounted t l → AreCounted (changed t k f) l
-  none-changed f = subst (λ (u : Table). AreCounted u l) (sym (none_found t k f none))
+  none-changed f = subst (λ (u : Table). AreCounted u l) (none_found t k f none)
 
   pub none-without : IsDistinct same (holders_of_rows t.rows) → AreCounted t l → AreCounted (without t k) l
   none-without once = counted-as l t (without t k) (λ ino part from to gathers.
