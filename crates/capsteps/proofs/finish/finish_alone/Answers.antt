@@ -4,7 +4,7 @@ use Rattle.std.specs.FinSet as set
 use Rattle.capbits.specs.Sets.{no_caps}
 use Rattle.captable.proofs.OneByOne.{one_at_once}
 use Rattle.capacts.specs.Known.{HasAll}
-use Rattle.capsteps.{proofs.Common.{AreCounted, Caps, changed_by, changed_where, Entry, entry_at, entry_of, entry_under, EntryRow, find_passes, found-contains, Holder, InodeLocks, is_row_of, IsTable, kept-as, kept-none, KeptScene, KeptTable, known_anew, known_in, known_of, KnownAnew, KnownSets, meet, none_found, OthersHaveAll, permitted_of, plain, remade, renumbered, row_found, row_of-entry, same, same-is, same_equiv, Scene, Table, told-less, told_at, told_set}, proofs.Finishing.{none-sized, each-alike, same-issue_row, same-renumbered}, proofs.IssuedRows.{counted-issued}, proofs.finish.finish_alone.Goals.{After-match-find, in-Some, in_default}, specs.Affected.{finished_at, finished_entry, forget_among, told_then}, specs.Begun.{AreCountedIn}, specs.Serves.{EndsAt}}
+use Rattle.capsteps.{proofs.Common.{AreCounted, Caps, changed_by, changed_where, Entry, entry_at, entry_of, entry_under, EntryRow, find_passes, found-contains, Holder, InodeLocks, is_row_of, IsTable, kept-as, kept-none, KeptScene, KeptTable, known_anew, known_in, known_of, KnownAnew, KnownSets, meet, none_found, OthersHaveAll, permitted_of, plain, remade, renumbered, row_found, row_of-entry, same, same-is, same_equiv, Scene, Table, told-less, told_at, told_set}, proofs.Finishing.{none-sized, each-alike, same-issue_row, same-renumbered}, proofs.IssuedRows.{counted-issued}, proofs.finish.finish_alone.Goals.{After-forget_affected, in-Some, in_default}, specs.Affected.{finished_at, finished_entry, forget_among, told_then}, specs.Begun.{AreCountedIn}, specs.Serves.{EndsAt}}
 use Rattle.capsteps.proofs.finish.finish_alone.Goals as goal
 
 -- Where each other entry on the holder's inode has all, the end of a step at the inode is that of the holder's entry.
@@ -79,7 +79,7 @@ finish_row-requires c =
           (found-contains (is_row_of k) t.rows (record { holder = k; entry = c.in-Some.entry }) (row_of-entry t k c.in-Some.entry found));
     }
 
-module _ (c : After-match-find) where
+module _ (c : After-forget_affected) where
   abbrev settled : Scene
   settled = plain c.args.scene.now
 
@@ -122,14 +122,13 @@ module _ (c : After-match-find) where
   all_changed = one.changed ∙ alone-changed was settled k c.requires.others c.find.ensures.sound
 
 pub returns-clause-ends : goal.returns-clause-ends
-returns-clause-ends f =
-    let c = (goal.at.returns-clause-ends f).After-match-find in
+returns-clause-ends c =
     let ended = one c in
-    subst (λ (u : KeptTable). EndsAt (set.contains f.args.affected.now) [] (was c) u.kept (settled c) (plain f.forget_affected.new.scene)) (sym f.forget_affected.ensures.table)
-    (subst (λ (at : ℕ → Bool). EndsAt at [] (was c) c.match-find.scene.table.kept (settled c) (plain f.forget_affected.new.scene)) (sym f.requires.alone) (record {
+    subst (λ (u : KeptTable). EndsAt (set.contains c.args.affected.now) [] (was c) u.kept (settled c) (plain c.forget_affected.new.scene)) (sym c.forget_affected.ensures.table)
+    (subst (λ (at : ℕ → Bool). EndsAt at [] (was c) c.match-find.scene.table.kept (settled c) (plain c.forget_affected.new.scene)) (sym c.requires.alone) (record {
       finished =
-          f.forget_affected.ensures.left
-          ∙ (λ i. forget_among (f.requires.alone i) (plain (ended.rest i)))
+          c.forget_affected.ensures.left
+          ∙ (λ i. forget_among (c.requires.alone i) (plain (ended.rest i)))
           ∙ (λ i. forget_among (λ other. other == (k c).ino.0) (record (settled c) { table = all_changed c i }))
           ∙ ap (finished_at (λ other. other == (k c).ino.0) (known_in (was c))) (sym (none-sized (settled c)));
       kept =
@@ -139,9 +138,8 @@ returns-clause-ends f =
     }))
 
 pub returns-clause-counted : goal.returns-clause-counted
-returns-clause-counted f = λ all.
-    let c = (goal.at.returns-clause-counted f).After-match-find in
+returns-clause-counted c = λ all.
     let ended = one c in
-    f.forget_affected.ensures.counted
+    c.forget_affected.ensures.counted
     (subst AreCountedIn (sym ended.rest)
     (subst (λ (u : Table). AreCounted u c.args.scene.now.locks) (sym (all_changed c)) (counted-issued (known_in (was c)) (settled c) (λ other. other == (k c).ino.0) c.args.scene.now.locks refl all)))
