@@ -1,5 +1,5 @@
 -- What is kept beside entries, by holder.
-use Rattle.std.{proofs.Common.{◌≡◌, ◌==◌, ◌||◌, Bool, true, false, not, cond, Option, Some, None, IsSome, is_some, List, [], ◌∷◌, map, refl, sym, ap, ◌∙◌}, specs.List.{find}, specs.Option.{option_map}}
+use Rattle.std.{proofs.Common.{◌≡◌, ◌==◌, ◌||◌, true, false, not, cond, Option, Some, None, is_some, List, [], ◌∷◌, map, refl, sym, ap, ◌∙◌}, specs.List.{find}, specs.Option.{option_map}}
 use Rattle.captable.{proofs.Searches.{find_passes, find-map, find-filter_kept, find-filter_gone}, specs.Kept.{KeptRow, KeptTable, AreBeside, is_kept_of, keeping, kept_without_client}}
 use Rattle.capacts.{proofs.Common.{ClientId, entry_at, entry_of, EntryRow, Holder, holders_of_rows, is_among, is_row_of, same, same-is, Sets}, specs.Known.{KnownSets, sets_of}}
 

@@ -1,10 +1,10 @@
 -- Whom gathers wait for, while a client gives up its entries one after another.
-use Rattle.std.{proofs.Common.{◌≡◌, ◌==◌, ◌&&◌, ◌+◌, ◌-◌, ℕ, Bool, true, false, not, cond, Option, Some, None, List, [], ◌∷◌, length, filter, refl, sym, ap, ◌∙◌, arith}, proofs.Math.Bool.{and-true}, specs.Cmp.{nat_eq_equiv}}
+use Rattle.std.{proofs.Common.{◌≡◌, ◌==◌, ◌&&◌, ◌+◌, ◌-◌, ℕ, Bool, true, false, not, cond, Option, Some, None, List, [], ◌∷◌, filter, refl, sym, ap, ◌∙◌, arith}, proofs.Math.Bool.{and-true}, specs.Cmp.{nat_eq_equiv}}
 use Rattle.capbits.{proofs.Emptiness.{is_empty-no_caps}, specs.Caps.{has}, specs.Sets.{covers, has-minus, has-none, has-of_part, is_empty, of_part, same_caps}, specs.declared.cap.Cap.{Cap}, specs.declared.cap.Part.{Part}}
 use Rattle.locktable.specs.{Rows.{row_of}, declared.states.LockState.{LockState}, declared.states.LockState.TheVariants.{Stable, Gather}, declared.states.StableState.{StableState}}
-use Rattle.captable.{proofs.Counting.{bit}, proofs.Searches.{filter-filter}, proofs.Tally.{tally, tally-first, tally-parted}, specs.Calls.{entries_on, is_of_client, is_of_inode, without_client}}
+use Rattle.captable.{proofs.Counting.{bit}, proofs.Searches.{filter-filter}, proofs.Tally.{tally, tally-first, tally-parted}, specs.Calls.{is_of_client, is_of_inode, without_client}}
 use Rattle.caprules.specs.Lockmachine.{Counts.{IsCounted, LockId, given_up, has_outside, holders_outside}, Scene.{outside}}
-use Rattle.capacts.proofs.Common.{ClientId, EntryRow, Ino, no_caps, Table}
+use Rattle.capacts.proofs.Common.{ClientId, EntryRow, no_caps, Table}
 
 -- who holds nothing, holds nothing that a state does not allow
 pub nothing_outside : (part : Part) (state : StableState) (row : EntryRow) → row.entry.held ≡ no_caps → has_outside part state row ≡ false

@@ -1,5 +1,5 @@
 -- What clients are permitted, kept anew of one holder after another.
-use Rattle.std.{proofs.Common.{◌≡◌, ◌≢◌, ℕ, Bool, true, false, ◌&&◌, ◌||◌, ◌==◌, cond, Option, Some, None, is_some, List, [], ◌∷◌, suc, Contains, inl, inr, filter, refl, sym, ap, subst, ◌∙◌, true≢false, arith, unwrap_or}, proofs.lemmas.Bool.{and_parts, or_parts, eqb-false, false_from_ne_true}, specs.Cmp.{unsigned_tied}, specs.List.{find, list_any}, specs.Option.{option_map}, specs.Ordering.{nat_cmp, eq_by_cmp}}
+use Rattle.std.{proofs.Common.{◌≡◌, ◌≢◌, ℕ, Bool, true, false, ◌&&◌, ◌||◌, ◌==◌, cond, Option, Some, None, is_some, List, [], ◌∷◌, suc, Contains, inl, inr, filter, refl, sym, ap, subst, ◌∙◌, true≢false, arith, unwrap_or}, proofs.lemmas.Bool.{or_parts, eqb-false, false_from_ne_true}, specs.Cmp.{unsigned_tied}, specs.List.{find, list_any}, specs.Option.{option_map}, specs.Ordering.{nat_cmp, eq_by_cmp}}
 use Rattle.std.specs.FinSet as set
 use Rattle.inotree.{proofs.Changes.{setting_site}, proofs.Elsewhere.{alike-changed}, proofs.Growing.{off_here}, proofs.OneInode.{alike-but}, specs.Inodes.{with_setting, with_attribute, without_attribute}, specs.Tree.{is_within}, specs.declared.node.Setting.TheVariants.{Mode, Uid, Gid, Size, Time}}
 use Rattle.sessiontab.specs.Table.{SessionTable}

@@ -1,5 +1,5 @@
 use Rattle.std.proofs.Common.{◌-◌, List, refl, sym, ap, subst, ◌∙◌}
-use Rattle.caprules.specs.Lockmachine.{Counts.{IsCounted, LockId, count_of, given_up}, Locks.{LockMap, lock_at}}
+use Rattle.caprules.specs.Lockmachine.{Counts.{IsCounted, count_of, given_up}, Locks.{LockMap, lock_at}}
 use Rattle.captable.specs.Calls.{without_client}
 use Rattle.capacts.proofs.{Common.{Caps, EntryRow, no_caps}, GivenUp.{IsLeft, left-all, left-less, left-none}}
 use Rattle.capacts.proofs.leaving.give_up_all.Goals as goal

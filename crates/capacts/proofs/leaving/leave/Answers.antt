@@ -1,7 +1,7 @@
-use Rattle.std.{proofs.Common.{◌≡◌, ◌==◌, ◌⊎◌, inl, inr, true, None, sym, ap, subst, ◌∙◌, rules}, proofs.lemmas.Bool.{eqb-true, false_from_ne_true}, specs.Cmp.{nat_eq_equiv}}
+use Rattle.std.{proofs.Common.{◌≡◌, ◌==◌, inl, inr, true, None, sym, ap, subst, ◌∙◌, rules}, proofs.lemmas.Bool.{eqb-true, false_from_ne_true}, specs.Cmp.{nat_eq_equiv}}
 use Rattle.captable.{proofs.ByHolder.{entry_at-without_client}, specs.Kept.{KeptTable}}
 use Rattle.caprules.specs.Lockmachine.Counts.{AreCounted, CountedLocks}
-use Rattle.capacts.{proofs.Beside.{gone-other, gone-own}, proofs.Common.{ClientId, entry_at, Holder, Table}, specs.Known.{sets_of}, specs.Left.{is_end, table_left}}
+use Rattle.capacts.{proofs.Beside.{gone-other, gone-own}, proofs.Common.{ClientId, entry_at, Table}, specs.Known.{sets_of}, specs.Left.{is_end, table_left}}
 use Rattle.capacts.proofs.leaving.leave.Goals as goal
 
 -- whoever has an entry yet, is another client's

@@ -9,5 +9,5 @@ decreases-inodes l = length l.inos
 abbrev pub invariant-inodes : goal.invariant-inodes
 invariant-inodes l = record {
   entries : l.table ≡ record l.fn.scene.table { kept = l.table.kept };
-  renewed : Along (permitted l.scene.fs l.scene.tree l.scene.sessions) (λ k. set.contains l.affected k.ino.0 && has_entry l.fn.scene.table.entries k) (is_at l.fn.scene.table.entries l.inos) l.fn.scene.table.kept l.table.kept;
+  renewed : Along (permitted l.fn.scene.fs l.fn.scene.tree l.fn.scene.sessions) (λ k. set.contains l.affected k.ino.0 && has_entry l.fn.scene.table.entries k) (is_at l.fn.scene.table.entries l.inos) l.fn.scene.table.kept l.table.kept;
 }
