@@ -5,12 +5,12 @@ use Rattle.capcore.{proofs.Closing.{for_clients-own_numbers, for_clients-all, fo
 
 -- each entry has a number left then
 pub begun-entries : (p q : Parts) (e : Event) (from : ℕ → Bool) → MayBegin p e → state_of q ≡ (direct (state_of p) e).state → Affects from (state_of p) (state_of q) → GivesOne (state_of p) e
-    → ArePermittedIn q.known.sets q.scene → MayEnd q.known.sets q.scene
+    → ArePermittedIn q.scene.table.kept (plain q.scene) → MayEnd q.scene.table.kept (plain q.scene)
 begun-entries p q e from may is affects gives permitted = by_count may.numbers
   where
-    by_count : NumbersLeft (state_of p) → MayEnd q.known.sets q.scene
+    by_count : NumbersLeft (state_of p) → MayEnd q.scene.table.kept (plain q.scene)
     by_count (count, given, less) =
-        affects-ends from (state_of p) (state_of q) may.whole.0 affects q.known.sets count less
+        affects-ends from (state_of p) (state_of q) may.whole.0 affects q.scene.table.kept count less
         (subst (λ (s : State). All (λ row. row.entry.seq ≤ count) s.scene.table.rows) (sym is) (gives count given).0) permitted
 
 -- what holds whatever the result is, holds where it is an error
@@ -20,7 +20,7 @@ on_err r p = grind arith
 -- ---- an event about one inode
 
 module _ (p q : Parts) (endings : Endings) (e : Event) (k : Holder) (may : MayBegin p e) (d : Direct) (by_itself : direct (state_of p) e ≡ d) (keeps : Keeps (state_of p) d)
-    (below : (count : ℕ) → AreGiven count (state_of p) → AreBelow count d.state) (is : q.scene ≡ d.state.scene) (left : q.messages.items ≡ p.messages.items) where
+    (below : (count : ℕ) → AreGiven count (state_of p) → AreBelow count d.state) (is : plain q.scene ≡ d.state.scene) (left : q.messages.items ≡ p.messages.items) where
   abbrev from : ℕ → Bool
   from = λ other. other == k.ino.0
 
@@ -34,13 +34,13 @@ module _ (p q : Parts) (endings : Endings) (e : Event) (k : Holder) (may : MayBe
   one-gives count given = subst (λ (x : Direct). AreBelow count x.state) (sym by_itself) (below count given)
 
   pub one-begun : (affected : Affected) (answer : Answer) → among affected ≡ from → answer_of answer ≡ d.answer → dropped_of answer ≡ []
-      → IsNumbered answer p.scene.locks.last q.scene.locks.last → AffectsOne k.ino.0 old q.scene → IsTable q.scene.table → StillKnown p.scene.table q.scene.table p.known.sets q.known.sets → ArePermittedIn q.known.sets q.scene
-      → ((j : Holder) (f : Entry) → entry_at q.scene.table j ≡ Some f → IsSubset f.held (held_at p.scene.table j)) → IsLockMap q.scene.locks
-      → HaveRoomFor (length q.scene.locks.queue) endings → IsJudged endings.judged q.scene → MayEndAt affected q.known.sets q.scene endings.changes → HasRoom q.messages q.scene.locks → HasPlaces answer (length q.scene.locks.queue)
+      → IsNumbered answer p.scene.locks.locks.last q.scene.locks.locks.last → AffectsOne k.ino.0 old (plain q.scene) → IsTable q.scene.table.entries → StillKnown p.scene.table.entries q.scene.table.entries p.scene.table.kept q.scene.table.kept → ArePermittedIn q.scene.table.kept (plain q.scene)
+      → ((j : Holder) (f : Entry) → entry_at q.scene.table.entries j ≡ Some f → IsSubset f.held (held_at p.scene.table.entries j)) → AreCountedIn q.scene → IsLockMap q.scene.locks.locks
+      → HaveRoomFor (length q.scene.locks.locks.queue) endings → IsJudged endings.judged (plain q.scene) → MayEndAt affected q.scene.table.kept (plain q.scene) endings.changes → HasRoom q.messages q.scene.locks.locks → HasPlaces answer (length q.scene.locks.locks.queue)
       → AreChanges endings.changes.items (view_of old) (view_of (state_of q)) → HasBegun p e (record { affected = affected; answer = answer }) q endings
-  one-begun affected answer same answers none number one table still permitted less order room judged at left_room places noted =
+  one-begun affected answer same answers none number one table still permitted less counted order room judged at left_room places noted =
       let affects : Affects from old (state_of q) =
-      subst (λ (ms : List Ended). Affects from old (record { scene = q.scene; messages = ms })) (sym left) (affects-one k.ino.0 old q.scene may.whole.0 one) in
+      subst (λ (ms : List Ended). Affects from old (record { scene = plain q.scene; messages = ms })) (sym left) (affects-one k.ino.0 old (plain q.scene) may.whole.0 one) in
       record {
         is = one-state;
         answer = answers ∙ sym (ap (λ (x : Direct). x.answer) by_itself);
@@ -50,14 +50,15 @@ module _ (p q : Parts) (endings : Endings) (e : Event) (k : Holder) (may : MayBe
         table = table;
         gives = one-gives;
         still = still;
-        knows = still-knows p.known.sets q.known.sets p.scene q.scene.table may.whole.2.0 still table less;
+        knows = still-knows p.scene.table.kept q.scene.table.kept (plain p.scene) q.scene.table.entries may.whole.2.0 still table less;
         ready = record {
-          settles = subst (λ (at : ℕ → Bool). MaySettle at q.scene) (sym same) (affects-settles from old (state_of q) may.whole.0 affects order);
+          settles = subst (λ (at : ℕ → Bool). MaySettle at (plain q.scene)) (sym same) (affects-settles from old (state_of q) may.whole.0 affects order);
           judged = judged;
           entries = begun-entries p q e from may one-state affects one-gives permitted;
           room = room;
           at = at;
         };
+        counted = counted;
         room = left_room;
         places = places;
         noted = noted;
@@ -90,34 +91,34 @@ few-earlier a for_clients = grind (arith, length-filter, count_by-le-length)
 -- ---- the end of the step
 
 module _ (p q : Parts) (endings : Endings) (e : Event) (effect : Effect) (may : MayBegin p e) (begun : HasBegun p e effect q endings)
-    (now : KnownSets) (last : Scene) (for_clients : List Ended) (ends : EndsWith (among effect.affected) q.known.sets now q.scene last for_clients) where
+    (now : KnownSets) (last : Scene) (for_clients : List Ended) (ends : EndsWith (among effect.affected) q.scene.table.kept now (plain q.scene) last for_clients) where
   abbrev before : State
   before = state_of p
 
   abbrev affected : State
   affected = state_of q
 
-  abbrev settles : SettlesWith ends.at (among effect.affected) q.scene ends.settled for_clients ends.sized
+  abbrev settles : SettlesWith ends.at (among effect.affected) (plain q.scene) ends.settled for_clients ends.sized
   settles = ends.settles
 
-  order : IsLockMap q.scene.locks
+  order : IsLockMap q.scene.locks.locks
   order = begun.ready.settles.order
 
   pub ended-known : AreKnown now last
   ended-known =
-      ends-known p.known.sets q.known.sets now (among effect.affected) before affected may.whole.0 may.table begun.table begun.affects may.whole.2.0 begun.still begun.knows last for_clients ends
+      ends-known p.scene.table.kept q.scene.table.kept now (among effect.affected) before affected may.whole.0 may.table begun.table begun.affects may.whole.2.0 begun.still begun.knows last for_clients ends
 
   pub ended-numbers : HaveOwnNumbers for_clients
-  ended-numbers = for_clients-own_numbers ends.at (among effect.affected) q.scene ends.settled for_clients ends.sized settles
+  ended-numbers = for_clients-own_numbers ends.at (among effect.affected) (plain q.scene) ends.settled for_clients ends.sized settles
 
-  all : q.scene.locks.last ≡ p.scene.locks.last → earlier p.scene.locks.last for_clients ≡ for_clients
-  all same = subst (λ n. earlier n for_clients ≡ for_clients) same (for_clients-all ends.at (among effect.affected) q.scene ends.settled for_clients ends.sized settles order)
+  all : q.scene.locks.locks.last ≡ p.scene.locks.locks.last → earlier p.scene.locks.locks.last for_clients ≡ for_clients
+  all same = subst (λ n. earlier n for_clients ≡ for_clients) same (for_clients-all ends.at (among effect.affected) (plain q.scene) ends.settled for_clients ends.sized settles order)
 
-  by_answer : (a : Answer) → IsNumbered a p.scene.locks.last q.scene.locks.last → earlier p.scene.locks.last for_clients ≡ earlier_of a for_clients
-  by_answer (Awaited ticket) (own, next) = for_clients-but_own ends.at (among effect.affected) q.scene ends.settled for_clients ends.sized settles order p.scene.locks.last ticket own next
+  by_answer : (a : Answer) → IsNumbered a p.scene.locks.locks.last q.scene.locks.locks.last → earlier p.scene.locks.locks.last for_clients ≡ earlier_of a for_clients
+  by_answer (Awaited ticket) (own, next) = for_clients-but_own ends.at (among effect.affected) (plain q.scene) ends.settled for_clients ends.sized settles order p.scene.locks.locks.last ticket own next
   by_answer a same = all same
 
-  others : earlier p.scene.locks.last for_clients ≡ earlier_of effect.answer for_clients
+  others : earlier p.scene.locks.locks.last for_clients ≡ earlier_of effect.answer for_clients
   others = by_answer effect.answer begun.number
 
   -- the state at the end, but for what is shown
@@ -125,7 +126,7 @@ module _ (p q : Parts) (endings : Endings) (e : Event) (effect : Effect) (may : 
   closed = record { scene = last; messages = q.messages.items ++ earlier_of effect.answer for_clients }
 
   abbrev by_the_rules : State
-  by_the_rules = state_at_end before (direct before e).state settles.moves (finished_at ends.at (known_in q.known.sets) (sizes_owed (sized_in settles.moves) ends.settled))
+  by_the_rules = state_at_end before (direct before e).state settles.moves (finished_at ends.at (known_in q.scene.table.kept) (sizes_owed (sized_in settles.moves) ends.settled))
 
   same_state : closed ≡ by_the_rules
   same_state = grind (arith, others)
@@ -134,13 +135,13 @@ module _ (p q : Parts) (endings : Endings) (e : Event) (effect : Effect) (may : 
       → said.ended ≡ dropped_of effect.answer ++ earlier_of effect.answer for_clients → new ≡ shown (answer_of effect.answer) closed → IsAnswered before e said new
   ended-answered said new replies for_history ended new-is =
       let c =
-      concluded ends.at (among effect.affected) (known_in q.known.sets) before e settles.moves ends.settled may.whole.0 (subst (Affects (among effect.affected) before) begun.is begun.affects)
+      concluded ends.at (among effect.affected) (known_in q.scene.table.kept) before e settles.moves ends.settled may.whole.0 (subst (Affects (among effect.affected) before) begun.is begun.affects)
       (subst (λ (s : State). IsTable s.scene.table) begun.is begun.table) (subst (λ (s : State). IsLockMap s.scene.locks) begun.is order)
-      (subst (λ (s : State). Knows (known_in q.known.sets) before.scene s.scene.table) begun.is begun.knows) begun.gives
+      (subst (λ (s : State). Knows (known_in q.scene.table.kept) before.scene s.scene.table) begun.is begun.knows) begun.gives
       (subst (λ (s : State). SettlesAt ends.at (among effect.affected) settles.moves s.scene ends.settled) begun.is settles.settles) ends.tree
-      (subst (λ (s : State). IsTable s.scene.table) same_state (ends-table (among effect.affected) q.known.sets now q.scene last for_clients ends begun.table)) said.reply new
+      (subst (λ (s : State). IsTable s.scene.table) same_state (ends-table (among effect.affected) q.scene.table.kept now (plain q.scene) last for_clients ends begun.table)) said.reply new
       (replies ∙ (λ i. reply_of (same_state i) (settles.ended_is i) (begun.answer i))) (new-is ∙ (λ i. shown (begun.answer i) (same_state i))) in
       let ends_so : all_ended before (direct before e) settles.moves ≡ said.ended =
-      (λ i. (sym begun.dropped) i ++ earlier p.scene.locks.last ((sym settles.ended_is) i)) ∙ ap (λ ms. dropped_of effect.answer ++ ms) others ∙ sym ended in
+      (λ i. (sym begun.dropped) i ++ earlier p.scene.locks.locks.last ((sym settles.ended_is) i)) ∙ ap (λ ms. dropped_of effect.answer ++ ms) others ∙ sym ended in
       let whole : IsConcluded before e said.reply said.ended new = subst (λ (ms : List Ended). IsConcluded before e said.reply ms new) ends_so c in
       record { step = whole.step; for_history = for_history; sound = whole.sound; issued = whole.issued; given = whole.given }

@@ -23,9 +23,9 @@ left-order b locks client order = grind (arith, without_requests_of-kept)
 
 -- ---- an event that nothing rejects
 
-module _ (p q : Parts) (endings : Endings) (client : ClientId) (change : SessionChange) (may : MayBegin p (session_event client change)) (is : q.scene ≡ (session_changed (state_of p) client change).scene)
-    (left : q.messages.items ≡ messages_left (is_end change) p.messages.items client) (inos : InoSet) (reaches : ReachesClient client p.scene.table p.scene.locks inos)
-    (kept : (k : Holder) (f : Entry) → entry_at q.scene.table k ≡ Some f → known_of q.known.sets k ≡ known_of p.known.sets k) (permitted : ArePermittedIn q.known.sets q.scene) where
+module _ (p q : Parts) (endings : Endings) (client : ClientId) (change : SessionChange) (may : MayBegin p (session_event client change)) (is : plain q.scene ≡ (session_changed (state_of p) client change).scene)
+    (left : q.messages.items ≡ messages_left (is_end change) p.messages.items client) (inos : InoSet) (reaches : ReachesClient client p.scene.table.entries p.scene.locks.locks inos)
+    (kept : (k : Holder) (f : Entry) → entry_at q.scene.table.entries k ≡ Some f → known_of q.scene.table.kept k ≡ known_of p.scene.table.kept k) (permitted : ArePermittedIn q.scene.table.kept (plain q.scene)) (counted : AreCountedIn q.scene) where
   abbrev e : Event
   e = session_event client change
 
@@ -44,24 +44,24 @@ module _ (p q : Parts) (endings : Endings) (client : ClientId) (change : Session
   affects : Affects from old (state_of q)
   affects = subst (Affects from old) (sym state_is) (session_changed-affects old client change may.whole.0 may.table from reaches.entries reaches.requests)
 
-  table : IsTable q.scene.table
-  table = subst (λ (s : Scene). IsTable s.table) (sym is) (session_changed-table (is_end change) p.scene.table client may.table)
+  table : IsTable q.scene.table.entries
+  table = subst (λ (s : Scene). IsTable s.table) (sym is) (session_changed-table (is_end change) p.scene.table.entries client may.table)
 
   gives : GivesOne old e
   gives = grind (arith, by_itself, session_changed-below, session_changed-made, session_changed-last)
 
   -- each entry is as it was
-  alike : HoldAlike p.scene.table q.scene.table
-  alike = subst (λ (s : Scene). HoldAlike p.scene.table s.table) (sym is) (λ k f there. (f, left-was (is_end change) p.scene.table client k f there, refl))
+  alike : HoldAlike p.scene.table.entries q.scene.table.entries
+  alike = subst (λ (s : Scene). HoldAlike p.scene.table.entries s.table) (sym is) (λ k f there. (f, left-was (is_end change) p.scene.table.entries client k f there, refl))
 
-  still : StillKnown p.scene.table q.scene.table p.known.sets q.known.sets
-  still = still-there p.scene.table q.scene.table p.known.sets q.known.sets (λ k f there. ap is_some (alike k f there).1) kept
+  still : StillKnown p.scene.table.entries q.scene.table.entries p.scene.table.kept q.scene.table.kept
+  still = still-there p.scene.table.entries q.scene.table.entries p.scene.table.kept q.scene.table.kept (λ k f there. ap is_some (alike k f there).1) kept
 
-  order : IsLockMap q.scene.locks
-  order = subst (λ (s : Scene). IsLockMap s.locks) (sym is) (left-order (is_end change) p.scene.locks client may.order)
+  order : IsLockMap q.scene.locks.locks
+  order = subst (λ (s : Scene). IsLockMap s.locks) (sym is) (left-order (is_end change) p.scene.locks.locks client may.order)
 
-  pub change-begun : (dropped : DueEndings) → dropped.items ≡ dropped_by (is_end change) p.scene.locks client → HaveRoomFor (length q.scene.locks.queue) endings
-      → IsJudged endings.judged q.scene → HavePlaces endings.changes q.scene.locks inos → HasRoom q.messages q.scene.locks → length dropped.items + length q.scene.locks.queue ≤ vec_capacity dropped
+  pub change-begun : (dropped : DueEndings) → dropped.items ≡ dropped_by (is_end change) p.scene.locks.locks client → HaveRoomFor (length q.scene.locks.locks.queue) endings
+      → IsJudged endings.judged (plain q.scene) → HavePlaces endings.changes q.scene.locks.locks inos → HasRoom q.messages q.scene.locks.locks → length dropped.items + length q.scene.locks.locks.queue ≤ vec_capacity dropped
       → AreChanges endings.changes.items (view_of old) (view_of (state_of q)) → HasBegun p e (record { affected = Inodes inos; answer = Dropped dropped }) q endings
   change-begun dropped dropped_is room judged at left_room places noted =
       let by_rule : state_of q ≡ (direct old e).state = state_is ∙ sym (ap (λ (d : Direct). d.state) by_itself) in
@@ -69,12 +69,12 @@ module _ (p q : Parts) (endings : Endings) (client : ClientId) (change : Session
         is = by_rule;
         answer = sym (ap (λ (d : Direct). d.answer) by_itself);
         dropped = dropped_is ∙ sym (ap (λ (d : Direct). d.dropped) by_itself);
-        number = ap (λ (s : Scene). s.locks.last) is ∙ session_changed-last (is_end change) p.scene.locks client;
+        number = ap (λ (s : Scene). s.locks.last) is ∙ session_changed-last (is_end change) p.scene.locks.locks client;
         affects = affects;
         table = table;
         gives = gives;
         still = still;
-        knows = still-knows p.known.sets q.known.sets p.scene q.scene.table may.whole.2.0 still table (alike-less p.scene.table q.scene.table alike);
+        knows = still-knows p.scene.table.kept q.scene.table.kept (plain p.scene) q.scene.table.entries may.whole.2.0 still table (alike-less p.scene.table.entries q.scene.table.entries alike);
         ready = record {
           settles = affects-settles from old (state_of q) may.whole.0 affects order;
           judged = judged;
@@ -82,6 +82,7 @@ module _ (p q : Parts) (endings : Endings) (client : ClientId) (change : Session
           room = room;
           at = at;
         };
+        counted = counted;
         room = left_room;
         places = places;
         noted = noted;

@@ -7,8 +7,9 @@ use Rattle.capspec.specs.declared.grant.Grant.{Grant}
 use Rattle.numbered.proofs.Maps.{insert-other}
 use Rattle.inotree.{proofs.Elsewhere.{field-changed, not_next}, specs.Calls.{with_new, changed}}
 use Rattle.sessiontab.{proofs.Elsewhere.{session-kept}, specs.Calls.{with_session, without_blocked}}
-use Rattle.capsteps.proofs.{Knowing.{known-alike}, LeftAlone.{none_if, kept-known}, Lockmachine.PolicyElsewhere.{permitted-session, permitted-new, permitted-changed, want-session, want-new, want-changed}}
-use Rattle.capcore.{proofs.Common.{Attr, EntryRow, first_failing, found-contains, HoldAlike, in_sync, InodeLocks, is_row_of, IsSound, IsTree, kept-sound, Kind, KnownSets, LeavesEntries, new_session_tests, no_locks, Node, Nodes, permitted, row_of-entry, Scene, SessionTable, State, StateMap, Table, with_birth, with_ino, with_parts}, specs.UnderWay.{AreKept, IsWhole, state_of}, specs.declared.parts.Parts.{Parts}}
+use Rattle.capsteps.proofs.{Knowing.{known-alike}, LeftAlone.{none_if, kept-known}, Lockmachine.CountsStay.{counted-born}, Lockmachine.PolicyElsewhere.{permitted-session, permitted-new, permitted-changed, want-session, want-new, want-changed}}
+use Rattle.capsteps.specs.Lockmachine.Counts as counted
+use Rattle.capcore.{proofs.Common.{AreCountedIn, Attr, CountMap, EntryRow, first_failing, found-contains, HoldAlike, in_sync, InodeLocks, is_row_of, IsSound, IsTree, kept-sound, KeptScene, Kind, KnownSets, LeavesEntries, new_session_tests, no_locks, Node, Nodes, permitted, plain, row_of-entry, Scene, SessionTable, State, StateMap, Table, with_ino, with_parts}, specs.UnderWay.{AreKept, IsWhole, state_of}, specs.declared.parts.Parts.{Parts}}
 
 -- the locks that an inode begins with, where there is an inode
 abbrev first_of : Option Node → Option InodeLocks
@@ -57,32 +58,46 @@ alike-kept sets s new alike kept = (known-alike sets s new alike kept.0, λ k e 
 
 -- ---- so they keep all that holds between two steps
 
+-- the scene with what is kept beside it
+abbrev pub kept_scene : Scene → KnownSets → CountMap → KeptScene
+kept_scene s kept counts = record { fs = s.fs; tree = s.tree; sessions = s.sessions; table = record { entries = s.table; kept = kept }; locks = record { locks = s.locks; counts = counts } }
+
 module _ (p : Parts) (whole : IsWhole p) where
-  left-whole : (tree : Nodes) (sessions : SessionTable) (states : StateMap) → LeavesEntries p.scene tree sessions states → IsWhole (record p { scene = with_parts p.scene tree sessions states })
-  left-whole tree sessions states leaves = (
+  -- the parts with another tree, other sessions, and other locks with their counts
+  abbrev beside : Nodes → SessionTable → StateMap → CountMap → Parts
+  beside tree sessions states counts = record p { scene = kept_scene (with_parts (plain p.scene) tree sessions states) p.scene.table.kept counts }
+
+  left-whole : (tree : Nodes) (sessions : SessionTable) (states : StateMap) (counts : CountMap) → LeavesEntries (plain p.scene) tree sessions states
+      → AreCountedIn (beside tree sessions states counts).scene → IsWhole (beside tree sessions states counts)
+  left-whole tree sessions states counts leaves counted = (
     kept-sound (state_of p) whole.0 tree sessions states leaves,
     whole.1,
     (
-      kept-known (state_of p) whole.0 tree sessions states leaves p.known.sets whole.2.0,
+      kept-known (state_of p) whole.0 tree sessions states leaves p.scene.table.kept whole.2.0,
       λ k e there.
           let row : EntryRow = record { holder = k; entry = e } in
-          let inside : Contains p.scene.table.rows row = found-contains (is_row_of k) p.scene.table.rows row (row_of-entry p.scene.table k e there) in
-          whole.2.1 k e there ∙ ap Some (sym (All-contains (SameMay (state_of p) whole.0 tree sessions) p.scene.table.rows row leaves.permits inside)),
+          let inside : Contains p.scene.table.entries.rows row = found-contains (is_row_of k) p.scene.table.entries.rows row (row_of-entry p.scene.table.entries k e there) in
+          whole.2.1 k e there ∙ ap Some (sym (All-contains (SameMay (state_of p) whole.0 tree sessions) p.scene.table.entries.rows row leaves.permits inside)),
     ),
+    counted,
   )
 
   pub session-whole : (client : ℕ) (caller : Caller) (grants : List Grant) → first_failing (new_session_tests p.scene.sessions client) ≡ None
       → IsWhole (record p { scene = record p.scene { sessions = with_session p.scene.sessions client caller grants } })
   session-whole client caller grants passed =
-      left-whole p.scene.tree (with_session p.scene.sessions client caller grants) p.scene.locks.states (session-leaves (state_of p) whole.0 client caller grants passed)
+      left-whole p.scene.tree (with_session p.scene.sessions client caller grants) p.scene.locks.locks.states p.scene.locks.counts (session-leaves (state_of p) whole.0 client caller grants passed) whole.3
 
   pub unblocked-whole : (client : ℕ) → IsWhole (record p { scene = record p.scene { sessions = without_blocked p.scene.sessions client } })
-  unblocked-whole client = left-whole p.scene.tree (without_blocked p.scene.sessions client) p.scene.locks.states (unblocked-leaves (state_of p) whole.0 client)
+  unblocked-whole client = left-whole p.scene.tree (without_blocked p.scene.sessions client) p.scene.locks.locks.states p.scene.locks.counts (unblocked-leaves (state_of p) whole.0 client) whole.3
 
   pub changed-whole : (f : Node → Node) (ino : ℕ) → ((n : Node) → (f n).site ≡ n.site) → ((n : Node) → (f n).attr ≡ n.attr)
       → IsWhole (record p { scene = record p.scene { tree = changed f p.scene.tree ino } })
-  changed-whole f ino site attr = left-whole (changed f p.scene.tree ino) p.scene.sessions p.scene.locks.states (changed-leaves (state_of p) whole.0 f ino site attr)
+  changed-whole f ino site attr =
+      left-whole (changed f p.scene.tree ino) p.scene.sessions p.scene.locks.locks.states p.scene.locks.counts (changed-leaves (state_of p) whole.0 f ino site attr) whole.3
 
-  pub birth-whole : (kind : Kind) (dir : ℕ) (name : List ℕ) (attr : Attr) → IsTree p.scene.tree → IsWhole (record p { scene = (with_birth (state_of p) kind dir name attr).scene })
+  pub birth-whole : (kind : Kind) (dir : ℕ) (name : List ℕ) (attr : Attr) → IsTree p.scene.tree
+      → IsWhole (record p { scene = record p.scene { tree = with_new p.scene.tree kind dir name attr; locks = counted.with_ino p.scene.locks (p.scene.tree.last + 1) } })
   birth-whole kind dir name attr tree =
-      left-whole (with_new p.scene.tree kind dir name attr) p.scene.sessions (with_ino p.scene.locks (p.scene.tree.last + 1)).states (birth-leaves (state_of p) whole.0 kind dir name attr tree)
+      let locks = counted.with_ino p.scene.locks (p.scene.tree.last + 1) in
+      left-whole (with_new p.scene.tree kind dir name attr) p.scene.sessions locks.locks.states locks.counts (birth-leaves (state_of p) whole.0 kind dir name attr tree)
+      (counted-born p.scene.table.entries p.scene.locks (p.scene.tree.last + 1) whole.3)

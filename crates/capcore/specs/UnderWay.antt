@@ -2,20 +2,21 @@
 use Rattle.std.specs.Prelude.{◌≡◌, ◌≤◌, ◌+◌, ℕ, List, [], All, length, None, vec_capacity}
 use Rattle.capbits.specs.declared.{ids.ClientId.{ClientId}, ids.Ino.{Ino}}
 use Rattle.captable.specs.Table.{IsTable}
-use Rattle.capsteps.specs.{Affected.{Affects, Knows}, Begun.{ArePermittedIn, IsReady, among}, Capacts.Known.{KnownSets, known_in, AreKnown, StillKnown}, Capacts.declared.operations.OperationRef.{OperationRef}, Capacts.declared.operations.OperationRef.TheVariants.{Get, Alter, Unlink, Rmdir, Rename}, Capevents.declared.event.Event.{Event}, Capevents.declared.outcome.Ended.{Ended}, Capevents.declared.reply.Reply.{Reply}, Capnotes.DueEndings.{HasRoom, but_for}, Caprules.Direct.{direct}, Caprules.Judge.{judged}, Caprules.Noted.{view_of}, Caprules.Sound.{IsSound, AreGiven, NumbersLeft}, Caprules.State.{State}, Capview.Changes.{AreChanges}, EntryRequest.{entry_event, entry_answer}, Lockmachine.Locks.{IsLockMap}, Lockmachine.Scene.{Scene}, SessionChange.{session_event}, declared.endings.Endings.{Endings}}
+use Rattle.capsteps.specs.{Affected.{Affects, Knows}, Begun.{AreCountedIn, ArePermittedIn, IsReady, among}, Capacts.Known.{KnownSets, known_in, AreKnown, StillKnown}, Capacts.declared.operations.OperationRef.{OperationRef}, Capacts.declared.operations.OperationRef.TheVariants.{Get, Alter, Unlink, Rmdir, Rename}, Capevents.declared.event.Event.{Event}, Capevents.declared.outcome.Ended.{Ended}, Capevents.declared.reply.Reply.{Reply}, Capnotes.DueEndings.{HasRoom, but_for}, Caprules.Direct.{direct}, Caprules.Judge.{judged}, Caprules.Noted.{view_of}, Caprules.Sound.{IsSound, AreGiven, NumbersLeft}, Caprules.State.{State}, Capview.Changes.{AreChanges}, EntryRequest.{entry_event, entry_answer}, Lockmachine.Locks.{IsLockMap}, Lockmachine.Scene.{Scene, plain}, SessionChange.{session_event}, declared.endings.Endings.{Endings}}
 use Rattle.capsteps.specs.Caprules.Direct as rules
 use Rattle.capcore.specs.declared.{parts.Answer.{Answer}, parts.Answer.TheVariants.{Done, Dropped, Requested, Awaited}, parts.Effect.{Effect}, parts.MovingEvent.{MovingEvent}, parts.MovingEvent.TheVariants.{OfEntry, OfLock, Flush, OfSession}, parts.Parts.{Parts}}
 
 abbrev pub state_of : Parts → State
-state_of p = record { scene = p.scene; messages = p.messages.items }
+state_of p = record { scene = plain p.scene; messages = p.messages.items }
 
 -- of each entry it is kept what its client is to know of, and what it is permitted
 abbrev pub AreKept : KnownSets → Scene → Type 0
 AreKept sets s = AreKnown sets s × ArePermittedIn sets s
 
--- what the parts are between two steps: sound, with room for each message that is to come, and with these of each entry
+-- what the parts are between two steps: sound, with room for each message that is to come, with these of each entry, and of each
+-- gather how many clients it waits for
 abbrev pub IsWhole : Parts → Type 0
-IsWhole p = IsSound (state_of p) × HasRoom p.messages p.scene.locks × AreKept p.known.sets p.scene
+IsWhole p = IsSound (state_of p) × HasRoom p.messages p.scene.locks.locks × AreKept p.scene.table.kept (plain p.scene) × AreCountedIn p.scene
 
 -- ---- the event
 
@@ -36,10 +37,10 @@ event_of (OfSession client change) = session_event client change
 -- nothing rejects it
 pub record MayBegin (p : Parts) (e : Event) : Type 0 where
   pub whole : IsWhole p
-  pub table : IsTable p.scene.table
-  pub order : IsLockMap p.scene.locks
+  pub table : IsTable p.scene.table.entries
+  pub order : IsLockMap p.scene.locks.locks
   pub numbers : NumbersLeft (state_of p)
-  pub passed : judged p.scene e ≡ None
+  pub passed : judged (plain p.scene) e ≡ None
 
 -- ---- what it leaves by itself
 
@@ -80,14 +81,15 @@ pub record HasBegun (p : Parts) (e : Event) (effect : Effect) (q : Parts) (endin
   pub is : state_of q ≡ (direct (state_of p) e).state
   pub answer : answer_of effect.answer ≡ (direct (state_of p) e).answer
   pub dropped : dropped_of effect.answer ≡ (direct (state_of p) e).dropped
-  pub number : IsNumbered effect.answer p.scene.locks.last q.scene.locks.last
+  pub number : IsNumbered effect.answer p.scene.locks.locks.last q.scene.locks.locks.last
   pub affects : Affects (among effect.affected) (state_of p) (state_of q)
-  pub table : IsTable q.scene.table
+  pub table : IsTable q.scene.table.entries
   pub gives : GivesOne (state_of p) e
   -- of each entry what was known is kept
-  pub still : StillKnown p.scene.table q.scene.table p.known.sets q.known.sets
-  pub knows : Knows (known_in q.known.sets) p.scene q.scene.table
-  pub ready : IsReady effect.affected q.known.sets q.scene endings
-  pub room : HasRoom q.messages q.scene.locks
-  pub places : HasPlaces effect.answer (length q.scene.locks.queue)
+  pub still : StillKnown p.scene.table.entries q.scene.table.entries p.scene.table.kept q.scene.table.kept
+  pub knows : Knows (known_in q.scene.table.kept) (plain p.scene) q.scene.table.entries
+  pub ready : IsReady effect.affected q.scene.table.kept (plain q.scene) endings
+  pub counted : AreCountedIn q.scene
+  pub room : HasRoom q.messages q.scene.locks.locks
+  pub places : HasPlaces effect.answer (length q.scene.locks.locks.queue)
   pub noted : AreChanges endings.changes.items (view_of (state_of p)) (view_of (state_of q))

@@ -3,7 +3,7 @@ ghost use Rattle.std.specs.Prelude.{◌≡◌, ◌++◌, ◌∷◌, []};
 ghost use Rattle.capbits.specs.Refusal.{first_failing};
 ghost use Rattle.inotree.specs.Tests.{inode_tests, exists_test};
 ghost use Rattle.sessiontab.specs.Tests.{connected_test, session_tests};
-ghost use Rattle.capsteps.specs.{Capacts.Known.{AreKnown}, Caprules.Judge.{basic_tests, before, judged, rejection_of}, Caprules.Needs.{need}, EntryRequest.{entry_event}};
+ghost use Rattle.capsteps.specs.{Capacts.Known.{AreKnown}, Caprules.Judge.{basic_tests, before, judged, rejection_of}, Caprules.Needs.{need}, Lockmachine.Scene.{plain}, EntryRequest.{entry_event}};
 ghost use Rattle.capsteps.specs.Capevents.declared.event.Event.TheVariants as event;
 ghost use Rattle.capcore.specs.UnderWay.{event_of};
 
@@ -13,8 +13,8 @@ use capgrant::Access;
 use capsteps::client::session_change_refusal;
 use capsteps::entry_request::{EntryRequest, revoked_of};
 use capsteps::judge::{change_access, change_refusal, denial, operation_rejection};
-use capsteps::{Change, OpenMode, Rejection, KeptScene};
-use captable::{Holder};
+use capsteps::{Change, KeptScene, OpenMode, Rejection};
+use captable::Holder;
 use inotree::Tree;
 use sessiontab::Sessions;
 
@@ -27,7 +27,7 @@ pub(crate) fn rejection(scene: &KeptScene, moving: &MovingEvent) -> Option<Rejec
             scene, *holder, *mode,
         ),
         MovingEvent::OfEntry(holder, request) => {
-            Some(Rejection::ByTest(entry_refusal(scene, known, *holder, request)?))
+            Some(Rejection::ByTest(entry_refusal(scene, *holder, request)?))
         }
         // Its session and the room in the queue are tested besides; else it is judged as when it is served.
         MovingEvent::OfLock(holder, operation) => {
@@ -116,11 +116,7 @@ fn open_rejection(scene: &KeptScene, holder: Holder, mode: OpenMode) -> Option<R
 }
 
 // The first test before policy that fails; an opening has more behind it.
-fn entry_refusal(
-    scene: &KeptScene,
-    holder: Holder,
-    request: &EntryRequest,
-) -> Option<Refusal>
+fn entry_refusal(scene: &KeptScene, holder: Holder, request: &EntryRequest) -> Option<Refusal>
     ensures { let s = plain scene.now in
         AreKnown scene.now.table.kept s → result ≡ first_failing (before s (entry_event holder.client holder.ino request.now)) }
 {
@@ -134,7 +130,7 @@ fn entry_refusal(
         },
         EntryRequest::Ack(seq) => match connected_refusal(sessions, tree, holder) {
             Some(refusal) => Some(refusal),
-            None => table.ack_refusal(client, ino, *seq, revoked_of(table, known, holder)),
+            None => table.ack_refusal(client, ino, *seq, revoked_of(table, holder)),
         },
         EntryRequest::Release(caps) => match connected_refusal(sessions, tree, holder) {
             Some(refusal) => Some(refusal),

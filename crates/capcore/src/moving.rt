@@ -1,7 +1,7 @@
 //! The pieces of a step that may move locks: its event by itself, the settling of locks with the end of the step, and what it says.
 ghost use Rattle.std.specs.{List.{find}, Prelude.{◌≡◌, ◌+◌, ◌≤◌, ◌++◌, List, length, IfOk, OnErr, vec_capacity}};
 ghost use Rattle.captable.specs.{Known.{known_of}, declared.entry.Holder.{Holder}};
-ghost use Rattle.capsteps.specs.{Begun.{ArePermittedIn}, Capacts.Known.{AreKnown, HaveRoom}, Capevents.declared.outcome.Ended.{Ended as AnEnded}, Capnotes.DueEndings.{HaveOwnNumbers, but_for, is_of_ticket}, Caprules.Direct.{awaited_as, reply_of, shown}, Caprules.State.{State}, SessionChange.{session_changed, session_event}};
+ghost use Rattle.capsteps.specs.{Begun.{ArePermittedIn}, Capacts.Known.{AreKnown}, Capevents.declared.outcome.Ended.{Ended as AnEnded}, Capnotes.DueEndings.{HaveOwnNumbers, but_for, is_of_ticket}, Caprules.Direct.{awaited_as, reply_of, shown}, Caprules.State.{State}, Lockmachine.Scene.{plain}, SessionChange.{session_changed, session_event}};
 ghost use Rattle.capsteps.specs.Capevents.declared.event.Event.TheVariants as event;
 ghost use Rattle.capcore.specs.UnderWay.{HasBegun, HasPlaces, IsWhole, MayBegin, answer_of, operation_event, dropped_of, earlier_of, event_of, state_of};
 
@@ -16,9 +16,10 @@ use capsteps::said::Said;
 use capsteps::serving::alter;
 use capsteps::settle::Affected;
 use capsteps::{
-    Change, Ended, EndedList, OperationRef, Policy, Reply, KeptScene, copy_of_operation, copy_of_reply,
+    Change, Ended, EndedList, KeptScene, OperationRef, Policy, Reply, copy_of_operation,
+    copy_of_reply,
 };
-use captable::{Holder};
+use captable::Holder;
 use inotree::NonEmptyInoSet;
 use std::alloc::AllocError;
 use std::mem::swap;
@@ -42,7 +43,7 @@ impl Parts {
             MovingEvent::OfEntry(holder, request) => {
                 let waiting = self.scene.locks.waiting();
                 endings.begin(waiting, waiting + 1)?;
-                apply_request(&mut self.scene, &mut self.known, *holder, request)?;
+                apply_request(&mut self.scene, *holder, request)?;
                 endings.changes.clear();
                 Ok(Effect {
                     affected: Affected::Entry(*holder),
@@ -114,7 +115,7 @@ impl Parts {
             tree: &self.scene.tree,
             sessions: &self.scene.sessions,
         };
-        renew_changed(&policy, &self.scene.table, &mut self.known, ino, change);
+        renew_changed(&policy, &mut self.scene.table, ino, change);
         self.scene.table.touch(holder.client, ino);
         Ok(Effect {
             affected: Affected::Inodes(NonEmptyInoSet::of(endings.alloc(), ino)),
@@ -148,9 +149,9 @@ impl Parts {
         } = Room::new(alloc, table, locks, client, change, endings)?;
         apply_session_change(&mut self.scene.sessions, client, change)?;
         endings.changes.start(note);
-        let (scene, known, messages) = (&mut self.scene, &mut self.known, &mut self.messages);
-        leave(scene, known, messages, client, change, &mut dropped);
-        renew_granted(&self.scene, &mut self.known, client, change);
+        let (scene, messages) = (&mut self.scene, &mut self.messages);
+        leave(scene, messages, client, change, &mut dropped);
+        renew_granted(&mut self.scene, client, change);
         Ok(Effect {
             affected: Affected::Inodes(inodes),
             answer: Answer::Dropped(dropped),
@@ -166,17 +167,17 @@ impl Parts {
         requires same { endings.old.for_history.items ≡ endings.old.for_clients.items }
         requires room { length self.old.messages.items + length endings.old.for_clients.items ≤ vec_capacity self.old.messages }
         requires places { HasPlaces answer (length endings.old.for_clients.items) }
-        requires known { AreKnown self.old.known.sets self.old.scene }
-        ensures reply { (ms : List AnEnded) → let last : State = record { scene = self.old.scene; messages = ms } in
+        requires known { AreKnown self.old.scene.table.kept (plain self.old.scene) }
+        ensures reply { (ms : List AnEnded) → let last : State = record { scene = plain self.old.scene; messages = ms } in
             result.reply ≡ reply_of last endings.old.for_clients.items (answer_of answer) }
-        ensures shown { (ms : List AnEnded) → let last : State = record { scene = self.old.scene; messages = ms } in
-            record { scene = self.new.scene; messages = ms } ≡ shown (answer_of answer) last }
+        ensures shown { (ms : List AnEnded) → let last : State = record { scene = plain self.old.scene; messages = ms } in
+            record { scene = plain self.new.scene; messages = ms } ≡ shown (answer_of answer) last }
         ensures for_history { result.for_history ≡ result.reply }
         ensures ended { result.ended ≡ dropped_of answer ++ earlier_of answer endings.old.for_clients.items }
         ensures changes { endings.new.changes ≡ endings.old.changes }
         ensures messages { self.new.messages.items ≡ self.old.messages.items ++ earlier_of answer endings.old.for_clients.items }
         ensures room { vec_capacity self.old.messages ≤ vec_capacity self.new.messages }
-        ensures known { self.new.known ≡ self.old.known }
+        ensures rest { self.new.scene ≡ record self.old.scene { table = record self.old.scene.table { entries = self.new.scene.table.entries } } }
     {
         let (reply, for_history) = match answer {
             Answer::Done => (Reply::Done, Reply::Done),
@@ -188,7 +189,7 @@ impl Parts {
                 (Reply::Done, Reply::Done)
             }
             Answer::Requested(holder, request) => {
-                let reply = show_reply(&mut self.scene.table, &self.known, holder, &request);
+                let reply = show_reply(&mut self.scene.table, holder, &request);
                 let for_history = copy_of_reply(&reply);
                 (reply, for_history)
             }
@@ -235,10 +236,10 @@ fn awaited(due: &mut Vec<Ended>, ticket: Ticket) -> Reply
 }
 
 // Where the client has other grants, what it is permitted is kept anew.
-fn renew_granted(scene: &KeptScene, client: ClientId, change: SessionChange)
-    requires room { HaveRoom scene.old.table.kept scene.now.table.entries }
-    ensures permitted { (old : State) → (plain scene.now) ≡ (session_changed old client change.entry).scene
-        → ArePermittedIn scene.old.table.kept (record old.scene { table = scene.now.table.entries }) → ArePermittedIn scene.new.table.kept (plain scene.now) }
+fn renew_granted(scene: &mut KeptScene, client: ClientId, change: SessionChange)
+    ensures permitted { (old : State) → plain scene.old ≡ (session_changed old client change.entry).scene
+        → ArePermittedIn scene.old.table.kept (record old.scene { table = scene.old.table.entries }) → ArePermittedIn scene.new.table.kept (plain scene.old) }
+    ensures rest { scene.new ≡ record scene.old { table = record scene.old.table { kept = scene.new.table.kept } } }
     ensures told { (k : Holder) → known_of scene.new.table.kept k ≡ known_of scene.old.table.kept k }
 {
     match change {
@@ -248,7 +249,7 @@ fn renew_granted(scene: &KeptScene, client: ClientId, change: SessionChange)
                 tree: &scene.tree,
                 sessions: &scene.sessions,
             };
-            renew_client(&policy, &scene.table, known, client);
+            renew_client(&policy, &mut scene.table, client);
         }
         // Policy reads no status.
         SessionChange::Mark(_) => {}

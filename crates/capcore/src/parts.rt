@@ -4,15 +4,13 @@ use capbits::{ClientId, Ticket};
 use capsteps::entry_request::EntryRequest;
 use capsteps::leaving::SessionChange;
 use capsteps::settle::Affected;
-use capsteps::{Change, Ended, OperationRef, KeptScene};
-use captable::{Holder};
+use capsteps::{Change, Ended, KeptScene, OperationRef};
+use captable::Holder;
 
-// Tree, sessions, entries and locks, and what clients are still to be told.
+// Tree, sessions, entries and locks, with what is kept beside entries and locks, and what clients are still to be told.
 #[derive(Debug)]
 pub(crate) struct Parts {
     pub(crate) scene: KeptScene,
-    // Of each entry what its client was to know of at the end of the last step, and what it is permitted.
-    pub(crate) known: Known,
     // The requests that ended and that no client was told of.
     pub(crate) messages: Vec<Ended>,
 }
@@ -22,7 +20,6 @@ impl Drop for Parts {
     fn drop(self) {
         let Parts {
             scene: _,
-            known: _,
             messages: _,
         } = self;
     }

@@ -24,7 +24,7 @@ use capsteps::said::Said;
 use capsteps::settle::end;
 use capsteps::start::first_locks;
 use capsteps::{
-    ChangeList, EndedList, EndedTickets, Event, OperationRef, Reply, KeptScene, ViewChange,
+    ChangeList, EndedList, EndedTickets, Event, KeptScene, OperationRef, Reply, ViewChange,
     copy_of_messages,
 };
 use captable::{CapTable, Holder};
@@ -78,7 +78,6 @@ impl World {
         };
         let parts = Parts {
             scene,
-            known: Known::new(alloc),
             messages: Vec::new(alloc),
         };
         Ok(World { parts })
@@ -184,13 +183,12 @@ impl World {
         ensures changes { OnOk result (AreChanges endings.new.changes.items (view_of self.old) (view_of self.new)) }
         ensures err { OnErr result ((self.new ≡ self.old) × (endings.new.changes.items ≡ endings.old.changes.items)) }
     {
-        if let Some(rejection) = rejection(&self.parts.scene, &self.parts.known, moving) {
+        if let Some(rejection) = rejection(&self.parts.scene, moving) {
             endings.changes.clear();
             return Ok(Said::alone(*self.parts.messages.allocator(), rejection.into_reply()));
         }
         let Effect { affected, answer } = self.parts.begin(moving, endings)?;
-        let (scene, known) = (&mut self.parts.scene, &mut self.parts.known);
-        end(scene, known, affected, endings);
+        end(&mut self.parts.scene, affected, endings);
         Ok(self.parts.close(answer, endings))
     }
 
@@ -213,14 +211,7 @@ impl World {
         // The list once for the reply and once for the history, both before the client was told of anything.
         let alloc = *self.parts.messages.allocator();
         let ended = self.parts.messages.as_slice();
-        let given = due_messages(
-            alloc,
-            ended,
-            &self.parts.scene,
-            &self.parts.known,
-            client,
-            max,
-        )?;
+        let given = due_messages(alloc, ended, &self.parts.scene, client, max)?;
         let for_history = copy_of_messages(alloc, given.as_slice())?;
         let told = EndedTickets::of(alloc, given.as_slice())?;
         endings.changes.clear();

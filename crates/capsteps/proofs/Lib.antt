@@ -2,6 +2,7 @@ mod Common
 pub mod Among
 pub mod AtEnd
 pub mod Begun
+pub mod CountsKept
 pub mod Finishing
 pub mod FirstLocks
 pub mod Forgotten

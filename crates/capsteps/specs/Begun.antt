@@ -2,7 +2,7 @@
 use Rattle.std.specs.Prelude.{◌≡◌, ◌≤◌, ◌<◌, ◌^◌, ◌-◌, ◌+◌, ◌==◌, ℕ, Bool, [], All, IsTrue, length, vec_capacity}
 use Rattle.std.specs.FinSet as set
 use Rattle.sessiontab.specs.Calls.{has_session}
-use Rattle.capacts.specs.{Capnotes.Noted.{HavePlaces, Noted}, Known.{KnownSets, OthersHaveAll}, Lockmachine.Locks.{IsLockMap}, Lockmachine.Moves.{IsQuietOutside}, Lockmachine.Policy.{ArePermitted}, Lockmachine.Scene.{Scene}}
+use Rattle.capacts.specs.{Capnotes.Noted.{HavePlaces, Noted}, Known.{KnownSets, OthersHaveAll}, Lockmachine.Counts.{AreCounted}, Lockmachine.Locks.{IsLockMap}, Lockmachine.Moves.{IsQuietOutside}, Lockmachine.Policy.{ArePermitted}, Lockmachine.Scene.{Scene}, Lockmachine.declared.scene.KeptScene.{KeptScene}}
 use Rattle.capsteps.specs.{Judged.{IsJudged}, declared.endings.Endings.{Endings}, declared.settle.Affected.{Affected}, declared.settle.Affected.TheVariants.{Entry, Inodes}}
 
 -- the inodes whose locks may move
@@ -18,6 +18,10 @@ pub record MaySettle (from : ℕ → Bool) (s : Scene) : Type 0 where
 -- of each entry it is kept what its client is permitted
 abbrev pub ArePermittedIn : KnownSets → Scene → Type 0
 ArePermittedIn sets s = ArePermitted sets s.fs s.tree s.sessions s.table
+
+-- beside each lock in a gather it is kept for how many clients it waits
+abbrev pub AreCountedIn : KeptScene → Type 0
+AreCountedIn s = AreCounted s.table.entries s.locks
 
 -- so it is, and each entry has a number left, and its client a session
 pub record MayEnd (known : KnownSets) (s : Scene) : Type 0 where

@@ -3,15 +3,15 @@ ghost use Rattle.std.specs.Prelude.{◌≡◌, ◌==◌, ◌≤◌, ◌<◌, ◌
 ghost use Rattle.std.specs.FinSet as set;
 ghost use Rattle.captable.specs.{Calls.{is_of_inode, entries_on}, Known.{permitted_of}, Many.{changed_where}, Table.{IsTable}, declared.entry.Holder.{Holder}};
 ghost use Rattle.sessiontab.specs.Calls.{has_session};
-ghost use Rattle.capacts.specs.{Capnotes.Noted.{LeadOn}, Known.{KnownAnew, OthersHaveAll, known_in}, Lockmachine.Policy.{ArePermitted}, Lockmachine.Scene.{scene_by}, Lockmachine.Scene.{Scene}};
+ghost use Rattle.capacts.specs.{Capnotes.Noted.{LeadOn}, Known.{KnownAnew, OthersHaveAll, known_in}, Lockmachine.Policy.{ArePermitted}, Lockmachine.Scene.{plain, scene_by}};
 ghost use Rattle.capacts.specs.Finishing as words;
-ghost use Rattle.capsteps.specs.{Affected.{forget_among}, Begun.{MayEnd}, Serves.{EndsAt}};
+ghost use Rattle.capsteps.specs.{Affected.{forget_among}, Begun.{AreCountedIn, MayEnd}, Serves.{EndsAt}};
 
 use crate::endings::Endings;
 use crate::sizes::owe_sizes;
 use arrayvec::ArrayVec;
 use capacts::finishing::finish_row;
-use capacts::{ChangeList, InodeLocks, Locks, Policy, KeptScene, ViewChange};
+use capacts::{ChangeList, InodeLocks, KeptScene, Locks, Policy, ViewChange};
 use capbits::{ClientId, Ino};
 use captable::{CapTable, EntryRow, Holder};
 use inotree::{NonEmptyInoSet, Presence};
@@ -21,17 +21,14 @@ use sessiontab::{MAX_SESSIONS, Sessions};
 
 /// Ends the step at the affected inodes, whose locks have settled: clients are to be told the sizes that changed, it ends for each
 /// entry on these inodes, and strays without an entry are forgotten.
-pub fn finish(
-    scene: &mut KeptScene,
-    affected: &NonEmptyInoSet,
-    endings: &mut Endings,
-)
+pub fn finish(scene: &mut KeptScene, affected: &NonEmptyInoSet, endings: &mut Endings)
     requires places { length endings.old.changes.items + set.len affected.now ≤ endings.old.changes.room }
     requires entries { MayEnd scene.old.table.kept (plain scene.old) }
     ensures ends { EndsAt (set.contains affected.now) endings.old.sized.items scene.old.table.kept scene.new.table.kept (plain scene.old) (plain scene.new) }
     ensures queue { scene.new.locks.locks.queue ≡ scene.old.locks.locks.queue }
     ensures lead { LeadOn endings.old.changes.items endings.new.changes.items scene.old.tree scene.new.tree }
     ensures rest { endings.new ≡ record endings.old { changes = endings.new.changes } }
+    ensures counted { AreCountedIn scene.old → AreCountedIn scene.new }
 {
     owe_sizes(&scene.sessions, &mut scene.table, endings.sized.as_slice());
     let policy = Policy {
@@ -39,7 +36,7 @@ pub fn finish(
         tree: &scene.tree,
         sessions: &scene.sessions,
     };
-    finish_affected(&policy, &mut scene.table, known, &scene.locks, affected);
+    finish_affected(&policy, &mut scene.table, &scene.locks, affected);
     forget_affected(scene, affected, &mut endings.changes);
 }
 
@@ -58,6 +55,7 @@ pub fn finish_alone(
     ensures ends { EndsAt (set.contains affected.now) [] scene.old.table.kept scene.new.table.kept (plain scene.old) (plain scene.new) }
     ensures queue { scene.new.locks.locks.queue ≡ scene.old.locks.locks.queue }
     ensures lead { LeadOn changes.old.items changes.new.items scene.old.tree scene.new.tree }
+    ensures counted { AreCountedIn scene.old → AreCountedIn scene.new }
 {
     if let Some(entry) = scene.table.find(holder.client, holder.ino) {
         let now = scene.locks.of_ino(holder.ino);
@@ -67,7 +65,7 @@ pub fn finish_alone(
             sessions: &scene.sessions,
         };
         let row = EntryRow { holder, entry };
-        finish_row(&policy, &now, &mut scene.table, known, row, 0);
+        finish_row(&policy, &now, &mut scene.table, row, 0);
     }
     forget_affected(scene, affected, changes);
 }
@@ -90,7 +88,7 @@ fn finish_affected(
     let mut walk = affected.numbers();
     'inodes: while let Some(ino) = walk.next() {
         let now = locks.of_ino(ino);
-        finish_entries(policy, table, known, ino, &now);
+        finish_entries(policy, table, ino, &now);
     }
 }
 
@@ -98,6 +96,8 @@ fn finish_affected(
 fn forget_affected(scene: &mut KeptScene, affected: &NonEmptyInoSet, changes: &mut ChangeList)
     requires places { length changes.old.items + set.len affected.now ≤ changes.old.room }
     ensures left { plain scene.new ≡ forget_among (set.contains affected.now) (plain scene.old) }
+    ensures table { scene.new.table ≡ scene.old.table }
+    ensures counted { AreCountedIn scene.old → AreCountedIn scene.new }
     ensures queue { scene.new.locks.locks.queue ≡ scene.old.locks.locks.queue }
     ensures lead { LeadOn changes.old.items changes.new.items scene.old.tree scene.new.tree }
 {
@@ -114,18 +114,13 @@ fn forget_affected(scene: &mut KeptScene, affected: &NonEmptyInoSet, changes: &m
 // ---- at one inode
 
 // Ends the step for each entry on the inode, which has these locks.
-fn finish_entries(
-    policy: &Policy<'_>,
-    table: &mut CapTable,
-    ino: Ino,
-    locks: &Option<InodeLocks>,
-)
+fn finish_entries(policy: &Policy<'_>, table: &mut CapTable, ino: Ino, locks: &Option<InodeLocks>)
     requires numbers { All (λ row. row.entry.seq < 2 ^ 64 - 1) (entries_on table.old.entries ino) }
     requires clients { All (λ row. IsTrue (has_session policy.now.sessions.now row.holder.client.0)) table.old.entries.rows }
     requires permitted { ArePermitted table.old.kept policy.now.fs.now policy.now.tree.now policy.now.sessions.now table.old.entries }
     ensures table { table.new.entries
-        ≡ changed_where (is_of_inode ino) (words.entry_under (known_in table.old.kept) policy.now.fs.now policy.now.tree.now policy.now.sessions.now locks.now.locks) table.old.entries }
-    ensures known { KnownAnew (λ k. k.ino.0 == ino.0) (words.told_at policy.now.fs.now policy.now.tree.now policy.now.sessions.now locks.now.locks)
+        ≡ changed_where (is_of_inode ino) (words.entry_under (known_in table.old.kept) policy.now.fs.now policy.now.tree.now policy.now.sessions.now locks.now) table.old.entries }
+    ensures known { KnownAnew (λ k. k.ino.0 == ino.0) (words.told_at policy.now.fs.now policy.now.tree.now policy.now.sessions.now locks.now)
         table.old.entries table.old.kept table.new.kept }
     ensures permitted { (k : Holder) → permitted_of table.new.kept k ≡ permitted_of table.old.kept k }
 {
@@ -134,18 +129,16 @@ fn finish_entries(
     if numbers.is_empty() {
         return;
     }
-    // Where the next entry is guessed to stand, and how many on the inode were made before it.
+    // Where the next entry is guessed to stand.
     let mut place = table.first_place(ino);
-    let mut nth: usize = 0;
     for number in numbers {
         let client = ClientId(*number);
         if let Some(entry) = table.find_near(client, ino, place) {
             let holder = Holder { client, ino };
             let row = EntryRow { holder, entry };
-            finish_row(policy, locks, table, known, row, nth);
+            finish_row(policy, locks, table, row, place);
         }
         place = table.place_after(place);
-        nth = nth.wrapping_add(1);
     }
 }
 

@@ -1,9 +1,10 @@
 //! The messages that a client is given when it asks for them.
 ghost use Rattle.std.specs.Prelude.{◌≡◌, ◌≤◌, ◌-◌, ◌++◌, [], ◌∷◌, true, nat_lt, length, take, if◌then◌else◌, IfOk, OnOk};
 ghost use Rattle.captable.specs.{Calls.{is_of_client, is_due}, Many.{changed_where}, Table.{IsTable}};
-ghost use Rattle.capacts.specs.{Caprules.Messages.{after_messages, caps_messages, end_messages, first_messages, row_messages, size_messages}, Caprules.State.{State}, Known.{AreKnown, known_in}, Lockmachine.Scene.{told_set}, Lockmachine.Scene.{Scene}};
+ghost use Rattle.capacts.specs.{Caprules.Messages.{after_messages, caps_messages, end_messages, first_messages, row_messages, size_messages}, Caprules.State.{State}, Known.{AreKnown, known_in}, Lockmachine.Scene.{Scene, told_set}};
 
-use capacts::{Ended, Message, MessageList, KeptScene, copy_of_outcome};
+use crate::entry_request::told_to;
+use capacts::{Ended, KeptScene, Message, MessageList, copy_of_outcome};
 use capbits::ClientId;
 use captable::{CapTable, EntryRow};
 use inotree::Tree;
@@ -28,7 +29,7 @@ pub fn due_messages(
     }
     let mut walk = scene.table.due_of(client);
     'rows: while let Some(row) = walk.next() {
-        add_due(&mut due, max, &scene.tree, known, &row)?;
+        add_due(&mut due, max, scene, &row)?;
         left = left_behind(left, &row);
         // Behind the last that is due the walk would come to nothing.
         if left == 0 {
@@ -76,17 +77,17 @@ fn ended_messages(
 fn add_due(
     list: &mut MessageList,
     max: u32,
-    tree: &Tree,
+    scene: &KeptScene,
     row: &EntryRow,
 ) -> Result<(), AllocError>
     requires room { length list.old ≤ max }
-    ensures ok { OnOk result ((s : Scene) → s.tree ≡ tree.now
-        → (nat_lt row.now.entry.told_seq row.now.entry.seq ≡ true → known_in table.now.kept row.now.holder ≡ told_set s row.now)
+    ensures ok { OnOk result ((s : Scene) → s.tree ≡ scene.now.tree
+        → (nat_lt row.now.entry.told_seq row.now.entry.seq ≡ true → known_in scene.now.table.kept row.now.holder ≡ told_set s row.now)
         → list.new ≡ take max (list.old ++ row_messages s row.now)) }
 {
     let ino = row.holder.ino;
-    add_caps(list, max, known, row)?;
-    add_size(list, max, tree, row)?;
+    add_caps(list, max, &scene.table, row)?;
+    add_size(list, max, &scene.tree, row)?;
     if row.entry.asked {
         add(list, max, Message::Recall { ino })?;
     }
@@ -97,6 +98,7 @@ fn add_due(
 fn add_caps(
     list: &mut MessageList,
     max: u32,
+    table: &CapTable,
     row: &EntryRow,
 ) -> Result<(), AllocError>
     requires room { length list.old ≤ max }
@@ -108,7 +110,7 @@ fn add_caps(
     let ino = row.holder.ino;
     if row.entry.told_seq < row.entry.seq {
         let seq = row.entry.seq;
-        let caps = known.of(row.holder, 0).told;
+        let caps = told_to(table, row.holder);
         add(list, max, Message::Caps { ino, seq, caps })?;
     }
     Ok(())
@@ -145,7 +147,7 @@ fn add(list: &mut MessageList, max: u32, message: Message) -> Result<(), AllocEr
 /// The client is told of the changes and the sizes that these messages say, and is no longer asked to release where one asks it.
 pub fn give(table: &mut CapTable, client: ClientId, given: &[Message])
     requires { IsTable table.old.entries }
-    ensures { table.new.entries ≡ changed_where (is_of_client client) (after_messages given.now) table.old.entries }
+    ensures { table.new ≡ record table.old { entries = changed_where (is_of_client client) (after_messages given.now) table.old.entries } }
 {
     for message in given {
         give_one(table, client, message);
@@ -155,7 +157,7 @@ pub fn give(table: &mut CapTable, client: ClientId, given: &[Message])
 // The same of one message.
 fn give_one(table: &mut CapTable, client: ClientId, message: &Message)
     requires { IsTable table.old.entries }
-    ensures { table.new.entries ≡ changed_where (is_of_client client) (after_messages (message.now ∷ [])) table.old.entries }
+    ensures { table.new ≡ record table.old { entries = changed_where (is_of_client client) (after_messages (message.now ∷ [])) table.old.entries } }
 {
     match message {
         Message::Caps { ino, .. } => {

@@ -5,15 +5,15 @@ ghost use Rattle.capbits.specs.declared.cap.Part.{Part};
 ghost use Rattle.inotree.specs.Tree.{IsTree, Nodes};
 ghost use Rattle.captable.specs.{Known.{known_of}, declared.entry.Holder.{Holder}};
 ghost use Rattle.sessiontab.specs.Table.{SessionTable};
-ghost use Rattle.capacts.specs.{Capevents.declared.outcome.Ended.{Ended}, Capnotes.Noted.{HavePlaces, LeadOn}, Caprules.Settle.{Served as Serving, sized_by, sized_in}, Lockmachine.Locks.{request_at}, Lockmachine.Scene.{scene as scene_of}, Lockmachine.Turns.{WaitAt, may_end_by}, Lockmachine.declared.request.Request.{Request}, Reach.{AreWalked, Reaches}};
-ghost use Rattle.capsteps.specs.{Begun.{ArePermittedIn, HaveRoomFor, IsReady, MaySettle, among}, Judged.{IsJudged}, Serves.{Serves, SettlesWith, EndsWith}, Sweep.{AreStill, GoesOn, IsFirstPlace, IsSwept, StandsAt, changed_alone}};
+ghost use Rattle.capacts.specs.{Capevents.declared.outcome.Ended.{Ended}, Capnotes.Noted.{HavePlaces, LeadOn}, Caprules.Settle.{Served as Serving, sized_by, sized_in}, Lockmachine.Counts.{AreCounted}, Lockmachine.Locks.{request_at}, Lockmachine.Scene.{plain, scene as scene_of}, Lockmachine.Turns.{WaitAt, may_end_by}, Lockmachine.declared.request.Request.{Request}, Reach.{AreWalked, Reaches}};
+ghost use Rattle.capsteps.specs.{Begun.{AreCountedIn, ArePermittedIn, HaveRoomFor, IsReady, MaySettle, among}, Judged.{IsJudged}, Serves.{Serves, SettlesWith, EndsWith}, Sweep.{AreStill, GoesOn, IsFirstPlace, IsSwept, StandsAt, changed_alone}};
 
 use crate::endings::Endings;
 use crate::finish::{finish, finish_alone};
 use capacts::reach::reach;
 use capacts::renewing::renew_served;
 use capacts::serving::{Served, serve};
-use capacts::{Change, Locks, Move, Operation, Outcome, Policy, Request, KeptScene};
+use capacts::{Change, KeptScene, Locks, Move, Operation, Outcome, Policy, Request};
 use capbits::{Ino, Ticket};
 use captable::{CapTable, Holder};
 use inotree::{InoSet, NonEmptyInoSet, Setting};
@@ -31,9 +31,11 @@ pub enum Affected {
 /// the state was sound before.
 pub fn end(scene: &mut KeptScene, affected: Affected, endings: &mut Endings)
     requires ready { IsReady affected scene.old.table.kept (plain scene.old) endings.old }
+    requires counted { AreCountedIn scene.old }
     ensures ends { EndsWith (among affected) scene.old.table.kept scene.new.table.kept (plain scene.old) (plain scene.new) endings.new.for_clients.items }
     ensures for_history { endings.new.for_history.items ≡ endings.new.for_clients.items }
     ensures lead { LeadOn endings.old.changes.items endings.new.changes.items scene.old.tree scene.new.tree }
+    ensures counted { AreCountedIn scene.new }
     // As many waited as wait and have ended.
     ensures count { length endings.new.for_clients.items + length scene.new.locks.locks.queue ≡ length scene.old.locks.locks.queue }
 {
@@ -41,37 +43,34 @@ pub fn end(scene: &mut KeptScene, affected: Affected, endings: &mut Endings)
         Affected::Entry(holder) => {
             let before = scene.locks.of_ino(holder.ino);
             let mut reached = NonEmptyInoSet::of(endings.alloc(), holder.ino);
-            settle(scene, known, &mut reached, endings);
+            settle(scene, &mut reached, endings);
             // Most steps of such events serve nobody, by which the tree could have changed, and leave these locks as they were; by
             // the same locks and the same tree the others on the inode still have all that the end would give them.
             if endings.for_clients.is_empty()
                 && reached.is_single()
                 && scene.locks.of_ino(holder.ino) == before
             {
-                finish_alone(scene, known, holder, &reached, &mut endings.changes);
+                finish_alone(scene, holder, &reached, &mut endings.changes);
             } else {
-                finish(scene, known, &reached, endings);
+                finish(scene, &reached, endings);
             }
         }
         Affected::Inodes(mut inos) => {
-            settle(scene, known, &mut inos, endings);
-            finish(scene, known, &inos, endings);
+            settle(scene, &mut inos, endings);
+            finish(scene, &inos, endings);
         }
     }
 }
 
 // Makes the moves, always the first that applies, until none does. Each request that is served ends, once for its client and
 // once for the history. Inodes that are moved are affected besides.
-fn settle(
-    scene: &mut KeptScene,
-    affected: &mut NonEmptyInoSet,
-    endings: &mut Endings,
-)
+fn settle(scene: &mut KeptScene, affected: &mut NonEmptyInoSet, endings: &mut Endings)
     requires settles { MaySettle (set.contains affected.old) (plain scene.old) }
     requires judged { IsJudged endings.old.judged (plain scene.old) }
     requires room { HaveRoomFor (length scene.old.locks.locks.queue) endings.old }
     requires places { HavePlaces endings.old.changes scene.old.locks.locks affected.old }
     requires permitted { ArePermittedIn scene.old.table.kept (plain scene.old) }
+    requires counted { AreCountedIn scene.old }
     ensures settles { SettlesWith (set.contains affected.new) (set.contains affected.old) (plain scene.old) (plain scene.new) endings.new.for_clients.items endings.new.sized.items }
     ensures tree { IsTree scene.old.tree }
     ensures for_history { endings.new.for_history.items ≡ endings.new.for_clients.items }
@@ -80,13 +79,14 @@ fn settle(
     ensures places { HavePlaces endings.new.changes scene.new.locks.locks affected.new }
     ensures told { (k : Holder) → known_of scene.new.table.kept k ≡ known_of scene.old.table.kept k }
     ensures permitted { ArePermittedIn scene.new.table.kept (plain scene.new) }
+    ensures counted { AreCountedIn scene.new }
 {
     end_gathers(&scene.table, &mut scene.locks, affected);
     // Those from which a rename has walked over all below. The allocator is the tree's, whose contract tells the proof that it is one.
     let mut walked = InoSet::new(scene.tree.alloc());
     let mut place = SweepPlace::first(affected);
-    'servings: while let Some(ticket) = sweep(scene, known, affected, &mut place) {
-        let changed = serve_next(scene, known, ticket, affected, &mut walked, endings);
+    'servings: while let Some(ticket) = sweep(scene, affected, &mut place) {
+        let changed = serve_next(scene, ticket, affected, &mut walked, endings);
         // Where no inode changed that the sweep has passed, it goes on; else it begins anew.
         place = match changed {
             Some(inode) if place.at.0 <= inode.0 => place,
@@ -123,19 +123,21 @@ impl SweepPlace {
 fn end_gathers(table: &CapTable, locks: &mut Locks, affected: &NonEmptyInoSet)
     requires elsewhere { (other : ℕ) (part : Part) → set.contains affected.now other ≡ false
         → may_end_by table.now.entries locks.old.locks (other, part) ≡ false }
+    requires counted { AreCounted table.now.entries locks.old }
+    ensures counted { AreCounted table.now.entries locks.new }
     ensures ends { set.len affected.now ≢ 1 → (other : ℕ) (part : Part) → may_end_by table.now.entries locks.new.locks (other, part) ≡ false }
     // Each is the first move that applies, whatever the tree and the sessions are.
     ensures swept { (fs : List ℕ) (tree : Nodes) (sessions : SessionTable)
         → WaitAt (set.contains affected.now) (scene_of fs tree sessions table.now.entries locks.old.locks)
         → IsSwept (set.contains affected.now) (scene_of fs tree sessions table.now.entries locks.old.locks)
-        (scene_of fs tree sessions table.now locks.new) }
+        (scene_of fs tree sessions table.now.entries locks.new.locks) }
 {
     if affected.is_single() {
         return;
     }
     let mut at = affected.first();
     'inodes: loop {
-        locks.end_gathers_at(table, at);
+        locks.end_gathers_at(at);
         let Some(next) = affected.after(at) else {
             return;
         };
@@ -145,18 +147,17 @@ fn end_gathers(table: &CapTable, locks: &mut Locks, affected: &NonEmptyInoSet)
 
 // Lets the locks of the affected inodes move, one inode after the other, from where the sweep has come to, until a request is to be
 // served, whose number it answers, or no move applies.
-fn sweep(
-    scene: &mut KeptScene,
-    affected: &NonEmptyInoSet,
-    place: &mut SweepPlace,
-) -> Option<Ticket>
+fn sweep(scene: &mut KeptScene, affected: &NonEmptyInoSet, place: &mut SweepPlace) -> Option<Ticket>
     requires place { StandsAt (set.contains affected.now) place.old (plain scene.old) }
     requires still { AreStill (set.contains affected.now) (plain scene.old) }
     requires waits { WaitAt (set.contains affected.now) (plain scene.old) }
-    requires permitted { ArePermittedIn scene.now.table.kept (plain scene.old) }
+    requires permitted { ArePermittedIn scene.old.table.kept (plain scene.old) }
+    requires counted { AreCountedIn scene.old }
     ensures swept { IsSwept (set.contains affected.now) (plain scene.old) (plain scene.new) }
     ensures next { GoesOn (plain scene.new) result }
     ensures place { StandsAt (set.contains affected.now) place.new (plain scene.new) }
+    ensures rest { scene.new ≡ record scene.old { locks = scene.new.locks } }
+    ensures counted { AreCountedIn scene.new }
 {
     'inodes: loop {
         let policy = Policy {
@@ -165,7 +166,7 @@ fn sweep(
             sessions: &scene.sessions,
         };
         let (table, SweepPlace { at, alone }) = (&scene.table, *place);
-        if let Some(ticket) = scene.locks.advance_at(&policy, table, known, at, alone) {
+        if let Some(ticket) = scene.locks.advance_at(&policy, table, at, alone) {
             return Some(ticket);
         }
         match affected.after(at) {
@@ -215,6 +216,7 @@ fn serve_next(
     ensures places { endings.old.changes.room + set.len affected.new ≤ endings.new.changes.room + set.len affected.old }
     ensures told { (k : Holder) → known_of scene.new.table.kept k ≡ known_of scene.old.table.kept k }
     ensures permitted { ArePermittedIn scene.new.table.kept (plain scene.new) }
+    ensures counted { AreCountedIn scene.old → AreCountedIn scene.new }
 {
     let Some(request) = scene.locks.apply_move(Move::Serve(ticket)) else {
         unreachable!()
@@ -225,7 +227,7 @@ fn serve_next(
     let room = reach(scene, &request, walked, affected, changes);
     let served = serve(alloc, scene, &request, room.is_ok(), judged);
     changes.note_served(&scene.tree, &request, &served.outcome);
-    renew_served(scene, known, &request, &served.outcome, affected);
+    renew_served(scene, &request, &served.outcome, affected);
     let (client, ticket) = (request.client, request.ticket);
     let (sized, changed) = changed_inodes(&request, &served);
     // The request goes before its end is told, so that the proof has to follow it but once.

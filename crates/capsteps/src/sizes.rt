@@ -12,7 +12,7 @@ use sessiontab::Sessions;
 /// Each client that caches the data of one of these inodes, whose sizes were changed, is to be told the size.
 pub fn owe_sizes(sessions: &Sessions, table: &mut CapTable, sized: &[Ino])
     requires { All (λ row. IsTrue (has_session sessions.now row.holder.client.0)) table.old.entries.rows }
-    ensures { table.new.entries ≡ changed_where (is_sized sized.now) owed table.old.entries }
+    ensures { table.new ≡ record table.old { entries = changed_where (is_sized sized.now) owed table.old.entries } }
 {
     for ino in sized {
         owe_on(sessions, table, *ino);
@@ -22,7 +22,7 @@ pub fn owe_sizes(sessions: &Sessions, table: &mut CapTable, sized: &[Ino])
 // Each client that caches the inode's data is to be told its size.
 fn owe_on(sessions: &Sessions, table: &mut CapTable, ino: Ino)
     requires { All (λ row. IsTrue (has_session sessions.now row.holder.client.0)) table.old.entries.rows }
-    ensures { table.new.entries ≡ changed_where (is_of_inode ino) owed table.old.entries }
+    ensures { table.new ≡ record table.old { entries = changed_where (is_of_inode ino) owed table.old.entries } }
 {
     let clients = clients_on(sessions, table, ino);
     let numbers = clients.as_slice();
@@ -34,7 +34,7 @@ fn owe_on(sessions: &Sessions, table: &mut CapTable, ino: Ino)
 
 // The same of one client.
 fn owe(table: &mut CapTable, holder: Holder)
-    ensures { table.new.entries ≡ changed_by owed table.old.entries holder }
+    ensures { table.new ≡ record table.old { entries = changed_by owed table.old.entries holder } }
 {
     if let Some(entry) = table.find(holder.client, holder.ino) {
         if entry.held.has(Cap::Fc) {

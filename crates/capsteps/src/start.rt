@@ -11,10 +11,10 @@ use std::alloc::{AllocError, Global};
 
 /// The locks of each inode of the tree, each stable in SYNC.
 pub fn first_locks(alloc: Global, tree: &Tree) -> Result<Locks, AllocError>
-    ensures queue { IfOk result (λ locks. locks.queue ≡ []) }
-    ensures last { IfOk result (λ locks. locks.last ≡ 0) }
+    ensures queue { IfOk result (λ locks. locks.locks.queue ≡ []) }
+    ensures last { IfOk result (λ locks. locks.locks.last ≡ 0) }
     ensures states { IfOk result (λ locks. (ino : ℕ)
-        → map.get locks.states ino ≡ option_map (λ node. in_sync) (map.get tree.now.nodes ino)) }
+        → map.get locks.locks.states ino ≡ option_map (λ node. in_sync) (map.get tree.now.nodes ino)) }
 {
     let mut locks = Locks::new(alloc)?;
     let last = tree.last();

@@ -13,4 +13,4 @@ rows-preserved c = record {
 pub returns : goal.returns
 returns c = λ row inside mine.
     all-reached c.rows.inodes c.entries_of-walk.result c.rows.walk c.in_default.ensures.none.0 c.rows.invariant.reached row
-    (subst (λ (rows : List EntryRow). Contains rows row) (sym c.entries_of-walk.ensures.rows) (filter-contains (is_of_client c.args.client) c.args.table.now.rows row inside mine))
+    (subst (λ (rows : List EntryRow). Contains rows row) (sym c.entries_of-walk.ensures.rows) (filter-contains (is_of_client c.args.client) c.args.table.now.entries.rows row inside mine))

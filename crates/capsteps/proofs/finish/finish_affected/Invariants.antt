@@ -7,7 +7,7 @@ decreases-inodes l = length l.walk
 
 abbrev pub invariant-inodes : goal.invariant-inodes
 invariant-inodes l = record {
-  so_far : IsFinishing (entry_by (known_in l.fn.known.sets) l.policy.fs.now l.policy.tree.now l.policy.sessions.now l.locks.states) (told_by l.policy.fs.now l.policy.tree.now l.policy.sessions.now l.locks.states) l.fn.table l.fn.known.sets
-      l.initial.walk l.walk l.table l.known.sets;
-  permitted : (k : Holder) → permitted_of l.known.sets k ≡ permitted_of l.fn.known.sets k;
+  so_far : IsFinishing (entry_by (known_in l.fn.table.kept) l.policy.fs.now l.policy.tree.now l.policy.sessions.now l.locks.locks.states) (told_by l.policy.fs.now l.policy.tree.now l.policy.sessions.now l.locks.locks.states) l.fn.table.entries l.fn.table.kept
+      l.initial.walk l.walk l.table.entries l.table.kept;
+  permitted : (k : Holder) → permitted_of l.table.kept k ≡ permitted_of l.fn.table.kept k;
 }

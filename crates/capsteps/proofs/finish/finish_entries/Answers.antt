@@ -16,16 +16,16 @@ module _ (c : After-is_empty) where
   abbrev says : EntryRow → Caps
   says = told_at c.args.policy.now.fs.now c.args.policy.now.tree.now c.args.policy.now.sessions.now c.args.locks.now
 
-  all : ks ≡ holders_of_rows (entries_on c.args.table.now c.args.ino)
-  all = ap (named c.args.ino) (c.as_slice-numbers.ensures.value ∙ c.clients_on-clients.ensures.clients) ∙ named-clients c.args.ino c.args.table.now.rows
+  all : ks ≡ holders_of_rows (entries_on c.args.table.now.entries c.args.ino)
+  all = ap (named c.args.ino) (c.as_slice-numbers.ensures.value ∙ c.clients_on-clients.ensures.clients) ∙ named-clients c.args.ino c.args.table.now.entries.rows
 
   -- so many were gone through
-  module _ (i : ℕ) (u : Table) (mid : KnownSets) (table : u ≡ fold (changed_by (made c.args.known.now.sets)) c.args.table.now (take i ks)) (known : KnownAnew (is_among (take i ks)) says c.args.table.now c.args.known.now.sets mid) where
+  module _ (i : ℕ) (u : Table) (mid : KnownSets) (table : u ≡ fold (changed_by (made c.args.table.now.kept)) c.args.table.now.entries (take i ks)) (known : KnownAnew (is_among (take i ks)) says c.args.table.now.entries c.args.table.now.kept mid) where
     abbrev t : Table
-    t = c.args.table.now
+    t = c.args.table.now.entries
 
     abbrev was : KnownSets
-    was = c.args.known.now.sets
+    was = c.args.table.now.kept
 
     abbrev g : EntryRow → Entry
     g = made was
@@ -86,41 +86,41 @@ pub returns-then-is_empty : goal.returns-then-is_empty
 returns-then-is_empty g =
     let c = (goal.at.returns-then-is_empty g).After-is_empty in
     let empty = eqb-true (length c.as_slice-numbers.result.now) 0 (sym g.is_empty.ensures ∙ g.if-is_empty.true) in
-    let done = ended c 0 c.args.table.now c.args.known.now.sets refl (kept-nobody (says c) c.args.table.now c.args.known.now.sets) (omega (arith, empty)) in
+    let done = ended c 0 c.args.table.now.entries c.args.table.now.kept refl (kept-nobody (says c) c.args.table.now.entries c.args.table.now.kept) (omega (arith, empty)) in
     record { table = done.0; known = done.1; permitted = λ k. refl }
 
 pub returns : goal.returns
 returns g =
-    let done = ended (goal.at.returns g).After-is_empty g.loop-number.number-index g.loop-number.table g.loop-number.known.sets g.loop-number.invariant.table g.loop-number.invariant.known g.loop-number-test.false in
+    let done = ended (goal.at.returns g).After-is_empty g.loop-number.number-index g.loop-number.table.entries g.loop-number.table.kept g.loop-number.invariant.table g.loop-number.invariant.known g.loop-number-test.false in
     record { table = done.0; known = done.1; permitted = g.loop-number.invariant.permitted }
 
 pub finish_row-requires : goal.finish_row-requires
 finish_row-requires g =
     let c = (goal.at.finish_row-requires g).After-is_empty in
-    let rows : List EntryRow = c.args.table.now.rows in
+    let rows : List EntryRow = c.args.table.now.entries.rows in
     let k : Holder = holder (record { 0 = get_or c.as_slice-numbers.result.now g.loop-number.number-index 0 }) c.args.ino in
     let row : EntryRow = record { holder = k; entry = g.in-Some.entry } in
-    let now : entry_at g.loop-number.table k ≡ Some g.in-Some.entry = cc in
-    let same_row = still c g.loop-number.number-index g.loop-number.table g.loop-number.known.sets g.loop-number.invariant.table g.loop-number.invariant.known g.loop-number-test.true in
-    let found : entry_at c.args.table.now k ≡ Some g.in-Some.entry = sym (ap entry_of same_row) ∙ now in
+    let now : entry_at g.loop-number.table.entries k ≡ Some g.in-Some.entry = cc in
+    let same_row = still c g.loop-number.number-index g.loop-number.table.entries g.loop-number.table.kept g.loop-number.invariant.table g.loop-number.invariant.known g.loop-number-test.true in
+    let found : entry_at c.args.table.now.entries k ≡ Some g.in-Some.entry = sym (ap entry_of same_row) ∙ now in
     record {
       there = now;
       permitted = g.loop-number.invariant.permitted k ∙ c.requires.permitted k g.in-Some.entry found;
-      number = All-contains (λ row. row.entry.seq < 18446744073709551615) (entries_on c.args.table.now c.args.ino) row c.requires.numbers
-          (filter-contains (is_of_inode c.args.ino) rows row (found-contains (is_row_of k) rows row (row_of-entry c.args.table.now k g.in-Some.entry found)) (eq-eqb c.args.ino.0 c.args.ino.0 refl));
+      number = All-contains (λ row. row.entry.seq < 18446744073709551615) (entries_on c.args.table.now.entries c.args.ino) row c.requires.numbers
+          (filter-contains (is_of_inode c.args.ino) rows row (found-contains (is_row_of k) rows row (row_of-entry c.args.table.now.entries k g.in-Some.entry found)) (eq-eqb c.args.ino.0 c.args.ino.0 refl));
     }
 
 pub loop-number-preserved : goal.loop-number-preserved
 loop-number-preserved g =
     let c = (goal.at.loop-number-preserved g).After-is_empty in
-    let u : Table = g.loop-number.table in
-    let mid : KnownSets = g.loop-number.known.sets in
+    let u : Table = g.loop-number.table.entries in
+    let mid : KnownSets = g.loop-number.table.kept in
     let k : Holder = holder (record { 0 = get_or c.as_slice-numbers.result.now g.loop-number.number-index 0 }) c.args.ino in
-    let done : (g.match-find_near.table ≡ changed_by (made c mid) u k) × KnownAnew (λ j. same j k) (says c) u mid g.match-find_near.known.sets × ((j : Holder) → permitted_of g.match-find_near.known.sets j ≡ permitted_of mid j) =
+    let done : (g.match-find_near.table.entries ≡ changed_by (made c mid) u k) × KnownAnew (λ j. same j k) (says c) u mid g.match-find_near.table.kept × ((j : Holder) → permitted_of g.match-find_near.table.kept j ≡ permitted_of mid j) =
     elim g.match-find_near.branch [
-      | in-Some w ↦ rw (w.table-is, w.known-is) (w.finish_row.ensures.table, w.finish_row.ensures.known, w.finish_row.ensures.permitted)
+      | in-Some w ↦ rw w.table-is (w.finish_row.ensures.table, w.finish_row.ensures.known, w.finish_row.ensures.permitted)
       | in_default w ↦ (let none : entry_at u k ≡ None = cc in
-          rw (w.table-is, w.known-is) (none_found u k (λ e. made c mid (record { holder = k; entry = e })) none, kept-none (says c) u mid k none, λ j. refl))
+          rw w.table-is (none_found u k (λ e. made c mid (record { holder = k; entry = e })) none, kept-none (says c) u mid k none, λ j. refl))
     ] in
-    let more = one_more c g.loop-number.number-index u mid g.loop-number.invariant.table g.loop-number.invariant.known g.loop-number-test.true g.match-find_near.table g.match-find_near.known.sets done.0 done.1 in
+    let more = one_more c g.loop-number.number-index u mid g.loop-number.invariant.table g.loop-number.invariant.known g.loop-number-test.true g.match-find_near.table.entries g.match-find_near.table.kept done.0 done.1 in
     record { table = more.0; known = more.1; permitted = λ j. done.2 j ∙ g.loop-number.invariant.permitted j }

@@ -9,6 +9,6 @@ abbrev pub invariant-rows : goal.invariant-rows
 invariant-rows l = record {
   left : l.left ≡ length (filter is_due l.walk);
   few : length l.due ≤ l.max;
-  among : (row : EntryRow) → Contains l.walk row → is_due row ≡ true → Contains l.scene.table.rows row;
-  listed : (s : Scene) → s.tree ≡ l.scene.tree → s.table ≡ l.scene.table → AreKnown l.known.sets s → IsListed l.max s (end_messages l.fn.client l.ended) l.initial.walk l.due l.walk;
+  among : (row : EntryRow) → Contains l.walk row → is_due row ≡ true → Contains l.scene.table.entries.rows row;
+  listed : (s : Scene) → s.tree ≡ l.scene.tree → s.table ≡ l.scene.table.entries → AreKnown l.scene.table.kept s → IsListed l.max s (end_messages l.fn.client l.ended) l.initial.walk l.due l.walk;
 }

@@ -1,12 +1,12 @@
 use Rattle.std.proofs.{Common.{◌≡◌, ◌==◌, ℕ, Bool, List, [], vec_len, refl, sym, ap, subst, ◌∙◌, arith, eq-eqb}, lemmas.Bool.{eqb-true}, lemmas.List.{nil_from_length}}
 use Rattle.std.specs.FinSet as set
-use Rattle.capsteps.{proofs.Among.{none-besides, one-counts, one-inode}, proofs.Common.{Ended, Ino, InoSet, KnownSets, leads-then, Scene}, proofs.NobodyServed.{others-still, settled-ends, settled-may, served_none}, proofs.SameLocks.{same-locks}, proofs.settle.end.Goals.{After-settle, In-Entry, In-Inodes}, specs.Begun.{IsReady, MayEnd, MaySettle}, specs.Serves.{EndsAt, EndsWith}, specs.declared.endings.Endings.{Endings}, specs.declared.settle.Affected.{Affected}, specs.declared.settle.Affected.TheVariants.{Entry, Inodes}}
+use Rattle.capsteps.{proofs.Among.{none-besides, one-counts, one-inode}, proofs.Common.{Ended, Ino, InoSet, KnownSets, leads-then, plain, Scene}, proofs.NobodyServed.{others-still, settled-ends, settled-may, served_none}, proofs.SameLocks.{same-locks}, proofs.settle.end.Goals.{After-settle, In-Entry, In-Inodes}, specs.Begun.{IsReady, MayEnd, MaySettle}, specs.Serves.{EndsAt, EndsWith}, specs.declared.endings.Endings.{Endings}, specs.declared.settle.Affected.{Affected}, specs.declared.settle.Affected.TheVariants.{Entry, Inodes}}
 use Rattle.capsteps.proofs.settle.end.Goals as goal
 
 -- ---- where one entry alone was affected
 
-entry_ready : (c : In-Entry) → IsReady (Entry c.in-Entry.holder) c.args.known.now.sets c.args.scene.now c.args.endings.now
-entry_ready c = subst (λ (a : Affected). IsReady a c.args.known.now.sets c.args.scene.now c.args.endings.now) c.in-Entry.is c.requires.ready
+entry_ready : (c : In-Entry) → IsReady (Entry c.in-Entry.holder) c.args.scene.now.table.kept (plain c.args.scene.now) c.args.endings.now
+entry_ready c = subst (λ (a : Affected). IsReady a c.args.scene.now.table.kept (plain c.args.scene.now) c.args.endings.now) c.in-Entry.is c.requires.ready
 
 pub settle-requires : goal.settle-requires
 settle-requires c =
@@ -14,11 +14,12 @@ settle-requires c =
     let may = ready.entries in
     let one = ap (λ (inos : InoSet). set.len inos) c.of-reached.ensures ∙ one-counts c.in-Entry.holder.ino.0 in
     record {
-      settles = subst (λ (from : ℕ → Bool). MaySettle from c.args.scene.now) (sym (ap set.contains c.of-reached.ensures ∙ one-inode c.in-Entry.holder.ino.0)) ready.settles;
+      settles = subst (λ (from : ℕ → Bool). MaySettle from (plain c.args.scene.now)) (sym (ap set.contains c.of-reached.ensures ∙ one-inode c.in-Entry.holder.ino.0)) ready.settles;
       judged = ready.judged;
       room = ready.room;
       places = omega (arith, one, ready.at.0);
       permitted = may.permitted;
+      counted = c.requires.counted;
     }
 
 module _ (c : After-settle) where
@@ -28,8 +29,8 @@ module _ (c : After-settle) where
   only : set.contains c.of-reached.result ≡ (λ other. other == ino)
   only = ap set.contains c.of-reached.ensures ∙ one-inode ino
 
-  ready_was : IsReady (Entry c.in-Entry.holder) c.args.known.now.sets c.args.scene.now c.args.endings.now
-  ready_was = subst (λ (a : Affected). IsReady a c.args.known.now.sets c.args.scene.now c.args.endings.now) c.in-Entry.is c.requires.ready
+  ready_was : IsReady (Entry c.in-Entry.holder) c.args.scene.now.table.kept (plain c.args.scene.now) c.args.endings.now
+  ready_was = subst (λ (a : Affected). IsReady a c.args.scene.now.table.kept (plain c.args.scene.now) c.args.endings.now) c.in-Entry.is c.requires.ready
 
   -- where one inode is affected still, it is none but that
   alone : set.len c.settle.new.affected ≡ 1 → set.contains c.settle.new.affected ≡ (λ other. other == ino)
@@ -40,16 +41,16 @@ module _ (c : After-settle) where
 
   -- the locks settle, and the step ends
   ends_there : (sized : List Ino) → c.settle.new.endings.sized.items ≡ sized → (sets : KnownSets) (last : Scene)
-      → EndsAt (set.contains c.settle.new.affected) sized c.settle.new.known.sets sets c.settle.new.scene last
-      → EndsWith (λ other. other == ino) c.args.known.now.sets sets c.args.scene.now last c.settle.new.endings.for_clients.items
+      → EndsAt (set.contains c.settle.new.affected) sized c.settle.new.scene.table.kept sets (plain c.settle.new.scene) last
+      → EndsWith (λ other. other == ino) c.args.scene.now.table.kept sets (plain c.args.scene.now) last c.settle.new.endings.for_clients.items
   ends_there sized are sets last ends =
       let settles = c.settle.ensures.settles in
-      subst (λ (from : ℕ → Bool). EndsWith from c.args.known.now.sets sets c.args.scene.now last c.settle.new.endings.for_clients.items) only
-      (settled-ends (set.contains c.settle.new.affected) (set.contains c.of-reached.result) c.args.known.now.sets c.settle.new.known.sets sets c.args.scene.now c.settle.new.scene last
+      subst (λ (from : ℕ → Bool). EndsWith from c.args.scene.now.table.kept sets (plain c.args.scene.now) last c.settle.new.endings.for_clients.items) only
+      (settled-ends (set.contains c.settle.new.affected) (set.contains c.of-reached.result) c.args.scene.now.table.kept c.settle.new.scene.table.kept sets (plain c.args.scene.now) (plain c.settle.new.scene) last
       c.settle.new.endings.for_clients.items c.settle.new.endings.sized.items settles c.settle.ensures.tree c.settle.ensures.told c.settle.ensures.permitted
-      (subst (λ (sized : List Ino). EndsAt (set.contains c.settle.new.affected) sized c.settle.new.known.sets sets c.settle.new.scene last) (sym are) ends))
+      (subst (λ (sized : List Ino). EndsAt (set.contains c.settle.new.affected) sized c.settle.new.scene.table.kept sets (plain c.settle.new.scene) last) (sym are) ends))
 
-  may_end : MayEnd c.settle.new.known.sets c.settle.new.scene
+  may_end : MayEnd c.settle.new.scene.table.kept (plain c.settle.new.scene)
   may_end = let ready = ready_was in settled-may _ _ _ _ _ _ _ _ c.settle.ensures.settles c.settle.ensures.permitted ready.entries
 
 pub finish_alone-requires-clause-others : goal.finish_alone-requires-clause-others
@@ -58,8 +59,8 @@ finish_alone-requires-clause-others c =
     let ready = ready_was here in
     let nobody : c.settle.new.endings.for_clients.items ≡ [] = nil_from_length c.settle.new.endings.for_clients.items (omega (arith, eqb-true (vec_len c.settle.new.endings.for_clients) 0 (sym c.is_empty.ensures ∙ c.if-is_empty.true))) in
     let same = sym c.of_ino.ensures ∙ same-locks c.of_ino.result c.of_ino-before.result (sym c.eq.ensures ∙ c.if-eq.true) ∙ c.of_ino-before.ensures in
-    others-still (set.contains c.settle.new.affected) (set.contains c.of-reached.result) c.args.scene.now c.settle.new.scene c.settle.new.endings.for_clients.items c.settle.new.endings.sized.items
-    c.settle.ensures.settles nobody c.args.known.now.sets c.settle.new.known.sets c.in-Entry.holder c.settle.ensures.told same ready.at.1
+    others-still (set.contains c.settle.new.affected) (set.contains c.of-reached.result) (plain c.args.scene.now) (plain c.settle.new.scene) c.settle.new.endings.for_clients.items c.settle.new.endings.sized.items
+    c.settle.ensures.settles nobody c.args.scene.now.table.kept c.settle.new.scene.table.kept c.in-Entry.holder c.settle.ensures.told same ready.at.1
 
 pub finish_alone-requires-clause-entries : goal.finish_alone-requires-clause-entries
 finish_alone-requires-clause-entries c = may_end (goal.at.finish_alone-requires-clause-entries c).After-settle
@@ -77,9 +78,9 @@ pub returns-then-eq-clause-ends : goal.returns-then-eq-clause-ends
 returns-then-eq-clause-ends c =
     let here = (goal.at.returns-then-eq-clause-ends c).After-settle in
     let nobody : c.settle.new.endings.for_clients.items ≡ [] = nil_from_length c.settle.new.endings.for_clients.items (omega (arith, eqb-true (vec_len c.settle.new.endings.for_clients) 0 (sym c.is_empty.ensures ∙ c.if-is_empty.true))) in
-    let none = served_none (set.contains c.settle.new.affected) (set.contains c.of-reached.result) c.args.scene.now c.settle.new.scene c.settle.new.endings.for_clients.items c.settle.new.endings.sized.items
+    let none = served_none (set.contains c.settle.new.affected) (set.contains c.of-reached.result) (plain c.args.scene.now) (plain c.settle.new.scene) c.settle.new.endings.for_clients.items c.settle.new.endings.sized.items
     c.settle.ensures.settles nobody in
-    rw c.in-Entry.is (ends_there here [] none.0 c.finish_alone.new.known.sets c.finish_alone.new.scene c.finish_alone.ensures.ends)
+    rw c.in-Entry.is (ends_there here [] none.0 c.finish_alone.new.scene.table.kept (plain c.finish_alone.new.scene) c.finish_alone.ensures.ends)
 
 pub returns-then-eq-clause-lead : goal.returns-then-eq-clause-lead
 returns-then-eq-clause-lead c =
@@ -90,9 +91,9 @@ pub returns-in-Entry-clause-ends : goal.returns-in-Entry-clause-ends
 returns-in-Entry-clause-ends c =
     let here = (goal.at.returns-in-Entry-clause-ends c).After-settle in
     rw c.in-Entry.is
-    (subst (λ (for_clients : List Ended). EndsWith (λ other. other == ino here) c.args.known.now.sets c.finish.new.known.sets c.args.scene.now c.finish.new.scene for_clients)
+    (subst (λ (for_clients : List Ended). EndsWith (λ other. other == ino here) c.args.scene.now.table.kept c.finish.new.scene.table.kept (plain c.args.scene.now) (plain c.finish.new.scene) for_clients)
     (sym (ap (λ (e : Endings). e.for_clients.items) c.finish.ensures.rest))
-    (ends_there here c.settle.new.endings.sized.items refl c.finish.new.known.sets c.finish.new.scene c.finish.ensures.ends))
+    (ends_there here c.settle.new.endings.sized.items refl c.finish.new.scene.table.kept (plain c.finish.new.scene) c.finish.ensures.ends))
 
 pub returns-in-Entry-clause-lead : goal.returns-in-Entry-clause-lead
 returns-in-Entry-clause-lead c =
@@ -101,14 +102,14 @@ returns-in-Entry-clause-lead c =
 
 -- ---- at several inodes
 
-inodes_ready : (c : In-Inodes) → IsReady (Inodes c.in-Inodes.inos) c.args.known.now.sets c.args.scene.now c.args.endings.now
-inodes_ready c = subst (λ (a : Affected). IsReady a c.args.known.now.sets c.args.scene.now c.args.endings.now) c.in-Inodes.is c.requires.ready
+inodes_ready : (c : In-Inodes) → IsReady (Inodes c.in-Inodes.inos) c.args.scene.now.table.kept (plain c.args.scene.now) c.args.endings.now
+inodes_ready c = subst (λ (a : Affected). IsReady a c.args.scene.now.table.kept (plain c.args.scene.now) c.args.endings.now) c.in-Inodes.is c.requires.ready
 
 pub settle-requires-in-Inodes : goal.settle-requires-in-Inodes
 settle-requires-in-Inodes c =
     let ready = inodes_ready (goal.at.settle-requires-in-Inodes c).In-Inodes in
     let may = ready.entries in
-    record { settles = ready.settles; judged = ready.judged; room = ready.room; places = ready.at; permitted = may.permitted }
+    record { settles = ready.settles; judged = ready.judged; room = ready.room; places = ready.at; permitted = may.permitted; counted = c.requires.counted }
 
 pub finish-requires-in-Inodes-clause-entries : goal.finish-requires-in-Inodes-clause-entries
 finish-requires-in-Inodes-clause-entries c =
@@ -117,12 +118,12 @@ finish-requires-in-Inodes-clause-entries c =
 
 pub returns-clause-ends : goal.returns-clause-ends
 returns-clause-ends c =
-    let settled : Scene = c.settle-in-Inodes.new.scene in
+    let settled : Scene = plain c.settle-in-Inodes.new.scene in
     rw c.in-Inodes.is
-    (subst (λ (for_clients : List Ended). EndsWith (set.contains c.in-Inodes.inos) c.args.known.now.sets c.finish-in-Inodes.new.known.sets c.args.scene.now c.finish-in-Inodes.new.scene for_clients)
+    (subst (λ (for_clients : List Ended). EndsWith (set.contains c.in-Inodes.inos) c.args.scene.now.table.kept c.finish-in-Inodes.new.scene.table.kept (plain c.args.scene.now) (plain c.finish-in-Inodes.new.scene) for_clients)
     (sym (ap (λ (e : Endings). e.for_clients.items) c.finish-in-Inodes.ensures.rest))
-    (settled-ends (set.contains c.settle-in-Inodes.new.affected) (set.contains c.in-Inodes.inos) c.args.known.now.sets c.settle-in-Inodes.new.known.sets c.finish-in-Inodes.new.known.sets
-    c.args.scene.now settled c.finish-in-Inodes.new.scene c.settle-in-Inodes.new.endings.for_clients.items c.settle-in-Inodes.new.endings.sized.items
+    (settled-ends (set.contains c.settle-in-Inodes.new.affected) (set.contains c.in-Inodes.inos) c.args.scene.now.table.kept c.settle-in-Inodes.new.scene.table.kept c.finish-in-Inodes.new.scene.table.kept
+    (plain c.args.scene.now) settled (plain c.finish-in-Inodes.new.scene) c.settle-in-Inodes.new.endings.for_clients.items c.settle-in-Inodes.new.endings.sized.items
     c.settle-in-Inodes.ensures.settles c.settle-in-Inodes.ensures.tree c.settle-in-Inodes.ensures.told c.settle-in-Inodes.ensures.permitted c.finish-in-Inodes.ensures.ends))
 
 pub returns-clause-lead : goal.returns-clause-lead

@@ -1,7 +1,7 @@
 use Rattle.std.{proofs.Common.{◌≡◌, ◌<◌, ◌≤◌, ◌+◌, ◌++◌, ◌∷◌, [], ℕ, Bool, true, false, cond, ◌&&◌, length, List, Option, Some, None, Contains, refl, sym, ap, subst, ◌∙◌, arith, inl, inr}, proofs.lemmas.List.{length-append}, specs.List.{filter_map}}
 use Rattle.std.specs.FinSet as set
 use Rattle.capacts.{proofs.Walked.{none-walked}, specs.Caprules.Settle.{sets_size, is_done}}
-use Rattle.capsteps.{proofs.Common.{AreWalked, Covers, Ended, ends_not, first_move, Ino, InoSet, IsLockMap, IsTree, LeadOn, leads-none, leads-then, lock_at, Nodes, Outcome, Reaches, Request, request_at, Scene, Serve, Served, served-at, sized_in, Table, tree_after}, proofs.Judged.{none-judged, still-judged}, proofs.Moved.{moved-all, tree-moved}, proofs.OneChange.{within-after}, proofs.SoFar.{GoesOnBehind, IsSoFar, so-far-begins, so-far-served, so-far-settled, so-far-swept, stands-behind, stands-first, turn-at_first}, proofs.settle.settle.Goals.{In-Some, After-serve_next-changed}, proofs.settle.settle.Invariants.{invariant-servings}, specs.Begun.{ArePermittedIn}, specs.Judged.{IsJudged}, specs.Serves.{Serves}, specs.Sweep.{IsSwept, GoesOn}, specs.declared.settle.SweepPlace.{SweepPlace}}
+use Rattle.capsteps.{proofs.Common.{AreWalked, Covers, Ended, ends_not, first_move, Ino, InoSet, IsLockMap, IsTree, KeptScene, known_of, LeadOn, leads-none, leads-then, lock_at, Nodes, Outcome, plain, Reaches, Request, request_at, Scene, Serve, Served, served-at, sized_in, Table, tree_after}, proofs.Judged.{none-judged, still-judged}, proofs.Moved.{moved-all, tree-moved}, proofs.OneChange.{within-after}, proofs.SoFar.{GoesOnBehind, IsSoFar, so-far-begins, so-far-served, so-far-settled, so-far-swept, stands-behind, stands-first, turn-at_first}, proofs.settle.settle.Goals.{In-Some, After-serve_next-changed}, proofs.settle.settle.Invariants.{invariant-servings}, specs.Begun.{ArePermittedIn}, specs.Judged.{IsJudged}, specs.Serves.{Serves}, specs.Sweep.{IsSwept, GoesOn}, specs.declared.settle.SweepPlace.{SweepPlace}}
 use Rattle.capsteps.proofs.settle.settle.Goals as goal
 
 -- What a rename walked over in a step is affected until its end.
@@ -22,31 +22,32 @@ walked-served tree after q o table walked was affected is reaches all = elim rea
 
 pub end_gathers-requires : goal.end_gathers-requires
 end_gathers-requires c =
-    let first : Scene = c.args.scene.now in
-    record { elsewhere = λ other part off. ends_not first (other, part) (lock_at first.locks other part) (c.requires.settles.quiet.each_other other part off) }
+    let first : Scene = plain c.args.scene.now in
+    record { counted = c.requires.counted; elsewhere = λ other part off. ends_not first (other, part) (lock_at first.locks other part) (c.requires.settles.quiet.each_other other part off) }
 
 pub servings-init : goal.servings-init
 servings-init c =
-    let first : Scene = c.args.scene.now in
-    let now : Scene = record c.args.scene.now { locks = c.end_gathers.new.locks } in
+    let first : Scene = plain c.args.scene.now in
+    let now : Scene = record (plain c.args.scene.now) { locks = c.end_gathers.new.locks.locks } in
     let at : ℕ → Bool = set.contains c.args.affected.now in
     let begun = so-far-begins c.args.affected.now first c.requires.settles.quiet in
     let swept : IsSwept at first now = c.end_gathers.ensures.swept first.fs first.tree first.sessions begun.waits in
     let so : IsSoFar at c.args.affected.now first now [] [] = so-far-swept at c.args.affected.now first first [] [] begun now swept in
-    let queue : length c.end_gathers.new.locks.queue ≡ length c.args.scene.now.locks.queue = ap length swept.queue in
+    let queue : length c.end_gathers.new.locks.locks.queue ≡ length c.args.scene.now.locks.locks.queue = ap length swept.queue in
     let room = c.requires.room in
     record {
       so_far =
           subst (λ (for_clients : List Ended). IsSoFar at c.args.affected.now first now for_clients c.args.endings.now.sized.items) (sym c.requires.room.for_clients)
           (subst (IsSoFar at c.args.affected.now first now []) (sym c.requires.room.sized) so);
       stands = stands-first c.args.affected.now now c.first-place.result (turn-at_first c.args.affected.now now so.still c.end_gathers.ensures.ends) so.waits c.first-place.ensures;
-      walked = none-walked c.new-walked.result c.args.scene.now.tree c.args.scene.now.table c.args.affected.now c.new-walked.ensures;
+      walked = none-walked c.new-walked.result c.args.scene.now.tree c.args.scene.now.table.entries c.args.affected.now c.new-walked.ensures;
       judged = still-judged c.args.endings.now.judged first now.locks swept.queue c.requires.judged;
       same = c.requires.room.for_history ∙ sym c.requires.room.for_clients;
       lead = leads-none c.args.endings.now.changes.items c.args.scene.now.tree;
       places = omega (arith, queue, c.requires.places);
       known = λ k. refl;
       permitted = c.requires.permitted;
+      counted = c.end_gathers.ensures.counted;
       for_clients = omega (arith, queue, ap length room.for_clients, room.clients_room);
       for_history = omega (arith, queue, ap length room.for_history, room.history_room);
       sized = omega (arith, queue, ap length room.sized, room.sized_room);
@@ -65,13 +66,13 @@ from c = set.contains c.args.affected.now
 
 module _ (c : In-Some) where
   abbrev first : Scene
-  first = c.args.scene.now
+  first = plain c.args.scene.now
 
   abbrev now : Scene
-  now = c.servings.scene
+  now = plain c.servings.scene
 
   abbrev mid : Scene
-  mid = c.sweep.new.scene
+  mid = plain c.sweep.new.scene
 
   -- gathers began and ended
   swept : IsSoFar (from c) c.servings.affected first mid c.servings.endings.for_clients.items c.servings.endings.sized.items
@@ -90,17 +91,17 @@ module _ (c : In-Some) where
   move : first_move mid ≡ Serve c.in-Some.ticket
   move = subst (GoesOn mid) c.in-Some.is c.sweep.ensures.next
 
-  here : (r : Request) × (request_at c.sweep.new.scene.locks c.in-Some.ticket.0 ≡ Some r) × Contains c.sweep.new.scene.locks.queue r × (set.contains c.servings.affected r.ino.0 ≡ true)
+  here : (r : Request) × (request_at c.sweep.new.scene.locks.locks c.in-Some.ticket.0 ≡ Some r) × Contains c.sweep.new.scene.locks.locks.queue r × (set.contains c.servings.affected r.ino.0 ≡ true)
       × (r.ticket ≡ c.in-Some.ticket)
   here = (let so = swept in served-at (set.contains c.servings.affected) mid c.in-Some.ticket order so.waits move)
 
   -- somebody waits
-  some_wait : 0 < length c.servings.scene.locks.queue
+  some_wait : 0 < length c.servings.scene.locks.locks.queue
   some_wait =
       let found = here in
       let inside = found.2 in
       let is = c.sweep.ensures.swept in
-      let same : length c.sweep.new.scene.locks.queue ≡ length c.servings.scene.locks.queue = ap length is.queue in
+      let same : length c.sweep.new.scene.locks.locks.queue ≡ length c.servings.scene.locks.locks.queue = ap length is.queue in
       omega (arith, same, inside.1)
 
 pub serve_next-changed-requires-clause-waits : goal.serve_next-changed-requires-clause-waits
@@ -115,13 +116,13 @@ serve_next-changed-requires-clause-tree c = tree (goal.at.serve_next-changed-req
 
 pub serve_next-changed-requires-clause-permitted : goal.serve_next-changed-requires-clause-permitted
 serve_next-changed-requires-clause-permitted c =
-    subst (ArePermittedIn c.servings.known.sets) (sym (stays (goal.at.serve_next-changed-requires-clause-permitted c).In-Some)) c.servings.invariant.permitted
+    subst (λ (s : KeptScene). ArePermittedIn s.table.kept (plain s)) (sym c.sweep.ensures.rest) c.servings.invariant.permitted
 
 pub serve_next-changed-requires-clause-judged : goal.serve_next-changed-requires-clause-judged
 serve_next-changed-requires-clause-judged c =
     let is = c.sweep.ensures.swept in
     let judged = c.servings.endings.judged in
-    subst (IsJudged judged) (sym is.is) (still-judged judged c.servings.scene c.sweep.new.scene.locks is.queue c.servings.invariant.judged)
+    subst (IsJudged judged) (sym is.is) (still-judged judged (plain c.servings.scene) c.sweep.new.scene.locks.locks is.queue c.servings.invariant.judged)
 
 pub serve_next-changed-requires-clause-for_clients : goal.serve_next-changed-requires-clause-for_clients
 serve_next-changed-requires-clause-for_clients c = let some = some_wait (goal.at.serve_next-changed-requires-clause-for_clients c).In-Some in omega (arith, some, c.servings.invariant.for_clients)
@@ -143,12 +144,12 @@ module _ (c : After-serve_next-changed) where
   ended = c.serve_next-changed.ensures.served.0
 
   abbrev new : Scene
-  new = c.serve_next-changed.new.scene
+  new = plain c.serve_next-changed.new.scene
 
   abbrev serves : Serves (mid (before_serving c)) c.in-Some.ticket ended new
   serves = c.serve_next-changed.ensures.served.1
 
-  abbrev reaches : Reaches serves.request c.sweep.new.scene.tree c.serve_next-changed.new.scene.tree c.sweep.new.scene.table c.servings.affected c.serve_next-changed.new.affected
+  abbrev reaches : Reaches serves.request c.sweep.new.scene.tree c.serve_next-changed.new.scene.tree c.sweep.new.scene.table.entries c.servings.affected c.serve_next-changed.new.affected
   reaches = c.serve_next-changed.ensures.reached serves.request serves.waits
 
   served : IsSoFar (from (before_serving c)) c.serve_next-changed.new.affected (first (before_serving c)) new (c.servings.endings.for_clients.items ++ ended ∷ []) (c.servings.endings.sized.items ++ sized_in (Served serves.request ended.outcome ∷ []))
@@ -159,7 +160,7 @@ module _ (c : After-serve_next-changed) where
   one_more : length (c.servings.endings.for_clients.items ++ ended ∷ []) ≡ length c.servings.endings.for_clients.items + 1
   one_more = length-append c.servings.endings.for_clients.items (ended ∷ [])
 
-  one_less : length c.serve_next-changed.new.scene.locks.queue + 1 ≡ length c.servings.scene.locks.queue
+  one_less : length c.serve_next-changed.new.scene.locks.locks.queue + 1 ≡ length c.servings.scene.locks.locks.queue
   one_less =
       let now = served in
       let was = c.servings.invariant.so_far in
@@ -168,10 +169,9 @@ module _ (c : After-serve_next-changed) where
 -- the invariant, where the sweep goes on here
 abbrev Holds : After-serve_next-changed → SweepPlace → Type 0
 Holds c next = invariant-servings (record {
-  fn = record { scene = c.args.scene.now; known = c.args.known.now; affected = c.args.affected.now; endings = c.args.endings.now };
-  initial = record { scene = record c.args.scene.now { locks = c.end_gathers.new.locks }; known = c.args.known.now; affected = c.args.affected.now; endings = c.args.endings.now; walked = c.new-walked.result; place = c.first-place.result };
+  fn = record { scene = c.args.scene.now; affected = c.args.affected.now; endings = c.args.endings.now };
+  initial = record { scene = record c.args.scene.now { locks = c.end_gathers.new.locks }; affected = c.args.affected.now; endings = c.args.endings.now; walked = c.new-walked.result; place = c.first-place.result };
   scene = c.serve_next-changed.new.scene;
-  known = c.serve_next-changed.new.known;
   affected = c.serve_next-changed.new.affected;
   endings = c.serve_next-changed.new.endings;
   walked = c.serve_next-changed.new.walked;
@@ -200,15 +200,16 @@ holds c next goes =
           c.sweep.new.place next c.serve_next-changed.result c.sweep.ensures.place (c.serve_next-changed.ensures.changed (serves c).request (serves c).waits) goes;
       walked =
           subst (λ (t : Table). AreWalked c.serve_next-changed.new.walked (new c).tree t c.serve_next-changed.new.affected) (sym (ap (λ (s : Scene). s.table) (serves c).is))
-          (walked-served c.sweep.new.scene.tree (new c).tree request (ended c).outcome c.sweep.new.scene.table c.serve_next-changed.new.walked c.servings.affected c.serve_next-changed.new.affected
+          (walked-served c.sweep.new.scene.tree (new c).tree request (ended c).outcome c.sweep.new.scene.table.entries c.serve_next-changed.new.walked c.servings.affected c.serve_next-changed.new.affected
           (ap (λ (s : Scene). s.tree) (serves c).is) (reaches c) c.serve_next-changed.ensures.walked);
       judged = none-judged c.serve_next-changed.new.endings.judged (new c) c.serve_next-changed.ensures.judged;
       same = same;
       lead = leads-then c.args.endings.now.changes.items c.servings.endings.changes.items c.serve_next-changed.new.endings.changes.items c.args.scene.now.tree c.sweep.new.scene.tree (new c).tree
           (subst (λ (s : Scene). LeadOn c.args.endings.now.changes.items c.servings.endings.changes.items c.args.scene.now.tree s.tree) (sym is) c.servings.invariant.lead) c.serve_next-changed.ensures.lead;
       places = omega (arith, less, c.serve_next-changed.ensures.noted, c.serve_next-changed.ensures.places, c.servings.invariant.places);
-      known = λ k. c.serve_next-changed.ensures.told k ∙ c.servings.invariant.known k;
+      known = λ k. c.serve_next-changed.ensures.told k ∙ ap (λ (s : KeptScene). known_of s.table.kept k) c.sweep.ensures.rest ∙ c.servings.invariant.known k;
       permitted = c.serve_next-changed.ensures.permitted;
+      counted = c.serve_next-changed.ensures.counted c.sweep.ensures.counted;
       for_clients = omega (arith, more, less, room.0, c.servings.invariant.for_clients);
       for_history = omega (arith, history_more, less, room.1, c.servings.invariant.for_history);
       sized = omega (arith, few_sizes, less, room.2, c.servings.invariant.sized);
@@ -229,9 +230,9 @@ servings-preserved c = holds (goal.at.servings-preserved c).After-serve_next-cha
 
 pub returns-clause-settles : goal.returns-clause-settles
 returns-clause-settles c =
-    let first : Scene = c.args.scene.now in
-    let now : Scene = c.servings.scene in
-    let last : Scene = c.sweep.new.scene in
+    let first : Scene = plain c.args.scene.now in
+    let now : Scene = plain c.servings.scene in
+    let last : Scene = plain c.sweep.new.scene in
     so-far-settled (set.contains c.args.affected.now) c.servings.affected first last c.servings.endings.for_clients.items c.servings.endings.sized.items
     (so-far-swept (set.contains c.args.affected.now) c.servings.affected first now c.servings.endings.for_clients.items c.servings.endings.sized.items c.servings.invariant.so_far last c.sweep.ensures.swept)
     (subst (GoesOn last) c.in_default.is c.sweep.ensures.next)
@@ -242,10 +243,13 @@ returns-clause-lead c =
     subst (λ (s : Scene). LeadOn c.args.endings.now.changes.items c.servings.endings.changes.items c.args.scene.now.tree s.tree) (sym swept.is) c.servings.invariant.lead
 
 pub returns-clause-permitted : goal.returns-clause-permitted
-returns-clause-permitted c = let swept = c.sweep.ensures.swept in subst (ArePermittedIn c.servings.known.sets) (sym swept.is) c.servings.invariant.permitted
+returns-clause-permitted c = subst (λ (s : KeptScene). ArePermittedIn s.table.kept (plain s)) (sym c.sweep.ensures.rest) c.servings.invariant.permitted
+
+pub returns-clause-told : goal.returns-clause-told
+returns-clause-told c = λ k. ap (λ (s : KeptScene). known_of s.table.kept k) c.sweep.ensures.rest ∙ c.servings.invariant.known k
 
 pub returns-clause-places : goal.returns-clause-places
 returns-clause-places c =
     let swept = c.sweep.ensures.swept in
-    let queue : length c.sweep.new.scene.locks.queue ≡ length c.servings.scene.locks.queue = ap length swept.queue in
+    let queue : length c.sweep.new.scene.locks.locks.queue ≡ length c.servings.scene.locks.locks.queue = ap length swept.queue in
     omega (arith, queue, c.servings.invariant.places)

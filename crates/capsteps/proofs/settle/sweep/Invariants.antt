@@ -1,5 +1,6 @@
+use Rattle.std.proofs.Common.{◌≡◌}
 use Rattle.std.specs.FinSet as set
-use Rattle.capsteps.{proofs.Sweeping.{behind}, specs.Sweep.{IsSwept, StandsAt}}
+use Rattle.capsteps.{proofs.Common.{plain}, proofs.Sweeping.{behind}, specs.Begun.{AreCountedIn}, specs.Sweep.{IsSwept, StandsAt}}
 use Rattle.capsteps.proofs.settle.sweep.Given as goal
 
 abbrev pub decreases-inodes : goal.decreases-inodes
@@ -7,6 +8,8 @@ decreases-inodes l = behind l.affected l.place.at.0
 
 abbrev pub invariant-inodes : goal.invariant-inodes
 invariant-inodes l = record {
-  swept : IsSwept (set.contains l.affected) l.fn.scene l.scene;
-  stands : StandsAt (set.contains l.affected) l.place l.scene;
+  swept : IsSwept (set.contains l.affected) (plain l.fn.scene) (plain l.scene);
+  stands : StandsAt (set.contains l.affected) l.place (plain l.scene);
+  rest : l.scene ≡ record l.fn.scene { locks = l.scene.locks };
+  counted : AreCountedIn l.scene;
 }

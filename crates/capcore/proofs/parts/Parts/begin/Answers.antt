@@ -1,17 +1,11 @@
 use Rattle.std.proofs.Common.{◌≡◌, length, refl, sym, ap, subst, arith}
-use Rattle.capsteps.{proofs.EntryKept.{request-less, others-have_all}, proofs.EntryRequests.{below-of_request, effect-affected, keeps-of_request, affects-of_request}, proofs.Knowing.{still-all}, specs.EntryRequest.{StillKept, table_after}}
-use Rattle.capcore.{proofs.Begun.{on_err, one-begun}, proofs.Common.{Affected, changes-still, effect, effect_unless, Endings, entry_event, Event, Holder, none-judged, request-table, room-for, Scene, State, view_of}, proofs.EntryWhole.{effect-answer}, specs.UnderWay.{HasBegun, IsWhole, MayBegin, event_of, state_of}, specs.declared.parts.Answer.TheVariants.{Requested}, specs.declared.parts.Effect.{Effect}, specs.declared.parts.MovingEvent.{MovingEvent}, specs.declared.parts.Parts.{Parts}}
+use Rattle.capsteps.{proofs.EntryKept.{request-less, others-have_all}, proofs.EntryRequests.{below-of_request, effect-affected, keeps-of_request, affects-of_request}, specs.Begun.{AreCountedIn}, specs.EntryRequest.{StillKept, table_after}}
+use Rattle.capcore.{proofs.Begun.{on_err, one-begun}, proofs.Common.{Affected, changes-still, effect, effect_unless, Endings, entry_event, Event, Holder, none-judged, request-table, room-for, plain, Scene, State, view_of}, proofs.EntryWhole.{effect-answer}, proofs.Unaffected.{kept_scene}, specs.UnderWay.{HasBegun, MayBegin, event_of, state_of}, specs.declared.parts.Answer.TheVariants.{Requested}, specs.declared.parts.Effect.{Effect}, specs.declared.parts.MovingEvent.{MovingEvent}, specs.declared.parts.Parts.{Parts}}
 use Rattle.capcore.proofs.parts.Parts.begin.Goals as goal
 
--- for want of memory the entries are as they were, and all is still known
+-- for want of memory all is as it was
 pub returns-in_err-apply_request-in-OfEntry-clause-whole : goal.returns-in_err-apply_request-in-OfEntry-clause-whole
-returns-in_err-apply_request-in-OfEntry-clause-whole c =
-    let p : Parts = c.args.self.now in
-    let whole = c.requires.may.whole in
-    let err = c.in_err-apply_request-in-OfEntry.ensures.err in
-    let kept = subst (λ (s : Scene). StillKept p.scene s.table p.known.sets c.apply_request.new.known.sets) err c.apply_request.ensures.kept in
-    let all : IsWhole (record p { known = c.apply_request.new.known }) = (whole.0, whole.1, (still-all p.known.sets c.apply_request.new.known.sets p.scene whole.2.0 kept.known, kept.permitted whole.2.1)) in
-    rw err (on_err _ all)
+returns-in_err-apply_request-in-OfEntry-clause-whole c = rw c.in_err-apply_request-in-OfEntry.ensures.err (on_err _ c.requires.may.whole)
 
 pub returns-in_ok-apply_request-in-OfEntry-clause-begun : goal.returns-in_ok-apply_request-in-OfEntry-clause-begun
 returns-in_ok-apply_request-in-OfEntry-clause-begun c =
@@ -20,22 +14,24 @@ returns-in_ok-apply_request-in-OfEntry-clause-begun c =
     let request = c.in-OfEntry.request in
     let e : Event = entry_event k.client k.ino request in
     let may : MayBegin p e = subst (λ (a : MovingEvent). MayBegin p (event_of a)) c.in-OfEntry.is c.requires.may in
-    let known = c.apply_request.new.known in
-    let after : Scene = record p.scene { table = table_after p.scene k request } in
-    let ok : c.apply_request.new.scene ≡ after = c.in_ok-apply_request-in-OfEntry.ensures.ok in
-    let q : Parts = record { scene = after; known = known; messages = p.messages } in
+    let now = c.apply_request.new.scene.table.kept in
+    let counts = c.apply_request.new.scene.locks.counts in
+    let after : Scene = record (plain p.scene) { table = table_after (plain p.scene) k request } in
+    let ok : plain c.apply_request.new.scene ≡ after = c.in_ok-apply_request-in-OfEntry.ensures.ok in
+    let q : Parts = record { scene = kept_scene after now counts; messages = p.messages } in
     let endings : Endings = record c.begin.new.self { changes = c.clear.new.self } in
     let old : State = state_of p in
     let requested : Effect = record { affected = Affected.Entry k; answer = Requested k request } in
-    let kept = subst (λ (s : Scene). StillKept p.scene s.table p.known.sets known.sets) ok c.apply_request.ensures.kept in
+    let kept = subst (λ (s : Scene). StillKept (plain p.scene) s.table p.scene.table.kept now) ok c.apply_request.ensures.kept in
+    let counted : AreCountedIn q.scene = subst (λ (s : Scene). AreCountedIn (kept_scene s now counts)) ok (c.apply_request.ensures.counted may.whole.3) in
     let begun = c.in_ok-begin-in-OfEntry.ensures in
     let none = ap length c.clear.ensures.items in
     subst (λ (a : MovingEvent). HasBegun p (event_of a) requested (record q { scene = c.apply_request.new.scene }) endings) (sym c.in-OfEntry.is)
-    (subst (λ (s : Scene). HasBegun p e requested (record q { scene = s }) endings) (sym ok)
+    (subst (λ (s : Scene). HasBegun p e requested (record q { scene = kept_scene s now counts }) endings) (sym ok)
     (one-begun p q endings e k may (effect old e) (ap (effect_unless old e) may.passed) (keeps-of_request old k request) (below-of_request old k request may.table may.passed)
     (sym (ap (λ (s : State). s.scene) (effect-affected old k.client k.ino request))) refl requested.affected requested.answer refl (sym (effect-answer old k.client k.ino request)) refl refl
-    (affects-of_request old k request may.table may.passed may.whole.0) (request-table old k request may.table may.passed) kept.known (kept.permitted may.whole.2.1) (request-less p.scene k request) may.order
-    (room-for c.begin.new.self endings.changes endings.judged c.waiting-waiting.result (length p.scene.locks.queue) begun.room (omega (arith, c.waiting-waiting.ensures.waiting)))
+    (affects-of_request old k request may.table may.passed may.whole.0) (request-table old k request may.table may.passed) kept.known (kept.permitted may.whole.2.1) (request-less (plain p.scene) k request) counted may.order
+    (room-for c.begin.new.self endings.changes endings.judged c.waiting-waiting.result (length p.scene.locks.locks.queue) begun.room (omega (arith, c.waiting-waiting.ensures.waiting)))
     (none-judged endings.judged after begun.judged)
-    (omega (arith, none, begun.places, c.clear.ensures.room, c.waiting-waiting.ensures.waiting), others-have_all p.known.sets known.sets old k request may.whole.0 may.whole.2.0 kept.known)
+    (omega (arith, none, begun.places, c.clear.ensures.room, c.waiting-waiting.ensures.waiting), others-have_all p.scene.table.kept now old k request may.whole.0 may.whole.2.0 kept.known)
     may.whole.1 tt (changes-still endings.changes.items (view_of old) c.clear.ensures.items)))

@@ -4,7 +4,7 @@ use Rattle.capcore.proofs.parts.Parts.close.Goals as goal
 
 pub copy_of_reply-for_history-requires : goal.copy_of_reply-for_history-requires
 copy_of_reply-for_history-requires c =
-    let s : State = record { scene = c.args.self.now.scene; messages = [] } in
+    let s : State = record { scene = plain c.args.self.now.scene; messages = [] } in
     ap has_list (c.show_reply-reply.ensures.reply s refl c.requires.known) ∙ no_list-request s c.in-Requested.holder c.in-Requested.request
 
 -- those that are left to be told of are no more than all
@@ -24,7 +24,7 @@ unreachable-requires-in_default-append c =
 
 pub returns-clause-reply : goal.returns-clause-reply
 returns-clause-reply c = λ ms.
-    let s : State = record { scene = c.args.self.now.scene; messages = ms } in
+    let s : State = record { scene = plain c.args.self.now.scene; messages = ms } in
     elim c.match-answer.branch [
       | in-Done w ↦ rw (w.reply-is, w.in-Done.is) refl
       | in-Dropped+in-Ok w ↦ rw (w.reply-is, w.in-Dropped.is) refl

@@ -1,14 +1,11 @@
 use Rattle.std.proofs.Common.{is_some, ◌≡◌, length, refl, sym, ap, subst, ◌∙◌, arith}
 use Rattle.std.specs.FinSet as set
 use Rattle.capsteps.proofs.Capnotes.Noting.{changes-all}
-use Rattle.capcore.{proofs.Begun.{on_err, one-begun}, proofs.Common.{Affected, AffectsOne, alike-less, direct, Endings, Event, HoldAlike, Holder, InoSet, IsTable, none-judged, one-counts, one-inode, Reply, room-for, says, still-there, Table, with_flush}, proofs.Flushed.{below-of_flush, flush-calls, flush-direct, flush-table, flush-affects}, specs.UnderWay.{state_of}, specs.declared.parts.Answer.TheVariants.{Done}, specs.declared.parts.Parts.{Parts}}
+use Rattle.capcore.{proofs.Begun.{on_err, one-begun}, proofs.Common.{Affected, AffectsOne, alike-less, AreCounted, direct, Endings, Event, HoldAlike, Holder, InoSet, IsTable, KeptTable, known_of, none-judged, one-counts, one-inode, permitted_of, plain, Reply, room-for, says, still-there, Table, touched, with_flush}, proofs.Flushed.{below-of_flush, flush-calls, flush-direct, flush-table, flush-affects}, specs.UnderWay.{state_of}, specs.declared.parts.Answer.TheVariants.{Done}, specs.declared.parts.Parts.{Parts}}
 use Rattle.capcore.proofs.parts.Parts.flush.Goals as goal
 
 pub alter-requires : goal.alter-requires
-alter-requires c = record { passed = flush-calls c.args.self.now.scene c.args.holder c.args.change.now c.requires.may.passed }
-
-pub renew_changed-requires : goal.renew_changed-requires
-renew_changed-requires c = record { room = λ k e there. ap is_some (c.requires.may.whole.2.0 k e there) }
+alter-requires c = record { passed = flush-calls (plain c.args.self.now.scene) c.args.holder c.args.change.now c.requires.may.passed }
 
 -- for want of memory all is as it was
 pub returns-in_err-alter-clause-whole : goal.returns-in_err-alter-clause-whole
@@ -21,23 +18,28 @@ returns-clause-begun c =
     let change = c.args.change.now in
     let e : Event = Event.Flush k.client k.ino change in
     let may = c.requires.may in
-    let table : Table = c.touch.new.self in
-    let q : Parts = record { scene = record p.scene { tree = c.alter.new.tree; table = table }; known = c.renew_changed.new.known; messages = p.messages } in
+    let table : KeptTable = c.touch.new.self in
+    let q : Parts = record { scene = record p.scene { tree = c.alter.new.tree; table = table }; messages = p.messages } in
+    let kept : table ≡ record { entries = touched p.scene.table.entries k; kept = c.renew_changed.new.table.kept } =
+    c.touch.ensures ∙ ap (λ (t : KeptTable). record t { entries = touched t.entries k }) c.renew_changed.ensures.entries in
+    let entries : table.entries ≡ touched p.scene.table.entries k = ap (λ (t : KeptTable). t.entries) kept in
+    let sets : table.kept ≡ c.renew_changed.new.table.kept = ap (λ (t : KeptTable). t.kept) kept in
+    let same : c.renew_changed.new.table.entries ≡ p.scene.table.entries = ap (λ (t : KeptTable). t.entries) c.renew_changed.ensures.entries in
     let endings : Endings = record c.begin.new.self { changes = c.note_change.new.self } in
     let by_itself : direct (state_of p) e ≡ says (with_flush (state_of p) k change) Reply.Done = flush-direct (state_of p) k change may.passed in
-    let alike : HoldAlike p.scene.table table = subst (HoldAlike p.scene.table) (sym c.touch.ensures) (λ j f there. (f, there, refl)) in
+    let alike : HoldAlike p.scene.table.entries table.entries = subst (HoldAlike p.scene.table.entries) (sym entries) (λ j f there. (f, there, refl)) in
     let begun = c.in_ok-begin.ensures in
     let none = ap length c.clear.ensures.items in
     let one = ap (λ (inos : InoSet). set.len inos) c.of.ensures ∙ one-counts k.ino.0 in
-    let is : q.scene ≡ (with_flush (state_of p) k change).scene = λ i. record p.scene { tree = c.in_ok-alter.ensures.ok i; table = c.touch.ensures i } in
+    let is : plain q.scene ≡ (with_flush (state_of p) k change).scene = λ i. record (plain p.scene) { tree = c.in_ok-alter.ensures.ok i; table = entries i } in
     one-begun p q endings e k may (says (with_flush (state_of p) k change) Reply.Done) by_itself (refl, refl) (λ count given. below-of_flush count (state_of p) k change given) is refl
     (Affected.Inodes c.of.result) Done (ap set.contains c.of.ensures ∙ one-inode k.ino.0) refl refl refl (subst (AffectsOne k.ino.0 (state_of p)) (sym is) (flush-affects (state_of p) k change may.whole.0 may.table))
-    (subst IsTable (sym c.touch.ensures) (flush-table (state_of p) k change may.table))
-    (still-there p.scene.table table p.known.sets q.known.sets (λ j f there. ap is_some (alike j f there).1) (λ j f there. c.renew_changed.ensures.told j))
-    (λ j f there. let was = alike j f there in c.renew_changed.ensures.permitted p.scene.tree c.in_ok-alter.ensures.ok may.whole.2.1 j was.0 was.1) (alike-less p.scene.table table alike)
-    may.order
-    (room-for c.begin.new.self endings.changes endings.judged c.waiting-waiting.result (length p.scene.locks.queue) begun.room (omega (arith, c.waiting-waiting.ensures.waiting)))
-    (none-judged endings.judged q.scene begun.judged)
+    (subst IsTable (sym entries) (flush-table (state_of p) k change may.table))
+    (still-there p.scene.table.entries table.entries p.scene.table.kept q.scene.table.kept (λ j f there. ap is_some (alike j f there).1) (λ j f there. ap (λ known. known_of known j) sets ∙ c.renew_changed.ensures.told j))
+    (λ j f there. let was = alike j f there in ap (λ known. permitted_of known j) sets ∙ c.renew_changed.ensures.permitted p.scene.tree c.in_ok-alter.ensures.ok may.whole.2.1 j was.0 was.1) (alike-less p.scene.table.entries table.entries alike)
+    (subst (λ (t : Table). AreCounted t p.scene.locks) (sym entries) may.whole.3) may.order
+    (room-for c.begin.new.self endings.changes endings.judged c.waiting-waiting.result (length p.scene.locks.locks.queue) begun.room (omega (arith, c.waiting-waiting.ensures.waiting)))
+    (none-judged endings.judged (plain q.scene) begun.judged)
     (omega (arith, none, one, begun.places, c.clear.ensures.room, c.note_change.ensures.count, c.note_change.ensures.room, c.waiting-waiting.ensures.waiting))
     may.whole.1 tt
     (changes-all c.clear.new.self.items endings.changes.items p.scene.tree c.alter.new.tree p.scene.sessions.sessions c.clear.ensures.items (c.note_change.ensures.lead p.scene.tree c.in_ok-alter.ensures.ok))

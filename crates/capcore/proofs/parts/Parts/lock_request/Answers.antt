@@ -1,11 +1,11 @@
 use Rattle.std.proofs.{Common.{Contains, Some, is_some, ◌≡◌, ◌+◌, ◌∷◌, [], length, None, refl, sym, ap, subst, ◌∙◌, arith}, lemmas.List.{length-append}, lemmas.List.Elements.{Contains-push}}
 use Rattle.std.specs.FinSet as set
-use Rattle.capcore.{proofs.Begun.{one-begun}, proofs.Common.{Affected, AffectsOne, alike-less, arrival_tests, Awaits, changes-still, direct, Endings, enqueues, Event, found_by_number, Holder, InoSet, IsJudged, IsLockMap, judged_again, LockMap, next_request, one-counts, one-inode, Operation, operation_needs, operation_of, rejection_of, Request, request_at, room-for, Scene, still-there, Ticket, view_of, waiting_tests, with_request}, proofs.LockRequests.{operation-for, enqueuing-again, enqueuing-direct, enqueuing-rejection, enqueuing-affects, below-of_operation, order-of_operation, room-left}, specs.UnderWay.{operation_event, state_of}, specs.declared.parts.Answer.TheVariants.{Awaited}, specs.declared.parts.Parts.{Parts}}
+use Rattle.capcore.{proofs.Begun.{one-begun}, proofs.Common.{Affected, AffectsOne, alike-less, AreCounted, arrival_tests, Awaits, changes-still, CountedLocks, direct, Endings, enqueues, Event, found_by_number, Holder, InoSet, IsJudged, IsLockMap, judged_again, LockMap, next_request, one-counts, one-inode, Operation, operation_needs, operation_of, plain, rejection_of, Request, request_at, room-for, Scene, still-there, Ticket, view_of, waiting_tests, with_request}, proofs.LockRequests.{operation-for, enqueuing-again, enqueuing-direct, enqueuing-rejection, enqueuing-affects, below-of_operation, order-of_operation, room-left}, specs.UnderWay.{operation_event, state_of}, specs.declared.parts.Answer.TheVariants.{Awaited}, specs.declared.parts.Parts.{Parts}}
 use Rattle.capcore.proofs.parts.Parts.lock_request.Goals as goal
 
 pub enqueue_tested-ticket-requires-clause-room : goal.enqueue_tested-ticket-requires-clause-room
 enqueue_tested-ticket-requires-clause-room c =
-    let s = c.args.self.now.scene in
+    let s = plain c.args.self.now.scene in
     let k : Holder = c.args.holder in
     let operation : Operation = operation_of c.args.operation in
     let free : rejection_of s (arrival_tests s k.client k.ino.0 operation) (operation_needs s k.client k.ino.0 operation) (waiting_tests s k.ino.0 operation) ≡ None =
@@ -37,29 +37,33 @@ returns-clause-begun c =
     let operation : Operation = operation_of c.args.operation in
     let e : Event = operation_event k.client k.ino c.args.operation in
     let may = c.requires.may in
-    let locks : LockMap = c.enqueue_tested-ticket.new.self in
+    let counted : CountedLocks = c.enqueue_tested-ticket.new.self in
+    let locks : LockMap = counted.locks in
     let ticket = c.enqueue_tested-ticket.result in
-    let q : Parts = record { scene = record p.scene { locks = locks }; known = p.known; messages = c.reserve.new.self } in
+    let q : Parts = record { scene = record p.scene { locks = counted }; messages = c.reserve.new.self } in
     let endings : Endings = record c.begin.new.self { changes = c.clear.new.self; judged = Some ticket } in
-    let queued : locks ≡ with_request p.scene.locks k.client k.ino operation = c.enqueue_tested-ticket.ensures.queued ∙ ap (with_request p.scene.locks k.client k.ino) c.in_ok-copy.ensures in
+    let all : counted ≡ record p.scene.locks { locks = with_request p.scene.locks.locks k.client k.ino operation } =
+    c.enqueue_tested-ticket.ensures.queued ∙ ap (λ o. record p.scene.locks { locks = with_request p.scene.locks.locks k.client k.ino o }) c.in_ok-copy.ensures in
+    let queued : locks ≡ with_request p.scene.locks.locks k.client k.ino operation = ap (λ (l : CountedLocks). l.locks) all in
     let by_itself : direct (state_of p) e ≡ enqueues (state_of p) k.client k.ino operation = enqueuing-direct (state_of p) e k operation (operation-for k.client k.ino c.args.operation) may.passed in
-    let free : rejection_of p.scene (arrival_tests p.scene k.client k.ino.0 operation) (operation_needs p.scene k.client k.ino.0 operation) (waiting_tests p.scene k.ino.0 operation) ≡ None =
-    sym (enqueuing-rejection e k operation p.scene (operation-for k.client k.ino c.args.operation)) ∙ may.passed in
+    let free : rejection_of (plain p.scene) (arrival_tests (plain p.scene) k.client k.ino.0 operation) (operation_needs (plain p.scene) k.client k.ino.0 operation) (waiting_tests (plain p.scene) k.ino.0 operation) ≡ None =
+    sym (enqueuing-rejection e k operation (plain p.scene) (operation-for k.client k.ino c.args.operation)) ∙ may.passed in
     let next = c.enqueue_tested-ticket.ensures.ticket in
-    let queue : length locks.queue ≡ length p.scene.locks.queue + 1 =
-    ap (λ (l : LockMap). length l.queue) queued ∙ length-append p.scene.locks.queue (next_request p.scene.locks k.client k.ino operation ∷ []) in
-    let order : IsLockMap locks = subst IsLockMap (sym queued) (order-of_operation p.scene k operation may.order free) in
+    let queue : length locks.queue ≡ length p.scene.locks.locks.queue + 1 =
+    ap (λ (l : LockMap). length l.queue) queued ∙ length-append p.scene.locks.locks.queue (next_request p.scene.locks.locks k.client k.ino operation ∷ []) in
+    let order : IsLockMap locks = subst IsLockMap (sym queued) (order-of_operation (plain p.scene) k operation may.order free) in
     let begun = c.in_ok-begin.ensures in
     let none = ap length c.clear.ensures.items in
     let one = ap (λ (inos : InoSet). set.len inos) c.of.ensures ∙ one-counts k.ino.0 in
     let left = ap length c.reserve.ensures.items in
     one-begun p q endings e k may (enqueues (state_of p) k.client k.ino operation) by_itself (refl, refl) (λ count given. below-of_operation count (state_of p) k operation given)
-    (λ i. record p.scene { locks = queued i }) c.reserve.ensures.items
+    (λ i. record (plain p.scene) { locks = queued i }) c.reserve.ensures.items
     (Affected.Inodes c.of.result) (Awaited ticket) (ap set.contains c.of.ensures ∙ one-inode k.ino.0) (ap (λ n. Awaits (record { 0 = n })) next) refl (next, ap (λ (l : LockMap). l.last) queued)
-    (subst (λ (l : LockMap). AffectsOne k.ino.0 (state_of p) (record p.scene { locks = l })) (sym queued) (enqueuing-affects (state_of p) k operation may.whole.0 may.table free)) may.table
-    (still-there p.scene.table p.scene.table p.known.sets p.known.sets (λ j f there. ap is_some there) (λ j f there. refl)) may.whole.2.1 (alike-less p.scene.table p.scene.table (λ j f there. (f, there, refl))) order
+    (subst (λ (l : LockMap). AffectsOne k.ino.0 (state_of p) (record (plain p.scene) { locks = l })) (sym queued) (enqueuing-affects (state_of p) k operation may.whole.0 may.table free)) may.table
+    (still-there p.scene.table.entries p.scene.table.entries p.scene.table.kept p.scene.table.kept (λ j f there. ap is_some there) (λ j f there. refl)) may.whole.2.1 (alike-less p.scene.table.entries p.scene.table.entries (λ j f there. (f, there, refl)))
+    (subst (AreCounted p.scene.table.entries) (sym all) may.whole.3) order
     (room-for c.begin.new.self endings.changes (Some ticket) (c.waiting-waiting.result + 1) (length locks.queue) begun.room (omega (arith, queue, c.waiting-waiting.ensures.waiting)))
-    (judged_once p.scene k operation locks queued order free ticket next)
+    (judged_once (plain p.scene) k operation locks queued order free ticket next)
     (omega (arith, none, one, queue, begun.places, c.clear.ensures.room, c.waiting-waiting.ensures.waiting))
     (omega (arith, queue, left, c.in_default.ensures.ok, c.waiting-waiting.ensures.waiting))
     tt (changes-still endings.changes.items (view_of (state_of p)) c.clear.ensures.items)

@@ -13,7 +13,7 @@ returns-in-Lookup-clause-direct c =
     let dir = c.in-Lookup.dir in
     subst (λ (e : Event). IsDirect s e c.lookup.result s) (sym c.in-Lookup.is)
     (looked-up s client dir c.in-Lookup.name c.lookup.result
-    (c.lookup.ensures c.self.inside.parts.scene.table c.self.inside.parts.scene.locks c.self.inside.parts.messages.items
+    (c.lookup.ensures c.self.inside.parts.scene.table.entries c.self.inside.parts.scene.locks.locks c.self.inside.parts.messages.items
     ∙ ap (λ (w : State). (direct w (Event.Lookup client dir c.as_slice.result.now)).answer) c.self.view_is
     ∙ ap (λ name. (direct s (Event.Lookup client dir name)).answer) c.as_slice.ensures))
 

@@ -20,11 +20,11 @@ invariant_of-self c = rw c.in_err-add_ino.ensures.err c.self.invariant
 
 pub invariant_of-self-in-Err : goal.invariant_of-self-in-Err
 invariant_of-self-in-Err c =
-    let undone = added-dropped c.self.inside.parts.scene.locks (c.self.inside.parts.scene.tree.last + 1) (not_given c.self.invariant.0 c.last.ensures.sound) in
-    let locks : c.drop_ino.new.self ≡ c.self.inside.parts.scene.locks = rw (c.drop_ino.ensures, c.in_ok-add_ino.ensures.ok, c.last.ensures.last, undone) refl in
-    rw c.in-Err.ensures.err (subst (λ (l : LockMap). IsWhole (record c.self.inside.parts { scene = record c.self.inside.parts.scene { locks = l } })) (sym locks) c.self.invariant)
+    let undone = added-dropped c.self.inside.parts.scene.locks.locks (c.self.inside.parts.scene.tree.last + 1) (not_given c.self.invariant.0 c.last.ensures.sound) in
+    let locks : c.drop_ino.new.self ≡ c.self.inside.parts.scene.locks.locks = rw (c.drop_ino.ensures, c.in_ok-add_ino.ensures.ok, c.last.ensures.last, undone) refl in
+    rw c.in-Err.ensures.err (subst (λ (l : LockMap). IsWhole (record c.self.inside.parts { scene = record (plain c.self.inside.parts.scene) { locks = l } })) (sym locks) c.self.invariant)
 
 pub returns-in-Err-clause-err : goal.returns-in-Err-clause-err
 returns-in-Err-clause-err c =
-    let undone = added-dropped c.self.inside.parts.scene.locks (c.self.inside.parts.scene.tree.last + 1) (not_given c.self.invariant.0 c.last.ensures.sound) in
+    let undone = added-dropped c.self.inside.parts.scene.locks.locks (c.self.inside.parts.scene.tree.last + 1) (not_given c.self.invariant.0 c.last.ensures.sound) in
     rw (c.in-Err.ensures.err, c.drop_ino.ensures, c.in_ok-add_ino.ensures.ok, c.last.ensures.last, undone) c.self.view_is

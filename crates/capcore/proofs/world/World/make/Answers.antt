@@ -15,7 +15,7 @@ pub add-requires : goal.add-requires
 add-requires c = record {
   passed = subst (λ (s : State). first_failing (create_tests s.scene.tree c.args.holder.ino.0 c.args.name.now) ≡ None) c.self.view_is
       (pass-both (inode_tests c.self.inside.parts.scene.tree c.args.holder.ino.0) (new_inode_tests c.self.inside.parts.scene.tree c.args.holder.ino.0 c.args.name.now)
-      (inode-passed c.self.inside.parts.scene c.args.holder.client c.args.holder.ino.0 Write
+      (inode-passed (plain c.self.inside.parts.scene) c.args.holder.client c.args.holder.ino.0 Write
       (sym c.access_rejection.ensures ∙ c.in_default.is))
       (sym c.new_inode_refusal.ensures ∙ c.in_default-new_inode_refusal.is));
 }

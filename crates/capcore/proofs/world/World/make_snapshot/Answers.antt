@@ -14,7 +14,7 @@ returns-in-Some-new_snapshot_refusal-clause-direct c =
 pub snap_add_tested-requires : goal.snap_add_tested-requires
 snap_add_tested-requires c = record {
   passed = pass-both (inode_tests c.self.inside.parts.scene.tree c.args.ino.0) (new_snapshot_tests c.self.inside.parts.scene.tree c.args.ino.0 c.args.name.now)
-      (inode-passed c.self.inside.parts.scene c.args.client c.args.ino.0 Snapshot
+      (inode-passed (plain c.self.inside.parts.scene) c.args.client c.args.ino.0 Snapshot
       (sym c.access_rejection.ensures ∙ c.in_default.is))
       (sym c.new_snapshot_refusal.ensures ∙ c.in_default-new_snapshot_refusal.is);
 }

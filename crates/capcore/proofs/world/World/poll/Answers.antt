@@ -20,7 +20,7 @@ returns-in-Some-clause-answered c =
 module _ (c : After-drop-told) where
   -- the state before the event
   abbrev old : State
-  old = record { scene = c.self.inside.parts.scene; messages = c.self.inside.parts.messages.items }
+  old = record { scene = (plain c.self.inside.parts.scene); messages = c.self.inside.parts.messages.items }
 
   -- and behind it
   abbrev new : State
@@ -61,7 +61,7 @@ invariant_of-self c =
     (omega (arith, length-filter (is_left c.args.client c.in_ok-given.given) items, count_by-le-length (is_left c.args.client c.in_ok-given.given) items)) in (
       w.sound,
       omega (arith, few, c.remove_given.ensures.room, c.self.invariant.1),
-      alike-kept c.self.inside.parts.known.sets (old c).scene c.skip_quiet.new.self
+      alike-kept c.self.inside.parts.scene.table.kept (old c).scene c.skip_quiet.new.self
           (subst (HoldAlike (old c).scene.table) (sym (told c)) (alike-where (is_of_client c.args.client) (after_messages c.in_ok-given.given) (old c).scene.table (given-held c.in_ok-given.given))) c.self.invariant.2,
     )
 

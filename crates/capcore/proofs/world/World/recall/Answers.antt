@@ -5,7 +5,7 @@ use Rattle.capcore.proofs.world.World.recall.Goals as goal
 module _ (c : After-new) where
   -- the state before the event
   abbrev old : State
-  old = record { scene = c.self.inside.parts.scene; messages = c.self.inside.parts.messages.items }
+  old = record { scene = (plain c.self.inside.parts.scene); messages = c.self.inside.parts.messages.items }
 
   -- and behind it
   abbrev new : State
@@ -23,7 +23,7 @@ pub invariant_of-self : goal.invariant_of-self
 invariant_of-self c = rw c.in_err-named.ensures.err c.self.invariant
 
 pub invariant_of-self-2 : goal.invariant_of-self-2
-invariant_of-self-2 c = rw c.in_ok-named.ensures.ok (recalled-sound _ c.self.invariant.0 c.args.count, c.self.invariant.1, recalled-kept _ c.self.invariant.0 c.args.count c.self.inside.parts.known.sets c.self.invariant.2)
+invariant_of-self-2 c = rw c.in_ok-named.ensures.ok (recalled-sound _ c.self.invariant.0 c.args.count, c.self.invariant.1, recalled-kept _ c.self.invariant.0 c.args.count c.self.inside.parts.scene.table.kept c.self.invariant.2)
 
 pub returns-clause-answered : goal.returns-clause-answered
 returns-clause-answered c = subst (λ (s : State). IsAnswered s (Event.Recall c.args.count) (said c) (new c)) c.self.view_is (whole c)

@@ -14,7 +14,7 @@ returns-in-Some-old_snapshot_refusal-clause-direct c =
 pub snap_remove_tested-requires : goal.snap_remove_tested-requires
 snap_remove_tested-requires c = record {
   passed = pass-both (inode_tests c.self.inside.parts.scene.tree c.args.ino.0) (old_snapshot_tests c.self.inside.parts.scene.tree c.args.ino.0 c.args.name.now)
-      (inode-passed c.self.inside.parts.scene c.args.client c.args.ino.0 Snapshot
+      (inode-passed (plain c.self.inside.parts.scene) c.args.client c.args.ino.0 Snapshot
       (sym c.access_rejection.ensures ∙ c.in_default.is))
       (sym c.old_snapshot_refusal.ensures ∙ c.in_default-old_snapshot_refusal.is);
 }
