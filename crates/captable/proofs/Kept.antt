@@ -11,7 +11,7 @@ use Rattle.captable.specs.declared.entry.Holder.{Holder}
 use Rattle.captable.specs.declared.entry.EntryRow.{EntryRow}
 use Rattle.captable.specs.declared.entry.Sets.{Sets}
 use Rattle.captable.specs.declared.entry.Slot.{Slot}
-use Rattle.captable.specs.Table.{Table, IsTable, same, is_row_of, entry_of, entry_at}
+use Rattle.captable.specs.Table.{Table, IsTable, same, is_row_of}
 use Rattle.captable.specs.Calls.{is_of_client, is_of_inode}
 use Rattle.captable.specs.Kept.{KeptRow, KeptTable, is_kept_of, sets_beside, AreBeside, keeping, kept_without, kept_without_client}
 use Rattle.captable.specs.Walks.{first_holder}
@@ -22,7 +22,7 @@ use Rattle.captable.proofs.Beside.{keep_in, sets-number, sets-rows, sets-table, 
 use Rattle.captable.proofs.Changes.{no_entry}
 use Rattle.captable.proofs.Absent.{other-client, all-stay, no-holder}
 use Rattle.captable.proofs.Keeping.{filter-mapped, held, is_in}
-use Rattle.captable.proofs.NodesAt.{is_held_by, IsHeld, nodes-changed, nodes-one}
+use Rattle.captable.proofs.NodesAt.{is_held_by, nodes-changed, nodes-one}
 use Rattle.captable.proofs.Numbers.{below-map, once-map, by_number-append, by_number-filter}
 use Rattle.captable.proofs.Orders.{order-same}
 use Rattle.captable.proofs.Reading.{entry-none}

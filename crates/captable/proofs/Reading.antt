@@ -4,8 +4,6 @@ use Rattle.std.specs.Prelude.{◌==◌}
 use Rattle.std.specs.List.{find}
 use Rattle.std.specs.Option.{option_map, option_and_then}
 use Rattle.std.proofs.lemmas.Bool.{eq-eqb}
-use Rattle.capbits.specs.declared.ids.ClientId.{ClientId}
-use Rattle.capbits.specs.declared.ids.Ino.{Ino}
 use Rattle.cap_arena.specs.declared.nodes.Node.{Node}
 use Rattle.capbits.specs.declared.refusal.Refusal.TheVariants.{Limit}
 use Rattle.capbits.specs.Refusal.{first_failing, refused_if}

@@ -11,7 +11,7 @@ use Rattle.cap_arena.specs.Walks.{is_among, key_after}
 use Rattle.cap_arena.specs.Lists.{Lists, ListName, OfInode, OfClient, belongs, node_at, keys, IsLists}
 use Rattle.captable.specs.declared.entry.Slot.{Slot}
 use Rattle.captable.specs.Nodes.{row_of, with_first, nodes_at, nodes_in}
-use Rattle.captable.specs.Walks.{keys_on, keys_from, rows_from, IsPlaceIn, IsPlaceOf}
+use Rattle.captable.specs.Walks.{keys_on, keys_from, rows_from, IsPlaceIn}
 use Rattle.captable.proofs.NodesAt.{head_in, rest_in}
 
 -- ---- keys

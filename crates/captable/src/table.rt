@@ -1,5 +1,5 @@
 //! The table of entries.
-ghost use Rattle.std.specs.Prelude.{◌≡◌, ◌<◌, ◌^◌, ◌-◌, true, false, [], ◌∷◌, IfSome, IfOk, OnOk, OnErr, None, length, slice_get, take, filter, unwrap_or};
+ghost use Rattle.std.specs.Prelude.{◌≡◌, ◌<◌, ◌^◌, ◌-◌, true, false, [], ◌∷◌, IfSome, IfOk, OnOk, OnErr, Some, None, length, slice_get, take, filter, unwrap_or};
 
 use crate::entry::{Edit, Entry, Holder, Keeping, Sets, Slot};
 use crate::holders::Holders;
@@ -132,12 +132,22 @@ impl CapTable {
     pub fn find_near(&self, client: ClientId, ino: Ino, place: usize) -> Option<Entry>
         ensures { result ≡ entry_at self.now.entries (holder client ino) }
     {
-        if let Some(node) = self.lists.get(place) {
-            if node.client.0 == client.0 && node.ino.0 == ino.0 {
-                return Some(node.value.entry);
-            }
+        match self.slot_near(Holder { client, ino }, place) {
+            Some(slot) => Some(slot.entry),
+            None => self.find(client, ino),
         }
-        self.find(client, ino)
+    }
+
+    // The holder's entry with what is kept beside it, if it stands at this place.
+    fn slot_near(&self, holder: Holder, place: usize) -> Option<Slot>
+        ensures entry { IfSome result (λ slot. entry_at self.now.entries holder ≡ Some slot.entry) }
+        ensures sets { IfSome result (λ slot. sets_beside self.now.kept holder ≡ Some slot.sets) }
+    {
+        let node = self.lists.get(place)?;
+        if node.client.0 == holder.client.0 && node.ino.0 == holder.ino.0 {
+            return Some(node.value);
+        }
+        None
     }
 
     /// The place of the first entry on an inode, in the order of making, for `find_near`; any place where there is none.
@@ -446,12 +456,10 @@ impl CapTable {
     pub fn kept_near(&self, client: ClientId, ino: Ino, place: usize) -> Sets
         ensures { result ≡ unwrap_or (sets_beside self.now.kept (holder client ino)) words.no_sets }
     {
-        if let Some(node) = self.lists.get(place) {
-            if node.client.0 == client.0 && node.ino.0 == ino.0 {
-                return node.value.sets;
-            }
+        match self.slot_near(Holder { client, ino }, place) {
+            Some(slot) => slot.sets,
+            None => self.kept(client, ino).unwrap_or(Sets::none()),
         }
-        self.kept(client, ino).unwrap_or(Sets::none())
     }
 
     /// Keeps this beside the client's entry on the inode, from now on, as what it is permitted to hold. Where it has no entry,
@@ -497,6 +505,7 @@ impl CapTable {
     pub fn first_on(&self, ino: Ino) -> Option<Holder>
         ensures first { result ≡ first_holder (entries_on self.now.entries ino) }
         ensures sound { IsTable self.now.entries }
+        ensures beside { AreBeside self.now }
     {
         let key = self.lists.first_of_ino(ino)?;
         holder_at(&self.lists, key)

@@ -371,14 +371,17 @@ impl Locks {
         ensures { result ≡ find (λ part. counted.ends_by self.now (ino.0, part)) moves.parts }
     {
         // The inode's locks are looked up once, and not for each part. Mostly none of them is in a gather.
-        let LocksAt { locks, counts } = self.states.counted(ino)?;
-        if !locks.is_gathering() {
+        let LocksAt {
+            locks: four,
+            counts,
+        } = self.states.counted(ino)?;
+        if !four.is_gathering() {
             return None;
         }
         PARTS
             .iter()
             .copied()
-            .find(|part| ends_by_count(counts.of_part(*part), locks.of_part(*part)))
+            .find(|part| ends_by_count(counts.of_part(*part), four.of_part(*part)))
     }
 
     // The beginning of the first lock of an inode that may begin, where no request waits unless `waits` says that one may.

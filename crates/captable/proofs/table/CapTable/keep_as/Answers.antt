@@ -1,4 +1,4 @@
-use Rattle.std.proofs.Common.{◌≡◌, ◌∙◌, List, refl, sym, ap, subst}
+use Rattle.std.proofs.Common.{◌∙◌, List, refl, sym, ap, subst}
 use Rattle.cap_arena.specs.Lists.{OfClient}
 use Rattle.captable.specs.Edits.{kept_as}
 use Rattle.captable.specs.Kept.{KeptRow, keeping}
