@@ -43,6 +43,9 @@ enum Step {
     // A client's entries that are not due are walked over, up to the first that is.
     SkipQuiet(u32),
     Keeps(Holder, Option<Kept>),
+    // From now on it is kept that the client is permitted these; and what is kept of that, where something is.
+    Permit(Holder, &'static str),
+    IsPermitted(Holder, Option<&'static str>),
     // The order of recall, one by one, by holders and by nodes.
     Order(Places),
     // The orders of making: of an inode, and of a client, by walks and by nodes.
@@ -124,6 +127,20 @@ fn keeps(rt: &impl Abort, found: Option<Entry>, want: Option<Kept>, at: At) {
     same(rt, kept(found), want, at);
 }
 
+// Sees that this is kept of what the client is permitted.
+fn is_permitted(
+    rt: &impl Abort,
+    found: Option<CapSet>,
+    want: Option<&'static str>,
+    at: At,
+) {
+    let want = match want {
+        Some(text) => Some(caps(text)),
+        None => None,
+    };
+    same(rt, found, want, at);
+}
+
 // Sees that a walk goes by these entries.
 fn goes_by(rt: &impl Abort, walk: Walk<'_>, want: Rows, at: At) {
     let mut walk = walk;
@@ -202,6 +219,8 @@ fn take(rt: &impl Abort, table: &mut CapTable, step: &Step, at: At) {
         Mark(h, asked) => table.ask(h.client, h.ino, *asked),
         SkipQuiet(client) => table.skip_quiet(ClientId(*client)),
         Keeps(h, want) => keeps(rt, table.find(h.client, h.ino), *want, at),
+        Permit(h, text) => table.keep_permitted(h.client, h.ino, caps(text)),
+        IsPermitted(h, want) => is_permitted(rt, table.kept_permitted(h.client, h.ino), *want, at),
         Order(want) => is_order(rt, table, want, at),
         HoldersOf(ino, want) => on_inode(rt, table, Ino(*ino), want, at),
         EntriesOf(client, want) => of_client(rt, table, ClientId(*client), want, at),
@@ -324,6 +343,43 @@ const ACKNOWLEDGED: &[Step] = &[
     Keeps(ONE_2, EMPTY),
 ];
 
+// What is kept of what a client is permitted comes and goes with its entry, and is no part of it.
+const PERMITTED: &[Step] = &[
+    Permit(ONE_2, "pFr"),
+    IsPermitted(ONE_2, None),
+    Open(ONE_2, None),
+    IsPermitted(ONE_2, Some("-")),
+    Open(TWO_2, None),
+    Permit(ONE_2, "pFr"),
+    IsPermitted(ONE_2, Some("pFr")),
+    IsPermitted(TWO_2, Some("-")),
+    Keeps(ONE_2, EMPTY),
+    // A change of the entry leaves it, and so does one of what is kept the entry.
+    Want(ONE_2, "pFrw"),
+    Give(ONE_2, "pFr"),
+    IsPermitted(ONE_2, Some("pFr")),
+    Permit(ONE_2, "p"),
+    Keeps(ONE_2, Some(("pFr", "pFrw", (0, 0, 0), false))),
+    // The entry goes by a release, an acknowledgement and the end of a session, and is opened again.
+    Release(ONE_2, "pFr", Ok(())),
+    IsPermitted(ONE_2, None),
+    Open(ONE_2, None),
+    IsPermitted(ONE_2, Some("-")),
+    Give(ONE_2, "p"),
+    Permit(ONE_2, "pFr"),
+    Ack(ONE_2, 0, "p", Ok(())),
+    IsPermitted(ONE_2, None),
+    Open(ONE_2, None),
+    IsPermitted(ONE_2, Some("-")),
+    Permit(ONE_2, "pFr"),
+    Permit(TWO_2, "pFw"),
+    DropClient(1),
+    IsPermitted(ONE_2, None),
+    IsPermitted(TWO_2, Some("pFw")),
+    Open(ONE_2, None),
+    IsPermitted(ONE_2, Some("-")),
+];
+
 const ORDERS: &[Step] = &[
     Order(&[]),
     Open(ONE_2, None),
@@ -420,6 +476,7 @@ const ALL_ENTRIES: &[Step] = &[
 const CASES: &[(&str, &[Step])] = &[
     ("an entry keeps what is held, wanted and told", SHARED_FILE),
     ("an acknowledgement takes what is revoked", ACKNOWLEDGED),
+    ("what is permitted is kept with the entry", PERMITTED),
     ("the orders are kept apart", ORDERS),
     ("recall names the oldest", RECALLS),
     ("a walk over what is due begins behind what is not", DUE),
