@@ -263,11 +263,11 @@ impl Locks {
     // ---- which move comes next
 
     /// The first move that applies: the least gather that may end; else the oldest request that may be served; else the
-    /// least lock that may begin; else none is left. It looks at all inodes.
+    /// least lock that may begin; else none is left. It looks at all inodes, and goes by what is kept: it is so where the counts are those
+    /// of the entries, and beside each entry stands what its client is permitted.
     pub fn next_move(&self, table: &CapTable, sessions: &Sessions, tree: &Tree, fs: &FsName) -> Move
-        requires counted { AreCounted table.now.entries self.now }
-        requires permitted { ArePermitted table.now.kept fs.now tree.now sessions.now table.now.entries }
-        ensures { result ≡ first_move (scene fs.now tree.now sessions.now table.now.entries self.now.locks) }
+        ensures { AreCounted table.now.entries self.now → ArePermitted table.now.kept fs.now tree.now sessions.now table.now.entries
+            → result ≡ first_move (scene fs.now tree.now sessions.now table.now.entries self.now.locks) }
     {
         if let Some((ino, part)) = self.first_end_of_all() {
             return Move::End { ino, part };
@@ -350,9 +350,9 @@ impl Locks {
 
     // The beginning of the first lock of all that may begin.
     fn first_begin_of_all(&self, policy: &Policy<'_>, table: &CapTable) -> Move
-        requires { ArePermitted table.now.kept policy.now.fs.now policy.now.tree.now policy.now.sessions.now table.now.entries }
         ensures { let s = scene_by policy.now table.now.entries self.now.locks in
-            result ≡ turns.begin_or_rest s (find (moves.may_begin s) (moves.lock_ids self.now.locks)) }
+            ArePermitted table.now.kept policy.now.fs.now policy.now.tree.now policy.now.sessions.now table.now.entries
+            → result ≡ turns.begin_or_rest s (find (moves.may_begin s) (moves.lock_ids self.now.locks)) }
     {
         for number in self.states.inos() {
             let ino = Ino(*number);
