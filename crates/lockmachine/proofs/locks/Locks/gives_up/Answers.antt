@@ -26,3 +26,15 @@ loop-part-preserved c =
           subst (λ n. GivesUp row left first n (take (c.loop-part.part-index + 1) parts)) (sym w.self-is)
           (gives-passed row left first now c.loop-part.part-index _ four c.loop-part-test.true has (waits ∙ w.if-waits_no_longer.false) c.loop-part.invariant)
     ]
+
+pub returns-in_default-clause-counts : goal.returns-in_default-clause-counts
+returns-in_default-clause-counts c = gives-none c.args.row c.args.left c.args.self.now (sym c.of_ino.ensures ∙ c.in_default.is)
+
+pub returns-clause-counts : goal.returns-clause-counts
+returns-clause-counts c =
+    let now = c.loop-part.self in
+    let last : c.loop-part.part-index ≡ 4 = omega arith in
+    gives-all c.args.row c.args.left c.args.self.now now (subst (λ n. GivesUp c.args.row c.args.left c.args.self.now now (take n parts)) last c.loop-part.invariant)
+
+pub returns-clause-locks : goal.returns-clause-locks
+returns-clause-locks c = c.loop-part.invariant.locks
