@@ -1,13 +1,13 @@
 -- The sets that are kept of entries, renewed of one holder after another, and so of one inode after another.
-use Rattle.std.{proofs.Common.{◌≡◌, ◌≢◌, ℕ, zero, suc, ◌<◌, Bool, true, false, cond, ◌&&◌, ◌||◌, ◌==◌, Option, Some, None, IsSome, List, [], ◌∷◌, length, take, get_or, refl, sym, ap, subst, ◌∙◌, arith, true≢false, unwrap_or}, proofs.Math.Bool.{and-true}, proofs.lemmas.Map.Keys.{apart_from_distinct}, specs.List.{find, IsDistinct}, specs.Option.{option_map}}
+use Rattle.std.{proofs.Common.{◌≡◌, ◌≢◌, ℕ, zero, suc, ◌<◌, Bool, true, false, cond, ◌&&◌, ◌||◌, ◌==◌, Option, Some, None, is_some, List, [], ◌∷◌, length, take, get_or, refl, sym, ap, subst, ◌∙◌, arith, true≢false, unwrap_or}, proofs.Math.Bool.{and-true}, proofs.lemmas.Map.Keys.{apart_from_distinct}, specs.List.{find, IsDistinct}, specs.Option.{option_map}}
 use Rattle.captable.{proofs.Changes.{no_entry}, proofs.Searches.{find_passes, find-map}, specs.Calls.{entries_on}, specs.Many.{changed_where, remade}, specs.Table.{entry_of}}
-use Rattle.capacts.{proofs.Common.{among-filter, Caps, Entry, entry_at, EntryRow, Holder, holders-filter, holders_of_rows, Ino, is_among, is_row_of, no_caps, no_sets, row_of-entry, same, same-is, same_equiv, Sets, Table}, specs.Known.{KnownSets, sets_of, known_of, permitted_of, HaveRoom, known_anew, KnownAnew}}
+use Rattle.capacts.{proofs.Common.{among-filter, Caps, Entry, entry_at, EntryRow, Holder, holders-filter, holders_of_rows, Ino, is_among, is_row_of, no_caps, no_sets, row_of-entry, same, same-is, same_equiv, Sets, Table}, specs.Known.{KnownSets, sets_of, known_of, permitted_of, known_anew, KnownAnew}}
 
 -- ---- of the sets of a holder, one
 
-pub some-mapped : {A B : Type 0} (f : A → B) (o : Option A) → IsSome (option_map f o) → IsSome o
-some-mapped f None some = some
-some-mapped f (Some x) some = refl
+pub some-mapped : {A B : Type 0} (f : A → B) (o : Option A) → is_some (option_map f o) ≡ is_some o
+some-mapped f None = refl
+some-mapped f (Some x) = refl
 
 pub told-or : (o : Option Sets) → (unwrap_or o no_sets).told ≡ unwrap_or (option_map (λ (s : Sets). s.told) o) no_caps
 told-or None = refl
@@ -97,10 +97,6 @@ kept-then p q f t later was mid now first then alike k = then k ∙ by_second (q
 -- of who is not among them the same is kept
 pub kept-not : (p : Holder → Bool) (f : EntryRow → Caps) (t : Table) (was now : KnownSets) → KnownAnew p f t was now → (k : Holder) → p k ≡ false → known_of now k ≡ known_of was k
 kept-not p f t was now kept k off = kept k ∙ ap (λ b. known_anew b f (find (is_row_of k) t.rows) (known_of was k)) off
-
--- whoever has an entry, has room
-pub room-of : (sets : KnownSets) (t : Table) (k : Holder) → HaveRoom sets t → IsSome (entry_at t k) → IsSome (known_of sets k)
-room-of sets t k room some = grind arith
 
 -- ---- entries of a table that was changed
 

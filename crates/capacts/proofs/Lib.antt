@@ -8,6 +8,10 @@ pub mod Walked
 pub mod KeptSets
 pub mod Held
 pub mod Renewed
+pub mod Onward
+pub mod Walking
+pub mod Beside
+pub mod GivenUp
 pub use Rattle.caprules.proofs.Capevents
 pub use Rattle.caprules.proofs.Capnotes
 pub use Rattle.caprules.proofs.Capview

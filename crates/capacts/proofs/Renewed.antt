@@ -1,24 +1,16 @@
 -- What clients are permitted, kept anew of one holder after another.
-use Rattle.std.{proofs.Common.{◌≡◌, ◌≢◌, ℕ, Bool, true, false, ◌&&◌, ◌||◌, ◌==◌, cond, Option, Some, None, IsSome, is_some, List, [], ◌∷◌, suc, Contains, inl, inr, filter, refl, sym, ap, subst, ◌∙◌, true≢false, arith, unwrap_or}, proofs.lemmas.Bool.{and_parts, or_parts, eqb-false, false_from_ne_true}, specs.Cmp.{unsigned_tied}, specs.List.{find, list_any}, specs.Option.{option_map}, specs.Ordering.{nat_cmp, eq_by_cmp}}
+use Rattle.std.{proofs.Common.{◌≡◌, ◌≢◌, ℕ, Bool, true, false, ◌&&◌, ◌||◌, ◌==◌, cond, Option, Some, None, is_some, List, [], ◌∷◌, suc, Contains, inl, inr, filter, refl, sym, ap, subst, ◌∙◌, true≢false, arith, unwrap_or}, proofs.lemmas.Bool.{or_parts, eqb-false, false_from_ne_true}, specs.Cmp.{unsigned_tied}, specs.List.{find, list_any}, specs.Option.{option_map}, specs.Ordering.{nat_cmp, eq_by_cmp}}
 use Rattle.std.specs.FinSet as set
 use Rattle.inotree.{proofs.Changes.{setting_site}, proofs.Elsewhere.{alike-changed}, proofs.Growing.{off_here}, proofs.OneInode.{alike-but}, specs.Inodes.{with_setting, with_attribute, without_attribute}, specs.Tree.{is_within}, specs.declared.node.Setting.TheVariants.{Mode, Uid, Gid, Size, Time}}
-use Rattle.captable.proofs.Tables.{no_row}
 use Rattle.sessiontab.specs.Table.{SessionTable}
 use Rattle.caprules.{proofs.Lockmachine.PolicyElsewhere.{permitted-kept, alike-itself}, specs.Capnotes.Changing.{tree_changed}, specs.Capnotes.Noted.{sets_attr}, specs.Lockmachine.declared.request.Change.TheVariants.{Set, SetXattr, RemoveXattr}}
-use Rattle.capacts.{proofs.Common.{among-filter, ArePermitted, Caps, Change, Entry, entry_at, EntryRow, Holder, holders-filter, holders_of_rows, InoSet, is_among, is_row_of, IsAlike, no_sets, Nodes, Outcome, permitted, Request, row_of-entry, same, same-is, same_equiv, Scene, Sets, Table}, proofs.KeptSets.{among_rows, room-of, other-holder, some-mapped}, proofs.Walked.{second_true}, specs.Known.{KnownSets, sets_of, known_of, permitted_of, HaveRoom}, specs.Renewing.{Renews, ServedFrom, has_entry}, specs.Served.{is_rename}}
+use Rattle.capacts.{proofs.Common.{among-filter, ArePermitted, Caps, Change, Entry, entry_at, EntryRow, Holder, holders-filter, holders_of_rows, InoSet, is_among, is_row_of, IsAlike, no_sets, Nodes, Outcome, permitted, Request, row_of-entry, same, Scene, Sets, Table}, proofs.Beside.{entry-among}, proofs.Walked.{second_true}, specs.Known.{KnownSets, known_of, permitted_of}, specs.Renewing.{Renews, ServedFrom, has_entry}, specs.Served.{is_rename}}
 
 -- ---- what is kept of a holder that is known to be permitted this
 
 pub kept-is : (o : Option Sets) (may : Caps) → option_map (λ (s : Sets). s.permitted) o ≡ Some may → (o ≡ Some (unwrap_or o no_sets)) × ((unwrap_or o no_sets).permitted ≡ may)
 kept-is None may is = absurd (cc)
 kept-is (Some s) may is = (refl, cc)
-
-some_told : (o : Option Sets) (may : Caps) → option_map (λ (s : Sets). s.permitted) o ≡ Some may → IsSome (option_map (λ (s : Sets). s.told) o)
-some_told None may is = absurd (cc)
-some_told (Some s) may is = refl
-
-pub room-permitted : (sets : KnownSets) (fs : List ℕ) (tree : Nodes) (sessions : SessionTable) (table : Table) → ArePermitted sets fs tree sessions table → HaveRoom sets table
-room-permitted sets fs tree sessions table are k e there = some_told (sets_of sets k) (permitted fs tree sessions k) (are k e there)
 
 -- ---- some after others
 
@@ -57,18 +49,14 @@ along-ends may all left was now along none = record { anew = λ k among. along.a
 -- ---- who has an entry
 
 module _ (passes : Holder → Bool) (t : Table) where
-  -- the holders of the rows that pass are those who pass and have an entry
-  pub among-passing : (k : Holder) → is_among (holders_of_rows (filter (λ row. passes row.holder) t.rows)) k ≡ (passes k && has_entry t k)
-  among-passing k =
-      ap (λ hs. is_among hs k) (holders-filter passes t.rows) ∙ among-filter passes (holders_of_rows t.rows) k ∙ ap (λ b. passes k && b) (by_entry (entry_at t k) refl)
-    where
-      by_entry : (o : Option Entry) → entry_at t k ≡ o → is_among (holders_of_rows t.rows) k ≡ is_some o
-      by_entry None none = no_row t.rows k none
-      by_entry (Some e) there = among_rows k t.rows (record { holder = k; entry = e }) (row_of-entry t k e there)
+  -- those who pass
+  abbrev pub passing : List EntryRow
+  passing = filter (λ row. passes row.holder) t.rows
 
--- who is known to be told the same, has room still
-pub room-told : (t : Table) (was now : KnownSets) → ((k : Holder) → known_of now k ≡ known_of was k) → HaveRoom was t → HaveRoom now t
-room-told t was now told room k e there = ap is_some (told k) ∙ room k e there
+  -- their holders are those who pass and have an entry
+  pub among-passing : (k : Holder) → is_among (holders_of_rows passing) k ≡ (passes k && has_entry t k)
+  among-passing k =
+      ap (λ hs. is_among hs k) (holders-filter passes t.rows) ∙ among-filter passes (holders_of_rows t.rows) k ∙ ap (λ b. passes k && b) (sym (entry-among t.rows k))
 
 -- where nobody passes
 pub renews-nobody : (passes : Holder → Bool) (may : Holder → Caps) (t : Table) (sets : KnownSets) → list_any (λ row. passes row.holder) t.rows ≡ false → Renews (λ k. passes k && has_entry t k) may sets sets
@@ -83,44 +71,6 @@ renews-nobody passes may t sets none = record {
     none_pass p (row ∷ rows) none =
         let both = or_parts (p row) (list_any p rows) none in
         ap (λ b. cond b (row ∷ filter p rows) (filter p rows)) both.0 ∙ none_pass p rows both.1
-
--- ---- the rows of a walk over those who pass
-
-abbrev pub Walked : (Holder → Bool) → (Holder → Caps) → Table → List EntryRow → KnownSets → KnownSets → Type 0
-Walked passes may t left was now = Along may (λ k. passes k && has_entry t k) (is_among (holders_of_rows left)) was now
-
-module _ (passes : Holder → Bool) (may : Holder → Caps) (t : Table) (was : KnownSets) where
-  pub walked-begins : (rows : List EntryRow) → rows ≡ filter (λ row. passes row.holder) t.rows → Walked passes may t rows was was
-  walked-begins rows are =
-      along-begins may (λ k. passes k && has_entry t k) (is_among (holders_of_rows rows)) was
-      (λ k. sym (ap (λ (rs : List EntryRow). is_among (holders_of_rows rs) k) are ∙ among-passing passes t k))
-
-  module _ (mid : KnownSets) (left rest : List EntryRow) (row : EntryRow) (walked : Walked passes may t left was mid) (first : left ≡ row ∷ rest) where
-    parts : (k : Holder) → is_among (holders_of_rows left) k ≡ (same k row.holder || is_among (holders_of_rows rest) k)
-    parts k = ap (λ (rs : List EntryRow). is_among (holders_of_rows rs) k) first
-
-    both : (passes row.holder ≡ true) × (has_entry t row.holder ≡ true)
-    both = and_parts _ _ (walked.inside row.holder (parts row.holder ∙ ap (λ b. b || is_among (holders_of_rows rest) row.holder) (same_equiv.refl row.holder)))
-
-    pub walked-passes : passes row.holder ≡ true
-    walked-passes = both.0
-
-    pub walked-room : HaveRoom was t → IsSome (sets_of mid row.holder)
-    walked-room room = some-mapped (λ (s : Sets). s.told) (sets_of mid row.holder) (ap is_some (walked.told row.holder) ∙ room-of was t row.holder room both.1)
-
-    pub walked-more : (now : KnownSets) → permitted_of now row.holder ≡ Some (may row.holder) → ((k : Holder) → k ≢ row.holder → permitted_of now k ≡ permitted_of mid k) → ((k : Holder) → known_of now k ≡ known_of mid k)
-        → Walked passes may t rest was now
-    walked-more now own others told =
-        along-more may (λ k. passes k && has_entry t k) (is_among (holders_of_rows left)) (λ k. same k row.holder) (is_among (holders_of_rows rest)) was mid now walked
-        (record {
-          anew = λ k on. let is : k ≡ row.holder = same-is k row.holder on in ap (permitted_of now) is ∙ own ∙ ap (λ h. Some (may h)) (sym is);
-          others = λ k off. others k (other-holder k row.holder off);
-          told = told;
-        }) parts
-
-  pub walked-ends : (now : KnownSets) (left : List EntryRow) → Walked passes may t left was now → left ≡ [] → Renews (λ k. passes k && has_entry t k) may was now
-  walked-ends now left walked ended =
-      along-ends may (λ k. passes k && has_entry t k) (is_among (holders_of_rows left)) was now walked (λ k. ap (λ (rs : List EntryRow). is_among (holders_of_rows rs) k) ended)
 
 -- ---- inodes, one after another
 

@@ -87,6 +87,7 @@ fn renew_held(policy: &Policy<'_>, table: &mut CapTable, ino: Ino)
     let mut names = Names::new();
     let path = policy.tree.read_path(ino, &mut names).then_some(&names);
     let node = policy.tree.node(ino);
+    // From holder to holder: a walk over the entries would not let what is kept change.
     let mut next = table.first_on(ino);
     'holders: while let Some(own) = next {
         let permitted = permitted_on(policy.fs, policy.sessions, own.client, path, node);

@@ -1,7 +1,7 @@
-use Rattle.std.{proofs.Common.{◌≡◌, ◌≢◌, ◌==◌, Option, Some, true, sym, ap, ◌∙◌, unwrap_or}, proofs.lemmas.Bool.{not-false}, specs.Option.{option_map}}
+use Rattle.std.{proofs.Common.{◌≡◌, ◌≢◌, ◌==◌, ◌<◌, ◌-◌, ◌^◌, Option, Some, true, sym, ap, subst, ◌∙◌, unwrap_or, IfSome}, proofs.lemmas.Bool.{not-false}, specs.Option.{option_map}}
 use Rattle.capbits.specs.{Caps.{bits_of}, SetNumbers.{bits_of-injective}, Sets.{true_eq, union, meet}}
-use Rattle.captable.{proofs.Changes.{left_found, same_found}, specs.Calls.{issued}, specs.declared.known.Known.{Known}}
-use Rattle.capacts.{proofs.Common.{Caps, Entry, EntryRow, Holder, no_caps, permitted, renumbered, same, Sets}, proofs.Held.{same-renumbered}, proofs.KeptSets.{kept-one}, proofs.Renewed.{kept-is}, proofs.finishing.finish_row.Goals.{After-meet-before, then-ne, else-ne}, specs.Known.{KnownAnew, known_in, permitted_of, sets_of}}
+use Rattle.captable.{proofs.ByHolder.{same-apart}, proofs.Changes.{left_found, same_found}, specs.Calls.{changed, issued}, specs.Kept.{KeptTable, telling}}
+use Rattle.capacts.{proofs.Beside.{keeping-other, keeping-own}, proofs.Common.{Caps, Entry, entry_at, EntryRow, Holder, no_caps, permitted, renumbered, same, Sets, Table}, proofs.Held.{same-renumbered}, proofs.KeptSets.{kept-one}, proofs.Renewed.{kept-is}, proofs.finishing.finish_row.Goals.{After-meet-before, then-ne, else-ne}, specs.Known.{KnownAnew, KnownSets, known_in, permitted_of, sets_of}}
 use Rattle.capacts.specs.Finishing as words
 use Rattle.capacts.proofs.finishing.finish_row.Goals as goal
 
@@ -16,14 +16,14 @@ abbrev told_of : After-meet-before → EntryRow → Caps
 told_of c = words.told_at c.args.policy.now.fs.now c.args.policy.now.tree.now c.args.policy.now.sessions.now c.args.locks.now
 
 abbrev made_of : After-meet-before → EntryRow → Entry
-made_of c = words.entry_under (known_in c.args.known.now.sets) c.args.policy.now.fs.now c.args.policy.now.tree.now c.args.policy.now.sessions.now c.args.locks.now
+made_of c = words.entry_under (known_in c.args.table.now.kept) c.args.policy.now.fs.now c.args.policy.now.tree.now c.args.policy.now.sessions.now c.args.locks.now
 
--- what was kept of the entry
-was : (c : After-meet-before) → (sets_of c.args.known.now.sets c.args.row.holder ≡ Some c.of-kept.result)
-    × (c.of-kept.result.permitted ≡ permitted c.args.policy.now.fs.now c.args.policy.now.tree.now c.args.policy.now.sessions.now c.args.row.holder)
+-- what was kept beside the entry
+was : (c : After-meet-before) → (sets_of c.args.table.now.kept c.args.row.holder ≡ Some c.kept_near-kept.result)
+    × (c.kept_near-kept.result.permitted ≡ permitted c.args.policy.now.fs.now c.args.policy.now.tree.now c.args.policy.now.sessions.now c.args.row.holder)
 was c =
-    let is = kept-is (sets_of c.args.known.now.sets c.args.row.holder) (permitted c.args.policy.now.fs.now c.args.policy.now.tree.now c.args.policy.now.sessions.now c.args.row.holder) c.requires.permitted in
-    (is.0 ∙ ap Some (sym c.of-kept.ensures), ap (λ (s : Sets). s.permitted) c.of-kept.ensures ∙ is.1)
+    let is = kept-is (sets_of c.args.table.now.kept c.args.row.holder) (permitted c.args.policy.now.fs.now c.args.policy.now.tree.now c.args.policy.now.sessions.now c.args.row.holder) c.requires.permitted in
+    (is.0 ∙ ap Some (sym c.kept_near-kept.ensures), ap (λ (s : Sets). s.permitted) c.kept_near-kept.ensures ∙ is.1)
 
 due : (c : After-meet-before) → c.meet-due.result ≡ due_of c c.args.row
 due c = let may = (was c).1 in cc
@@ -39,23 +39,42 @@ made c =
     let before = c.meet-before.ensures ∙ ap (λ (o : Option Sets). meet (unwrap_or (option_map (λ (s : Sets). s.told) o) no_caps) c.args.row.entry.held) (sym (was c).0) in
     λ i. renumbered (before i) (told c i) (issued (due c i) c.args.row.entry)
 
--- what is kept at the end
-kept : (c : After-meet-before) → (sets_of c.if-ne.known.sets c.args.row.holder ≡ Some (record c.of-kept.result { told = c.told_under-told.result }))
-    × ((k : Holder) → k ≢ c.args.row.holder → sets_of c.if-ne.known.sets k ≡ sets_of c.args.known.now.sets k)
+-- what is kept at the end, beside the same entries
+same_entries : (c : After-meet-before) → c.if-ne.table.entries ≡ c.args.table.now.entries
+same_entries c = elim c.if-ne.branch [
+  | then-ne w ↦ ap (λ (t : KeptTable). t.entries) (w.table-is ∙ w.keep_told.ensures)
+  | else-ne w ↦ ap (λ (t : KeptTable). t.entries) w.table-is
+]
+
+kept : (c : After-meet-before) → (sets_of c.if-ne.table.kept c.args.row.holder ≡ Some (record c.kept_near-kept.result { told = c.told_under-told.result }))
+    × ((k : Holder) → k ≢ c.args.row.holder → sets_of c.if-ne.table.kept k ≡ sets_of c.args.table.now.kept k)
 kept c = elim c.if-ne.branch [
-  | then-ne w ↦ (ap (λ (n : Known). sets_of n.sets c.args.row.holder) w.known-is ∙ w.put.ensures.own, λ k apart. ap (λ (n : Known). sets_of n.sets k) w.known-is ∙ w.put.ensures.others k apart)
+  | then-ne w ↦ (
+      let h : Holder = c.args.row.holder in
+      let is = w.table-is ∙ w.keep_told.ensures in (
+        ap (λ (t : KeptTable). sets_of t.kept h) is ∙ keeping-own c.args.table.now.kept h (telling c.told_under-told.result) ∙ ap (option_map (telling c.told_under-told.result)) (was c).0,
+        λ k apart. ap (λ (t : KeptTable). sets_of t.kept k) is ∙ keeping-other c.args.table.now.kept h (telling c.told_under-told.result) k (same-apart h k (λ same_holder. apart (sym same_holder))),
+      )
+      )
   | else-ne w ↦ (
-    ap (λ (n : Known). sets_of n.sets c.args.row.holder) w.known-is ∙ (was c).0
-        ∙ (λ i. Some (record c.of-kept.result { told = sym (same_set c.told_under-told.result c.of-kept.result.told (not-false _ (sym c.ne.ensures ∙ w.if-ne.false))) i })),
-    λ k apart. ap (λ (n : Known). sets_of n.sets k) w.known-is,
+    ap (λ (t : KeptTable). sets_of t.kept c.args.row.holder) w.table-is ∙ (was c).0
+        ∙ (λ i. Some (record c.kept_near-kept.result { told = sym (same_set c.told_under-told.result c.kept_near-kept.result.told (not-false _ (sym c.ne.ensures ∙ w.if-ne.false))) i })),
+    λ k apart. ap (λ (t : KeptTable). sets_of t.kept k) w.table-is,
   )
 ]
 
-known : (c : After-meet-before) → KnownAnew (λ k. same k c.args.row.holder) (told_of c) c.args.table.now c.args.known.now.sets c.if-ne.known.sets
-    × ((k : Holder) → permitted_of c.if-ne.known.sets k ≡ permitted_of c.args.known.now.sets k)
+abbrev KeptAnew : After-meet-before → KnownSets → Type 0
+KeptAnew c sets = KnownAnew (λ k. same k c.args.row.holder) (told_of c) c.args.table.now.entries c.args.table.now.kept sets × ((k : Holder) → permitted_of sets k ≡ permitted_of c.args.table.now.kept k)
+
+known : (c : After-meet-before) → KeptAnew c c.if-ne.table.kept
 known c =
-    kept-one (told_of c) c.args.table.now c.args.known.now.sets c.args.row.holder c.if-ne.known.sets c.args.row.entry c.of-kept.result c.requires.there (was c).0
-    ((kept c).0 ∙ (λ i. Some (record c.of-kept.result { told = told c i }))) (kept c).1
+    kept-one (told_of c) c.args.table.now.entries c.args.table.now.kept c.args.row.holder c.if-ne.table.kept c.args.row.entry c.kept_near-kept.result c.requires.there (was c).0
+    ((kept c).0 ∙ (λ i. Some (record c.kept_near-kept.result { told = told c i }))) (kept c).1
+
+pub issue_numbered-requires : goal.issue_numbered-requires
+issue_numbered-requires g =
+    let c = (goal.at.issue_numbered-requires g).After-meet-before in
+    subst (λ (o : Option Entry). IfSome o (λ entry. entry.seq < 2 ^ 64 - 1)) (sym (ap (λ (t : Table). entry_at t c.args.row.holder) (same_entries c) ∙ c.requires.there)) c.requires.number
 
 pub returns-then-eq-2 : goal.returns-then-eq-2
 returns-then-eq-2 g =
@@ -64,7 +83,7 @@ returns-then-eq-2 g =
     let held : union e.held c.meet-due.result ≡ e.held = sym c.union-held.ensures ∙ same_set c.union-held.result e.held (sym g.eq.ensures ∙ g.if-eq.true) in
     let told_same : c.told_under-told.result ≡ c.meet-before.result = same_set c.told_under-told.result c.meet-before.result (sym g.eq-then-eq.ensures ∙ g.if-eq-2.true) in
     record {
-      table = left_found c.args.table.now c.args.row.holder e (λ e. made_of c (record { holder = c.args.row.holder; entry = e })) c.requires.there
+      table = same_entries c ∙ left_found c.args.table.now.entries c.args.row.holder e (λ e. made_of c (record { holder = c.args.row.holder; entry = e })) c.requires.there
           (sym (made c) ∙ same-renumbered c.meet-before.result c.told_under-told.result (issued c.meet-due.result e) (sym told_same) ∙ (λ i. record e { held = held i }));
       known = (known c).0;
       permitted = (known c).1;
@@ -73,10 +92,12 @@ returns-then-eq-2 g =
 pub returns : goal.returns
 returns g =
     let c = (goal.at.returns g).After-meet-before in
+    let h : Holder = c.args.row.holder in
+    let numbered = λ (e : Entry). renumbered c.meet-before.result c.told_under-told.result (issued c.meet-due.result e) in
+    let anew = subst (KeptAnew c) (sym (ap (λ (t : KeptTable). t.kept) g.issue_numbered.ensures)) (known c) in
     record {
-      table = g.issue_numbered.ensures
-          ∙ same_found c.args.table.now c.args.row.holder c.args.row.entry (λ e. renumbered c.meet-before.result c.told_under-told.result (issued c.meet-due.result e))
-          (λ e. made_of c (record { holder = c.args.row.holder; entry = e })) c.requires.there (made c);
-      known = (known c).0;
-      permitted = (known c).1;
+      table = ap (λ (t : KeptTable). t.entries) g.issue_numbered.ensures ∙ ap (λ (t : Table). changed t h numbered) (same_entries c)
+          ∙ same_found c.args.table.now.entries h c.args.row.entry numbered (λ e. made_of c (record { holder = h; entry = e })) c.requires.there (made c);
+      known = anew.0;
+      permitted = anew.1;
     }

@@ -2,6 +2,7 @@ use Rattle.std.proofs.Common.{◌≡◌, ℕ, [], ◌∷◌, ◌++◌, Option, S
 use Rattle.capbits.proofs.Tests.{failing-front}
 use Rattle.inotree.specs.Tests.{inode_tests, root_test}
 use Rattle.caprules.specs.Lockmachine.declared.request.Operation.TheVariants.{Get, Rename}
+use Rattle.caprules.specs.Lockmachine.Scene.{plain}
 use Rattle.capacts.{proofs.Common.{Alter, first_failing, Nodes, Operation, operation_before, Refusal, Rmdir, Scene, Unlink}, specs.Operations.{operation_of}, specs.declared.operations.OperationRef.{OperationRef}}
 use Rattle.capacts.proofs.judge.before_refusal.Goals as goal
 
@@ -14,7 +15,7 @@ missing s ino Rmdir r is = failing-front (inode_tests s.tree ino) (root_test s.t
 missing s ino (Rename dir name) r is = failing-front (inode_tests s.tree ino) (root_test s.tree ino ∷ inode_tests s.tree dir.0) r is
 
 pub returns-in-Some : goal.returns-in-Some
-returns-in-Some c = sym (missing c.args.scene.now c.args.ino.0 (operation_of c.args.operation) c.in-Some.refusal (sym c.inode_refusal.ensures ∙ c.in-Some.is))
+returns-in-Some c = sym (missing (plain c.args.scene.now) c.args.ino.0 (operation_of c.args.operation) c.in-Some.refusal (sym c.inode_refusal.ensures ∙ c.in-Some.is))
 
 moved : (tree : Nodes) (ino dir : ℕ) (r : Option Refusal) → first_failing (inode_tests tree ino) ≡ None → first_failing (root_test tree ino ∷ []) ≡ None
     → r ≡ first_failing (inode_tests tree dir) → r ≡ first_failing (inode_tests tree ino ++ root_test tree ino ∷ inode_tests tree dir)
@@ -22,6 +23,6 @@ moved tree ino dir r here apart is = grind arith
 
 pub returns-in-None : goal.returns-in-None
 returns-in-None c =
-    let s : Scene = c.args.scene.now in
+    let s : Scene = plain c.args.scene.now in
     moved s.tree c.args.ino.0 c.in-Rename.dir.0 c.inode_refusal-in-None.result (sym c.inode_refusal.ensures ∙ c.in_default.is) (sym c.root_refusal-in-Rename.ensures ∙ c.in-None.is) c.inode_refusal-in-None.ensures
     ∙ ap (λ (operation : OperationRef). first_failing (operation_before s c.args.ino.0 (operation_of operation))) (sym c.in-Rename.is)

@@ -2,6 +2,7 @@ use Rattle.std.{proofs.Common.{◌≡◌, List, [], ◌∷◌, ◌++◌, Option,
 use Rattle.capgrant.specs.declared.access.Access.TheVariants.{Read, Write}
 use Rattle.inotree.specs.Tree.{parent}
 use Rattle.caprules.specs.Needs.{need_if}
+use Rattle.caprules.specs.Lockmachine.Scene.{plain}
 use Rattle.capacts.{proofs.Again.{denied-first}, proofs.Common.{Access, denial_of, Holder, Ino, Need, need, operation_needs, Rejection, rejection_of, Scene}, proofs.judge.operation_denial.Goals.{in-Get, in-Alter, in-Unlink, in-Rename}, specs.Operations.{operation_of}, specs.declared.operations.OperationRef.{OperationRef}}
 use Rattle.capacts.proofs.judge.operation_denial.Goals as goal
 
@@ -14,7 +15,7 @@ first s k operation i access rest r d needs denial is =
 
 pub returns-in-Some-denial : goal.returns-in-Some-denial
 returns-in-Some-denial c =
-    let s : Scene = c.args.scene.now in
+    let s : Scene = plain c.args.scene.now in
     let k : Holder = c.args.holder in
     let i : Ino = c.in-Some.ino in
     let access : Access = c.match-operation.at.1 in

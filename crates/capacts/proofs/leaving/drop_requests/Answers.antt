@@ -1,11 +1,11 @@
 use Rattle.std.proofs.{Common.{◌≡◌, ◌+◌, ◌≤◌, ◌++◌, List, filter, not, length, take, ap, ◌∙◌, arith, length-append}, lemmas.List.{take_all}}
-use Rattle.caprules.specs.Lockmachine.Locks.{LockMap}
+use Rattle.caprules.specs.Lockmachine.Counts.{CountedLocks}
 use Rattle.capacts.proofs.{Common.{is_of_client, Request}, Dropped.{dropped_among, dropped-count, dropped-few}}
 use Rattle.capacts.proofs.leaving.drop_requests.Goals as goal
 
 pub unreachable-requires : goal.unreachable-requires
 unreachable-requires c =
-    let queue : List Request = c.args.locks.now.queue in
+    let queue : List Request = c.args.locks.now.locks.queue in
     let all : length c.requests-request-items.result.now ≡ length queue = ap length c.requests-request-items.ensures.requests in
     let fits : c.loop-request.request-index ≤ length queue = omega (arith, all, c.loop-request-test.true) in
     let listed = ap length c.loop-request.invariant.listed ∙ length-append c.args.dropped.now.items (dropped_among c.args.client (take c.loop-request.request-index queue)) in
@@ -14,12 +14,12 @@ unreachable-requires c =
 
 pub returns-clause-room : goal.returns-clause-room
 returns-clause-room c =
-    let queue : List Request = c.args.locks.now.queue in
+    let queue : List Request = c.args.locks.now.locks.queue in
     let all : length c.requests-request-items.result.now ≡ length queue = ap length c.requests-request-items.ensures.requests in
     let whole : take c.loop-request.request-index queue ≡ queue = take_all c.loop-request.request-index queue (omega (arith, all, c.loop-request-test.false)) in
     let listed : length c.loop-request.dropped.items ≡ length c.args.dropped.now.items + length (dropped_among c.args.client queue) =
     ap length (c.loop-request.invariant.listed ∙ ap (λ (qs : List Request). c.args.dropped.now.items ++ dropped_among c.args.client qs) whole)
     ∙ length-append c.args.dropped.now.items (dropped_among c.args.client queue) in
-    let left : length c.drop_requests_of.new.self.queue ≡ length (filter (λ q. not (is_of_client c.args.client q)) queue) = ap (λ (l : LockMap). length l.queue) c.drop_requests_of.ensures in
+    let left : length c.drop_requests_of.new.self.locks.queue ≡ length (filter (λ q. not (is_of_client c.args.client q)) queue) = ap (λ (l : CountedLocks). length l.locks.queue) c.drop_requests_of.ensures in
     let count = dropped-count c.args.client queue in
     omega (arith, listed, left, count, c.loop-request.invariant.room, c.requires.room)

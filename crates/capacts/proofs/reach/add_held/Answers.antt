@@ -6,7 +6,7 @@ use Rattle.capacts.proofs.reach.add_held.Goals as goal
 
 pub loop-ino-preserved : goal.loop-ino-preserved
 loop-ino-preserved c =
-    let rows : List EntryRow = c.args.table.now.rows in
+    let rows : List EntryRow = c.args.table.now.entries.rows in
     let inos : List Ino = c.args.inos.now in
     let i : ℕ = c.loop-ino.ino-index in
     let ino : Ino = get_or inos i (record { 0 = 0 }) in

@@ -9,5 +9,5 @@ invariant-loop-ino l = record {
   items : l.changes.items ≡ l.fn.changes.items;
   places : l.fn.changes.room + set.len l.affected ≤ l.changes.room + set.len l.fn.affected;
   room : l.fn.changes.room ≤ l.changes.room;
-  covers : AllWithin (IsAdded l.table.rows l.affected) l.inos 0 l.ino-index;
+  covers : AllWithin (IsAdded l.table.entries.rows l.affected) l.inos 0 l.ino-index;
 }

@@ -1,25 +1,42 @@
-use Rattle.std.proofs.Common.{◌==◌, Some, ap, ◌∙◌}
-use Rattle.capacts.proofs.{Common.{Caps, Holder, permitted}, Renewed.{walked-begins, walked-room, walked-more, walked-ends}}
+use Rattle.std.{proofs.Common.{◌≡◌, ◌==◌, Bool, Option, Some, subst, ap, ◌∙◌}, proofs.lemmas.Bool.{eqb-true}}
+use Rattle.captable.specs.Calls.{newer_in}
+use Rattle.capacts.proofs.{Common.{Caps, Holder, holders_of_rows, permitted}, Renewed.{passing}, Walking.{Walking, walking-begins, walking-passes, walking-more, walking-smaller, walking-ends}, renewing.renew_client.Goals.{After-next_of-next}}
 use Rattle.capacts.proofs.renewing.renew_client.Goals as goal
 
-pub rows-init : goal.rows-init
-rows-init c =
-    walked-begins (λ k. k.client.0 == c.args.client.0) (permitted c.args.policy.now.fs.now c.args.policy.now.tree.now c.args.policy.now.sessions.now) c.args.table.now c.args.known.now.sets c.entries_of-walk.result c.entries_of-walk.ensures.rows
+pub holders-init : goal.holders-init
+holders-init c =
+    walking-begins (λ k. k.client.0 == c.args.client.0) (permitted c.args.policy.now.fs.now c.args.policy.now.tree.now c.args.policy.now.sessions.now) c.args.table.now c.first_of-next.result c.first_of-next.ensures.first
 
-pub permit-requires : goal.permit-requires
-permit-requires c =
-    let may : Holder → Caps = permitted c.args.policy.now.fs.now c.args.policy.now.tree.now c.args.policy.now.sessions.now in
-    record {
-      there =
-          walked-room (λ k. k.client.0 == c.args.client.0) may c.args.table.now c.args.known.now.sets c.rows.known.sets c.rows.walk c.next.new.self c.in-Some.row c.rows.invariant c.in-Some.ensures.some c.requires.room;
-    }
+-- whether it is the client's
+abbrev of : After-next_of-next → Holder → Bool
+of c k = k.client.0 == c.args.client.0
 
-pub rows-preserved : goal.rows-preserved
-rows-preserved c =
-    let may : Holder → Caps = permitted c.args.policy.now.fs.now c.args.policy.now.tree.now c.args.policy.now.sessions.now in
-    walked-more (λ k. k.client.0 == c.args.client.0) may c.args.table.now c.args.known.now.sets c.rows.known.sets c.rows.walk c.next.new.self c.in-Some.row c.rows.invariant c.in-Some.ensures.some
-    c.permit.new.self.sets (c.permit.ensures.own ∙ ap Some c.permitted-permitted.ensures) c.permit.ensures.others c.permit.ensures.told
+abbrev may : After-next_of-next → Holder → Caps
+may c = permitted c.args.policy.now.fs.now c.args.policy.now.tree.now c.args.policy.now.sessions.now
+
+here : (c : After-next_of-next) → Walking (of c) (may c) c.args.table.now c.holders.table (Some c.in-Some.own)
+here c = subst (λ (at : Option Holder). Walking (of c) (may c) c.args.table.now c.holders.table at) c.in-Some.is c.holders.invariant
+
+-- the next of its client is the next of the client
+next : (c : After-next_of-next) → c.next_of-next.result ≡ newer_in (holders_of_rows (passing (of c) c.keep_permitted.new.self.entries)) c.in-Some.own
+next c =
+    let own = c.in-Some.own in
+    let same_client : own.client.0 ≡ c.args.client.0 =
+    eqb-true own.client.0 c.args.client.0 (walking-passes (of c) (may c) c.args.table.now c.holders.table own (here c) c.first_of-next.ensures.sound c.first_of-next.ensures.beside) in
+    c.next_of-next.ensures.after ∙ ap (λ n. newer_in (holders_of_rows (passing (λ k. k.client.0 == n) c.keep_permitted.new.self.entries)) own) same_client
+
+pub holders-preserved : goal.holders-preserved
+holders-preserved c =
+    walking-more (of c) (may c) c.args.table.now c.holders.table c.in-Some.own (here c) c.first_of-next.ensures.sound c.first_of-next.ensures.beside
+    c.permitted-permitted.result c.keep_permitted.new.self c.keep_permitted.ensures c.permitted-permitted.ensures c.next_of-next.result (next c)
+
+pub holders-smaller : goal.holders-smaller
+holders-smaller c =
+    rw c.in-Some.is (walking-smaller (of c) (may c) c.args.table.now c.holders.table c.in-Some.own (here c) c.first_of-next.ensures.sound c.first_of-next.ensures.beside
+    c.permitted-permitted.result c.keep_permitted.new.self c.keep_permitted.ensures c.next_of-next.result (next c))
 
 pub returns : goal.returns
-returns c =
-    walked-ends (λ k. k.client.0 == c.args.client.0) (permitted c.args.policy.now.fs.now c.args.policy.now.tree.now c.args.policy.now.sessions.now) c.args.table.now c.args.known.now.sets c.rows.known.sets c.rows.walk c.rows.invariant c.in_default.ensures.none.0
+returns c = record {
+  renews = walking-ends (λ k. k.client.0 == c.args.client.0) (permitted c.args.policy.now.fs.now c.args.policy.now.tree.now c.args.policy.now.sessions.now) c.args.table.now c.holders.table c.holders.next c.holders.invariant c.in_default.is;
+  entries = c.holders.invariant.entries;
+}

@@ -1,37 +1,56 @@
-use Rattle.std.{proofs.Common.{◌≡◌, ◌==◌, Some, sym, ap, ◌∙◌}, proofs.lemmas.Bool.{eqb-true}, specs.Option.{option_copied}}
+use Rattle.std.{proofs.Common.{◌≡◌, ◌==◌, Bool, Option, Some, sym, subst, ap, ◌∙◌}, proofs.lemmas.Bool.{eqb-true}, specs.Option.{option_copied}}
 use Rattle.std.specs.FinMap as map
 use Rattle.inotree.{proofs.Lent.{lent-where}, specs.Tree.{path_of}}
+use Rattle.captable.specs.Calls.{newer_in}
 use Rattle.caprules.specs.Lockmachine.Policy.{permitted_to, subject_of}
-use Rattle.capacts.proofs.{Common.{Caps, Holder, permitted}, Renewed.{walked-begins, walked-passes, walked-room, walked-more, walked-ends}}
+use Rattle.capacts.proofs.{Common.{Caps, Holder, holders_of_rows, permitted}, Renewed.{passing}, Walking.{Walking, walking-begins, walking-passes, walking-more, walking-smaller, walking-ends}, renewing.renew_held.Goals.{After-next_on-next}}
 use Rattle.capacts.proofs.renewing.renew_held.Goals as goal
 
-pub rows-init : goal.rows-init
-rows-init c =
-    walked-begins (λ k. k.ino.0 == c.args.ino.0) (permitted c.args.policy.now.fs.now c.args.policy.now.tree.now c.args.policy.now.sessions.now) c.args.table.now c.args.known.now.sets c.holders_of-walk.result c.holders_of-walk.ensures.rows
+pub holders-init : goal.holders-init
+holders-init c =
+    walking-begins (λ k. k.ino.0 == c.args.ino.0) (permitted c.args.policy.now.fs.now c.args.policy.now.tree.now c.args.policy.now.sessions.now) c.args.table.now c.first_on-next.result c.first_on-next.ensures.first
 
-pub permit-requires : goal.permit-requires
-permit-requires c =
-    let may : Holder → Caps = permitted c.args.policy.now.fs.now c.args.policy.now.tree.now c.args.policy.now.sessions.now in
-    record {
-      there = walked-room (λ k. k.ino.0 == c.args.ino.0) may c.args.table.now c.args.known.now.sets c.rows.known.sets c.rows.walk c.next.new.self c.in-Some.row c.rows.invariant c.in-Some.ensures.some c.requires.room;
-    }
+-- whether it is on the inode
+abbrev on : After-next_on-next → Holder → Bool
+on c k = k.ino.0 == c.args.ino.0
 
-pub rows-preserved : goal.rows-preserved
-rows-preserved c =
-    let may : Holder → Caps = permitted c.args.policy.now.fs.now c.args.policy.now.tree.now c.args.policy.now.sessions.now in
-    let row = c.in-Some.row in
-    let here : row.holder.ino.0 ≡ c.args.ino.0 =
-    eqb-true row.holder.ino.0 c.args.ino.0
-    (walked-passes (λ k. k.ino.0 == c.args.ino.0) may c.args.table.now c.args.known.now.sets c.rows.known.sets c.rows.walk c.next.new.self row c.rows.invariant c.in-Some.ensures.some) in
+abbrev may : After-next_on-next → Holder → Caps
+may c = permitted c.args.policy.now.fs.now c.args.policy.now.tree.now c.args.policy.now.sessions.now
+
+here : (c : After-next_on-next) → Walking (on c) (may c) c.args.table.now c.holders.table (Some c.in-Some.own)
+here c = subst (λ (at : Option Holder). Walking (on c) (may c) c.args.table.now c.holders.table at) c.in-Some.is c.holders.invariant
+
+same_ino : (c : After-next_on-next) → c.in-Some.own.ino.0 ≡ c.args.ino.0
+same_ino c =
+    eqb-true c.in-Some.own.ino.0 c.args.ino.0 (walking-passes (on c) (may c) c.args.table.now c.holders.table c.in-Some.own (here c) c.first_on-next.ensures.sound c.first_on-next.ensures.beside)
+
+-- by the path that was looked up once
+permitted_here : (c : After-next_on-next) → c.permitted_on-permitted.result ≡ may c c.in-Some.own
+permitted_here c =
+    let own = c.in-Some.own in
     let path : option_copied c.then_some-path.result ≡ path_of c.args.policy.now.tree.now.nodes c.args.ino.0 = ap option_copied c.then_some-path.ensures ∙ lent-where c.read_path.result _ ∙ sym c.read_path.ensures in
-    let session = map.get c.args.policy.now.sessions.now.sessions row.holder.client.0 in
+    let session = map.get c.args.policy.now.sessions.now.sessions own.client.0 in
     let nodes = c.args.policy.now.tree.now.nodes in
-    walked-more (λ k. k.ino.0 == c.args.ino.0) may c.args.table.now c.args.known.now.sets c.rows.known.sets c.rows.walk c.next.new.self row c.rows.invariant c.in-Some.ensures.some c.permit.new.self.sets
-    (c.permit.ensures.own ∙ ap Some (c.permitted_on-permitted.ensures
+    c.permitted_on-permitted.ensures
     ∙ (λ i. permitted_to c.args.policy.now.fs.now (subject_of session (path i) (c.node-node.ensures.node i)))
-    ∙ ap (λ n. permitted_to c.args.policy.now.fs.now (subject_of session (path_of nodes n) (map.get nodes n))) (sym here)))
-    c.permit.ensures.others c.permit.ensures.told
+    ∙ ap (λ n. permitted_to c.args.policy.now.fs.now (subject_of session (path_of nodes n) (map.get nodes n))) (sym (same_ino c))
+
+-- the next on its inode is the next on the inode
+next : (c : After-next_on-next) → c.next_on-next.result ≡ newer_in (holders_of_rows (passing (on c) c.keep_permitted.new.self.entries)) c.in-Some.own
+next c = c.next_on-next.ensures.after ∙ ap (λ n. newer_in (holders_of_rows (passing (λ k. k.ino.0 == n) c.keep_permitted.new.self.entries)) c.in-Some.own) (same_ino c)
+
+pub holders-preserved : goal.holders-preserved
+holders-preserved c =
+    walking-more (on c) (may c) c.args.table.now c.holders.table c.in-Some.own (here c) c.first_on-next.ensures.sound c.first_on-next.ensures.beside
+    c.permitted_on-permitted.result c.keep_permitted.new.self c.keep_permitted.ensures (permitted_here c) c.next_on-next.result (next c)
+
+pub holders-smaller : goal.holders-smaller
+holders-smaller c =
+    rw c.in-Some.is (walking-smaller (on c) (may c) c.args.table.now c.holders.table c.in-Some.own (here c) c.first_on-next.ensures.sound c.first_on-next.ensures.beside
+    c.permitted_on-permitted.result c.keep_permitted.new.self c.keep_permitted.ensures c.next_on-next.result (next c))
 
 pub returns : goal.returns
-returns c =
-    walked-ends (λ k. k.ino.0 == c.args.ino.0) (permitted c.args.policy.now.fs.now c.args.policy.now.tree.now c.args.policy.now.sessions.now) c.args.table.now c.args.known.now.sets c.rows.known.sets c.rows.walk c.rows.invariant c.in_default.ensures.none.0
+returns c = record {
+  renews = walking-ends (λ k. k.ino.0 == c.args.ino.0) (permitted c.args.policy.now.fs.now c.args.policy.now.tree.now c.args.policy.now.sessions.now) c.args.table.now c.holders.table c.holders.next c.holders.invariant c.in_default.is;
+  entries = c.holders.invariant.entries;
+}

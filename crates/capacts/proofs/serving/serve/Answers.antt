@@ -1,5 +1,5 @@
 use Rattle.std.proofs.Common.{◌≡◌, Option, None, refl, sym, ap, ◌∙◌}
-use Rattle.caprules.specs.Lockmachine.Scene.{scene}
+use Rattle.caprules.specs.Lockmachine.Scene.{plain, scene}
 use Rattle.capacts.proofs.{Again.{calls-passed, ends-rejection, ends-passed, ends-without_memory, tree-passed}, Common.{judged_again, Operation, operation_after, operation_before, operation_needs, Outcome, Rejection, rejection_of, Request, Scene, tree_after}, Memory.{rename-takes}, serving.serve.Goals.{After-carry_out-arg-2-1, then-not-judged+in_default, else-not-judged}}
 use Rattle.capacts.proofs.serving.serve.Goals as goal
 
@@ -9,20 +9,20 @@ again : (s : Scene) (q : Request) (operation : Operation) (r : Option Rejection)
 again s q operation r lent is = is ∙ ap (λ (a : Operation). rejection_of s (operation_before s q.ino.0 a) (operation_needs s q.client q.ino.0 a) (operation_after s q.ino.0 a)) lent
 
 -- nothing rejects it
-free : (c : After-carry_out-arg-2-1) → judged_again c.args.scene.now c.args.request.now ≡ None
+free : (c : After-carry_out-arg-2-1) → judged_again (plain c.args.scene.now) c.args.request.now ≡ None
 free c = elim c.if-not-judged.branch [
-  | then-not-judged+in_default w ↦ sym (again c.args.scene.now c.args.request.now _ _ w.operation_ref-operation.ensures w.operation_rejection.ensures) ∙ w.in_default.is
+  | then-not-judged+in_default w ↦ sym (again (plain c.args.scene.now) c.args.request.now _ _ w.operation_ref-operation.ensures w.operation_rejection.ensures) ∙ w.in_default.is
   | else-not-judged w ↦ c.requires.judged w.if-not-judged.false
 ]
 
 pub returns-in-Some-clause-ends : goal.returns-in-Some-clause-ends
 returns-in-Some-clause-ends c = λ table locks.
     ends-rejection (scene c.args.scene.now.fs c.args.scene.now.tree c.args.scene.now.sessions table locks) c.args.request.now c.in-Some.rejection c.rejected.result.outcome
-    (sym (again c.args.scene.now c.args.request.now _ _ c.operation_ref-operation.ensures c.operation_rejection.ensures) ∙ c.in-Some.is) c.rejected.ensures.outcome
+    (sym (again (plain c.args.scene.now) c.args.request.now _ _ c.operation_ref-operation.ensures c.operation_rejection.ensures) ∙ c.in-Some.is) c.rejected.ensures.outcome
 
 pub carry_out-requires : goal.carry_out-requires
 carry_out-requires c =
-    record { passed = calls-passed c.args.scene.now c.args.request.now (free c) }
+    record { passed = calls-passed (plain c.args.scene.now) c.args.request.now (free c) }
 
 pub returns-in-Ok-clause-ends : goal.returns-in-Ok-clause-ends
 returns-in-Ok-clause-ends c = λ table locks.
@@ -31,14 +31,14 @@ returns-in-Ok-clause-ends c = λ table locks.
 
 pub returns-in-Ok-clause-tree : goal.returns-in-Ok-clause-tree
 returns-in-Ok-clause-tree c =
-    let s : Scene = c.args.scene.now in
+    let s : Scene = plain c.args.scene.now in
     c.in-Ok.ensures.tree ∙ tree-passed s c.args.request.now ∙ ap (tree_after s.tree c.args.request.now) (sym (c.in-Ok.ensures.outcome s refl))
 
 pub returns-then-not-room-clause-ends : goal.returns-then-not-room-clause-ends
 returns-then-not-room-clause-ends c = λ table locks.
     ends-without_memory (scene c.args.scene.now.fs c.args.scene.now.tree c.args.scene.now.sessions table locks) c.args.request.now Outcome.OutOfMemory
     (elim c.if-not-judged.branch [
-      | then-not-judged+in_default w ↦ sym (again c.args.scene.now c.args.request.now _ _ w.operation_ref-operation.ensures w.operation_rejection.ensures) ∙ w.in_default.is
+      | then-not-judged+in_default w ↦ sym (again (plain c.args.scene.now) c.args.request.now _ _ w.operation_ref-operation.ensures w.operation_rejection.ensures) ∙ w.in_default.is
       | else-not-judged w ↦ c.requires.judged w.if-not-judged.false
     ]) (rename-takes c.args.request.now.operation (c.requires.room search)) refl
 
