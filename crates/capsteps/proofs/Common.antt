@@ -1,7 +1,7 @@
 -- The names that proofs of this crate cite of the crates below, passed on from one place. Declares nothing.
 pub use Rattle.capbits.specs.{Caps.{Caps}, Refusal.{Test, first_failing}, Sets.{IsSubset, and_parts, caps_in, has-caps_in, has-meet, has-minus, has-none, has-of_part, has-union, is_empty, meet, minus, of_part, same_caps, union}, declared.cap.Cap.{Cap}, declared.cap.Cap.TheVariants.{Fc, P}, declared.cap.Part.{Part}, declared.cap.Part.TheVariants.{A, X}, declared.ids.ClientId.{ClientId}, declared.ids.Ino.{Ino}, declared.ids.Ticket.{Ticket}}
 pub use Rattle.inotree.{proofs.OneInode.{exist-changed}, specs.Alike.{IsAlike}, specs.InoSets.{InoSet, IsListOf, IsNext}, specs.Tests.{is_gone}, specs.Tree.{IsTree, Nodes, is_within, presence}, specs.declared.node.Node.{Node}, specs.declared.node.Presence.TheVariants.{Gone}}
-pub use Rattle.captable.{proofs.ByHolder.{entry_at-opened, entry_at-opened_other, entry_at-without, row_found, row_of-entry}, proofs.Changes.{no_entry, none_found, same_found}, proofs.OneByOne.{fold-changed_by, fold-on_inode, same_holder}, proofs.Searches.{filter-map, find-map, find_passes}, proofs.Tables.{same-is, same_equiv}, specs.Calls.{acked, change_rows, changed, entries_on, is_due, is_of_client, is_of_inode, new_entry, opened, renumbered, touched, wanting, with_asked, with_entry, with_size_due, with_told, without, without_acked, without_released}, specs.Kept.{KeptTable}, specs.Many.{changed_by, changed_where, remade}, specs.Table.{IsTable, Table, entry_at, entry_of, holder, holders_of_rows, is_among, is_row_of, same}, specs.declared.entry.Entry.{Entry}, specs.declared.entry.EntryRow.{EntryRow}, specs.declared.entry.Holder.{Holder}, specs.declared.entry.Sets.{Sets}}
+pub use Rattle.captable.{proofs.ByHolder.{entry_at-opened, entry_at-opened_other, entry_at-without, row_found, row_of-entry}, proofs.Changes.{no_entry, none_found, same_found}, proofs.OneByOne.{fold-changed_by, fold-on_inode, same_holder}, proofs.Searches.{filter-map, find-map, find_passes}, proofs.Tables.{same-is, same_equiv}, specs.Calls.{acked, change_rows, changed, entries_on, is_due, is_of_client, is_of_inode, new_entry, opened, released, renumbered, touched, wanting, with_asked, with_entry, with_size_due, with_told, without, without_acked, without_released}, specs.Kept.{KeptTable}, specs.Many.{changed_by, changed_where, remade}, specs.Table.{IsTable, Table, entry_at, entry_of, holder, holders_of_rows, is_among, is_row_of, same}, specs.declared.entry.Entry.{Entry}, specs.declared.entry.EntryRow.{EntryRow}, specs.declared.entry.Holder.{Holder}, specs.declared.entry.Sets.{Sets}}
 pub use Rattle.locktable.specs.{Rows.{row_of}, declared.states.LockState.{LockState}, declared.states.LockState.TheVariants.{Gather, Stable}, declared.states.StableState.{StableState}, declared.states.StableState.TheVariants.{Sync}}
 pub use Rattle.sessiontab.specs.{Calls.{has_session}, Table.{SessionTable}}
 pub use Rattle.capacts.{proofs.Held.{or_inside}, proofs.KeptSets.{found-stays, kept-as, kept-nobody, kept-none, kept-not, kept-same, kept-then, told-or, was-there}, proofs.Renewed.{found-contains}, proofs.Walked.{second_true}, specs.Finishing.{clients_of, entry_by, entry_under, numbered_as, told_at, told_by}, specs.Known.{AreKnown, KnownAnew, KnownSets, OthersHaveAll, StillKnown, is_still_known, known_anew, known_in, known_of, permitted_of, sets_of}, specs.Reach.{AreWalked, Covers, Reaches, Widens}, specs.Served.{is_rename}}

@@ -1,10 +1,11 @@
 -- What changes of the entries leave of the counts of gathers.
-use Rattle.std.{proofs.Common.{◌≡◌, ◌≢◌, ℕ, ◌+◌, ◌-◌, Bool, true, false, not, cond, ◌&&◌, ◌==◌, Option, Some, None, List, [], ◌∷◌, refl, sym, ap, subst, ◌∙◌, arith, map as each, filter, length, true≢false}, specs.Cmp.{nat_eq_equiv}, specs.List.{find, IsDistinct}, specs.Option.{option_map, option_map_or}}
+use Rattle.std.{proofs.Common.{◌≡◌, ◌≢◌, ℕ, ◌+◌, ◌-◌, Bool, true, false, not, cond, ◌&&◌, ◌==◌, Option, Some, None, List, [], ◌∷◌, refl, sym, ap, subst, ◌∙◌, arith, map as each, filter, is_some, length, true≢false}, proofs.lemmas.Bool.{eqb-true, eqb-false}, specs.Cmp.{nat_eq_equiv}, specs.List.{find, IsDistinct}, specs.Option.{option_map, option_map_or}}
 use Rattle.std.specs.FinMap as map
 use Rattle.capbits.{proofs.Emptiness.{has-is_empty, is_empty-no_caps}, specs.Caps.{has}, specs.Sets.{no_caps}, specs.declared.cap.Part.TheVariants.{A, L, X, F}}
 use Rattle.captable.{proofs.ByInode.{entries_on-changed, entries_on-without}, proofs.Counting.{bit, with_change}, proofs.Tally.{passes_found, tally, tally-changed, tally-first, tally-more, tally-without}}
-use Rattle.capacts.specs.Lockmachine.{Counts.{AreCounted, CountedLocks, IsCounted, count_of, given_up, has_outside, holders_outside}, Inodes.{is_gathering, lock_in}, Moves.{LockId}}
-use Rattle.capsteps.proofs.Common.{Caps, changed, Entry, entry_at, EntryRow, Gather, has-minus, has-none, has-of_part, Holder, holders_of_rows, Ino, InodeLocks, is_empty, is_of_inode, is_row_of, IsSubset, lock_at, LockMap, LockState, minus, new_entry, no_entry, none_found, of_part, opened, outside, Part, row_of, row_of-entry, same, same_caps, Stable, StableState, Table, without}
+use Rattle.capacts.proofs.GivenUp.{nothing_outside}
+use Rattle.capacts.specs.Lockmachine.{Counts.{AreCounted, AreCountedAt, CountedLocks, IsCounted, count_at, count_of, given_up, has_outside, holders_outside}, Inodes.{CountMap, is_gathering, lock_in}, Moves.{LockId}, Runs.{ChangesLocksOf}}
+use Rattle.capsteps.proofs.Common.{Cap, Caps, changed, Entry, entry_at, EntryRow, Gather, has-minus, has-none, has-of_part, Holder, holders_of_rows, Ino, InodeLocks, is_empty, is_of_inode, is_row_of, IsSubset, lock_at, LockMap, LockState, minus, new_entry, no_entry, none_found, of_part, opened, outside, P, Part, row_of, row_of-entry, same, same_caps, Stable, StableState, Table, with_entry, without}
 
 -- ---- the rows that count
 
@@ -43,6 +44,16 @@ counted-as l old new same_holders are ino part = by_lock (lock_at l.locks ino pa
     by_lock (Some (Stable state)) is right = tt
     by_lock (Some (Gather from to)) is right = right ∙ sym (same_holders ino part from to is)
 
+-- and where the locks of one inode changed, and those of the others with all counts are as they were
+pub counted-at : (table : Table) (old new : CountedLocks) (at : ℕ) → new.counts ≡ old.counts → ChangesLocksOf at old.locks new.locks → AreCountedAt table new at → AreCounted table old → AreCounted table new
+counted-at table old new at counts changes here are ino = by_place (ino == at) refl
+  where
+    by_place : (b : Bool) → (ino == at) ≡ b → AreCountedAt table new ino
+    by_place true on part = subst (AreCountedAt table new) (sym (eqb-true ino at on)) here part
+    by_place false off part =
+        subst (λ (m : CountMap). IsCounted table (ino, part) (count_at m ino part) (lock_at new.locks ino part)) (sym counts)
+        (subst (IsCounted table (ino, part) (count_of old (ino, part))) (sym (changes.others ino part (eqb-false ino at off))) (are ino part))
+
 -- rows that are each made anew, of which as many pass
 tally-each : (p : EntryRow → Bool) (f : EntryRow → EntryRow) → ((row : EntryRow) → p (f row) ≡ p row) → (rows : List EntryRow) → tally p (each f rows) ≡ tally p rows
 tally-each p f same_tests [] = refl
@@ -57,20 +68,17 @@ counted-rows l t f same_holder same_outside =
     outside-tally (record t { rows = each f t.rows }) ino part to ∙ tally-each (is_against ino part to) f (against ino part from to gathers) t.rows ∙ sym (outside-tally t ino part to))
   where
     against : (ino : ℕ) (part : Part) (from to : StableState) → lock_at l.locks ino part ≡ Some (Gather from to) → (row : EntryRow) → is_against ino part to (f row) ≡ is_against ino part to row
-    against ino part from to gathers row = grind (arith, same_holder, same_outside)
+    against ino part from to gathers row = ap (λ (h : Holder). (h.ino.0 == ino) && has_outside part to (f row)) (same_holder row) ∙ by_inode (row.holder.ino.0 == ino) refl
+      where
+        by_inode : (b : Bool) → (row.holder.ino.0 == ino) ≡ b → (b && has_outside part to (f row)) ≡ (b && has_outside part to row)
+        by_inode true here = same_outside row part from to (ap (λ n. lock_at l.locks n part) (eqb-true row.holder.ino.0 ino here) ∙ gathers)
+        by_inode false off = refl
 
 -- what is outside depends on the holder and on what is held
 outside-held : (part : Part) (to : StableState) (k : Holder) (e f : Entry) → f.held ≡ e.held → has_outside part to (record { holder = k; entry = f }) ≡ has_outside part to (record { holder = k; entry = e })
 outside-held part to k e f held = ap (λ (caps : Caps). not (is_empty (minus (of_part part caps) (row_of part to k.client)))) held
 
 -- ---- a new entry
-
-nothing-outside : (part : Part) (to : StableState) (k : Holder) → has_outside part to (record { holder = k; entry = new_entry }) ≡ false
-nothing-outside part to k = ap (λ (caps : Caps). not (is_empty caps)) (same_caps (outside part to (record { holder = k; entry = new_entry })) no_caps (λ c. simp (has-minus, has-of_part, has-none))) ∙ none
-  where
-    none : not (is_empty no_caps) ≡ false
-    unfolding is_empty no_caps
-    none = refl
 
 pub counted-opened : (l : CountedLocks) (t : Table) (k : Holder) → AreCounted t l → AreCounted (opened t k) l
 counted-opened l t k =
@@ -80,9 +88,22 @@ counted-opened l t k =
     omega (arith, outside-tally (opened t k) ino part to, outside-tally t ino part to, tally-more p t.rows new, ap bit (passes ino part to)))
   where
     passes : (ino : ℕ) (part : Part) (to : StableState) → is_against ino part to (record { holder = k; entry = new_entry }) ≡ false
-    passes ino part to = grind (arith, nothing-outside)
+    passes ino part to = ap (λ b. is_of_inode (on_number ino) (record { holder = k; entry = new_entry }) && b) (nothing_outside part to (record { holder = k; entry = new_entry }) refl) ∙ never (k.ino.0 == ino)
+      where
+        never : (b : Bool) → (b && false) ≡ false
+        never true = refl
+        never false = refl
+
+-- the holder has one, an old one or a new
+pub counted-entry : (l : CountedLocks) (t : Table) (k : Holder) → AreCounted t l → AreCounted (with_entry t k) l
+counted-entry l t k are = elim (is_some (entry_at t k)) as (λ b. AreCounted (cond b t (opened t k)) l) [ true ↦ are | false ↦ counted-opened l t k are ]
 
 -- ---- what a client gives up
+
+-- what is left of an entry whose client gives these up: with the pin it goes
+pub counted-less : (t : Table) (k : Holder) (caps : Caps) (g : Entry → Entry) (new : CountedLocks) → (has caps P ≡ false → AreCounted (changed t k g) new) → (has caps P ≡ true → AreCounted (without t k) new)
+    → AreCounted (cond (has caps P) (without t k) (changed t k g)) new
+counted-less t k caps g new rest gone = elim (has caps P) as (λ b. has caps P ≡ b → AreCounted (cond b (without t k) (changed t k g)) new) [ true ↦ gone | false ↦ rest ] refl
 
 -- one row goes from among those that count, or stays, as it has something outside before and after
 less_by : (now was : ℕ) (on before after : Bool) → now + bit (on && before) ≡ was + bit (on && after) → (after ≡ true → before ≡ true) → now + bit (on && (before && not after)) ≡ was
@@ -101,7 +122,7 @@ less-outside part to k e f less is = by_test (is_empty (outside part to (record 
 
     by_test : (b : Bool) → is_empty (outside part to (record { holder = k; entry = e })) ≡ b → not b ≡ true
     by_test false found = refl
-    by_test true found = sym (ap not (is_empty-no_caps (outside part to (record { holder = k; entry = f })).1 (same_caps (outside part to (record { holder = k; entry = f })) no_caps (nothing found)))) ∙ is
+    by_test true found = sym (ap not ((is_empty-no_caps (outside part to (record { holder = k; entry = f }))).1 (same_caps (outside part to (record { holder = k; entry = f })) no_caps (nothing found)))) ∙ is
 
 -- no lock of the holder's inode is in a gather
 module _ (l : CountedLocks) (t : Table) (k : Holder) (idle : option_map_or is_gathering (map.get l.locks.states k.ino.0) false ≡ false) where
@@ -180,7 +201,7 @@ module _ (old new : CountedLocks) (t : Table) (k : Holder) (e : Entry) (left : C
   less-without none once = less (without t k) fewer
     where
       nothing : (part : Part) (to : StableState) → has_outside part to reduced ≡ false
-      nothing part to = ap (λ (caps : Caps). not (is_empty (minus (of_part part caps) (row_of part to k.client)))) none ∙ nothing-outside part to k
+      nothing part to = nothing_outside part to reduced none
 
       fewer : (ino : ℕ) (part : Part) (to : StableState) → tally (is_against ino part to) (without t k).rows + bit (goes ino part to) ≡ tally (is_against ino part to) t.rows
       fewer ino part to = less_by (tally (is_against ino part to) (without t k).rows) (tally (is_against ino part to) t.rows) (k.ino.0 == ino) (has_outside part to own) (has_outside part to reduced)
@@ -198,7 +219,7 @@ module _ (l : CountedLocks) (t : Table) (k : Holder) (none : entry_at t k ≡ No
   not_found = no_entry (find (is_row_of k) t.rows) none
 
   pub none-changed : (f : Entry → Entry) → AreCounted t l → AreCounted (changed t k f) l
-  none-changed f = subst (λ (u : Table). AreCounted u l) (sym (none_found t k f none))
+  none-changed f = subst (λ (u : Table). AreCounted u l) (none_found t k f none)
 
   pub none-without : IsDistinct same (holders_of_rows t.rows) → AreCounted t l → AreCounted (without t k) l
   none-without once = counted-as l t (without t k) (λ ino part from to gathers.

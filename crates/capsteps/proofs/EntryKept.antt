@@ -1,7 +1,9 @@
 -- What an event about one entry leaves of each entry, and of what is kept of it.
-use Rattle.std.{proofs.Common.{◌≡◌, ◌≢◌, ◌⊎◌, inl, inr, Bool, true, false, cond, Some, None, is_some, [], ◌∷◌, refl, sym, ap, ◌∙◌, arith}, proofs.lemmas.List.Elements.{All-contains}, specs.List.{find}, specs.Option.{option_map}}
+use Rattle.std.{proofs.Common.{◌≡◌, ◌≢◌, ◌⊎◌, inl, inr, Bool, true, false, not, cond, Some, None, Option, is_some, [], ◌∷◌, refl, sym, ap, ◌∙◌, arith}, proofs.lemmas.List.Elements.{All-contains}, proofs.lemmas.List.Folds.{find-append}, specs.List.{find}, specs.Option.{option_map, option_or}}
 use Rattle.capbits.specs.{Caps.{has}, Sets.{no_caps}}
-use Rattle.capsteps.{proofs.Common.{AreKnown, ArePermitted, caps_in, changed, Entry, entry_at, entry_at-opened, entry_at-opened_other, entry_at-without, entry_of, has-caps_in, has-minus, has-none, has-union, Holder, is_row_of, is_still_known, IsSound, IsSoundEntry, IsSubset, known_of, KnownSets, new_entry, opened, opening_wants, OpenMode, OthersHaveAll, P, permitted, permitted_of, revoked_of, row_of-entry, same, same-is, same_equiv, Scene, Sets, sets_of, State, StillKnown, Table, union, wanting, without, without_acked, without_released}, proofs.Knowing.{held_at, HoldAlike, still-known}, proofs.LeftAlone.{found-contains}, proofs.Revoking.{pin-goes}, proofs.ShownSteps.{IsOf, apart-of, changed-as}, specs.EntryRequest.{table_after, StillKept}, specs.declared.entry_request.EntryRequest.{EntryRequest}, specs.declared.entry_request.EntryRequest.TheVariants.{Open, Want, Ack, Release}}
+use Rattle.captable.{proofs.Searches.{find-filter_kept}, specs.Kept.{is_kept_of, keeping, kept_more, kept_without, KeptRow, no_sets, permitting}}
+use Rattle.capacts.proofs.Beside.{keeping-other, keeping-own}
+use Rattle.capsteps.{proofs.Common.{AreKnown, ArePermitted, Caps, caps_in, changed, Entry, entry_at, entry_at-opened, entry_at-opened_other, entry_at-without, entry_of, has-caps_in, has-minus, has-none, has-union, Holder, is_row_of, is_still_known, IsSound, IsSoundEntry, IsSubset, known_of, KnownSets, new_entry, opened, opening_wants, OpenMode, OthersHaveAll, P, permitted, permitted_of, revoked_of, row_of-entry, same, same-is, same_equiv, Scene, Sets, sets_of, State, StillKnown, Table, union, wanting, without, without_acked, without_released}, proofs.Knowing.{held_at, HoldAlike, still-known}, proofs.LeftAlone.{found-contains}, proofs.Revoking.{pin-goes}, proofs.ShownSteps.{IsOf, apart-of, changed-as}, specs.EntryRequest.{table_after, StillKept}, specs.declared.entry_request.EntryRequest.{EntryRequest}, specs.declared.entry_request.EntryRequest.TheVariants.{Open, Want, Ack, Release}}
 
 -- ---- what is kept of each
 
@@ -19,6 +21,24 @@ kept-changed s mid new was now last k gone g kept is same_kept = record {
 -- where nothing changes, all is
 pub kept-itself : (s : Scene) (sets : KnownSets) → StillKept s s.table sets sets
 kept-itself s sets = grind arith
+
+-- what is kept of others, where the sets of a holder go
+without-other : (kept : KnownSets) (k j : Holder) → same k j ≡ false → sets_of (kept_without kept k) j ≡ sets_of kept j
+without-other kept k j apart =
+    ap (option_map (λ (row : KeptRow). row.sets))
+    (find-filter_kept (is_kept_of j) (λ row. not (is_kept_of k row)) (λ row is. ap not (ap (same k) (sym (same-is j row.holder is)) ∙ apart)) kept)
+
+-- where one entry changes, or goes with what is kept of it, all is kept of those that are left
+pub kept-less : (s : Scene) (sets : KnownSets) (k : Holder) (gone : Bool) (g : Entry → Entry) → StillKept s (cond gone (without s.table k) (changed s.table k g)) sets (cond gone (kept_without sets k) sets)
+kept-less s sets k gone g = kept-changed s s.table (cond gone (without s.table k) (changed s.table k g)) sets sets (cond gone (kept_without sets k) sets) k gone g (kept-itself s sets) refl (by_gone gone)
+  where
+    other : (j : Holder) (e : Entry) → entry_at (without s.table k) j ≡ Some e → (b : Bool) → same k j ≡ b → same k j ≡ false
+    other j e here false is = is
+    other j e here true is = let none = ap (entry_at (without s.table k)) (sym (same-is k j is)) ∙ entry_at-without s.table k in absurd (cc)
+
+    by_gone : (b : Bool) (j : Holder) (e : Entry) → entry_at (cond b (without s.table k) (changed s.table k g)) j ≡ Some e → sets_of (cond b (kept_without sets k) sets) j ≡ sets_of sets j
+    by_gone true j e here = without-other sets k j (other j e here (same k j) refl)
+    by_gone false j e here = refl
 
 module _ (s : Scene) (h : Holder) (was now : KnownSets) (none : entry_at s.table h ≡ None) (others : (k : Holder) → k ≢ h → sets_of now k ≡ sets_of was k) where
   other : (k : Holder) (e : Entry) → entry_at s.table k ≡ Some e → sets_of now k ≡ sets_of was k
@@ -42,6 +62,37 @@ module _ (s : Scene) (h : Holder) (was now : KnownSets) (none : entry_at s.table
           → is_still_known (entry_at s.table k) (known_of was k) (known_of now k) × (ArePermitted was s.fs s.tree s.sessions s.table → permitted_of now k ≡ Some (permitted s.fs s.tree s.sessions k))
       each k e here true on = rw (same-is k h on) (own-kept own, λ all. own)
       each k e here false off = let there = sym (entry_at-opened_other s.table h k (apart-of k h off)) ∙ here in (kept-but.known k e there, λ all. kept-but.permitted all k e there)
+
+-- of a new entry it is kept what its client is permitted
+module _ (s : Scene) (h : Holder) (sets : KnownSets) (may : Caps) where
+  abbrev new_row : KeptRow
+  new_row = record { holder = h; sets = no_sets }
+
+  opened-others : (k : Holder) → k ≢ h → sets_of (keeping (kept_more sets h) h (permitting may)) k ≡ sets_of sets k
+  opened-others k apart =
+      keeping-other (kept_more sets h) h (permitting may) k (off (same h k) refl)
+      ∙ ap (option_map (λ (row : KeptRow). row.sets)) (find-append (is_kept_of k) sets (new_row ∷ []) ∙ ap (λ b. option_or (find (is_kept_of k) sets) (cond b (Some new_row) None)) (same_equiv.symm k h ∙ off (same h k) refl) ∙ nothing_more (find (is_kept_of k) sets))
+    where
+      off : (b : Bool) → same h k ≡ b → same h k ≡ false
+      off true is = absurd (apart (sym (same-is h k is)))
+      off false is = is
+
+      nothing_more : (o : Option KeptRow) → option_or o None ≡ o
+      nothing_more None = refl
+      nothing_more (Some row) = refl
+
+  opened-own : permitted_of (keeping (kept_more sets h) h (permitting may)) h ≡ Some may
+  opened-own =
+      ap (option_map (λ (s : Sets). s.permitted)) (keeping-own (kept_more sets h) h (permitting may)
+      ∙ ap (λ o. option_map (permitting may) (option_map (λ (row : KeptRow). row.sets) o)) (find-append (is_kept_of h) sets (new_row ∷ []) ∙ ap (λ b. option_or (find (is_kept_of h) sets) (cond b (Some new_row) None)) (same_equiv.refl h)))
+      ∙ one (find (is_kept_of h) sets)
+    where
+      one : (o : Option KeptRow) → option_map (λ (s : Sets). s.permitted) (option_map (permitting may) (option_map (λ (row : KeptRow). row.sets) (option_or o (Some new_row)))) ≡ Some may
+      one None = refl
+      one (Some row) = refl
+
+  pub kept-new : entry_at s.table h ≡ None → may ≡ permitted s.fs s.tree s.sessions h → StillKept s (opened s.table h) sets (keeping (kept_more sets h) h (permitting may))
+  kept-new none is = kept-opened s h sets (keeping (kept_more sets h) h (permitting may)) none opened-others (opened-own ∙ ap Some is)
 
 -- ---- what is told
 

@@ -1,6 +1,6 @@
 //! The requests of a client on one entry, and what they change of it.
-ghost use Rattle.std.specs.{Option.{option_map}, Prelude.{◌≡◌, ◌<◌, ◌^◌, ◌-◌, true, false, [], None, Some, IfOk, OnOk, OnErr}};
-ghost use Rattle.capbits.specs.{Caps.{has}, Refusal.{first_failing}, Sets.{minus}, declared.cap.Cap.TheVariants.{P}};
+ghost use Rattle.std.specs.{Option.{option_map}, Prelude.{◌≡◌, ◌<◌, ◌^◌, ◌-◌, true, false, [], None, Some, if◌then◌else◌, IfOk, OnOk, OnErr}};
+ghost use Rattle.capbits.specs.{Caps.{has}, Refusal.{first_failing}, Sets.{minus, no_caps}, declared.cap.Cap.TheVariants.{P}};
 ghost use Rattle.captable.specs.{Calls.{changed, with_entry, without}, Table.{entry_at}, declared.entry.Entry.{Entry}};
 ghost use Rattle.capacts.specs.{Caprules.Direct.{reply_of, shown, with_table}, Caprules.Judge.{revoked_of, room_for}, Caprules.State.{State}, Known.{AreKnown, known_in}, Lockmachine.Counts.{AreCounted}, Lockmachine.Scene.{Scene, plain}};
 ghost use Rattle.capacts.specs.Caprules.Direct as effects;
@@ -96,13 +96,19 @@ fn give_up(table: &CapTable, locks: &mut Locks, holder: Holder, caps: CapSet)
         return;
     }
     if let Some(entry) = table.find(holder.client, holder.ino) {
-        let left = if caps.has(Cap::P) {
-            CapSet::empty()
-        } else {
-            entry.held.minus(caps)
-        };
+        let left = left_of(entry.held, caps);
         locks.gives_up(EntryRow { holder, entry }, left);
     }
+}
+
+// What is held yet, once these are given up: with the pin all goes.
+fn left_of(held: CapSet, caps: CapSet) -> CapSet
+    ensures { result ≡ (if has caps P then no_caps else minus held caps) }
+{
+    if caps.has(Cap::P) {
+        return CapSet::empty();
+    }
+    held.minus(caps)
 }
 
 // What the holder's entry wants. Where there is none it is made: it wants nothing, nothing of it is known yet, and what its client

@@ -7,5 +7,5 @@ use Rattle.capsteps.proofs.client.reach_requests.Given as goal
 abbrev pub invariant-loop-request : goal.invariant-loop-request
 invariant-loop-request l = record {
   widens : Widens l.fn.inodes l.inodes;
-  reached : AllWithin (λ q. is_of_client l.client q ≡ true → set.contains l.inodes q.ino.0 ≡ true) l.locks.queue 0 l.request-index;
+  reached : AllWithin (λ q. is_of_client l.client q ≡ true → set.contains l.inodes q.ino.0 ≡ true) l.locks.locks.queue 0 l.request-index;
 }

@@ -1,5 +1,5 @@
 use Rattle.std.proofs.Common.{◌≡◌, Some, None, sym, ap, ◌∙◌}
-use Rattle.capsteps.proofs.{Common.{entry_at, Holder, minus, Sets, sets_of, told-or}, Knowing.{revoked-known}, Revoking.{revoked-none}}
+use Rattle.capsteps.proofs.{Common.{entry_at, Holder, minus}, Knowing.{revoked-known}, Revoking.{revoked-none}}
 use Rattle.capsteps.proofs.entry_request.revoked_of.Goals as goal
 
 pub returns-in-Some : goal.returns-in-Some
@@ -7,7 +7,7 @@ returns-in-Some c =
     let k : Holder = c.args.holder in
     let found : entry_at c.args.table.now.entries k ≡ Some c.in-Some.entry = cc in
     λ s table known.
-    c.minus.ensures ∙ ap (minus c.in-Some.entry.held) (ap (λ (sets : Sets). sets.told) c.of.ensures ∙ told-or (sets_of c.args.table.now.kept k))
+    c.minus.ensures ∙ ap (minus c.in-Some.entry.held) c.told_to.ensures
     ∙ revoked-known c.args.table.now.kept s k c.in-Some.entry known (ap (λ t. entry_at t k) table ∙ found)
 
 pub returns-in-None : goal.returns-in-None

@@ -47,7 +47,7 @@ inodes-preserved c =
           next-finished g f t c.args.table.now.kept all k ks c.inodes.table.entries c.inodes.table.kept h c.finish_entries.new.table.entries c.finish_entries.new.table.kept
           lists.once
           (subst (λ (left : List ℕ). IsFinishing g f t c.args.table.now.kept all left c.inodes.table.entries c.inodes.table.kept) rest c.inodes.invariant.so_far)
-          c.finish_entries.ensures.table.entries
+          c.finish_entries.ensures.table
           (λ row is kept.
           entry-alike (known_in c.inodes.table.kept) (known_in c.args.table.now.kept) c.args.policy.now.fs.now c.args.policy.now.tree.now c.args.policy.now.sessions.now c.of_ino-now.result c.args.locks.now.locks.states row
           (ap (λ (o : Option Caps). unwrap_or o no_caps) kept) (c.of_ino-now.ensures ∙ sym (ap (map.get c.args.locks.now.locks.states) (eqb-true row.holder.ino.0 k is))))

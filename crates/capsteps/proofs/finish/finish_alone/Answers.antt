@@ -1,9 +1,10 @@
 use Rattle.std.{proofs.Common.{◌≡◌, ◌<◌, ◌==◌, ℕ, Option, sym, ap, subst, ◌∙◌, Bool, true, false, cond, Some, None, List, [], refl, Contains, eq-eqb, true≢false}, proofs.lemmas.Bool.{eqb-true}, proofs.lemmas.List.Elements.{All-contains}, specs.List.{find}, specs.Option.{unwrap_or}}
 use Rattle.std.specs.FinMap as map
+use Rattle.std.specs.FinSet as set
 use Rattle.capbits.specs.Sets.{no_caps}
 use Rattle.captable.proofs.OneByOne.{one_at_once}
 use Rattle.capacts.specs.Known.{HasAll}
-use Rattle.capsteps.{proofs.Common.{Caps, changed_by, changed_where, Entry, entry_at, entry_of, entry_under, EntryRow, find_passes, found-contains, Holder, InodeLocks, is_row_of, IsTable, kept-as, kept-none, known_anew, known_in, known_of, KnownAnew, KnownSets, meet, none_found, OthersHaveAll, permitted_of, plain, remade, renumbered, row_found, row_of-entry, same, same-is, same_equiv, Scene, Table, told-less, told_at, told_set}, proofs.Finishing.{none-sized, each-alike, same-issue_row, same-renumbered}, proofs.finish.finish_alone.Goals.{in-Some, in_default}, specs.Affected.{finished_at, finished_entry, forget_among, told_then}, specs.Serves.{EndsAt}}
+use Rattle.capsteps.{proofs.Common.{AreCounted, Caps, changed_by, changed_where, Entry, entry_at, entry_of, entry_under, EntryRow, find_passes, found-contains, Holder, InodeLocks, is_row_of, IsTable, kept-as, kept-none, KeptScene, KeptTable, known_anew, known_in, known_of, KnownAnew, KnownSets, meet, none_found, OthersHaveAll, permitted_of, plain, remade, renumbered, row_found, row_of-entry, same, same-is, same_equiv, Scene, Table, told-less, told_at, told_set}, proofs.Finishing.{none-sized, each-alike, same-issue_row, same-renumbered}, proofs.IssuedRows.{counted-issued}, proofs.finish.finish_alone.Goals.{After-forget_affected, in-Some, in_default}, specs.Affected.{finished_at, finished_entry, forget_among, told_then}, specs.Begun.{AreCountedIn}, specs.Serves.{EndsAt}}
 use Rattle.capsteps.proofs.finish.finish_alone.Goals as goal
 
 -- Where each other entry on the holder's inode has all, the end of a step at the inode is that of the holder's entry.
@@ -78,35 +79,67 @@ finish_row-requires c =
           (found-contains (is_row_of k) t.rows (record { holder = k; entry = c.in-Some.entry }) (row_of-entry t k c.in-Some.entry found));
     }
 
+module _ (c : After-forget_affected) where
+  abbrev settled : Scene
+  settled = plain c.args.scene.now
+
+  abbrev t : Table
+  t = settled.table
+
+  abbrev k : Holder
+  k = c.args.holder
+
+  abbrev was : KnownSets
+  was = c.args.scene.now.table.kept
+
+  abbrev g : EntryRow → Entry
+  g = finished_entry (known_in was) settled
+
+  -- the holder's entry has ended
+  record EndsOne (now : KeptScene) : Type 0 where
+    pub rest : now ≡ record c.args.scene.now { table = now.table }
+    pub changed : now.table.entries ≡ changed_by g t k
+    pub kept : KnownAnew (λ j. same j k) (told_then settled) t was now.table.kept
+    pub permitted : (j : Holder) → permitted_of now.table.kept j ≡ permitted_of was j
+
+  one : EndsOne c.match-find.scene
+  one = elim c.match-find.branch [
+    | in-Some w ↦ (let here = w.of_ino-now.ensures in
+        rw w.scene-is (record {
+          rest = refl;
+          changed = w.finish_row.ensures.table ∙ ap (λ (o : Option InodeLocks). changed_by (entry_under (known_in was) settled.fs settled.tree settled.sessions o) t k) here;
+          kept = kept-as (λ j. same j k) (told_at settled.fs settled.tree settled.sessions w.of_ino-now.result) (told_then settled) t was w.finish_row.new.table.kept
+              (λ row mine. ap (λ (o : Option InodeLocks). told_at settled.fs settled.tree settled.sessions o row) (here ∙ sym (ap (λ (h : Holder). map.get settled.locks.states h.ino.0) (same-is row.holder k mine))))
+              w.finish_row.ensures.known;
+          permitted = w.finish_row.ensures.permitted;
+        }))
+    | in_default w ↦ (let none : entry_at t k ≡ None = cc in
+        rw w.scene-is (record { rest = refl; changed = none_found t k (λ e. g (record { holder = k; entry = e })) none; kept = kept-none (told_then settled) t was k none; permitted = λ j. refl }))
+  ]
+
+  -- and with it all on its inode have
+  all_changed : c.match-find.scene.table.entries ≡ changed_where (λ row. row.holder.ino.0 == k.ino.0) g t
+  all_changed = one.changed ∙ alone-changed was settled k c.requires.others c.find.ensures.sound
+
 pub returns-clause-ends : goal.returns-clause-ends
 returns-clause-ends c =
-    let settled : Scene = plain c.args.scene.now in
-    let t : Table = c.args.scene.now.table.entries in
-    let k : Holder = c.args.holder in
-    let was : KnownSets = c.args.scene.now.table.kept in
-    let g : EntryRow → Entry = finished_entry (known_in was) settled in
-    let one : ((plain c.match-find.scene) ≡ record settled { table = changed_by g t k }) × KnownAnew (λ j. same j k) (told_then settled) t was c.match-find.scene.table.kept × ((j : Holder) → permitted_of c.match-find.scene.table.kept j ≡ permitted_of was j) =
-    elim c.match-find.branch [
-      | in-Some w ↦ (let here = w.of_ino-now.ensures in
-          let table : w.finish_row.new.table ≡ changed_by g t k = w.finish_row.ensures.table ∙ ap (λ (o : Option InodeLocks). changed_by (entry_under (known_in was) settled.fs settled.tree settled.sessions o) t k) here in
-          rw (w.scene-is, w.known-is) (
-            λ i. record settled { table = table i },
-            kept-as (λ j. same j k) (told_at settled.fs settled.tree settled.sessions w.of_ino-now.result) (told_then settled) t was w.finish_row.new.scene.table.kept
-                (λ row mine. ap (λ (o : Option InodeLocks). told_at settled.fs settled.tree settled.sessions o row) (here ∙ sym (ap (λ (h : Holder). map.get settled.locks.states h.ino.0) (same-is row.holder k mine))))
-                w.finish_row.ensures.known,
-            w.finish_row.ensures.permitted,
-          ))
-      | in_default w ↦ (let none : entry_at t k ≡ None = cc in
-          rw (w.scene-is, w.known-is) (λ i. record settled { table = none_found t k (λ e. g (record { holder = k; entry = e })) none i }, kept-none (told_then settled) t was k none, λ j. refl))
-    ] in
-    subst (λ (at : ℕ → Bool). EndsAt at [] was c.match-find.scene.table.kept settled (plain c.forget_affected.new.scene)) (sym c.requires.alone) (record {
+    let ended = one c in
+    subst (λ (u : KeptTable). EndsAt (set.contains c.args.affected.now) [] (was c) u.kept (settled c) (plain c.forget_affected.new.scene)) (sym c.forget_affected.ensures.table)
+    (subst (λ (at : ℕ → Bool). EndsAt at [] (was c) c.match-find.scene.table.kept (settled c) (plain c.forget_affected.new.scene)) (sym c.requires.alone) (record {
       finished =
           c.forget_affected.ensures.left
-          ∙ (λ i. forget_among (c.requires.alone i) (one.0 i))
-          ∙ (λ i. forget_among (λ other. other == k.ino.0) (record settled { table = alone-changed was settled k c.requires.others c.find.ensures.sound i }))
-          ∙ ap (finished_at (λ other. other == k.ino.0) (known_in was)) (sym (none-sized settled));
+          ∙ (λ i. forget_among (c.requires.alone i) (plain (ended.rest i)))
+          ∙ (λ i. forget_among (λ other. other == (k c).ino.0) (record (settled c) { table = all_changed c i }))
+          ∙ ap (finished_at (λ other. other == (k c).ino.0) (known_in (was c))) (sym (none-sized (settled c)));
       kept =
-          subst (λ (s : Scene). KnownAnew (λ j. j.ino.0 == k.ino.0) (told_then s) s.table was c.match-find.scene.table.kept) (sym (none-sized settled))
-          (alone-kept was settled k c.requires.others c.find.ensures.sound c.match-find.scene.table.kept one.1);
-      permitted = one.2;
-    })
+          subst (λ (s : Scene). KnownAnew (λ j. j.ino.0 == (k c).ino.0) (told_then s) s.table (was c) c.match-find.scene.table.kept) (sym (none-sized (settled c)))
+          (alone-kept (was c) (settled c) (k c) c.requires.others c.find.ensures.sound c.match-find.scene.table.kept ended.kept);
+      permitted = ended.permitted;
+    }))
+
+pub returns-clause-counted : goal.returns-clause-counted
+returns-clause-counted c = λ all.
+    let ended = one c in
+    c.forget_affected.ensures.counted
+    (subst AreCountedIn (sym ended.rest)
+    (subst (λ (u : Table). AreCounted u c.args.scene.now.locks) (sym (all_changed c)) (counted-issued (known_in (was c)) (settled c) (λ other. other == (k c).ino.0) c.args.scene.now.locks refl all)))

@@ -91,7 +91,7 @@ returns-then-is_empty g =
 
 pub returns : goal.returns
 returns g =
-    let done = ended (goal.at.returns g).After-is_empty g.loop-number.number-index g.loop-number.table.entries g.loop-number.table.kept g.loop-number.invariant.table.entries g.loop-number.invariant.known g.loop-number-test.false in
+    let done = ended (goal.at.returns g).After-is_empty g.loop-number.number-index g.loop-number.table.entries g.loop-number.table.kept g.loop-number.invariant.table g.loop-number.invariant.known g.loop-number-test.false in
     record { table = done.0; known = done.1; permitted = g.loop-number.invariant.permitted }
 
 pub finish_row-requires : goal.finish_row-requires
@@ -101,7 +101,7 @@ finish_row-requires g =
     let k : Holder = holder (record { 0 = get_or c.as_slice-numbers.result.now g.loop-number.number-index 0 }) c.args.ino in
     let row : EntryRow = record { holder = k; entry = g.in-Some.entry } in
     let now : entry_at g.loop-number.table.entries k ≡ Some g.in-Some.entry = cc in
-    let same_row = still c g.loop-number.number-index g.loop-number.table.entries g.loop-number.table.kept g.loop-number.invariant.table.entries g.loop-number.invariant.known g.loop-number-test.true in
+    let same_row = still c g.loop-number.number-index g.loop-number.table.entries g.loop-number.table.kept g.loop-number.invariant.table g.loop-number.invariant.known g.loop-number-test.true in
     let found : entry_at c.args.table.now.entries k ≡ Some g.in-Some.entry = sym (ap entry_of same_row) ∙ now in
     record {
       there = now;
@@ -118,9 +118,9 @@ loop-number-preserved g =
     let k : Holder = holder (record { 0 = get_or c.as_slice-numbers.result.now g.loop-number.number-index 0 }) c.args.ino in
     let done : (g.match-find_near.table.entries ≡ changed_by (made c mid) u k) × KnownAnew (λ j. same j k) (says c) u mid g.match-find_near.table.kept × ((j : Holder) → permitted_of g.match-find_near.table.kept j ≡ permitted_of mid j) =
     elim g.match-find_near.branch [
-      | in-Some w ↦ rw (w.table-is, w.known-is) (w.finish_row.ensures.table.entries, w.finish_row.ensures.known, w.finish_row.ensures.permitted)
+      | in-Some w ↦ rw w.table-is (w.finish_row.ensures.table, w.finish_row.ensures.known, w.finish_row.ensures.permitted)
       | in_default w ↦ (let none : entry_at u k ≡ None = cc in
-          rw (w.table-is, w.known-is) (none_found u k (λ e. made c mid (record { holder = k; entry = e })) none, kept-none (says c) u mid k none, λ j. refl))
+          rw w.table-is (none_found u k (λ e. made c mid (record { holder = k; entry = e })) none, kept-none (says c) u mid k none, λ j. refl))
     ] in
-    let more = one_more c g.loop-number.number-index u mid g.loop-number.invariant.table.entries g.loop-number.invariant.known g.loop-number-test.true g.match-find_near.table.entries g.match-find_near.table.kept done.0 done.1 in
+    let more = one_more c g.loop-number.number-index u mid g.loop-number.invariant.table g.loop-number.invariant.known g.loop-number-test.true g.match-find_near.table.entries g.match-find_near.table.kept done.0 done.1 in
     record { table = more.0; known = more.1; permitted = λ j. done.2 j ∙ g.loop-number.invariant.permitted j }

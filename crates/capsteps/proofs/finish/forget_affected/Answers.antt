@@ -1,20 +1,23 @@
-use Rattle.std.{proofs.Common.{◌≡◌, [], ◌∷◌, length, refl, sym, ap, ◌∙◌, arith}, proofs.lemmas.List.{length-append}, specs.List.{fold}}
-use Rattle.capacts.{proofs.Capnotes.Noting.{leads-forgotten}, specs.Capview.declared.change.ViewChange.TheVariants.{Forgotten}}
-use Rattle.capsteps.{proofs.Common.{leads-none, leads-then, LockMap, plain, Scene}, proofs.Strays.{forget_on, forget-all_of}, specs.Affected.{forget_at}}
+use Rattle.std.{proofs.Common.{◌≡◌, [], ◌∷◌, length, refl, sym, ap, subst, ◌∙◌, arith}, proofs.lemmas.List.{length-append}, specs.List.{fold}}
+use Rattle.capacts.{proofs.Capnotes.Noting.{leads-forgotten}, proofs.Lockmachine.CountsStay.{counted-dropped}, specs.Capview.declared.change.ViewChange.TheVariants.{Forgotten}, specs.Lockmachine.Locks.{without_ino}}
+use Rattle.capsteps.{proofs.Common.{AreCounted, CountedLocks, leads-none, leads-then, plain, Scene}, proofs.Strays.{forget_on, forget-all_of}, specs.Affected.{forget_at}}
 use Rattle.capsteps.proofs.finish.forget_affected.Goals as goal
 
 pub inodes-init : goal.inodes-init
-inodes-init c = record { left = refl; queue = refl; lead = leads-none c.args.changes.now.items c.args.scene.now.tree; places = omega (arith, c.numbers-walk.ensures.count, c.requires.places) }
+inodes-init c = record { left = refl; table = refl; counted = λ all. all; queue = refl; lead = leads-none c.args.changes.now.items c.args.scene.now.tree; places = omega (arith, c.numbers-walk.ensures.count, c.requires.places) }
 
 pub inodes-preserved-then-not-is_held : goal.inodes-preserved-then-not-is_held
 inodes-preserved-then-not-is_held c =
     let s : Scene = plain c.inodes.scene in
-    let gone : record s { tree = c.forget.new.self; locks = c.drop_ino.new.self } ≡ forget_at c.in-Some.ino.0 s = grind arith in
+    let locks : c.drop_ino.new.self.locks ≡ without_ino s.locks c.in-Some.ino.0 = ap (λ (l : CountedLocks). l.locks) c.drop_ino.ensures in
+    let gone : record s { tree = c.forget.new.self; locks = c.drop_ino.new.self.locks } ≡ forget_at c.in-Some.ino.0 s = grind arith in
     let more = ap length c.in-Some.ensures.some in
     let notes = ap length c.push.ensures.items ∙ length-append c.inodes.changes.items (Forgotten c.in-Some.ino ∷ []) in
     record {
       left = ap (λ (now : Scene). fold forget_on now c.next.new.self) gone ∙ ap (fold forget_on s) (sym c.in-Some.ensures.some) ∙ c.inodes.invariant.left;
-      queue = ap (λ (locks : LockMap). locks.queue) c.drop_ino.ensures ∙ c.inodes.invariant.queue;
+      table = c.inodes.invariant.table;
+      counted = λ all. subst (AreCounted s.table) (sym c.drop_ino.ensures) (counted-dropped s.table c.inodes.scene.locks c.in-Some.ino.0 (c.inodes.invariant.counted all));
+      queue = ap (λ (l : CountedLocks). l.locks.queue) c.drop_ino.ensures ∙ c.inodes.invariant.queue;
       lead = leads-then c.args.changes.now.items c.inodes.changes.items c.push.new.self.items c.args.scene.now.tree s.tree c.forget.new.self
           c.inodes.invariant.lead (rw (c.push.ensures.items, c.forget.ensures) (leads-forgotten c.inodes.changes.items s.tree c.in-Some.ino));
       places = omega (arith, more, notes, c.push.ensures.room, c.inodes.invariant.places);

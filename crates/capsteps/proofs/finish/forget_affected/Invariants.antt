@@ -1,5 +1,5 @@
 use Rattle.std.{proofs.Common.{◌≡◌, ◌≤◌, ◌+◌, length}, specs.List.{fold}}
-use Rattle.capsteps.proofs.{Common.{LeadOn, plain}, Strays.{forget_on}}
+use Rattle.capsteps.{proofs.Common.{LeadOn, plain}, proofs.Strays.{forget_on}, specs.Begun.{AreCountedIn}}
 use Rattle.capsteps.proofs.finish.forget_affected.Given as goal
 
 abbrev pub decreases-inodes : goal.decreases-inodes
@@ -9,6 +9,8 @@ decreases-inodes l = length l.walk
 abbrev pub invariant-inodes : goal.invariant-inodes
 invariant-inodes l = record {
   left : fold forget_on (plain l.scene) l.walk ≡ fold forget_on (plain l.fn.scene) l.initial.walk;
+  table : l.scene.table ≡ l.fn.scene.table;
+  counted : AreCountedIn l.fn.scene → AreCountedIn l.scene;
   queue : l.scene.locks.locks.queue ≡ l.fn.scene.locks.locks.queue;
   lead : LeadOn l.fn.changes.items l.changes.items l.fn.scene.tree l.scene.tree;
   places : length l.changes.items + length l.walk ≤ l.changes.room;

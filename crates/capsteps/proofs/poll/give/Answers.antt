@@ -1,13 +1,13 @@
 use Rattle.std.proofs.{Common.{◌≡◌, ◌+◌, ◌++◌, [], ◌∷◌, take, ap, sym, subst, ◌∙◌}, lemmas.List.{take_more, take_all}}
-use Rattle.capsteps.proofs.{Common.{after_messages, changed_where, is_of_client, IsTable}, ManyInodes.{table-where}, Polling.{given-none, given-more}}
+use Rattle.capsteps.proofs.{Common.{after_messages, changed_where, is_of_client, IsTable, KeptTable, Table}, ManyInodes.{table-where}, Polling.{given-none, given-more}}
 use Rattle.capsteps.proofs.poll.give.Goals as goal
 
 pub loop-message-init : goal.loop-message-init
-loop-message-init c = given-none c.args.client c.args.table.now.entries
+loop-message-init c = ap (λ (t : Table). record c.args.table.now { entries = t }) (given-none c.args.client c.args.table.now.entries)
 
 pub give_one-requires : goal.give_one-requires
 give_one-requires c =
-    subst IsTable (sym c.loop-message.invariant)
+    subst (λ (t : KeptTable). IsTable t.entries) (sym c.loop-message.invariant)
     (table-where (is_of_client c.args.client) (after_messages (take c.loop-message.message-index c.args.given.now)) c.args.table.now.entries c.requires)
 
 pub loop-message-preserved : goal.loop-message-preserved
@@ -18,11 +18,11 @@ loop-message-preserved c =
     let more : take (c.loop-message.message-index + 1) c.args.given.now ≡ done ++ m ∷ [] =
     take_more c.args.given.now c.loop-message.message-index m c.loop-message-test.true ∙ ap (λ x. done ++ x ∷ []) (sym c.message-item.is) in
     c.give_one.ensures
-    ∙ ap (changed_where (is_of_client client) (after_messages (m ∷ []))) c.loop-message.invariant
-    ∙ given-more client done (m ∷ []) c.args.table.now.entries
-    ∙ ap (λ given. changed_where (is_of_client client) (after_messages given) c.args.table.now.entries) (sym more)
+    ∙ ap (λ (t : KeptTable). record t { entries = changed_where (is_of_client client) (after_messages (m ∷ [])) t.entries }) c.loop-message.invariant
+    ∙ ap (λ (t : Table). record c.args.table.now { entries = t }) (given-more client done (m ∷ []) c.args.table.now.entries)
+    ∙ ap (λ given. record c.args.table.now { entries = changed_where (is_of_client client) (after_messages given) c.args.table.now.entries }) (sym more)
 
 pub returns : goal.returns
 returns c =
     c.loop-message.invariant
-    ∙ ap (λ given. changed_where (is_of_client c.args.client) (after_messages given) c.args.table.now.entries) (take_all c.loop-message.message-index c.args.given.now c.loop-message-test.false)
+    ∙ ap (λ given. record c.args.table.now { entries = changed_where (is_of_client c.args.client) (after_messages given) c.args.table.now.entries }) (take_all c.loop-message.message-index c.args.given.now c.loop-message-test.false)

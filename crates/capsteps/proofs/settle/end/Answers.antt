@@ -19,6 +19,7 @@ settle-requires c =
       room = ready.room;
       places = omega (arith, one, ready.at.0);
       permitted = may.permitted;
+      counted = c.requires.counted;
     }
 
 module _ (c : After-settle) where
@@ -108,7 +109,7 @@ pub settle-requires-in-Inodes : goal.settle-requires-in-Inodes
 settle-requires-in-Inodes c =
     let ready = inodes_ready (goal.at.settle-requires-in-Inodes c).In-Inodes in
     let may = ready.entries in
-    record { settles = ready.settles; judged = ready.judged; room = ready.room; places = ready.at; permitted = may.permitted }
+    record { settles = ready.settles; judged = ready.judged; room = ready.room; places = ready.at; permitted = may.permitted; counted = c.requires.counted }
 
 pub finish-requires-in-Inodes-clause-entries : goal.finish-requires-in-Inodes-clause-entries
 finish-requires-in-Inodes-clause-entries c =

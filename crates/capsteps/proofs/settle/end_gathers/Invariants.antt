@@ -1,7 +1,7 @@
 use Rattle.std.proofs.Common.{◌≡◌, ◌<◌, ℕ, List, true, false}
 use Rattle.std.specs.FinMap as map
 use Rattle.std.specs.FinSet as set
-use Rattle.capsteps.{proofs.Common.{may_end_by, Nodes, Part, scene, SessionTable, WaitAt}, proofs.Sweeping.{behind}, specs.Sweep.{IsSwept}}
+use Rattle.capsteps.{proofs.Common.{AreCounted, may_end_by, Nodes, Part, scene, SessionTable, WaitAt}, proofs.Sweeping.{behind}, specs.Sweep.{IsSwept}}
 use Rattle.capsteps.proofs.settle.end_gathers.Given as goal
 
 abbrev pub decreases-inodes : goal.decreases-inodes
@@ -9,9 +9,10 @@ decreases-inodes l = behind l.affected l.at.0
 
 abbrev pub invariant-inodes : goal.invariant-inodes
 invariant-inodes l = record {
-  swept : (fs : List ℕ) (tree : Nodes) (sessions : SessionTable) → WaitAt (set.contains l.affected) (scene fs tree sessions l.table.entries l.fn.locks)
-      → IsSwept (set.contains l.affected) (scene fs tree sessions l.table.entries l.fn.locks) (scene fs tree sessions l.table.entries l.locks);
-  same : (other : ℕ) → set.contains l.affected other ≡ false → map.get l.locks.states other ≡ map.get l.fn.locks.states other;
-  lower : (other : ℕ) (part : Part) → other < l.at.0 → may_end_by l.table.entries l.locks (other, part) ≡ false;
+  swept : (fs : List ℕ) (tree : Nodes) (sessions : SessionTable) → WaitAt (set.contains l.affected) (scene fs tree sessions l.table.entries l.fn.locks.locks)
+      → IsSwept (set.contains l.affected) (scene fs tree sessions l.table.entries l.fn.locks.locks) (scene fs tree sessions l.table.entries l.locks.locks);
+  same : (other : ℕ) → set.contains l.affected other ≡ false → map.get l.locks.locks.states other ≡ map.get l.fn.locks.locks.states other;
+  lower : (other : ℕ) (part : Part) → other < l.at.0 → may_end_by l.table.entries l.locks.locks (other, part) ≡ false;
+  counted : AreCounted l.table.entries l.locks;
   here : set.contains l.affected l.at.0 ≡ true;
 }

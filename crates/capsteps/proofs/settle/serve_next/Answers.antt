@@ -1,7 +1,7 @@
 use Rattle.std.{proofs.Common.{◌≡◌, ◌++◌, ◌∷◌, [], ◌⊎◌, inl, inr, true, false, Option, Some, None, Result, Ok, Err, is_ok, OnOk, refl, sym, ap, subst, ◌∙◌, true≢false}, proofs.lemmas.Bool.{eqb-true}, specs.List.{filter_map}, specs.Option.{option_eq}}
 use Rattle.capbits.specs.contracts.ids.TicketPartialEq.TheImpl as tickets
 use Rattle.capacts.specs.Renewing.{ServedFrom}
-use Rattle.capsteps.{proofs.Common.{ArePermitted, Covers, Ended, Ino, InoSet, IsAlike, Nodes, Outcome, plain, Request, Scene, Served, sized_by, Table, Ticket}, proofs.OneChange.{alike-apart}, specs.Serves.{Serves}}
+use Rattle.capsteps.{proofs.Common.{AreCounted, ArePermitted, CountedLocks, Covers, Ended, Ino, InoSet, IsAlike, KeptScene, known_of, Nodes, Outcome, plain, Request, Scene, Served, sized_by, Table, Ticket}, proofs.OneChange.{alike-apart}, specs.Begun.{AreCountedIn, ArePermittedIn}, specs.Serves.{Serves}}
 use Rattle.capsteps.proofs.settle.serve_next.Goals as goal
 
 -- tickets that are compared as equal are the same
@@ -24,7 +24,7 @@ returns-clause-served c =
       waits = sym c.in-Some.ensures.request;
       may = c.serve-served.ensures.ends old.table old.locks;
       ended_is = refl;
-      is = ap plain (c.renew_served.ensures.rest ∙ rest c) ∙ (λ i. record old { tree = c.serve-served.ensures.tree i });
+      is = ap plain c.renew_served.ensures.rest ∙ ap plain c.serve-served.ensures.rest ∙ (λ i. record old { tree = c.serve-served.ensures.tree i; locks = ap (λ (l : CountedLocks). l.locks) c.apply_move.ensures.locks i });
     } in (
       ended outcome,
       serves,
@@ -54,8 +54,17 @@ returns-clause-permitted c =
       after = after;
       alike = λ other apart below. subst (λ (t : Nodes). IsAlike old.tree t other) (sym after)
           (alike-apart old request outcome other c.requires.tree (c.serve-served.ensures.ends old.table old.locks) apart below);
-      covers = subst (λ (t : Table). (c.serve-served.new.scene.tree ≡ old.tree) ⊎ Covers request old.tree t affected) (sym (ap (λ (s : Scene). s.table) is))
+      covers = subst (λ (t : Table). (c.serve-served.new.scene.tree ≡ old.tree) ⊎ Covers request old.tree t affected) (sym (ap (λ (s : KeptScene). s.table.entries) is))
           (covered c.reach-room.result c.reach-room.ensures.covers (λ failed. c.serve-served.ensures.stays (c.is_ok.ensures.value ∙ failed)));
     } in
-    c.renew_served.ensures.permitted old.tree from
-    (subst (λ (s : Scene). ArePermitted c.args.scene.now.table.kept s.fs old.tree s.sessions s.table) (sym is) c.requires.permitted)
+    subst (λ (s : KeptScene). ArePermittedIn c.renew_served.new.scene.table.kept (plain s)) (sym c.renew_served.ensures.rest)
+    (c.renew_served.ensures.permitted old.tree from
+    (subst (λ (s : KeptScene). ArePermitted s.table.kept s.fs old.tree s.sessions s.table.entries) (sym is) c.requires.permitted))
+
+pub returns-clause-counted : goal.returns-clause-counted
+returns-clause-counted c = λ all.
+    subst AreCountedIn (sym c.renew_served.ensures.rest)
+    (subst AreCountedIn (sym c.serve-served.ensures.rest) (subst (AreCounted c.args.scene.now.table.entries) (sym c.apply_move.ensures.locks) all))
+
+pub returns-clause-told : goal.returns-clause-told
+returns-clause-told c = λ k. c.renew_served.ensures.told k ∙ ap (λ (s : KeptScene). known_of s.table.kept k) c.serve-served.ensures.rest

@@ -1,7 +1,7 @@
 use Rattle.std.{proofs.Common.{◌≡◌, ◌<◌, ◌≤◌, ◌+◌, ◌++◌, ◌∷◌, [], ℕ, Bool, true, false, cond, ◌&&◌, length, List, Option, Some, None, Contains, refl, sym, ap, subst, ◌∙◌, arith, inl, inr}, proofs.lemmas.List.{length-append}, specs.List.{filter_map}}
 use Rattle.std.specs.FinSet as set
 use Rattle.capacts.{proofs.Walked.{none-walked}, specs.Caprules.Settle.{sets_size, is_done}}
-use Rattle.capsteps.{proofs.Common.{AreWalked, Covers, Ended, ends_not, first_move, Ino, InoSet, IsLockMap, IsTree, LeadOn, leads-none, leads-then, lock_at, Nodes, Outcome, plain, Reaches, Request, request_at, Scene, Serve, Served, served-at, sized_in, Table, tree_after}, proofs.Judged.{none-judged, still-judged}, proofs.Moved.{moved-all, tree-moved}, proofs.OneChange.{within-after}, proofs.SoFar.{GoesOnBehind, IsSoFar, so-far-begins, so-far-served, so-far-settled, so-far-swept, stands-behind, stands-first, turn-at_first}, proofs.settle.settle.Goals.{In-Some, After-serve_next-changed}, proofs.settle.settle.Invariants.{invariant-servings}, specs.Begun.{ArePermittedIn}, specs.Judged.{IsJudged}, specs.Serves.{Serves}, specs.Sweep.{IsSwept, GoesOn}, specs.declared.settle.SweepPlace.{SweepPlace}}
+use Rattle.capsteps.{proofs.Common.{AreWalked, Covers, Ended, ends_not, first_move, Ino, InoSet, IsLockMap, IsTree, KeptScene, known_of, LeadOn, leads-none, leads-then, lock_at, Nodes, Outcome, plain, Reaches, Request, request_at, Scene, Serve, Served, served-at, sized_in, Table, tree_after}, proofs.Judged.{none-judged, still-judged}, proofs.Moved.{moved-all, tree-moved}, proofs.OneChange.{within-after}, proofs.SoFar.{GoesOnBehind, IsSoFar, so-far-begins, so-far-served, so-far-settled, so-far-swept, stands-behind, stands-first, turn-at_first}, proofs.settle.settle.Goals.{In-Some, After-serve_next-changed}, proofs.settle.settle.Invariants.{invariant-servings}, specs.Begun.{ArePermittedIn}, specs.Judged.{IsJudged}, specs.Serves.{Serves}, specs.Sweep.{IsSwept, GoesOn}, specs.declared.settle.SweepPlace.{SweepPlace}}
 use Rattle.capsteps.proofs.settle.settle.Goals as goal
 
 -- What a rename walked over in a step is affected until its end.
@@ -23,17 +23,17 @@ walked-served tree after q o table walked was affected is reaches all = elim rea
 pub end_gathers-requires : goal.end_gathers-requires
 end_gathers-requires c =
     let first : Scene = plain c.args.scene.now in
-    record { elsewhere = λ other part off. ends_not first (other, part) (lock_at first.locks other part) (c.requires.settles.quiet.each_other other part off) }
+    record { counted = c.requires.counted; elsewhere = λ other part off. ends_not first (other, part) (lock_at first.locks other part) (c.requires.settles.quiet.each_other other part off) }
 
 pub servings-init : goal.servings-init
 servings-init c =
     let first : Scene = plain c.args.scene.now in
-    let now : Scene = record (plain c.args.scene.now) { locks = c.end_gathers.new.locks } in
+    let now : Scene = record (plain c.args.scene.now) { locks = c.end_gathers.new.locks.locks } in
     let at : ℕ → Bool = set.contains c.args.affected.now in
     let begun = so-far-begins c.args.affected.now first c.requires.settles.quiet in
     let swept : IsSwept at first now = c.end_gathers.ensures.swept first.fs first.tree first.sessions begun.waits in
     let so : IsSoFar at c.args.affected.now first now [] [] = so-far-swept at c.args.affected.now first first [] [] begun now swept in
-    let queue : length c.end_gathers.new.locks.queue ≡ length c.args.scene.now.locks.locks.queue = ap length swept.queue in
+    let queue : length c.end_gathers.new.locks.locks.queue ≡ length c.args.scene.now.locks.locks.queue = ap length swept.queue in
     let room = c.requires.room in
     record {
       so_far =
@@ -47,6 +47,7 @@ servings-init c =
       places = omega (arith, queue, c.requires.places);
       known = λ k. refl;
       permitted = c.requires.permitted;
+      counted = c.end_gathers.ensures.counted;
       for_clients = omega (arith, queue, ap length room.for_clients, room.clients_room);
       for_history = omega (arith, queue, ap length room.for_history, room.history_room);
       sized = omega (arith, queue, ap length room.sized, room.sized_room);
@@ -115,7 +116,7 @@ serve_next-changed-requires-clause-tree c = tree (goal.at.serve_next-changed-req
 
 pub serve_next-changed-requires-clause-permitted : goal.serve_next-changed-requires-clause-permitted
 serve_next-changed-requires-clause-permitted c =
-    subst (ArePermittedIn c.servings.scene.table.kept) (sym (stays (goal.at.serve_next-changed-requires-clause-permitted c).In-Some)) c.servings.invariant.permitted
+    subst (λ (s : KeptScene). ArePermittedIn s.table.kept (plain s)) (sym c.sweep.ensures.rest) c.servings.invariant.permitted
 
 pub serve_next-changed-requires-clause-judged : goal.serve_next-changed-requires-clause-judged
 serve_next-changed-requires-clause-judged c =
@@ -168,10 +169,9 @@ module _ (c : After-serve_next-changed) where
 -- the invariant, where the sweep goes on here
 abbrev Holds : After-serve_next-changed → SweepPlace → Type 0
 Holds c next = invariant-servings (record {
-  fn = record { scene = plain c.args.scene.now; known = c.args.known.now; affected = c.args.affected.now; endings = c.args.endings.now };
-  initial = record { scene = record (plain c.args.scene.now) { locks = c.end_gathers.new.locks }; known = c.args.known.now; affected = c.args.affected.now; endings = c.args.endings.now; walked = c.new-walked.result; place = c.first-place.result };
-  scene = plain c.serve_next-changed.new.scene;
-  known = c.serve_next-changed.new.known;
+  fn = record { scene = c.args.scene.now; affected = c.args.affected.now; endings = c.args.endings.now };
+  initial = record { scene = record c.args.scene.now { locks = c.end_gathers.new.locks }; affected = c.args.affected.now; endings = c.args.endings.now; walked = c.new-walked.result; place = c.first-place.result };
+  scene = c.serve_next-changed.new.scene;
   affected = c.serve_next-changed.new.affected;
   endings = c.serve_next-changed.new.endings;
   walked = c.serve_next-changed.new.walked;
@@ -207,8 +207,9 @@ holds c next goes =
       lead = leads-then c.args.endings.now.changes.items c.servings.endings.changes.items c.serve_next-changed.new.endings.changes.items c.args.scene.now.tree c.sweep.new.scene.tree (new c).tree
           (subst (λ (s : Scene). LeadOn c.args.endings.now.changes.items c.servings.endings.changes.items c.args.scene.now.tree s.tree) (sym is) c.servings.invariant.lead) c.serve_next-changed.ensures.lead;
       places = omega (arith, less, c.serve_next-changed.ensures.noted, c.serve_next-changed.ensures.places, c.servings.invariant.places);
-      known = λ k. c.serve_next-changed.ensures.told k ∙ c.servings.invariant.known k;
+      known = λ k. c.serve_next-changed.ensures.told k ∙ ap (λ (s : KeptScene). known_of s.table.kept k) c.sweep.ensures.rest ∙ c.servings.invariant.known k;
       permitted = c.serve_next-changed.ensures.permitted;
+      counted = c.serve_next-changed.ensures.counted c.sweep.ensures.counted;
       for_clients = omega (arith, more, less, room.0, c.servings.invariant.for_clients);
       for_history = omega (arith, history_more, less, room.1, c.servings.invariant.for_history);
       sized = omega (arith, few_sizes, less, room.2, c.servings.invariant.sized);
@@ -242,7 +243,10 @@ returns-clause-lead c =
     subst (λ (s : Scene). LeadOn c.args.endings.now.changes.items c.servings.endings.changes.items c.args.scene.now.tree s.tree) (sym swept.is) c.servings.invariant.lead
 
 pub returns-clause-permitted : goal.returns-clause-permitted
-returns-clause-permitted c = let swept = c.sweep.ensures.swept in subst (ArePermittedIn c.servings.scene.table.kept) (sym swept.is) c.servings.invariant.permitted
+returns-clause-permitted c = subst (λ (s : KeptScene). ArePermittedIn s.table.kept (plain s)) (sym c.sweep.ensures.rest) c.servings.invariant.permitted
+
+pub returns-clause-told : goal.returns-clause-told
+returns-clause-told c = λ k. ap (λ (s : KeptScene). known_of s.table.kept k) c.sweep.ensures.rest ∙ c.servings.invariant.known k
 
 pub returns-clause-places : goal.returns-clause-places
 returns-clause-places c =

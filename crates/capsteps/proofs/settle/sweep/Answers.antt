@@ -1,7 +1,7 @@
-use Rattle.std.proofs.Common.{◌+◌, Some, sym, subst}
+use Rattle.std.proofs.Common.{◌≡◌, ◌+◌, Some, sym, ap, subst}
 use Rattle.std.specs.FinSet as set
 use Rattle.capacts.{proofs.Lockmachine.Alone.{nobody-done, nobody-kept}, specs.Lockmachine.Turns.{IsDue}}
-use Rattle.capsteps.{proofs.Common.{IsNext, plain, Scene}, proofs.Sweeping.{fewer_behind, last-turn, next-turn, still-kept, swept-on}, proofs.settle.sweep.Goals.{After-advance_at}, specs.Begun.{ArePermittedIn}, specs.Sweep.{AreStill, IsSwept, StandsAt}}
+use Rattle.capsteps.{proofs.Common.{IsNext, KeptScene, plain, Scene}, proofs.Sweeping.{fewer_behind, last-turn, next-turn, still-kept, swept-on}, proofs.settle.sweep.Goals.{After-advance_at}, specs.Begun.{ArePermittedIn}, specs.Sweep.{AreStill, IsSwept, StandsAt}}
 use Rattle.capsteps.proofs.settle.sweep.Goals as goal
 
 module _ (c : After-advance_at) where
@@ -45,6 +45,12 @@ returns-in-Some-clause-swept c = more (goal.at.returns-in-Some-clause-swept c).A
 pub returns-in-None-clause-swept : goal.returns-in-None-clause-swept
 returns-in-None-clause-swept c = more (goal.at.returns-in-None-clause-swept c).After-advance_at
 
+pub returns-in-Some-clause-rest : goal.returns-in-Some-clause-rest
+returns-in-Some-clause-rest c = rest (goal.at.returns-in-Some-clause-rest c).After-advance_at
+
+pub returns-in-None-clause-rest : goal.returns-in-None-clause-rest
+returns-in-None-clause-rest c = rest (goal.at.returns-in-None-clause-rest c).After-advance_at
+
 pub inodes-smaller : goal.inodes-smaller
 inodes-smaller c = fewer_behind c.args.affected.now c.inodes.place.at.0 c.in-Some-after.at (subst (IsNext c.args.affected.now (c.inodes.place.at.0 + 1)) c.in-Some-after.is c.after.ensures)
 
@@ -54,6 +60,8 @@ inodes-preserved c =
     let next : IsNext c.args.affected.now (c.inodes.place.at.0 + 1) (Some c.in-Some-after.at) = subst (IsNext c.args.affected.now (c.inodes.place.at.0 + 1)) c.in-Some-after.is c.after.ensures in
     let done = subst (IsDue (new here) c.inodes.place.at.0) c.in_default.is c.advance_at.ensures.due in
     record {
+      rest = rest here;
+      counted = c.advance_at.ensures.counted;
       swept = more here;
       stands = record {
         turn = next-turn c.args.affected.now (new here) c.inodes.place.at.0 c.in-Some-after.at (still here) c.advance_at.ensures.turn done next;
@@ -79,5 +87,6 @@ pub advance_at-requires : goal.advance_at-requires
 advance_at-requires c = record {
   turn = c.inodes.invariant.stands.turn;
   alone = c.inodes.invariant.stands.alone;
-  permitted = λ k e on here. (let swept = c.inodes.invariant.swept in subst (ArePermittedIn c.args.scene.now.table.kept) (sym swept.is) c.requires.permitted) k e here;
+  permitted = λ k e on here. subst (λ (s : KeptScene). ArePermittedIn s.table.kept (plain s)) (sym c.inodes.invariant.rest) c.requires.permitted k e here;
+  counted = c.inodes.invariant.counted;
 }

@@ -14,7 +14,7 @@ returns-then-has c =
     let found : entry_at t k ≡ Some c.in-Some.entry = cc in
     let caches : has c.in-Some.entry.held Fc ≡ true = sym c.has.ensures ∙ c.if-has.true in
     c.owe_size.ensures
-    ∙ same_found t k c.in-Some.entry (with_size_due true) (owed_of k) found (sym (ap (λ b. cond b (with_size_due true c.in-Some.entry) c.in-Some.entry) caches))
+    ∙ ap (λ (u : Table). record c.args.table.now { entries = u }) (same_found t k c.in-Some.entry (with_size_due true) (owed_of k) found (sym (ap (λ b. cond b (with_size_due true c.in-Some.entry) c.in-Some.entry) caches)))
 
 pub returns-else-has : goal.returns-else-has
 returns-else-has c =
@@ -22,9 +22,9 @@ returns-else-has c =
     let k : Holder = c.args.holder in
     let found : entry_at t k ≡ Some c.in-Some.entry = cc in
     let not_cached : has c.in-Some.entry.held Fc ≡ false = sym c.has.ensures ∙ c.if-has.false in
-    left_found t k c.in-Some.entry (owed_of k) found (ap (λ b. cond b (with_size_due true c.in-Some.entry) c.in-Some.entry) not_cached)
+    ap (λ (u : Table). record c.args.table.now { entries = u }) (left_found t k c.in-Some.entry (owed_of k) found (ap (λ b. cond b (with_size_due true c.in-Some.entry) c.in-Some.entry) not_cached))
 
 pub returns-in_default : goal.returns-in_default
 returns-in_default c =
     let none : entry_at c.args.table.now.entries c.args.holder ≡ None = cc in
-    none_found c.args.table.now.entries c.args.holder (owed_of c.args.holder) none
+    ap (λ (u : Table). record c.args.table.now { entries = u }) (none_found c.args.table.now.entries c.args.holder (owed_of c.args.holder) none)

@@ -1,5 +1,5 @@
 use Rattle.std.{proofs.Common.{◌≡◌, ◌<◌, ◌≤◌, ℕ, ◌+◌, List, [], ◌∷◌, ◌++◌, length, take, get_or, sym, ap, ◌∙◌, arith}, proofs.lemmas.List.{length-map, take_more, take_all, get_or-map}, proofs.lemmas.List.Sums.{fold-append}, specs.List.{fold}}
-use Rattle.capsteps.proofs.{AtEnd.{named, named-clients}, Common.{changed_by, entries_on, fold-on_inode, Holder, holder, holders_of_rows, owed, Table}}
+use Rattle.capsteps.proofs.{AtEnd.{named, named-clients}, Common.{changed_by, entries_on, fold-on_inode, Holder, holder, holders_of_rows, KeptTable, owed, Table}}
 use Rattle.capsteps.proofs.sizes.owe_on.Goals as goal
 
 pub loop-number-preserved : goal.loop-number-preserved
@@ -13,8 +13,8 @@ loop-number-preserved c =
     let here : get_or ks i k ≡ k = get_or-map (λ (n : ℕ). holder (record { 0 = n }) c.args.ino) cs i 0 k c.loop-number-test.true in
     let more : take (i + 1) ks ≡ take i ks ++ k ∷ [] = take_more ks i k inside ∙ ap (λ (k : Holder). take i ks ++ k ∷ []) here in
     c.owe.ensures
-    ∙ ap (λ (t : Table). changed_by owed t k) c.loop-number.invariant
-    ∙ sym (ap (fold (changed_by owed) t) more ∙ fold-append (changed_by owed) t (take i ks) (k ∷ []))
+    ∙ ap (λ (u : KeptTable). record u { entries = changed_by owed u.entries k }) c.loop-number.invariant
+    ∙ ap (λ (u : Table). record c.args.table.now { entries = u }) (sym (ap (fold (changed_by owed) t) more ∙ fold-append (changed_by owed) t (take i ks) (k ∷ [])))
 
 pub returns : goal.returns
 returns c =
@@ -25,5 +25,5 @@ returns c =
     let all : ks ≡ holders_of_rows (entries_on t c.args.ino) =
     ap (named c.args.ino) (c.as_slice-numbers.ensures.value ∙ c.clients_on-clients.ensures.clients) ∙ named-clients c.args.ino t.rows in
     c.loop-number.invariant
-    ∙ ap (fold (changed_by owed) t) (take_all c.loop-number.number-index ks past ∙ all)
-    ∙ fold-on_inode owed t c.args.ino c.clients_on-clients.ensures.sound
+    ∙ ap (λ (u : Table). record c.args.table.now { entries = u })
+    (ap (fold (changed_by owed) t) (take_all c.loop-number.number-index ks past ∙ all) ∙ fold-on_inode owed t c.args.ino c.clients_on-clients.ensures.sound)

@@ -3,4 +3,4 @@ use Rattle.capsteps.proofs.{AtEnd.{named}, Common.{changed_by, owed}}
 use Rattle.capsteps.proofs.sizes.owe_on.Given as goal
 
 abbrev pub invariant-loop-number : goal.invariant-loop-number
-invariant-loop-number l = l.table.entries ≡ fold (changed_by owed) l.fn.table.entries (take l.number-index (named l.ino l.numbers))
+invariant-loop-number l = l.table ≡ record l.fn.table { entries = fold (changed_by owed) l.fn.table.entries (take l.number-index (named l.ino l.numbers)) }

@@ -1,6 +1,6 @@
 use Rattle.std.proofs.{Common.{◌≡◌, ◌+◌, ◌++◌, List, [], ◌∷◌, take, get_or, sym, ap, subst, ◌∙◌, Bool, true, false, cond, ◌||◌, map, refl, IsTrue, All}, lemmas.List.{take_more, take_all, map-id}, lemmas.List.Folds.{list_any-append}}
 use Rattle.capbits.specs.Caps.{has}
-use Rattle.capsteps.proofs.{Common.{changed_where, Entry, EntryRow, Fc, has_session, Ino, is_of_inode, is_sized, owed, remade, Table, with_size_due}, ManyInodes.{holders-stay}}
+use Rattle.capsteps.proofs.{Common.{changed_where, Entry, EntryRow, Fc, has_session, Ino, is_of_inode, is_sized, KeptTable, owed, remade, Table, with_size_due}, ManyInodes.{holders-stay}}
 use Rattle.capsteps.proofs.sizes.owe_sizes.Goals as goal
 
 -- Entries on several inodes that are to be told a size, one inode after another: as all at once, since being told twice is being told.
@@ -43,7 +43,7 @@ more-owed done ino t = ap (λ (rows : List EntryRow). record t { rows = rows }) 
     all (row ∷ rows) = λ i. each_row done ino row i ∷ all rows i
 
 pub loop-ino-init : goal.loop-ino-init
-loop-ino-init c = record { owes = none-owed c.args.table.now.entries; clients = c.requires }
+loop-ino-init c = record { owes = ap (λ (t : Table). record c.args.table.now { entries = t }) (none-owed c.args.table.now.entries); clients = c.requires }
 
 pub loop-ino-preserved : goal.loop-ino-preserved
 loop-ino-preserved c =
@@ -54,15 +54,15 @@ loop-ino-preserved c =
     record {
       owes =
           c.owe_on.ensures
-          ∙ ap (changed_where (is_of_inode ino) owed) c.loop-ino.invariant.owes
-          ∙ more-owed done ino c.args.table.now.entries
-          ∙ ap (λ (sized : List Ino). changed_where (is_sized sized) owed c.args.table.now.entries) (sym more);
+          ∙ ap (λ (t : KeptTable). record t { entries = changed_where (is_of_inode ino) owed t.entries }) c.loop-ino.invariant.owes
+          ∙ ap (λ (t : Table). record c.args.table.now { entries = t }) (more-owed done ino c.args.table.now.entries)
+          ∙ ap (λ (sized : List Ino). record c.args.table.now { entries = changed_where (is_sized sized) owed c.args.table.now.entries }) (sym more);
       clients =
-          subst (λ (t : Table). All (λ row. IsTrue (has_session c.args.sessions.now row.holder.client.0)) t.rows) (sym c.owe_on.ensures)
+          subst (λ (t : KeptTable). All (λ row. IsTrue (has_session c.args.sessions.now row.holder.client.0)) t.entries.rows) (sym c.owe_on.ensures)
           (holders-stay (is_of_inode ino) owed (λ h. IsTrue (has_session c.args.sessions.now h.client.0)) c.loop-ino.table.entries c.loop-ino.invariant.clients);
     }
 
 pub returns : goal.returns
 returns c =
     c.loop-ino.invariant.owes
-    ∙ ap (λ (sized : List Ino). changed_where (is_sized sized) owed c.args.table.now.entries) (take_all c.loop-ino.ino-index c.args.sized.now c.loop-ino-test.false)
+    ∙ ap (λ (sized : List Ino). record c.args.table.now { entries = changed_where (is_sized sized) owed c.args.table.now.entries }) (take_all c.loop-ino.ino-index c.args.sized.now c.loop-ino-test.false)
