@@ -378,10 +378,7 @@ impl Locks {
         if !four.is_gathering() {
             return None;
         }
-        PARTS
-            .iter()
-            .copied()
-            .find(|part| ends_by_count(counts.of_part(*part), four.of_part(*part)))
+        PARTS.iter().copied().find(|part| ends_by_count(counts.of_part(*part), four.of_part(*part)))
     }
 
     // The beginning of the first lock of an inode that may begin, where no request waits unless `waits` says that one may.

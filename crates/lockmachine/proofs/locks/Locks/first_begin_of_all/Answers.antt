@@ -15,7 +15,7 @@ use Rattle.lockmachine.proofs.locks.Locks.first_begin_of_all.Goals as goal
 -- what the first lock of this inode says, and of those behind it
 first_here : (c : goal.After-first_begin) → ArePermitted c.args.table.now.kept c.args.policy.now.fs.now c.args.policy.now.tree.now c.args.policy.now.sessions.now c.args.table.now.entries
     → (let s = scene_by c.args.policy.now c.args.table.now.entries c.args.self.now.locks in
-      unwrap_or c.first_begin.result (begin_or_rest s (find (may_begin s) (lock_ids_in c.next.new.self))) ≡ begin_or_rest s (find (may_begin s) (lock_ids c.args.self.now.locks)))
+    unwrap_or c.first_begin.result (begin_or_rest s (find (may_begin s) (lock_ids_in c.next.new.self))) ≡ begin_or_rest s (find (may_begin s) (lock_ids c.args.self.now.locks)))
 first_here c are =
     let policy = c.args.policy.now in
     let s : Scene = scene_by policy c.args.table.now.entries c.args.self.now.locks in
