@@ -1,4 +1,4 @@
-use Rattle.std.proofs.Common.{◌≡◌, None, ap, rules}
+use Rattle.std.proofs.Common.{◌≡◌, None, ap, refl, rules}
 use Rattle.capcore.proofs.{Common.{entry_at, HasRoom, Holder, IsOpening, State, Table}, Counts.{opening-counted}, Sounding.{opening-sound}}
 use Rattle.capcore.proofs.world.World.new.Goals as goal
 
