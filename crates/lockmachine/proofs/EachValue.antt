@@ -1,5 +1,6 @@
--- A finite map of which each value was made another: what it has, and what it is after a change.
-use Rattle.std.proofs.Common.{◌≡◌, ℕ, Bool, true, false, cond, ◌&&◌, Option, Some, None, T, List, [], ◌∷◌, map as each, refl, sym, ap, subst, ◌∙◌}
+-- A finite map of which each value was made another: what it has, and what it is after a change; and the maps of locks and of counts
+-- that one map of both stands for.
+use Rattle.std.proofs.Common.{◌≡◌, ℕ, Bool, true, false, cond, ◌&&◌, Option, Some, None, T, List, [], ◌∷◌, map as each, is_some, refl, sym, ap, subst, ◌∙◌}
 use Rattle.std.specs.Cmp.{nat_cmp_total}
 use Rattle.std.specs.FinMap as map
 use Rattle.std.specs.FinMap.{FinMap}
@@ -8,7 +9,10 @@ use Rattle.std.specs.Option.{option_map, option_map_or}
 use Rattle.std.specs.Ordering.{eq_by_cmp, is_lt, nat_cmp}
 use Rattle.capbits.specs.Maps.{change_at}
 use Rattle.numbered.proofs.Maps.{insert-same}
-use Rattle.lockmachine.specs.Inodes.{each_value}
+use Rattle.onelock.specs.declared.counts.Counts.{Counts}
+use Rattle.lockmachine.specs.declared.states.InodeLocks.{InodeLocks}
+use Rattle.lockmachine.specs.declared.states.LocksAt.{LocksAt}
+use Rattle.lockmachine.specs.Inodes.{CountedStates, HaveCounts, each_value}
 
 module _ {X Y : Type 0} (f : X → Y) where
   abbrev made : List (ℕ × X) → List (ℕ × Y)
@@ -80,3 +84,43 @@ module _ {X Y : Type 0} (f : X → Y) where
       by_value (Some x) is =
           insert-each m k (g x) ∙ ap (map.insert (each_value f m) k) (alike x)
           ∙ insert-same nat_cmp_total map.nat_cmp-IsAntisymmetric (each_value f m) k (f x) (get-each m k ∙ ap (option_map f) is)
+
+-- ---- locks, and beside them counts
+
+abbrev locks_at : LocksAt → InodeLocks
+locks_at at = at.locks
+
+abbrev counts_at : LocksAt → Counts
+counts_at at = at.counts
+
+abbrev pub both_of : FinMap nat_cmp LocksAt → CountedStates
+both_of rows = record { states = each_value (λ (at : LocksAt). at.locks) rows; counts = each_value (λ (at : LocksAt). at.counts) rows }
+
+pub both-empty : both_of map.empty ≡ record { states = map.empty; counts = map.empty }
+both-empty = λ i. record { states = empty-each locks_at i; counts = empty-each counts_at i }
+
+pub both-insert : (rows : FinMap nat_cmp LocksAt) (k : ℕ) (at : LocksAt) → both_of (map.insert rows k at) ≡ record { states = map.insert (both_of rows).states k at.locks; counts = map.insert (both_of rows).counts k at.counts }
+both-insert rows k at = λ i. record { states = insert-each locks_at rows k at i; counts = insert-each counts_at rows k at i }
+
+pub both-remove : (rows : FinMap nat_cmp LocksAt) (k : ℕ) → both_of (map.remove rows k) ≡ record { states = map.remove (both_of rows).states k; counts = map.remove (both_of rows).counts k }
+both-remove rows k = λ i. record { states = remove-each locks_at rows k i; counts = remove-each counts_at rows k i }
+
+-- other locks, or other counts
+pub both-locks : (rows : FinMap nat_cmp LocksAt) (k : ℕ) (h : InodeLocks → InodeLocks)
+    → both_of (change_at (λ at. record at { locks = h at.locks }) rows k) ≡ record (both_of rows) { states = change_at h (both_of rows).states k }
+both-locks rows k h =
+    let g : LocksAt → LocksAt = λ at. record at { locks = h at.locks } in
+    λ i. record { states = change-each locks_at g h (λ at. refl) rows k i; counts = change-unseen counts_at g (λ at. refl) rows k i }
+
+pub both-counts : (rows : FinMap nat_cmp LocksAt) (k : ℕ) (h : Counts → Counts)
+    → both_of (change_at (λ at. record at { counts = h at.counts }) rows k) ≡ record (both_of rows) { counts = change_at h (both_of rows).counts k }
+both-counts rows k h =
+    let g : LocksAt → LocksAt = λ at. record at { counts = h at.counts } in
+    λ i. record { states = change-unseen locks_at g (λ at. refl) rows k i; counts = change-each counts_at g h (λ at. refl) rows k i }
+
+pub have-counts : (rows : FinMap nat_cmp LocksAt) → HaveCounts (both_of rows).states (both_of rows).counts
+have-counts rows ino = ap is_some (get-each counts_at rows ino) ∙ same_some (map.get rows ino) ∙ sym (ap is_some (get-each locks_at rows ino))
+  where
+    same_some : (o : Option LocksAt) → is_some (option_map counts_at o) ≡ is_some (option_map locks_at o)
+    same_some None = refl
+    same_some (Some at) = refl

@@ -32,19 +32,19 @@ pub record GivesUp (row : EntryRow) (left : Caps) (first now : CountedLocks) (do
 
 -- each part comes once
 once : (i : ℕ) (d q : Part) → i < 4 → same_part q (get_or parts i d) ≡ true → list_any (same_part q) (take i parts) ≡ false
-once 0 d q room same = refl
-once 1 d A room same = absurd (cc)
-once 1 d L room same = refl
-once 1 d X room same = absurd (cc)
-once 1 d F room same = absurd (cc)
-once 2 d A room same = absurd (cc)
-once 2 d L room same = absurd (cc)
-once 2 d X room same = refl
-once 2 d F room same = absurd (cc)
-once 3 d A room same = absurd (cc)
-once 3 d L room same = absurd (cc)
-once 3 d X room same = absurd (cc)
-once 3 d F room same = refl
+once zero d q room same = refl
+once (suc zero) d A room same = absurd (cc)
+once (suc zero) d L room same = refl
+once (suc zero) d X room same = absurd (cc)
+once (suc zero) d F room same = absurd (cc)
+once (suc (suc zero)) d A room same = absurd (cc)
+once (suc (suc zero)) d L room same = absurd (cc)
+once (suc (suc zero)) d X room same = refl
+once (suc (suc zero)) d F room same = absurd (cc)
+once (suc (suc (suc zero))) d A room same = absurd (cc)
+once (suc (suc (suc zero))) d L room same = absurd (cc)
+once (suc (suc (suc zero))) d X room same = absurd (cc)
+once (suc (suc (suc zero))) d F room same = refl
 once (suc (suc (suc (suc i)))) d q room same = absurd (omega arith)
 
 -- one part more: m says whether the lock's part was among those before, b whether it is this one, h whether the inode is the client's,
@@ -60,7 +60,7 @@ one-part false false true true first now g is apart off here = is
 one-part false false true false first now g is apart off here = is
 one-part false false false true first now g is apart off here = is
 one-part false false false false first now g is apart off here = is
-one-part false true true true first now g is apart off here = ap (λ n. n - 1) is ∙ ap (λ n. first - n) (sym (here refl refl))
+one-part false true true true first now g is apart off here = (let one : g ≡ 1 = here refl refl in omega (arith, is))
 one-part false true true false first now g is apart off here = is ∙ ap (λ n. first - n) (sym (here refl refl))
 one-part false true false true first now g is apart off here = is ∙ ap (λ n. first - n) (sym (off refl))
 one-part false true false false first now g is apart off here = is ∙ ap (λ n. first - n) (sym (off refl))

@@ -619,7 +619,7 @@ impl Locks {
             return;
         };
         for part in &PARTS {
-            if waits_no_longer(*part, locks.of_part(*part), row, left) {
+            if waits_no_longer(*part, locks.of_part(*part), &row, left) {
                 self.acked(ino, *part);
             }
         }
@@ -737,17 +737,29 @@ impl Locks {
 }
 
 // Whether the lock of the part is in a gather that waits for the client of the entry, and will not once these caps alone are left to it.
-fn waits_no_longer(part: Part, lock: LockState, row: EntryRow, left: CapSet) -> bool
-    ensures { result ≡ counted.waits_no_longer part row left lock }
+fn waits_no_longer(part: Part, lock: LockState, row: &EntryRow, left: CapSet) -> bool
+    ensures { result ≡ counted.waits_no_longer part row.now left lock }
 {
-    let LockState::Gather { to, .. } = lock else {
-        return false;
-    };
+    match lock {
+        LockState::Gather { to, .. } => {
+            has_outside(part, to, *row) && !has_outside(part, to, left_with(row, left))
+        }
+        LockState::Stable(_) => false,
+    }
+}
+
+// The entry with its holder, where these caps alone are left to the client.
+fn left_with(row: &EntryRow, left: CapSet) -> EntryRow
+    ensures { result ≡ record row.now { entry = record row.now.entry { held = left } } }
+{
     let entry = Entry {
         held: left,
         ..row.entry
     };
-    has_outside(part, to, row) && !has_outside(part, to, EntryRow { entry, ..row })
+    EntryRow {
+        holder: row.holder,
+        entry,
+    }
 }
 
 // The number that was given first.

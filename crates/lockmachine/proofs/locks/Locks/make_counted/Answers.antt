@@ -11,10 +11,10 @@ use Rattle.lockmachine.proofs.locks.Locks.make_counted.Goals as goal
 
 -- a move that begins no gather
 others : (table : Table) (l : CountedLocks) (step : Move) → ((ino : _) (part : _) (to : _) → step ≡ Begin ino part to → ⊥) → AreCounted table l → AreCounted table (record l { locks = moved l.locks step })
-others table l (Begin ino part to) no are = absurd (no ino part to refl)
-others table l (End ino part) no are = counted-stable table l ino.0 part (coming_state (lock_at l.locks ino.0 part)) are
-others table l (Serve ticket) no are = are
-others table l Settled no are = are
+others table l (Begin ino part to) off are = absurd (off ino part to refl)
+others table l (End ino part) off are = counted-stable table l ino.0 part (coming_state (lock_at l.locks ino.0 part)) are
+others table l (Serve ticket) off are = are
+others table l Settled off are = are
 
 pub returns-in-Begin-clause-counted : goal.returns-in-Begin-clause-counted
 returns-in-Begin-clause-counted c = λ are.
