@@ -1,11 +1,10 @@
 -- What changes of the entries leave of the counts of gathers.
 use Rattle.std.{proofs.Common.{◌≡◌, ◌≢◌, ℕ, ◌+◌, ◌-◌, Bool, true, false, not, cond, ◌&&◌, ◌==◌, Option, Some, None, List, [], ◌∷◌, refl, sym, ap, subst, ◌∙◌, arith, map as each, filter, is_some, length, true≢false}, proofs.lemmas.Bool.{eqb-true, eqb-false}, specs.Cmp.{nat_eq_equiv}, specs.List.{find, IsDistinct}, specs.Option.{option_map, option_map_or}}
 use Rattle.std.specs.FinMap as map
-use Rattle.capbits.{proofs.Emptiness.{has-is_empty, is_empty-no_caps}, specs.Caps.{has}, specs.Sets.{no_caps}, specs.declared.cap.Part.TheVariants.{A, L, X, F}}
-use Rattle.captable.{proofs.ByInode.{entries_on-changed, entries_on-without}, proofs.Counting.{bit, with_change}, proofs.Tally.{passes_found, tally, tally-changed, tally-first, tally-more, tally-without}}
-use Rattle.capacts.proofs.GivenUp.{nothing_outside}
-use Rattle.capacts.specs.Lockmachine.{Counts.{AreCounted, AreCountedAt, CountedLocks, IsCounted, count_at, count_of, given_up, has_outside, holders_outside}, Inodes.{CountMap, is_gathering, lock_in}, Moves.{LockId}, Runs.{ChangesLocksOf}}
-use Rattle.capsteps.proofs.Common.{Cap, Caps, changed, Entry, entry_at, EntryRow, Gather, has-minus, has-none, has-of_part, Holder, holders_of_rows, Ino, InodeLocks, is_empty, is_of_inode, is_row_of, IsSubset, lock_at, LockMap, LockState, minus, new_entry, no_entry, none_found, of_part, opened, outside, P, Part, row_of, row_of-entry, same, same_caps, Stable, StableState, Table, with_entry, without}
+use Rattle.capbits.{proofs.Emptiness.{is_empty-no_caps}, specs.Caps.{has}, specs.Sets.{no_caps}}
+use Rattle.captable.proofs.{Counting.{bit, with_change}, Tally.{passes_found, tally, tally-changed, tally-first, tally-more, tally-without}}
+use Rattle.capacts.{proofs.GivenUp.{nothing_outside}, specs.Lockmachine.Counts.{AreCountedAt, IsCounted, count_at, count_of, given_up, holders_outside}, specs.Lockmachine.Inodes.{CountMap, is_gathering}}
+use Rattle.capsteps.proofs.Common.{A, AreCounted, Cap, Caps, changed, ChangesLocksOf, CountedLocks, entries_on-changed, entries_on-without, Entry, entry_at, EntryRow, F, Gather, has-is_empty, has-minus, has-none, has-of_part, has_outside, Holder, holders_of_rows, Ino, InodeLocks, is_empty, is_of_inode, is_row_of, IsSubset, L, lock_at, lock_in, LockId, LockMap, LockState, minus, new_entry, no_entry, none_found, of_part, opened, outside, P, Part, row_of, row_of-entry, same, same_caps, Stable, StableState, Table, with_entry, without, X}
 
 -- ---- the rows that count
 

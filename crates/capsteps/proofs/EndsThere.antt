@@ -3,7 +3,7 @@ use Rattle.std.{proofs.Common.{◌≡◌, ℕ, ◌==◌, Bool, true, false, cond
 use Rattle.std.specs.FinMap as finite
 use Rattle.capbits.specs.Caps.{has}
 use Rattle.capacts.proofs.Lockmachine.Told.{told-same}
-use Rattle.capsteps.{proofs.Common.{AreKnown, Cap, Caps, due, Entry, entry_at, entry_of, EntryRow, find-map, find_passes, finished, forget, has-union, Holder, is_gone, is_in_use, is_of_inode, is_row_of, IsSound, IsSoundEntry, IsSubset, issue, issue_row, IssuesExactly, IsTable, IsTree, known_anew, known_of, KnownAnew, KnownSets, lock_at, lock_in, Made, meet, number_row, or_inside, Part, permitted, permitted-kept, presence, remade, renumbered, row_found, same, same-is, Scene, State, Table, still_known, told_set}, proofs.Finishing.{each-alike, same-issue_row, same-renumbered, kept_by}, proofs.Forgotten.{due-left}, proofs.LeftAlone.{found-contains}, proofs.Moved.{moved-all}, proofs.SameOff.{row_elsewhere, any_elsewhere, IsSameFrom, from-first}, proofs.Strays.{retained-here, kept-held, goes, alike-retained}, proofs.Telling.{any-map_same}, specs.Affected.{Affects, SettlesAt, Knows, stays, told_then, finished_entry, finished_at}}
+use Rattle.capsteps.{proofs.Common.{AreKnown, Cap, Caps, due, Entry, entry_at, entry_of, EntryRow, find-map, find_passes, finished, forget, has-union, Holder, is_gone, is_in_use, is_of_inode, is_row_of, IsSound, IsSoundEntry, IsSubset, issue, issue_row, IssuesExactly, IsTable, IsTree, known_anew, known_of, KnownAnew, KnownSets, lock_at, lock_in, Made, meet, number_row, or_inside, Part, permitted, permitted-kept, presence, remade, renumbered, row_found, same, same-is, Scene, State, still_known, Table, told_set}, proofs.Finishing.{each-alike, same-issue_row, same-renumbered, kept_by}, proofs.Forgotten.{due-left}, proofs.LeftAlone.{found-contains}, proofs.Moved.{moved-all}, proofs.SameOff.{row_elsewhere, any_elsewhere, IsSameFrom, from-first}, proofs.Strays.{retained-here, kept-held, goes, alike-retained}, proofs.Telling.{any-map_same}, specs.Affected.{Affects, SettlesAt, Knows, stays, told_then, finished_entry, finished_at}}
 
 -- ---- an entry at the end
 

@@ -1,9 +1,9 @@
 -- What an event about one entry leaves of each entry, and of what is kept of it.
 use Rattle.std.{proofs.Common.{◌≡◌, ◌≢◌, ◌⊎◌, inl, inr, Bool, true, false, not, cond, Some, None, Option, is_some, [], ◌∷◌, refl, sym, ap, ◌∙◌, arith}, proofs.lemmas.List.Elements.{All-contains}, proofs.lemmas.List.Folds.{find-append}, specs.List.{find}, specs.Option.{option_map, option_or}}
 use Rattle.capbits.specs.{Caps.{has}, Sets.{no_caps}}
-use Rattle.captable.{proofs.Searches.{find-filter_kept}, specs.Kept.{is_kept_of, keeping, kept_more, kept_without, KeptRow, no_sets, permitting}}
-use Rattle.capacts.proofs.Beside.{keeping-other, keeping-own}
-use Rattle.capsteps.{proofs.Common.{AreKnown, ArePermitted, Caps, caps_in, changed, Entry, entry_at, entry_at-opened, entry_at-opened_other, entry_at-without, entry_of, has-caps_in, has-minus, has-none, has-union, Holder, is_row_of, is_still_known, IsSound, IsSoundEntry, IsSubset, known_of, KnownSets, new_entry, opened, opening_wants, OpenMode, OthersHaveAll, P, permitted, permitted_of, revoked_of, row_of-entry, same, same-is, same_equiv, Scene, Sets, sets_of, State, StillKnown, Table, union, wanting, without, without_acked, without_released}, proofs.Knowing.{held_at, HoldAlike, still-known}, proofs.LeftAlone.{found-contains}, proofs.Revoking.{pin-goes}, proofs.ShownSteps.{IsOf, apart-of, changed-as}, specs.EntryRequest.{table_after, StillKept}, specs.declared.entry_request.EntryRequest.{EntryRequest}, specs.declared.entry_request.EntryRequest.TheVariants.{Open, Want, Ack, Release}}
+use Rattle.captable.specs.{Kept.{is_kept_of, keeping, kept_more, kept_without, KeptRow, no_sets}, declared.entry.Sets.{Sets}}
+use Rattle.capacts.{proofs.Beside.{keeping-other, keeping-own}, specs.Known.{sets_of}}
+use Rattle.capsteps.{proofs.Common.{AreKnown, ArePermitted, Caps, caps_in, changed, Entry, entry_at, entry_at-opened, entry_at-opened_other, entry_at-without, entry_of, find-filter_kept, has-caps_in, has-minus, has-none, has-union, Holder, is_row_of, is_still_known, IsSound, IsSoundEntry, IsSubset, known_of, KnownSets, new_entry, opened, opening_wants, OpenMode, OthersHaveAll, P, permitted, permitted_of, permitting, revoked_of, row_of-entry, same, same-is, same_equiv, Scene, State, StillKnown, Table, union, wanting, without, without_acked, without_released}, proofs.Knowing.{held_at, HoldAlike, still-known}, proofs.LeftAlone.{found-contains}, proofs.Revoking.{pin-goes}, proofs.ShownSteps.{IsOf, apart-of, changed-as}, specs.EntryRequest.{table_after, StillKept}, specs.declared.entry_request.EntryRequest.{EntryRequest}, specs.declared.entry_request.EntryRequest.TheVariants.{Open, Want, Ack, Release}}
 
 -- ---- what is kept of each
 

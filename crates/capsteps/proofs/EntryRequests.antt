@@ -4,9 +4,9 @@ use Rattle.std.{proofs.Common.{◌≡◌, ◌≢◌, ◌≤◌, inl, inr, ℕ, �
 use Rattle.std.specs.FinMap as map
 use Rattle.capbits.specs.{Caps.{has}, Sets.{no_caps}}
 use Rattle.capgrant.proofs.Pins.{pin_of_read, pin_of_write}
-use Rattle.captable.{proofs.ByInode.{entries_on-changed, entries_on-opened, entries_on-without}, proofs.Moves.{IsTable-touched}, proofs.Tables.{IsTable-changed, IsTable-opened, IsTable-without}, specs.Calls.{has_pin}, specs.Tests.{open_tests, test_at}}
+use Rattle.captable.{proofs.ByInode.{entries_on-opened}, proofs.Moves.{IsTable-touched}, proofs.Tables.{IsTable-changed, IsTable-opened, IsTable-without}, specs.Tests.{open_tests}}
 use Rattle.capacts.{proofs.Lockmachine.SameBut.{same-entries}, specs.Caprules.Direct.{with_table}, specs.Caprules.Judge.{before, needs, after, basic_tests, room_for}}
-use Rattle.capsteps.{proofs.Common.{and_parts, AreGiven, change_rows, changed, ClientId, Direct, effect, effective_want, entries_on, Entry, entry_at, entry_of, EntryRow, Event, first_failing, has-caps_in, has-meet, has-none, has-of_part, has-union, has_session, Holder, holder, Ino, is_of_inode, is_open, is_row_of, IsInRow, IsInRowOf, IsQuiet, IsSound, IsSoundEntry, IsSubset, IsTable, judged, lock_at, lock_in, LockState, new_entry, opened, opening_wants, OpenMode, P, Part, part_of_operation, permitted, revoked_of, row_found, row_of-entry, same_equiv, Scene, StableState, State, StateMap, Table, union, WaitAt, wanting, without, without_acked, without_released}, proofs.EntryKept.{IsLess, IsMade, each-after}, proofs.Forgotten.{all_rows}, proofs.Judging.{no_test}, proofs.LeftAlone.{found-contains}, proofs.Moved.{sound-waits}, proofs.Placed.{placed-in_row}, specs.Affected.{IsAffectedEntry, AffectsOne}, specs.EntryRequest.{table_after, entry_event, entry_request_tests}, specs.declared.entry_request.EntryRequest.{EntryRequest}, specs.declared.entry_request.EntryRequest.TheVariants.{Open, Want, Ack, Release}}
+use Rattle.capsteps.{proofs.Common.{and_parts, AreGiven, change_rows, changed, ClientId, Direct, effect, effective_want, entries_on, entries_on-changed, entries_on-without, Entry, entry_at, entry_of, EntryRow, Event, first_failing, has-caps_in, has-meet, has-none, has-of_part, has-union, has_pin, has_session, Holder, holder, Ino, is_of_inode, is_open, is_row_of, IsInRow, IsInRowOf, IsQuiet, IsSound, IsSoundEntry, IsSubset, IsTable, judged, lock_at, lock_in, LockState, new_entry, opened, opening_wants, OpenMode, P, Part, part_of_operation, permitted, revoked_of, row_found, row_of-entry, same_equiv, Scene, StableState, State, StateMap, Table, test_at, union, WaitAt, wanting, without, without_acked, without_released}, proofs.EntryKept.{IsLess, IsMade, each-after}, proofs.Forgotten.{all_rows}, proofs.Judging.{no_test}, proofs.LeftAlone.{found-contains}, proofs.Moved.{sound-waits}, proofs.Placed.{placed-in_row}, specs.Affected.{IsAffectedEntry, AffectsOne}, specs.EntryRequest.{table_after, entry_event, entry_request_tests}, specs.declared.entry_request.EntryRequest.{EntryRequest}, specs.declared.entry_request.EntryRequest.TheVariants.{Open, Want, Ack, Release}}
 
 -- ---- the tests of an event that nothing rejects
 

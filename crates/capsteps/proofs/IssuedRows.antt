@@ -4,8 +4,8 @@ use Rattle.std.specs.FinMap as map
 use Rattle.capbits.{proofs.Covering.{one_part, same_cap-pin}, specs.Caps.{has}, specs.Sets.{no_caps, covers}}
 use Rattle.locktable.specs.Rows.{allowed_of, allowed_covers}
 use Rattle.sessiontab.specs.{Calls.{status_of}, Tests.{is_open as is_open_status}}
-use Rattle.capacts.specs.Lockmachine.{Counts.{has_outside}, Under.{allowed_by, allowed_under}}
-use Rattle.capsteps.{proofs.Common.{and_parts, AreCounted, Cap, Caps, caps_in, changed_where, CountedLocks, due, effective_want, Entry, EntryRow, filter-map, Gather, has-caps_in, has-meet, has-minus, has-none, has-of_part, has-union, Holder, is_empty, is_of_inode, is_open, IsAtRest, IsInRow, IsQuiet, lock_at, LockMap, LockState, meet, Nodes, of_part, outside, P, Part, permitted, remade, row_of, same_caps, Scene, second_true, SessionTable, StableState, union, wants}, proofs.CountsKept.{counted-rows}, specs.Affected.{finished_entry}}
+use Rattle.capacts.specs.Lockmachine.Under.{allowed_by}
+use Rattle.capsteps.{proofs.Common.{allowed_under, and_parts, AreCounted, Cap, Caps, caps_in, changed_where, CountedLocks, due, effective_want, Entry, EntryRow, filter-map, Gather, has-caps_in, has-meet, has-minus, has-none, has-of_part, has-union, has_outside, Holder, is_empty, is_of_inode, is_open, IsAtRest, IsInRow, IsQuiet, lock_at, LockMap, LockState, meet, Nodes, of_part, outside, P, Part, permitted, remade, row_of, same_caps, Scene, second_true, SessionTable, StableState, union, wants}, proofs.CountsKept.{counted-rows}, specs.Affected.{finished_entry}}
 
 -- ---- what the locks allow of a part
 

@@ -3,8 +3,8 @@
 use Rattle.std.{proofs.Common.{◌≡◌, ℕ, Bool, not, Option, None, is_some, List, [], ◌∷◌, ◌++◌, refl, sym, subst, ◌∙◌, Contains, true≢false, ◌+◌, length, ap, arith, false, All}, proofs.lemmas.List.{length-append}, proofs.lemmas.List.Elements.{All-contains, All-contains_itself, All-cons, All-weaker, All-nil}, specs.Option.{option_map}}
 use Rattle.std.specs.FinMap as map
 use Rattle.capbits.specs.Caps.{has}
-use Rattle.capacts.{proofs.Lockmachine.Finding.{fails_at, find_none}, proofs.Lockmachine.InRows.{one_keeps}, proofs.Lockmachine.Moving.{with_lock-each}, proofs.Lockmachine.Queue.{moved-kept, taken_alone}, specs.Caprules.Headline.{move_of}, specs.Caprules.Serving.{served}, specs.Lockmachine.Locks.{with_lock}, specs.Lockmachine.Moves.{LockId, coming_state, moved, with_moved, present_state}, specs.Lockmachine.Requests.{is_for}, specs.Lockmachine.Runs.{Runs}, specs.Lockmachine.declared.moves.Move.{Move}, specs.Lockmachine.declared.moves.Move.TheVariants.{Begin, End}}
-use Rattle.capsteps.proofs.{Common.{A, Began, contains-filter, Ended, ended_in, EntryRow, exist-changed, first_for, first_move, Gather, Gathered, is_numbered, IsInRow, IsLockMap, IsSound, IsSoundEntry, IsTree, lock_at, lock_in, LockMap, LockState, Made, Makes, MakesAll, Nodes, Operation, Outcome, P, Part, quiet-waits-at, Request, Scene, Serve, Served, served-at, Stable, State, Table, tree_with, WaitAt, waits-kept-at, without_request}, LeftAlone.{found-contains}, OneChange.{by_operation, sound-after}}
+use Rattle.capacts.{proofs.Lockmachine.Finding.{fails_at, find_none}, proofs.Lockmachine.InRows.{one_keeps}, proofs.Lockmachine.Moving.{with_lock-each}, proofs.Lockmachine.Queue.{moved-kept, taken_alone}, specs.Caprules.Headline.{move_of}, specs.Caprules.Serving.{served}, specs.Lockmachine.Locks.{with_lock}, specs.Lockmachine.Moves.{coming_state, moved, with_moved, present_state}, specs.Lockmachine.Requests.{is_for}, specs.Lockmachine.Runs.{Runs}, specs.Lockmachine.declared.moves.Move.{Move}, specs.Lockmachine.declared.moves.Move.TheVariants.{Begin, End}}
+use Rattle.capsteps.proofs.{Common.{A, Began, contains-filter, Ended, ended_in, EntryRow, exist-changed, first_for, first_move, Gather, Gathered, is_numbered, IsInRow, IsLockMap, IsSound, IsSoundEntry, IsTree, lock_at, lock_in, LockId, LockMap, LockState, Made, Makes, MakesAll, Nodes, Operation, Outcome, P, Part, quiet-waits-at, Request, Scene, Serve, Served, served-at, Stable, State, Table, tree_with, WaitAt, waits-kept-at, without_request}, LeftAlone.{found-contains}, OneChange.{by_operation, sound-after}}
 
 pub record IsMoved (first now : Scene) : Type 0 where
   pub table : now.table ≡ first.table

@@ -1,9 +1,9 @@
 -- What an entry holds is in place, where it is in its row: what is outside the row of a gather's target is being revoked, by
 -- what revoking is.
 use Rattle.std.{proofs.Common.{◌≡◌, Bool, true, false, not, ◌||◌, ◌&&◌, Option, Some, List, filter, refl, ap, ◌∙◌, Contains, arith}, proofs.lemmas.List.Folds.{list_any_at}, specs.Cmp.{nat_eq_equiv}, specs.List.{list_any}}
-use Rattle.capbits.{proofs.Emptiness.{has-is_empty}, specs.Caps.{has}}
+use Rattle.capbits.specs.Caps.{has}
 use Rattle.capacts.specs.{Caprules.Headline.{IsRevoked, AreRevoked}, Lockmachine.Scene.{against_lock, against_part, against_locks, against_policy}}
-use Rattle.capsteps.proofs.Common.{against, Cap, EntryRow, filter-contains, Gather, has-minus, has-union, is_empty, is_of_inode, IsInPlace, IsInRow, IsInRowOf, lock_at, LockState, of_part, outside, Part, permitted, row_of, Scene, second_true, StableState, told_set}
+use Rattle.capsteps.proofs.Common.{against, Cap, EntryRow, filter-contains, Gather, has-is_empty, has-minus, has-union, is_empty, is_of_inode, IsInPlace, IsInRow, IsInRowOf, lock_at, LockState, of_part, outside, Part, permitted, row_of, Scene, second_true, StableState, told_set}
 
 -- a row that passes two tests is found by both
 pub any_found : (p q : EntryRow → Bool) (rows : List EntryRow) (row : EntryRow) → Contains rows row → p row ≡ true → q row ≡ true → list_any q (filter p rows) ≡ true

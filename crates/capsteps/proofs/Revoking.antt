@@ -1,8 +1,7 @@
 -- What is being revoked of a holder's entry, by what is found of it, and the tests that stand behind others.
 use Rattle.std.{proofs.Common.{◌≡◌, Bool, true, false, ◌&&◌, Option, Some, None, List, [], ◌∷◌, ◌++◌, refl, sym, ap, ◌∙◌, if◌then◌else◌, arith}, specs.List.{find}, specs.Option.{option_map_or}}
 use Rattle.capbits.{proofs.Tests.{passed-if}, specs.Caps.{has}, specs.Sets.{no_caps}}
-use Rattle.captable.specs.{Calls.{has_pin}, Tests.{test_at}}
-use Rattle.capsteps.proofs.Common.{against, Entry, entry_at, entry_of, EntryRow, first_failing, has-against, has-none, Holder, is_revoked, is_row_of, no_entry, P, revoked_of, row_of-entry, Scene, Test}
+use Rattle.capsteps.proofs.Common.{against, Entry, entry_at, entry_of, EntryRow, first_failing, has-against, has-none, has_pin, Holder, is_revoked, is_row_of, no_entry, P, revoked_of, row_of-entry, Scene, Test, test_at}
 
 -- where it has one
 pub revoked-found : (s : Scene) (k : Holder) (e : Entry) → entry_at s.table k ≡ Some e → revoked_of s k ≡ against s (record { holder = k; entry = e })

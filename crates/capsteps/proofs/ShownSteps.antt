@@ -2,9 +2,9 @@
 use Rattle.std.{proofs.Common.{◌≡◌, ◌≢◌, ◌≤◌, ◌==◌, ℕ, Bool, true, false, cond, not, ◌&&◌, ◌||◌, inl, inr, Option, Some, None, is_some, List, [], ◌∷◌, ◌++◌, map, take, refl, sym, ap, subst, ◌∙◌, Contains, true≢false, append-nil, eq-eqb, arith, All, filter}, proofs.lemmas.Bool.{eqb-true, cases_Bool}, proofs.lemmas.List.Elements.{All-contains, All-contains_itself, All-cons, All-weaker, All-nil, All-head, All-tail, All-append, All-take, filter_passes}, proofs.lemmas.List.Sums.{fold-append}, specs.List.{find, list_any, fold, flat_map}, specs.Option.{option_map}}
 use Rattle.capbits.specs.Caps.{has}
 use Rattle.inotree.specs.Tree.{child}
-use Rattle.captable.{proofs.ByHolder.{entry_at-changed, entry_at-without_client, entry_at-without_client_other, entry_at-recalled, entry_at-recalled_other, entry_at-without_other, entry_at-changed_other}, proofs.Shown.{shown-numbered, shown-less, shown-told}, specs.Calls.{recalled, without_client, has_pin, released}, specs.Shown.{IsShown}, specs.Tests.{test_at}}
+use Rattle.captable.{proofs.ByHolder.{entry_at-changed, entry_at-without_client, entry_at-without_client_other, entry_at-recalled, entry_at-recalled_other, entry_at-without_other, entry_at-changed_other}, proofs.Shown.{shown-numbered, shown-less, shown-told}, specs.Calls.{recalled, without_client, released}, specs.Shown.{IsShown}}
 use Rattle.capacts.{proofs.Lockmachine.Exact.{settled as at_rest_settled}, specs.Capevents.declared.row.Row.{Row}, specs.Caprules.Direct.{with_wanted, found, opened_as, with_opening}, specs.Caprules.Messages.{messages_to, end_message}, specs.Caprules.Shown.{AreShown, shown_by, shown_of, shown_opened, shown_in}}
-use Rattle.capsteps.proofs.{Common.{acked, after_messages, against, Caps, changed, ClientId, contains-filter, Direct, direct, effect, effect_unless, end_messages, Ended, ended_in, Entry, entry_at, entry_at-opened_other, entry_at-without, entry_of, EntryRow, Event, Fc, find-map, first_messages, forget, Gives, has-against, has-minus, has-told, Holder, holder, Ino, is_among, is_caps_of, is_of_client, is_recall_of, is_revoked, is_row_of, is_size_of, is_sized, is_to, IsSound, issue, issue_row, IsTable, judged, Made, Message, minus, no_entry, number_row, opened, OpenMode, owed, P, Rejection, rejection_reply, remade, renumbered, Reply, reply_of, revoked_of, row_found, row_messages, row_of-entry, same, same-is, same_caps, same_equiv, same_holder, Scene, Settles, shown, Shows, sized_if, sized_in, sizes_owed, State, state_after, Step, Table, still_known, told_if, told_set, touched, unasked_if, with_asked, with_entry, with_size_due, with_told, without, without_acked, without_released}, EndsThere.{held-renumbered}, Finishing.{sound-ends}, LeftAlone.{found-contains}, Moved.{moved-all}, Rejecting.{no_moves, rejection-only}, Revoking.{revoked-found}, Telling.{given_fields, given-fields}}
+use Rattle.capsteps.proofs.{Common.{acked, after_messages, against, Caps, changed, ClientId, contains-filter, Direct, direct, effect, effect_unless, end_messages, Ended, ended_in, Entry, entry_at, entry_at-opened_other, entry_at-without, entry_of, EntryRow, Event, Fc, find-map, first_messages, forget, Gives, has-against, has-minus, has-told, has_pin, Holder, holder, Ino, is_among, is_caps_of, is_of_client, is_recall_of, is_revoked, is_row_of, is_size_of, is_sized, is_to, IsSound, issue, issue_row, IsTable, judged, Made, Message, minus, no_entry, number_row, opened, OpenMode, owed, P, Rejection, rejection_reply, remade, renumbered, Reply, reply_of, revoked_of, row_found, row_messages, row_of-entry, same, same-is, same_caps, same_equiv, same_holder, Scene, Settles, shown, Shows, sized_if, sized_in, sizes_owed, State, state_after, Step, still_known, Table, test_at, told_if, told_set, touched, unasked_if, with_asked, with_entry, with_size_due, with_told, without, without_acked, without_released}, EndsThere.{held-renumbered}, Finishing.{sound-ends}, LeftAlone.{found-contains}, Moved.{moved-all}, Rejecting.{no_moves, rejection-only}, Revoking.{revoked-found}, Telling.{given_fields, given-fields}}
 
 abbrev pub at : Holder → Entry → EntryRow
 at k e = record { holder = k; entry = e }

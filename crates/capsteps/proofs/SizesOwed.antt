@@ -2,7 +2,7 @@
 use Rattle.std.{proofs.Common.{◌≡◌, ◌≤◌, ℕ, ◌+◌, Bool, true, false, not, cond, ◌&&◌, ◌||◌, Option, Some, List, map, refl, sym, ap, subst, ◌∙◌, Contains, arith, All}, proofs.lemmas.List.Elements.{All-map, All-weaker}, proofs.lemmas.Simd.{map-map}, specs.List.{find, list_any}, specs.Option.{option_map_or}}
 use Rattle.std.specs.FinMap as finite
 use Rattle.capbits.specs.Caps.{has}
-use Rattle.capsteps.{proofs.Common.{AreGiven, AreKnown, Caps, changed_where, Entry, EntryRow, Fc, find-map, finished, forget, Holder, Ino, is_gone, is_in_use, is_of_inode, is_row_of, is_sized, IsLockMap, IsSound, issue, issue_row, IssuesExactly, IsTable, IsTree, known_of, KnownAnew, KnownSets, Made, meet, number, number_row, owed, presence, remade, renumbered, row_found, Scene, sized_in, sizes_owed, State, state_at_end, Table, still_known, told_set, with_size_due}, proofs.EndsThere.{settled-table, affected-ends, affected-issues, affected-known}, proofs.Finishing.{each-alike}, proofs.Knowing.{known-alike, alike-where}, proofs.StayingSound.{sound-affected}, proofs.Telling.{any-map_same, as_told, as_asked, retold, retold_table, retold-sound, retold-issued}, specs.Affected.{Affects, SettlesAt, Knows, stays, forget_among, told_then, finished_entry, finished_at}}
+use Rattle.capsteps.{proofs.Common.{AreGiven, AreKnown, Caps, changed_where, Entry, EntryRow, Fc, find-map, finished, forget, Holder, Ino, is_gone, is_in_use, is_of_inode, is_row_of, is_sized, IsLockMap, IsSound, issue, issue_row, IssuesExactly, IsTable, IsTree, known_of, KnownAnew, KnownSets, Made, meet, number, number_row, owed, presence, remade, renumbered, row_found, Scene, sized_in, sizes_owed, State, state_at_end, still_known, Table, told_set, with_size_due}, proofs.EndsThere.{settled-table, affected-ends, affected-issues, affected-known}, proofs.Finishing.{each-alike}, proofs.Knowing.{known-alike, alike-where}, proofs.StayingSound.{sound-affected}, proofs.Telling.{any-map_same, as_told, as_asked, retold, retold_table, retold-sound, retold-issued}, specs.Affected.{Affects, SettlesAt, Knows, stays, forget_among, told_then, finished_entry, finished_at}}
 
 -- no number changes
 pub owed-numbers : (passes : EntryRow → Bool) (Q : ℕ → Type 0) (t : Table) → All (λ row. Q row.entry.seq) t.rows → All (λ row. Q row.entry.seq) (changed_where passes owed t).rows

@@ -2,9 +2,8 @@
 use Rattle.std.{proofs.Common.{◌≡◌, ◌≤◌, ℕ, ◌+◌, ◌==◌, Bool, true, false, is_some, List, refl, sym, ap, subst, ◌∙◌, ◌++◌, Contains, arith, IsTrue, All, nat_le}, proofs.lemmas.List.Elements.{All-contains, All-filter, All-map, All-weaker, All-append, All-same}, specs.Cmp.{nat_eq_equiv}, specs.List.{list_any}}
 use Rattle.std.specs.FinMap as map
 use Rattle.capbits.specs.Caps.{has}
-use Rattle.captable.proofs.Searches.{find-filter_kept}
-use Rattle.capacts.{proofs.Lockmachine.Rest.{at_rest}, specs.Caprules.Step.{earlier}, specs.Lockmachine.Under.{allowed_under}}
-use Rattle.capsteps.{proofs.Common.{AreGiven, Caps, ClientId, due, ended_in, EntryRow, Gone, has_session, Holder, is_of_inode, is_row_of, IsAtRest, IsInRow, IsLockMap, IsSound, IsSoundEntry, IsSubset, IsTable, IsTree, Made, meet, P, Part, presence, row_found, same-is, Scene, SessionTable, State, state_at_end, Table}, proofs.EndsThere.{off_due}, proofs.EntryRequests.{IsKeptEntry, kept-left, kept-row}, proofs.Forgotten.{all_rows, sound-forgotten}, proofs.IssuedRows.{ended_row, want-ended, told-ended, revoked-ended, seq-ended, effective-ended, holds-due, holds-pin, in_row-ended, on_it, last_row, issued_at, by_place, of_inode-last, rest-issued}, proofs.Moved.{IsMoved, moved-all, nobody-moved, all-waiting, Waited, ended-waited, nothing-served}, proofs.SameOff.{not-among, row_elsewhere, any_elsewhere, IsSameFrom, from-first}, proofs.Telling.{any-map_same}, specs.Affected.{Affects, SettlesAt, Knows, finished_at, IsAffectedEntry}}
+use Rattle.capacts.{proofs.Lockmachine.Rest.{at_rest}, specs.Caprules.Step.{earlier}}
+use Rattle.capsteps.{proofs.Common.{allowed_under, AreGiven, Caps, ClientId, due, ended_in, EntryRow, find-filter_kept, Gone, has_session, Holder, is_of_inode, is_row_of, IsAtRest, IsInRow, IsLockMap, IsSound, IsSoundEntry, IsSubset, IsTable, IsTree, Made, meet, P, Part, presence, row_found, same-is, Scene, SessionTable, State, state_at_end, Table}, proofs.EndsThere.{off_due}, proofs.EntryRequests.{IsKeptEntry, kept-left, kept-row}, proofs.Forgotten.{all_rows, sound-forgotten}, proofs.IssuedRows.{ended_row, want-ended, told-ended, revoked-ended, seq-ended, effective-ended, holds-due, holds-pin, in_row-ended, on_it, last_row, issued_at, by_place, of_inode-last, rest-issued}, proofs.Moved.{IsMoved, moved-all, nobody-moved, all-waiting, Waited, ended-waited, nothing-served}, proofs.SameOff.{not-among, row_elsewhere, any_elsewhere, IsSameFrom, from-first}, proofs.Telling.{any-map_same}, specs.Affected.{Affects, SettlesAt, Knows, finished_at, IsAffectedEntry}}
 
 -- ---- the step
 

@@ -2,9 +2,8 @@
 use Rattle.std.{proofs.Common.{◌≡◌, ◌≢◌, ◌<◌, ◌≤◌, ◌+◌, ℕ, Bool, true, false, cond, ◌||◌, nat_lt, count_by, Option, Some, None, List, [], ◌∷◌, ◌++◌, refl, sym, ap, ◌∙◌, true≢false, arith}, proofs.lemmas.Bool.{lt-ltb, le-ltb}, proofs.lemmas.List.Elements.{filter_map-append}, proofs.lemmas.List.Sums.{sum_by-cons}, specs.List.{list_any}, specs.Option.{option_map}, specs.Ordering.{nat_cmp, eq_by_cmp}}
 use Rattle.std.specs.FinMap as map
 use Rattle.std.specs.FinSet as set
-use Rattle.capbits.specs.declared.cap.Part.TheVariants.{F, L}
-use Rattle.capacts.{proofs.Lockmachine.Turns.{turn-passes, turn-rests}, specs.Lockmachine.Runs.{ChangesLocksOf, MoveLittle}, specs.Lockmachine.Turns.{IsDoneAt}}
-use Rattle.capsteps.{proofs.Common.{A, ended_by, ended_in, first_move, Ino, InodeLocks, InoSet, IsNext, IsTurnOf, lock_at, lock_in, LockMap, may_end_by, Part, same_key, Scene, Settled, Table, WaitAt, waits-kept-at, X}, proofs.Moved.{as_made, makes-append}, specs.Sweep.{AreStill, IsSwept}}
+use Rattle.capacts.{proofs.Lockmachine.Turns.{turn-passes, turn-rests}, specs.Lockmachine.Runs.{MoveLittle}, specs.Lockmachine.Turns.{IsDoneAt}}
+use Rattle.capsteps.{proofs.Common.{A, ChangesLocksOf, ended_by, ended_in, F, first_move, Ino, InodeLocks, InoSet, IsNext, IsTurnOf, L, lock_at, lock_in, LockMap, may_end_by, Part, same_key, Scene, Settled, Table, WaitAt, waits-kept-at, X}, proofs.Moved.{as_made, makes-append}, specs.Sweep.{AreStill, IsSwept}}
 
 -- ---- the locks of an inode
 

@@ -5,7 +5,7 @@ use Rattle.capbits.specs.{Caps.{Caps, has}, Sets.{meet}, declared.cap.Cap.TheVar
 use Rattle.inotree.specs.{Alike.{IsAlike}, Calls.{forgotten}, Tree.{presence}}
 use Rattle.captable.specs.{Calls.{entries_on}, Many.{changed_where}, Table.{Table, holder}, declared.entry.Entry.{Entry}, declared.entry.EntryRow.{EntryRow}, declared.entry.Holder.{Holder}}
 use Rattle.sessiontab.specs.Calls.{has_session}
-use Rattle.capacts.specs.{Capevents.declared.event.Event.{Event}, Caprules.Finish.{due, issue_row, is_in_use}, Caprules.Settle.{Made, Settles}, Caprules.State.{State}, Finishing.{numbered_as}, Lockmachine.Elsewhere.{IsSameBut, IsSameOutside}, Lockmachine.Locks.{lock_at, without_ino}, Lockmachine.Requests.{first_for}, Lockmachine.Rows.{IsInRow}, Lockmachine.Scene.{told_set}, Lockmachine.Turns.{WaitAt}, Lockmachine.Wants.{effective_want}, Lockmachine.declared.request.Operation.{Operation}, Lockmachine.declared.request.Operation.TheVariants.{Get, Alter, Unlink, Rmdir, Rename}, Lockmachine.Scene.{Scene}}
+use Rattle.capacts.specs.{Capevents.declared.event.Event.{Event}, Caprules.Finish.{due, issue_row, is_in_use}, Caprules.Settle.{Made, Settles}, Caprules.State.{State}, Finishing.{numbered_as}, Lockmachine.Elsewhere.{IsSameBut, IsSameOutside}, Lockmachine.Locks.{lock_at, without_ino}, Lockmachine.Requests.{first_for}, Lockmachine.Rows.{IsInRow}, Lockmachine.Scene.{told_set, Scene}, Lockmachine.Turns.{WaitAt}, Lockmachine.Wants.{effective_want}, Lockmachine.declared.request.Operation.{Operation}, Lockmachine.declared.request.Operation.TheVariants.{Get, Alter, Unlink, Rmdir, Rename}}
 
 -- what an event is about
 pub data Scope : Type 0 where

@@ -1,7 +1,7 @@
 -- A request that was judged when it came.
 use Rattle.std.specs.Prelude.{◌≡◌, Option, None, Some}
 use Rattle.capbits.specs.declared.ids.Ticket.{Ticket}
-use Rattle.capacts.specs.{Caprules.Serving.{judged_again}, Lockmachine.Locks.{request_at}, Lockmachine.declared.request.Request.{Request}, Lockmachine.Scene.{Scene}}
+use Rattle.capacts.specs.{Caprules.Serving.{judged_again}, Lockmachine.Locks.{request_at}, Lockmachine.Scene.{Scene}, Lockmachine.declared.request.Request.{Request}}
 
 -- nothing would reject the request with this number, were it served now
 abbrev pub IsJudged : Option Ticket → Scene → Type 0

@@ -3,7 +3,7 @@ use Rattle.std.specs.Prelude.{◌≡◌, ℕ, Bool, List, Some}
 use Rattle.capbits.specs.declared.{ids.Ino.{Ino}, ids.Ticket.{Ticket}}
 use Rattle.inotree.specs.Tree.{IsTree}
 use Rattle.captable.specs.declared.entry.Holder.{Holder}
-use Rattle.capacts.specs.{Capevents.declared.outcome.Ended.{Ended}, Capnotes.Changing.{tree_after}, Caprules.Finish.{sizes_owed}, Caprules.Serving.{MayEndAs}, Caprules.Settle.{Made, ended_in, sized_in}, Known.{KnownSets, known_in, permitted_of, KnownAnew}, Lockmachine.Locks.{request_at, without_request}, Lockmachine.declared.request.Request.{Request}, Lockmachine.Scene.{Scene}}
+use Rattle.capacts.specs.{Capevents.declared.outcome.Ended.{Ended}, Capnotes.Changing.{tree_after}, Caprules.Finish.{sizes_owed}, Caprules.Serving.{MayEndAs}, Caprules.Settle.{Made, ended_in, sized_in}, Known.{KnownSets, known_in, permitted_of, KnownAnew}, Lockmachine.Locks.{request_at, without_request}, Lockmachine.Scene.{Scene}, Lockmachine.declared.request.Request.{Request}}
 use Rattle.capsteps.specs.{Affected.{SettlesAt, told_then, finished_at}, Begun.{ArePermittedIn}}
 
 -- the request with this number is served, ends so and waits no more

@@ -4,7 +4,7 @@ use Rattle.std.specs.FinMap as map
 use Rattle.std.specs.FinSet as set
 use Rattle.capbits.specs.declared.{cap.Part.{Part}, ids.Ino.{Ino}, ids.Ticket.{Ticket}}
 use Rattle.inotree.specs.InoSets.{InoSet, IsLeastFrom}
-use Rattle.capacts.specs.{Caprules.Settle.{Made, MakesAll, ended_in}, Lockmachine.Moves.{first_move, may_end, may_begin}, Lockmachine.Turns.{IsTurnOf, NobodyElsewhere, WaitAt}, Lockmachine.declared.moves.Move.TheVariants.{Serve, Settled}, Lockmachine.declared.request.Request.{Request}, Lockmachine.Scene.{Scene}, Served.{is_rename}}
+use Rattle.capacts.specs.{Caprules.Settle.{Made, MakesAll, ended_in}, Lockmachine.Moves.{first_move, may_end, may_begin}, Lockmachine.Scene.{Scene}, Lockmachine.Turns.{IsTurnOf, NobodyElsewhere, WaitAt}, Lockmachine.declared.moves.Move.TheVariants.{Serve, Settled}, Lockmachine.declared.request.Request.{Request}, Served.{is_rename}}
 use Rattle.capsteps.specs.declared.settle.SweepPlace.{SweepPlace}
 
 -- it is the turn of the least of them

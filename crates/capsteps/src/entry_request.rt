@@ -154,11 +154,7 @@ fn opening_wants(mode: OpenMode) -> CapSet
 }
 
 /// The reply to the request at the end of the step; the entry is marked as told of what an opening or a want shows.
-pub fn show_reply(
-    table: &mut CapTable,
-    holder: Holder,
-    request: &EntryRequest,
-) -> Reply
+pub fn show_reply(table: &mut CapTable, holder: Holder, request: &EntryRequest) -> Reply
     ensures reply { (s : State) → s.scene.table ≡ table.old.entries → AreKnown table.old.kept s.scene
         → result ≡ reply_of s [] (words.entry_answer holder request.now) }
     ensures told { (s : State) → s.scene.table ≡ table.old.entries

@@ -21,11 +21,7 @@ use sessiontab::{MAX_SESSIONS, Sessions};
 
 /// Ends the step at the affected inodes, whose locks have settled: clients are to be told the sizes that changed, it ends for each
 /// entry on these inodes, and strays without an entry are forgotten.
-pub fn finish(
-    scene: &mut KeptScene,
-    affected: &NonEmptyInoSet,
-    endings: &mut Endings,
-)
+pub fn finish(scene: &mut KeptScene, affected: &NonEmptyInoSet, endings: &mut Endings)
     requires places { length endings.old.changes.items + set.len affected.now ≤ endings.old.changes.room }
     requires entries { MayEnd scene.old.table.kept (plain scene.old) }
     ensures ends { EndsAt (set.contains affected.now) endings.old.sized.items scene.old.table.kept scene.new.table.kept (plain scene.old) (plain scene.new) }
@@ -118,12 +114,7 @@ fn forget_affected(scene: &mut KeptScene, affected: &NonEmptyInoSet, changes: &m
 // ---- at one inode
 
 // Ends the step for each entry on the inode, which has these locks.
-fn finish_entries(
-    policy: &Policy<'_>,
-    table: &mut CapTable,
-    ino: Ino,
-    locks: &Option<InodeLocks>,
-)
+fn finish_entries(policy: &Policy<'_>, table: &mut CapTable, ino: Ino, locks: &Option<InodeLocks>)
     requires numbers { All (λ row. row.entry.seq < 2 ^ 64 - 1) (entries_on table.old.entries ino) }
     requires clients { All (λ row. IsTrue (has_session policy.now.sessions.now row.holder.client.0)) table.old.entries.rows }
     requires permitted { ArePermitted table.old.kept policy.now.fs.now policy.now.tree.now policy.now.sessions.now table.old.entries }

@@ -15,8 +15,8 @@ pub mod sizes;
 pub mod start;
 
 pub use capacts::{
-    Bytes, Change, ChangeList, Ended, EndedList, EndedTickets, Event, Locks, Message, MessageList,
-    Move, OpenMode, Operation, OperationRef, Outcome, PartValues, Policy, Question, Rejection,
-    Reply, Row, KeptScene, Unknown, View, ViewChange, Wants, copy_of_messages, copy_of_operation,
+    Bytes, Change, ChangeList, Ended, EndedList, EndedTickets, Event, KeptScene, Locks, Message,
+    MessageList, Move, OpenMode, Operation, OperationRef, Outcome, PartValues, Policy, Question,
+    Rejection, Reply, Row, Unknown, View, ViewChange, Wants, copy_of_messages, copy_of_operation,
     copy_of_reply, due_endings, history, judge, leaving, renewing, serving, stop, wants_on,
 };

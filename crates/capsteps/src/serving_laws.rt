@@ -3,7 +3,7 @@
 ghost use Rattle.std.specs.Prelude.{◌≡◌, ◌≢◌, ℕ, true, false};
 ghost use Rattle.std.specs.FinMap as map;
 ghost use Rattle.inotree.specs.{Alike.{IsAlike}, Tree.{IsTree, is_within, presence}};
-ghost use Rattle.capacts.specs.{Capevents.declared.outcome.Outcome.{Outcome}, Capnotes.Changing.{tree_after}, Caprules.Serving.{MayEndAs}, Lockmachine.declared.request.Request.{Request}, Lockmachine.Scene.{Scene}, Served.{is_rename}};
+ghost use Rattle.capacts.specs.{Capevents.declared.outcome.Outcome.{Outcome}, Capnotes.Changing.{tree_after}, Caprules.Serving.{MayEndAs}, Lockmachine.Scene.{Scene}, Lockmachine.declared.request.Request.{Request}, Served.{is_rename}};
 
 /// However a request ends that is served, every other inode than its own has the same path, owner, group and mode, unless the
 /// request is to move its inode and the other lies below it; and the tree stays a tree.

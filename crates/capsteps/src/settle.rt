@@ -64,11 +64,7 @@ pub fn end(scene: &mut KeptScene, affected: Affected, endings: &mut Endings)
 
 // Makes the moves, always the first that applies, until none does. Each request that is served ends, once for its client and
 // once for the history. Inodes that are moved are affected besides.
-fn settle(
-    scene: &mut KeptScene,
-    affected: &mut NonEmptyInoSet,
-    endings: &mut Endings,
-)
+fn settle(scene: &mut KeptScene, affected: &mut NonEmptyInoSet, endings: &mut Endings)
     requires settles { MaySettle (set.contains affected.old) (plain scene.old) }
     requires judged { IsJudged endings.old.judged (plain scene.old) }
     requires room { HaveRoomFor (length scene.old.locks.locks.queue) endings.old }
@@ -151,11 +147,7 @@ fn end_gathers(table: &CapTable, locks: &mut Locks, affected: &NonEmptyInoSet)
 
 // Lets the locks of the affected inodes move, one inode after the other, from where the sweep has come to, until a request is to be
 // served, whose number it answers, or no move applies.
-fn sweep(
-    scene: &mut KeptScene,
-    affected: &NonEmptyInoSet,
-    place: &mut SweepPlace,
-) -> Option<Ticket>
+fn sweep(scene: &mut KeptScene, affected: &NonEmptyInoSet, place: &mut SweepPlace) -> Option<Ticket>
     requires place { StandsAt (set.contains affected.now) place.old (plain scene.old) }
     requires still { AreStill (set.contains affected.now) (plain scene.old) }
     requires waits { WaitAt (set.contains affected.now) (plain scene.old) }

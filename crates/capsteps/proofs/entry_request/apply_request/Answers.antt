@@ -1,8 +1,8 @@
-use Rattle.std.{proofs.Common.{◌≡◌, Option, Some, None, cond, false, ◌&&◌, Bool, refl, sym, ap, subst, ◌∙◌}, specs.Option.{option_map}}
+use Rattle.std.{proofs.Common.{◌≡◌, Option, Some, None, cond, false, ◌&&◌, refl, sym, ap, subst, ◌∙◌}, specs.Option.{option_map}}
 use Rattle.capbits.specs.Caps.{has}
-use Rattle.captable.specs.{Calls.{has_pin}, Tests.{ack_tests, test_at}}
-use Rattle.capacts.{proofs.Lockmachine.CountsStay.{counted-held, held-change}, specs.Caprules.Direct.{with_want}}
-use Rattle.capsteps.{proofs.Common.{acked, AreCounted, Caps, changed, CountedLocks, Entry, entry_at, first_failing, Holder, KeptScene, KeptTable, KnownSets, opening_wants, OpenMode, P, plain, released, revoked_of, same_found, Scene, Table, touched, union, wanting, with_entry, without, without_acked, without_released}, proofs.CountsKept.{counted-entry, counted-less}, proofs.EntryKept.{kept-changed, kept-itself, kept-less}, proofs.Revoking.{pin-goes}, proofs.entry_request.apply_request.Goals.{in-Want, in-Open+in_ok-before-in-Open}, specs.Begun.{AreCountedIn}, specs.EntryRequest.{entry_request_tests, table_after, StillKept}, specs.declared.entry_request.EntryRequest.{EntryRequest}}
+use Rattle.captable.specs.Tests.{ack_tests}
+use Rattle.capacts.{proofs.Lockmachine.CountsStay.{held-change}, specs.Caprules.Direct.{with_want}}
+use Rattle.capsteps.{proofs.Common.{acked, AreCounted, Caps, changed, counted-held, Entry, entry_at, first_failing, has_pin, Holder, KeptScene, KeptTable, KnownSets, opening_wants, OpenMode, P, plain, revoked_of, same_found, Scene, Table, test_at, touched, union, wanting, with_entry, without, without_acked, without_released}, proofs.CountsKept.{counted-entry, counted-less}, proofs.EntryKept.{kept-changed, kept-itself, kept-less}, proofs.Revoking.{pin-goes}, proofs.entry_request.apply_request.Goals.{in-Want, in-Open+in_ok-before-in-Open}, specs.Begun.{AreCountedIn}, specs.EntryRequest.{entry_request_tests, table_after, StillKept}, specs.declared.entry_request.EntryRequest.{EntryRequest}}
 use Rattle.capsteps.proofs.entry_request.apply_request.Goals as goal
 
 -- the wanted set of an entry that is known is written, or changed

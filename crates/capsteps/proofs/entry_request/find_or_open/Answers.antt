@@ -1,6 +1,6 @@
 use Rattle.std.{proofs.Common.{◌≡◌, Some, None, sym, ap, subst, ◌∙◌}, specs.Option.{option_map}}
-use Rattle.captable.specs.Kept.{with_kept, permitting}
-use Rattle.capsteps.{proofs.Common.{Entry, entry_at, entry_at-opened, KeptTable, plain, Scene, Table}, proofs.EntryKept.{kept-itself, kept-new}, specs.EntryRequest.{StillKept}}
+use Rattle.captable.specs.Kept.{with_kept}
+use Rattle.capsteps.{proofs.Common.{Entry, entry_at, entry_at-opened, KeptTable, permitting, plain, Scene, Table}, proofs.EntryKept.{kept-itself, kept-new}, specs.EntryRequest.{StillKept}}
 use Rattle.capsteps.proofs.entry_request.find_or_open.Goals as goal
 
 pub returns-in-Some-clause-kept : goal.returns-in-Some-clause-kept

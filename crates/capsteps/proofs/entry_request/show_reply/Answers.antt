@@ -1,5 +1,5 @@
 use Rattle.std.proofs.Common.{◌≡◌, Some, None, ap, ◌∙◌, arith}
-use Rattle.capsteps.proofs.Common.{entry_at, Holder, no_entry, row_of-entry, Table, told-or}
+use Rattle.capsteps.proofs.Common.{entry_at, Holder, no_entry, row_of-entry, Table}
 use Rattle.capsteps.proofs.entry_request.show_reply.Goals as goal
 
 pub returns-in-Some-clause-reply : goal.returns-in-Some-clause-reply
@@ -10,7 +10,7 @@ returns-in-Some-clause-reply c = λ s table known.
     let row = row_of-entry s.scene.table k c.in-Some.entry found in
     let told = known k c.in-Some.entry found in
     let shows = c.in-Open.is in
-    grind (arith, told-or)
+    grind arith
 
 pub returns-in-None-clause-reply : goal.returns-in-None-clause-reply
 returns-in-None-clause-reply c = λ s table known.

@@ -1,8 +1,8 @@
 use Rattle.std.proofs.Common.{◌≡◌, ◌<◌, Bool, true, false, cond, List, refl, sym, ap, subst, ◌∙◌, IsTrue}
-use Rattle.capbits.specs.Caps.{has}
-use Rattle.capacts.proofs.Lockmachine.CountsStay.{counted-held, held-map}
 use Rattle.std.specs.FinSet as set
-use Rattle.capsteps.{proofs.Common.{AreCounted, changed_where, CountedLocks, EntryRow, Fc, has_session, Ino, is_sized, KeptTable, known_in, KnownAnew, KnownSets, owed, permitted_of, plain, remade, Scene, sizes_owed, Table, was-there, with_size_due}, proofs.IssuedRows.{counted-issued}, proofs.ManyInodes.{holders-stay}, proofs.SizesOwed.{owed-numbers}, proofs.finish.finish.Goals.{After-owe_sizes}, specs.Affected.{forget_among, finished_at, told_then}, specs.Begun.{MayEnd}, specs.Serves.{EndsAt}}
+use Rattle.capbits.specs.Caps.{has}
+use Rattle.capacts.proofs.Lockmachine.CountsStay.{held-map}
+use Rattle.capsteps.{proofs.Common.{AreCounted, changed_where, counted-held, CountedLocks, EntryRow, Fc, has_session, Ino, is_sized, KeptTable, known_in, KnownAnew, KnownSets, owed, permitted_of, plain, remade, Scene, sizes_owed, Table, was-there, with_size_due}, proofs.IssuedRows.{counted-issued}, proofs.ManyInodes.{holders-stay}, proofs.SizesOwed.{owed-numbers}, proofs.finish.finish.Goals.{After-owe_sizes}, specs.Affected.{forget_among, finished_at, told_then}, specs.Begun.{MayEnd}, specs.Serves.{EndsAt}}
 use Rattle.capsteps.proofs.finish.finish.Goals as goal
 
 -- the step may end still where sizes are owed

@@ -105,7 +105,7 @@ module _ (c : After-forget_affected) where
   one : EndsOne c.match-find.scene
   one = elim c.match-find.branch [
     | in-Some w ↦ (let here = w.of_ino-now.ensures in
-        rw w.scene-is (record {
+        subst EndsOne (sym w.scene-is) (record {
           rest = refl;
           changed = w.finish_row.ensures.table ∙ ap (λ (o : Option InodeLocks). changed_by (entry_under (known_in was) settled.fs settled.tree settled.sessions o) t k) here;
           kept = kept-as (λ j. same j k) (told_at settled.fs settled.tree settled.sessions w.of_ino-now.result) (told_then settled) t was w.finish_row.new.table.kept
@@ -114,7 +114,7 @@ module _ (c : After-forget_affected) where
           permitted = w.finish_row.ensures.permitted;
         }))
     | in_default w ↦ (let none : entry_at t k ≡ None = cc in
-        rw w.scene-is (record { rest = refl; changed = none_found t k (λ e. g (record { holder = k; entry = e })) none; kept = kept-none (told_then settled) t was k none; permitted = λ j. refl }))
+        subst EndsOne (sym w.scene-is) (record { rest = refl; changed = none_found t k (λ e. g (record { holder = k; entry = e })) none; kept = kept-none (told_then settled) t was k none; permitted = λ j. refl }))
   ]
 
   -- and with it all on its inode have

@@ -1,6 +1,5 @@
 use Rattle.std.proofs.Common.{◌≡◌, subst, sym, arith}
-use Rattle.capsteps.proofs.Common.{CountedLocks}
-use Rattle.capsteps.proofs.FirstLocks.{AreFirstBelow, first_below_none, first_below_more, first_of_all}
+use Rattle.capsteps.proofs.{Common.{CountedLocks}, FirstLocks.{AreFirstBelow, first_below_none, first_below_more, first_of_all}}
 use Rattle.capsteps.proofs.start.first_locks.Goals as goal
 
 pub loop-number-init : goal.loop-number-init
