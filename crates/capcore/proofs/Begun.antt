@@ -1,7 +1,7 @@
 -- What an event that may move locks leaves by itself, and what its step comes to in the end.
 use Rattle.std.proofs.{Common.{◌≡◌, ◌≤◌, ℕ, ◌+◌, ◌++◌, ◌==◌, Bool, Some, List, [], length, Result, OnErr, sym, ap, subst, ◌∙◌, arith, All}, lemmas.List.Sums.{length-filter, count_by-le-length}}
 use Rattle.capsteps.{proofs.EntryRequests.{Keeps}, proofs.Knowing.{held_at}, specs.Begun.{MayEndAt, among}}
-use Rattle.capcore.{proofs.Closing.{for_clients-own_numbers, for_clients-all, for_clients-but_own, ends-table, affects-settles, affects-ends, affects-one}, proofs.Common.{Affected, Affects, AffectsOne, all_ended, AreBelow, AreChanges, AreGiven, AreKnown, ArePermittedIn, Direct, direct, earlier, Ended, Endings, EndsWith, Entry, entry_answer, entry_at, EntryRequest, Event, finished_at, HasRoom, HaveOwnNumbers, HaveRoomFor, Holder, IsAnswered, IsJudged, IsLockMap, IsSubset, IsTable, known_in, KnownSets, Knows, MayEnd, MaySettle, NumbersLeft, reply_of, Said, Scene, SettlesAt, SettlesWith, shown, sized_in, sizes_owed, State, state_at_end, still-knows, StillKnown, view_of}, proofs.Concluded.{IsConcluded, concluded}, proofs.EndKnown.{ends-known}, proofs.EntryWhole.{show_reply-alike}, proofs.Unaffected.{alike-kept}, specs.UnderWay.{MayBegin, answer_of, GivesOne, HasBegun, AreKept, state_of, dropped_of, earlier_of, IsNumbered, HasPlaces}, specs.declared.parts.Answer.{Answer}, specs.declared.parts.Answer.TheVariants.{Done, Dropped, Requested, Awaited}, specs.declared.parts.Effect.{Effect}, specs.declared.parts.Parts.{Parts}}
+use Rattle.capcore.{proofs.Closing.{for_clients-own_numbers, for_clients-all, for_clients-but_own, ends-table, affects-settles, affects-ends, affects-one}, proofs.Common.{Affected, Affects, AffectsOne, all_ended, AreBelow, AreChanges, AreCounted, AreCountedIn, AreGiven, AreKnown, ArePermittedIn, CountedLocks, Direct, direct, earlier, Ended, Endings, EndsWith, Entry, entry_answer, entry_at, EntryRequest, Event, finished_at, HasRoom, HaveOwnNumbers, HaveRoomFor, Holder, IsAnswered, IsJudged, IsLockMap, IsSubset, IsTable, known_in, KnownSets, Knows, MayEnd, MaySettle, NumbersLeft, plain, reply_of, Said, Scene, SettlesAt, SettlesWith, shown, sized_in, sizes_owed, State, state_at_end, still-knows, StillKnown, view_of}, proofs.Concluded.{IsConcluded, concluded}, proofs.EndKnown.{ends-known}, proofs.EntryWhole.{request-counted, show_reply-alike}, proofs.Unaffected.{alike-kept}, specs.UnderWay.{MayBegin, answer_of, GivesOne, HasBegun, AreKept, state_of, dropped_of, earlier_of, IsNumbered, HasPlaces}, specs.declared.parts.Answer.{Answer}, specs.declared.parts.Answer.TheVariants.{Done, Dropped, Requested, Awaited}, specs.declared.parts.Effect.{Effect}, specs.declared.parts.Parts.{Parts}}
 
 -- each entry has a number left then
 pub begun-entries : (p q : Parts) (e : Event) (from : ℕ → Bool) → MayBegin p e → state_of q ≡ (direct (state_of p) e).state → Affects from (state_of p) (state_of q) → GivesOne (state_of p) e
@@ -79,6 +79,13 @@ shown-kept (Dropped dropped) s sets kept = kept
 shown-kept (Requested k request) s sets kept =
     subst (AreKept sets) (sym (request-rest k request s)) (alike-kept sets s.scene (shown (entry_answer k request) s).scene.table (show_reply-alike s k request) kept)
 shown-kept (Awaited ticket) s sets kept = kept
+
+-- and leaves what is held
+pub shown-counted : (a : Answer) (s : State) (l : CountedLocks) → AreCounted s.scene.table l → AreCounted (shown (answer_of a) s).scene.table l
+shown-counted Done s l are = are
+shown-counted (Dropped dropped) s l are = are
+shown-counted (Requested k request) s l are = request-counted s k request l are
+shown-counted (Awaited ticket) s l are = are
 
 -- where there is room for some, there is for fewer
 pub fewer-places : (a : Answer) (n m : ℕ) → m ≤ n → HasPlaces a n → HasPlaces a m

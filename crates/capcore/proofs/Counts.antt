@@ -1,15 +1,40 @@
--- Counts of gathers stay right where the same is held as before, and where an inode comes or goes.
-use Rattle.std.proofs.Common.{◌≡◌, ◌≢◌, ℕ, ◌==◌, Bool, true, false, not, cond, ◌⊎◌, inl, inr, Option, Some, None, List, [], ◌∷◌, map, filter, length, refl, sym, ap, subst, ◌∙◌}
-use Rattle.std.specs.{Cmp.{nat_cmp_total}, Option.{option_map, option_map_or}}
-use Rattle.std.specs.FinMap as finite
-use Rattle.capbits.specs.declared.{cap.Part.{Part}, cap.Part.TheVariants.{A, L, X, F}}
-use Rattle.captable.specs.{Calls.{change_rows, changed}, Table.{is_row_of}}
-use Rattle.numbered.proofs.Maps.{insert-here, insert-other, remove-here, remove-other, same_or_other}
-use Rattle.capsteps.specs.Lockmachine.{Counts.{AreCounted, CountedLocks, IsCounted, count_in, count_of, no_counts, with_ino, without_ino}, Inodes.{CountMap, StateMap, in_sync, lock_in}, declared.states.Counts.{Counts}}
-use Rattle.capcore.proofs.Common.{Caps, Entry, EntryRow, Gather, Holder, Ino, InodeLocks, LockState, Stable, Table, changed_where, is_of_inode, lock_at}
+-- Counts stay right behind the messages of a poll and behind a recall, and no gather is open where the core begins.
+use Rattle.std.proofs.Common.{◌≡◌, ℕ, Bool, true, false, cond, Option, Some, None, List, refl, sym, subst, take}
+use Rattle.std.specs.Option.{option_map}
+use Rattle.std.specs.FinMap as map
+use Rattle.capbits.specs.declared.cap.Part.TheVariants.{A, L, X, F}
+use Rattle.captable.specs.{Calls.{asked_row, with_asked}, Many.{remade}}
+use Rattle.capsteps.{proofs.Lockmachine.CountsStay.{counted-held, held-map}, specs.Lockmachine.Counts.{IsCounted, LockId, count_of}}
+use Rattle.capcore.proofs.Common.{AreCounted, changed_where, CountedLocks, Entry, EntryRow, Holder, in_sync, is_among, IsOpening, lock_at, lock_in, LockMap, Node, Nodes, Part, recalled, State, Table}
 
--- ---- where the same is held
+-- ---- entries that hold what they held
 
--- who holds what
-abbrev pub held_rows : List EntryRow → List (Holder × Caps)
-held_rows rows = map (λ row. (row.holder, row.entry.held)) rows
+module _ (g : EntryRow → Entry) (held : (row : EntryRow) → (g row).held ≡ row.entry.held) where
+  of_holder : (b : Bool) (row : EntryRow) → (cond b (remade g row) row).holder ≡ row.holder
+  of_holder true row = refl
+  of_holder false row = refl
+
+  as_held : (b : Bool) (row : EntryRow) → (cond b (remade g row) row).entry.held ≡ row.entry.held
+  as_held true row = held row
+  as_held false row = refl
+
+  pub counted-where : (passes : EntryRow → Bool) (t : Table) (l : CountedLocks) → AreCounted t l → AreCounted (changed_where passes g t) l
+  counted-where passes t = counted-held t (changed_where passes g t) (held-map (λ row. cond (passes row) (remade g row) row) (λ row. of_holder (passes row) row) (λ row. as_held (passes row) row) t.rows)
+
+pub recalled-counted : (t : Table) (n : ℕ) (l : CountedLocks) → AreCounted t l → AreCounted (recalled t n) l
+recalled-counted t n = counted-where (λ row. with_asked true row.entry) (λ row. refl) (λ row. is_among (take n t.recall) row.holder) t
+
+-- ---- the opening
+
+-- the locks of an inode begin in SYNC
+fresh : (t : Table) (at : LockId) (n : ℕ) (o : Option Node) (part : Part) → IsCounted t at n (option_map (lock_in part) (option_map (λ node. in_sync) o))
+fresh t at n None part = tt
+fresh t at n (Some node) A = tt
+fresh t at n (Some node) L = tt
+fresh t at n (Some node) X = tt
+fresh t at n (Some node) F = tt
+
+pub opening-counted : (fs : List ℕ) (tree : Nodes) (s : State) → IsOpening fs tree s → (t : Table) (l : CountedLocks) → l.locks ≡ s.scene.locks → AreCounted t l
+opening-counted fs tree s is t l same ino part =
+    subst (λ (m : LockMap). IsCounted t (ino, part) (count_of l (ino, part)) (lock_at m ino part)) (sym same)
+    (subst (λ o. IsCounted t (ino, part) (count_of l (ino, part)) (option_map (lock_in part) o)) (sym (is.locks_are ino)) (fresh t (ino, part) (count_of l (ino, part)) (map.get tree.nodes ino) part))

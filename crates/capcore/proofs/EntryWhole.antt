@@ -1,7 +1,8 @@
 -- What the calls of the step of an event about one entry come to.
 use Rattle.std.proofs.Common.{◌≡◌, false, [], List, refl, arith}
-use Rattle.capsteps.proofs.EntryKept.{alike-changed}
-use Rattle.capcore.proofs.Common.{Ack, ClientId, effect, Ended, entry_answer, entry_event, EntryRequest, has_list, HoldAlike, Holder, holder, Ino, Release, reply_of, shown, State, with_told}
+use Rattle.captable.specs.Calls.{changed}
+use Rattle.capsteps.proofs.{EntryKept.{alike-changed}, Lockmachine.CountsStay.{counted-held, held-change}}
+use Rattle.capcore.proofs.Common.{Ack, AreCounted, ClientId, CountedLocks, effect, Ended, entry_answer, entry_event, EntryRequest, has_list, HoldAlike, Holder, holder, Ino, Release, reply_of, shown, State, with_told}
 
 pub effect-answer : (old : State) (client : ClientId) (ino : Ino) (request : EntryRequest) → (effect old (entry_event client ino request)).answer ≡ entry_answer (holder client ino) request
 effect-answer old client ino request = grind arith
@@ -18,3 +19,8 @@ pub show_reply-alike : (s : State) (k : Holder) (request : EntryRequest) → Hol
 show_reply-alike s k (Ack seq) = λ j e there. (e, there, refl)
 show_reply-alike s k (Release caps) = λ j e there. (e, there, refl)
 show_reply-alike s k request = alike-changed s.scene.table k with_told (λ e. refl)
+
+pub request-counted : (s : State) (k : Holder) (request : EntryRequest) (l : CountedLocks) → AreCounted s.scene.table l → AreCounted (shown (entry_answer k request) s).scene.table l
+request-counted s k (Ack seq) l are = are
+request-counted s k (Release caps) l are = are
+request-counted s k request l are = counted-held s.scene.table (changed s.scene.table k with_told) (held-change k with_told (λ e. refl) s.scene.table.rows) l are

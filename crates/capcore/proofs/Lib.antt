@@ -1,4 +1,5 @@
 mod Common
+pub mod Counts
 pub mod Apart
 pub mod Bounded
 pub mod OtherLocks

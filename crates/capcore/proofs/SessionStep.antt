@@ -2,7 +2,7 @@
 use Rattle.std.proofs.{Common.{◌≡◌, ◌≤◌, ◌-◌, ℕ, ◌+◌, Bool, Option, Some, is_some, option_to_list, List, length, refl, sym, ap, subst, ◌∙◌, arith, vec_capacity}, lemmas.List.Sums.{length-filter, count_by-le-length}}
 use Rattle.std.specs.FinSet as set
 use Rattle.capsteps.specs.{Capnotes.Noted.{HavePlaces}, SessionChange.{ReachesClient}, declared.settle.Affected.TheVariants.{Inodes}}
-use Rattle.capcore.{proofs.Begun.{begun-entries}, proofs.Closing.{affects-settles}, proofs.Common.{Affects, alike-less, AreChanges, ArePermittedIn, ClientId, Direct, direct, dropped_by, DueEndings, Ended, Endings, Entry, entry_at, Event, HasRoom, HaveRoomFor, HoldAlike, Holder, InoSet, is_end, IsJudged, IsLockMap, IsTable, judged, known_of, LockMap, locks_left, messages_left, Scene, session_changed, session_event, SessionChange, State, still-knows, still-there, StillKnown, view_of, ViewChange, without_requests_of-kept}, proofs.Granted.{left-was}, proofs.SessionChanged.{session_direct, direct-session_changed, session_changed-affects, session_changed-table, session_changed-below, session_changed-made, session_changed-last}, specs.UnderWay.{MayBegin, GivesOne, HasBegun, state_of}, specs.declared.parts.Answer.TheVariants.{Dropped}, specs.declared.parts.Parts.{Parts}}
+use Rattle.capcore.{proofs.Begun.{begun-entries}, proofs.Closing.{affects-settles}, proofs.Common.{Affects, alike-less, AreChanges, AreCountedIn, ArePermittedIn, ClientId, Direct, direct, dropped_by, DueEndings, Ended, Endings, Entry, entry_at, Event, HasRoom, HaveRoomFor, HoldAlike, Holder, InoSet, is_end, IsJudged, IsLockMap, IsTable, judged, known_of, LockMap, locks_left, messages_left, plain, Scene, session_changed, session_event, SessionChange, State, still-knows, still-there, StillKnown, view_of, ViewChange, without_requests_of-kept}, proofs.Granted.{left-was}, proofs.SessionChanged.{session_direct, direct-session_changed, session_changed-affects, session_changed-table, session_changed-below, session_changed-made, session_changed-last}, specs.UnderWay.{MayBegin, GivesOne, HasBegun, state_of}, specs.declared.parts.Answer.TheVariants.{Dropped}, specs.declared.parts.Parts.{Parts}}
 
 -- ---- no more are left than there were
 

@@ -1,5 +1,5 @@
 -- New sessions, clients that come off the blocklist, new inodes and snapshots leave alone all that entries and requests depend on.
-use Rattle.std.{proofs.Common.{◌≡◌, ℕ, ◌+◌, Bool, false, cond, Option, Some, None, List, sym, ap, ◌∙◌, Contains, arith}, proofs.lemmas.List.Elements.{All-contains, All-weaker}, specs.Cmp.{nat_cmp_total}, specs.FinSet.{FinSet}, specs.Option.{option_map}, specs.Ordering.{nat_cmp}}
+use Rattle.std.{proofs.Common.{◌≡◌, ℕ, ◌+◌, Bool, false, cond, Option, Some, None, List, sym, ap, subst, ◌∙◌, Contains, arith}, proofs.lemmas.List.Elements.{All-contains, All-weaker}, specs.Cmp.{nat_cmp_total}, specs.FinSet.{FinSet}, specs.Option.{option_map}, specs.Ordering.{nat_cmp}}
 use Rattle.std.specs.FinMap as map
 use Rattle.std.specs.FinSet as set
 use Rattle.capbits.specs.declared.caller.Caller.{Caller}
@@ -7,9 +7,10 @@ use Rattle.capspec.specs.declared.grant.Grant.{Grant}
 use Rattle.numbered.proofs.Maps.{insert-other}
 use Rattle.inotree.{proofs.Elsewhere.{field-changed, not_next}, specs.Calls.{with_new, changed}}
 use Rattle.sessiontab.{proofs.Elsewhere.{session-kept}, specs.Calls.{with_session, without_blocked}}
-use Rattle.capsteps.proofs.{Knowing.{known-alike}, LeftAlone.{none_if, kept-known}, Lockmachine.CountsStay.{counted-born}, Lockmachine.PolicyElsewhere.{permitted-session, permitted-new, permitted-changed, want-session, want-new, want-changed}}
-use Rattle.capsteps.specs.Lockmachine.Counts as counted
-use Rattle.capcore.{proofs.Common.{AreCountedIn, Attr, CountMap, EntryRow, first_failing, found-contains, HoldAlike, in_sync, InodeLocks, is_row_of, IsSound, IsTree, kept-sound, KeptScene, Kind, KnownSets, LeavesEntries, new_session_tests, no_locks, Node, Nodes, permitted, plain, row_of-entry, Scene, SessionTable, State, StateMap, Table, with_ino, with_parts}, specs.UnderWay.{AreKept, IsWhole, state_of}, specs.declared.parts.Parts.{Parts}}
+use Rattle.capsteps.proofs.{Knowing.{known-alike}, LeftAlone.{none_if, kept-known}, Lockmachine.CountsStay.{counted-born, counted-dropped}, Lockmachine.PolicyElsewhere.{permitted-session, permitted-new, permitted-changed, want-session, want-new, want-changed}}
+use Rattle.capsteps.specs.Lockmachine.Locks.{without_ino}
+use Rattle.capsteps.specs.Lockmachine.Counts as counting
+use Rattle.capcore.{proofs.Common.{AreCounted, AreCountedIn, Attr, CountMap, EntryRow, first_failing, found-contains, HoldAlike, in_sync, InodeLocks, is_row_of, IsSound, IsTree, kept-sound, KeptScene, Kind, KnownSets, LeavesEntries, LockMap, new_session_tests, no_locks, Node, Nodes, permitted, plain, row_of-entry, Scene, SessionTable, State, StateMap, Table, with_ino, with_parts}, specs.UnderWay.{AreKept, IsWhole, state_of}, specs.declared.parts.Parts.{Parts}}
 
 -- the locks that an inode begins with, where there is an inode
 abbrev first_of : Option Node → Option InodeLocks
@@ -96,8 +97,17 @@ module _ (p : Parts) (whole : IsWhole p) where
       left-whole (changed f p.scene.tree ino) p.scene.sessions p.scene.locks.locks.states p.scene.locks.counts (changed-leaves (state_of p) whole.0 f ino site attr) whole.3
 
   pub birth-whole : (kind : Kind) (dir : ℕ) (name : List ℕ) (attr : Attr) → IsTree p.scene.tree
-      → IsWhole (record p { scene = record p.scene { tree = with_new p.scene.tree kind dir name attr; locks = counted.with_ino p.scene.locks (p.scene.tree.last + 1) } })
+      → IsWhole (record p { scene = record p.scene { tree = with_new p.scene.tree kind dir name attr; locks = counting.with_ino p.scene.locks (p.scene.tree.last + 1) } })
   birth-whole kind dir name attr tree =
-      let locks = counted.with_ino p.scene.locks (p.scene.tree.last + 1) in
+      let locks = counting.with_ino p.scene.locks (p.scene.tree.last + 1) in
       left-whole (with_new p.scene.tree kind dir name attr) p.scene.sessions locks.locks.states locks.counts (birth-leaves (state_of p) whole.0 kind dir name attr tree)
       (counted-born p.scene.table.entries p.scene.locks (p.scene.tree.last + 1) whole.3)
+
+  -- locks that were added for a new inode, and are dropped again
+  pub undone-whole : (ino : ℕ) → without_ino (with_ino p.scene.locks.locks ino) ino ≡ p.scene.locks.locks
+      → IsWhole (record p { scene = record p.scene { locks = counting.without_ino (counting.with_ino p.scene.locks ino) ino } })
+  undone-whole ino undone =
+      let counts = (counting.without_ino (counting.with_ino p.scene.locks ino) ino).counts in
+      let counted = counted-dropped p.scene.table.entries (counting.with_ino p.scene.locks ino) ino (counted-born p.scene.table.entries p.scene.locks ino whole.3) in
+      subst (λ (m : LockMap). IsWhole (record p { scene = record p.scene { locks = record { locks = m; counts = counts } } })) (sym undone)
+      (whole.0, whole.1, whole.2, subst (λ (m : LockMap). AreCounted p.scene.table.entries (record { locks = m; counts = counts })) undone counted)

@@ -74,7 +74,11 @@ fn connected_refusal(sessions: &Sessions, tree: &Tree, holder: Holder) -> Option
 // ---- one access
 
 // What rejects a request that needs one access to an inode that it names, apart from the tests behind policy.
-pub(crate) fn access_rejection(scene: &KeptScene, holder: Holder, access: Access) -> Option<Rejection>
+pub(crate) fn access_rejection(
+    scene: &KeptScene,
+    holder: Holder,
+    access: Access,
+) -> Option<Rejection>
     ensures { result ≡ rejection_of (plain scene.now) (basic_tests (plain scene.now) holder.client holder.ino.0) (need holder.client holder.ino.0 access ∷ []) [] }
 {
     let (tree, sessions) = (&scene.tree, &scene.sessions);

@@ -3,7 +3,7 @@
 use crate::asserting::{made, same};
 use crate::texts::caps;
 use capbits::{CapSet, ClientId, Ino, Refusal};
-use captable::{AddError, CapTable, Entry, Holder, Holders, Walk};
+use captable::{AddError, CapTable, Entry, Holder, Holders, Sets, Walk};
 use std::alloc::AllocError;
 use std::process::Abort;
 
@@ -43,6 +43,11 @@ enum Step {
     // A client's entries that are not due are walked over, up to the first that is.
     SkipQuiet(u32),
     Keeps(Holder, Option<Kept>),
+    // From now on it is kept that the client is permitted these; or that it is to know of these and is permitted those.
+    Permit(Holder, &'static str),
+    Keep(Holder, &'static str, &'static str),
+    // What is kept of that beside its entry.
+    Beside(Holder, Option<(&'static str, &'static str)>),
     // The order of recall, one by one, by holders and by nodes.
     Order(Places),
     // The orders of making: of an inode, and of a client, by walks and by nodes.
@@ -124,6 +129,44 @@ fn keeps(rt: &impl Abort, found: Option<Entry>, want: Option<Kept>, at: At) {
     same(rt, kept(found), want, at);
 }
 
+// Sees that these sets are kept beside the holder's entry.
+fn beside(
+    rt: &impl Abort,
+    table: &CapTable,
+    holder: Holder,
+    want: Option<(&'static str, &'static str)>,
+    at: At,
+) {
+    let want = match want {
+        Some((told, permitted)) => Some((caps(told), caps(permitted))),
+        None => None,
+    };
+    let found = match table.kept(holder.client, holder.ino) {
+        Some(sets) => Some((sets.told, sets.permitted)),
+        None => None,
+    };
+    same(rt, found, want, at);
+    let permitted = match want {
+        Some((_told, permitted)) => Some(permitted),
+        None => None,
+    };
+    same(
+        rt,
+        table.kept_permitted(holder.client, holder.ino),
+        permitted,
+        at,
+    );
+}
+
+// Keeps both sets beside the holder's entry.
+fn keep(table: &mut CapTable, holder: Holder, told: &str, permitted: &str) {
+    let sets = Sets {
+        told: caps(told),
+        permitted: caps(permitted),
+    };
+    table.keep(holder.client, holder.ino, sets);
+}
+
 // Sees that a walk goes by these entries.
 fn goes_by(rt: &impl Abort, walk: Walk<'_>, want: Rows, at: At) {
     let mut walk = walk;
@@ -202,6 +245,9 @@ fn take(rt: &impl Abort, table: &mut CapTable, step: &Step, at: At) {
         Mark(h, asked) => table.ask(h.client, h.ino, *asked),
         SkipQuiet(client) => table.skip_quiet(ClientId(*client)),
         Keeps(h, want) => keeps(rt, table.find(h.client, h.ino), *want, at),
+        Permit(h, text) => table.keep_permitted(h.client, h.ino, caps(text)),
+        Keep(h, told, permitted) => keep(table, *h, told, permitted),
+        Beside(h, want) => beside(rt, table, *h, *want, at),
         Order(want) => is_order(rt, table, want, at),
         HoldersOf(ino, want) => on_inode(rt, table, Ino(*ino), want, at),
         EntriesOf(client, want) => of_client(rt, table, ClientId(*client), want, at),
@@ -246,6 +292,8 @@ const TWO_3: Holder = Holder {
 };
 
 const EMPTY: Option<Kept> = Some(("-", "-", (0, 0, 0), false));
+
+const NOTHING_KEPT: Option<(&str, &str)> = Some(("-", "-"));
 
 // A client has a file for itself and is asked to release all but reading and writing, while another one has it open. Then
 // the first releases more, and holds more anew.
@@ -322,6 +370,47 @@ const ACKNOWLEDGED: &[Step] = &[
     Give(ONE_2, "Fr"),
     Ack(ONE_2, 0, "pFr", Ok(())),
     Keeps(ONE_2, EMPTY),
+];
+
+// What is kept of a client comes and goes with its entry, and is no part of it.
+const KEPT_BESIDE: &[Step] = &[
+    Permit(ONE_2, "pFr"),
+    Keep(ONE_2, "p", "pFr"),
+    Beside(ONE_2, None),
+    Open(ONE_2, None),
+    Beside(ONE_2, NOTHING_KEPT),
+    Open(TWO_2, None),
+    Permit(ONE_2, "pFr"),
+    Beside(ONE_2, Some(("-", "pFr"))),
+    Keep(ONE_2, "p", "pFrw"),
+    Permit(ONE_2, "pFr"),
+    Beside(ONE_2, Some(("p", "pFr"))),
+    Beside(TWO_2, NOTHING_KEPT),
+    Keeps(ONE_2, EMPTY),
+    // A change of the entry leaves it, and one of what is kept the entry.
+    Want(ONE_2, "pFrw"),
+    Give(ONE_2, "pFr"),
+    Beside(ONE_2, Some(("p", "pFr"))),
+    Permit(ONE_2, "p"),
+    Keeps(ONE_2, Some(("pFr", "pFrw", (0, 0, 0), false))),
+    // The entry goes by a release, an acknowledgement and the end of a session, and is opened again.
+    Release(ONE_2, "pFr", Ok(())),
+    Beside(ONE_2, None),
+    Open(ONE_2, None),
+    Beside(ONE_2, NOTHING_KEPT),
+    Give(ONE_2, "p"),
+    Permit(ONE_2, "pFr"),
+    Ack(ONE_2, 0, "p", Ok(())),
+    Beside(ONE_2, None),
+    Open(ONE_2, None),
+    Beside(ONE_2, NOTHING_KEPT),
+    Permit(ONE_2, "pFr"),
+    Permit(TWO_2, "pFw"),
+    DropClient(1),
+    Beside(ONE_2, None),
+    Beside(TWO_2, Some(("-", "pFw"))),
+    Open(ONE_2, None),
+    Beside(ONE_2, NOTHING_KEPT),
 ];
 
 const ORDERS: &[Step] = &[
@@ -420,6 +509,7 @@ const ALL_ENTRIES: &[Step] = &[
 const CASES: &[(&str, &[Step])] = &[
     ("an entry keeps what is held, wanted and told", SHARED_FILE),
     ("an acknowledgement takes what is revoked", ACKNOWLEDGED),
+    ("what is kept beside an entry goes with it", KEPT_BESIDE),
     ("the orders are kept apart", ORDERS),
     ("recall names the oldest", RECALLS),
     ("a walk over what is due begins behind what is not", DUE),

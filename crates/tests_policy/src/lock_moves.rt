@@ -1,14 +1,15 @@
 //! Locks: the inodes that have them, the requests that wait for them, and the moves that they make for what is wanted and held.
 
 use crate::asking::{Exchange, core_of};
-use crate::asserting::{made, same};
+use crate::asserting::{made, present, same};
 use crate::entries::{ONE_2, ONE_3, TWO_2, open, release};
 use crate::texts::{caps, cephfs};
 use capbits::{CapSet, ClientId, Ino, Part, Refusal, Ticket};
 use capscript::{Core, Locks, Move, Operation, Wants, wants_on};
 use capspec::FsName;
-use captable::{CapTable, Holder};
+use captable::{CapTable, EntryRow, Holder};
 use locktable::{LockState, StableState};
+use onelock::holders_outside;
 use std::process::Abort;
 
 // The files 2 and 3, and 4, which was unlinked. The clients 1 and 2 may do all, and 3 may read; 4 is stale, and 5 has no session.
@@ -38,6 +39,9 @@ enum Step {
     Want(Holder, &'static str),
     Issue(Holder, &'static str),
     Release(Holder, &'static str),
+    // The gather of a part of inode 2 waits for so many clients, and for one less.
+    Awaits(Part, u32),
+    Acked(Part),
     // A client asks for a part of an inode: the number under which its request waits.
     Waits(Holder, Part, u64),
     // Its request does not wait.
@@ -75,11 +79,15 @@ fn fill(rt: &impl Abort, locks: &mut Locks, holder: Holder, part: Part) {
     }
 }
 
-// Makes the next move. A request that is served is the one that the move names.
+// Makes the next move. A request that is served is the one that the move names, and a gather that begins waits for all that hold what
+// its target does not let them hold.
 fn make_next(rt: &impl Abort, (core, fs): Known, table: &CapTable, locks: &mut Locks) -> Move {
     let next = locks.next_move(table, core.sessions(), core.tree(), fs);
     if let Some(request) = locks.apply_move(next) {
         same(rt, Move::Serve(request.ticket), next, "a request");
+    }
+    if let Move::Begin { ino, part, to } = next {
+        locks.await_acks(ino, part, holders_outside(table, ino, part, to));
     }
     next
 }
@@ -120,10 +128,33 @@ fn wants_of(wanted: &str, loner: Option<(u32, &str)>) -> Wants {
     }
 }
 
+// What a client is permitted: the pin alone, where it has no session or the inode is not there.
+fn may(holder: Holder) -> &'static str {
+    match (holder.client.0, holder.ino.0) {
+        (5, _) | (_, 9) => "p",
+        (3, _) => "pAsLsXsFscrl",
+        _ => "pAsxLsxXsxFsxcrwbl",
+    }
+}
+
 // Makes the entry where there is none.
 fn want(rt: &impl Abort, table: &mut CapTable, holder: Holder, wanted: CapSet) {
     let _refusal = open(rt, table, holder);
+    table.keep_permitted(holder.client, holder.ino, caps(may(holder)));
     table.set_want(holder.client, holder.ino, wanted);
+}
+
+// The client gives up what it releases, before the table knows.
+fn let_go(
+    rt: &impl Abort,
+    (table, locks): (&mut CapTable, &mut Locks),
+    holder: Holder,
+    text: &str,
+    at: (&'static str, usize),
+) {
+    let entry = present(rt, table.find(holder.client, holder.ino), "an entry");
+    locks.gives_up(EntryRow { holder, entry }, entry.held.minus(caps(text)));
+    same(rt, release(table, holder, text), Ok(()), at);
 }
 
 fn take(
@@ -139,7 +170,9 @@ fn take(
         Lock(ino, part, want) => same(rt, locks.state(Ino(*ino), *part), *want, at),
         Want(h, text) => want(rt, table, *h, caps(text)),
         Issue(h, text) => table.issue(h.client, h.ino, caps(text)),
-        Release(h, text) => same(rt, release(table, *h, text), Ok(()), at),
+        Release(h, text) => let_go(rt, (table, locks), *h, text, at),
+        Awaits(part, n) => locks.await_acks(Ino(2), *part, *n),
+        Acked(part) => locks.acked(Ino(2), *part),
         Waits(h, part, want) => same(rt, enqueue(locks, *h, *part), Ok(Ticket(*want)), at),
         Refuses(h, part, want) => same(rt, enqueue(locks, *h, *part), Err(*want), at),
         Fill(h, part) => fill(rt, locks, *h, *part),
@@ -335,6 +368,49 @@ const WAITING: &[Step] = &[
     Moves(&[F_BEGINS_SYNC, END_F]),
 ];
 
+// One that two clients keep open ends with the last cap of the second; half of what one of them has against it takes nothing off.
+const TWO_HOLDERS: &[Step] = &[
+    Want(ONE_2, READER),
+    Want(TWO_2, READER),
+    Issue(ONE_2, READER),
+    Issue(TWO_2, READER),
+    Moves(&[]),
+    Want(ONE_2, WRITER),
+    Moves(&[F_BEGINS_MIX]),
+    Release(TWO_2, "Fs"),
+    Moves(&[]),
+    Release(ONE_2, "Fsc"),
+    Moves(&[]),
+    Release(TWO_2, "Fc"),
+    Moves(&[END_F]),
+    // The count is of the gather alone: the next one has its own.
+    Want(ONE_2, "p"),
+    Want(TWO_2, WRITER),
+    Moves(&[F_BEGINS_SECOND]),
+    Release(ONE_2, "Fr"),
+    Moves(&[END_F]),
+];
+
+// A gather goes on by its count, which no other lock's has to do with, and which ends at 0.
+const COUNTED: &[Step] = &[
+    Awaits(Part::F, 1),
+    Want(ONE_2, WRITER),
+    Moves(&[F_BEGINS_FIRST, END_F]),
+    Issue(ONE_2, WRITER),
+    Want(TWO_2, READER),
+    Moves(&[F_BEGINS_MIX]),
+    Awaits(Part::F, 2),
+    Awaits(Part::A, 1),
+    Acked(Part::A),
+    Acked(Part::L),
+    Moves(&[]),
+    Acked(Part::F),
+    Moves(&[]),
+    Acked(Part::F),
+    Acked(Part::F),
+    Moves(&[END_F]),
+];
+
 // A gather ends where it was to end, though its goal is another by then; the next gather goes there.
 const A_GOAL_CHANGES: &[Step] = &[
     Want(ONE_2, WRITER),
@@ -527,6 +603,8 @@ const CASES: &[(&str, &[Step])] = &[
     ("what does not count moves no lock", NOTHING_MOVES),
     ("a lock goes to what is wanted", GOALS),
     ("a gather waits for what is held", WAITING),
+    ("a gather waits for each that holds it up", TWO_HOLDERS),
+    ("a gather ends by its count", COUNTED),
     (
         "a goal that changes in a gather comes after it",
         A_GOAL_CHANGES,

@@ -1,18 +1,18 @@
 use Rattle.std.proofs.Common.{[], ◌∷◌, None, sym, ap, ◌∙◌}
 use Rattle.capsteps.proofs.Capacts.Again.{denial-rejection}
-use Rattle.capcore.proofs.Common.{basic_tests, first_denied, need, rejection-before, rejection_by, Scene}
+use Rattle.capcore.proofs.Common.{basic_tests, first_denied, need, rejection-before, rejection_by, plain, Scene}
 use Rattle.capcore.proofs.judging.access_rejection.Goals as goal
 
 pub returns-in-Some : goal.returns-in-Some
 returns-in-Some c =
-    let s : Scene = c.args.scene.now in
+    let s : Scene = plain c.args.scene.now in
     let client = c.args.holder.client in
     let ino = c.args.holder.ino.0 in
     sym (rejection-before s (basic_tests s client ino) (need client ino c.args.access ∷ []) [] c.in-Some.refusal (sym c.basic_refusal.ensures ∙ c.in-Some.is))
 
 pub returns-in-None : goal.returns-in-None
 returns-in-None c =
-    let s : Scene = c.args.scene.now in
+    let s : Scene = plain c.args.scene.now in
     let client = c.args.holder.client in
     let ino = c.args.holder.ino.0 in
     c.denial.ensures

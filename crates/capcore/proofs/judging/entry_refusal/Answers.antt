@@ -1,12 +1,12 @@
 use Rattle.std.proofs.Common.{refl, sym, ap, ◌∙◌}
 use Rattle.captable.specs.Tests.{ack_tests}
 use Rattle.capsteps.specs.Caprules.Judge.{connected_tests}
-use Rattle.capcore.proofs.Common.{before, entry_event, EntryRequest, first_failing, passed-front, revoked_of, Scene}
+use Rattle.capcore.proofs.Common.{before, entry_event, EntryRequest, first_failing, passed-front, revoked_of, plain, Scene}
 use Rattle.capcore.proofs.judging.entry_refusal.Goals as goal
 
 pub returns-in-None-connected_refusal : goal.returns-in-None-connected_refusal
 returns-in-None-connected_refusal c = λ known.
-    let s : Scene = c.args.scene.now in
+    let s : Scene = plain c.args.scene.now in
     let k = c.args.holder in
     c.ack_refusal.ensures
     ∙ ap (λ caps. first_failing (ack_tests s.table k c.in-Ack.seq caps)) (c.revoked_of.ensures s refl known)

@@ -1,12 +1,12 @@
 use Rattle.std.{proofs.Common.{◌≡◌, [], ◌∷◌, sym, ap, ◌∙◌}, specs.Option.{option_map}}
 use Rattle.capsteps.specs.Capevents.declared.event.Event.TheVariants.{Flush}
-use Rattle.capcore.proofs.{Common.{Access, after, basic_tests, before, ByTest, Cap, Caps, caps_in, change_tests, Event, exclusive, failing-front, first_failing, need, needs, part_of_change, passed, passed-front, rejection, rejection_of, release_tests, Scene}, judging.flush_rejection.Goals.{After-access_rejection, After-release_refusal, in-A, in-L, in-X, in-F}}
+use Rattle.capcore.proofs.{Common.{Access, after, basic_tests, before, ByTest, Cap, Caps, caps_in, change_tests, Event, exclusive, failing-front, first_failing, need, needs, part_of_change, passed, passed-front, rejection, rejection_of, release_tests, plain, Scene}, judging.flush_rejection.Goals.{After-access_rejection, After-release_refusal, in-A, in-L, in-X, in-F}}
 use Rattle.capcore.proofs.judging.flush_rejection.Goals as goal
 
 -- what the session, the inode and the grants reject
 module _ (c : After-access_rejection) where
   abbrev s : Scene
-  s = c.args.scene.now
+  s = plain c.args.scene.now
 
   abbrev e : Event
   e = Flush c.args.holder.client c.args.holder.ino c.args.change.now
@@ -21,7 +21,7 @@ module _ (c : After-access_rejection) where
 abbrev held_for : After-release_refusal → Caps
 held_for c = caps_in (exclusive (part_of_change c.args.change.now) ∷ [])
 
-held : (c : After-release_refusal) → c.release_refusal.result ≡ first_failing (release_tests c.args.scene.now.table c.args.holder (held_for c))
+held : (c : After-release_refusal) → c.release_refusal.result ≡ first_failing (release_tests c.args.scene.now.table.entries c.args.holder (held_for c))
 held c =
     let cap : c.match-part.exclusive ≡ exclusive (part_of_change c.args.change.now) =
     elim c.match-part.branch [
@@ -31,7 +31,7 @@ held c =
       | in-F w ↦ w.exclusive-is ∙ ap exclusive (sym w.in-F.is ∙ c.part.ensures)
     ] in
     c.release_refusal.ensures
-    ∙ ap (λ (caps : Caps). first_failing (release_tests c.args.scene.now.table c.args.holder caps)) (c.of-held.ensures ∙ ap (λ (cap : Cap). caps_in (cap ∷ [])) cap)
+    ∙ ap (λ (caps : Caps). first_failing (release_tests c.args.scene.now.table.entries c.args.holder caps)) (c.of-held.ensures ∙ ap (λ (cap : Cap). caps_in (cap ∷ [])) cap)
 
 pub returns-in-Some : goal.returns-in-Some
 returns-in-Some c =

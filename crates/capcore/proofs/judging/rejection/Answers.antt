@@ -1,11 +1,11 @@
 use Rattle.std.{proofs.Common.{sym, ap, ◌∙◌}, specs.Option.{option_map}}
-use Rattle.capcore.{proofs.Common.{ByTest, Holder, judged, Operation, operation_after, operation_before, operation_needs, operation_of, queue_tests, Scene, session_tests}, proofs.LockRequests.{operation-for, enqueuing-rejection}, proofs.Rejections.{rejection-within, rejection-behind}, specs.UnderWay.{operation_event, event_of}, specs.declared.parts.MovingEvent.{MovingEvent}}
+use Rattle.capcore.{proofs.Common.{ByTest, Holder, judged, Operation, operation_after, operation_before, operation_needs, operation_of, queue_tests, plain, Scene, session_tests}, proofs.LockRequests.{operation-for, enqueuing-rejection}, proofs.Rejections.{rejection-within, rejection-behind}, specs.UnderWay.{operation_event, event_of}, specs.declared.parts.MovingEvent.{MovingEvent}}
 use Rattle.capcore.proofs.judging.rejection.Goals as goal
 
 -- the tests before it is judged, and the one behind
 pub returns-in-Some-operation_rejection : goal.returns-in-Some-operation_rejection
 returns-in-Some-operation_rejection c = λ known.
-    let s : Scene = c.args.scene.now in
+    let s : Scene = plain c.args.scene.now in
     let k : Holder = c.in-OfLock.holder in
     let operation : Operation = operation_of c.in-OfLock.operation in
     sym (ap (λ (a : MovingEvent). judged s (event_of a)) c.in-OfLock.is ∙ enqueuing-rejection (operation_event k.client k.ino c.in-OfLock.operation) k operation s (operation-for k.client k.ino c.in-OfLock.operation)
@@ -14,7 +14,7 @@ returns-in-Some-operation_rejection c = λ known.
 
 pub returns-in_ok-refusal-in-OfLock : goal.returns-in_ok-refusal-in-OfLock
 returns-in_ok-refusal-in-OfLock c = λ known.
-    let s : Scene = c.args.scene.now in
+    let s : Scene = plain c.args.scene.now in
     let k : Holder = c.in-OfLock.holder in
     let operation : Operation = operation_of c.in-OfLock.operation in
     sym (ap (λ (a : MovingEvent). judged s (event_of a)) c.in-OfLock.is ∙ enqueuing-rejection (operation_event k.client k.ino c.in-OfLock.operation) k operation s (operation-for k.client k.ino c.in-OfLock.operation)

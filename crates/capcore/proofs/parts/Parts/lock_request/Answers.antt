@@ -71,4 +71,4 @@ returns-clause-begun c =
 pub returns-in-Err-clause-whole : goal.returns-in-Err-clause-whole
 returns-in-Err-clause-whole c =
     let whole = c.requires.may.whole in
-    rw c.reserve.ensures.items (whole.0, omega (arith, c.in-Err.ensures.err, whole.1), whole.2)
+    rw c.reserve.ensures.items (whole.0, omega (arith, c.in-Err.ensures.err, whole.1), whole.2, whole.3)

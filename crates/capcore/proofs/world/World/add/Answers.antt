@@ -1,6 +1,7 @@
 use Rattle.std.proofs.Common.{◌≡◌, ◌+◌, None, refl, sym, subst, arith}
 use Rattle.inotree.proofs.Passing.{passed-create}
-use Rattle.capcore.{proofs.Common.{create_tests, first_failing, LockMap, State}, proofs.Unaffected.{birth-whole}, proofs.Undone.{added-dropped, not_given}, specs.UnderWay.{IsWhole}}
+use Rattle.capsteps.specs.Lockmachine.Counts as counting
+use Rattle.capcore.{proofs.Common.{CountedLocks, create_tests, first_failing, State}, proofs.Unaffected.{birth-whole, undone-whole}, proofs.Undone.{added-dropped, not_given}, specs.UnderWay.{IsWhole}, specs.declared.parts.Parts.{Parts}}
 use Rattle.capcore.proofs.world.World.add.Goals as goal
 
 pub overflow_add-ino : goal.overflow_add-ino
@@ -20,9 +21,12 @@ invariant_of-self c = rw c.in_err-add_ino.ensures.err c.self.invariant
 
 pub invariant_of-self-in-Err : goal.invariant_of-self-in-Err
 invariant_of-self-in-Err c =
-    let undone = added-dropped c.self.inside.parts.scene.locks.locks (c.self.inside.parts.scene.tree.last + 1) (not_given c.self.invariant.0 c.last.ensures.sound) in
-    let locks : c.drop_ino.new.self ≡ c.self.inside.parts.scene.locks.locks = rw (c.drop_ino.ensures, c.in_ok-add_ino.ensures.ok, c.last.ensures.last, undone) refl in
-    rw c.in-Err.ensures.err (subst (λ (l : LockMap). IsWhole (record c.self.inside.parts { scene = record (plain c.self.inside.parts.scene) { locks = l } })) (sym locks) c.self.invariant)
+    let p : Parts = c.self.inside.parts in
+    let next = p.scene.tree.last + 1 in
+    let undone = added-dropped p.scene.locks.locks next (not_given c.self.invariant.0 c.last.ensures.sound) in
+    let left : c.drop_ino.new.self ≡ counting.without_ino (counting.with_ino p.scene.locks next) next = rw (c.drop_ino.ensures, c.in_ok-add_ino.ensures.ok, c.last.ensures.last) refl in
+    rw c.in-Err.ensures.err (subst (λ (l : CountedLocks). IsWhole (record p { scene = record p.scene { locks = l } })) (sym left)
+    (undone-whole p c.self.invariant next undone))
 
 pub returns-in-Err-clause-err : goal.returns-in-Err-clause-err
 returns-in-Err-clause-err c =

@@ -1,6 +1,6 @@
 use Rattle.std.proofs.{Common.{◌≡◌, ◌+◌, ◌++◌, List, length, sym, ap, subst, ◌∙◌, arith}, lemmas.List.{length-append}}
 use Rattle.capsteps.specs.Capnotes.Noted.{Noted}
-use Rattle.capcore.{proofs.Begun.{ended-answered, ended-known, ended-numbers, few-earlier, fewer-places, shown-kept, shown-rest}, proofs.Closing.{ends-sessions}, proofs.Common.{AreChanges, changes-still, Ended, Endings, Event, IsAnswered, IsLockMap, IsSound, IsTable, NumbersLeft, Scene, SessionTable, shown, State, view, view_of}, proofs.Rejections.{judged-at, rejection-answered}, proofs.world.World.move_locks.Goals.{After-end, After-close}, specs.UnderWay.{MayBegin, HasBegun, answer_of, AreKept, earlier_of, event_of, state_of}, specs.declared.parts.Effect.{Effect}, specs.declared.parts.Parts.{Parts}}
+use Rattle.capcore.{proofs.Begun.{ended-answered, ended-known, ended-numbers, few-earlier, fewer-places, shown-counted, shown-kept, shown-rest}, proofs.Closing.{ends-sessions}, proofs.Common.{AreChanges, AreCounted, changes-still, Ended, Endings, Event, IsAnswered, IsLockMap, IsSound, IsTable, KeptScene, KnownSets, NumbersLeft, plain, Scene, SessionTable, shown, State, Table, view, view_of}, proofs.Rejections.{judged-at, rejection-answered}, proofs.world.World.move_locks.Goals.{After-end, After-close}, specs.UnderWay.{MayBegin, HasBegun, answer_of, AreKept, earlier_of, event_of, state_of}, specs.declared.parts.Effect.{Effect}, specs.declared.parts.Parts.{Parts}}
 use Rattle.capcore.proofs.world.World.move_locks.Goals as goal
 
 -- ---- an event that is rejected
@@ -29,7 +29,7 @@ begin-requires c = record {
 }
 
 pub end-requires : goal.end-requires
-end-requires c = record { ready = c.in_ok-affected.ensures.begun.ready }
+end-requires c = let begun = c.in_ok-affected.ensures.begun in record { ready = begun.ready; counted = begun.counted }
 
 -- ---- the end of the step
 
@@ -41,7 +41,7 @@ module _ (c : After-end) where
   q = c.begin.new.self
 
   abbrev last : Parts
-  last = record c.begin.new.self { scene = c.end.new.scene; known = c.end.new.known }
+  last = record c.begin.new.self { scene = c.end.new.scene }
 
   abbrev endings : Endings
   endings = c.begin.new.endings
@@ -67,17 +67,17 @@ module _ (c : After-end) where
   begun : HasBegun p e effect q endings
   begun = c.in_ok-affected.ensures.begun
 
-  kept : AreKept last.known.sets last.scene
-  kept = let ends = c.end.ensures.ends in (ended-known p q endings e effect may begun last.known.sets last.scene for_clients ends, ends.permitted)
+  kept : AreKept last.scene.table.kept (plain last.scene)
+  kept = let ends = c.end.ensures.ends in (ended-known p q endings e effect may begun last.scene.table.kept (plain last.scene) for_clients ends, ends.permitted)
 
 pub close-requires : goal.close-requires
 close-requires g =
     let c = (goal.at.close-requires g).After-end in
     record {
-      differ = ended-numbers (p c) (q c) (endings c) (e c) (effect c) (may c) (begun c) (last c).known.sets (last c).scene (for_clients c) c.end.ensures.ends;
+      differ = ended-numbers (p c) (q c) (endings c) (e c) (effect c) (may c) (begun c) (last c).scene.table.kept (plain (last c).scene) (for_clients c) c.end.ensures.ends;
       same = c.end.ensures.for_history;
       room = omega (arith, c.end.ensures.count, (begun c).room);
-      places = fewer-places (effect c).answer (length (q c).scene.locks.queue) (length (for_clients c)) (omega (arith, c.end.ensures.count)) (begun c).places;
+      places = fewer-places (effect c).answer (length (q c).scene.locks.locks.queue) (length (for_clients c)) (omega (arith, c.end.ensures.count)) (begun c).places;
       known = (kept c).0;
     }
 
@@ -92,20 +92,20 @@ module _ (g : After-close) where
   left = (q c).messages.items ++ earlier_of (effect c).answer (for_clients c)
 
   abbrev closed : State
-  closed = record { scene = (last c).scene; messages = left }
+  closed = record { scene = plain (last c).scene; messages = left }
 
   items : new.messages.items ≡ left
   items = g.close.ensures.messages
 
   new_is : state_of new ≡ shown (answer_of (effect c).answer) closed
-  new_is = (λ i. record { scene = new.scene; messages = items i }) ∙ g.close.ensures.shown left
+  new_is = (λ i. record { scene = plain new.scene; messages = items i }) ∙ g.close.ensures.shown left
 
-  rest : new.scene ≡ record (last c).scene { table = (shown (answer_of (effect c).answer) closed).scene.table }
+  rest : plain new.scene ≡ record (plain (last c).scene) { table = (shown (answer_of (effect c).answer) closed).scene.table }
   rest = ap (λ (s : State). s.scene) new_is ∙ shown-rest (effect c).answer closed
 
   whole : IsAnswered (state_of (p c)) (e c) g.close.result (state_of new)
   whole =
-      ended-answered (p c) (q c) (endings c) (e c) (effect c) (may c) (begun c) (last c).known.sets (last c).scene (for_clients c) g.end.ensures.ends g.close.result (state_of new)
+      ended-answered (p c) (q c) (endings c) (e c) (effect c) (may c) (begun c) (last c).scene.table.kept (plain (last c).scene) (for_clients c) g.end.ensures.ends g.close.result (state_of new)
       (g.close.ensures.reply left) g.close.ensures.for_history g.close.ensures.ended new_is
 
 pub returns-clause-answered : goal.returns-clause-answered
@@ -119,8 +119,12 @@ invariant_of-self-2 g =
     let queue = ap (λ (s : Scene). length s.locks.queue) (rest g) in (
       w.sound,
       omega (arith, items, few, queue, g.close.ensures.room, g.end.ensures.count, (begun (c g)).room),
-      subst (λ (s : Scene). AreKept g.close.new.self.known.sets s) (sym (ap (λ (s : State). s.scene) (new_is g)))
-          (rw g.close.ensures.known (shown-kept (effect (c g)).answer (closed g) (last (c g)).known.sets (kept (c g)))),
+      subst (λ (s : Scene). AreKept (new g).scene.table.kept s) (sym (ap (λ (s : State). s.scene) (new_is g)))
+          (subst (λ (sets : KnownSets). AreKept sets (shown (answer_of (effect (c g)).answer) (closed g)).scene) (sym (ap (λ (s : KeptScene). s.table.kept) g.close.ensures.rest))
+          (shown-kept (effect (c g)).answer (closed g) (last (c g)).scene.table.kept (kept (c g)))),
+      subst (AreCounted (new g).scene.table.entries) (sym (ap (λ (s : KeptScene). s.locks) g.close.ensures.rest))
+          (subst (λ (t : Table). AreCounted t (last (c g)).scene.locks) (sym (ap (λ (s : State). s.scene.table) (new_is g)))
+          (shown-counted (effect (c g)).answer (closed g) (last (c g)).scene.locks g.end.ensures.counted)),
     )
 
 pub returns-clause-changes : goal.returns-clause-changes

@@ -1,6 +1,7 @@
 use Rattle.std.proofs.{Common.{◌≡◌, ◌≤◌, [], List, length, filter, Some, refl, sym, ap, subst, ◌∙◌, arith}, lemmas.List.Sums.{length-filter, count_by-le-length}}
 use Rattle.capsteps.{proofs.Telling.{given-held}, specs.Capnotes.DueEndings.{AreEndsOf}}
-use Rattle.capcore.proofs.{Common.{after_messages, alike-where, AreChanges, ByTest, changed_where, changes-still, Ended, Event, first_failing, first_messages, HoldAlike, is_left, is_of_client, IsAnswered, IsSound, IsTable, Message, rejection-before, Reply, Said, session_tests, State, view_of, with_given}, Polled.{poll-answered, polled-new}, Rejections.{rejection-answered}, Unaffected.{alike-kept}, world.World.poll.Goals.{After-drop-told}}
+use Rattle.capcore.proofs.{Common.{after_messages, alike-where, AreChanges, AreCounted, ByTest, changed_where, changes-still, Ended, Event, first_failing, first_messages, is_left, is_of_client, IsAnswered, IsSound, IsTable, KeptTable, Message, plain, rejection-before, Reply, Said, session_tests, State, view_of, with_given}, Counts.{counted-where}, Polled.{poll-answered, polled-new}, Rejections.{rejection-answered}, Unaffected.{alike-kept}, world.World.poll.Goals.{After-drop-told}}
+use Rattle.capcore.specs.UnderWay.{AreKept}
 use Rattle.capcore.proofs.world.World.poll.Goals as goal
 
 -- ---- no open session
@@ -20,11 +21,11 @@ returns-in-Some-clause-answered c =
 module _ (c : After-drop-told) where
   -- the state before the event
   abbrev old : State
-  old = record { scene = (plain c.self.inside.parts.scene); messages = c.self.inside.parts.messages.items }
+  old = record { scene = plain c.self.inside.parts.scene; messages = c.self.inside.parts.messages.items }
 
   -- and behind it
   abbrev new : State
-  new = record { scene = record old.scene { table = c.skip_quiet.new.self }; messages = c.remove_given.new.due.items }
+  new = record { scene = record old.scene { table = c.skip_quiet.new.self.entries }; messages = c.remove_given.new.due.items }
 
   abbrev said : Said
   said = record { reply = Reply.Messages c.in_ok-given.given; for_history = Reply.Messages c.in_ok-for_history.for_history; ended = c.new.result }
@@ -40,11 +41,16 @@ module _ (c : After-drop-told) where
       c.remove_given.ensures.items c.in_ok-given.given
       (subst (λ (given : List Message). AreEndsOf given c.in_ok-told.told) c.as_slice-2.ensures c.in_ok-told.ensures)
 
-  told : c.skip_quiet.new.self ≡ changed_where (is_of_client c.args.client) (after_messages c.in_ok-given.given) old.scene.table
-  told = c.skip_quiet.ensures ∙ c.give.ensures ∙ ap (λ (given : List Message). changed_where (is_of_client c.args.client) (after_messages given) old.scene.table) c.as_slice-3.ensures
+  all : c.skip_quiet.new.self ≡ record c.self.inside.parts.scene.table { entries = changed_where (is_of_client c.args.client) (after_messages c.in_ok-given.given) old.scene.table }
+  all =
+      c.skip_quiet.ensures ∙ c.give.ensures
+      ∙ ap (λ (given : List Message). record c.self.inside.parts.scene.table { entries = changed_where (is_of_client c.args.client) (after_messages given) old.scene.table }) c.as_slice-3.ensures
+
+  told : c.skip_quiet.new.self.entries ≡ changed_where (is_of_client c.args.client) (after_messages c.in_ok-given.given) old.scene.table
+  told = ap (λ (t : KeptTable). t.entries) all
 
   left : with_given old c.args.client (first_messages old c.args.client c.args.max) ≡ new
-  left = polled-new old c.self.invariant.0 (subst (λ (s : State). IsTable s.scene.table) (sym c.self.view_is) c.requires.table) c.args.client c.args.max c.in_ok-given.given c.skip_quiet.new.self c.remove_given.new.due.items first told kept_items
+  left = polled-new old c.self.invariant.0 (subst (λ (s : State). IsTable s.scene.table) (sym c.self.view_is) c.requires.table) c.args.client c.args.max c.in_ok-given.given c.skip_quiet.new.self.entries c.remove_given.new.due.items first told kept_items
 
   whole : IsAnswered old (Event.Poll c.args.client c.args.max) said new
   whole =
@@ -61,8 +67,11 @@ invariant_of-self c =
     (omega (arith, length-filter (is_left c.args.client c.in_ok-given.given) items, count_by-le-length (is_left c.args.client c.in_ok-given.given) items)) in (
       w.sound,
       omega (arith, few, c.remove_given.ensures.room, c.self.invariant.1),
-      alike-kept c.self.inside.parts.scene.table.kept (old c).scene c.skip_quiet.new.self
-          (subst (HoldAlike (old c).scene.table) (sym (told c)) (alike-where (is_of_client c.args.client) (after_messages c.in_ok-given.given) (old c).scene.table (given-held c.in_ok-given.given))) c.self.invariant.2,
+      subst (λ (t : KeptTable). AreKept t.kept (record (old c).scene { table = t.entries })) (sym (all c))
+          (alike-kept c.self.inside.parts.scene.table.kept (old c).scene (changed_where (is_of_client c.args.client) (after_messages c.in_ok-given.given) (old c).scene.table)
+          (alike-where (is_of_client c.args.client) (after_messages c.in_ok-given.given) (old c).scene.table (given-held c.in_ok-given.given)) c.self.invariant.2),
+      subst (λ (t : KeptTable). AreCounted t.entries c.self.inside.parts.scene.locks) (sym (all c))
+          (counted-where (after_messages c.in_ok-given.given) (given-held c.in_ok-given.given) (is_of_client c.args.client) (old c).scene.table c.self.inside.parts.scene.locks c.self.invariant.3),
     )
 
 pub returns-clause-answered : goal.returns-clause-answered

@@ -1,29 +1,37 @@
 use Rattle.std.proofs.Common.{sym, ap, subst}
-use Rattle.capcore.proofs.{Common.{AreChanges, changes-still, Event, IsAnswered, Reply, Said, State, view_of, with_table}, Recalled.{recalled-sound, recalled-kept, recall-answered}, world.World.recall.Goals.{After-new}}
+use Rattle.capcore.proofs.{Common.{AreChanges, changes-still, Event, IsAnswered, KeptTable, plain, Reply, Said, State, view_of, with_table}, Counts.{recalled-counted}, Recalled.{recalled-sound, recalled-kept, recall-answered}, world.World.recall.Goals.{After-new}}
+use Rattle.capcore.specs.declared.parts.Parts.{Parts}
 use Rattle.capcore.proofs.world.World.recall.Goals as goal
 
 module _ (c : After-new) where
   -- the state before the event
   abbrev old : State
-  old = record { scene = (plain c.self.inside.parts.scene); messages = c.self.inside.parts.messages.items }
+  old = record { scene = plain c.self.inside.parts.scene; messages = c.self.inside.parts.messages.items }
 
   -- and behind it
   abbrev new : State
-  new = with_table old c.recall.new.self
+  new = with_table old c.recall.new.self.entries
 
   abbrev said : Said
   said = record { reply = Reply.Recalled c.in_ok-named.named; for_history = Reply.Recalled c.in_ok-for_history.for_history; ended = c.new.result }
 
   whole : IsAnswered old (Event.Recall c.args.count) said new
   whole =
-      subst (λ t. IsAnswered old (Event.Recall c.args.count) said (with_table old t)) (sym c.in_ok-named.ensures.ok)
+      subst (λ t. IsAnswered old (Event.Recall c.args.count) said (with_table old t)) (sym (ap (λ (t : KeptTable). t.entries) c.in_ok-named.ensures.ok))
       (recall-answered old c.self.invariant.0 c.args.count said c.first_to_recall.ensures.sound (ap Reply.Recalled c.in_ok-named.ensures.named) (ap Reply.Recalled c.in_ok-for_history.ensures.named) c.new.ensures)
 
 pub invariant_of-self : goal.invariant_of-self
 invariant_of-self c = rw c.in_err-named.ensures.err c.self.invariant
 
 pub invariant_of-self-2 : goal.invariant_of-self-2
-invariant_of-self-2 c = rw c.in_ok-named.ensures.ok (recalled-sound _ c.self.invariant.0 c.args.count, c.self.invariant.1, recalled-kept _ c.self.invariant.0 c.args.count c.self.inside.parts.scene.table.kept c.self.invariant.2)
+invariant_of-self-2 c =
+    let p : Parts = c.self.inside.parts in
+    rw c.in_ok-named.ensures.ok (
+      recalled-sound _ c.self.invariant.0 c.args.count,
+      c.self.invariant.1,
+      recalled-kept _ c.self.invariant.0 c.args.count p.scene.table.kept c.self.invariant.2,
+      recalled-counted p.scene.table.entries c.args.count p.scene.locks c.self.invariant.3,
+    )
 
 pub returns-clause-answered : goal.returns-clause-answered
 returns-clause-answered c = subst (λ (s : State). IsAnswered s (Event.Recall c.args.count) (said c) (new c)) c.self.view_is (whole c)
