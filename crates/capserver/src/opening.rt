@@ -2,6 +2,7 @@
 ghost use Rattle.std.specs.Prelude.{◌≡◌, ◌≤◌, [], IfOk};
 ghost use Rattle.capcore.specs.Caprules.History.{HasNoStray, IsOpening};
 ghost use Rattle.onecall.specs.Cappass.Published.Pairs.{origin_of};
+ghost use Rattle.onecall.specs.Cappass.Published.Places.{IsOf};
 
 use capcore::Core;
 use capspec::FsName;
@@ -23,8 +24,8 @@ pub struct Opening {
 
 impl Model for Opening {
     ghost use Rattle.std.specs.Prelude.{◌≡◌, ◌≤◌, []};
-    ghost use Rattle.capcore.specs.Caprules.History.{IsOpening};
     ghost use Rattle.onecall.specs.Cappass.Published.Pairs.{origin_of};
+    ghost use Rattle.onecall.specs.Cappass.Published.Places.{IsOf};
     ghost use Rattle.capserver.specs.Opened.{Opened, opened, opened_code};
 
     ghost Value = { Opened };
@@ -33,7 +34,7 @@ impl Model for Opening {
 
     ghost view = { λ o. opened o.core.state o.core.max_rows (origin_of o.pair).rows.book o.tally.seen.book };
 
-    ghost invariant = { λ o. (o.core.rows ≡ []) × (o.core.max_rows ≤ 4294967295) × (o.fs ≡ o.core.state.scene.fs) × IsOpening (origin_of o.pair).fs.value (origin_of o.pair).tree.value o.core.state };
+    ghost invariant = { λ o. (o.core.rows ≡ []) × (o.core.max_rows ≤ 4294967295) × (o.fs ≡ o.core.state.scene.fs) × IsOf o.core.state (origin_of o.pair).rows.book (origin_of o.pair) };
 }
 
 // What an opening is made of.
@@ -70,8 +71,7 @@ impl Opening {
         ensures max_rows { result.core.max_rows ≡ self.max_rows }
         ensures room { result.core.max_rows ≤ 4294967295 }
         ensures fs { result.fs ≡ self.state.scene.fs }
-        ensures opens { IsOpening (origin_of result.pair).fs.value (origin_of result.pair).tree.value self.state }
-        ensures history { (origin_of result.pair).rows.book ≡ self.history }
+        ensures pair { IsOf self.state self.history (origin_of result.pair) }
         ensures tally { result.tally.seen.book ≡ self.tally }
     {
         let Opening {

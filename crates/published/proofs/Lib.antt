@@ -1,6 +1,5 @@
 pub mod Adding
 pub mod Beginnings
-pub mod Copies
 pub mod Gathering
 pub mod Openings
 pub mod Publishing

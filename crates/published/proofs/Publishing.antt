@@ -50,18 +50,24 @@ publishes opening book seat place value next stages rows lost told begins book_i
     })
     same (subst (λ (r : List Row). IsPrefix value.rows.seen.log r) (sym log) begins) places keeps at
 
+-- what is noted of an opening makes it that server's
+pub noted_of : (opening : State) (origin : Origin) (fs : List ℕ) (tree : Nodes) → origin.fs.log ≡ fs ∷ [] → origin.tree.log ≡ tree ∷ [] → IsOpening fs tree opening → IsOf opening origin.rows.book origin
+noted_of opening origin fs tree fs_is tree_is opens = record { fs = fs; tree = tree; fs_is = fs_is; tree_is = tree_is; opens = opens; book_is = refl }
+
 -- at the opening there is the tree, and no session
-pub opened_view : (fs : List ℕ) (tree : Nodes) (opening : State) → IsOpening fs tree opening → view_of opening ≡ record { tree = tree; sessions = map.empty }
-opened_view fs tree opening opens = λ i. record { tree = opens.tree_is i; sessions = (opens.sessions_are i).sessions }
+pub view_first : (opening : State) (book : Book) (value : Published) → IsOf opening book value.origin → value.origin.tree.log ≡ value.view.tree ∷ [] → value.view.sessions ≡ map.empty → value.view ≡ view_of opening
+view_first opening book value is tree none =
+    let same : value.view.tree ≡ is.tree = cc (tree, is.tree_is) in
+    (λ i. record { tree = (same ∙ sym is.opens.tree_is) i; sessions = (none ∙ sym (λ j. (is.opens.sessions_are j).sessions)) i })
 
 -- what is published first: no row, and the view of the opening
-pub opens_with : (opening : State) (value : Published) → IsOpening value.origin.fs.value value.origin.tree.value opening → value.rows.seen.book ≡ value.origin.rows.book → value.rows.seen.log ≡ []
-    → value.view ≡ record { tree = value.origin.tree.value; sessions = map.empty } → IsPublished opening value.origin.rows.book value
-opens_with opening value opens named none seen = record {
-  is_of = record { opens = opens; book_is = refl };
+pub opens_with : (opening : State) (value : Published) → IsOf opening value.origin.rows.book value.origin → value.rows.seen.book ≡ value.origin.rows.book → value.rows.seen.log ≡ [] → value.view ≡ view_of opening
+    → IsPublished opening value.origin.rows.book value
+opens_with opening value is named none seen = record {
+  is_of = is;
   book_is = named;
   legal = record { last = opening; is_legal = subst (λ (rows : List Row). IsLegal opening rows opening) (sym none) (legal_none opening) };
-  shows = subst (λ (v : View). Shows v (view_of opening)) (sym (seen ∙ sym (opened_view value.origin.fs.value value.origin.tree.value opening opens))) (shows-refl (view_of opening));
+  shows = subst (λ (v : View). Shows v (view_of opening)) (sym seen) (shows-refl (view_of opening));
 }
 
 -- where nothing is staged, what is shown next is what was

@@ -12,7 +12,7 @@ use Rattle.published.specs.declared.place.Origin.{Origin}
 use Rattle.published.specs.declared.place.Place.{Place}
 use Rattle.published.specs.Places.{IsOf, IsPublished, Keeps, Knows, IsTold, Saw}
 use Rattle.published.proofs.Beginnings.{prefix_self, prefix_trans}
-use Rattle.published.proofs.Openings.{same_opening}
+use Rattle.published.proofs.Openings.{same_state}
 
 -- who knows nothing knows it of each value
 abbrev pub unaware : Place
@@ -59,7 +59,7 @@ is_of_value opening book value place told knows = subst (IsOf opening book) (tol
 -- and what is published is right by that server's opening
 pub published_of : (opening : State) (book : Book) (value : Published) (places : List Place) → Keeps value places → IsOf opening book value.origin → IsPublished opening book value
 published_of opening book value places keeps is =
-    let one : keeps.opening ≡ opening = same_opening value.origin.fs.value value.origin.tree.value keeps.opening opening keeps.value_is.is_of.opens is.opens in
+    let one : keeps.opening ≡ opening = same_state keeps.opening opening value.origin.rows.book book value.origin keeps.value_is.is_of is in
     subst (λ (b : Book). IsPublished opening b value) is.book_is (subst (λ (o : State). IsPublished o value.origin.rows.book value) one keeps.value_is)
 
 pub looks : (opening : State) (book : Book) (seat : ℕ) (place : Place) → IsTold opening book place → Turns Keeps seat place (λ x. x) (λ v x y w. Saw opening book v y w)

@@ -1,9 +1,10 @@
 -- What is published, and what the places of readers know of it.
-use Rattle.std.specs.Prelude.{◌≡◌, ℕ, List, Some, IfSome}
+use Rattle.std.specs.Prelude.{◌≡◌, ℕ, List, [], ◌∷◌, Some, IfSome}
 use mathlib.Core.Option.{some}
 use mathlib.Core.List.{IsPrefix}
 use lib.ListN.{get_elem?}
 use Rattle.logbook.specs.Pages.{Book}
+use Rattle.inotree.specs.Tree.{Nodes}
 use Rattle.caprules.specs.History.{IsOpening}
 use Rattle.caprules.specs.Noted.{view_of}
 use Rattle.caprules.specs.State.{State}
@@ -16,7 +17,11 @@ use Rattle.published.specs.Rows.{Legal}
 
 -- it is of the server that opened in this state and has this book
 pub record IsOf (opening : State) (book : Book) (origin : Origin) : Type 0 where
-  pub opens : IsOpening origin.fs.value origin.tree.value opening
+  pub fs : List ℕ
+  pub tree : Nodes
+  pub fs_is : origin.fs.log ≡ fs ∷ []
+  pub tree_is : origin.tree.log ≡ tree ∷ []
+  pub opens : IsOpening fs tree opening
   pub book_is : origin.rows.book ≡ book
 
 -- the rows are those of the server's book, legal from its opening state, and the view shows the state to which they lead

@@ -4,6 +4,7 @@
 
 mod beginning;
 mod ledger;
+mod note;
 mod pair;
 mod place;
 mod publisher;
@@ -15,6 +16,7 @@ mod value;
 pub use beginning::{Beginning, Counted, Head, Rows};
 pub use caprules::{Question, Unknown};
 pub use ledger::{MAX_PASSES, Server};
+pub use note::{Noted, Notes};
 pub use pair::Pair;
 pub use place::{
     Begins, Hears, Origin, Place, PlacesRule, PublishedReader, PublishedReading, PublishedWriter,

@@ -1,9 +1,10 @@
 //! What a server will publish by, made before the server has a name.
-ghost use Rattle.std.specs.Prelude.{◌≡◌, [], None, length, drop, IfOk};
-ghost use Rattle.std.specs.Coded.{Coded-set};
+ghost use Rattle.std.specs.Prelude.{◌≡◌, [], ◌∷◌, None, length, drop, IfOk};
+ghost use Rattle.std.specs.Coded.{Coded-set, coded_list};
 ghost use Rattle.std.specs.FinMap as map;
+ghost use Rattle.inotree.specs.Tree.{nodes_code};
+ghost use Rattle.sessiontab.specs.Connected.{session_map_code};
 ghost use Rattle.left_right.specs.Sides.{view as place_view};
-ghost use Rattle.caprules.specs.Capview.Codes.{view_code};
 ghost use Rattle.caprules.specs.History.{IsOpening};
 ghost use Rattle.caprules.specs.State.{State};
 ghost use Rattle.published.specs.Places.{IsOf};
@@ -32,7 +33,8 @@ pub struct Pair {
     pub ghost empty: { writer.desk.shown.value.rows.seen.log ≡ [] } by { Coded-set rows_code _ _ },
     pub ghost shows: { writer.desk.shown.value.rows.seen.book ≡ rows.seen.book },
     pub ghost book: { writer.desk.shown.value.origin.rows.book ≡ rows.seen.book },
-    pub ghost view: { writer.desk.shown.value.view ≡ record { tree = writer.desk.shown.value.origin.tree.value; sessions = map.empty } } by { Coded-set view_code _ _ },
+    pub ghost tree: { writer.desk.shown.value.origin.tree.log ≡ writer.desk.shown.value.view.tree ∷ [] } by { Coded-set (coded_list nodes_code) _ _ },
+    pub ghost sessions: { writer.desk.shown.value.view.sessions ≡ map.empty } by { Coded-set session_map_code _ _ },
 }
 
 impl Pair {
@@ -47,12 +49,11 @@ impl Pair {
     ) -> Result<Pair, AllocError>
         requires opens { (opening : State) × IsOpening fs.now tree.now opening }
         requires sessions { sessions.now.sessions ≡ map.empty }
-        ensures fs { IfOk result (λ pair. (origin_of pair).fs.value ≡ fs.now) }
-        ensures tree { IfOk result (λ pair. (origin_of pair).tree.value ≡ tree.now) }
+        ensures { IfOk result (λ pair. (opening : State) → IsOpening fs.now tree.now opening → IsOf opening (origin_of pair).rows.book (origin_of pair)) }
     {
         let rows = NewRows::new()?;
         let first = Published::first(rows.seen(), fs, tree, sessions)?;
-        let second = first.copy(fs, tree)?;
+        let second = first.copy()?;
         let writer = PublishedWriter::new(alloc, first, second, MAX_PASSES as usize)?;
         Ok(Pair {
             alloc,
@@ -74,9 +75,9 @@ impl Pair {
         let (writer, told) = writer.publish_as::<Begins, R>(rt);
         match told {
             Ok(()) => Ok(Publisher::of(alloc, rows.named::<L>(), writer)),
-            Err(_) => {
+            Err(refused) => {
                 writer.take(rt);
-                Err(AllocError)
+                Err(refused)
             }
         }
     }

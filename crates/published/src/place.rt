@@ -1,8 +1,9 @@
 //! The rule of the readers' places: what is published is a legal history with its view, and what a place knows begins it.
-ghost use Rattle.std.specs.Prelude.{◌≡◌};
+ghost use Rattle.std.specs.Prelude.{◌≡◌, [], ◌∷◌};
 
 use crate::beginning::Rows;
 use crate::ledger::Server;
+use crate::note::{Noted, note_of};
 use crate::value::{Published, Stage};
 use atomic_table::{Join, Split};
 use caprules::Row;
@@ -13,14 +14,13 @@ use left_right::reader::{Reader, Reading};
 use left_right::writer::Writer;
 use std::collections::LinkedList;
 use std::marker::PhantomData;
-use std::snapshot::Snapshot;
 
 /// Of which server something is, for contracts alone: the file system and the tree that it opened with, and the book of its rows.
 pub struct Origin {
     /// The file system.
-    pub fs: Snapshot<FsName>,
+    pub fs: Noted<FsName>,
     /// The tree that it opened with.
-    pub tree: Snapshot<Tree>,
+    pub tree: Noted<Tree>,
     /// The book, when no row was in it.
     pub rows: Rows,
 }
@@ -39,14 +39,25 @@ impl Drop for Origin {
 impl Origin {
     // The origin of a server that opens with these.
     pub(crate) fn of(fs: &FsName, tree: &Tree, rows: &Rows) -> Origin
-        ensures fs { result.fs.value ≡ fs.now }
-        ensures tree { result.tree.value ≡ tree.now }
+        ensures fs { result.fs.log ≡ fs.now ∷ [] }
+        ensures tree { result.tree.log ≡ tree.now ∷ [] }
         ensures rows { result.rows ≡ rows.now }
     {
         Origin {
-            fs: Snapshot::of(fs),
-            tree: Snapshot::of(tree),
+            fs: note_of(fs),
+            tree: note_of(tree),
             rows: rows.again(),
+        }
+    }
+
+    // The same once more.
+    pub(crate) fn again(&self) -> Origin
+        ensures { result ≡ self.now }
+    {
+        Origin {
+            fs: self.fs.again(),
+            tree: self.tree.again(),
+            rows: self.rows.again(),
         }
     }
 }

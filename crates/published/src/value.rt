@@ -1,5 +1,5 @@
 //! What is published, and what brings it up to date.
-ghost use Rattle.std.specs.Prelude.{◌≡◌, [], IfOk};
+ghost use Rattle.std.specs.Prelude.{◌≡◌, [], ◌∷◌, IfOk};
 
 use crate::beginning::{Counted, Rows};
 use crate::place::Origin;
@@ -42,8 +42,8 @@ impl Published {
         requires { rows.now.log ≡ [] }
         ensures rows { IfOk result (λ first. first.rows.seen ≡ rows.now) }
         ensures view { IfOk result (λ first. first.view ≡ record { tree = tree.now; sessions = sessions.now.sessions }) }
-        ensures fs { IfOk result (λ first. first.origin.fs.value ≡ fs.now) }
-        ensures tree { IfOk result (λ first. first.origin.tree.value ≡ tree.now) }
+        ensures fs { IfOk result (λ first. first.origin.fs.log ≡ fs.now ∷ []) }
+        ensures tree { IfOk result (λ first. first.origin.tree.log ≡ tree.now ∷ []) }
         ensures book { IfOk result (λ first. first.origin.rows ≡ rows.now) }
     {
         let view = View::of(tree, sessions)?;
@@ -55,15 +55,13 @@ impl Published {
         Ok(Published { rows, view, origin })
     }
 
-    // The same value once more, of the server that opened with these.
-    pub(crate) fn copy(&self, fs: &FsName, tree: &Tree) -> Result<Published, AllocError>
-        requires fs { self.now.origin.fs.value ≡ fs.now }
-        requires tree { self.now.origin.tree.value ≡ tree.now }
+    // The same value once more.
+    pub(crate) fn copy(&self) -> Result<Published, AllocError>
         ensures { IfOk result (λ copy. copy ≡ self.now) }
     {
         let view = self.view.copy()?;
         let rows = self.rows.again();
-        let origin = Origin::of(fs, tree, &self.origin.rows);
+        let origin = self.origin.again();
         Ok(Published { rows, view, origin })
     }
 }

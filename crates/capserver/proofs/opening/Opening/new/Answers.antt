@@ -2,7 +2,6 @@ use Rattle.std.proofs.Common.{◌≡◌, ◌∙◌, ℕ, List, sym, subst, rules
 use Rattle.std.proofs.lemmas.List.Elements.{same_from_all_zip}
 use Rattle.inotree.specs.Tree.{Nodes}
 use Rattle.capcore.specs.Caprules.History.{IsOpening}
-use Rattle.onecall.specs.Cappass.Published.Pairs.{origin_of}
 use Rattle.capserver.proofs.opening.Opening.new.Goals as goal
 
 pub new-requires-2-clause-opens : goal.new-requires-2-clause-opens
@@ -23,11 +22,10 @@ pub invariant_of-result : goal.invariant_of-result
 invariant_of-result c =
     let state = c.in_ok-core.core.state in
     let made = c.in_ok-core.ensures in
-    let pair = c.in_ok-pair.ensures in
     let copied = c.in_ok-name.ensures.cases in
     let name : c.in_ok-name.name ≡ c.args.fs = sym copied.3 ∙ same_from_all_zip _ _ _ copied.4 (λ x y same. same) ∙ copied.2 in (
       made.rows,
       search rules,
       name ∙ sym made.opening.fs_is,
-      subst (λ (f : List ℕ). IsOpening f (origin_of c.in_ok-pair.pair).tree.value state) (sym (pair.fs ∙ name)) (subst (λ (t : Nodes). IsOpening c.args.fs t state) (sym (pair.tree ∙ (c.tree.ensures ∙ made.opening.tree_is))) made.opening),
+      c.in_ok-pair.ensures state (subst (λ (f : List ℕ). IsOpening f c.tree.result.now state) (sym name) (subst (λ (t : Nodes). IsOpening c.args.fs t state) (sym (c.tree.ensures ∙ made.opening.tree_is)) made.opening)),
     )

@@ -4,7 +4,7 @@ use Rattle.left_right.specs.Sides.{view as place_view}
 use Rattle.published.specs.declared.value.Published.{Published}
 use Rattle.published.specs.Places.{IsOf}
 use Rattle.published.specs.Value.{staged_all}
-use Rattle.published.proofs.Publishing.{staging_first, unstaged, first_told, opened_view}
+use Rattle.published.proofs.Publishing.{staging_first, unstaged, first_told, view_first}
 use Rattle.published.proofs.Seeing.{begins}
 use Rattle.published.proofs.pair.Pair.named.Goals as goal
 
@@ -35,5 +35,5 @@ returns-in-Ok g c =
     let value = c.args.self.writer.desk.shown.value in
     let shown = MatchResult-at_ok _ _ c.in-Ok.field-0 c.in-Ok.is c.publish_as-writer.ensures.values in
     let same = unstaged value c.publish_as-writer.result.0.desk.shown.value _ shown.0 c.args.self.unstaged in
-    let view = (λ i. (staged_all (same i) (shown.1 i)).view) ∙ (c.args.self.view ∙ sym (opened_view value.origin.fs.value value.origin.tree.value g.L.Server.opening c.requires.opens)) in
+    let view = (λ i. (staged_all (same i) (shown.1 i)).view) ∙ view_first g.L.Server.opening g.L.Server.history value c.requires c.args.self.tree c.args.self.sessions in
     c.of.ensures ∙ (λ i. record { shown = ((λ j. (same j).rows.seen.log) ∙ c.args.self.empty) i; rows = c.named.ensures i; lost = false; view = view i })
