@@ -128,16 +128,16 @@ fn served<L: Server + Send + Sync, G: Gate + Send + Sync, T: Threads + Wait + Sy
     gate: G,
     plan: Plan,
 ) -> Result<Core, ServeFault>
-    requires opening { opening ≡ opened L.opening L.max_rows L.history }
+    requires opening { opening ≡ opened L.opening L.max_rows L.history L.tally }
     requires name { blank.name ≡ L.name }
     requires parts { (blank.parts ≡ L.parts) × (L.parts ≡ 32) }
-    requires passes { count ≡ L.passes }
     requires many { count ≡ vec_len plan.jobs + 1 }
     ensures legal { IfOk result (λ core. IsLegal L.opening core.rows core.state) }
     ensures counted { IfOk result (λ core. length core.rows ≡ event_count (work_of plan)) }
     ensures err { IfErr result (IsCutShort (event_count (work_of plan))) }
 {
-    let Ok((server, passes)) = CapServer::<G, L>::start(rt, opening, blank, count, gate) else {
+    let Ok((server, passes)) = CapServer::<G, L>::start(rt, alloc, opening, blank, count, gate)
+    else {
         return Err(ServeFault::from(Stop::NoMemory));
     };
     match call_all(rt, alloc, &server, passes, plan) {

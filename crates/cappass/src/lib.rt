@@ -6,4 +6,4 @@ mod passes;
 
 pub use pass::Pass;
 pub use passes::{StartFault, audit_all, make_passes, merge_all};
-pub use witness::{Beginning, MAX_PASSES, NewRows, Publisher, Recorder, Server};
+pub use witness::{Beginning, MAX_PASSES, NewTally, Pair, Publisher, Recorder, Server, Tally};

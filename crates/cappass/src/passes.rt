@@ -28,12 +28,13 @@ pub enum StartFault {
 /// A pass for each number from 1 to `count`, each with one part of the ledger and a place of its own to read from.
 pub fn make_passes<L: Server>(
     alloc: Global,
-    publisher: &Publisher<L>,
+    publisher: &mut Publisher<L>,
     rest: &mut Share<L>,
     count: u32,
 ) -> Result<Vec<Pass<L>>, StartFault>
     requires share { (count ≤ rest.old.parts) × (rest.old.amount ≡ 0) }
-    requires publisher { publisher.now.rows ≡ [] }
+    requires publisher { publisher.old.rows ≡ [] }
+    ensures publisher { publisher.new ≡ publisher.old }
     ensures parts { OnOk result ((rest.new.parts + count ≡ rest.old.parts) × (rest.new.amount ≡ 0)) }
     ensures all { IfOk result (λ v. AllNew 0 v.items × (vec_len v ≡ count)) }
     ensures err { OnErr result ((result ≡ Err faults.NoMemory) ⊎ (result ≡ Err faults.NoReader)) }

@@ -14,9 +14,10 @@ use Rattle.capcore.specs.Caprules.Numbers.{AreNumbered, rows_of}
 use Rattle.capcore.specs.Caprules.History.{IsLegal, IsRecorded, Recorded, IsNext, Replays, made_row}
 use Rattle.capcore.specs.Caprules.State.{State}
 use Rattle.capcore.specs.Caprules.Noted.{view_of}
-use Rattle.onecall.specs.Cappass.Published.Publishing.{Publishing, IsReady}
+use Rattle.onecall.specs.Cappass.Published.Publishing.{Publishing, IsReady, first_of}
 use Rattle.onecall.specs.Cappass.Published.Rows.{Legal}
 use Rattle.onecall.proofs.Cappass.Published.Beginnings.{prefix_more, prefix_trans, prefix_length}
+use Rattle.onecall.proofs.Cappass.Published.Publishing.{held_of}
 use Rattle.capserver.specs.Fresh.{IsFresh}
 use Rattle.capserver.specs.Held.{IsHeld, IsLed}
 use Rattle.onecall.specs.Cappass.Passes.{PassState, pass_id}
@@ -27,7 +28,7 @@ led_first opening max_rows core at none most = record { replays = subst (λ (row
 
 -- then no row is in the book, and the view of the opening is published
 pub held_first : (opening : State) (core : Recorded) (calls : ℕ) (next : Publishing) → core.state ≡ opening → core.rows ≡ [] → core.max_rows ≤ 4294967295 → calls ≡ 0
-    → next ≡ record { rows = []; lost = false; view = view_of opening } → IsHeld core calls next
+    → next ≡ first_of opening → IsHeld core calls next
 held_first opening core calls next at none room uncalled is =
     subst (IsHeld core calls) (sym is) (record {
       counted = uncalled ∙ sym (ap length none);
@@ -55,10 +56,6 @@ held_next old new pass event reply calls counted before after changes held next 
   whole = whole;
   shows = λ there. subst (λ (v : View). Shows v (view_of new.state)) (sym (view there)) (made.lead before.view (held.shows (kept there)));
 }
-
--- what is so of the value in the place, of what was taken out of it
-pub held_of : {P : Type 0} (place taken : Option P) (p : P) (Held : P → Type 0) → MatchOption place ⊥ Held → taken ≡ place → taken ≡ Some p → Held p
-held_of {P = P} place taken p Held held same is = subst (λ (q : Option P). MatchOption q ⊥ Held) (sym same ∙ is) held
 
 -- the rows of a core that replay from the opening are a legal history, which is not too long to be counted
 pub legal_of : (opening : State) (core : Recorded) (rows : List Row) → Replays opening core.rows core.state → IsRecorded core → rows ≡ core.rows → Legal opening rows
@@ -88,6 +85,11 @@ pub held_mended : (core : Recorded) (calls : ℕ) (place taken : Option Publishi
 held_mended core calls place taken before after rows view held same is all shown begins kept whole seen =
     held_mended_at core calls before after before.lost refl (held_of place taken before (IsHeld core calls) held same is) (subst (IsPrefix after.rows) all begins) kept
     (λ lost there. whole lost there ∙ all) (λ lost there. seen lost there ∙ shown)
+
+-- whatever readers see
+pub held_shown : (core : Recorded) (calls : ℕ) (next after : Publishing) → IsHeld core calls next → after ≡ record next { shown = after.shown } → IsHeld core calls after
+held_shown core calls next after held same =
+    subst (IsHeld core calls) (sym same) (record { counted = held.counted; room = held.room; begins = held.begins; whole = held.whole; shows = held.shows })
 
 -- what is staged then can be published
 pub ready_of : (opening : State) (core : Recorded) (calls : ℕ) (next : Publishing) → Replays opening core.rows core.state → IsHeld core calls next → AreNumbered core.rows → next.lost ≡ false → IsReady opening next

@@ -4,7 +4,7 @@ ghost use mathlib.Core.List.{IsPrefix};
 ghost use Rattle.capcore.specs.Caprules.History.{IsLegal};
 ghost use Rattle.capcore.specs.Promised.{IsPromised};
 ghost use Rattle.capcore.specs.Capacts.declared.stop.Stop.TheVariants as stop_kind;
-ghost use Rattle.capcore.specs.Caprules.Noted.{view_of};
+ghost use Rattle.onecall.specs.Cappass.Published.Publishing.{first_of};
 ghost use Rattle.onecall.specs.Cappass.Published.Rows.{Legal};
 ghost use Rattle.capserver.specs.Fresh.{IsFresh};
 ghost use Rattle.capserver.specs.Held.{IsLed};
@@ -12,7 +12,7 @@ ghost use Rattle.onecall.specs.Cappass.Passes.{pass_id};
 
 use crate::gate::Gate;
 use capcore::{Core, Event, Reply, Stop};
-use onecall::{Answer, Beginning, Pass, Publisher, Recorder, Server, make};
+use onecall::{Answer, Beginning, Pass, Publisher, Recorder, Server, Tally, make};
 use std::marker::Model;
 use std::mem::replace;
 use std::sync::Wait;
@@ -26,6 +26,8 @@ pub struct Locked<L: Server> {
     calls: Book<L>,
     // The parts of the ledger that no pass has.
     rest: Share<L>,
+    // How many passes there are.
+    count: Tally<L>,
     // Who publishes. It is out only while it does.
     publisher: Option<Publisher<L>>,
 }
@@ -42,7 +44,7 @@ impl<L: Server> Model for Locked<L> {
 
     ghost view = { λ s. s.core };
 
-    ghost invariant = { λ s. (s.rest.parts + L.passes ≡ L.parts) × (s.rest.amount ≡ 0) × IsLed L.opening L.max_rows s.core × MatchOption s.publisher ⊥ (IsHeld s.core s.calls.total) };
+    ghost invariant = { λ s. (s.rest.parts + s.count ≡ L.parts) × (s.rest.amount ≡ 0) × IsLed L.opening L.max_rows s.core × MatchOption s.publisher ⊥ (IsHeld s.core s.calls.total) };
 }
 
 impl<L: Server> Locked<L> {
@@ -51,6 +53,7 @@ impl<L: Server> Locked<L> {
         core: Core,
         calls: Book<L>,
         rest: Share<L>,
+        count: Tally<L>,
         publisher: Publisher<L>,
     ) -> Locked<L>
         requires opening { core.state ≡ L.opening }
@@ -58,13 +61,14 @@ impl<L: Server> Locked<L> {
         requires max_rows { core.max_rows ≡ L.max_rows }
         requires room { core.max_rows ≤ 4294967295 }
         requires calls { calls.total ≡ 0 }
-        requires rest { (rest.parts + L.passes ≡ L.parts) × (rest.amount ≡ 0) }
-        requires publisher { publisher ≡ record { rows = []; lost = false; view = view_of L.opening } }
+        requires rest { (rest.parts + count ≡ L.parts) × (rest.amount ≡ 0) }
+        requires publisher { publisher ≡ first_of L.opening }
     {
         Locked {
             core,
             calls,
             rest,
+            count,
             publisher: Some(publisher),
         }
     }
@@ -83,6 +87,7 @@ impl<L: Server> Locked<L> {
             core,
             calls,
             rest: _,
+            count: _,
             publisher,
         } = self;
         let Some(publisher) = publisher.as_mut() else {
@@ -132,21 +137,28 @@ impl<L: Server> Locked<L> {
         rows
     }
 
-    // Ends who publishes, and hands out the rest of what stood under the lock, with who added rows to the book.
-    pub(crate) fn end<R: Wait>(self, rt: &R) -> (Core, Book<L>, Share<L>, Recorder<L>)
+    // Ends who publishes, and hands out the rest of what stood under the lock, with who added rows to the book. What the server outside
+    // has as the number of its passes is that under the lock.
+    pub(crate) fn end<R: Wait>(
+        self,
+        rt: &R,
+        passes: &Tally<L>,
+    ) -> (Core, Book<L>, Share<L>, Recorder<L>)
         ensures core { result.0 ≡ self }
         ensures legal { IsLegal L.opening self.rows self.state }
         ensures max_rows { self.max_rows ≡ L.max_rows }
         ensures calls { result.1.total ≡ length self.rows }
-        ensures rest { (result.2.parts + L.passes ≡ L.parts) × (result.2.amount ≡ 0) }
+        ensures rest { (result.2.parts + passes.now ≡ L.parts) × (result.2.amount ≡ 0) }
         ensures rows { IsPrefix result.3 self.rows }
     {
         let Locked {
             core,
             calls,
             rest,
+            count,
             publisher,
         } = self;
+        count.agree(passes);
         let Some(publisher) = publisher else {
             unreachable!()
         };

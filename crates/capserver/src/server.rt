@@ -18,8 +18,9 @@ use capcore::{Core, Event, Question, Stop, Unknown};
 use capgrant::Verdict;
 use capspec::FsName;
 use onecall::{
-    Answer, MAX_PASSES, Pass, Publisher, Server, StartFault, audit_all, make_passes, merge_all,
+    Answer, MAX_PASSES, Pass, Server, StartFault, Tally, audit_all, make_passes, merge_all,
 };
+use std::alloc::Global;
 use std::marker::Model;
 use std::sync::ledger::Blank;
 use std::sync::{Mutex, MutexGuard, Wait};
@@ -28,7 +29,7 @@ use std::sync::{Mutex, MutexGuard, Wait};
 pub struct CapServer<G: Gate, L: Server> {
     locked: Mutex<Locked<L>>,
     gate: G,
-    count: u32,
+    count: Tally<L>,
     // The name of the file system, which never changes: questions need no lock for it.
     fs: FsName,
 }
@@ -40,7 +41,7 @@ impl<G: Gate, L: Server> Model for CapServer<G, L> {
 
     ghost view = { λ s. s.count };
 
-    ghost invariant = { λ s. (s.count ≡ L.passes) × (s.fs ≡ L.opening.scene.fs) };
+    ghost invariant = { λ s. s.fs ≡ L.opening.scene.fs };
 }
 
 /// What a server leaves.
@@ -52,43 +53,46 @@ pub struct Closed {
 
 impl<G: Gate, L: Server> CapServer<G, L> {
     /// A server that begins with this opening, and its passes, numbered from 1 on. The caller picks what L stands for: the ledger of the
-    /// blank, with all its 32 parts, the opening, and the number of passes.
+    /// blank, with all its 32 parts, and the opening. The opening ends also where no server starts.
     pub fn start<R: Wait>(
         rt: &R,
+        alloc: Global,
         opening: Opening,
         blank: Blank,
         count: u32,
         gate: G,
     ) -> Result<(CapServer<G, L>, Vec<Pass<L>>), StartFault>
-        requires opening { opening ≡ opened L.opening L.max_rows L.history }
+        requires opening { opening ≡ opened L.opening L.max_rows L.history L.tally }
         requires name { blank.name ≡ L.name }
         requires parts { (blank.parts ≡ L.parts) × (L.parts ≡ 32) }
-        requires passes { count ≡ L.passes }
         ensures passes { IfOk result (λ r. (r.0 ≡ count) × (vec_len r.1 ≡ count) × AllNew 0 r.1.items) }
         ensures count { OnOk result ((0 < count) × (count ≤ 32)) }
         ensures err { IfErr result (IsStartFault count) }
     {
         if count == 0 || count > MAX_PASSES {
+            opening.end(rt);
             return Err(StartFault::BadCount);
         }
         let Parts {
             core,
             fs,
-            rows,
-            alloc,
+            pair,
+            tally,
         } = opening.into_parts();
-        let (tree, sessions) = (core.tree(), core.sessions());
-        let Ok(publisher) = Publisher::<L>::new(alloc, rows, tree, sessions, count) else {
+        let Ok(mut publisher) = pair.named::<L, R>(rt) else {
+            return Err(StartFault::NoMemory);
+        };
+        let Some(tally) = tally.write::<L>(count) else {
+            publisher.end(rt);
             return Err(StartFault::NoMemory);
         };
         let (calls, mut rest) = blank.open::<L>();
-        match make_passes(alloc, &publisher, &mut rest, count) {
+        match make_passes(alloc, &mut publisher, &mut rest, count) {
             Ok(passes) => {
-                let locked = Mutex::new(Locked::new(core, calls, rest, publisher));
                 let server = CapServer {
-                    locked,
+                    count: tally.again(),
+                    locked: Mutex::new(Locked::new(core, calls, rest, tally, publisher)),
                     gate,
-                    count,
                     fs,
                 };
                 Ok((server, passes))
@@ -141,10 +145,10 @@ impl<G: Gate, L: Server> CapServer<G, L> {
         let CapServer {
             locked,
             gate: _,
-            count: _,
+            count,
             fs: _,
         } = self;
-        let (core, mut calls, mut rest, mut recorder) = locked.into_inner().end(rt);
+        let (core, mut calls, mut rest, mut recorder) = locked.into_inner().end(rt, &count);
         audit_all(&mut recorder, passes.as_slice());
         merge_all(&mut rest, passes);
         calls.audit(&mut rest);

@@ -58,12 +58,13 @@ fn served<L: Server + Send + Sync, T: Threads + Wait + Sync, W: Write>(
     lines: &[&[u8]],
     writer: &mut W,
 ) -> Result<u64, Fault>
-    requires opening { opening ≡ opened L.opening L.max_rows L.history }
+    requires opening { opening ≡ opened L.opening L.max_rows L.history L.tally }
     requires name { blank.name ≡ L.name }
     requires parts { (blank.parts ≡ L.parts) × (L.parts ≡ 32) }
-    requires passes { count ≡ L.passes }
 {
-    let (server, mut passes) = CapServer::<NoGate, L>::start(rt, opening, blank, count, NoGate)?;
+    let (server, mut passes) = CapServer::<NoGate, L>::start(
+        rt, alloc, opening, blank, count, NoGate,
+    )?;
     match work {
         ServerWork::Publish => {
             match publish(rt, alloc, &server, passes.as_mut_slice(), lines, writer) {

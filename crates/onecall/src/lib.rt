@@ -6,7 +6,7 @@ mod event;
 
 pub use answer::Answer;
 pub use cappass::{
-    Beginning, MAX_PASSES, NewRows, Pass, Publisher, Recorder, Server, StartFault, audit_all,
-    make_passes, merge_all,
+    Beginning, MAX_PASSES, NewTally, Pair, Pass, Publisher, Recorder, Server, StartFault, Tally,
+    audit_all, make_passes, merge_all,
 };
 pub use event::make;

@@ -1,5 +1,5 @@
 -- What a publisher has staged for readers to see next.
-use Rattle.std.specs.Prelude.{◌≡◌, Bool, false, List, refl}
+use Rattle.std.specs.Prelude.{◌≡◌, Bool, false, List, [], refl}
 use Rattle.std.specs.Coded.{Coded, code_by, coded×, coded_bool}
 use mathlib.Core.List.{IsPrefix}
 use Rattle.logbook.specs.Pages.{Book}
@@ -14,19 +14,24 @@ use Rattle.caprules.specs.Noted.{view_of}
 use Rattle.published.specs.Rows.{Legal, rows_code}
 use Rattle.published.specs.Value.{staged_all}
 
--- the rows in the book, whether a stage was lost, and the view once the stages are there
+-- the rows that readers see, those in the book, whether a stage was lost, and the view once the stages are there
 pub record Publishing : Type 0 where
+  pub shown : List Row
   pub rows : List Row
   pub lost : Bool
   pub view : View
 
 abbrev pub publishing : Published → List Stage → List Row → Bool → Publishing
-publishing value stages rows lost = record { rows = rows; lost = lost; view = (staged_all value stages).view }
+publishing value stages rows lost = record { shown = value.rows.seen.log; rows = rows; lost = lost; view = (staged_all value stages).view }
 
 abbrev pub publishing_code : Coded Publishing
 publishing_code =
-    code_by (List Row × (Bool × View)) (coded× rows_code (coded× coded_bool view_code))
-    (λ p. (p.rows, (p.lost, p.view))) (λ p. record { rows = p.0; lost = p.1.0; view = p.1.1 }) (λ _. refl)
+    code_by (List Row × (List Row × (Bool × View))) (coded× rows_code (coded× rows_code (coded× coded_bool view_code)))
+    (λ p. (p.shown, (p.rows, (p.lost, p.view)))) (λ p. record { shown = p.0; rows = p.1.0; lost = p.1.1.0; view = p.1.1.1 }) (λ _. refl)
+
+-- no row is in the book, and readers see the view of the opening
+abbrev pub first_of : State → Publishing
+first_of opening = record { shown = []; rows = []; lost = false; view = view_of opening }
 
 -- what readers see begins the rows in the book; and where no stage was lost, the stages lead to just these
 pub record IsStaging (book : Book) (value : Published) (stages : List Stage) (rows : List Row) (lost : Bool) : Type 0 where

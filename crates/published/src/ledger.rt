@@ -6,20 +6,20 @@ use std::sync::ledger::Ledger;
 /// How many passes a server has at most: each has a place from which it reads what is published.
 pub const MAX_PASSES: u32 = 32;
 
-/// One server: its ledger, how many passes it has, the state that its core opened with, how many rows its history takes at most,
-/// and the book of its rows. Contracts alone see the last four.
+/// One server: its ledger, the state that its core opened with, how many rows its history takes at most, the book of its rows, and
+/// the one in which the number of its passes stands. Contracts alone see them.
 pub trait Server: Ledger {
     ghost use Rattle.std.specs.Prelude.{ℕ};
     ghost use Rattle.caprules.specs.State.{State};
     ghost use Rattle.logbook.specs.Pages.{Book};
-
-    ghost passes: { ℕ };
 
     ghost opening: { State };
 
     ghost max_rows: { ℕ };
 
     ghost history: { Book };
+
+    ghost tally: { Book };
 }
 
 // A brand is none of these yet. A call that makes a server picks its own.
@@ -29,8 +29,6 @@ impl Server for Brand {
     ghost use Rattle.std.specs.FinSet as set;
     ghost use Rattle.captable.specs.Table as table;
     ghost use Rattle.caprules.specs.Lockmachine.Locks.{no_locks};
-
-    ghost passes = { 0 };
 
     ghost opening = { record {
       scene = record {
@@ -46,4 +44,6 @@ impl Server for Brand {
     ghost max_rows = { 0 };
 
     ghost history = { record { number = 0; log_name = 0; cells_name = 0 } };
+
+    ghost tally = { record { number = 0; log_name = 0; cells_name = 0 } };
 }

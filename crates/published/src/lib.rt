@@ -4,16 +4,25 @@
 
 mod beginning;
 mod ledger;
+mod note;
+mod pair;
 mod place;
 mod publisher;
 mod recorder;
 mod staging;
+mod tally;
 mod value;
 
 pub use beginning::{Beginning, Counted, Head, Rows};
 pub use caprules::{Question, Unknown};
 pub use ledger::{MAX_PASSES, Server};
-pub use place::{Place, PlacesRule, PublishedReader, PublishedReading, PublishedWriter, Sees};
+pub use note::{Noted, Notes};
+pub use pair::Pair;
+pub use place::{
+    Begins, Hears, Origin, Place, PlacesRule, PublishedReader, PublishedReading, PublishedWriter,
+    Sees, Tells,
+};
 pub use publisher::Publisher;
 pub use recorder::{NewRows, Recorder};
+pub use tally::{NewTally, Tally};
 pub use value::{Published, Stage};

@@ -1,19 +1,18 @@
 //! Who publishes: the rows of the history, and the view to which they lead.
-ghost use Rattle.std.specs.Prelude.{◌≡◌, ◌<◌, ◌≤◌, true, false, [], length, fold, IfOk, IfSome};
+ghost use Rattle.std.specs.Prelude.{◌≡◌, ◌≤◌, true, false, None, [], drop, length, fold, IfOk, IfSome};
 ghost use mathlib.Core.List.{IsPrefix};
 ghost use Rattle.left_right.specs.Sides.{view as place_view};
 ghost use Rattle.caprules.specs.Capview.Changes.{view_by};
-ghost use Rattle.caprules.specs.Noted.{view_of};
-ghost use Rattle.published.specs.Publishing.{IsReady};
+ghost use Rattle.published.specs.Places.{IsTold};
+ghost use Rattle.published.specs.Publishing.{IsReady, IsStaging, publishing};
 ghost use Rattle.published.specs.Rows.{Legal};
 
 use crate::beginning::Beginning;
 use crate::ledger::Server;
-use crate::place::{PublishedReader, PublishedWriter, Sees};
-use crate::recorder::{NewRows, Recorder};
+use crate::place::{Hears, PublishedReader, PublishedWriter, Sees, Tells};
+use crate::recorder::Recorder;
 use crate::staging::{stage_changes, stage_history, stage_view};
-use crate::value::Published;
-use caprules::{Row, View, ViewChange};
+use caprules::{Row, ViewChange};
 use inotree::Tree;
 use sessiontab::Sessions;
 use std::alloc::{AllocError, Global};
@@ -26,13 +25,15 @@ pub struct Publisher<L: Server> {
     alloc: Global,
     // Who adds rows to the book. It has those that are published, and those that are staged.
     recorder: Recorder<L>,
-    writer: PublishedWriter<L>,
+    writer: PublishedWriter,
     // Whether a stage was refused memory, so that the stages don't lead to these rows.
     lost: bool,
 }
 
 impl<L: Server> Model for Publisher<L> {
     ghost use Rattle.std.specs.Prelude.{drop};
+    ghost use Rattle.left_right.specs.Sides.{view as place_view};
+    ghost use Rattle.published.specs.Places.{IsTold};
     ghost use Rattle.published.specs.Publishing.{Publishing, publishing_code, publishing, IsStaging};
 
     ghost Value = { Publishing };
@@ -41,35 +42,22 @@ impl<L: Server> Model for Publisher<L> {
 
     ghost view = { λ p. publishing p.writer.desk.shown.value (drop p.writer.behind p.writer.log.items) p.recorder p.lost };
 
-    ghost invariant = { λ p. IsStaging L.history p.writer.desk.shown.value (drop p.writer.behind p.writer.log.items) p.recorder p.lost };
+    ghost invariant = { λ p. IsStaging L.history p.writer.desk.shown.value (drop p.writer.behind p.writer.log.items) p.recorder p.lost × IsTold L.opening L.history (place_view p.writer.desk.place) };
 }
 
 impl<L: Server> Publisher<L> {
-    /// Publishes that there is no row yet, and the view of the opening, to so many readers at most. Each publication looks at the
-    /// place of each.
-    pub fn new(
-        alloc: Global,
-        rows: NewRows,
-        tree: &Tree,
-        sessions: &Sessions,
-        readers: u32,
-    ) -> Result<Publisher<L>, AllocError>
-        requires readers { 0 < readers }
-        requires rows { rows.seen.book ≡ L.history }
-        requires tree { tree.now ≡ L.opening.scene.tree }
-        requires sessions { sessions.now ≡ L.opening.scene.sessions }
-        ensures { IfOk result (λ p. p ≡ record { rows = []; lost = false; view = view_of L.opening }) }
+    // Who publishes what this book has, at a pair that was told of which server it is.
+    pub(crate) fn of(alloc: Global, recorder: Recorder<L>, writer: PublishedWriter) -> Publisher<L>
+        requires staging { IsStaging L.history writer.desk.shown.value (drop writer.behind writer.log.items) recorder false }
+        requires told { IsTold L.opening L.history (place_view writer.desk.place) }
+        ensures { result ≡ publishing writer.desk.shown.value (drop writer.behind writer.log.items) recorder false }
     {
-        let recorder = rows.named::<L>();
-        let first = first_value(recorder.rows(), tree, sessions)?;
-        let second = first.copy()?;
-        let writer = PublishedWriter::<L>::new(alloc, first, second, readers as usize)?;
-        Ok(Publisher {
+        Publisher {
             alloc,
             recorder,
             writer,
             lost: false,
-        })
+        }
     }
 
     /// The rows that are in the book.
@@ -79,11 +67,15 @@ impl<L: Server> Publisher<L> {
         self.recorder.rows()
     }
 
-    /// A reader's place, which knows no row yet.
-    pub fn reader(&self) -> Result<PublishedReader<L>, AllocError>
-        ensures { IfOk result (λ place. (place_view place.place).known ≡ []) }
+    /// A reader's place, which knows no row yet, and was told of which server it is.
+    pub fn reader(&mut self) -> Result<PublishedReader, AllocError>
+        ensures same { self.new ≡ self.old }
+        ensures none { IfOk result (λ reader. (place_view reader.place).known ≡ []) }
+        ensures told { IfOk result (λ reader. IsTold L.opening L.history (place_view reader.place)) }
     {
-        self.writer.factory().reader()
+        let mut reader = self.writer.factory().reader()?;
+        reader.learn::<Hears>(self.writer.tell::<Tells>());
+        Ok(reader)
     }
 
     /// Takes the rows of the history into the book, and stages the changes that the last ones made.
@@ -91,6 +83,7 @@ impl<L: Server> Publisher<L> {
         requires legal { Legal L.opening history.now }
         requires begins { IsPrefix self.old.rows history.now }
         requires room { length history.now ≤ 4294967295 }
+        ensures shown { self.new.shown ≡ self.old.shown }
         ensures begins { IsPrefix self.new.rows history.now }
         ensures kept { self.new.lost ≡ false → self.old.lost ≡ false }
         ensures rows { self.new.lost ≡ false → self.new.rows ≡ history.now }
@@ -114,6 +107,7 @@ impl<L: Server> Publisher<L> {
         requires legal { Legal L.opening history.now }
         requires begins { IsPrefix self.old.rows history.now }
         requires room { length history.now ≤ 4294967295 }
+        ensures shown { self.new.shown ≡ self.old.shown }
         ensures begins { IsPrefix self.new.rows history.now }
         ensures kept { self.old.lost ≡ false → self.new ≡ self.old }
         ensures rows { self.old.lost ≡ true → self.new.lost ≡ false → self.new.rows ≡ history.now }
@@ -136,8 +130,10 @@ impl<L: Server> Publisher<L> {
     /// saw, and it is published the next time.
     pub fn publish<R: Wait>(self, rt: &R) -> (Publisher<L>, Option<Beginning<L>>)
         requires { self.lost ≡ false → IsReady L.opening self }
-        ensures same { result.0 ≡ self }
+        ensures same { result.0 ≡ record self { shown = result.0.shown } }
         ensures all { IfSome result.1 (λ rows. (rows ≡ self.rows) × (self.lost ≡ false)) }
+        ensures shown { IfSome result.1 (λ rows. result.0.shown ≡ rows) }
+        ensures none { result.1 ≡ None → result.0 ≡ self }
     {
         if self.lost {
             return (self, None);
@@ -175,21 +171,4 @@ impl<L: Server> Publisher<L> {
         writer.take(rt);
         recorder
     }
-}
-
-// What is published first.
-fn first_value<L: Server>(
-    rows: &Beginning<L>,
-    tree: &Tree,
-    sessions: &Sessions,
-) -> Result<Published, AllocError>
-    ensures log { IfOk result (λ value. value.rows.seen.log ≡ rows.now) }
-    ensures book { IfOk result (λ value. value.rows.seen.book ≡ L.history) }
-    ensures view { IfOk result (λ value. value.view ≡ record { tree = tree.now; sessions = sessions.now.sessions }) }
-{
-    let view = View::of(tree, sessions)?;
-    Ok(Published {
-        rows: rows.counted(),
-        view,
-    })
 }

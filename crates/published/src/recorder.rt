@@ -46,6 +46,13 @@ impl NewRows {
         Ok(NewRows { head, pen, seen })
     }
 
+    // What is known of it.
+    pub(crate) fn seen(&self) -> &Rows
+        ensures { result.now ≡ self.now.seen }
+    {
+        &self.seen
+    }
+
     /// Who adds rows to it, under the name.
     pub fn named<L: Server>(self) -> Recorder<L>
         requires { self.seen.book ≡ L.history }

@@ -17,14 +17,14 @@ use std::alloc::{AllocError, Global};
 // Takes the rows of the history that are new into the book and stages them, behind what leads to their view. It says whether all is
 // staged.
 pub(crate) fn stage_history<L: Server>(
-    writer: &mut PublishedWriter<L>,
+    writer: &mut PublishedWriter,
     recorder: &mut Recorder<L>,
     history: &[Row],
 ) -> bool
     requires legal { Legal L.opening history.now }
     requires begins { IsPrefix recorder.old history.now }
     requires room { length history.now ≤ 4294967295 }
-    ensures shown { writer.new.desk.shown.value ≡ writer.old.desk.shown.value }
+    ensures desk { writer.new.desk ≡ writer.old.desk }
     ensures begins { IsPrefix recorder.new history.now }
     ensures more { IsPrefix recorder.old recorder.new }
     ensures whole { IsTrue result → recorder.new ≡ history.now }
@@ -36,12 +36,12 @@ pub(crate) fn stage_history<L: Server>(
 }
 
 // Stages the changes one by one. It says whether all are staged.
-pub(crate) fn stage_changes<L: Server>(
+pub(crate) fn stage_changes(
     alloc: Global,
-    writer: &mut PublishedWriter<L>,
+    writer: &mut PublishedWriter,
     changes: &[ViewChange],
 ) -> bool
-    ensures shown { writer.new.desk.shown.value ≡ writer.old.desk.shown.value }
+    ensures desk { writer.new.desk ≡ writer.old.desk }
     ensures view { IsTrue result → (staged_all writer.new.desk.shown.value (drop writer.new.behind writer.new.log.items)).view ≡ fold view_by (staged_all writer.old.desk.shown.value (drop writer.old.behind writer.old.log.items)).view changes.now }
 {
     for change in changes {
@@ -52,12 +52,8 @@ pub(crate) fn stage_changes<L: Server>(
     true
 }
 
-fn stage_change<L: Server>(
-    alloc: Global,
-    writer: &mut PublishedWriter<L>,
-    change: &ViewChange,
-) -> bool
-    ensures shown { writer.new.desk.shown.value ≡ writer.old.desk.shown.value }
+fn stage_change(alloc: Global, writer: &mut PublishedWriter, change: &ViewChange) -> bool
+    ensures desk { writer.new.desk ≡ writer.old.desk }
     ensures view { IsTrue result → (staged_all writer.new.desk.shown.value (drop writer.new.behind writer.new.log.items)).view ≡ view_by (staged_all writer.old.desk.shown.value (drop writer.old.behind writer.old.log.items)).view change.now }
 {
     match boxed(alloc, change.copy()) {
@@ -67,13 +63,13 @@ fn stage_change<L: Server>(
 }
 
 // Stages the view of this tree and these sessions. It says whether it is staged.
-pub(crate) fn stage_view<L: Server>(
+pub(crate) fn stage_view(
     alloc: Global,
-    writer: &mut PublishedWriter<L>,
+    writer: &mut PublishedWriter,
     tree: &Tree,
     sessions: &Sessions,
 ) -> bool
-    ensures shown { writer.new.desk.shown.value ≡ writer.old.desk.shown.value }
+    ensures desk { writer.new.desk ≡ writer.old.desk }
     ensures view { IsTrue result → (staged_all writer.new.desk.shown.value (drop writer.new.behind writer.new.log.items)).view ≡ record { tree = tree.now; sessions = sessions.now.sessions } }
 {
     match boxed(alloc, View::of(tree, sessions)) {
@@ -89,8 +85,8 @@ fn boxed<T: Drop>(alloc: Global, made: Result<T, AllocError>) -> Option<Box<T>>
     Box::new(alloc, made.ok()?).ok()
 }
 
-fn stage<L: Server>(writer: &mut PublishedWriter<L>, next: Stage) -> bool
-    ensures shown { writer.new.desk.shown.value ≡ writer.old.desk.shown.value }
+fn stage(writer: &mut PublishedWriter, next: Stage) -> bool
+    ensures desk { writer.new.desk ≡ writer.old.desk }
     ensures staged { IsTrue result → staged_all writer.new.desk.shown.value (drop writer.new.behind writer.new.log.items) ≡ staged (staged_all writer.old.desk.shown.value (drop writer.old.behind writer.old.log.items)) next }
 {
     writer.append(next).is_ok()

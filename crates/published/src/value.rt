@@ -1,34 +1,68 @@
 //! What is published, and what brings it up to date.
-ghost use Rattle.std.specs.Prelude.{◌≡◌, IfOk};
+ghost use Rattle.std.specs.Prelude.{◌≡◌, [], ◌∷◌, IfOk};
 
-use crate::beginning::Counted;
+use crate::beginning::{Counted, Rows};
+use crate::place::Origin;
 use caprules::{View, ViewChange};
+use capspec::FsName;
+use inotree::Tree;
 use left_right::Absorb;
+use sessiontab::Sessions;
 use std::alloc::AllocError;
 
-/// What readers see: a beginning of the history, and the view to which it leads.
+/// What readers see: a beginning of the history, the view to which it leads, and of which server it is.
 pub struct Published {
     /// The beginning of the history.
     pub rows: Counted,
     /// The view.
     pub view: View,
+    /// Of which server it is, which never changes.
+    pub origin: Origin,
 }
 
 // By hand, so that whoever lets one go has one call to prove.
 impl Drop for Published {
     fn drop(self) {
-        let Published { rows: _, view: _ } = self;
+        let Published {
+            rows: _,
+            view: _,
+            origin: _,
+        } = self;
     }
 }
 
 impl Published {
+    // What a server publishes first that opens with these, and has this book.
+    pub(crate) fn first(
+        rows: &Rows,
+        fs: &FsName,
+        tree: &Tree,
+        sessions: &Sessions,
+    ) -> Result<Published, AllocError>
+        requires { rows.now.log ≡ [] }
+        ensures rows { IfOk result (λ first. first.rows.seen ≡ rows.now) }
+        ensures view { IfOk result (λ first. first.view ≡ record { tree = tree.now; sessions = sessions.now.sessions }) }
+        ensures fs { IfOk result (λ first. first.origin.fs.log ≡ fs.now ∷ []) }
+        ensures tree { IfOk result (λ first. first.origin.tree.log ≡ tree.now ∷ []) }
+        ensures book { IfOk result (λ first. first.origin.rows ≡ rows.now) }
+    {
+        let view = View::of(tree, sessions)?;
+        let rows = Counted {
+            seen: rows.again(),
+            count: 0,
+        };
+        let origin = Origin::of(fs, tree, &rows.seen);
+        Ok(Published { rows, view, origin })
+    }
+
     // The same value once more.
     pub(crate) fn copy(&self) -> Result<Published, AllocError>
         ensures { IfOk result (λ copy. copy ≡ self.now) }
     {
         let view = self.view.copy()?;
         let rows = self.rows.again();
-        Ok(Published { rows, view })
+        let origin = self.origin.again();
+        Ok(Published { rows, view, origin })
     }
 }
 

@@ -48,13 +48,12 @@ fn served<L: Server + Send + Sync, R: Abort + Threads + Wait + Sync>(
     held: (Hold, Arc<Signs, Global>),
     work: Work,
 ) -> Result<Vec<Numbers>, StartFault>
-    requires opening { opening ≡ opened L.opening L.max_rows L.history }
+    requires opening { opening ≡ opened L.opening L.max_rows L.history L.tally }
     requires name { blank.name ≡ L.name }
     requires parts { (blank.parts ≡ L.parts) × (L.parts ≡ 32) }
-    requires passes { count ≡ L.passes }
 {
     let (gate, signs) = held;
-    let (server, passes) = CapServer::<Hold, L>::start(rt, opening, blank, count, gate)?;
+    let (server, passes) = CapServer::<Hold, L>::start(rt, alloc, opening, blank, count, gate)?;
     let back = match work {
         Work::Turns(case) => take_turns(rt, alloc, &server, passes, case),
         Work::Files => make_all(rt, alloc, &server, passes),
@@ -74,7 +73,11 @@ pub fn rows_by<R: AllocGlobal + Abort + Threads + Wait + Sync>(
     count: u32,
     work: Work,
 ) -> Result<Vec<Numbers>, StartFault> {
-    let (Ok(opening), Ok(held)) = (opening(rt.alloc(), max_rows), open_gate(rt.alloc())) else {
+    // The opening comes last, since only starting a server ends it.
+    let Ok(held) = open_gate(rt.alloc()) else {
+        return Err(StartFault::NoMemory);
+    };
+    let Ok(opening) = opening(rt.alloc(), max_rows) else {
         return Err(StartFault::NoMemory);
     };
     served::<Brand, R>(rt, rt.alloc(), opening, Blank::new(32), count, held, work)

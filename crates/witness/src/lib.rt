@@ -4,6 +4,6 @@
 mod witness;
 
 pub use published::{
-    Beginning, MAX_PASSES, NewRows, Publisher, Question, Recorder, Server, Unknown,
+    Beginning, MAX_PASSES, NewTally, Pair, Publisher, Question, Recorder, Server, Tally, Unknown,
 };
 pub use witness::Witness;

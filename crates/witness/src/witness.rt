@@ -3,7 +3,7 @@ ghost use Rattle.std.specs.Prelude.{◌≡◌, ◌≢◌, ◌<◌, Err, None, []
 ghost use mathlib.Core.List.{IsPrefix};
 ghost use Rattle.left_right.specs.Sides.{view as place_view};
 ghost use Rattle.published.specs.Capview.declared.answer.Unknown.TheVariants as unknown;
-ghost use Rattle.published.specs.Places.{IsPublished, Saw};
+ghost use Rattle.published.specs.Places.{HasSeen, IsPublished, IsTold};
 ghost use Rattle.published.specs.Rows.{Legal};
 ghost use Rattle.witness.specs.Answers.{IsAnswered};
 
@@ -20,7 +20,7 @@ use std::marker::Model;
 pub struct Witness<L: Server> {
     known: Beginning<L>,
     // Its place, which it has between two calls.
-    place: Option<PublishedReader<L>>,
+    place: Option<PublishedReader>,
 }
 
 // By hand, so that whoever lets one go has one call to prove.
@@ -34,6 +34,7 @@ impl<L: Server> Model for Witness<L> {
     ghost use Rattle.std.specs.Prelude.{◌≡◌, List, MatchOption};
     ghost use Rattle.left_right.specs.Sides.{view as place_view};
     ghost use Rattle.published.specs.Capevents.declared.row.Row.{Row};
+    ghost use Rattle.published.specs.Places.{IsTold};
     ghost use Rattle.published.specs.Rows.{Legal, rows_code};
 
     ghost Value = { List Row };
@@ -42,14 +43,15 @@ impl<L: Server> Model for Witness<L> {
 
     ghost view = { λ w. w.known };
 
-    ghost invariant = { λ w. MatchOption w.place ⊥ (λ r. (place_view r.place).known ≡ w.known) × Legal L.opening w.known };
+    ghost invariant = { λ w. MatchOption w.place ⊥ (λ r. ((place_view r.place).known ≡ w.known) × IsTold L.opening L.history (place_view r.place)) × Legal L.opening w.known };
 }
 
 impl<L: Server> Witness<L> {
     /// Who knows no row yet, and can read what is published.
-    pub fn of(publisher: &Publisher<L>) -> Result<Witness<L>, AllocError>
-        requires { publisher.now.rows ≡ [] }
-        ensures { IfOk result (λ witness. witness ≡ []) }
+    pub fn of(publisher: &mut Publisher<L>) -> Result<Witness<L>, AllocError>
+        requires { publisher.old.rows ≡ [] }
+        ensures same { publisher.new ≡ publisher.old }
+        ensures none { IfOk result (λ witness. witness ≡ []) }
     {
         let place = publisher.reader()?;
         let known = publisher.rows().again();
@@ -110,12 +112,12 @@ impl<L: Server> Witness<L> {
 
 // Begins to read at a place, which stands empty meanwhile. At None nothing can be read, and the place is back.
 fn enter<L: Server>(
-    place: &mut Option<PublishedReader<L>>,
+    place: &mut Option<PublishedReader>,
     known: &Beginning<L>,
-) -> Option<PublishedReading<L>>
-    requires { MatchOption place.old ⊥ (λ reader. (place_view reader.place).known ≡ known.now) }
-    ensures saw { IfSome result (λ reading. Saw L.opening L.history (record { known = known.now }) reading.part.value (place_view reading.place)) }
-    ensures none { result ≡ None → MatchOption place.new ⊥ (λ reader. (place_view reader.place).known ≡ known.now) }
+) -> Option<PublishedReading>
+    requires { MatchOption place.old ⊥ (λ reader. ((place_view reader.place).known ≡ known.now) × IsTold L.opening L.history (place_view reader.place)) }
+    ensures saw { IfSome result (λ reading. HasSeen L.opening L.history known.now reading.part.value (place_view reading.place)) }
+    ensures none { result ≡ None → MatchOption place.new ⊥ (λ reader. ((place_view reader.place).known ≡ known.now) × IsTold L.opening L.history (place_view reader.place)) }
 {
     let Some(reader) = place.take() else {
         unreachable!()
@@ -130,14 +132,12 @@ fn enter<L: Server>(
 }
 
 // Ends it, and gives the rows that were read.
-fn leave<L: Server>(
-    place: &mut Option<PublishedReader<L>>,
-    reading: PublishedReading<L>,
-) -> Beginning<L>
+fn leave<L: Server>(place: &mut Option<PublishedReader>, reading: PublishedReading) -> Beginning<L>
     requires published { IsPublished L.opening L.history reading.part.value }
     requires known { (place_view reading.place).known ≡ reading.part.value.rows.seen.log }
+    requires told { IsTold L.opening L.history (place_view reading.place) }
     ensures known { result ≡ reading.part.value.rows.seen.log }
-    ensures place { MatchOption place.new ⊥ (λ reader. (place_view reader.place).known ≡ result) }
+    ensures place { MatchOption place.new ⊥ (λ reader. ((place_view reader.place).known ≡ result) × IsTold L.opening L.history (place_view reader.place)) }
 {
     let value = reading.get();
     let known = Beginning::of(&value.rows.seen, value.rows.count);

@@ -9,7 +9,7 @@ loop-at-preserved g c =
     let items = c.push_reserved.ensures.items in
     let same = c.reserve.ensures.items in
     let at = c.loop-at.at in
-    let pass : c.new.result ≡ pass_state (at + 1) 0 [] = c.new.ensures ∙ (λ i. pass_state (at + 1) (c.split_off-share.ensures.amount i) (c.in-Ok.ensures i)) in
+    let pass : c.new.result ≡ pass_state (at + 1) 0 [] = c.new.ensures ∙ (λ i. pass_state (at + 1) (c.split_off-share.ensures.amount i) (c.in-Ok.ensures.none i)) in
     let old : AllNew 0 c.reserve.new.self.items = subst (AllNew 0) (sym same) before.new in
     let many : length c.reserve.new.self.items ≡ at = ap length same ∙ before.many in
     record {
@@ -17,4 +17,5 @@ loop-at-preserved g c =
       none = omega (arith, before.none, c.split_off-share.ensures.amount_left);
       new = subst (AllNew 0) (sym items) (new_more 0 (at + 1) c.reserve.new.self.items c.new.result old pass (omega (arith, many)));
       many = ap length items ∙ omega (arith, length-append c.reserve.new.self.items (c.new.result ∷ []), many);
+      same = c.in-Ok.ensures.same ∙ before.same;
     }

@@ -8,4 +8,5 @@ invariant-loop-at g l = record {
   none : l.rest.amount ≡ 0;
   new : AllNew 0 l.passes.items;
   many : length l.passes.items ≡ l.at;
+  same : l.publisher ≡ l.fn.publisher;
 }

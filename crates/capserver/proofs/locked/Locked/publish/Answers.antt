@@ -3,7 +3,8 @@ use mathlib.Core.List.{IsPrefix}
 use Rattle.capcore.specs.Caprules.History.{Recorded}
 use Rattle.onecall.specs.Cappass.Published.Publishing.{Publishing}
 use Rattle.capserver.specs.Held.{IsHeld}
-use Rattle.capserver.proofs.Holding.{held_of, legal_of, room_of, held_mended, ready_of, all_of}
+use Rattle.onecall.proofs.Cappass.Published.Publishing.{held_of}
+use Rattle.capserver.proofs.Holding.{legal_of, room_of, held_mended, held_shown, ready_of, all_of}
 use Rattle.capserver.proofs.locked.Locked.publish.Given.{Over}
 use Rattle.capserver.proofs.locked.Locked.publish.Goals as goal
 
@@ -35,7 +36,7 @@ invariant_of-self g c =
     let calls = c.self.inside.calls.total in
     let mended = held_mended core calls c.self.inside.publisher c.take.result c.in-Some.publisher c.mend.new.self c.history.result.now (record { tree = c.tree.result.now; sessions = c.sessions.result.now.sessions })
     c.self.invariant.3 c.take.ensures.value c.in-Some.is c.history.ensures.rows (λ i. record { tree = c.tree.ensures i; sessions = (c.sessions.ensures i).sessions }) c.mend.ensures.begins c.mend.ensures.kept c.mend.ensures.rows c.mend.ensures.view in
-    (c.self.invariant.0, c.self.invariant.1, c.self.invariant.2, subst (λ (q : Option Publishing). MatchOption q ⊥ (IsHeld core calls)) (sym c.put_back.ensures) (subst (IsHeld core calls) (sym c.publish-publisher.ensures.same) mended))
+    (c.self.invariant.0, c.self.invariant.1, c.self.invariant.2, subst (λ (q : Option Publishing). MatchOption q ⊥ (IsHeld core calls)) (sym c.put_back.ensures) (held_shown core calls c.mend.new.self c.publish-publisher.result.0 mended c.publish-publisher.ensures.same))
 
 pub returns-clause-all : goal.returns-clause-all
 returns-clause-all g c =

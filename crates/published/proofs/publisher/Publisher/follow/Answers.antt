@@ -2,7 +2,8 @@ use Rattle.std.proofs.Common.{drop, sym, subst, ◌∙◌}
 use mathlib.Core.List.{IsPrefix}
 use Rattle.published.specs.Publishing.{Publishing}
 use Rattle.published.proofs.Beginnings.{prefix_self}
-use Rattle.published.proofs.Publishing.{staging_more}
+use Rattle.left_right.specs.Sides.{view as place_view}
+use Rattle.published.proofs.Publishing.{staging_more, told_same}
 use Rattle.published.proofs.publisher.Publisher.follow.Goals.{then-stage_changes, else-stage_changes}
 use Rattle.published.proofs.publisher.Publisher.follow.Goals as goal
 
@@ -18,13 +19,17 @@ invariant_of-self g c =
       | then-stage_changes w ↦
           let made = w.stage_history in
           let after = made.new.writer in
-          rw w.self-inside-is
-          (staging_more g.L.Server.history value after.desk.shown.value stages (drop after.behind after.log.items) before.recorder made.new.recorder c.args.history.now before.lost lost c.self.invariant
-          (made.ensures.shown ∙ c.stage_changes.ensures.shown) made.ensures.more (λ there. made.ensures.whole (cc (there, w.lost-is))) (λ there. made.ensures.log (cc (there, w.lost-is))) (λ there. made.ensures.book (cc (there, w.lost-is))))
+          rw w.self-inside-is (
+            staging_more g.L.Server.history value after.desk.shown.value stages (drop after.behind after.log.items) before.recorder made.new.recorder c.args.history.now before.lost lost c.self.invariant.0
+                (λ i. ((made.ensures.desk ∙ c.stage_changes.ensures.desk) i).shown.value) made.ensures.more (λ there. made.ensures.whole (cc (there, w.lost-is))) (λ there. made.ensures.log (cc (there, w.lost-is))) (λ there. made.ensures.book (cc (there, w.lost-is))),
+            told_same g.L.Server.opening g.L.Server.history _ _ c.self.invariant.1 (λ i. (place_view ((made.ensures.desk ∙ c.stage_changes.ensures.desk) i).place).origin),
+          )
       | else-stage_changes w ↦
-          rw w.self-inside-is
-          (staging_more g.L.Server.history value mid.desk.shown.value stages (drop mid.behind mid.log.items) before.recorder before.recorder c.args.history.now before.lost lost c.self.invariant
-          c.stage_changes.ensures.shown (prefix_self before.recorder) (λ there. absurd (cc (there, w.lost-is, w.if-stage_changes.false))) (λ there. absurd (cc (there, w.lost-is, w.if-stage_changes.false))) (λ there. absurd (cc (there, w.lost-is, w.if-stage_changes.false))))
+          rw w.self-inside-is (
+            staging_more g.L.Server.history value mid.desk.shown.value stages (drop mid.behind mid.log.items) before.recorder before.recorder c.args.history.now before.lost lost c.self.invariant.0
+                (λ i. (c.stage_changes.ensures.desk i).shown.value) (prefix_self before.recorder) (λ there. absurd (cc (there, w.lost-is, w.if-stage_changes.false))) (λ there. absurd (cc (there, w.lost-is, w.if-stage_changes.false))) (λ there. absurd (cc (there, w.lost-is, w.if-stage_changes.false))),
+            told_same g.L.Server.opening g.L.Server.history _ _ c.self.invariant.1 (λ i. (place_view (c.stage_changes.ensures.desk i).place).origin),
+          )
     ]
 
 pub returns-clause-begins : goal.returns-clause-begins
