@@ -9,7 +9,7 @@ ghost use Rattle.capscript.specs.declared.serve_fault.ServeFault.{ServeFault as 
 ghost use Rattle.capcommand.specs.Served.{IsServed};
 ghost use Rattle.capcommand.specs.declared.stopping.Fault.{Fault as AFault};
 ghost use Rattle.capcommand.specs.declared.stopping.Fault.TheVariants as faults;
-ghost use Rattle.capcommand.specs.Commands.{Answers, Stops, RunStops, ServeStops};
+ghost use Rattle.capcommand.specs.Commands.{Answers, Stops, RunStops, ServeStops, WasDone};
 
 use crate::serving::serve;
 use crate::stopping::Fault;
@@ -24,19 +24,25 @@ use std::io::{Read, Write};
 use std::sync::Wait;
 use std::thread::Threads;
 
-/// Does what the words behind the program's name ask for, and returns the status. What is wrong is written to `faults`;
-/// where that fails, nothing else can be said, and the status stays.
+/// Does what the words behind the program's name ask for, and returns the status. Neither stream was read or written to yet. What is
+/// wrong is written to `faults`; where that fails, nothing else can be said, and the status stays.
 pub fn dispatch<E: AllocGlobal + Files + Threads + Wait + Sync, R: Read, W: Write, F: Write>(
     rt: &E,
     words: &[Vec<u8>],
-    reader: &mut R,
-    writer: &mut W,
+    reader: &mut Watched<R>,
+    writer: &mut Watched<W>,
     faults: &mut F,
 ) -> u8
+    requires reader_clear { IsFalse (has_failed reader.old) }
+    requires reader_unended { IsFalse (has_ended reader.old) }
+    requires writer_clear { IsFalse (has_failed writer.old) }
     ensures status { result ≤ DENIED }
     ensures done { result ≡ DONE → Keeps (F.contents faults.old) (F.contents faults.new) }
-    ensures usage { result ≡ USAGE → Keeps (W.contents writer.old) (W.contents writer.new) }
+    ensures usage { result ≡ USAGE → Keeps (W.contents (inner_of writer.old)) (W.contents (inner_of writer.new)) }
     ensures denied { result ≡ DENIED → Keeps (F.contents faults.old) (F.contents faults.new) }
+    // What was written where the work was done.
+    ensures answered { (result ≡ DONE) ⊎ (result ≡ DENIED) → WasDone (R.remaining (inner_of reader.old)) result
+        (W.contents (inner_of writer.old)) (W.contents (inner_of writer.new)) }
 {
     let mut invocation = match read_words(rt.alloc(), words) {
         Ok(invocation) => invocation,
@@ -45,29 +51,11 @@ pub fn dispatch<E: AllocGlobal + Files + Threads + Wait + Sync, R: Read, W: Writ
     if let Err(fault) = gather(rt, rt.alloc(), &mut invocation) {
         return capanswers::refuse(rt.alloc(), &invocation, fault, faults);
     }
-    let mut writer = Watched::new(writer);
     match keyring_file(rt, &invocation) {
-        Ok(None) => {
-            let mut reader = Watched::new(reader);
-            carry_out(
-                rt,
-                rt.alloc(),
-                &mut invocation,
-                &mut reader,
-                &mut writer,
-                faults,
-            )
-        }
+        Ok(None) => carry_out(rt, rt.alloc(), &mut invocation, reader, writer, faults),
         Ok(Some(file)) => {
             let mut file = Watched::new(file);
-            carry_out(
-                rt,
-                rt.alloc(),
-                &mut invocation,
-                &mut file,
-                &mut writer,
-                faults,
-            )
+            carry_out(rt, rt.alloc(), &mut invocation, &mut file, writer, faults)
         }
         Err(fault) => capanswers::refuse(rt.alloc(), &invocation, fault, faults),
     }
