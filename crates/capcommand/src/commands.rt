@@ -1,15 +1,16 @@
 //! The commands of the program, over streams that the caller passes.
-ghost use Rattle.std.specs.Prelude.{◌≡◌, ◌≤◌, ◌⊎◌, ℕ, List, length, OnOk, IfOk, IfErr, IfSome, IsFalse};
+ghost use Rattle.std.specs.Prelude.{◌≡◌, ◌≤◌, ◌⊎◌, ℕ, List, length, option_map, OnOk, IfOk, IfErr, IfSome, IsFalse};
 ghost use Rattle.std.specs.Io.KnownBytes.{Appends, Keeps};
 ghost use Rattle.capscript.specs.Caplines.declared.fault.ScriptFault.{ScriptFault as AScriptFault};
 ghost use Rattle.capscript.specs.Caplines.Lines.{lines, longest_script};
 ghost use Rattle.capscript.specs.Transcript.{IsTranscript};
-ghost use Rattle.capscript.specs.Capstreams.Watched.{inner_of, has_failed, has_ended};
+ghost use Rattle.capscript.specs.Capstreams.Watched.{inner_of, has_failed, has_blocked, has_ended};
 ghost use Rattle.capscript.specs.declared.serve_fault.ServeFault.{ServeFault as AServeFault};
 ghost use Rattle.capcommand.specs.Served.{IsServed};
 ghost use Rattle.capcommand.specs.declared.stopping.Fault.{Fault as AFault};
 ghost use Rattle.capcommand.specs.declared.stopping.Fault.TheVariants as faults;
 ghost use Rattle.capcommand.specs.Commands.{Answers, Stops, RunStops, ServeStops, WasDone};
+ghost use Rattle.capcommand.specs.Hints.{hint_of, hint_unread};
 
 use crate::serving::serve;
 use crate::stopping::Fault;
@@ -203,7 +204,9 @@ fn refuse<R>(
 }
 
 // What is known of the cause of a fault, where its line doesn't tell it.
-fn cause_of<R>(fault: Fault, reader: &Watched<R>) -> Option<&'static str> {
+fn cause_of<R>(fault: Fault, reader: &Watched<R>) -> Option<&'static str>
+    ensures { option_map (λ cause. cause.now) result ≡ hint_of fault (has_blocked reader.now) (has_failed reader.now) }
+{
     match fault {
         Fault::Script(ScriptFault::ReadFault)
         | Fault::Serve(ServeFault::Script(ScriptFault::ReadFault)) => cause_unread(reader),
@@ -215,7 +218,9 @@ fn cause_of<R>(fault: Fault, reader: &Watched<R>) -> Option<&'static str> {
 }
 
 // Why a script was not read. Where no read failed it is too long.
-fn cause_unread<R>(reader: &Watched<R>) -> Option<&'static str> {
+fn cause_unread<R>(reader: &Watched<R>) -> Option<&'static str>
+    ensures { option_map (λ cause. cause.now) result ≡ hint_unread (has_blocked reader.now) (has_failed reader.now) }
+{
     if reader.blocked() {
         Some("standard input had nothing yet, and is set not to wait for more")
     } else if reader.failed() {
