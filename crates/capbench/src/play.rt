@@ -1,6 +1,7 @@
 //! Talks, played to the commands of `capd` and to those of this program.
 
 use crate::work;
+use capcommand::Watched;
 use std::fs;
 use std::fs::Files;
 use std::io::Write;
@@ -91,7 +92,10 @@ fn outcome(rt: &(impl AllocGlobal + Files + Threads + Wait + Sync), run: &Run) -
     let mut faults = Output::new(&mut came.complaints, run.limits.fault_room);
     let words = run.words.as_slice();
     came.status = match run.program {
-        Program::Capd => capcommand::dispatch(rt, words, &mut reader, &mut writer, &mut faults),
+        Program::Capd => {
+            let (mut reader, mut writer) = (Watched::new(reader), Watched::new(writer));
+            capcommand::dispatch(rt, words, &mut reader, &mut writer, &mut faults)
+        }
         Program::Capbench => work::dispatch(rt, words, &mut reader, &mut writer, &mut faults),
     };
     came

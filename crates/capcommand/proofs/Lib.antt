@@ -1,3 +1,4 @@
+mod Done
 mod NewPasses
 mod Writing
 pub use Rattle.capserver.proofs.Capcore

@@ -1,5 +1,5 @@
 -- What a command writes, and why it stops before its end.
-use Rattle.std.specs.Prelude.{◌≡◌, ◌↔◌, ◌⊎◌, ◌<◌, ◌≤◌, ⊤, ℕ, Bool, List, [], length, ◌++◌, Option, Err, IfSome, IsTrue, codes}
+use Rattle.std.specs.Prelude.{◌≡◌, ◌≢◌, ◌↔◌, ◌⊎◌, ◌<◌, ◌≤◌, ⊤, ℕ, Bool, List, [], length, ◌++◌, Option, Err, IfSome, IsTrue, codes}
 use Rattle.std.specs.Io.KnownBytes.{Appends, Keeps}
 use Rattle.capspec.specs.Grants.{Reads}
 use Rattle.capspec.specs.Written.{written}
@@ -16,6 +16,7 @@ use Rattle.capcommand.specs.Served.{IsServed, IsWritten}
 use Rattle.capanswers.specs.declared.command_line.Invocation.{Invocation}
 use Rattle.capanswers.specs.declared.command_line.Invocation.TheVariants as invocations
 use Rattle.capanswers.specs.declared.fault.AnswerFault.{AnswerFault}
+use Rattle.capanswers.specs.Files.{ReadsFile}
 use Rattle.capanswers.specs.Answers.{AnswersInquiry, AnswersLint, StopsBefore, StopsComparing, StopsInquiry}
 use Rattle.capanswers.specs.Checkup.{AnswersCheckup, StopsCheckup}
 use Rattle.capanswers.specs.Survey.{AnswersSurvey, StopsSurvey}
@@ -72,3 +73,10 @@ Stops (invocations.Audit checkup) fault input ended unread unwritten old new = T
 Stops (invocations.Log fs) fault input ended unread unwritten old new = TellsOfAnswer (λ told. StopsLog fs.items told input unread unwritten old new) fault
 Stops (invocations.Run more) fault input ended unread unwritten old new = (stop : ScriptFault) × (fault ≡ Script stop) × RunStops stop input ended unread unwritten old new
 Stops (invocations.Serve more) fault input ended unread unwritten old new = (stop : ServeFault) × (fault ≡ Serve stop) × ServeStops stop input unread unwritten old new
+
+-- The work was done with this status: the whole answer to what some words ask for was written, by the input or by a file that the command
+-- reads in its place; or help was, which has a byte at least.
+abbrev pub WasDone : Option (List ℕ) → ℕ → Option (List ℕ) → Option (List ℕ) → Type 0
+WasDone input status old new =
+    ((invocation : Invocation) × (read : Option (List ℕ)) × (ReadsFile invocation ⊎ (read ≡ input)) × Answers invocation read status old new)
+    ⊎ ((help : List ℕ) × (status ≡ 0) × (help ≢ []) × Appends old new help)

@@ -1,4 +1,5 @@
 pub mod Commands
+pub mod Hints
 pub mod Served
 pub use Rattle.capserver.specs.Capcore
 pub use Rattle.capscript.specs.Capexplain

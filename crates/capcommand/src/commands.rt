@@ -1,15 +1,16 @@
 //! The commands of the program, over streams that the caller passes.
-ghost use Rattle.std.specs.Prelude.{◌≡◌, ◌≤◌, ◌⊎◌, ℕ, List, length, OnOk, IfOk, IfErr, IfSome, IsFalse};
+ghost use Rattle.std.specs.Prelude.{◌≡◌, ◌≤◌, ◌⊎◌, ℕ, List, length, option_map, OnOk, IfOk, IfErr, IfSome, IsFalse};
 ghost use Rattle.std.specs.Io.KnownBytes.{Appends, Keeps};
 ghost use Rattle.capscript.specs.Caplines.declared.fault.ScriptFault.{ScriptFault as AScriptFault};
 ghost use Rattle.capscript.specs.Caplines.Lines.{lines, longest_script};
 ghost use Rattle.capscript.specs.Transcript.{IsTranscript};
-ghost use Rattle.capscript.specs.Capstreams.Watched.{inner_of, has_failed, has_ended};
+ghost use Rattle.capscript.specs.Capstreams.Watched.{inner_of, has_failed, has_blocked, has_ended};
 ghost use Rattle.capscript.specs.declared.serve_fault.ServeFault.{ServeFault as AServeFault};
 ghost use Rattle.capcommand.specs.Served.{IsServed};
 ghost use Rattle.capcommand.specs.declared.stopping.Fault.{Fault as AFault};
 ghost use Rattle.capcommand.specs.declared.stopping.Fault.TheVariants as faults;
-ghost use Rattle.capcommand.specs.Commands.{Answers, Stops, RunStops, ServeStops};
+ghost use Rattle.capcommand.specs.Commands.{Answers, Stops, RunStops, ServeStops, WasDone};
+ghost use Rattle.capcommand.specs.Hints.{hint_of, hint_unread};
 
 use crate::serving::serve;
 use crate::stopping::Fault;
@@ -24,19 +25,25 @@ use std::io::{Read, Write};
 use std::sync::Wait;
 use std::thread::Threads;
 
-/// Does what the words behind the program's name ask for, and returns the status. What is wrong is written to `faults`;
-/// where that fails, nothing else can be said, and the status stays.
+/// Does what the words behind the program's name ask for, and returns the status. Neither stream was read or written to yet. What is
+/// wrong is written to `faults`; where that fails, nothing else can be said, and the status stays.
 pub fn dispatch<E: AllocGlobal + Files + Threads + Wait + Sync, R: Read, W: Write, F: Write>(
     rt: &E,
     words: &[Vec<u8>],
-    reader: &mut R,
-    writer: &mut W,
+    reader: &mut Watched<R>,
+    writer: &mut Watched<W>,
     faults: &mut F,
 ) -> u8
+    requires reader_clear { IsFalse (has_failed reader.old) }
+    requires reader_unended { IsFalse (has_ended reader.old) }
+    requires writer_clear { IsFalse (has_failed writer.old) }
     ensures status { result ≤ DENIED }
     ensures done { result ≡ DONE → Keeps (F.contents faults.old) (F.contents faults.new) }
-    ensures usage { result ≡ USAGE → Keeps (W.contents writer.old) (W.contents writer.new) }
+    ensures usage { result ≡ USAGE → Keeps (W.contents (inner_of writer.old)) (W.contents (inner_of writer.new)) }
     ensures denied { result ≡ DENIED → Keeps (F.contents faults.old) (F.contents faults.new) }
+    // What was written where the work was done.
+    ensures answered { (result ≡ DONE) ⊎ (result ≡ DENIED) → WasDone (R.remaining (inner_of reader.old)) result
+        (W.contents (inner_of writer.old)) (W.contents (inner_of writer.new)) }
 {
     let mut invocation = match read_words(rt.alloc(), words) {
         Ok(invocation) => invocation,
@@ -45,29 +52,11 @@ pub fn dispatch<E: AllocGlobal + Files + Threads + Wait + Sync, R: Read, W: Writ
     if let Err(fault) = gather(rt, rt.alloc(), &mut invocation) {
         return capanswers::refuse(rt.alloc(), &invocation, fault, faults);
     }
-    let mut writer = Watched::new(writer);
     match keyring_file(rt, &invocation) {
-        Ok(None) => {
-            let mut reader = Watched::new(reader);
-            carry_out(
-                rt,
-                rt.alloc(),
-                &mut invocation,
-                &mut reader,
-                &mut writer,
-                faults,
-            )
-        }
+        Ok(None) => carry_out(rt, rt.alloc(), &mut invocation, reader, writer, faults),
         Ok(Some(file)) => {
             let mut file = Watched::new(file);
-            carry_out(
-                rt,
-                rt.alloc(),
-                &mut invocation,
-                &mut file,
-                &mut writer,
-                faults,
-            )
+            carry_out(rt, rt.alloc(), &mut invocation, &mut file, writer, faults)
         }
         Err(fault) => capanswers::refuse(rt.alloc(), &invocation, fault, faults),
     }
@@ -215,7 +204,9 @@ fn refuse<R>(
 }
 
 // What is known of the cause of a fault, where its line doesn't tell it.
-fn cause_of<R>(fault: Fault, reader: &Watched<R>) -> Option<&'static str> {
+fn cause_of<R>(fault: Fault, reader: &Watched<R>) -> Option<&'static str>
+    ensures { option_map (λ cause. cause.now) result ≡ hint_of fault (has_blocked reader.now) (has_failed reader.now) }
+{
     match fault {
         Fault::Script(ScriptFault::ReadFault)
         | Fault::Serve(ServeFault::Script(ScriptFault::ReadFault)) => cause_unread(reader),
@@ -227,7 +218,9 @@ fn cause_of<R>(fault: Fault, reader: &Watched<R>) -> Option<&'static str> {
 }
 
 // Why a script was not read. Where no read failed it is too long.
-fn cause_unread<R>(reader: &Watched<R>) -> Option<&'static str> {
+fn cause_unread<R>(reader: &Watched<R>) -> Option<&'static str>
+    ensures { option_map (λ cause. cause.now) result ≡ hint_unread (has_blocked reader.now) (has_failed reader.now) }
+{
     if reader.blocked() {
         Some("standard input had nothing yet, and is set not to wait for more")
     } else if reader.failed() {

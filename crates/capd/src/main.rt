@@ -3,11 +3,12 @@
 //! it makes where they call at once.
 #![tactic(auto)]
 
-use capcommand::{AnswerFault, dispatch, report, words};
+use capcommand::{AnswerFault, Watched, dispatch, report, words};
 use std::process::ExitCode;
 
 fn main(rt: HostRuntime) -> ExitCode {
-    let (mut reader, mut writer, mut faults) = (rt.stdin(), rt.stdout(), rt.stderr());
+    let (mut reader, mut writer) = (Watched::new(rt.stdin()), Watched::new(rt.stdout()));
+    let mut faults = rt.stderr();
     let status = match words(&rt, rt.alloc()) {
         Ok(words) => dispatch(&rt, words.as_slice(), &mut reader, &mut writer, &mut faults),
         Err(_) => report(AnswerFault::NoMemory, &mut faults),

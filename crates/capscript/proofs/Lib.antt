@@ -1,5 +1,6 @@
 pub mod Histories
 mod JobLists
+mod OfClients
 pub mod Plans
 pub use Rattle.capcore.proofs as Capcore
 pub use Rattle.capstreams.proofs.Capexplain

@@ -1,5 +1,5 @@
 -- What the lines of a script call, and for whom.
-use Rattle.std.specs.Prelude.{◌≡◌, ◌≢◌, ◌⊎◌, ◌+◌, ◌≤◌, ◌==◌, ℕ, Bool, true, false, Some, None, List, [], ◌∷◌, ◌++◌, length, map, codes, bytes_eq, if◌then◌else◌, IsTrue, IsFalse}
+use Rattle.std.specs.Prelude.{◌≡◌, ◌≢◌, ◌⊎◌, ◌+◌, ◌≤◌, ◌==◌, ℕ, Bool, true, false, Some, List, [], ◌∷◌, ◌++◌, length, map, codes, bytes_eq, if◌then◌else◌, IsTrue, IsFalse}
 use Rattle.std.specs.List.{list_any, sum_by}
 use Rattle.capbits.specs.declared.ids.ClientId.{ClientId}
 use Rattle.capcore.specs.Capevents.declared.event.Event.{Event}
@@ -101,16 +101,25 @@ first_word line = first_of line (words line)
 abbrev pub begins_with : List ℕ → List ℕ → Bool
 begins_with word line = bytes_eq (first_word line) word
 
--- the line says an event that is about no client
-abbrev pub IsNobodys : List ℕ → Type 0
-IsNobodys line = (event : Event) × Reads line event × (client_of event ≡ None)
+-- how a line is read
+pub data Sort : Type 0 where
+  -- as the line that begins the threads
+  Threads : Sort
+  -- as a recall behind it, which no client says
+  Nobodys : Sort
+  -- as one of a run
+  Plain : Sort
 
--- which fault a line has, by whether threads have begun and whether it begins with `threads` or with `recall`
-abbrev pub HasKind : Bool → Bool → Bool → List ℕ → LineFault → Type 0
-HasKind false true recall line kind = (line ≢ codes "threads") × (kind ≡ kinds.Count)
-HasKind false false recall line kind = HasFault line kind
-HasKind true threads true line kind = kind ≡ kinds.Command
-HasKind true threads false line kind = HasFault line kind ⊎ (IsNobodys line × (kind ≡ kinds.Command))
+-- by whether threads have begun, and by its first word
+abbrev pub sort_of : Bool → List ℕ → Sort
+sort_of false line = if begins_with (codes "threads") line then Threads else Plain
+sort_of true line = if begins_with (codes "recall") line then Nobodys else Plain
+
+-- which fault a line of this sort has
+abbrev pub HasKind : Sort → List ℕ → LineFault → Type 0
+HasKind Threads line kind = (line ≢ codes "threads") × (kind ≡ kinds.Count)
+HasKind Nobodys line kind = kind ≡ kinds.Command
+HasKind Plain line kind = HasFault line kind
 
 -- a line of a client that is one too many
 pub record IsTooMany (old : Work) (line : List ℕ) : Type 0 where
@@ -122,18 +131,18 @@ pub record IsTooMany (old : Work) (line : List ℕ) : Type 0 where
   pub new : IsFalse (is_known client old.jobs)
   pub many : length old.jobs ≡ most_clients
 
--- why a line with this number gave nothing, by whether it begins with `threads` or with `recall`
-abbrev pub IsFaultBy : Bool → Bool → Work → ℕ → List ℕ → ServeFault → Type 0
-IsFaultBy threads recall old number line (Script (stops.LineFault at kind)) = (at ≡ number) × HasKind old.threaded threads recall line kind
-IsFaultBy threads recall old number line (Script stops.NoMemory) = (event : Event) × Reads line event
-IsFaultBy threads recall old number line (Script stops.ReadFault) = ⊥
-IsFaultBy threads recall old number line (Script stops.WriteFault) = ⊥
-IsFaultBy threads recall old number line (Clients at) = (at ≡ number) × IsTooMany old line
-IsFaultBy threads recall old number line HistoryFull = ⊥
-IsFaultBy threads recall old number line NoThread = ⊥
+-- why a line of this sort and with this number gave nothing
+abbrev pub IsFaultBy : Sort → Work → ℕ → List ℕ → ServeFault → Type 0
+IsFaultBy sort old number line (Script (stops.LineFault at kind)) = (at ≡ number) × HasKind sort line kind
+IsFaultBy sort old number line (Script stops.NoMemory) = (event : Event) × Reads line event
+IsFaultBy sort old number line (Script stops.ReadFault) = ⊥
+IsFaultBy sort old number line (Script stops.WriteFault) = ⊥
+IsFaultBy sort old number line (Clients at) = (at ≡ number) × IsTooMany old line
+IsFaultBy sort old number line HistoryFull = ⊥
+IsFaultBy sort old number line NoThread = ⊥
 
 abbrev pub IsFaultAt : Work → ℕ → List ℕ → ServeFault → Type 0
-IsFaultAt old number line fault = IsFaultBy (begins_with (codes "threads") line) (begins_with (codes "recall") line) old number line fault
+IsFaultAt old number line fault = IsFaultBy (sort_of old.threaded line) old number line fault
 
 -- the first line that gave nothing, by its number
 abbrev pub StopsAt : Work → ℕ → List (List ℕ) → ServeFault → Type 0

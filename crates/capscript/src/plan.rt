@@ -1,10 +1,11 @@
 //! What the lines of a script call, and for whom.
-ghost use Rattle.std.specs.Prelude.{◌≡◌, ◌==◌, ◌≤◌, ◌⊎◌, [], ◌∷◌, length, vec_len, Some, None, OnOk, OnErr, IfOk, IfErr, Err, false, IsFalse};
+ghost use Rattle.std.specs.Prelude.{◌≡◌, ◌==◌, ◌≤◌, ◌⊎◌, [], ◌∷◌, length, vec_len, Some, None, OnOk, OnErr, IfOk, IfErr, Err, IsFalse};
 ghost use Rattle.std.specs.List.{position};
 ghost use Rattle.capstreams.specs.Caplines.Lines.{lines, longest_script};
 ghost use Rattle.capstreams.specs.Caplines.declared.fault.ScriptFault.TheVariants as stops;
 ghost use Rattle.capscript.specs.declared.serve_fault.ServeFault.TheVariants as faults;
-ghost use Rattle.capscript.specs.Jobs.{work_of, no_work, calls_of, calls_by, with_event, is_known, first_word, Takes, TakesEvent, TakesAll, IsFaultBy, IsFaultAt, StopsAt};
+ghost use Rattle.capscript.specs.Jobs.{work_of, no_work, calls_of, calls_by, with_event, is_known, first_word, Takes, TakesEvent, TakesAll, sort_of, IsFaultBy, IsFaultAt, StopsAt};
+ghost use Rattle.capscript.specs.Jobs.Sort.{Plain};
 
 use crate::serve_fault::ServeFault;
 use capbits::ClientId;
@@ -91,10 +92,11 @@ impl Plan {
 
     // Takes the event that a line says. Behind the line `threads` it is one of a client.
     fn take_event(&mut self, alloc: Global, number: u64, text: &[u8]) -> Result<(), ServeFault>
+        requires plain { sort_of self.old.threaded text.now ≡ Plain }
         requires few { vec_len self.old.jobs ≤ 31 }
         ensures ok { OnOk result (TakesEvent (work_of self.old) text.now (work_of self.new)) }
         ensures few { OnOk result (vec_len self.new.jobs ≤ 31) }
-        ensures err { IfErr result (IsFaultBy false false (work_of self.old) number text.now) }
+        ensures err { IfErr result (IsFaultBy Plain (work_of self.old) number text.now) }
     {
         let Some((client, event)) = read_line(alloc, number, text)? else {
             return Ok(());
@@ -103,10 +105,9 @@ impl Plan {
             self.first.push(event)?;
             return Ok(());
         }
-        match client {
-            Some(client) => self.add(alloc, number, client, event),
-            None => Err(ServeFault::of_line(number, LineFault::Command)),
-        }
+        // A recall alone is about no client.
+        let Some(client) = client else { unreachable!() };
+        self.add(alloc, number, client, event)
     }
 
     // Adds what a client calls behind the line `threads`. It may be one client too many.

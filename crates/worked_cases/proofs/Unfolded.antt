@@ -6,8 +6,11 @@ use Rattle.capbits.specs.Text.{group_of, groups_in, letters_in, text_of}
 use Rattle.locktable.specs.Rows.{allowed_of, row_of}
 use Rattle.locktable.specs.Targets.{target_of}
 use Rattle.capgrant.specs.Failing.{fails_fsname, fails_gids, fails_mode_bits, fails_no_p, fails_no_s, fails_no_write, fails_not_own_group, fails_not_owner, fails_path, fails_root_squash, fails_uid, first_failing}
+use Rattle.capgrant.specs.Permitted.{permitted_of}
 use Rattle.capgrant.specs.Question.{listed_gids}
 use Rattle.capgrant.specs.Verdict.{verdict_of}
+use Rattle.inotree.specs.Tree.{names_up, path_of}
+use Rattle.lockmachine.specs.Moves.{first_move}
 
 -- sets of caps, their texts and their numbers
 unfoldable pub sets : ⊤
@@ -23,3 +26,8 @@ locks = tt
 unfoldable pub rules : ⊤
 unfolding fails_fsname fails_gids fails_mode_bits fails_no_p fails_no_s fails_no_write fails_not_own_group fails_not_owner fails_path fails_root_squash fails_uid first_failing listed_gids verdict_of
 rules = tt
+
+-- a step
+unfoldable pub steps : ⊤
+unfolding locks rules permitted_of names_up path_of first_move
+steps = tt

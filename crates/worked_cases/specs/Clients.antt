@@ -6,3 +6,6 @@ first = record { 0 = 1 }
 
 abbrev pub second : ClientId
 second = record { 0 = 2 }
+
+abbrev pub third : ClientId
+third = record { 0 = 3 }

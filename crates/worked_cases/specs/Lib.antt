@@ -3,3 +3,4 @@ pub mod LockTable
 pub mod Verdicts
 pub mod GrantTexts
 pub mod Entries
+pub mod Scenes

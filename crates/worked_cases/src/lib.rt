@@ -5,10 +5,12 @@ mod cap_texts;
 mod entries;
 mod grant_texts;
 mod lock_table;
+mod steps;
 mod verdicts;
 
 pub use cap_texts::{bits_of_sets, longest_beginnings, texts_of_sets};
 pub use entries::{acknowledged, beside_another, renumberings, without_grants};
 pub use grant_texts::{first_faults, read_and_written};
 pub use lock_table::{gathers, lock_cells, lock_targets, wanted_targets};
+pub use steps::{grants_taken_away, opened_beside_another, served_after_a_move};
 pub use verdicts::{mode_bits, paths_by_names, root_is_squashed, rules_in_order};
