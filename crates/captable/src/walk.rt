@@ -113,8 +113,11 @@ impl<'a> KeptWalk<'a> {
     pub(crate) fn of_inode(lists: &'a TripleLists<Slot>, ino: Ino) -> KeptWalk<'a>
         ensures { result ≡ map words.kept_entry_of (nodes_in lists.now (OfInode ino)) }
     {
-        let at = lists.first_of_ino(ino);
-        KeptWalk { lists, ino, at }
+        KeptWalk {
+            lists,
+            ino,
+            at: lists.first_of_ino(ino),
+        }
     }
 
     /// The next entry, with its holder and what is kept beside it; none at the end of the walk.

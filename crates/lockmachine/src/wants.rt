@@ -10,7 +10,7 @@ ghost use Rattle.lockmachine.specs.Wants as words;
 use crate::policy::Policy;
 use capbits::{Cap, CapSet, ClientId, Ino};
 use capspec::FsName;
-use captable::{CapTable, EntryRow, KeptEntry};
+use captable::{CapTable, EntryRow};
 use inotree::{Names, Node, Tree};
 use onelock::wanted_while;
 use sessiontab::{Session, Sessions};
@@ -44,9 +44,11 @@ pub(crate) fn wants_by_kept(policy: &Policy<'_>, table: &CapTable, ino: Ino) -> 
 {
     let mut tally = Tally::new();
     let mut walk = table.kept_on(ino);
-    'entries: while let Some(KeptEntry { row, sets }) = walk.next() {
-        let want = want_of_permitted(policy.sessions, row, sets.permitted);
-        tally = tally.and(row.holder.client, want);
+    'entries: while let Some(entry) = walk.next() {
+        let (row, kept) = (entry.row, entry.sets);
+        let client = row.holder.client;
+        let want = want_of_permitted(policy.sessions, row, kept.permitted);
+        tally = tally.and(client, want);
     }
     tally.wants()
 }
