@@ -8,8 +8,8 @@ pub mod due_endings;
 mod ended_tickets;
 
 pub use capevents::{
-    Bytes, Change, Ended, EndedList, Event, InodeLocks, Locks, Message, MessageList, Move,
-    OpenMode, Operation, Outcome, PartValues, Policy, Reply, Request, Row, KeptScene, Wants,
+    Bytes, Change, Ended, EndedList, Event, InodeLocks, KeptScene, Locks, Message, MessageList,
+    Move, OpenMode, Operation, Outcome, PartValues, Policy, Reply, Request, Row, Wants,
     allowed_under, copy_of_messages, copy_of_outcome, copy_of_reply, copy_of_rules, permitted,
     permitted_on, told_under, verdict_on, want_of_permitted, wants_on,
 };

@@ -7,10 +7,10 @@
 mod rejection;
 
 pub use capnotes::{
-    Bytes, Change, ChangeList, Ended, EndedList, EndedTickets, Event, InodeLocks, Locks, Message,
-    MessageList, Move, OpenMode, Operation, Outcome, PartValues, Policy, Question, Reply, Request,
-    Row, KeptScene, Unknown, View, ViewChange, Wants, allowed_under, copy_of_messages, copy_of_outcome,
-    copy_of_reply, copy_of_rules, due_endings, permitted, permitted_on, sets_attr, told_under,
-    verdict_on, want_of_permitted, wants_on,
+    Bytes, Change, ChangeList, Ended, EndedList, EndedTickets, Event, InodeLocks, KeptScene, Locks,
+    Message, MessageList, Move, OpenMode, Operation, Outcome, PartValues, Policy, Question, Reply,
+    Request, Row, Unknown, View, ViewChange, Wants, allowed_under, copy_of_messages,
+    copy_of_outcome, copy_of_reply, copy_of_rules, due_endings, permitted, permitted_on, sets_attr,
+    told_under, verdict_on, want_of_permitted, wants_on,
 };
 pub use rejection::Rejection;
