@@ -1,5 +1,5 @@
 -- What changes of the entries leave of the counts of gathers.
-use Rattle.std.{proofs.Common.{◌≡◌, ◌≢◌, ℕ, ◌+◌, ◌-◌, Bool, true, false, not, cond, ◌&&◌, ◌==◌, Option, Some, None, List, [], ◌∷◌, refl, sym, ap, subst, ◌∙◌, arith, map as each, filter, is_some, length, true≢false}, proofs.lemmas.Bool.{eqb-true, eqb-false}, specs.Cmp.{nat_eq_equiv}, specs.List.{find, IsDistinct}, specs.Option.{option_map, option_map_or}}
+use Rattle.std.{proofs.Common.{◌≡◌, ◌≢◌, ℕ, ◌+◌, ◌-◌, Bool, true, false, not, cond, ◌&&◌, ◌==◌, Option, Some, None, List, [], ◌∷◌, refl, sym, ap, subst, ◌∙◌, arith, map as each, filter, is_some, length, true≢false}, proofs.lemmas.Bool.{and_right, eqb-true, eqb-false}, specs.Cmp.{nat_eq_equiv}, specs.List.{find, IsDistinct}, specs.Option.{option_map, option_map_or}}
 use Rattle.std.specs.FinMap as map
 use Rattle.capbits.{proofs.Emptiness.{is_empty-no_caps}, specs.Caps.{has}, specs.Sets.{no_caps}}
 use Rattle.captable.proofs.{Counting.{bit, with_change}, Tally.{passes_found, tally, tally-changed, tally-first, tally-more, tally-without}}
@@ -87,11 +87,7 @@ counted-opened l t k =
     omega (arith, outside-tally (opened t k) ino part to, outside-tally t ino part to, tally-more p t.rows new, ap bit (passes ino part to)))
   where
     passes : (ino : ℕ) (part : Part) (to : StableState) → is_against ino part to (record { holder = k; entry = new_entry }) ≡ false
-    passes ino part to = ap (λ b. is_of_inode (on_number ino) (record { holder = k; entry = new_entry }) && b) (nothing_outside part to (record { holder = k; entry = new_entry }) refl) ∙ never (k.ino.0 == ino)
-      where
-        never : (b : Bool) → (b && false) ≡ false
-        never true = refl
-        never false = refl
+    passes ino part to = and_right (k.ino.0 == ino) (has_outside part to (record { holder = k; entry = new_entry })) (nothing_outside part to (record { holder = k; entry = new_entry }) refl)
 
 -- the holder has one, an old one or a new
 pub counted-entry : (l : CountedLocks) (t : Table) (k : Holder) → AreCounted t l → AreCounted (with_entry t k) l
@@ -184,11 +180,8 @@ module _ (old new : CountedLocks) (t : Table) (k : Holder) (e : Entry) (left : C
   pub less-changed : (f : Entry → Entry) → (f e).held ≡ left → IsSubset left e.held → AreCounted t old → AreCounted (changed t k f) new
   less-changed f held subset = less (changed t k f) fewer
     where
-      after : EntryRow
-      after = record { holder = k; entry = f e }
-
       same_outside : (part : Part) (to : StableState) → has_outside part to (record { holder = k; entry = f e }) ≡ has_outside part to reduced
-      same_outside part to = ap (λ (caps : Caps). not (is_empty (minus (of_part part caps) (row_of part to k.client)))) held
+      same_outside part to = outside-held part to k (record e { held = left }) (f e) held
 
       fewer : (ino : ℕ) (part : Part) (to : StableState) → tally (is_against ino part to) (changed t k f).rows + bit (goes ino part to) ≡ tally (is_against ino part to) t.rows
       fewer ino part to = less_by (tally (is_against ino part to) (changed t k f).rows) (tally (is_against ino part to) t.rows) (k.ino.0 == ino) (has_outside part to own) (has_outside part to reduced)
@@ -209,8 +202,7 @@ module _ (old new : CountedLocks) (t : Table) (k : Holder) (e : Entry) (left : C
           (λ is. absurd (true≢false (sym is ∙ nothing part to)))
         where
           none_here : (b : Bool) → tally (is_against ino part to) t.rows + bit (b && false) ≡ tally (is_against ino part to) t.rows
-          none_here true = omega arith
-          none_here false = omega arith
+          none_here b = omega (arith, ap bit (and_right b false refl))
 
 -- and where it has none, all stay
 module _ (l : CountedLocks) (t : Table) (k : Holder) (none : entry_at t k ≡ None) where
