@@ -3,9 +3,9 @@ use Rattle.std.proofs.Common.{◌≡◌, ℕ, Bool, true, false, cond, Option, S
 use Rattle.std.specs.Option.{option_map}
 use Rattle.std.specs.FinMap as map
 use Rattle.capbits.specs.declared.cap.Part.TheVariants.{A, L, X, F}
-use Rattle.captable.specs.{Calls.{asked_row, with_asked}, Many.{remade}}
+use Rattle.captable.specs.{Calls.{with_asked}, Many.{remade}}
 use Rattle.capsteps.{proofs.Lockmachine.CountsStay.{counted-held, held-map}, specs.Lockmachine.Counts.{IsCounted, LockId, count_of}}
-use Rattle.capcore.proofs.Common.{AreCounted, changed_where, CountedLocks, Entry, EntryRow, Holder, in_sync, is_among, IsOpening, lock_at, lock_in, LockMap, Node, Nodes, Part, recalled, State, Table}
+use Rattle.capcore.proofs.Common.{AreCounted, changed_where, CountedLocks, Entry, EntryRow, in_sync, is_among, IsOpening, lock_at, lock_in, LockMap, Node, Nodes, Part, recalled, State, Table}
 
 -- ---- entries that hold what they held
 

@@ -137,19 +137,15 @@ fn beside(
     want: Option<(&'static str, &'static str)>,
     at: At,
 ) {
-    let want = match want {
-        Some((told, permitted)) => Some((caps(told), caps(permitted))),
-        None => None,
+    let (sets, permitted) = match want {
+        Some((told, permitted)) => { (Some((caps(told), caps(permitted))), Some(caps(permitted))) }
+        None => (None, None),
     };
     let found = match table.kept(holder.client, holder.ino) {
-        Some(sets) => Some((sets.told, sets.permitted)),
+        Some(kept) => Some((kept.told, kept.permitted)),
         None => None,
     };
-    same(rt, found, want, at);
-    let permitted = match want {
-        Some((_told, permitted)) => Some(permitted),
-        None => None,
-    };
+    same(rt, found, sets, at);
     same(
         rt,
         table.kept_permitted(holder.client, holder.ino),
