@@ -10,7 +10,7 @@ use Rattle.inotree.specs.{Calls.{first_tree, with_new, moved}, Tree.{Nodes}, dec
 use Rattle.sessiontab.specs.{Table.{SessionTable}, declared.session.Session.{Session}, declared.session.Status.TheVariants.{Open}}
 use Rattle.captable.specs.{Table.{holder}, declared.entry.EntryRow.{EntryRow}}
 use Rattle.locktable.specs.declared.states.LockState.{LockState}
-use Rattle.lockmachine.specs.{Inodes.{in_sync}, declared.request.Change.TheVariants.{Set}, declared.request.Operation.TheVariants.{Alter}, declared.request.Request.{Request}, declared.scene.Scene.{Scene}}
+use Rattle.lockmachine.specs.{Inodes.{in_sync}, declared.request.Change.TheVariants.{Set}, declared.request.Operation.TheVariants.{Alter}, declared.request.Request.{Request}, Scene.{Scene}}
 use Rattle.worked_cases.specs.{Clients.{third}, Entries.{all, entry, mixed, of_first, of_second, pin, reading, table}, Verdicts.{allow, caller, owned}}
 
 -- the values of two and of three keys, which are 1, 2 and 3
