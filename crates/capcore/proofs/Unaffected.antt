@@ -7,8 +7,7 @@ use Rattle.capspec.specs.declared.grant.Grant.{Grant}
 use Rattle.numbered.proofs.Maps.{insert-other}
 use Rattle.inotree.{proofs.Elsewhere.{field-changed, not_next}, specs.Calls.{with_new, changed}}
 use Rattle.sessiontab.{proofs.Elsewhere.{session-kept}, specs.Calls.{with_session, without_blocked}}
-use Rattle.capsteps.proofs.{Knowing.{known-alike}, LeftAlone.{none_if, kept-known}, Lockmachine.CountsStay.{counted-born, counted-dropped}, Lockmachine.PolicyElsewhere.{permitted-session, permitted-new, permitted-changed, want-session, want-new, want-changed}}
-use Rattle.capsteps.specs.Lockmachine.Locks.{without_ino}
+use Rattle.capsteps.{proofs.Knowing.{known-alike}, proofs.LeftAlone.{none_if, kept-known}, proofs.Lockmachine.CountsStay.{counted-born, counted-dropped}, proofs.Lockmachine.PolicyElsewhere.{permitted-session, permitted-new, permitted-changed, want-session, want-new, want-changed}, specs.Lockmachine.Locks.{without_ino}}
 use Rattle.capsteps.specs.Lockmachine.Counts as counting
 use Rattle.capcore.{proofs.Common.{AreCounted, AreCountedIn, Attr, CountMap, EntryRow, first_failing, found-contains, HoldAlike, in_sync, InodeLocks, is_row_of, IsSound, IsTree, kept-sound, KeptScene, Kind, KnownSets, LeavesEntries, LockMap, new_session_tests, no_locks, Node, Nodes, permitted, plain, row_of-entry, Scene, SessionTable, State, StateMap, Table, with_ino, with_parts}, specs.UnderWay.{AreKept, IsWhole, state_of}, specs.declared.parts.Parts.{Parts}}
 

@@ -1,7 +1,6 @@
 use Rattle.std.proofs.{Common.{◌≡◌, ◌≤◌, [], List, length, filter, Some, refl, sym, ap, subst, ◌∙◌, arith}, lemmas.List.Sums.{length-filter, count_by-le-length}}
 use Rattle.capsteps.{proofs.Telling.{given-held}, specs.Capnotes.DueEndings.{AreEndsOf}}
-use Rattle.capcore.proofs.{Common.{after_messages, alike-where, AreChanges, AreCounted, ByTest, changed_where, changes-still, Ended, Event, first_failing, first_messages, is_left, is_of_client, IsAnswered, IsSound, IsTable, KeptTable, Message, plain, rejection-before, Reply, Said, session_tests, State, view_of, with_given}, Counts.{counted-where}, Polled.{poll-answered, polled-new}, Rejections.{rejection-answered}, Unaffected.{alike-kept}, world.World.poll.Goals.{After-drop-told}}
-use Rattle.capcore.specs.UnderWay.{AreKept}
+use Rattle.capcore.{proofs.Common.{after_messages, alike-where, AreChanges, AreCounted, ByTest, changed_where, changes-still, Ended, Event, first_failing, first_messages, is_left, is_of_client, IsAnswered, IsSound, IsTable, KeptTable, Message, plain, rejection-before, Reply, Said, session_tests, State, view_of, with_given}, proofs.Counts.{counted-where}, proofs.Polled.{poll-answered, polled-new}, proofs.Rejections.{rejection-answered}, proofs.Unaffected.{alike-kept}, proofs.world.World.poll.Goals.{After-drop-told}, specs.UnderWay.{AreKept}}
 use Rattle.capcore.proofs.world.World.poll.Goals as goal
 
 -- ---- no open session
