@@ -137,8 +137,8 @@ impl<L: Server> Locked<L> {
         rows
     }
 
-    // Ends who publishes, and hands out the rest of what stood under the lock, with who added rows to the book. What the server outside
-    // has as the number of its passes is that under the lock.
+    // Ends who publishes, and hands out the rest of what stood under the lock, with who added rows to the book. The number of passes
+    // that the server has outside is the one under the lock.
     pub(crate) fn end<R: Wait>(
         self,
         rt: &R,

@@ -19,7 +19,7 @@ pub record MaySettle (from : ℕ → Bool) (s : Scene) : Type 0 where
 abbrev pub ArePermittedIn : KnownSets → Scene → Type 0
 ArePermittedIn sets s = ArePermitted sets s.fs s.tree s.sessions s.table
 
--- beside each lock in a gather it is kept for how many clients it waits
+-- beside each lock in a gather stands how many clients it waits for
 abbrev pub AreCountedIn : KeptScene → Type 0
 AreCountedIn s = AreCounted s.table.entries s.locks
 

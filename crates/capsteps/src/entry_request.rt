@@ -83,7 +83,8 @@ pub fn apply_request(
     Ok(())
 }
 
-// The client is about to give these up, and with the pin its entry: no gather that will not wait for it then counts it any more.
+// The client is about to give up these caps, and with the pin its whole entry: each gather that then no longer waits for it is
+// acknowledged.
 // Where none is under way at the inode the entry is not looked for.
 fn give_up(table: &CapTable, locks: &mut Locks, holder: Holder, caps: CapSet)
     ensures locks { locks.new.locks ≡ locks.old.locks }
@@ -101,7 +102,7 @@ fn give_up(table: &CapTable, locks: &mut Locks, holder: Holder, caps: CapSet)
     }
 }
 
-// What is held yet, once these are given up: with the pin all goes.
+// What is still held, once these are given up: with the pin all goes.
 fn left_of(held: CapSet, caps: CapSet) -> CapSet
     ensures { result ≡ (if has caps P then no_caps else minus held caps) }
 {

@@ -500,8 +500,8 @@ impl CapTable {
         }
     }
 
-    /// The first holder on the inode, in the order of making. With `next_on` a walk over them one by one, in which what is kept may
-    /// change.
+    /// The first holder on the inode, in the order of making. With `next_on` one goes from holder to holder, and what is kept may
+    /// change on the way.
     pub fn first_on(&self, ino: Ino) -> Option<Holder>
         ensures first { result ≡ first_holder (entries_on self.now.entries ino) }
         ensures sound { IsTable self.now.entries }
@@ -521,8 +521,8 @@ impl CapTable {
         holder_at(&self.lists, next)
     }
 
-    /// The holder of the client's first entry, in the order of making. With `next_of` a walk over them one by one, in which what is kept
-    /// may change.
+    /// The holder of the client's first entry, in the order of making. With `next_of` one goes from entry to entry, and what is kept
+    /// may change on the way.
     pub fn first_of(&self, client: ClientId) -> Option<Holder>
         ensures first { result ≡ first_holder (filter (is_of_client client) self.now.entries.rows) }
         ensures sound { IsTable self.now.entries }

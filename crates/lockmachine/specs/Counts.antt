@@ -61,7 +61,7 @@ waits_no_longer part row left (Stable state) = false
 waits_no_longer part row left (Gather from to) =
     has_outside part to row && not (has_outside part to (record row { entry = record row.entry { held = left } }))
 
--- how many less it waits for then: this one, or none
+-- by how much its count falls then: by one, or not at all
 abbrev pub given_up : EntryRow → Caps → LockId → Option LockState → ℕ
 given_up row left at None = 0
 given_up row left at (Some lock) = if (at.0 == row.holder.ino.0) && waits_no_longer at.1 row left lock then 1 else 0

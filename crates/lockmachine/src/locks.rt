@@ -263,8 +263,8 @@ impl Locks {
     // ---- which move comes next
 
     /// The first move that applies: the least gather that may end; else the oldest request that may be served; else the
-    /// least lock that may begin; else none is left. It looks at all inodes, and goes by what is kept: it is so where the counts are those
-    /// of the entries, and beside each entry stands what its client is permitted.
+    /// least lock that may begin; else none is left. It looks at all inodes, and goes by what is kept. The answer is right where the
+    /// counts are those of the entries, and each client's permitted set stands beside its entry.
     pub fn next_move(&self, table: &CapTable, sessions: &Sessions, tree: &Tree, fs: &FsName) -> Move
         ensures { AreCounted table.now.entries self.now → ArePermitted table.now.kept fs.now tree.now sessions.now table.now.entries
             → result ≡ first_move (scene fs.now tree.now sessions.now table.now.entries self.now.locks) }
@@ -607,7 +607,7 @@ impl Locks {
         }
     }
 
-    /// The client of an entry gives up all that it holds there but these caps: each gather of the inode that waited for it, and will
+    /// The client of an entry is about to give up all that it holds there but these caps: each gather of the inode that waited for it, and will
     /// wait for it no longer, is acknowledged once.
     pub fn gives_up(&mut self, row: EntryRow, left: CapSet)
         ensures counts { (at : LockId) → counted.count_of self.new at
@@ -677,7 +677,7 @@ impl Locks {
     }
 
     /// Where no gather of a lower inode may end, ends those of an inode that may, in the order of the parts. It looks at
-    /// the entries of this inode alone, and takes no memory.
+    /// the counts of this inode's gathers alone, and takes no memory.
     pub fn end_gathers_at(&mut self, ino: Ino)
 
         // Each is the first move that applies to all, whatever the tree and the sessions are, where the counts are those of the entries.
@@ -705,7 +705,7 @@ impl Locks {
         }
     }
 
-    // Whether the lock of an inode's part is in a gather that is not open.
+    // Whether the lock of an inode's part is in a gather that waits for nobody, by its count.
     fn may_end_at(&self, ino: Ino, part: Part) -> bool
         ensures { result ≡ counted.ends_by self.now (ino.0, part) }
     {

@@ -7,8 +7,8 @@ use inotree::Tree;
 use sessiontab::Sessions;
 
 /// All that the next move depends on: the name of the file system, the tree, the sessions, the entries with the sets that are kept
-/// beside them, and the locks with the counts that are kept beside those. The rules read none of what is kept: to them it is
-/// `plain` of this.
+/// beside them, and the locks with the counts that are kept beside those. The rules read nothing of that: to them it is
+/// the `Scene` that `plain` makes of it.
 #[derive(Debug)]
 pub struct KeptScene {
     pub fs: FsName,

@@ -15,7 +15,7 @@ use Rattle.captable.specs.Calls.{entries_on}
 abbrev pub outside : Part → StableState → EntryRow → Caps
 outside part state row = minus (of_part part row.entry.held) (row_of part state row.holder.client)
 
--- there are such
+-- the entry's client has such caps
 abbrev pub has_outside : Part → StableState → EntryRow → Bool
 has_outside part state row = not (is_empty (outside part state row))
 
@@ -23,6 +23,6 @@ has_outside part state row = not (is_empty (outside part state row))
 abbrev pub is_held_outside : Table → Ino → Part → StableState → Bool
 is_held_outside table ino part state = list_any (λ row. not (is_empty (outside part state row))) (entries_on table ino)
 
--- how many clients have
+-- how many clients have such caps
 abbrev pub holders_outside : Table → Ino → Part → StableState → ℕ
 holders_outside table ino part state = length (filter (has_outside part state) (entries_on table ino))

@@ -19,7 +19,7 @@ pub struct Counts {
 }
 
 impl Counts {
-    /// Of nobody.
+    /// All four are 0.
     pub fn none() -> Counts
         ensures { result ≡ words.no_counts }
     {

@@ -29,7 +29,7 @@ publishing_code =
     code_by (List Row × (List Row × (Bool × View))) (coded× rows_code (coded× rows_code (coded× coded_bool view_code)))
     (λ p. (p.shown, (p.rows, (p.lost, p.view)))) (λ p. record { shown = p.0; rows = p.1.0; lost = p.1.1.0; view = p.1.1.1 }) (λ _. refl)
 
--- no row is in the book, and readers see the view of the opening
+-- no row is in the book or shown, nothing is lost, and the view is that of the opening
 abbrev pub first_of : State → Publishing
 first_of opening = record { shown = []; rows = []; lost = false; view = view_of opening }
 

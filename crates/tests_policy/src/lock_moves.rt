@@ -368,7 +368,7 @@ const WAITING: &[Step] = &[
     Moves(&[F_BEGINS_SYNC, END_F]),
 ];
 
-// One that two clients keep open ends with the last cap of the second; half of what one of them has against it takes nothing off.
+// A gather that two clients keep open ends with the second's last cap; a release of half of what one holds against it takes nothing off.
 const TWO_HOLDERS: &[Step] = &[
     Want(ONE_2, READER),
     Want(TWO_2, READER),
@@ -391,7 +391,7 @@ const TWO_HOLDERS: &[Step] = &[
     Moves(&[END_F]),
 ];
 
-// A gather goes on by its count, which no other lock's has to do with, and which ends at 0.
+// A gather stays open until its count is 0; the counts of other locks don't matter.
 const COUNTED: &[Step] = &[
     Awaits(Part::F, 1),
     Want(ONE_2, WRITER),

@@ -1,4 +1,4 @@
--- Whole scenes: two clients with a file in the root, and a third that asks for a change of one that is moved.
+-- Whole scenes: two clients with a file in the root, and a third client that asks to change the mode of a file that is moved meanwhile.
 use Rattle.std.specs.Prelude.{ℕ, List, [], ◌∷◌, codes}
 use Rattle.std.specs.{FinMap.{FinMap}, Ordering.{nat_cmp}}
 use Rattle.std.specs.FinMap as map

@@ -21,7 +21,7 @@ ghost use Rattle.worked_cases.specs.Entries.{file, reading, table};
 ghost use Rattle.worked_cases.specs.Scenes.{all_granted, asked, attributes, chmod, holds_all, holds_mixed, holds_pin, in_a, inner, moved_up, opens, shared, shares};
 
 /// The first client has the file to itself, and the second opens it to read. The lock of its data gathers for MIX until the first
-/// has acknowledged what it loses; what each wants and MIX allows is then due to both.
+/// has acknowledged what it loses; then both are due what they want and MIX allows.
 pub fn opened_beside_another()
     ensures lock_begins { first_move (shared all_granted (holds_all ∷ opens ∷ []) (Stable (Excl first))) ≡ Begin file F Mix }
     ensures second_gains { text_of (due (shared all_granted (holds_all ∷ opens ∷ []) (Gather (Excl first) Mix)) opens) ≡ codes "p" }
