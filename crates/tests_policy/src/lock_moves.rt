@@ -1,7 +1,7 @@
 //! Locks: the inodes that have them, the requests that wait for them, and the moves that they make for what is wanted and held.
 
 use crate::asking::{Exchange, core_of};
-use crate::asserting::{made, present, same};
+use crate::asserting::{made, same};
 use crate::entries::{ONE_2, ONE_3, TWO_2, open, release};
 use crate::texts::{caps, cephfs};
 use capbits::{CapSet, ClientId, Ino, Part, Refusal, Ticket};
@@ -147,13 +147,16 @@ fn want(rt: &impl Abort, table: &mut CapTable, holder: Holder, wanted: CapSet) {
 // The client gives up what it releases, before the table knows.
 fn let_go(
     rt: &impl Abort,
-    (table, locks): (&mut CapTable, &mut Locks),
+    table: &mut CapTable,
+    locks: &mut Locks,
     holder: Holder,
     text: &str,
     at: (&'static str, usize),
 ) {
-    let entry = present(rt, table.find(holder.client, holder.ino), "an entry");
-    locks.gives_up(EntryRow { holder, entry }, entry.held.minus(caps(text)));
+    if let Some(entry) = table.find(holder.client, holder.ino) {
+        let left = entry.held.minus(caps(text));
+        locks.gives_up(EntryRow { holder, entry }, left);
+    }
     same(rt, release(table, holder, text), Ok(()), at);
 }
 
@@ -170,7 +173,7 @@ fn take(
         Lock(ino, part, want) => same(rt, locks.state(Ino(*ino), *part), *want, at),
         Want(h, text) => want(rt, table, *h, caps(text)),
         Issue(h, text) => table.issue(h.client, h.ino, caps(text)),
-        Release(h, text) => let_go(rt, (table, locks), *h, text, at),
+        Release(h, text) => let_go(rt, table, locks, *h, text, at),
         Awaits(part, n) => locks.await_acks(Ino(2), *part, *n),
         Acked(part) => locks.acked(Ino(2), *part),
         Waits(h, part, want) => same(rt, enqueue(locks, *h, *part), Ok(Ticket(*want)), at),
