@@ -30,7 +30,7 @@ pub struct TripleLists<T> {
     clients: Numbered<Head>,
 }
 
-// By hand, so that whoever lets one go has one call to prove.
+// Not derived: so the proof of a function that drops one has a single call there.
 impl<T: Drop> Drop for TripleLists<T> {
     fn drop(self) {
         let TripleLists {
@@ -130,7 +130,8 @@ impl<T: Copy> TripleLists<T> {
         Ok(key)
     }
 
-    /// The same, where there are fewer nodes than there may be. For want of memory nothing changes.
+    /// Adds a node, the last one of each of its lists, and answers its key, where there are fewer nodes than there may be. For want of
+    /// memory nothing changes.
     pub fn add_tested<L: Ledger>(
         &mut self,
         client: ClientId,

@@ -10,9 +10,7 @@ use std::sync::ledger::Ledger;
 /// A client on an inode, with a value.
 #[derive(Clone, Copy)]
 pub struct Node<T> {
-    /// The client.
     pub client: ClientId,
-    /// The inode.
     pub ino: Ino,
     /// What is kept of it.
     pub value: T,

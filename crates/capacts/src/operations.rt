@@ -19,7 +19,6 @@ pub enum OperationRef<'a> {
     Rmdir,
     /// Move it into a directory, under a name.
     Rename {
-        /// The directory.
         dir: Ino,
         /// The name in it.
         name: &'a Bytes,

@@ -24,11 +24,11 @@ pub struct Checkup {
     pub files: ClusterFiles,
     /// The text of the auth list, of no byte until `gather` has read it.
     pub auth: Vec<u8>,
-    /// The same of the sessions.
+    /// The text of the sessions, of no byte until `gather` has read it.
     pub sessions: Vec<u8>,
 }
 
-// By hand, so that whoever lets one go has one call to prove.
+// Not derived: so the proof of a function that drops one has a single call there.
 impl Drop for Checkup {
     fn drop(self) {
         let Checkup {
@@ -51,7 +51,7 @@ pub struct ClusterFiles {
     pub tree: Vec<u8>,
 }
 
-// By hand, so that whoever lets one go has one call to prove.
+// Not derived: so the proof of a function that drops one has a single call there.
 impl Drop for ClusterFiles {
     fn drop(self) {
         let ClusterFiles {

@@ -71,7 +71,6 @@ pub enum Invocation {
     Explain(Inquiry),
     /// The written form of the grants in a text.
     Grants {
-        /// The text.
         text: Vec<u8>,
         /// Whether the place of a fault is to be shown.
         more: bool,
@@ -87,7 +86,6 @@ pub enum Invocation {
     },
     /// What is found in the grants of a text.
     Lint {
-        /// The text.
         text: Vec<u8>,
         /// How the answer is written.
         shape: Shape,
@@ -110,7 +108,7 @@ pub enum Invocation {
     },
 }
 
-// By hand, so that whoever lets one go has one call to prove.
+// Not derived: so the proof of a function that drops one has a single call there.
 impl Drop for Invocation {
     fn drop(self) {
         match self {

@@ -34,7 +34,7 @@ pub enum Source {
     },
 }
 
-// By hand, so that whoever lets one go has one call to prove.
+// Not derived: so the proof of a function that drops one has a single call there.
 impl Drop for Source {
     fn drop(self) {
         match self {
@@ -69,7 +69,7 @@ pub struct Inquiry {
     pub form: Form,
 }
 
-// By hand, so that whoever lets one go has one call to prove.
+// Not derived: so the proof of a function that drops one has a single call there.
 impl Drop for Inquiry {
     fn drop(self) {
         let Inquiry {

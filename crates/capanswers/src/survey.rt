@@ -21,7 +21,7 @@ pub struct Survey {
     pub telling: Telling,
 }
 
-// By hand, so that whoever lets one go has one call to prove.
+// Not derived: so the proof of a function that drops one has a single call there.
 impl Drop for Survey {
     fn drop(self) {
         let Survey {

@@ -50,11 +50,11 @@ pub(crate) enum Kind {
     Bare,
     /// Behind its name. It has to be given.
     Needed,
-    /// The same, unless a keyring or an auth list stands in its place.
+    /// Behind its name. It has to be given, unless a keyring or an auth list stands in its place.
     Text,
     /// Behind its name, where it is given.
     Optional,
-    /// The same; where it is not, it is `cephfs`.
+    /// Behind its name, where it is given; else it is `cephfs`.
     Usual,
     /// By its name alone.
     Flag,

@@ -29,7 +29,7 @@ pub struct Finding {
     pub rules: Rules,
 }
 
-// By hand, so that whoever lets one go has one call to prove.
+// Not derived: so the proof of a function that drops one has a single call there.
 impl Drop for Finding {
     fn drop(self) {
         let Finding {
@@ -104,7 +104,7 @@ impl Inode<'_> {
         }
     }
 
-    // The same for an access that nobody is allowed.
+    // Why each grant denies an access that nobody is allowed.
     fn each_reason(&self, grants: &Grants, access: Access) -> Rules
         requires { (caller : Caller) → granted (asked self.now caller access) grants.now ≡ false }
         ensures exact { result ≡ filter_map (reason self.now access) grants.now }

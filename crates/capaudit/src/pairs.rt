@@ -11,7 +11,6 @@ use std::alloc::{AllocError, Global};
 pub struct Holding {
     /// The number of the session.
     pub client: u64,
-    /// The caps.
     pub caps: CapSet,
 }
 
@@ -20,7 +19,6 @@ pub struct Holding {
 pub struct Conflict {
     /// The client that is listed first.
     pub one: Holding,
-    /// The other.
     pub other: Holding,
 }
 

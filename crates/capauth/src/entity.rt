@@ -9,7 +9,7 @@ pub struct Entity {
     caps: Option<Vec<u8>>,
 }
 
-// By hand, so that whoever lets one go has one call to prove.
+// Not derived: so the proof of a function that drops one has a single call there.
 impl Drop for Entity {
     fn drop(self) {
         let Entity { name: _, caps: _ } = self;

@@ -9,7 +9,7 @@ pub struct AuthList {
     entities: Vec<Entity>,
 }
 
-// By hand, so that whoever lets one go has one call to prove.
+// Not derived: so the proof of a function that drops one has a single call there.
 impl Drop for AuthList {
     fn drop(self) {
         let AuthList { entities: _ } = self;

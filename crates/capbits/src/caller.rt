@@ -134,7 +134,7 @@ impl Caller {
         self.gid == gid || self.groups.as_slice().contains(&gid)
     }
 
-    /// The same caller once more, which takes no memory.
+    /// A copy of the caller, which takes no memory.
     pub fn copy(&self) -> Caller
         ensures { result ≡ self.now }
     {

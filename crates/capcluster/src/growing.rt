@@ -18,7 +18,7 @@ pub struct TreeReader {
     tree: Tree,
 }
 
-// By hand, so that whoever lets one go has one call to prove.
+// Not derived: so the proof of a function that drops one has a single call there.
 impl Drop for TreeReader {
     fn drop(self) {
         let TreeReader { rows: _, tree: _ } = self;

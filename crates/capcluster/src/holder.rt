@@ -16,7 +16,7 @@ pub struct Holder {
     pending: Vec<u8>,
 }
 
-// By hand, so that whoever lets one go has one call to prove.
+// Not derived: so the proof of a function that drops one has a single call there.
 impl Drop for Holder {
     fn drop(self) {
         let Holder {

@@ -19,7 +19,7 @@ pub struct TreeInode {
     holders: Vec<Holder>,
 }
 
-// By hand, so that whoever lets one go has one call to prove.
+// Not derived: so the proof of a function that drops one has a single call there.
 impl Drop for TreeInode {
     fn drop(self) {
         let TreeInode {

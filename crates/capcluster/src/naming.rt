@@ -41,7 +41,7 @@ pub(crate) fn add_directory(
     Ok(true)
 }
 
-// The same of a fragment of it.
+// Adds the paths to which a fragment of a directory leads. False where something in it is none, and then some may be added.
 fn add_fragment(
     alloc: Global,
     paths: &mut Numbered<TreePath>,
@@ -60,7 +60,7 @@ fn add_fragment(
     Ok(true)
 }
 
-// The same of a dentry, if an inode is at home there.
+// Adds the path to which a dentry leads, if an inode is at home there. False where the dentry is none.
 fn add_dentry(
     alloc: Global,
     paths: &mut Numbered<TreePath>,

@@ -17,7 +17,7 @@ pub struct Session {
     client: Option<Vec<u8>>,
 }
 
-// By hand, so that whoever lets one go has one call to prove.
+// Not derived: so the proof of a function that drops one has a single call there.
 impl Drop for Session {
     fn drop(self) {
         let Session {

@@ -20,7 +20,7 @@ pub struct Tree {
     pub paths: Numbered<TreePath>,
 }
 
-// By hand, so that whoever lets one go has one call to prove.
+// Not derived: so the proof of a function that drops one has a single call there.
 impl Drop for Tree {
     fn drop(self) {
         let Tree {

@@ -38,7 +38,7 @@ pub(crate) fn number_at(value: &Value, key: &str) -> Option<u64>
     value.get(key).and_then(Value::as_u64)
 }
 
-// The same where it has 32 bits.
+// The number at a key, where it has at most 32 bits.
 pub(crate) fn id_at(value: &Value, key: &str) -> Option<u32>
     ensures { result ≡ id_at key.now (view value.now) }
 {

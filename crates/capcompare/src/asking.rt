@@ -30,7 +30,7 @@ pub(crate) struct Found {
     pub(crate) place: usize,
 }
 
-// By hand, so that whoever lets one go has one call to prove.
+// Not derived: so the proof of a function that drops one has a single call there.
 impl Drop for Found {
     fn drop(self) {
         let Found {
@@ -47,7 +47,7 @@ impl Found {
     ghost use Rattle.capgrant.specs.Question.{question};
     ghost use Rattle.capcompare.specs.Comparing.{question_of};
 
-    /// The same with the file system and the path of the question.
+    /// The question that was found, with the file system and the path on which it is asked.
     pub(crate) fn into_witness<'a>(self, fs: FsName, path: &'a TreePath) -> Witness<'a>
         requires { self.place < 16 }
         ensures asks { question_of result ≡ question fs self.caller path.now self.attr self.access }
@@ -185,7 +185,7 @@ impl Setting<'_> {
         self.ask_as_other(caller, self.nobody)
     }
 
-    // The same for each of these groups.
+    // Of an inode that only those may read and write who neither own it nor are of its group, for each of these groups.
     fn ask_as_others_of(&self, caller: &Caller, groups: &[u32]) -> Option<Found>
         requires { length caller.now.groups < 2 }
         ensures none { IfNone result (NoneAsOthersOf self.now caller.now groups.now) }
@@ -199,7 +199,8 @@ impl Setting<'_> {
         None
     }
 
-    // The same for one group, of which the caller is: a grant that lists it finds the caller in the group's class.
+    // Of an inode that only those may read and write who neither own it nor are of its group, for one group to which the caller belongs: a
+    // grant that lists the group finds the caller in the group's class.
     #[tactic(auto, unfolding(crate::specs::Asking::NoneAsOther))]
     fn ask_as_other(&self, caller: &Caller, group: u32) -> Option<Found>
         requires { length caller.now.groups < 2 }
@@ -323,7 +324,7 @@ pub(crate) fn caller(uid: u32, gid: u32) -> Caller
     }
 }
 
-/// The same caller in one group more.
+/// The caller, in this group too.
 pub(crate) fn with_group(caller: &Caller, gid: u32) -> Caller
     requires { length caller.now.groups < MAX_GROUPS }
     ensures { result ≡ with_group caller.now gid }

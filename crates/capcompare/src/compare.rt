@@ -35,7 +35,8 @@ pub fn lost<'a>(
     gained(alloc, new, old)
 }
 
-// The same of the grants of two lists.
+// A question that some grant of the new list allows and every grant of the old one denies, if there is one. It is one of root only where
+// no other shows the difference.
 pub(crate) fn difference<'a>(
     alloc: Global,
     old: &[Grant],

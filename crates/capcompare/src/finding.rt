@@ -26,7 +26,7 @@ pub struct Finding<'a> {
     pub has_ceph_text: bool,
 }
 
-// By hand, so that whoever lets one go has one call to prove.
+// Not derived: so the proof of a function that drops one has a single call there.
 impl Drop for Finding<'_> {
     fn drop(self) {
         let Finding {

@@ -28,7 +28,7 @@ pub(crate) struct Search<'a, 'b> {
     ghost no_new_gid: { NoneLists nobody new.now },
 }
 
-// By hand, so that whoever lets one go has one call to prove.
+// Not derived: so the proof of a function that drops one has a single call there.
 impl Drop for Search<'_, '_> {
     fn drop(self) {
         let Search {
@@ -72,7 +72,7 @@ impl<'a, 'b> Search<'a, 'b> {
         Ok(None)
     }
 
-    // The same, of the questions that this new grant allows.
+    // A question of root, or of a caller who is not root, that this new grant allows and the old grants deny.
     fn find_by(
         &self,
         alloc: Global,

@@ -31,8 +31,8 @@ pub(crate) fn undoing<'a>(
     Ok(None)
 }
 
-// The same, of what this other grant allows. If it allows anything of that, it allows root to write to what root owns, at the
-// longer of the two paths.
+// A question of root, to write, that the grant denies for root_squash alone and this other grant allows. If the other grant allows any
+// such question, it allows root to write to what root owns, at the longer of the two paths.
 fn undoing_by<'a>(
     alloc: Global,
     grants: &'a [Grant],
@@ -87,7 +87,7 @@ fn place_of(
     question.first_allowing(grants)
 }
 
-// The same grant without root_squash.
+// A copy of the grant, but without root_squash.
 fn without_squash(grant: &Grant) -> Result<Grant, AllocError>
     ensures { IfOk result (λ would. would ≡ unsquashed grant.now) }
 {

@@ -20,7 +20,7 @@ pub struct Witness<'a> {
     pub grant: u32,
 }
 
-// By hand, so that whoever lets one go has one call to prove.
+// Not derived: so the proof of a function that drops one has a single call there.
 impl Drop for Witness<'_> {
     fn drop(self) {
         let Witness {

@@ -15,7 +15,7 @@ pub(crate) struct Parts {
     pub(crate) messages: Vec<Ended>,
 }
 
-// By hand, so that whoever lets one go has one call to prove.
+// Not derived: so the proof of a function that drops one has a single call there.
 impl Drop for Parts {
     fn drop(self) {
         let Parts {

@@ -43,7 +43,7 @@ impl Model for Core {
     ghost invariant = { λ c. IsRecorded (recorded c.world c.rows.items c.max_rows c.endings.changes.items) };
 }
 
-// By hand, so that a caller which lets one go has one call to prove, and no step for each of its parts.
+// Not derived: so the proof of a function that drops one has a single call there, and no step for each part.
 impl Drop for Core {
     fn drop(self) {
         let Core {

@@ -39,7 +39,7 @@ pub(crate) struct World {
     pub(crate) parts: Parts,
 }
 
-// By hand, so that whoever lets one go has one call to prove.
+// Not derived: so the proof of a function that drops one has a single call there.
 impl Drop for World {
     fn drop(self) {
         let World { parts: _parts } = self;

@@ -8,7 +8,7 @@ use arrayvec::ArrayVec;
 use capgrant::Rules;
 use std::alloc::{AllocError, Global};
 
-/// The same rules once more.
+/// A copy of the rules.
 pub fn copy_of_rules(rules: &Rules) -> Rules
     ensures { result ≡ rules.now }
 {
@@ -18,7 +18,7 @@ pub fn copy_of_rules(rules: &Rules) -> Rules
     Rules::from(rules)
 }
 
-/// How a request ended once more. A list of attributes alone takes memory.
+/// A copy of how a request ended. Of its parts only a list of attributes takes memory.
 pub fn copy_of_outcome(alloc: Global, outcome: &Outcome) -> Result<Outcome, AllocError>
     ensures { IfOk result (λ copy. copy ≡ outcome.now) }
 {
@@ -44,7 +44,7 @@ pub fn copy_of_outcome(alloc: Global, outcome: &Outcome) -> Result<Outcome, Allo
     }
 }
 
-/// The same messages once more, in their order.
+/// A copy of the messages, in their order.
 pub fn copy_of_messages(alloc: Global, messages: &[Message]) -> Result<MessageList, AllocError>
     ensures { IfOk result (λ copy. copy ≡ messages.now) }
 {
@@ -55,7 +55,7 @@ pub fn copy_of_messages(alloc: Global, messages: &[Message]) -> Result<MessageLi
     Ok(copy)
 }
 
-// The same message once more. A list of attributes alone takes memory.
+// A copy of the message. Of its parts only a list of attributes takes memory.
 fn copy_of_message(alloc: Global, message: &Message) -> Result<Message, AllocError>
     ensures { IfOk result (λ copy. copy ≡ message.now) }
 {
@@ -76,7 +76,7 @@ fn copy_of_message(alloc: Global, message: &Message) -> Result<Message, AllocErr
     }
 }
 
-/// The same reply once more, which takes no memory: it is none of the replies that have a list.
+/// A copy of the reply, which takes no memory: it is none of the replies that have a list.
 pub fn copy_of_reply(reply: &Reply) -> Reply
     requires { has_list reply.now ≡ false }
     ensures { result ≡ reply.now }

@@ -21,7 +21,6 @@ pub enum OpenMode {
 pub enum Event {
     /// A client opens a session.
     Session {
-        /// The client.
         client: ClientId,
         /// The user for whom it asks.
         caller: Caller,
@@ -31,13 +30,11 @@ pub enum Event {
     /// A client ends its session. All that it held, wanted and waited for goes with it, and so does what it was still to be
     /// told of.
     CloseSession {
-        /// The client.
         client: ClientId,
     },
     /// A client's session has another status: it is stale, as the client was not heard of for too long, or open again. What
     /// the client holds it still holds, but what it wants counts only while the session is open.
     Mark {
-        /// The client.
         client: ClientId,
         /// What its session is from now on.
         status: Status,
@@ -45,19 +42,16 @@ pub enum Event {
     /// An administrator replaces the grants of a client, whose session is open or stale and goes on. All is decided by
     /// the new grants from now on: what it holds and they do not permit is being revoked.
     Regrant {
-        /// The client.
         client: ClientId,
         /// What it may do from now on, and where.
         grants: Grants,
     },
     /// A client is thrown out: its session ends, and it comes on the blocklist.
     Evict {
-        /// The client.
         client: ClientId,
     },
     /// A client that was thrown out is let in again: it comes off the blocklist.
     Unblock {
-        /// The client.
         client: ClientId,
     },
     /// Clients are asked to release what they have not used for longest: the first entries in the order of recall are
@@ -68,16 +62,12 @@ pub enum Event {
     },
     /// A client asks which inode a directory has under a name.
     Lookup {
-        /// The client.
         client: ClientId,
-        /// The directory.
         dir: Ino,
-        /// The name.
         name: Bytes,
     },
     /// A client makes a file.
     Create {
-        /// The client.
         client: ClientId,
         /// The directory of the file.
         dir: Ino,
@@ -88,7 +78,6 @@ pub enum Event {
     },
     /// A client makes a directory.
     Mkdir {
-        /// The client.
         client: ClientId,
         /// The directory of the new one.
         dir: Ino,
@@ -99,7 +88,6 @@ pub enum Event {
     },
     /// A client gives a directory a snapshot.
     MakeSnapshot {
-        /// The client.
         client: ClientId,
         /// The directory.
         ino: Ino,
@@ -108,7 +96,6 @@ pub enum Event {
     },
     /// A client takes a snapshot from a directory.
     RemoveSnapshot {
-        /// The client.
         client: ClientId,
         /// The directory.
         ino: Ino,
@@ -117,68 +104,51 @@ pub enum Event {
     },
     /// A client opens an inode. From now on it wants what this takes, besides what it wanted.
     Open {
-        /// The client.
         client: ClientId,
-        /// The inode.
         ino: Ino,
         /// What it opens it for.
         mode: OpenMode,
     },
     /// A client says what it wants of an inode that it has opened.
     Want {
-        /// The client.
         client: ClientId,
-        /// The inode.
         ino: Ino,
         /// The caps. The pin is wanted besides.
         caps: CapSet,
     },
     /// A client acknowledges a message by which caps were taken from it: it holds them no more.
     Ack {
-        /// The client.
         client: ClientId,
-        /// The inode.
         ino: Ino,
         /// The number up to which it was told of changes, at least that of the last that took something.
         seq: u64,
     },
     /// A client releases caps, and wants them no more. With the pin its entry ends.
     Release {
-        /// The client.
         client: ClientId,
-        /// The inode.
         ino: Ino,
-        /// The caps.
         caps: CapSet,
     },
     /// A client asks what an inode keeps of a part. It waits for the lock of the part.
     Get {
-        /// The client.
         client: ClientId,
-        /// The inode.
         ino: Ino,
-        /// The part.
         part: Part,
     },
     /// A client changes what an inode keeps. It waits for the lock of the part that changes.
     Alter {
-        /// The client.
         client: ClientId,
-        /// The inode.
         ino: Ino,
-        /// The change.
         change: Change,
     },
     /// A client unlinks a file. It waits for the lock of the file's link count.
     Unlink {
-        /// The client.
         client: ClientId,
         /// The file.
         ino: Ino,
     },
     /// A client removes an empty directory. It waits for the lock of the directory's link count.
     Rmdir {
-        /// The client.
         client: ClientId,
         /// The directory.
         ino: Ino,
@@ -186,9 +156,7 @@ pub enum Event {
     /// A client moves an inode, and all below it, into a directory, under a name. It waits for the lock of the inode's link
     /// count.
     Rename {
-        /// The client.
         client: ClientId,
-        /// The inode.
         ino: Ino,
         /// The directory that it is to stand in.
         dir: Ino,
@@ -197,23 +165,19 @@ pub enum Event {
     },
     /// A client that alone may change a part has changed it, and says so. It waits for no lock.
     Flush {
-        /// The client.
         client: ClientId,
-        /// The inode.
         ino: Ino,
-        /// The change.
         change: Change,
     },
     /// A client asks for its messages.
     Poll {
-        /// The client.
         client: ClientId,
         /// How many it takes at most.
         max: u32,
     },
 }
 
-// By hand, so that whoever lets one go has one call to prove.
+// Not derived: so the proof of a function that drops one has a single call there.
 impl Drop for Event {
     fn drop(self) {
         match self {

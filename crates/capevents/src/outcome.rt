@@ -27,7 +27,7 @@ pub enum PartValues {
     },
 }
 
-// By hand, so that whoever lets one go has one call to prove.
+// Not derived: so the proof of a function that drops one has a single call there.
 impl Drop for PartValues {
     fn drop(self) {
         match self {
@@ -61,7 +61,7 @@ pub enum Outcome {
     Dropped,
 }
 
-// By hand, so that whoever lets one go has one call to prove.
+// Not derived: so the proof of a function that drops one has a single call there.
 impl Drop for Outcome {
     fn drop(self) {
         match self {
@@ -105,7 +105,7 @@ pub struct Ended {
     pub outcome: Outcome,
 }
 
-// By hand, so that whoever lets one go has one call to prove.
+// Not derived: so the proof of a function that drops one has a single call there.
 impl Drop for Ended {
     fn drop(self) {
         let Ended {
@@ -142,7 +142,6 @@ pub enum Message {
     },
     /// What it is to know that it holds on an inode has changed.
     Caps {
-        /// The inode.
         ino: Ino,
         /// The number of the change.
         seq: u64,
@@ -151,19 +150,17 @@ pub enum Message {
     },
     /// The size of an inode was changed while it cached the data.
     Size {
-        /// The inode.
         ino: Ino,
         /// How many bytes of data there are now.
         size: u64,
     },
     /// It is asked to release what it holds on an inode.
     Recall {
-        /// The inode.
         ino: Ino,
     },
 }
 
-// By hand, so that whoever lets one go has one call to prove.
+// Not derived: so the proof of a function that drops one has a single call there.
 impl Drop for Message {
     fn drop(self) {
         match self {
@@ -188,7 +185,7 @@ pub struct MessageList {
     items: Vec<Message>,
 }
 
-// By hand, so that whoever lets one go has one call to prove.
+// Not derived: so the proof of a function that drops one has a single call there.
 impl Drop for MessageList {
     fn drop(self) {
         let MessageList { items: _ } = self;

@@ -16,7 +16,6 @@ pub enum Reply {
     Opened {
         /// The number of the last change.
         seq: u64,
-        /// The caps.
         caps: CapSet,
     },
     /// What an inode keeps of the part that the client asked for.
@@ -40,7 +39,7 @@ pub enum Reply {
     OutOfMemory,
 }
 
-// By hand, so that whoever lets one go has one call to prove.
+// Not derived: so the proof of a function that drops one has a single call there.
 impl Drop for Reply {
     fn drop(self) {
         match self {

@@ -14,7 +14,7 @@ pub struct EndedList {
     items: Vec<Ended>,
 }
 
-// By hand, so that whoever lets one go has one call to prove.
+// Not derived: so the proof of a function that drops one has a single call there.
 impl Drop for EndedList {
     fn drop(self) {
         let EndedList { items: _ } = self;
@@ -84,7 +84,7 @@ pub struct Row {
     pub ended: EndedList,
 }
 
-// By hand, so that whoever lets one go has one call to prove.
+// Not derived: so the proof of a function that drops one has a single call there.
 impl Drop for Row {
     fn drop(self) {
         let Row {

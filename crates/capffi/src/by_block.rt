@@ -34,7 +34,7 @@ pub(crate) fn soon(
     soon_bare(block, text, bare, question, answer)
 }
 
-// The same by a path without a slash in front.
+// Tells the answer of a block to a question, where that is soon seen, by a path without a slash in front.
 #[inline(always)]
 fn soon_bare(
     block: &Block,
@@ -60,8 +60,8 @@ fn soon_bare(
     }
 }
 
-// The same of one grant: the number of the rule that it fails by, or 0 where it allows. The path's form is looked at last, when little
-// else is left in registers.
+// The answer of one grant to a question, where that is soon seen: the number of the rule that it fails by, or 0 where it allows. The
+// path's form is looked at last, when little else is left in registers.
 #[inline(always)]
 fn soon_of_one(block: &Block, text: &[u8], path: &[u8], question: &Question) -> Option<u8>
     requires whole { IsBlock block.now text.now }
@@ -75,7 +75,8 @@ fn soon_of_one(block: &Block, text: &[u8], path: &[u8], question: &Question) -> 
     Some(rule)
 }
 
-// The same of any number of grants and each access, apart from that of one to read or to write, which takes fewer registers.
+// Tells the answer of any number of grants to a question, where that is soon seen. It stands apart from that of one grant on an access to
+// read or to write, which takes fewer registers.
 #[inline(never)]
 fn soon_of_many(
     block: &Block,
@@ -133,7 +134,7 @@ pub(crate) fn judge_by(
     }
 }
 
-// The same for a path in any form.
+// What the grants of a block say to a question, on a path in any form.
 #[inline(never)]
 #[tactic(auto, using(crate::proofs::Filled::said_of_text))]
 fn judge_other(
@@ -231,7 +232,7 @@ fn case_of<'a>(
     }
 }
 
-// The same for the names of a path.
+// What the grants of a block say to a question, on the names of a path.
 #[inline(always)]
 fn judge_plain(
     block: &Block,

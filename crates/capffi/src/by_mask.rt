@@ -52,7 +52,7 @@ pub(crate) fn soon_mask(
     soon_bare(block, text, bare, check, answer)
 }
 
-// The same by a path without a slash in front.
+// Tells the answer of a block to a mask, where that is soon seen, by a path without a slash in front.
 #[inline(always)]
 fn soon_bare(block: &Block, text: &[u8], path: &[u8], check: &Check, answer: &mut Answer) -> u32
     ensures { TellsSoonToMask block.now text.now path.now check.now answer.old answer.new result }
@@ -75,8 +75,8 @@ fn soon_bare(block: &Block, text: &[u8], path: &[u8], check: &Check, answer: &mu
     }
 }
 
-// The same of one grant: the number of the rule that it fails by, or 0 where it allows. The path's form is looked at last, when little
-// else is left in registers.
+// The answer of one grant to a mask, where that is soon seen: the number of the rule that it fails by, or 0 where it allows. The path's
+// form is looked at last, when little else is left in registers.
 #[inline(always)]
 fn soon_of_one(block: &Block, text: &[u8], path: &[u8], check: &Check, access: Access) -> Option<u8>
     requires whole { IsBlock block.now text.now }
@@ -92,8 +92,8 @@ fn soon_of_one(block: &Block, text: &[u8], path: &[u8], check: &Check, access: A
     Some(rule)
 }
 
-// The same of any number of grants, apart from that of one, which takes fewer registers. What is passed on is passed as it came, so
-// that the one goes over into the other.
+// Tells the answer of any number of grants to a mask, where that is soon seen. It stands apart from that of one grant, which takes fewer
+// registers. What is passed on is passed as it came, so that the one goes over into the other.
 #[inline(never)]
 fn soon_of_many(block: &Block, text: &[u8], path: &[u8], check: &Check, answer: &mut Answer) -> u32
     ensures { TellsSoonToMask block.now text.now path.now check.now answer.old answer.new result }
@@ -165,7 +165,7 @@ pub(crate) fn judge_mask(
     }
 }
 
-// The same for a path in any form.
+// What the grants of a block say to a mask, on a path in any form.
 #[inline(never)]
 #[tactic(auto, using(crate::proofs::Masks::said_to_mask))]
 fn judge_other(
@@ -186,7 +186,7 @@ fn judge_other(
     }
 }
 
-// The same for a path without a slash in front.
+// What the grants of a block say to a mask, on a path without a slash in front.
 #[tactic(auto, using(crate::proofs::Masks::asks_nothing))]
 fn judge_bare(
     block: &Block,
@@ -230,7 +230,7 @@ impl Asker<'_> {
         }
     }
 
-    // The same, access by access.
+    // What is told of the accesses of the mask, which are asked for one after the other.
     fn ask_all(&self) -> Option<Told>
         requires { IsBlock self.now.block.now self.now.text.now }
         ensures { result ≡ told_of (verdict_on self.now.block.now self.now.text.now (bare_names self.now.path.now) self.now.groups.now self.now.check.now) (accesses_of self.now.check.now) }

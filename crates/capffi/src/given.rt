@@ -206,7 +206,7 @@ fn is_same(one: &[u8], other: &[u8]) -> bool
     is_same_at_ends(one, other, 32, 32)
 }
 
-// The same of more than 64 bytes.
+// Whether two texts of one length, of more than 64 bytes, are the same.
 #[inline(always)]
 fn is_same_of_many(one: &[u8], other: &[u8]) -> bool
     requires same { length one.now ≡ length other.now }
@@ -223,7 +223,7 @@ fn is_same_of_many(one: &[u8], other: &[u8]) -> bool
     is_same_bytewise(one, other)
 }
 
-// The same of at most 16 bytes.
+// Whether two texts of one length, of at most 16 bytes, are the same.
 #[inline(always)]
 fn is_same_of_few(one: &[u8], other: &[u8]) -> bool
     requires same { length one.now ≡ length other.now }
@@ -238,7 +238,7 @@ fn is_same_of_few(one: &[u8], other: &[u8]) -> bool
     }
 }
 
-// The same byte by byte.
+// Whether two texts of one length are the same, byte by byte.
 #[inline(always)]
 #[tactic(auto, using(crate::proofs::Leads::all_bytes))]
 fn is_same_bytewise(one: &[u8], other: &[u8]) -> bool
@@ -248,7 +248,7 @@ fn is_same_bytewise(one: &[u8], other: &[u8]) -> bool
     is_same_from(one, other, 0, other.len())
 }
 
-// The same by a piece at each end. The last bytes, by which paths mostly differ, are compared first.
+// Whether two texts of one length are the same, by a piece at each end. The last bytes, by which paths mostly differ, are compared first.
 #[inline(always)]
 fn is_same_at_ends(one: &[u8], other: &[u8], first: usize, last: usize) -> bool
     requires same { length one.now ≡ length other.now }
@@ -275,7 +275,7 @@ fn is_same_from(one: &[u8], other: &[u8], start: usize, piece: usize) -> bool
     is_same
 }
 
-// The same of two to four bytes, as two pairs, which may share bytes.
+// Whether two texts of one length, of two to four bytes, are the same, as two pairs, which may share bytes.
 #[inline(always)]
 #[tactic(auto, using(crate::proofs::Leads::same_is))]
 fn is_same_by_pairs(one: &[u8], other: &[u8]) -> bool

@@ -33,7 +33,6 @@ pub(crate) struct Case<'a> {
     pub(crate) gid: u32,
     /// The inode's owner, group and mode.
     pub(crate) attr: Attr,
-    /// The access.
     pub(crate) access: Access,
 }
 
@@ -101,7 +100,8 @@ impl Case<'_> {
         17
     }
 
-    /// The same of a grant that is alone: the number of the rule that it fails by, or 0 where it allows.
+    /// The answer of a grant that is alone and for everybody, whatever the caller's groups: the number of the rule that it fails by, or 0
+    /// where it allows.
     #[inline(always)]
     #[tactic(auto, using(crate::proofs::Entries::further_same))]
     pub(crate) fn soon_alone(&self, entries: &[Entry], text: &[u8]) -> Option<u8>

@@ -56,8 +56,8 @@ fn is_plain(bare: &[u8]) -> bool
     }
 }
 
-/// The same, where it is soon seen: not of more than `MAX_SOON` bytes, and, of those with more than 63, not of some with 17 names and
-/// more and of none with 32.
+/// Whether a path is plain, where that is soon seen: not of more than `MAX_SOON` bytes, and, of those with more than 63, not of some with
+/// 17 names and more and of none with 32.
 #[inline(always)]
 pub(crate) fn is_soon_plain(bare: &[u8]) -> bool
     ensures names { IsTrue result → bare_names bare.now ≡ names_of bare.now }
@@ -69,7 +69,7 @@ pub(crate) fn is_soon_plain(bare: &[u8]) -> bool
     bare.len() <= MAX_SOON && is_plain_at_ends(bare)
 }
 
-// The same of a path that two pieces cover.
+// Whether a path is plain, where two pieces cover it.
 #[inline(always)]
 fn is_plain_at_ends(bare: &[u8]) -> bool
     requires more { 64 ≤ length bare.now }
@@ -131,7 +131,7 @@ fn has_double_slash(path: &[u8]) -> bool
     }
 }
 
-// The same of two pieces of so many bytes.
+// Whether two slashes stand side by side, as if there were one in front too, where two pieces of so many bytes cover the path.
 #[inline(always)]
 fn look_at_ends_by<const PIECE: usize>(path: &[u8]) -> bool
     requires piece { PIECE ≤ 64 }
@@ -143,7 +143,7 @@ fn look_at_ends_by<const PIECE: usize>(path: &[u8]) -> bool
     in_front | look_by::<PIECE>(path, path.len() - PIECE, false)
 }
 
-// The same byte by byte.
+// Whether two slashes stand side by side, as if there were one in front too, byte by byte.
 #[inline(always)]
 #[tactic(auto, using(crate::proofs::Bare::first_slash, crate::proofs::Bare::no_first_slash))]
 fn has_double_slash_in_few(path: &[u8]) -> bool
@@ -219,7 +219,7 @@ fn is_short(path: &[u8]) -> bool
     path.len() < 64
 }
 
-// The same as `is_plain`, of a path that is too long for its length to tell how many names it has.
+// Whether a path is plain that is too long for its length to tell how many names it has.
 #[inline(always)]
 #[tactic(auto, using(crate::proofs::Bare::parted))]
 fn is_long_plain(bare: &[u8]) -> bool

@@ -75,8 +75,8 @@ impl Question<'_> {
         self.allows_where(grant, self.is_below(grant))
     }
 
-    // The same, where it is known whether the inode lies at or below the grant's path. What most grants fail by is that, so it is looked
-    // at first.
+    // Whether the grant allows the access, where it is known whether the inode lies at or below the grant's path. Most grants fail by
+    // their path, so it is looked at first.
     #[inline(always)]
     #[tactic(auto, unfolding(crate::specs::Failing::first_failing))]
     fn allows_where(&self, grant: &Grant, is_below: bool) -> bool
@@ -124,7 +124,8 @@ impl Question<'_> {
         (one, two)
     }
 
-    /// The same, where it is known of the first grants how far their paths begin with that of the inode.
+    /// Whether some grant allows what is asked, and whether some grant allows the other access, where it is known of the first grants how
+    /// much of their paths the inode's path begins with.
     pub(crate) fn both_granted_begun(
         &self,
         other: &Question<'_>,
@@ -234,7 +235,7 @@ impl Question<'_> {
         !grant.gids.as_slice().is_empty() && !has_listed_gid(self.caller, grant)
     }
 
-    // The same, where it may be known how far the grant's path begins with that of the inode.
+    // Whether the inode lies at or below the grant's path, where it may be known how much of that path the inode's path begins with.
     #[inline(always)]
     #[tactic(auto, unfolding(crate::specs::Failing::fails_path))]
     fn is_below_as_begun(&self, grant: &Grant, begun: Option<Begun>) -> bool

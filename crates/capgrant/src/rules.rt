@@ -17,7 +17,7 @@ pub struct Rules {
     rules: ArrayVec<Rule, MAX_RULES>,
 }
 
-// By hand, so that whoever lets one go has one call to prove.
+// Not derived: so the proof of a function that drops one has a single call there.
 impl Drop for Rules {
     fn drop(self) {
         let Rules { rules: _ } = self;

@@ -11,7 +11,7 @@ pub(crate) struct Notes {
     pub(crate) unknown: Vec<u8>,
 }
 
-// By hand, so that whoever lets one go has one call to prove.
+// Not derived: so the proof of a function that drops one has a single call there.
 impl Drop for Notes {
     fn drop(self) {
         let Notes {
@@ -63,7 +63,7 @@ pub struct Report {
     pub found: bool,
 }
 
-// By hand, so that whoever lets one go has one call to prove.
+// Not derived: so the proof of a function that drops one has a single call there.
 impl Drop for Report {
     fn drop(self) {
         let Report { text: _, found: _ } = self;

@@ -22,7 +22,7 @@ pub(crate) fn in_order(alloc: Global, text: &[u8]) -> Result<Vec<u8>, AllocError
     joined(alloc, lines.as_slice(), rest)
 }
 
-// The same lines in the same order, and with each how often it stands in the text.
+// The lines of a text, each once, in the order of their bytes, with how often each stands in the text.
 pub(crate) fn counted(alloc: Global, shape: Shape, text: &[u8]) -> Result<Vec<u8>, AllocError>
     ensures { IfOk result (λ counted. AreCounted shape text.now counted.items) }
 {

@@ -14,7 +14,6 @@ use std::io::Write;
 pub struct Amount {
     /// How often: each kind of work says of what.
     pub count: u32,
-    /// The seed.
     pub seed: u32,
 }
 

@@ -66,7 +66,7 @@ fn make_folder(core: &mut Core, talk: &mut Talk, name: u64) {
     }
 }
 
-// So many clients open the file to read.
+// This many clients open the file to read.
 fn open_file(core: &mut Core, talk: &mut Talk, ino: u64, count: u64) {
     for _ in 0..count {
         let client = talk.among(2, CLIENTS);

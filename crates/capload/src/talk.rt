@@ -46,7 +46,7 @@ pub(crate) struct Talk {
     fault: Option<DayFault>,
 }
 
-// By hand, so that whoever lets one go has one call to prove.
+// Not derived: so the proof of a function that drops one has a single call there.
 impl Drop for Talk {
     fn drop(self) {
         let Talk {

@@ -30,7 +30,7 @@ struct Tenant {
     files: Vec<File>,
 }
 
-// By hand, so that whoever lets one go has one call to prove.
+// Not derived: so the proof of a function that drops one has a single call there.
 impl Drop for Tenant {
     fn drop(self) {
         let Tenant {

@@ -21,7 +21,6 @@ pub struct Inode<'a> {
 /// What a check asks, each part as it stands in the line.
 #[derive(Clone, Copy)]
 pub struct Check<'a> {
-    /// The inode.
     pub inode: Inode<'a>,
     /// The caller's uid.
     pub uid: &'a [u8],

@@ -27,7 +27,7 @@ pub struct ChangeList {
     places: usize,
 }
 
-// By hand, so that whoever lets one go has one call to prove.
+// Not derived: so the proof of a function that drops one has a single call there.
 impl Drop for ChangeList {
     fn drop(self) {
         let ChangeList {

@@ -12,7 +12,7 @@ pub struct EndedTickets {
     sorted: Vec<u64>,
 }
 
-// By hand, so that whoever lets one go has one call to prove.
+// Not derived: so the proof of a function that drops one has a single call there.
 impl Drop for EndedTickets {
     fn drop(self) {
         let EndedTickets { sorted: _ } = self;

@@ -22,7 +22,7 @@ pub struct Pass<L: Server> {
     witness: Witness<L>,
 }
 
-// By hand, so that whoever lets one go has one call to prove.
+// Not derived: so the proof of a function that drops one has a single call there.
 impl<L: Server> Drop for Pass<L> {
     fn drop(self) {
         let Pass {

@@ -25,7 +25,7 @@ pub struct AttemptValues {
     pub attr: Option<AttrValues>,
 }
 
-// By hand, so that whoever lets one go has one call to prove.
+// Not derived: so the proof of a function that drops one has a single call there.
 impl Drop for AttemptValues {
     fn drop(self) {
         let AttemptValues {
@@ -47,7 +47,7 @@ pub struct AttrValues {
     pub mode: Vec<u8>,
 }
 
-// By hand, so that whoever lets one go has one call to prove.
+// Not derived: so the proof of a function that drops one has a single call there.
 impl Drop for AttrValues {
     fn drop(self) {
         let AttrValues {
@@ -70,7 +70,7 @@ pub struct Attempt {
     pub access: Access,
 }
 
-// By hand, so that whoever lets one go has one call to prove.
+// Not derived: so the proof of a function that drops one has a single call there.
 impl Drop for Attempt {
     fn drop(self) {
         let Attempt {

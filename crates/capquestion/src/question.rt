@@ -43,7 +43,7 @@ pub struct Values {
     pub access: Vec<u8>,
 }
 
-// By hand, so that whoever lets one go has one call to prove.
+// Not derived: so the proof of a function that drops one has a single call there.
 impl Drop for Values {
     fn drop(self) {
         let Values {
@@ -77,7 +77,7 @@ pub struct Question {
     pub access: Access,
 }
 
-// By hand, so that whoever lets one go has one call to prove.
+// Not derived: so the proof of a function that drops one has a single call there.
 impl Drop for Question {
     fn drop(self) {
         let Question {

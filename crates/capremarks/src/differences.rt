@@ -140,7 +140,7 @@ fn allows_on_its_fs(question: &Question<'_>, grant: &Grant) -> bool
     allows(&on_its_fs(question, grant), grant)
 }
 
-// The same, by the bits of the mode and the flag p.
+// Whether the grant allows what is asked on the file system that it is for, by the bits of the mode and the flag p.
 fn allows_by_bits(question: &Question<'_>, grant: &Grant) -> bool
     ensures { result ≡ (has_flag question.now grant.now && allows (by_bits (on_its_fs question.now grant.now)) grant.now) }
 {
@@ -195,7 +195,7 @@ fn fs_for<'a>(fs: &'a FsName, grant: &'a Grant) -> &'a FsName
     }
 }
 
-// The same owner and group, with a mode by which everybody may read.
+// This owner and group, with a mode by which everybody may read.
 fn readable_by_all(attr: &Attr) -> Attr
     ensures { result ≡ record attr.now { mode = 0o777 } }
 {

@@ -107,7 +107,7 @@ fn is_bare_block(block: &[u8; BLOCK]) -> bool
     is_all
 }
 
-// The same as `is_bare_path_byte` without a branch, so that the compiler can ask it of many bytes at once.
+// `is_bare_path_byte` without a branch, so that the compiler can ask it of many bytes at once.
 fn is_bare_lane(byte: u8) -> bool
     ensures { result ≡ is_bare_path_byte byte }
 {

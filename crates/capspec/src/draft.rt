@@ -18,7 +18,7 @@ pub(crate) struct Draft<'a> {
     pub root_squash: bool,
 }
 
-// By hand, so that whoever lets one go has one call to prove.
+// Not derived: so the proof of a function that drops one has a single call there.
 impl Drop for Draft<'_> {
     fn drop(self) {
         let Draft {

@@ -13,7 +13,7 @@ pub struct FsName {
     bytes: ArrayVec<u8, MAX_FS_NAME>,
 }
 
-// By hand, so that whoever lets one go has one call to prove.
+// Not derived: so the proof of a function that drops one has a single call there.
 impl Drop for FsName {
     fn drop(self) {
         let FsName { bytes: _ } = self;

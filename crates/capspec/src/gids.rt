@@ -12,7 +12,7 @@ pub struct Gids {
     gids: ArrayVec<u32, MAX_GIDS>,
 }
 
-// By hand, so that whoever lets one go has one call to prove.
+// Not derived: so the proof of a function that drops one has a single call there.
 impl Drop for Gids {
     fn drop(self) {
         let Gids { gids: _ } = self;

@@ -28,7 +28,7 @@ pub struct Grant {
     pub root_squash: bool,
 }
 
-// By hand, so that whoever lets one go has one call to prove.
+// Not derived: so the proof of a function that drops one has a single call there.
 impl Drop for Grant {
     fn drop(self) {
         let Grant {
@@ -45,7 +45,7 @@ impl Drop for Grant {
 impl Grant {
     ghost use Rattle.std.specs.Prelude.{◌≡◌, IfOk};
 
-    /// The same grant, in memory of its own.
+    /// A copy of the grant, in memory of its own.
     pub fn copy(&self) -> Result<Grant, AllocError>
         ensures { IfOk result (λ copy. copy ≡ self.now) }
     {
@@ -66,7 +66,7 @@ pub struct Grants {
     grants: Vec<Grant>,
 }
 
-// By hand, so that whoever lets one go has one call to prove.
+// Not derived: so the proof of a function that drops one has a single call there.
 impl Drop for Grants {
     fn drop(self) {
         let Grants { grants: _ } = self;
@@ -115,7 +115,7 @@ impl Grants {
         })
     }
 
-    /// The same grants, in memory of their own.
+    /// A copy of the grants, in memory of their own.
     pub fn copy(&self) -> Result<Grants, AllocError>
         ensures { IfOk result (λ copy. copy ≡ self.now) }
     {

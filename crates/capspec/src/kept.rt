@@ -26,7 +26,7 @@ pub struct KeptGrants {
     alike: ArrayVec<Alike, MAX_GRANTS>,
 }
 
-// By hand, so that whoever lets one go has one call to prove.
+// Not derived: so the proof of a function that drops one has a single call there.
 impl Drop for KeptGrants {
     fn drop(self) {
         let KeptGrants {

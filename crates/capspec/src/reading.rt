@@ -37,7 +37,7 @@ impl Refusal {
         }
     }
 
-    // The same fault, by its place in the whole text.
+    // The fault, with its place in the whole text.
     fn in_text(self, text: &[u8]) -> SpecFault
         requires { self.left ≤ length text.now }
         ensures { result ≡ record { at = length text.now - self.left; kind = self.kind } }

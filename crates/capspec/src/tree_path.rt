@@ -17,7 +17,7 @@ pub struct TreePath {
     count: usize,
 }
 
-// By hand, so that whoever lets one go has one call to prove.
+// Not derived: so the proof of a function that drops one has a single call there.
 impl Drop for TreePath {
     fn drop(self) {
         let TreePath { text: _, count: _ } = self;
@@ -113,14 +113,14 @@ impl TreePath {
         self.count <= names.len() && is_text_of(self.text.as_slice(), &names[..self.count])
     }
 
-    /// The same, where it is known how far this path's text begins with the names. Needs no memory.
+    /// Whether this path is the beginning of some names, where it is known how many of them its text begins with. Needs no memory.
     pub fn leads_as_begun(&self, begun: Begun) -> bool
         ensures { (names : List (List ℕ)) → IsBegun names (slashed self.now) begun → result ≡ starts_with bytes_eq names self.now }
     {
         begun.count == self.count && begun.size == self.text.as_slice().len()
     }
 
-    // The same path, in memory of its own.
+    // A copy of the path, in memory of its own.
     pub(crate) fn copy(&self) -> Result<TreePath, AllocError>
         ensures { IfOk result (λ copy. copy ≡ self.now) }
     {

@@ -19,7 +19,7 @@ pub struct Endings {
     pub judged: Option<Ticket>,
 }
 
-// By hand, so that whoever lets one go has one call to prove.
+// Not derived: so the proof of a function that drops one has a single call there.
 impl Drop for Endings {
     fn drop(self) {
         let Endings {

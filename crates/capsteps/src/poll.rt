@@ -154,7 +154,7 @@ pub fn give(table: &mut CapTable, client: ClientId, given: &[Message])
     }
 }
 
-// The same of one message.
+// The client is told what one message says.
 fn give_one(table: &mut CapTable, client: ClientId, message: &Message)
     requires { IsTable table.old.entries }
     ensures { table.new ≡ record table.old { entries = changed_where (is_of_client client) (after_messages (message.now ∷ [])) table.old.entries } }

@@ -32,7 +32,7 @@ fn owe_on(sessions: &Sessions, table: &mut CapTable, ino: Ino)
     }
 }
 
-// The same of one client.
+// The client of this entry is to be told the inode's size.
 fn owe(table: &mut CapTable, holder: Holder)
     ensures { table.new ≡ record table.old { entries = changed_by owed table.old.entries holder } }
 {

@@ -21,7 +21,7 @@ pub struct Watched<T> {
 impl<T> Watched<T> {
     ghost use Rattle.capstreams.specs.Watched.{inner_of, has_failed, has_blocked, has_ended};
 
-    /// The same reader or writer, with clear flags.
+    /// Watches this reader or writer. All flags are clear at first.
     pub fn new(inner: T) -> Self
         ensures same { inner_of result ≡ inner }
         ensures clear { IsFalse (has_failed result) }

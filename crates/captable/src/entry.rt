@@ -10,9 +10,7 @@ use capbits::{CapSet, ClientId, Ino};
 /// A client on an inode, whose entry stands under both.
 #[derive(Clone, Copy, PartialEq, Eq, Debug)]
 pub struct Holder {
-    /// The client.
     pub client: ClientId,
-    /// The inode.
     pub ino: Ino,
 }
 
@@ -42,7 +40,6 @@ pub struct Entry {
 pub struct EntryRow {
     /// Whose entry it is.
     pub holder: Holder,
-    /// The entry.
     pub entry: Entry,
 }
 
@@ -67,7 +64,6 @@ pub struct KeptEntry {
 /// What is kept with the node of a holder: its entry, the sets beside it, and how many entries were made before it.
 #[derive(Clone, Copy, Debug)]
 pub struct Slot {
-    /// The entry.
     pub entry: Entry,
     /// The sets beside it.
     pub sets: Sets,

@@ -9,7 +9,7 @@ pub struct Holders {
     list: Vec<Holder>,
 }
 
-// By hand, so that whoever lets one go has one call to prove.
+// Not derived: so the proof of a function that drops one has a single call there.
 impl Drop for Holders {
     fn drop(self) {
         let Holders { list: _ } = self;

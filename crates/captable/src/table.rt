@@ -55,7 +55,7 @@ impl Model for CapTable {
         × AreCounted (table_of t.lists t.made).rows (counts_of t.polls) };
 }
 
-// By hand, so that a caller which lets one go has one call to prove, and no step for each of its parts.
+// Not derived: so the proof of a function that drops one has a single call there, and no step for each part.
 impl Drop for CapTable {
     fn drop(self) {
         let CapTable {
@@ -657,7 +657,7 @@ impl CapTable {
         Walk::of_inode(&self.lists, ino)
     }
 
-    /// The same, each with what is kept beside it.
+    /// The entries on the inode, in the order of making, each with what is kept beside it.
     pub fn kept_on(&self, ino: Ino) -> KeptWalk<'_>
         ensures rows { result ≡ map (words.kept_entry self.now.kept) (filter (is_of_inode ino) self.now.entries.rows) }
         ensures sound { IsTable self.now.entries }

@@ -18,11 +18,8 @@ use thiserror::Error;
 /// May a client make this access to an inode?
 #[derive(Clone, Copy)]
 pub struct Question {
-    /// The client.
     pub client: ClientId,
-    /// The inode.
     pub ino: Ino,
-    /// The access.
     pub access: Access,
 }
 

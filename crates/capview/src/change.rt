@@ -13,7 +13,6 @@ use std::fmt;
 pub enum ViewChange {
     /// An inode was made.
     Born {
-        /// The inode.
         ino: Ino,
         /// The directory that it stands in.
         dir: Ino,
@@ -26,7 +25,6 @@ pub enum ViewChange {
     },
     /// An inode was moved, and all below it with it.
     Moved {
-        /// The inode.
         ino: Ino,
         /// The directory that it stands in now.
         dir: Ino,
@@ -35,7 +33,6 @@ pub enum ViewChange {
     },
     /// An inode was unlinked or removed, and is a stray.
     Removed {
-        /// The inode.
         ino: Ino,
     },
     /// A stray was forgotten.
@@ -45,14 +42,12 @@ pub enum ViewChange {
     },
     /// An inode has another owner, group or mode.
     Settled {
-        /// The inode.
         ino: Ino,
         /// Its owner, its group and its mode now.
         attr: Attr,
     },
     /// A client was connected.
     Opened {
-        /// The client.
         client: ClientId,
         /// The user for whom it asks.
         caller: Caller,
@@ -61,19 +56,17 @@ pub enum ViewChange {
     },
     /// The session of a client ended.
     Ended {
-        /// The client.
         client: ClientId,
     },
     /// A client that is connected has other grants.
     Regranted {
-        /// The client.
         client: ClientId,
         /// What it may do now, and where.
         grants: Grants,
     },
 }
 
-// By hand, so that whoever lets one go has one call to prove.
+// Not derived: so the proof of a function that drops one has a single call there.
 impl Drop for ViewChange {
     fn drop(self) {
         match self {
@@ -114,7 +107,7 @@ impl fmt::Debug for ViewChange {
 }
 
 impl ViewChange {
-    /// The same change once more. Grants alone take memory.
+    /// A copy of the change. Of its parts only grants take memory.
     pub fn copy(&self) -> Result<ViewChange, AllocError>
         ensures { IfOk result (λ copy. copy ≡ self.now) }
     {

@@ -18,7 +18,7 @@ pub struct View {
     pub sessions: Connected,
 }
 
-// By hand, so that whoever lets one go has one call to prove.
+// Not derived: so the proof of a function that drops one has a single call there.
 impl Drop for View {
     fn drop(self) {
         let View {
@@ -36,7 +36,7 @@ impl View {
         made(tree, sessions.connected())
     }
 
-    /// The same view once more.
+    /// A copy of the view.
     pub fn copy(&self) -> Result<View, AllocError>
         ensures { IfOk result (λ copy. copy ≡ self.now) }
     {

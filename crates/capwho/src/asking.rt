@@ -21,7 +21,7 @@ pub struct Wanted<'a> {
     pub access: Access,
 }
 
-// By hand, so that whoever lets one go has one call to prove.
+// Not derived: so the proof of a function that drops one has a single call there.
 impl Drop for Wanted<'_> {
     fn drop(self) {
         let Wanted {

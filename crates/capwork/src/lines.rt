@@ -6,7 +6,7 @@ use capserver::{Event, Reply, Row, Stop};
 use std::alloc::{AllocError, Global};
 use std::io::Write;
 
-/// So often something is tried that finds no memory: more often than memory is refused in a row.
+/// How often something is tried that finds no memory: more often than memory is refused in a row.
 pub(crate) const TRIES: u32 = 16;
 
 /// What was answered, as far as who asked has to know it.

@@ -20,7 +20,8 @@ pub(crate) fn scan_grant(before: Option<Unread>, text: &[u8]) -> (Option<Unread>
     scan_items(before, behind_word(flags))
 }
 
-// The same of what stands behind the flags of a grant.
+// Of the items behind the flags of a grant, why Ceph 16 does not read them as they stand, if nothing was wrong before them, and what
+// follows the grant.
 fn scan_items(before: Option<Unread>, text: &[u8]) -> (Option<Unread>, &[u8])
     ensures told { (items : List Item) (tail : List ℕ) → HasItems text.now items tail → (result.0 ≡ option_or before (first_wrong None items)) × (result.1.now ≡ tail) }
     ensures within { length result.1.now ≤ length text.now }

@@ -21,7 +21,7 @@ pub struct Value {
     bytes: Arc<Vec<u8>, Global>,
 }
 
-// By hand, so that whoever lets one go has one call to prove.
+// Not derived: so the proof of a function that drops one has a single call there.
 impl Drop for Value {
     fn drop(self) {
         let Value { bytes: _ } = self;
@@ -46,7 +46,7 @@ impl Value {
         Ok(Value { bytes })
     }
 
-    // The same value once more. It takes no memory: the error is that of a count of owners which can't be reached.
+    // A copy of the value. It takes no memory: the error is that of a count of owners which can't be reached.
     fn again(&self) -> Result<Value, AllocError>
         ensures { IfOk result (λ value. value ≡ self.now) }
     {
@@ -68,7 +68,7 @@ pub struct Attributes {
     values: BTreeMap<Name, Value>,
 }
 
-// By hand, so that whoever lets one go has one call to prove.
+// Not derived: so the proof of a function that drops one has a single call there.
 impl Drop for Attributes {
     fn drop(self) {
         let Attributes { values: _ } = self;
@@ -117,7 +117,7 @@ impl Attributes {
         self.values.iter()
     }
 
-    /// The same attributes once more, with the same values, which take no memory of their own.
+    /// A copy of the attributes. It shares their values, which take no memory of their own.
     pub fn copy(&self, alloc: Global) -> Result<Attributes, AllocError>
         ensures { IfOk result (λ copy. copy ≡ self.now) }
     {

@@ -21,7 +21,7 @@ pub(crate) struct Heights {
     heights: Numbered<usize>,
 }
 
-// By hand, so that whoever lets one go has one call to prove.
+// Not derived: so the proof of a function that drops one has a single call there.
 impl Drop for Heights {
     fn drop(self) {
         let Heights { heights: _ } = self;
@@ -48,7 +48,7 @@ impl Heights {
         }
     }
 
-    // The same heights once more.
+    // A copy of the heights.
     pub(crate) fn copy(&self, alloc: Global) -> Result<Heights, AllocError>
         ensures { IfOk result (λ copy. copy ≡ self.now) }
     {

@@ -23,7 +23,7 @@ pub(crate) struct Slot {
     pub(crate) name: Name,
 }
 
-// By hand, so that whoever lets one go has one call to prove.
+// Not derived: so the proof of a function that drops one has a single call there.
 impl Drop for Slot {
     fn drop(self) {
         let Slot { dir: _, name: _ } = self;
@@ -31,7 +31,7 @@ impl Drop for Slot {
 }
 
 impl Slot {
-    // The same slot once more, which takes no memory.
+    // A copy of the slot, which takes no memory.
     pub(crate) fn copy(&self) -> Slot
         ensures { result ≡ self.now }
     {
@@ -47,7 +47,7 @@ pub(crate) struct Index {
     inodes: BTreeMap<Slot, u64>,
 }
 
-// By hand, so that whoever lets one go has one call to prove.
+// Not derived: so the proof of a function that drops one has a single call there.
 impl Drop for Index {
     fn drop(self) {
         let Index { inodes: _ } = self;
@@ -82,7 +82,7 @@ impl Index {
         self.inodes.iter()
     }
 
-    // The same names once more.
+    // A copy of the index, with all its names.
     pub(crate) fn copy(&self, alloc: Global) -> Result<Index, AllocError>
         ensures { IfOk result (λ copy. copy ≡ self.now) }
     {

@@ -15,7 +15,7 @@ pub struct InoSet {
     numbers: BTreeSet<u64>,
 }
 
-// By hand, so that whoever lets one go has one call to prove.
+// Not derived: so the proof of a function that drops one has a single call there.
 impl Drop for InoSet {
     fn drop(self) {
         let InoSet { numbers: _ } = self;

@@ -23,7 +23,7 @@ pub(crate) struct Inodes {
     nodes: Numbered<Node>,
 }
 
-// By hand, so that whoever lets one go has one call to prove.
+// Not derived: so the proof of a function that drops one has a single call there.
 impl Drop for Inodes {
     fn drop(self) {
         let Inodes { nodes: _ } = self;
@@ -50,7 +50,7 @@ impl Inodes {
         }
     }
 
-    // The same inodes once more.
+    // A copy of the inodes.
     pub(crate) fn copy(&self, alloc: Global) -> Result<Inodes, AllocError>
         ensures { IfOk result (λ copy. copy ≡ self.now) }
     {

@@ -15,7 +15,7 @@ pub struct Name {
     bytes: ArrayVec<u8, MAX_NAME>,
 }
 
-// By hand, so that whoever lets one go has one call to prove.
+// Not derived: so the proof of a function that drops one has a single call there.
 impl Drop for Name {
     fn drop(self) {
         let Name { bytes: _ } = self;
@@ -62,7 +62,7 @@ impl Name {
         }
     }
 
-    /// The same name once more, which takes no memory.
+    /// A copy of the name, which takes no memory.
     pub fn copy(&self) -> Name
         ensures { result ≡ self.now }
     {

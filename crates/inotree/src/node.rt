@@ -25,7 +25,6 @@ pub enum Site {
     Root,
     /// It has this name in this directory.
     Under {
-        /// The directory.
         dir: Ino,
         /// The name in it.
         name: Name,
@@ -34,7 +33,7 @@ pub enum Site {
     Stray,
 }
 
-// By hand, so that whoever lets one go has one call to prove.
+// Not derived: so the proof of a function that drops one has a single call there.
 impl Drop for Site {
     fn drop(self) {
         match self {
@@ -64,7 +63,7 @@ pub struct Node {
     pub snapshots: Snapshots,
 }
 
-// By hand, so that whoever lets one go has one call to prove.
+// Not derived: so the proof of a function that drops one has a single call there.
 impl Drop for Node {
     fn drop(self) {
         let Node {
@@ -80,7 +79,7 @@ impl Drop for Node {
 }
 
 impl Site {
-    // The same site once more, which takes no memory.
+    // A copy of the site, which takes no memory.
     pub(crate) fn copy(&self) -> Site
         ensures { result ≡ self.now }
     {
@@ -98,7 +97,7 @@ impl Site {
 impl Node {
     ghost use Rattle.inotree.specs.Inodes.{with_setting};
 
-    // The same node once more.
+    // A copy of the node.
     pub(crate) fn copy(&self, alloc: Global) -> Result<Node, AllocError>
         ensures { IfOk result (λ copy. copy ≡ self.now) }
     {

@@ -16,7 +16,7 @@ pub struct NonEmptyInoSet {
     others: InoSet,
 }
 
-// By hand, so that whoever lets one go has one call to prove.
+// Not derived: so the proof of a function that drops one has a single call there.
 impl Drop for NonEmptyInoSet {
     fn drop(self) {
         let NonEmptyInoSet { one: _, others: _ } = self;

@@ -20,7 +20,7 @@ pub struct Snapshots {
     names: BTreeSet<Name>,
 }
 
-// By hand, so that whoever lets one go has one call to prove.
+// Not derived: so the proof of a function that drops one has a single call there.
 impl Drop for Snapshots {
     fn drop(self) {
         let Snapshots { names: _ } = self;
@@ -70,7 +70,7 @@ impl Snapshots {
         self.names.iter()
     }
 
-    // The same names once more.
+    // A copy of the names of the snapshots.
     pub(crate) fn copy(&self, alloc: Global) -> Result<Snapshots, AllocError>
         ensures { IfOk result (λ copy. copy ≡ self.now) }
     {

@@ -67,7 +67,7 @@ impl fmt::Debug for Tree {
     }
 }
 
-// By hand, so that a caller which lets one go has one call to prove, and no step for each of its parts.
+// Not derived: so the proof of a function that drops one has a single call there, and no step for each part.
 impl Drop for Tree {
     fn drop(self) {
         let Tree {
@@ -105,7 +105,7 @@ impl Tree {
         })
     }
 
-    /// The same tree once more.
+    /// A copy of the tree.
     pub fn copy(&self) -> Result<Tree, AllocError>
         ensures { IfOk result (λ copy. copy ≡ self.now) }
     {

@@ -8,7 +8,7 @@ pub struct Cut<'c> {
     pub rest: &'c [u8],
 }
 
-// By hand, so that whoever lets one go has one call to prove.
+// Not derived: so the proof of a function that drops one has a single call there.
 impl Drop for Cut<'_> {
     fn drop(self) {
         let Cut { byte: _, rest: _ } = self;

@@ -18,7 +18,7 @@ pub struct RowCutter {
     item: Vec<u8>,
 }
 
-// By hand, so that whoever lets one go has one call to prove.
+// Not derived: so the proof of a function that drops one has a single call there.
 impl Drop for RowCutter {
     fn drop(self) {
         let RowCutter {

@@ -10,7 +10,7 @@ pub struct Bytes {
     bytes: Vec<u8>,
 }
 
-// By hand, so that whoever lets one go has one call to prove.
+// Not derived: so the proof of a function that drops one has a single call there.
 impl Drop for Bytes {
     fn drop(self) {
         let Bytes { bytes: _ } = self;

@@ -51,7 +51,7 @@ pub struct Locks {
     states: States,
     // The oldest first. It has room for as many as may wait, so that who is to wait needs no memory.
     queue: Vec<Request>,
-    // The same, by the locks that they wait for.
+    // The requests of the queue, by the locks that they wait for.
     waiters: Waiters,
     // The last number that a request was given.
     last: u64,
@@ -85,7 +85,7 @@ impl Model for Locks {
         × (1024 ≤ vec_capacity l.queue) × StandAlike l.waiters (each waiter_of l.queue.items) };
 }
 
-// By hand, so that a caller which lets one go has one call to prove, and no step for each of its parts.
+// Not derived: so the proof of a function that drops one has a single call there, and no step for each part.
 impl Drop for Locks {
     fn drop(self) {
         let Locks {
@@ -189,7 +189,8 @@ impl Locks {
         Ok(self.enqueue_tested(client, ino, operation))
     }
 
-    /// The same, where fewer wait than may.
+    /// Lets a client's operation wait behind all others, under the next number, which it answers, where fewer wait than may. It takes no
+    /// memory.
     pub fn enqueue_tested(&mut self, client: ClientId, ino: Ino, operation: Operation) -> Ticket
         requires room { first_failing (words.queue_tests self.old.locks) ≡ None }
         requires numbers { self.old.locks.last < 2 ^ 64 - 1 }

@@ -10,7 +10,6 @@ use locktable::StableState;
 pub enum Move {
     /// A stable lock gathers: it is on its way to another state.
     Begin {
-        /// The inode.
         ino: Ino,
         /// The part that the lock guards.
         part: Part,
@@ -19,7 +18,6 @@ pub enum Move {
     },
     /// A gather is over: the lock is stable in its target.
     End {
-        /// The inode.
         ino: Ino,
         /// The part that the lock guards.
         part: Part,
@@ -36,7 +34,7 @@ pub(crate) enum Sought {
     Everybody,
     // Those at the inode, where nobody elsewhere may be served.
     Here,
-    // Nor does one wait at the inode.
+    // Nobody waits at the inode, and nobody elsewhere may be served.
     Nobody,
 }
 

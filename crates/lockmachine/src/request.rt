@@ -17,7 +17,6 @@ pub enum Change {
     SetXattr {
         /// The attribute.
         name: Bytes,
-        /// Its value.
         value: Bytes,
     },
     /// An extended attribute less.
@@ -27,7 +26,7 @@ pub enum Change {
     },
 }
 
-// By hand, so that whoever lets one go has one call to prove.
+// Not derived: so the proof of a function that drops one has a single call there.
 impl Drop for Change {
     fn drop(self) {
         match self {
@@ -51,14 +50,13 @@ pub enum Operation {
     Rmdir,
     /// Move it into a directory, under a name.
     Rename {
-        /// The directory.
         dir: Ino,
         /// The name in it.
         name: Bytes,
     },
 }
 
-// By hand, so that whoever lets one go has one call to prove.
+// Not derived: so the proof of a function that drops one has a single call there.
 impl Drop for Operation {
     fn drop(self) {
         match self {
@@ -84,7 +82,7 @@ pub struct Request {
     pub operation: Operation,
 }
 
-// By hand, so that whoever lets one go has one call to prove.
+// Not derived: so the proof of a function that drops one has a single call there.
 impl Drop for Request {
     fn drop(self) {
         let Request {
@@ -97,7 +95,7 @@ impl Drop for Request {
 }
 
 impl Change {
-    /// The same change once more.
+    /// A copy of the change.
     pub fn copy(&self, alloc: Global) -> Result<Change, AllocError>
         ensures { IfOk result (λ copy. copy ≡ self.now) }
     {

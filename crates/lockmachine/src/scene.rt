@@ -18,7 +18,7 @@ pub struct KeptScene {
     pub locks: Locks,
 }
 
-// By hand, so that whoever lets one go has one call to prove.
+// Not derived: so the proof of a function that drops one has a single call there.
 impl Drop for KeptScene {
     fn drop(self) {
         let KeptScene {

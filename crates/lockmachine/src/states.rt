@@ -17,13 +17,13 @@ use std::marker::Model;
 /// The four locks of an inode, one for each part.
 #[derive(Clone, Copy, Debug, PartialEq, Eq)]
 pub struct InodeLocks {
-    /// Of its owner, group and mode.
+    /// The lock of the owner, the group and the mode.
     pub auth: LockState,
-    /// Of its link count.
+    /// The lock of the link count.
     pub link: LockState,
-    /// Of its extended attributes.
+    /// The lock of the extended attributes.
     pub xattr: LockState,
-    /// Of its data, with size and times.
+    /// The lock of the data, with size and times.
     pub file: LockState,
 }
 
@@ -100,7 +100,7 @@ pub(crate) struct States {
     rows: Numbered<LocksAt>,
 }
 
-// By hand, so that whoever lets one go has one call to prove.
+// Not derived: so the proof of a function that drops one has a single call there.
 impl Drop for States {
     fn drop(self) {
         let States { rows: _ } = self;

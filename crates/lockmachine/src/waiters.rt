@@ -72,7 +72,7 @@ pub(crate) struct Waiters {
     list: Vec<Waiter>,
 }
 
-// By hand, so that whoever lets one go has one call to prove.
+// Not derived: so the proof of a function that drops one has a single call there.
 impl Drop for Waiters {
     fn drop(self) {
         let Waiters { list: _ } = self;

@@ -37,7 +37,7 @@ pub fn wants_on(fs: &FsName, tree: &Tree, sessions: &Sessions, table: &CapTable,
     tally.wants()
 }
 
-// The same, by what is kept that each client is permitted, found in one walk.
+// What is wanted of an inode, by the permitted caps that are kept with each entry, found in one walk.
 pub(crate) fn wants_by_kept(policy: &Policy<'_>, table: &CapTable, ino: Ino) -> Wants
     ensures { ArePermittedOn table.now.kept policy.now.fs.now policy.now.tree.now policy.now.sessions.now table.now.entries ino.0
         → result ≡ words.in_all (words.wants_on policy.now.fs.now policy.now.tree.now policy.now.sessions.now table.now.entries ino) }
@@ -78,7 +78,7 @@ pub fn effective_want(fs: &FsName, tree: &Tree, sessions: &Sessions, row: EntryR
     want_of_permitted(sessions, row, permitted)
 }
 
-/// The same, where it is known what the client is permitted.
+/// What the entry's client wants and is permitted, if its session is open, where it is known what the client is permitted.
 pub fn want_of_permitted(sessions: &Sessions, row: EntryRow, permitted: CapSet) -> CapSet
     ensures { result ≡ words.want_of_permitted sessions.now permitted row }
 {
@@ -181,7 +181,7 @@ impl Tally {
         }
     }
 
-    // The same with one client more, which wants this.
+    // The tally with one client more, which wants this.
     fn and(self, client: ClientId, want: CapSet) -> Tally
         ensures { (rest : List words.Want) → words.in_all_with result rest ≡ words.in_all_with self ((client, want) ∷ rest) }
     {

@@ -22,7 +22,7 @@ pub struct Numbered<T> {
     guesses: Guesses,
 }
 
-// By hand, so that whoever lets one go has one call to prove.
+// Not derived: so the proof of a function that drops one has a single call there.
 impl<T: Drop> Drop for Numbered<T> {
     fn drop(self) {
         let Numbered {

@@ -35,7 +35,7 @@ pub(crate) fn place_of<T>(
     None
 }
 
-// The same, where the row may stand at the place that is guessed, and need not be searched for then.
+// The place of the row with this number, if there is one. Where the guessed place is the row's, nothing is searched.
 pub(crate) fn place_near<T>(
     places: &BTreeMap<u64, usize>,
     rows: &[Row<T>],

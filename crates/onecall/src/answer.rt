@@ -14,7 +14,7 @@ pub struct Answer {
     pub fresh: bool,
 }
 
-// By hand, so that whoever lets one go has one call to prove.
+// Not derived: so the proof of a function that drops one has a single call there.
 impl Drop for Answer {
     fn drop(self) {
         let Answer { reply: _, fresh: _ } = self;

@@ -8,13 +8,13 @@ use capbits::Part;
 /// them. Of a lock that is stable it says nothing.
 #[derive(Clone, Copy, Debug)]
 pub struct Counts {
-    /// Of its owner, group and mode.
+    /// The gather of the owner, the group and the mode.
     pub auth: u32,
-    /// Of its link count.
+    /// The gather of the link count.
     pub link: u32,
-    /// Of its extended attributes.
+    /// The gather of the extended attributes.
     pub xattr: u32,
-    /// Of its data, with size and times.
+    /// The gather of the data, with size and times.
     pub file: u32,
 }
 

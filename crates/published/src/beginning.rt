@@ -100,7 +100,7 @@ pub struct Counted {
 }
 
 impl Counted {
-    /// The same rows once more.
+    /// A copy of these rows with their count.
     pub fn again(&self) -> Counted
         ensures { result ≡ self.now }
     {
@@ -118,7 +118,7 @@ pub struct Beginning<L: Server> {
     of: PhantomData<L>,
 }
 
-// By hand, so that whoever lets one go has one call to prove.
+// Not derived: so the proof of a function that drops one has a single call there.
 impl<L: Server> Drop for Beginning<L> {
     fn drop(self) {
         let Beginning {

@@ -25,7 +25,7 @@ pub struct Origin {
     pub rows: Rows,
 }
 
-// By hand, so that whoever lets one go has one call to prove.
+// Not derived: so the proof of a function that drops one has a single call there.
 impl Drop for Origin {
     fn drop(self) {
         let Origin {
@@ -50,7 +50,7 @@ impl Origin {
         }
     }
 
-    // The same once more.
+    // A copy of the origin.
     pub(crate) fn again(&self) -> Origin
         ensures { result ≡ self.now }
     {

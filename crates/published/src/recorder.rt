@@ -23,7 +23,7 @@ pub struct NewRows {
     pub ghost pen_is: { pen.nib ≡ next_of [] },
 }
 
-// By hand, so that whoever lets one go has one call to prove.
+// Not derived: so the proof of a function that drops one has a single call there.
 impl Drop for NewRows {
     fn drop(self) {
         let NewRows {
@@ -72,7 +72,7 @@ pub struct Recorder<L: Server> {
     rows: Beginning<L>,
 }
 
-// By hand, so that whoever lets one go has one call to prove.
+// Not derived: so the proof of a function that drops one has a single call there.
 impl<L: Server> Drop for Recorder<L> {
     fn drop(self) {
         let Recorder {

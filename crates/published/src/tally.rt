@@ -65,7 +65,7 @@ pub struct NewTally {
     pub ghost head_is: { head ≡ head_of seen.book },
 }
 
-// By hand, so that whoever lets one go has one call to prove.
+// Not derived: so the proof of a function that drops one has a single call there.
 impl Drop for NewTally {
     fn drop(self) {
         let NewTally { head: _, seen: _ } = self;
@@ -107,7 +107,7 @@ pub struct Tally<L: Server> {
     of: PhantomData<L>,
 }
 
-// By hand, so that whoever lets one go has one call to prove.
+// Not derived: so the proof of a function that drops one has a single call there.
 impl<L: Server> Drop for Tally<L> {
     fn drop(self) {
         let Tally {
@@ -129,7 +129,7 @@ impl<L: Server> Model for Tally<L> {
 }
 
 impl<L: Server> Tally<L> {
-    /// The same once more.
+    /// A copy of the tally.
     pub fn again(&self) -> Tally<L>
         ensures { result ≡ self.now }
     {

@@ -14,13 +14,12 @@ use std::alloc::AllocError;
 pub struct Published {
     /// The beginning of the history.
     pub rows: Counted,
-    /// The view.
     pub view: View,
     /// Of which server it is, which never changes.
     pub origin: Origin,
 }
 
-// By hand, so that whoever lets one go has one call to prove.
+// Not derived: so the proof of a function that drops one has a single call there.
 impl Drop for Published {
     fn drop(self) {
         let Published {
@@ -55,7 +54,7 @@ impl Published {
         Ok(Published { rows, view, origin })
     }
 
-    // The same value once more.
+    // A copy of the value.
     pub(crate) fn copy(&self) -> Result<Published, AllocError>
         ensures { IfOk result (λ copy. copy ≡ self.now) }
     {
@@ -76,7 +75,7 @@ pub enum Stage {
     Whole(Box<View>),
 }
 
-// By hand, so that whoever lets one go has one call to prove.
+// Not derived: so the proof of a function that drops one has a single call there.
 impl Drop for Stage {
     fn drop(self) {
         match self {

@@ -15,7 +15,7 @@ pub(crate) struct Blocklist {
     clients: BTreeSet<u32>,
 }
 
-// By hand, so that whoever lets one go has one call to prove.
+// Not derived: so the proof of a function that drops one has a single call there.
 impl Drop for Blocklist {
     fn drop(self) {
         let Blocklist { clients: _ } = self;

@@ -20,7 +20,7 @@ pub struct Connected {
     alloc: Global,
 }
 
-// By hand, so that whoever lets one go has one call to prove.
+// Not derived: so the proof of a function that drops one has a single call there.
 impl Drop for Connected {
     fn drop(self) {
         let Connected {
@@ -51,7 +51,7 @@ impl Connected {
         }
     }
 
-    /// The same sessions once more.
+    /// A copy of the sessions.
     pub fn copy(&self) -> Result<Connected, AllocError>
         ensures { IfOk result (λ copy. copy ≡ self.now) }
     {

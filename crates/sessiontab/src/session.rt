@@ -42,7 +42,7 @@ pub struct Session {
     pub grants: KeptGrants,
 }
 
-// By hand, so that whoever lets one go has one call to prove.
+// Not derived: so the proof of a function that drops one has a single call there.
 impl Drop for Session {
     fn drop(self) {
         let Session {
@@ -54,7 +54,7 @@ impl Drop for Session {
 }
 
 impl Session {
-    // The same session once more.
+    // A copy of the session.
     pub(crate) fn copy(&self) -> Result<Session, AllocError>
         ensures { IfOk result (λ copy. copy ≡ self.now) }
     {

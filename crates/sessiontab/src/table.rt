@@ -41,7 +41,7 @@ impl Model for Sessions {
     ghost invariant = { λ s. IsSound (record { sessions = s.connected; blocked = s.blocklist }) };
 }
 
-// By hand, so that a caller which lets one go has one call to prove, and no step for each of its parts.
+// Not derived: so the proof of a function that drops one has a single call there, and no step for each part.
 impl Drop for Sessions {
     fn drop(self) {
         let Sessions {

@@ -8,17 +8,15 @@ use std::alloc::Global;
 
 /// A talk: its name, the number of the line that names it, and its runs, those of the talk by which it begins first.
 pub struct Talk<'a> {
-    /// Its name.
     pub name: &'a [u8],
     /// The number of the line that names it.
     pub line: usize,
-    /// Its runs.
     pub runs: Vec<Run>,
     // Whether something is asked in this talk itself.
     asks: bool,
 }
 
-// By hand, so that whoever lets one go has one call to prove.
+// Not derived: so the proof of a function that drops one has a single call there.
 impl Drop for Talk<'_> {
     fn drop(self) {
         let Talk {

@@ -76,7 +76,7 @@ pub enum Stop {
     NoMemory,
 }
 
-// By hand, so that whoever lets one go has one call to prove.
+// Not derived: so the proof of a function that drops one has a single call there.
 impl Drop for Stop {
     fn drop(self) {
         match self {

@@ -24,11 +24,10 @@ pub struct Outcome {
     pub written: Vec<u8>,
     /// What it says of faults.
     pub complaints: Vec<u8>,
-    /// Its status.
     pub status: u8,
 }
 
-// By hand, so that whoever lets one go has one call to prove.
+// Not derived: so the proof of a function that drops one has a single call there.
 impl Drop for Outcome {
     fn drop(self) {
         let Outcome {
@@ -62,7 +61,6 @@ impl Outcome {
 /// A run of a program: its words, what it reads, what its streams take, and its outcome as the talk has it.
 #[derive(Clone)]
 pub struct Run {
-    /// The program.
     pub program: Program,
     /// The words behind the program's name.
     pub words: Vec<Vec<u8>>,
@@ -74,7 +72,7 @@ pub struct Run {
     pub wanted: Outcome,
 }
 
-// By hand, so that whoever lets one go has one call to prove.
+// Not derived: so the proof of a function that drops one has a single call there.
 impl Drop for Run {
     fn drop(self) {
         let Run {

@@ -22,7 +22,7 @@ pub enum Turn {
 /// In short what it shows, and what is done, with what comes of each turn.
 pub type Case = (&'static str, &'static [(Turn, &'static str)]);
 
-// So often an event is called that finds no memory.
+// How often an event is called that finds no memory.
 const TRIES: u32 = 3;
 
 // What came of a call: `fresh`, or why it isn't.

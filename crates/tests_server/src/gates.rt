@@ -11,14 +11,14 @@ use std::sync::atomic::{AtomicU64, Ordering};
 use std::sync::{Arc, Wait};
 use std::thread::{Threads, yield_now};
 
-// So often a call gives way to the others.
+// How often a call gives way to the others.
 const TURNS: u32 = 16;
 
-// So often it looks round in between, so that twenty calls take longer than a thread takes to start while others run.
+// How often it looks round in between, so that twenty calls take longer than a thread takes to start while others run.
 const LOOKS: u32 = 200_000;
 
-// So often the script is served. A busy machine may start a thread when the other has made its calls: then it is served once more. Where
-// one thread waits for the other to end, that is so each time.
+// How often the script is served. A busy machine may start a thread when the other has made its calls: then the script is served once
+// more. Where one thread waits for the other to end, that happens each time.
 const TRIES: u32 = 200;
 
 // What calls see of each other.

@@ -10,7 +10,7 @@ use std::sync::atomic::{AtomicU64, Ordering};
 use std::sync::{Arc, Wait};
 use std::thread::{Threads, join, yield_now};
 
-// So often a thread yields while it waits for another one.
+// How often a thread yields while it waits for another one.
 const TURNS: u64 = 1_000_000;
 
 /// What the threads of the test tell each other, each word by a 1.

@@ -23,7 +23,7 @@ pub struct Witness<L: Server> {
     place: Option<PublishedReader>,
 }
 
-// By hand, so that whoever lets one go has one call to prove.
+// Not derived: so the proof of a function that drops one has a single call there.
 impl<L: Server> Drop for Witness<L> {
     fn drop(self) {
         let Witness { known: _, place: _ } = self;
