@@ -1,4 +1,4 @@
-/* Asks two texts of grants the same questions, for tools/compared. It reads lines, and answers each of the last two kinds by a line:
+/* Asks two texts of grants the same questions, for tests/compared. It reads lines, and answers each of the last two kinds by a line:
  *
  *   P OLD <tab> NEW                                 the two texts, up to the next such line
  *   Q FS ACCESS NUMBER UID GID GROUPS OWNER GROUP MODE PATH

@@ -1,4 +1,4 @@
-"""Reads grant texts and lines of scripts by the rules of docs/GRANTS.md and docs/SCRIPTS.md, for tools/cut_short.
+"""Reads grant texts and lines of scripts by the rules of docs/GRANTS.md and docs/SCRIPTS.md, for tests/cut_short.
 
 It says of a text which fault it has first, or that it has none, and how the grants and events of one that has none are written.
 """

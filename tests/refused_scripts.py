@@ -1,4 +1,4 @@
-"""The scripts of tools/refused, with what is answered to each line. tools/cut_short cuts them short.
+"""The scripts of tests/refused, with what is answered to each line. tests/cut_short cuts them short.
 
 In the texts below an answer stands behind ` => `, with ` / ` between its lines. Behind the first of them stands what the row of the history
 says too: the requests of earlier lines that the event ended. Clients 1 and 2 may do all, 3 all below one directory alone, and the grant
