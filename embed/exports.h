@@ -1,4 +1,4 @@
-/* The calls that crates/capffi exports, as C sees them. tools/embed compares each with its source. A pointer here may not be
+/* The calls that crates/capffi exports, as C sees them. tools/dev c-library compares each with its source. A pointer here may not be
  * NULL, also where the length behind it is 0, and a length stays below 2 to the 63rd: baybowl.c sees to both. */
 #ifndef BAYBOWL_EXPORTS_H
 #define BAYBOWL_EXPORTS_H

@@ -1,4 +1,4 @@
-"""The programs and the library that these tests ask, as `rt ci` and `tools/embed` leave them, and how a test reads its words."""
+"""The programs and the library that these tests ask, as `rt ci` and `tools/dev c-library` leave them, and how a test reads its words."""
 
 import argparse
 import sys
@@ -8,7 +8,7 @@ ROOT = Path(__file__).resolve().parent.parent
 CAPD = ROOT / "crates" / "capd" / "out" / "capd"
 CAPBENCH = ROOT / "crates" / "capbench" / "out" / "capbench"
 LIBRARY = ROOT / "out" / "embed" / "libbaybowl.a"
-MADE_BY = {CAPD: "rt ci", CAPBENCH: "rt ci", LIBRARY: "tools/embed"}
+MADE_BY = {CAPD: "rt ci", CAPBENCH: "rt ci", LIBRARY: "tools/dev c-library"}
 
 
 def parser(doc):

@@ -1,4 +1,4 @@
-//! The grants of a session: read once where it opens, asked by the threads that serve it. Plain rustc; tools/embed builds it.
+//! The grants of a session: read once where it opens, asked by the threads that serve it. Plain rustc; tools/dev c-library builds it.
 
 use std::ffi::{c_char, c_void, CStr};
 use std::fmt;

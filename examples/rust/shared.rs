@@ -1,5 +1,5 @@
 //! Two clients and one file, by the table of the locks: who may hold what while one writes, where the lock is to go when another
-//! wants to read, and what either may hold on the way. Plain rustc; tools/embed builds it.
+//! wants to read, and what either may hold on the way. Plain rustc; tools/dev c-library builds it.
 
 use std::ffi::{c_char, CStr};
 use std::ptr;

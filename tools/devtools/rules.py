@@ -1,18 +1,15 @@
-#!/usr/bin/env python3
 """Prints the rules: the definitions that docs/READING_LIST.md names, each with what its file says of it.
 
-    tools/rules                  all of them, section by section
-    tools/rules settling apart   those of which the section, the file or the name has one of the words
-    tools/rules --check          whether each stands in its file, and the status is 1 where one does not
+It prints all of them, section by section, or those of which the section, the file or the name has one of the words; where there are
+none of these, the status is 1. With `--check` it prints none, and says whether each stands in its file; the status is 1 where one does not.
 
 What a file says of a definition are the `--` lines above it, or else those that it begins with, or the first one of the file.
 """
 
 import re
-import sys
-from pathlib import Path
 
-ROOT = Path(__file__).resolve().parent.parent
+from .workspace import CRATES, ROOT
+
 PAGE = ROOT / "docs" / "READING_LIST.md"
 DEFINED = re.compile(r"(?:(?:abbrev|unfoldable|pub|record|data) )+([^\s:]+)")
 ROW = re.compile(r"- `(\w+)/(\w+)`: (.*)$")
@@ -49,16 +46,21 @@ def named():
 
 def said_in(file):
     crate, name = file.split("/")
-    path = ROOT / "crates" / crate / "specs" / f"{name}.antt"
+    path = CRATES / crate / "specs" / f"{name}.antt"
     return dict(definitions(path)) if path.exists() else {}
 
 
-def main():
-    words = [word.lower() for word in sys.argv[1:]]
+def arguments(parser):
+    parser.add_argument("words", nargs="*", metavar="WORD", help="a name, a file, or a part of a section's title")
+    parser.add_argument("--check", action="store_true", help="whether each definition stands in its file")
+
+
+def main(given):
+    words = [word.lower() for word in given.words]
     rules = list(named())
     said = {file: said_in(file) for _, file, _ in rules}
     missing = [f"{file} {name}" for _, file, name in rules if name not in said[file]]
-    if words == ["--check"]:
+    if given.check:
         print(*missing, f"rules: {len(rules)} definitions, {len(missing)} not in their file", sep="\n")
         return 1 if missing else 0
     shown = ""
@@ -72,6 +74,3 @@ def main():
     if not shown:
         print("rules: no section, file or name has one of these words")
     return 0 if shown else 1
-
-
-sys.exit(main())

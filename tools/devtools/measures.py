@@ -1,8 +1,4 @@
-#!/usr/bin/env python3
 """Prints how large the house is: what of the sources and pages is to become smaller, or to stay small, each beside its bound.
-
-    tools/house              one table, from the sources of this checkout
-    tools/house --names      and behind it what each number counts, by name
 
 The status is 0, also where a bound is not met: this tells, and decides nothing. It reads the sources as `rt fmt` lays them out. The
 core's crates are capevents, capnotes, caprules, capacts, capsteps and capcore. A page is README.md and each other .md of the root, of
@@ -10,11 +6,10 @@ docs/ and of a crate.
 """
 
 import re
-import sys
 from collections import Counter
-from pathlib import Path
 
-ROOT = Path(__file__).resolve().parent.parent
+from .workspace import CRATES, ROOT
+
 CORE = ["capevents", "capnotes", "caprules", "capacts", "capsteps", "capcore"]
 # The crates whose functions are to have few parameters.
 NARROW = ["capcore", "capsteps", "capacts", "lockmachine"]
@@ -30,11 +25,11 @@ VARIANTS = re.compile(r"^use [\w.]*\.declared\.event\.Event\.TheVariants as (\w+
 def files(crates, folder, suffixes=(".rt", ".antt")):
     """The sources in a folder of each of the crates."""
     for crate in crates:
-        yield from sorted(path for path in (ROOT / "crates" / crate / folder).glob("**/*") if path.suffix in suffixes)
+        yield from sorted(path for path in (CRATES / crate / folder).glob("**/*") if path.suffix in suffixes)
 
 
 def all_crates():
-    return sorted(path.name for path in (ROOT / "crates").iterdir() if path.is_dir())
+    return sorted(path.name for path in CRATES.iterdir() if path.is_dir())
 
 
 def lines_of(path):
@@ -98,7 +93,7 @@ def looks():
 
 def variants():
     """The names of the variants of Event."""
-    source = (ROOT / "crates/capevents/src/event.rt").read_text(encoding="utf-8")
+    source = (CRATES / "capevents/src/event.rt").read_text(encoding="utf-8")
     body = re.search(r"pub enum Event \{\n(.*?)\n\}", source, re.DOTALL)[1]
     return set(re.findall(r"^    (\w+) \{", body, re.MULTILINE))
 
@@ -120,7 +115,7 @@ def event_tables(folder):
 
 
 def pages():
-    return [*sorted(ROOT.glob("*.md")), *sorted((ROOT / "docs").glob("*.md")), *sorted(ROOT.glob("crates/*/*.md"))]
+    return [*sorted(ROOT.glob("*.md")), *sorted((ROOT / "docs").glob("*.md")), *sorted(CRATES.glob("*/*.md"))]
 
 
 def words(path):
@@ -156,18 +151,17 @@ def measures():
     yield "words of all pages", sum(sizes.values()), "at most 40,000", [f"{name} {count:,}" for name, count in sizes.most_common()]
 
 
-def main():
-    if sys.argv[1:] not in ([], ["--names"]):
-        sys.exit("tools/house: only --names is known")
+def arguments(parser):
+    parser.add_argument("--names", action="store_true", help="print behind the table what each number counts, by name")
+
+
+def main(given):
     table = list(measures())
     width = max(len(what) for what, *_ in table)
     for what, number, bound, _ in table:
         print(f"{what:<{width}}  {number:>7,}  {bound}".rstrip())
-    if sys.argv[1:]:
+    if given.names:
         for what, _, _, named in table:
             if named:
                 print(f"\n{what}:", *named, sep="\n    ")
     return 0
-
-
-sys.exit(main())

@@ -7,7 +7,6 @@ that the header has and the source lacks, the words of rules and faults) is comp
 
 import re
 from dataclasses import dataclass
-from pathlib import Path
 
 SIZES = {"u8": (1, "uint8_t"), "u32": (4, "uint32_t"), "u64": (8, "uint64_t")}
 # What baybowl.c answers by itself, with no call of the library.

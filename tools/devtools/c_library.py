@@ -1,32 +1,23 @@
-#!/usr/bin/env python3
 """Builds the library for C, C++ and Rust with its examples, runs these and the tests, and ends in `N passed, M failed`.
 
-    tools/embed                      proves and builds crates/capffi first, by rt; random questions where capd is built
-    tools/embed --questions 50000    asks so many, of examples/c/explain by a block, by the text and by a mask, and of `capd explain`; builds capd first if need be
-    tools/embed --seed WORD          other questions
-    tools/embed --after-ci           takes the libraries and the program that `rt ci` left in crates/*/out, as .ci/run does
+It proves and builds crates/capffi first, by rt. Where capd is built, it asks both it and examples/c/explain questions at random: that
+example by a block, by the text and by a mask.
 
 What it builds lies in out/embed: libbaybowl.a, to which include/baybowl.h belongs, and the examples. gcc, g++ and Python are needed;
 clang and rustc are used where they are there, and it is said where they are not.
 """
 
-import argparse
-import os
 import shutil
 import subprocess
 import sys
 from pathlib import Path
 
-sys.dont_write_bytecode = True
-ROOT = Path(__file__).resolve().parent.parent
-sys.path.insert(0, str(ROOT / "embed"))
+from . import c_header as header
+from . import c_questions as questions
+from .workspace import CAPD, CRATES, LIBRARY, ROOT, needs
+from .workspace import EMBED as OUT
 
-import header
-import questions
-
-OUT = ROOT / "out" / "embed"
-CAPD = ROOT / "crates" / "capd" / "out" / "capd"
-CAPFFI = ROOT / "crates" / "capffi" / "out" / "libcapffi.a"
+CAPFFI = CRATES / "capffi" / "out" / "libcapffi.a"
 STRICT = ["-Wall", "-Wextra", "-Werror", "-pedantic"]
 INCLUDES = [f"-I{ROOT}/include", f"-I{ROOT}/embed", f"-I{ROOT}/embed/tests"]
 COMPILERS = {
@@ -73,22 +64,13 @@ def must(words, **how):
     """Runs what all else stands on."""
     status, out, err = run(words, **how)
     if status != 0:
-        sys.exit(f"{(out + err).decode(errors='replace')}\ntools/embed: {' '.join(str(it) for it in words)} failed\n{passed} passed, {failed + 1} failed")
+        said, asked = (out + err).decode(errors="replace"), " ".join(str(it) for it in words)
+        sys.exit(f"{said}\ntools/dev c-library: {asked} failed\n{passed} passed, {failed + 1} failed")
     return out
 
 
 def kit():
     return Path(must(["rt", "doc"]).decode().strip()).parent
-
-
-def needs():
-    """What each crate of crates.txt stands on."""
-    found = {}
-    for line in (ROOT / "crates.txt").read_text(encoding="utf-8").splitlines():
-        name, has_needs, rest = line.split("#")[0].partition(":")
-        if has_needs:
-            found[name.split()[0]] = rest.split()
-    return found
 
 
 def build_after_ci():
@@ -101,12 +83,12 @@ def build_after_ci():
         words += ["--extern", f"{name}={at}/rlibs/{name}.rlib"]
     words += ["-L", f"dependency={at}/rlibs"]
     for name in own:
-        rlib = ROOT / "crates" / name / "out" / "rlib" / f"{name}.rlib"
+        rlib = CRATES / name / "out" / "rlib" / f"{name}.rlib"
         words += ["--extern", f"{name}={rlib}", "-L", f"dependency={rlib.parent}"]
     words += ["--antt-project", at / "rattle" / "logic" / "antt-project.json", "--logic-built", at / "logic_built", "--jobs", "2"]
     words += ["--links", "capffi=", "--crate-type", "staticlib", "--toolchain", at / "toolchain", "--backend", "llvm"]
     CAPFFI.parent.mkdir(exist_ok=True)
-    must([*words, "-o", CAPFFI], cwd=ROOT / "crates" / "capffi")
+    must([*words, "-o", CAPFFI], cwd=CRATES / "capffi")
 
 
 def build_library(is_after_ci):
@@ -115,10 +97,10 @@ def build_library(is_after_ci):
         build_after_ci()
     else:
         begun("proving and building crates/capffi and what it stands on, which takes some minutes")
-        must(["rt", "lib"], cwd=ROOT / "crates" / "capffi")
+        must(["rt", "lib"], cwd=CRATES / "capffi")
     shutil.rmtree(OUT, ignore_errors=True)
     OUT.mkdir(parents=True)
-    return archive("libbaybowl.a", ["-O2", "-fPIC"])
+    return archive(LIBRARY.name, ["-O2", "-fPIC"])
 
 
 def archive(name, flags):
@@ -155,7 +137,7 @@ def check_header():
 def check_words():
     """The words that the library has are those of the source."""
     source = ROOT / "embed" / "tests" / "words.c"
-    status, out, err = build_c("words", [source], OUT / "libbaybowl.a")
+    status, out, err = build_c("words", [source], LIBRARY)
     wanted = [*header.rule_words(ROOT), *header.fault_words(ROOT)]
     said = run([OUT / "words"])[1].decode().split("\n")[:-1] if status == 0 else []
     told("words of rules and faults", said == wanted, (out + err).decode(errors="replace"))
@@ -250,7 +232,7 @@ def has_capd(args):
     """Whether there is a program to compare with. `rt ci` leaves it; else it is built where questions are asked for by number."""
     if not CAPD.exists() and args.questions is not None and not args.after_ci:
         begun("proving and building crates/capd, which takes half an hour or so")
-        must(["rt", "run", "--", "grants", "allow r"], cwd=ROOT / "crates" / "capd")
+        must(["rt", "run", "--", "grants", "allow r"], cwd=CRATES / "capd")
     if CAPD.exists():
         return True
     if args.after_ci:
@@ -264,16 +246,18 @@ def check_questions(count, seed, explain, how=""):
     begun(f"{count} questions{how}")
     kinds, differing = questions.ask(count, seed, str(explain), str(CAPD))
     answered = kinds["allowed"] > 0 and kinds["denied"] > 0 and kinds["status 1"] > 0
-    told(f"{count} questions{how}, by block, by text and by mask, byte for byte as capd explain", answered and not differing, f"{len(differing)} differ, the first {differing[:1]}")
+    what = f"{count} questions{how}, by block, by text and by mask, byte for byte as capd explain"
+    told(what, answered and not differing, f"{len(differing)} differ, the first {differing[:1]}")
     print(f"    {dict(sorted(kinds.items()))}")
 
 
-def main():
-    parser = argparse.ArgumentParser(description=__doc__, formatter_class=argparse.RawDescriptionHelpFormatter)
-    parser.add_argument("--questions", type=int)
-    parser.add_argument("--seed", default="baybowl")
-    parser.add_argument("--after-ci", action="store_true")
-    args = parser.parse_args()
+def arguments(parser):
+    parser.add_argument("--questions", type=int, metavar="N", help="ask so many questions (default: 2000), and build capd first if need be")
+    parser.add_argument("--seed", default="baybowl", metavar="WORD", help="ask other questions")
+    parser.add_argument("--after-ci", action="store_true", help="take the libraries and the program that `rt ci` left in crates/*/out")
+
+
+def main(args):
     library = build_library(args.after_ci)
     check_header()
     check_names(library)
@@ -285,8 +269,4 @@ def main():
     if is_compared:
         check_questions(args.questions or 2000, args.seed, OUT / "explain")
     print(f"{passed} passed, {failed} failed")
-    sys.exit(failed != 0)
-
-
-if __name__ == "__main__":
-    main()
+    return 1 if failed else 0

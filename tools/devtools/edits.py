@@ -1,12 +1,8 @@
-#!/usr/bin/env python3
 """Tells whether each wrong edit, of must-fail/ and of wrong/, can be made: each text that it replaces stands in its file exactly once
-when its turn comes. It asks no prover (`tools/wrong` does), so it takes a second. The status is 0 where all can be made.
+when its turn comes. It asks no prover (`tools/dev try-edits` does), so it takes a second. The status is 0 where all can be made.
 """
 
-import sys
-from pathlib import Path
-
-ROOT = Path(__file__).resolve().parent.parent
+from .workspace import ROOT
 
 
 def faults(edit):
@@ -34,13 +30,14 @@ def faults(edit):
         yield "a text without another in its place"
 
 
-def main():
+def arguments(_parser):
+    """It takes none."""
+
+
+def main(_given):
     edits = sorted(path for folder in ("must-fail", "wrong") for path in ROOT.glob(f"crates/*/{folder}/*.edit"))
     found = [(edit.relative_to(ROOT), fault) for edit in edits for fault in faults(edit)]
     for edit, fault in found:
         print(f"{edit}: {fault}")
     print(f"edits: {len(edits)}, {len(found)} that can't be made")
     return 1 if found else 0
-
-
-sys.exit(main())

@@ -1,25 +1,23 @@
-#!/usr/bin/env python3
 """Prints which functions of this repository run from `Core::apply` to its reply: for an opening of a file that another client has open,
 and for a rename of a directory whose files two clients have open.
 
-    tools/walk               builds capd anew, unproved and with nothing inlined, and walks
-    tools/walk PROGRAM       walks with the program that an earlier run left there, or builds it to there
-    tools/walk PROGRAM -v    and lists the functions of each crate, each with how often it runs
+It builds capd anew, unproved and with nothing inlined, and runs it under callgrind. Where PROGRAM is given, that is the program which an
+earlier run left there, or it is built to there.
 
 Each name counts once, whatever types it is made for. Left out are the kit's functions, closures, what derives write, what lets a value
-go, and getters: those whose body is one field. The status is 0: this tells, and decides nothing. It needs valgrind and cc.
+go, and getters: those whose body is one field. The status is 0: this tells, and decides nothing. It needs `rt`, valgrind
+and cc.
 """
 
 import os
 import re
 import subprocess
-import sys
 import tempfile
 from collections import Counter, defaultdict
 from pathlib import Path
 
-ROOT = Path(__file__).resolve().parent.parent
-CRATES = ROOT / "crates"
+from .workspace import CRATES
+
 APPLY = "capcore::step::Core::apply"
 # The crates that make the step; those below each know one thing.
 CORE = ["capcore", "capsteps", "capacts", "caprules", "capnotes", "capevents"]
@@ -43,7 +41,7 @@ FUNCTION = re.compile(r" *(?:pub(?:\([a-z]+\))? )?fn (\w+)")
 def build(program):
     """Builds capd as rt try does, but for its last step: from the module that would be optimized there."""
     kit = Path(os.path.realpath(subprocess.run(["which", "rt"], capture_output=True, text=True).stdout.strip() or "/opt/rattle/bin/rt")).parent.parent
-    with tempfile.TemporaryDirectory(prefix="walk-") as room:
+    with tempfile.TemporaryDirectory(prefix="call-tree-") as room:
         # A kit of links, whose clang hands the module out.
         for folder in ("", "bin", "toolchain", "toolchain/bin"):
             (Path(room) / "kit" / folder).mkdir(exist_ok=True, parents=True)
@@ -71,7 +69,7 @@ exec {kit}/toolchain/bin/clang "$@"
 
 def calls(program, lines):
     """How often each function calls each other one below `apply`."""
-    with tempfile.TemporaryDirectory(prefix="walk-") as room:
+    with tempfile.TemporaryDirectory(prefix="call-tree-") as room:
         words = ["valgrind", "--tool=callgrind", f"--callgrind-out-file={room}/out", f"--toggle-collect={APPLY}", program, "run"]
         subprocess.run(words, input="\n".join(lines).encode(), capture_output=True, check=True)
         names, found, caller, callee = {}, Counter(), None, None
@@ -121,10 +119,14 @@ def own(runs):
     return found
 
 
-def main():
-    words = [word for word in sys.argv[1:] if word != "-v"]
-    with tempfile.TemporaryDirectory(prefix="walk-") as room:
-        program = os.path.abspath(words[0]) if words else f"{room}/capd"
+def arguments(parser):
+    parser.add_argument("program", nargs="?", metavar="PROGRAM", help="capd, unproved and with nothing inlined: taken from there, or built to there")
+    parser.add_argument("-v", "--verbose", action="store_true", help="list the functions of each crate, each with how often it runs")
+
+
+def main(given):
+    with tempfile.TemporaryDirectory(prefix="call-tree-") as room:
+        program = os.path.abspath(given.program) if given.program else f"{room}/capd"
         if not os.path.exists(program):
             build(program)
         for step, script in STEPS.items():
@@ -135,8 +137,4 @@ def main():
             for what, names in ASKED.items():
                 print(f"    {what}: {sum(runs[name] for name in names)}")
             for crate in [*CORE, *sorted(set(found) - set(CORE))]:
-                print(f"    {crate}: {len(found[crate])}" + "".join(f"\n        {n} {name}" for name, n in sorted(found[crate].items()) if "-v" in sys.argv))
-
-
-if __name__ == "__main__":
-    main()
+                print(f"    {crate}: {len(found[crate])}" + "".join(f"\n        {n} {name}" for name, n in sorted(found[crate].items()) if given.verbose))

@@ -1,11 +1,8 @@
-#!/usr/bin/env python3
 """Lists the public calls of the crates that no program and no test comes to.
 
-    tools/called             the status is 1 where there is one that tools/called.txt does not except
-    tools/called --list      prints each public call, and whether it is called
-    tools/called --without NAME ..   as if the functions of these names were not there: what they alone call is told
-
-That is how it is tried: `--without an_event_has_one_line` tells `capexplain event_line`, which that test alone calls.
+The status is 1 where there is one that tools/public_calls.txt does not except, or where that file excepts one which is called.
+`--without NAME ..` reads the sources as if the functions of these names were not there, so it tells what they alone call. That is how
+this command is tried: `--without an_event_has_one_line` tells `capexplain event_line`, which that test alone calls.
 
 A contract says nothing of a call that answers want of memory every time, so somebody has to make it. A public call is a `pub fn` that
 the `lib.rt` of a crate passes on, by itself or with its module, or of a type that it passes on. A law, which has an empty body, is none;
@@ -20,20 +17,15 @@ name; and it can't say whether what is come to is ever run.
 """
 
 import re
-import sys
 from collections import defaultdict
 from dataclasses import dataclass, field
-from pathlib import Path
 
-ROOT = Path(__file__).resolve().parent.parent
-EXCEPTED = Path(__file__).resolve().with_suffix(".txt")
-# Comments, and texts and letters with what stands in them.
-DEAD = re.compile(r"""//[^\n]*|b?r"[^"]*"|b?"(?:\\.|[^"\\])*"|b?'(?:\\(?:u\{\w+\}|x\w\w|.)|[^'\\])'""", re.DOTALL)
-CLAUSE = re.compile(r"\b(?:requires|ensures)\b(?:\s+\w+)?\s*\{|\bghost\b")
-TOKEN = re.compile(r"'\w+|\w+|::|->|=>|[^\w\s]")
+from .sources import TOKEN, behind_types, end_of, until, without_clauses
+from .workspace import CRATES, TOOLS
+
+EXCEPTED = TOOLS / "public_calls.txt"
 # What a name that is bound stands behind, besides one word.
 BINDING = {("let", "mut"), ("Some", "("), ("Ok", "("), ("Err", "(")}
-PAIRS = {"(": ")", "[": "]", "{": "}"}
 
 
 @dataclass
@@ -66,40 +58,6 @@ class Crate:
     open_modules: set = field(default_factory=set)
 
 
-def end_of(text, at):
-    """Behind the bracket that closes the one at `at`."""
-    depth = 0
-    for place in range(at, len(text)):
-        if text[place] in "([{":
-            depth += 1
-        elif text[place] in ")]}":
-            depth -= 1
-            if depth == 0:
-                return place + 1
-    return len(text)
-
-
-def until(tokens, at, ends):
-    """The place of the first of these tokens that stands in no bracket."""
-    while at < len(tokens) and tokens[at] not in ends:
-        at = end_of(tokens, at) if tokens[at] in PAIRS else at + 1
-    return at
-
-
-def without_clauses(source):
-    """The code: without comments, texts, clauses and what is a ghost."""
-    source = DEAD.sub(lambda found: "" if found[0].startswith("//") else '""', source)
-    code, at = [], 0
-    while found := CLAUSE.search(source, at):
-        code.append(source[at : found.start()])
-        at = found.end()
-        if found[0].endswith("{"):
-            at = end_of(source, at - 1)
-            continue
-        at = until(source, at, ";,") + 1
-    return "".join(code) + source[at:]
-
-
 def used(tokens, before=()):
     """The names that a `use` brings, each with its path."""
     path, at = list(before), 0
@@ -121,16 +79,6 @@ def used(tokens, before=()):
             path.append(tokens[at])
         at += 1
     yield path[-1] if path[-1] != "self" else path[-2], tuple(path if path[-1] != "self" else path[:-1])
-
-
-def behind_types(tokens, at):
-    """Behind the angle brackets that begin at `at`."""
-    depth = 0
-    for place in range(at, len(tokens)):
-        depth += (tokens[place] == "<") - (tokens[place] == ">")
-        if depth == 0:
-            return place + 1
-    return len(tokens)
 
 
 def paths(tokens):
@@ -250,11 +198,11 @@ class Program:
 
     def __init__(self, without=()):
         self.crates, self.functions, self.types = {}, [], {}
-        for folder in sorted((ROOT / "crates").iterdir()):
+        for folder in sorted(CRATES.iterdir()):
             if (folder / "src").is_dir():
                 self.crates[folder.name] = Crate()
         for crate in self.crates:
-            source = ROOT / "crates" / crate / "src"
+            source = CRATES / crate / "src"
             for path in sorted(source.glob("**/*.rt")):
                 module = "::".join(path.relative_to(source).with_suffix("").parts)
                 tokens = TOKEN.findall(without_clauses(path.read_text(encoding="utf-8")))
@@ -415,16 +363,18 @@ def excepted():
     return {" ".join(line.split()[:2]) for line in lines if line and not line.startswith("#")}
 
 
-def main():
-    words = sys.argv[1:]
-    without = words[1:] if words[:1] == ["--without"] else []
-    if words and not without and words != ["--list"]:
-        sys.exit(__doc__)
-    program = Program(without)
+def arguments(parser):
+    either = parser.add_mutually_exclusive_group()
+    either.add_argument("--list", action="store_true", help="print each public call, and whether it is called; the status is 0")
+    either.add_argument("--without", nargs="+", default=[], metavar="NAME", help="as if the functions of these names were not there")
+
+
+def main(given):
+    program = Program(given.without)
     reached = program.reached()
     public = list(program.public_calls())
     uncalled = sorted(function.where() for function in public if id(function) not in reached)
-    if words == ["--list"]:
+    if given.list:
         print(*sorted(f"{f.where()}: {'called' if id(f) in reached else 'not called'}" for f in public), sep="\n")
         return 0
     known = excepted()
@@ -434,8 +384,5 @@ def main():
         print(f"{place}: no program and no test calls it")
     for place in idle:
         print(f"{place}: it stands in {EXCEPTED.name}, and is called, or is no public call")
-    print(f"called: {len(public)} public calls, {len(wrong)} that nothing calls, {len(known) - len(idle)} excepted")
+    print(f"public calls: {len(public)}, {len(wrong)} that nothing calls, {len(known) - len(idle)} excepted")
     return 1 if wrong or idle else 0
-
-
-sys.exit(main())

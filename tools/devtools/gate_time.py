@@ -1,13 +1,7 @@
-#!/usr/bin/env python3
 """Runs the gate, and tells what each crate's proof, tests, edits and programs took of the processor, and which lane took longest.
 
-    tools/gate_time              runs `rt ci`; what it prints and its status stay as they are
-    tools/gate_time .ci/run      runs other words in its place
-    tools/gate_time --of PID     watches a gate that runs already, from now on until it ends
-    tools/gate_time --page       prints what it told of the last run once more, as docs/GATE.md has it, on standard output
-    tools/gate_time --again      the same on standard error, and each edit by its name
-
-What a run took goes to standard error. What that is made of is kept in out/gate_time, a line for each check.
+It runs `rt ci`, or other words that are given in its place; what these print and their status stay as they are. What a run took goes to
+standard error. What that is made of is kept in out/gate_time, a line for each check.
 
 A lane is a proof, or the tests, the edits or the building of a program, behind all that it waits for: a proof waits for those of the
 crates below, tests for the same, edits for the crate's proof and tests, and a program for its proof.
@@ -17,8 +11,8 @@ proof, its tests, an edit, or to build a program, and how much of the processor 
 the last look before it ended is not seen, and stands with `rt` itself and what it runs in the line behind the table.
 """
 
+import argparse
 import os
-import re
 import resource
 import subprocess
 import sys
@@ -28,12 +22,13 @@ from dataclasses import dataclass
 from itertools import pairwise
 from pathlib import Path
 
-ROOT = Path(__file__).resolve().parent.parent
+from .workspace import CRATES, ROOT, needs
+
 KEPT = ROOT / "out" / "gate_time"
 PAUSE = 0.25
 TICKS = os.sysconf("SC_CLK_TCK")
 KINDS = ("proof", "tests", "edits", "built")
-# How a program is built, and what the page calls that; tools/embed builds the library for C, and proves it once more with that.
+# How a program is built, and what the page calls that; the command c-library builds the library for C, and proves it once more with that.
 BUILDING = {"llvm": "by LLVM", "rattle": "by Rattle's own compiler", "linked": "linked", "library": "the library for C with its proof"}
 # What LLVM's compiler took within the check of a crate's tests.
 COMPILED = "compiled"
@@ -163,7 +158,7 @@ def run(words):
     try:
         gate = subprocess.Popen(words, cwd=ROOT)
     except OSError as fault:
-        sys.exit(f"tools/gate_time: {words[0]} does not start: {fault.strerror}")
+        sys.exit(f"tools/dev gate-time: {words[0]} does not start: {fault.strerror}")
 
     def has_ended():
         try:
@@ -184,7 +179,7 @@ def run(words):
 def look_at(pid):
     """Watches a gate that another started."""
     if not read(pid, "cmdline"):
-        sys.exit(f"tools/gate_time: no process {pid}")
+        sys.exit(f"tools/dev gate-time: no process {pid}")
     last = [0]
 
     def has_ended():
@@ -202,7 +197,7 @@ def kept_checks():
     """The checks of the last run, and its line of all."""
     checks, of_all = [], None
     if not KEPT.exists():
-        sys.exit("tools/gate_time: no run was looked at here yet")
+        sys.exit("tools/dev gate-time: no run was looked at here yet")
     for line in KEPT.read_text(encoding="utf-8").splitlines():
         crate, kind, *told = line.split()
         check = Check(crate, kind, *map(float, told))
@@ -224,14 +219,8 @@ def by_task(checks):
     }
 
 
-def needs():
-    """What each crate of crates.txt stands on."""
-    lines = (ROOT / "crates.txt").read_text(encoding="utf-8").splitlines()
-    return {name.split()[0]: rest.split() for name, has, rest in (line.split("#")[0].partition(":") for line in lines) if has}
-
-
 def edits_of(crate):
-    return sorted(it.stem for it in (ROOT / "crates" / crate / "must-fail").glob("*.edit"))
+    return sorted(it.stem for it in (CRATES / crate / "must-fail").glob("*.edit"))
 
 
 def waits_for(task, tasks, below):
@@ -296,7 +285,8 @@ def told_lane(what, chain, tasks):
     """A line on a lane: its tasks, and how long they took and waited."""
     steps = [f"`{crate}` {kind} {minutes(tasks[crate, kind].end)}" for crate, kind in chain]
     took, end = sum(tasks[it].clock for it in chain), tasks[chain[-1]].end
-    print(f"\n{what}, and when each part ended, in minutes by the clock: {', '.join(steps)}. Its parts took {minutes(took)}, and it ended after {minutes(end)}.")
+    told = f"{what}, and when each part ended, in minutes by the clock: {', '.join(steps)}."
+    print(f"\n{told} Its parts took {minutes(took)}, and it ended after {minutes(end)}.")
 
 
 def told_sums(checks, of_all):
@@ -329,7 +319,7 @@ def told_yardstick(tasks, of_all):
 
 def report(checks, of_all):
     if not checks:
-        print("\ntools/gate_time: no check was seen")
+        print("\ntools/dev gate-time: no check was seen")
         return
     tasks, below = by_task([it for it in checks if it.kind != COMPILED]), needs()
     last, longest = last_lane(tasks, below), longest_lane(tasks, below)
@@ -356,29 +346,31 @@ def report_edits(checks):
             print(f"| `{crate}`: {name} | {it.spent:,.1f} | {it.end - it.begin:,.1f} |")
 
 
-def main(words):
-    if words[:1] in (["-h"], ["--help"]):
-        sys.exit(__doc__)
-    if words == ["--page"]:
+def arguments(parser):
+    either = parser.add_mutually_exclusive_group()
+    either.add_argument("--of", type=int, metavar="PID", help="watch a gate that runs already, from now on until it ends")
+    either.add_argument("--page", action="store_true", help="print what it told of the last run once more, as docs/GATE.md has it, on standard output")
+    either.add_argument("--again", action="store_true", help="the same on standard error, and each edit by its name")
+    parser.add_argument("words", nargs=argparse.REMAINDER, metavar="WORD ..", help="what to run in the place of `rt ci`, as `.ci/run`")
+
+
+def main(given):
+    if given.page:
         report(*kept_checks())
         return 0
-    status, is_again = 0, words == ["--again"]
-    if not is_again:
+    status = 0
+    if not given.again:
         KEPT.parent.mkdir(exist_ok=True)
         KEPT.write_text("", encoding="utf-8")
-    if words[:1] == ["--of"] and len(words) == 2 and re.fullmatch("[0-9]+", words[1]):
-        look_at(int(words[1]))
-    elif not is_again:
-        status = run(words or ["rt", "ci"])
+    if given.of is not None:
+        look_at(given.of)
+    elif not given.again:
+        status = run(given.words or ["rt", "ci"])
     checks, of_all = kept_checks()
     sys.stdout.flush()
     sys.stdout = sys.stderr
     print()
     report(checks, of_all)
-    if is_again:
+    if given.again:
         report_edits(checks)
     return status
-
-
-if __name__ == "__main__":
-    sys.exit(main(sys.argv[1:]))

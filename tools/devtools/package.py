@@ -1,14 +1,7 @@
-#!/usr/bin/env python3
-"""Makes of what a passed gate left a tree to install, and a Debian package of it.
+"""Makes of what a passed gate left a Debian package, out/package/baybowl_VERSION_ARCHITECTURE.deb, or a tree that is installed.
 
-    tools/package                    writes out/package/baybowl_VERSION_ARCHITECTURE.deb, where dpkg-deb is
-    tools/package --into DESTDIR     installs below this folder in place of that; `--into /` into the running system
-    tools/package --prefix PREFIX    for this prefix in place of /usr
-    tools/package --test             installs into a folder that goes again, and tries it: the command, its page, the library by
-                                     pkg-config alone, and the package; ends in `N passed, M failed`
-
-It takes crates/capd/out/capd, which `rt ci` leaves, and out/embed/libbaybowl.a, which `tools/embed` leaves. The command then needs
-nothing but the C library. VERSION is what `capd --version` says, the day of the last commit, and the commit; the first alone where
+It takes crates/capd/out/capd, which `rt ci` leaves, and out/embed/libbaybowl.a, which `tools/dev c-library` leaves. The command then
+needs nothing but the C library. VERSION is what `capd --version` says, the day of the last commit, and the commit; the first alone where
 git does not tell them.
 """
 
@@ -22,9 +15,8 @@ import sys
 import tempfile
 from pathlib import Path
 
-ROOT = Path(__file__).resolve().parent.parent
-CAPD = ROOT / "crates" / "capd" / "out" / "capd"
-LIBRARY = ROOT / "out" / "embed" / "libbaybowl.a"
+from .workspace import CAPD, LIBRARY, ROOT
+
 OUT = ROOT / "out" / "package"
 DESCRIPTION = """what CephFS clients may do, and why not
  The command capd answers by the rules of a CephFS metadata server which access
@@ -232,29 +224,32 @@ def test(prefix):
     return 1 if tests.failed else 0
 
 
-def main(words):
-    parser = argparse.ArgumentParser(description=__doc__, formatter_class=argparse.RawDescriptionHelpFormatter)
-    parser.add_argument("--into", metavar="DESTDIR", type=Path)
-    parser.add_argument("--prefix", default="/usr")
-    parser.add_argument("--test", action="store_true")
-    given = parser.parse_args(words)
-    if not given.prefix.startswith("/"):
-        parser.error(f"the prefix {given.prefix} does not begin with a slash")
-    for needed, by in ((CAPD, "rt ci"), (LIBRARY, "tools/embed")):
+def prefix(word):
+    """A prefix, which begins with a slash."""
+    if not word.startswith("/"):
+        raise argparse.ArgumentTypeError(f"the prefix {word} does not begin with a slash")
+    return word
+
+
+def arguments(parser):
+    parser.add_argument("--into", metavar="DESTDIR", type=Path, help="install below this folder in place of that; / is the running system")
+    parser.add_argument("--prefix", default="/usr", type=prefix, help="install for this prefix (default: /usr)")
+    parser.add_argument("--test", action="store_true", help="install into a folder that goes again, and try it: the command, its page, the "
+                        "library by pkg-config alone, and the package; ends in `N passed, M failed`")
+
+
+def main(given):
+    for needed, by in ((CAPD, "rt ci"), (LIBRARY, "tools/dev c-library")):
         if not needed.exists():
-            sys.exit(f"tools/package: no {needed}: {by} makes it")
+            sys.exit(f"tools/dev package: no {needed}: {by} makes it")
     if given.test:
         return test(given.prefix)
     if given.into:
         install(given.into, given.prefix)
         return 0
     if not shutil.which("dpkg-deb"):
-        sys.exit("tools/package: there is no dpkg-deb here; --into installs without it")
+        sys.exit("tools/dev package: there is no dpkg-deb here; --into installs without it")
     with tempfile.TemporaryDirectory() as name:
         install(Path(name) / "tree", given.prefix)
         print(debian(Path(name) / "tree", OUT))
     return 0
-
-
-if __name__ == "__main__":
-    sys.exit(main(sys.argv[1:]))

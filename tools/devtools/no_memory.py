@@ -1,24 +1,19 @@
-#!/usr/bin/env python3
 """Looks whether want of memory is answered only where somebody decided that it may be.
 
-    tools/by_hand            compares with tools/by_hand.txt; the status is 1 where they differ
-    tools/by_hand --list     prints each line that answers it, with its function
-
 No contract can say that a growth was really refused, so a body that answers want of memory where there is enough meets each of them.
-Most functions hand on the error of the call that asked for memory, by `?`. Here are those that make it by hand: tools/by_hand.txt has
-a line for each function of the crates that a server or capd is made of, with how often it does so and why that is right. A new place is
-a decision, and a line there.
+Most functions hand on the error of the call that asked for memory, by `?`. Others make it by hand: tools/no_memory.txt has a
+line for each such function of the crates that a server or capd is made of, with how often it does so and why that is right. A new place
+is a decision, and a line there. The status is 1 where the sources and that file differ.
 
 `From` of an error of the allocator is left out, and so are clauses, patterns, and an arm whose pattern names what it hands on.
 """
 
 import re
-import sys
 from collections import Counter
-from pathlib import Path
 
-ROOT = Path(__file__).resolve().parent.parent
-TABLE = Path(__file__).resolve().with_suffix(".txt")
+from .workspace import CRATES, ROOT, TOOLS
+
+TABLE = TOOLS / "no_memory.txt"
 # Programs for tests and timing answer to nobody.
 LEFT_OUT = {"capbench", "capload", "capwork", "talks", "tests_policy", "tests_server"}
 WORD = r"\bAllocError\b|\b\w+::(?:NoMemory|OutOfMemory|Memory|NoReader|NoView)\b"
@@ -56,11 +51,11 @@ def made(path):
 
 def found():
     """Each place, by its file and function."""
-    for path in sorted(ROOT.glob("crates/*/src/**/*.rt")):
-        crate = path.relative_to(ROOT / "crates").parts[0]
+    for path in sorted(CRATES.glob("*/src/**/*.rt")):
+        crate = path.relative_to(CRATES).parts[0]
         if crate not in LEFT_OUT:
             for function, line in made(path):
-                yield f"{crate}/{path.relative_to(ROOT / 'crates' / crate / 'src')} {function}", line
+                yield f"{crate}/{path.relative_to(CRATES / crate / 'src')} {function}", line
 
 
 def written():
@@ -73,19 +68,18 @@ def written():
     return table
 
 
-def main():
-    if sys.argv[1:] == ["--list"]:
+def arguments(parser):
+    parser.add_argument("--list", action="store_true", help="print each line that answers it, with its function; the status is 0")
+
+
+def main(given):
+    if given.list:
         for place, line in found():
             print(f"{place}: {line}")
         return 0
-    if sys.argv[1:]:
-        sys.exit("tools/by_hand: only --list is known")
     counts, table = Counter(place for place, _ in found()), written()
     wrong = [place for place in sorted(counts.keys() | table.keys()) if counts[place] != table.get(place, 0)]
     for place in wrong:
         print(f"{place}: {counts[place]} here, {table.get(place, 0)} in {TABLE.relative_to(ROOT)}")
     print(f"want of memory by hand: {len(counts)} functions, {len(wrong)} not as written")
     return 1 if wrong else 0
-
-
-sys.exit(main())

@@ -1,0 +1,21 @@
+"""Where things stand in this repository."""
+
+from pathlib import Path
+
+ROOT = Path(__file__).resolve().parent.parent.parent
+TOOLS = ROOT / "tools"
+CRATES = ROOT / "crates"
+CAPD = CRATES / "capd" / "out" / "capd"
+# What the command c-library builds.
+EMBED = ROOT / "out" / "embed"
+LIBRARY = EMBED / "libbaybowl.a"
+
+
+def needs():
+    """What each crate of crates.txt stands on, in the repository and in the kit."""
+    found = {}
+    for line in (ROOT / "crates.txt").read_text(encoding="utf-8").splitlines():
+        name, has_needs, rest = line.split("#")[0].partition(":")
+        if has_needs:
+            found[name.split()[0]] = rest.split()
+    return found
