@@ -7,7 +7,7 @@ from pathlib import Path
 ROOT = Path(__file__).resolve().parent.parent
 CAPD = ROOT / "crates" / "capd" / "out" / "capd"
 CAPBENCH = ROOT / "crates" / "capbench" / "out" / "capbench"
-LIBRARY = ROOT / "out" / "embed" / "libbaybowl.a"
+LIBRARY = ROOT / "out" / "c" / "libbaybowl.a"
 MADE_BY = {CAPD: "rt ci", CAPBENCH: "rt ci", LIBRARY: "tools/dev c-library"}
 
 

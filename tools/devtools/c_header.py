@@ -1,4 +1,4 @@
-"""Compares include/baybowl.h and embed/exports.h with the source that they speak of.
+"""Compares c/include/baybowl.h and c/src/exports.h with the source that they speak of.
 
 From the sources it makes a C file of static assertions, on the size of each struct, the place of each field and each number, and
 of the exports' declarations once more: a compiler refuses it where header and source differ. What a compiler can't see (a number
@@ -132,7 +132,7 @@ def assertions(root):
 
 def differences(root):
     """What no compiler sees: names on one side alone, and words."""
-    header = re.sub(r"/\*.*?\*/", "", (root / "include" / "baybowl.h").read_text(encoding="utf-8"), flags=re.S)
+    header = re.sub(r"/\*.*?\*/", "", (root / "c" / "include" / "baybowl.h").read_text(encoding="utf-8"), flags=re.S)
     named = set(re.findall(r"\b(BAYBOWL_\w+) = \d+", header)) | set(re.findall(r"#define (BAYBOWL_\w+)", header))
     known = set(numbers_of(root)) | OF_THE_SHIM | OF_THE_HEADER
     found = [f"{name}: on one side alone" for name in sorted(named ^ known)]
@@ -141,14 +141,14 @@ def differences(root):
         name: re.findall(r"(\w+)(?:\[\d+\])?;", body) for name, body in re.findall(r"^struct (\w+) \{(.*?)^\};", header, re.S | re.M)
     }
     found += [f"struct {name}: fields differ" for name in sorted(fields.keys() | told.keys()) if fields.get(name) != told.get(name)]
-    exports = set(re.findall(r"\b(capffi_\w+)\(", (root / "embed" / "exports.h").read_text(encoding="utf-8")))
+    exports = set(re.findall(r"\b(capffi_\w+)\(", (root / "c" / "src" / "exports.h").read_text(encoding="utf-8")))
     found += [f"{name}: on one side alone" for name in sorted(exports ^ set(declared(source_of(root, "capffi", "lib"))))]
     return found
 
 
 def calls(root):
     """The names of the calls that the header declares."""
-    header = re.sub(r"/\*.*?\*/", "", (root / "include" / "baybowl.h").read_text(encoding="utf-8"), flags=re.S)
+    header = re.sub(r"/\*.*?\*/", "", (root / "c" / "include" / "baybowl.h").read_text(encoding="utf-8"), flags=re.S)
     return sorted(set(re.findall(r"^(?:inline |BAYBOWL_INLINE )?\w[\w ]*[ *]((?:baybowl|capffi)_\w+)\(", header, re.M)))
 
 

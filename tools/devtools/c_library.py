@@ -1,9 +1,9 @@
 """Builds the library for C, C++ and Rust with its examples, runs these and the tests, and ends in `N passed, M failed`.
 
-It proves and builds crates/capffi first, by rt. Where capd is built, it asks both it and examples/c/explain questions at random: that
+It proves and builds crates/capffi first, by rt. Where capd is built, it asks both it and c/examples/explain.c questions at random: that
 example by a block, by the text and by a mask.
 
-What it builds lies in out/embed: libbaybowl.a, to which include/baybowl.h belongs, and the examples. gcc, g++ and Python are needed;
+What it builds lies in out/c: libbaybowl.a, to which c/include/baybowl.h belongs, and the examples. gcc, g++ and Python are needed;
 clang and rustc are used where they are there, and it is said where they are not.
 """
 
@@ -14,12 +14,13 @@ from pathlib import Path
 
 from . import c_header as header
 from . import c_questions as questions
-from .workspace import CAPD, CRATES, LIBRARY, ROOT, needs
-from .workspace import EMBED as OUT
+from .workspace import C, CAPD, CRATES, HEADER, LIBRARY, ROOT, needs
+from .workspace import C_BUILT as OUT
 
 CAPFFI = CRATES / "capffi" / "out" / "libcapffi.a"
 STRICT = ["-Wall", "-Wextra", "-Werror", "-pedantic"]
-INCLUDES = [f"-I{ROOT}/include", f"-I{ROOT}/embed", f"-I{ROOT}/embed/tests"]
+SOURCE, TESTS, EXAMPLES = C / "src" / "baybowl.c", C / "tests", C / "examples"
+INCLUDES = [f"-I{folder}" for folder in (HEADER.parent, SOURCE.parent, TESTS)]
 COMPILERS = {
     "gcc": ["-std=c11", "-x", "c"],
     "g++": ["-std=c++17", "-x", "c++"],
@@ -106,7 +107,7 @@ def build_library(is_after_ci):
 def archive(name, flags):
     """One archive of what is proved, of baybowl.c, and of the kit's calls of malloc, in which only what the header declares has a name."""
     shim, whole, names = (OUT / f"{name}.{kind}" for kind in ("shim.o", "o", "names"))
-    must(["gcc", "-std=c11", *STRICT, *flags, *INCLUDES, "-c", ROOT / "embed" / "baybowl.c", "-o", shim])
+    must(["gcc", "-std=c11", *STRICT, *flags, *INCLUDES, "-c", SOURCE, "-o", shim])
     must(["ld", "-r", "-o", whole, shim, "--whole-archive", CAPFFI, kit() / "c" / "liblibc_c.a"])
     names.write_text("".join(f"{it}\n" for it in header.calls(ROOT)), encoding="utf-8")
     must(["objcopy", f"--keep-global-symbols={names}", whole])
@@ -136,7 +137,7 @@ def check_header():
 
 def check_words():
     """The words that the library has are those of the source."""
-    source = ROOT / "embed" / "tests" / "words.c"
+    source = TESTS / "words.c"
     status, out, err = build_c("words", [source], LIBRARY)
     wanted = [*header.rule_words(ROOT), *header.fault_words(ROOT)]
     said = run([OUT / "words"])[1].decode().split("\n")[:-1] if status == 0 else []
@@ -165,22 +166,21 @@ def check_refused(name, asked):
 
 
 def check_examples(library):
-    examples = ROOT / "examples"
     asked = [word for name, value in README_QUESTION.items() for word in (f"--{name}", value)]
-    built = build_c("explain", [examples / "c" / "explain.c"], library)
-    check_example("c/explain.c", built, [OUT / "explain", *asked], README_ANSWER)
-    check_example("c/explain.c, by the text", built, [OUT / "explain", *asked, "--by", "text"], README_ANSWER)
-    check_example("c/explain.c, by a mask", built, [OUT / "explain", *asked, "--by=mask"], README_ANSWER)
-    check_refused("c/explain.c", asked)
-    built = run(["g++", "-std=c++17", *STRICT, "-O2", *INCLUDES, examples / "cpp" / "beside.cpp", library, "-o", OUT / "beside"])
-    check_example("cpp/beside.cpp", built, [OUT / "beside"], (examples / "cpp" / "beside.stdout").read_bytes())
+    built = build_c("explain", [EXAMPLES / "explain.c"], library)
+    check_example("explain.c", built, [OUT / "explain", *asked], README_ANSWER)
+    check_example("explain.c, by the text", built, [OUT / "explain", *asked, "--by", "text"], README_ANSWER)
+    check_example("explain.c, by a mask", built, [OUT / "explain", *asked, "--by=mask"], README_ANSWER)
+    check_refused("explain.c", asked)
+    built = run(["g++", "-std=c++17", *STRICT, "-O2", *INCLUDES, EXAMPLES / "beside.cpp", library, "-o", OUT / "beside"])
+    check_example("beside.cpp", built, [OUT / "beside"], (EXAMPLES / "beside.stdout").read_bytes())
     if not shutil.which("rustc"):
         print("not there, and left out: rustc")
         return
     for name in ("shared", "session"):
-        source = examples / "rust" / f"{name}.rs"
+        source = EXAMPLES / f"{name}.rs"
         built = run(["rustc", "--edition", "2021", "-O", "-D", "warnings", source, "-L", OUT, "-l", "static=baybowl", "-o", OUT / name])
-        check_example(f"rust/{name}.rs", built, [OUT / name], source.with_suffix(".stdout").read_bytes())
+        check_example(f"{name}.rs", built, [OUT / name], source.with_suffix(".stdout").read_bytes())
 
 
 def check_test(name, built, program):
@@ -194,9 +194,8 @@ def check_test(name, built, program):
 
 
 def check_tests(library):
-    tests = ROOT / "embed" / "tests"
     for name in ("pointers", "threads", "blocks", "memory"):
-        check_test(name, build_c(name, [tests / f"{name}.c"], library), OUT / name)
+        check_test(name, build_c(name, [TESTS / f"{name}.c"], library), OUT / name)
 
 
 def sanitizing():
@@ -214,12 +213,11 @@ def sanitizing():
 
 def check_sanitized(seed, is_compared):
     """The same with what watches memory and undefined behaviour: in the C code, and in what the library takes of malloc."""
-    tests = ROOT / "embed" / "tests"
     for compiler in sanitizing():
         # The whole C side is compiled anew, so that it is watched too.
-        sources = [ROOT / "embed" / "baybowl.c", CAPFFI]
+        sources = [SOURCE, CAPFFI]
         for name in ("pointers", "threads", "blocks", "explain"):
-            file = ROOT / "examples" / "c" / "explain.c" if name == "explain" else tests / f"{name}.c"
+            file = EXAMPLES / "explain.c" if name == "explain" else TESTS / f"{name}.c"
             program = OUT / f"{name}-{compiler}-sanitized"
             built = build_c(program.name, [file, *sources], kit() / "c" / "liblibc_c.a", SANITIZERS, compiler)
             if name != "explain":

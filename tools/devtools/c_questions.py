@@ -1,4 +1,4 @@
-"""Random questions, each asked of examples/c/explain, by a block that is filled from the grants, by their text and by the mask of a
+"""Random questions, each asked of c/examples/explain.c, by a block that is filled from the grants, by their text and by the mask of a
 server, and of `capd explain`: all have to write the same, byte for byte, but for what `capd` says may help, behind the line of a
 fault."""
 

@@ -1,6 +1,6 @@
 """Makes of what a passed gate left a Debian package, out/package/baybowl_VERSION_ARCHITECTURE.deb, or a tree that is installed.
 
-It takes crates/capd/out/capd, which `rt ci` leaves, and out/embed/libbaybowl.a, which `tools/dev c-library` leaves. The command then
+It takes crates/capd/out/capd, which `rt ci` leaves, and out/c/libbaybowl.a, which `tools/dev c-library` leaves. The command then
 needs nothing but the C library. VERSION is what `capd --version` says, the day of the last commit, and the commit; the first alone where
 git does not tell them.
 """
@@ -15,7 +15,7 @@ import sys
 import tempfile
 from pathlib import Path
 
-from .workspace import CAPD, LIBRARY, ROOT
+from .workspace import C, CAPD, HEADER, LIBRARY, ROOT
 
 OUT = ROOT / "out" / "package"
 DESCRIPTION = """what CephFS clients may do, and why not
@@ -77,9 +77,9 @@ def files(prefix):
     yield "share/bash-completion/completions/capd", (ROOT / "packaging" / "capd.bash").read_bytes(), 0o644
     yield "lib/libbaybowl.a", LIBRARY.read_bytes(), 0o644
     yield "lib/pkgconfig/baybowl.pc", pkg_config(prefix).encode(), 0o644
-    yield "include/baybowl.h", (ROOT / "include" / "baybowl.h").read_bytes(), 0o644
+    yield "c/include/baybowl.h", HEADER.read_bytes(), 0o644
     pages = [ROOT / "README.md", ROOT / "CHANGELOG.md", *sorted((ROOT / "docs").glob("*.md"))]
-    for page in [*pages, *sorted((ROOT / "examples" / "c").glob("*.c"))]:
+    for page in [*pages, *sorted((C / "examples").glob("*.c"))]:
         yield f"share/doc/baybowl/{page.relative_to(ROOT)}", page.read_bytes(), 0o644
 
 
@@ -179,7 +179,7 @@ def builds(tree, prefix, room):
     # Folders of the system are told too, as these stand below another root.
     seen |= {"PKG_CONFIG_ALLOW_SYSTEM_CFLAGS": "1", "PKG_CONFIG_ALLOW_SYSTEM_LIBS": "1"}
     flags = told(["pkg-config", "--cflags", "--libs", "baybowl"], env=seen).split()
-    example = root / "share" / "doc" / "baybowl" / "examples" / "c" / "explain.c"
+    example = root / "share" / "doc" / "baybowl" / "c" / "examples" / "explain.c"
     told(["cc", "-o", room / "explain", example, *flags])
     return told([room / "explain", *QUESTION[1:]]) == ANSWER
 

@@ -6,9 +6,11 @@ ROOT = Path(__file__).resolve().parent.parent.parent
 TOOLS = ROOT / "tools"
 CRATES = ROOT / "crates"
 CAPD = CRATES / "capd" / "out" / "capd"
-# What the command c-library builds.
-EMBED = ROOT / "out" / "embed"
-LIBRARY = EMBED / "libbaybowl.a"
+# The library for C: its header, source, tests and examples, and where the command c-library builds it.
+C = ROOT / "c"
+HEADER = C / "include" / "baybowl.h"
+C_BUILT = ROOT / "out" / "c"
+LIBRARY = C_BUILT / "libbaybowl.a"
 
 
 def needs():
