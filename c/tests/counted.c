@@ -1,5 +1,5 @@
-/* One piece of work N times, for bench/embed: a verdict by the grants that bench/count has, read once or each time, or permitted
- * caps, a check of their text, or a look into the table of the locks. It prints a sum over all answers.
+/* One piece of work N times, for `bench/bench count library`: a verdict by the grants that `count policy` has, read once or each time,
+ * or permitted caps, a check of their text, or a look into the table of the locks. It prints a sum over all answers.
  *
  * Grants that are read once are asked by a path with a slash in front, or as a server has it, without: by an access or by a mask. In the
  * place of how many grants there are may stand `csi`, one grant for a directory as containers have it and an inode in it, with a path of

@@ -1,23 +1,17 @@
-#!/usr/bin/env python3
 """Counts the instructions of one operation of the policy.
 
 Each piece of work is run twice under callgrind, a different number of times, and the difference of the two counts is
 divided by the difference of the two numbers: what the program does once falls out. Beside each count stands that of the
 policy code of a CephFS MDS 16.2.15 on one thread, and whether capbench meets the bound: half of it for a verdict, a tenth
-for the reading of a text.
-
-    bench/count            the table of verdicts and texts
-    bench/count --built    takes crates/capbench/out/capbench as it is, and does not build it
-    bench/count --grants 4-8-ids    writes the text that is read for such a cell, and counts nothing
+for the reading of a text. It builds crates/capbench first, by `rt run`.
 
 The status is 0 where each cell is within its bound.
 """
 
-import sys
 from dataclasses import dataclass
 
-sys.dont_write_bytecode = True
-from capbench import be_there, build, grants, of_one
+from .capbench import build, of_one
+from .places import CAPBENCH, be_there
 
 FEW, MANY = 100, 300
 
@@ -69,21 +63,14 @@ def table(verb, bound, references):
     return is_within
 
 
-def main():
-    match sys.argv[1:]:
-        case ["--grants", shape]:
-            count, depth, kind = shape.split("-")
-            print(grants(int(count), int(depth), kind))
-            return 0
-        case []:
-            build()
-        case ["--built"]:
-            be_there()
-        case _:
-            sys.exit(__doc__)
+def arguments(parser):
+    parser.add_argument("--built", action="store_true", help="take crates/capbench/out/capbench as it is, and do not build it")
+
+
+def main(given):
+    if given.built:
+        be_there(CAPBENCH)
+    else:
+        build()
     are_within = [table("verdict", VERDICT_BOUND, VERDICTS), table("parse", PARSE_BOUND, PARSES)]
     return 0 if all(are_within) else 1
-
-
-if __name__ == "__main__":
-    sys.exit(main())

@@ -1,5 +1,4 @@
-#!/usr/bin/env python3
-"""Counts the instructions of a change of size that is served at once, on a file whose data clients cache.
+"""Counts the instructions of lines on one file that many clients have: first a change of its size that is served at once.
 
 Each client has the file open, wants the pin and to cache, and holds no more than that: the file lock can go where the change is
 made and back without an acknowledgement, and each client is owed the new size. The line `alter 1 2 size N` is run in scripts
@@ -10,20 +9,18 @@ The second table is of an acknowledgement on a file that so many clients read an
 what it cached; one does, the others have not yet, so the gather stays open. The figure is a script with this line less the same
 script without it.
 
-    bench/sizes              on a file that 1, 10, 30 and 60 clients cache, and one that 2, 8 and 60 read, some two minutes
-    bench/sizes 5            that 5 cache, and that 5 read
+The first table is of 1, 10, 30 and 60 clients, the second of 2, 8 and 60, and both take some two minutes; or both are of so many as are
+given.
 
 It takes crates/capd/out/capd as it is, which `rt ci` leaves there.
 """
 
 import sys
-from pathlib import Path
 
-sys.dont_write_bytecode = True
-import counting
+from . import counting
+from .lines import opened, sessions, text
+from .places import CAPD, be_there
 
-ROOT = Path(__file__).resolve().parent.parent
-PROGRAM = ROOT / "crates" / "capd" / "out" / "capd"
 CLIENTS = (1, 10, 30, 60)
 READERS = (2, 8, 60)
 FEW, MANY = 100, 300
@@ -31,10 +28,9 @@ FEW, MANY = 100, 300
 
 def caching(clients, others=0):
     """The lines by which so many clients cache the data of inode 2 and hold nothing else of it, beside so many other files."""
-    lines = [f"session {client} {client} {client} - allow rw" for client in range(1, clients + 1)]
-    lines.append("create 1 1 f 0644")
+    lines = [*sessions(clients, "rw"), "create 1 1 f 0644"]
     for client in range(1, clients + 1):
-        lines.append(f"open {client} 2 r")
+        lines += opened(client, [2])
     for client in range(1, clients + 1):
         lines += [f"want {client} 2 pFc", f"release {client} 2 Fsr"]
     return lines + [f"create 1 1 f{other} 0644" for other in range(others)]
@@ -50,7 +46,7 @@ def mode(turn):
 
 def counted(lines):
     """The instructions of the whole script. Each change in it was made."""
-    instructions, written = counting.counted([PROGRAM, "run"], "\n".join(lines) + "\n")
+    instructions, written = counting.counted([CAPD, "run"], text(lines))
     answers = written.splitlines()
     changes = sum(line.startswith("alter") for line in lines)
     if changes and set(answers[-changes:]) != {"done"}:
@@ -67,26 +63,26 @@ def of_one(clients, change, others=0):
 
 def acknowledged(clients):
     """The instructions of the line by which the last of so many readers acknowledges, where the others have not yet."""
-    lines = [f"session {client} {client} {client} - allow rw" for client in range(1, clients + 1)]
-    lines += ["create 1 1 f 0644", *(f"open {client} 2 r" for client in range(1, clients + 1)), "want 1 2 pFrw", f"poll {clients} 1"]
+    lines = [*sessions(clients, "rw"), "create 1 1 f 0644", *(f"open {client} 2 r" for client in range(1, clients + 1))]
+    lines += ["want 1 2 pFrw", f"poll {clients} 1"]
     answered = f"ack {clients} 2 2"
-    without, _ = counting.counted([PROGRAM, "run"], "\n".join(lines) + "\n")
-    instructions, written = counting.counted([PROGRAM, "run"], "\n".join([*lines, answered]) + "\n")
+    without, _ = counting.counted([CAPD, "run"], text(lines))
+    instructions, written = counting.counted([CAPD, "run"], text([*lines, answered]))
     if written.splitlines()[-1] != "done":
         sys.exit(f"a line was not answered as it is to be:\n{written[-400:]}")
     return instructions - without
 
 
-def main(words):
-    if not PROGRAM.exists():
-        sys.exit(f"no {PROGRAM}: rt ci builds it")
+def arguments(parser):
+    parser.add_argument("clients", nargs="*", type=int, metavar="CLIENTS")
+
+
+def main(given):
+    be_there(CAPD)
     print("| clients that cache the file | a change of its size | a change of its mode |\n|---|---|---|")
-    for clients in [int(word) for word in words] or CLIENTS:
+    for clients in given.clients or CLIENTS:
         print(f"| {clients} | {of_one(clients, size):,.0f} | {of_one(clients, mode):,.0f} |", flush=True)
     print("\n| clients that read the file | an acknowledgement |\n|---|---|")
-    for clients in [int(word) for word in words] or READERS:
+    for clients in given.clients or READERS:
         print(f"| {clients} | {acknowledged(clients):,.0f} |", flush=True)
-
-
-if __name__ == "__main__":
-    main(sys.argv[1:])
+    return 0

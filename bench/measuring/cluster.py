@@ -1,29 +1,12 @@
-#!/usr/bin/env python3
-"""Writes the tree of an MDS with many inodes as the MDS prints it, and times `capd audit` and `jq -c '.[]'` on it.
+"""The tree of an MDS with many inodes as the MDS prints it, and the sessions and the auth list that belong to it.
 
 The tree has a directory for each of fifty clients, which may write there alone, and in it others of twenty files each. Every fourth file
 is held by a client, and one of five of these by another one than its directory is for. Each inode has the keys, the kinds of values and
 the layout of what `dump tree` prints; what stands there is made up.
-
-    bench/dump                      with 2,000, 20,000 and 100,000 inodes, some minutes and 1.5 GB of disk
-    bench/dump 5000                 with 5,000
-    bench/dump --write FOLDER 5000  writes the three texts of a cluster with 5,000 inodes, and runs nothing
-
-It takes crates/capd/out/capd as it is, which `rt ci` leaves there; CAPD names another one.
 """
 
 import json
-import os
-import re
-import subprocess
-import sys
-import tempfile
-import time
-from pathlib import Path
 
-ROOT = Path(__file__).resolve().parent.parent
-PROGRAM = Path(os.environ.get("CAPD", ROOT / "crates" / "capd" / "out" / "capd"))
-SIZES = (2_000, 20_000, 100_000)
 CLIENTS = 50
 FILES = 20
 FIRST = 1 << 40
@@ -194,47 +177,3 @@ def write(folder, count):
             tree.write(",\n" if place else "[\n")
             tree.write("\n".join("    " + line for line in json.dumps(item, indent=4).splitlines()))
         tree.write("\n]\n")
-
-
-def timed(words):
-    """Seconds by the clock, and the most memory in MB, as the system last told it."""
-    most = 0.0
-    start = time.monotonic()
-    with subprocess.Popen(words, stdout=subprocess.DEVNULL) as process:
-        while process.poll() is None:
-            try:
-                told = re.search(r"VmHWM:\s+(\d+) kB", Path(f"/proc/{process.pid}/status").read_text())
-            except OSError:
-                told = None
-            most = max(most, int(told[1]) / 1024) if told else most
-            time.sleep(0.005)
-    if process.returncode not in (0, 3):
-        sys.exit(f"{' '.join(map(str, words))}: status {process.returncode}")
-    return time.monotonic() - start, most
-
-
-def measure(count):
-    with tempfile.TemporaryDirectory() as name:
-        folder = Path(name)
-        write(folder, count)
-        tree = folder / "tree.json"
-        audit = [PROGRAM, "audit"] + [word for kind in ("auth", "sessions", "tree") for word in (f"--{kind}", folder / f"{kind}.json")]
-        rows = [("capd audit", *timed(audit)), ("jq -c '.[]'", *timed(["jq", "-c", ".[]", tree]))]
-        size = tree.stat().st_size / 1e6
-        for what, seconds, memory in rows:
-            print(f"{count:>8,} inodes  {size:8.1f} MB  {what:<12} {seconds:7.2f} s  {memory:8.1f} MB", flush=True)
-
-
-def main():
-    words = sys.argv[1:]
-    if words[:1] == ["--write"] and len(words) == 3:
-        folder = Path(words[1])
-        folder.mkdir(parents=True, exist_ok=True)
-        write(folder, int(words[2]))
-    else:
-        for count in map(int, words) if words else SIZES:
-            measure(count)
-
-
-if __name__ == "__main__":
-    main()

@@ -1,8 +1,7 @@
-#!/usr/bin/env python3
 """Tells how much memory an entry takes: by how much the peak of `capd run` grows from few of them to many.
 
 The peak is what the system says of the whole program before it ends (VmHWM), less the text of the script, which is read whole, in three
-kinds of runs of scripts that bench/entries writes:
+kinds of runs of scripts, as `bench/bench write script` writes them:
 
 - T inodes stand in the root, and nobody has one open: `lookup-T-flat 0`;
 - a client has an entry on each: `want-T 0`. Each opening is a row of the history besides;
@@ -11,15 +10,11 @@ kinds of runs of scripts that bench/entries writes:
 What a row of the history takes is told by `want-100 N`, two rows each time, which makes no entry that stays. An entry is
 what is left when its row is taken off.
 
-    bench/bytes    one to three minutes
-
-It takes crates/capd/out/capd as it is, which `rt ci` leaves there.
+It takes one to three minutes, and crates/capd/out/capd as it is, which `rt ci` leaves there.
 """
 
-import sys
-
-sys.dont_write_bytecode = True
-from scripted import be_there, peak
+from .places import CAPD, be_there
+from .scripted import peak
 
 FEW, MANY = 10000, 60000
 # How often a row of the history is made in the two runs that tell of it.
@@ -34,10 +29,12 @@ def line(what, few, many, count):
     return grown
 
 
-def main():
-    if len(sys.argv) > 1:
-        sys.exit(__doc__)
-    be_there()
+def arguments(_parser):
+    """It takes none."""
+
+
+def main(_given):
+    be_there(CAPD)
     print("| | peak of few, kB | peak of many, kB | bytes for one |\n|---|---|---|---|")
     row = line("row of the history", peak("want-100", ROWS_FEW // 2), peak("want-100", ROWS_MANY // 2), ROWS_MANY - ROWS_FEW)
     inode = line("inode without an entry, with its row", peak(f"lookup-{FEW}-flat", 0), peak(f"lookup-{MANY}-flat", 0), MANY - FEW)
@@ -49,7 +46,4 @@ def main():
         one = (peaks[many] - peaks[few]) / ((many - few) * SHARED)
         span = f"{(few + 1) * SHARED:,} to {(many + 1) * SHARED:,}"
         print(f"| {span} | {peaks[many] // 1024:,} | {one:,.0f} | {one - row:,.0f} |")
-
-
-if __name__ == "__main__":
-    main()
+    return 0

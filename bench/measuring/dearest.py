@@ -1,46 +1,26 @@
-#!/usr/bin/env python3
-"""Counts what single lines of a script cost at their dearest, and how that grows: how long one line may hold the server.
-
-    bench/lines                 each kind of line at two sizes, in instructions (callgrind), some minutes
-    bench/lines close-served    that kind alone
-    bench/lines --seconds       the seconds of each kind at the size that the limits allow, on this machine
+"""Single lines of a script at their dearest: how long one line may hold the server.
 
 Each kind makes a script of ordinary, accepted lines, and one line behind them. What that line costs is what the script takes with it,
-less what it takes without it. It takes crates/capd/out/capd as it is, which `rt ci` leaves there.
+less what it takes without it.
 """
 
-import argparse
-import resource
-import subprocess
-import sys
 from collections.abc import Callable
 from dataclasses import dataclass
-from pathlib import Path
 
-sys.dont_write_bytecode = True
-import counting
+from . import counting
+from .lines import opened, sessions, text
+from .places import CAPD
 
-PROGRAM = Path(__file__).resolve().parent.parent / "crates" / "capd" / "out" / "capd"
 # The most requests that may wait, and inodes that a tree may have.
 WAITING, INODES = 1024, 65536
 # The most sessions that there may be, and bytes of a name that stays below the most.
 CLIENTS, LONG = 64, 250
 # How many directories stand in each other below one at the depth of 2, so that something is near the limit of 32 names.
 CHAIN = 29
-# Runs that are timed, of which the fastest is told.
-TURNS = 3
-
-
-def sessions(clients):
-    return [f"session {client} {client} {client} - allow rwps" for client in range(1, clients + 1)]
 
 
 def files(count, directory=1):
     return [f"create 1 {directory} f{number} 644" for number in range(count)]
-
-
-def opened(client, inodes, how="r"):
-    return [f"open {client} {inode} {how}" for inode in inodes]
 
 
 def shared(first, count):
@@ -198,7 +178,7 @@ def recall_all(size):
 
 @dataclass(frozen=True)
 class Kind:
-    """A kind of line: what it grows with, the size at which bench/guard counts it, that from which it is counted here, and the
+    """A kind of line: what it grows with, the size at which the guard counts it, that from which `count dearest` does, and the
     largest that the limits allow. At most 1,023 requests wait, whatever the size."""
 
     make: Callable
@@ -210,6 +190,10 @@ class Kind:
     @property
     def name(self):
         return self.make.__name__.replace("_", "-")
+
+    @property
+    def meaning(self):
+        return self.make.__doc__.rstrip(".")
 
     def script(self, size):
         lines, last = self.make(size)
@@ -238,12 +222,8 @@ KINDS = (
 )
 
 
-def text(lines):
-    return "".join(f"{line}\n" for line in lines)
-
-
 def instructions(lines):
-    return counting.counted([PROGRAM, "run"], text(lines))[0]
+    return counting.counted([CAPD, "run"], text(lines))[0]
 
 
 def of_last(name, size):
@@ -251,50 +231,3 @@ def of_last(name, size):
     kind = next(kind for kind in KINDS if kind.name == name)
     before, all_lines = kind.script(size)
     return instructions(all_lines) - instructions(before)
-
-
-def processor(lines):
-    """The seconds of the processor that a script takes, the fastest of some runs."""
-    given, times = text(lines).encode(), []
-    for _ in range(TURNS):
-        before = resource.getrusage(resource.RUSAGE_CHILDREN)
-        subprocess.run([PROGRAM, "run"], input=given, stdout=subprocess.DEVNULL, check=True)
-        after = resource.getrusage(resource.RUSAGE_CHILDREN)
-        times.append(after.ru_utime + after.ru_stime - before.ru_utime - before.ru_stime)
-    return min(times)
-
-
-def meaning(kind):
-    return kind.make.__doc__.rstrip(".")
-
-
-def tell_growth(kinds):
-    print("| Line | What it does | Grows with | n | Instructions | at 2 n | times |\n|---|---|---|---|---|---|---|")
-    for kind in kinds:
-        once, twice = of_last(kind.name, kind.size), of_last(kind.name, 2 * kind.size)
-        print(f"| `{kind.name}` | {meaning(kind)} | {kind.grows} | {kind.size:,} | {once:,} | {twice:,} | {twice / once:.2f} |", flush=True)
-
-
-def tell_seconds(kinds):
-    print("| Line | What it does | n | Seconds |\n|---|---|---|---|")
-    for kind in kinds:
-        before, all_lines = kind.script(kind.most)
-        print(f"| `{kind.name}` | {meaning(kind)} | {kind.most:,} | {max(0, processor(all_lines) - processor(before)):.3f} |", flush=True)
-
-
-def main(words):
-    parser = argparse.ArgumentParser(description=__doc__, formatter_class=argparse.RawDescriptionHelpFormatter)
-    parser.add_argument("names", nargs="*", metavar="KIND")
-    parser.add_argument("--seconds", action="store_true")
-    told = parser.parse_args(words)
-    unknown = set(told.names) - {kind.name for kind in KINDS}
-    if unknown:
-        parser.error(f"no kind of line is called {', '.join(sorted(unknown))}: {', '.join(kind.name for kind in KINDS)}")
-    if not PROGRAM.exists():
-        sys.exit(f"no {PROGRAM}: rt ci builds it")
-    chosen = [kind for kind in KINDS if not told.names or kind.name in told.names]
-    (tell_seconds if told.seconds else tell_growth)(chosen)
-
-
-if __name__ == "__main__":
-    main(sys.argv[1:])

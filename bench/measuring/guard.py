@@ -1,15 +1,9 @@
-#!/usr/bin/env python3
 """Counts small runs of what users of this server wait for, beside what bench/guard.txt says, and fails where one is above its bound.
 
-    bench/guard                          counts all
-    bench/guard tenants line-open-100    counts these
-    bench/guard --renew tenants          counts these and writes them down, with new bounds; `--renew all` does it for all
-    bench/guard --jobs 1                 counts one at a time, and not one on each processor
-
 It counts instructions, by callgrind: of a short run of each workload of bench/workloads.txt; of one verdict, one reading of a text and
-one call of the library for C, as bench/count and bench/embed do; of the lines of an opening, a round with a revocation, a move and a
-change of a size, beside few inodes and beside many, as bench/entries and bench/sizes do; of a question on policy on such trees, in the
-thread that asks, beside one that changes modes; and of single lines at their dearest, as bench/lines does. The bound is 5 percent
+one call of the library for C, as `count policy` and `count library` do; of the lines of an opening, a round with a revocation, a move and a
+change of a size, beside few inodes and beside many, as `count entries` and `count holders` do; of a question on policy on such trees, in the
+thread that asks, beside one that changes modes; and of single lines at their dearest, as `count dearest` does. The bound is 5 percent
 above. Of the workloads as they stand in bench/workloads.txt it tells the most memory that each had (VmHWM, by gdb), in kB, with a
 bound of 10 percent. Where another kit built what is counted, and not one that is known to build alike, it may be five times as far
 above.
@@ -19,7 +13,6 @@ writes one anew gives the reason in docs/PERFORMANCE.md. The status is 0 where n
 It takes the programs and the library as `rt ci` and `tools/dev c-library` left them.
 """
 
-import argparse
 import os
 import shutil
 import subprocess
@@ -27,23 +20,17 @@ import sys
 from concurrent.futures import ThreadPoolExecutor
 from dataclasses import dataclass
 from functools import partial
-from pathlib import Path
 
-sys.dont_write_bytecode = True
-import capbench
-import counting
-import scripted
+from . import ab, capbench, count_entries, count_holders, count_library, count_policy, counting, dearest, scripted
+from .places import BENCH, CAPBENCH, CAPD, CRATES
 
-HERE = Path(__file__).resolve().parent
-ROOT = HERE.parent
-KEPT = HERE / "guard.txt"
-count, embed, entries, single, run, sizes = map(counting.script, ("count", "embed", "entries", "lines", "run", "sizes"))
+KEPT = BENCH / "guard.txt"
 
 # How much of each workload is counted: some tens of millions of instructions.
 SHORT = {"tenants": 6000, "shared": 4000, "moves": 30, "script": 1200, "questions": 7000, "serve": 1000}
 SEED = 1
 THREADED = ("serve",)
-# The work on entries that is counted, of bench/entries, and what it is called here: in each a line, or a round of some, is read, done
+# The work on entries that is counted, of `count_entries`, and what it is called here: in each a line, or a round of some, is read, done
 # and answered. And beside how many inodes it and a change of a size are.
 VERBS = {"open": "line-open", "revoke": "lines-revoke", "rename": "line-rename"}
 BESIDE = (100, 10000)
@@ -83,9 +70,9 @@ class Line:
 
 def workloads(counts):
     """Each workload's name, and the words that run it, with another count where one is given."""
-    for name, crate, words in run.workloads(HERE):
-        work, times, *rest = run.said(words, SEED)
-        yield name, [ROOT / "crates" / crate / "out" / crate, work, counts.get(name, times), *rest]
+    for name, crate, words in ab.workloads(BENCH):
+        work, times, *rest = ab.said(words, SEED)
+        yield name, [CRATES / crate / "out" / crate, work, counts.get(name, times), *rest]
 
 
 def whole(words):
@@ -110,20 +97,20 @@ def pieces():
     """All that is counted: its name, in what, and the call that counts it."""
     for name, words in workloads(SHORT):
         yield name, INSTRUCTIONS, partial(whole, words)
-    for verb, references in (("verdict", count.VERDICTS), ("parse", count.PARSES)):
+    for verb, references in (("verdict", count_policy.VERDICTS), ("parse", count_policy.PARSES)):
         for work in (reference.work(verb, kind) for reference in references for kind in ("plain", "ids")):
-            yield work, INSTRUCTIONS, partial(capbench.of_one, work, count.FEW, count.MANY)
-    for words in embed.calls():
-        yield "-".join(("embed", *words)), INSTRUCTIONS, partial(embed.of_one, *words)
+            yield work, INSTRUCTIONS, partial(capbench.of_one, work, count_policy.FEW, count_policy.MANY)
+    for words in count_library.calls():
+        yield "-".join(("embed", *words)), INSTRUCTIONS, partial(count_library.of_one, *words)
     for size in BESIDE:
-        for it in (it for it in entries.VERBS if it.verb in VERBS):
+        for it in (it for it in count_entries.VERBS if it.verb in VERBS):
             yield f"{VERBS[it.verb]}-{size}", INSTRUCTIONS, partial(scripted.of_one, f"{it.verb}-{size}", it.few, it.many)
-        yield f"size-{size}", INSTRUCTIONS, partial(sizes.of_one, CACHING, sizes.size, size)
+        yield f"size-{size}", INSTRUCTIONS, partial(count_holders.of_one, CACHING, count_holders.size, size)
     for size in BESIDE:
         work = f"explain-1-{size}"
         yield work, INSTRUCTIONS, partial(capbench.of_one_asked, work, *ASKED)
-    for kind in single.KINDS:
-        yield f"line-{kind.name}", INSTRUCTIONS, partial(single.of_last, kind.name, kind.few)
+    for kind in dearest.KINDS:
+        yield f"line-{kind.name}", INSTRUCTIONS, partial(dearest.of_last, kind.name, kind.few)
     for name, words in workloads({}):
         yield name, MEMORY, partial(peak, words)
 
@@ -166,12 +153,12 @@ def judged(counted, line, kit):
 
 def prepare(names):
     """Ends where what is counted was not built."""
-    programs = [words[0] for _, words in workloads({})] + [capbench.PROGRAM, scripted.PROGRAM]
+    programs = [words[0] for _, words in workloads({})] + [CAPBENCH, CAPD]
     for program in programs:
         if not program.exists():
-            sys.exit(f"bench/guard: no {program}: rt ci leaves it")
+            sys.exit(f"bench/bench guard: no {program}: rt ci leaves it")
     if any(name.startswith("embed-") for name in names):
-        embed.build()
+        count_library.build()
 
 
 def counted_all(asked, jobs):
@@ -186,15 +173,10 @@ def counted_all(asked, jobs):
                 it.cancel()
 
 
-def words_of(args):
-    parser = argparse.ArgumentParser(description=__doc__, formatter_class=argparse.RawDescriptionHelpFormatter)
-    parser.add_argument("names", nargs="*", metavar="NAME")
-    parser.add_argument("--renew", action="store_true")
-    parser.add_argument("--jobs", type=int, default=len(os.sched_getaffinity(0)))
-    told = parser.parse_args(args)
-    if told.renew and not told.names:
-        parser.error("--renew takes the names of what is to be written down, or all")
-    return told
+def arguments(parser):
+    parser.add_argument("names", nargs="*", metavar="NAME", help="count these, as tenants and line-open-100, and not all")
+    parser.add_argument("--renew", action="store_true", help="write these down, or `all`, with new bounds")
+    parser.add_argument("--jobs", type=int, default=len(os.sched_getaffinity(0)), metavar="N", help="count so many at a time (default: one on each processor)")
 
 
 def choose(told):
@@ -202,9 +184,9 @@ def choose(told):
     every = list(pieces())
     unknown = set(told.names) - {name for name, _, _ in every} - ({"all"} if told.renew else set())
     if unknown:
-        sys.exit(f"bench/guard: nothing here is called {', '.join(sorted(unknown))}")
+        sys.exit(f"bench/bench guard: nothing here is called {', '.join(sorted(unknown))}")
     if not counting.tells_peaks():
-        print("bench/guard: there is no gdb here that may look at a program, so no memory is counted\n")
+        print("bench/bench guard: there is no gdb here that may look at a program, so no memory is counted\n")
         every = [it for it in every if it[1] != MEMORY]
     is_all = not told.names or "all" in told.names
     return [it for it in every if is_all or it[0] in told.names]
@@ -215,10 +197,12 @@ def row(name, unit, counted, line, kit, verdict):
     return f"| {name}{', kB' if unit == MEMORY else ''} | {counted:,} | {cells} | {verdict} |"
 
 
-def main(args):
-    told = words_of(args)
+def main(told):
+    if told.renew and not told.names:
+        print("bench/bench guard: --renew takes the names of what is to be written down, or all", file=sys.stderr)
+        return 2
     if not shutil.which("valgrind"):
-        print("bench/guard: there is no valgrind here, so nothing is counted")
+        print("bench/bench guard: there is no valgrind here, so nothing is counted")
         return 0
     asked, lines, kit, faults = choose(told), kept_lines(), this_kit(), 0
     prepare([name for name, _, _ in asked])
@@ -241,7 +225,3 @@ def main(args):
         print(f"\nThis is {kit}; counts were written down with {', '.join(kits)}, and may be further above here.")
     print(f"\n{len(asked)} counted, {faults} not within their bound")
     return 1 if faults or strays else 0
-
-
-if __name__ == "__main__":
-    sys.exit(main(sys.argv[1:]))

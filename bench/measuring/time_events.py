@@ -1,14 +1,9 @@
-#!/usr/bin/env python3
 """Runs scripts of real events, and says how long each takes.
 
 60 clients share so many files, each of which two of them open: it is made, shared, changed four times, of which each change
 waits for what both cache, cut short and moved into the directory of the other, by 56 lines with all polls and acknowledgements
 in between. No line is refused or denied. The numbers of changes that a file's lines acknowledge are the same for each file, so
 they are found once, by a script of one file.
-
-    bench/events                    with 5,000, 10,000 and 20,000 files
-    bench/events 1000 2000          with so many
-    bench/events --write 1000       writes the script, and runs nothing
 
 It takes crates/capd/out/capd as it is, which `rt ci` leaves there.
 """
@@ -17,10 +12,9 @@ import resource
 import subprocess
 import sys
 import time
-from pathlib import Path
 
-ROOT = Path(__file__).resolve().parent.parent
-PROGRAM = ROOT / "crates" / "capd" / "out" / "capd"
+from .places import CAPD, be_there
+
 CLIENTS = 60
 SIZES = [5_000, 10_000, 20_000]
 
@@ -55,7 +49,7 @@ def said(line, first, second, clients, file):
 
 def answers(lines):
     """What is answered to each line: its lines."""
-    text = subprocess.run([PROGRAM, "run"], input="\n".join(lines) + "\n", capture_output=True, text=True, check=True).stdout
+    text = subprocess.run([CAPD, "run"], input="\n".join(lines) + "\n", capture_output=True, text=True, check=True).stdout
     groups = []
     for line in text.splitlines():
         if line.startswith("  "):
@@ -93,7 +87,7 @@ def run(files):
     text = script(files)
     count = text.count("\n")
     before, start = resource.getrusage(resource.RUSAGE_CHILDREN), time.monotonic()
-    done = subprocess.run([PROGRAM, "run"], input=text, capture_output=True, text=True, check=True)
+    done = subprocess.run([CAPD, "run"], input=text, capture_output=True, text=True, check=True)
     wall, after = time.monotonic() - start, resource.getrusage(resource.RUSAGE_CHILDREN)
     if any(line.startswith(("refused", "denied")) for line in done.stdout.splitlines()):
         sys.exit("a line was refused")
@@ -101,13 +95,12 @@ def run(files):
     print(f"{files:>7} files {count:>9} lines {len(text):>10} bytes {spent:7.2f} s of processor {wall:7.2f} s {count / spent:9.0f} lines a second")
 
 
-def main(words):
-    if words[:1] == ["--write"]:
-        sys.stdout.write(script(int(words[1])))
-        return
-    for files in [int(word) for word in words] or SIZES:
+def arguments(parser):
+    parser.add_argument("files", nargs="*", type=int, metavar="FILES", help="so many files (default: 5000, 10000 and 20000)")
+
+
+def main(given):
+    be_there(CAPD)
+    for files in given.files or SIZES:
         run(files)
-
-
-if __name__ == "__main__":
-    main(sys.argv[1:])
+    return 0

@@ -1,14 +1,11 @@
-#!/usr/bin/env python3
 """Times questions on policy, which threads ask beside one that changes modes all the time, and the same questions under a lock
 that each change takes too.
 
 Each piece of work is run with few questions and with many, by turns, and the median of the seconds is parted among the
 questions between: the start, and the tree that is made, fall out.
 
-    bench/questions            1, 2 and 4 threads, as many as there are processors, on 10,000 inodes in chains
-    bench/questions 100        the same on 100, 1000 or 60000
-
-It takes crates/capbench/out/capbench as it is; bench/count builds it. Nothing else may work on the machine.
+1, 2 and 4 threads ask, as many as there are processors. It takes crates/capbench/out/capbench as it is, which `rt ci` leaves there.
+Nothing else may work on the machine.
 """
 
 import os
@@ -17,8 +14,8 @@ import subprocess
 import sys
 import time
 
-sys.dont_write_bytecode = True
-from capbench import be_there, command
+from .capbench import command
+from .places import CAPBENCH, be_there
 
 READERS = (1, 2, 4)
 WAYS = ("explain", "locked")
@@ -50,8 +47,13 @@ def rates(works):
     }
 
 
-def main(size):
-    be_there()
+def arguments(parser):
+    parser.add_argument("size", nargs="?", default="10000", metavar="INODES", help="on so many inodes in chains: 100, 1000, 10000 (the default) or 60000")
+
+
+def main(given):
+    be_there(CAPBENCH)
+    size = given.size
     readers = [count for count in READERS if count <= (os.cpu_count() or 1)]
     found = rates([f"{way}-{count}-{size}" for way in WAYS for count in readers])
     print("| threads that ask | beside: questions a second | of one thread's | under the lock | of one thread's |")
@@ -62,7 +64,4 @@ def main(size):
             rate, one = found[f"{way}-{count}-{size}"], found[f"{way}-1-{size}"]
             cells += [f"{rate:,.0f}", f"{rate / one:.2f}"]
         print(f"| {count} | " + " | ".join(cells) + " |")
-
-
-if __name__ == "__main__":
-    main(*(sys.argv[1:] or ["10000"]))
+    return 0

@@ -7,10 +7,9 @@ reads: so many grants on paths of so many names, for any user or with ids; or a 
 import subprocess
 import sys
 
-import counting
-import scripted
+from . import counting, scripted
+from .places import CAPBENCH
 
-PROGRAM = counting.HERE.parent / "crates" / "capbench" / "out" / "capbench"
 # What each grant has besides its path.
 IDS = {"plain": "", "ids": " uid=1000 gids=1000,1001"}
 
@@ -18,19 +17,13 @@ IDS = {"plain": "", "ids": " uid=1000 gids=1000,1001"}
 def build():
     done = subprocess.run(
         ["rt", "run", "--", "shared", "300", "7"],
-        cwd=PROGRAM.parent.parent,
+        cwd=CAPBENCH.parent.parent,
         stdout=subprocess.PIPE,
         stderr=subprocess.STDOUT,
         text=True,
     )
     if done.returncode != 0:
         sys.exit(f"capbench does not build:\n{done.stdout}")
-
-
-def be_there():
-    """Ends where the program was not built."""
-    if not PROGRAM.exists():
-        sys.exit(f"no {PROGRAM}: bench/count builds it")
 
 
 def grants(count, depth, kind):
@@ -44,10 +37,10 @@ def command(work, times):
     """The words by which a piece of work is done so many times, and the text that is read."""
     match work.split("-"):
         case [("verdict" | "parse") as verb, count, depth, kind]:
-            return [PROGRAM, verb, times], grants(int(count), int(depth), kind)
+            return [CAPBENCH, verb, times], grants(int(count), int(depth), kind)
         case [way, readers, size]:
             lines = "\n".join(line for line, _ in scripted.deep(int(size)))
-            return [PROGRAM, way, readers, size, times], lines
+            return [CAPBENCH, way, readers, size, times], lines
     sys.exit(f"nothing is called {work}")
 
 

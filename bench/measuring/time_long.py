@@ -1,8 +1,4 @@
-#!/usr/bin/env python3
 """Plays long scripts of which each line is as dear as its kind can be, and says how long they take and how much memory.
-
-    bench/long             each kind, with as many lines as it says below; some minutes
-    bench/long polls       that kind alone
 
 A script may have 16 MiB. Each kind begins with a server that is as full as it may be, and says the same line, or the same few, over and
 over: until the script is full or, where a line is dear, so many times. It is played with half of these lines and with all of them, by
@@ -11,7 +7,6 @@ more than five minutes is ended, and the status is 1 then, or where one does not
 is, which `rt ci` leaves there.
 """
 
-import argparse
 import os
 import resource
 import subprocess
@@ -19,26 +14,24 @@ import sys
 import tempfile
 from collections.abc import Callable, Iterable
 from dataclasses import dataclass
+from functools import partial
 from itertools import chain, count, cycle, islice
-from pathlib import Path
 
-PROGRAM = Path(__file__).resolve().parent.parent / "crates" / "capd" / "out" / "capd"
+from . import lines
+from .lines import kinds_asked, opened, text
+from .places import CAPD, be_there
+
 MIB = 1 << 20
 # The most bytes that a script may have, and the most seconds of the processor that a run may take.
 LONGEST, PATIENCE = 16 * MIB, 300
 
 
-def sessions(clients):
-    return [f"session {client} {client} {client} - allow rw" for client in clients]
+sessions = partial(lines.sessions, flags="rw")
 
 
 def files(number, client=1, directory=1, first=2):
     """Makes so many files, whose inodes are numbered from the first on."""
     return [f"create {client} {directory} f{ino} 644" for ino in range(first, first + number)]
-
-
-def opened(client, inodes, how="r"):
-    return [f"open {client} {ino} {how}" for ino in inodes]
 
 
 # ---- the kinds: the lines that fill the server, and those that are said behind them
@@ -144,20 +137,16 @@ KINDS = (
 )
 
 
-def text(lines):
-    return "".join(f"{line}\n" for line in lines)
-
-
 def play(lines):
     """The seconds of the processor that a script takes, and the most memory that the program had, in bytes."""
     with tempfile.TemporaryFile() as source:
         source.write(text(lines).encode())
         source.seek(0)
         limit = lambda: resource.setrlimit(resource.RLIMIT_CPU, (PATIENCE, PATIENCE))
-        run = subprocess.Popen([PROGRAM, "run"], stdin=source, stdout=subprocess.DEVNULL, preexec_fn=limit)
+        run = subprocess.Popen([CAPD, "run"], stdin=source, stdout=subprocess.DEVNULL, preexec_fn=limit)
         _, status, used = os.wait4(run.pid, 0)
     if status:
-        sys.exit(f"bench/long: a run ended with status {os.waitstatus_to_exitcode(status)}")
+        sys.exit(f"bench/bench time long: a run ended with status {os.waitstatus_to_exitcode(status)}")
     return used.ru_utime + used.ru_stime, used.ru_maxrss * 1024
 
 
@@ -170,21 +159,14 @@ def tell(kind):
     print(f"| `{kind.name}` | {meaning} | {figures} |", flush=True)
 
 
-def main(words):
-    parser = argparse.ArgumentParser(description=__doc__, formatter_class=argparse.RawDescriptionHelpFormatter)
-    parser.add_argument("names", nargs="*", metavar="KIND")
-    told = parser.parse_args(words)
-    unknown = set(told.names) - {kind.name for kind in KINDS}
-    if unknown:
-        parser.error(f"no kind of script is called {', '.join(sorted(unknown))}: {', '.join(kind.name for kind in KINDS)}")
-    if not PROGRAM.exists():
-        sys.exit(f"no {PROGRAM}: rt ci builds it")
+def arguments(parser):
+    kinds_asked(parser, KINDS)
+
+
+def main(given):
+    be_there(CAPD)
     print("| Lines | What they do | how many | seconds of half | of all | times | microseconds for a line | MiB |")
     print("|---|---|---|---|---|---|---|---|")
-    for kind in KINDS:
-        if not told.names or kind.name in told.names:
-            tell(kind)
-
-
-if __name__ == "__main__":
-    main(sys.argv[1:])
+    for kind in given.kinds:
+        tell(kind)
+    return 0

@@ -1,30 +1,26 @@
-#!/usr/bin/env python3
-"""Counts the instructions of one call of the library for C, as bench/count does those of the policy.
+"""Counts the instructions of one call of the library for C, as `count policy` does those of the policy.
 
 A verdict by a block, whose grants were read once, stands beside that of the MDS by grants that it read once: by a path as a server has
-it, without a slash in front, and an access or a mask, and by a path with a slash in front. The bound is 0.7 of it. A verdict by a text reads the grants each time, so it stands beside what the MDS takes to read the same text and to judge by it once.
+it, without a slash in front, and an access or a mask, and by a path with a slash in front. The bound is 0.7 of it. A verdict by a text
+reads the grants each time, so it stands beside what the MDS takes to read the same text and to judge by it once.
 
-    bench/embed            the tables; it builds out/c/counted over out/c/libbaybowl.a, which tools/dev c-library builds
-    bench/embed --mds      the first table beside the ceph-mds that bench/mds fetches and counts too
-
-The status is 0 where each verdict by a block is within the bound.
+It builds out/c/counted over out/c/libbaybowl.a, which `tools/dev c-library` builds. The status is 0 where each verdict by a block is
+within the bound.
 """
 
 import subprocess
-import sys
-from pathlib import Path
 
-sys.dont_write_bytecode = True
-import counting
+from . import counting, mds
+from .count_policy import PARSES, VERDICTS
+from .places import LIBRARY, ROOT, be_there
 
-ROOT = Path(__file__).resolve().parent.parent
-OUT = ROOT / "out" / "c"
+COUNTED = LIBRARY.parent / "counted"
 FEW, MANY = 100, 300
 BOUND = 0.7
 # How a block is asked, and what the table says of it.
 FORMS = {"own": "by a path as a server has it", "mask": "and by a mask", "once": "by a path with a slash in front"}
 # A directory as containers have it, with a path of 93 bytes: an inode in it, and one beside it, which is denied. What the MDS takes is
-# what bench/mds counted.
+# what `bench/bench mds` counted.
 VOLUMES = {"csi": 261, "beside": 278}
 # The calls that there is nothing to compare with.
 OTHERS = {
@@ -35,9 +31,8 @@ OTHERS = {
 
 
 def cells():
-    """The counts of the MDS for a verdict and for the reading of a text, which stand in bench/count, each with the two kinds of grants."""
-    module = counting.script("count")
-    for verdict, parse in zip(module.VERDICTS, module.PARSES):
+    """The counts of the MDS for a verdict and for the reading of a text, which stand in `count_policy`, each with the two kinds of grants."""
+    for verdict, parse in zip(VERDICTS, PARSES):
         for kind in ("plain", "ids"):
             yield verdict, parse, kind
 
@@ -70,13 +65,13 @@ def share(ours, theirs):
     return f"{ours:,.0f} | {ours / theirs:.3f}{'' if is_within(ours, theirs) else ' ABOVE'}"
 
 
-def by_block(mds):
-    """A verdict by grants that were read once, and whether each is within the bound. `mds` counts that of the program that is there, if
-    it is to be counted."""
-    print(f"| grants read once | the MDS{', counted now' if mds else ''} | {' | share | '.join(FORMS.values())} | share |\n|{'---|' * 8}")
+def by_block(is_mds_counted):
+    """A verdict by grants that were read once, and whether each is within the bound. Those of the MDS are counted too, where they are to
+    be."""
+    print(f"| grants read once | the MDS{', counted now' if is_mds_counted else ''} | {' | share | '.join(FORMS.values())} | share |\n|{'---|' * 8}")
     are_within = True
     for name, words, theirs in blocks():
-        if mds:
+        if is_mds_counted:
             theirs = mds.of_one(words[0], words[1], words[2] == "ids")
         ours = [of_one(form, *words) for form in FORMS]
         are_within = are_within and all(is_within(it, theirs) for it in ours)
@@ -85,16 +80,15 @@ def by_block(mds):
 
 
 def build():
-    if not (OUT / "libbaybowl.a").exists():
-        sys.exit("no out/c/libbaybowl.a: tools/dev c-library builds it")
+    be_there(LIBRARY)
     source = ROOT / "c" / "tests" / "counted.c"
-    words = ["gcc", "-std=c11", "-O2", f"-I{ROOT}/c/include", source, OUT / "libbaybowl.a", "-o", OUT / "counted"]
+    words = ["gcc", "-std=c11", "-O2", f"-I{ROOT}/c/include", source, LIBRARY, "-o", COUNTED]
     subprocess.run([str(it) for it in words], check=True)
 
 
 def counted(words, times):
     """The instructions of the whole program."""
-    return counting.counted([OUT / "counted", *words, times])[0]
+    return counting.counted([COUNTED, *words, times])[0]
 
 
 def of_one(*words):
@@ -102,15 +96,15 @@ def of_one(*words):
     return (counted(words, MANY) - counted(words, FEW)) / (MANY - FEW)
 
 
-def main():
-    words = sys.argv[1:]
-    if words not in ([], ["--mds"]):
-        sys.exit(__doc__)
+def arguments(parser):
+    parser.add_argument("--mds", action="store_true", help="the first table beside the ceph-mds that `bench/bench mds` fetches, counted now")
+
+
+def main(given):
     build()
-    mds = counting.script("mds") if words else None
-    if mds:
+    if given.mds:
         mds.prepare()
-    are_within = by_block(mds)
+    are_within = by_block(given.mds)
     print("\n| grants read each time | a verdict by the text | the MDS, text read and one verdict | share |\n|---|---|---|---|")
     for verdict, parse, kind in cells():
         ours = of_one(*words_of("verdict", verdict, kind))
@@ -119,7 +113,3 @@ def main():
     for what, words in OTHERS.items():
         print(f"\n{what}: {of_one(*words):,.0f}")
     return 0 if are_within else 1
-
-
-if __name__ == "__main__":
-    sys.exit(main())

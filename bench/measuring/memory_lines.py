@@ -1,29 +1,21 @@
-#!/usr/bin/env python3
 """Tells how much memory single lines leave behind: in the history, which keeps each event and its answer, and in what the server holds.
-
-    bench/left               each kind of line
-    bench/left read-values   that kind alone
 
 Each kind makes a script that repeats some lines, once with few and once with many turns. What one turn leaves is by how much the
 most memory that the program ever had grew (`ru_maxrss`), over the turns more. It takes crates/capd/out/capd as it is, which `rt ci`
 leaves there.
 """
 
-import argparse
 import os
 import subprocess
 import sys
 import tempfile
 from collections.abc import Callable
 from dataclasses import dataclass
-from pathlib import Path
 
-PROGRAM = Path(__file__).resolve().parent.parent / "crates" / "capd" / "out" / "capd"
+from .lines import kinds_asked, sessions
+from .places import CAPD, be_there
+
 VALUES, VALUE = 64, 4096
-
-
-def sessions(clients):
-    return [f"session {client} {client} {client} - allow rwps" for client in range(1, clients + 1)]
 
 
 def values(count):
@@ -95,24 +87,23 @@ def peak(once, turn, turns):
         for lines in [once, *(turn for _ in range(turns))]:
             script.writelines(f"{line}\n".encode() for line in lines)
         script.seek(0)
-        run = subprocess.Popen([PROGRAM, "run"], stdin=script, stdout=subprocess.DEVNULL, stderr=subprocess.PIPE)
+        run = subprocess.Popen([CAPD, "run"], stdin=script, stdout=subprocess.DEVNULL, stderr=subprocess.PIPE)
         _, status, used = os.wait4(run.pid, 0)
     if status:
-        sys.exit(f"bench/left: {run.stderr.read().decode().strip()}")
+        sys.exit(f"bench/bench memory lines: {run.stderr.read().decode().strip()}")
     return used.ru_maxrss * 1024
 
 
-def main():
-    parser = argparse.ArgumentParser(description=__doc__, formatter_class=argparse.RawDescriptionHelpFormatter)
-    parser.add_argument("kind", nargs="?", choices=[kind.name for kind in KINDS])
-    given = parser.parse_args()
+def arguments(parser):
+    kinds_asked(parser, KINDS)
+
+
+def main(given):
+    be_there(CAPD)
     print("| Lines | What they do | peak of few, kB | peak of many, kB | bytes for one turn |\n|---|---|---|---|---|")
-    for kind in KINDS:
-        if given.kind in (None, kind.name):
-            once, turn = kind.make()
-            few, many = (peak(once, turn, turns) for turns in (kind.few, kind.many))
-            left = (many - few) / (kind.many - kind.few)
-            print(f"| `{kind.name}` | {kind.make.__doc__} | {few // 1024:,} | {many // 1024:,} | {left:,.0f} |", flush=True)
-
-
-main()
+    for kind in given.kinds:
+        once, turn = kind.make()
+        few, many = (peak(once, turn, turns) for turns in (kind.few, kind.many))
+        left = (many - few) / (kind.many - kind.few)
+        print(f"| `{kind.name}` | {kind.make.__doc__} | {few // 1024:,} | {many // 1024:,} | {left:,.0f} |", flush=True)
+    return 0

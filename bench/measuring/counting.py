@@ -1,4 +1,4 @@
-"""What the scripts that count have in common: callgrind, gdb, and one another."""
+"""How instructions and memory are counted: by callgrind and gdb."""
 
 import ctypes
 import re
@@ -7,12 +7,8 @@ import shutil
 import subprocess
 import sys
 import tempfile
-from importlib.machinery import SourceFileLoader
-from importlib.util import module_from_spec, spec_from_loader
 from pathlib import Path
 
-sys.dont_write_bytecode = True
-HERE = Path(__file__).resolve().parent
 # All programs are counted in the same surroundings: these lie on a program's stack, and where it begins can count.
 SURROUNDINGS = {"PATH": "/usr/bin:/bin", "LC_ALL": "C"}
 # Valgrind runs one thread at a time. Where it lets the system choose which, one that asks beside one that goes on all the time may
@@ -22,15 +18,6 @@ IN_TURN = ["--fair-sched=yes"]
 LONGEST = 300
 # The call of prctl by which a process, and what it starts, has its memory in pages of the common size alone.
 SMALL_PAGES = (41, 1, 0, 0, 0)
-
-
-def script(name):
-    """A script of this folder as a module."""
-    loader = SourceFileLoader(name, str(HERE / name))
-    module = module_from_spec(spec_from_loader(name, loader))
-    sys.modules[name] = module
-    loader.exec_module(module)
-    return module
 
 
 def callgrind(words, flags, given=""):

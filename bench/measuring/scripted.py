@@ -9,9 +9,9 @@ import sys
 from collections.abc import Callable, Iterable, Iterator
 from dataclasses import dataclass
 
-import counting
+from . import counting
+from .places import CAPD
 
-PROGRAM = counting.HERE.parent / "crates" / "capd" / "out" / "capd"
 # Who makes all inodes, who reads what the first writes, and who has each inode open.
 MAKER, READER, HOLDER = 1, 2, 3
 ROOT = 1
@@ -262,12 +262,6 @@ def texts(word, times):
     return tuple("".join(f"{it}\n" for it in them) for them in (lines, answers))
 
 
-def be_there():
-    """Ends where the program was not built."""
-    if not PROGRAM.exists():
-        sys.exit(f"no {PROGRAM}: rt ci builds it")
-
-
 def compare(word, wanted, written):
     """Ends where a line was answered otherwise: the work was not what its word says."""
     if written == wanted:
@@ -280,7 +274,7 @@ def compare(word, wanted, written):
 def counted(word, times):
     """The instructions of the whole program."""
     script, wanted = texts(word, times)
-    found, written = counting.counted([PROGRAM, "run"], script)
+    found, written = counting.counted([CAPD, "run"], script)
     compare(word, wanted, written)
     return found
 
@@ -299,6 +293,6 @@ def peak(word, times):
 
 
 def told_peak(word, script, wanted):
-    found, written = counting.told_peak([PROGRAM, "run"], script)
+    found, written = counting.told_peak([CAPD, "run"], script)
     compare(word, wanted, written)
     return found

@@ -1,25 +1,18 @@
-#!/usr/bin/env python3
 """Counts the instructions of lines of a script on inodes and on entries, beside T inodes.
 
 Each piece of work is done in two scripts under callgrind, a different number of times, and the difference of the two counts is divided
-by the difference of the two numbers, as bench/count does: what stands there before, T inodes and mostly T entries, falls out. So a
+by the difference of the two numbers, as `count policy` does: what stands there before, T inodes and mostly T entries, falls out. So a
 count has the reading of the lines in it, the work, and the writing of what is answered, which has to be what the work is about.
 
-    bench/entries              beside 100, 1,000, 10,000 and 60,000 inodes that a client has open, some four minutes
-    bench/entries 100 1000     beside so many
-    bench/entries --trees      lookups and creations in trees of so many inodes, in which none is open
-    bench/entries --shared     an opening of an inode that 2, 11, 31 and 61 clients have open
-    bench/entries --below      a move of a directory with 100, 1,000 and 10,000 files that are open
-    bench/entries --write open-100 3    writes the script in which such work is done three times, and counts nothing
-
-It takes crates/capd/out/capd as it is, which `rt ci` leaves there.
+All four T take some four minutes. `bench/bench write script` writes the script of a piece of work. It takes crates/capd/out/capd as it
+is, which `rt ci` leaves there.
 """
 
-import sys
+import argparse
 from dataclasses import dataclass
 
-sys.dont_write_bytecode = True
-from scripted import be_there, counted, of_one, texts
+from .places import CAPD, be_there
+from .scripted import counted, of_one
 
 SIZES = (100, 1000, 10000, 60000)
 
@@ -92,22 +85,28 @@ def trees():
         print()
 
 
-TABLES = {"--trees": trees, "--shared": shared, "--below": below}
+def size(word):
+    """One of the sizes that are counted."""
+    if word not in map(str, SIZES):
+        raise argparse.ArgumentTypeError(f"{word} is none of {', '.join(map(str, SIZES))}")
+    return int(word)
 
 
-def main(words):
-    match words:
-        case ["--write", word, times] if times.isdecimal():
-            sys.stdout.write(texts(word, int(times))[0])
-        case [table] if table in TABLES:
-            be_there()
-            TABLES[table]()
-        case sizes if set(sizes) <= {str(size) for size in SIZES}:
-            be_there()
-            report([int(size) for size in sizes] or SIZES)
-        case _:
-            sys.exit(__doc__)
+def arguments(parser):
+    parser.add_argument("sizes", nargs="*", type=size, metavar="T", help="beside so many inodes that a client has open (default: all four)")
+    other = parser.add_mutually_exclusive_group()
+    for table, what in (
+        (trees, "lookups and creations in trees of so many inodes, in which none is open"),
+        (shared, "an opening of an inode that 2, 11, 31 and 61 clients have open"),
+        (below, "a move of a directory with 100, 1,000 and 10,000 files that are open"),
+    ):
+        other.add_argument(f"--{table.__name__}", dest="table", action="store_const", const=table, help=what)
 
 
-if __name__ == "__main__":
-    main(sys.argv[1:])
+def main(given):
+    be_there(CAPD)
+    if given.table:
+        given.table()
+    else:
+        report(given.sizes or SIZES)
+    return 0

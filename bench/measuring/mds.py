@@ -1,25 +1,18 @@
-#!/usr/bin/env python3
-"""Counts the instructions of a verdict of a real MDS, as bench/embed does those of the library: the same grants, the same question,
+"""Counts the instructions of a verdict of a real MDS, as `count library` does those of the library: the same grants, the same question,
 the same way of counting. The program is Debian's ceph-mds, whose packages are put into out/mds and installed nowhere.
 
-    bench/mds                    the table; apt-get, dpkg, g++ and valgrind are needed, and some 10 MB from Debian's mirror the first
-                                 time, whose list of packages `apt-get update` fetches
-    bench/mds --questions 20000  asks so many random questions of it and of out/c/libbaybowl.a, which tools/dev c-library builds, in one
-                                 process, and puts each that is answered differently to a difference that docs/GRANTS.md names; the
-                                 status is 1 where one is left over. --seed N asks others
-    bench/mds --seconds          the time of a verdict of both, in one process
+It takes apt-get, dpkg, g++ and valgrind, and some 10 MB from Debian's mirror the first time, whose list of packages `apt-get update`
+fetches; and out/c/libbaybowl.a, which `tools/dev c-library` builds.
 """
 
-import argparse
 import os
 import re
 import subprocess
 import sys
-from pathlib import Path
 
-ROOT = Path(__file__).resolve().parent.parent
+from .places import BENCH, LIBRARY, ROOT, be_there
+
 OUT = ROOT / "out" / "mds"
-LIBRARY = ROOT / "out" / "c" / "libbaybowl.a"
 LIBRARIES = OUT / "root" / "usr" / "lib" / "x86_64-linux-gnu"
 # The program, and what it loads and Debian's base lacks.
 PACKAGES = ["ceph-mds", "librados2", "liblua5.3-0", "libfmt9", "libboost-thread1.74.0", "libboost-iostreams1.74.0", "libboost-random1.74.0"]
@@ -36,17 +29,16 @@ def fetch():
     packages.mkdir(parents=True, exist_ok=True)
     done = subprocess.run(["apt-get", "-q", "download", *PACKAGES], cwd=packages, stdout=subprocess.PIPE, stderr=subprocess.STDOUT, text=True)
     if done.returncode != 0:
-        sys.exit(f"{done.stdout}bench/mds: no packages; apt-get update fetches their list")
+        sys.exit(f"{done.stdout}bench/bench mds: no packages; apt-get update fetches their list")
     for package in sorted(packages.glob("*.deb")):
         subprocess.run(["dpkg", "-x", package, OUT / "root"], check=True)
 
 
 def build():
     """The library goes into what is preloaded, so that both are asked in one process."""
-    if not LIBRARY.exists():
-        sys.exit("no out/c/libbaybowl.a: tools/dev c-library builds it")
+    be_there(LIBRARY)
     words = ["g++", "-std=c++17", "-D_GNU_SOURCE", "-O2", "-Wall", "-Wextra", "-shared", "-fPIC", f"-I{ROOT}/c/include"]
-    subprocess.run([*words, ROOT / "bench" / "mds.cc", LIBRARY, "-o", OUT / "mds.so", "-ldl"], check=True)
+    subprocess.run([*words, BENCH / "mds.cc", LIBRARY, "-o", OUT / "mds.so", "-ldl"], check=True)
 
 
 def prepare():
@@ -85,17 +77,19 @@ def timed(grants, depth, has_ids):
     return f"{mds:.1f} | {ours:.1f} | {ours / mds:.2f}"
 
 
-def main():
-    parser = argparse.ArgumentParser(description=__doc__, formatter_class=argparse.RawDescriptionHelpFormatter)
-    parser.add_argument("--questions", type=int)
-    parser.add_argument("--seed", type=int, default=1)
-    parser.add_argument("--seconds", action="store_true")
-    args = parser.parse_args()
+def arguments(parser):
+    parser.add_argument("--questions", type=int, metavar="N", help="ask so many random questions of it and of the library, in one process, and put "
+                        "each that is answered differently to a difference that docs/GRANTS.md names; the status is 1 where one is left over")
+    parser.add_argument("--seed", type=int, default=1, metavar="N", help="ask other questions")
+    parser.add_argument("--seconds", action="store_true", help="the time of a verdict of both, in one process")
+
+
+def main(args):
     prepare()
     if args.questions is not None:
         done = run([], MDS_ASK=f"{args.seed} {args.questions}")
         print(done.stdout + done.stderr, end="")
-        sys.exit(done.returncode)
+        return done.returncode
     cells = [(grants, depth, has_ids) for grants, depth in CELLS for has_ids in (False, True)]
     if args.seconds:
         print("| grants | a verdict of ceph-mds, ns | of the library, ns | share |\n|---|---|---|---|")
@@ -104,7 +98,4 @@ def main():
     for cell in cells:
         name = cell[0] if cell[1] == 0 else f"{cell[0]} of {cell[1]} names"
         print(f"| {name}, {'ids' if cell[2] else 'plain'} | {timed(*cell) if args.seconds else f'{of_one(*cell):,.0f}'} |", flush=True)
-
-
-if __name__ == "__main__":
-    main()
+    return 0
