@@ -16,11 +16,9 @@ import tempfile
 from collections import Counter, defaultdict
 from pathlib import Path
 
-from .workspace import CRATES
+from .workspace import CORE, CRATES
 
 APPLY = "capcore::step::Core::apply"
-# The crates that make the step; those below each know one thing.
-CORE = ["capcore", "capsteps", "capacts", "caprules", "capnotes", "capevents"]
 # The lines of a script, of which the last is walked.
 STEPS = {
     "open": "session 1 1001 1001 - allow rw; session 2 1002 1002 - allow rw; create 1 1 notes 0644; open 1 2 rw; open 2 2 r",

@@ -1,24 +1,28 @@
 """Prints how large the house is: what of the sources and pages is to become smaller, or to stay small, each beside its bound.
 
 The status is 0, also where a bound is not met: this tells, and decides nothing. It reads the sources as `rt fmt` lays them out. The
-core's crates are capevents, capnotes, caprules, capacts, capsteps and capcore. A page is README.md and each other .md of the root, of
-docs/ and of a crate.
+core's crates are those that make its step. A page is README.md and each other .md of the root, of docs/ and of a crate.
+
+A value is for a proof alone where a `let` takes it, no code behind that reads it, and a call without an effect gives it. A call has an
+effect where a function of ours with its name takes a `&mut`, where it is a macro, or where it is none of ours and not known to read alone.
+Where no call gives the value, but a field, that costs nothing, and is told in a line of its own.
 """
 
 import re
-from collections import Counter
+from collections import Counter, defaultdict
 
-from .workspace import CRATES, ROOT
+from .sources import TOKEN, behind_types, end_of, until, without_clauses
+from .workspace import CORE, CRATES, ROOT
 
-CORE = ["capevents", "capnotes", "caprules", "capacts", "capsteps", "capcore"]
-# The crates whose functions are to have few parameters.
-NARROW = ["capcore", "capsteps", "capacts", "lockmachine"]
 MOST_PARAMETERS, MOST_LINES, LONGEST_FILE = 6, 40, 800
 FUNCTION = re.compile(r"( *)(?:pub(?:\([a-z]+\))? )?(?:const )?(?:unsafe )?(?:extern \"C\" )?fn (\w+)")
-# A call whose value no code uses, and the comment, up to three lines above, by which it is there for a proof. A method that names a
-# field, as `let _last = self.last;`, calls nothing and costs nothing.
-UNUSED = re.compile(r"\s*let (_\w+|\((_\w+(, )?)+\)) = .*\(")
-LOOK = re.compile(r"\s*// .*\b([Ll]ook|look-up|And one)\b")
+# What takes values by their names, but for a pattern that may fail.
+LET = re.compile(r"(?<!if )(?<!while )\blet (?:mut )?(\w+|\((?:mut )?\w+(?:, (?:mut )?\w+)*,?\))(?:: [^=;]+?)? = ")
+CALL = re.compile(r"\b([a-z_]\w*)(?:::<[^()]*?>)?(\(|!)")
+# A value that ends the function, or goes by a test, is used.
+TURNS = re.compile(r"\?|\b(?:return|break|continue|if|match|loop|for|while)\b")
+# Calls of std and the kit that read, and do nothing else.
+READING = set("alloc as_bytes as_slice as_str capacity clone contains copied first get is_empty is_err is_none is_ok is_some iter last len".split())
 VARIANTS = re.compile(r"^use [\w.]*\.declared\.event\.Event\.TheVariants as (\w+)", re.MULTILINE)
 
 
@@ -40,22 +44,15 @@ def short(path):
     return str(path.relative_to(ROOT)).removeprefix("crates/")
 
 
-def parameters(text):
-    """How many parameters stand in the brackets that the text begins with, `self` among them."""
-    depth, parts, part = 0, [], ""
-    for before, sign in zip(" " + text, text):
-        if sign in "([{<":
-            depth += 1
-        elif sign in ")]}" or sign == ">" and before not in "-=":
-            depth -= 1
-        if depth == 0:
-            break
-        if sign == "," and depth == 1:
-            parts.append(part)
-            part = ""
-        elif not (sign == "(" and depth == 1):
-            part += sign
-    return sum(1 for part in [*parts, part] if part.strip())
+def parameters(tokens):
+    """How many parameters stand in the brackets behind a function's name, `self` among them."""
+    start = behind_types(tokens, 0) if tokens[:1] == ["<"] else 0
+    depth, is_begun, count = 0, False, 0
+    for token in tokens[start + 1 : end_of(tokens, start) - 1]:
+        depth += (token in ("(", "[", "{", "<")) - (token in (")", "]", "}", ">"))
+        is_begun = token != "," or depth > 0
+        count += token == "," and depth == 0
+    return count + is_begun
 
 
 def functions(path):
@@ -65,11 +62,7 @@ def functions(path):
         if not (begins := FUNCTION.match(line)):
             continue
         indent = begins[1]
-        head = "\n".join(lines[index : index + 40])[begins.end() :]
-        if "(" not in head:
-            continue
-        # The brackets of the parameters stand behind the type parameters.
-        count = parameters(head[head.index("(", head.index(">") if head.startswith("<") else 0) :])
+        count = parameters(TOKEN.findall("\n".join(lines[index : index + 40])[begins.end() :]))
         opened = next((at for at in range(index, len(lines)) if is_opening(lines, at, index, indent)), None)
         if opened is None:
             continue
@@ -83,12 +76,57 @@ def is_opening(lines, at, index, indent):
     return line == indent + "{" or line.endswith("{") and (at == index or line.startswith(indent + ")"))
 
 
-def looks():
+def codes():
+    """The code of each file, with the names that its texts have in braces."""
     for path in files(all_crates(), "src", (".rt",)):
-        lines = lines_of(path)
-        for index, line in enumerate(lines):
-            if UNUSED.match(line) and any(LOOK.match(above) for above in lines[max(index - 3, 0) : index]):
-                yield f"{short(path)}:{index + 1}"
+        names = lambda text: " ".join(re.findall(r"\{(\w+)", text))
+        yield path, without_clauses(path.read_text(encoding="utf-8"), names)
+
+
+def effects(sources):
+    """Whether some function of a name takes a `&mut`."""
+    found = defaultdict(bool)
+    for _, code in sources:
+        for function in re.finditer(r"\bfn (\w+)", code):
+            header = code[function.end() : until(code, function.end(), "{;")]
+            found[function[1]] |= bool(re.search(r"&\s*(?:'\w+ )?mut\b", header))
+    return found
+
+
+def rest_of_block(code, at):
+    """What stands behind a place, up to the end of its block."""
+    depth = 0
+    for place in range(at, len(code)):
+        depth += (code[place] in "([{") - (code[place] in ")]}")
+        if depth < 0:
+            return code[at:place]
+    return code[at:]
+
+
+def unread(code):
+    """Where a `let` stands whose values no code reads, with what it takes."""
+    for found in LET.finditer(code):
+        end = until(code, found.end(), ";")
+        rest, names = rest_of_block(code, end), set(re.findall(r"\w+", found[1])) - {"mut", "_"}
+        if not any(re.search(rf"\b{name}\b", rest) for name in names):
+            yield code.count("\n", 0, found.start()) + 1, code[found.end() : end]
+
+
+def has_effect(value, known):
+    """Whether what gives a value does something besides, or the value is used by what stands around it."""
+    if "&mut" in value or TURNS.search(value):
+        return True
+    return any(sign == "!" or (known[name] if name in known else name not in READING) for name, sign in CALL.findall(value))
+
+
+def for_proofs_alone(sources):
+    """The values that no code uses: those that calls give, and those that fields give."""
+    known, called, named = effects(sources), [], []
+    for path, code in sources:
+        for line, value in unread(code):
+            if not has_effect(value, known):
+                (called if CALL.search(value) else named).append(f"{short(path)}:{line} {' '.join(value.split())}")
+    return called, named
 
 
 def variants():
@@ -128,11 +166,14 @@ def line_count(crates, folder):
 
 def measures():
     """What is measured, its number, its bound in words, and what it counts by name."""
-    wide = [f"{short(path)} {name} {count}" for path in files(NARROW, "src", (".rt",)) for name, count, _ in functions(path)
-            if count > MOST_PARAMETERS]
-    yield f"functions of {', '.join(NARROW)} with over {MOST_PARAMETERS} parameters", len(wide), "none", wide
-    seen = list(looks())
-    yield "looks: calls whose value no code uses, there for a proof alone", len(seen), "none", seen
+    every = [(path, *function) for path in files(all_crates(), "src", (".rt",)) for function in functions(path)]
+    wide = [f"{short(path)} {name} {count}" for path, name, count, _ in every if count > MOST_PARAMETERS]
+    yield f"functions with over {MOST_PARAMETERS} parameters, of all crates", len(wide), "none", wide
+    long = [f"{short(path)} {name} {length}" for path, name, _, length in every if length > MOST_LINES]
+    yield f"functions with over {MOST_LINES} lines, of all crates", len(long), "none but matches over events", long
+    called, named = for_proofs_alone(list(codes()))
+    yield "values that a call gives for a proof alone, of all crates", len(called), "none", called
+    yield "values that a field gives for a proof alone", len(named), "", named
     for folder, what, most in (("specs", "definitions", 6), ("proofs", "proofs", 3)):
         tables = list(event_tables(folder))
         yield f"functions by cases with a row for each event, in {what} of the core", len(tables), f"at most {most}", tables
@@ -141,9 +182,6 @@ def measures():
         yield f"lines of {folder}/ of the core's crates", count, "", []
     yield "lines of all three", sum(counts.values()), "at most 18,900", [
         f"{crate} {sum(line_count([crate], folder) for folder in counts):,}" for crate in CORE]
-    long = [f"{short(path)} {name} {length}" for path in files(all_crates(), "src", (".rt",)) for name, _, length in functions(path)
-            if length > MOST_LINES]
-    yield f"functions with over {MOST_LINES} lines, of all crates", len(long), "none but matches over events", long
     large = [f"{short(path)} {len(lines_of(path)):,}" for folder in counts for path in files(all_crates(), folder)
              if len(lines_of(path)) > LONGEST_FILE]
     yield f"files with over {LONGEST_FILE} lines, of all crates", len(large), "none", large

@@ -29,17 +29,19 @@ def until(tokens, at, ends):
     return at
 
 
-def without_clauses(source):
-    """The code: without comments, texts, clauses and what is a ghost."""
-    source = DEAD.sub(lambda found: "" if found[0].startswith("//") else '""', source)
+def without_clauses(source, in_text=lambda text: ""):
+    """The code, each line where it stood: without comments, clauses and what is a ghost, and of a text what `in_text` leaves of it."""
+
+    def left(found):
+        dead = found[0]
+        return "" if dead.startswith("//") else f'"{in_text(dead)}"' + "\n" * dead.count("\n")
+
+    source = DEAD.sub(left, source)
     code, at = [], 0
     while found := CLAUSE.search(source, at):
-        code.append(source[at : found.start()])
-        at = found.end()
-        if found[0].endswith("{"):
-            at = end_of(source, at - 1)
-            continue
-        at = until(source, at, ";,") + 1
+        end = end_of(source, found.end() - 1) if found[0].endswith("{") else until(source, found.end(), ";,") + 1
+        code += [source[at : found.start()], "\n" * source.count("\n", found.start(), end)]
+        at = end
     return "".join(code) + source[at:]
 
 

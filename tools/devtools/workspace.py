@@ -12,6 +12,9 @@ HEADER = C / "include" / "baybowl.h"
 C_BUILT = ROOT / "out" / "c"
 LIBRARY = C_BUILT / "libbaybowl.a"
 
+# The crates that make the step of the core; those below each know one thing.
+CORE = ["capcore", "capsteps", "capacts", "caprules", "capnotes", "capevents"]
+
 
 def needs():
     """What each crate of crates.txt stands on, in the repository and in the kit."""
