@@ -1,7 +1,7 @@
-// Asks the policy code of a ceph-mds of Debian, in its own process: preloaded, it takes the place of main. bench/mds builds and runs
+// Asks the policy code of a ceph-mds of Debian, in its own process: preloaded, it takes the place of main. `bench/bench mds` builds and runs
 // it. It is what MDSAuthCaps of version 16 exports; the program's own globals are made before main.
 //
-//     MDS_WORK="GRANTS NAMES IDS N"    N verdicts on a write, by the grants of bench/count, read once
+//     MDS_WORK="GRANTS NAMES IDS N"    N verdicts on a write, by the grants of `count policy`, read once
 //     MDS_TIME="GRANTS NAMES IDS N"    the time of one such verdict, of the program and of the library
 //     MDS_ASK="SEED N"                 N random questions, each of the program and of the library, by a mask, a block and a text
 //
@@ -451,7 +451,7 @@ int ask(const char *work) {
     return left_over != 0;
 }
 
-// A cell of the table: the grants of bench/count, read once, and the inode's path.
+// A cell of the table: the grants of `count policy`, read once, and the inode's path.
 struct Cell {
     long times, allowed;
     std::string grants, path;
