@@ -1,7 +1,8 @@
 -- The lists with one more node.
-use Rattle.std.proofs.Common.{◌≡◌, ◌≢◌, ℕ, ◌+◌, ◌<◌, ◌≤◌, Bool, true, false, not, ◌&&◌, ◌||◌, cond, Option, Some, None, IsSome, is_some, List, [], ◌∷◌, ◌++◌, count_by, refl, sym, ap, ◌∙◌, subst, arith, nat_eq, Result, Ok, Err, OnErr, IfOk}
-use Rattle.std.specs.Option.{option_map, option_map_or, option_and_then}
-use Rattle.std.proofs.lemmas.Bool.{eqb-true, eq-eqb}
+use Rattle.std.proofs.Common.{◌≡◌, ◌≢◌, ℕ, ◌+◌, ◌<◌, ◌≤◌, Bool, true, false, not, ◌&&◌, ◌||◌, cond, Option, Some, None, IsSome, is_some, List, [], ◌∷◌, ◌++◌}
+use Rattle.std.proofs.Common.{count_by, refl, sym, ap, ◌∙◌, subst, arith, nat_eq, Result, Ok, Err, OnErr, IfOk}
+use Rattle.std.specs.Option.{option_and_then, option_map, option_map_or}
+use Rattle.std.proofs.lemmas.Bool.{eq-eqb, eqb-true}
 use Rattle.std.specs.FinMap as map
 use Rattle.cap_arena.specs.declared.nodes.Order.{Order}
 use Rattle.cap_arena.specs.declared.nodes.Order.TheVariants as order
@@ -10,16 +11,16 @@ use Rattle.cap_arena.specs.declared.nodes.Joint.{Joint}
 use Rattle.cap_arena.specs.declared.nodes.Linked.{Linked}
 use Rattle.cap_arena.specs.declared.nodes.Node.{Node}
 use Rattle.cap_arena.specs.Nodes.{joint_of}
-use Rattle.cap_arena.specs.Places.{linked_at, next_at, previous_at, with_next_at, appended_ends}
-use Rattle.cap_arena.specs.Heads.{Heads, no_ends, ends_or_none, ends_at, with_room}
+use Rattle.cap_arena.specs.Places.{appended_ends, linked_at, next_at, previous_at, with_next_at}
+use Rattle.cap_arena.specs.Heads.{Heads, ends_at, ends_or_none, no_ends, with_room}
 use Rattle.cap_arena.specs.Walks.{is_among}
-use Rattle.cap_arena.specs.Lists.{Lists, ListName, OfInode, OfClient, OfRecall, order_of, belongs, ends_of, keys, IsLists, KeepsNoEmpty, lists_of}
+use Rattle.cap_arena.specs.Lists.{IsLists, KeepsNoEmpty, ListName, Lists, OfClient, OfInode, OfRecall, belongs, ends_of, keys, lists_of, order_of}
 use Rattle.cap_arena.specs.Calls.{Adds}
 use Rattle.cap_arena.proofs.Rings.{among-append}
-use Rattle.cap_arena.proofs.Writes.{same_order, plain_at, Wrote, Wrote-next}
-use Rattle.cap_arena.proofs.Stands.{stands, Stand, Stand-alike, append_step, one_more, with_on, next_of_joint, previous_of_joint}
-use Rattle.cap_arena.proofs.HeadMaps.{room-others, room-ends, heads_of, with_ends, with_ends-same, with_ends-inode, with_ends-client, recall_differs}
-use Rattle.cap_arena.proofs.Sound.{nowhere_off, off_all, stand_of, Stand-heads, keys_are, list_of, first_some, last_is_place, count-next}
+use Rattle.cap_arena.proofs.Writes.{Wrote, Wrote-next, plain_at, same_order}
+use Rattle.cap_arena.proofs.Stands.{Stand, Stand-alike, append_step, next_of_joint, one_more, previous_of_joint, stands, with_on}
+use Rattle.cap_arena.proofs.HeadMaps.{heads_of, recall_differs, room-ends, room-others, with_ends, with_ends-client, with_ends-inode, with_ends-same}
+use Rattle.cap_arena.proofs.Sound.{Stand-heads, count-next, first_some, keys_are, last_is_place, list_of, nowhere_off, off_all, stand_of}
 
 pub if_ok : {V E : Type 0} (r : Result V E) (P Q : V → Type 0) → ((v : V) → P v → Q v) → IfOk r P → IfOk r Q
 if_ok (Ok v) P Q leads p = leads v p

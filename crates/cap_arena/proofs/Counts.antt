@@ -1,15 +1,16 @@
 -- How many keys the order of recall has.
-use Rattle.std.proofs.Common.{◌≡◌, ℕ, ◌+◌, ◌≤◌, Bool, true, false, ◌||◌, cond, Option, Some, None, is_some, List, [], ◌∷◌, length, filter, count_by, refl, sym, ap, ◌∙◌, arith, nat_eq, zero, suc}
-use Rattle.std.specs.List.{IsDistinct, AllByRecursion}
+use Rattle.std.proofs.Common.{◌≡◌, ℕ, ◌+◌, ◌≤◌, Bool, true, false, ◌||◌, cond, Option, Some, None, is_some, List, [], ◌∷◌, length, filter, count_by, refl, sym}
+use Rattle.std.proofs.Common.{ap, ◌∙◌, arith, nat_eq, zero, suc}
+use Rattle.std.specs.List.{AllByRecursion, IsDistinct}
 use Rattle.std.specs.Option.{option_map, option_map_or}
 use Rattle.std.specs.Cmp.{nat_eq_equiv}
-use Rattle.std.proofs.lemmas.Bool.{eqb-true, eq-eqb, false_from_ne_true}
+use Rattle.std.proofs.lemmas.Bool.{eq-eqb, eqb-true, false_from_ne_true}
 use Rattle.std.proofs.lemmas.List.Sums.{length-filter}
 use Rattle.std.proofs.lemmas.Map.Made.{length-from_same_keys}
 use Rattle.cap_arena.specs.declared.nodes.Linked.{Linked}
 use Rattle.cap_arena.specs.Places.{linked_at}
 use Rattle.cap_arena.specs.Walks.{is_among}
-use Rattle.cap_arena.specs.Lists.{Lists, OfRecall, belongs, keys, count, IsLists}
+use Rattle.cap_arena.specs.Lists.{IsLists, Lists, OfRecall, belongs, count, keys}
 
 -- a key that differs from each is none of them
 out : (ks : List ℕ) (q : ℕ) → AllByRecursion (λ k. nat_eq q k ≡ false) ks → is_among ks q ≡ false

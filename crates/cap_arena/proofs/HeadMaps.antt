@@ -1,15 +1,15 @@
 -- The ends of the lists of inodes and clients, as maps and by names.
 use Rattle.std.proofs.Common.{◌≡◌, ℕ, Bool, true, false, cond, Option, Some, None, IsSome, is_some, refl, sym, ap, subst, ◌∙◌, nat_eq}
 use Rattle.std.specs.Cmp.{nat_cmp_total}
-use Rattle.std.proofs.lemmas.Bool.{eqb-true, eq-eqb}
+use Rattle.std.proofs.lemmas.Bool.{eq-eqb, eqb-true}
 use Rattle.std.specs.FinMap as map
 use Rattle.std.specs.FinMap.{nat_cmp-IsAntisymmetric}
 use Rattle.capbits.specs.declared.ids.ClientId.{ClientId}
 use Rattle.capbits.specs.declared.ids.Ino.{Ino}
-use Rattle.numbered.proofs.Maps.{insert-at, remove-at, insert-here, put_back}
+use Rattle.dense_map.proofs.Maps.{insert-at, insert-here, put_back, remove-at}
 use Rattle.cap_arena.specs.declared.nodes.Ends.{Ends}
-use Rattle.cap_arena.specs.Heads.{Heads, no_ends, ends_or_none, ends_at, kept, kept_if, with_room, without_room}
-use Rattle.cap_arena.specs.Lists.{ListName, OfInode, OfClient, OfRecall, KeepsNoEmpty}
+use Rattle.cap_arena.specs.Heads.{Heads, ends_at, ends_or_none, kept, kept_if, no_ends, with_room, without_room}
+use Rattle.cap_arena.specs.Lists.{KeepsNoEmpty, ListName, OfClient, OfInode, OfRecall}
 
 -- ends that are kept, and ends that go
 pub get-kept : (m : Heads) (k : ℕ) (ends : Ends) → is_some ends.first ≡ true → (q : ℕ) → map.get (map.insert m k ends) q ≡ cond (nat_eq k q) (kept ends) (map.get m q)

@@ -1,7 +1,7 @@
 -- What the calls that change nothing answer.
 use Rattle.std.proofs.Common.{◌≡◌, ℕ, Bool, true, false, ◌||◌, cond, Option, Some, None, List, [], ◌∷◌, refl, sym, ap, ◌∙◌, nat_eq, slice_get}
-use Rattle.std.specs.Option.{option_map, option_map_or, option_and_then}
-use Rattle.std.proofs.lemmas.Bool.{eqb-true, eq-eqb}
+use Rattle.std.specs.Option.{option_and_then, option_map, option_map_or}
+use Rattle.std.proofs.lemmas.Bool.{eq-eqb, eqb-true}
 use Rattle.cap_arena.specs.declared.nodes.Order.TheVariants as order
 use Rattle.cap_arena.specs.declared.nodes.Ends.{Ends}
 use Rattle.cap_arena.specs.declared.nodes.Linked.{Linked}
@@ -10,8 +10,9 @@ use Rattle.capbits.specs.declared.ids.Ino.{Ino}
 use Rattle.cap_arena.specs.Nodes.{joint_of}
 use Rattle.cap_arena.specs.Places.{linked_at, next_at}
 use Rattle.cap_arena.specs.Heads.{Heads, ends_at}
-use Rattle.cap_arena.specs.Walks.{is_among, IsWalk, key_after}
-use Rattle.cap_arena.specs.Lists.{Lists, ListName, OfInode, OfClient, OfRecall, order_of, belongs, node_at, belongs_at, ends_of, next_in, keys, IsLists, lists_of}
+use Rattle.cap_arena.specs.Walks.{IsWalk, is_among, key_after}
+use Rattle.cap_arena.specs.Lists.{IsLists, ListName, Lists, OfClient, OfInode, OfRecall, belongs, belongs_at, ends_of, keys, lists_of, next_in, node_at}
+use Rattle.cap_arena.specs.Lists.{order_of}
 use Rattle.cap_arena.proofs.Rings.{first_step}
 
 -- a walk leads from a key to the one after it

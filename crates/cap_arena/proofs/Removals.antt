@@ -1,7 +1,8 @@
 -- The lists with one node less.
-use Rattle.std.proofs.Common.{◌≡◌, ◌≢◌, ℕ, ◌+◌, ◌≤◌, Bool, true, false, not, ◌&&◌, cond, Option, Some, None, IsSome, is_some, List, reverse, count_by, refl, sym, ap, ◌∙◌, subst, arith, nat_eq, OnSome, IfNone}
+use Rattle.std.proofs.Common.{◌≡◌, ◌≢◌, ℕ, ◌+◌, ◌≤◌, Bool, true, false, not, ◌&&◌, cond, Option, Some, None, IsSome, is_some, List, reverse, count_by, refl}
+use Rattle.std.proofs.Common.{sym, ap, ◌∙◌, subst, arith, nat_eq, OnSome, IfNone}
 use Rattle.std.specs.Option.{option_map, option_map_or}
-use Rattle.std.proofs.lemmas.Bool.{and_parts, eqb-true, eq-eqb}
+use Rattle.std.proofs.lemmas.Bool.{and_parts, eq-eqb, eqb-true}
 use Rattle.std.specs.FinMap as map
 use Rattle.slab.specs.Slab.{Slab, slab_len}
 use Rattle.cap_arena.specs.declared.nodes.Order.{Order}
@@ -10,16 +11,17 @@ use Rattle.cap_arena.specs.declared.nodes.Ends.{Ends}
 use Rattle.cap_arena.specs.declared.nodes.Linked.{Linked}
 use Rattle.cap_arena.specs.declared.nodes.Node.{Node}
 use Rattle.cap_arena.specs.Nodes.{joint_of}
-use Rattle.cap_arena.specs.Places.{linked_at, next_at, previous_at, with_next_at, unlinked, unlinked_ends}
-use Rattle.cap_arena.specs.Heads.{Heads, no_ends, ends_or_none, ends_at, kept, kept_if}
+use Rattle.cap_arena.specs.Places.{linked_at, next_at, previous_at, unlinked, unlinked_ends, with_next_at}
+use Rattle.cap_arena.specs.Heads.{Heads, ends_at, ends_or_none, kept, kept_if, no_ends}
 use Rattle.cap_arena.specs.Walks.{is_among}
-use Rattle.cap_arena.specs.Lists.{ListName, OfInode, OfClient, OfRecall, order_of, belongs, ends_of, keys, IsLists, KeepsNoEmpty, lists_of}
+use Rattle.cap_arena.specs.Lists.{IsLists, KeepsNoEmpty, ListName, OfClient, OfInode, OfRecall, belongs, ends_of, keys, lists_of, order_of}
 use Rattle.cap_arena.specs.Calls.{Removes, keys_without}
-use Rattle.cap_arena.proofs.Rings.{among-reverse, walk_stays, filter_none}
-use Rattle.cap_arena.proofs.Writes.{plain_at, Wrote, Wrote-unlinked, IsPlace}
-use Rattle.cap_arena.proofs.Stands.{stands, Stand, Stand-alike, unlink_step, one_less, with_off}
-use Rattle.cap_arena.proofs.HeadMaps.{heads_of, with_ends, with_ends-same, with_ends-inode, with_ends-client, recall_differs}
-use Rattle.cap_arena.proofs.Sound.{nowhere_off, place_of, stand_of, Stand-heads, keys_are, list_of, first_some, kept_is, count-next, count-previous, heads_are, heads_known}
+use Rattle.cap_arena.proofs.Rings.{among-reverse, filter_none, walk_stays}
+use Rattle.cap_arena.proofs.Writes.{IsPlace, Wrote, Wrote-unlinked, plain_at}
+use Rattle.cap_arena.proofs.Stands.{Stand, Stand-alike, one_less, stands, unlink_step, with_off}
+use Rattle.cap_arena.proofs.HeadMaps.{heads_of, recall_differs, with_ends, with_ends-client, with_ends-inode, with_ends-same}
+use Rattle.cap_arena.proofs.Sound.{Stand-heads, count-next, count-previous, first_some, heads_are, heads_known, kept_is, keys_are, list_of, nowhere_off}
+use Rattle.cap_arena.proofs.Sound.{place_of, stand_of}
 
 -- a slab has no more values after a removal
 pub fewer_left : {X : Type 0} (taken : Option X) (old new : Slab X) → OnSome taken (slab_len new + 1 ≡ slab_len old) → IfNone taken (new ≡ old) → slab_len new ≤ slab_len old

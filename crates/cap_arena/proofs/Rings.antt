@@ -1,14 +1,15 @@
 -- Lists whose links agree both ways, as two walks round a ring: one more key at the end, and one taken out.
-use Rattle.std.proofs.Common.{◌≡◌, ℕ, Bool, true, false, not, ◌&&◌, ◌||◌, cond, Option, Some, None, List, [], ◌∷◌, ◌++◌, filter, reverse, refl, sym, ap, ◌∙◌, subst, slice_get, nat_eq, append-nil}
+use Rattle.std.proofs.Common.{◌≡◌, ℕ, Bool, true, false, not, ◌&&◌, ◌||◌, cond, Option, Some, None, List, [], ◌∷◌, ◌++◌, filter, reverse, refl, sym, ap, ◌∙◌}
+use Rattle.std.proofs.Common.{subst, slice_get, nat_eq, append-nil}
 use Rattle.std.specs.List.{AllByRecursion, IsDistinct}
 use Rattle.std.proofs.Math.Bool.{and-false, or-false, or_comm}
 use Rattle.std.proofs.lemmas.Cmp.{nat_eq_equiv}
-use Rattle.std.proofs.lemmas.Bool.{eqb-true, eq-eqb, or_left, or_parts, or_right}
-use Rattle.std.proofs.lemmas.List.{reverse-append, reverse-reverse, append_assoc}
+use Rattle.std.proofs.lemmas.Bool.{eq-eqb, eqb-true, or_left, or_parts, or_right}
+use Rattle.std.proofs.lemmas.List.{append_assoc, reverse-append, reverse-reverse}
 use Rattle.std.proofs.lemmas.List.Folds.{list_any-append}
 use Rattle.std.proofs.lemmas.List.Sorted.{IsPermutation-reverse}
-use Rattle.std.proofs.lemmas.Map.Keys.{IsDistinct-push, IsDistinct-IsPermutation, IsDistinct-head, IsDistinct-tail}
-use Rattle.cap_arena.specs.Walks.{same_place, is_among, IsWalk}
+use Rattle.std.proofs.lemmas.Map.Keys.{IsDistinct-IsPermutation, IsDistinct-head, IsDistinct-push, IsDistinct-tail}
+use Rattle.cap_arena.specs.Walks.{IsWalk, is_among, same_place}
 
 -- ---- places
 

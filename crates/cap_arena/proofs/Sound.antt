@@ -1,5 +1,6 @@
 -- Lists whose links agree, as what a contract says of them, and back.
-use Rattle.std.proofs.Common.{◌≡◌, ℕ, ◌<◌, ◌≤◌, zero, suc, Bool, true, false, not, ◌&&◌, cond, Option, Some, None, IsSome, is_some, List, [], ◌∷◌, length, count_by, reverse, refl, sym, ap, ◌∙◌, subst, arith, nat_eq, set}
+use Rattle.std.proofs.Common.{◌≡◌, ℕ, ◌<◌, ◌≤◌, zero, suc, Bool, true, false, not, ◌&&◌, cond, Option, Some, None, IsSome, is_some, List, [], ◌∷◌, length}
+use Rattle.std.proofs.Common.{count_by, reverse, refl, sym, ap, ◌∙◌, subst, arith, nat_eq, set}
 use Rattle.std.specs.List.{IsDistinct}
 use Rattle.std.specs.Option.{option_map, option_map_or}
 use Rattle.std.proofs.Math.Bool.{and-true}
@@ -9,13 +10,14 @@ use Rattle.cap_arena.specs.declared.nodes.Order.{Order}
 use Rattle.cap_arena.specs.declared.nodes.Ends.{Ends}
 use Rattle.cap_arena.specs.declared.nodes.Linked.{Linked}
 use Rattle.cap_arena.specs.Nodes.{with_next, with_previous}
-use Rattle.cap_arena.specs.Places.{linked_at, previous_at, changed_in, with_next_at, with_previous_at}
-use Rattle.cap_arena.specs.Heads.{Heads, ends_or_none, ends_at, kept, kept_if}
-use Rattle.cap_arena.specs.Walks.{is_among, IsWalk}
-use Rattle.cap_arena.specs.Lists.{Lists, ListName, OfInode, OfClient, OfRecall, order_of, belongs, belongs_at, ends_of, next_in, previous_in, walk, keys, IsList, lists_of}
-use Rattle.cap_arena.proofs.Rings.{first_step, among-reverse, head_among}
-use Rattle.cap_arena.proofs.Writes.{linked_at-within, IsPlace}
-use Rattle.cap_arena.proofs.Stands.{stands, Row, Stand, member, Row-alike}
+use Rattle.cap_arena.specs.Places.{changed_in, linked_at, previous_at, with_next_at, with_previous_at}
+use Rattle.cap_arena.specs.Heads.{Heads, ends_at, ends_or_none, kept, kept_if}
+use Rattle.cap_arena.specs.Walks.{IsWalk, is_among}
+use Rattle.cap_arena.specs.Lists.{IsList, ListName, Lists, OfClient, OfInode, OfRecall, belongs, belongs_at, ends_of, keys, lists_of, next_in, order_of}
+use Rattle.cap_arena.specs.Lists.{previous_in, walk}
+use Rattle.cap_arena.proofs.Rings.{among-reverse, first_step, head_among}
+use Rattle.cap_arena.proofs.Writes.{IsPlace, linked_at-within}
+use Rattle.cap_arena.proofs.Stands.{Row, Row-alike, Stand, member, stands}
 use Rattle.cap_arena.proofs.HeadMaps.{heads_of}
 
 -- no list is without the node

@@ -1,20 +1,22 @@
 -- All lists at once, while a node is taken into its lists, or out of them, one after another.
-use Rattle.std.proofs.Common.{◌≡◌, ℕ, Bool, true, false, not, ◌&&◌, ◌||◌, cond, Option, Some, None, List, [], ◌∷◌, ◌++◌, filter, reverse, refl, sym, ap, ◌∙◌, subst, nat_eq}
-use Rattle.std.specs.Option.{option_map, option_map_or, option_and_then}
+use Rattle.std.proofs.Common.{◌≡◌, ℕ, Bool, true, false, not, ◌&&◌, ◌||◌, cond, Option, Some, None, List, [], ◌∷◌, ◌++◌, filter, reverse, refl, sym, ap, ◌∙◌}
+use Rattle.std.proofs.Common.{subst, nat_eq}
+use Rattle.std.specs.Option.{option_and_then, option_map, option_map_or}
 use Rattle.std.proofs.Math.Bool.{or-false}
 use Rattle.std.proofs.lemmas.Cmp.{nat_eq_equiv}
-use Rattle.std.proofs.lemmas.Bool.{and_parts, eqb-true, eq-eqb}
+use Rattle.std.proofs.lemmas.Bool.{and_parts, eq-eqb, eqb-true}
 use Rattle.cap_arena.specs.declared.nodes.Order.{Order}
 use Rattle.cap_arena.specs.declared.nodes.Ends.{Ends}
 use Rattle.cap_arena.specs.declared.nodes.Linked.{Linked}
 use Rattle.cap_arena.specs.declared.nodes.Node.{Node}
 use Rattle.cap_arena.specs.Nodes.{joint_of}
-use Rattle.cap_arena.specs.Places.{linked_at, next_at, previous_at, with_first_at, with_last_at, appended_ends}
+use Rattle.cap_arena.specs.Places.{appended_ends, linked_at, next_at, previous_at, with_first_at, with_last_at}
 use Rattle.cap_arena.specs.Heads.{no_ends}
-use Rattle.cap_arena.specs.Walks.{same_place, is_among}
-use Rattle.cap_arena.specs.Lists.{ListName, OfInode, OfClient, OfRecall, order_of, belongs}
-use Rattle.cap_arena.proofs.Rings.{IsRing, IsRing-alike, IsRing-push, IsRing-without, Split, split_at, filter-split, among-append, among-reverse, among-filter, walk_stays, head_among, first_step, same_place-is}
-use Rattle.cap_arena.proofs.Writes.{same_order, same_order-refl, same_order-is, joint_at, plain_at, Wrote}
+use Rattle.cap_arena.specs.Walks.{is_among, same_place}
+use Rattle.cap_arena.specs.Lists.{ListName, OfClient, OfInode, OfRecall, belongs, order_of}
+use Rattle.cap_arena.proofs.Rings.{IsRing, IsRing-alike, IsRing-push, IsRing-without, Split, among-append, among-filter, among-reverse, filter-split}
+use Rattle.cap_arena.proofs.Rings.{first_step, head_among, same_place-is, split_at, walk_stays}
+use Rattle.cap_arena.proofs.Writes.{Wrote, joint_at, plain_at, same_order, same_order-is, same_order-refl}
 
 -- one list of each order has a node
 one_name : {T : Type 0} (name other : ListName) (node : Node T) → order_of name ≡ order_of other → belongs name node ≡ true → belongs other node ≡ true → name ≡ other

@@ -1,5 +1,6 @@
 -- The lists after a node became the last one in the order of recall, or has another value; and the lists without nodes.
-use Rattle.std.proofs.Common.{◌≡◌, ℕ, ◌≤◌, Bool, true, false, not, ◌&&◌, cond, Option, Some, None, IsSome, IsTrue, is_some, List, [], ◌∷◌, ◌++◌, count_by, refl, sym, ap, ◌∙◌, arith, nat_eq}
+use Rattle.std.proofs.Common.{◌≡◌, ℕ, ◌≤◌, Bool, true, false, not, ◌&&◌, cond, Option, Some, None, IsSome, IsTrue, is_some, List, [], ◌∷◌, ◌++◌, count_by}
+use Rattle.std.proofs.Common.{refl, sym, ap, ◌∙◌, arith, nat_eq}
 use Rattle.std.specs.Option.{option_map, option_map_or}
 use Rattle.std.proofs.lemmas.Bool.{eq-eqb}
 use Rattle.cap_arena.specs.declared.nodes.Order.{Order}
@@ -7,16 +8,16 @@ use Rattle.cap_arena.specs.declared.nodes.Order.TheVariants as order
 use Rattle.cap_arena.specs.declared.nodes.Ends.{Ends}
 use Rattle.cap_arena.specs.declared.nodes.Linked.{Linked}
 use Rattle.cap_arena.specs.Nodes.{joint_of, with_next, with_previous}
-use Rattle.cap_arena.specs.Places.{linked_at, next_at, previous_at, unlinked, unlinked_ends, facing_last, moved_slots, moved_ends}
-use Rattle.cap_arena.specs.Heads.{Heads, no_ends, ends_at}
+use Rattle.cap_arena.specs.Places.{facing_last, linked_at, moved_ends, moved_slots, next_at, previous_at, unlinked, unlinked_ends}
+use Rattle.cap_arena.specs.Heads.{Heads, ends_at, no_ends}
 use Rattle.cap_arena.specs.Walks.{is_among}
-use Rattle.cap_arena.specs.Lists.{ListName, OfInode, OfClient, OfRecall, order_of, belongs, ends_of, keys, IsLists, lists_of}
+use Rattle.cap_arena.specs.Lists.{IsLists, ListName, OfClient, OfInode, OfRecall, belongs, ends_of, keys, lists_of, order_of}
 use Rattle.cap_arena.specs.Calls.{Touches, keys_without}
-use Rattle.cap_arena.proofs.Writes.{joint_at, plain_at, Wrote, Wrote-next, Wrote-facing, linked_at-facing}
-use Rattle.cap_arena.proofs.Stands.{stands, Stand, Stand-alike, append_step, one_more, one_less, with_on, with_off}
+use Rattle.cap_arena.proofs.Writes.{Wrote, Wrote-facing, Wrote-next, joint_at, linked_at-facing, plain_at}
+use Rattle.cap_arena.proofs.Stands.{Stand, Stand-alike, append_step, one_less, one_more, stands, with_off, with_on}
 use Rattle.cap_arena.proofs.HeadMaps.{heads_of, recall_differs}
-use Rattle.cap_arena.proofs.Sound.{nowhere_off, place_of, stand_of, Stand-heads, keys_are, list_of, last_is_place, count-next, count-in, heads_are}
-use Rattle.cap_arena.proofs.Removals.{taken_out, Wrote-out, count-unlinked}
+use Rattle.cap_arena.proofs.Sound.{Stand-heads, count-in, count-next, heads_are, keys_are, last_is_place, list_of, nowhere_off, place_of, stand_of}
+use Rattle.cap_arena.proofs.Removals.{Wrote-out, count-unlinked, taken_out}
 
 abbrev recall_off : Order → Bool
 recall_off = with_off nowhere_off order.Recall

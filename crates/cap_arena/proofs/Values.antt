@@ -1,5 +1,6 @@
 -- The lists where a node has another value; and the lists without nodes.
-use Rattle.std.proofs.Common.{◌≡◌, ℕ, ◌≤◌, Bool, true, false, not, ◌&&◌, cond, Option, Some, None, is_some, List, [], count_by, refl, sym, ap, ◌∙◌, subst, arith, nat_eq}
+use Rattle.std.proofs.Common.{◌≡◌, ℕ, ◌≤◌, Bool, true, false, not, ◌&&◌, cond, Option, Some, None, is_some, List, [], count_by, refl, sym, ap, ◌∙◌, subst}
+use Rattle.std.proofs.Common.{arith, nat_eq}
 use Rattle.std.specs.List.{IsDistinct}
 use Rattle.std.specs.Option.{option_map, option_map_or}
 use Rattle.std.specs.FinMap as map
@@ -10,13 +11,13 @@ use Rattle.cap_arena.specs.declared.nodes.Ends.{Ends}
 use Rattle.cap_arena.specs.declared.nodes.Linked.{Linked}
 use Rattle.cap_arena.specs.declared.nodes.Node.{Node}
 use Rattle.cap_arena.specs.Nodes.{joint_of, with_node_value}
-use Rattle.cap_arena.specs.Places.{linked_at, changed_in}
-use Rattle.cap_arena.specs.Heads.{Heads, no_ends, ends_or_none}
-use Rattle.cap_arena.specs.Lists.{ListName, OfInode, OfClient, OfRecall, order_of, belongs, ends_of, keys, IsList, IsLists, lists_of}
+use Rattle.cap_arena.specs.Places.{changed_in, linked_at}
+use Rattle.cap_arena.specs.Heads.{Heads, ends_or_none, no_ends}
+use Rattle.cap_arena.specs.Lists.{IsList, IsLists, ListName, OfClient, OfInode, OfRecall, belongs, ends_of, keys, lists_of, order_of}
 use Rattle.cap_arena.specs.Calls.{Sets, with_value}
-use Rattle.cap_arena.proofs.Writes.{joint_at, plain_at, linked_at-in}
-use Rattle.cap_arena.proofs.Stands.{stands, Stand, Stand-alike}
-use Rattle.cap_arena.proofs.Sound.{nowhere_off, stand_of, Stand-heads, keys_are, list_of, count-in}
+use Rattle.cap_arena.proofs.Writes.{joint_at, linked_at-in, plain_at}
+use Rattle.cap_arena.proofs.Stands.{Stand, Stand-alike, stands}
+use Rattle.cap_arena.proofs.Sound.{Stand-heads, count-in, keys_are, list_of, nowhere_off, stand_of}
 
 -- what the map of no entries has
 no_number : (m : Heads) → m ≡ map.empty → (q : ℕ) → map.get m q ≡ None

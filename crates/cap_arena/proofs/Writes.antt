@@ -1,17 +1,18 @@
 -- What the writes of links change in one order, and that they change nothing else.
-use Rattle.std.proofs.Common.{◌≡◌, ℕ, ◌<◌, Bool, true, false, cond, Option, Some, None, List, length, set, refl, sym, ap, ◌∙◌, nat_eq, get_or-set_same, get_or-set_other, arith}
-use Rattle.std.specs.Option.{option_map, option_and_then}
-use Rattle.std.proofs.lemmas.Bool.{eqb-true, eq-eqb}
+use Rattle.std.proofs.Common.{◌≡◌, ℕ, ◌<◌, Bool, true, false, cond, Option, Some, None, List, length, set, refl, sym, ap, ◌∙◌, nat_eq, get_or-set_same}
+use Rattle.std.proofs.Common.{get_or-set_other, arith}
+use Rattle.std.specs.Option.{option_and_then, option_map}
+use Rattle.std.proofs.lemmas.Bool.{eq-eqb, eqb-true}
 use Rattle.std.proofs.lemmas.Cmp.{nat_eq_equiv}
 use Rattle.std.proofs.lemmas.List.{get_or_past}
 use Rattle.cap_arena.specs.declared.nodes.Order.{Order}
-use Rattle.cap_arena.specs.declared.nodes.Order.TheVariants.{Inode, Client, Recall}
+use Rattle.cap_arena.specs.declared.nodes.Order.TheVariants.{Client, Inode, Recall}
 use Rattle.cap_arena.specs.declared.nodes.Ends.{Ends}
 use Rattle.cap_arena.specs.declared.nodes.Joint.{Joint}
 use Rattle.cap_arena.specs.declared.nodes.Linked.{Linked}
 use Rattle.cap_arena.specs.declared.nodes.Node.{Node}
 use Rattle.cap_arena.specs.Nodes.{joint_of, with_joint, with_next, with_previous}
-use Rattle.cap_arena.specs.Places.{linked_at, next_at, previous_at, with_next_at, with_previous_at, changed_in, unlinked, facing_last}
+use Rattle.cap_arena.specs.Places.{changed_in, facing_last, linked_at, next_at, previous_at, unlinked, with_next_at, with_previous_at}
 use Rattle.cap_arena.specs.Heads.{no_ends}
 use Rattle.cap_arena.specs.Walks.{same_place}
 

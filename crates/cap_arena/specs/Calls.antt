@@ -7,9 +7,9 @@ use Rattle.capbits.specs.declared.refusal.Refusal.{Refusal}
 use Rattle.capbits.specs.declared.refusal.Refusal.TheVariants as refusal
 use Rattle.capbits.specs.Refusal.{Test, refused_if}
 use Rattle.cap_arena.specs.declared.error.AddError.{AddError}
-use Rattle.cap_arena.specs.declared.error.AddError.TheVariants.{Refused, NoMemory}
+use Rattle.cap_arena.specs.declared.error.AddError.TheVariants.{NoMemory, Refused}
 use Rattle.cap_arena.specs.declared.nodes.Node.{Node}
-use Rattle.cap_arena.specs.Lists.{Lists, ListName, OfInode, OfClient, OfRecall, belongs, node_at, count, keys}
+use Rattle.cap_arena.specs.Lists.{ListName, Lists, OfClient, OfInode, OfRecall, belongs, count, keys, node_at}
 
 -- the keys without one
 abbrev pub keys_without : List ℕ → ℕ → List ℕ

@@ -1,5 +1,5 @@
 -- The ends of many lists, each under a number.
-use Rattle.std.specs.Prelude.{ℕ, Option, Some, None, is_some, if◌then◌else◌}
+use Rattle.std.specs.Prelude.{None, Option, Some, if◌then◌else◌, is_some, ℕ}
 use Rattle.std.specs.FinMap as map
 use Rattle.std.specs.Ordering.{nat_cmp}
 use Rattle.cap_arena.specs.declared.nodes.Ends.{Ends}

@@ -1,5 +1,6 @@
 -- What a contract sees of the nodes in their lists.
-use Rattle.std.specs.Prelude.{◌≡◌, ◌≤◌, ℕ, Bool, true, false, ◌==◌, List, [], ◌∷◌, Option, Some, None, IsSome, nat_eq, is_some, zero, suc, count_by, reverse, length}
+use Rattle.std.specs.Prelude.{◌≡◌, ◌≤◌, ℕ, Bool, true, false, ◌==◌, List, [], ◌∷◌, Option, Some, None, IsSome, nat_eq, is_some, zero, suc, count_by, reverse}
+use Rattle.std.specs.Prelude.{length}
 use Rattle.std.specs.Ordering.{nat_cmp}
 use Rattle.std.specs.List.{IsDistinct}
 use Rattle.std.specs.Option.{option_map, option_map_or}
@@ -12,8 +13,8 @@ use Rattle.cap_arena.specs.declared.nodes.Node.{Node}
 use Rattle.cap_arena.specs.declared.nodes.Order.{Order}
 use Rattle.cap_arena.specs.declared.nodes.Order.TheVariants as order
 use Rattle.cap_arena.specs.Places.{linked_at, next_at, previous_at}
-use Rattle.cap_arena.specs.Heads.{Heads, no_ends, ends_or_none}
-use Rattle.cap_arena.specs.Walks.{is_among, IsWalk}
+use Rattle.cap_arena.specs.Heads.{Heads, ends_or_none, no_ends}
+use Rattle.cap_arena.specs.Walks.{IsWalk, is_among}
 
 -- each node with its links, or nothing, at each key from 0 on, and where each list begins and ends
 pub record Lists (T : Type 0) : Type 0 where

@@ -1,5 +1,5 @@
 -- A node's places in its three lists.
-use Rattle.std.specs.Prelude.{ℕ, Option}
+use Rattle.std.specs.Prelude.{Option, ℕ}
 use Rattle.cap_arena.specs.declared.nodes.Order.{Order}
 use Rattle.cap_arena.specs.declared.nodes.Order.TheVariants as order
 use Rattle.cap_arena.specs.declared.nodes.Joint.{Joint}

@@ -1,6 +1,5 @@
 -- Places in a list: that of a node, by its key, and the place where the list begins, which is where it ends too.
-use Rattle.std.specs.Prelude.{ℕ, List, Option, Some, None, slice_index_or, slice_set}
-use Rattle.std.specs.Prelude.{option_and_then}
+use Rattle.std.specs.Prelude.{List, None, Option, Some, option_and_then, slice_index_or, slice_set, ℕ}
 use Rattle.cap_arena.specs.declared.nodes.Order.{Order}
 use Rattle.cap_arena.specs.declared.nodes.Order.TheVariants as order
 use Rattle.cap_arena.specs.declared.nodes.Ends.{Ends}

@@ -1,7 +1,8 @@
 //! The links of one list, of whichever order. A place in a list is a node, by its key, or none: the beginning of the
 //! list, which is its end too.
 ghost use Rattle.std.specs.Prelude.{◌≡◌, ◌+◌, ◌≤◌, Some, None};
-ghost use Rattle.cap_arena.specs.Places.{next_at, previous_at, with_next_at, with_previous_at, appended_ends, with_first_at, with_last_at, unlinked, unlinked_ends, facing_last, moved_slots, moved_ends};
+ghost use Rattle.cap_arena.specs.Places.{appended_ends, facing_last, moved_ends, moved_slots, next_at, previous_at, unlinked, unlinked_ends, with_first_at};
+ghost use Rattle.cap_arena.specs.Places.{with_last_at, with_next_at, with_previous_at};
 
 use crate::link::LinkWrites;
 use crate::nodes::{Ends, Linked, Order};

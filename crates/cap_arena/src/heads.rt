@@ -2,14 +2,14 @@
 //! without nodes has no entry, but while its first node is added.
 ghost use Rattle.std.specs.Prelude.{◌≡◌, ◌==◌, ℕ, ◌+◌, ◌≤◌, Some, None, IsSome, OnOk, OnErr, if◌then◌else◌};
 ghost use Rattle.std.specs.FinMap as map;
-ghost use Rattle.cap_arena.specs.Heads.{no_ends, ends_at, kept, with_room, without_room};
+ghost use Rattle.cap_arena.specs.Heads.{ends_at, kept, no_ends, with_room, without_room};
 ghost use Rattle.cap_arena.specs.Lists.{KeepsNoEmpty};
-ghost use Rattle.cap_arena.specs.Places.{with_next_at, appended_ends, unlinked, unlinked_ends};
+ghost use Rattle.cap_arena.specs.Places.{appended_ends, unlinked, unlinked_ends, with_next_at};
 
 use crate::chain::{append, unlink};
 use crate::link::LinkWrites;
 use crate::nodes::{Ends, Linked, Order};
-use numbered::Numbered;
+use dense_map::Numbered;
 use slab::Slab;
 use std::alloc::AllocError;
 use std::marker::Model;

@@ -50,7 +50,7 @@ pub struct Link {
 }
 
 impl Model for Link {
-    ghost use Rattle.std.specs.Prelude.{ℕ, Option};
+    ghost use Rattle.std.specs.Prelude.{Option, ℕ};
 
     ghost Value = { Option ℕ };
 

@@ -8,10 +8,10 @@ use crate::link::LinkWrites;
 use crate::moves::{put_value, take_in, take_out};
 use crate::nodes::{Ends, Linked, Node, Order};
 use capbits::{ClientId, Ino, Refusal};
-use numbered::Numbered;
+use dense_map::Numbered;
 use slab::Slab;
-use std::alloc::{AllocError, Global};
 use std::fmt;
+use std::alloc::{AllocError, Global};
 use std::marker::{Brand, Model};
 use std::sync::ledger::{Blank, Ledger};
 
@@ -61,7 +61,7 @@ impl<T> Model for TripleLists<T> {
 
     ghost coded = { Prim.hlevel (codes, ends_code, ends.the_row.coded, T.code) };
 
-    ghost use Rattle.cap_arena.specs.Lists.{lists_of, IsLists};
+    ghost use Rattle.cap_arena.specs.Lists.{IsLists, lists_of};
 
     ghost view = { λ t. lists_of t.nodes.slots t.recall t.inodes t.clients };
 
@@ -82,8 +82,8 @@ fn no_ends<L: Ledger>(blank: Blank) -> Ends
 impl<T: Copy> TripleLists<T> {
     ghost use Rattle.capbits.specs.Refusal.{first_failing};
     ghost use Rattle.cap_arena.specs.Walks.{key_after};
-    ghost use Rattle.cap_arena.specs.Lists.{OfInode, OfClient, OfRecall, IsLists, empty, count, keys, node_at};
-    ghost use Rattle.cap_arena.specs.Calls.{node, add_tests, refusal_in, Adds, Removes, Touches, Sets};
+    ghost use Rattle.cap_arena.specs.Lists.{IsLists, OfClient, OfInode, OfRecall, count, empty, keys, node_at};
+    ghost use Rattle.cap_arena.specs.Calls.{Adds, Removes, Sets, Touches, add_tests, node, refusal_in};
 
     /// No nodes.
     pub fn new(alloc: Global) -> Result<TripleLists<T>, AllocError>

@@ -2,15 +2,15 @@
 ghost use Rattle.std.specs.Prelude.{◌≡◌, ◌+◌, ◌<◌, ◌≤◌, Some, IfOk, OnErr};
 ghost use Rattle.slab.specs.Slab.{HasRoomFor};
 ghost use Rattle.cap_arena.specs.Nodes.{with_node_value};
-ghost use Rattle.cap_arena.specs.Places.{linked_at, changed_in};
-ghost use Rattle.cap_arena.specs.Lists.{IsLists, lists_of, node_at, count};
+ghost use Rattle.cap_arena.specs.Places.{changed_in, linked_at};
+ghost use Rattle.cap_arena.specs.Lists.{IsLists, count, lists_of, node_at};
 ghost use Rattle.cap_arena.specs.Calls.{Adds, Removes};
 
 use crate::chain::{append, unlink};
 use crate::heads::{Head, append_in, last_in, make_rooms, unlink_in};
 use crate::link::LinkWrites;
 use crate::nodes::{Ends, Joint, Linked, Node, Order};
-use numbered::Numbered;
+use dense_map::Numbered;
 use slab::Slab;
 use std::alloc::AllocError;
 use std::sync::ledger::Ledger;

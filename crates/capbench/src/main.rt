@@ -9,15 +9,15 @@ mod work;
 
 use crate::play::play_files;
 use crate::work::dispatch;
-use capcommand::words;
-use capwork::Fault;
+use bench_kit::Fault;
+use bench_kit::telling::report;
+use cli_queries::words;
 use std::process::ExitCode;
-use talks::report;
 
 fn main(rt: HostRuntime) -> ExitCode {
     let (mut reader, mut writer, mut faults) = (rt.stdin(), rt.stdout(), rt.stderr());
     let Ok(words) = words(&rt, rt.alloc()) else {
-        return ExitCode::from(capwork::report(Fault::NoMemory, &mut faults));
+        return ExitCode::from(bench_kit::report(Fault::NoMemory, &mut faults));
     };
     let status = match words.as_slice() {
         [first, names @ ..] if first.as_slice() == b"play".as_slice() => {

@@ -1,13 +1,13 @@
 //! Talks, played to the commands of `capd` and to those of this program.
 
 use crate::work;
-use capcommand::Watched;
+use bench_kit::{BookFault, Outcome, Output, Page, Place, Program, Run, Stop, Talk, read_talks, topic};
+use script_syntax::Watched;
 use std::fs;
 use std::fs::Files;
 use std::io::Write;
 use std::sync::Wait;
 use std::thread::Threads;
-use talks::{BookFault, Outcome, Output, Page, Place, Program, Run, Stop, Talk, read_talks, topic};
 
 /// Plays the files of these names, and counts the talks that differ. A line is written for each talk, and for one that differs what was
 /// wanted and what came.
@@ -94,7 +94,7 @@ fn outcome(rt: &(impl AllocGlobal + Files + Threads + Wait + Sync), run: &Run) -
     came.status = match run.program {
         Program::Capd => {
             let (mut reader, mut writer) = (Watched::new(reader), Watched::new(writer));
-            capcommand::dispatch(rt, words, &mut reader, &mut writer, &mut faults)
+            cli::dispatch(rt, words, &mut reader, &mut writer, &mut faults)
         }
         Program::Capbench => work::dispatch(rt, words, &mut reader, &mut writer, &mut faults),
     };

@@ -1,7 +1,9 @@
 //! The day's work that takes a server: a script whose clients call it from threads of their own.
 
-use capcommand::{ServeFault, Watched, serve};
-use capload::{Amount, DayFault, history_digest, served_script};
+use bench_kit::{Amount, DayFault, history_digest, served_script};
+use capscript::ServeFault;
+use cli::serve;
+use script_syntax::Watched;
 use std::alloc::Global;
 use std::sync::Wait;
 use std::thread::Threads;

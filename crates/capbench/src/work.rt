@@ -1,7 +1,7 @@
 //! The work that is counted and timed.
 
 use crate::serving::serve_script;
-use capload::{Amount, DayFault, digest_of, tell};
+use bench_kit::{Amount, DayFault, digest_of, tell};
 use std::io::{Read, Write};
 use std::sync::Wait;
 use std::thread::Threads;
@@ -19,7 +19,7 @@ pub fn dispatch(
             let task = [work.as_slice(), count.as_slice(), seed.as_slice()];
             tell(days_work(rt, task), writer, faults)
         }
-        _ => capwork::dispatch(rt, rt.alloc(), words, reader, writer, faults),
+        _ => bench_kit::dispatch(rt, rt.alloc(), words, reader, writer, faults),
     }
 }
 

@@ -3,10 +3,10 @@ use Rattle.std.proofs.Common.{◌≡◌, ℕ, Bool, true, false, refl, sym, ap, 
 use Rattle.std.specs.Prelude.{◌==◌}
 use Rattle.std.specs.List.{list_all}
 use Rattle.capbits.specs.declared.cap.Cap.{Cap}
-use Rattle.capbits.specs.declared.cap.Cap.TheVariants.{P, As, Ax, Ls, Lx, Xs, Xx}
+use Rattle.capbits.specs.declared.cap.Cap.TheVariants.{As, Ax, Ls, Lx, P, Xs, Xx}
 use Rattle.capbits.specs.declared.cap.Part.{Part}
-use Rattle.capbits.specs.declared.cap.Part.TheVariants.{A, L, X, F}
-use Rattle.capbits.specs.Sets.{caps_of_part, covers, same_cap, same_cap-eq, all_in, true_eq}
+use Rattle.capbits.specs.declared.cap.Part.TheVariants.{A, F, L, X}
+use Rattle.capbits.specs.Sets.{all_in, caps_of_part, covers, same_cap, same_cap-eq, true_eq}
 
 -- the part that a cap covers, counted from 1; 0 for the pin
 part_covered : Cap → ℕ

@@ -3,9 +3,9 @@ use Rattle.std.proofs.Common.{◌≡◌, ◌↔◌, Bool, true, false, not, refl
 use Rattle.std.specs.List.{list_any}
 use Rattle.std.proofs.lemmas.Bool.Decides.{same_from_decides}
 use Rattle.capbits.specs.declared.cap.Cap.{Cap}
-use Rattle.capbits.specs.declared.cap.Cap.TheVariants.{P, As, Ax, Ls, Lx, Xs, Xx, Fs, Fx, Fc, Fr, Fw, Fb, Fa, Fl}
-use Rattle.capbits.specs.Caps.{Caps, has, caps_where, all_caps}
-use Rattle.capbits.specs.Sets.{no_caps, is_empty, has-none, same_cap, same_caps, all_in}
+use Rattle.capbits.specs.declared.cap.Cap.TheVariants.{As, Ax, Fa, Fb, Fc, Fl, Fr, Fs, Fw, Fx, Ls, Lx, P, Xs, Xx}
+use Rattle.capbits.specs.Caps.{Caps, all_caps, caps_where, has}
+use Rattle.capbits.specs.Sets.{all_in, has-none, is_empty, no_caps, same_cap, same_caps}
 
 in_all : (c : Cap) → IsTrue (list_any (same_cap c) all_caps)
 in_all P = refl

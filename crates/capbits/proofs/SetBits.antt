@@ -5,13 +5,14 @@ use Rattle.std.specs.Int.{bit_at, w16}
 use Rattle.std.specs.Int.RustNames.{bit_and, bit_or}
 use Rattle.std.proofs.lemmas.List.Folds.{list_any-append}
 use Rattle.std.proofs.lemmas.Bool.Decides.{nat_tests, same_from_decides}
-use Rattle.std.proofs.lemmas.Nat.{or_of_16, and_le_l}
-use Rattle.std.proofs.lemmas.Nat.Bits.{bit_at-lt, bit_at_or, bit_at_and, bit_at_not}
+use Rattle.std.proofs.lemmas.Nat.{and_le_l, or_of_16}
+use Rattle.std.proofs.lemmas.Nat.Bits.{bit_at-lt, bit_at_and, bit_at_not, bit_at_or}
 use Rattle.capbits.specs.declared.cap.Cap.{Cap}
-use Rattle.capbits.specs.declared.cap.Cap.TheVariants.{P, As, Ax, Ls, Lx, Xs, Xx, Fs, Fx, Fc, Fr, Fw, Fb, Fa, Fl}
+use Rattle.capbits.specs.declared.cap.Cap.TheVariants.{As, Ax, Fa, Fb, Fc, Fl, Fr, Fs, Fw, Fx, Ls, Lx, P, Xs, Xx}
 use Rattle.capbits.specs.declared.cap.Part.{Part}
-use Rattle.capbits.specs.Caps.{Caps, IsCaps, has, caps_where, caps_of, bits_of, place_of, value_of}
-use Rattle.capbits.specs.Sets.{no_caps, caps_in, union, meet, minus, of_part, caps_of_part, IsSubset, same_caps, all_in, has-meet, has-of_part, has-caps_in, members, true_eq}
+use Rattle.capbits.specs.Caps.{Caps, IsCaps, bits_of, caps_of, caps_where, has, place_of, value_of}
+use Rattle.capbits.specs.Sets.{IsSubset, all_in, caps_in, caps_of_part, has-caps_in, has-meet, has-of_part, meet, members, minus, no_caps, of_part, same_caps}
+use Rattle.capbits.specs.Sets.{true_eq, union}
 use Rattle.capbits.specs.SetNumbers.{IsCaps-bits_of, bits_of-caps_of, caps_of-bits_of, eq_true}
 
 max_test : (x y : ℕ) → x < 2 → y < 2 → (max x y == 1) ≡ ((x == 1) || (y == 1))

@@ -1,13 +1,14 @@
 -- The spelling of a set, put together from the pieces that are written.
-use Rattle.std.proofs.Common.{◌≡◌, ◌≢◌, ℕ, Bool, true, false, List, [], ◌∷◌, ◌++◌, map, filter, cond, refl, not, ◌&&◌, arith, ap, sym, append_assoc, append-nil, ◌∙◌}
+use Rattle.std.proofs.Common.{◌≡◌, ◌≢◌, ℕ, Bool, true, false, List, [], ◌∷◌, ◌++◌, map, filter, cond, refl, not, ◌&&◌, arith, ap, sym, append_assoc}
+use Rattle.std.proofs.Common.{append-nil, ◌∙◌}
 use Rattle.std.specs.List.{list_all}
 use Rattle.capbits.specs.declared.cap.Cap.{Cap}
-use Rattle.capbits.specs.declared.cap.Cap.TheVariants.{P, As, Ax, Ls, Lx, Xs, Xx, Fs, Fx, Fc, Fr, Fw, Fb, Fa, Fl}
+use Rattle.capbits.specs.declared.cap.Cap.TheVariants.{As, Ax, Fa, Fb, Fc, Fl, Fr, Fs, Fw, Fx, Ls, Lx, P, Xs, Xx}
 use Rattle.capbits.specs.declared.cap.Part.{Part}
-use Rattle.capbits.specs.declared.cap.Part.TheVariants.{A, L, X, F}
+use Rattle.capbits.specs.declared.cap.Part.TheVariants.{A, F, L, X}
 use Rattle.capbits.specs.Caps.{Caps, has}
-use Rattle.capbits.specs.Sets.{no_caps, of_part, covers, caps_of_part, members, same_caps, all_in, has-of_part, has-none}
-use Rattle.capbits.specs.Text.{capital_of, letter_of, headed, or_dash, letters_in, group_of, groups_in, text_of}
+use Rattle.capbits.specs.Sets.{all_in, caps_of_part, covers, has-none, has-of_part, members, no_caps, of_part, same_caps}
+use Rattle.capbits.specs.Text.{capital_of, group_of, groups_in, headed, letter_of, letters_in, or_dash, text_of}
 
 pub letters_in-none : (s : Caps) → letters_in s [] ≡ []
 unfolding letters_in

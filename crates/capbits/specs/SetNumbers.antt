@@ -4,13 +4,13 @@ use Rattle.std.specs.Int.{bit_at}
 use Rattle.std.specs.Int.RustNames.{bit_and}
 use Rattle.std.proofs.Common.{arith, lit<, subst, ap, sym, ◌∙◌}
 use Rattle.std.proofs.lemmas.Bool.Decides.{nat_tests}
-use Rattle.std.proofs.lemmas.Nat.{and_le_r, and-not, and_comm}
-use Rattle.std.proofs.lemmas.Nat.Bits.{bit_at-lt, bit_at_and, and_pow}
+use Rattle.std.proofs.lemmas.Nat.{and-not, and_comm, and_le_r}
+use Rattle.std.proofs.lemmas.Nat.Bits.{and_pow, bit_at-lt, bit_at_and}
 use Rattle.bitflags.specs.Sets.{known_bits, known_from}
 use Rattle.capbits.specs.Table.{cap_table}
 use Rattle.capbits.specs.declared.cap.Cap.{Cap}
-use Rattle.capbits.specs.declared.cap.Cap.TheVariants.{P, As, Ax, Ls, Lx, Xs, Xx, Fs, Fx, Fc, Fr, Fw, Fb, Fa, Fl}
-use Rattle.capbits.specs.Caps.{Caps, IsCaps, has, caps_where, caps_of, bits_of, place_of}
+use Rattle.capbits.specs.declared.cap.Cap.TheVariants.{As, Ax, Fa, Fb, Fc, Fl, Fr, Fs, Fw, Fx, Ls, Lx, P, Xs, Xx}
+use Rattle.capbits.specs.Caps.{Caps, IsCaps, bits_of, caps_of, caps_where, has, place_of}
 use Rattle.capbits.specs.Sets.{has-where, same_caps, true_eq}
 
 -- a bit's value, where it is set

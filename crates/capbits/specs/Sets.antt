@@ -1,13 +1,13 @@
 -- Sets of caps: the words that contracts use, and what is a member of each.
 use Rattle.std.specs.Prelude.{◌≡◌, ℕ, ◌==◌, Bool, true, false, not, ◌&&◌, ◌||◌, List, [], ◌∷◌, refl, IsTrue, if◌then◌else◌}
-use Rattle.std.specs.List.{list_any, list_all}
+use Rattle.std.specs.List.{list_all, list_any}
 use Rattle.std.proofs.Common.{arith, ◌∙◌, sym, ap, true≢false}
 use Rattle.std.proofs.lemmas.Bool.Decides.{nat_tests}
 use Rattle.capbits.specs.declared.cap.Cap.{Cap}
-use Rattle.capbits.specs.declared.cap.Cap.TheVariants.{P, As, Ax, Ls, Lx, Xs, Xx, Fs, Fx, Fc, Fr, Fw, Fb, Fa, Fl}
+use Rattle.capbits.specs.declared.cap.Cap.TheVariants.{As, Ax, Fa, Fb, Fc, Fl, Fr, Fs, Fw, Fx, Ls, Lx, P, Xs, Xx}
 use Rattle.capbits.specs.declared.cap.Part.{Part}
-use Rattle.capbits.specs.declared.cap.Part.TheVariants.{A, L, X, F}
-use Rattle.capbits.specs.Caps.{Caps, has, caps_where, all_caps, place_of}
+use Rattle.capbits.specs.declared.cap.Part.TheVariants.{A, F, L, X}
+use Rattle.capbits.specs.Caps.{Caps, all_caps, caps_where, has, place_of}
 
 -- whether two caps are the same
 abbrev pub same_cap : Cap → Cap → Bool

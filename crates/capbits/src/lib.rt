@@ -1,7 +1,9 @@
 //! The small types that every crate of the server speaks of: the numbers that name clients and inodes, a caller
-//! with its groups, a file mode, the caps and sets of them, and the numbers that a text writes.
+//! with its groups, a file mode, the caps and sets of them with their one text, and the numbers that a text writes; and texts that
+//! are made piece by piece, of words, numbers, sets of caps, and what values print.
 #![tactic(auto)]
 
+mod appending;
 mod bits;
 mod caller;
 mod cap;
@@ -9,16 +11,19 @@ mod ids;
 mod laws;
 mod mode;
 mod numbers;
+mod reader;
 mod refusal;
 mod set;
 mod text;
 
+pub use appending::{print, print_caps, print_number, print_numbered, print_str};
 pub use caller::{Caller, Groups, MAX_GROUPS, TooManyGroups};
 pub use cap::{Cap, Part};
 pub use ids::{ClientId, Ino, PassId, Ticket};
 pub use laws::{one_part_for_a_cap, one_set_for_a_text};
 pub use mode::{MAX_MODE, Mode};
 pub use numbers::{read_mode, read_u32, read_u64};
+pub use reader::{CapText, read_caps};
 pub use refusal::Refusal;
 pub use set::CapSet;
 pub use text::{CapBytes, MAX_CAP_BYTES, write_caps};

@@ -1,7 +1,7 @@
 //! A set of caps.
 ghost use Rattle.std.specs.Prelude.{◌≡◌, ◌≢◌, ◌↔◌, [], ◌∷◌, IsTrue, IfSome, IfNone};
-ghost use Rattle.capbits.specs.Caps.{Caps, has, bits_of, value_of};
-ghost use Rattle.capbits.specs.Sets.{no_caps, caps_in, is_empty, union, meet, minus, of_part, IsSubset};
+ghost use Rattle.capbits.specs.Caps.{Caps, bits_of, has, value_of};
+ghost use Rattle.capbits.specs.Sets.{IsSubset, caps_in, is_empty, meet, minus, no_caps, of_part, union};
 
 use crate::bits::CapBits;
 use crate::cap::{Cap, Part};
@@ -16,7 +16,7 @@ pub struct CapSet {
 }
 
 impl Model for CapSet {
-    ghost use Rattle.capbits.specs.Caps.{Caps, IsCaps, caps_of, bits_of};
+    ghost use Rattle.capbits.specs.Caps.{Caps, IsCaps, bits_of, caps_of};
     ghost use Rattle.capbits.specs.SetNumbers.{bits_of-caps_of};
 
     ghost Value = { Caps };

@@ -2,7 +2,7 @@
 ghost use Rattle.std.specs.Prelude.{◌≡◌, ◌+◌, ◌≤◌, ◌++◌, ℕ, List, length};
 ghost use Rattle.arrayvec.specs.ArrayVec.{array_vec_len};
 ghost use Rattle.capbits.specs.Sets.{caps_of_part};
-ghost use Rattle.capbits.specs.Text.{text_of, letters_in, group_of};
+ghost use Rattle.capbits.specs.Text.{group_of, letters_in, text_of};
 
 use crate::cap::{Cap, Part};
 use crate::set::CapSet;

@@ -1,10 +1,16 @@
 -- What different clients hold of one inode has no conflict, where it is in place.
-use Rattle.std.{proofs.Common.{◌≡◌, ◌≢◌, Bool, true, false, ◌||◌, ◌==◌, Option, Some, refl, sym, ap, subst, ◌∙◌, true≢false, IsTrue, arith}, proofs.lemmas.Bool.{and_from}, specs.Cmp.{nat_eq_equiv}, specs.List.{find, list_any}, specs.Option.{option_map_or}}
-use Rattle.capbits.specs.Sets.{of_part, covers, same_cap, has-of_part, has-none}
+use Rattle.std.proofs.Common.{◌≡◌, ◌≢◌, Bool, true, false, ◌||◌, ◌==◌, Option, Some, refl, sym, ap, subst, ◌∙◌, true≢false, IsTrue, arith}
+use Rattle.std.proofs.lemmas.Bool.{and_from}
+use Rattle.std.specs.Cmp.{nat_eq_equiv}
+use Rattle.std.specs.List.{find, list_any}
+use Rattle.std.specs.Option.{option_map_or}
+use Rattle.capbits.specs.Sets.{covers, has-none, has-of_part, of_part, same_cap}
 use Rattle.captable.proofs.Searches.{find_passes}
-use Rattle.locktable.specs.{Conflicts.{conflict, barred_by, rows_apart}, Rows.{row_of}}
-use Rattle.capsteps.specs.Caprules.Headline.{IsInPlace, AreInPlace, NoneConflict}
-use Rattle.capcore.proofs.Common.{Cap, ClientId, EntryRow, has, Holder, Ino, is_row_of, IsSound, IsSubset, lock_at, LockState, Part, present_state, same, Scene, State}
+use Rattle.locktable.specs.Conflicts.{barred_by, conflict, rows_apart}
+use Rattle.locktable.specs.Rows.{row_of}
+use Rattle.step_model.specs.Headline.{AreInPlace, IsInPlace, NoneConflict}
+use Rattle.capcore.proofs.Common.{Cap, ClientId, EntryRow, Holder, Ino, IsSound, IsSubset, LockState, Part, Scene, State, has, is_row_of, lock_at}
+use Rattle.capcore.proofs.Common.{present_state, same}
 
 -- ---- caps that conflict are of one part
 

@@ -1,7 +1,24 @@
 -- What an event that may move locks leaves by itself, and what its step comes to in the end.
-use Rattle.std.proofs.{Common.{◌≡◌, ◌≤◌, ℕ, ◌+◌, ◌++◌, ◌==◌, Bool, Some, List, [], length, Result, OnErr, sym, ap, subst, ◌∙◌, arith, All}, lemmas.List.Sums.{length-filter, count_by-le-length}}
-use Rattle.capsteps.{proofs.EntryRequests.{Keeps}, proofs.Knowing.{held_at}, specs.Begun.{MayEndAt, among}}
-use Rattle.capcore.{proofs.Closing.{for_clients-own_numbers, for_clients-all, for_clients-but_own, ends-table, affects-settles, affects-ends, affects-one}, proofs.Common.{Affected, Affects, AffectsOne, all_ended, AreBelow, AreChanges, AreCounted, AreCountedIn, AreGiven, AreKnown, ArePermittedIn, CountedLocks, Direct, direct, earlier, Ended, Endings, EndsWith, Entry, entry_answer, entry_at, EntryRequest, Event, finished_at, HasRoom, HaveOwnNumbers, HaveRoomFor, Holder, IsAnswered, IsJudged, IsLockMap, IsSubset, IsTable, known_in, KnownSets, Knows, MayEnd, MaySettle, NumbersLeft, plain, reply_of, Said, Scene, SettlesAt, SettlesWith, shown, sized_in, sizes_owed, State, state_at_end, still-knows, StillKnown, view_of}, proofs.Concluded.{IsConcluded, concluded}, proofs.EndKnown.{ends-known}, proofs.EntryWhole.{request-counted, show_reply-alike}, proofs.Unaffected.{alike-kept}, specs.UnderWay.{MayBegin, answer_of, GivesOne, HasBegun, AreKept, state_of, dropped_of, earlier_of, IsNumbered, HasPlaces}, specs.declared.parts.Answer.{Answer}, specs.declared.parts.Answer.TheVariants.{Done, Dropped, Requested, Awaited}, specs.declared.parts.Effect.{Effect}, specs.declared.parts.Parts.{Parts}}
+use Rattle.std.proofs.Common.{◌≡◌, ◌≤◌, ℕ, ◌+◌, ◌++◌, ◌==◌, Bool, Some, List, [], length, Result, OnErr, sym, ap, subst, ◌∙◌, arith, All}
+use Rattle.std.proofs.lemmas.List.Sums.{count_by-le-length, length-filter}
+use Rattle.capstep.proofs.EntryRequests.{Keeps}
+use Rattle.capstep.proofs.Knowing.{held_at}
+use Rattle.capstep.specs.Begun.{MayEndAt, among}
+use Rattle.capcore.proofs.Closing.{affects-ends, affects-one, affects-settles, ends-table, for_clients-all, for_clients-but_own, for_clients-own_numbers}
+use Rattle.capcore.proofs.Common.{Affected, Affects, AffectsOne, AreBelow, AreChanges, AreCounted, AreCountedIn, AreGiven, AreKnown, ArePermittedIn}
+use Rattle.capcore.proofs.Common.{CountedLocks, Direct, Ended, Endings, EndsWith, Entry, EntryRequest, Event, HasRoom, HaveOwnNumbers, HaveRoomFor, Holder}
+use Rattle.capcore.proofs.Common.{IsAnswered, IsJudged, IsLockMap, IsSubset, IsTable, KnownSets, Knows, MayEnd, MaySettle, NumbersLeft, Said, Scene, SettlesAt}
+use Rattle.capcore.proofs.Common.{SettlesWith, State, StillKnown, all_ended, direct, earlier, entry_answer, entry_at, finished_at, known_in, plain, reply_of}
+use Rattle.capcore.proofs.Common.{shown, sized_in, sizes_owed, state_at_end, still-knows, view_of}
+use Rattle.capcore.proofs.Concluded.{IsConcluded, concluded}
+use Rattle.capcore.proofs.EndKnown.{ends-known}
+use Rattle.capcore.proofs.EntryWhole.{request-counted, show_reply-alike}
+use Rattle.capcore.proofs.Unaffected.{alike-kept}
+use Rattle.capcore.specs.UnderWay.{AreKept, GivesOne, HasBegun, HasPlaces, IsNumbered, MayBegin, answer_of, dropped_of, earlier_of, state_of}
+use Rattle.capcore.specs.declared.parts.Answer.{Answer}
+use Rattle.capcore.specs.declared.parts.Answer.TheVariants.{Awaited, Done, Dropped, Requested}
+use Rattle.capcore.specs.declared.parts.Effect.{Effect}
+use Rattle.capcore.specs.declared.parts.Parts.{Parts}
 
 -- each entry has a number left then
 pub begun-entries : (p q : Parts) (e : Event) (from : ℕ → Bool) → MayBegin p e → state_of q ≡ (direct (state_of p) e).state → Affects from (state_of p) (state_of q) → GivesOne (state_of p) e

@@ -1,7 +1,11 @@
 -- How many requests a step serves, and how often its locks move between two servings.
 use Rattle.std.proofs.Common.{◌≡◌, ◌++◌, ℕ, List, [], ◌∷◌, Option, Some, None, map, refl, subst, arith}
-use Rattle.capsteps.{proofs.Lockmachine.Ending.{few}, proofs.Moved.{served-count}, specs.Lockmachine.Runs.{Runs}}
-use Rattle.capcore.proofs.{Common.{Alter, AreBounded, child, direct, effect, effect_unless, ended_in, Event, found, Get, holder, IsLockMap, judged, Made, MakesAll, move_of, Rejection, Rename, Rmdir, Scene, Served, State, Unlink, without_requests_of-kept}, LockRequests.{order-of_operation}}
+use Rattle.lockmachine.proofs.Ending.{few}
+use Rattle.capstep.proofs.Moved.{served-count}
+use Rattle.lockmachine.specs.Runs.{Runs}
+use Rattle.capcore.proofs.Common.{Alter, AreBounded, Event, Get, IsLockMap, Made, MakesAll, Rejection, Rename, Rmdir, Scene, Served, State, Unlink, child}
+use Rattle.capcore.proofs.Common.{direct, effect, effect_unless, ended_in, found, holder, judged, move_of, without_requests_of-kept}
+use Rattle.capcore.proofs.LockRequests.{order-of_operation}
 
 -- ---- the queue stays in order, whatever the event
 

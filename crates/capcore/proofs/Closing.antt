@@ -1,7 +1,15 @@
 -- What the calls of the step of an event about one inode come to.
-use Rattle.std.proofs.{Common.{◌≡◌, ◌≤◌, ◌<◌, ◌^◌, ◌-◌, ℕ, ◌+◌, ◌==◌, Bool, true, false, is_some, List, Contains, refl, sym, ap, subst, ◌∙◌, arith, IsTrue, All}, lemmas.Bool.{eqb-true}, lemmas.List.Elements.{All-weaker, All-contains}}
-use Rattle.capsteps.{proofs.Forgotten.{all_rows}, proofs.Lockmachine.SameOutside.{outside-one, rest-outside}, specs.Affected.{finished_entry}}
-use Rattle.capcore.proofs.{Common.{Affects, AffectsOne, ArePermittedIn, but_for, earlier, Ended, EndsWith, entries_on, EntryRow, filter-contains, first_for, has_session, HaveOwnNumbers, Ino, is_of_inode, is_sized, IsAffectedEntry, IsLockMap, IsSound, IsSoundEntry, IsTable, known_in, KnownSets, lock_at, MakesAll, MayEnd, MaySettle, moved-all, owed, row_elsewhere, Scene, SessionTable, SettlesWith, sizes_owed, State, table-where, Ticket, with_scene}, EndedIn.{earlier-all, earlier-but_own, own-numbers}}
+use Rattle.std.proofs.Common.{◌≡◌, ◌≤◌, ◌<◌, ◌^◌, ◌-◌, ℕ, ◌+◌, ◌==◌, Bool, true, false, is_some, List, Contains, refl, sym, ap, subst, ◌∙◌, arith, IsTrue, All}
+use Rattle.std.proofs.lemmas.Bool.{eqb-true}
+use Rattle.std.proofs.lemmas.List.Elements.{All-contains, All-weaker}
+use Rattle.capstep.proofs.Forgotten.{all_rows}
+use Rattle.lockmachine.proofs.SameOutside.{outside-one, rest-outside}
+use Rattle.capstep.specs.Affected.{finished_entry}
+use Rattle.capcore.proofs.Common.{Affects, AffectsOne, ArePermittedIn, Ended, EndsWith, EntryRow, HaveOwnNumbers, Ino, IsAffectedEntry, IsLockMap, IsSound}
+use Rattle.capcore.proofs.Common.{IsSoundEntry, IsTable, KnownSets, MakesAll, MayEnd, MaySettle, Scene, SessionTable, SettlesWith, State, Ticket, but_for}
+use Rattle.capcore.proofs.Common.{earlier, entries_on, filter-contains, first_for, has_session, is_of_inode, is_sized, known_in, lock_at, moved-all, owed}
+use Rattle.capcore.proofs.Common.{row_elsewhere, sizes_owed, table-where, with_scene}
+use Rattle.capcore.proofs.EndedIn.{earlier-all, earlier-but_own, own-numbers}
 
 -- ---- the numbers of those that a settling ends
 

@@ -1,8 +1,13 @@
 -- The step of an event that affected some inodes, all together: it is a step of the rules, leaves the state sound, issues what is due
 -- and gives at most one number.
 use Rattle.std.proofs.Common.{◌≡◌, ℕ, ◌+◌, Bool, List, sym, subst}
-use Rattle.capsteps.proofs.{SizesOwed.{sizes-end, sizes-sound, sizes-issues, sizes-given}, StayingSound.{given-affected}}
-use Rattle.capcore.{proofs.Common.{Affects, all_ended, AreGiven, Caps, direct, Ended, ended_in, Event, finished_at, Holder, IsLockMap, IsSound, IssuesExactly, IsTable, IsTree, Knows, Made, Reply, reply_of, Scene, SettlesAt, shown, shown-given, shown-issued, shown-sound, sized_in, sizes_owed, State, state_at_end, Step}, proofs.EntryStep.{one-step}, specs.UnderWay.{GivesOne}}
+use Rattle.capstep.proofs.SizesOwed.{sizes-end, sizes-given, sizes-issues, sizes-sound}
+use Rattle.capstep.proofs.StayingSound.{given-affected}
+use Rattle.capcore.proofs.Common.{Affects, AreGiven, Caps, Ended, Event, Holder, IsLockMap, IsSound, IsTable, IsTree, IssuesExactly, Knows, Made, Reply, Scene}
+use Rattle.capcore.proofs.Common.{SettlesAt, State, Step, all_ended, direct, ended_in, finished_at, reply_of, shown, shown-given, shown-issued, shown-sound}
+use Rattle.capcore.proofs.Common.{sized_in, sizes_owed, state_at_end}
+use Rattle.capcore.proofs.EntryStep.{one-step}
+use Rattle.capcore.specs.UnderWay.{GivesOne}
 
 -- what is promised of a step
 pub record IsConcluded (old : State) (e : Event) (answer : Reply) (ended : List Ended) (new : State) : Type 0 where

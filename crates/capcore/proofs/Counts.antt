@@ -2,10 +2,13 @@
 use Rattle.std.proofs.Common.{◌≡◌, ℕ, Bool, true, false, cond, Option, Some, None, List, refl, sym, subst, take}
 use Rattle.std.specs.Option.{option_map}
 use Rattle.std.specs.FinMap as map
-use Rattle.capbits.specs.declared.cap.Part.TheVariants.{A, L, X, F}
-use Rattle.captable.specs.{Calls.{with_asked}, Many.{remade}}
-use Rattle.capsteps.{proofs.Lockmachine.CountsStay.{counted-held, held-map}, specs.Lockmachine.Counts.{IsCounted, LockId, count_of}}
-use Rattle.capcore.proofs.Common.{AreCounted, changed_where, CountedLocks, Entry, EntryRow, in_sync, is_among, IsOpening, lock_at, lock_in, LockMap, Node, Nodes, Part, recalled, State, Table}
+use Rattle.capbits.specs.declared.cap.Part.TheVariants.{A, F, L, X}
+use Rattle.captable.specs.Calls.{with_asked}
+use Rattle.captable.specs.Many.{remade}
+use Rattle.lockmachine.proofs.CountsStay.{counted-held, held-map}
+use Rattle.lockmachine.specs.Counts.{IsCounted, LockId, count_of}
+use Rattle.capcore.proofs.Common.{AreCounted, CountedLocks, Entry, EntryRow, IsOpening, LockMap, Node, Nodes, Part, State, Table, changed_where, in_sync}
+use Rattle.capcore.proofs.Common.{is_among, lock_at, lock_in, recalled}
 
 -- ---- entries that hold what they held
 

@@ -1,9 +1,30 @@
 -- Two steps from one state with the same event are the same where the same requests find no memory: so where all find it, and so
 -- where their rows say the same.
-use Rattle.std.{proofs.Common.{◌≡◌, ◌≢◌, ◌⊎◌, ◌↔◌, ◌≤◌, ℕ, zero, suc, not, cond, List, [], ◌∷◌, Option, Some, refl, sym, ap, subst, ◌∙◌, inl, inr, All, Contains, arith, nat_le, unwrap_or, filter, ◌+◌, ◌++◌, append_assoc}, proofs.lemmas.Bool.{le-leb, ne_eqb}, proofs.lemmas.List.{append_cancel_left}, proofs.lemmas.List.Elements.{All-weaker, All-filter, All-contains, All-push, Contains-append_right, All-head, All-tail}, proofs.lemmas.Option.{same_Some}, specs.Cmp.{nat_eq_equiv}, specs.List.{find}}
+use Rattle.std.proofs.Common.{◌≡◌, ◌≢◌, ◌⊎◌, ◌↔◌, ◌≤◌, ℕ, zero, suc, not, cond, List, [], ◌∷◌, Option, Some, refl, sym, ap, subst, ◌∙◌, inl, inr, All}
+use Rattle.std.proofs.Common.{Contains, arith, nat_le, unwrap_or, filter, ◌+◌, ◌++◌, append_assoc}
+use Rattle.std.proofs.lemmas.Bool.{le-leb, ne_eqb}
+use Rattle.std.proofs.lemmas.List.{append_cancel_left}
+use Rattle.std.proofs.lemmas.List.Elements.{All-contains, All-filter, All-head, All-push, All-tail, All-weaker, Contains-append_right}
+use Rattle.std.proofs.lemmas.Option.{same_Some}
+use Rattle.std.specs.Cmp.{nat_eq_equiv}
+use Rattle.std.specs.List.{find}
 use Rattle.capbits.specs.declared.ids.PassId.{PassId}
-use Rattle.capsteps.{proofs.Capnotes.Taking.{own-head, own-tail}, specs.Caprules.Numbers.{AreNumbered}, specs.Caprules.Serving.{served}, specs.Caprules.Step.{StepBy}, specs.Lockmachine.Moves.{with_moved}, specs.Lockmachine.Requests.{is_of_client}, specs.Lockmachine.declared.moves.Move.TheVariants.{Settled}}
-use Rattle.capcore.{proofs.Bounded.{direct-order}, proofs.Common.{all_ended, Alter, Answer, As_judged, awaited_as, Awaits, Began, Begin, child, ClientId, contains-filter, Direct, direct, earlier, effect, End, Ended, ended-waited, ended_in, enqueues, Event, filter-contains, finished, first_move, found, Gathered, Get, HaveOwnNumbers, Ino, is_of_ticket, IsLockMap, IsOpening, Made, Makes, MakesAll, MayEndAs, move_of, moved-all, next_request, no_moves, Nodes, Operation, Outcome, outcome_reply, Rename, Replays, Reply, reply_of, Request, request_at, Rmdir, Row, rows_of, Scene, Serve, Served, shown, sized_in, sizes_owed, State, state_after, Step, Ticket, Unlink, Waited, Without_memory}, proofs.EndedIn.{own-numbers}, specs.SameEvents.{FoundMemory, AllFoundMemory, events_of, ends_of, passes_of}}
+use Rattle.step_model.proofs.Taking.{own-head, own-tail}
+use Rattle.step_model.specs.Numbers.{AreNumbered}
+use Rattle.step_model.specs.Serving.{served}
+use Rattle.step_model.specs.Step.{StepBy}
+use Rattle.lockmachine.specs.Moves.{with_moved}
+use Rattle.lockmachine.specs.Requests.{is_of_client}
+use Rattle.lockmachine.specs.declared.moves.Move.TheVariants.{Settled}
+use Rattle.capcore.proofs.Bounded.{direct-order}
+use Rattle.capcore.proofs.Common.{Alter, Answer, As_judged, Awaits, Began, Begin, ClientId, Direct, End, Ended, Event, Gathered, Get, HaveOwnNumbers, Ino}
+use Rattle.capcore.proofs.Common.{IsLockMap, IsOpening, Made, Makes, MakesAll, MayEndAs, Nodes, Operation, Outcome, Rename, Replays, Reply, Request, Rmdir}
+use Rattle.capcore.proofs.Common.{Row, Scene, Serve, Served, State, Step, Ticket, Unlink, Waited, Without_memory, all_ended, awaited_as, child}
+use Rattle.capcore.proofs.Common.{contains-filter, direct, earlier, effect, ended-waited, ended_in, enqueues, filter-contains, finished, first_move, found}
+use Rattle.capcore.proofs.Common.{is_of_ticket, move_of, moved-all, next_request, no_moves, outcome_reply, reply_of, request_at, rows_of, shown, sized_in}
+use Rattle.capcore.proofs.Common.{sizes_owed, state_after}
+use Rattle.capcore.proofs.EndedIn.{own-numbers}
+use Rattle.capcore.specs.SameEvents.{AllFoundMemory, FoundMemory, ends_of, events_of, passes_of}
 
 -- ---- moves
 

@@ -1,9 +1,13 @@
 -- What each event by itself comes to, from what the calls below answered.
-use Rattle.std.{proofs.Common.{◌≡◌, ℕ, ◌+◌, List, [], ◌∷◌, Option, Some, None, refl, ap, ◌∙◌, arith}, specs.Option.{option_map}}
+use Rattle.std.proofs.Common.{◌≡◌, ℕ, ◌+◌, List, [], ◌∷◌, Option, Some, None, refl, ap, ◌∙◌, arith}
+use Rattle.std.specs.Option.{option_map}
 use Rattle.std.specs.FinMap as map
 use Rattle.capbits.specs.declared.mode.Mode.{Mode}
-use Rattle.capsteps.{proofs.Judging.{direct-rejection}, specs.Caprules.Direct.{made_event}}
-use Rattle.capcore.proofs.Common.{basic_tests, ByTest, ClientId, direct, Directory, effect_unless, Event, File, first_failing, Ino, IsDirect, judged, Kind, Need, need, new_inode_tests, new_snapshot_tests, old_snapshot_tests, owned_by, passed, Refusal, Rejection, rejection, rejection_of, rejection_reply, Reply, Says, Snapshot, State, Test, with_birth, Write}
+use Rattle.capstep.proofs.Judging.{direct-rejection}
+use Rattle.step_model.specs.Direct.{made_event}
+use Rattle.capcore.proofs.Common.{ByTest, ClientId, Directory, Event, File, Ino, IsDirect, Kind, Need, Refusal, Rejection, Reply, Says, Snapshot, State, Test}
+use Rattle.capcore.proofs.Common.{Write, basic_tests, direct, effect_unless, first_failing, judged, need, new_inode_tests, new_snapshot_tests}
+use Rattle.capcore.proofs.Common.{old_snapshot_tests, owned_by, passed, rejection, rejection_of, rejection_reply, with_birth}
 
 -- the tests behind policy, where what stands before them rejects nothing
 module _ (old : State) (e : Event) (tests more : List Test) (needed : List Need) (splits : judged old.scene e ≡ rejection_of old.scene tests needed more) (free : rejection_of old.scene tests needed [] ≡ None) where

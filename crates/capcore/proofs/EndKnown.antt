@@ -1,8 +1,15 @@
 -- At the end of a step that affected some inodes it is known of each entry what its client is to know of.
-use Rattle.std.proofs.{Common.{◌≡◌, ℕ, Bool, true, false, Some, List, Contains, sym, ap, subst, ◌∙◌, true≢false}, lemmas.Bool.{false_from_ne_true}}
-use Rattle.captable.{proofs.ByHolder.{row_found}, specs.Table.{entry_of}}
-use Rattle.capsteps.{proofs.Knowing.{still-known}, proofs.SizesOwed.{sizes-known}, specs.Affected.{told_then}, specs.Capacts.Known.{KnownAnew}, specs.Lockmachine.Scene.{told_set}}
-use Rattle.capcore.proofs.Common.{Affects, AreKnown, Ended, EndsWith, EntryRow, finished_at, Ino, IsSound, IsTable, known_in, known_of, KnownSets, Knows, row_elsewhere, Scene, SettlesWith, sizes_owed, State, StillKnown}
+use Rattle.std.proofs.Common.{◌≡◌, ℕ, Bool, true, false, Some, List, Contains, sym, ap, subst, ◌∙◌, true≢false}
+use Rattle.std.proofs.lemmas.Bool.{false_from_ne_true}
+use Rattle.captable.proofs.ByHolder.{row_found}
+use Rattle.captable.specs.Table.{entry_of}
+use Rattle.capstep.proofs.Knowing.{still-known}
+use Rattle.capstep.proofs.SizesOwed.{sizes-known}
+use Rattle.capstep.specs.Affected.{told_then}
+use Rattle.capstep.specs.Known.{KnownAnew}
+use Rattle.lockmachine.specs.Scene.{told_set}
+use Rattle.capcore.proofs.Common.{Affects, AreKnown, Ended, EndsWith, EntryRow, Ino, IsSound, IsTable, KnownSets, Knows, Scene, SettlesWith, State, StillKnown}
+use Rattle.capcore.proofs.Common.{finished_at, known_in, known_of, row_elsewhere, sizes_owed}
 
 module _ (before was now : KnownSets) (from : ℕ → Bool) (old affected : State) (sound : IsSound old) (old_table : IsTable old.scene.table) (table : IsTable affected.scene.table)
     (affects : Affects from old affected) (known : AreKnown before old.scene) (still : StillKnown old.scene.table affected.scene.table before was) (knows : Knows (known_in was) old.scene affected.scene.table)

@@ -1,6 +1,12 @@
 -- The numbers of the requests that a settling ends.
-use Rattle.std.{proofs.Common.{◌≡◌, ◌≢◌, ◌≤◌, ℕ, suc, ◌+◌, ◌==◌, Bool, true, false, not, cond, List, [], ◌∷◌, refl, sym, ap, subst, ◌∙◌, All, Contains, arith, true≢false, nat_le, filter}, proofs.lemmas.Bool.{eqb-true, eqb-false, le-leb, lt-leb}, proofs.lemmas.List.Elements.{All-weaker, All-contains, All-head, All-tail, filter_passes}, proofs.lemmas.List.Kept.{AllPairs-cons}, specs.Cmp.{nat_eq_equiv}}
-use Rattle.capcore.proofs.Common.{but_for, earlier, Ended, ended-waited, ended_in, HaveOwnNumbers, is_numbered, IsLockMap, Made, Makes, MakesAll, Request, Scene, Served, Ticket, Waited}
+use Rattle.std.proofs.Common.{◌≡◌, ◌≢◌, ◌≤◌, ℕ, suc, ◌+◌, ◌==◌, Bool, true, false, not, cond, List, [], ◌∷◌, refl, sym, ap, subst, ◌∙◌, All, Contains, arith}
+use Rattle.std.proofs.Common.{true≢false, nat_le, filter}
+use Rattle.std.proofs.lemmas.Bool.{eqb-false, eqb-true, le-leb, lt-leb}
+use Rattle.std.proofs.lemmas.List.Elements.{All-contains, All-head, All-tail, All-weaker, filter_passes}
+use Rattle.std.proofs.lemmas.List.Kept.{AllPairs-cons}
+use Rattle.std.specs.Cmp.{nat_eq_equiv}
+use Rattle.capcore.proofs.Common.{Ended, HaveOwnNumbers, IsLockMap, Made, Makes, MakesAll, Request, Scene, Served, Ticket, Waited, but_for, earlier}
+use Rattle.capcore.proofs.Common.{ended-waited, ended_in, is_numbered}
 
 -- ---- lists that are filtered alike
 

@@ -1,6 +1,7 @@
 -- An event is a whole step, when the locks have settled and the step has ended.
 use Rattle.std.proofs.Common.{◌≡◌, List, ◌++◌, refl, sym, ap, ◌∙◌}
-use Rattle.capcore.proofs.Common.{all_ended, direct, earlier, ended_in, Event, finished, Made, Reply, reply_of, Scene, Settles, shown, sized_in, sizes_owed, State, state_after, state_at_end, Step}
+use Rattle.capcore.proofs.Common.{Event, Made, Reply, Scene, Settles, State, Step, all_ended, direct, earlier, ended_in, finished, reply_of, shown, sized_in}
+use Rattle.capcore.proofs.Common.{sizes_owed, state_after, state_at_end}
 
 module _ (old : State) (e : Event) (moves : List Made) (settled last : Scene) (settles : Settles (direct old e).state.scene moves settled)
     (ends : finished old.scene (direct old e).state.scene (sizes_owed (sized_in moves) settled) ≡ last) where

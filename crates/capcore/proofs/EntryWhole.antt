@@ -1,8 +1,10 @@
 -- What the calls of the step of an event about one entry come to.
 use Rattle.std.proofs.Common.{◌≡◌, false, [], List, refl, arith}
 use Rattle.captable.specs.Calls.{changed}
-use Rattle.capsteps.proofs.{EntryKept.{alike-changed}, Lockmachine.CountsStay.{counted-held, held-change}}
-use Rattle.capcore.proofs.Common.{Ack, AreCounted, ClientId, CountedLocks, effect, Ended, entry_answer, entry_event, EntryRequest, has_list, HoldAlike, Holder, holder, Ino, Release, reply_of, shown, State, with_told}
+use Rattle.capstep.proofs.EntryKept.{alike-changed}
+use Rattle.lockmachine.proofs.CountsStay.{counted-held, held-change}
+use Rattle.capcore.proofs.Common.{Ack, AreCounted, ClientId, CountedLocks, Ended, EntryRequest, HoldAlike, Holder, Ino, Release, State, effect, entry_answer}
+use Rattle.capcore.proofs.Common.{entry_event, has_list, holder, reply_of, shown, with_told}
 
 pub effect-answer : (old : State) (client : ClientId) (ino : Ino) (request : EntryRequest) → (effect old (entry_event client ino request)).answer ≡ entry_answer (holder client ino) request
 effect-answer old client ino request = grind arith

@@ -1,10 +1,20 @@
 -- A flush that nothing rejects, by itself: it changes its inode alone, and of the entries only the order of recall.
-use Rattle.std.proofs.{Common.{◌≡◌, ◌≢◌, ℕ, [], ◌∷◌, None, refl, sym, ap, subst, ◌∙◌, arith}, lemmas.List.Elements.{All-filter}}
+use Rattle.std.proofs.Common.{◌≡◌, ◌≢◌, ℕ, [], ◌∷◌, None, refl, sym, ap, subst, ◌∙◌, arith}
+use Rattle.std.proofs.lemmas.List.Elements.{All-filter}
 use Rattle.std.specs.FinMap as map
 use Rattle.inotree.proofs.OneInode.{exist-changed, presence-other}
-use Rattle.captable.{proofs.Moves.{IsTable-touched}, specs.Calls.{touched}}
-use Rattle.capsteps.{proofs.EntryRequests.{before-passed, after-passed}, proofs.Lockmachine.SameBut.{same-trans, same-tree, same-entries}, proofs.OneChange.{by_change, alike_change}, specs.Capacts.Served.{change_call_tests}, specs.Capnotes.Changing.{tree_changed}, specs.Lockmachine.Elsewhere.{IsSameBut}, specs.Lockmachine.declared.request.Change.{Change}}
-use Rattle.capcore.proofs.Common.{AffectsOne, all-left, AreBelow, AreGiven, caps_in, change_tests, direct, effect_unless, Event, exclusive, first_failing, Holder, is_of_inode, IsAffectedEntry, IsQuiet, IsSound, IsTable, judged, Nodes, part_of_change, passed-both, presence, release_tests, Reply, says, Scene, sound-pinned, State, with_flush}
+use Rattle.captable.proofs.Moves.{IsTable-touched}
+use Rattle.captable.specs.Calls.{touched}
+use Rattle.capstep.proofs.EntryRequests.{after-passed, before-passed}
+use Rattle.lockmachine.proofs.SameBut.{same-entries, same-trans, same-tree}
+use Rattle.capstep.proofs.OneChange.{alike_change, by_change}
+use Rattle.capstep.specs.Served.{change_call_tests}
+use Rattle.step_model.specs.Changing.{tree_changed}
+use Rattle.lockmachine.specs.Elsewhere.{IsSameBut}
+use Rattle.lockmachine.specs.declared.request.Change.{Change}
+use Rattle.capcore.proofs.Common.{AffectsOne, AreBelow, AreGiven, Event, Holder, IsAffectedEntry, IsQuiet, IsSound, IsTable, Nodes, Reply, Scene, State}
+use Rattle.capcore.proofs.Common.{all-left, caps_in, change_tests, direct, effect_unless, exclusive, first_failing, is_of_inode, judged, part_of_change}
+use Rattle.capcore.proofs.Common.{passed-both, presence, release_tests, says, sound-pinned, with_flush}
 
 exist_change : (tree : Nodes) (ino : ℕ) (change : Change) (other : ℕ) → map.contains_key (tree_changed tree ino change).nodes other ≡ map.contains_key tree.nodes other
 exist_change tree ino change other =

@@ -1,8 +1,15 @@
 -- A tree that has its root alone has no stray.
-use Rattle.std.{proofs.Common.{◌≡◌, Bool, true, false, cond, Some, sym, ap, subst, ◌∙◌}, specs.Cmp.{nat_cmp_total}, specs.Option.{option_map}, specs.Ordering.{nat_cmp, eq_by_cmp}}
+use Rattle.std.proofs.Common.{◌≡◌, Bool, true, false, cond, Some, sym, ap, subst, ◌∙◌}
+use Rattle.std.specs.Cmp.{nat_cmp_total}
+use Rattle.std.specs.Option.{option_map}
+use Rattle.std.specs.Ordering.{eq_by_cmp, nat_cmp}
 use Rattle.std.specs.FinMap as map
 use Rattle.std.specs.FinSet as set
-use Rattle.inotree.specs.{Calls.{first_tree}, Inodes.{InodeMap}, Tree.{presence_at}, declared.node.Presence.TheVariants.{Gone}, declared.node.Site.TheVariants.{Root}}
+use Rattle.inotree.specs.Calls.{first_tree}
+use Rattle.inotree.specs.Inodes.{InodeMap}
+use Rattle.inotree.specs.Tree.{presence_at}
+use Rattle.inotree.specs.declared.node.Presence.TheVariants.{Gone}
+use Rattle.inotree.specs.declared.node.Site.TheVariants.{Root}
 use Rattle.capcore.proofs.Common.{Attr, Directory, HasNoStray, Node, Nodes}
 
 no_stray : (attr : Attr) → HasNoStray (first_tree attr)

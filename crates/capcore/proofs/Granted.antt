@@ -1,11 +1,19 @@
 -- What each client is permitted, where the session of one has ended or changed.
-use Rattle.std.{proofs.Common.{◌≡◌, ◌==◌, ◌⊎◌, inl, inr, ℕ, Bool, true, false, cond, Option, Some, None, List, refl, sym, ap, subst, ◌∙◌, nat_eq}, proofs.lemmas.Bool.{eqb-true, false_from_ne_true}, specs.Option.{option_map}}
+use Rattle.std.proofs.Common.{◌≡◌, ◌==◌, ◌⊎◌, inl, inr, ℕ, Bool, true, false, cond, Option, Some, None, List, refl, sym, ap, subst, ◌∙◌, nat_eq}
+use Rattle.std.proofs.lemmas.Bool.{eqb-true, false_from_ne_true}
+use Rattle.std.specs.Option.{option_map}
 use Rattle.std.specs.FinMap as map
 use Rattle.inotree.specs.Tree.{path_of}
-use Rattle.captable.{proofs.ByHolder.{entry_at-without_client}, specs.Known.{sets_of}}
+use Rattle.captable.proofs.ByHolder.{entry_at-without_client}
+use Rattle.captable.specs.Known.{sets_of}
 use Rattle.sessiontab.specs.declared.session.Status.{Status}
-use Rattle.capsteps.{proofs.Lockmachine.PolicyElsewhere.{permitted-kept}, specs.Capacts.declared.leaving.SessionChange.TheVariants.{Close, Mark, Evict}, specs.Lockmachine.Policy.{permitted_to, subject_of}}
-use Rattle.capcore.proofs.{Common.{alike-itself, apart_client, ArePermittedIn, change-at, changed_sessions, ClientId, Entry, entry_at, entry_at-without_client_other, Holder, is_end, KnownSets, Node, permitted, permitted_of, Scene, Session, session_changed, SessionChange, Sets, State, Table, table_left, without_client}, SessionChanged.{apart, session_changed-other}}
+use Rattle.lockmachine.proofs.PolicyElsewhere.{permitted-kept}
+use Rattle.capstep.specs.declared.leaving.SessionChange.TheVariants.{Close, Evict, Mark}
+use Rattle.lockmachine.specs.Policy.{permitted_to, subject_of}
+use Rattle.capcore.proofs.Common.{ArePermittedIn, ClientId, Entry, Holder, KnownSets, Node, Scene, Session, SessionChange, Sets, State, Table, alike-itself}
+use Rattle.capcore.proofs.Common.{apart_client, change-at, changed_sessions, entry_at, entry_at-without_client_other, is_end, permitted, permitted_of}
+use Rattle.capcore.proofs.Common.{session_changed, table_left, without_client}
+use Rattle.capcore.proofs.SessionChanged.{apart, session_changed-other}
 
 -- ---- who is left
 

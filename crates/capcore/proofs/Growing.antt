@@ -1,7 +1,9 @@
 -- A legal history goes on by one row.
 use Rattle.std.proofs.Common.{◌≡◌, ℕ, ◌+◌, ◌<◌, ◌≤◌, List, [], ◌∷◌, ◌++◌, length, Some, None, refl, sym, ap, subst, ◌∙◌, arith}
-use Rattle.capsteps.proofs.Capacts.Numbered.{numbered-nil, numbered-snoc}
-use Rattle.capcore.proofs.{Common.{AreGiven, entry_at, HasNoStray, IsOpening, IsRecorded, IsSound, IsTable, Nodes, Recorded, recorded, Replays, Row, rows_of, State, Step, step-shown, ViewChange}, Sounding.{opening-sound, opening-given}}
+use Rattle.capstep.proofs.Numbered.{numbered-nil, numbered-snoc}
+use Rattle.capcore.proofs.Common.{AreGiven, HasNoStray, IsOpening, IsRecorded, IsSound, IsTable, Nodes, Recorded, Replays, Row, State, Step, ViewChange}
+use Rattle.capcore.proofs.Common.{entry_at, recorded, rows_of, step-shown}
+use Rattle.capcore.proofs.Sounding.{opening-given, opening-sound}
 
 pub replays-more : (first : State) (rows : List Row) (old : State) (row : Row) (new : State) → Replays first rows old → Step old row.event row.reply row.ended new → Replays first (rows ++ row ∷ []) new
 replays-more first [] old row new is step = (new, subst (λ s. Step s row.event row.reply row.ended new) is step, refl)

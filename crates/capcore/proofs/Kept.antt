@@ -1,8 +1,15 @@
 -- Each state that a history leads to has one row for each entry, and its requests in their order.
-use Rattle.std.proofs.{Common.{◌≡◌, List, [], ◌∷◌, None, sym, subst}, lemmas.Simd.{map-map}}
+use Rattle.std.proofs.Common.{◌≡◌, List, [], ◌∷◌, None, sym, subst}
+use Rattle.std.proofs.lemmas.Simd.{map-map}
 use Rattle.captable.proofs.Tables.{IsTable-changed, IsTable-empty, IsTable-rows}
-use Rattle.capsteps.specs.declared.entry_request.EntryRequest.TheVariants.{Open, Want}
-use Rattle.capcore.proofs.{Bounded.{direct-keeps, found-keeps}, Common.{Ack, after_messages, Answer, child, direct, effect, Ended, Event, finished, first_messages, Gives, holder, is_of_client, is_sized, IsLockMap, IsRecorded, IsTable, IsTable-recalled, IsTable-without_client, judged, moved-all, owed, Recorded, Release, Replays, Reply, request-table, Row, Scene, shown, Shows, sized_in, sizes_owed, State, state_after, Step, table-where, with_told}, Determined.{opening-order, step-order}, Flushed.{flush-table}}
+use Rattle.capstep.specs.declared.entry_request.EntryRequest.TheVariants.{Open, Want}
+use Rattle.capcore.proofs.Bounded.{direct-keeps, found-keeps}
+use Rattle.capcore.proofs.Common.{Ack, Answer, Ended, Event, Gives, IsLockMap, IsRecorded, IsTable, IsTable-recalled, IsTable-without_client, Recorded}
+use Rattle.capcore.proofs.Common.{Release, Replays, Reply, Row, Scene, Shows, State, Step, after_messages, child, direct, effect, finished, first_messages}
+use Rattle.capcore.proofs.Common.{holder, is_of_client, is_sized, judged, moved-all, owed, request-table, shown, sized_in, sizes_owed, state_after}
+use Rattle.capcore.proofs.Common.{table-where, with_told}
+use Rattle.capcore.proofs.Determined.{opening-order, step-order}
+use Rattle.capcore.proofs.Flushed.{flush-table}
 
 -- ---- one row for each entry
 

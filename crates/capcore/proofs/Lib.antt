@@ -31,8 +31,3 @@ pub mod SessionStep
 pub mod Granted
 pub mod ShownWords
 pub mod EndKnown
-pub use Rattle.capsteps.proofs.Capacts
-pub use Rattle.capsteps.proofs.Capevents
-pub use Rattle.capsteps.proofs as Capsteps
-pub use Rattle.capsteps.proofs.Capview
-pub use Rattle.capsteps.proofs.Lockmachine

@@ -1,9 +1,20 @@
 -- An event with an operation, by itself: its request comes to wait behind the others, and nothing else changes.
-use Rattle.std.{proofs.Common.{◌≡◌, ℕ, ◌<◌, cond, true, Option, Some, None, is_some, length, refl, ap, ◌∙◌, arith, IsTrue, nat_le}, proofs.lemmas.Bool.{leb-false, lt-leb}, proofs.lemmas.List.Elements.{All-filter, All-push}, specs.Option.{option_map}}
+use Rattle.std.proofs.Common.{◌≡◌, ℕ, ◌<◌, cond, true, Option, Some, None, is_some, length, refl, ap, ◌∙◌, arith, IsTrue, nat_le}
+use Rattle.std.proofs.lemmas.Bool.{leb-false, lt-leb}
+use Rattle.std.proofs.lemmas.List.Elements.{All-filter, All-push}
+use Rattle.std.specs.Option.{option_map}
 use Rattle.std.specs.FinMap as map
 use Rattle.capbits.proofs.Tests.{passed-if}
-use Rattle.capsteps.{proofs.EntryRequests.{basic-session, basic-there}, proofs.Lockmachine.Queue.{with_request-kept}, proofs.Lockmachine.SameBut.{same-request}, specs.Capacts.declared.operations.OperationRef.{OperationRef}}
-use Rattle.capcore.{proofs.Common.{AffectsOne, all-left, AreBelow, AreGiven, arrival_tests, basic_tests, ClientId, direct, effect, effect_unless, enqueues, Event, first_denied, first_failing, has_session, Holder, holder, Ino, inode_tests, InodeLocks, is_of_inode, IsAffectedEntry, IsLockMap, IsSound, IsTable, judged, judged_again, lock_in, Need, next_request, Operation, operation_after, operation_before, operation_by, operation_needs, operation_of, Part, pass-both, passed-both, queue_tests, Refusal, rejection_by, rejection_of, Request, Scene, session_tests, sound-pinned, State, waiting_tests, with_request}, specs.UnderWay.{operation_event}}
+use Rattle.capstep.proofs.EntryRequests.{basic-session, basic-there}
+use Rattle.lockmachine.proofs.Queue.{with_request-kept}
+use Rattle.lockmachine.proofs.SameBut.{same-request}
+use Rattle.capstep.specs.declared.operations.OperationRef.{OperationRef}
+use Rattle.capcore.proofs.Common.{AffectsOne, AreBelow, AreGiven, ClientId, Event, Holder, Ino, InodeLocks, IsAffectedEntry, IsLockMap, IsSound, IsTable, Need}
+use Rattle.capcore.proofs.Common.{Operation, Part, Refusal, Request, Scene, State, all-left, arrival_tests, basic_tests, direct, effect, effect_unless}
+use Rattle.capcore.proofs.Common.{enqueues, first_denied, first_failing, has_session, holder, inode_tests, is_of_inode, judged, judged_again, lock_in}
+use Rattle.capcore.proofs.Common.{next_request, operation_after, operation_before, operation_by, operation_needs, operation_of, pass-both, passed-both}
+use Rattle.capcore.proofs.Common.{queue_tests, rejection_by, rejection_of, session_tests, sound-pinned, waiting_tests, with_request}
+use Rattle.capcore.specs.UnderWay.{operation_event}
 
 -- ---- which events have an operation, and which
 

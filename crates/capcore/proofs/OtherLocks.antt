@@ -1,8 +1,15 @@
 -- Locks change by the moves of a step alone: each other lock that is there at its end is as it was right after the event.
-use Rattle.std.{proofs.Common.{◌≡◌, ℕ, Bool, true, false, Some, List, [], ◌∷◌, refl, sym, ap, ◌∙◌, true≢false, arith}, proofs.lemmas.Bool.{or_parts}, specs.List.{list_any}, specs.Option.{option_map}}
+use Rattle.std.proofs.Common.{◌≡◌, ℕ, Bool, true, false, Some, List, [], ◌∷◌, refl, sym, ap, ◌∙◌, true≢false, arith}
+use Rattle.std.proofs.lemmas.Bool.{or_parts}
+use Rattle.std.specs.List.{list_any}
+use Rattle.std.specs.Option.{option_map}
 use Rattle.std.specs.FinMap as map
-use Rattle.capsteps.{proofs.Strays.{retained-here, retained-gone}, specs.Caprules.Finish.{is_in_use, issue}, specs.Caprules.Headline.{OtherLocksStay, is_of_lock_at}}
-use Rattle.capcore.proofs.Common.{Answer, Began, coming_state, direct, Ended, Event, Gather, Gathered, is_at, lock_at, lock_in, LockId, LockMap, LockState, Made, Makes, MakesAll, Part, present_state, Reply, Scene, Served, shown, sized_in, sizes_owed, Stable, State, state_after, StepBy, with_lock, with_lock-each}
+use Rattle.capstep.proofs.Strays.{retained-gone, retained-here}
+use Rattle.step_model.specs.Finish.{is_in_use, issue}
+use Rattle.step_model.specs.Headline.{OtherLocksStay, is_of_lock_at}
+use Rattle.capcore.proofs.Common.{Answer, Began, Ended, Event, Gather, Gathered, LockId, LockMap, LockState, Made, Makes, MakesAll, Part, Reply, Scene, Served}
+use Rattle.capcore.proofs.Common.{Stable, State, StepBy, coming_state, direct, is_at, lock_at, lock_in, present_state, shown, sized_in, sizes_owed}
+use Rattle.capcore.proofs.Common.{state_after, with_lock, with_lock-each}
 
 -- ---- the moves
 

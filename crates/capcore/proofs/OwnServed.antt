@@ -1,9 +1,26 @@
 -- A request that is served in the step that brought it is never denied or refused: it was let wait, and nothing is served before
 -- it, so that the tree is as it was.
-use Rattle.std.{proofs.Common.{◌≡◌, ℕ, Bool, true, false, ◌&&◌, ◌==◌, cond, Option, Some, None, List, [], ◌∷◌, ◌++◌, refl, sym, ap, subst, ◌∙◌, Contains, true≢false, unwrap_or, arith}, proofs.lemmas.Bool.{eqb-true, true_from_ne_false}, proofs.lemmas.List.Elements.{Contains-push}, proofs.lemmas.List.Folds.{find-append}, specs.Cmp.{nat_eq_equiv}, specs.List.{find}, specs.Option.{option_map_or}}
+use Rattle.std.proofs.Common.{◌≡◌, ℕ, Bool, true, false, ◌&&◌, ◌==◌, cond, Option, Some, None, List, [], ◌∷◌, ◌++◌, refl, sym, ap, subst, ◌∙◌, Contains}
+use Rattle.std.proofs.Common.{true≢false, unwrap_or, arith}
+use Rattle.std.proofs.lemmas.Bool.{eqb-true, true_from_ne_false}
+use Rattle.std.proofs.lemmas.List.Elements.{Contains-push}
+use Rattle.std.proofs.lemmas.List.Folds.{find-append}
+use Rattle.std.specs.Cmp.{nat_eq_equiv}
+use Rattle.std.specs.List.{find}
+use Rattle.std.specs.Option.{option_map_or}
 use Rattle.capbits.specs.Sets.{and_parts}
-use Rattle.capsteps.{proofs.Lockmachine.Exact.{ends_not, begins_not, serves_not, settled}, proofs.Lockmachine.Moving.{IsMove, first_is}, proofs.Lockmachine.Queue.{least_served, moved-kept}, proofs.Lockmachine.Rest.{same_part_is}, specs.Caprules.Serving.{passed_as}, specs.Lockmachine.Moves.{may_end, may_begin, may_serve, is_first, is_servable, begun_locks, gathered_locks, IsAtRest}, specs.Lockmachine.Requests.{part_place, same_part, part_of_operation}}
-use Rattle.capcore.proofs.Common.{As_judged, awaited_as, Began, Begin, ClientId, coming_state, End, ended_in, first_for, first_move, found_by_number, Gather, Gathered, Ino, is_at, is_for, is_numbered, is_of_ticket, is_rejection, IsLockMap, IsQuiet, judged_again, lock_at, LockId, LockMap, LockState, Made, MakesAll, MayEndAs, next_request, no_moves, Operation, Outcome, outcome_reply, outcome_unless, Part, present_state, Rejection, Reply, Request, Scene, Serve, Served, Stable, Ticket, with_lock, with_lock-each, with_request, Without_memory}
+use Rattle.lockmachine.proofs.Exact.{begins_not, ends_not, serves_not, settled}
+use Rattle.lockmachine.proofs.Moving.{IsMove, first_is}
+use Rattle.lockmachine.proofs.Queue.{least_served, moved-kept}
+use Rattle.lockmachine.proofs.Rest.{same_part_is}
+use Rattle.step_model.specs.Serving.{passed_as}
+use Rattle.lockmachine.specs.Moves.{IsAtRest, begun_locks, gathered_locks, is_first, is_servable, may_begin, may_end, may_serve}
+use Rattle.lockmachine.specs.Requests.{part_of_operation, part_place, same_part}
+use Rattle.capcore.proofs.Common.{As_judged, Began, Begin, ClientId, End, Gather, Gathered, Ino, IsLockMap, IsQuiet, LockId, LockMap, LockState, Made}
+use Rattle.capcore.proofs.Common.{MakesAll, MayEndAs, Operation, Outcome, Part, Rejection, Reply, Request, Scene, Serve, Served, Stable, Ticket}
+use Rattle.capcore.proofs.Common.{Without_memory, awaited_as, coming_state, ended_in, first_for, first_move, found_by_number, is_at, is_for, is_numbered}
+use Rattle.capcore.proofs.Common.{is_of_ticket, is_rejection, judged_again, lock_at, next_request, no_moves, outcome_reply, outcome_unless, present_state}
+use Rattle.capcore.proofs.Common.{with_lock, with_lock-each, with_request}
 
 -- ---- how a request ends that nothing rejects
 

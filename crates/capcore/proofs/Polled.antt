@@ -1,7 +1,12 @@
 -- A poll is a whole step: no lock moves, and nothing is left to do but to give the messages.
 use Rattle.std.proofs.Common.{◌≡◌, ℕ, Option, None, List, [], filter, sym, ap, subst, ◌∙◌, append-nil, arith}
-use Rattle.capsteps.proofs.Finishing.{sound-ends}
-use Rattle.capcore.proofs.{Common.{after_messages, all_ended, changed_where, ClientId, Direct, direct, effect_unless, Ended, Event, first_denied, first_failing, first_messages, Gives, is_left, is_of_client, IsAnswered, IsSound, IssuesExactly, IsTable, judged, Message, Rejection, rejection_by, Reply, reply_of, Said, session_tests, Settles, shown, shown-given, shown-issued, shown-sound, sound-settles, State, state_after, Step, Table, with_given}, Promised.{has-due}, Sounding.{later-given}}
+use Rattle.capstep.proofs.SoundEnd.{sound-ends}
+use Rattle.capcore.proofs.Common.{ClientId, Direct, Ended, Event, Gives, IsAnswered, IsSound, IsTable, IssuesExactly, Message, Rejection, Reply, Said, Settles}
+use Rattle.capcore.proofs.Common.{State, Step, Table, after_messages, all_ended, changed_where, direct, effect_unless, first_denied, first_failing}
+use Rattle.capcore.proofs.Common.{first_messages, is_left, is_of_client, judged, rejection_by, reply_of, session_tests, shown, shown-given, shown-issued}
+use Rattle.capcore.proofs.Common.{shown-sound, sound-settles, state_after, with_given}
+use Rattle.capcore.proofs.Promised.{has-due}
+use Rattle.capcore.proofs.Sounding.{later-given}
 
 module _ (old : State) (sound : IsSound old) (table : IsTable old.scene.table) (client : ClientId) (max : ℕ) where
   abbrev poll : Event

@@ -1,7 +1,17 @@
 -- The main promise, from what a step is.
-use Rattle.std.{proofs.Common.{◌≡◌, Bool, true, false, ◌||◌, List, Option, Some, None, refl, sym, ap, subst, ◌∙◌, IsTrue, arith}, proofs.lemmas.List.Elements.{All-contains}, specs.List.{find}, specs.Option.{option_map_or}}
-use Rattle.capsteps.specs.Caprules.{Finish.{due}, Headline.{DeniedExactly, denied_in}}
-use Rattle.capcore.proofs.{Common.{after, before, Direct, direct, effect, effect_unless, Ended, ended_in, EntryRow, Event, found, found-contains, has, Holder, is_rejection, is_row_of, IsDirect, IsLockMap, IsSound, IsSoundEntry, IssuesExactly, IsTable, judged, Made, MakesAll, needs, Operation, operation_by, Rejection, rejection-only, rejection_reply, Reply, reply_of, Scene, State, state_after, Step}, LockRequests.{enqueuing, enqueuing-rejection, enqueuing-direct, enqueuing-again, order-of_operation}, OwnServed.{own-not_rejected}, Servings.{denial_in, denial-judged}}
+use Rattle.std.proofs.Common.{◌≡◌, Bool, true, false, ◌||◌, List, Option, Some, None, refl, sym, ap, subst, ◌∙◌, IsTrue, arith}
+use Rattle.std.proofs.lemmas.List.Elements.{All-contains}
+use Rattle.std.specs.List.{find}
+use Rattle.std.specs.Option.{option_map_or}
+use Rattle.step_model.specs.Finish.{due}
+use Rattle.step_model.specs.Headline.{DeniedExactly, denied_in}
+use Rattle.capcore.proofs.Common.{Direct, Ended, EntryRow, Event, Holder, IsDirect, IsLockMap, IsSound, IsSoundEntry, IsTable, IssuesExactly, Made, MakesAll}
+use Rattle.capcore.proofs.Common.{Operation, Rejection, Reply, Scene, State, Step, after, before, direct, effect, effect_unless, ended_in, found}
+use Rattle.capcore.proofs.Common.{found-contains, has, is_rejection, is_row_of, judged, needs, operation_by, rejection-only, rejection_reply, reply_of}
+use Rattle.capcore.proofs.Common.{state_after}
+use Rattle.capcore.proofs.LockRequests.{enqueuing, enqueuing-again, enqueuing-direct, enqueuing-rejection, order-of_operation}
+use Rattle.capcore.proofs.OwnServed.{own-not_rejected}
+use Rattle.capcore.proofs.Servings.{denial-judged, denial_in}
 
 -- ---- an event that nothing rejects
 

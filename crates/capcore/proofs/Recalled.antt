@@ -1,7 +1,14 @@
 -- A recall is a whole step: it marks entries as asked for, by which nothing is judged, moved or issued.
-use Rattle.std.proofs.{Common.{◌≡◌, ◌≤◌, ℕ, Bool, true, ◌||◌, List, [], take, refl, sym, subst, arith}, lemmas.List.Elements.{All-map}}
-use Rattle.capsteps.proofs.{Finishing.{same-finished}, Telling.{as_told, as_sized, retold, retold_table, retold-sound}}
-use Rattle.capcore.{proofs.Common.{alike-where, AreGiven, EntryRow, Event, finished, HoldAlike, Holder, is_among, IsAnswered, IsSound, IsTable, IsTable-recalled, KnownSets, recalled, Reply, Said, State, Table, with_table}, proofs.Sounding.{later-given}, proofs.Steps.{direct-answered}, proofs.Unaffected.{alike-kept}, specs.UnderWay.{AreKept}}
+use Rattle.std.proofs.Common.{◌≡◌, ◌≤◌, ℕ, Bool, true, ◌||◌, List, [], take, refl, sym, subst, arith}
+use Rattle.std.proofs.lemmas.List.Elements.{All-map}
+use Rattle.capstep.proofs.SoundEnd.{same-finished}
+use Rattle.capstep.proofs.Telling.{as_sized, as_told, retold, retold-sound, retold_table}
+use Rattle.capcore.proofs.Common.{AreGiven, EntryRow, Event, HoldAlike, Holder, IsAnswered, IsSound, IsTable, IsTable-recalled, KnownSets, Reply, Said, State}
+use Rattle.capcore.proofs.Common.{Table, alike-where, finished, is_among, recalled, with_table}
+use Rattle.capcore.proofs.Sounding.{later-given}
+use Rattle.capcore.proofs.Steps.{direct-answered}
+use Rattle.capcore.proofs.Unaffected.{alike-kept}
+use Rattle.capcore.specs.UnderWay.{AreKept}
 
 -- who was named is asked, and who was asked before
 abbrev asked_too : List Holder → EntryRow → Bool

@@ -1,6 +1,11 @@
 -- An event that is rejected is answered so; and which inode an event affects that waits for a lock.
-use Rattle.std.{proofs.Common.{◌≡◌, ℕ, List, Option, Some, None, [], ◌∷◌, ◌++◌, refl, sym, ap, ◌∙◌, arith}, specs.Option.{option_map}}
-use Rattle.capcore.proofs.{Common.{Access, basic_tests, ByTest, ClientId, Event, failing-front, first_denied, first_failing, inode_tests, IsAnswered, IsSound, IsTable, judged, Need, need, no_test, passed-both, passed-front, Refusal, Rejection, rejection-step, rejection_by, rejection_of, rejection_reply, Said, Scene, session_tests, State, Test}, Promised.{has-due}, Sounding.{later-given}}
+use Rattle.std.proofs.Common.{◌≡◌, ℕ, List, Option, Some, None, [], ◌∷◌, ◌++◌, refl, sym, ap, ◌∙◌, arith}
+use Rattle.std.specs.Option.{option_map}
+use Rattle.capcore.proofs.Common.{Access, ByTest, ClientId, Event, IsAnswered, IsSound, IsTable, Need, Refusal, Rejection, Said, Scene, State, Test}
+use Rattle.capcore.proofs.Common.{basic_tests, failing-front, first_denied, first_failing, inode_tests, judged, need, no_test, passed-both, passed-front}
+use Rattle.capcore.proofs.Common.{rejection-step, rejection_by, rejection_of, rejection_reply, session_tests}
+use Rattle.capcore.proofs.Promised.{has-due}
+use Rattle.capcore.proofs.Sounding.{later-given}
 
 -- ---- what is rejected
 

@@ -1,7 +1,11 @@
 -- Requests that are served among the moves of a step.
-use Rattle.std.{proofs.Common.{◌≡◌, List, [], ◌∷◌, ◌++◌, Option, Some, None, is_some, if◌then◌else◌, refl, sym, subst, arith, ◌∙◌, ap}, specs.Option.{option_map}}
-use Rattle.capsteps.specs.{Caprules.Headline.{denial, denied_as}, Lockmachine.Policy.{failures}}
-use Rattle.capcore.proofs.Common.{Access, As_judged, first_denied, first_failing, judged_again, Made, Makes, MakesAll, MayEndAs, Need, operation_after, operation_before, operation_needs, Outcome, outcome_unless, Refusal, Rejection, rejection_by, rejection_of, Request, Rule, Scene, Served, ServedDenied, Test, Without_memory}
+use Rattle.std.proofs.Common.{◌≡◌, List, [], ◌∷◌, ◌++◌, Option, Some, None, is_some, if◌then◌else◌, refl, sym, subst, arith, ◌∙◌, ap}
+use Rattle.std.specs.Option.{option_map}
+use Rattle.step_model.specs.Headline.{denial, denied_as}
+use Rattle.lockmachine.specs.Policy.{failures}
+use Rattle.capcore.proofs.Common.{Access, As_judged, Made, Makes, MakesAll, MayEndAs, Need, Outcome, Refusal, Rejection, Request, Rule, Scene, Served}
+use Rattle.capcore.proofs.Common.{ServedDenied, Test, Without_memory, first_denied, first_failing, judged_again, operation_after, operation_before}
+use Rattle.capcore.proofs.Common.{operation_needs, outcome_unless, rejection_by, rejection_of}
 
 -- ---- what is denied
 

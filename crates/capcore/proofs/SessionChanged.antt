@@ -1,11 +1,25 @@
 -- A client's session ends, is marked or has other grants, by itself: it affects the inodes where the client is.
-use Rattle.std.{proofs.Common.{◌≡◌, ◌≢◌, ◌≤◌, ℕ, ◌==◌, Bool, true, false, not, cond, None, List, refl, sym, ap, subst, ◌∙◌, Contains, true≢false, arith, eq-eqb, IsTrue, All, filter}, proofs.lemmas.Bool.{eqb-true, not-true, false_from_ne_true, ne_eqb, eqb-false}, proofs.lemmas.List.Elements.{All-weaker, All-contains, All-filter, All-contains_itself, filter_passes}, specs.Option.{option_map}}
+use Rattle.std.proofs.Common.{◌≡◌, ◌≢◌, ◌≤◌, ℕ, ◌==◌, Bool, true, false, not, cond, None, List, refl, sym, ap, subst, ◌∙◌, Contains, true≢false, arith, eq-eqb}
+use Rattle.std.proofs.Common.{IsTrue, All, filter}
+use Rattle.std.proofs.lemmas.Bool.{eqb-false, eqb-true, false_from_ne_true, ne_eqb, not-true}
+use Rattle.std.proofs.lemmas.List.Elements.{All-contains, All-contains_itself, All-filter, All-weaker, filter_passes}
+use Rattle.std.specs.Option.{option_map}
 use Rattle.std.specs.FinMap as map
-use Rattle.numbered.proofs.Maps.{remove-at}
+use Rattle.dense_map.proofs.Maps.{remove-at}
 use Rattle.captable.proofs.ByInode.{entries_on-without_client}
 use Rattle.sessiontab.specs.Connected.{SessionMap, change_session}
-use Rattle.capsteps.{proofs.EntryRequests.{IsKeptEntry, kept-left, sound-kept}, proofs.Lockmachine.Finding.{fails_at, find_none}, proofs.Lockmachine.SameOutside.{outside-itself, outside-then, outside-dropped}, specs.Capnotes.DueEndings.{is_to}, specs.Lockmachine.Elsewhere.{IsSameOutside}, specs.Lockmachine.Requests.{is_of_client as is_asked_by}}
-use Rattle.capcore.proofs.{Common.{Affects, alike-itself, change-at, changed_sessions, ClientId, contains-filter, Direct, direct, dropped_by, effect, effect_unless, entries_on, EntryRow, first_for, has_session, Ino, is_end, is_for, is_of_client, is_of_inode, IsAffectedEntry, IsQuiet, IsSound, IsTable, IsTable-without_client, judged, lock_at, LockMap, locks_left, messages_left, Part, Reply, Request, Says, Scene, Session, session_changed, session_event, SessionChange, SessionTable, sound-pinned, State, StateMap, Table, table_left, without_client}, EndedIn.{all_pass}}
+use Rattle.capstep.proofs.EntryRequests.{IsKeptEntry, kept-left, sound-kept}
+use Rattle.lockmachine.proofs.Finding.{fails_at, find_none}
+use Rattle.lockmachine.proofs.SameOutside.{outside-dropped, outside-itself, outside-then}
+use Rattle.step_model.specs.DueEndings.{is_to}
+use Rattle.lockmachine.specs.Elsewhere.{IsSameOutside}
+use Rattle.lockmachine.specs.Requests.{is_of_client as is_asked_by}
+use Rattle.capcore.proofs.Common.{Affects, ClientId, Direct, EntryRow, Ino, IsAffectedEntry, IsQuiet, IsSound, IsTable, IsTable-without_client, LockMap, Part}
+use Rattle.capcore.proofs.Common.{Reply, Request, Says, Scene, Session, SessionChange, SessionTable, State, StateMap, Table, alike-itself, change-at}
+use Rattle.capcore.proofs.Common.{changed_sessions, contains-filter, direct, dropped_by, effect, effect_unless, entries_on, first_for, has_session, is_end}
+use Rattle.capcore.proofs.Common.{is_for, is_of_client, is_of_inode, judged, lock_at, locks_left, messages_left, session_changed, session_event, sound-pinned}
+use Rattle.capcore.proofs.Common.{table_left, without_client}
+use Rattle.capcore.proofs.EndedIn.{all_pass}
 
 -- ---- the event
 

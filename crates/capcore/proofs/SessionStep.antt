@@ -1,8 +1,22 @@
 -- What the step of a client's session leaves by itself.
-use Rattle.std.proofs.{Common.{◌≡◌, ◌≤◌, ◌-◌, ℕ, ◌+◌, Bool, Option, Some, is_some, option_to_list, List, length, refl, sym, ap, subst, ◌∙◌, arith, vec_capacity}, lemmas.List.Sums.{length-filter, count_by-le-length}}
+use Rattle.std.proofs.Common.{◌≡◌, ◌≤◌, ◌-◌, ℕ, ◌+◌, Bool, Option, Some, is_some, option_to_list, List, length, refl, sym, ap, subst, ◌∙◌, arith, vec_capacity}
+use Rattle.std.proofs.lemmas.List.Sums.{count_by-le-length, length-filter}
 use Rattle.std.specs.FinSet as set
-use Rattle.capsteps.specs.{Capnotes.Noted.{HavePlaces}, SessionChange.{ReachesClient}, declared.settle.Affected.TheVariants.{Inodes}}
-use Rattle.capcore.{proofs.Begun.{begun-entries}, proofs.Closing.{affects-settles}, proofs.Common.{Affects, alike-less, AreChanges, AreCountedIn, ArePermittedIn, ClientId, Direct, direct, dropped_by, DueEndings, Ended, Endings, Entry, entry_at, Event, HasRoom, HaveRoomFor, HoldAlike, Holder, InoSet, is_end, IsJudged, IsLockMap, IsTable, judged, known_of, LockMap, locks_left, messages_left, plain, Scene, session_changed, session_event, SessionChange, State, still-knows, still-there, StillKnown, view_of, ViewChange, without_requests_of-kept}, proofs.Granted.{left-was}, proofs.SessionChanged.{session_direct, direct-session_changed, session_changed-affects, session_changed-table, session_changed-below, session_changed-made, session_changed-last}, specs.UnderWay.{MayBegin, GivesOne, HasBegun, state_of}, specs.declared.parts.Answer.TheVariants.{Dropped}, specs.declared.parts.Parts.{Parts}}
+use Rattle.step_model.specs.NotedChanges.{HavePlaces}
+use Rattle.capstep.specs.SessionChange.{ReachesClient}
+use Rattle.capstep.specs.declared.settle.Affected.TheVariants.{Inodes}
+use Rattle.capcore.proofs.Begun.{begun-entries}
+use Rattle.capcore.proofs.Closing.{affects-settles}
+use Rattle.capcore.proofs.Common.{Affects, AreChanges, AreCountedIn, ArePermittedIn, ClientId, Direct, DueEndings, Ended, Endings, Entry, Event, HasRoom}
+use Rattle.capcore.proofs.Common.{HaveRoomFor, HoldAlike, Holder, InoSet, IsJudged, IsLockMap, IsTable, LockMap, Scene, SessionChange, State, StillKnown}
+use Rattle.capcore.proofs.Common.{ViewChange, alike-less, direct, dropped_by, entry_at, is_end, judged, known_of, locks_left, messages_left, plain}
+use Rattle.capcore.proofs.Common.{session_changed, session_event, still-knows, still-there, view_of, without_requests_of-kept}
+use Rattle.capcore.proofs.Granted.{left-was}
+use Rattle.capcore.proofs.SessionChanged.{direct-session_changed, session_changed-affects, session_changed-below, session_changed-last, session_changed-made}
+use Rattle.capcore.proofs.SessionChanged.{session_changed-table, session_direct}
+use Rattle.capcore.specs.UnderWay.{GivesOne, HasBegun, MayBegin, state_of}
+use Rattle.capcore.specs.declared.parts.Answer.TheVariants.{Dropped}
+use Rattle.capcore.specs.declared.parts.Parts.{Parts}
 
 -- ---- no more are left than there were
 

@@ -1,9 +1,30 @@
 -- What numbers say of what was shown, in the words of users.
-use Rattle.std.{proofs.Common.{◌≡◌, ◌≤◌, ℕ, Bool, true, false, cond, not, ◌&&◌, Contains, List, Some, None, refl, sym, ap, subst, ◌∙◌, arith, ◌==◌, ◌||◌, inl, inr, Option, take, true≢false}, proofs.lemmas.Bool.{ltb-false, cases_Bool, or_parts, true_from_ne_false}, proofs.lemmas.List.Elements.{All-contains}, specs.Option.{option_map, option_map_or}}
-use Rattle.capbits.specs.{Sets.{has-minus}, declared.cap.Cap.TheVariants.{P}}
-use Rattle.captable.{proofs.ByHolder.{entry_at-changed_other, entry_at-acked_other, entry_at-released, entry_at-released_other, entry_at-recalled, entry_at-recalled_other, entry_at-changed}, proofs.Tables.{same-is}, specs.Calls.{without_acked, without, has_pin, acked, released, with_asked, with_entry, changed}, specs.Tests.{test_at}}
-use Rattle.capsteps.{proofs.Lockmachine.Told.{has-against, has-told, pin-takes_all}, proofs.Placed.{told-permitted}, proofs.Revoking.{pin-goes, revoked-found}, proofs.ShownSteps.{at, apart-of, entry_at-entry_other}, specs.Capevents.declared.event.OpenMode.{OpenMode}, specs.Caprules.Direct.{with_opening}, specs.Caprules.Headline.{is_due, holds}, specs.Caprules.Shown.{AreShown, ShowsOnlyPermitted, TakesUnshown, shown_of, may_take, TakesOnlySo}, specs.Lockmachine.Revoked.{is_revoked}, specs.Lockmachine.Scene.{against}}
-use Rattle.capcore.proofs.Common.{Ack, apart_client, Cap, Caps, child, ClientId, Direct, direct, effect, effect_unless, Entry, entry_at, entry_at-without_client_other, EntryRow, Event, found, found-contains, has, Holder, holder, Ino, is_among, is_row_of, IsSound, IsSoundEntry, IssuesExactly, judged, recalled, Rejection, revoked_of, Row, row_of-entry, same, Scene, ShowsWhatIsTold, State, Table, without_client}
+use Rattle.std.proofs.Common.{◌≡◌, ◌≤◌, ℕ, Bool, true, false, cond, not, ◌&&◌, Contains, List, Some, None, refl, sym, ap, subst, ◌∙◌, arith, ◌==◌, ◌||◌, inl}
+use Rattle.std.proofs.Common.{inr, Option, take, true≢false}
+use Rattle.std.proofs.lemmas.Bool.{cases_Bool, ltb-false, or_parts, true_from_ne_false}
+use Rattle.std.proofs.lemmas.List.Elements.{All-contains}
+use Rattle.std.specs.Option.{option_map, option_map_or}
+use Rattle.capbits.specs.Sets.{has-minus}
+use Rattle.capbits.specs.declared.cap.Cap.TheVariants.{P}
+use Rattle.captable.proofs.ByHolder.{entry_at-acked_other, entry_at-changed, entry_at-changed_other, entry_at-recalled, entry_at-recalled_other}
+use Rattle.captable.proofs.ByHolder.{entry_at-released, entry_at-released_other}
+use Rattle.captable.proofs.Tables.{same-is}
+use Rattle.captable.specs.Calls.{acked, changed, has_pin, released, with_asked, with_entry, without, without_acked}
+use Rattle.captable.specs.Tests.{test_at}
+use Rattle.lockmachine.proofs.Told.{has-against, has-told, pin-takes_all}
+use Rattle.capstep.proofs.Placed.{told-permitted}
+use Rattle.capstep.proofs.Revoking.{pin-goes, revoked-found}
+use Rattle.capstep.proofs.ShownSteps.{apart-of, at, entry_at-entry_other}
+use Rattle.step_model.specs.declared.event.OpenMode.{OpenMode}
+use Rattle.step_model.specs.Direct.{with_opening}
+use Rattle.step_model.specs.Headline.{holds, is_due}
+use Rattle.step_model.specs.Shown.{AreShown, ShowsOnlyPermitted, TakesOnlySo, TakesUnshown, may_take, shown_of}
+use Rattle.lockmachine.specs.Revoked.{is_revoked}
+use Rattle.lockmachine.specs.Scene.{against}
+use Rattle.capcore.proofs.Common.{Ack, Cap, Caps, ClientId, Direct, Entry, EntryRow, Event, Holder, Ino, IsSound, IsSoundEntry, IssuesExactly, Rejection, Row}
+use Rattle.capcore.proofs.Common.{Scene, ShowsWhatIsTold, State, Table, apart_client, child, direct, effect, effect_unless, entry_at}
+use Rattle.capcore.proofs.Common.{entry_at-without_client_other, found, found-contains, has, holder, is_among, is_row_of, judged, recalled, revoked_of}
+use Rattle.capcore.proofs.Common.{row_of-entry, same, without_client}
 
 pub shows-told : (rows : List Row) (s : State) → IsSound s → AreShown rows s.scene → ShowsWhatIsTold rows s.scene
 shows-told rows s sound was k e there none_due =

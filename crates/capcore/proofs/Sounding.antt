@@ -1,8 +1,14 @@
 -- States that are sound.
-use Rattle.std.{proofs.Common.{◌≡◌, ℕ, ◌+◌, List, [], Option, Some, None, sym, ap, ◌∙◌, is_some, arith, IsTrue}, proofs.lemmas.List.Elements.{All-nil, All-same}, specs.List.{find}, specs.Option.{option_map}}
+use Rattle.std.proofs.Common.{◌≡◌, ℕ, ◌+◌, List, [], Option, Some, None, sym, ap, ◌∙◌, is_some, arith, IsTrue}
+use Rattle.std.proofs.lemmas.List.Elements.{All-nil, All-same}
+use Rattle.std.specs.List.{find}
+use Rattle.std.specs.Option.{option_map}
 use Rattle.std.specs.FinMap as map
-use Rattle.capsteps.proofs.{LeftAlone.{some_same}, Lockmachine.Idle.{InSync, idle}, Lockmachine.Rest.{at_rest}}
-use Rattle.capcore.proofs.Common.{AreGiven, EntryRow, first_for, has_session, HasNoStray, in_sync, InodeLocks, is_row_of, IsOpening, IsSound, IsSoundEntry, Node, Nodes, presence, State}
+use Rattle.capstep.proofs.LeftAlone.{some_same}
+use Rattle.lockmachine.proofs.Idle.{InSync, idle}
+use Rattle.lockmachine.proofs.Rest.{at_rest}
+use Rattle.capcore.proofs.Common.{AreGiven, EntryRow, HasNoStray, InodeLocks, IsOpening, IsSound, IsSoundEntry, Node, Nodes, State, first_for, has_session}
+use Rattle.capcore.proofs.Common.{in_sync, is_row_of, presence}
 
 -- ---- numbers
 

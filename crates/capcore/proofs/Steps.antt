@@ -1,7 +1,15 @@
 -- A session, a lookup, a new inode or a snapshot by itself is a whole step: it leaves alone all that entries and requests depend on.
 use Rattle.std.proofs.Common.{◌≡◌, ℕ, ◌+◌, Bool, true, false, List, [], ◌++◌, Option, None, refl, sym, ap, subst, ◌∙◌, append-nil, arith}
-use Rattle.capsteps.{proofs.Finishing.{none-sized}, specs.Affected.{affected_by, session_changed_by, is_listing}}
-use Rattle.capcore.proofs.{Bounded.{found-keeps}, Common.{Answer, AreGiven, Awaits, child, Direct, direct, Directory, effect, effect_unless, Ended, Event, File, finished, first_failing, Gives, has_list, IsAnswered, IsDirect, IsSound, IsTable, IsTree, judged, kept-finished, kept-sound, LeavesEntries, new_session_tests, no_test, Rejection, Reply, reply_of, Said, Says, Settles, shown, Shows, sizes_owed, sound-settles, State, state_after, Step, with_parts, with_scene, with_snapshot, without_snapshot}, Promised.{issues-exactly}, Sounding.{later-given}, Unaffected.{nothing-leaves, session-leaves, unblocked-leaves, changed-leaves, birth-leaves}}
+use Rattle.capstep.proofs.SoundEnd.{none-sized}
+use Rattle.capstep.specs.Affected.{affected_by, is_listing, session_changed_by}
+use Rattle.capcore.proofs.Bounded.{found-keeps}
+use Rattle.capcore.proofs.Common.{Answer, AreGiven, Awaits, Direct, Directory, Ended, Event, File, Gives, IsAnswered, IsDirect, IsSound, IsTable, IsTree}
+use Rattle.capcore.proofs.Common.{LeavesEntries, Rejection, Reply, Said, Says, Settles, Shows, State, Step, child, direct, effect, effect_unless, finished}
+use Rattle.capcore.proofs.Common.{first_failing, has_list, judged, kept-finished, kept-sound, new_session_tests, no_test, reply_of, shown, sizes_owed}
+use Rattle.capcore.proofs.Common.{sound-settles, state_after, with_parts, with_scene, with_snapshot, without_snapshot}
+use Rattle.capcore.proofs.Promised.{issues-exactly}
+use Rattle.capcore.proofs.Sounding.{later-given}
+use Rattle.capcore.proofs.Unaffected.{birth-leaves, changed-leaves, nothing-leaves, session-leaves, unblocked-leaves}
 
 -- the event is about no entry, no request and no session that is there, and is answered with no list
 abbrev pub IsAlone : Event → Type 0

@@ -1,15 +1,30 @@
 -- New sessions, clients that come off the blocklist, new inodes and snapshots leave alone all that entries and requests depend on.
-use Rattle.std.{proofs.Common.{◌≡◌, ℕ, ◌+◌, Bool, false, cond, Option, Some, None, List, sym, ap, subst, ◌∙◌, Contains, arith}, proofs.lemmas.List.Elements.{All-contains, All-weaker}, specs.Cmp.{nat_cmp_total}, specs.FinSet.{FinSet}, specs.Option.{option_map}, specs.Ordering.{nat_cmp}}
+use Rattle.std.proofs.Common.{◌≡◌, ℕ, ◌+◌, Bool, false, cond, Option, Some, None, List, sym, ap, subst, ◌∙◌, Contains, arith}
+use Rattle.std.proofs.lemmas.List.Elements.{All-contains, All-weaker}
+use Rattle.std.specs.Cmp.{nat_cmp_total}
+use Rattle.std.specs.FinSet.{FinSet}
+use Rattle.std.specs.Option.{option_map}
+use Rattle.std.specs.Ordering.{nat_cmp}
 use Rattle.std.specs.FinMap as map
 use Rattle.std.specs.FinSet as set
 use Rattle.capbits.specs.declared.caller.Caller.{Caller}
 use Rattle.capspec.specs.declared.grant.Grant.{Grant}
-use Rattle.numbered.proofs.Maps.{insert-other}
-use Rattle.inotree.{proofs.Elsewhere.{field-changed, not_next}, specs.Calls.{with_new, changed}}
-use Rattle.sessiontab.{proofs.Elsewhere.{session-kept}, specs.Calls.{with_session, without_blocked}}
-use Rattle.capsteps.{proofs.Knowing.{known-alike}, proofs.LeftAlone.{none_if, kept-known}, proofs.Lockmachine.CountsStay.{counted-born, counted-dropped}, proofs.Lockmachine.PolicyElsewhere.{permitted-session, permitted-new, permitted-changed, want-session, want-new, want-changed}, specs.Lockmachine.Locks.{without_ino}}
-use Rattle.capsteps.specs.Lockmachine.Counts as counting
-use Rattle.capcore.{proofs.Common.{AreCounted, AreCountedIn, Attr, CountMap, EntryRow, first_failing, found-contains, HoldAlike, in_sync, InodeLocks, is_row_of, IsSound, IsTree, kept-sound, KeptScene, Kind, KnownSets, LeavesEntries, LockMap, new_session_tests, no_locks, Node, Nodes, permitted, plain, row_of-entry, Scene, SessionTable, State, StateMap, Table, with_ino, with_parts}, specs.UnderWay.{AreKept, IsWhole, state_of}, specs.declared.parts.Parts.{Parts}}
+use Rattle.dense_map.proofs.Maps.{insert-other}
+use Rattle.inotree.proofs.Elsewhere.{field-changed, not_next}
+use Rattle.inotree.specs.Calls.{changed, with_new}
+use Rattle.sessiontab.proofs.Elsewhere.{session-kept}
+use Rattle.sessiontab.specs.Calls.{with_session, without_blocked}
+use Rattle.capstep.proofs.Knowing.{known-alike}
+use Rattle.capstep.proofs.LeftAlone.{kept-known, none_if}
+use Rattle.lockmachine.proofs.CountsStay.{counted-born, counted-dropped}
+use Rattle.lockmachine.proofs.PolicyElsewhere.{permitted-changed, permitted-new, permitted-session, want-changed, want-new, want-session}
+use Rattle.lockmachine.specs.Locks.{without_ino}
+use Rattle.lockmachine.specs.Counts as counting
+use Rattle.capcore.proofs.Common.{AreCounted, AreCountedIn, Attr, CountMap, EntryRow, HoldAlike, InodeLocks, IsSound, IsTree, KeptScene, Kind, KnownSets}
+use Rattle.capcore.proofs.Common.{LeavesEntries, LockMap, Node, Nodes, Scene, SessionTable, State, StateMap, Table, first_failing, found-contains, in_sync}
+use Rattle.capcore.proofs.Common.{is_row_of, kept-sound, new_session_tests, no_locks, permitted, plain, row_of-entry, with_ino, with_parts}
+use Rattle.capcore.specs.UnderWay.{AreKept, IsWhole, state_of}
+use Rattle.capcore.specs.declared.parts.Parts.{Parts}
 
 -- the locks that an inode begins with, where there is an inode
 abbrev first_of : Option Node → Option InodeLocks

@@ -1,9 +1,11 @@
 -- Locks that were added and are dropped again.
-use Rattle.std.{proofs.Common.{◌≡◌, ℕ, ◌+◌, None, ap, arith}, specs.Cmp.{nat_cmp_total}, specs.Option.{is_some}}
+use Rattle.std.proofs.Common.{◌≡◌, ℕ, ◌+◌, None, ap, arith}
+use Rattle.std.specs.Cmp.{nat_cmp_total}
+use Rattle.std.specs.Option.{is_some}
 use Rattle.std.specs.FinMap as map
-use Rattle.numbered.proofs.Maps.{put_back}
-use Rattle.capsteps.specs.Lockmachine.Locks.{without_ino}
-use Rattle.capcore.proofs.Common.{in_sync, IsSound, IsTree, LockMap, no_locks, State, StateMap, with_ino}
+use Rattle.dense_map.proofs.Maps.{put_back}
+use Rattle.lockmachine.specs.Locks.{without_ino}
+use Rattle.capcore.proofs.Common.{IsSound, IsTree, LockMap, State, StateMap, in_sync, no_locks, with_ino}
 
 pub added-dropped : (locks : LockMap) (ino : ℕ) → map.get locks.states ino ≡ None → without_ino (with_ino locks ino) ino ≡ locks
 added-dropped locks ino none = ap (λ (states : StateMap). record locks { states = states }) (put_back nat_cmp_total map.nat_cmp-IsAntisymmetric locks.states ino in_sync none)

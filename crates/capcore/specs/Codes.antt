@@ -1,13 +1,21 @@
 -- How values are stored.
-use Rattle.std.specs.{Coded.{Coded, code_by, coded×, coded_ℕ, coded_list}, Prelude.{ℕ, List, refl}}
+use Rattle.std.specs.Coded.{Coded, code_by, coded_list, coded_ℕ, coded×}
+use Rattle.std.specs.Prelude.{List, refl, ℕ}
 use Rattle.inotree.specs.Tree.{Nodes, nodes_code}
 use Rattle.captable.specs.Table.{Table}
 use Rattle.captable.specs.Codes as entries
 use Rattle.sessiontab.specs.Table.{SessionTable, table_code}
-use Rattle.capsteps.specs.{Capevents.declared.outcome.Ended.{Ended}, Capevents.declared.row.Row.{Row}, Caprules.History.{Recorded, recorded}, Caprules.State.{State}, Capview.declared.change.ViewChange.{ViewChange}, Lockmachine.Codes.{lock_map_code}, Lockmachine.Locks.{LockMap}, Lockmachine.Scene.{Scene}}
-use Rattle.capsteps.specs.Capview.contracts.change.ViewChange as view_change
-use Rattle.capsteps.specs.Capevents.contracts.outcome.Ended as ended
-use Rattle.capsteps.specs.Capevents.contracts.row.Row as history_row
+use Rattle.step_model.specs.declared.outcome.Ended.{Ended}
+use Rattle.step_model.specs.declared.row.Row.{Row}
+use Rattle.step_model.specs.History.{Recorded, recorded}
+use Rattle.step_model.specs.State.{State}
+use Rattle.policy_view.specs.declared.change.ViewChange.{ViewChange}
+use Rattle.lockmachine.specs.Codes.{lock_map_code}
+use Rattle.lockmachine.specs.Locks.{LockMap}
+use Rattle.lockmachine.specs.Scene.{Scene}
+use Rattle.policy_view.specs.contracts.change.ViewChange as view_change
+use Rattle.step_model.specs.contracts.outcome.Ended as ended
+use Rattle.step_model.specs.contracts.row.Row as history_row
 
 -- a state as its parts
 abbrev pub scene_code : Coded Scene

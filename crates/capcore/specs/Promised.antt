@@ -2,7 +2,18 @@
 -- under its lock: both name this record, so that neither can promise less.
 use Rattle.std.specs.Prelude.{◌≡◌, IsTrue}
 use Rattle.capbits.specs.declared.ids.PassId.{PassId}
-use Rattle.capsteps.specs.{Capevents.declared.event.Event.{Event}, Capevents.declared.reply.Reply.{Reply}, Caprules.Direct.{begun}, Caprules.Headline.{DeniedExactly, ServedDenied, AreBounded, OtherLocksStay, IssuesExactly, AreInPlace, AreRevoked, NoneConflict, is_rejection}, Caprules.History.{Recorded, IsNext, Replays}, Caprules.Noted.{view_of}, Caprules.Shown.{ShowsWhatIsTold, ShowsOnlyPermitted, TakesUnshown, TakesOnlySo}, Caprules.Sound.{IsSound}, Caprules.State.{State}, Capview.Changes.{AreChanges}, Lockmachine.Moves.{IsAtRest}}
+use Rattle.step_model.specs.declared.event.Event.{Event}
+use Rattle.step_model.specs.declared.reply.Reply.{Reply}
+use Rattle.step_model.specs.Direct.{begun}
+use Rattle.step_model.specs.Headline.{AreBounded, AreInPlace, AreRevoked, DeniedExactly, IssuesExactly, NoneConflict, OtherLocksStay, ServedDenied}
+use Rattle.step_model.specs.Headline.{is_rejection}
+use Rattle.step_model.specs.History.{IsNext, Recorded, Replays}
+use Rattle.step_model.specs.Noted.{view_of}
+use Rattle.step_model.specs.Shown.{ShowsOnlyPermitted, ShowsWhatIsTold, TakesOnlySo, TakesUnshown}
+use Rattle.step_model.specs.Sound.{IsSound}
+use Rattle.step_model.specs.State.{State}
+use Rattle.policy_view.specs.Changes.{AreChanges}
+use Rattle.lockmachine.specs.Moves.{IsAtRest}
 
 pub record IsPromised (old : Recorded) (pass : PassId) (event : Event) (answer : Reply) (new : Recorded) : Type 0 where
   -- one step of the rules, and one row. What is said of moves below is said of those that make this step

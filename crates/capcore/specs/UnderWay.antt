@@ -1,10 +1,35 @@
 -- A step that may move locks: before its event, and between the event and the end.
 use Rattle.std.specs.Prelude.{◌≡◌, ◌≤◌, ◌+◌, ℕ, List, [], All, length, None, vec_capacity}
-use Rattle.capbits.specs.declared.{ids.ClientId.{ClientId}, ids.Ino.{Ino}}
+use Rattle.capbits.specs.declared.ids.ClientId.{ClientId}
+use Rattle.capbits.specs.declared.ids.Ino.{Ino}
 use Rattle.captable.specs.Table.{IsTable}
-use Rattle.capsteps.specs.{Affected.{Affects, Knows}, Begun.{AreCountedIn, ArePermittedIn, IsReady, among}, Capacts.Known.{KnownSets, known_in, AreKnown, StillKnown}, Capacts.declared.operations.OperationRef.{OperationRef}, Capacts.declared.operations.OperationRef.TheVariants.{Get, Alter, Unlink, Rmdir, Rename}, Capevents.declared.event.Event.{Event}, Capevents.declared.outcome.Ended.{Ended}, Capevents.declared.reply.Reply.{Reply}, Capnotes.DueEndings.{HasRoom, but_for}, Caprules.Direct.{direct}, Caprules.Judge.{judged}, Caprules.Noted.{view_of}, Caprules.Sound.{IsSound, AreGiven, NumbersLeft}, Caprules.State.{State}, Capview.Changes.{AreChanges}, EntryRequest.{entry_event, entry_answer}, Lockmachine.Locks.{IsLockMap}, Lockmachine.Scene.{Scene, plain}, SessionChange.{session_event}, declared.endings.Endings.{Endings}}
-use Rattle.capsteps.specs.Caprules.Direct as rules
-use Rattle.capcore.specs.declared.{parts.Answer.{Answer}, parts.Answer.TheVariants.{Done, Dropped, Requested, Awaited}, parts.Effect.{Effect}, parts.MovingEvent.{MovingEvent}, parts.MovingEvent.TheVariants.{OfEntry, OfLock, Flush, OfSession}, parts.Parts.{Parts}}
+use Rattle.capstep.specs.Affected.{Affects, Knows}
+use Rattle.capstep.specs.Begun.{AreCountedIn, ArePermittedIn, IsReady, among}
+use Rattle.capstep.specs.Known.{AreKnown, KnownSets, StillKnown, known_in}
+use Rattle.capstep.specs.declared.operations.OperationRef.{OperationRef}
+use Rattle.capstep.specs.declared.operations.OperationRef.TheVariants.{Alter, Get, Rename, Rmdir, Unlink}
+use Rattle.step_model.specs.declared.event.Event.{Event}
+use Rattle.step_model.specs.declared.outcome.Ended.{Ended}
+use Rattle.step_model.specs.declared.reply.Reply.{Reply}
+use Rattle.step_model.specs.DueEndings.{HasRoom, but_for}
+use Rattle.step_model.specs.Direct.{direct}
+use Rattle.step_model.specs.Judge.{judged}
+use Rattle.step_model.specs.Noted.{view_of}
+use Rattle.step_model.specs.Sound.{AreGiven, IsSound, NumbersLeft}
+use Rattle.step_model.specs.State.{State}
+use Rattle.policy_view.specs.Changes.{AreChanges}
+use Rattle.capstep.specs.EntryRequest.{entry_answer, entry_event}
+use Rattle.lockmachine.specs.Locks.{IsLockMap}
+use Rattle.lockmachine.specs.Scene.{Scene, plain}
+use Rattle.capstep.specs.SessionChange.{session_event}
+use Rattle.capstep.specs.declared.endings.Endings.{Endings}
+use Rattle.step_model.specs.Direct as rules
+use Rattle.capcore.specs.declared.parts.Answer.{Answer}
+use Rattle.capcore.specs.declared.parts.Answer.TheVariants.{Awaited, Done, Dropped, Requested}
+use Rattle.capcore.specs.declared.parts.Effect.{Effect}
+use Rattle.capcore.specs.declared.parts.MovingEvent.{MovingEvent}
+use Rattle.capcore.specs.declared.parts.MovingEvent.TheVariants.{Flush, OfEntry, OfLock, OfSession}
+use Rattle.capcore.specs.declared.parts.Parts.{Parts}
 
 abbrev pub state_of : Parts → State
 state_of p = record { scene = plain p.scene; messages = p.messages.items }

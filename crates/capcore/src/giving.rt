@@ -1,8 +1,14 @@
 //! What a client is told at the end of a step, and a recall. No program needs to call these laws.
 
 ghost use Rattle.std.specs.Prelude.{◌≡◌, ℕ};
-ghost use Rattle.captable.specs.{Calls.{recalled}, Table.{IsTable}};
-ghost use Rattle.capsteps.specs.{Caprules.Direct.{Answer, shown, with_table}, Caprules.Finish.{finished}, Caprules.Headline.{IssuesExactly}, Caprules.Sound.{IsSound, AreGiven}, Caprules.State.{State}, Lockmachine.Scene.{Scene}};
+ghost use Rattle.captable.specs.Calls.{recalled};
+ghost use Rattle.captable.specs.Table.{IsTable};
+ghost use Rattle.step_model.specs.Direct.{Answer, shown, with_table};
+ghost use Rattle.step_model.specs.Finish.{finished};
+ghost use Rattle.step_model.specs.Headline.{IssuesExactly};
+ghost use Rattle.step_model.specs.Sound.{AreGiven, IsSound};
+ghost use Rattle.step_model.specs.State.{State};
+ghost use Rattle.lockmachine.specs.Scene.{Scene};
 
 /// What a client is told at the end of a step leaves a sound state sound, nothing to do and all that is held as it was.
 pub fn telling_leaves_all_but_what_was_told()

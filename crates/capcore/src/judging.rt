@@ -1,22 +1,27 @@
 //! What rejects an event: its tests and policy, over the parts of the state that they look at.
 ghost use Rattle.std.specs.Prelude.{◌≡◌, ◌++◌, ◌∷◌, []};
 ghost use Rattle.capbits.specs.Refusal.{first_failing};
-ghost use Rattle.inotree.specs.Tests.{inode_tests, exists_test};
+ghost use Rattle.inotree.specs.Tests.{exists_test, inode_tests};
 ghost use Rattle.sessiontab.specs.Tests.{connected_test, session_tests};
-ghost use Rattle.capsteps.specs.{Capacts.Known.{AreKnown}, Caprules.Judge.{basic_tests, before, judged, rejection_of}, Caprules.Needs.{need}, Lockmachine.Scene.{plain}, EntryRequest.{entry_event}};
-ghost use Rattle.capsteps.specs.Capevents.declared.event.Event.TheVariants as event;
+ghost use Rattle.capstep.specs.Known.{AreKnown};
+ghost use Rattle.step_model.specs.Judge.{basic_tests, before, judged, rejection_of};
+ghost use Rattle.step_model.specs.Needs.{need};
+ghost use Rattle.lockmachine.specs.Scene.{plain};
+ghost use Rattle.capstep.specs.EntryRequest.{entry_event};
+ghost use Rattle.step_model.specs.declared.event.Event.TheVariants as event;
 ghost use Rattle.capcore.specs.UnderWay.{event_of};
 
 use crate::parts::MovingEvent;
 use capbits::{Cap, CapSet, Part, Refusal};
 use capgrant::Access;
-use capsteps::client::session_change_refusal;
-use capsteps::entry_request::{EntryRequest, revoked_of};
-use capsteps::judge::{change_access, change_refusal, denial, operation_rejection};
-use capsteps::{Change, KeptScene, OpenMode, Rejection};
+use capstep::client::session_change_refusal;
+use capstep::entry_request::{EntryRequest, revoked_of};
+use capstep::judge::{change_access, change_refusal, denial, operation_rejection};
 use captable::Holder;
 use inotree::Tree;
+use lockmachine::{Change, KeptScene};
 use sessiontab::Sessions;
+use step_model::{OpenMode, Rejection};
 
 // What rejects an event.
 pub(crate) fn rejection(scene: &KeptScene, moving: &MovingEvent) -> Option<Rejection>

@@ -1,14 +1,37 @@
 //! Laws of the core. No program needs to call them.
 
 ghost use Rattle.std.specs.Prelude.{◌≡◌, ℕ, ◌+◌, List, [], Some, None, length};
-ghost use Rattle.capbits.specs.{Refusal.{first_failing}, declared.caller.Caller.{Caller}};
+ghost use Rattle.capbits.specs.Refusal.{first_failing};
+ghost use Rattle.capbits.specs.declared.caller.Caller.{Caller};
 ghost use Rattle.capspec.specs.declared.grant.Grant.{Grant};
 ghost use Rattle.capgrant.specs.declared.access.Attr.{Attr};
-ghost use Rattle.inotree.specs.{Calls.{with_new, changed}, Tree.{Nodes, IsTree}, declared.node.Kind.{Kind}, declared.node.Node.{Node}};
+ghost use Rattle.inotree.specs.Calls.{changed, with_new};
+ghost use Rattle.inotree.specs.Tree.{IsTree, Nodes};
+ghost use Rattle.inotree.specs.declared.node.Kind.{Kind};
+ghost use Rattle.inotree.specs.declared.node.Node.{Node};
 ghost use Rattle.captable.specs.Table.{IsTable};
-ghost use Rattle.sessiontab.specs.{Calls.{with_session, without_blocked}, Table.{SessionTable}, Tests.{new_session_tests}};
-ghost use Rattle.capsteps.specs.{Capevents.declared.event.Event.{Event}, Capevents.declared.outcome.Ended.{Ended}, Capevents.declared.reply.Reply.{Reply}, Capevents.declared.row.Row.{Row}, Caprules.Direct.{with_scene}, Caprules.Finish.{finished}, Caprules.Headline.{ServedDenied, NoneConflict}, Caprules.History.{HasNoStray, IsOpening, Replays, IsLegal}, Caprules.Judge.{judged, rejection_reply}, Caprules.Settle.{Made, MakesAll, Settles, ended_in}, Caprules.Sound.{IsSound}, Caprules.State.{State}, Caprules.Step.{Step, StepBy}, Caprules.declared.rejection.Rejection.{Rejection}, Leaving.{with_parts, LeavesEntries}, Lockmachine.Inodes.{StateMap}, Lockmachine.Locks.{IsLockMap, with_ino}, Lockmachine.Scene.{Scene}};
-ghost use Rattle.capcore.specs.SameEvents.{FoundMemory, AllFoundMemory, events_of, ends_of, passes_of};
+ghost use Rattle.sessiontab.specs.Calls.{with_session, without_blocked};
+ghost use Rattle.sessiontab.specs.Table.{SessionTable};
+ghost use Rattle.sessiontab.specs.Tests.{new_session_tests};
+ghost use Rattle.step_model.specs.declared.event.Event.{Event};
+ghost use Rattle.step_model.specs.declared.outcome.Ended.{Ended};
+ghost use Rattle.step_model.specs.declared.reply.Reply.{Reply};
+ghost use Rattle.step_model.specs.declared.row.Row.{Row};
+ghost use Rattle.step_model.specs.Direct.{with_scene};
+ghost use Rattle.step_model.specs.Finish.{finished};
+ghost use Rattle.step_model.specs.Headline.{NoneConflict, ServedDenied};
+ghost use Rattle.step_model.specs.History.{HasNoStray, IsLegal, IsOpening, Replays};
+ghost use Rattle.step_model.specs.Judge.{judged, rejection_reply};
+ghost use Rattle.step_model.specs.Settle.{Made, MakesAll, Settles, ended_in};
+ghost use Rattle.step_model.specs.Sound.{IsSound};
+ghost use Rattle.step_model.specs.State.{State};
+ghost use Rattle.step_model.specs.Step.{Step, StepBy};
+ghost use Rattle.step_model.specs.declared.rejection.Rejection.{Rejection};
+ghost use Rattle.capstep.specs.Leaving.{LeavesEntries, with_parts};
+ghost use Rattle.lockmachine.specs.Inodes.{StateMap};
+ghost use Rattle.lockmachine.specs.Locks.{IsLockMap, with_ino};
+ghost use Rattle.lockmachine.specs.Scene.{Scene};
+ghost use Rattle.capcore.specs.SameEvents.{AllFoundMemory, FoundMemory, ends_of, events_of, passes_of};
 
 /// The opening state is sound.
 pub fn an_opening_is_sound()

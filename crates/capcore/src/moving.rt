@@ -1,28 +1,36 @@
 //! The pieces of a step that may move locks: its event by itself, the settling of locks with the end of the step, and what it says.
-ghost use Rattle.std.specs.{List.{find}, Prelude.{◌≡◌, ◌+◌, ◌≤◌, ◌++◌, List, length, IfOk, OnErr, vec_capacity}};
-ghost use Rattle.captable.specs.{Known.{known_of}, declared.entry.Holder.{Holder}};
-ghost use Rattle.capsteps.specs.{Begun.{ArePermittedIn}, Capacts.Known.{AreKnown}, Capevents.declared.outcome.Ended.{Ended as AnEnded}, Capnotes.DueEndings.{HaveOwnNumbers, but_for, is_of_ticket}, Caprules.Direct.{awaited_as, reply_of, shown}, Caprules.State.{State}, Lockmachine.Scene.{plain}, SessionChange.{session_changed, session_event}};
-ghost use Rattle.capsteps.specs.Capevents.declared.event.Event.TheVariants as event;
-ghost use Rattle.capcore.specs.UnderWay.{HasBegun, HasPlaces, IsWhole, MayBegin, answer_of, operation_event, dropped_of, earlier_of, event_of, state_of};
+ghost use Rattle.std.specs.List.{find};
+ghost use Rattle.std.specs.Prelude.{◌≡◌, ◌+◌, ◌≤◌, ◌++◌, List, length, IfOk, OnErr, vec_capacity};
+ghost use Rattle.captable.specs.Known.{known_of};
+ghost use Rattle.captable.specs.declared.entry.Holder.{Holder};
+ghost use Rattle.capstep.specs.Begun.{ArePermittedIn};
+ghost use Rattle.capstep.specs.Known.{AreKnown};
+ghost use Rattle.step_model.specs.declared.outcome.Ended.{Ended as AnEnded};
+ghost use Rattle.step_model.specs.DueEndings.{HaveOwnNumbers, but_for, is_of_ticket};
+ghost use Rattle.step_model.specs.Direct.{awaited_as, reply_of, shown};
+ghost use Rattle.step_model.specs.State.{State};
+ghost use Rattle.lockmachine.specs.Scene.{plain};
+ghost use Rattle.capstep.specs.SessionChange.{session_changed, session_event};
+ghost use Rattle.step_model.specs.declared.event.Event.TheVariants as event;
+ghost use Rattle.capcore.specs.UnderWay.{HasBegun, HasPlaces, IsWhole, MayBegin, answer_of, dropped_of, earlier_of, event_of, operation_event, state_of};
 
 use crate::parts::{Answer, Effect, MovingEvent, Parts};
 use capbits::{ClientId, Ticket};
-use capsteps::client::{Room, apply_session_change};
-use capsteps::endings::Endings;
-use capsteps::entry_request::{apply_request, show_reply};
-use capsteps::leaving::{SessionChange, leave};
-use capsteps::renewing::{renew_changed, renew_client};
-use capsteps::said::Said;
-use capsteps::serving::alter;
-use capsteps::settle::Affected;
-use capsteps::{
-    Change, Ended, EndedList, KeptScene, OperationRef, Policy, Reply, copy_of_operation,
-    copy_of_reply,
-};
+use capstep::{OperationRef, copy_of_operation};
+use capstep::client::{Room, apply_session_change};
+use capstep::endings::Endings;
+use capstep::entry_request::{apply_request, show_reply};
+use capstep::leaving::{SessionChange, leave};
+use capstep::renewing::{renew_changed, renew_client};
+use capstep::said::Said;
+use capstep::serving::alter;
+use capstep::settle::Affected;
 use captable::Holder;
 use inotree::NonEmptyInoSet;
+use lockmachine::{Change, KeptScene, Policy};
 use std::alloc::AllocError;
 use std::mem::swap;
+use step_model::{Ended, EndedList, Reply, copy_of_reply};
 
 impl Parts {
     // ---- the event by itself. For want of memory nothing changes, and what the last step changed stays listed

@@ -1,8 +1,17 @@
 //! What is served in the step that brought it. No program needs to call this law.
 
 ghost use Rattle.std.specs.Prelude.{◌≡◌, ◌+◌, false, List, None};
-ghost use Rattle.capbits.specs.declared.{ids.ClientId.{ClientId}, ids.Ino.{Ino}};
-ghost use Rattle.capsteps.specs.{Caprules.Direct.{Awaits, reply_of}, Caprules.Headline.{is_rejection}, Caprules.Serving.{judged_again}, Caprules.Settle.{Made, MakesAll, ended_in}, Caprules.Sound.{IsSound}, Caprules.State.{State}, Lockmachine.Locks.{IsLockMap, next_request, with_request}, Lockmachine.declared.request.Operation.{Operation}, Lockmachine.Scene.{Scene}};
+ghost use Rattle.capbits.specs.declared.ids.ClientId.{ClientId};
+ghost use Rattle.capbits.specs.declared.ids.Ino.{Ino};
+ghost use Rattle.step_model.specs.Direct.{Awaits, reply_of};
+ghost use Rattle.step_model.specs.Headline.{is_rejection};
+ghost use Rattle.step_model.specs.Serving.{judged_again};
+ghost use Rattle.step_model.specs.Settle.{Made, MakesAll, ended_in};
+ghost use Rattle.step_model.specs.Sound.{IsSound};
+ghost use Rattle.step_model.specs.State.{State};
+ghost use Rattle.lockmachine.specs.Locks.{IsLockMap, next_request, with_request};
+ghost use Rattle.lockmachine.specs.declared.request.Operation.{Operation};
+ghost use Rattle.lockmachine.specs.Scene.{Scene};
 
 /// A request that nothing rejects when it comes, and that is served in the same step, is neither denied nor refused: no
 /// request of an earlier step is served before it, so it is judged on the tree and the sessions on which it came.

@@ -1,11 +1,13 @@
 //! The parts of the core that a step changes, the events that may move locks, and what such an event leaves.
 
 use capbits::{ClientId, Ticket};
-use capsteps::entry_request::EntryRequest;
-use capsteps::leaving::SessionChange;
-use capsteps::settle::Affected;
-use capsteps::{Change, Ended, KeptScene, OperationRef};
+use capstep::OperationRef;
+use capstep::entry_request::EntryRequest;
+use capstep::leaving::SessionChange;
+use capstep::settle::Affected;
 use captable::Holder;
+use lockmachine::{Change, KeptScene};
+use step_model::Ended;
 
 // Tree, sessions, entries and locks, with what is kept beside entries and locks, and what clients are still to be told.
 #[derive(Debug)]

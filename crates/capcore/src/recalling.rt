@@ -1,13 +1,15 @@
 //! The step of a recall: clients are asked to release what they have not used for longest.
 ghost use Rattle.std.specs.Prelude.{◌≡◌, IfOk, OnErr, OnOk};
-ghost use Rattle.capsteps.specs.{Answered.{IsAnswered}, Caprules.Noted.{view_of}, Capview.Changes.{AreChanges}};
-ghost use Rattle.capsteps.specs.Capevents.declared.event.Event.TheVariants as event;
+ghost use Rattle.capstep.specs.Answered.{IsAnswered};
+ghost use Rattle.step_model.specs.Noted.{view_of};
+ghost use Rattle.policy_view.specs.Changes.{AreChanges};
+ghost use Rattle.step_model.specs.declared.event.Event.TheVariants as event;
 
 use crate::world::World;
-use capsteps::endings::Endings;
-use capsteps::said::Said;
-use capsteps::{EndedList, Reply};
+use capstep::endings::Endings;
+use capstep::said::Said;
 use std::alloc::AllocError;
+use step_model::{EndedList, Reply};
 
 impl World {
     // A step that marks the first entries in the order of recall as asked to release caps, and names them. The order stays.

@@ -2,7 +2,15 @@
 
 ghost use Rattle.std.specs.Prelude.{◌++◌, [], ◌∷◌, List};
 ghost use Rattle.captable.specs.Table.{IsTable};
-ghost use Rattle.capsteps.specs.{Capevents.declared.event.Event.{Event}, Capevents.declared.row.Row.{Row}, Caprules.Direct.{direct}, Caprules.Headline.{IssuesExactly}, Caprules.Shown.{AreShown, ShowsWhatIsTold, TakesUnshown, TakesOnlySo}, Caprules.Sound.{IsSound}, Caprules.State.{State}, Caprules.Step.{Step}, Lockmachine.Scene.{Scene}};
+ghost use Rattle.step_model.specs.declared.event.Event.{Event};
+ghost use Rattle.step_model.specs.declared.row.Row.{Row};
+ghost use Rattle.step_model.specs.Direct.{direct};
+ghost use Rattle.step_model.specs.Headline.{IssuesExactly};
+ghost use Rattle.step_model.specs.Shown.{AreShown, ShowsWhatIsTold, TakesOnlySo, TakesUnshown};
+ghost use Rattle.step_model.specs.Sound.{IsSound};
+ghost use Rattle.step_model.specs.State.{State};
+ghost use Rattle.step_model.specs.Step.{Step};
+ghost use Rattle.lockmachine.specs.Scene.{Scene};
 
 /// Where the numbers of entries say what clients were last shown, they say it after one step more.
 pub fn a_step_shows_what_it_tells()

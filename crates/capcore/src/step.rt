@@ -1,24 +1,27 @@
 //! The core and its steps.
-ghost use Rattle.std.specs.{Option.{option_copied}, Prelude.{◌≡◌, ◌↔◌, ◌<◌, [], length, Err, IfOk, OnErr}};
+ghost use Rattle.std.specs.Option.{option_copied};
+ghost use Rattle.std.specs.Prelude.{◌≡◌, ◌↔◌, ◌<◌, [], length, Err, IfOk, OnErr};
 ghost use Rattle.std.specs.FinMap as map;
-ghost use Rattle.captable.specs.Table.{holder, entry_at};
-ghost use Rattle.capsteps.specs.{Caprules.History.{HasNoStray, IsOpening, IsRecorded}, Lockmachine.Locks.{lock_at}};
-ghost use Rattle.capsteps.specs.Capacts.declared.stop.Stop.TheVariants as stop_kind;
+ghost use Rattle.captable.specs.Table.{entry_at, holder};
+ghost use Rattle.step_model.specs.History.{HasNoStray, IsOpening, IsRecorded};
+ghost use Rattle.lockmachine.specs.Locks.{lock_at};
+ghost use Rattle.capstep.specs.declared.stop.Stop.TheVariants as stop_kind;
 ghost use Rattle.capcore.specs.Promised.{IsPromised};
 
 use crate::world::World;
 use capbits::{ClientId, Ino, Part, PassId};
 use capspec::FsName;
-use capsteps::endings::Endings;
-use capsteps::history::make_room;
-use capsteps::stop::Stop;
-use capsteps::{Event, Reply, Row, ViewChange};
+use capstep::endings::Endings;
+use capstep::history::make_room;
+use capstep::stop::Stop;
 use captable::Entry;
 use inotree::Tree;
 use locktable::LockState;
+use policy_view::ViewChange;
 use sessiontab::{Session, Sessions};
 use std::alloc::{AllocError, Global};
 use std::marker::Model;
+use step_model::{Event, Reply, Row};
 
 /// The state of a metadata server's policy, with the history that led to it.
 #[derive(Debug)]
@@ -31,7 +34,7 @@ pub struct Core {
 }
 
 impl Model for Core {
-    ghost use Rattle.capsteps.specs.Caprules.History.{Recorded, IsRecorded, recorded};
+    ghost use Rattle.step_model.specs.History.{IsRecorded, Recorded, recorded};
     ghost use Rattle.capcore.specs.Codes.{recorded_code};
 
     ghost Value = { Recorded };

@@ -1,7 +1,14 @@
 //! How an event becomes a step. No program needs to call this law.
 
 ghost use Rattle.std.specs.Prelude.{◌≡◌, List};
-ghost use Rattle.capsteps.specs.{Capevents.declared.event.Event.{Event}, Capevents.declared.reply.Reply.{Reply}, Caprules.Direct.{direct, reply_of, shown}, Caprules.Finish.{sizes_owed, finished}, Caprules.Settle.{Made, Settles, ended_in, sized_in}, Caprules.State.{State}, Caprules.Step.{Step, all_ended, state_at_end}, Lockmachine.Scene.{Scene}};
+ghost use Rattle.step_model.specs.declared.event.Event.{Event};
+ghost use Rattle.step_model.specs.declared.reply.Reply.{Reply};
+ghost use Rattle.step_model.specs.Direct.{direct, reply_of, shown};
+ghost use Rattle.step_model.specs.Finish.{finished, sizes_owed};
+ghost use Rattle.step_model.specs.Settle.{Made, Settles, ended_in, sized_in};
+ghost use Rattle.step_model.specs.State.{State};
+ghost use Rattle.step_model.specs.Step.{Step, all_ended, state_at_end};
+ghost use Rattle.lockmachine.specs.Scene.{Scene};
 
 /// An event is a whole step, once the locks have settled, the step has ended and its client was told what is answered. The
 /// requests that the event dropped and those of earlier steps that were served are what the step ended.

@@ -2,11 +2,25 @@
 ghost use Rattle.std.specs.Prelude.{List, ◌≡◌, ◌+◌, false, [], None, IfOk, OnOk, OnErr};
 ghost use Rattle.std.specs.FinMap as map;
 ghost use Rattle.capbits.specs.Refusal.{first_failing};
-ghost use Rattle.inotree.specs.{Calls.{with_new}, Tests.{create_tests}, Tree.{is_directory}};
+ghost use Rattle.inotree.specs.Calls.{with_new};
+ghost use Rattle.inotree.specs.Tests.{create_tests};
+ghost use Rattle.inotree.specs.Tree.{is_directory};
 ghost use Rattle.captable.specs.Table.{IsTable, Table};
-ghost use Rattle.sessiontab.specs.{Calls.{with_session}, Tests.{new_session_tests}};
-ghost use Rattle.capsteps.specs.{Affected.{affected_by, session_changed_by, is_listing}, Answered.{IsAnswered}, Capevents.declared.outcome.Ended.{Ended as AnEnded}, Caprules.Direct.{Says, IsDirect, direct, made_event, owned_by, with_birth, with_sessions}, Caprules.History.{IsOpening, HasNoStray}, Caprules.Noted.{view_of}, Caprules.Sound.{NumbersLeft}, Caprules.State.{State}, Capview.Changes.{AreChanges}, Capview.Sight.{Shows}, Lockmachine.Locks.{IsLockMap, LockMap}, Lockmachine.Scene.{scene}};
-ghost use Rattle.capsteps.specs.Capevents.declared.event.Event.TheVariants as event;
+ghost use Rattle.sessiontab.specs.Calls.{with_session};
+ghost use Rattle.sessiontab.specs.Tests.{new_session_tests};
+ghost use Rattle.capstep.specs.Affected.{affected_by, is_listing, session_changed_by};
+ghost use Rattle.capstep.specs.Answered.{IsAnswered};
+ghost use Rattle.step_model.specs.declared.outcome.Ended.{Ended as AnEnded};
+ghost use Rattle.step_model.specs.Direct.{IsDirect, Says, direct, made_event, owned_by, with_birth, with_sessions};
+ghost use Rattle.step_model.specs.History.{HasNoStray, IsOpening};
+ghost use Rattle.step_model.specs.Noted.{view_of};
+ghost use Rattle.step_model.specs.Sound.{NumbersLeft};
+ghost use Rattle.step_model.specs.State.{State};
+ghost use Rattle.policy_view.specs.Changes.{AreChanges};
+ghost use Rattle.policy_view.specs.Sight.{Shows};
+ghost use Rattle.lockmachine.specs.Locks.{IsLockMap, LockMap};
+ghost use Rattle.lockmachine.specs.Scene.{scene};
+ghost use Rattle.step_model.specs.declared.event.Event.TheVariants as event;
 ghost use Rattle.capcore.specs.UnderWay.{event_of};
 
 use crate::judging::{access_rejection, basic_refusal, rejection};
@@ -14,24 +28,24 @@ use crate::parts::{Effect, MovingEvent, Parts};
 use capbits::{Caller, ClientId, Ino, Mode, Refusal};
 use capgrant::{Access, Attr};
 use capspec::{FsName, Grants};
-use capsteps::due_endings::remove_given;
-use capsteps::endings::Endings;
-use capsteps::entry_request::EntryRequest;
-use capsteps::judge::denial;
-use capsteps::leaving::SessionChange;
-use capsteps::poll::{due_messages, give};
-use capsteps::said::Said;
-use capsteps::settle::end;
-use capsteps::start::first_locks;
-use capsteps::{
-    ChangeList, EndedList, EndedTickets, Event, KeptScene, OperationRef, Reply, ViewChange,
-    copy_of_messages,
-};
+use capstep::OperationRef;
+use capstep::endings::Endings;
+use capstep::entry_request::EntryRequest;
+use capstep::judge::denial;
+use capstep::leaving::SessionChange;
+use capstep::poll::{due_messages, give};
+use capstep::said::Said;
+use capstep::settle::end;
+use capstep::start::first_locks;
 use captable::{CapTable, Holder};
 use inotree::{Kind, Tree};
+use lockmachine::KeptScene;
+use policy_view::ViewChange;
 use sessiontab::Sessions;
 use std::alloc::{AllocError, Global};
 use std::marker::Model;
+use step_model::{ChangeList, EndedList, EndedTickets, Event, Reply, copy_of_messages};
+use step_model::due_endings::remove_given;
 
 // The state that events change.
 #[derive(Debug)]
@@ -47,8 +61,9 @@ impl Drop for World {
 }
 
 impl Model for World {
-    ghost use Rattle.capsteps.specs.Caprules.State.{State};
-    ghost use Rattle.capcore.specs.{Codes.{state_code}, UnderWay.{IsWhole, state_of}};
+    ghost use Rattle.step_model.specs.State.{State};
+    ghost use Rattle.capcore.specs.Codes.{state_code};
+    ghost use Rattle.capcore.specs.UnderWay.{IsWhole, state_of};
 
     ghost Value = { State };
 

@@ -3,7 +3,9 @@
 //! it makes where they call at once.
 #![tactic(auto)]
 
-use capcommand::{AnswerFault, Watched, dispatch, report, words};
+use cli::dispatch;
+use cli_queries::{AnswerFault, report, words};
+use script_syntax::Watched;
 use std::process::ExitCode;
 
 fn main(rt: HostRuntime) -> ExitCode {

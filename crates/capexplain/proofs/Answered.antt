@@ -1,14 +1,15 @@
 -- A line that answers a question is that of one answer alone.
-use Rattle.std.proofs.Common.{◌≡◌, ℕ, zero, suc, ◌+◌, ◌<◌, ◌^◌, ◌%◌, ◌==◌, ◌&&◌, inl, inr, Bool, true, false, List, [], ◌∷◌, ◌++◌, drop, refl, sym, ap, ◌∙◌, append_assoc, arith}
-use Rattle.std.specs.Prelude.{codes, nat_eq, bytes_eq, if◌then◌else◌}
+use Rattle.std.proofs.Common.{◌≡◌, ℕ, zero, suc, ◌+◌, ◌<◌, ◌^◌, ◌%◌, ◌==◌, ◌&&◌, inl, inr, Bool, true, false, List, [], ◌∷◌, ◌++◌, drop, refl, sym, ap, ◌∙◌}
+use Rattle.std.proofs.Common.{append_assoc, arith}
+use Rattle.std.specs.Prelude.{bytes_eq, codes, if◌then◌else◌, nat_eq}
 use Rattle.std.specs.Fmt.{decimal}
-use Rattle.std.specs.List.{list_all, flat_map, enumerate_from, starts_with}
+use Rattle.std.specs.List.{enumerate_from, flat_map, list_all, starts_with}
 use Rattle.std.specs.Str.Parse.{digits_value}
 use Rattle.std.proofs.lemmas.Bool.{and_parts, cases_lt}
-use Rattle.std.proofs.lemmas.Fmt.{decimal_is_IsNumeral, decimal_by_steps, decimal_injective}
+use Rattle.std.proofs.lemmas.Fmt.{decimal_by_steps, decimal_injective, decimal_is_IsNumeral}
 use Rattle.std.proofs.lemmas.List.{append_cancel_left, append_cancel_right}
 use Rattle.capgrant.specs.declared.access.Access.{Access}
-use Rattle.capgrant.specs.declared.access.Access.TheVariants.{Read, Write, SetVxattr, Snapshot, Chmod, Chown, Chgrp}
+use Rattle.capgrant.specs.declared.access.Access.TheVariants.{Chgrp, Chmod, Chown, Read, SetVxattr, Snapshot, Write}
 use Rattle.capgrant.specs.declared.answer.Verdict.{Verdict}
 use Rattle.capgrant.specs.declared.answer.Verdict.TheVariants.{Allowed, Denied}
 use Rattle.capgrant.specs.declared.rule.Rule.{Rule}
@@ -16,9 +17,9 @@ use Rattle.capgrant.specs.declared.rule.Rule.TheVariants as rules
 use Rattle.capgrant.specs.Access.{access_word}
 use Rattle.capgrant.specs.Rule.{rule_number, rule_word}
 use Rattle.capexplain.specs.Explaining.{failure_text, failures_text, outcome_text, reason_text}
-use Rattle.capexplain.specs.Lines.{answer_line, HasNumber, HasGrant}
+use Rattle.capexplain.specs.Lines.{HasGrant, HasNumber, answer_line}
 use Rattle.capexplain.specs.Quoting.{is_plain, quoted}
-use Rattle.capexplain.proofs.Quoted.{first_byte, clash, bare, bare_to, plain_both, before_a_space}
+use Rattle.capexplain.proofs.Quoted.{bare, bare_to, before_a_space, clash, first_byte, plain_both}
 
 -- ---- numbers
 

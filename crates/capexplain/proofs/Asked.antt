@@ -4,19 +4,20 @@ use Rattle.std.specs.Prelude.{IfSome, not, ◌&&◌, position, slice_get, if◌t
 use Rattle.std.proofs.lemmas.List.Quantifiers.{position-Some}
 use Rattle.capspec.specs.declared.grant.Grant.{Grant}
 use Rattle.capgrant.specs.declared.access.Access.{Access}
-use Rattle.capgrant.specs.declared.access.Access.TheVariants.{Read, Write, SetVxattr, Snapshot, Chmod, Chown, Chgrp}
-use Rattle.capgrant.specs.Failing.{is_some_and, fails_fsname}
+use Rattle.capgrant.specs.declared.access.Access.TheVariants.{Chgrp, Chmod, Chown, Read, SetVxattr, Snapshot, Write}
+use Rattle.capgrant.specs.Failing.{fails_fsname, is_some_and}
 use Rattle.capgrant.specs.Question.{Question}
 use Rattle.capgrant.specs.Verdict.{allows, first_failures, verdict_at, verdict_of}
-use Rattle.capremarks.specs.declared.differences.Difference.{Difference}
-use Rattle.capremarks.specs.declared.differences.Difference.TheVariants.{OtherFileSystem, LargeUid}
-use Rattle.capremarks.specs.declared.differences.Otherwise.{Otherwise}
-use Rattle.capremarks.specs.Differences.{is_large, on_its_fs, by_bits, has_flag, allows_there, only_if, of_access, why_allowed, why_denied, said_of, otherwise_at, answered_otherwise}
-use Rattle.capremarks.specs.Left.{is_for_all, left_by, left_to_client}
-use Rattle.capremarks.proofs.Reasons.{each_has_one}
+use Rattle.policy_analysis.specs.declared.differences.Difference.{Difference}
+use Rattle.policy_analysis.specs.declared.differences.Difference.TheVariants.{LargeUid, OtherFileSystem}
+use Rattle.policy_analysis.specs.declared.differences.Otherwise.{Otherwise}
+use Rattle.policy_analysis.specs.Differences.{allows_there, answered_otherwise, by_bits, has_flag, is_large, of_access, on_its_fs, only_if, otherwise_at}
+use Rattle.policy_analysis.specs.Differences.{said_of, why_allowed, why_denied}
+use Rattle.policy_analysis.specs.Left.{is_for_all, left_by, left_to_client}
+use Rattle.policy_analysis.proofs.DifferenceReasons.{each_has_one}
 use Rattle.capexplain.specs.Lines.{HasGrant}
-use Rattle.capexplain.specs.Remarked.{is_of_grant, HasReason, IsRemarked, HasNumbers}
-use Rattle.capexplain.proofs.Remarked.{OfGrant, OfAccess}
+use Rattle.capexplain.specs.Remarked.{HasNumbers, HasReason, IsRemarked, is_of_grant}
+use Rattle.capexplain.proofs.Remarked.{OfAccess, OfGrant}
 
 below : (p : Grant → Bool) (grants : List Grant) (i : ℕ) → position p grants ≡ Some i → i < length grants
 below p [] i at = absurd (let e : None ≡ Some i = at in cc)

@@ -1,23 +1,24 @@
 -- A line of a client is that of one client, and tells one thing.
 use Rattle.std.proofs.Common.{◌≡◌, ℕ, ◌<◌, ◌^◌, true, List, ◌∷◌, ◌++◌, refl, sym, ap, ◌∙◌, arith}
-use Rattle.std.specs.Prelude.{codes, bytes_eq, if◌then◌else◌}
+use Rattle.std.specs.Prelude.{bytes_eq, codes, if◌then◌else◌}
 use Rattle.std.specs.Fmt.{decimal}
 use Rattle.std.specs.List.{list_all}
 use Rattle.std.proofs.lemmas.Fmt.{decimal_injective}
 use Rattle.std.proofs.lemmas.List.{append_cancel_left, append_cancel_right}
 use Rattle.capspec.specs.declared.fault.SpecFault.{SpecFault}
 use Rattle.capspec.specs.declared.fault.SpecFaultKind.{SpecFaultKind}
-use Rattle.capspec.specs.declared.fault.SpecFaultKind.TheVariants.{Empty, NotAllow, BadFlags, BadItem, Twice, BadNumber, OpenQuote, GidsWithoutUid, LeftOut, TooMany, BadPath, NoMemory}
+use Rattle.capspec.specs.declared.fault.SpecFaultKind.TheVariants.{BadFlags, BadItem, BadNumber, BadPath, Empty, GidsWithoutUid, LeftOut, NoMemory, NotAllow}
+use Rattle.capspec.specs.declared.fault.SpecFaultKind.TheVariants.{OpenQuote, TooMany, Twice}
 use Rattle.capgrant.specs.declared.access.Access.{Access}
 use Rattle.capgrant.specs.Access.{access_word}
-use Rattle.capwho.specs.declared.standing.Standing.{Standing}
-use Rattle.capwho.specs.declared.standing.Standing.TheVariants.{Allowed, Depends, Denied}
-use Rattle.capexplain.specs.Explaining.{path_text, failures_text}
-use Rattle.capexplain.specs.Lines.{HasNumber, HasGrantIf}
+use Rattle.policy_analysis.specs.declared.standing.Standing.{Standing}
+use Rattle.policy_analysis.specs.declared.standing.Standing.TheVariants.{Allowed, Denied, Depends}
+use Rattle.capexplain.specs.Explaining.{failures_text, path_text}
+use Rattle.capexplain.specs.Lines.{HasGrantIf, HasNumber}
 use Rattle.capexplain.specs.Quoting.{is_plain, quoted}
-use Rattle.capexplain.specs.Standing.{standing_line, unread_line, fault_word}
-use Rattle.capexplain.proofs.Answered.{parted, one_list}
-use Rattle.capexplain.proofs.Quoted.{first_byte, clash, bare, before_word}
+use Rattle.capexplain.specs.Standing.{fault_word, standing_line, unread_line}
+use Rattle.capexplain.proofs.Answered.{one_list, parted}
+use Rattle.capexplain.proofs.Quoted.{bare, before_word, clash, first_byte}
 
 -- ---- what stands behind the client
 

@@ -1,23 +1,24 @@
 -- The lines of a comparison are those of one.
-use Rattle.std.proofs.Common.{◌≡◌, ℕ, ◌+◌, ◌<◌, ◌^◌, ◌/◌, ◌%◌, Bool, true, not, nat_lt, Option, Some, None, List, [], ◌∷◌, ◌++◌, refl, sym, ap, ◌∙◌, append_assoc, arith}
-use Rattle.std.specs.Prelude.{codes, All, IfSome}
+use Rattle.std.proofs.Common.{◌≡◌, ℕ, ◌+◌, ◌<◌, ◌^◌, ◌/◌, ◌%◌, Bool, true, not, nat_lt, Option, Some, None, List, [], ◌∷◌, ◌++◌, refl, sym, ap, ◌∙◌}
+use Rattle.std.proofs.Common.{append_assoc, arith}
+use Rattle.std.specs.Prelude.{All, IfSome, codes}
 use Rattle.std.specs.Fmt.{decimal}
-use Rattle.std.specs.List.{list_all, flat_map}
-use Rattle.std.proofs.lemmas.Bool.{false≢true, and_parts, and_from, lt-ltb}
+use Rattle.std.specs.List.{flat_map, list_all}
+use Rattle.std.proofs.lemmas.Bool.{and_from, and_parts, false≢true, lt-ltb}
 use Rattle.std.proofs.lemmas.Fmt.{decimal_by_steps, decimal_digit, decimal_injective}
 use Rattle.std.proofs.lemmas.List.{append_cancel_left}
 use Rattle.std.proofs.lemmas.List.Elements.{All-head, All-tail}
 use Rattle.std.proofs.lemmas.List.Folds.{list_all-append}
 use Rattle.capgrant.specs.Access.{access_word}
-use Rattle.capremarks.specs.Capcompare.declared.witness.Witness.{Witness}
-use Rattle.capexplain.specs.Comparing.{witness_text, found_line, comparison}
+use Rattle.policy_analysis.specs.declared.witness.Witness.{Witness}
+use Rattle.capexplain.specs.Comparing.{comparison, found_line, witness_text}
 use Rattle.capexplain.specs.EventTexts.{groups_text}
 use Rattle.capexplain.specs.Explaining.{path_text}
-use Rattle.capexplain.specs.Lines.{IsTold, TellTheSame, SameIf}
+use Rattle.capexplain.specs.Lines.{IsTold, SameIf, TellTheSame}
 use Rattle.capexplain.specs.PartTexts.{mode_text}
 use Rattle.capexplain.specs.Quoting.{quoted}
 use Rattle.capexplain.proofs.Answered.{parted}
-use Rattle.capexplain.proofs.Quoted.{first_byte, clash, bare}
+use Rattle.capexplain.proofs.Quoted.{bare, clash, first_byte}
 
 -- ---- digits, and what stops them
 

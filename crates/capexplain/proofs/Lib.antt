@@ -8,8 +8,10 @@ pub mod Compared
 pub mod Linted
 pub mod Remarked
 pub mod Asked
-pub use Rattle.capremarks.proofs.Capcompare
-pub use Rattle.capevents.proofs as Capevents
-pub use Rattle.capremarks.proofs as Capremarks
-pub use Rattle.capwho.proofs as Capwho
-pub use Rattle.capevents.proofs.Lockmachine
+pub mod Tables
+pub mod Plain
+pub mod Spelling
+pub mod Streams
+pub mod Distinct
+pub mod JsonClients
+pub mod JsonLinted

@@ -3,23 +3,23 @@ use Rattle.std.proofs.Common.{◌≡◌, ℕ, Bool, true, false, Option, Some, N
 use Rattle.std.specs.Prelude.{codes, not, is_some, All, ◌==◌, if◌then◌else◌}
 use Rattle.std.specs.Fmt.{decimal}
 use Rattle.std.specs.List.{AllZip, flat_map}
-use Rattle.std.proofs.lemmas.List.{append_cancel_left, append-nil, map-append}
+use Rattle.std.proofs.lemmas.List.{append-nil, append_cancel_left, map-append}
 use Rattle.std.proofs.lemmas.List.Concat.{flat_map-append}
 use Rattle.std.proofs.lemmas.List.Elements.{All-head, All-tail}
-use Rattle.capremarks.specs.Capcompare.declared.finding.Finding.{Finding}
-use Rattle.capremarks.specs.Capcompare.declared.witness.Witness.{Witness}
-use Rattle.cephtexts.specs.declared.key.Key.{Key}
-use Rattle.cephtexts.specs.declared.key.Key.TheVariants.{FsName, Path, Uid, Gids, RootSquash}
-use Rattle.cephtexts.specs.declared.unread.Unread.{Unread}
-use Rattle.cephtexts.specs.declared.unread.Unread.TheVariants.{WhiteSpace, AnyFileSystem, Order}
-use Rattle.cephtexts.specs.Standing.{name}
-use Rattle.capexplain.specs.Comparing.{witness_text, found_line}
-use Rattle.capexplain.specs.Found.{Found, found_if, found_by, all_found, IsToldIf, HasLine, SameFound, SameOfGrant}
-use Rattle.capexplain.specs.Found.Found.{covered, nothing, undone, unread, stands}
-use Rattle.capexplain.specs.Linting.{covered_text, nothing_text, unread_text, said_if, stands_line, finding_lines}
+use Rattle.policy_analysis.specs.declared.finding.Finding.{Finding}
+use Rattle.policy_analysis.specs.declared.witness.Witness.{Witness}
+use Rattle.policy_analysis.specs.declared.key.Key.{Key}
+use Rattle.policy_analysis.specs.declared.key.Key.TheVariants.{FsName, Gids, Path, RootSquash, Uid}
+use Rattle.policy_analysis.specs.declared.unread.Unread.{Unread}
+use Rattle.policy_analysis.specs.declared.unread.Unread.TheVariants.{AnyFileSystem, Order, WhiteSpace}
+use Rattle.policy_analysis.specs.Ceph16Syntax.{name}
+use Rattle.capexplain.specs.Comparing.{found_line, witness_text}
+use Rattle.capexplain.specs.Found.{Found, HasLine, IsToldIf, SameFound, SameOfGrant, all_found, found_by, found_if}
+use Rattle.capexplain.specs.Found.Found.{covered, nothing, stands, undone, unread}
+use Rattle.capexplain.specs.Linting.{covered_text, finding_lines, nothing_text, said_if, stands_line, unread_text}
 use Rattle.capexplain.proofs.Answered.{number_and}
 use Rattle.capexplain.proofs.Compared.{one_witness}
-use Rattle.capexplain.proofs.Quoted.{first_byte, clash}
+use Rattle.capexplain.proofs.Quoted.{clash, first_byte}
 
 -- ---- a line for each thing
 

@@ -1,5 +1,6 @@
 -- The lines of an answer with all that is worth a word beside it tell one answer.
-use Rattle.std.proofs.Common.{◌≡◌, ℕ, ◌<◌, ◌^◌, Bool, true, false, ◌||◌, Option, Some, None, List, [], ◌∷◌, ◌++◌, drop, refl, sym, ap, ◌∙◌, append_assoc, arith}
+use Rattle.std.proofs.Common.{◌≡◌, ℕ, ◌<◌, ◌^◌, Bool, true, false, ◌||◌, Option, Some, None, List, [], ◌∷◌, ◌++◌, drop, refl, sym, ap, ◌∙◌, append_assoc}
+use Rattle.std.proofs.Common.{arith}
 use Rattle.std.specs.Prelude.{codes, is_some, IfSome, ◌==◌, if◌then◌else◌}
 use Rattle.std.specs.Fmt.{decimal}
 use Rattle.std.proofs.lemmas.Bool.{false≢true}
@@ -7,17 +8,17 @@ use Rattle.std.proofs.lemmas.List.{append_cancel_left}
 use Rattle.capgrant.specs.declared.access.Attr.{Attr}
 use Rattle.capgrant.specs.declared.answer.Verdict.{Verdict}
 use Rattle.capgrant.specs.Question.{Question}
-use Rattle.capremarks.specs.declared.differences.Difference.{Difference}
-use Rattle.capremarks.specs.declared.differences.Difference.TheVariants.{OtherFileSystem, AttributeByFlag, ModeByBits, LargeUid}
-use Rattle.capremarks.specs.declared.differences.Otherwise.{Otherwise}
+use Rattle.policy_analysis.specs.declared.differences.Difference.{Difference}
+use Rattle.policy_analysis.specs.declared.differences.Difference.TheVariants.{AttributeByFlag, LargeUid, ModeByBits, OtherFileSystem}
+use Rattle.policy_analysis.specs.declared.differences.Otherwise.{Otherwise}
 use Rattle.capexplain.specs.Explaining.{path_text}
 use Rattle.capexplain.specs.Lines.{answer_line}
 use Rattle.capexplain.specs.PartTexts.{mode_text}
-use Rattle.capexplain.specs.Remarked.{is_of_grant, HasReason, IsRemarked, LeaveAlike}
-use Rattle.capexplain.specs.Remarks.{inode_text, left_line, difference_text, there_text, difference_line, otherwise_lines, remarked_text}
-use Rattle.capexplain.proofs.Answered.{number_to, number_and, one_answer_to}
+use Rattle.capexplain.specs.Remarked.{HasReason, IsRemarked, LeaveAlike, is_of_grant}
+use Rattle.capexplain.specs.Remarks.{difference_line, difference_text, inode_text, left_line, otherwise_lines, remarked_text, there_text}
+use Rattle.capexplain.proofs.Answered.{number_and, number_to, one_answer_to}
 use Rattle.capexplain.proofs.Compared.{mode}
-use Rattle.capexplain.proofs.Quoted.{first_byte, clash}
+use Rattle.capexplain.proofs.Quoted.{clash, first_byte}
 
 -- no such line begins so
 abbrev pub IsOther : List ℕ → Type 0

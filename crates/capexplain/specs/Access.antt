@@ -2,7 +2,7 @@
 use Rattle.std.specs.Prelude.{◌≡◌, ℕ, List, ◌++◌, codes}
 use Rattle.capspec.specs.Items.{IsNumber}
 use Rattle.capgrant.specs.declared.access.Access.{Access}
-use Rattle.capgrant.specs.declared.access.Access.TheVariants.{Read, Write, SetVxattr, Snapshot, Chmod, Chown, Chgrp}
+use Rattle.capgrant.specs.declared.access.Access.TheVariants.{Chgrp, Chmod, Chown, Read, SetVxattr, Snapshot, Write}
 
 -- the text is the word and a number behind it, which may have leading zeros
 abbrev pub IsWordWithNumber : List ℕ → List ℕ → ℕ → Type 0

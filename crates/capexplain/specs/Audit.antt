@@ -2,10 +2,10 @@
 use Rattle.std.specs.Prelude.{ℕ, List, ◌++◌, codes}
 use Rattle.std.specs.Fmt.{decimal}
 use Rattle.std.specs.List.{flat_map}
-use Rattle.capevents.specs.declared.row.Row.{Row}
-use Rattle.capevents.specs.declared.outcome.Ended.{Ended}
+use Rattle.step_model.specs.declared.row.Row.{Row}
+use Rattle.step_model.specs.declared.outcome.Ended.{Ended}
 use Rattle.capexplain.specs.EventTexts.{event_text}
-use Rattle.capexplain.specs.Replies.{reply_line, outcome_text}
+use Rattle.capexplain.specs.Replies.{outcome_text, reply_line}
 
 -- a request that the step ended: its number, and how it ended
 abbrev pub ended_text : Ended → List ℕ

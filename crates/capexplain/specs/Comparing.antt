@@ -4,7 +4,7 @@ use Rattle.std.specs.Fmt.{decimal}
 use Rattle.capbits.specs.declared.caller.Caller.{Caller}
 use Rattle.capgrant.specs.declared.access.Attr.{Attr}
 use Rattle.capgrant.specs.Access.{access_word}
-use Rattle.capremarks.specs.Capcompare.declared.witness.Witness.{Witness}
+use Rattle.policy_analysis.specs.declared.witness.Witness.{Witness}
 use Rattle.capexplain.specs.EventTexts.{groups_text}
 use Rattle.capexplain.specs.Explaining.{path_text}
 use Rattle.capexplain.specs.PartTexts.{mode_text}

@@ -8,15 +8,15 @@ use Rattle.capbits.specs.Text.{text_of}
 use Rattle.capspec.specs.declared.grant.Grant.{Grant}
 use Rattle.capspec.specs.Written.{written}
 use Rattle.inotree.specs.declared.node.Setting.{Setting}
-use Rattle.inotree.specs.declared.node.Setting.TheVariants.{Mode, Uid, Gid, Size, Time}
-use Rattle.capevents.specs.Lockmachine.declared.request.Change.{Change}
-use Rattle.capevents.specs.Lockmachine.declared.request.Change.TheVariants.{Set, SetXattr, RemoveXattr}
-use Rattle.capevents.specs.declared.event.Event.{Event}
-use Rattle.capevents.specs.declared.event.Event.TheVariants as event
-use Rattle.capexplain.specs.declared.change_word.ChangeWord.{ChangeWord}
-use Rattle.capexplain.specs.declared.change_word.ChangeWord.TheVariants as words
-use Rattle.capexplain.specs.PartTexts.{mode_text, hex_text}
-use Rattle.capexplain.specs.Words.{command_word, command_of, change_word, open_word, part_word}
+use Rattle.inotree.specs.declared.node.Setting.TheVariants.{Gid, Mode, Size, Time, Uid}
+use Rattle.lockmachine.specs.declared.request.Change.{Change}
+use Rattle.lockmachine.specs.declared.request.Change.TheVariants.{RemoveXattr, Set, SetXattr}
+use Rattle.step_model.specs.declared.event.Event.{Event}
+use Rattle.step_model.specs.declared.event.Event.TheVariants as event
+use Rattle.step_model.specs.declared.change_word.ChangeWord.{ChangeWord}
+use Rattle.step_model.specs.declared.change_word.ChangeWord.TheVariants as words
+use Rattle.capexplain.specs.PartTexts.{hex_text, mode_text}
+use Rattle.step_model.specs.Words.{change_word, command_of, command_word, open_word, part_word}
 
 -- ---- parts of lines
 

@@ -1,14 +1,14 @@
 -- The line that answers a question.
 use Rattle.std.specs.Prelude.{ℕ, List, [], ◌∷◌, ◌++◌, codes}
 use Rattle.std.specs.Fmt.{decimal}
-use Rattle.std.specs.List.{join_by, enumerate_from}
+use Rattle.std.specs.List.{enumerate_from, join_by}
 use Rattle.capgrant.specs.declared.access.Access.{Access}
 use Rattle.capgrant.specs.declared.answer.Verdict.{Verdict}
 use Rattle.capgrant.specs.declared.answer.Verdict.TheVariants.{Allowed, Denied}
 use Rattle.capgrant.specs.declared.rule.Rule.{Rule}
 use Rattle.capgrant.specs.Access.{access_word}
 use Rattle.capgrant.specs.Rule.{rule_number, rule_word}
-use Rattle.capwords.specs.Paths.{slashed}
+use Rattle.capspec.specs.Paths.{slashed}
 
 -- `/` before each name; `/` alone for the root
 abbrev pub path_text : List (List ℕ) → List ℕ

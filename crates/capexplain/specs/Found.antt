@@ -1,9 +1,9 @@
 -- Each thing that is found of a grant.
 use Rattle.std.specs.Prelude.{◌≡◌, ℕ, ◌<◌, ◌^◌, Bool, not, Option, Some, None, List, [], ◌∷◌, ◌++◌, map, All, if◌then◌else◌}
 use Rattle.std.specs.List.{AllZip}
-use Rattle.capremarks.specs.Capcompare.declared.finding.Finding.{Finding}
-use Rattle.capremarks.specs.Capcompare.declared.witness.Witness.{Witness}
-use Rattle.cephtexts.specs.declared.unread.Unread.{Unread}
+use Rattle.policy_analysis.specs.declared.finding.Finding.{Finding}
+use Rattle.policy_analysis.specs.declared.witness.Witness.{Witness}
+use Rattle.policy_analysis.specs.declared.unread.Unread.{Unread}
 use Rattle.capexplain.specs.Lines.{IsTold, TellTheSame}
 use Rattle.capexplain.specs.Linting.{finding_lines}
 

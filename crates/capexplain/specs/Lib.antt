@@ -1,4 +1,3 @@
-pub mod Words
 pub mod PartTexts
 pub mod Replies
 pub mod EventTexts
@@ -13,8 +12,10 @@ pub mod Comparing
 pub mod Linting
 pub mod Found
 pub mod Standing
-pub use Rattle.capremarks.specs.Capcompare
-pub use Rattle.capevents.specs as Capevents
-pub use Rattle.capremarks.specs as Capremarks
-pub use Rattle.capwho.specs as Capwho
-pub use Rattle.capevents.specs.Lockmachine
+pub mod Shapes
+pub mod Values
+pub mod Pieces
+pub mod Answers
+pub mod Standings
+pub mod Changes
+pub mod Findings

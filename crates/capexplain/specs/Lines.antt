@@ -2,13 +2,13 @@
 use Rattle.std.specs.Prelude.{◌≡◌, ℕ, ◌<◌, ◌^◌, true, Option, Some, None, List, All, IfSome}
 use Rattle.std.specs.List.{list_all}
 use Rattle.capgrant.specs.declared.access.Access.{Access}
-use Rattle.capgrant.specs.declared.access.Access.TheVariants.{Chown, Chgrp}
+use Rattle.capgrant.specs.declared.access.Access.TheVariants.{Chgrp, Chown}
 use Rattle.capgrant.specs.declared.answer.Verdict.{Verdict}
 use Rattle.capgrant.specs.declared.answer.Verdict.TheVariants.{Allowed, Denied}
 use Rattle.capspec.specs.declared.fault.SpecFault.{SpecFault}
-use Rattle.capwho.specs.declared.standing.Standing.{Standing}
-use Rattle.capwho.specs.declared.standing.Standing.TheVariants as standings
-use Rattle.capremarks.specs.Capcompare.declared.witness.Witness.{Witness}
+use Rattle.policy_analysis.specs.declared.standing.Standing.{Standing}
+use Rattle.policy_analysis.specs.declared.standing.Standing.TheVariants as standings
+use Rattle.policy_analysis.specs.declared.witness.Witness.{Witness}
 use Rattle.capexplain.specs.Comparing.{comparison}
 use Rattle.capexplain.specs.Explaining.{path_text, verdict_text}
 use Rattle.capexplain.specs.Quoting.{is_plain, quoted}

@@ -1,10 +1,10 @@
 -- The lines that say what is found of a grant.
 use Rattle.std.specs.Prelude.{ℕ, Bool, true, not, Option, Some, None, is_some, List, [], ◌++◌, codes, if◌then◌else◌}
 use Rattle.std.specs.Fmt.{decimal}
-use Rattle.capremarks.specs.Capcompare.declared.finding.Finding.{Finding}
-use Rattle.cephtexts.specs.declared.unread.Unread.{Unread}
-use Rattle.cephtexts.specs.declared.unread.Unread.TheVariants.{WhiteSpace, AnyFileSystem, Order}
-use Rattle.cephtexts.specs.Standing.{name}
+use Rattle.policy_analysis.specs.declared.finding.Finding.{Finding}
+use Rattle.policy_analysis.specs.declared.unread.Unread.{Unread}
+use Rattle.policy_analysis.specs.declared.unread.Unread.TheVariants.{AnyFileSystem, Order, WhiteSpace}
+use Rattle.policy_analysis.specs.Ceph16Syntax.{name}
 use Rattle.capexplain.specs.Comparing.{found_line}
 
 abbrev pub covered_text : List ℕ

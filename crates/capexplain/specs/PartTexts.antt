@@ -4,8 +4,8 @@ use Rattle.std.specs.Fmt.{decimal, digit_glyph}
 use Rattle.std.specs.List.{flat_map}
 use Rattle.std.specs.FinMap as map
 use Rattle.capgrant.specs.declared.access.Attr.{Attr}
-use Rattle.capevents.specs.declared.outcome.PartValues.{PartValues}
-use Rattle.capevents.specs.declared.outcome.PartValues.TheVariants.{Auth, Link, Xattr, File}
+use Rattle.step_model.specs.declared.outcome.PartValues.{PartValues}
+use Rattle.step_model.specs.declared.outcome.PartValues.TheVariants.{Auth, File, Link, Xattr}
 
 -- four octal digits
 abbrev pub mode_text : ℕ → List ℕ

@@ -1,6 +1,6 @@
 -- Bytes in a form that has neither control bytes nor, outside of quotes, spaces.
 use Rattle.std.specs.Prelude.{ℕ, Bool, not, ◌||◌, ◌==◌, nat_lt, List, [], ◌∷◌, ◌++◌, codes, if◌then◌else◌}
-use Rattle.std.specs.List.{list_all, flat_map}
+use Rattle.std.specs.List.{flat_map, list_all}
 use Rattle.capexplain.specs.PartTexts.{byte_text}
 
 -- below 32, or 127

@@ -5,13 +5,13 @@ use Rattle.capgrant.specs.declared.access.Attr.{Attr}
 use Rattle.capgrant.specs.declared.answer.Verdict.{Verdict}
 use Rattle.capgrant.specs.Question.{Question}
 use Rattle.capgrant.specs.Verdict.{verdict_of}
-use Rattle.capremarks.specs.declared.differences.Difference.{Difference}
-use Rattle.capremarks.specs.declared.differences.Difference.TheVariants.{OtherFileSystem, LargeUid}
-use Rattle.capremarks.specs.declared.differences.Otherwise.{Otherwise}
-use Rattle.capremarks.specs.Differences.{answered_otherwise, has_reason}
-use Rattle.capremarks.specs.Left.{left_to_client}
+use Rattle.policy_analysis.specs.declared.differences.Difference.{Difference}
+use Rattle.policy_analysis.specs.declared.differences.Difference.TheVariants.{LargeUid, OtherFileSystem}
+use Rattle.policy_analysis.specs.declared.differences.Otherwise.{Otherwise}
+use Rattle.policy_analysis.specs.Differences.{answered_otherwise, has_reason}
+use Rattle.policy_analysis.specs.Left.{left_to_client}
 use Rattle.capexplain.specs.Explaining.{path_text}
-use Rattle.capexplain.specs.Lines.{HasNumber, HasGrant}
+use Rattle.capexplain.specs.Lines.{HasGrant, HasNumber}
 use Rattle.capexplain.specs.Remarks.{remarked_text}
 
 -- the grant makes the difference, and not the access

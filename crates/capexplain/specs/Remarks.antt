@@ -4,9 +4,9 @@ use Rattle.std.specs.Fmt.{decimal}
 use Rattle.capgrant.specs.declared.access.Attr.{Attr}
 use Rattle.capgrant.specs.declared.answer.Verdict.{Verdict}
 use Rattle.capgrant.specs.Question.{Question}
-use Rattle.capremarks.specs.declared.differences.Difference.{Difference}
-use Rattle.capremarks.specs.declared.differences.Difference.TheVariants.{OtherFileSystem, AttributeByFlag, ModeByBits, LargeUid}
-use Rattle.capremarks.specs.declared.differences.Otherwise.{Otherwise}
+use Rattle.policy_analysis.specs.declared.differences.Difference.{Difference}
+use Rattle.policy_analysis.specs.declared.differences.Difference.TheVariants.{AttributeByFlag, LargeUid, ModeByBits, OtherFileSystem}
+use Rattle.policy_analysis.specs.declared.differences.Otherwise.{Otherwise}
 use Rattle.capexplain.specs.Explaining.{path_text, verdict_text}
 use Rattle.capexplain.specs.PartTexts.{mode_text}
 use Rattle.capexplain.specs.Quoting.{quoted}

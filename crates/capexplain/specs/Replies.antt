@@ -1,7 +1,7 @@
 -- The texts of replies.
 use Rattle.std.specs.Prelude.{ℕ, List, [], ◌∷◌, ◌++◌, length, codes}
 use Rattle.std.specs.Fmt.{decimal}
-use Rattle.std.specs.List.{join_by, enumerate_from, flat_map}
+use Rattle.std.specs.List.{enumerate_from, flat_map, join_by}
 use Rattle.std.specs.Option.{option_map_or}
 use Rattle.capbits.specs.Text.{text_of}
 use Rattle.capgrant.specs.declared.access.Access.{Access}
@@ -10,12 +10,12 @@ use Rattle.capgrant.specs.Access.{access_word}
 use Rattle.capgrant.specs.Rule.{rule_number}
 use Rattle.capbits.specs.Refusal.{refusal_word}
 use Rattle.captable.specs.declared.entry.Holder.{Holder}
-use Rattle.capevents.specs.declared.outcome.Message.{Message}
-use Rattle.capevents.specs.declared.outcome.Message.TheVariants as messages
-use Rattle.capevents.specs.declared.outcome.Outcome.{Outcome}
-use Rattle.capevents.specs.declared.reply.Reply.{Reply}
-use Rattle.capevents.specs.declared.reply.Reply.TheVariants.{Done, Ino, Opened, Values, Messages, Recalled, Waiting, Denied, Refused, OutOfMemory}
-use Rattle.capevents.specs.Replies.{outcome_reply}
+use Rattle.step_model.specs.declared.outcome.Message.{Message}
+use Rattle.step_model.specs.declared.outcome.Message.TheVariants as messages
+use Rattle.step_model.specs.declared.outcome.Outcome.{Outcome}
+use Rattle.step_model.specs.declared.reply.Reply.{Reply}
+use Rattle.step_model.specs.declared.reply.Reply.TheVariants.{Denied, Done, Ino, Messages, Opened, OutOfMemory, Recalled, Refused, Values, Waiting}
+use Rattle.step_model.specs.Replies.{outcome_reply}
 use Rattle.capexplain.specs.PartTexts.{values_text}
 
 -- the number of a grant, and that of the rule by which it fails

@@ -3,13 +3,14 @@ use Rattle.std.specs.Prelude.{ℕ, Option, List, ◌++◌, codes}
 use Rattle.std.specs.Fmt.{decimal}
 use Rattle.capspec.specs.declared.fault.SpecFault.{SpecFault}
 use Rattle.capspec.specs.declared.fault.SpecFaultKind.{SpecFaultKind}
-use Rattle.capspec.specs.declared.fault.SpecFaultKind.TheVariants.{Empty, NotAllow, BadFlags, BadItem, Twice, BadNumber, OpenQuote, GidsWithoutUid, LeftOut, TooMany, BadPath, NoMemory}
+use Rattle.capspec.specs.declared.fault.SpecFaultKind.TheVariants.{BadFlags, BadItem, BadNumber, BadPath, Empty, GidsWithoutUid, LeftOut, NoMemory, NotAllow}
+use Rattle.capspec.specs.declared.fault.SpecFaultKind.TheVariants.{OpenQuote, TooMany, Twice}
 use Rattle.capgrant.specs.declared.access.Access.{Access}
 use Rattle.capgrant.specs.Access.{access_word}
-use Rattle.capwho.specs.declared.standing.Standing.{Standing}
-use Rattle.capwho.specs.declared.standing.Standing.TheVariants.{Allowed, Depends, Denied}
-use Rattle.capremarks.specs.declared.differences.Otherwise.{Otherwise}
-use Rattle.capexplain.specs.Explaining.{path_text, failures_text}
+use Rattle.policy_analysis.specs.declared.standing.Standing.{Standing}
+use Rattle.policy_analysis.specs.declared.standing.Standing.TheVariants.{Allowed, Denied, Depends}
+use Rattle.policy_analysis.specs.declared.differences.Otherwise.{Otherwise}
+use Rattle.capexplain.specs.Explaining.{failures_text, path_text}
 use Rattle.capexplain.specs.Quoting.{quoted}
 use Rattle.capexplain.specs.Remarks.{otherwise_lines}
 

@@ -6,9 +6,9 @@ ghost use Rattle.capexplain.specs.Audit.{audit_text, ended_text};
 use crate::event_text::print_event;
 use crate::message_text::{print_outcome, print_ticket};
 use crate::reply::print_reply;
-use capevents::{Ended, Row};
-use captext::{print_number, print_numbered, print_str};
+use capbits::{print_number, print_numbered, print_str};
 use std::alloc::{AllocError, Global};
+use step_model::{Ended, Row};
 
 // How many bytes most lines have at the most. A list for one grows but once.
 const USUAL_LINE: usize = 80;

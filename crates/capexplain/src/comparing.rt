@@ -6,10 +6,9 @@ use crate::event_text::print_groups;
 use crate::explaining::print_path;
 use crate::part_text::print_mode;
 use crate::quoting::print_quoted;
-use capbits::Caller;
+use capbits::{Caller, print, print_str};
 use capgrant::Attr;
-use capremarks::Witness;
-use captext::{print, print_str};
+use policy_analysis::Witness;
 use std::alloc::{AllocError, Global};
 
 /// A line `gained: ..` for a question that was gained, and one `lost: ..` for one that was lost, or `the same` where there is

@@ -5,17 +5,15 @@ ghost use Rattle.std.specs.List.{flat_map};
 ghost use Rattle.capbits.specs.Text.{text_of};
 ghost use Rattle.capexplain.specs.EventTexts.{arguments_text, change_text, event_text, grants_text, groups_text, named_text, numbered_text, setting_text};
 ghost use Rattle.capexplain.specs.PartTexts.{mode_text};
-ghost use Rattle.capexplain.specs.Words.{open_word, part_word};
+ghost use Rattle.step_model.specs.Words.{open_word, part_word};
 
-use crate::change_word::ChangeWord;
-use crate::command::Command;
 use crate::part_text::{print_bytes, print_mode};
-use capbits::{Caller, CapSet, ClientId, Groups, Ino, Mode, Part};
-use capevents::{Bytes, Change, Event, OpenMode};
+use capbits::{Caller, CapSet, ClientId, Groups, Ino, Mode, Part, print_caps, print_number, print_numbered, print_str};
 use capspec::{Grants, write_grants};
-use captext::{print_caps, print_number, print_numbered, print_str};
 use inotree::Setting;
+use lockmachine::{Bytes, Change};
 use std::alloc::{AllocError, Global};
+use step_model::{ChangeWord, Command, Event, OpenMode};
 
 /// The line of a script that says the event, without its line feed: grants in their written form or `none`, modes as four octal
 /// digits, numbers without leading zeros. Only memory can be missing.

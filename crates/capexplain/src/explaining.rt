@@ -1,10 +1,10 @@
 //! The line that answers a question.
 ghost use Rattle.std.specs.Prelude.{◌≡◌, ◌++◌, IfOk, OnOk, map};
-ghost use Rattle.capwords.specs.Paths.{slashed};
-ghost use Rattle.capexplain.specs.Explaining.{explain_text, outcome_text, path_text, reason_text, failure_text, failures_text};
+ghost use Rattle.capspec.specs.Paths.{slashed};
+ghost use Rattle.capexplain.specs.Explaining.{explain_text, failure_text, failures_text, outcome_text, path_text, reason_text};
 
+use capbits::{print, print_numbered, print_str};
 use capgrant::{Access, Rule, Verdict};
-use captext::{print, print_numbered, print_str};
 use std::alloc::{AllocError, Global};
 
 // How many bytes most lines have at the most. A list for one grows but once.

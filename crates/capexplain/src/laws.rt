@@ -4,7 +4,7 @@ ghost use Rattle.std.specs.Prelude.{◌≡◌, ◌≢◌, ◌++◌, ℕ, List, c
 ghost use Rattle.capspec.specs.declared.fault.SpecFault.{SpecFault};
 ghost use Rattle.capgrant.specs.declared.access.Access.{Access};
 ghost use Rattle.capgrant.specs.declared.answer.Verdict.{Verdict};
-ghost use Rattle.capwho.specs.declared.standing.Standing.{Standing};
+ghost use Rattle.policy_analysis.specs.declared.standing.Standing.{Standing};
 ghost use Rattle.capexplain.specs.Found.{OneFinding};
 ghost use Rattle.capexplain.specs.Lines.{HasGrant, HasNumber, OneComparison, OneStanding, OneUnread, answer_line};
 ghost use Rattle.capexplain.specs.Quoting.{quoted};

@@ -4,9 +4,8 @@ ghost use Rattle.std.specs.Prelude.{◌≡◌, ◌++◌, OnOk};
 ghost use Rattle.capexplain.specs.Linting.{finding_lines, said_if, stands_line};
 
 use crate::comparing::print_found;
-use capremarks::Finding;
-use captext::{print_numbered, print_str};
-use cephtexts::Unread;
+use capbits::{print_numbered, print_str};
+use policy_analysis::{Finding, Unread};
 use std::alloc::AllocError;
 
 const COVERED: &str = ": covered by the others\n";

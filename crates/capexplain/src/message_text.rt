@@ -6,10 +6,9 @@ ghost use Rattle.capexplain.specs.Replies.{message_line, message_text, outcome_t
 
 use crate::part_text::print_values;
 use crate::reply::print_denial;
-use capbits::{CapSet, Ino, Ticket};
-use capevents::{Message, Outcome};
-use captext::{print, print_caps, print_numbered, print_str};
+use capbits::{CapSet, Ino, Ticket, print, print_caps, print_numbered, print_str};
 use std::alloc::AllocError;
+use step_model::{Message, Outcome};
 
 // A line for each message.
 pub(crate) fn print_messages(text: &mut Vec<u8>, messages: &[Message]) -> Result<(), AllocError>

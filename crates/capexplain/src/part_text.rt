@@ -3,12 +3,11 @@ ghost use Rattle.std.specs.Prelude.{◌≡◌, ◌<◌, ◌++◌, false, OnOk};
 ghost use Rattle.std.specs.Fmt.{digit_glyph};
 ghost use Rattle.capexplain.specs.PartTexts.{attr_text, attribute_text, byte_text, hex_text, mode_text, values_text};
 
-use capbits::Mode;
-use capevents::PartValues;
+use capbits::{Mode, print, print_number, print_numbered, print_str};
 use capgrant::Attr;
-use captext::{print, print_number, print_numbered, print_str};
 use inotree::Attributes;
 use std::alloc::AllocError;
+use step_model::PartValues;
 
 // Appends what an inode keeps of a part.
 pub(crate) fn print_values(text: &mut Vec<u8>, values: &PartValues) -> Result<(), AllocError>

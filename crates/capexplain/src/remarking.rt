@@ -5,9 +5,9 @@ ghost use Rattle.capexplain.specs.Remarks.{difference_line, difference_text, ino
 use crate::explaining::{print_outcome, print_path, print_reason};
 use crate::part_text::print_mode;
 use crate::quoting::print_quoted;
+use capbits::print;
 use capgrant::{Attr, Question, Verdict};
-use capremarks::{Difference, Otherwise};
-use captext::print;
+use policy_analysis::{Difference, Otherwise};
 use std::alloc::{AllocError, Global};
 
 /// The line for the verdict on what is asked, as `explain_line` has it but with the path in double quotes where it has to be; behind

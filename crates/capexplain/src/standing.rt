@@ -5,11 +5,10 @@ ghost use Rattle.capexplain.specs.Standing.{fault_word, standing_line, standing_
 use crate::explaining::{print_failures, print_path};
 use crate::quoting::print_quoted;
 use crate::remarking::print_otherwise;
+use capbits::{print, print_numbered, print_str};
 use capgrant::Access;
-use capremarks::Otherwise;
 use capspec::{SpecFault, SpecFaultKind};
-use captext::{print, print_numbered, print_str};
-use capwho::Standing;
+use policy_analysis::{Otherwise, Standing};
 use std::alloc::AllocError;
 
 /// Appends the line for a client: whether somebody behind its key may make the access to the inode with these names from the root

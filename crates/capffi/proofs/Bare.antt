@@ -1,18 +1,19 @@
 -- Paths without a slash in front.
-use Rattle.std.proofs.Common.{◌≡◌, ℕ, ◌+◌, ◌-◌, ◌<◌, ◌≤◌, suc, Bool, true, false, cond, ◌&&◌, ◌≢◌, eqb, ltb, leb, not, List, [], ◌∷◌, ◌++◌, length, drop, get_or, refl, sym, ap, subst, ◌∙◌, inl, inr, arith}
+use Rattle.std.proofs.Common.{◌≡◌, ℕ, ◌+◌, ◌-◌, ◌<◌, ◌≤◌, suc, Bool, true, false, cond, ◌&&◌, ◌≢◌, eqb, ltb, leb, not, List, [], ◌∷◌, ◌++◌, length, drop}
+use Rattle.std.proofs.Common.{get_or, refl, sym, ap, subst, ◌∙◌, inl, inr, arith}
 use Rattle.std.specs.Prelude.{count_by, filter}
-use Rattle.std.specs.List.{list_all, slice_split, onto_first}
-use Rattle.std.proofs.lemmas.Bool.{and_parts, or_parts, or_from, not-true, ne_eqb, ltb-true, true≢false}
+use Rattle.std.specs.List.{list_all, onto_first, slice_split}
+use Rattle.std.proofs.lemmas.Bool.{and_parts, ltb-true, ne_eqb, not-true, or_from, or_parts, true≢false}
 use Rattle.std.proofs.lemmas.Bool.Decides.{nat_tests}
 use Rattle.std.proofs.lemmas.List.{drop_more}
-use Rattle.std.proofs.lemmas.List.Splits.{slice_split-cons_yes, slice_split-cons_no}
-use Rattle.std.proofs.lemmas.List.Sums.{length-filter, count_by-le-length}
-use Rattle.capwords.specs.Paths.{names_of, slashed, has_double_slash, are_few_and_short}
+use Rattle.std.proofs.lemmas.List.Splits.{slice_split-cons_no, slice_split-cons_yes}
+use Rattle.std.proofs.lemmas.List.Sums.{count_by-le-length, length-filter}
+use Rattle.capspec.specs.Paths.{are_few_and_short, has_double_slash, names_of, slashed}
 use Rattle.capspec.proofs.Fronts.{which}
-use Rattle.capspec.proofs.Measured.{few_behind_slashes, all_kept}
+use Rattle.capspec.proofs.Measured.{all_kept, few_behind_slashes}
 use Rattle.capspec.proofs.OneText.{is_as_it_stands}
-use Rattle.capspec.proofs.Paths.{is_slash, has_bytes, names_of-slashes}
-use Rattle.capspec.proofs.Slashed.{all_in, all_filter}
+use Rattle.capspec.proofs.Paths.{has_bytes, is_slash, names_of-slashes}
+use Rattle.capspec.proofs.Slashed.{all_filter, all_in}
 use Rattle.capffi.specs.Blocks.{bare_names, path_names}
 
 -- ---- a path's text has its names

@@ -1,25 +1,27 @@
 -- The grants of the entries of a block, one by one.
-use Rattle.std.proofs.Common.{◌≡◌, ℕ, ◌+◌, ◌<◌, ◌≤◌, suc, Bool, true, false, ltb, Option, Some, None, List, [], ◌∷◌, ◌++◌, length, take, drop, get_or, refl, sym, ap, ◌∙◌, arith}
-use Rattle.std.specs.Prelude.{position, find, set, is_none, nat_eq}
+use Rattle.std.proofs.Common.{◌≡◌, ℕ, ◌+◌, ◌<◌, ◌≤◌, suc, Bool, true, false, ltb, Option, Some, None, List, [], ◌∷◌, ◌++◌, length, take, drop, get_or, refl}
+use Rattle.std.proofs.Common.{sym, ap, ◌∙◌, arith}
+use Rattle.std.specs.Prelude.{find, is_none, nat_eq, position, set}
 use Rattle.std.specs.List.{list_any, position_or_len}
-use Rattle.std.proofs.lemmas.Bool.{or_parts, lt-ltb}
+use Rattle.std.proofs.lemmas.Bool.{lt-ltb, or_parts}
 use Rattle.std.proofs.lemmas.Bool.Decides.{nat_tests}
-use Rattle.std.proofs.lemmas.List.{take_more, drop_more, append-nil, length-append, length-take-le, take-append-drop, take_all}
+use Rattle.std.proofs.lemmas.List.{append-nil, drop_more, length-append, length-take-le, take-append-drop, take_all, take_more}
 use Rattle.std.proofs.lemmas.List.Elements.{filter_map-append}
 use Rattle.capspec.specs.declared.grant.Grant.{Grant}
 use Rattle.capgrant.specs.declared.rule.Rule.{Rule}
-use Rattle.capgrant.specs.declared.rule.Rule.TheVariants.{FsName, Uid, Gids, Path, NoWrite, RootSquash, NoP, NoS, NotOwner, NotOwnGroup, ModeBits}
-use Rattle.capgrant.specs.Failing.{first_failing, fails, fails_fsname, fails_uid, fails_gids, fails_path, fails_no_write, fails_root_squash, fails_no_p, fails_no_s, fails_not_owner, fails_not_own_group, fails_mode_bits}
+use Rattle.capgrant.specs.declared.rule.Rule.TheVariants.{FsName, Gids, ModeBits, NoP, NoS, NoWrite, NotOwnGroup, NotOwner, Path, RootSquash, Uid}
+use Rattle.capgrant.specs.Failing.{fails, fails_fsname, fails_gids, fails_mode_bits, fails_no_p, fails_no_s, fails_no_write, fails_not_own_group}
+use Rattle.capgrant.specs.Failing.{fails_not_owner, fails_path, fails_root_squash, fails_uid, first_failing}
 use Rattle.capgrant.specs.Question.{Question}
 use Rattle.capgrant.specs.Rule.{rule_number}
 use Rattle.capgrant.specs.declared.answer.Verdict.TheVariants.{Allowed}
-use Rattle.capgrant.proofs.Verdicts.{each_fails, allowed_at, allowed_nowhere}
+use Rattle.capgrant.proofs.Verdicts.{allowed_at, allowed_nowhere, each_fails}
 use Rattle.capgrant.specs.Verdict.{allows, first_failures, verdict_of}
 use Rattle.capffi.specs.declared.block.Entry.{Entry}
 use Rattle.capffi.specs.declared.passed.Answer.{Answer}
 use Rattle.capffi.specs.Answering.{answer_of, rule_numbers}
-use Rattle.capffi.specs.ByBlock.{alone, number_of, with_groups, open_rules}
-use Rattle.capffi.specs.Blocks.{grant_of, path_in, fs_in, behind, grants_in}
+use Rattle.capffi.specs.ByBlock.{alone, number_of, open_rules, with_groups}
+use Rattle.capffi.specs.Blocks.{behind, fs_in, grant_of, grants_in, path_in}
 
 -- what stands behind the texts of entries
 abbrev pub rest_of : List Entry → List ℕ → List ℕ

@@ -1,18 +1,19 @@
 -- What stands in a block that was filled.
-use Rattle.std.proofs.Common.{◌≡◌, ◌⊎◌, ℕ, ◌+◌, ◌<◌, ◌≤◌, suc, false, eqb, not, List, [], ◌∷◌, ◌++◌, length, take, drop, get_or, Option, Some, None, Result, Ok, Err, refl, sym, ap, subst, ◌∙◌, inl, inr, append_assoc, arith, All}
+use Rattle.std.proofs.Common.{◌≡◌, ◌⊎◌, ℕ, ◌+◌, ◌<◌, ◌≤◌, suc, false, eqb, not, List, [], ◌∷◌, ◌++◌, length, take, drop, get_or, Option, Some, None, Result}
+use Rattle.std.proofs.Common.{Ok, Err, refl, sym, ap, subst, ◌∙◌, inl, inr, append_assoc, arith, All}
 use Rattle.std.specs.Prelude.{filter_map, ◌==◌, IsTrue}
 use Rattle.std.specs.List.{AllByRecursion}
 use Rattle.std.proofs.lemmas.Bool.{ne_eqb}
-use Rattle.std.proofs.lemmas.List.{append-nil, take-append-drop, take_more, length-take}
+use Rattle.std.proofs.lemmas.List.{append-nil, length-take, take-append-drop, take_more}
 use Rattle.std.proofs.lemmas.List.Concat.{flat_map-append}
 use Rattle.std.proofs.lemmas.List.Elements.{All-cons, All-nil}
-use Rattle.std.proofs.Math.Seq.{take-append_seam, drop-append_seam}
+use Rattle.std.proofs.Math.Seq.{drop-append_seam, take-append_seam}
 use Rattle.capspec.specs.declared.grant.Grant.{Grant}
 use Rattle.capspec.specs.Bytes.{is_mark}
-use Rattle.capspec.specs.Grants.{fsname_in, path_in, gids_in, IsSaidOnce, AreWordsOf, IsGrant, Reads}
-use Rattle.capspec.specs.Items.{Item, IsItem}
-use Rattle.capspec.specs.Items.Item.{FsName, Path, Uid, Gids, RootSquash}
-use Rattle.capwords.specs.Paths.{names_of, slashed, are_few_and_short}
+use Rattle.capspec.specs.Grants.{AreWordsOf, IsGrant, IsSaidOnce, Reads, fsname_in, gids_in, path_in}
+use Rattle.capspec.specs.Items.{IsItem, Item}
+use Rattle.capspec.specs.Items.Item.{FsName, Gids, Path, RootSquash, Uid}
+use Rattle.capspec.specs.Paths.{are_few_and_short, names_of, slashed}
 use Rattle.capspec.specs.Separated.{AreSeparated}
 use Rattle.capspec.proofs.Written.{given}
 use Rattle.capgrant.specs.declared.answer.Verdict.{Verdict}
@@ -23,10 +24,10 @@ use Rattle.capffi.specs.declared.passed.Question.{Question}
 use Rattle.capffi.specs.declared.trouble.Trouble.{Trouble}
 use Rattle.capffi.specs.declared.trouble.Trouble.TheVariants as troubles
 use Rattle.capffi.proofs.Bare.{names_back}
-use Rattle.capffi.specs.Blocks.{bare_names, path_names, flags_of, unless_zero, grant_of, grants_in, IsBlock}
-use Rattle.capffi.specs.ByBlock.{IsSaid, IsSaidOn, IsSaidOf, IsNumberTrouble, IsBlockTrouble}
+use Rattle.capffi.specs.Blocks.{IsBlock, bare_names, flags_of, grant_of, grants_in, path_names, unless_zero}
+use Rattle.capffi.specs.ByBlock.{IsBlockTrouble, IsNumberTrouble, IsSaid, IsSaidOf, IsSaidOn}
 use Rattle.capffi.specs.Texts.{IsPut}
-use Rattle.capffi.specs.Filling.{fs_text, text_of, texts_of, block_text, IsNoneOrSome, CanBeSaid, IsEntryOf, AreEntriesOf, Says, IsPutInBlock}
+use Rattle.capffi.specs.Filling.{AreEntriesOf, CanBeSaid, IsEntryOf, IsNoneOrSome, IsPutInBlock, Says, block_text, fs_text, text_of, texts_of}
 
 -- ---- a block can say each grant of a text
 

@@ -1,13 +1,14 @@
 -- Paths as texts: where the names of one are the first of another's.
-use Rattle.std.proofs.Common.{◌≡◌, ℕ, ◌<◌, ◌≤◌, Bool, true, false, ◌&&◌, ◌≢◌, eqb, List, [], ◌∷◌, length, take, drop, get_or, ◌+◌, ◌-◌, true≢false, refl, sym, ap, ◌∙◌, inl, inr, arith}
+use Rattle.std.proofs.Common.{◌≡◌, ℕ, ◌<◌, ◌≤◌, Bool, true, false, ◌&&◌, ◌≢◌, eqb, List, [], ◌∷◌, length, take, drop, get_or, ◌+◌, ◌-◌, true≢false, refl, sym}
+use Rattle.std.proofs.Common.{ap, ◌∙◌, inl, inr, arith}
 use Rattle.std.specs.Prelude.{◌↔◌, IsTrue, bytes_eq}
-use Rattle.std.specs.List.{starts_with, slice_split, onto_first}
+use Rattle.std.specs.List.{onto_first, slice_split, starts_with}
 use Rattle.std.proofs.Math.Bool.{and-false, and-true, and_assoc}
 use Rattle.std.proofs.lemmas.Bool.{eqb-true, ne_eqb}
 use Rattle.std.proofs.lemmas.Bool.Decides.{same_from_decides}
 use Rattle.std.proofs.lemmas.Slice.Eq.{bytes_eq-Decides}
-use Rattle.std.proofs.lemmas.List.{drop_all, drop-drop}
-use Rattle.std.proofs.lemmas.List.Splits.{slice_split-cons_yes, slice_split-cons_no, length-slice_split}
+use Rattle.std.proofs.lemmas.List.{drop-drop, drop_all}
+use Rattle.std.proofs.lemmas.List.Splits.{length-slice_split, slice_split-cons_no, slice_split-cons_yes}
 use Rattle.std.proofs.lemmas.Cmp.{nat_eq_equiv}
 use Rattle.capspec.proofs.Fronts.{which}
 use Rattle.capspec.proofs.Paths.{is_slash}

@@ -1,14 +1,16 @@
 -- The slashes of many bytes at once, as the bits of a number.
-use Rattle.std.proofs.Common.{◌≡◌, ℕ, zero, suc, ◌+◌, ◌-◌, ◌*◌, ◌/◌, ◌%◌, ◌^◌, ◌<◌, ◌≤◌, min, Bool, true, false, cond, ◌&&◌, ◌||◌, not, eqb, if◌then◌else◌, List, [], ◌∷◌, length, map, take, drop, replicate, count_ones, true≢false, refl, sym, ap, ap₂, subst, ◌∙◌, inl, inr, arith, w8, eqb-true, eq-eqb, pow-suc, pow_pos}
+use Rattle.std.proofs.Common.{◌≡◌, ℕ, zero, suc, ◌+◌, ◌-◌, ◌*◌, ◌/◌, ◌%◌, ◌^◌, ◌<◌, ◌≤◌, min, Bool, true, false, cond, ◌&&◌, ◌||◌, not, eqb, if◌then◌else◌}
+use Rattle.std.proofs.Common.{List, [], ◌∷◌, length, map, take, drop, replicate, count_ones, true≢false, refl, sym, ap, ap₂, subst, ◌∙◌, inl, inr, arith, w8}
+use Rattle.std.proofs.Common.{eqb-true, eq-eqb, pow-suc, pow_pos}
 use Rattle.std.specs.Prelude.{count_by}
 use Rattle.std.specs.Int.{from_bool}
 use Rattle.std.proofs.lemmas.List.{drop-drop, length-drop}
-use Rattle.std.proofs.lemmas.List.Sums.{sum_by-take-drop, count_by-le-length}
-use Rattle.std.proofs.lemmas.Simd.{bitmask_splat, ones-mask_l, length-chunk}
+use Rattle.std.proofs.lemmas.List.Sums.{count_by-le-length, sum_by-take-drop}
+use Rattle.std.proofs.lemmas.Simd.{bitmask_splat, length-chunk, ones-mask_l}
 use lib.Arith.{mod-mul}
-use lib.Bits.{bit_and, and_step}
-use lib.Lanes.{zip2, mask_l, top, chunk}
-use Rattle.capwords.specs.Paths.{has_double_slash}
+use lib.Bits.{and_step, bit_and}
+use lib.Lanes.{chunk, mask_l, top, zip2}
+use Rattle.capspec.specs.Paths.{has_double_slash}
 use Rattle.capspec.proofs.Fronts.{which}
 use Rattle.capspec.proofs.Paths.{is_slash}
 use Rattle.capffi.proofs.Slashes.{count_further}

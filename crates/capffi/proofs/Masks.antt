@@ -1,9 +1,10 @@
 -- What is told of the accesses of a mask.
-use Rattle.std.proofs.Common.{◌≡◌, ◌≢◌, ℕ, ◌≤◌, arith, true, false, eqb, List, [], ◌∷◌, ◌++◌, Option, Some, None, Result, Ok, Err, refl, sym, ap, subst, ◌∙◌, inl, inr}
+use Rattle.std.proofs.Common.{◌≡◌, ◌≢◌, ℕ, ◌≤◌, arith, true, false, eqb, List, [], ◌∷◌, ◌++◌, Option, Some, None, Result, Ok, Err, refl, sym, ap, subst, ◌∙◌}
+use Rattle.std.proofs.Common.{inl, inr}
 use Rattle.std.specs.Prelude.{◌/◌, ◌%◌, IsTrue, fold}
 use Rattle.std.proofs.lemmas.Bool.{ne_eqb}
 use Rattle.std.proofs.lemmas.List.Sums.{fold-append}
-use Rattle.capwords.specs.Paths.{names_of, are_few_and_short}
+use Rattle.capspec.specs.Paths.{are_few_and_short, names_of}
 use Rattle.capspec.proofs.Fronts.{which}
 use Rattle.capgrant.specs.declared.access.Access.{Access}
 use Rattle.capgrant.specs.declared.access.Access.TheVariants.{Read, Write}
@@ -12,8 +13,8 @@ use Rattle.capffi.specs.declared.block.Block.{Block}
 use Rattle.capffi.specs.declared.by_mask.Told.{Told}
 use Rattle.capffi.specs.declared.passed.Check.{Check}
 use Rattle.capffi.specs.declared.trouble.Trouble.{Trouble}
-use Rattle.capffi.specs.Blocks.{bare_names, IsBlock}
-use Rattle.capffi.specs.ByMask.{is_known, asked_if, accesses_of, verdict_on, is_denied, told_next, told_of, IsSaidOfMask, IsMaskTrouble, IsSaidToMask}
+use Rattle.capffi.specs.Blocks.{IsBlock, bare_names}
+use Rattle.capffi.specs.ByMask.{IsMaskTrouble, IsSaidOfMask, IsSaidToMask, accesses_of, asked_if, is_denied, is_known, told_next, told_of, verdict_on}
 
 -- ---- one access more
 

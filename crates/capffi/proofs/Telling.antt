@@ -1,5 +1,5 @@
 -- What a number tells of an answer.
-use Rattle.std.proofs.Common.{ℕ, inl, inr}
+use Rattle.std.proofs.Common.{inl, inr, ℕ}
 use Rattle.capgrant.specs.declared.answer.Verdict.TheVariants.{Allowed}
 use Rattle.capffi.specs.declared.passed.Answer.{Answer}
 use Rattle.capffi.specs.Answering.{answer_of}

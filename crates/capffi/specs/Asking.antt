@@ -4,7 +4,7 @@ use Rattle.capbits.specs.Caps.{Caps}
 use Rattle.capspec.specs.Faults.{IsFault}
 use Rattle.capspec.specs.Grants.{Reads}
 use Rattle.capspec.specs.Names.{IsFsName}
-use Rattle.capwords.specs.Paths.{names_of, are_few_and_short}
+use Rattle.capspec.specs.Paths.{are_few_and_short, names_of}
 use Rattle.capspec.specs.declared.grant.Grant.{Grant}
 use Rattle.capgrant.specs.declared.access.Access.{Access}
 use Rattle.capgrant.specs.declared.access.Access.TheVariants as accesses

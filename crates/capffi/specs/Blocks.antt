@@ -1,8 +1,8 @@
 -- What a block says: the grants of a client on a file system, read once.
 use Rattle.std.specs.Prelude.{◌≡◌, ◌==◌, ◌≤◌, not, ℕ, List, [], ◌∷◌, length, take, drop, Option, Some, None, if◌then◌else◌}
 use Rattle.std.specs.List.{slice_split}
-use Rattle.capwords.specs.declared.flags.Flags4.{Flags4}
-use Rattle.capwords.specs.declared.flags.Flags4.TheVariants.{R, Rw, Rwp, Rws, Rwps}
+use Rattle.capspec.specs.declared.flags.Flags4.{Flags4}
+use Rattle.capspec.specs.declared.flags.Flags4.TheVariants.{R, Rw, Rwp, Rwps, Rws}
 use Rattle.capspec.specs.declared.grant.Grant.{Grant}
 use Rattle.capffi.specs.declared.block.Block.{Block}
 use Rattle.capffi.specs.declared.block.Entry.{Entry}

@@ -1,11 +1,11 @@
 -- What the grants of a block say to a question.
 use Rattle.std.specs.Prelude.{◌≡◌, ◌==◌, ◌<◌, ◌≤◌, ◌⊎◌, ℕ, List, [], ◌∷◌, length, IsTrue, IsFalse, Option, Some, None, Result, Ok, MatchResult, if◌then◌else◌}
-use Rattle.capwords.specs.Paths.{names_of, are_few_and_short}
+use Rattle.capspec.specs.Paths.{are_few_and_short, names_of}
 use Rattle.capgrant.specs.declared.access.Access.{Access}
 use Rattle.capgrant.specs.declared.answer.Verdict.{Verdict}
 use Rattle.capgrant.specs.declared.answer.Verdict.TheVariants.{Allowed}
 use Rattle.capgrant.specs.declared.rule.Rule.{Rule}
-use Rattle.capgrant.specs.declared.rule.Rule.TheVariants.{FsName, Path, NoWrite, RootSquash, NoP, NoS}
+use Rattle.capgrant.specs.declared.rule.Rule.TheVariants.{FsName, NoP, NoS, NoWrite, Path, RootSquash}
 use Rattle.capgrant.specs.Question.{question}
 use Rattle.capgrant.specs.Question.{Question as Asked}
 use Rattle.capgrant.specs.Rule.{rule_number}

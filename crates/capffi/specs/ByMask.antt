@@ -1,11 +1,12 @@
 -- What the grants of a block say to the mask of a server.
-use Rattle.std.specs.Prelude.{◌≡◌, ◌==◌, ◌/◌, ◌%◌, ◌&&◌, ◌⊎◌, nat_lt, not, false, ℕ, Bool, List, [], ◌∷◌, ◌++◌, IsTrue, IsFalse, Option, Some, None, Result, Ok, Err, MatchResult, fold, if◌then◌else◌}
-use Rattle.capwords.specs.Paths.{names_of, are_few_and_short}
+use Rattle.std.specs.Prelude.{◌≡◌, ◌==◌, ◌/◌, ◌%◌, ◌&&◌, ◌⊎◌, nat_lt, not, false, ℕ, Bool, List, [], ◌∷◌, ◌++◌, IsTrue, IsFalse, Option, Some, None, Result}
+use Rattle.std.specs.Prelude.{Ok, Err, MatchResult, fold, if◌then◌else◌}
+use Rattle.capspec.specs.Paths.{are_few_and_short, names_of}
 use Rattle.capgrant.specs.declared.access.Access.{Access}
-use Rattle.capgrant.specs.declared.access.Access.TheVariants.{Read, Write, SetVxattr, Snapshot, Chmod, Chown, Chgrp}
+use Rattle.capgrant.specs.declared.access.Access.TheVariants.{Chgrp, Chmod, Chown, Read, SetVxattr, Snapshot, Write}
 use Rattle.capgrant.specs.declared.answer.Verdict.{Verdict}
 use Rattle.capgrant.specs.Question.{question}
-use Rattle.capgrant.specs.Verdict.{verdict_of, is_allowed}
+use Rattle.capgrant.specs.Verdict.{is_allowed, verdict_of}
 use Rattle.capffi.specs.declared.block.Block.{Block}
 use Rattle.capffi.specs.declared.by_mask.Told.{Told}
 use Rattle.capffi.specs.declared.passed.Answer.{Answer}

@@ -13,12 +13,12 @@ use Rattle.capffi.specs.declared.passed.Wants.{Wants}
 use Rattle.capffi.specs.declared.trouble.Trouble.{Trouble}
 use Rattle.capffi.specs.declared.block.Block.{Block}
 use Rattle.capffi.specs.Answering.{answer_of, no_answer}
-use Rattle.capffi.specs.Asking.{IsTextTrouble, IsJudged, IsPermitted}
+use Rattle.capffi.specs.Asking.{IsJudged, IsPermitted, IsTextTrouble}
 use Rattle.capffi.specs.ByBlock.{IsSaid}
 use Rattle.capffi.specs.Filling.{IsFilled}
 use Rattle.capffi.specs.Locks.{IsTargetOf, numbers_of}
 use Rattle.capffi.specs.Texts.{IsFormOf, IsPut}
-use Rattle.capffi.specs.Trouble.{status_of, fault_of, no_fault}
+use Rattle.capffi.specs.Trouble.{fault_of, no_fault, status_of}
 
 -- the status of what is said
 abbrev pub status : {A : Type 0} → Result A Trouble → ℕ

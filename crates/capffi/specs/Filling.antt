@@ -3,14 +3,14 @@ use Rattle.std.specs.Prelude.{◌≡◌, ◌<◌, ◌≤◌, ◌⊎◌, ℕ, Opt
 use Rattle.capspec.specs.Faults.{IsFault}
 use Rattle.capspec.specs.Grants.{Reads}
 use Rattle.capspec.specs.Names.{IsFsName}
-use Rattle.capwords.specs.Paths.{slashed}
+use Rattle.capspec.specs.Paths.{slashed}
 use Rattle.capspec.specs.declared.grant.Grant.{Grant}
 use Rattle.capffi.specs.declared.block.Block.{Block}
 use Rattle.capffi.specs.declared.block.Entry.{Entry}
 use Rattle.capffi.specs.declared.filling.Ready.{Ready}
 use Rattle.capffi.specs.declared.trouble.Trouble.{Trouble}
 use Rattle.capffi.specs.declared.trouble.Trouble.TheVariants as troubles
-use Rattle.capffi.specs.Blocks.{path_names, grant_of, IsBlock, block_fs, block_grants}
+use Rattle.capffi.specs.Blocks.{IsBlock, block_fs, block_grants, grant_of, path_names}
 use Rattle.capffi.specs.Texts.{IsPut}
 use Rattle.capffi.specs.Trouble.{status_of}
 

@@ -1,7 +1,7 @@
 //! What the texts and numbers of a call mean.
 ghost use Rattle.std.specs.Prelude.{◌≡◌, ◌<◌, ◌≤◌, length, MatchOption, MatchResult};
 ghost use Rattle.capspec.specs.Grants.{Reads};
-ghost use Rattle.capffi.specs.Asking.{access_of, IsTextTrouble, Means, IsTrouble, IsJudged, IsPermitted};
+ghost use Rattle.capffi.specs.Asking.{IsJudged, IsPermitted, IsTextTrouble, IsTrouble, Means, access_of};
 
 use crate::passed::Question;
 use crate::trouble::Trouble;

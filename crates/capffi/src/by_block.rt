@@ -1,8 +1,8 @@
 //! The verdict of the grants of a block.
 ghost use Rattle.std.specs.Prelude.{◌≡◌, ◌≤◌, ◌↔◌, ℕ, List, length, IsTrue, IfSome};
-ghost use Rattle.capwords.specs.Paths.{names_of};
+ghost use Rattle.capspec.specs.Paths.{names_of};
 ghost use Rattle.capffi.specs.Blocks.{IsBlock, bare_names};
-ghost use Rattle.capffi.specs.ByBlock.{IsSaid, IsSaidOf, IsSoon, IsSoonOf, TellsSoon, Tells, alone};
+ghost use Rattle.capffi.specs.ByBlock.{IsSaid, IsSaidOf, IsSoon, IsSoonOf, Tells, TellsSoon, alone};
 ghost use Rattle.capgrant.specs.Question.{question as asked};
 
 use crate::answering::tell_alone;

@@ -3,7 +3,8 @@ ghost use Rattle.std.specs.Prelude.{◌≡◌, ◌<◌, ◌%◌, ℕ, List, [], 
 ghost use Rattle.capgrant.specs.Question.{question};
 ghost use Rattle.capffi.specs.Blocks.{IsBlock, bare_names};
 ghost use Rattle.capffi.specs.ByBlock.{Tells, alone};
-ghost use Rattle.capffi.specs.ByMask.{is_known, asked_if, accesses_of, verdict_on, is_denied, told_next, told_of, IsSaidOfMask, IsSaidToMask, IsSoonOn, IsSoonToMask, TellsSoonToMask, access_number};
+ghost use Rattle.capffi.specs.ByMask.{IsSaidOfMask, IsSaidToMask, IsSoonOn, IsSoonToMask, TellsSoonToMask, access_number, accesses_of, asked_if, is_denied};
+ghost use Rattle.capffi.specs.ByMask.{is_known, told_next, told_of, verdict_on};
 
 use crate::answering::tell_alone;
 use crate::block::Block;

@@ -2,7 +2,7 @@
 ghost use Rattle.std.specs.Prelude.{◌≡◌, ◌==◌, ◌≤◌, ◌++◌, not, length, take, All, MatchResult, IfOk};
 ghost use Rattle.capspec.specs.Grants.{Reads};
 ghost use Rattle.capffi.specs.Blocks.{flags_of, unless_zero};
-ghost use Rattle.capffi.specs.Filling.{CanBeSaid, IsEntryOf, AreEntriesOf, texts_of, IsReady, IsReadTrouble, IsPutInBlock, fs_text};
+ghost use Rattle.capffi.specs.Filling.{AreEntriesOf, CanBeSaid, IsEntryOf, IsPutInBlock, IsReadTrouble, IsReady, fs_text, texts_of};
 
 use crate::asking::read_text;
 use crate::block::{BLOCK_VERSION, Block, Entry};

@@ -2,7 +2,7 @@
 ghost use Rattle.std.specs.Prelude.{◌≡◌, ◌==◌, ◌↔◌, not, ◌&&◌, ◌+◌, ◌*◌, ◌<◌, ◌≤◌, IsTrue, length, slice_index, take, drop};
 ghost use Rattle.std.specs.List.{starts_with};
 ghost use Rattle.std.specs.Str.{bytes_eq};
-ghost use Rattle.capffi.specs.Blocks.{bare_names, path_names, grant_of, path_in, fs_in, behind};
+ghost use Rattle.capffi.specs.Blocks.{bare_names, behind, fs_in, grant_of, path_in, path_names};
 
 use crate::block::Entry;
 use std::marker::Model;
@@ -47,7 +47,7 @@ pub(crate) fn split_front(text: &[u8], len: usize) -> (&[u8], &[u8])
 impl Given<'_> {
     ghost use Rattle.std.specs.Prelude.{◌≡◌, ◌==◌, [], None, IsTrue, not, is_some, bytes_eq};
     ghost use Rattle.std.specs.List.{starts_with};
-    ghost use Rattle.capwords.specs.Flags.{has_w, has_p, has_s};
+    ghost use Rattle.capspec.specs.Flags.{has_p, has_s, has_w};
     ghost use Rattle.capgrant.specs.Failing.{is_some_and};
     ghost use Rattle.capffi.specs.Blocks.{bare_names};
 
@@ -288,7 +288,7 @@ fn is_same_by_pairs(one: &[u8], other: &[u8]) -> bool
 }
 
 #[inline(always)]
-#[tactic(auto, using(capwords::proofs::Pairs::same_by_pairs))]
+#[tactic(auto, using(capspec::proofs::Pairs::same_by_pairs))]
 fn are_same(one: &[u8], other: &[u8]) -> bool
     requires same { length one.now ≡ length other.now }
     requires more { 2 ≤ length other.now }

@@ -4,8 +4,9 @@ ghost use Rattle.std.specs.List.{list_any};
 ghost use Rattle.capbits.specs.Caller.{gids_of};
 ghost use Rattle.capgrant.specs.Access.{is_read};
 ghost use Rattle.capgrant.specs.Class.{needed_bit};
-ghost use Rattle.capgrant.specs.Failing.{fails_fsname, fails_uid, fails_gids, fails_path, fails_no_write, fails_root_squash, fails_no_p, fails_no_s, fails_not_owner, fails_not_own_group, fails_mode_bits, fails, first_failing};
-ghost use Rattle.capgrant.specs.Question.{contains, listed_gids, is_owner, class_of};
+ghost use Rattle.capgrant.specs.Failing.{fails, fails_fsname, fails_gids, fails_mode_bits, fails_no_p, fails_no_s, fails_no_write, fails_not_own_group};
+ghost use Rattle.capgrant.specs.Failing.{fails_not_owner, fails_path, fails_root_squash, fails_uid, first_failing};
+ghost use Rattle.capgrant.specs.Question.{class_of, contains, is_owner, listed_gids};
 ghost use Rattle.capgrant.specs.Rule.{attr_rules};
 ghost use Rattle.capgrant.specs.Verdict.{allows, first_failures, verdict_of};
 ghost use Rattle.capffi.specs.Blocks.{grants_in};
@@ -37,7 +38,8 @@ pub(crate) struct Case<'a> {
 }
 
 impl<'a> Model for Case<'a> {
-    ghost use Rattle.capgrant.specs.Question.{Question as Asked, question};
+    ghost use Rattle.capgrant.specs.Question.{Question as Asked};
+    ghost use Rattle.capgrant.specs.Question.{question};
     ghost use Rattle.capffi.specs.Blocks.{bare_names};
 
     ghost Value = { Asked };

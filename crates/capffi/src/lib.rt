@@ -1,5 +1,5 @@
 //! What a metadata server in C, C++ or Rust calls of this one: the verdict on grants, the reading and the writing of their
-//! text, the caps that they permit, and the table of the locks. `include/baybowl.h` declares it, and `docs/EMBED.md` is its page.
+//! text, the caps that they permit, and the table of the locks. `c/include/baybowl.h` declares it, and `docs/EMBED.md` is its page.
 //!
 //! Numbers and texts come in and go out; nothing is kept between calls. Each call answers a status, `OK` or why there is no
 //! answer. What it writes where there is no answer is zeros.
@@ -20,8 +20,8 @@ mod texts;
 mod trouble;
 
 ghost use Rattle.std.specs.Prelude.{◌≡◌, ℕ, List};
-ghost use Rattle.capwords.specs.Paths.{names_of};
-ghost use Rattle.capffi.specs.Calls.{TellsVerdict, TellsPermitted, TellsCheck, TellsForm, TellsTarget, TellsVerdictBy, TellsRead, status, caps_bits};
+ghost use Rattle.capspec.specs.Paths.{names_of};
+ghost use Rattle.capffi.specs.Calls.{TellsCheck, TellsForm, TellsPermitted, TellsRead, TellsTarget, TellsVerdict, TellsVerdictBy, caps_bits, status};
 ghost use Rattle.capffi.specs.ByBlock.{TellsSoon};
 ghost use Rattle.capffi.specs.ByMask.{TellsMask, TellsSoonToMask};
 ghost use Rattle.capffi.specs.Locks.{allowed_by};
@@ -34,12 +34,11 @@ use crate::filling::{prepare, put_block};
 use crate::locks::{allowed_by, numbers_of, target_of};
 use crate::texts::{form, put};
 use crate::trouble::no_fault;
+use std::alloc::Global;
+
 pub use block::{BLOCK_VERSION, Block, Entry};
 pub use passed::{Answer, Check, Fault, Lock, Question, StableState, Wants};
-use std::alloc::Global;
-pub use trouble::{
-    ACCESS, BLOCK, CAPS, FS, GRANTS, GROUPS, HEAD, MEMORY, MODE, OK, PART, PATH, ROOM, STATE,
-};
+pub use trouble::{ACCESS, BLOCK, CAPS, FS, GRANTS, GROUPS, HEAD, MEMORY, MODE, OK, PART, PATH, ROOM, STATE};
 
 /// The version of these calls: each that changes what a call takes or answers has a greater one.
 pub const VERSION: u32 = 3;

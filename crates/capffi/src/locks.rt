@@ -1,7 +1,7 @@
 //! The table of the locks, by numbers.
 ghost use Rattle.std.specs.Prelude.{◌≡◌, ◌≢◌, MatchResult};
 ghost use Rattle.capffi.specs.declared.trouble.Trouble.TheVariants as troubles;
-ghost use Rattle.capffi.specs.Locks.{part_of, state_of, lock_of, head_of, numbers_of, allowed_by, IsCapSet, NoCapSet, IsLoner, IsTargetOf};
+ghost use Rattle.capffi.specs.Locks.{IsCapSet, IsLoner, IsTargetOf, NoCapSet, allowed_by, head_of, lock_of, numbers_of, part_of, state_of};
 
 use crate::passed::{Lock, StableState, Wants};
 use crate::trouble::Trouble;

@@ -1,4 +1,4 @@
-//! What is passed to and from C: structs of numbers, as `include/baybowl.h` has them.
+//! What is passed to and from C: structs of numbers, as `c/include/baybowl.h` has them.
 
 /// Who asks for what, and whose the inode is. The texts and the groups are passed beside it.
 #[derive(Drop)]

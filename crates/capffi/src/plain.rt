@@ -1,6 +1,7 @@
 //! Paths whose text needs no other form.
-ghost use Rattle.std.specs.Prelude.{◌≡◌, ◌≢◌, ◌==◌, ◌<◌, ◌≤◌, ◌+◌, ◌-◌, ◌*◌, ◌||◌, if◌then◌else◌, ◌∷◌, false, count_by, IfSome, IsTrue, IsFalse, length, slice_index, drop};
-ghost use Rattle.capwords.specs.Paths.{names_of, has_double_slash, are_few_and_short};
+ghost use Rattle.std.specs.Prelude.{◌≡◌, ◌≢◌, ◌==◌, ◌<◌, ◌≤◌, ◌+◌, ◌-◌, ◌*◌, ◌||◌, if◌then◌else◌, ◌∷◌, false, count_by, IfSome, IsTrue, IsFalse, length};
+ghost use Rattle.std.specs.Prelude.{slice_index, drop};
+ghost use Rattle.capspec.specs.Paths.{are_few_and_short, has_double_slash, names_of};
 ghost use Rattle.capffi.specs.Blocks.{bare_names};
 
 use std::simd::prelude::*;

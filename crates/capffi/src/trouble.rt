@@ -1,6 +1,6 @@
 //! Why a call has no answer, and the numbers by which C is told.
 ghost use Rattle.std.specs.Prelude.{◌≡◌};
-ghost use Rattle.capffi.specs.Trouble.{status_of, fault_of, kind_number, no_fault};
+ghost use Rattle.capffi.specs.Trouble.{fault_of, kind_number, no_fault, status_of};
 
 use crate::passed::Fault;
 use capspec::{SpecFault, SpecFaultKind};
@@ -31,7 +31,7 @@ pub const CAPS: u32 = 10;
 pub const ROOM: u32 = 11;
 /// No memory was left.
 pub const MEMORY: u32 = 12;
-// 13 and 14 are what `embed/baybowl.c` says of pointers and lengths.
+// 13 and 14 are what `c/src/baybowl.c` says of pointers and lengths.
 /// A block is none of this version, or is cut off.
 pub const BLOCK: u32 = 15;
 

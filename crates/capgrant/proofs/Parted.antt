@@ -5,7 +5,7 @@ use Rattle.capgrant.specs.declared.rule.Rule.{Rule}
 use Rattle.capgrant.specs.declared.rule.Rule.TheVariants as rule
 use Rattle.capgrant.specs.Question.{Question}
 use Rattle.capgrant.specs.Rule.{access_rules}
-use Rattle.capgrant.specs.Failing.{fails, fails_fsname, fails_uid, fails_gids, fails_path, first_failing}
+use Rattle.capgrant.specs.Failing.{fails, fails_fsname, fails_gids, fails_path, fails_uid, first_failing}
 use Rattle.capgrant.specs.Verdict.{allows, may_allow}
 
 parted : (fs uid gids path : Bool) (rest : Option Rule) → is_none (cond fs (Some rule.FsName) (cond uid (Some rule.Uid) (cond gids (Some rule.Gids) (cond path (Some rule.Path) rest)))) ≡ ((not path && (not fs && (not uid && not gids))) && is_none rest)

@@ -4,13 +4,13 @@ use Rattle.std.proofs.lemmas.Bool.{or_right}
 use Rattle.capbits.specs.declared.cap.Cap.{Cap}
 use Rattle.capbits.specs.declared.cap.Cap.TheVariants.{P}
 use Rattle.capbits.specs.Caps.{has}
-use Rattle.capbits.specs.Sets.{no_caps, caps_in, union, has-none, has-caps_in, has-union}
+use Rattle.capbits.specs.Sets.{caps_in, has-caps_in, has-none, has-union, no_caps, union}
 use Rattle.capspec.specs.declared.grant.Grant.{Grant}
 use Rattle.capgrant.specs.declared.access.Access.{Access}
 use Rattle.capgrant.specs.declared.access.Access.TheVariants.{Read, Write}
 use Rattle.capgrant.specs.Question.{Question}
 use Rattle.capgrant.specs.Verdict.{granted}
-use Rattle.capgrant.specs.Permitted.{for_either, for_readers, for_writers, caps_if, caps_for, permitted_of}
+use Rattle.capgrant.specs.Permitted.{caps_for, caps_if, for_either, for_readers, for_writers, permitted_of}
 
 -- without the pin nothing is permitted
 none_without_pin : (reads writes : Bool) → has (caps_for reads writes) P ≡ false → (c : Cap) → has (caps_for reads writes) c ≡ false

@@ -1,11 +1,12 @@
 -- Gids that are compared many at once.
-use Rattle.std.proofs.Common.{◌≡◌, ℕ, zero, suc, ◌+◌, ◌-◌, ◌*◌, ◌%◌, ◌^◌, ◌<◌, Bool, true, false, ◌||◌, not, cond, eqb, List, [], ◌∷◌, ◌++◌, map, drop, length, replicate, refl, sym, ap, ◌∙◌, arith, w32, eqb-true, eq-eqb, inl, inr}
+use Rattle.std.proofs.Common.{◌≡◌, ℕ, zero, suc, ◌+◌, ◌-◌, ◌*◌, ◌%◌, ◌^◌, ◌<◌, Bool, true, false, ◌||◌, not, cond, eqb, List, [], ◌∷◌, ◌++◌, map, drop, length}
+use Rattle.std.proofs.Common.{replicate, refl, sym, ap, ◌∙◌, arith, w32, eqb-true, eq-eqb, inl, inr}
 use Rattle.std.specs.List.{list_any}
 use Rattle.std.proofs.Math.Bool.{or-false}
 use Rattle.std.proofs.lemmas.Simd.{bitmask_splat}
 use Rattle.std.proofs.lemmas.Cmp.{nat_eq_equiv}
 use Rattle.capspec.proofs.Fronts.{which}
-use lib.Lanes.{zip2, mask_l, top}
+use lib.Lanes.{mask_l, top, zip2}
 use Rattle.capgrant.specs.Question.{contains}
 
 -- ---- the mask of a comparison

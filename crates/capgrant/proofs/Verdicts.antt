@@ -1,10 +1,11 @@
 -- Where the first grant that allows stands, and how the rules of those that do not are gathered.
-use Rattle.std.proofs.Common.{◌≡◌, ℕ, ◌+◌, ◌<◌, zero, suc, Bool, true, false, ltb, Option, Some, None, is_none, List, [], ◌∷◌, ◌++◌, ◌||◌, length, take, get_or, refl, sym, ap, ◌∙◌, arith, inl, inr}
+use Rattle.std.proofs.Common.{◌≡◌, ℕ, ◌+◌, ◌<◌, zero, suc, Bool, true, false, ltb, Option, Some, None, is_none, List, [], ◌∷◌, ◌++◌, ◌||◌, length, take}
+use Rattle.std.proofs.Common.{get_or, refl, sym, ap, ◌∙◌, arith, inl, inr}
 use Rattle.std.specs.Prelude.{position}
-use Rattle.std.specs.List.{list_any, position_or_len, cons_option}
-use Rattle.std.proofs.lemmas.Bool.{or_parts, lt-ltb}
+use Rattle.std.specs.List.{cons_option, list_any, position_or_len}
+use Rattle.std.proofs.lemmas.Bool.{lt-ltb, or_parts}
 use Rattle.std.proofs.lemmas.Bool.Decides.{nat_tests}
-use Rattle.std.proofs.lemmas.List.{take_more, append-nil}
+use Rattle.std.proofs.lemmas.List.{append-nil, take_more}
 use Rattle.std.proofs.lemmas.List.Elements.{filter_map-append}
 use Rattle.capspec.specs.declared.grant.Grant.{Grant}
 use Rattle.capspec.proofs.Fronts.{which}
@@ -12,7 +13,7 @@ use Rattle.capgrant.specs.declared.rule.Rule.{Rule}
 use Rattle.capgrant.specs.declared.answer.Verdict.TheVariants.{Allowed, Denied}
 use Rattle.capgrant.specs.Question.{Question}
 use Rattle.capgrant.specs.Failing.{first_failing}
-use Rattle.capgrant.specs.Verdict.{allows, granted, first_failures, verdict_of, verdict_at}
+use Rattle.capgrant.specs.Verdict.{allows, first_failures, granted, verdict_at, verdict_of}
 
 -- one grant more
 one_more : (q : Question) (grants : List Grant) (i : ℕ) (g : Grant) → i < length grants → g ≡ get_or grants i g → first_failures q (take (i + 1) grants) ≡ first_failures q (take i grants) ++ first_failures q (g ∷ [])

@@ -1,9 +1,9 @@
 -- The permission bits of a mode, for each class of callers.
 use Rattle.std.specs.Prelude.{ℕ, Bool, not, ◌==◌, Option, Some, None, bit_and}
 use Rattle.capgrant.specs.declared.access.Access.{Access}
-use Rattle.capgrant.specs.declared.access.Access.TheVariants.{Read, Write, SetVxattr, Snapshot}
+use Rattle.capgrant.specs.declared.access.Access.TheVariants.{Read, SetVxattr, Snapshot, Write}
 use Rattle.capgrant.specs.declared.class.Class.{Class}
-use Rattle.capgrant.specs.declared.class.Class.TheVariants.{Owner, Group, Other}
+use Rattle.capgrant.specs.declared.class.Class.TheVariants.{Group, Other, Owner}
 
 -- the bit that lets the class read
 abbrev pub read_bit : Class → ℕ

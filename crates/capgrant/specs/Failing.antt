@@ -2,12 +2,12 @@
 use Rattle.std.specs.Prelude.{Bool, false, not, ◌&&◌, ◌||◌, ◌==◌, Option, Some, None, is_some, length, find, bytes_eq}
 use Rattle.std.specs.List.{starts_with}
 use Rattle.capspec.specs.declared.grant.Grant.{Grant}
-use Rattle.capwords.specs.Flags.{has_w, has_p, has_s}
+use Rattle.capspec.specs.Flags.{has_p, has_s, has_w}
 use Rattle.capgrant.specs.declared.rule.Rule.{Rule}
 use Rattle.capgrant.specs.declared.rule.Rule.TheVariants as rule
-use Rattle.capgrant.specs.Access.{is_read, is_set_vxattr, is_snapshot, changes_attr, new_owner, new_group}
-use Rattle.capgrant.specs.Class.{needed_bit, has_bit}
-use Rattle.capgrant.specs.Question.{Question, contains, listed_gids, is_owner, class_of}
+use Rattle.capgrant.specs.Access.{changes_attr, is_read, is_set_vxattr, is_snapshot, new_group, new_owner}
+use Rattle.capgrant.specs.Class.{has_bit, needed_bit}
+use Rattle.capgrant.specs.Question.{Question, class_of, contains, is_owner, listed_gids}
 use Rattle.capgrant.specs.Rule.{all_rules}
 
 -- a value is there, and passes

@@ -1,9 +1,9 @@
 -- What a list of grants permits a client to hold of an inode.
 use Rattle.std.specs.Prelude.{Bool, ◌||◌, if◌then◌else◌, List, [], ◌∷◌}
 use Rattle.capbits.specs.declared.cap.Cap.{Cap}
-use Rattle.capbits.specs.declared.cap.Cap.TheVariants.{P, As, Ax, Ls, Lx, Xs, Xx, Fs, Fx, Fc, Fr, Fw, Fb, Fl}
+use Rattle.capbits.specs.declared.cap.Cap.TheVariants.{As, Ax, Fb, Fc, Fl, Fr, Fs, Fw, Fx, Ls, Lx, P, Xs, Xx}
 use Rattle.capbits.specs.Caps.{Caps}
-use Rattle.capbits.specs.Sets.{no_caps, caps_in, union}
+use Rattle.capbits.specs.Sets.{caps_in, no_caps, union}
 use Rattle.capspec.specs.declared.grant.Grant.{Grant}
 use Rattle.capgrant.specs.declared.access.Access.{Access}
 use Rattle.capgrant.specs.declared.access.Access.TheVariants.{Read, Write}

@@ -7,7 +7,7 @@ use Rattle.capspec.specs.declared.grant.Grant.{Grant}
 use Rattle.capgrant.specs.declared.access.Access.{Access}
 use Rattle.capgrant.specs.declared.access.Attr.{Attr}
 use Rattle.capgrant.specs.declared.class.Class.{Class}
-use Rattle.capgrant.specs.declared.class.Class.TheVariants.{Owner, Group, Other}
+use Rattle.capgrant.specs.declared.class.Class.TheVariants.{Group, Other, Owner}
 
 -- what is asked: on this file system, may this caller make this access to the inode with this path, owner, group and mode?
 pub record Question : Type 0 where

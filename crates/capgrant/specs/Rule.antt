@@ -1,7 +1,7 @@
 -- The rules of a grant: their order, and how they are named in a text.
 use Rattle.std.specs.Prelude.{ℕ, List, [], ◌∷◌, codes}
 use Rattle.capgrant.specs.declared.rule.Rule.{Rule}
-use Rattle.capgrant.specs.declared.rule.Rule.TheVariants.{FsName, Uid, Gids, Path, NoWrite, RootSquash, NoP, NoS, NotOwner, NotOwnGroup, ModeBits}
+use Rattle.capgrant.specs.declared.rule.Rule.TheVariants.{FsName, Gids, ModeBits, NoP, NoS, NoWrite, NotOwnGroup, NotOwner, Path, RootSquash, Uid}
 
 -- every rule, in the order in which they are tested
 abbrev pub all_rules : List Rule

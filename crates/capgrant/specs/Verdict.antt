@@ -6,7 +6,7 @@ use Rattle.capgrant.specs.declared.rule.Rule.{Rule}
 use Rattle.capgrant.specs.declared.answer.Verdict.{Verdict}
 use Rattle.capgrant.specs.declared.answer.Verdict.TheVariants.{Allowed, Denied}
 use Rattle.capgrant.specs.Question.{Question}
-use Rattle.capgrant.specs.Failing.{fails_fsname, fails_uid, fails_gids, fails_path, first_failing}
+use Rattle.capgrant.specs.Failing.{fails_fsname, fails_gids, fails_path, fails_uid, first_failing}
 
 -- no rule fails
 abbrev pub allows : Question → Grant → Bool

@@ -1,6 +1,6 @@
 //! The rules of a grant, tested on one question.
 ghost use Rattle.std.specs.Prelude.{◌≡◌};
-ghost use Rattle.capgrant.specs.Question.{listed_gids, contains};
+ghost use Rattle.capgrant.specs.Question.{contains, listed_gids};
 
 use crate::access::{Access, Attr};
 use crate::class::Class;
@@ -29,7 +29,8 @@ pub struct Question<'a> {
 
 impl<'a> Model for Question<'a> {
     ghost use Rattle.std.specs.Prelude.{map};
-    ghost use Rattle.capgrant.specs.Question.{Question as Asked, question};
+    ghost use Rattle.capgrant.specs.Question.{Question as Asked};
+    ghost use Rattle.capgrant.specs.Question.{question};
 
     ghost Value = { Asked };
 
@@ -38,13 +39,14 @@ impl<'a> Model for Question<'a> {
 
 impl Question<'_> {
     ghost use Rattle.std.specs.Prelude.{◌≡◌, ◌≤◌, find, length, not, position, IfSome};
-    ghost use Rattle.capwords.specs.Paths.{slashed};
-    ghost use Rattle.capspec.specs.Begun.{IsBegun, AreBegun};
+    ghost use Rattle.capspec.specs.Paths.{slashed};
+    ghost use Rattle.capspec.specs.Begun.{AreBegun, IsBegun};
     ghost use Rattle.capgrant.specs.Access.{is_read};
     ghost use Rattle.capgrant.specs.Question.{class_of};
-    ghost use Rattle.capgrant.specs.Failing.{fails_fsname, fails_uid, fails_gids, fails_path, fails_no_write, fails_root_squash, fails_no_p, fails_no_s, fails_not_owner, fails_not_own_group, fails_mode_bits, fails, first_failing};
+    ghost use Rattle.capgrant.specs.Failing.{fails, fails_fsname, fails_gids, fails_mode_bits, fails_no_p, fails_no_s, fails_no_write, fails_not_own_group};
+    ghost use Rattle.capgrant.specs.Failing.{fails_not_owner, fails_path, fails_root_squash, fails_uid, first_failing};
     ghost use Rattle.capgrant.specs.Rule.{access_rules, attr_rules};
-    ghost use Rattle.capgrant.specs.Verdict.{allows, may_allow, granted, first_failures};
+    ghost use Rattle.capgrant.specs.Verdict.{allows, first_failures, granted, may_allow};
 
     /// The place of the first grant that allows the access, the first at 0. Needs no memory.
     pub fn first_allowing(&self, grants: &[Grant]) -> Option<usize>

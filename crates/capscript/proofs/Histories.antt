@@ -1,27 +1,28 @@
 -- Histories that grow by one row, for scripts that grow by one line.
-use Rattle.std.proofs.Common.{◌≡◌, ℕ, ◌+◌, ◌<◌, ◌≤◌, Bool, true, false, cond, not, List, [], ◌∷◌, ◌++◌, length, map, refl, sym, ap, ◌∙◌, subst, arith, inl, inr, append_assoc, length-append}
+use Rattle.std.proofs.Common.{◌≡◌, ℕ, ◌+◌, ◌<◌, ◌≤◌, Bool, true, false, cond, not, List, [], ◌∷◌, ◌++◌, length, map, refl, sym, ap, ◌∙◌, subst, arith, inl}
+use Rattle.std.proofs.Common.{inr, append_assoc, length-append}
 use Rattle.std.specs.Prelude.{◌⊎◌, ◌≢◌, IsTrue, IsFalse, filter, Option, Some, None, IfSome, Result, Ok, Err, OnOk, OnErr, IfErr, IsErrAnd}
 use Rattle.std.specs.Io.KnownBytes.{Appends, Consumes, IsAtEnd}
 use Rattle.std.specs.List.{AllByRecursion}
-use Rattle.std.proofs.lemmas.List.{map-append, append-nil}
+use Rattle.std.proofs.lemmas.List.{append-nil, map-append}
 use Rattle.std.proofs.lemmas.List.Concat.{flat_map-append}
 use Rattle.inotree.specs.Calls.{first_tree}
-use Rattle.capcore.specs.Capevents.declared.event.Event.{Event}
-use Rattle.capcore.specs.Capevents.declared.row.Row.{Row}
-use Rattle.capcore.specs.Caprules.Numbers.{AreNumbered, rows_of}
-use Rattle.capcore.specs.Caprules.History.{Recorded, IsOpening, Replays}
+use Rattle.step_model.specs.declared.event.Event.{Event}
+use Rattle.step_model.specs.declared.row.Row.{Row}
+use Rattle.step_model.specs.Numbers.{AreNumbered, rows_of}
+use Rattle.step_model.specs.History.{IsOpening, Recorded, Replays}
 use Rattle.capbits.specs.declared.ids.ClientId.{ClientId}
-use Rattle.capstreams.specs.Caplines.Events.{Reads}
-use Rattle.capstreams.specs.Caplines.Faults.{IsStop}
-use Rattle.capstreams.specs.Caplines.declared.fault.ScriptFault.{ScriptFault}
-use Rattle.capstreams.specs.Caplines.declared.fault.ScriptFault.TheVariants as stops
-use Rattle.capstreams.specs.Caplines.Lines.{lines, is_skipped}
-use Rattle.capstreams.specs.Capexplain.Replies.{reply_text}
-use Rattle.capscript.specs.Transcript.{LinesSay, replies_text, IsTranscript, Answered, Ran, Answers, AnswersLine, StopsIn, fs_name, root_attr}
+use Rattle.script_syntax.specs.Events.{Reads}
+use Rattle.script_syntax.specs.Faults.{IsStop}
+use Rattle.script_syntax.specs.declared.fault.ScriptFault.{ScriptFault}
+use Rattle.script_syntax.specs.declared.fault.ScriptFault.TheVariants as stops
+use Rattle.script_syntax.specs.Lines.{is_skipped, lines}
+use Rattle.capexplain.specs.Replies.{reply_text}
+use Rattle.capscript.specs.Transcript.{Answered, Answers, AnswersLine, IsTranscript, LinesSay, Ran, StopsIn, fs_name, replies_text, root_attr}
 use Rattle.capcore.proofs.Growing.{replays-more}
-use Rattle.capcore.proofs.Capacts.Numbered.{numbered-nil, numbered-snoc}
-use Rattle.capstreams.proofs.Caplines.SaidLines.{not_skipped}
-use Rattle.capstreams.proofs.KnownBytes.{none_appended, appends_more, appends_same}
+use Rattle.capstep.proofs.Numbered.{numbered-nil, numbered-snoc}
+use Rattle.script_syntax.proofs.SaidLines.{not_skipped}
+use Rattle.script_syntax.proofs.KnownBytes.{appends_more, appends_same, none_appended}
 
 -- ---- lines
 

@@ -1,11 +1,12 @@
 -- Lists of jobs, of which one gets an event more, and how many events they have.
-use Rattle.std.proofs.Common.{◌≡◌, ◌==◌, ℕ, suc, ◌+◌, ◌<◌, ◌≤◌, Bool, true, false, not, cond, Some, None, List, [], ◌∷◌, ◌++◌, length, get_or, set, refl, sym, ap, subst, ◌∙◌, nat_lt, ◌||◌, arith}
-use Rattle.std.specs.Prelude.{map, if◌then◌else◌}
+use Rattle.std.proofs.Common.{◌≡◌, ◌==◌, ℕ, suc, ◌+◌, ◌<◌, ◌≤◌, Bool, true, false, not, cond, Some, None, List, [], ◌∷◌, ◌++◌, length, get_or, set, refl, sym}
+use Rattle.std.proofs.Common.{ap, subst, ◌∙◌, nat_lt, ◌||◌, arith}
+use Rattle.std.specs.Prelude.{if◌then◌else◌, map}
 use Rattle.std.specs.List.{position, position_or_len}
 use Rattle.std.proofs.lemmas.Bool.{ltb-false}
-use Rattle.capcore.proofs.Lockmachine.Positions.{at_position}
+use Rattle.lockmachine.proofs.Positions.{at_position}
 use Rattle.capbits.specs.declared.ids.ClientId.{ClientId}
-use Rattle.capcore.specs.Capevents.declared.event.Event.{Event}
+use Rattle.step_model.specs.declared.event.Event.{Event}
 use Rattle.capscript.specs.declared.plan.Job.{Job}
 use Rattle.capscript.specs.Jobs.{Calls, calls_by, calls_of, is_known, with_event}
 

@@ -1,31 +1,35 @@
 -- What a line says is about a client, unless the line begins with `recall`.
-use Rattle.std.proofs.Common.{◌≡◌, ◌≢◌, ◌^◌, ℕ, Bool, true, false, cond, Option, Some, None, IsSome, List, [], ◌∷◌, length, refl, sym, ap, subst, ◌∙◌, true≢false}
-use Rattle.std.specs.Prelude.{Result, Ok, Err, codes, bytes_eq, nat_le, if◌then◌else◌}
+use Rattle.std.proofs.Common.{◌≡◌, ◌≢◌, ◌^◌, ℕ, Bool, true, false, cond, Option, Some, None, IsSome, List, [], ◌∷◌, length, refl, sym, ap, subst, ◌∙◌}
+use Rattle.std.proofs.Common.{true≢false}
+use Rattle.std.specs.Prelude.{Err, Ok, Result, bytes_eq, codes, if◌then◌else◌, nat_le}
 use Rattle.std.specs.List.{find}
 use Rattle.std.specs.Option.{ok_or}
 use Rattle.capbits.specs.Caps.{Caps}
 use Rattle.capbits.specs.declared.ids.ClientId.{ClientId}
 use Rattle.capbits.specs.declared.ids.Ino.{Ino}
 use Rattle.capspec.specs.declared.grant.Grant.{Grant}
-use Rattle.inotree.specs.declared.node.Setting.TheVariants.{Mode, Uid, Gid, Size, Time}
-use Rattle.capcore.specs.Capevents.declared.event.Event.{Event}
-use Rattle.capcore.specs.Capevents.declared.event.Event.TheVariants as events
-use Rattle.capcore.specs.Lockmachine.declared.request.Change.{Change}
-use Rattle.capcore.specs.Lockmachine.declared.request.Change.TheVariants.{Set, SetXattr, RemoveXattr}
-use Rattle.capstreams.specs.Capexplain.declared.change_word.ChangeWord.{ChangeWord}
-use Rattle.capstreams.specs.Capexplain.declared.change_word.ChangeWord.TheVariants as kinds
-use Rattle.capstreams.specs.Capexplain.Words.{command_by, command_word, commands as all_commands}
-use Rattle.capstreams.specs.Capexplain.declared.command.Command.{Command}
-use Rattle.capstreams.specs.Capexplain.declared.command.Command.TheVariants as commands
-use Rattle.capstreams.specs.Caplines.declared.fault.LineFault.{LineFault}
-use Rattle.capstreams.specs.Caplines.declared.fault.LineFault.TheVariants as faults
-use Rattle.capstreams.specs.Caplines.Changes.{change_kind, is_counted}
-use Rattle.capstreams.specs.Caplines.Events.{Line, ◌>>=◌, client_of, named_by, new_inode_by, granting, session_by, regrant_by, client_by, open_by, caps_by, ack_by, get_by, inode_by, rename_by, says_kind, says_change, says_inode_change, change_by, poll_by, said_with, said_by, said_in, line_says, Tells, Reads}
-use Rattle.capstreams.specs.Caplines.Events.Line.{Nothing, Says, Grants, Names, Faulty}
-use Rattle.capstreams.specs.Caplines.Lines.{is_skipped, longest_line}
-use Rattle.capstreams.specs.Caplines.Values.{bytes_in, client_in, groups_in, ino_in, mode_in, number_below, number_in, only_client, open_mode_in, part_in, seq_in}
-use Rattle.capstreams.specs.Caplines.Words.{spaced, six_parts, words}
-use Rattle.capscript.specs.Jobs.{first_of, begins_with, sort_of}
+use Rattle.inotree.specs.declared.node.Setting.TheVariants.{Gid, Mode, Size, Time, Uid}
+use Rattle.step_model.specs.declared.event.Event.{Event}
+use Rattle.step_model.specs.declared.event.Event.TheVariants as events
+use Rattle.lockmachine.specs.declared.request.Change.{Change}
+use Rattle.lockmachine.specs.declared.request.Change.TheVariants.{RemoveXattr, Set, SetXattr}
+use Rattle.step_model.specs.declared.change_word.ChangeWord.{ChangeWord}
+use Rattle.step_model.specs.declared.change_word.ChangeWord.TheVariants as kinds
+use Rattle.step_model.specs.Words.{command_by, command_word}
+use Rattle.step_model.specs.Words.{commands as all_commands}
+use Rattle.step_model.specs.declared.command.Command.{Command}
+use Rattle.step_model.specs.declared.command.Command.TheVariants as commands
+use Rattle.script_syntax.specs.declared.fault.LineFault.{LineFault}
+use Rattle.script_syntax.specs.declared.fault.LineFault.TheVariants as faults
+use Rattle.script_syntax.specs.Changes.{change_kind, is_counted}
+use Rattle.script_syntax.specs.Events.{Line, ◌>>=◌, client_of, named_by, new_inode_by, granting, session_by, regrant_by, client_by, open_by, caps_by, ack_by}
+use Rattle.script_syntax.specs.Events.{get_by, inode_by, rename_by, says_kind, says_change, says_inode_change, change_by, poll_by, said_with, said_by, said_in}
+use Rattle.script_syntax.specs.Events.{line_says, Tells, Reads}
+use Rattle.script_syntax.specs.Events.Line.{Faulty, Grants, Names, Nothing, Says}
+use Rattle.script_syntax.specs.Lines.{is_skipped, longest_line}
+use Rattle.script_syntax.specs.Values.{bytes_in, client_in, groups_in, ino_in, mode_in, number_below, number_in, only_client, open_mode_in, part_in, seq_in}
+use Rattle.script_syntax.specs.Words.{six_parts, spaced, words}
+use Rattle.capscript.specs.Jobs.{begins_with, first_of, sort_of}
 use Rattle.capscript.specs.Jobs.Sort.{Nobodys, Plain}
 
 abbrev Words : Type 0

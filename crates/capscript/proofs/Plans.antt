@@ -1,9 +1,9 @@
 -- Plans that grow line by line.
 use Rattle.std.proofs.Common.{◌≡◌, ℕ, ◌+◌, ◌≤◌, ◌<◌, List, ◌∷◌, length, sym, subst, arith, inl, inr}
-use Rattle.std.specs.Prelude.{Result, Ok, Err, IfErr, IsErrAnd}
-use Rattle.capstreams.specs.Caplines.Lines.{lines}
+use Rattle.std.specs.Prelude.{Err, IfErr, IsErrAnd, Ok, Result}
+use Rattle.script_syntax.specs.Lines.{lines}
 use Rattle.capscript.specs.declared.serve_fault.ServeFault.{ServeFault}
-use Rattle.capscript.specs.Jobs.{Work, no_work, Takes, TakesAll, IsFaultAt, StopsAt}
+use Rattle.capscript.specs.Jobs.{IsFaultAt, StopsAt, Takes, TakesAll, Work, no_work}
 
 -- what is known when so many lines were taken: what the lines that are left give, all lines give
 pub record SoFar (now : Work) (script rest : List ℕ) (number : ℕ) : Type 0 where

@@ -1,17 +1,18 @@
 -- What the lines of a script call, and for whom.
-use Rattle.std.specs.Prelude.{◌≡◌, ◌≢◌, ◌⊎◌, ◌+◌, ◌≤◌, ◌==◌, ℕ, Bool, true, false, Some, List, [], ◌∷◌, ◌++◌, length, map, codes, bytes_eq, if◌then◌else◌, IsTrue, IsFalse}
+use Rattle.std.specs.Prelude.{◌≡◌, ◌≢◌, ◌⊎◌, ◌+◌, ◌≤◌, ◌==◌, ℕ, Bool, true, false, Some, List, [], ◌∷◌, ◌++◌, length, map, codes, bytes_eq, if◌then◌else◌}
+use Rattle.std.specs.Prelude.{IsTrue, IsFalse}
 use Rattle.std.specs.List.{list_any, sum_by}
 use Rattle.capbits.specs.declared.ids.ClientId.{ClientId}
-use Rattle.capcore.specs.Capevents.declared.event.Event.{Event}
-use Rattle.capstreams.specs.Caplines.declared.fault.LineFault.{LineFault}
-use Rattle.capstreams.specs.Caplines.declared.fault.LineFault.TheVariants as kinds
-use Rattle.capstreams.specs.Caplines.declared.fault.ScriptFault.TheVariants as stops
-use Rattle.capstreams.specs.Caplines.Events.{Reads, client_of}
-use Rattle.capstreams.specs.Caplines.Faults.{HasFault}
-use Rattle.capstreams.specs.Caplines.Lines.{is_skipped}
-use Rattle.capstreams.specs.Caplines.Words.{words}
+use Rattle.step_model.specs.declared.event.Event.{Event}
+use Rattle.script_syntax.specs.declared.fault.LineFault.{LineFault}
+use Rattle.script_syntax.specs.declared.fault.LineFault.TheVariants as kinds
+use Rattle.script_syntax.specs.declared.fault.ScriptFault.TheVariants as stops
+use Rattle.script_syntax.specs.Events.{Reads, client_of}
+use Rattle.script_syntax.specs.Faults.{HasFault}
+use Rattle.script_syntax.specs.Lines.{is_skipped}
+use Rattle.script_syntax.specs.Words.{words}
 use Rattle.capscript.specs.declared.serve_fault.ServeFault.{ServeFault}
-use Rattle.capscript.specs.declared.serve_fault.ServeFault.TheVariants.{Script, Clients, HistoryFull, NoThread}
+use Rattle.capscript.specs.declared.serve_fault.ServeFault.TheVariants.{Clients, HistoryFull, NoThread, Script}
 use Rattle.capscript.specs.declared.plan.Job.{Job}
 use Rattle.capscript.specs.declared.plan.Plan.{Plan}
 

@@ -4,18 +4,18 @@ use Rattle.std.specs.List.{AllByRecursion, flat_map}
 use Rattle.capbits.specs.declared.ids.PassId.{PassId}
 use Rattle.capgrant.specs.declared.access.Attr.{Attr}
 use Rattle.inotree.specs.Calls.{first_tree}
-use Rattle.capcore.specs.Capevents.declared.event.Event.{Event}
-use Rattle.capcore.specs.Capevents.declared.row.Row.{Row}
-use Rattle.capcore.specs.Capevents.declared.reply.Reply.{Reply}
-use Rattle.capcore.specs.Caprules.History.{Recorded, IsOpening, IsLegal, IsNext}
-use Rattle.capcore.specs.Caprules.State.{State}
-use Rattle.capstreams.specs.Caplines.declared.fault.LineFault.{LineFault}
-use Rattle.capstreams.specs.Caplines.declared.fault.ScriptFault.{ScriptFault}
-use Rattle.capstreams.specs.Caplines.declared.fault.ScriptFault.TheVariants as stops
-use Rattle.capstreams.specs.Caplines.Events.{Reads}
-use Rattle.capstreams.specs.Caplines.Faults.{HasFault}
-use Rattle.capstreams.specs.Caplines.Lines.{lines, is_skipped}
-use Rattle.capstreams.specs.Capexplain.Replies.{reply_text}
+use Rattle.step_model.specs.declared.event.Event.{Event}
+use Rattle.step_model.specs.declared.row.Row.{Row}
+use Rattle.step_model.specs.declared.reply.Reply.{Reply}
+use Rattle.step_model.specs.History.{IsLegal, IsNext, IsOpening, Recorded}
+use Rattle.step_model.specs.State.{State}
+use Rattle.script_syntax.specs.declared.fault.LineFault.{LineFault}
+use Rattle.script_syntax.specs.declared.fault.ScriptFault.{ScriptFault}
+use Rattle.script_syntax.specs.declared.fault.ScriptFault.TheVariants as stops
+use Rattle.script_syntax.specs.Events.{Reads}
+use Rattle.script_syntax.specs.Faults.{HasFault}
+use Rattle.script_syntax.specs.Lines.{is_skipped, lines}
+use Rattle.capexplain.specs.Replies.{reply_text}
 
 -- The lines say these events, in order: each line that is not skipped says one.
 pub record LinesSay (script : List (List ℕ)) (events : List Event) : Type 0 where

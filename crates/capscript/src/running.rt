@@ -2,22 +2,23 @@
 ghost use Rattle.std.specs.Prelude.{◌≡◌, ◌≢◌, ◌⊎◌, ◌↔◌, ◌<◌, ◌≤◌, ◌+◌, ◌++◌, ℕ, List, [], length, IsTrue, IsFalse, IfOk, IfErr, IfSome, OnOk, OnErr, Err};
 ghost use Rattle.std.specs.Io.KnownBytes.{Appends, Consumes};
 ghost use Rattle.inotree.specs.Calls.{first_tree};
-ghost use Rattle.capcore.specs.Caprules.History.{HasNoStray, IsOpening};
-ghost use Rattle.capstreams.specs.Caplines.declared.fault.ScriptFault.TheVariants as stops;
-ghost use Rattle.capstreams.specs.Caplines.Lines.{lines, longest_script};
-ghost use Rattle.capscript.specs.Transcript.{Ran, Answered, Answers, AnswersLine, StopsIn, fs_name, root_attr};
-ghost use Rattle.capstreams.specs.Watched.{inner_of, has_failed, has_ended};
+ghost use Rattle.step_model.specs.History.{HasNoStray, IsOpening};
+ghost use Rattle.script_syntax.specs.declared.fault.ScriptFault.TheVariants as stops;
+ghost use Rattle.script_syntax.specs.Lines.{lines, longest_script};
+ghost use Rattle.capscript.specs.Transcript.{Answered, Answers, AnswersLine, Ran, StopsIn, fs_name, root_attr};
+ghost use Rattle.script_syntax.specs.Watched.{has_ended, has_failed, inner_of};
 
 use capbits::{Mode, PassId};
-use capcore::{Core, Event, Stop};
+use capcore::Core;
+use capexplain::reply_lines;
 use capgrant::Attr;
 use capspec::FsName;
-use capstreams::{
-    ScriptFault, Watched, read_line, read_script, reply_lines, split_line, write_text,
-};
+use capstep::stop::Stop;
 use inotree::Tree;
+use script_syntax::{ScriptFault, Watched, read_line, read_script, split_line, write_text};
 use std::alloc::{AllocError, Global};
 use std::io::{Read, Write};
+use step_model::Event;
 
 /// The name of the file system that a script runs on.
 const FS_NAME: &[u8] = b"cephfs";

@@ -1,26 +1,27 @@
 -- What is known of the value under the lock.
-use Rattle.std.proofs.Common.{◌≡◌, ◌∙◌, ℕ, ◌+◌, ◌<◌, ◌≤◌, ◌∷◌, [], Bool, true, false, List, Option, Some, None, IfSome, MatchOption, length, fold, refl, ap, sym, subst, arith, length-append}
+use Rattle.std.proofs.Common.{◌≡◌, ◌∙◌, ℕ, ◌+◌, ◌<◌, ◌≤◌, ◌∷◌, [], Bool, true, false, List, Option, Some, None, IfSome, MatchOption, length, fold, refl, ap}
+use Rattle.std.proofs.Common.{sym, subst, arith, length-append}
 use mathlib.Core.List.{IsPrefix}
 use Rattle.capbits.specs.declared.ids.PassId.{PassId}
-use Rattle.capcore.specs.Capview.declared.change.ViewChange.{ViewChange}
-use Rattle.capcore.specs.Capview.declared.view.View.{View}
-use Rattle.capcore.specs.Capview.Changes.{AreChanges, view_by}
-use Rattle.capcore.specs.Capview.Sight.{Shows}
-use Rattle.capcore.proofs.Capview.Likeness.{shows-refl}
-use Rattle.capcore.specs.Capevents.declared.event.Event.{Event}
-use Rattle.capcore.specs.Capevents.declared.reply.Reply.{Reply}
-use Rattle.capcore.specs.Capevents.declared.row.Row.{Row}
-use Rattle.capcore.specs.Caprules.Numbers.{AreNumbered, rows_of}
-use Rattle.capcore.specs.Caprules.History.{IsLegal, IsRecorded, Recorded, IsNext, Replays, made_row}
-use Rattle.capcore.specs.Caprules.State.{State}
-use Rattle.capcore.specs.Caprules.Noted.{view_of}
-use Rattle.onecall.specs.Cappass.Published.Publishing.{Publishing, IsReady, first_of}
-use Rattle.onecall.specs.Cappass.Published.Rows.{Legal}
-use Rattle.onecall.proofs.Cappass.Published.Beginnings.{prefix_more, prefix_trans, prefix_length}
-use Rattle.onecall.proofs.Cappass.Published.Publishing.{held_of}
+use Rattle.policy_view.specs.declared.change.ViewChange.{ViewChange}
+use Rattle.policy_view.specs.declared.view.View.{View}
+use Rattle.policy_view.specs.Changes.{AreChanges, view_by}
+use Rattle.policy_view.specs.Sight.{Shows}
+use Rattle.policy_view.proofs.Likeness.{shows-refl}
+use Rattle.step_model.specs.declared.event.Event.{Event}
+use Rattle.step_model.specs.declared.reply.Reply.{Reply}
+use Rattle.step_model.specs.declared.row.Row.{Row}
+use Rattle.step_model.specs.Numbers.{AreNumbered, rows_of}
+use Rattle.step_model.specs.History.{IsLegal, IsNext, IsRecorded, Recorded, Replays, made_row}
+use Rattle.step_model.specs.State.{State}
+use Rattle.step_model.specs.Noted.{view_of}
+use Rattle.snapshot.specs.Publishing.{IsReady, Publishing, first_of}
+use Rattle.snapshot.specs.Rows.{Legal}
+use Rattle.snapshot.proofs.Beginnings.{prefix_length, prefix_more, prefix_trans}
+use Rattle.snapshot.proofs.Publishing.{held_of}
 use Rattle.capserver.specs.Fresh.{IsFresh}
 use Rattle.capserver.specs.Held.{IsHeld, IsLed}
-use Rattle.onecall.specs.Cappass.Passes.{PassState, pass_id}
+use Rattle.snapshot.specs.Passes.{PassState, pass_id}
 
 -- at the opening there are no rows
 pub led_first : (opening : State) (max_rows : ℕ) (core : Recorded) → core.state ≡ opening → core.rows ≡ [] → core.max_rows ≡ max_rows → IsLed opening max_rows core

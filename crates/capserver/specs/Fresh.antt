@@ -1,12 +1,12 @@
 -- What a fresh call leaves.
 use Rattle.std.specs.Prelude.{◌≡◌, ℕ, ◌<◌, List, [], ◌∷◌, ◌++◌, length}
 use mathlib.Core.List.{IsPrefix}
-use Rattle.capcore.specs.Caprules.History.{made_row}
-use Rattle.capcore.specs.Capevents.declared.event.Event.{Event}
-use Rattle.capcore.specs.Capevents.declared.row.Row.{Row}
-use Rattle.capcore.specs.Capevents.declared.outcome.Ended.{Ended}
-use Rattle.capcore.specs.Capevents.declared.reply.Reply.{Reply}
-use Rattle.onecall.specs.Cappass.Passes.{PassState, pass_id}
+use Rattle.step_model.specs.History.{made_row}
+use Rattle.step_model.specs.declared.event.Event.{Event}
+use Rattle.step_model.specs.declared.row.Row.{Row}
+use Rattle.step_model.specs.declared.outcome.Ended.{Ended}
+use Rattle.step_model.specs.declared.reply.Reply.{Reply}
+use Rattle.snapshot.specs.Passes.{PassState, pass_id}
 
 -- what the pass knew is a proper beginning of what it knows, and that ends with a row of the pass, of this event and this reply
 pub record IsFresh (old new : PassState) (event : Event) (reply : Reply) : Type 0 where

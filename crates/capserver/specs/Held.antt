@@ -1,11 +1,11 @@
 -- What stands under the lock.
 use Rattle.std.specs.Prelude.{◌≡◌, ◌≤◌, ℕ, false, length}
 use mathlib.Core.List.{IsPrefix}
-use Rattle.capcore.specs.Caprules.State.{State}
-use Rattle.capcore.specs.Caprules.History.{Recorded, Replays}
-use Rattle.capcore.specs.Capview.Sight.{Shows}
-use Rattle.capcore.specs.Caprules.Noted.{view_of}
-use Rattle.onecall.specs.Cappass.Published.Publishing.{Publishing}
+use Rattle.step_model.specs.State.{State}
+use Rattle.step_model.specs.History.{Recorded, Replays}
+use Rattle.policy_view.specs.Sight.{Shows}
+use Rattle.step_model.specs.Noted.{view_of}
+use Rattle.snapshot.specs.Publishing.{Publishing}
 
 -- the history leads from the opening state to that of the core, and takes as many rows as the opening said
 pub record IsLed (opening : State) (max_rows : ℕ) (core : Recorded) : Type 0 where

@@ -1,8 +1,8 @@
 -- Openings as contracts see them.
-use Rattle.std.specs.Prelude.{ℕ, refl}
-use Rattle.std.specs.Coded.{Coded, code_by, coded×, coded_ℕ}
+use Rattle.std.specs.Prelude.{refl, ℕ}
+use Rattle.std.specs.Coded.{Coded, code_by, coded_ℕ, coded×}
 use Rattle.logbook.specs.Pages.{Book, book_coded}
-use Rattle.capcore.specs.Caprules.State.{State}
+use Rattle.step_model.specs.State.{State}
 use Rattle.capcore.specs.Codes.{state_code}
 
 -- the state that the core opens with, how many rows its history takes at most, the book for them, and the one for the number of passes

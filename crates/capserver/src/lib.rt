@@ -2,14 +2,20 @@
 //! is published of them answers questions on policy beside the lock.
 #![tactic(auto)]
 
+mod answer;
+mod event;
 mod gate;
 mod locked;
 mod opening;
 mod server;
 
-pub use capcore::{Change, Core, Event, Question, Reply, Row, Stop, Unknown};
+pub use answer::Answer;
+pub use capcore::Core;
+pub use capstep::stop::Stop;
 pub use gate::{Gate, NoGate};
 pub use locked::Locked;
-pub use onecall::{Answer, MAX_PASSES, Pass, Server, StartFault};
 pub use opening::Opening;
+pub use policy_view::{Question, Unknown};
 pub use server::{CapServer, Closed};
+pub use snapshot::{MAX_PASSES, Pass, Server, StartFault};
+pub use step_model::{Event, Reply, Row};

@@ -1,22 +1,26 @@
 //! What stands under the lock.
 ghost use Rattle.std.specs.Prelude.{◌≡◌, ◌≤◌, ◌+◌, ◌↔◌, [], false, Err, Some, length, IsTrue, IfOk, IfSome, OnOk, OnErr};
 ghost use mathlib.Core.List.{IsPrefix};
-ghost use Rattle.capcore.specs.Caprules.History.{IsLegal};
+ghost use Rattle.step_model.specs.History.{IsLegal};
 ghost use Rattle.capcore.specs.Promised.{IsPromised};
-ghost use Rattle.capcore.specs.Capacts.declared.stop.Stop.TheVariants as stop_kind;
-ghost use Rattle.onecall.specs.Cappass.Published.Publishing.{first_of};
-ghost use Rattle.onecall.specs.Cappass.Published.Rows.{Legal};
+ghost use Rattle.capstep.specs.declared.stop.Stop.TheVariants as stop_kind;
+ghost use Rattle.snapshot.specs.Publishing.{first_of};
+ghost use Rattle.snapshot.specs.Rows.{Legal};
 ghost use Rattle.capserver.specs.Fresh.{IsFresh};
 ghost use Rattle.capserver.specs.Held.{IsLed};
-ghost use Rattle.onecall.specs.Cappass.Passes.{pass_id};
+ghost use Rattle.snapshot.specs.Passes.{pass_id};
 
+use crate::answer::Answer;
+use crate::event::make;
 use crate::gate::Gate;
-use capcore::{Core, Event, Reply, Stop};
-use onecall::{Answer, Beginning, Pass, Publisher, Recorder, Server, Tally, make};
+use capcore::Core;
+use capstep::stop::Stop;
+use snapshot::{Beginning, Pass, Publisher, Recorder, Server, Tally};
 use std::marker::Model;
 use std::mem::replace;
 use std::sync::Wait;
 use std::sync::ledger::{Book, Share};
+use step_model::{Event, Reply};
 
 /// The core, with the book that counts the calls of all passes and who publishes. To contracts it is the core. It keeps that the
 /// history leads from the server's opening state to the present one and takes as many rows as the opening said, that the book has
@@ -34,7 +38,7 @@ pub struct Locked<L: Server> {
 
 impl<L: Server> Model for Locked<L> {
     ghost use Rattle.std.specs.Prelude.{◌≡◌, ◌+◌, MatchOption};
-    ghost use Rattle.capcore.specs.Caprules.History.{Recorded};
+    ghost use Rattle.step_model.specs.History.{Recorded};
     ghost use Rattle.capcore.specs.Codes.{recorded_code};
     ghost use Rattle.capserver.specs.Held.{IsHeld, IsLed};
 

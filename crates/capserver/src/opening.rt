@@ -1,13 +1,13 @@
 //! A core before its server starts.
 ghost use Rattle.std.specs.Prelude.{◌≡◌, ◌≤◌, [], IfOk};
-ghost use Rattle.capcore.specs.Caprules.History.{HasNoStray, IsOpening};
-ghost use Rattle.onecall.specs.Cappass.Published.Pairs.{origin_of};
-ghost use Rattle.onecall.specs.Cappass.Published.Places.{IsOf};
+ghost use Rattle.step_model.specs.History.{HasNoStray, IsOpening};
+ghost use Rattle.snapshot.specs.Pairs.{origin_of};
+ghost use Rattle.snapshot.specs.Places.{IsOf};
 
 use capcore::Core;
 use capspec::FsName;
 use inotree::Tree;
-use onecall::{NewTally, Pair};
+use snapshot::{NewTally, Pair};
 use std::alloc::{AllocError, Global};
 use std::marker::Model;
 use std::sync::Wait;
@@ -24,8 +24,8 @@ pub struct Opening {
 
 impl Model for Opening {
     ghost use Rattle.std.specs.Prelude.{◌≡◌, ◌≤◌, []};
-    ghost use Rattle.onecall.specs.Cappass.Published.Pairs.{origin_of};
-    ghost use Rattle.onecall.specs.Cappass.Published.Places.{IsOf};
+    ghost use Rattle.snapshot.specs.Pairs.{origin_of};
+    ghost use Rattle.snapshot.specs.Places.{IsOf};
     ghost use Rattle.capserver.specs.Opened.{Opened, opened, opened_code};
 
     ghost Value = { Opened };

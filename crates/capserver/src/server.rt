@@ -2,28 +2,30 @@
 ghost use Rattle.std.specs.Prelude.{◌≡◌, ◌≢◌, ◌≤◌, ◌<◌, ◌+◌, Err, length, IsTrue, IfOk, IfErr, OnOk, OnErr, vec_len};
 ghost use Rattle.std.specs.List.{sum_by};
 ghost use mathlib.Core.List.{IsPrefix};
-ghost use Rattle.capcore.specs.Caprules.History.{IsLegal};
-ghost use Rattle.capcore.specs.Capview.declared.answer.Unknown.TheVariants as unknown;
-ghost use Rattle.onecall.specs.Cappass.Witness.Answers.{IsAnswered};
-ghost use Rattle.onecall.specs.Cappass.Published.Rows.{Legal};
+ghost use Rattle.step_model.specs.History.{IsLegal};
+ghost use Rattle.policy_view.specs.declared.answer.Unknown.TheVariants as unknown;
+ghost use Rattle.snapshot.specs.Answers.{IsAnswered};
+ghost use Rattle.snapshot.specs.Rows.{Legal};
 ghost use Rattle.capserver.specs.Called.{IsStep};
 ghost use Rattle.capserver.specs.Fresh.{IsFresh};
 ghost use Rattle.capserver.specs.Opened.{opened};
-ghost use Rattle.onecall.specs.Cappass.Passes.{AllNew, AllBegin, IsStartFault, pass_id};
+ghost use Rattle.snapshot.specs.Passes.{AllBegin, AllNew, IsStartFault, pass_id};
 
+use crate::answer::Answer;
 use crate::gate::Gate;
 use crate::locked::Locked;
 use crate::opening::{Opening, Parts};
-use capcore::{Core, Event, Question, Stop, Unknown};
+use capcore::Core;
 use capgrant::Verdict;
 use capspec::FsName;
-use onecall::{
-    Answer, MAX_PASSES, Pass, Server, StartFault, Tally, audit_all, make_passes, merge_all,
-};
+use capstep::stop::Stop;
+use policy_view::{Question, Unknown};
+use snapshot::{MAX_PASSES, Pass, Server, StartFault, Tally, audit_all, make_passes, merge_all};
 use std::alloc::Global;
 use std::marker::Model;
-use std::sync::ledger::Blank;
 use std::sync::{Mutex, MutexGuard, Wait};
+use std::sync::ledger::Blank;
+use step_model::Event;
 
 /// A core that many threads call, each through a pass of its own. To contracts it is the number of its passes.
 pub struct CapServer<G: Gate, L: Server> {

@@ -1,26 +1,28 @@
 -- A text that reads has no fault: its tests come to its grants.
-use Rattle.std.proofs.Common.{◌≡◌, ℕ, ◌+◌, ◌<◌, ◌≤◌, Bool, true, false, eqb, ◌&&◌, List, [], ◌∷◌, ◌++◌, length, Option, Some, None, Ok, refl, sym, ap, subst, ◌∙◌, append_assoc, arith, inl, inr, length-append}
+use Rattle.std.proofs.Common.{◌≡◌, ℕ, ◌+◌, ◌<◌, ◌≤◌, Bool, true, false, eqb, ◌&&◌, List, [], ◌∷◌, ◌++◌, length, Option, Some, None, Ok, refl, sym, ap, subst}
+use Rattle.std.proofs.Common.{◌∙◌, append_assoc, arith, inl, inr, length-append}
 use Rattle.std.specs.Prelude.{codes, filter_map, is_some}
 use Rattle.std.specs.List.{list_all}
-use Rattle.std.proofs.lemmas.Bool.{true≢false, and_parts}
+use Rattle.std.proofs.lemmas.Bool.{and_parts, true≢false}
 use Rattle.std.proofs.lemmas.Bool.Decides.{nat_tests}
 use Rattle.std.proofs.lemmas.List.{append-nil}
 use Rattle.std.proofs.lemmas.List.Elements.{filter_map-append}
 use Rattle.std.proofs.lemmas.List.Folds.{list_all-append}
-use Rattle.capspec.specs.declared.bytes.ByteSet.TheVariants.{White, Plain}
-use Rattle.capwords.specs.declared.flags.Flags4.{Flags4}
-use Rattle.capwords.specs.declared.flags.Flags4.TheVariants.{R, Rw, Rwp, Rws, Rwps}
+use Rattle.capspec.specs.declared.bytes.ByteSet.TheVariants.{Plain, White}
+use Rattle.capspec.specs.declared.flags.Flags4.{Flags4}
+use Rattle.capspec.specs.declared.flags.Flags4.TheVariants.{R, Rw, Rwp, Rwps, Rws}
 use Rattle.capspec.specs.declared.grant.Grant.{Grant}
 use Rattle.capspec.specs.declared.items.Key.TheVariants as keys
-use Rattle.capspec.specs.Bytes.{is_in, begins, ends_word, ends_grant, is_white, is_mark}
-use Rattle.capwords.specs.Flags.{IsFlags}
-use Rattle.capspec.specs.Grants.{fsname_in, path_in, uid_in, gids_in, root_squash_in, IsSaidOnce, AreItemsOf, IsGap, AreWordsOf, IsGrant, Reads}
-use Rattle.capspec.specs.Items.{Item, key_of, IsItem}
-use Rattle.capspec.specs.Items.Item.{FsName, Path, Uid, Gids, RootSquash}
+use Rattle.capspec.specs.Bytes.{begins, ends_grant, ends_word, is_in, is_mark, is_white}
+use Rattle.capspec.specs.Flags.{IsFlags}
+use Rattle.capspec.specs.Grants.{AreItemsOf, AreWordsOf, IsGap, IsGrant, IsSaidOnce, Reads, fsname_in, gids_in, path_in, root_squash_in, uid_in}
+use Rattle.capspec.specs.Items.{IsItem, Item, key_of}
+use Rattle.capspec.specs.Items.Item.{FsName, Gids, Path, RootSquash, Uid}
 use Rattle.capspec.specs.Separated.{AreSeparated}
-use Rattle.capspec.specs.Words.{next, plain_word, behind_word, goes_on, is_digit, BeginsWithItem}
-use Rattle.capspec.specs.Faults.{is_said, stood, gids_item, grant_end, ItemsGive, grant_ends, next_item, second, GrantGives, right_grant, GrantsGive, last_grant, next_grant, TestsGive}
-use Rattle.capspec.proofs.Fronts.{which, not_byte, rest_is, plain_is, behind_is}
+use Rattle.capspec.specs.Words.{BeginsWithItem, behind_word, goes_on, is_digit, next, plain_word}
+use Rattle.capspec.specs.Faults.{GrantGives, GrantsGive, ItemsGive, TestsGive, gids_item, grant_end, grant_ends, is_said, last_grant, next_grant, next_item}
+use Rattle.capspec.specs.Faults.{right_grant, second, stood}
+use Rattle.capspec.proofs.Fronts.{behind_is, not_byte, plain_is, rest_is, which}
 use Rattle.capspec.proofs.Words.{kept}
 
 -- ---- white space and what it stands between

@@ -1,20 +1,21 @@
 -- How many names a path has.
-use Rattle.std.proofs.Common.{◌≡◌, ℕ, ◌+◌, ◌≤◌, suc, Bool, true, not, List, [], ◌∷◌, ◌++◌, length, take, drop, map, refl, sym, ap, ◌∙◌, arith, inl, inr, Bor, IsTrue}
+use Rattle.std.proofs.Common.{◌≡◌, ℕ, ◌+◌, ◌≤◌, suc, Bool, true, not, List, [], ◌∷◌, ◌++◌, length, take, drop, map, refl, sym, ap, ◌∙◌, arith, inl, inr, Bor}
+use Rattle.std.proofs.Common.{IsTrue}
 use Rattle.std.specs.Prelude.{count_by, filter}
 use Rattle.std.specs.List.{list_all, slice_split, starts_with}
 use Rattle.std.specs.Str.{bytes_eq}
 use Rattle.std.proofs.lemmas.Bool.{and_parts, lt-ltb, not-true, true≢false}
-use Rattle.std.proofs.lemmas.List.{length-append, length-map, length-take-le, take-map, take-append-drop}
-use Rattle.std.proofs.lemmas.List.Sums.{length-filter, count_by-le-length}
+use Rattle.std.proofs.lemmas.List.{length-append, length-map, length-take-le, take-append-drop, take-map}
+use Rattle.std.proofs.lemmas.List.Sums.{count_by-le-length, length-filter}
 use Rattle.std.proofs.lemmas.List.Elements.{filter-append}
 use Rattle.std.proofs.Math.Seq.{take-append_seam}
 use Rattle.std.proofs.lemmas.Slice.Eq.{bytes_eq-Decides, starts_is}
 use Rattle.capspec.specs.Bytes.{is_in}
 use Rattle.capspec.specs.declared.bytes.ByteSet.TheVariants.{AllBut}
-use Rattle.capwords.specs.Paths.{names_of, slashed}
+use Rattle.capspec.specs.Paths.{names_of, slashed}
 use Rattle.capspec.proofs.Fronts.{which}
-use Rattle.capspec.proofs.Paths.{is_slash, has_bytes, names_of-slashes, names_of-name}
-use Rattle.capspec.proofs.Slashed.{all_in, all_filter, no_slash, slash_next}
+use Rattle.capspec.proofs.Paths.{has_bytes, is_slash, names_of-name, names_of-slashes}
+use Rattle.capspec.proofs.Slashed.{all_filter, all_in, no_slash, slash_next}
 
 abbrev slashes : List ℕ → ℕ
 slashes bytes = length (filter is_slash bytes)

@@ -1,26 +1,27 @@
 -- What the tests of a text come to is determined.
-use Rattle.std.proofs.Common.{◌≡◌, ℕ, Bool, true, false, eqb, List, [], ◌∷◌, ◌++◌, Option, None, Result, Ok, Err, refl, sym, ap, subst, ◌∙◌, append_assoc, arith, inl, inr}
-use Rattle.std.specs.Prelude.{MatchBool, if◌then◌else◌, filter_map}
+use Rattle.std.proofs.Common.{◌≡◌, ℕ, Bool, true, false, eqb, List, [], ◌∷◌, ◌++◌, Option, None, Result, Ok, Err, refl, sym, ap, subst, ◌∙◌, append_assoc}
+use Rattle.std.proofs.Common.{arith, inl, inr}
+use Rattle.std.specs.Prelude.{MatchBool, filter_map, if◌then◌else◌}
 use Rattle.std.proofs.lemmas.Bool.{true≢false}
 use Rattle.std.proofs.lemmas.List.{append_cancel_left}
 use Rattle.capspec.specs.declared.fault.SpecFaultKind.{SpecFaultKind}
 use Rattle.capspec.specs.declared.fault.SpecFaultKind.TheVariants as kinds
-use Rattle.capwords.specs.declared.flags.Flags4.{Flags4}
-use Rattle.capwords.specs.declared.flags.Flags4.TheVariants.{R, Rw, Rwp, Rws, Rwps}
+use Rattle.capspec.specs.declared.flags.Flags4.{Flags4}
+use Rattle.capspec.specs.declared.flags.Flags4.TheVariants.{R, Rw, Rwp, Rwps, Rws}
 use Rattle.capspec.specs.declared.grant.Grant.{Grant}
 use Rattle.capspec.specs.declared.items.Key.{Key}
 use Rattle.capspec.specs.declared.items.Key.TheVariants as keys
 use Rattle.capspec.specs.declared.reading.Refusal.{Refusal}
 use Rattle.capspec.specs.Bytes.{ends_word}
-use Rattle.capwords.specs.Flags.{IsFlags}
-use Rattle.capspec.specs.Grants.{fsname_in, path_in, uid_in, gids_in, root_squash_in, IsSaidOnce, AreItemsOf}
-use Rattle.capspec.specs.Items.{Item, key_of, key_text, IsValue}
-use Rattle.capspec.specs.Items.Item.{FsName, Path, Uid, Gids, RootSquash}
-use Rattle.capspec.specs.Words.{next, plain_word, BeginsWithItem, IsKeyed, IsWrongFirst, IsWrongOther, IsWrongValue, IsWrongItem}
-use Rattle.capspec.specs.Faults.{fault_at, stood, gids_item, ItemsGive, grant_ends, wrong_item, next_item, second, IsRightFirst, GrantGives, wrong_first, wrong_second, wrong_items, right_grant, GrantsGive, last_grant, TestsGive}
-use Rattle.capspec.specs.Faults.{wrong_grant, next_grant}
+use Rattle.capspec.specs.Flags.{IsFlags}
+use Rattle.capspec.specs.Grants.{AreItemsOf, IsSaidOnce, fsname_in, gids_in, path_in, root_squash_in, uid_in}
+use Rattle.capspec.specs.Items.{IsValue, Item, key_of, key_text}
+use Rattle.capspec.specs.Items.Item.{FsName, Gids, Path, RootSquash, Uid}
+use Rattle.capspec.specs.Words.{BeginsWithItem, IsKeyed, IsWrongFirst, IsWrongItem, IsWrongOther, IsWrongValue, next, plain_word}
+use Rattle.capspec.specs.Faults.{GrantGives, GrantsGive, IsRightFirst, ItemsGive, TestsGive, fault_at, gids_item, grant_ends, last_grant, next_grant}
+use Rattle.capspec.specs.Faults.{next_item, right_grant, second, stood, wrong_first, wrong_grant, wrong_item, wrong_items, wrong_second}
 use Rattle.capspec.proofs.Valued.{value_once}
-use Rattle.capspec.proofs.Righting.{value_word, value_word_is, right_value, value_wrong_once}
+use Rattle.capspec.proofs.Righting.{right_value, value_word, value_word_is, value_wrong_once}
 
 -- ---- an item
 

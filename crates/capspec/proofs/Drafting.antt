@@ -1,17 +1,18 @@
 -- Items that are added to a draft, one after the other.
-use Rattle.std.proofs.Common.{◌≡◌, ℕ, ◌<◌, ◌≤◌, true, false, List, [], ◌∷◌, ◌++◌, get_or, inr, arith, Result, Ok, Err, refl, sym, ap, subst, ◌∙◌, append_assoc, Bor}
-use Rattle.std.specs.Prelude.{IfOk, IfErr, IsTrue}
+use Rattle.std.proofs.Common.{◌≡◌, ℕ, ◌<◌, ◌≤◌, true, false, List, [], ◌∷◌, ◌++◌, get_or, inr, arith, Result, Ok, Err, refl, sym, ap, subst, ◌∙◌, append_assoc}
+use Rattle.std.proofs.Common.{Bor}
+use Rattle.std.specs.Prelude.{IfErr, IfOk, IsTrue}
 use Rattle.capspec.specs.declared.draft.Draft.{Draft}
 use Rattle.capspec.specs.declared.fault.SpecFaultKind.{SpecFaultKind}
 use Rattle.capspec.specs.declared.fault.SpecFaultKind.TheVariants as kinds
 use Rattle.capspec.specs.declared.items.Key.{Key}
 use Rattle.capspec.specs.declared.items.Key.TheVariants as keys
-use Rattle.capspec.specs.Words.{IsKeyed, IsWrongValue, IsWrongItem}
-use Rattle.capspec.specs.Bytes.{ends_word, TakesWord}
-use Rattle.capwords.specs.Paths.{names_of}
-use Rattle.capspec.specs.Items.{key_text, IsPath, IsValue}
+use Rattle.capspec.specs.Words.{IsKeyed, IsWrongItem, IsWrongValue}
+use Rattle.capspec.specs.Bytes.{TakesWord, ends_word}
+use Rattle.capspec.specs.Paths.{names_of}
+use Rattle.capspec.specs.Items.{IsPath, IsValue, key_text}
 use Rattle.capspec.specs.Items.Item.{Path, RootSquash}
-use Rattle.capspec.specs.Draft.{has, AddsValue, AddsItem}
+use Rattle.capspec.specs.Draft.{AddsItem, AddsValue, has}
 
 -- no key of all five
 pub no_key : (text : List ℕ) (index : ℕ) → 5 ≤ index → ((k : ℕ) → k < index → (value : List ℕ) → IsKeyed (get_or (keys.Path ∷ keys.Uid ∷ keys.Gids ∷ keys.FsName ∷ keys.RootSquash ∷ []) k keys.RootSquash) text value → ⊥)

@@ -4,8 +4,8 @@ use Rattle.std.specs.List.{list_all}
 use Rattle.std.proofs.lemmas.Bool.{and_parts, eqb-true, true≢false}
 use Rattle.capspec.specs.declared.bytes.ByteSet.{ByteSet}
 use Rattle.capspec.specs.declared.bytes.ByteSet.TheVariants.{Plain}
-use Rattle.capspec.specs.Bytes.{is_in, begins, ends_word, SplitsWhile}
-use Rattle.capspec.specs.Words.{front_while, rest_while, plain_word, behind_word}
+use Rattle.capspec.specs.Bytes.{SplitsWhile, begins, ends_word, is_in}
+use Rattle.capspec.specs.Words.{behind_word, front_while, plain_word, rest_while}
 
 pub front_is : (test : ℕ → Bool) (front rest : List ℕ) → list_all test front ≡ true → begins test rest ≡ false → front_while test (front ++ rest) ≡ front
 front_is test [] [] all stops = refl

@@ -1,29 +1,31 @@
 -- Whole grants, read from the left.
-use Rattle.std.proofs.Common.{◌≡◌, ◌≢◌, ◌⊎◌, ℕ, ◌+◌, ◌-◌, ◌<◌, ◌≤◌, true, false, eqb, not, ◌||◌, List, [], ◌∷◌, ◌++◌, length, None, Result, Ok, Err, refl, sym, ap, subst, ◌∙◌, append_assoc, arith, length-append, inl, inr}
-use Rattle.std.specs.Prelude.{IsTrue, IfOk, IfErr, IsErr, IsOkAnd, MatchResult, codes}
+use Rattle.std.proofs.Common.{◌≡◌, ◌≢◌, ◌⊎◌, ℕ, ◌+◌, ◌-◌, ◌<◌, ◌≤◌, true, false, eqb, not, ◌||◌, List, [], ◌∷◌, ◌++◌, length, None, Result, Ok, Err, refl, sym}
+use Rattle.std.proofs.Common.{ap, subst, ◌∙◌, append_assoc, arith, length-append, inl, inr}
+use Rattle.std.specs.Prelude.{IfErr, IfOk, IsErr, IsOkAnd, IsTrue, MatchResult, codes}
 use Rattle.std.specs.List.{list_all}
 use Rattle.std.specs.Global.{Vec}
 use Rattle.std.specs.declared.alloc.AllocError.{AllocError}
-use Rattle.std.proofs.lemmas.Bool.{true≢false, and_parts, not-true, eqb-true}
+use Rattle.std.proofs.lemmas.Bool.{and_parts, eqb-true, not-true, true≢false}
 use Rattle.std.proofs.lemmas.List.{append-nil, append_cancel_left, nil_from_length}
-use Rattle.capspec.specs.declared.bytes.ByteSet.TheVariants.{White, Plain}
+use Rattle.capspec.specs.declared.bytes.ByteSet.TheVariants.{Plain, White}
 use Rattle.capspec.specs.declared.draft.Draft.{Draft}
 use Rattle.capspec.specs.declared.fault.SpecFault.{SpecFault}
 use Rattle.capspec.specs.declared.fault.SpecFaultKind.{SpecFaultKind}
 use Rattle.capspec.specs.declared.fault.SpecFaultKind.TheVariants as kinds
-use Rattle.capwords.specs.declared.flags.Flags4.{Flags4}
+use Rattle.capspec.specs.declared.flags.Flags4.{Flags4}
 use Rattle.capspec.specs.declared.reading.Refusal.{Refusal}
-use Rattle.capspec.specs.Words.{next, plain_word, behind_word, IsWrongSecond}
-use Rattle.capspec.specs.Faults.{fault_at, ItemsGive, second, IsRightFirst, GrantGives, wrong_first, wrong_second, wrong_items, right_grant, GrantsGive, wrong_grant, next_grant, TestsGive, IsFault, IsNoMemory}
-use Rattle.capspec.proofs.Fronts.{which, front_parts, rest_is, split_front, split_rest, plain_is, behind_is}
+use Rattle.capspec.specs.Words.{IsWrongSecond, behind_word, next, plain_word}
+use Rattle.capspec.specs.Faults.{GrantGives, GrantsGive, IsFault, IsNoMemory, IsRightFirst, ItemsGive, TestsGive, fault_at, next_grant, right_grant, second}
+use Rattle.capspec.specs.Faults.{wrong_first, wrong_grant, wrong_items, wrong_second}
+use Rattle.capspec.proofs.Fronts.{behind_is, front_parts, plain_is, rest_is, split_front, split_rest, which}
 use Rattle.capspec.proofs.OneReading.{reads_no_fault, reads_once}
-use Rattle.capwords.specs.declared.flags.Flags4.TheVariants.{R, Rw, Rwp, Rws, Rwps}
+use Rattle.capspec.specs.declared.flags.Flags4.TheVariants.{R, Rw, Rwp, Rwps, Rws}
 use Rattle.capspec.specs.declared.grant.Grant.{Grant}
-use Rattle.capspec.specs.Bytes.{is_in, is_white, is_mark, ends_word, ends_grant, SplitsWhile}
-use Rattle.capspec.specs.Draft.{no_items, grant_of}
-use Rattle.capwords.specs.Flags.{IsFlags}
-use Rattle.capspec.specs.Grants.{IsGrant, Reads, AreNoneOrRead}
-use Rattle.capspec.specs.Parts.{ReadsItems, ReadsGrant}
+use Rattle.capspec.specs.Bytes.{SplitsWhile, ends_grant, ends_word, is_in, is_mark, is_white}
+use Rattle.capspec.specs.Draft.{grant_of, no_items}
+use Rattle.capspec.specs.Flags.{IsFlags}
+use Rattle.capspec.specs.Grants.{AreNoneOrRead, IsGrant, Reads}
+use Rattle.capspec.specs.Parts.{ReadsGrant, ReadsItems}
 use Rattle.capspec.specs.Separated.{AreSeparated}
 use Rattle.capspec.proofs.Separating.{IsBefore, joined, marked}
 

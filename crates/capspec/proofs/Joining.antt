@@ -1,7 +1,7 @@
 -- Things that are written in a row, one more each turn.
 use Rattle.std.proofs.Common.{◌≡◌, ℕ, ◌+◌, ◌<◌, zero, suc, List, [], ◌∷◌, ◌++◌, length, take, get_or, sym, ap, ◌∙◌, arith, append_assoc}
 use Rattle.std.specs.List.{flat_map, join_by}
-use Rattle.std.proofs.lemmas.List.{take_more, append-nil, length-take-le}
+use Rattle.std.proofs.lemmas.List.{append-nil, length-take-le, take_more}
 use Rattle.std.proofs.lemmas.List.Concat.{flat_map-append}
 
 module _ {X : Type 0} (f : X → List ℕ) (separator : List ℕ) where

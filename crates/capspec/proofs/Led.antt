@@ -3,13 +3,13 @@ use Rattle.std.proofs.Common.{◌≡◌, ℕ, ◌+◌, ◌≤◌, Bool, true, Li
 use Rattle.std.specs.List.{starts_with}
 use Rattle.std.specs.Str.{bytes_eq}
 use Rattle.std.proofs.lemmas.Bool.{cases_lt}
-use Rattle.std.proofs.lemmas.List.{take_all, take-take, take-map, take-append-drop, length-append, length-map, length-take-le, length-drop}
+use Rattle.std.proofs.lemmas.List.{length-append, length-drop, length-map, length-take-le, take-append-drop, take-map, take-take, take_all}
 use Rattle.std.proofs.lemmas.Slice.Eq.{bytes_eq-Decides, starts_is}
 use Rattle.std.proofs.Math.Seq.{take-append_seam}
-use Rattle.capwords.specs.Paths.{names_of, slashed}
-use Rattle.capwords.proofs.Backwards.{slashed-append}
+use Rattle.capspec.specs.Paths.{names_of, slashed}
+use Rattle.capspec.proofs.Backwards.{slashed-append}
 use Rattle.capspec.specs.declared.begun.Begun.{Begun}
-use Rattle.capspec.specs.Begun.{BeginsWith, Begins, IsBegun}
+use Rattle.capspec.specs.Begun.{Begins, BeginsWith, IsBegun}
 use Rattle.capspec.proofs.Counted.{leads}
 use Rattle.capspec.proofs.Fronts.{which}
 use Rattle.capspec.proofs.Sharing.{fits}

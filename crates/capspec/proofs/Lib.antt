@@ -21,3 +21,5 @@ pub mod Measured
 pub mod Numbers
 pub mod Sharing
 pub mod Led
+pub mod Backwards
+pub mod Pairs

@@ -1,16 +1,16 @@
 -- What the length of a path's text and its slashes tell about its names.
 use Rattle.std.proofs.Common.{◌≡◌, ℕ, suc, ◌+◌, ◌*◌, ◌<◌, ◌≤◌, Bool, true, cond, leb, List, [], ◌∷◌, length, refl, ap, ◌∙◌, inl, inr, arith}
 use Rattle.std.specs.Prelude.{count_by, filter}
-use Rattle.std.specs.List.{list_all, slice_split, onto_first}
+use Rattle.std.specs.List.{list_all, onto_first, slice_split}
 use Rattle.std.proofs.lemmas.Bool.{and_parts, lt-ltb}
 use Rattle.std.proofs.lemmas.Bool.Decides.{nat_tests}
-use Rattle.std.proofs.lemmas.List.Splits.{length-slice_split, slice_split-cons_yes, slice_split-cons_no}
-use Rattle.std.proofs.lemmas.List.Sums.{length-filter, count_by-le-length}
+use Rattle.std.proofs.lemmas.List.Splits.{length-slice_split, slice_split-cons_no, slice_split-cons_yes}
+use Rattle.std.proofs.lemmas.List.Sums.{count_by-le-length, length-filter}
 use Rattle.capspec.specs.declared.bytes.ByteSet.TheVariants.{Only}
 use Rattle.capspec.specs.Bytes.{SplitsWhile}
-use Rattle.capwords.specs.Paths.{names_of, are_few_and_short}
+use Rattle.capspec.specs.Paths.{are_few_and_short, names_of}
 use Rattle.capspec.proofs.Fronts.{which}
-use Rattle.capspec.proofs.Paths.{is_slash, has_bytes, names_of-slashes}
+use Rattle.capspec.proofs.Paths.{has_bytes, is_slash, names_of-slashes}
 
 abbrev is_within : ℕ → List ℕ → Bool
 is_within most name = leb (length name) most

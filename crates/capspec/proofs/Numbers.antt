@@ -1,5 +1,6 @@
 -- A number of 32 bits at the front of a text, as a loop reads it.
-use Rattle.std.proofs.Common.{◌≡◌, ℕ, zero, suc, ◌+◌, ◌*◌, ◌<◌, ◌≤◌, ◌^◌, true, false, List, [], ◌∷◌, length, get_or, take, drop, refl, sym, ap, subst, ◌∙◌, arith, drop_of_length-le}
+use Rattle.std.proofs.Common.{◌≡◌, ℕ, zero, suc, ◌+◌, ◌*◌, ◌<◌, ◌≤◌, ◌^◌, true, false, List, [], ◌∷◌, length, get_or, take, drop, refl, sym, ap, subst, ◌∙◌}
+use Rattle.std.proofs.Common.{arith, drop_of_length-le}
 use Rattle.std.proofs.lemmas.Bool.{and_parts}
 use Rattle.std.proofs.lemmas.Int.Digits.{digits_more, digits_value_more}
 use Rattle.std.proofs.lemmas.List.{take-append-drop}
@@ -9,7 +10,7 @@ use Rattle.std.specs.List.{list_all}
 use Rattle.std.specs.Str.Parse.{AllDigits, digits_value}
 use Rattle.capspec.specs.Bytes.{begins}
 use Rattle.capspec.specs.Items.{IsNumber}
-use Rattle.capspec.specs.Words.{front_while, rest_while, is_digit}
+use Rattle.capspec.specs.Words.{front_while, is_digit, rest_while}
 use Rattle.capspec.proofs.Fronts.{front_is, rest_is}
 use Rattle.capspec.proofs.Splits.{begins-drop}
 use Rattle.capspec.proofs.Taken.{no_digit}

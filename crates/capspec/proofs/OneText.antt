@@ -1,18 +1,19 @@
 -- Paths as one text: which texts are.
-use Rattle.std.proofs.Common.{◌≡◌, ℕ, ◌+◌, ◌-◌, ◌<◌, ◌≤◌, suc, Bool, true, false, ◌&&◌, ◌||◌, not, eqb, List, [], ◌∷◌, ◌++◌, length, drop, map, get_or, codes, refl, sym, ap, subst, ◌∙◌, inl, inr, arith, All, Bor, IsTrue, drop_of_length-le}
+use Rattle.std.proofs.Common.{◌≡◌, ℕ, ◌+◌, ◌-◌, ◌<◌, ◌≤◌, suc, Bool, true, false, ◌&&◌, ◌||◌, not, eqb, List, [], ◌∷◌, ◌++◌, length, drop, map, get_or, codes}
+use Rattle.std.proofs.Common.{refl, sym, ap, subst, ◌∙◌, inl, inr, arith, All, Bor, IsTrue, drop_of_length-le}
 use Rattle.std.specs.Prelude.{filter}
-use Rattle.std.specs.List.{list_all, list_any, slice_split, onto_first}
+use Rattle.std.specs.List.{list_all, list_any, onto_first, slice_split}
 use Rattle.std.proofs.Math.Seq.{drop-cons}
-use Rattle.std.proofs.lemmas.Bool.{and_parts, or_parts, eqb-true, lt-ltb, not-true, true≢false}
+use Rattle.std.proofs.lemmas.Bool.{and_parts, eqb-true, lt-ltb, not-true, or_parts, true≢false}
 use Rattle.std.proofs.Math.Bool.{and_comm}
 use Rattle.std.proofs.lemmas.List.{append-nil, length-drop}
-use Rattle.std.proofs.lemmas.List.Elements.{filter-append, All-head, All-tail}
-use Rattle.std.proofs.lemmas.List.Splits.{slice_split-cons_yes, slice_split-cons_no, length-slice_split}
-use Rattle.capwords.specs.Paths.{names_of, is_name, slashed, has_double_slash}
-use Rattle.capwords.proofs.Backwards.{slashed-append}
+use Rattle.std.proofs.lemmas.List.Elements.{All-head, All-tail, filter-append}
+use Rattle.std.proofs.lemmas.List.Splits.{length-slice_split, slice_split-cons_no, slice_split-cons_yes}
+use Rattle.capspec.specs.Paths.{has_double_slash, is_name, names_of, slashed}
+use Rattle.capspec.proofs.Backwards.{slashed-append}
 use Rattle.capspec.specs.Written.{path_text, written_path}
 use Rattle.capspec.proofs.Fronts.{which}
-use Rattle.capspec.proofs.Paths.{is_slash, has_bytes, names_of-slashes}
+use Rattle.capspec.proofs.Paths.{has_bytes, is_slash, names_of-slashes}
 use Rattle.capspec.proofs.Slashed.{names_of_slashed, none_of}
 
 abbrev is_other : ℕ → Bool

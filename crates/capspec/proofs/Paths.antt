@@ -1,15 +1,15 @@
 -- The names of a path's text, one after the other.
 use Rattle.std.proofs.Common.{◌≡◌, ℕ, ◌<◌, Bool, true, false, ◌&&◌, not, eqb, ltb, leb, List, [], ◌∷◌, ◌++◌, length, refl, sym, ap, subst, ◌∙◌, arith}
 use Rattle.std.specs.Prelude.{filter}
-use Rattle.std.specs.List.{list_all, slice_split, AllByRecursion}
-use Rattle.std.proofs.lemmas.Bool.{and_parts, eqb-true, lt-ltb, not-true, not-false, true≢false}
+use Rattle.std.specs.List.{AllByRecursion, list_all, slice_split}
+use Rattle.std.proofs.lemmas.Bool.{and_parts, eqb-true, lt-ltb, not-false, not-true, true≢false}
 use Rattle.std.proofs.lemmas.Bool.Decides.{nat_tests}
 use Rattle.std.proofs.lemmas.List.{append-nil}
 use Rattle.std.proofs.lemmas.List.Elements.{All-from_recursion}
-use Rattle.std.proofs.lemmas.List.Splits.{slice_split_at, slice_split_none, slice_split-cons_yes}
-use Rattle.capspec.specs.declared.bytes.ByteSet.TheVariants.{Only, AllBut}
-use Rattle.capspec.specs.Bytes.{is_in, begins, SplitsWhile}
-use Rattle.capwords.specs.Paths.{names_of}
+use Rattle.std.proofs.lemmas.List.Splits.{slice_split-cons_yes, slice_split_at, slice_split_none}
+use Rattle.capspec.specs.declared.bytes.ByteSet.TheVariants.{AllBut, Only}
+use Rattle.capspec.specs.Bytes.{SplitsWhile, begins, is_in}
+use Rattle.capspec.specs.Paths.{names_of}
 
 abbrev pub is_slash : ℕ → Bool
 is_slash b = eqb b 47

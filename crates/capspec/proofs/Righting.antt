@@ -1,6 +1,7 @@
 -- A value that is right is not wrong, and a wrong one is wrong in one way.
-use Rattle.std.proofs.Common.{◌≡◌, ℕ, ◌<◌, Bool, true, false, List, [], ◌∷◌, ◌++◌, length, Option, Some, None, refl, sym, ap, subst, ◌∙◌, append_assoc, arith, inl, inr}
-use Rattle.std.specs.Prelude.{codes, MatchBool, if◌then◌else◌}
+use Rattle.std.proofs.Common.{◌≡◌, ℕ, ◌<◌, Bool, true, false, List, [], ◌∷◌, ◌++◌, length, Option, Some, None, refl, sym, ap, subst, ◌∙◌, append_assoc, arith}
+use Rattle.std.proofs.Common.{inl, inr}
+use Rattle.std.specs.Prelude.{MatchBool, codes, if◌then◌else◌}
 use Rattle.std.specs.List.{list_all}
 use Rattle.std.proofs.lemmas.Bool.{and_parts, true≢false}
 use Rattle.capspec.specs.declared.bytes.ByteSet.TheVariants.{AllBut}
@@ -8,14 +9,16 @@ use Rattle.capspec.specs.declared.fault.SpecFaultKind.{SpecFaultKind}
 use Rattle.capspec.specs.declared.fault.SpecFaultKind.TheVariants as kinds
 use Rattle.capspec.specs.declared.items.Key.{Key}
 use Rattle.capspec.specs.declared.items.Key.TheVariants as keys
-use Rattle.capspec.specs.Bytes.{is_in, ends_word, is_fs_name_byte, is_bare_path_byte}
-use Rattle.capspec.specs.Items.{Item, key_of, is_comma, IsNumber, can_be_path, IsQuotedBy, IsBare, IsPath, IsValue}
-use Rattle.capspec.specs.Items.Item.{FsName, Path, Uid, Gids, RootSquash}
-use Rattle.capwords.specs.Paths.{names_of}
+use Rattle.capspec.specs.Bytes.{ends_word, is_bare_path_byte, is_fs_name_byte, is_in}
+use Rattle.capspec.specs.Items.{IsBare, IsNumber, IsPath, IsQuotedBy, IsValue, Item, can_be_path, is_comma, key_of}
+use Rattle.capspec.specs.Items.Item.{FsName, Gids, Path, RootSquash, Uid}
+use Rattle.capspec.specs.Paths.{names_of}
 use Rattle.capspec.specs.Separated.{AreSeparated}
-use Rattle.capspec.specs.Words.{front_while, rest_while, plain_word, is_digit, goes_on, gids_word, is_quote, IsNoValue, IsWrongQuoted, IsWrongPath, IsWrongGids, IsWrongValue}
-use Rattle.capspec.proofs.Fronts.{front_is, rest_is, plain_is}
-use Rattle.capspec.proofs.Valued.{fs_name_is_plain, bare_is_plain, digit_is_plain, all_plain, numeral_digits, quote_not_bare, not_quote, gids_word_is, gids_once}
+use Rattle.capspec.specs.Words.{IsNoValue, IsWrongGids, IsWrongPath, IsWrongQuoted, IsWrongValue, front_while, gids_word, goes_on, is_digit, is_quote}
+use Rattle.capspec.specs.Words.{plain_word, rest_while}
+use Rattle.capspec.proofs.Fronts.{front_is, plain_is, rest_is}
+use Rattle.capspec.proofs.Valued.{all_plain, bare_is_plain, digit_is_plain, fs_name_is_plain, gids_once, gids_word_is, not_quote, numeral_digits}
+use Rattle.capspec.proofs.Valued.{quote_not_bare}
 
 -- the value at the front of a text
 abbrev path_word : List ℕ → List ℕ

@@ -1,21 +1,22 @@
 -- Texts of things in a row, read from the left.
-use Rattle.std.proofs.Common.{◌≡◌, ◌⊎◌, ℕ, ◌<◌, ◌≤◌, Bool, true, false, not, ◌||◌, ◌&&◌, List, [], ◌∷◌, ◌++◌, length, refl, sym, ap, subst, ◌∙◌, inl, inr, append_assoc, arith, length-append}
+use Rattle.std.proofs.Common.{◌≡◌, ◌⊎◌, ℕ, ◌<◌, ◌≤◌, Bool, true, false, not, ◌||◌, ◌&&◌, List, [], ◌∷◌, ◌++◌, length, refl, sym, ap, subst, ◌∙◌, inl, inr}
+use Rattle.std.proofs.Common.{append_assoc, arith, length-append}
 use Rattle.std.specs.Prelude.{IsTrue, ◌↔◌}
-use Rattle.std.specs.Bool.{OnTrue, OnFalse}
-use Rattle.std.specs.List.{list_all, slice_split, AllByRecursion}
-use Rattle.std.proofs.lemmas.Bool.{and_parts, true≢false, eqb-true, cases_lt}
+use Rattle.std.specs.Bool.{OnFalse, OnTrue}
+use Rattle.std.specs.List.{AllByRecursion, list_all, slice_split}
+use Rattle.std.proofs.lemmas.Bool.{and_parts, cases_lt, eqb-true, true≢false}
 use Rattle.std.proofs.lemmas.List.{append-nil}
 use Rattle.std.proofs.lemmas.List.Elements.{All-from_recursion}
 use Rattle.std.proofs.lemmas.List.Folds.{list_all-append}
 use Rattle.std.proofs.lemmas.List.Splits.{slice_split_at, slice_split_none}
 use Rattle.capspec.specs.declared.fault.SpecFaultKind.TheVariants as kinds
-use Rattle.capspec.specs.Bytes.{begins, ends_word, TakesWord}
+use Rattle.capspec.specs.Bytes.{TakesWord, begins, ends_word}
 use Rattle.capspec.specs.Separated.{AreSeparated}
-use Rattle.capspec.specs.Items.{is_comma, IsNumber, IsValue}
+use Rattle.capspec.specs.Items.{IsNumber, IsValue, is_comma}
 use Rattle.capspec.specs.Items.Item.{Gids}
-use Rattle.capspec.specs.Words.{front_while, rest_while, is_digit, goes_on, gids_word, IsWrongGids}
-use Rattle.capspec.proofs.Fronts.{which, front_parts, front_all, rest_stops}
-use Rattle.capspec.proofs.Valued.{IsNumeric, numeral_digits, no_commas, split_first, pieces_are, gids_word-digits, gids_word-stop, gids_word-comma}
+use Rattle.capspec.specs.Words.{IsWrongGids, front_while, gids_word, goes_on, is_digit, rest_while}
+use Rattle.capspec.proofs.Fronts.{front_all, front_parts, rest_stops, which}
+use Rattle.capspec.proofs.Valued.{IsNumeric, gids_word-comma, gids_word-digits, gids_word-stop, no_commas, numeral_digits, pieces_are, split_first}
 
 module _ {A : Type 0} (separates : ℕ → Bool) (Is : List ℕ → A → Type 0) where
   -- what stands before the next thing of a row: nothing, or the things so far and a mark

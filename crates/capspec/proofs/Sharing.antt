@@ -1,16 +1,17 @@
 -- Paths that begin with the names of another, and with each other.
-use Rattle.std.proofs.Common.{◌≡◌, ℕ, ◌+◌, ◌-◌, ◌<◌, ◌≤◌, suc, Bool, true, List, [], ◌∷◌, ◌++◌, length, take, drop, map, get_or, refl, sym, ap, ◌∙◌, arith, inl, inr, ◌⊎◌, Bor, subst, zero, Some, unwrap_or}
-use Rattle.std.proofs.lemmas.List.{take_more, take-take, take-append-drop, length-append, append-nil, append_cancel_left, length-map, take_all}
+use Rattle.std.proofs.Common.{◌≡◌, ℕ, ◌+◌, ◌-◌, ◌<◌, ◌≤◌, suc, Bool, true, List, [], ◌∷◌, ◌++◌, length, take, drop, map, get_or, refl, sym, ap, ◌∙◌, arith}
+use Rattle.std.proofs.Common.{inl, inr, ◌⊎◌, Bor, subst, zero, Some, unwrap_or}
+use Rattle.std.proofs.lemmas.List.{append-nil, append_cancel_left, length-append, length-map, take-append-drop, take-take, take_all, take_more}
 use Rattle.std.proofs.lemmas.Bool.{cases_lt}
 use Rattle.std.proofs.Math.Seq.{take-add, take-append_seam}
 use Rattle.std.proofs.Math.ListN.{get_or-map}
 use Rattle.std.specs.List.{slice_get}
 use Rattle.std.proofs.lemmas.Option.{get_or_from_slice_get, slice_get-get_or}
-use Rattle.capwords.specs.Paths.{slashed}
+use Rattle.capspec.specs.Paths.{slashed}
 use Rattle.capspec.specs.declared.grant.Grant.{Grant}
-use Rattle.capwords.proofs.Backwards.{slashed-append}
+use Rattle.capspec.proofs.Backwards.{slashed-append}
 use Rattle.capspec.specs.declared.begun.Begun.{Begun}
-use Rattle.capspec.specs.Begun.{Begins, IsBegun, ShareFirst, IsAlike, AreAlike, AreBegun}
+use Rattle.capspec.specs.Begun.{AreAlike, AreBegun, Begins, IsAlike, IsBegun, ShareFirst}
 use Rattle.capspec.specs.declared.kept.Alike.{Alike}
 
 -- ---- one name

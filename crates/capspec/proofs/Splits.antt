@@ -1,11 +1,11 @@
 -- The longest front of a text, as a loop finds it.
 use Rattle.std.proofs.Common.{◌≡◌, ℕ, ◌+◌, ◌<◌, ◌≤◌, Bool, true, false, List, ◌++◌, length, get_or, take, drop, refl, sym, ap, ◌∙◌, arith, take-add}
 use Rattle.std.proofs.Math.Seq.{drop-cons, drop-length}
-use Rattle.std.proofs.lemmas.List.{take-append-drop, take_all, take_at, drop_at, drop-drop}
+use Rattle.std.proofs.lemmas.List.{drop-drop, drop_at, take-append-drop, take_all, take_at}
 use Rattle.std.proofs.lemmas.List.Folds.{list_all-append}
 use Rattle.std.specs.List.{list_all}
 use Rattle.capspec.specs.declared.bytes.ByteSet.{ByteSet}
-use Rattle.capspec.specs.Bytes.{is_in, begins, SplitsWhile}
+use Rattle.capspec.specs.Bytes.{SplitsWhile, begins, is_in}
 
 pub begins-drop : (test : ℕ → Bool) (text : List ℕ) (at : ℕ) → at < length text → begins test (drop at text) ≡ test (get_or text at 0)
 begins-drop test text at within = rw (drop-cons text at 0) refl

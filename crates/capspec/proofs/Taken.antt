@@ -1,26 +1,27 @@
 -- Values of items, taken from the front of a text, and why there is none.
-use Rattle.std.proofs.Common.{◌≡◌, ◌≢◌, ℕ, ◌≤◌, Bool, true, false, not, ◌||◌, ◌&&◌, eqb, List, [], ◌∷◌, ◌++◌, length, Some, None, refl, sym, ap, subst, ◌∙◌, inl, inr, append_assoc, arith}
+use Rattle.std.proofs.Common.{◌≡◌, ◌≢◌, ℕ, ◌≤◌, Bool, true, false, not, ◌||◌, ◌&&◌, eqb, List, [], ◌∷◌, ◌++◌, length, Some, None, refl, sym, ap, subst, ◌∙◌}
+use Rattle.std.proofs.Common.{inl, inr, append_assoc, arith}
 use Rattle.std.specs.Prelude.{codes}
 use Rattle.std.specs.List.{list_all, list_any}
 use Rattle.std.specs.Str.{bytes_eq}
 use Rattle.std.specs.Char.{digit_value}
-use Rattle.std.proofs.lemmas.Bool.{and_parts, or_from, true≢false, not-false, eqb-true}
+use Rattle.std.proofs.lemmas.Bool.{and_parts, eqb-true, not-false, or_from, true≢false}
 use Rattle.std.proofs.lemmas.Bool.Decides.{nat_tests}
 use Rattle.std.proofs.lemmas.List.{nil_from_length}
 use Rattle.std.proofs.lemmas.Slice.Eq.{bytes_eq-Decides}
 use Rattle.std.proofs.lemmas.Str.{digit_value_digit}
-use Rattle.capspec.specs.declared.bytes.ByteSet.TheVariants.{Plain, BarePath, AllBut}
+use Rattle.capspec.specs.declared.bytes.ByteSet.TheVariants.{AllBut, BarePath, Plain}
 use Rattle.capspec.specs.declared.fault.SpecFaultKind.{SpecFaultKind}
 use Rattle.capspec.specs.declared.fault.SpecFaultKind.TheVariants as kinds
 use Rattle.capspec.specs.declared.items.Key.TheVariants as keys
-use Rattle.capspec.specs.Bytes.{is_in, is_white, is_mark, begins, ends_word, is_bare_path_byte, SplitsWhile, TakesWord}
-use Rattle.capspec.specs.Items.{is_control, can_be_path, IsNumber, IsQuotedBy, IsPlainOrQuoted, IsPath}
-use Rattle.capspec.specs.Items.Item.{FsName, Path, Uid, Gids, RootSquash}
+use Rattle.capspec.specs.Bytes.{SplitsWhile, TakesWord, begins, ends_word, is_bare_path_byte, is_in, is_mark, is_white}
+use Rattle.capspec.specs.Items.{IsNumber, IsPath, IsPlainOrQuoted, IsQuotedBy, can_be_path, is_control}
+use Rattle.capspec.specs.Items.Item.{FsName, Gids, Path, RootSquash, Uid}
 use Rattle.capspec.specs.Names.{IsFsName}
-use Rattle.capwords.specs.Paths.{names_of, are_few_and_short}
-use Rattle.capspec.specs.Words.{front_while, rest_while, plain_word, behind_word, is_digit, is_quote, IsNoValue, IsWrongOther, IsWrongQuoted, IsWrongPath}
-use Rattle.capspec.proofs.Fronts.{which, split_front, split_rest, front_parts, rest_stops, within_front, within_rest}
-use Rattle.capspec.proofs.Valued.{bare_is_plain, digit_is_plain, numeral_digits, quote_not_bare, path_in, path_in_is, quoted_path_in}
+use Rattle.capspec.specs.Paths.{are_few_and_short, names_of}
+use Rattle.capspec.specs.Words.{IsNoValue, IsWrongOther, IsWrongPath, IsWrongQuoted, behind_word, front_while, is_digit, is_quote, plain_word, rest_while}
+use Rattle.capspec.proofs.Fronts.{front_parts, rest_stops, split_front, split_rest, which, within_front, within_rest}
+use Rattle.capspec.proofs.Valued.{bare_is_plain, digit_is_plain, numeral_digits, path_in, path_in_is, quote_not_bare, quoted_path_in}
 
 pub not_that : (word text other : List ℕ) (r : Bool) → r ≡ bytes_eq word other → other ≡ text → r ≡ false → word ≢ text
 not_that word text other r same is differs e = true≢false (sym ((bytes_eq-Decides word other).1 (e ∙ sym is)) ∙ sym same ∙ differs)

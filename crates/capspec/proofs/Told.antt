@@ -11,9 +11,11 @@ use Rattle.capspec.specs.declared.reading.Refusal.{Refusal}
 use Rattle.capspec.specs.Bytes.{ends_word, is_in}
 use Rattle.capspec.specs.declared.bytes.ByteSet.TheVariants.{AllBut}
 use Rattle.capspec.specs.Items.{Item}
-use Rattle.capspec.specs.Words.{next, front_while, rest_while, is_quote, plain_word, IsWrongFirst, IsWrongSecond, IsWrongOther, IsWrongQuoted, IsWrongPath, IsWrongGids, IsWrongValue, IsWrongItem}
-use Rattle.capwords.specs.Flags.{is_left_out}
-use Rattle.capspec.specs.Faults.{stood, grant_end, ItemsGive, grant_ends, wrong_item, next_item, GrantGives, wrong_first, wrong_second, wrong_items, right_grant, GrantsGive, wrong_grant, last_grant, next_grant, TestsGive, IsFault}
+use Rattle.capspec.specs.Words.{IsWrongFirst, IsWrongGids, IsWrongItem, IsWrongOther, IsWrongPath, IsWrongQuoted, IsWrongSecond, IsWrongValue, front_while}
+use Rattle.capspec.specs.Words.{is_quote, next, plain_word, rest_while}
+use Rattle.capspec.specs.Flags.{is_left_out}
+use Rattle.capspec.specs.Faults.{GrantGives, GrantsGive, IsFault, ItemsGive, TestsGive, grant_end, grant_ends, last_grant, next_grant, next_item, right_grant}
+use Rattle.capspec.specs.Faults.{stood, wrong_first, wrong_grant, wrong_item, wrong_items, wrong_second}
 
 abbrev IsTold : SpecFaultKind → Type 0
 IsTold kind = kind ≢ kinds.NoMemory

@@ -1,7 +1,7 @@
 -- The value of an item stands for one item, and the text that it is at the front of tells where it ends.
 use Rattle.std.proofs.Common.{◌≡◌, ℕ, Bool, true, false, eqb, ◌||◌, List, [], ◌∷◌, ◌++◌, Some, None, map, refl, sym, ap, ◌∙◌, append_assoc, arith, inl, inr}
 use Rattle.std.specs.Prelude.{if◌then◌else◌}
-use Rattle.std.specs.List.{list_all, slice_split, AllByRecursion}
+use Rattle.std.specs.List.{AllByRecursion, list_all, slice_split}
 use Rattle.std.proofs.lemmas.List.Elements.{All-from_recursion}
 use Rattle.std.proofs.lemmas.List.Splits.{slice_split_at, slice_split_none}
 use Rattle.std.specs.Str.Parse.{AllDigits, digits_value}
@@ -9,17 +9,17 @@ use Rattle.std.proofs.lemmas.Bool.{and_parts, eqb-true, not-true}
 use Rattle.std.proofs.lemmas.Bool.Decides.{nat_tests}
 use Rattle.std.proofs.lemmas.List.{append-nil}
 use Rattle.std.proofs.lemmas.Str.Parse.{digit_from_value}
-use Rattle.capspec.specs.declared.bytes.ByteSet.TheVariants.{Plain, AllBut}
+use Rattle.capspec.specs.declared.bytes.ByteSet.TheVariants.{AllBut, Plain}
 use Rattle.capspec.specs.declared.items.Key.{Key}
 use Rattle.capspec.specs.declared.items.Key.TheVariants as keys
-use Rattle.capspec.specs.Bytes.{is_in, is_white, is_mark, begins, ends_word, is_fs_name_byte, is_bare_path_byte}
-use Rattle.capspec.specs.Items.{Item, key_of, is_comma, IsNumber, IsQuotedBy, IsPath, IsValue}
-use Rattle.capspec.specs.Items.Item.{FsName, Path, Uid, Gids, RootSquash}
+use Rattle.capspec.specs.Bytes.{begins, ends_word, is_bare_path_byte, is_fs_name_byte, is_in, is_mark, is_white}
+use Rattle.capspec.specs.Items.{IsNumber, IsPath, IsQuotedBy, IsValue, Item, is_comma, key_of}
+use Rattle.capspec.specs.Items.Item.{FsName, Gids, Path, RootSquash, Uid}
 use Rattle.capspec.specs.Names.{IsFsName}
-use Rattle.capwords.specs.Paths.{names_of}
+use Rattle.capspec.specs.Paths.{names_of}
 use Rattle.capspec.specs.Separated.{AreSeparated}
-use Rattle.capspec.specs.Words.{front_while, is_digit, goes_on, gids_word, is_quote}
-use Rattle.capspec.proofs.Fronts.{not_byte, front_is}
+use Rattle.capspec.specs.Words.{front_while, gids_word, goes_on, is_digit, is_quote}
+use Rattle.capspec.proofs.Fronts.{front_is, not_byte}
 
 -- ---- bytes of words
 

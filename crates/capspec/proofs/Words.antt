@@ -1,27 +1,28 @@
 -- The items of a grant as words, read from the left.
-use Rattle.std.proofs.Common.{◌≡◌, ℕ, ◌<◌, ◌≤◌, Bool, true, false, not, ◌||◌, ◌&&◌, List, [], ◌∷◌, ◌++◌, length, Option, Some, None, Result, Ok, Err, refl, sym, ap, subst, ◌∙◌, inl, inr, append_assoc, arith, length-append, Bor}
-use Rattle.std.specs.Prelude.{IsTrue, filter_map, unwrap_or, is_some, if◌then◌else◌}
+use Rattle.std.proofs.Common.{◌≡◌, ℕ, ◌<◌, ◌≤◌, Bool, true, false, not, ◌||◌, ◌&&◌, List, [], ◌∷◌, ◌++◌, length, Option, Some, None, Result, Ok, Err, refl}
+use Rattle.std.proofs.Common.{sym, ap, subst, ◌∙◌, inl, inr, append_assoc, arith, length-append, Bor}
+use Rattle.std.specs.Prelude.{IsTrue, filter_map, if◌then◌else◌, is_some, unwrap_or}
 use Rattle.std.specs.Option.{option_map, option_to_list}
-use Rattle.std.proofs.lemmas.Bool.{true≢false, not-false}
+use Rattle.std.proofs.lemmas.Bool.{not-false, true≢false}
 use Rattle.std.proofs.lemmas.List.{append-nil}
 use Rattle.std.proofs.lemmas.List.Elements.{filter_map-append}
 use Rattle.capspec.specs.declared.bytes.ByteSet.TheVariants.{White}
 use Rattle.capspec.specs.declared.draft.Draft.{Draft}
 use Rattle.capspec.specs.declared.fault.SpecFaultKind.{SpecFaultKind}
 use Rattle.capspec.specs.declared.fault.SpecFaultKind.TheVariants as kinds
-use Rattle.capwords.specs.declared.flags.Flags4.{Flags4}
+use Rattle.capspec.specs.declared.flags.Flags4.{Flags4}
 use Rattle.capspec.specs.declared.items.Key.{Key}
 use Rattle.capspec.specs.declared.items.Key.TheVariants as keys
 use Rattle.capspec.specs.declared.reading.Refusal.{Refusal}
-use Rattle.capspec.specs.Words.{next, BeginsWithItem, IsWrongItem}
-use Rattle.capspec.specs.Faults.{fault_at, is_said, stood, gids_item, grant_end, ItemsGive, grant_ends, wrong_item, next_item}
-use Rattle.capspec.proofs.Fronts.{which, split_rest}
-use Rattle.capspec.specs.Bytes.{is_white, is_mark, ends_word, ends_grant, SplitsWhile}
-use Rattle.capspec.specs.Draft.{no_items, has, names_in, Adds, AddsItem, grant_of}
-use Rattle.capspec.specs.Grants.{fsname_in, path_in, uid_in, gids_in, root_squash_in, IsSaidOnce, AreItemsOf, IsGap, AreWordsOf}
-use Rattle.capspec.specs.Items.{Item, key_of, IsItem}
-use Rattle.capspec.specs.Items.Item.{FsName, Path, Uid, Gids, RootSquash}
-use Rattle.capwords.specs.Paths.{names_of}
+use Rattle.capspec.specs.Words.{BeginsWithItem, IsWrongItem, next}
+use Rattle.capspec.specs.Faults.{ItemsGive, fault_at, gids_item, grant_end, grant_ends, is_said, next_item, stood, wrong_item}
+use Rattle.capspec.proofs.Fronts.{split_rest, which}
+use Rattle.capspec.specs.Bytes.{SplitsWhile, ends_grant, ends_word, is_mark, is_white}
+use Rattle.capspec.specs.Draft.{Adds, AddsItem, grant_of, has, names_in, no_items}
+use Rattle.capspec.specs.Grants.{AreItemsOf, AreWordsOf, IsGap, IsSaidOnce, fsname_in, gids_in, path_in, root_squash_in, uid_in}
+use Rattle.capspec.specs.Items.{IsItem, Item, key_of}
+use Rattle.capspec.specs.Items.Item.{FsName, Gids, Path, RootSquash, Uid}
+use Rattle.capspec.specs.Paths.{names_of}
 use Rattle.capspec.specs.Parts.{ReadsItems}
 
 neither : (a b : Bool) → (a || b) ≡ true → a ≡ false → b ≡ false → ⊥

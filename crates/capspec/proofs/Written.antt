@@ -1,23 +1,24 @@
 -- The written form of grants reads as these grants.
-use Rattle.std.proofs.Common.{◌≡◌, ◌≢◌, ◌⊎◌, ℕ, ◌<◌, ◌≤◌, ◌^◌, Bool, true, false, List, [], ◌∷◌, ◌++◌, length, Option, Some, None, refl, sym, ap, subst, ◌∙◌, inl, inr, append_assoc, arith, length-append}
-use Rattle.std.specs.Prelude.{codes, filter_map, IsTrue}
+use Rattle.std.proofs.Common.{◌≡◌, ◌≢◌, ◌⊎◌, ℕ, ◌<◌, ◌≤◌, ◌^◌, Bool, true, false, List, [], ◌∷◌, ◌++◌, length, Option, Some, None, refl, sym, ap, subst, ◌∙◌}
+use Rattle.std.proofs.Common.{inl, inr, append_assoc, arith, length-append}
+use Rattle.std.specs.Prelude.{IsTrue, codes, filter_map}
 use Rattle.std.specs.Fmt.{decimal}
 use Rattle.std.specs.List.{AllByRecursion, join_by}
 use Rattle.std.proofs.lemmas.Fmt.{decimal_is_IsNumeral}
 use Rattle.std.proofs.lemmas.List.{append-nil}
 use Rattle.std.proofs.lemmas.List.Elements.{filter_map-append}
-use Rattle.capwords.specs.declared.flags.Flags4.{Flags4}
-use Rattle.capwords.specs.declared.flags.Flags4.TheVariants.{R, Rw, Rwp, Rws, Rwps}
+use Rattle.capspec.specs.declared.flags.Flags4.{Flags4}
+use Rattle.capspec.specs.declared.flags.Flags4.TheVariants.{R, Rw, Rwp, Rwps, Rws}
 use Rattle.capspec.specs.declared.grant.Grant.{Grant}
 use Rattle.capspec.specs.Bytes.{is_mark}
-use Rattle.capwords.specs.Flags.{IsFlags, flags_text}
-use Rattle.capspec.specs.Grants.{fsname_in, path_in, uid_in, gids_in, root_squash_in, IsSaidOnce, AreItemsOf, AreWordsOf, IsGrant, Reads, AreNoneOrRead}
-use Rattle.capspec.specs.Items.{Item, is_comma, IsNumber, IsItem}
-use Rattle.capspec.specs.Items.Item.{FsName, Path, Uid, Gids, RootSquash}
+use Rattle.capspec.specs.Flags.{IsFlags, flags_text}
+use Rattle.capspec.specs.Grants.{AreItemsOf, AreNoneOrRead, AreWordsOf, IsGrant, IsSaidOnce, Reads, fsname_in, gids_in, path_in, root_squash_in, uid_in}
+use Rattle.capspec.specs.Items.{IsItem, IsNumber, Item, is_comma}
+use Rattle.capspec.specs.Items.Item.{FsName, Gids, Path, RootSquash, Uid}
 use Rattle.capspec.specs.Names.{IsFsName}
-use Rattle.capwords.specs.Paths.{slashed}
+use Rattle.capspec.specs.Paths.{slashed}
 use Rattle.capspec.specs.Separated.{AreSeparated}
-use Rattle.capspec.specs.Written.{written_path, fsname_text, path_text, uid_text, gids_text, root_squash_text, grant_text, written}
+use Rattle.capspec.specs.Written.{fsname_text, gids_text, grant_text, path_text, root_squash_text, uid_text, written, written_path}
 use Rattle.capspec.proofs.OneReading.{reads_once}
 use Rattle.capspec.proofs.Slashed.{written_value}
 

@@ -1,6 +1,6 @@
 -- How far a path's text begins with the names of another path.
 use Rattle.std.specs.Prelude.{◌≡◌, ◌≢◌, ℕ, ◌+◌, ◌<◌, ◌≤◌, Some, List, [], ◌∷◌, length, take, slice_get}
-use Rattle.capwords.specs.Paths.{slashed}
+use Rattle.capspec.specs.Paths.{slashed}
 use Rattle.capspec.specs.declared.grant.Grant.{Grant}
 use Rattle.capspec.specs.declared.begun.Begun.{Begun}
 use Rattle.capspec.specs.declared.kept.Alike.{Alike}

@@ -2,7 +2,7 @@
 use Rattle.std.specs.Prelude.{◌≡◌, ℕ, Bool, true, false, not, ◌||◌, ◌&&◌, nat_le, ◌==◌, List, [], ◌∷◌, ◌++◌, IsTrue, IsFalse}
 use Rattle.std.specs.List.{list_all}
 use Rattle.capspec.specs.declared.bytes.ByteSet.{ByteSet}
-use Rattle.capspec.specs.declared.bytes.ByteSet.TheVariants.{White, FsName, BarePath, Plain, Only, AllBut}
+use Rattle.capspec.specs.declared.bytes.ByteSet.TheVariants.{AllBut, BarePath, FsName, Only, Plain, White}
 
 -- a space, a tab or a line feed
 abbrev pub is_white : ℕ → Bool

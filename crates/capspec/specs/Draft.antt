@@ -2,15 +2,15 @@
 use Rattle.std.specs.Prelude.{◌≡◌, ℕ, Bool, true, false, Option, Some, None, List, [], unwrap_or, is_some, IsFalse}
 use Rattle.std.specs.Option.{option_map}
 use Rattle.capspec.specs.declared.draft.Draft.{Draft}
-use Rattle.capwords.specs.declared.flags.Flags4.{Flags4}
+use Rattle.capspec.specs.declared.flags.Flags4.{Flags4}
 use Rattle.capspec.specs.declared.grant.Grant.{Grant}
 use Rattle.capspec.specs.declared.items.Key.{Key}
 use Rattle.capspec.specs.declared.items.Key.TheVariants as keys
-use Rattle.capwords.specs.Paths.{names_of}
+use Rattle.capspec.specs.Paths.{names_of}
 use Rattle.capspec.specs.Bytes.{TakesWord}
-use Rattle.capspec.specs.Words.{goes_on, BeginsWithItem}
-use Rattle.capspec.specs.Items.{Item, key_of, IsValue}
-use Rattle.capspec.specs.Items.Item.{FsName, Path, Uid, Gids, RootSquash}
+use Rattle.capspec.specs.Words.{BeginsWithItem, goes_on}
+use Rattle.capspec.specs.Items.{IsValue, Item, key_of}
+use Rattle.capspec.specs.Items.Item.{FsName, Gids, Path, RootSquash, Uid}
 
 -- a draft with these flags, before the items
 abbrev pub no_items : Flags4 → Draft

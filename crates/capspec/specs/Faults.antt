@@ -1,20 +1,21 @@
 -- The first fault of a text: its words are tested from the left, and each grant when it has ended.
-use Rattle.std.specs.Prelude.{◌≡◌, ◌<◌, ◌-◌, ◌⊎◌, ℕ, Bool, true, false, Option, Some, None, Result, Ok, Err, List, [], ◌∷◌, ◌++◌, length, codes, filter_map, IsTrue, IsFalse, if◌then◌else◌}
+use Rattle.std.specs.Prelude.{◌≡◌, ◌<◌, ◌-◌, ◌⊎◌, ℕ, Bool, true, false, Option, Some, None, Result, Ok, Err, List, [], ◌∷◌, ◌++◌, length, codes, filter_map}
+use Rattle.std.specs.Prelude.{IsTrue, IsFalse, if◌then◌else◌}
 use Rattle.std.specs.List.{list_all}
 use Rattle.capspec.specs.declared.fault.SpecFault.{SpecFault}
 use Rattle.capspec.specs.declared.fault.SpecFaultKind.{SpecFaultKind}
 use Rattle.capspec.specs.declared.fault.SpecFaultKind.TheVariants.{Empty, GidsWithoutUid, NoMemory}
-use Rattle.capwords.specs.declared.flags.Flags4.{Flags4}
+use Rattle.capspec.specs.declared.flags.Flags4.{Flags4}
 use Rattle.capspec.specs.declared.grant.Grant.{Grant}
 use Rattle.capspec.specs.declared.items.Key.{Key}
 use Rattle.capspec.specs.declared.items.Key.TheVariants as keys
 use Rattle.capspec.specs.declared.reading.Refusal.{Refusal}
-use Rattle.capspec.specs.Bytes.{is_white, ends_grant}
-use Rattle.capwords.specs.Flags.{IsFlags}
-use Rattle.capspec.specs.Grants.{fsname_in, path_in, uid_in, gids_in, root_squash_in, AreItemsOf}
+use Rattle.capspec.specs.Bytes.{ends_grant, is_white}
+use Rattle.capspec.specs.Flags.{IsFlags}
+use Rattle.capspec.specs.Grants.{AreItemsOf, fsname_in, gids_in, path_in, root_squash_in, uid_in}
 use Rattle.capspec.specs.Items.{Item, key_of}
 use Rattle.capspec.specs.Items.Item.{Gids}
-use Rattle.capspec.specs.Words.{next, plain_word, behind_word, BeginsWithItem, IsWrongFirst, IsWrongSecond, IsWrongItem}
+use Rattle.capspec.specs.Words.{BeginsWithItem, IsWrongFirst, IsWrongItem, IsWrongSecond, behind_word, next, plain_word}
 
 -- the fault at the front of what is left of a text
 abbrev pub fault_at : List ℕ → SpecFaultKind → Refusal

@@ -2,11 +2,11 @@
 use Rattle.std.specs.Prelude.{◌≡◌, ◌⊎◌, ℕ, ◌<◌, ◌≤◌, Option, Some, None, Bool, true, false, List, [], ◌∷◌, ◌++◌, length, codes, filter_map, IsTrue}
 use Rattle.std.specs.List.{list_all}
 use Rattle.capspec.specs.declared.grant.Grant.{Grant}
-use Rattle.capspec.specs.Bytes.{is_white, is_mark}
-use Rattle.capwords.specs.Flags.{IsFlags}
-use Rattle.capspec.specs.Items.{Item, IsItem}
+use Rattle.capspec.specs.Bytes.{is_mark, is_white}
+use Rattle.capspec.specs.Flags.{IsFlags}
+use Rattle.capspec.specs.Items.{IsItem, Item}
 use Rattle.capspec.specs.Separated.{AreSeparated}
-use Rattle.capspec.specs.Items.Item.{FsName, Path, Uid, Gids, RootSquash}
+use Rattle.capspec.specs.Items.Item.{FsName, Gids, Path, RootSquash, Uid}
 
 -- what an item says of one field of the grant; None where it is not about that field
 abbrev pub fsname_in : Item → Option (Option (List ℕ))

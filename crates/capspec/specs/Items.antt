@@ -6,7 +6,7 @@ use Rattle.capspec.specs.declared.items.Key.{Key}
 use Rattle.capspec.specs.declared.items.Key.TheVariants as keys
 use Rattle.capspec.specs.Bytes.{is_bare_path_byte}
 use Rattle.capspec.specs.Names.{IsFsName}
-use Rattle.capwords.specs.Paths.{names_of, are_few_and_short}
+use Rattle.capspec.specs.Paths.{are_few_and_short, names_of}
 use Rattle.capspec.specs.Separated.{AreSeparated}
 
 -- what a word behind the flags says of the grant

@@ -9,3 +9,5 @@ pub mod Words
 pub mod Faults
 pub mod Written
 pub mod Begun
+pub mod Flags
+pub mod Paths

@@ -4,7 +4,7 @@ use Rattle.capspec.specs.declared.draft.Draft.{Draft}
 use Rattle.capspec.specs.Bytes.{ends_grant}
 use Rattle.capspec.specs.Draft.{grant_of}
 use Rattle.capspec.specs.Items.{Item}
-use Rattle.capspec.specs.Faults.{ItemsGive, GrantGives}
+use Rattle.capspec.specs.Faults.{GrantGives, ItemsGive}
 use Rattle.capspec.specs.Grants.{AreItemsOf, AreWordsOf, IsBlank, IsGrant}
 
 -- The items up to the end of a grant, with the white space behind them; with the flags that old has, they are the grant of new.

@@ -1,11 +1,11 @@
 -- The one text that grants are written as.
 use Rattle.std.specs.Prelude.{ℕ, Bool, true, false, Option, Some, None, not, ◌==◌, List, [], ◌∷◌, ◌++◌, codes, if◌then◌else◌}
 use Rattle.std.specs.Fmt.{decimal}
-use Rattle.std.specs.List.{list_all, join_by}
+use Rattle.std.specs.List.{join_by, list_all}
 use Rattle.capspec.specs.declared.grant.Grant.{Grant}
 use Rattle.capspec.specs.Bytes.{is_bare_path_byte}
-use Rattle.capwords.specs.Flags.{flags_text}
-use Rattle.capwords.specs.Paths.{slashed}
+use Rattle.capspec.specs.Flags.{flags_text}
+use Rattle.capspec.specs.Paths.{slashed}
 
 -- whether each byte may stand in a path without quotes
 abbrev pub can_be_bare : List ℕ → Bool

@@ -1,6 +1,6 @@
 //! How far a path's text begins with the names of another path.
 ghost use Rattle.std.specs.Prelude.{◌≡◌, ◌↔◌, ◌+◌, ◌<◌, ◌≤◌, ◌∷◌, ℕ, List, IsTrue, length, map, take, drop};
-ghost use Rattle.capwords.specs.Paths.{slashed};
+ghost use Rattle.capspec.specs.Paths.{slashed};
 ghost use Rattle.capspec.specs.Begun.{Begins, IsBegun, ShareFirst};
 
 /// How many of a path's first names a text begins with, and how many bytes these take with a slash before each.

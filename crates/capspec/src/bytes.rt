@@ -2,7 +2,7 @@
 
 ghost use Rattle.std.specs.Prelude.{◌≡◌, ◌≢◌, ◌++◌, ◌≤◌, ℕ, List, length, take, MatchOption, IsTrue};
 ghost use Rattle.std.specs.List.{list_all};
-ghost use Rattle.capspec.specs.Bytes.{is_in, is_bare_path_byte, ends_word, ends_grant, SplitsWhile};
+ghost use Rattle.capspec.specs.Bytes.{SplitsWhile, ends_grant, ends_word, is_bare_path_byte, is_in};
 ghost use Rattle.capspec.specs.declared.bytes.ByteSet.TheVariants.{BarePath};
 
 // How many bytes of a path are looked at at once.

@@ -1,11 +1,11 @@
 //! A grant as far as its text was read.
 
+use crate::flags::Flags4;
 use crate::fsname::FsName;
 use crate::gids::Gids;
 use crate::grant::Grant;
 use crate::items::Key;
 use crate::tree_path::TreePath;
-use capwords::Flags4;
 use std::alloc::{AllocError, Global};
 
 /// What the items of one grant have said so far. It takes no memory: its path is still a part of the text.
@@ -34,7 +34,7 @@ impl Drop for Draft<'_> {
 
 impl<'a> Draft<'a> {
     ghost use Rattle.std.specs.Prelude.{◌≡◌, IfOk};
-    ghost use Rattle.capspec.specs.Draft.{has, no_items, grant_of};
+    ghost use Rattle.capspec.specs.Draft.{grant_of, has, no_items};
 
     /// A grant with these flags, before its items.
     pub fn new(flags: Flags4) -> Draft<'a>

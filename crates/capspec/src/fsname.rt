@@ -21,7 +21,7 @@ impl Drop for FsName {
 }
 
 impl Model for FsName {
-    ghost use Rattle.std.specs.Prelude.{ℕ, List};
+    ghost use Rattle.std.specs.Prelude.{List, ℕ};
 
     ghost Value = { List ℕ };
 

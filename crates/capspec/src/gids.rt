@@ -20,7 +20,7 @@ impl Drop for Gids {
 }
 
 impl Model for Gids {
-    ghost use Rattle.std.specs.Prelude.{ℕ, List};
+    ghost use Rattle.std.specs.Prelude.{List, ℕ};
 
     ghost Value = { List ℕ };
 
@@ -51,7 +51,7 @@ impl Default for Gids {
 
 impl Gids {
     ghost use Rattle.std.specs.Prelude.{◌≡◌, [], ◌∷◌, ◌++◌, ◌<◌, ◌≤◌, ◌↔◌, length, IsTrue};
-    ghost use Rattle.std.specs.Bool.{OnTrue, OnFalse};
+    ghost use Rattle.std.specs.Bool.{OnFalse, OnTrue};
 
     /// No group number.
     pub fn new() -> Gids

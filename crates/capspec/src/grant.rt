@@ -1,10 +1,10 @@
 //! Grants, and lists of them.
 
 use crate::fault::{SpecFault, SpecFaultKind};
+use crate::flags::Flags4;
 use crate::fsname::FsName;
 use crate::gids::Gids;
 use crate::tree_path::TreePath;
-use capwords::Flags4;
 use std::alloc::{AllocError, Global};
 use std::marker::Model;
 

@@ -2,9 +2,9 @@
 
 ghost use Rattle.std.specs.Prelude.{◌≡◌, ℕ, List, IsTrue, IfOk, IfErr, MatchOption};
 ghost use Rattle.capspec.specs.Bytes.{ends_word};
-ghost use Rattle.capspec.specs.Draft.{has, AddsValue, AddsItem};
+ghost use Rattle.capspec.specs.Draft.{AddsItem, AddsValue, has};
 ghost use Rattle.capspec.specs.Items.{key_text};
-ghost use Rattle.capspec.specs.Words.{plain_word, IsKeyed, IsWrongOther, IsWrongValue, IsWrongItem};
+ghost use Rattle.capspec.specs.Words.{IsKeyed, IsWrongItem, IsWrongOther, IsWrongValue, plain_word};
 
 use crate::bytes::{ByteSet, ends_word, split_while, strip};
 use crate::draft::Draft;

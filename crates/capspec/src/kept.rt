@@ -1,7 +1,7 @@
 //! The grants of a session, whose paths are compared with those of many inodes.
 ghost use Rattle.std.specs.Prelude.{◌≡◌, ◌<◌, ◌≤◌, List, length, map};
 ghost use Rattle.capspec.specs.declared.grant.Grant.{Grant as AGrant};
-ghost use Rattle.capspec.specs.Begun.{IsAlike, AreAlike, AreBegun};
+ghost use Rattle.capspec.specs.Begun.{AreAlike, AreBegun, IsAlike};
 
 use crate::begun::{Begun, NOTHING_BEGUN, begun_in, count_shared, go_on};
 use crate::grant::{Grant, Grants, MAX_GRANTS};

@@ -1,7 +1,7 @@
 //! Whether a path's text has few and short names, which most texts show without a look at each name.
 
 ghost use Rattle.std.specs.Prelude.{◌≡◌, ◌==◌, ◌≤◌, length, count_by, IsTrue};
-ghost use Rattle.capwords.specs.Paths.{names_of, are_few_and_short};
+ghost use Rattle.capspec.specs.Paths.{are_few_and_short, names_of};
 
 use crate::bytes::{ByteSet, split_while};
 use crate::path::{MAX_NAME, MAX_NAMES, has_few_short_names};

@@ -1,8 +1,8 @@
 //! The texts of paths.
 
 ghost use Rattle.std.specs.Prelude.{◌≡◌, [], ◌∷◌, ◌++◌, IfOk, MatchOption, OnOk, IsTrue, map};
-ghost use Rattle.capwords.specs.Paths.{names_of, slashed, has_double_slash, are_few_and_short};
-ghost use Rattle.capspec.specs.Written.{can_be_bare, has_no_double_quote, written_path, path_text};
+ghost use Rattle.capspec.specs.Paths.{are_few_and_short, has_double_slash, names_of, slashed};
+ghost use Rattle.capspec.specs.Written.{can_be_bare, has_no_double_quote, path_text, written_path};
 
 use crate::bytes::{ByteSet, split_while};
 use crate::tree_path::TreePath;

@@ -1,22 +1,22 @@
 //! Reading of whole grant texts.
 
 ghost use Rattle.std.specs.Prelude.{◌≡◌, ◌⊎◌, ℕ, ◌<◌, ◌≤◌, ◌-◌, ◌++◌, ◌∷◌, List, [], length, IsTrue, IfOk, IfErr, IsOkAnd, MatchResult, None, Err};
-ghost use Rattle.capspec.specs.Bytes.{ends_word, ends_grant};
+ghost use Rattle.capspec.specs.Bytes.{ends_grant, ends_word};
 ghost use Rattle.capspec.specs.Draft.{grant_of, no_items};
-ghost use Rattle.capspec.specs.Faults.{ItemsGive, GrantGives, IsFault, IsNoMemory};
-ghost use Rattle.capwords.specs.Flags.{IsFlags, is_left_out};
+ghost use Rattle.capspec.specs.Faults.{GrantGives, IsFault, IsNoMemory, ItemsGive};
+ghost use Rattle.capspec.specs.Flags.{IsFlags, is_left_out};
 ghost use Rattle.capspec.specs.Grants.{Reads};
-ghost use Rattle.capspec.specs.Parts.{ReadsItems, ReadsGrant};
+ghost use Rattle.capspec.specs.Parts.{ReadsGrant, ReadsItems};
 ghost use Rattle.capspec.specs.Words.{IsWrongSecond};
-ghost use Rattle.capwords.specs.declared.flags.Flags4.{Flags4};
+ghost use Rattle.capspec.specs.declared.flags.Flags4.{Flags4};
 ghost use Rattle.capspec.specs.declared.grant.Grant.{Grant};
 
 use crate::bytes::{ByteSet, ends_grant, ends_word, split_while, strip};
 use crate::draft::Draft;
 use crate::fault::{SpecFault, SpecFaultKind};
+use crate::flags::{Flags4, is_left_out};
 use crate::grant::{Grant, Grants, MAX_GRANTS};
 use crate::items::read_item;
-use capwords::{Flags4, is_left_out};
 use std::alloc::{AllocError, Global};
 
 /// A fault, and how many bytes are left of the text from its place on.

@@ -2,8 +2,8 @@
 
 use crate::begun::Begun;
 use crate::measure::{count_slashes, has_fit_names};
+use crate::names::is_text_of;
 use crate::path::{is_slashed, split_names, write_names};
-use capwords::is_text_of;
 use std::alloc::{AllocError, Global};
 use std::marker::Model;
 
@@ -26,7 +26,7 @@ impl Drop for TreePath {
 
 impl Model for TreePath {
     ghost use Rattle.std.specs.Prelude.{◌≡◌, ℕ, List, length};
-    ghost use Rattle.capwords.specs.Paths.{names_of, slashed};
+    ghost use Rattle.capspec.specs.Paths.{names_of, slashed};
 
     ghost Value = { List (List ℕ) };
 
@@ -40,7 +40,7 @@ impl TreePath {
     ghost use Rattle.std.specs.List.{starts_with};
     ghost use Rattle.std.specs.Str.{bytes_eq};
     ghost use Rattle.capspec.specs.Begun.{IsBegun};
-    ghost use Rattle.capwords.specs.Paths.{names_of, is_name, slashed, are_few_and_short};
+    ghost use Rattle.capspec.specs.Paths.{are_few_and_short, is_name, names_of, slashed};
 
     /// The path that a text names. Slashes only separate: leading, trailing and doubled ones mean nothing.
     pub fn from_text(alloc: Global, text: &[u8]) -> Result<TreePath, AllocError>

@@ -2,11 +2,14 @@
 
 ghost use Rattle.std.specs.Prelude.{◌≡◌, ◌∷◌, ℕ, IfOk, IfErr, IfSome, IfNone, IsTrue, IsFalse};
 ghost use Rattle.std.specs.List.{list_any};
-ghost use Rattle.capspec.specs.Bytes.{begins, TakesWord};
-ghost use Rattle.capspec.specs.Items.{IsNumber, IsPath, is_control, can_be_path, IsValue};
-ghost use Rattle.capspec.specs.Items.Item.{FsName as FsNameItem, Gids as GidsItem};
-ghost use Rattle.capspec.specs.Words.{front_while, rest_while, is_digit, is_quote, goes_on, IsWrongPath, IsWrongValue};
-ghost use Rattle.capspec.specs.declared.items.Key.TheVariants.{FsName as FsNameKey, Uid as UidKey, Gids as GidsKey};
+ghost use Rattle.capspec.specs.Bytes.{TakesWord, begins};
+ghost use Rattle.capspec.specs.Items.{IsNumber, IsPath, IsValue, can_be_path, is_control};
+ghost use Rattle.capspec.specs.Items.Item.{FsName as FsNameItem};
+ghost use Rattle.capspec.specs.Items.Item.{Gids as GidsItem};
+ghost use Rattle.capspec.specs.Words.{IsWrongPath, IsWrongValue, front_while, goes_on, is_digit, is_quote, rest_while};
+ghost use Rattle.capspec.specs.declared.items.Key.TheVariants.{FsName as FsNameKey};
+ghost use Rattle.capspec.specs.declared.items.Key.TheVariants.{Uid as UidKey};
+ghost use Rattle.capspec.specs.declared.items.Key.TheVariants.{Gids as GidsKey};
 
 use crate::bytes::{ByteSet, ends_word, split_bare_path, split_while};
 use crate::fault::SpecFaultKind;

@@ -4,7 +4,7 @@ ghost use Rattle.std.specs.Prelude.{◌≡◌, ◌≢◌, ◌++◌, [], List, If
 ghost use Rattle.std.specs.Fmt.{decimal};
 ghost use Rattle.std.specs.List.{join_by};
 ghost use Rattle.capspec.specs.Grants.{Reads};
-ghost use Rattle.capspec.specs.Written.{fsname_text, uid_text, gids_text, root_squash_text, grant_text, written};
+ghost use Rattle.capspec.specs.Written.{fsname_text, gids_text, grant_text, root_squash_text, uid_text, written};
 ghost use Rattle.capspec.specs.declared.grant.Grant.{Grant};
 
 use crate::fsname::FsName;

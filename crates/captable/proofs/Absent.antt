@@ -1,14 +1,15 @@
 -- Changes of a table that has no entry for them.
-use Rattle.std.proofs.Common.{◌≡◌, ◌<◌, ◌≤◌, Bool, true, false, not, ◌&&◌, ◌||◌, cond, Some, None, List, [], ◌∷◌, ◌++◌, length, filter, refl, sym, ap, ◌∙◌, arith, append-nil}
+use Rattle.std.proofs.Common.{◌≡◌, ◌<◌, ◌≤◌, Bool, true, false, not, ◌&&◌, ◌||◌, cond, Some, None, List, [], ◌∷◌, ◌++◌, length, filter, refl, sym, ap, ◌∙◌}
+use Rattle.std.proofs.Common.{arith, append-nil}
 use Rattle.std.specs.Prelude.{◌==◌}
 use Rattle.std.proofs.lemmas.Bool.{or_parts}
 use Rattle.capbits.specs.declared.ids.ClientId.{ClientId}
 use Rattle.captable.specs.declared.entry.Holder.{Holder}
 use Rattle.captable.specs.declared.entry.EntryRow.{EntryRow}
-use Rattle.captable.specs.Table.{Table, IsTable, same, is_row_of, entry_at, holders_of_rows, is_among}
-use Rattle.captable.specs.Calls.{without, without_client, touched, moved_last, is_of_client}
+use Rattle.captable.specs.Table.{IsTable, Table, entry_at, holders_of_rows, is_among, is_row_of, same}
+use Rattle.captable.specs.Calls.{is_of_client, moved_last, touched, without, without_client}
 use Rattle.captable.specs.Walks.{first_holder}
-use Rattle.captable.proofs.Tables.{same_equiv, same-is, no_row, holders-filter, among-filter}
+use Rattle.captable.proofs.Tables.{among-filter, holders-filter, no_row, same-is, same_equiv}
 use Rattle.captable.proofs.Searches.{filter-filter, filter-filter_kept}
 use Rattle.captable.proofs.Numbers.{shorter}
 

@@ -7,12 +7,12 @@ use Rattle.captable.specs.declared.entry.Entry.{Entry}
 use Rattle.captable.specs.declared.entry.Sets.{Sets}
 use Rattle.captable.specs.declared.entry.Slot.{Slot}
 use Rattle.captable.specs.Table.{Table, same}
-use Rattle.captable.specs.Kept.{KeptRow, KeptTable, is_kept_of, no_sets, kept_more, kept_without, keeping}
-use Rattle.captable.specs.Nodes.{holder_of, row_of, kept_row_of, with_entry, with_sets, has_number, by_number, table_by, kept_by}
+use Rattle.captable.specs.Kept.{KeptRow, KeptTable, is_kept_of, keeping, kept_more, kept_without, no_sets}
+use Rattle.captable.specs.Nodes.{by_number, has_number, holder_of, kept_by, kept_row_of, row_of, table_by, with_entry, with_sets}
 use Rattle.captable.specs.Linked.{AreBelow}
-use Rattle.captable.proofs.NodesAt.{is_held_by, change_in, set_in}
-use Rattle.captable.proofs.Numbers.{by_number-next, by_number-filter, by_number-map, by_number-same, number-moved}
-use Rattle.captable.proofs.Keeping.{filter-mapped, map-mapped, keeps_number}
+use Rattle.captable.proofs.NodesAt.{change_in, is_held_by, set_in}
+use Rattle.captable.proofs.Numbers.{by_number-filter, by_number-map, by_number-next, by_number-same, number-moved}
+use Rattle.captable.proofs.Keeping.{filter-mapped, keeps_number, map-mapped}
 
 -- ---- a table and what is beside it
 

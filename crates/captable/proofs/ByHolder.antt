@@ -1,10 +1,10 @@
 -- The entry of a holder, after a change of the table.
 use Rattle.std.proofs.Common.{◌≡◌, ℕ, Bool, true, false, not, ◌&&◌, cond, Option, Some, None, List, [], ◌∷◌, take, refl, sym, ap, ◌∙◌}
 use Rattle.std.specs.Prelude.{◌≢◌, ◌==◌}
-use Rattle.std.specs.List.{find, AllByRecursion, Contains, IsDistinct}
+use Rattle.std.specs.List.{AllByRecursion, Contains, IsDistinct, find}
 use Rattle.std.specs.Option.{option_map, option_or}
 use Rattle.std.proofs.lemmas.List.Folds.{find-append}
-use Rattle.std.proofs.lemmas.List.Elements.{All-from_recursion, All-contains}
+use Rattle.std.proofs.lemmas.List.Elements.{All-contains, All-from_recursion}
 use Rattle.capbits.specs.declared.cap.Cap.TheVariants.{P}
 use Rattle.capbits.specs.declared.ids.ClientId.{ClientId}
 use Rattle.capbits.specs.Caps.{Caps, has}
@@ -13,12 +13,13 @@ use Rattle.capbits.specs.SetNumbers.{eq_true}
 use Rattle.captable.specs.declared.entry.Holder.{Holder}
 use Rattle.captable.specs.declared.entry.Entry.{Entry}
 use Rattle.captable.specs.declared.entry.EntryRow.{EntryRow}
-use Rattle.captable.specs.Table.{Table, IsTable, same, is_row_of, entry_of, entry_at, is_among, holders_of_rows}
+use Rattle.captable.specs.Table.{IsTable, Table, entry_at, entry_of, holders_of_rows, is_among, is_row_of, same}
 use Rattle.captable.specs.Tests.{test_at}
-use Rattle.captable.specs.Calls.{new_entry, opened, change_rows, changed, without_released, with_asked, released, without, without_client, asked_row, recalled, is_of_client, without_acked, has_pin, acked}
-use Rattle.captable.proofs.Tables.{same_equiv, same-is}
+use Rattle.captable.specs.Calls.{acked, asked_row, change_rows, changed, has_pin, is_of_client, new_entry, opened, recalled, released, with_asked, without}
+use Rattle.captable.specs.Calls.{without_acked, without_client, without_released}
+use Rattle.captable.proofs.Tables.{same-is, same_equiv}
 use Rattle.captable.proofs.Changes.{no_entry}
-use Rattle.captable.proofs.Searches.{find_passes, find-filter_kept, find-filter_gone, find-map}
+use Rattle.captable.proofs.Searches.{find-filter_gone, find-filter_kept, find-map, find_passes}
 
 -- two that differ are not the same
 pub same-apart : (j k : Holder) → j ≢ k → same j k ≡ false

@@ -11,10 +11,11 @@ use Rattle.captable.specs.declared.entry.Holder.{Holder}
 use Rattle.captable.specs.declared.entry.Entry.{Entry}
 use Rattle.captable.specs.declared.entry.EntryRow.{EntryRow}
 use Rattle.captable.specs.Table.{Table, is_row_of}
-use Rattle.captable.specs.Calls.{new_entry, opened, change_rows, changed, without_released, released, without, without_client, asked_row, recalled, is_of_client, is_of_inode, entries_on}
+use Rattle.captable.specs.Calls.{asked_row, change_rows, changed, entries_on, is_of_client, is_of_inode, new_entry, opened, recalled, released, without}
+use Rattle.captable.specs.Calls.{without_client, without_released}
 use Rattle.captable.proofs.Tables.{same-is}
 use Rattle.captable.proofs.ByHolder.{holder-asked}
-use Rattle.captable.proofs.Searches.{filter-filter_kept, filter-filter, filter-map}
+use Rattle.captable.proofs.Searches.{filter-filter, filter-filter_kept, filter-map}
 
 inos-apart : (a b : Ino) → b ≢ a → (a.0 == b.0) ≡ false
 inos-apart a b apart = by_test (a.0 == b.0) refl

@@ -4,7 +4,7 @@ use Rattle.std.specs.List.{find}
 use Rattle.captable.specs.declared.entry.Holder.{Holder}
 use Rattle.captable.specs.declared.entry.Entry.{Entry}
 use Rattle.captable.specs.declared.entry.EntryRow.{EntryRow}
-use Rattle.captable.specs.Table.{Table, same, is_row_of, entry_of, entry_at}
+use Rattle.captable.specs.Table.{Table, entry_at, entry_of, is_row_of, same}
 use Rattle.captable.specs.Calls.{change_rows, changed}
 
 -- where the holder has no row, nothing changes

@@ -5,20 +5,20 @@ use Rattle.std.proofs.lemmas.Bool.{eq-eqb}
 use Rattle.capbits.specs.declared.ids.ClientId.{ClientId}
 use Rattle.cap_arena.specs.declared.nodes.Node.{Node}
 use Rattle.cap_arena.specs.Walks.{is_among}
-use Rattle.cap_arena.specs.Lists.{Lists, OfClient, node_at, keys}
+use Rattle.cap_arena.specs.Lists.{Lists, OfClient, keys, node_at}
 use Rattle.captable.specs.declared.entry.Entry.{Entry}
 use Rattle.captable.specs.declared.entry.EntryRow.{EntryRow}
 use Rattle.captable.specs.declared.entry.Holder.{Holder}
 use Rattle.captable.specs.declared.entry.Slot.{Slot}
 use Rattle.captable.specs.Table.{Table, is_row_of}
-use Rattle.captable.specs.Calls.{changed, without, is_of_client, is_due_entry}
-use Rattle.captable.specs.Nodes.{holder_of, table_of, IsKeyOf}
+use Rattle.captable.specs.Calls.{changed, is_due_entry, is_of_client, without}
+use Rattle.captable.specs.Nodes.{IsKeyOf, holder_of, table_of}
 use Rattle.captable.specs.Linked.{IsLinked}
-use Rattle.captable.specs.Places.{same_client, is_due_at, ArePlaced}
+use Rattle.captable.specs.Places.{ArePlaced, is_due_at, same_client}
 use Rattle.captable.specs.Polls.{AreCounted, recounted}
 use Rattle.captable.proofs.Polled.{left}
 use Rattle.captable.proofs.ByHolder.{row_of-entry}
-use Rattle.captable.proofs.Counting.{counted-set, counted-without, counted-ended, no_entry}
+use Rattle.captable.proofs.Counting.{counted-ended, counted-set, counted-without, no_entry}
 use Rattle.captable.proofs.Keeping.{is_in}
 use Rattle.captable.proofs.Placed.{has-first}
 use Rattle.captable.proofs.Reading.{entry-found}

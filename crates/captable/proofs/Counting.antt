@@ -1,24 +1,25 @@
 -- How many entries of a client are due, after a change of one entry.
-use Rattle.std.proofs.Common.{◌≡◌, ◌≤◌, ◌<◌, ℕ, ◌+◌, Bool, true, false, not, cond, ◌&&◌, Option, Some, None, List, [], ◌∷◌, ◌++◌, is_some, slice_get, nat_eq, ◌||◌, map, length, filter, refl, sym, ap, subst, ◌∙◌, arith}
+use Rattle.std.proofs.Common.{◌≡◌, ◌≤◌, ◌<◌, ℕ, ◌+◌, Bool, true, false, not, cond, ◌&&◌, Option, Some, None, List, [], ◌∷◌, ◌++◌, is_some, slice_get, nat_eq}
+use Rattle.std.proofs.Common.{◌||◌, map, length, filter, refl, sym, ap, subst, ◌∙◌, arith}
 use Rattle.std.specs.Prelude.{IfSome}
 use Rattle.std.specs.Option.{option_map, option_map_or, unwrap_or}
 use Rattle.std.proofs.lemmas.Bool.{eqb-true}
 use Rattle.std.proofs.lemmas.List.{nil_from_length}
-use Rattle.std.proofs.lemmas.List.Sums.{length-filter, count_by-le-length}
-use Rattle.std.specs.List.{find, AllByRecursion, IsDistinct}
+use Rattle.std.proofs.lemmas.List.Sums.{count_by-le-length, length-filter}
+use Rattle.std.specs.List.{AllByRecursion, IsDistinct, find}
 use Rattle.capbits.specs.declared.ids.ClientId.{ClientId}
 use Rattle.cap_arena.specs.declared.nodes.Node.{Node}
 use Rattle.cap_arena.specs.Walks.{is_among}
-use Rattle.cap_arena.specs.Lists.{Lists, OfClient, node_at, keys}
+use Rattle.cap_arena.specs.Lists.{Lists, OfClient, keys, node_at}
 use Rattle.captable.specs.declared.entry.Slot.{Slot}
 use Rattle.captable.specs.declared.entry.Entry.{Entry}
 use Rattle.captable.specs.declared.entry.EntryRow.{EntryRow}
 use Rattle.captable.specs.declared.entry.Holder.{Holder}
-use Rattle.captable.specs.Table.{same, is_row_of, holders_of_rows}
-use Rattle.captable.specs.Calls.{change_rows, is_of_client, is_due, is_due_entry}
-use Rattle.captable.specs.Nodes.{row_of, with_first, nodes_at, nodes_in}
-use Rattle.captable.specs.Places.{same_client, is_due_at, IsQuiet}
-use Rattle.captable.specs.Polls.{due_count, AreCounted, recounted}
+use Rattle.captable.specs.Table.{holders_of_rows, is_row_of, same}
+use Rattle.captable.specs.Calls.{change_rows, is_due, is_due_entry, is_of_client}
+use Rattle.captable.specs.Nodes.{nodes_at, nodes_in, row_of, with_first}
+use Rattle.captable.specs.Places.{IsQuiet, is_due_at, same_client}
+use Rattle.captable.specs.Polls.{AreCounted, due_count, recounted}
 use Rattle.captable.proofs.Polled.{begun_at, left}
 use Rattle.captable.proofs.Quiet.{clients-same}
 use Rattle.captable.proofs.Searches.{find_passes}

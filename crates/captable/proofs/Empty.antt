@@ -6,7 +6,7 @@ use Rattle.std.specs.FinMap as map
 use Rattle.capbits.specs.declared.ids.ClientId.{ClientId}
 use Rattle.cap_arena.specs.Heads.{ends_or_none}
 use Rattle.cap_arena.specs.declared.nodes.Ends.{Ends}
-use Rattle.cap_arena.specs.Lists.{Lists, ListName, OfInode, OfClient, OfRecall, IsList, IsLists, empty}
+use Rattle.cap_arena.specs.Lists.{IsList, IsLists, ListName, Lists, OfClient, OfInode, OfRecall, empty}
 use Rattle.captable.specs.declared.entry.Slot.{Slot}
 use Rattle.captable.specs.Linked.{IsLinked}
 use Rattle.captable.specs.Places.{AreQuiet}

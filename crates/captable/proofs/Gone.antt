@@ -6,10 +6,10 @@ use Rattle.capbits.specs.declared.ids.ClientId.{ClientId}
 use Rattle.captable.specs.declared.entry.Holder.{Holder}
 use Rattle.captable.specs.declared.entry.Entry.{Entry}
 use Rattle.captable.specs.declared.entry.EntryRow.{EntryRow}
-use Rattle.captable.specs.Table.{Table, holder, same, is_row_of, entry_of, entry_at}
+use Rattle.captable.specs.Table.{Table, entry_at, entry_of, holder, is_row_of, same}
 use Rattle.captable.specs.Calls.{is_of_client}
 use Rattle.captable.specs.Known.{KnownSets, sets_of}
-use Rattle.captable.proofs.Tables.{same_equiv, same-is}
+use Rattle.captable.proofs.Tables.{same-is, same_equiv}
 use Rattle.captable.proofs.Searches.{find-filter_kept}
 
 -- where these entries of the client are left to be looked at, nothing is kept of the others that it has, and of who else has one

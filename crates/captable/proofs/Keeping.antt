@@ -1,25 +1,26 @@
 -- What is kept of a table's parts, after a change of one node.
-use Rattle.std.proofs.Common.{◌≡◌, ℕ, ◌+◌, ◌<◌, ◌≤◌, Bool, true, false, not, cond, ◌||◌, Option, Some, None, IsSome, List, [], ◌∷◌, ◌++◌, map, filter, length, refl, sym, ap, subst, ◌∙◌, arith, nat_eq, suc}
+use Rattle.std.proofs.Common.{◌≡◌, ℕ, ◌+◌, ◌<◌, ◌≤◌, Bool, true, false, not, cond, ◌||◌, Option, Some, None, IsSome, List, [], ◌∷◌, ◌++◌, map, filter, length}
+use Rattle.std.proofs.Common.{refl, sym, ap, subst, ◌∙◌, arith, nat_eq, suc}
 use Rattle.std.specs.List.{AllByRecursion, IsDistinct}
 use Rattle.std.specs.Option.{option_map, option_map_or}
 use Rattle.std.proofs.lemmas.List.{map-append}
 use Rattle.std.proofs.lemmas.Bool.{eq-eqb, eqb-true}
 use Rattle.cap_arena.specs.declared.nodes.Node.{Node}
 use Rattle.cap_arena.specs.Walks.{is_among}
-use Rattle.cap_arena.specs.Lists.{Lists, ListName, OfRecall, belongs, node_at, keys, IsLists}
+use Rattle.cap_arena.specs.Lists.{IsLists, ListName, Lists, OfRecall, belongs, keys, node_at}
 use Rattle.captable.specs.declared.entry.Holder.{Holder}
 use Rattle.captable.specs.declared.entry.Entry.{Entry}
 use Rattle.captable.specs.declared.entry.EntryRow.{EntryRow}
 use Rattle.captable.specs.declared.entry.Slot.{Slot}
-use Rattle.captable.specs.Table.{IsTable, same, is_row_of}
-use Rattle.captable.specs.Calls.{new_entry, opened, changed, change_rows, without, moved_last, touched}
-use Rattle.captable.specs.Nodes.{holder_of, row_of, with_entry, has_number, with_first, nodes_at, nodes_in, by_number, table_by, IsKeyOf, is_key_of}
+use Rattle.captable.specs.Table.{IsTable, is_row_of, same}
+use Rattle.captable.specs.Calls.{change_rows, changed, moved_last, new_entry, opened, touched, without}
+use Rattle.captable.specs.Nodes.{IsKeyOf, by_number, has_number, holder_of, is_key_of, nodes_at, nodes_in, row_of, table_by, with_entry, with_first}
 use Rattle.captable.specs.Linked.{AreBelow, IsLinked}
 use Rattle.captable.specs.Places.{number_at}
 use Rattle.captable.proofs.Tables.{same_equiv}
-use Rattle.captable.proofs.OneByOne.{one_at_once, if_passing}
-use Rattle.captable.proofs.NodesAt.{is_held_by, IsHeld, IsFree, AllHave, set_in}
-use Rattle.captable.proofs.Numbers.{by_number-next, by_number-filter, by_number-map, by_number-same, number-moved}
+use Rattle.captable.proofs.OneByOne.{if_passing, one_at_once}
+use Rattle.captable.proofs.NodesAt.{AllHave, IsFree, IsHeld, is_held_by, set_in}
+use Rattle.captable.proofs.Numbers.{by_number-filter, by_number-map, by_number-next, by_number-same, number-moved}
 
 -- ---- lists of nodes, as lists of rows
 

@@ -1,29 +1,31 @@
 -- What is kept beside the entries: where it is found, and a table's parts where other sets are kept.
 use Rattle.std.specs.Prelude.{◌==◌}
-use Rattle.std.proofs.Common.{◌≡◌, ℕ, ◌<◌, ◌≤◌, Bool, true, false, not, cond, Option, Some, None, unwrap_or, List, [], ◌∷◌, ◌++◌, map, filter, length, refl, sym, ap, subst, ◌∙◌, arith, nat_eq, zero, suc}
-use Rattle.std.specs.List.{find, AllByRecursion, IsDistinct}
+use Rattle.std.proofs.Common.{◌≡◌, ℕ, ◌<◌, ◌≤◌, Bool, true, false, not, cond, Option, Some, None, unwrap_or, List, [], ◌∷◌, ◌++◌, map, filter, length, refl}
+use Rattle.std.proofs.Common.{sym, ap, subst, ◌∙◌, arith, nat_eq, zero, suc}
+use Rattle.std.specs.List.{AllByRecursion, IsDistinct, find}
 use Rattle.std.specs.Option.{option_map, option_map_or}
-use Rattle.std.proofs.lemmas.Bool.{eqb-true, eqb-false}
+use Rattle.std.proofs.lemmas.Bool.{eqb-false, eqb-true}
 use Rattle.capbits.specs.declared.ids.ClientId.{ClientId}
 use Rattle.cap_arena.specs.declared.nodes.Node.{Node}
-use Rattle.cap_arena.specs.Lists.{Lists, ListName, OfInode, OfClient, OfRecall, node_at, keys, IsLists}
+use Rattle.cap_arena.specs.Lists.{IsLists, ListName, Lists, OfClient, OfInode, OfRecall, keys, node_at}
 use Rattle.captable.specs.declared.entry.Holder.{Holder}
 use Rattle.captable.specs.declared.entry.EntryRow.{EntryRow}
 use Rattle.captable.specs.declared.entry.Sets.{Sets}
 use Rattle.captable.specs.declared.entry.Slot.{Slot}
-use Rattle.captable.specs.Table.{Table, IsTable, same, is_row_of}
+use Rattle.captable.specs.Table.{IsTable, Table, is_row_of, same}
 use Rattle.captable.specs.Calls.{is_of_client, is_of_inode}
-use Rattle.captable.specs.Kept.{KeptRow, KeptTable, is_kept_of, sets_beside, kept_entry, no_sets, AreBeside, keeping, kept_without, kept_without_client}
+use Rattle.captable.specs.Kept.{AreBeside, KeptRow, KeptTable, is_kept_of, keeping, kept_entry, kept_without, kept_without_client, no_sets, sets_beside}
 use Rattle.captable.specs.Walks.{first_holder}
-use Rattle.captable.specs.Nodes.{holder_of, row_of, kept_row_of, kept_entry_of, with_first, with_sets, has_number, nodes_at, nodes_in, by_number, table_by, table_of, kept_by, kept_of, both_of, KeepsSets, IsKeyOf, is_key_of}
+use Rattle.captable.specs.Nodes.{IsKeyOf, KeepsSets, both_of, by_number, has_number, holder_of, is_key_of, kept_by, kept_entry_of, kept_of, kept_row_of}
+use Rattle.captable.specs.Nodes.{nodes_at, nodes_in, row_of, table_by, table_of, with_first, with_sets}
 use Rattle.captable.specs.Linked.{AreBelow, IsLinked}
-use Rattle.captable.specs.Places.{number_at, AreInOrder}
-use Rattle.captable.proofs.Beside.{keep_in, sets-number, sets-rows, sets-table, sets-kept}
+use Rattle.captable.specs.Places.{AreInOrder, number_at}
+use Rattle.captable.proofs.Beside.{keep_in, sets-kept, sets-number, sets-rows, sets-table}
 use Rattle.captable.proofs.Changes.{no_entry}
-use Rattle.captable.proofs.Absent.{other-client, all-stay, no-holder}
+use Rattle.captable.proofs.Absent.{all-stay, no-holder, other-client}
 use Rattle.captable.proofs.Keeping.{filter-mapped, held, is_in}
 use Rattle.captable.proofs.NodesAt.{is_held_by, nodes-changed, nodes-one}
-use Rattle.captable.proofs.Numbers.{below-map, once-map, by_number-append, by_number-filter}
+use Rattle.captable.proofs.Numbers.{below-map, by_number-append, by_number-filter, once-map}
 use Rattle.captable.proofs.Orders.{order-same}
 use Rattle.captable.proofs.Reading.{entry-none}
 use Rattle.captable.proofs.Searches.{filter-filter_kept}

@@ -1,20 +1,20 @@
 -- The key of a holder's node, where it is looked for along the list of the inode.
 use Rattle.std.proofs.Common.{◌≡◌, ◌<◌, ◌&&◌, ℕ, Bool, true, false, Option, Some, None, ◌∷◌, length, slice_get, refl, sym, ap, subst, ◌∙◌, arith}
 use Rattle.std.specs.Prelude.{◌==◌, IfNone}
-use Rattle.std.specs.Option.{option_map, option_map_or, option_and_then}
-use Rattle.std.proofs.lemmas.Bool.{eq-eqb, and_from, and_parts}
+use Rattle.std.specs.Option.{option_and_then, option_map, option_map_or}
+use Rattle.std.proofs.lemmas.Bool.{and_from, and_parts, eq-eqb}
 use Rattle.cap_arena.specs.declared.nodes.Node.{Node}
 use Rattle.cap_arena.specs.Walks.{is_among, key_after}
-use Rattle.cap_arena.specs.Lists.{Lists, OfInode, belongs, node_at, keys, IsLists}
+use Rattle.cap_arena.specs.Lists.{IsLists, Lists, OfInode, belongs, keys, node_at}
 use Rattle.captable.specs.declared.entry.Holder.{Holder}
 use Rattle.captable.specs.declared.entry.Slot.{Slot}
 use Rattle.captable.specs.Table.{same}
-use Rattle.captable.specs.Nodes.{holder_of, IsKeyOf, is_key_of}
-use Rattle.captable.specs.Walks.{keys_on, keys_from, IsPlaceIn}
+use Rattle.captable.specs.Nodes.{IsKeyOf, holder_of, is_key_of}
+use Rattle.captable.specs.Walks.{IsPlaceIn, keys_from, keys_on}
 use Rattle.captable.specs.Places.{IsQuietIn}
 use Rattle.captable.proofs.Tables.{same-is}
 use Rattle.captable.proofs.Orders.{on-in}
-use Rattle.captable.proofs.WalkOn.{from-first, next-of-inode, keys-next}
+use Rattle.captable.proofs.WalkOn.{from-first, keys-next, next-of-inode}
 use Rattle.captable.proofs.QuietKeys.{quiet-next}
 
 -- whose node it is

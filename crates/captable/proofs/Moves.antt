@@ -4,9 +4,9 @@ use Rattle.std.specs.List.{AllByRecursion, IsDistinct}
 use Rattle.std.proofs.lemmas.Map.Keys.{IsDistinct-push}
 use Rattle.std.proofs.lemmas.List.Folds.{list_any-append}
 use Rattle.captable.specs.declared.entry.Holder.{Holder}
-use Rattle.captable.specs.Table.{Table, IsTable, same, is_among}
+use Rattle.captable.specs.Table.{IsTable, Table, is_among, same}
 use Rattle.captable.specs.Calls.{moved_last, touched}
-use Rattle.captable.proofs.Tables.{same_equiv, same-is, among-filter, distinct-filter}
+use Rattle.captable.proofs.Tables.{among-filter, distinct-filter, same-is, same_equiv}
 
 -- nobody else is the holder
 others : (hs : List Holder) (k : Holder) → AllByRecursion (λ h. same k h ≡ false) hs → (filter (λ h. not (same k h)) hs ≡ hs) × (filter (same k) hs ≡ [])

@@ -1,7 +1,8 @@
 -- The nodes of some keys: what is found among them, and what a change of one node makes of them.
-use Rattle.std.proofs.Common.{◌≡◌, ℕ, Bool, true, false, not, cond, ◌||◌, Option, Some, None, IsSome, List, [], ◌∷◌, ◌++◌, map, filter, length, refl, sym, ap, subst, ◌∙◌, nat_eq, slice_get, suc}
-use Rattle.std.specs.List.{find, AllByRecursion, IsDistinct}
-use Rattle.std.specs.Option.{option_map, option_and_then}
+use Rattle.std.proofs.Common.{◌≡◌, ℕ, Bool, true, false, not, cond, ◌||◌, Option, Some, None, IsSome, List, [], ◌∷◌, ◌++◌, map, filter, length, refl, sym, ap}
+use Rattle.std.proofs.Common.{subst, ◌∙◌, nat_eq, slice_get, suc}
+use Rattle.std.specs.List.{AllByRecursion, IsDistinct, find}
+use Rattle.std.specs.Option.{option_and_then, option_map}
 use Rattle.std.specs.Cmp.{nat_eq_equiv}
 use Rattle.std.proofs.lemmas.Bool.{eq-eqb, eqb-true, or_right}
 use Rattle.cap_arena.specs.declared.nodes.Node.{Node}
@@ -10,9 +11,9 @@ use Rattle.cap_arena.specs.Calls.{keys_without}
 use Rattle.captable.specs.declared.entry.Holder.{Holder}
 use Rattle.captable.specs.declared.entry.Entry.{Entry}
 use Rattle.captable.specs.declared.entry.Slot.{Slot}
-use Rattle.captable.specs.Table.{same, is_row_of}
+use Rattle.captable.specs.Table.{is_row_of, same}
 use Rattle.captable.specs.Calls.{newer_in}
-use Rattle.captable.specs.Nodes.{holder_of, row_of, with_entry, with_first, nodes_at}
+use Rattle.captable.specs.Nodes.{holder_of, nodes_at, row_of, with_entry, with_first}
 use Rattle.captable.specs.Walks.{IsPlaceIn}
 
 -- the node of a holder

@@ -1,11 +1,12 @@
 -- Nodes by their numbers, after a change of the nodes.
-use Rattle.std.proofs.Common.{◌≡◌, ℕ, ◌+◌, ◌<◌, ◌≤◌, Bool, true, false, not, cond, List, [], ◌∷◌, ◌++◌, map, filter, length, refl, sym, ap, ◌∙◌, arith, nat_eq, nat_lt, zero, suc, append-nil, length-append}
+use Rattle.std.proofs.Common.{◌≡◌, ℕ, ◌+◌, ◌<◌, ◌≤◌, Bool, true, false, not, cond, List, [], ◌∷◌, ◌++◌, map, filter, length, refl, sym, ap, ◌∙◌, arith, nat_eq}
+use Rattle.std.proofs.Common.{nat_lt, zero, suc, append-nil, length-append}
 use Rattle.std.proofs.lemmas.List.Elements.{filter-append}
 use Rattle.std.proofs.lemmas.List.{map-append}
-use Rattle.std.proofs.lemmas.Bool.{eqb-true, eq-eqb, lt-ltb, ltb-true, ltb-false, eqb-false}
+use Rattle.std.proofs.lemmas.Bool.{eq-eqb, eqb-false, eqb-true, lt-ltb, ltb-false, ltb-true}
 use Rattle.cap_arena.specs.declared.nodes.Node.{Node}
 use Rattle.captable.specs.declared.entry.Slot.{Slot}
-use Rattle.captable.specs.Nodes.{has_number, by_number}
+use Rattle.captable.specs.Nodes.{by_number, has_number}
 use Rattle.captable.specs.Linked.{AreBelow}
 use Rattle.captable.proofs.Searches.{filter-filter, filter-map}
 

@@ -1,16 +1,16 @@
 -- Entries that are changed one after another are changed all at once: each holder has one row, and is named once.
 use Rattle.std.proofs.Common.{◌≡◌, Bool, true, false, cond, ◌||◌, ◌&&◌, List, [], ◌∷◌, map, filter, refl, sym, ap, subst, ◌∙◌}
 use Rattle.std.specs.Prelude.{◌==◌}
-use Rattle.std.specs.List.{fold, IsDistinct, AllByRecursion}
+use Rattle.std.specs.List.{AllByRecursion, IsDistinct, fold}
 use Rattle.std.proofs.Math.Bool.{and-true, or-true}
 use Rattle.capbits.specs.declared.ids.Ino.{Ino}
 use Rattle.captable.specs.declared.entry.Entry.{Entry}
 use Rattle.captable.specs.declared.entry.EntryRow.{EntryRow}
 use Rattle.captable.specs.declared.entry.Holder.{Holder}
-use Rattle.captable.specs.Table.{Table, IsTable, same, is_row_of, holders_of_rows, is_among}
-use Rattle.captable.specs.Calls.{change_rows, is_of_inode, entries_on}
+use Rattle.captable.specs.Table.{IsTable, Table, holders_of_rows, is_among, is_row_of, same}
+use Rattle.captable.specs.Calls.{change_rows, entries_on, is_of_inode}
 use Rattle.captable.specs.Many.{changed_by, changed_where, remade}
-use Rattle.captable.proofs.Tables.{same_equiv, same-is, among-filter, distinct-filter, holders-filter}
+use Rattle.captable.proofs.Tables.{among-filter, distinct-filter, holders-filter, same-is, same_equiv}
 
 module _ (g : EntryRow → Entry) where
   -- the rows, in which the holder's entry becomes what g makes of its row

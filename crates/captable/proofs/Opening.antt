@@ -1,5 +1,6 @@
 -- A table's parts, where a node was added.
-use Rattle.std.proofs.Common.{◌≡◌, ℕ, ◌+◌, ◌<◌, ◌≤◌, Bool, true, false, cond, Some, None, [], ◌∷◌, ◌++◌, map, filter, length, refl, sym, ap, subst, ◌∙◌, arith, nat_eq, suc, append-nil}
+use Rattle.std.proofs.Common.{◌≡◌, ℕ, ◌+◌, ◌<◌, ◌≤◌, Bool, true, false, cond, Some, None, [], ◌∷◌, ◌++◌, map, filter, length, refl, sym, ap, subst, ◌∙◌, arith}
+use Rattle.std.proofs.Common.{nat_eq, suc, append-nil}
 use Rattle.std.specs.Option.{option_map_or}
 use Rattle.std.proofs.lemmas.Bool.{eq-eqb, eqb-true}
 use Rattle.std.proofs.lemmas.List.{map-append}
@@ -9,20 +10,20 @@ use Rattle.capbits.specs.declared.ids.ClientId.{ClientId}
 use Rattle.cap_arena.specs.declared.nodes.Node.{Node}
 use Rattle.cap_arena.specs.Walks.{is_among}
 use Rattle.cap_arena.specs.Calls.{Adds}
-use Rattle.cap_arena.specs.Lists.{Lists, ListName, OfInode, OfClient, OfRecall, belongs, node_at, keys, IsLists}
+use Rattle.cap_arena.specs.Lists.{IsLists, ListName, Lists, OfClient, OfInode, OfRecall, belongs, keys, node_at}
 use Rattle.captable.specs.declared.entry.EntryRow.{EntryRow}
 use Rattle.captable.specs.declared.entry.Slot.{Slot}
-use Rattle.captable.specs.Table.{Table, IsTable, same, entry_at}
-use Rattle.captable.specs.Calls.{new_entry, opened, is_of_client, is_of_inode}
+use Rattle.captable.specs.Table.{IsTable, Table, entry_at, same}
+use Rattle.captable.specs.Calls.{is_of_client, is_of_inode, new_entry, opened}
 use Rattle.captable.specs.Kept.{kept_more, no_sets}
 use Rattle.captable.specs.Tests.{open_tests}
-use Rattle.captable.specs.Nodes.{holder_of, row_of, has_number, with_first, nodes_at, nodes_in, table_by, table_of, kept_by, kept_of}
+use Rattle.captable.specs.Nodes.{has_number, holder_of, kept_by, kept_of, nodes_at, nodes_in, row_of, table_by, table_of, with_first}
 use Rattle.captable.specs.Linked.{AreBelow, IsLinked}
-use Rattle.captable.specs.Places.{number_at, AreInOrder}
+use Rattle.captable.specs.Places.{AreInOrder, number_at}
 use Rattle.captable.proofs.Orders.{order-same, order-wider}
 use Rattle.captable.proofs.Tables.{IsTable-opened}
 use Rattle.captable.proofs.NodesAt.{nodes-append, nodes-same}
-use Rattle.captable.proofs.Numbers.{below-more, below-append, once-next}
+use Rattle.captable.proofs.Numbers.{below-append, below-more, once-next}
 use Rattle.captable.proofs.Beside.{kept-added}
 use Rattle.captable.proofs.Keeping.{not_in, number-below, table-added}
 

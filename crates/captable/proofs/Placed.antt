@@ -1,15 +1,16 @@
 -- Who has a place, after a change of the nodes or of the places.
-use Rattle.std.proofs.Common.{◌≡◌, ℕ, Bool, true, false, not, cond, ◌||◌, Option, Some, None, List, [], ◌∷◌, ◌++◌, refl, sym, ap, subst, ◌∙◌, nat_eq, slice_get, is_some}
+use Rattle.std.proofs.Common.{◌≡◌, ℕ, Bool, true, false, not, cond, ◌||◌, Option, Some, None, List, [], ◌∷◌, ◌++◌, refl, sym, ap, subst, ◌∙◌, nat_eq}
+use Rattle.std.proofs.Common.{slice_get, is_some}
 use Rattle.std.specs.Option.{option_map}
 use Rattle.capbits.specs.declared.ids.ClientId.{ClientId}
 use Rattle.cap_arena.specs.declared.nodes.Node.{Node}
 use Rattle.cap_arena.specs.Walks.{is_among}
 use Rattle.cap_arena.specs.Calls.{Adds, Removes, Touches, keys_without}
-use Rattle.cap_arena.specs.Lists.{Lists, OfClient, belongs, node_at, keys, empty, IsLists}
+use Rattle.cap_arena.specs.Lists.{IsLists, Lists, OfClient, belongs, empty, keys, node_at}
 use Rattle.captable.specs.declared.entry.Entry.{Entry}
 use Rattle.captable.specs.declared.entry.Slot.{Slot}
 use Rattle.captable.specs.Nodes.{SetsEntry}
-use Rattle.captable.specs.Places.{same_client, is_due_at, IsQuietIn, IsQuiet, AreQuiet, ArePlaced}
+use Rattle.captable.specs.Places.{ArePlaced, AreQuiet, IsQuiet, IsQuietIn, is_due_at, same_client}
 use Rattle.captable.proofs.Polled.{begun_at, left}
 use Rattle.captable.proofs.NodesAt.{rest_in}
 use Rattle.captable.proofs.Keeping.{is_in}

@@ -9,12 +9,12 @@ use Rattle.std.proofs.lemmas.Bool.{eqb-true}
 use Rattle.capbits.specs.Maps.{change_at}
 use Rattle.capbits.specs.declared.ids.ClientId.{ClientId}
 use Rattle.std.specs.Cmp.{nat_cmp_total}
-use Rattle.numbered.proofs.Maps.{insert-at, remove-at, change-at, put_back}
+use Rattle.dense_map.proofs.Maps.{change-at, insert-at, put_back, remove-at}
 use Rattle.cap_arena.specs.Lists.{Lists}
 use Rattle.captable.specs.declared.entry.Slot.{Slot}
 use Rattle.captable.specs.declared.polls.Poll.{Poll}
-use Rattle.captable.specs.Places.{same_client, ArePlaced}
-use Rattle.captable.specs.Polls.{Polls, part_of, places_of, counts_of, new_poll, begun, ended, recounted}
+use Rattle.captable.specs.Places.{ArePlaced, same_client}
+use Rattle.captable.specs.Polls.{Polls, begun, counts_of, ended, new_poll, part_of, places_of, recounted}
 
 -- one who has none gets this
 abbrev pub begun_at : {V : Type 0} → V → Option V → Option V

@@ -1,22 +1,22 @@
 -- The places that are kept, after a change of the nodes or of the places.
 use Rattle.std.proofs.Common.{◌≡◌, ◌<◌, ℕ, Bool, true, false, cond, Option, Some, None, [], ◌∷◌, ◌++◌, refl, sym, ap, subst, ◌∙◌, arith, length, nat_eq}
-use Rattle.std.specs.Option.{option_map, option_map_or, option_and_then}
+use Rattle.std.specs.Option.{option_and_then, option_map, option_map_or}
 use Rattle.std.proofs.lemmas.Bool.{eq-eqb, eqb-true}
 use Rattle.capbits.specs.declared.ids.ClientId.{ClientId}
 use Rattle.cap_arena.specs.declared.nodes.Node.{Node}
 use Rattle.cap_arena.specs.Walks.{is_among, key_after}
 use Rattle.cap_arena.specs.Calls.{Adds, Removes, Touches, keys_without}
-use Rattle.cap_arena.specs.Lists.{Lists, OfClient, belongs, node_at, keys, IsLists}
+use Rattle.cap_arena.specs.Lists.{IsLists, Lists, OfClient, belongs, keys, node_at}
 use Rattle.captable.specs.declared.entry.Entry.{Entry}
 use Rattle.captable.specs.declared.entry.Sets.{Sets}
 use Rattle.captable.specs.declared.entry.Slot.{Slot}
 use Rattle.captable.specs.Calls.{is_due_entry}
-use Rattle.captable.specs.Nodes.{with_entry, with_sets, SetsEntry, KeepsSets}
-use Rattle.captable.specs.Walks.{keys_on, keys_from}
-use Rattle.captable.specs.Places.{same_client, is_due_at, number_at, AreInOrder, IsQuietIn, IsQuiet, AreQuiet, is_before, lowered, moved_on}
-use Rattle.captable.proofs.WalkOn.{of-list, next-listed, keys-next}
+use Rattle.captable.specs.Nodes.{KeepsSets, SetsEntry, with_entry, with_sets}
+use Rattle.captable.specs.Walks.{keys_from, keys_on}
+use Rattle.captable.specs.Places.{AreInOrder, AreQuiet, IsQuiet, IsQuietIn, is_before, is_due_at, lowered, moved_on, number_at, same_client}
+use Rattle.captable.proofs.WalkOn.{keys-next, next-listed, of-list}
 use Rattle.captable.proofs.Keeping.{is_in}
-use Rattle.captable.proofs.QuietKeys.{quiet-next, quiet-fewer, quiet-lowered, quiet-wider, quiet-left, quiet-moved}
+use Rattle.captable.proofs.QuietKeys.{quiet-fewer, quiet-left, quiet-lowered, quiet-moved, quiet-next, quiet-wider}
 
 -- whether a node's entry is due
 abbrev due_of : Option (Node Slot) → Bool

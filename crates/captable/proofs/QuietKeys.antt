@@ -1,21 +1,22 @@
 -- Places before which no key is due, after a change of the keys.
-use Rattle.std.proofs.Common.{◌≡◌, ◌<◌, ◌≤◌, ℕ, Bool, true, false, cond, ◌||◌, Option, Some, None, inl, inr, List, [], ◌∷◌, ◌++◌, map, filter, refl, sym, ap, subst, ◌∙◌, arith, nat_eq, nat_lt, slice_get}
+use Rattle.std.proofs.Common.{◌≡◌, ◌<◌, ◌≤◌, ℕ, Bool, true, false, cond, ◌||◌, Option, Some, None, inl, inr, List, [], ◌∷◌, ◌++◌, map, filter, refl, sym, ap}
+use Rattle.std.proofs.Common.{subst, ◌∙◌, arith, nat_eq, nat_lt, slice_get}
 use Rattle.std.specs.List.{AllByRecursion, IsDistinct}
 use Rattle.std.specs.Option.{option_map_or}
 use Rattle.std.specs.Cmp.{nat_eq_equiv}
-use Rattle.std.proofs.lemmas.Bool.{eq-eqb, eqb-true, ltb-true, ltb-false}
+use Rattle.std.proofs.lemmas.Bool.{eq-eqb, eqb-true, ltb-false, ltb-true}
 use Rattle.cap_arena.specs.declared.nodes.Node.{Node}
 use Rattle.cap_arena.specs.Walks.{is_among, key_after}
 use Rattle.cap_arena.specs.Calls.{keys_without}
 use Rattle.cap_arena.specs.Lists.{Lists, node_at}
 use Rattle.captable.specs.declared.entry.Slot.{Slot}
 use Rattle.captable.specs.Calls.{is_due, is_due_entry}
-use Rattle.captable.specs.Nodes.{row_of, with_first, nodes_at}
-use Rattle.captable.specs.Walks.{keys_on, keys_from, IsPlaceIn}
+use Rattle.captable.specs.Nodes.{nodes_at, row_of, with_first}
+use Rattle.captable.specs.Walks.{IsPlaceIn, keys_from, keys_on}
 use Rattle.captable.specs.Places.{AreInOrder, IsQuietIn, is_due_at, moved_on}
 use Rattle.captable.proofs.NodesAt.{head_in, rest_in}
 use Rattle.captable.proofs.WalkOn.{after-in, apart-from, keys-next}
-use Rattle.captable.proofs.Orders.{on-in, own-on, either-on, on-trans, among-wider, among-narrow, on-wider, among-left, left-in, left-apart, on-left}
+use Rattle.captable.proofs.Orders.{among-left, among-narrow, among-wider, either-on, left-apart, left-in, on-in, on-left, on-trans, on-wider, own-on}
 
 -- ---- places of a list
 

@@ -1,30 +1,31 @@
 -- What the parts of a table answer.
-use Rattle.std.proofs.Common.{◌≡◌, ℕ, true, false, Option, Some, None, IsSome, is_some, List, [], ◌∷◌, filter, map, length, slice_get, refl, sym, ap, ◌∙◌, nat_le, suc}
+use Rattle.std.proofs.Common.{◌≡◌, ℕ, true, false, Option, Some, None, IsSome, is_some, List, [], ◌∷◌, filter, map, length, slice_get, refl, sym, ap, ◌∙◌}
+use Rattle.std.proofs.Common.{nat_le, suc}
 use Rattle.std.specs.Prelude.{◌==◌}
 use Rattle.std.specs.List.{find}
-use Rattle.std.specs.Option.{option_map, option_and_then}
+use Rattle.std.specs.Option.{option_and_then, option_map}
 use Rattle.std.proofs.lemmas.Bool.{eq-eqb}
 use Rattle.cap_arena.specs.declared.nodes.Node.{Node}
 use Rattle.capbits.specs.declared.refusal.Refusal.TheVariants.{Limit}
 use Rattle.capbits.specs.Refusal.{first_failing, refused_if}
 use Rattle.cap_arena.specs.Walks.{key_after}
 use Rattle.cap_arena.specs.Calls.{add_tests}
-use Rattle.cap_arena.specs.Lists.{Lists, ListName, OfInode, OfClient, OfRecall, node_at, count, keys}
+use Rattle.cap_arena.specs.Lists.{ListName, Lists, OfClient, OfInode, OfRecall, count, keys, node_at}
 use Rattle.cap_arena.proofs.Counts.{length-recall}
 use Rattle.captable.specs.declared.entry.Holder.{Holder}
 use Rattle.captable.specs.declared.entry.EntryRow.{EntryRow}
 use Rattle.captable.specs.declared.entry.Slot.{Slot}
-use Rattle.captable.specs.Table.{is_row_of, entry_of, entry_at, holders_of_rows}
-use Rattle.captable.specs.Calls.{newer_in, entries_on, is_of_client, is_of_inode}
+use Rattle.captable.specs.Table.{entry_at, entry_of, holders_of_rows, is_row_of}
+use Rattle.captable.specs.Calls.{entries_on, is_of_client, is_of_inode, newer_in}
 use Rattle.captable.specs.Tests.{open_tests}
-use Rattle.captable.specs.Nodes.{holder_of, row_of, nodes_in, by_number, table_of, AreLists, IsKeyOf, is_key_of}
+use Rattle.captable.specs.Nodes.{AreLists, IsKeyOf, by_number, holder_of, is_key_of, nodes_in, row_of, table_of}
 use Rattle.captable.specs.Walks.{first_holder}
 use Rattle.captable.specs.Linked.{IsLinked}
 use Rattle.captable.proofs.Tables.{same-is}
 use Rattle.captable.proofs.Searches.{find-filter_kept}
 use Rattle.captable.proofs.Numbers.{length-by_number}
-use Rattle.captable.proofs.NodesAt.{length-nodes, first-held, find-held, find-free, newer-held, newer-free}
-use Rattle.captable.proofs.Keeping.{held, free, is_in, all_have}
+use Rattle.captable.proofs.NodesAt.{find-free, find-held, first-held, length-nodes, newer-free, newer-held}
+use Rattle.captable.proofs.Keeping.{all_have, free, held, is_in}
 
 length-mapped : {X Y : Type 0} (f : X → Y) (xs : List X) → length (map f xs) ≡ length xs
 length-mapped f [] = refl

@@ -1,21 +1,22 @@
 -- The first holders in the order of recall, and their entries, which are asked one after another.
-use Rattle.std.proofs.Common.{◌≡◌, ℕ, ◌<◌, ◌≤◌, false, Option, Some, None, IsSome, List, [], ◌∷◌, ◌++◌, map, take, length, slice_get, sym, ap, subst, ◌∙◌, arith, append_assoc, append-nil, zero, suc}
-use Rattle.std.specs.List.{fold, AllByRecursion, IsDistinct}
+use Rattle.std.proofs.Common.{◌≡◌, ℕ, ◌<◌, ◌≤◌, false, Option, Some, None, IsSome, List, [], ◌∷◌, ◌++◌, map, take, length, slice_get, sym, ap, subst, ◌∙◌}
+use Rattle.std.proofs.Common.{arith, append_assoc, append-nil, zero, suc}
+use Rattle.std.specs.List.{AllByRecursion, IsDistinct, fold}
 use Rattle.std.specs.Option.{option_map}
 use Rattle.std.proofs.lemmas.List.{take_all, take_at}
 use Rattle.cap_arena.specs.declared.nodes.Node.{Node}
 use Rattle.cap_arena.specs.Walks.{key_after}
-use Rattle.cap_arena.specs.Lists.{Lists, OfRecall, node_at, keys, IsLists}
+use Rattle.cap_arena.specs.Lists.{IsLists, Lists, OfRecall, keys, node_at}
 use Rattle.captable.specs.declared.entry.Holder.{Holder}
 use Rattle.captable.specs.declared.entry.Slot.{Slot}
-use Rattle.captable.specs.Table.{Table, IsTable, same}
+use Rattle.captable.specs.Table.{IsTable, Table, same}
 use Rattle.captable.specs.Calls.{recalled}
-use Rattle.captable.specs.Many.{changed_by, asking}
-use Rattle.captable.specs.Nodes.{holder_of, with_first, nodes_at, nodes_in}
-use Rattle.captable.specs.Walks.{keys_on, keys_from, IsPlaceIn}
+use Rattle.captable.specs.Many.{asking, changed_by}
+use Rattle.captable.specs.Nodes.{holder_of, nodes_at, nodes_in, with_first}
+use Rattle.captable.specs.Walks.{IsPlaceIn, keys_from, keys_on}
 use Rattle.captable.proofs.Keeping.{all_have}
 use Rattle.captable.proofs.OneByOne.{fold-changed_by}
-use Rattle.captable.proofs.WalkOn.{after-in, from-first, first-in, keys-next}
+use Rattle.captable.proofs.WalkOn.{after-in, first-in, from-first, keys-next}
 
 abbrev holders_at : Lists Slot → List ℕ → List Holder
 holders_at t ks = map holder_of (nodes_at (node_at t) ks)

@@ -4,18 +4,18 @@ use Rattle.std.specs.Option.{option_map_or}
 use Rattle.std.specs.Cmp.{nat_eq_equiv}
 use Rattle.capbits.specs.declared.ids.ClientId.{ClientId}
 use Rattle.cap_arena.specs.declared.nodes.Node.{Node}
-use Rattle.cap_arena.specs.Calls.{keys_without, Removes}
-use Rattle.cap_arena.specs.Lists.{Lists, ListName, OfInode, OfClient, OfRecall, node_at, keys, IsLists}
+use Rattle.cap_arena.specs.Calls.{Removes, keys_without}
+use Rattle.cap_arena.specs.Lists.{IsLists, ListName, Lists, OfClient, OfInode, OfRecall, keys, node_at}
 use Rattle.captable.specs.declared.entry.Holder.{Holder}
 use Rattle.captable.specs.declared.entry.EntryRow.{EntryRow}
 use Rattle.captable.specs.declared.entry.Slot.{Slot}
-use Rattle.captable.specs.Table.{Table, IsTable, is_row_of}
-use Rattle.captable.specs.Calls.{without, is_of_client, is_of_inode}
+use Rattle.captable.specs.Table.{IsTable, Table, is_row_of}
+use Rattle.captable.specs.Calls.{is_of_client, is_of_inode, without}
 use Rattle.captable.specs.Kept.{kept_without}
-use Rattle.captable.specs.Nodes.{row_of, has_number, nodes_at, nodes_in, table_by, table_of, kept_by, kept_of, IsKeyOf}
+use Rattle.captable.specs.Nodes.{IsKeyOf, has_number, kept_by, kept_of, nodes_at, nodes_in, row_of, table_by, table_of}
 use Rattle.captable.specs.Linked.{AreBelow, IsLinked}
-use Rattle.captable.specs.Places.{number_at, AreInOrder}
-use Rattle.captable.proofs.Orders.{order-same, order-left, left-apart}
+use Rattle.captable.specs.Places.{AreInOrder, number_at}
+use Rattle.captable.proofs.Orders.{left-apart, order-left, order-same}
 use Rattle.captable.proofs.Tables.{IsTable-without}
 use Rattle.captable.proofs.Searches.{filter-filter}
 use Rattle.captable.proofs.NodesAt.{is_held_by, nodes-removed}

@@ -2,24 +2,24 @@
 use Rattle.std.proofs.Common.{◌≡◌, ℕ, ◌≤◌, Bool, true, false, cond, Option, Some, None, map, filter, length, refl, sym, ap, subst, ◌∙◌, nat_eq}
 use Rattle.std.specs.Option.{option_map, option_map_or}
 use Rattle.cap_arena.specs.declared.nodes.Node.{Node}
-use Rattle.cap_arena.specs.Lists.{Lists, ListName, OfInode, OfClient, OfRecall, node_at, keys, IsLists}
+use Rattle.cap_arena.specs.Lists.{IsLists, ListName, Lists, OfClient, OfInode, OfRecall, keys, node_at}
 use Rattle.captable.specs.declared.entry.Holder.{Holder}
 use Rattle.captable.specs.declared.entry.Entry.{Entry}
 use Rattle.captable.specs.declared.entry.EntryRow.{EntryRow}
 use Rattle.captable.specs.declared.entry.Slot.{Slot}
 use Rattle.captable.specs.Table.{IsTable, is_row_of}
 use Rattle.captable.specs.Calls.{changed, is_of_client, is_of_inode}
-use Rattle.captable.specs.Nodes.{row_of, with_entry, has_number, nodes_at, nodes_in, table_by, table_of, kept_by, kept_of, SetsEntry, IsKeyOf}
+use Rattle.captable.specs.Nodes.{IsKeyOf, SetsEntry, has_number, kept_by, kept_of, nodes_at, nodes_in, row_of, table_by, table_of, with_entry}
 use Rattle.captable.specs.Linked.{AreBelow, IsLinked}
-use Rattle.captable.specs.Places.{number_at, AreInOrder}
+use Rattle.captable.specs.Places.{AreInOrder, number_at}
 use Rattle.captable.proofs.Orders.{order-same}
 use Rattle.captable.proofs.Tables.{IsTable-changed}
 use Rattle.captable.proofs.Searches.{filter-map}
 use Rattle.captable.proofs.OneByOne.{same_holder}
-use Rattle.captable.proofs.NodesAt.{set_in, nodes-set}
+use Rattle.captable.proofs.NodesAt.{nodes-set, set_in}
 use Rattle.captable.proofs.Beside.{kept-entry}
 use Rattle.captable.proofs.Numbers.{below-map, once-map}
-use Rattle.captable.proofs.Keeping.{held, keeps_number, row_in, rows-set, rows-changed, table-set}
+use Rattle.captable.proofs.Keeping.{held, keeps_number, row_in, rows-changed, rows-set, table-set}
 
 module _ (t t' : Lists Slot) (made : ℕ) (h : Holder) (key : ℕ) (x : Entry) (is : IsLinked t made) (found : IsKeyOf t h key)
     (sets : SetsEntry t t' key x) where

@@ -1,6 +1,7 @@
 -- What the changes of a table keep.
-use Rattle.std.proofs.Common.{◌≡◌, ℕ, ◌<◌, ◌≤◌, Bool, true, false, not, take, ◌&&◌, ◌||◌, cond, Some, None, List, [], ◌∷◌, ◌++◌, map, length, filter, refl, sym, ap, ◌∙◌, arith, suc, nat_le, length-append}
-use Rattle.std.specs.List.{find, AllByRecursion, IsDistinct}
+use Rattle.std.proofs.Common.{◌≡◌, ℕ, ◌<◌, ◌≤◌, Bool, true, false, not, take, ◌&&◌, ◌||◌, cond, Some, None, List, [], ◌∷◌, ◌++◌, map, length, filter, refl}
+use Rattle.std.proofs.Common.{sym, ap, ◌∙◌, arith, suc, nat_le, length-append}
+use Rattle.std.specs.List.{AllByRecursion, IsDistinct, find}
 use Rattle.std.specs.Cmp.{IsEquivalence, nat_eq_equiv}
 use Rattle.std.proofs.lemmas.List.Folds.{list_any-append}
 use Rattle.std.proofs.lemmas.Map.Keys.{IsDistinct-push}
@@ -17,9 +18,9 @@ use Rattle.capbits.proofs.Tests.{passed-if}
 use Rattle.captable.specs.declared.entry.Holder.{Holder}
 use Rattle.captable.specs.declared.entry.Entry.{Entry}
 use Rattle.captable.specs.declared.entry.EntryRow.{EntryRow}
-use Rattle.captable.specs.Table.{Table, IsTable, same, is_row_of, holders_of_rows, is_among, entry_of, entry_at, empty}
+use Rattle.captable.specs.Table.{IsTable, Table, empty, entry_at, entry_of, holders_of_rows, is_among, is_row_of, same}
 use Rattle.captable.specs.Tests.{open_tests}
-use Rattle.captable.specs.Calls.{new_entry, opened, change_rows, changed, without_released, asked_row, recalled, released, without, without_client}
+use Rattle.captable.specs.Calls.{asked_row, change_rows, changed, new_entry, opened, recalled, released, without, without_client, without_released}
 
 pub same_equiv : IsEquivalence same
 same_equiv =

@@ -1,12 +1,12 @@
 -- How many rows pass a test, after a change of one row, or once some rows went.
 use Rattle.std.proofs.Common.{◌≡◌, ℕ, ◌+◌, Bool, true, false, not, cond, Option, Some, None, List, [], ◌∷◌, ◌++◌, filter, length, refl, sym, ap, subst, arith}
-use Rattle.std.specs.List.{find, AllByRecursion, IsDistinct}
+use Rattle.std.specs.List.{AllByRecursion, IsDistinct, find}
 use Rattle.captable.specs.declared.entry.Holder.{Holder}
 use Rattle.captable.specs.declared.entry.Entry.{Entry}
 use Rattle.captable.specs.declared.entry.EntryRow.{EntryRow}
-use Rattle.captable.specs.Table.{same, is_row_of, holders_of_rows}
+use Rattle.captable.specs.Table.{holders_of_rows, is_row_of, same}
 use Rattle.captable.specs.Calls.{change_rows}
-use Rattle.captable.proofs.Counting.{bit, with_change, none-left}
+use Rattle.captable.proofs.Counting.{bit, none-left, with_change}
 use Rattle.captable.proofs.Tables.{same-is}
 
 module _ (p : EntryRow → Bool) where

@@ -2,19 +2,19 @@
 use Rattle.std.proofs.Common.{◌≡◌, ℕ, ◌≤◌, not, List, [], ◌∷◌, ◌++◌, map, filter, length, refl, sym, ap, subst, ◌∙◌}
 use Rattle.std.specs.Option.{option_map_or}
 use Rattle.cap_arena.specs.declared.nodes.Node.{Node}
-use Rattle.cap_arena.specs.Calls.{keys_without, Touches}
-use Rattle.cap_arena.specs.Lists.{Lists, ListName, OfInode, OfClient, OfRecall, node_at, keys, IsLists}
+use Rattle.cap_arena.specs.Calls.{Touches, keys_without}
+use Rattle.cap_arena.specs.Lists.{IsLists, ListName, Lists, OfClient, OfInode, OfRecall, keys, node_at}
 use Rattle.captable.specs.declared.entry.Holder.{Holder}
 use Rattle.captable.specs.declared.entry.Slot.{Slot}
-use Rattle.captable.specs.Table.{Table, IsTable, same}
-use Rattle.captable.specs.Calls.{touched, is_of_client, is_of_inode}
-use Rattle.captable.specs.Nodes.{row_of, has_number, with_first, nodes_at, nodes_in, table_by, table_of, kept_by, kept_of, IsKeyOf}
+use Rattle.captable.specs.Table.{IsTable, Table, same}
+use Rattle.captable.specs.Calls.{is_of_client, is_of_inode, touched}
+use Rattle.captable.specs.Nodes.{IsKeyOf, has_number, kept_by, kept_of, nodes_at, nodes_in, row_of, table_by, table_of, with_first}
 use Rattle.captable.specs.Linked.{AreBelow, IsLinked}
-use Rattle.captable.specs.Places.{number_at, AreInOrder}
+use Rattle.captable.specs.Places.{AreInOrder, number_at}
 use Rattle.captable.proofs.Orders.{order-same}
 use Rattle.captable.proofs.Moves.{IsTable-touched}
-use Rattle.captable.proofs.NodesAt.{is_held_by, nodes-append, nodes-same, nodes-removed, nodes-one}
-use Rattle.captable.proofs.Numbers.{number-moved, below-append, below-filter}
+use Rattle.captable.proofs.NodesAt.{is_held_by, nodes-append, nodes-one, nodes-removed, nodes-same}
+use Rattle.captable.proofs.Numbers.{below-append, below-filter, number-moved}
 use Rattle.captable.proofs.Beside.{kept-touched}
 use Rattle.captable.proofs.Keeping.{held, is_in, table-touched}
 

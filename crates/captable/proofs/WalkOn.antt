@@ -1,17 +1,17 @@
 -- The rows from a place of a list on.
 use Rattle.std.proofs.Common.{◌≡◌, ℕ, Bool, true, false, cond, ◌||◌, Option, Some, None, List, [], ◌∷◌, map, is_some, refl, sym, ap, ◌∙◌, nat_eq, slice_get}
 use Rattle.std.specs.List.{AllByRecursion, IsDistinct, list_any}
-use Rattle.std.specs.Option.{option_map_or, option_and_then}
+use Rattle.std.specs.Option.{option_and_then, option_map_or}
 use Rattle.std.specs.Cmp.{nat_eq_equiv}
 use Rattle.std.proofs.lemmas.Bool.{eq-eqb, eqb-true}
 use Rattle.capbits.specs.declared.ids.ClientId.{ClientId}
 use Rattle.capbits.specs.declared.ids.Ino.{Ino}
 use Rattle.cap_arena.specs.declared.nodes.Node.{Node}
 use Rattle.cap_arena.specs.Walks.{is_among, key_after}
-use Rattle.cap_arena.specs.Lists.{Lists, ListName, OfInode, OfClient, belongs, node_at, keys, IsLists}
+use Rattle.cap_arena.specs.Lists.{IsLists, ListName, Lists, OfClient, OfInode, belongs, keys, node_at}
 use Rattle.captable.specs.declared.entry.Slot.{Slot}
-use Rattle.captable.specs.Nodes.{row_of, kept_entry_of, with_first, nodes_at, nodes_in}
-use Rattle.captable.specs.Walks.{keys_on, keys_from, rows_from, kept_from, IsPlaceIn}
+use Rattle.captable.specs.Nodes.{kept_entry_of, nodes_at, nodes_in, row_of, with_first}
+use Rattle.captable.specs.Walks.{IsPlaceIn, kept_from, keys_from, keys_on, rows_from}
 use Rattle.captable.proofs.NodesAt.{head_in, rest_in}
 
 -- ---- keys

@@ -1,14 +1,15 @@
 -- What each call on the table changes and answers.
-use Rattle.std.specs.Prelude.{ℕ, ◌+◌, Bool, true, false, not, ◌==◌, ◌&&◌, ◌||◌, nat_lt, Option, None, List, [], ◌∷◌, ◌++◌, map, filter, take, slice_get, is_some, if◌then◌else◌}
+use Rattle.std.specs.Prelude.{ℕ, ◌+◌, Bool, true, false, not, ◌==◌, ◌&&◌, ◌||◌, nat_lt, Option, None, List, [], ◌∷◌, ◌++◌, map, filter, take, slice_get}
+use Rattle.std.specs.Prelude.{is_some, if◌then◌else◌}
 use Rattle.capbits.specs.declared.cap.Cap.TheVariants.{P}
 use Rattle.capbits.specs.declared.ids.ClientId.{ClientId}
 use Rattle.capbits.specs.declared.ids.Ino.{Ino}
 use Rattle.capbits.specs.Caps.{Caps, has}
-use Rattle.capbits.specs.Sets.{no_caps, is_empty, union, minus}
+use Rattle.capbits.specs.Sets.{is_empty, minus, no_caps, union}
 use Rattle.captable.specs.declared.entry.Holder.{Holder}
 use Rattle.captable.specs.declared.entry.Entry.{Entry}
 use Rattle.captable.specs.declared.entry.EntryRow.{EntryRow}
-use Rattle.captable.specs.Table.{Table, same, is_row_of, is_among, entry_at}
+use Rattle.captable.specs.Table.{Table, entry_at, is_among, is_row_of, same}
 use Rattle.captable.specs.Tests.{test_at}
 
 -- ---- one holder's entry

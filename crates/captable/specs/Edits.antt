@@ -1,13 +1,13 @@
 -- A change of an entry, and of what is kept beside it.
-use Rattle.std.specs.Prelude.{Bool, true, false}
+use Rattle.std.specs.Prelude.{Bool, false, true}
 use Rattle.captable.specs.declared.entry.Edit.{Edit}
-use Rattle.captable.specs.declared.entry.Edit.TheVariants.{Want, Issue, Ack, Release, Renumber, IssueNumbered, Tell, Ask, OweSize}
+use Rattle.captable.specs.declared.entry.Edit.TheVariants.{Ack, Ask, Issue, IssueNumbered, OweSize, Release, Renumber, Tell, Want}
 use Rattle.captable.specs.declared.entry.Entry.{Entry}
 use Rattle.captable.specs.declared.entry.Keeping.{Keeping}
-use Rattle.captable.specs.declared.entry.Keeping.TheVariants.{Both, Told, Permitted}
+use Rattle.captable.specs.declared.entry.Keeping.TheVariants.{Both, Permitted, Told}
 use Rattle.captable.specs.declared.entry.Sets.{Sets}
 use Rattle.captable.specs.Kept.{permitting, telling}
-use Rattle.captable.specs.Calls.{wanting, issued, without_acked, without_released, renumbered, with_told, with_asked, with_size_due}
+use Rattle.captable.specs.Calls.{issued, renumbered, wanting, with_asked, with_size_due, with_told, without_acked, without_released}
 
 -- what becomes of the entry
 abbrev pub edited : Edit → Entry → Entry

@@ -12,8 +12,8 @@ use Rattle.captable.specs.declared.entry.EntryRow.{EntryRow}
 use Rattle.captable.specs.declared.entry.KeptEntry.{KeptEntry}
 use Rattle.captable.specs.declared.entry.Sets.{Sets}
 use Rattle.captable.specs.Table as table
-use Rattle.captable.specs.Table.{Table, same, entry_at, holders_of_rows}
-use Rattle.captable.specs.Calls.{opened, changed, without, without_client, has_pin, acked, released}
+use Rattle.captable.specs.Table.{Table, entry_at, holders_of_rows, same}
+use Rattle.captable.specs.Calls.{acked, changed, has_pin, opened, released, without, without_client}
 use Rattle.captable.specs.Tests.{test_at}
 
 -- the sets beside one entry, with its holder

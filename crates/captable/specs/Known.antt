@@ -1,10 +1,10 @@
 -- The sets that are kept of entries, by the names that rules and contracts above call them.
+pub use Rattle.captable.specs.Kept.{no_sets}
 use Rattle.std.specs.Prelude.{List, Option}
 use Rattle.capbits.specs.Caps.{Caps}
 use Rattle.captable.specs.declared.entry.Holder.{Holder}
 use Rattle.captable.specs.declared.entry.Sets.{Sets}
-use Rattle.captable.specs.Kept.{KeptRow, sets_beside, told_beside, permitted_beside}
-pub use Rattle.captable.specs.Kept.{no_sets}
+use Rattle.captable.specs.Kept.{KeptRow, permitted_beside, sets_beside, told_beside}
 
 -- what is kept of each holder that has an entry
 abbrev pub KnownSets : Type 0

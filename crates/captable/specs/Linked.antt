@@ -4,12 +4,12 @@ use Rattle.std.specs.List.{AllByRecursion}
 use Rattle.capbits.specs.declared.ids.ClientId.{ClientId}
 use Rattle.capbits.specs.declared.ids.Ino.{Ino}
 use Rattle.cap_arena.specs.declared.nodes.Node.{Node}
-use Rattle.cap_arena.specs.Lists.{Lists, OfInode, OfClient, OfRecall, keys, IsLists}
+use Rattle.cap_arena.specs.Lists.{IsLists, Lists, OfClient, OfInode, OfRecall, keys}
 use Rattle.captable.specs.declared.entry.Slot.{Slot}
 use Rattle.captable.specs.Table.{IsTable}
-use Rattle.captable.specs.Calls.{is_of_client, entries_on}
-use Rattle.captable.specs.Nodes.{row_of, has_number, nodes_in, table_of}
-use Rattle.captable.specs.Places.{number_at, AreInOrder}
+use Rattle.captable.specs.Calls.{entries_on, is_of_client}
+use Rattle.captable.specs.Nodes.{has_number, nodes_in, row_of, table_of}
+use Rattle.captable.specs.Places.{AreInOrder, number_at}
 
 -- each node's number is below `end`
 abbrev pub AreBelow : ℕ → List (Node Slot) → Type 0

@@ -1,5 +1,5 @@
 -- Entries of several holders that are changed, one after another or all at once.
-use Rattle.std.specs.Prelude.{Bool, true, map, if◌then◌else◌}
+use Rattle.std.specs.Prelude.{Bool, if◌then◌else◌, map, true}
 use Rattle.captable.specs.declared.entry.Holder.{Holder}
 use Rattle.captable.specs.declared.entry.Entry.{Entry}
 use Rattle.captable.specs.declared.entry.EntryRow.{EntryRow}

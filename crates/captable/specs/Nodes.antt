@@ -4,15 +4,15 @@ use Rattle.std.specs.Option.{option_map, option_map_or}
 use Rattle.capbits.specs.declared.ids.ClientId.{ClientId}
 use Rattle.capbits.specs.declared.ids.Ino.{Ino}
 use Rattle.cap_arena.specs.declared.nodes.Node.{Node}
-use Rattle.cap_arena.specs.Lists.{Lists, ListName, OfInode, OfClient, OfRecall, node_at, keys}
+use Rattle.cap_arena.specs.Lists.{ListName, Lists, OfClient, OfInode, OfRecall, keys, node_at}
 use Rattle.captable.specs.declared.entry.Holder.{Holder}
 use Rattle.captable.specs.declared.entry.Entry.{Entry}
 use Rattle.captable.specs.declared.entry.EntryRow.{EntryRow}
 use Rattle.captable.specs.declared.entry.KeptEntry.{KeptEntry}
 use Rattle.captable.specs.declared.entry.Sets.{Sets}
 use Rattle.captable.specs.declared.entry.Slot.{Slot}
-use Rattle.captable.specs.Table.{Table, holder, same, entry_at}
-use Rattle.captable.specs.Calls.{is_of_client, entries_on}
+use Rattle.captable.specs.Table.{Table, entry_at, holder, same}
+use Rattle.captable.specs.Calls.{entries_on, is_of_client}
 use Rattle.captable.specs.Kept.{KeptRow, KeptTable}
 
 -- ---- one node

@@ -4,10 +4,10 @@ use Rattle.std.specs.Option.{option_map_or}
 use Rattle.capbits.specs.declared.ids.ClientId.{ClientId}
 use Rattle.cap_arena.specs.declared.nodes.Node.{Node}
 use Rattle.cap_arena.specs.Walks.{is_among}
-use Rattle.cap_arena.specs.Lists.{Lists, OfClient, node_at, keys}
+use Rattle.cap_arena.specs.Lists.{Lists, OfClient, keys, node_at}
 use Rattle.captable.specs.declared.entry.Slot.{Slot}
 use Rattle.captable.specs.Calls.{is_due_entry}
-use Rattle.captable.specs.Walks.{keys_on, keys_from, IsPlaceIn}
+use Rattle.captable.specs.Walks.{IsPlaceIn, keys_from, keys_on}
 
 abbrev pub same_client : ClientId → ClientId → Bool
 same_client a b = a.0 == b.0

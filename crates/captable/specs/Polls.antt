@@ -6,7 +6,7 @@ use Rattle.std.specs.Ordering.{nat_cmp}
 use Rattle.capbits.specs.declared.ids.ClientId.{ClientId}
 use Rattle.captable.specs.declared.entry.EntryRow.{EntryRow}
 use Rattle.captable.specs.declared.polls.Poll.{Poll}
-use Rattle.captable.specs.Calls.{is_of_client, is_due}
+use Rattle.captable.specs.Calls.{is_due, is_of_client}
 
 -- by the client's number
 abbrev pub Polls : Type 0

@@ -1,6 +1,6 @@
 -- The table of entries as a value: its rows in the order of making, the order of recall, and how many were made.
 use Rattle.std.specs.Prelude.{◌≡◌, ◌≤◌, ℕ, Bool, ◌&&◌, ◌==◌, Option, Some, None, List, [], map, length}
-use Rattle.std.specs.List.{find, list_any, IsDistinct}
+use Rattle.std.specs.List.{IsDistinct, find, list_any}
 use Rattle.capbits.specs.declared.ids.ClientId.{ClientId}
 use Rattle.capbits.specs.declared.ids.Ino.{Ino}
 use Rattle.captable.specs.declared.entry.Holder.{Holder}

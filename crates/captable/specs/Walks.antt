@@ -1,7 +1,7 @@
 -- The entries that a walk gives.
 use Rattle.std.specs.Prelude.{◌≡◌, ℕ, true, Option, Some, None, List, [], ◌∷◌, map, nat_eq, slice_get, if◌then◌else◌}
 use Rattle.cap_arena.specs.Walks.{is_among}
-use Rattle.cap_arena.specs.Lists.{Lists, ListName, OfInode, OfClient, node_at, keys}
+use Rattle.cap_arena.specs.Lists.{ListName, Lists, OfClient, OfInode, keys, node_at}
 use Rattle.captable.specs.declared.entry.Holder.{Holder}
 use Rattle.captable.specs.declared.entry.EntryRow.{EntryRow}
 use Rattle.captable.specs.declared.entry.KeptEntry.{KeptEntry}
@@ -9,7 +9,7 @@ use Rattle.captable.specs.declared.entry.Slot.{Slot}
 use Rattle.captable.specs.declared.walk.Sought.{Sought}
 use Rattle.captable.specs.declared.walk.Sought.TheVariants as by
 use Rattle.captable.specs.Table.{holders_of_rows}
-use Rattle.captable.specs.Nodes.{row_of, kept_entry_of, nodes_at}
+use Rattle.captable.specs.Nodes.{kept_entry_of, nodes_at, row_of}
 
 -- the list that is walked
 abbrev pub name_of : Sought → ListName

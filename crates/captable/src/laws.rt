@@ -1,7 +1,7 @@
 //! Laws of the table: what each change of it leaves, holder by holder and inode by inode. No program needs to call them.
 
 ghost use Rattle.std.specs.Prelude.{◌≡◌, ◌≢◌, ◌≤◌, ℕ, true, List, Some, None, IsTrue, IsFalse, Contains, map, take, filter, not};
-ghost use Rattle.std.specs.List.{find, fold, IsDistinct};
+ghost use Rattle.std.specs.List.{IsDistinct, find, fold};
 ghost use Rattle.std.specs.Option.{option_map};
 ghost use Rattle.capbits.specs.declared.cap.Cap.TheVariants.{P};
 ghost use Rattle.capbits.specs.declared.ids.ClientId.{ClientId};
@@ -12,9 +12,9 @@ ghost use Rattle.capbits.specs.Refusal.{first_failing};
 ghost use Rattle.captable.specs.declared.entry.Holder.{Holder};
 ghost use Rattle.captable.specs.declared.entry.Entry.{Entry};
 ghost use Rattle.captable.specs.declared.entry.EntryRow.{EntryRow};
-ghost use Rattle.captable.specs.Table.{Table, IsTable, same, is_row_of, entry_at, is_among, holders_of_rows};
-ghost use Rattle.captable.specs.Calls.{new_entry, opened, changed, without_released, with_asked, released, without, without_client, touched, asked_row, recalled, is_of_client, is_of_inode, entries_on};
-ghost use Rattle.captable.specs.Calls.{with_told, renumbered};
+ghost use Rattle.captable.specs.Table.{IsTable, Table, entry_at, holders_of_rows, is_among, is_row_of, same};
+ghost use Rattle.captable.specs.Calls.{asked_row, changed, entries_on, is_of_client, is_of_inode, new_entry, opened, recalled, released, renumbered, touched};
+ghost use Rattle.captable.specs.Calls.{with_asked, with_told, without, without_client, without_released};
 ghost use Rattle.captable.specs.Shown.{IsShown};
 ghost use Rattle.captable.specs.Tests.{open_tests};
 ghost use Rattle.captable.specs.Many.{changed_by, changed_where, remade};

@@ -12,12 +12,8 @@ mod polls;
 mod table;
 mod walk;
 
-pub use cap_arena::AddError;
 pub use entry::{Entry, EntryRow, Holder, KeptEntry, Sets, Slot};
 pub use holders::Holders;
-pub use laws::{
-    a_table_stays_a_table, entries_are_of_their_holders, inodes_change_by_themselves,
-    numbers_say_what_was_shown, one_by_one_is_at_once,
-};
+pub use laws::{a_table_stays_a_table, entries_are_of_their_holders, inodes_change_by_themselves, numbers_say_what_was_shown, one_by_one_is_at_once};
 pub use table::{CapTable, MAX_ENTRIES};
 pub use walk::{KeptWalk, Walk};

@@ -4,9 +4,9 @@ ghost use Rattle.std.specs.Option.{option_map};
 ghost use Rattle.capbits.specs.Refusal.{first_failing};
 ghost use Rattle.cap_arena.specs.Lists.{IsLists, OfInode, OfRecall, belongs_at, keys, node_at};
 ghost use Rattle.cap_arena.specs.Walks.{is_among};
-ghost use Rattle.cap_arena.specs.Calls.{node, add_tests, Adds, Removes, Touches};
+ghost use Rattle.cap_arena.specs.Calls.{Adds, Removes, Touches, add_tests, node};
 ghost use Rattle.captable.specs.Nodes as words;
-ghost use Rattle.captable.specs.Nodes.{holder_of, nodes_in, SetsEntry, KeepsSets, IsKeyOf};
+ghost use Rattle.captable.specs.Nodes.{IsKeyOf, KeepsSets, SetsEntry, holder_of, nodes_in};
 ghost use Rattle.captable.specs.Walks.{IsPlaceOf, keys_from};
 
 use crate::entry::{Entry, EntryRow, Holder, KeptEntry, Sets, Slot};

@@ -5,14 +5,14 @@ ghost use Rattle.std.specs.Option.{unwrap_or};
 ghost use Rattle.capbits.specs.Maps.{change_at};
 ghost use Rattle.cap_arena.specs.Lists.{OfClient, keys};
 ghost use Rattle.captable.specs.Polls as words;
-ghost use Rattle.captable.specs.Polls.{begun, ended, places_of, counts_of};
-ghost use Rattle.captable.specs.Places.{AreQuiet, ArePlaced, IsQuiet, is_due_at, lowered, moved_on, place_of};
+ghost use Rattle.captable.specs.Polls.{begun, counts_of, ended, places_of};
+ghost use Rattle.captable.specs.Places.{ArePlaced, AreQuiet, IsQuiet, is_due_at, lowered, moved_on, place_of};
 
-use crate::entry::Slot;
 use crate::places;
+use crate::entry::Slot;
 use cap_arena::TripleLists;
 use capbits::ClientId;
-use numbered::Numbered;
+use dense_map::Numbered;
 use std::alloc::AllocError;
 
 // What is kept of one client.

@@ -1,22 +1,18 @@
 //! The table of entries.
-ghost use Rattle.std.specs.Prelude.{◌≡◌, ◌<◌, ◌^◌, ◌-◌, true, false, [], ◌∷◌, IfSome, IfOk, OnOk, OnErr, Some, None, length, slice_get, take, filter, map, unwrap_or};
+ghost use Rattle.std.specs.Prelude.{◌≡◌, ◌<◌, ◌^◌, ◌-◌, true, false, [], ◌∷◌, IfSome, IfOk, OnOk, OnErr, Some, None, length, slice_get, take, filter, map};
+ghost use Rattle.std.specs.Prelude.{unwrap_or};
 
 use crate::entry::{Edit, Entry, Holder, Keeping, Sets, Slot};
 use crate::holders::Holders;
-use crate::nodes::{
-    add_node, first_holders, holder_at, keep_sets, key_of, remove_node, set_entry, touch_node,
-};
+use crate::nodes::{add_node, first_holders, holder_at, keep_sets, key_of, remove_node, set_entry, touch_node};
 use crate::places::is_due_at;
-use crate::polls::{
-    Poll, begin_poll, count_again, count_of, end_poll, lower_place, move_place, quiet_place,
-    set_place, skip_place,
-};
+use crate::polls::{Poll, begin_poll, count_again, count_of, end_poll, lower_place, move_place, quiet_place, set_place, skip_place};
 use crate::walk::{KeptWalk, Walk};
 use cap_arena::{AddError, MAX_NODES, TripleLists};
 use capbits::{Cap, CapSet, ClientId, Ino, Refusal};
-use numbered::Numbered;
-use std::alloc::{AllocError, Global};
+use dense_map::Numbered;
 use std::fmt;
+use std::alloc::{AllocError, Global};
 use std::marker::{Brand, Model};
 use std::sync::ledger::Blank;
 
@@ -42,8 +38,8 @@ impl Model for CapTable {
     ghost use Rattle.captable.specs.Codes.{kept_table_code};
     ghost use Rattle.captable.specs.Nodes.{both_of, table_of};
     ghost use Rattle.captable.specs.Linked.{IsLinked};
-    ghost use Rattle.captable.specs.Places.{AreQuiet, ArePlaced};
-    ghost use Rattle.captable.specs.Polls.{AreCounted, places_of, counts_of};
+    ghost use Rattle.captable.specs.Places.{ArePlaced, AreQuiet};
+    ghost use Rattle.captable.specs.Polls.{AreCounted, counts_of, places_of};
 
     ghost Value = { KeptTable };
 
@@ -82,19 +78,20 @@ impl fmt::Debug for CapTable {
 
 impl CapTable {
     ghost use Rattle.captable.specs.Kept as words;
-    ghost use Rattle.captable.specs.Kept.{AreBeside, sets_beside, permitted_beside, permitting, telling};
+    ghost use Rattle.captable.specs.Kept.{AreBeside, permitted_beside, permitting, sets_beside, telling};
     ghost use Rattle.std.specs.List.{fold, list_any};
     ghost use Rattle.std.specs.Result.{result_err};
     ghost use Rattle.cap_arena.specs.Lists.{IsLists};
     ghost use Rattle.cap_arena.specs.Calls.{refusal_in};
-    ghost use Rattle.captable.specs.Table.{IsTable, holder, entry_at, holders_of_rows};
+    ghost use Rattle.captable.specs.Table.{IsTable, entry_at, holder, holders_of_rows};
     ghost use Rattle.captable.specs.Nodes.{AreLists};
     ghost use Rattle.captable.specs.Walks.{first_holder};
-    ghost use Rattle.captable.specs.Many.{changed_by, asking};
+    ghost use Rattle.captable.specs.Many.{asking, changed_by};
     ghost use Rattle.capbits.specs.Refusal.{first_failing};
-    ghost use Rattle.captable.specs.Tests.{open_tests, open_entry_tests, entry_test, ack_tests, release_tests, test_at};
+    ghost use Rattle.captable.specs.Tests.{ack_tests, entry_test, open_entry_tests, open_tests, release_tests, test_at};
     ghost use Rattle.captable.specs.Edits.{edited, is_numbering, kept_as};
-    ghost use Rattle.captable.specs.Calls.{wanting, issued, has_pin, renumbered, with_told, with_asked, with_size_due, newer_in, touched, recalled, entries_on, is_of_client, is_of_inode, is_due};
+    ghost use Rattle.captable.specs.Calls.{entries_on, has_pin, is_due, is_of_client, is_of_inode, issued, newer_in, recalled, renumbered, touched, wanting};
+    ghost use Rattle.captable.specs.Calls.{with_asked, with_size_due, with_told};
 
     /// A table without entries, of which none was made yet. No clause can say that the memory for it is there.
     pub fn new(alloc: Global) -> Result<CapTable, AllocError>

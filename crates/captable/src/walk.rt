@@ -1,9 +1,9 @@
 //! Walks over the entries of one client, or of one inode.
 ghost use Rattle.std.specs.Prelude.{◌≡◌, IfSome, IfNone, [], ◌∷◌, map};
-ghost use Rattle.cap_arena.specs.Lists.{IsLists, OfInode, OfClient};
+ghost use Rattle.cap_arena.specs.Lists.{IsLists, OfClient, OfInode};
 ghost use Rattle.captable.specs.Nodes as words;
 ghost use Rattle.captable.specs.Nodes.{nodes_in};
-ghost use Rattle.captable.specs.Walks.{rows_from, IsPlaceOf};
+ghost use Rattle.captable.specs.Walks.{IsPlaceOf, rows_from};
 
 use crate::entry::{EntryRow, KeptEntry, Slot};
 use crate::nodes::{kept_entry_of, row_of};
@@ -30,7 +30,7 @@ pub struct Walk<'a> {
 impl<'a> Model for Walk<'a> {
     ghost use Rattle.std.specs.Prelude.{List};
     ghost use Rattle.captable.specs.declared.entry.EntryRow.{EntryRow};
-    ghost use Rattle.captable.specs.Walks.{rows_from, name_of, IsPlaceOf};
+    ghost use Rattle.captable.specs.Walks.{IsPlaceOf, name_of, rows_from};
 
     ghost Value = { List EntryRow };
 
@@ -99,7 +99,7 @@ impl<'a> Model for KeptWalk<'a> {
     ghost use Rattle.std.specs.Prelude.{List};
     ghost use Rattle.cap_arena.specs.Lists.{OfInode};
     ghost use Rattle.captable.specs.declared.entry.KeptEntry.{KeptEntry};
-    ghost use Rattle.captable.specs.Walks.{kept_from, IsPlaceOf};
+    ghost use Rattle.captable.specs.Walks.{IsPlaceOf, kept_from};
 
     ghost Value = { List KeptEntry };
 

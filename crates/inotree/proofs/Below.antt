@@ -1,15 +1,16 @@
 -- What lies below an inode: a walk down is a climb back up, and a child is what stands under its name.
-use Rattle.std.proofs.Common.{◌≡◌, ℕ, zero, suc, ◌+◌, ◌-◌, ◌<◌, ◌≤◌, true, false, ◌&&◌, ◌↔◌, List, [], ◌∷◌, ◌++◌, length, Some, inl, inr, refl, sym, ap, subst, ◌∙◌, length-append, arith}
+use Rattle.std.proofs.Common.{◌≡◌, ℕ, zero, suc, ◌+◌, ◌-◌, ◌<◌, ◌≤◌, true, false, ◌&&◌, ◌↔◌, List, [], ◌∷◌, ◌++◌, length, Some, inl, inr, refl, sym, ap, subst}
+use Rattle.std.proofs.Common.{◌∙◌, length-append, arith}
 use Rattle.std.specs.Cmp.{nat_cmp_total}
 use Rattle.std.proofs.lemmas.Bool.{cases_lt}
 use Rattle.std.specs.FinMap as map
 use Rattle.std.specs.Option.{option_map}
 use Rattle.inotree.specs.declared.node.Node.{Node}
 use Rattle.inotree.specs.Inodes.{InodeMap}
-use Rattle.inotree.specs.Tree.{Nodes, IsTree, IsUnder, IsChildless, Climbs, is_at, is_in, child, depth, reaches}
-use Rattle.numbered.proofs.Found.{both_true, and_true, any_some, found, any_found}
+use Rattle.inotree.specs.Tree.{Climbs, IsChildless, IsTree, IsUnder, Nodes, child, depth, is_at, is_in, reaches}
+use Rattle.dense_map.proofs.Found.{and_true, any_found, any_some, both_true, found}
 use Rattle.inotree.proofs.Leading.{child-is}
-use Rattle.inotree.proofs.Named.{first_some, node_of, at_under, in_under}
+use Rattle.inotree.proofs.Named.{at_under, first_some, in_under, node_of}
 use Rattle.inotree.proofs.Shape.{climb_on}
 use Rattle.inotree.proofs.Walks.{same_test}
 

@@ -1,5 +1,6 @@
 -- Each change that a call makes keeps what every tree keeps, and the index in step with it.
-use Rattle.std.proofs.Common.{◌≡◌, ℕ, ◌+◌, ◌-◌, ◌<◌, ◌≤◌, true, false, List, [], ◌∷◌, ◌++◌, length, Option, Some, None, inl, inr, refl, sym, ap, subst, ◌∙◌, arith, length-append}
+use Rattle.std.proofs.Common.{◌≡◌, ℕ, ◌+◌, ◌-◌, ◌<◌, ◌≤◌, true, false, List, [], ◌∷◌, ◌++◌, length, Option, Some, None, inl, inr, refl, sym, ap, subst, ◌∙◌}
+use Rattle.std.proofs.Common.{arith, length-append}
 use Rattle.std.specs.Cmp.{nat_cmp_total}
 use Rattle.std.proofs.lemmas.Bool.{cases_lt}
 use Rattle.std.specs.FinMap as map
@@ -11,23 +12,24 @@ use Rattle.inotree.specs.declared.node.Kind.{Kind}
 use Rattle.inotree.specs.declared.node.Kind.TheVariants.{Directory}
 use Rattle.inotree.specs.declared.node.Node.{Node}
 use Rattle.inotree.specs.declared.node.Site.{Site}
-use Rattle.inotree.specs.declared.node.Site.TheVariants.{Root, Under, Stray}
-use Rattle.inotree.specs.declared.node.Presence.TheVariants.{NoIno, Gone, Here}
+use Rattle.inotree.specs.declared.node.Site.TheVariants.{Root, Stray, Under}
+use Rattle.inotree.specs.declared.node.Presence.TheVariants.{Gone, Here, NoIno}
 use Rattle.inotree.specs.Names.{is_bad_name}
 use Rattle.capbits.specs.Maps.{change_at}
 use Rattle.inotree.specs.declared.node.Setting.{Setting}
-use Rattle.inotree.specs.declared.node.Setting.TheVariants.{Mode, Uid, Gid, Size, Time}
-use Rattle.inotree.specs.Inodes.{InodeMap, with_site, with_setting}
+use Rattle.inotree.specs.declared.node.Setting.TheVariants.{Gid, Mode, Size, Time, Uid}
+use Rattle.inotree.specs.Inodes.{InodeMap, with_setting, with_site}
 use Rattle.inotree.specs.Index.{NameIndex, slot_cmp}
-use Rattle.inotree.specs.Heights.{HeightMap, AreConsistent, HeightsRise, HeightsRiseBut, SameBut}
-use Rattle.inotree.specs.Tree.{IsTree, IsIndexed, IsUnder, IsChildless, Climbs, HasGoodNames, AllHaveGoodNames, site_of, kind_of, dir_at, parent, presence, presence_at, is_directory, is_directory_kind, depth, reaches, is_within, lies_below}
+use Rattle.inotree.specs.Heights.{AreConsistent, HeightMap, HeightsRise, HeightsRiseBut, SameBut}
+use Rattle.inotree.specs.Tree.{AllHaveGoodNames, Climbs, HasGoodNames, IsChildless, IsIndexed, IsTree, IsUnder, depth, dir_at, is_directory, is_directory_kind}
+use Rattle.inotree.specs.Tree.{is_within, kind_of, lies_below, parent, presence, presence_at, reaches, site_of}
 use Rattle.inotree.specs.Calls.{first_tree, new_node}
-use Rattle.numbered.proofs.Maps.{insert-here, insert-other, remove-here, remove-other, change-is, change-none}
-use Rattle.inotree.proofs.Inner.{some_same, good_none, moved_good, put_inner}
+use Rattle.dense_map.proofs.Maps.{change-is, change-none, insert-here, insert-other, remove-here, remove-other}
+use Rattle.inotree.proofs.Inner.{good_none, moved_good, put_inner, some_same}
 use Rattle.inotree.proofs.Named.{node_of}
-use Rattle.inotree.proofs.Shape.{same_ino, slot, tree-buried, index-forgotten, index-unlinked, climb_keep, climb_split, climb_on}
-use Rattle.inotree.proofs.Growing.{depth-climb, off_here, off_next, reach_up, tree-sited, index-added, index-moved, tree-same, index-same}
-use Rattle.inotree.proofs.Rising.{all-rise, rise-same, rise-moved, rise-sited}
+use Rattle.inotree.proofs.Shape.{climb_keep, climb_on, climb_split, index-forgotten, index-unlinked, same_ino, slot, tree-buried}
+use Rattle.inotree.proofs.Growing.{depth-climb, index-added, index-moved, index-same, off_here, off_next, reach_up, tree-same, tree-sited}
+use Rattle.inotree.proofs.Rising.{all-rise, rise-moved, rise-same, rise-sited}
 use Rattle.inotree.proofs.Walks.{is_within-is}
 
 -- One inode is there and changes.

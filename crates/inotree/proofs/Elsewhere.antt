@@ -6,15 +6,15 @@ use Rattle.std.specs.Option.{option_map, option_map_or}
 use Rattle.capgrant.specs.declared.access.Attr.{Attr}
 use Rattle.inotree.specs.declared.node.Kind.{Kind}
 use Rattle.inotree.specs.declared.node.Node.{Node}
-use Rattle.inotree.specs.declared.node.Presence.TheVariants.{NoIno, Gone, Here}
+use Rattle.inotree.specs.declared.node.Presence.TheVariants.{Gone, Here, NoIno}
 use Rattle.inotree.specs.declared.node.Site.{Site}
-use Rattle.inotree.specs.declared.node.Site.TheVariants.{Root, Under, Stray}
+use Rattle.inotree.specs.declared.node.Site.TheVariants.{Root, Stray, Under}
 use Rattle.capbits.specs.Maps.{change_at}
 use Rattle.inotree.specs.Inodes.{InodeMap}
-use Rattle.inotree.specs.Tree.{Nodes, IsTree, IsUnder, site_of, presence, presence_at, path_at, path_of, upward, names_up}
-use Rattle.inotree.specs.Calls.{new_node, with_new, changed, forgotten}
+use Rattle.inotree.specs.Tree.{IsTree, IsUnder, Nodes, names_up, path_at, path_of, presence, presence_at, site_of, upward}
+use Rattle.inotree.specs.Calls.{changed, forgotten, new_node, with_new}
 use Rattle.inotree.specs.Alike.{IsAlike}
-use Rattle.numbered.proofs.Maps.{insert-here, insert-other, remove-other}
+use Rattle.dense_map.proofs.Maps.{insert-here, insert-other, remove-other}
 use Rattle.inotree.proofs.Shape.{same_ino}
 
 -- Some inodes stand where they stood, and so does all above them.

@@ -1,21 +1,22 @@
 -- What a walk down the index gathers is what lies within the inode at which it begins.
-use Rattle.std.proofs.Common.{◌≡◌, ℕ, ◌-◌, ◌≤◌, ◌&&◌, ◌||◌, ◌==◌, suc, zero, Bool, true, false, List, [], ◌∷◌, ◌++◌, length, get_or, All, Contains, refl, sym, ap, subst, ◌∙◌, arith}
+use Rattle.std.proofs.Common.{◌≡◌, ℕ, ◌-◌, ◌≤◌, ◌&&◌, ◌||◌, ◌==◌, suc, zero, Bool, true, false, List, [], ◌∷◌, ◌++◌, length, get_or, All, Contains, refl, sym}
+use Rattle.std.proofs.Common.{ap, subst, ◌∙◌, arith}
 use Rattle.std.specs.FinMap as map
-use Rattle.std.specs.List.{list_any, flat_map}
+use Rattle.std.specs.List.{flat_map, list_any}
 use Rattle.std.proofs.lemmas.List.Elements.{All-contains_itself, recursion_from_All}
 use Rattle.std.proofs.lemmas.List.Folds.{list_any-append, list_any_at}
 use Rattle.std.proofs.lemmas.Bool.{or_left, or_right}
 use Rattle.capbits.specs.declared.ids.Ino.{Ino}
 use Rattle.inotree.specs.declared.index.Slot.{Slot}
 use Rattle.inotree.specs.Inodes.{InodeMap}
-use Rattle.inotree.specs.Index.{NameIndex, names_in, gathered}
-use Rattle.inotree.specs.Tree.{Nodes, IsTree, IsIndexed, IsUnder, Climbs, is_within}
-use Rattle.numbered.proofs.Found.{both_true, and_true, any_some, any-filter, found, any_found}
+use Rattle.inotree.specs.Index.{NameIndex, gathered, names_in}
+use Rattle.inotree.specs.Tree.{Climbs, IsIndexed, IsTree, IsUnder, Nodes, is_within}
+use Rattle.dense_map.proofs.Found.{and_true, any-filter, any_found, any_some, both_true, found}
 use Rattle.inotree.proofs.Growing.{last_step}
 use Rattle.inotree.proofs.Shape.{climb_on}
-use Rattle.inotree.proofs.Slots.{slot_total, slot_same}
+use Rattle.inotree.proofs.Slots.{slot_same, slot_total}
 use Rattle.inotree.proofs.Walks.{same_test, test_same}
-use Rattle.inotree.proofs.Within.{within-climbs, climb_fits}
+use Rattle.inotree.proofs.Within.{climb_fits, within-climbs}
 
 -- ---- step by step
 

@@ -1,5 +1,6 @@
 -- A new inode, an inode that moves, and a change that moves none keep what every tree keeps.
-use Rattle.std.proofs.Common.{◌≡◌, ℕ, zero, suc, ◌-◌, ◌<◌, ◌≤◌, Bool, true, false, ◌||◌, ◌&&◌, ◌==◌, List, [], ◌∷◌, length, Some, None, inl, inr, refl, sym, ap, subst, ◌∙◌, arith}
+use Rattle.std.proofs.Common.{◌≡◌, ℕ, zero, suc, ◌-◌, ◌<◌, ◌≤◌, Bool, true, false, ◌||◌, ◌&&◌, ◌==◌, List, [], ◌∷◌, length, Some, None, inl, inr, refl, sym}
+use Rattle.std.proofs.Common.{ap, subst, ◌∙◌, arith}
 use Rattle.std.specs.Cmp.{nat_cmp_total}
 use Rattle.std.specs.FinMap as map
 use Rattle.inotree.specs.declared.index.Slot.{Slot}
@@ -9,13 +10,14 @@ use Rattle.inotree.specs.declared.node.Presence.TheVariants.{Here}
 use Rattle.inotree.specs.Names.{is_bad_name}
 use Rattle.inotree.specs.Inodes.{InodeMap}
 use Rattle.inotree.specs.Index.{NameIndex}
-use Rattle.inotree.specs.Tree.{IsTree, IsIndexed, IsUnder, Climbs, AllHaveGoodNames, site_of, kind_of, presence, presence_at, is_directory, is_directory_kind, is_in, upward, names_up, lies_below, depth, reaches}
-use Rattle.numbered.proofs.Found.{and_true, any_found}
-use Rattle.numbered.proofs.Maps.{same_or_other, insert-here, insert-other, remove-here, remove-other}
+use Rattle.inotree.specs.Tree.{AllHaveGoodNames, Climbs, IsIndexed, IsTree, IsUnder, depth, is_directory, is_directory_kind, is_in, kind_of, lies_below}
+use Rattle.inotree.specs.Tree.{names_up, presence, presence_at, reaches, site_of, upward}
+use Rattle.dense_map.proofs.Found.{and_true, any_found}
+use Rattle.dense_map.proofs.Maps.{insert-here, insert-other, remove-here, remove-other, same_or_other}
 use Rattle.inotree.proofs.Named.{node_of}
-use Rattle.inotree.proofs.Shape.{same_ino, slot, one_dir, one_name}
-use Rattle.inotree.proofs.Slots.{slot_total, slot_same}
-use Rattle.inotree.proofs.Walks.{names_up-none, names_up-step, lies_below-none, lies_below-step, same_test}
+use Rattle.inotree.proofs.Shape.{one_dir, one_name, same_ino, slot}
+use Rattle.inotree.proofs.Slots.{slot_same, slot_total}
+use Rattle.inotree.proofs.Walks.{lies_below-none, lies_below-step, names_up-none, names_up-step, same_test}
 
 -- the names on the way up are those of the path
 pub climb-names : (m : InodeMap) (up : List (List ℕ)) (i n : ℕ) → site_of m 1 ≡ Some Root → length up ≤ n → Climbs m i up 1 → names_up n m i ≡ up

@@ -9,15 +9,15 @@ use Rattle.capgrant.specs.declared.access.Attr.{Attr}
 use Rattle.inotree.specs.declared.node.Node.{Node}
 use Rattle.inotree.specs.declared.node.Site.{Site}
 use Rattle.inotree.specs.declared.node.Setting.{Setting}
-use Rattle.inotree.specs.declared.node.Setting.TheVariants.{Mode, Uid, Gid, Size, Time}
-use Rattle.inotree.specs.Names.{name_cmp, is_bad_name, is_bad_attribute, is_dots, has_byte}
+use Rattle.inotree.specs.declared.node.Setting.TheVariants.{Gid, Mode, Size, Time, Uid}
+use Rattle.inotree.specs.Names.{has_byte, is_bad_attribute, is_bad_name, is_dots, name_cmp}
 use Rattle.inotree.specs.Node.{AttributeMap, NameSet}
-use Rattle.inotree.specs.Inodes.{InodeMap, with_setting, with_attr, with_site, with_attribute, without_attribute, with_snapshot, without_snapshot}
-use Rattle.inotree.specs.Tree.{Nodes, IsTree, HasGoodNames, AllHaveGoodNames}
+use Rattle.inotree.specs.Inodes.{InodeMap, with_attr, with_attribute, with_setting, with_site, with_snapshot, without_attribute, without_snapshot}
+use Rattle.inotree.specs.Tree.{AllHaveGoodNames, HasGoodNames, IsTree, Nodes}
 use Rattle.inotree.specs.Tests.{test_at}
-use Rattle.numbered.proofs.Found.{both_true}
-use Rattle.numbered.proofs.Maps.{same_or_other, apart, insert-here, insert-other, remove-here, remove-other}
-use Rattle.inotree.proofs.Order.{name_total, name_same}
+use Rattle.dense_map.proofs.Found.{both_true}
+use Rattle.dense_map.proofs.Maps.{apart, insert-here, insert-other, remove-here, remove-other, same_or_other}
+use Rattle.inotree.proofs.Order.{name_same, name_total}
 
 pub some_same : {A : Type 0} {x y : A} → Some x ≡ Some y → x ≡ y
 some_same e = cc

@@ -1,22 +1,23 @@
 -- Sets of inodes: what the numbers of a tree set say of the set that they make, the least from a number on, and one inode beside
 -- others.
-use Rattle.std.proofs.Common.{◌≡◌, ◌≢◌, ℕ, ◌<◌, ◌≤◌, ◌+◌, ◌==◌, Option, Some, None, ◌⊎◌, inl, inr, Bool, true, false, cond, ◌||◌, List, [], ◌∷◌, Result, Ok, Err, OnOk, OnErr, refl, sym, ap, ◌∙◌, arith}
+use Rattle.std.proofs.Common.{◌≡◌, ◌≢◌, ℕ, ◌<◌, ◌≤◌, ◌+◌, ◌==◌, Option, Some, None, ◌⊎◌, inl, inr, Bool, true, false, cond, ◌||◌, List, [], ◌∷◌, Result, Ok}
+use Rattle.std.proofs.Common.{Err, OnOk, OnErr, refl, sym, ap, ◌∙◌, arith}
 use Rattle.std.proofs.Math.Bool.{or-true}
-use Rattle.std.proofs.lemmas.Bool.{eqb-true, eqb-false, eq-eqb, ne_eqb, or_parts}
-use Rattle.std.specs.declared.cmp.Ordering.TheVariants.{Less, Equal, Greater}
+use Rattle.std.proofs.lemmas.Bool.{eq-eqb, eqb-false, eqb-true, ne_eqb, or_parts}
+use Rattle.std.specs.declared.cmp.Ordering.TheVariants.{Equal, Greater, Less}
 use Rattle.std.specs.declared.ops.Bound.{Bound}
-use Rattle.std.specs.declared.ops.Bound.TheVariants.{Included, Excluded, Unbounded}
+use Rattle.std.specs.declared.ops.Bound.TheVariants.{Excluded, Included, Unbounded}
 use Rattle.std.specs.BTreeMap.Range.{IsInRange}
 use Rattle.std.specs.BTreeSet as btree
 use Rattle.std.specs.BTreeSet.{BTreeSet, IsKeyRangeOf}
-use Rattle.std.specs.Cmp.{nat_cmp_total, ranked, unsigned_tied, eq_by_cmp_equiv}
+use Rattle.std.specs.Cmp.{eq_by_cmp_equiv, nat_cmp_total, ranked, unsigned_tied}
 use Rattle.std.specs.FinSet as set
 use Rattle.std.specs.List.{AllByRecursion, list_any}
 use Rattle.std.specs.List.Sorted.{IsStrictlySortedBy}
-use Rattle.std.specs.Ordering.{nat_cmp, is_gt, eq_by_cmp}
-use Rattle.std.proofs.lemmas.Map.Keys.{le_from_not_gt, IsDistinct-from_sorted, IsDistinct-cons}
+use Rattle.std.specs.Ordering.{eq_by_cmp, is_gt, nat_cmp}
+use Rattle.std.proofs.lemmas.Map.Keys.{IsDistinct-cons, IsDistinct-from_sorted, le_from_not_gt}
 use Rattle.capbits.specs.declared.ids.Ino.{Ino}
-use Rattle.inotree.specs.InoSets.{InoSet, IsListOf, IsLeastFrom, IsNext}
+use Rattle.inotree.specs.InoSets.{InoSet, IsLeastFrom, IsListOf, IsNext}
 
 -- ---- its numbers
 

@@ -7,11 +7,11 @@ use Rattle.std.specs.List.{list_any}
 use Rattle.std.specs.Option.{option_map}
 use Rattle.inotree.specs.declared.node.Node.{Node}
 use Rattle.inotree.specs.declared.node.Presence.{Presence}
-use Rattle.inotree.specs.declared.node.Presence.TheVariants.{NoIno, Gone, Here}
-use Rattle.inotree.specs.Tree.{Nodes, IsTree, IsUnder, Climbs, presence, path_at, path_of, names_up, is_at, child, follow}
-use Rattle.numbered.proofs.Found.{found, any_found}
+use Rattle.inotree.specs.declared.node.Presence.TheVariants.{Gone, Here, NoIno}
+use Rattle.inotree.specs.Tree.{Climbs, IsTree, IsUnder, Nodes, child, follow, is_at, names_up, path_at, path_of, presence}
+use Rattle.dense_map.proofs.Found.{any_found, found}
 use Rattle.inotree.proofs.Growing.{climb-names}
-use Rattle.inotree.proofs.Named.{first_some, first_none, node_of, at_under, under_at}
+use Rattle.inotree.proofs.Named.{at_under, first_none, first_some, node_of, under_at}
 
 module _ (t : Nodes) (tree : IsTree t) where
   pub child-is : (i d : ℕ) (a : List ℕ) → IsUnder t.nodes i d a → child t.nodes d a ≡ Some i

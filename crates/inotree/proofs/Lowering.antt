@@ -1,7 +1,9 @@
 -- A directory is lowered to what stands in it.
-use Rattle.std.proofs.Common.{◌≡◌, ℕ, zero, suc, ◌+◌, ◌-◌, ◌<◌, ◌≤◌, Bool, true, false, ◌&&◌, ◌||◌, ◌==◌, nat_le, cond, List, [], ◌∷◌, ◌++◌, map as each, Bor, Option, Some, None, inl, inr, refl, sym, ap, subst, ◌∙◌, arith}
+use Rattle.std.proofs.Common.{◌≡◌, ℕ, zero, suc, ◌+◌, ◌-◌, ◌<◌, ◌≤◌, Bool, true, false, ◌&&◌, ◌||◌, ◌==◌, nat_le, cond, List, [], ◌∷◌, ◌++◌, Bor, Option, Some}
+use Rattle.std.proofs.Common.{None, inl, inr, refl, sym, ap, subst, ◌∙◌, arith}
+use Rattle.std.proofs.Common.{map as each}
 use Rattle.std.specs.Prelude.{if◌then◌else◌, unwrap_or}
-use Rattle.std.specs.Ordering.{nat_cmp, ord_max, is_lt}
+use Rattle.std.specs.Ordering.{is_lt, nat_cmp, ord_max}
 use Rattle.std.proofs.lemmas.Map.Keys.{ge_from_not_lt}
 use Rattle.std.proofs.lemmas.Bool.Decides.{nat_tests}
 use Rattle.std.proofs.lemmas.List.Folds.{list_any-append}
@@ -13,15 +15,16 @@ use Rattle.std.specs.List.{list_any}
 use Rattle.capbits.specs.Maps.{change_at}
 use Rattle.inotree.specs.declared.index.Slot.{Slot}
 use Rattle.inotree.specs.Inodes.{InodeMap}
-use Rattle.inotree.specs.Index.{NameIndex, names_in, index_reaches}
-use Rattle.inotree.specs.Heights.{HeightMap, bound, height, IsHigher, HeightsRise, AreNoHigher, AreAllKnown}
+use Rattle.inotree.specs.Index.{NameIndex, index_reaches, names_in}
+use Rattle.inotree.specs.Heights.{AreAllKnown, AreNoHigher, HeightMap, HeightsRise, IsHigher, bound, height}
 use Rattle.inotree.specs.Tree.{IsIndexed, IsUnder, is_directory}
-use Rattle.numbered.proofs.Found.{and_true, any-filter, any-map, any_found}
-use Rattle.numbered.proofs.Maps.{insert-here, change-is, change-none}
-use Rattle.inotree.proofs.Reaching.{reaches-zero, reaches-step, any_found as reached_one}
-use Rattle.inotree.proofs.Rising.{inserted_same, height_dir}
+use Rattle.dense_map.proofs.Found.{and_true, any-filter, any-map, any_found}
+use Rattle.dense_map.proofs.Maps.{change-is, change-none, insert-here}
+use Rattle.inotree.proofs.Reaching.{reaches-step, reaches-zero}
+use Rattle.inotree.proofs.Reaching.{any_found as reached_one}
+use Rattle.inotree.proofs.Rising.{height_dir, inserted_same}
 use Rattle.inotree.proofs.Shape.{same_ino}
-use Rattle.inotree.proofs.Slots.{slot_total, slot_same}
+use Rattle.inotree.proofs.Slots.{slot_same, slot_total}
 use Rattle.inotree.proofs.Walks.{same_test}
 
 -- ---- the greatest height so far

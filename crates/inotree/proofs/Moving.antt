@@ -7,9 +7,9 @@ use Rattle.capbits.specs.Maps.{change_at}
 use Rattle.capbits.specs.Refusal.{first_failing}
 use Rattle.inotree.specs.declared.node.Node.{Node}
 use Rattle.inotree.specs.declared.node.Site.{Site}
-use Rattle.inotree.specs.declared.node.Site.TheVariants.{Root, Under, Stray}
+use Rattle.inotree.specs.declared.node.Site.TheVariants.{Root, Stray, Under}
 use Rattle.inotree.specs.Inodes.{InodeMap, with_site}
-use Rattle.inotree.specs.Tree.{Nodes, IsTree, IsUnder, site_of, presence, presence_at, path_at, path_of, upward, names_up, lies_below, is_within}
+use Rattle.inotree.specs.Tree.{IsTree, IsUnder, Nodes, is_within, lies_below, names_up, path_at, path_of, presence, presence_at, site_of, upward}
 use Rattle.inotree.specs.Calls.{changed, moved}
 use Rattle.inotree.specs.Alike.{IsAlike}
 use Rattle.inotree.specs.Tests.{rename_tests}
@@ -17,10 +17,10 @@ use Rattle.inotree.proofs.Changes.{moves}
 use Rattle.inotree.proofs.Growing.{off_here, off_next}
 use Rattle.inotree.proofs.Leading.{child-is}
 use Rattle.inotree.proofs.OneInode.{get-changed, presence-other}
-use Rattle.inotree.proofs.Passing.{slot_site, passed-rename}
+use Rattle.inotree.proofs.Passing.{passed-rename, slot_site}
 use Rattle.inotree.proofs.Shape.{same_ino}
 use Rattle.inotree.proofs.Within.{below-split}
-use Rattle.numbered.proofs.Maps.{insert-here, insert-other}
+use Rattle.dense_map.proofs.Maps.{insert-here, insert-other}
 
 -- The site of one inode changes, and no other.
 module _ (m n : InodeMap) (k : ℕ) (other : (i : ℕ) → (i ≡ k → ⊥) → site_of n i ≡ site_of m i) where

@@ -1,22 +1,24 @@
 -- The index against the tree: a child is what the index has, and a walk down the one is a walk down the other.
-use Rattle.std.proofs.Common.{◌≡◌, ℕ, zero, suc, ◌<◌, ◌^◌, Bool, true, false, cond, ◌||◌, ◌&&◌, ◌==◌, List, [], ◌∷◌, Option, Some, None, inl, inr, refl, sym, ap, subst, ◌∙◌, arith}
+use Rattle.std.proofs.Common.{◌≡◌, ℕ, zero, suc, ◌<◌, ◌^◌, Bool, true, false, cond, ◌||◌, ◌&&◌, ◌==◌, List, [], ◌∷◌, Option, Some, None, inl, inr, refl, sym}
+use Rattle.std.proofs.Common.{ap, subst, ◌∙◌, arith}
 use Rattle.std.specs.Cmp.{nat_cmp_total}
 use Rattle.std.proofs.lemmas.Bool.{cases_lt}
 use Rattle.std.specs.FinMap as map
-use Rattle.std.specs.List.{list_any, filter, AllByRecursion}
+use Rattle.std.specs.List.{AllByRecursion, filter, list_any}
 use Rattle.std.specs.Option.{option_map}
 use Rattle.inotree.specs.declared.index.Slot.{Slot}
 use Rattle.inotree.specs.declared.node.Node.{Node}
 use Rattle.inotree.specs.declared.node.Site.{Site}
-use Rattle.inotree.specs.declared.node.Site.TheVariants.{Root, Under, Stray}
-use Rattle.inotree.specs.declared.node.Presence.TheVariants.{NoIno, Here}
+use Rattle.inotree.specs.declared.node.Site.TheVariants.{Root, Stray, Under}
+use Rattle.inotree.specs.declared.node.Presence.TheVariants.{Here, NoIno}
 use Rattle.inotree.specs.Inodes.{InodeMap}
-use Rattle.inotree.specs.Index.{NameIndex, index_reaches, AreInodes}
-use Rattle.inotree.specs.Tree.{IsTree, IsIndexed, IsUnder, StandInDirectories, site_of, is_directory, presence, presence_at, is_at, is_in, child, first_where, reaches}
-use Rattle.numbered.proofs.Found.{both_true, and_true, same_bool, all_map, any_some, any-filter, found, any_found}
-use Rattle.numbered.proofs.Maps.{tied, tied_here}
-use Rattle.inotree.proofs.Order.{name_total, name_same}
-use Rattle.inotree.proofs.Slots.{slot_total, slot_same}
+use Rattle.inotree.specs.Index.{AreInodes, NameIndex, index_reaches}
+use Rattle.inotree.specs.Tree.{IsIndexed, IsTree, IsUnder, StandInDirectories, child, first_where, is_at, is_directory, is_in, presence, presence_at, reaches}
+use Rattle.inotree.specs.Tree.{site_of}
+use Rattle.dense_map.proofs.Found.{all_map, and_true, any-filter, any_found, any_some, both_true, found, same_bool}
+use Rattle.dense_map.proofs.Maps.{tied, tied_here}
+use Rattle.inotree.proofs.Order.{name_same, name_total}
+use Rattle.inotree.proofs.Slots.{slot_same, slot_total}
 use Rattle.inotree.proofs.Walks.{same_test, test_same}
 
 none_pass : {A : Type 0} (p : A → Bool) (xs : List A) → AllByRecursion (λ x. p x ≡ false) xs → filter p xs ≡ []

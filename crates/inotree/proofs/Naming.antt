@@ -1,15 +1,16 @@
 -- The names of a path are names: each has a byte and no slash.
-use Rattle.std.proofs.Common.{◌≡◌, ℕ, zero, suc, Bool, true, false, ◌||◌, not, List, [], ◌∷◌, length, reverse, Option, Some, None, refl, ap, arith, All, IsTrue}
+use Rattle.std.proofs.Common.{◌≡◌, ℕ, zero, suc, Bool, true, false, ◌||◌, not, List, [], ◌∷◌, length, reverse, Option, Some, None, refl, ap, arith, All}
+use Rattle.std.proofs.Common.{IsTrue}
 use mathlib.Core.List.{reverse_aux}
 use Rattle.std.specs.Prelude.{nat_lt}
 use Rattle.std.proofs.lemmas.Bool.{lt-ltb}
-use Rattle.std.proofs.lemmas.List.Elements.{All-nil, All-cons, All-head, All-tail}
-use Rattle.capwords.specs.Paths.{is_name}
+use Rattle.std.proofs.lemmas.List.Elements.{All-cons, All-head, All-nil, All-tail}
+use Rattle.capspec.specs.Paths.{is_name}
 use Rattle.inotree.specs.declared.node.Site.{Site}
-use Rattle.inotree.specs.declared.node.Site.TheVariants.{Root, Under, Stray}
-use Rattle.inotree.specs.Names.{is_dots, has_byte, is_bad_name}
-use Rattle.inotree.specs.Tree.{Nodes, IsTree, site_of, upward, names_up}
-use Rattle.numbered.proofs.Found.{and_true}
+use Rattle.inotree.specs.declared.node.Site.TheVariants.{Root, Stray, Under}
+use Rattle.inotree.specs.Names.{has_byte, is_bad_name, is_dots}
+use Rattle.inotree.specs.Tree.{IsTree, Nodes, names_up, site_of, upward}
+use Rattle.dense_map.proofs.Found.{and_true}
 
 abbrev pub IsName : List ℕ → Type 0
 IsName name = IsTrue (is_name name)

@@ -6,24 +6,25 @@ use Rattle.std.specs.FinMap as map
 use Rattle.std.specs.FinSet as set
 use Rattle.std.specs.Option.{option_map, option_map_or}
 use Rattle.capbits.specs.declared.refusal.Refusal.TheVariants as refusal
-use Rattle.capbits.specs.Refusal.{refused_if, first_failing}
-use Rattle.capbits.proofs.Tests.{passed-if, passed-both, pass-both}
+use Rattle.capbits.specs.Refusal.{first_failing, refused_if}
+use Rattle.capbits.proofs.Tests.{pass-both, passed-both, passed-if}
 use Rattle.inotree.specs.declared.node.Node.{Node}
 use Rattle.inotree.specs.declared.node.Setting.{Setting}
 use Rattle.inotree.specs.declared.node.Site.TheVariants.{Root, Stray}
 use Rattle.inotree.specs.Names.{is_bad_attribute}
 use Rattle.capbits.specs.Maps.{change_at}
-use Rattle.inotree.specs.Inodes.{InodeMap, with_site, with_setting, with_attribute, without_attribute}
-use Rattle.inotree.specs.Tree.{Nodes, IsTree, IsChildless, HasGoodNames, site_of, presence, presence_at, path_of, is_directory, reaches}
+use Rattle.inotree.specs.Inodes.{InodeMap, with_attribute, with_setting, with_site, without_attribute}
+use Rattle.inotree.specs.Tree.{HasGoodNames, IsChildless, IsTree, Nodes, is_directory, path_of, presence, presence_at, reaches, site_of}
 use Rattle.inotree.specs.Calls.{changed, unlinked}
 use Rattle.inotree.specs.Alike.{IsAlike}
-use Rattle.inotree.specs.Tests.{inode_tests, root_test, file_test, directory_test, childless_test, empty_test, new_attribute_tests, unlink_tests, rmdir_tests, detach_tests, is_root_site, test_at}
+use Rattle.inotree.specs.Tests.{childless_test, detach_tests, directory_test, empty_test, file_test, inode_tests, is_root_site, new_attribute_tests}
+use Rattle.inotree.specs.Tests.{rmdir_tests, root_test, test_at, unlink_tests}
 use Rattle.inotree.proofs.Below.{childless-reaches}
-use Rattle.inotree.proofs.Changes.{tree-changed, tree-unlinked, setting_kind, setting_site}
-use Rattle.inotree.proofs.Elsewhere.{path_of-kept, field-changed, alike-other}
-use Rattle.inotree.proofs.Inner.{setting_good, attribute_good, no_attribute_good}
-use Rattle.numbered.proofs.Maps.{insert-other, change-none}
-use Rattle.inotree.proofs.Passing.{here, childless_file, childless_empty}
+use Rattle.inotree.proofs.Changes.{setting_kind, setting_site, tree-changed, tree-unlinked}
+use Rattle.inotree.proofs.Elsewhere.{alike-other, field-changed, path_of-kept}
+use Rattle.inotree.proofs.Inner.{attribute_good, no_attribute_good, setting_good}
+use Rattle.dense_map.proofs.Maps.{change-none, insert-other}
+use Rattle.inotree.proofs.Passing.{childless_empty, childless_file, here}
 
 -- ---- which inodes there are, and the others
 

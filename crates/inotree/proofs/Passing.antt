@@ -1,8 +1,9 @@
 -- What the tests of a call that were passed say of the tree.
-use Rattle.std.proofs.Common.{◌≡◌, ℕ, ◌-◌, true, false, not, nat_le, ◌<◌, ◌≤◌, ◌||◌, ◌==◌, List, [], ◌∷◌, length, Option, Some, None, is_some, inl, inr, refl, ◌∙◌, arith}
+use Rattle.std.proofs.Common.{◌≡◌, ℕ, ◌-◌, true, false, not, nat_le, ◌<◌, ◌≤◌, ◌||◌, ◌==◌, List, [], ◌∷◌, length, Option, Some, None, is_some, inl, inr, refl}
+use Rattle.std.proofs.Common.{◌∙◌, arith}
 use Rattle.std.specs.Prelude.{if◌then◌else◌}
 use Rattle.std.specs.Option.{option_map}
-use Rattle.std.proofs.lemmas.Bool.{cases_lt, or_parts, not-false}
+use Rattle.std.proofs.lemmas.Bool.{cases_lt, not-false, or_parts}
 use Rattle.std.proofs.lemmas.Bool.Decides.{nat_tests}
 use Rattle.std.specs.FinMap as map
 use Rattle.std.specs.FinSet as set
@@ -13,14 +14,15 @@ use Rattle.capbits.proofs.Tests.{passed-if}
 use Rattle.inotree.specs.declared.index.Slot.{Slot}
 use Rattle.inotree.specs.declared.node.Node.{Node}
 use Rattle.inotree.specs.declared.node.Site.{Site}
-use Rattle.inotree.specs.declared.node.Site.TheVariants.{Root, Under, Stray}
+use Rattle.inotree.specs.declared.node.Site.TheVariants.{Root, Stray, Under}
 use Rattle.inotree.specs.declared.node.Presence.{Presence}
-use Rattle.inotree.specs.declared.node.Presence.TheVariants.{NoIno, Gone, Here}
-use Rattle.inotree.specs.Names.{is_bad_name, is_bad_attribute}
+use Rattle.inotree.specs.declared.node.Presence.TheVariants.{Gone, Here, NoIno}
+use Rattle.inotree.specs.Names.{is_bad_attribute, is_bad_name}
 use Rattle.inotree.specs.Inodes.{InodeMap}
 use Rattle.inotree.specs.Index.{NameIndex}
-use Rattle.inotree.specs.Tree.{Nodes, IsTree, IsIndexed, IsChildless, site_of, presence, presence_at, slot_at, is_directory, child, depth, reaches, is_within}
-use Rattle.inotree.specs.Tests.{is_no_ino, is_gone, is_root_site, test_at, create_tests, detach_tests, rename_tests, set_xattr_tests, remove_xattr_tests, snap_add_tests, snap_remove_tests}
+use Rattle.inotree.specs.Tree.{IsChildless, IsIndexed, IsTree, Nodes, child, depth, is_directory, is_within, presence, presence_at, reaches, site_of, slot_at}
+use Rattle.inotree.specs.Tests.{create_tests, detach_tests, is_gone, is_no_ino, is_root_site, remove_xattr_tests, rename_tests, set_xattr_tests}
+use Rattle.inotree.specs.Tests.{snap_add_tests, snap_remove_tests, test_at}
 use Rattle.inotree.proofs.Growing.{reach_up}
 use Rattle.inotree.proofs.Inner.{long_name, no_long_attribute, no_long_snapshot}
 use Rattle.inotree.proofs.Named.{child-index}

@@ -2,7 +2,7 @@
 use Rattle.std.proofs.Common.{◌≡◌, ℕ, ◌-◌, suc, zero, Bool, true, List, [], ◌∷◌, ◌++◌, ◌||◌, refl, sym, ap, ◌∙◌, subst, arith}
 use Rattle.std.specs.List.{list_any}
 use Rattle.std.proofs.Math.Bool.{or-true}
-use Rattle.inotree.specs.Index.{NameIndex, names_in, index_reaches}
+use Rattle.inotree.specs.Index.{NameIndex, index_reaches, names_in}
 
 pub reaches-zero : (n : ℕ) (index : NameIndex) (dir : ℕ) → n ≡ 0 → index_reaches n index dir ≡ true
 unfolding index_reaches

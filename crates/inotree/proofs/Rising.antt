@@ -1,20 +1,21 @@
 -- Each directory stays higher than what stands in it, and so no way down is longer than its height.
-use Rattle.std.proofs.Common.{◌≡◌, ℕ, ◌+◌, zero, suc, ◌<◌, ◌≤◌, true, ◌&&◌, ◌==◌, List, [], ◌∷◌, length, Option, Some, None, inl, inr, refl, sym, ap, subst, ◌∙◌, arith}
+use Rattle.std.proofs.Common.{◌≡◌, ℕ, ◌+◌, zero, suc, ◌<◌, ◌≤◌, true, ◌&&◌, ◌==◌, List, [], ◌∷◌, length, Option, Some, None, inl, inr, refl, sym, ap, subst}
+use Rattle.std.proofs.Common.{◌∙◌, arith}
 use Rattle.std.specs.Prelude.{if◌then◌else◌, unwrap_or}
 use Rattle.std.specs.Cmp.{nat_cmp_total}
 use Rattle.std.specs.FinMap as map
 use Rattle.capbits.specs.Maps.{change_at}
 use Rattle.inotree.specs.declared.index.Slot.{Slot}
 use Rattle.inotree.specs.declared.node.Site.{Site}
-use Rattle.inotree.specs.declared.node.Site.TheVariants.{Root, Under, Stray}
+use Rattle.inotree.specs.declared.node.Site.TheVariants.{Root, Stray, Under}
 use Rattle.inotree.specs.Inodes.{InodeMap}
 use Rattle.inotree.specs.Index.{NameIndex, index_reaches}
-use Rattle.inotree.specs.Heights.{HeightMap, bound, height, IsHigher, HeightsRise, HeightsRiseBut, SameBut, AreBounds}
-use Rattle.inotree.specs.Tree.{Nodes, IsTree, IsIndexed, IsUnder, IsChildless, Climbs, site_of, kind_of, dir_at, parent, is_directory, is_directory_kind}
-use Rattle.numbered.proofs.Found.{both_true, any_some, any-filter, found}
-use Rattle.numbered.proofs.Maps.{insert-here, insert-other, remove-other, change-is, change-none}
-use Rattle.inotree.proofs.Shape.{same_ino, one_dir}
-use Rattle.inotree.proofs.Slots.{slot_total, slot_same}
+use Rattle.inotree.specs.Heights.{AreBounds, HeightMap, HeightsRise, HeightsRiseBut, IsHigher, SameBut, bound, height}
+use Rattle.inotree.specs.Tree.{Climbs, IsChildless, IsIndexed, IsTree, IsUnder, Nodes, dir_at, is_directory, is_directory_kind, kind_of, parent, site_of}
+use Rattle.dense_map.proofs.Found.{any-filter, any_some, both_true, found}
+use Rattle.dense_map.proofs.Maps.{change-is, change-none, insert-here, insert-other, remove-other}
+use Rattle.inotree.proofs.Shape.{one_dir, same_ino}
+use Rattle.inotree.proofs.Slots.{slot_same, slot_total}
 use Rattle.inotree.proofs.Walks.{test_same}
 
 -- ---- what is kept of one directory

@@ -8,9 +8,9 @@ use Rattle.inotree.specs.declared.node.Site.TheVariants.{Root}
 use Rattle.inotree.specs.declared.node.Presence.TheVariants.{Here}
 use Rattle.inotree.specs.Inodes.{InodeMap}
 use Rattle.inotree.specs.Index.{NameIndex}
-use Rattle.inotree.specs.Tree.{IsTree, IsIndexed, IsUnder, Climbs, AllHaveGoodNames, site_of, kind_of, presence, presence_at, is_directory_kind}
-use Rattle.numbered.proofs.Maps.{same_or_other, remove-here, remove-other}
-use Rattle.inotree.proofs.Slots.{slot_total, slot_same}
+use Rattle.inotree.specs.Tree.{AllHaveGoodNames, Climbs, IsIndexed, IsTree, IsUnder, is_directory_kind, kind_of, presence, presence_at, site_of}
+use Rattle.dense_map.proofs.Maps.{remove-here, remove-other, same_or_other}
+use Rattle.inotree.proofs.Slots.{slot_same, slot_total}
 
 pub same_ino : (i k : ℕ) → (i ≡ k) ⊎ (i ≡ k → ⊥)
 same_ino = same_or_other nat_cmp_total map.nat_cmp-IsAntisymmetric

@@ -1,18 +1,18 @@
 -- The order of slots is total, only equal slots tie, and the slots of a directory stand together.
 use Rattle.std.proofs.Common.{◌≡◌, ℕ, ◌+◌, ◌^◌, ◌<◌, Bool, true, cond, not, ◌&&◌, nat_le, ◌==◌, List, [], ◌∷◌, ap, refl, ◌∙◌, arith}
 use Rattle.std.proofs.lemmas.Bool.Decides.{nat_tests}
-use Rattle.std.specs.declared.ops.Bound.TheVariants.{Included, Excluded, Unbounded}
+use Rattle.std.specs.declared.ops.Bound.TheVariants.{Excluded, Included, Unbounded}
 use Rattle.std.specs.BTreeMap.Range.{entries_between}
-use Rattle.std.specs.List.{filter, AllByRecursion}
+use Rattle.std.specs.List.{AllByRecursion, filter}
 use Rattle.std.specs.declared.cmp.Ordering.{Ordering}
-use Rattle.std.specs.declared.cmp.Ordering.TheVariants.{Less, Equal, Greater}
+use Rattle.std.specs.declared.cmp.Ordering.TheVariants.{Equal, Greater, Less}
 use Rattle.std.specs.Cmp.{IsTotalOrder, nat_cmp_total, on_total, then_total}
 use Rattle.std.specs.FinMap as map
-use Rattle.std.specs.Ordering.{nat_cmp, ordering_then, is_le}
+use Rattle.std.specs.Ordering.{is_le, nat_cmp, ordering_then}
 use Rattle.inotree.specs.declared.index.Slot.{Slot}
 use Rattle.inotree.specs.Names.{name_cmp}
 use Rattle.inotree.specs.Index.{slot_cmp}
-use Rattle.inotree.proofs.Order.{name_total, name_same}
+use Rattle.inotree.proofs.Order.{name_same, name_total}
 
 pub slot_total : IsTotalOrder slot_cmp
 slot_total = then_total (on_total (λ (s : Slot). s.dir) nat_cmp_total) (on_total (λ (s : Slot). s.name) name_total)

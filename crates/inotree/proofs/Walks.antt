@@ -4,8 +4,8 @@ use Rattle.std.proofs.lemmas.Bool.Decides.{nat_tests}
 use Rattle.capbits.specs.declared.ids.Ino.{Ino}
 use Rattle.inotree.specs.Inodes.{InodeMap}
 use Rattle.inotree.specs.declared.node.Site.{Site}
-use Rattle.inotree.specs.declared.node.Site.TheVariants.{Root, Under, Stray}
-use Rattle.inotree.specs.Tree.{site_of, dir_at, upward, names_up, lies_below, is_within}
+use Rattle.inotree.specs.declared.node.Site.TheVariants.{Root, Stray, Under}
+use Rattle.inotree.specs.Tree.{dir_at, is_within, lies_below, names_up, site_of, upward}
 
 pub names_up-none : (nodes : InodeMap) (ino : ℕ) → names_up 0 nodes ino ≡ []
 unfolding names_up

@@ -1,16 +1,17 @@
 -- What lies within an inode is what climbs to it, and the depth counts the names of the path.
-use Rattle.std.proofs.Common.{◌≡◌, ℕ, zero, suc, ◌-◌, ◌≤◌, Bool, true, false, ◌||◌, ◌==◌, ◌↔◌, ◌⊎◌, inl, inr, List, [], ◌∷◌, length, reverse, Option, Some, None, refl, sym, ap, subst, ◌∙◌, arith}
+use Rattle.std.proofs.Common.{◌≡◌, ℕ, zero, suc, ◌-◌, ◌≤◌, Bool, true, false, ◌||◌, ◌==◌, ◌↔◌, ◌⊎◌, inl, inr, List, [], ◌∷◌, length, reverse, Option, Some}
+use Rattle.std.proofs.Common.{None, refl, sym, ap, subst, ◌∙◌, arith}
 use Rattle.std.proofs.Math.Bool.{or-true}
 use Rattle.std.proofs.lemmas.List.{length-reverse}
 use Rattle.std.proofs.lemmas.Bool.{or_left, or_right}
 use Rattle.inotree.specs.declared.node.Site.{Site}
-use Rattle.inotree.specs.declared.node.Site.TheVariants.{Root, Under, Stray}
+use Rattle.inotree.specs.declared.node.Site.TheVariants.{Root, Stray, Under}
 use Rattle.inotree.specs.declared.node.Presence.{Presence}
-use Rattle.inotree.specs.declared.node.Presence.TheVariants.{NoIno, Gone, Here}
+use Rattle.inotree.specs.declared.node.Presence.TheVariants.{Gone, Here, NoIno}
 use Rattle.inotree.specs.Inodes.{InodeMap}
-use Rattle.inotree.specs.Tree.{Nodes, IsTree, IsUnder, Climbs, site_of, upward, names_up, lies_below, is_within, depth, path_at, path_of, presence}
+use Rattle.inotree.specs.Tree.{Climbs, IsTree, IsUnder, Nodes, depth, is_within, lies_below, names_up, path_at, path_of, presence, site_of, upward}
 use Rattle.inotree.proofs.Shape.{one_dir, under_here}
-use Rattle.inotree.proofs.Walks.{lies_below-none, lies_below-step, is_within-is, same_test, test_same}
+use Rattle.inotree.proofs.Walks.{is_within-is, lies_below-none, lies_below-step, same_test, test_same}
 
 -- a walk up that goes on stands somewhere
 stands : (m : InodeMap) (i n above : ℕ) (s : Option Site) → site_of m i ≡ s → upward s false (λ dir name. lies_below n m dir above) ≡ true → (d : ℕ) × (a : List ℕ) × IsUnder m i d a × (lies_below n m d above ≡ true)

@@ -6,7 +6,7 @@ use Rattle.capgrant.specs.declared.access.Attr.{Attr}
 use Rattle.inotree.specs.declared.node.Node.{Node}
 use Rattle.inotree.specs.declared.node.Kind.{Kind}
 use Rattle.inotree.specs.declared.node.Kind.TheVariants.{Directory}
-use Rattle.inotree.specs.declared.node.Site.TheVariants.{Root, Under, Stray}
+use Rattle.inotree.specs.declared.node.Site.TheVariants.{Root, Stray, Under}
 use Rattle.capbits.specs.Maps.{change_at}
 use Rattle.inotree.specs.Inodes.{with_site}
 use Rattle.inotree.specs.Tree.{Nodes}

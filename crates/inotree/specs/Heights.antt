@@ -6,7 +6,7 @@ use Rattle.std.specs.FinMap.{FinMap}
 use Rattle.std.specs.Ordering.{nat_cmp}
 use Rattle.inotree.specs.Inodes.{InodeMap}
 use Rattle.inotree.specs.Index.{NameIndex, index_reaches}
-use Rattle.inotree.specs.Tree.{IsTree, IsIndexed, IsUnder, is_directory}
+use Rattle.inotree.specs.Tree.{IsIndexed, IsTree, IsUnder, is_directory}
 
 -- a number of steps for each directory
 abbrev pub HeightMap : Type 0

@@ -1,5 +1,5 @@
 -- The inodes by number, and the changes of one inode.
-use Rattle.std.specs.Prelude.{ℕ, List}
+use Rattle.std.specs.Prelude.{List, ℕ}
 use Rattle.std.specs.Coded.{Coded, coded_ℕ}
 use Rattle.std.specs.Ordering.{nat_cmp}
 use Rattle.std.specs.FinMap as map
@@ -9,7 +9,7 @@ use Rattle.capgrant.specs.declared.access.Attr.{Attr}
 use Rattle.inotree.specs.declared.node.Node.{Node}
 use Rattle.inotree.specs.declared.node.Site.{Site}
 use Rattle.inotree.specs.declared.node.Setting.{Setting}
-use Rattle.inotree.specs.declared.node.Setting.TheVariants.{Mode, Uid, Gid, Size, Time}
+use Rattle.inotree.specs.declared.node.Setting.TheVariants.{Gid, Mode, Size, Time, Uid}
 use Rattle.inotree.specs.contracts.node.Node as node
 
 -- the inodes by their numbers

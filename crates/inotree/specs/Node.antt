@@ -1,6 +1,6 @@
 -- What an inode keeps by name, and the inodes by number.
-use Rattle.std.specs.Prelude.{ℕ, List}
-use Rattle.std.specs.Coded.{Coded, coded_ℕ, coded_list}
+use Rattle.std.specs.Prelude.{List, ℕ}
+use Rattle.std.specs.Coded.{Coded, coded_list, coded_ℕ}
 use Rattle.std.specs.FinMap as map
 use Rattle.std.specs.FinMap.{FinMap}
 use Rattle.std.specs.FinSet as set

@@ -1,5 +1,6 @@
 -- The tests of the calls on a tree, each with its refusal where it fails.
-use Rattle.std.specs.Prelude.{ℕ, ◌-◌, ◌==◌, ◌&&◌, ◌||◌, Bool, true, false, not, nat_le, nat_lt, List, [], ◌∷◌, ◌++◌, length, Option, None, Some, is_some, Result, Ok, Err}
+use Rattle.std.specs.Prelude.{ℕ, ◌-◌, ◌==◌, ◌&&◌, ◌||◌, Bool, true, false, not, nat_le, nat_lt, List, [], ◌∷◌, ◌++◌, length, Option, None, Some, is_some}
+use Rattle.std.specs.Prelude.{Result, Ok, Err}
 use Rattle.std.specs.Option.{option_map_or}
 use Rattle.std.specs.FinMap as map
 use Rattle.std.specs.FinSet as set
@@ -7,16 +8,16 @@ use Rattle.capbits.specs.declared.refusal.Refusal.{Refusal}
 use Rattle.capbits.specs.declared.refusal.Refusal.TheVariants as refusal
 use Rattle.capbits.specs.Refusal.{Test, refused_if}
 use Rattle.inotree.specs.declared.error.TreeError.{TreeError}
-use Rattle.inotree.specs.declared.error.TreeError.TheVariants.{Refused, NoMemory}
+use Rattle.inotree.specs.declared.error.TreeError.TheVariants.{NoMemory, Refused}
 use Rattle.inotree.specs.declared.node.Node.{Node}
 use Rattle.inotree.specs.declared.node.Site.{Site}
-use Rattle.inotree.specs.declared.node.Site.TheVariants.{Root, Under, Stray}
+use Rattle.inotree.specs.declared.node.Site.TheVariants.{Root, Stray, Under}
 use Rattle.inotree.specs.declared.node.Presence.{Presence}
 use Rattle.inotree.specs.declared.node.Presence.TheVariants as presence_kind
 use Rattle.inotree.specs.declared.node.Setting.{Setting}
-use Rattle.inotree.specs.declared.node.Setting.TheVariants.{Mode, Uid, Gid, Size, Time}
-use Rattle.inotree.specs.Names.{is_bad_name, is_bad_attribute}
-use Rattle.inotree.specs.Tree.{Nodes, site_of, presence, is_directory, child, depth, is_within, reaches}
+use Rattle.inotree.specs.declared.node.Setting.TheVariants.{Gid, Mode, Size, Time, Uid}
+use Rattle.inotree.specs.Names.{is_bad_attribute, is_bad_name}
+use Rattle.inotree.specs.Tree.{Nodes, child, depth, is_directory, is_within, presence, reaches, site_of}
 
 -- ---- of an inode
 

@@ -29,7 +29,7 @@ impl Drop for Value {
 }
 
 impl Model for Value {
-    ghost use Rattle.std.specs.Prelude.{ℕ, List};
+    ghost use Rattle.std.specs.Prelude.{List, ℕ};
     ghost use Rattle.std.specs.Arc.{arc_value};
 
     ghost Value = { List ℕ };

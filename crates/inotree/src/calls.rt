@@ -3,9 +3,10 @@
 ghost use Rattle.std.specs.Prelude.{◌≡◌, ◌+◌, IfOk, OnOk, OnErr};
 ghost use Rattle.std.specs.Result.{result_err};
 ghost use Rattle.capbits.specs.Refusal.{first_failing};
-ghost use Rattle.inotree.specs.Inodes.{with_setting, with_attribute, without_attribute, with_snapshot, without_snapshot};
-ghost use Rattle.inotree.specs.Tests.{create_tests, unlink_tests, rmdir_tests, rename_tests, set_tests, set_xattr_tests, remove_xattr_tests, snap_add_tests, snap_remove_tests, refusal_in};
-ghost use Rattle.inotree.specs.Calls.{with_new, changed, unlinked, moved};
+ghost use Rattle.inotree.specs.Inodes.{with_attribute, with_setting, with_snapshot, without_attribute, without_snapshot};
+ghost use Rattle.inotree.specs.Tests.{create_tests, refusal_in, remove_xattr_tests, rename_tests, rmdir_tests, set_tests, set_xattr_tests, snap_add_tests};
+ghost use Rattle.inotree.specs.Tests.{snap_remove_tests, unlink_tests};
+ghost use Rattle.inotree.specs.Calls.{changed, moved, unlinked, with_new};
 
 use crate::error::TreeError;
 use crate::node::Setting;

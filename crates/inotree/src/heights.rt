@@ -5,13 +5,13 @@ ghost use Rattle.capbits.specs.Maps.{change_at};
 ghost use Rattle.inotree.specs.declared.node.Presence.TheVariants.{Here};
 ghost use Rattle.inotree.specs.Index.{AreInodes};
 ghost use Rattle.inotree.specs.Tree.{IsIndexed, depth, presence};
-ghost use Rattle.inotree.specs.Heights.{height, AreOfTree, AreNoHigher, IsLowered, HeightsRise, HeightsRiseBut, SameBut};
+ghost use Rattle.inotree.specs.Heights.{AreNoHigher, AreOfTree, HeightsRise, HeightsRiseBut, IsLowered, SameBut, height};
 
 use crate::index::Index;
 use crate::inodes::Inodes;
 use crate::names::MAX_NAMES;
 use crate::node::Kind;
-use numbered::Numbered;
+use dense_map::Numbered;
 use std::alloc::{AllocError, Global};
 use std::marker::Model;
 

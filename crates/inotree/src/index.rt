@@ -1,7 +1,7 @@
 //! The names of the tree: which inode each directory has under each name.
 ghost use Rattle.std.specs.Prelude.{◌≡◌, ◌++◌, IfOk, OnOk, OnErr};
 ghost use Rattle.std.specs.FinMap as map;
-ghost use Rattle.inotree.specs.Index.{names_in, AreInodes, index_reaches, gathered};
+ghost use Rattle.inotree.specs.Index.{AreInodes, gathered, index_reaches, names_in};
 ghost use Rattle.inotree.specs.Tree.{StandInDirectories};
 ghost use Rattle.inotree.specs.Heights.{AreBounds};
 

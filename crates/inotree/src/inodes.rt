@@ -3,8 +3,8 @@ ghost use Rattle.std.specs.Prelude.{◌≡◌, ◌≤◌, [], IfOk, OnOk, OnErr}
 ghost use Rattle.std.specs.Option.{option_copied, option_map};
 ghost use Rattle.std.specs.FinMap as map;
 ghost use Rattle.capbits.specs.Maps.{change_at};
-ghost use Rattle.inotree.specs.Inodes.{with_setting, with_attr, with_site, with_attribute, without_attribute, with_snapshot, without_snapshot};
-ghost use Rattle.inotree.specs.Tree.{site_of, slot_at, parent, is_directory, is_within, names_up, depth};
+ghost use Rattle.inotree.specs.Inodes.{with_attr, with_attribute, with_setting, with_site, with_snapshot, without_attribute, without_snapshot};
+ghost use Rattle.inotree.specs.Tree.{depth, is_directory, is_within, names_up, parent, site_of, slot_at};
 
 use crate::attributes::Value;
 use crate::index::Slot;
@@ -13,7 +13,7 @@ use crate::names::{MAX_NAMES, Names};
 use crate::node::{Kind, Node, Setting, Site};
 use capbits::Ino;
 use capgrant::Attr;
-use numbered::Numbered;
+use dense_map::Numbered;
 use std::alloc::{AllocError, Global};
 use std::marker::Model;
 

@@ -8,11 +8,11 @@ ghost use Rattle.inotree.specs.declared.node.Kind.{Kind};
 ghost use Rattle.inotree.specs.declared.node.Node.{Node};
 ghost use Rattle.inotree.specs.declared.node.Presence.TheVariants.{Gone};
 ghost use Rattle.inotree.specs.declared.node.Setting.{Setting};
-ghost use Rattle.inotree.specs.Inodes.{InodeMap, with_setting, with_attribute, without_attribute, with_snapshot, without_snapshot};
-ghost use Rattle.inotree.specs.Tree.{Nodes, IsTree, IsUnder, IsChildless, Climbs, presence, child, is_within, depth, reaches, path_of};
-ghost use Rattle.inotree.specs.Calls.{with_new, changed, unlinked, moved, forgotten};
+ghost use Rattle.inotree.specs.Inodes.{InodeMap, with_attribute, with_setting, with_snapshot, without_attribute, without_snapshot};
+ghost use Rattle.inotree.specs.Tree.{Climbs, IsChildless, IsTree, IsUnder, Nodes, child, depth, is_within, path_of, presence, reaches};
+ghost use Rattle.inotree.specs.Calls.{changed, forgotten, moved, unlinked, with_new};
 ghost use Rattle.inotree.specs.Alike.{IsAlike};
-ghost use Rattle.inotree.specs.Tests.{inode_tests, root_test, file_test, directory_test, empty_test, new_attribute_tests, rename_tests};
+ghost use Rattle.inotree.specs.Tests.{directory_test, empty_test, file_test, inode_tests, new_attribute_tests, rename_tests, root_test};
 
 /// An inode lies within another exactly where some names lead from it up to the other. The depth of an inode that has a path is the
 /// number of its names. An inode is what a directory has under a name exactly where it stands in that directory under that name. A

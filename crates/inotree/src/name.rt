@@ -1,6 +1,6 @@
 //! Names: of inodes in their directory, of snapshots, and of extended attributes.
 ghost use Rattle.std.specs.Prelude.{◌≡◌, [], ◌≤◌, ◌↔◌, length, IsSome, IfSome, IsTrue};
-ghost use Rattle.inotree.specs.Names.{is_bad_name, is_bad_attribute};
+ghost use Rattle.inotree.specs.Names.{is_bad_attribute, is_bad_name};
 
 use arrayvec::ArrayVec;
 use std::marker::Model;
@@ -23,7 +23,7 @@ impl Drop for Name {
 }
 
 impl Model for Name {
-    ghost use Rattle.std.specs.Prelude.{ℕ, List};
+    ghost use Rattle.std.specs.Prelude.{List, ℕ};
 
     ghost Value = { List ℕ };
 

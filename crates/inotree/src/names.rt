@@ -14,7 +14,7 @@ pub struct Names<'a> {
 }
 
 impl<'a> Model for Names<'a> {
-    ghost use Rattle.std.specs.Prelude.{ℕ, List, map};
+    ghost use Rattle.std.specs.Prelude.{List, map, ℕ};
 
     ghost Value = { List (List ℕ) };
 

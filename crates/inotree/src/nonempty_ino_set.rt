@@ -1,7 +1,7 @@
 //! Sets of inodes that are never empty.
 ghost use Rattle.std.specs.Prelude.{◌≡◌, ◌+◌, ◌==◌, ◌≤◌, ◌^◌, [], ◌∷◌, length, OnOk, OnErr, IfSome, IfNone};
 ghost use Rattle.std.specs.FinSet as set;
-ghost use Rattle.inotree.specs.InoSets.{IsListOf, IsLeastFrom, IsNext};
+ghost use Rattle.inotree.specs.InoSets.{IsLeastFrom, IsListOf, IsNext};
 
 use crate::ino_set::InoSet;
 use capbits::Ino;
@@ -128,7 +128,7 @@ pub struct InosLeft<'a> {
 }
 
 impl<'a> Model for InosLeft<'a> {
-    ghost use Rattle.std.specs.Prelude.{ℕ, List};
+    ghost use Rattle.std.specs.Prelude.{List, ℕ};
     ghost use Rattle.inotree.specs.InoSets.{with_one};
 
     ghost Value = { List ℕ };

@@ -1,14 +1,18 @@
 //! The tree of inodes.
-ghost use Rattle.std.specs.Prelude.{◌≡◌, ℕ, ◌+◌, ◌≤◌, ◌&&◌, true, not, nat_le, [], ◌∷◌, Some, None, is_some, if◌then◌else◌, IfOk, IfSome, OnOk, OnErr, All, Contains, IsTrue, map as each};
+ghost use Rattle.std.specs.Prelude.{◌≡◌, ℕ, ◌+◌, ◌≤◌, ◌&&◌, true, not, nat_le, [], ◌∷◌, Some, None, is_some, if◌then◌else◌, IfOk, IfSome, OnOk, OnErr, All};
+ghost use Rattle.std.specs.Prelude.{Contains, IsTrue};
+ghost use Rattle.std.specs.Prelude.{map as each};
 ghost use Rattle.std.specs.Option.{option_copied, option_map};
 ghost use Rattle.std.specs.FinMap as map;
-ghost use Rattle.capwords.specs.Paths.{is_name};
-ghost use Rattle.inotree.specs.Inodes.{with_setting, with_attr, with_attribute, without_attribute, with_snapshot, without_snapshot};
+ghost use Rattle.capspec.specs.Paths.{is_name};
+ghost use Rattle.inotree.specs.Inodes.{with_attr, with_attribute, with_setting, with_snapshot, without_attribute, without_snapshot};
 ghost use Rattle.capbits.specs.Refusal.{first_failing};
-ghost use Rattle.inotree.specs.Tree.{IsTree, presence, parent, child, follow, path_of, is_directory, is_within, depth, reaches};
-ghost use Rattle.inotree.specs.Tests.{exists_test, inode_tests, root_test, file_test, directory_test, childless_test, empty_test, name_tests, new_inode_tests, new_site_tests, setting_tests, test_at, new_attribute_tests, old_attribute_tests, new_snapshot_tests, old_snapshot_tests};
-ghost use Rattle.inotree.specs.Tests.{create_tests, unlink_tests, rmdir_tests, detach_tests, rename_tests, set_tests, set_xattr_tests, remove_xattr_tests, snap_add_tests, snap_remove_tests};
-ghost use Rattle.inotree.specs.Calls.{first_tree, with_new, changed, unlinked, moved, forgotten};
+ghost use Rattle.inotree.specs.Tree.{IsTree, child, depth, follow, is_directory, is_within, parent, path_of, presence, reaches};
+ghost use Rattle.inotree.specs.Tests.{childless_test, create_tests, detach_tests, directory_test, empty_test, exists_test, file_test, inode_tests, name_tests};
+ghost use Rattle.inotree.specs.Tests.{new_attribute_tests, new_inode_tests, new_site_tests, new_snapshot_tests, old_attribute_tests, old_snapshot_tests};
+ghost use Rattle.inotree.specs.Tests.{remove_xattr_tests, rename_tests, rmdir_tests, root_test, set_tests, set_xattr_tests, setting_tests, snap_add_tests};
+ghost use Rattle.inotree.specs.Tests.{snap_remove_tests, test_at, unlink_tests};
+ghost use Rattle.inotree.specs.Calls.{changed, first_tree, forgotten, moved, unlinked, with_new};
 
 use crate::attributes::{Attributes, MAX_ATTRIBUTES, MAX_VALUE, Value};
 use crate::heights::Heights;
@@ -20,8 +24,8 @@ use crate::node::{Kind, Node, Presence, Setting, Site};
 use crate::snapshots::{MAX_SNAPSHOTS, Snapshots};
 use capbits::{Ino, Refusal};
 use capgrant::Attr;
-use std::alloc::{AllocError, Global};
 use std::fmt;
+use std::alloc::{AllocError, Global};
 use std::marker::Model;
 
 /// How many inodes there may be at a time, with the root and the strays.
@@ -43,7 +47,7 @@ pub struct Tree {
 }
 
 impl Model for Tree {
-    ghost use Rattle.inotree.specs.Tree.{Nodes, nodes_code, IsTree};
+    ghost use Rattle.inotree.specs.Tree.{IsTree, Nodes, nodes_code};
     ghost use Rattle.inotree.specs.Heights.{AreConsistent};
 
     ghost Value = { Nodes };

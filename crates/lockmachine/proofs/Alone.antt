@@ -1,15 +1,16 @@
 -- One inode where nobody who waits at another may be served: who is served is found among its own requests, and where it has none,
 -- nothing stands first in its queues.
-use Rattle.std.proofs.Common.{◌≡◌, ℕ, zero, suc, Bool, true, false, cond, not, ◌&&◌, ◌||◌, ◌==◌, Option, Some, None, List, [], ◌∷◌, refl, sym, ap, subst, ◌∙◌, Contains, true≢false, arith}
+use Rattle.std.proofs.Common.{◌≡◌, ℕ, zero, suc, Bool, true, false, cond, not, ◌&&◌, ◌||◌, ◌==◌, Option, Some, None, List, [], ◌∷◌, refl, sym, ap, subst, ◌∙◌}
+use Rattle.std.proofs.Common.{Contains, true≢false, arith}
 use Rattle.std.specs.List.{find, list_any}
 use Rattle.std.specs.Option.{option_map}
-use Rattle.std.proofs.lemmas.Bool.{eqb-true, eqb-false}
+use Rattle.std.proofs.lemmas.Bool.{eqb-false, eqb-true}
 use Rattle.capbits.specs.declared.cap.Part.{Part}
 use Rattle.capbits.specs.declared.ids.Ticket.{Ticket}
 use Rattle.locktable.specs.Targets.{target_of}
 use Rattle.locktable.specs.declared.states.StableState.{StableState}
 use Rattle.locktable.specs.declared.states.LockState.{LockState}
-use Rattle.locktable.specs.declared.states.LockState.TheVariants.{Stable, Gather}
+use Rattle.locktable.specs.declared.states.LockState.TheVariants.{Gather, Stable}
 use Rattle.lockmachine.specs.declared.moves.Move.{Move}
 use Rattle.lockmachine.specs.declared.moves.Move.TheVariants.{Begin, Serve}
 use Rattle.lockmachine.specs.declared.moves.Sought.{Sought}
@@ -17,11 +18,11 @@ use Rattle.lockmachine.specs.declared.moves.Sought.TheVariants.{Everybody, Here,
 use Rattle.lockmachine.specs.declared.request.Request.{Request}
 use Rattle.lockmachine.specs.declared.wants.Wants.{Wants}
 use Rattle.lockmachine.specs.Requests.{first_for, head_of, head_of_operation, part_of_operation, same_part, waits_for}
-use Rattle.lockmachine.specs.Locks.{LockMap, IsLockMap, lock_at, request_at}
+use Rattle.lockmachine.specs.Locks.{IsLockMap, LockMap, lock_at, request_at}
 use Rattle.lockmachine.specs.Scene.{Scene, target_by}
-use Rattle.lockmachine.specs.Moves.{same_state, parts, may_begin_in, may_serve, is_first, is_servable, is_served_in, first_move, present_state}
+use Rattle.lockmachine.specs.Moves.{first_move, is_first, is_servable, is_served_in, may_begin_in, may_serve, parts, present_state, same_state}
 use Rattle.lockmachine.specs.Runs.{ChangesLocksOf}
-use Rattle.lockmachine.specs.Turns.{IsDoneAt, NobodyElsewhere, Suffices, WaitAt, may_wait, may_begin_by, beginning, beginning_by}
+use Rattle.lockmachine.specs.Turns.{IsDoneAt, NobodyElsewhere, Suffices, WaitAt, beginning, beginning_by, may_begin_by, may_wait}
 use Rattle.lockmachine.specs.Waiters.{queue_if}
 use Rattle.lockmachine.proofs.Finding.{find_none}
 use Rattle.lockmachine.proofs.Queue.{found_by_number, least_served}

@@ -1,18 +1,20 @@
 -- Who waits, sorted by lock: what a search finds, and what keeps it in step with the queue.
-use Rattle.std.proofs.Common.{◌≡◌, ◌≢◌, ℕ, zero, suc, ◌+◌, ◌-◌, ◌*◌, ◌<◌, ◌≤◌, Bool, true, false, not, cond, ◌&&◌, ◌||◌, ◌==◌, ltb, Option, Some, None, List, [], ◌∷◌, ◌++◌, map, filter, length, get_or, refl, sym, ap, subst, ◌∙◌, Contains, inl, inr, arith, Bor}
+use Rattle.std.proofs.Common.{◌≡◌, ◌≢◌, ℕ, zero, suc, ◌+◌, ◌-◌, ◌*◌, ◌<◌, ◌≤◌, Bool, true, false, not, cond, ◌&&◌, ◌||◌, ◌==◌, ltb, Option, Some, None, List}
+use Rattle.std.proofs.Common.{[], ◌∷◌, ◌++◌, map, filter, length, get_or, refl, sym, ap, subst, ◌∙◌, Contains, inl, inr, arith, Bor}
 use Rattle.std.specs.Prelude.{nat_le}
 use Rattle.std.specs.Bool.{then_some}
-use Rattle.std.specs.List.{AllWithin, find, list_any, insert}
-use Rattle.std.specs.Option.{option_map, option_map_or, option_copied}
+use Rattle.std.specs.List.{AllWithin, find, insert, list_any}
+use Rattle.std.specs.Option.{option_copied, option_map, option_map_or}
 use Rattle.std.specs.Cmp.{nat_eq_equiv}
 use Rattle.std.specs.List.Sorted.{IsPartitionPoint, IsPartitionedBy}
-use Rattle.std.proofs.lemmas.Bool.{ltb-true, ltb-false, le-ltb, leb-false, not-true, not-false, eqb-true, eqb-false, eq-eqb, ne_eqb, and_parts, and_from, cases_eq, cases_lt, false_from_ne_true}
-use Rattle.std.proofs.lemmas.List.{append-nil, map-append, length-map}
+use Rattle.std.proofs.lemmas.Bool.{and_from, and_parts, cases_eq, cases_lt, eq-eqb, eqb-false, eqb-true, false_from_ne_true, le-ltb, leb-false, ltb-false}
+use Rattle.std.proofs.lemmas.Bool.{ltb-true, ne_eqb, not-false, not-true}
+use Rattle.std.proofs.lemmas.List.{append-nil, length-map, map-append}
 use Rattle.std.proofs.lemmas.List.Elements.{filter-append}
 use Rattle.std.proofs.lemmas.List.Sorted.{IsNonDecreasingBy-insert}
-use Rattle.std.proofs.lemmas.List.Folds.{list_any_at, list_any_none, Any-from_list_any, list_any-from_Any}
+use Rattle.std.proofs.lemmas.List.Folds.{Any-from_list_any, list_any-from_Any, list_any_at, list_any_none}
 use Rattle.capbits.specs.declared.cap.Part.{Part}
-use Rattle.capbits.specs.declared.cap.Part.TheVariants.{A, L, X, F}
+use Rattle.capbits.specs.declared.cap.Part.TheVariants.{A, F, L, X}
 use Rattle.locktable.specs.declared.targets.Head.TheVariants.{Empty}
 use Rattle.capbits.specs.Refusal.{first_failing, refused_if}
 use Rattle.capbits.specs.declared.refusal.Refusal.TheVariants as refusal
@@ -20,11 +22,11 @@ use Rattle.captable.proofs.Keeping.{filter-mapped}
 use Rattle.captable.proofs.Searches.{filter-filter}
 use Rattle.lockmachine.specs.declared.request.Request.{Request}
 use Rattle.lockmachine.specs.declared.waiters.Waiter.{Waiter}
-use Rattle.lockmachine.specs.Requests.{part_place, part_of_operation, is_for, waits_for, is_numbered, first_for, head_of}
+use Rattle.lockmachine.specs.Requests.{first_for, head_of, is_for, is_numbered, part_of_operation, part_place, waits_for}
 use Rattle.lockmachine.specs.Locks.{LockMap}
-use Rattle.lockmachine.specs.Waiters.{waiter_of, lock_number, lock_of, is_at, is_at_inode, AreSorted, AreLower, StandAlike}
+use Rattle.lockmachine.specs.Waiters.{AreLower, AreSorted, StandAlike, is_at, is_at_inode, lock_number, lock_of, waiter_of}
 use Rattle.lockmachine.proofs.Alone.{find_same}
-use Rattle.lockmachine.proofs.Finding.{find_none, contains-filter, filter-contains}
+use Rattle.lockmachine.proofs.Finding.{contains-filter, filter-contains, find_none}
 
 -- ---- a lock and its number
 

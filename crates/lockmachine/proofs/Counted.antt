@@ -1,34 +1,35 @@
 -- Counts that are those of the entries: what they say of gathers, and that moves keep them so.
-use Rattle.std.proofs.Common.{◌≡◌, ℕ, ◌+◌, ◌-◌, ◌<◌, Bool, true, false, not, ◌&&◌, Option, Some, None, List, [], ◌∷◌, take, get_or, is_some, nat_eq, refl, sym, ap, subst, ◌∙◌, cond}
+use Rattle.std.proofs.Common.{◌≡◌, ℕ, ◌+◌, ◌-◌, ◌<◌, Bool, true, false, not, ◌&&◌, Option, Some, None, List, [], ◌∷◌, take, get_or, is_some, nat_eq, refl, sym}
+use Rattle.std.proofs.Common.{ap, subst, ◌∙◌, cond}
 use Rattle.std.specs.Prelude.{◌==◌}
 use Rattle.std.specs.List.{find}
 use Rattle.std.specs.Option.{option_map, option_map_or}
 use Rattle.std.specs.FinMap as map
 use Rattle.std.specs.Cmp.{nat_eq_equiv}
 use Rattle.capbits.specs.declared.cap.Part.{Part}
-use Rattle.capbits.specs.declared.cap.Part.TheVariants.{A, L, X, F}
+use Rattle.capbits.specs.declared.cap.Part.TheVariants.{A, F, L, X}
 use Rattle.capbits.specs.Maps.{change_at}
-use Rattle.numbered.proofs.Maps.{change-at}
+use Rattle.dense_map.proofs.Maps.{change-at}
 use Rattle.locktable.specs.declared.states.LockState.{LockState}
-use Rattle.locktable.specs.declared.states.LockState.TheVariants.{Stable, Gather}
+use Rattle.locktable.specs.declared.states.LockState.TheVariants.{Gather, Stable}
 use Rattle.locktable.specs.declared.states.StableState.{StableState}
 use Rattle.captable.specs.Table.{Table}
 use Rattle.captable.specs.Calls.{entries_on}
-use Rattle.onelock.proofs.NoneAny.{none-any}
-use Rattle.onelock.specs.Held.{has_outside, holders_outside}
-use Rattle.onelock.specs.Lock.{LockId, ends_by_count, may_end_in}
-use Rattle.onelock.specs.declared.counts.Counts.{Counts}
+use Rattle.lockmachine.proofs.NoneAny.{none-any}
+use Rattle.lockmachine.specs.Held.{has_outside, holders_outside}
+use Rattle.lockmachine.specs.Lock.{LockId, ends_by_count, may_end_in}
+use Rattle.lockmachine.specs.declared.counts.Counts.{Counts}
 use Rattle.lockmachine.specs.declared.states.InodeLocks.{InodeLocks}
-use Rattle.lockmachine.specs.Counts.{CountedLocks, IsCounted, AreCountedAt, AreCounted, count_at, count_of, ends_by, with_count}
-use Rattle.onelock.specs.Counts.{count_in, with_count_in, one_less_in}
+use Rattle.lockmachine.specs.Counts.{AreCounted, AreCountedAt, CountedLocks, IsCounted, count_at, count_of, ends_by, with_count}
+use Rattle.lockmachine.specs.GatherCounts.{count_in, one_less_in, with_count_in}
 use Rattle.lockmachine.specs.Inodes.{CountMap, HaveCounts, lock_in}
 use Rattle.lockmachine.specs.Requests.{same_part}
 use Rattle.lockmachine.specs.Locks.{LockMap, lock_at, with_lock}
-use Rattle.lockmachine.specs.Moves.{parts, coming_state, moved}
+use Rattle.lockmachine.specs.Moves.{coming_state, moved, parts}
 use Rattle.lockmachine.specs.Turns.{may_end_by}
 use Rattle.lockmachine.specs.Runs.{ChangesLocksOf}
 use Rattle.lockmachine.specs.declared.moves.Move.TheVariants.{End}
-use Rattle.lockmachine.proofs.EndsFirst.{EndsSoFar, NoneBelow, ends_none, passed_next, ended_next}
+use Rattle.lockmachine.proofs.EndsFirst.{EndsSoFar, NoneBelow, ended_next, ends_none, passed_next}
 use Rattle.lockmachine.proofs.Moving.{is_at, with_lock-each}
 use Rattle.lockmachine.proofs.Rest.{same_part_is}
 use Rattle.lockmachine.proofs.Settling.{one_changed}

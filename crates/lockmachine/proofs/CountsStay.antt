@@ -1,16 +1,17 @@
 -- Counts of gathers stay right where the same is held as before, and where an inode comes or goes.
-use Rattle.std.proofs.Common.{◌≡◌, ℕ, ◌==◌, suc, Bool, true, false, not, cond, ◌⊎◌, inl, inr, Option, Some, None, List, [], ◌∷◌, map, filter, length, refl, sym, ap, subst, ◌∙◌}
+use Rattle.std.proofs.Common.{◌≡◌, ℕ, ◌==◌, suc, Bool, true, false, not, cond, ◌⊎◌, inl, inr, Option, Some, None, List, [], ◌∷◌, map, filter, length, refl}
+use Rattle.std.proofs.Common.{sym, ap, subst, ◌∙◌}
 use Rattle.std.specs.Cmp.{nat_cmp_total}
 use Rattle.std.specs.Option.{option_map, option_map_or}
 use Rattle.std.specs.FinMap as finite
 use Rattle.capbits.specs.declared.cap.Part.{Part}
-use Rattle.capbits.specs.declared.cap.Part.TheVariants.{A, L, X, F}
+use Rattle.capbits.specs.declared.cap.Part.TheVariants.{A, F, L, X}
 use Rattle.capbits.specs.declared.ids.Ino.{Ino}
 use Rattle.capbits.specs.Caps.{Caps}
 use Rattle.capbits.specs.Sets.{is_empty, minus, of_part}
-use Rattle.numbered.proofs.Maps.{insert-here, insert-other, remove-here, remove-other, same_or_other}
+use Rattle.dense_map.proofs.Maps.{insert-here, insert-other, remove-here, remove-other, same_or_other}
 use Rattle.locktable.specs.declared.states.LockState.{LockState}
-use Rattle.locktable.specs.declared.states.LockState.TheVariants.{Stable, Gather}
+use Rattle.locktable.specs.declared.states.LockState.TheVariants.{Gather, Stable}
 use Rattle.locktable.specs.declared.states.StableState.{StableState}
 use Rattle.locktable.specs.Rows.{row_of}
 use Rattle.captable.specs.declared.entry.Entry.{Entry}
@@ -18,10 +19,10 @@ use Rattle.captable.specs.declared.entry.EntryRow.{EntryRow}
 use Rattle.captable.specs.declared.entry.Holder.{Holder}
 use Rattle.captable.specs.Calls.{change_rows, is_of_inode}
 use Rattle.captable.specs.Table.{Table, is_row_of}
-use Rattle.onelock.specs.Held.{has_outside, holders_outside}
-use Rattle.onelock.specs.Lock.{LockId}
-use Rattle.onelock.specs.Counts.{count_in, no_counts}
-use Rattle.lockmachine.specs.Counts.{CountedLocks, IsCounted, AreCounted, count_of, with_ino, without_ino}
+use Rattle.lockmachine.specs.Held.{has_outside, holders_outside}
+use Rattle.lockmachine.specs.Lock.{LockId}
+use Rattle.lockmachine.specs.GatherCounts.{count_in, no_counts}
+use Rattle.lockmachine.specs.Counts.{AreCounted, CountedLocks, IsCounted, count_of, with_ino, without_ino}
 use Rattle.lockmachine.specs.Inodes.{in_sync, lock_in}
 use Rattle.lockmachine.specs.Locks.{lock_at}
 

@@ -1,19 +1,20 @@
 -- Between two servings locks come to rest: each begins at most one gather, and ends at most two.
-use Rattle.std.proofs.Common.{◌≡◌, ℕ, ◌+◌, ◌≤◌, Bool, true, false, not, cond, Option, Some, None, List, [], ◌∷◌, ◌++◌, refl, sym, ap, subst, ◌∙◌, arith, count_by, true≢false, zero-add}
+use Rattle.std.proofs.Common.{◌≡◌, ℕ, ◌+◌, ◌≤◌, Bool, true, false, not, cond, Option, Some, None, List, [], ◌∷◌, ◌++◌, refl, sym, ap, subst, ◌∙◌, arith}
+use Rattle.std.proofs.Common.{count_by, true≢false, zero-add}
 use Rattle.std.specs.Prelude.{IsTrue}
 use Rattle.std.specs.Option.{option_map}
 use Rattle.std.proofs.lemmas.List.Elements.{All-append}
 use Rattle.std.proofs.lemmas.List.Sums.{sum_by-cons}
 use Rattle.locktable.specs.declared.states.StableState.{StableState}
 use Rattle.locktable.specs.declared.states.LockState.{LockState}
-use Rattle.locktable.specs.declared.states.LockState.TheVariants.{Stable, Gather}
+use Rattle.locktable.specs.declared.states.LockState.TheVariants.{Gather, Stable}
 use Rattle.locktable.specs.Targets.{target_stays}
 use Rattle.lockmachine.specs.declared.moves.Move.{Move}
 use Rattle.lockmachine.specs.declared.moves.Move.TheVariants.{Begin, End, Serve, Settled}
 use Rattle.lockmachine.specs.Locks.{lock_at}
-use Rattle.lockmachine.specs.Scene.{Scene, wanted_in_all, head_in, loner, wanted, target}
-use Rattle.lockmachine.specs.Moves.{LockId, same_state, may_end_in, may_begin_in, present_state, coming_state, with_moved}
-use Rattle.lockmachine.specs.Runs.{is_of_lock, Runs, is_begin_of, is_end_of, AreFew, MoveLittle, is_end, EndLittle}
+use Rattle.lockmachine.specs.Scene.{Scene, head_in, loner, target, wanted, wanted_in_all}
+use Rattle.lockmachine.specs.Moves.{LockId, coming_state, may_begin_in, may_end_in, present_state, same_state, with_moved}
+use Rattle.lockmachine.specs.Runs.{AreFew, EndLittle, MoveLittle, Runs, is_begin_of, is_end, is_end_of, is_of_lock}
 use Rattle.lockmachine.proofs.Exact.{same_state_itself}
 use Rattle.lockmachine.proofs.Moving.{IsMove, first_is, with_lock-each}
 

@@ -1,7 +1,8 @@
 -- Ends at one inode, where no gather of a lower one may end: each is the first move that applies.
-use Rattle.std.proofs.Common.{◌≡◌, ◌≢◌, ℕ, suc, ◌+◌, ◌<◌, Bool, true, false, cond, ◌&&◌, Option, Some, None, List, [], ◌∷◌, ◌++◌, take, drop, get_or, refl, sym, ap, subst, ◌∙◌, arith, true≢false, drop-cons}
-use Rattle.std.specs.List.{find, AllPass}
-use Rattle.std.specs.Option.{option_map, option_or, is_some}
+use Rattle.std.proofs.Common.{◌≡◌, ◌≢◌, ℕ, suc, ◌+◌, ◌<◌, Bool, true, false, cond, ◌&&◌, Option, Some, None, List, [], ◌∷◌, ◌++◌, take, drop, get_or, refl}
+use Rattle.std.proofs.Common.{sym, ap, subst, ◌∙◌, arith, true≢false, drop-cons}
+use Rattle.std.specs.List.{AllPass, find}
+use Rattle.std.specs.Option.{is_some, option_map, option_or}
 use Rattle.std.specs.Cmp.{nat_eq_equiv}
 use Rattle.std.specs.FinMap as map
 use Rattle.std.proofs.lemmas.List.{take-append-drop, take_more}
@@ -20,15 +21,15 @@ use Rattle.lockmachine.specs.Inodes.{lock_in}
 use Rattle.lockmachine.specs.Requests.{same_part}
 use Rattle.lockmachine.specs.Locks.{LockMap, lock_at}
 use Rattle.lockmachine.specs.Scene.{scene}
-use Rattle.lockmachine.specs.Moves.{LockId, parts, lock_ids_of, may_end_in, coming_state, first_move, moved}
+use Rattle.lockmachine.specs.Moves.{LockId, coming_state, first_move, lock_ids_of, may_end_in, moved, parts}
 use Rattle.lockmachine.specs.Turns.{may_end_by}
-use Rattle.lockmachine.specs.Runs.{Runs, is_end, EndLittle, ChangesLocksOf}
+use Rattle.lockmachine.specs.Runs.{ChangesLocksOf, EndLittle, Runs, is_end}
 use Rattle.lockmachine.proofs.Ending.{few}
 use Rattle.lockmachine.proofs.Finding.{no_part}
 use Rattle.lockmachine.proofs.Moving.{with_lock-each}
-use Rattle.lockmachine.proofs.LockIds.{find-each, first_found, end_first}
+use Rattle.lockmachine.proofs.LockIds.{end_first, find-each, first_found}
 use Rattle.lockmachine.proofs.Rest.{not_found}
-use Rattle.lockmachine.proofs.Settling.{runs_more, one_changed}
+use Rattle.lockmachine.proofs.Settling.{one_changed, runs_more}
 
 -- ---- what an end leaves
 

@@ -3,16 +3,17 @@ use Rattle.std.proofs.Common.{◌≡◌, Bool, true, false, ◌&&◌, not, Optio
 use Rattle.std.specs.Cmp.{nat_eq_equiv}
 use Rattle.std.specs.Option.{option_map_or}
 use Rattle.locktable.specs.declared.states.StableState.{StableState}
-use Rattle.locktable.specs.declared.states.StableState.TheVariants.{Sync, Lock, Mix, Excl}
+use Rattle.locktable.specs.declared.states.StableState.TheVariants.{Excl, Lock, Mix, Sync}
 use Rattle.locktable.specs.declared.states.LockState.{LockState}
-use Rattle.locktable.specs.declared.states.LockState.TheVariants.{Stable, Gather}
+use Rattle.locktable.specs.declared.states.LockState.TheVariants.{Gather, Stable}
 use Rattle.lockmachine.specs.declared.request.Request.{Request}
 use Rattle.lockmachine.specs.declared.moves.Move.TheVariants.{Settled}
-use Rattle.lockmachine.specs.Requests.{part_of_operation, head_of_operation, first_for, is_numbered}
+use Rattle.lockmachine.specs.Requests.{first_for, head_of_operation, is_numbered, part_of_operation}
 use Rattle.lockmachine.specs.Locks.{lock_at}
 use Rattle.lockmachine.specs.Scene.{Scene, wanted_in_all}
-use Rattle.lockmachine.specs.Moves.{LockId, same_state, lock_ids, may_end, may_end_in, may_begin, may_begin_in, may_serve, is_served_in, first_move, IsQuiet, IsAtRest}
-use Rattle.lockmachine.specs.Turns.{serve_or_begin, begin_or_rest, end_or_serve}
+use Rattle.lockmachine.specs.Moves.{IsAtRest, IsQuiet, LockId, first_move, is_served_in, lock_ids, may_begin, may_begin_in, may_end, may_end_in, may_serve}
+use Rattle.lockmachine.specs.Moves.{same_state}
+use Rattle.lockmachine.specs.Turns.{begin_or_rest, end_or_serve, serve_or_begin}
 use Rattle.lockmachine.proofs.FirstMove.{first-found}
 use Rattle.lockmachine.proofs.Finding.{find_none}
 

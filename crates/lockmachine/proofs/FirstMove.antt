@@ -1,13 +1,14 @@
 -- The first move, by what a search of the gathers, one of the requests and one of the locks find.
-use Rattle.std.proofs.Common.{◌≡◌, Bool, true, false, cond, Option, Some, None, List, [], ◌∷◌, ◌++◌, refl, ap, append_assoc, ◌∙◌, get_or, unwrap_or, map as each}
-use Rattle.std.specs.List.{find, filter}
+use Rattle.std.proofs.Common.{◌≡◌, Bool, true, false, cond, Option, Some, None, List, [], ◌∷◌, ◌++◌, refl, ap, append_assoc, ◌∙◌, get_or, unwrap_or}
+use Rattle.std.proofs.Common.{map as each}
+use Rattle.std.specs.List.{filter, find}
 use Rattle.std.specs.Option.{option_map}
 use Rattle.lockmachine.specs.declared.request.Request.{Request}
 use Rattle.lockmachine.specs.declared.moves.Move.{Move}
 use Rattle.lockmachine.specs.declared.moves.Move.TheVariants.{Settled}
 use Rattle.lockmachine.specs.Scene.{Scene}
-use Rattle.lockmachine.specs.Moves.{LockId, lock_ids, may_end, may_serve, may_begin, end_of, serve_of, begin_of, first_move}
-use Rattle.lockmachine.specs.Turns.{end_or_serve, serve_or_begin, begin_or_rest}
+use Rattle.lockmachine.specs.Moves.{LockId, begin_of, end_of, first_move, lock_ids, may_begin, may_end, may_serve, serve_of}
+use Rattle.lockmachine.specs.Turns.{begin_or_rest, end_or_serve, serve_or_begin}
 
 -- the first of what passes a test, else the first of what stands behind
 first-passes : {A : Type 0} (p : A → Bool) (f : A → Move) (xs : List A) (behind : List Move)

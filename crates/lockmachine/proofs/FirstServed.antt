@@ -5,20 +5,20 @@ use Rattle.std.specs.Bool.{then_some}
 use Rattle.std.specs.List.{find}
 use Rattle.std.specs.Option.{option_map, option_map_or}
 use Rattle.std.specs.Cmp.{nat_eq_equiv}
-use Rattle.std.proofs.lemmas.Bool.{eqb-true, le-leb, leb-true, and_parts, and_from}
+use Rattle.std.proofs.lemmas.Bool.{and_from, and_parts, eqb-true, le-leb, leb-true}
 use Rattle.capbits.specs.declared.cap.Part.{Part}
-use Rattle.capbits.specs.declared.cap.Part.TheVariants.{A, L, X, F}
+use Rattle.capbits.specs.declared.cap.Part.TheVariants.{A, F, L, X}
 use Rattle.capbits.specs.declared.ids.Ticket.{Ticket}
 use Rattle.captable.proofs.Searches.{find_passes}
 use Rattle.lockmachine.specs.declared.request.Request.{Request}
 use Rattle.lockmachine.specs.declared.waiters.Waiter.{Waiter}
-use Rattle.lockmachine.specs.Requests.{same_part, part_of_operation, is_for, waits_for, is_numbered, first_for}
-use Rattle.lockmachine.specs.Locks.{LockMap, IsLockMap, request_at}
+use Rattle.lockmachine.specs.Requests.{first_for, is_for, is_numbered, part_of_operation, same_part, waits_for}
+use Rattle.lockmachine.specs.Locks.{IsLockMap, LockMap, request_at}
 use Rattle.lockmachine.specs.Moves.{is_first, is_servable, may_serve}
 use Rattle.lockmachine.specs.Turns.{served_of}
-use Rattle.lockmachine.specs.Waiters.{waiter_of, earlier}
+use Rattle.lockmachine.specs.Waiters.{earlier, waiter_of}
 use Rattle.lockmachine.proofs.Finding.{fails_at}
-use Rattle.lockmachine.proofs.Queue.{IsLeast, least, found_by_number}
+use Rattle.lockmachine.proofs.Queue.{IsLeast, found_by_number, least}
 use Rattle.lockmachine.proofs.Rest.{same_part_is}
 
 -- ---- the least of four numbers

@@ -1,5 +1,6 @@
 -- A client that gives up what it holds: each gather that waited for it waits for one client less.
-use Rattle.std.proofs.Common.{◌≡◌, ℕ, ◌+◌, ◌-◌, ◌<◌, Bool, true, false, ◌&&◌, ◌||◌, cond, Option, Some, None, List, [], ◌∷◌, take, get_or, refl, sym, ap, ◌∙◌, arith, zero, suc}
+use Rattle.std.proofs.Common.{◌≡◌, ℕ, ◌+◌, ◌-◌, ◌<◌, Bool, true, false, ◌&&◌, ◌||◌, cond, Option, Some, None, List, [], ◌∷◌, take, get_or, refl, sym, ap, ◌∙◌}
+use Rattle.std.proofs.Common.{arith, zero, suc}
 use Rattle.std.specs.Prelude.{◌==◌}
 use Rattle.std.specs.List.{list_any}
 use Rattle.std.specs.FinMap as map
@@ -7,13 +8,13 @@ use Rattle.std.specs.Option.{option_map}
 use Rattle.std.proofs.lemmas.Bool.{eqb-true}
 use Rattle.std.proofs.lemmas.List.Folds.{list_any_more}
 use Rattle.capbits.specs.declared.cap.Part.{Part}
-use Rattle.capbits.specs.declared.cap.Part.TheVariants.{A, L, X, F}
+use Rattle.capbits.specs.declared.cap.Part.TheVariants.{A, F, L, X}
 use Rattle.capbits.specs.Caps.{Caps}
 use Rattle.locktable.specs.declared.states.LockState.{LockState}
 use Rattle.captable.specs.declared.entry.EntryRow.{EntryRow}
-use Rattle.onelock.specs.Lock.{LockId}
+use Rattle.lockmachine.specs.Lock.{LockId}
 use Rattle.lockmachine.specs.declared.states.InodeLocks.{InodeLocks}
-use Rattle.lockmachine.specs.Counts.{CountedLocks, count_of, with_one_less, waits_no_longer, given_up}
+use Rattle.lockmachine.specs.Counts.{CountedLocks, count_of, given_up, waits_no_longer, with_one_less}
 use Rattle.lockmachine.specs.Inodes.{lock_in}
 use Rattle.lockmachine.specs.Requests.{same_part}
 use Rattle.lockmachine.specs.Locks.{lock_at}

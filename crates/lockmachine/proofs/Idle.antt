@@ -3,9 +3,9 @@ use Rattle.std.proofs.Common.{◌≡◌, ℕ, false, Option, Some, None, [], ref
 use Rattle.std.specs.List.{find}
 use Rattle.std.specs.FinMap as map
 use Rattle.capbits.specs.declared.cap.Part.{Part}
-use Rattle.capbits.specs.declared.cap.Part.TheVariants.{A, L, X, F}
+use Rattle.capbits.specs.declared.cap.Part.TheVariants.{A, F, L, X}
 use Rattle.capbits.specs.declared.ids.ClientId.{ClientId}
-use Rattle.capbits.specs.Caps.{Caps, has, caps_where}
+use Rattle.capbits.specs.Caps.{Caps, caps_where, has}
 use Rattle.capbits.specs.Sets.{no_caps}
 use Rattle.locktable.specs.declared.states.StableState.{StableState}
 use Rattle.locktable.specs.declared.states.StableState.TheVariants.{Sync}
@@ -14,10 +14,10 @@ use Rattle.locktable.specs.declared.targets.Head.TheVariants.{Empty}
 use Rattle.locktable.specs.Targets.{target_of}
 use Rattle.lockmachine.specs.declared.states.InodeLocks.{InodeLocks}
 use Rattle.lockmachine.specs.declared.moves.Move.TheVariants.{Settled}
-use Rattle.lockmachine.specs.Inodes.{lock_in, in_sync}
+use Rattle.lockmachine.specs.Inodes.{in_sync, lock_in}
 use Rattle.lockmachine.specs.Scene.{Scene, target}
-use Rattle.lockmachine.specs.Moves.{LockId, lock_ids, may_end, may_begin, may_serve, first_move}
-use Rattle.lockmachine.specs.Turns.{serve_or_begin, begin_or_rest, end_or_serve}
+use Rattle.lockmachine.specs.Moves.{LockId, first_move, lock_ids, may_begin, may_end, may_serve}
+use Rattle.lockmachine.specs.Turns.{begin_or_rest, end_or_serve, serve_or_begin}
 use Rattle.lockmachine.proofs.FirstMove.{first-found}
 use Rattle.lockmachine.proofs.Finding.{find_none}
 

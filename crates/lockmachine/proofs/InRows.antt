@@ -1,15 +1,16 @@
 -- Moves keep what is held in the rows of the states that locks have or leave.
-use Rattle.std.proofs.Common.{◌≡◌, ℕ, Bool, true, false, not, cond, ◌&&◌, ◌||◌, Option, Some, None, List, [], ◌∷◌, zero, suc, filter, refl, sym, ap, subst, ◌∙◌, arith, Contains, eq-eqb}
+use Rattle.std.proofs.Common.{◌≡◌, ℕ, Bool, true, false, not, cond, ◌&&◌, ◌||◌, Option, Some, None, List, [], ◌∷◌, zero, suc, filter, refl, sym, ap, subst}
+use Rattle.std.proofs.Common.{◌∙◌, arith, Contains, eq-eqb}
 use Rattle.std.specs.Prelude.{IsTrue}
 use Rattle.std.specs.List.{list_any}
 use Rattle.std.specs.Option.{option_map}
 use Rattle.capbits.specs.declared.cap.Part.{Part}
 use Rattle.capbits.specs.Caps.{has}
-use Rattle.capbits.specs.Sets.{IsSubset, of_part, is_empty, has-minus}
+use Rattle.capbits.specs.Sets.{IsSubset, has-minus, is_empty, of_part}
 use Rattle.capbits.proofs.Emptiness.{has-is_empty}
 use Rattle.locktable.specs.declared.states.StableState.{StableState}
 use Rattle.locktable.specs.declared.states.LockState.{LockState}
-use Rattle.locktable.specs.declared.states.LockState.TheVariants.{Stable, Gather}
+use Rattle.locktable.specs.declared.states.LockState.TheVariants.{Gather, Stable}
 use Rattle.locktable.specs.Rows.{row_of}
 use Rattle.captable.specs.declared.entry.EntryRow.{EntryRow}
 use Rattle.captable.specs.Calls.{is_of_inode}
@@ -17,9 +18,9 @@ use Rattle.lockmachine.specs.declared.moves.Move.{Move}
 use Rattle.lockmachine.specs.declared.moves.Move.TheVariants.{Begin, End, Serve, Settled}
 use Rattle.lockmachine.specs.Locks.{lock_at}
 use Rattle.lockmachine.specs.Scene.{Scene, outside}
-use Rattle.lockmachine.specs.Moves.{LockId, may_end_in, present_state, coming_state, first_move, with_moved}
+use Rattle.lockmachine.specs.Moves.{LockId, coming_state, first_move, may_end_in, present_state, with_moved}
 use Rattle.lockmachine.specs.Runs.{Runs}
-use Rattle.lockmachine.specs.Rows.{IsInRowOf, IsInRow}
+use Rattle.lockmachine.specs.Rows.{IsInRow, IsInRowOf}
 use Rattle.lockmachine.proofs.Moving.{IsMove, first_is, with_lock-each}
 
 -- where no row of an inode passes a test, this row fails it

@@ -1,5 +1,7 @@
 -- What is wanted of an inode, by what is kept that each client is permitted there.
-use Rattle.std.proofs.Common.{◌≡◌, zero, suc, Bool, true, false, cond, Option, Some, None, List, [], ◌∷◌, filter, map as each, unwrap_or, refl, sym, ap, ◌∙◌, Contains, ℕ, arith}
+use Rattle.std.proofs.Common.{◌≡◌, zero, suc, Bool, true, false, cond, Option, Some, None, List, [], ◌∷◌, filter, unwrap_or, refl, sym, ap, ◌∙◌, Contains, ℕ}
+use Rattle.std.proofs.Common.{arith}
+use Rattle.std.proofs.Common.{map as each}
 use Rattle.std.specs.Option.{option_map}
 use Rattle.std.proofs.lemmas.Bool.{eqb-true}
 use Rattle.capbits.specs.declared.ids.Ino.{Ino}
@@ -9,9 +11,9 @@ use Rattle.inotree.specs.Tree.{Nodes}
 use Rattle.captable.specs.declared.entry.EntryRow.{EntryRow}
 use Rattle.captable.specs.declared.entry.KeptEntry.{KeptEntry}
 use Rattle.captable.specs.declared.entry.Sets.{Sets}
-use Rattle.captable.specs.Table.{Table, IsTable, holder, entry_of}
-use Rattle.captable.specs.Calls.{is_of_inode, entries_on}
-use Rattle.captable.specs.Kept.{KeptRow, sets_beside, kept_entry, no_sets}
+use Rattle.captable.specs.Table.{IsTable, Table, entry_of, holder}
+use Rattle.captable.specs.Calls.{entries_on, is_of_inode}
+use Rattle.captable.specs.Kept.{KeptRow, kept_entry, no_sets, sets_beside}
 use Rattle.captable.proofs.ByHolder.{row_found}
 use Rattle.lockmachine.specs.Policy.{ArePermitted, ArePermittedOn}
 use Rattle.lockmachine.specs.Wants.{Want, want_of, want_of_permitted}

@@ -27,3 +27,4 @@ pub mod Verdicts
 pub mod Counted
 pub mod GivesUp
 pub mod CountsStay
+pub mod NoneAny

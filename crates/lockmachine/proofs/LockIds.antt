@@ -1,15 +1,17 @@
 -- Where the first move is found: among the locks of all inodes, or at one inode where it is its turn.
-use Rattle.std.proofs.Common.{◌≡◌, ◌≢◌, ℕ, ◌<◌, Bool, true, false, cond, ◌||◌, ◌&&◌, T, Option, Some, None, List, [], ◌∷◌, refl, sym, ap, ◌∙◌, unwrap_or, map as each, eq-eqb, true≢false, arith}
-use Rattle.std.specs.List.{find, list_any, flat_map}
-use Rattle.std.specs.Option.{option_map, option_or, is_some}
+use Rattle.std.proofs.Common.{◌≡◌, ◌≢◌, ℕ, ◌<◌, Bool, true, false, cond, ◌||◌, ◌&&◌, T, Option, Some, None, List, [], ◌∷◌, refl, sym, ap, ◌∙◌, unwrap_or}
+use Rattle.std.proofs.Common.{eq-eqb, true≢false, arith}
+use Rattle.std.proofs.Common.{map as each}
+use Rattle.std.specs.List.{find, flat_map, list_any}
+use Rattle.std.specs.Option.{is_some, option_map, option_or}
 use Rattle.std.specs.FinMap as map
 use Rattle.std.specs.FinMap.Entries.{below_all, is_sorted}
-use Rattle.std.specs.declared.cmp.Ordering.TheVariants.{Less, Equal, Greater}
-use Rattle.std.specs.Ordering.{nat_cmp, eq_by_cmp, is_lt}
-use Rattle.std.specs.Cmp.{unsigned_tied, ranked}
+use Rattle.std.specs.declared.cmp.Ordering.TheVariants.{Equal, Greater, Less}
+use Rattle.std.specs.Ordering.{eq_by_cmp, is_lt, nat_cmp}
+use Rattle.std.specs.Cmp.{ranked, unsigned_tied}
 use Rattle.std.proofs.lemmas.List.Folds.{find-append}
 use Rattle.capbits.specs.declared.cap.Part.{Part}
-use Rattle.capbits.specs.declared.cap.Part.TheVariants.{A, L, X, F}
+use Rattle.capbits.specs.declared.cap.Part.TheVariants.{A, F, L, X}
 use Rattle.capbits.specs.declared.ids.Ticket.{Ticket}
 use Rattle.captable.proofs.Searches.{find_passes}
 use Rattle.lockmachine.specs.declared.request.Request.{Request}
@@ -18,8 +20,8 @@ use Rattle.lockmachine.specs.declared.moves.Move.TheVariants.{End, Serve, Settle
 use Rattle.lockmachine.specs.Inodes.{lock_in}
 use Rattle.lockmachine.specs.Locks.{LockMap}
 use Rattle.lockmachine.specs.Scene.{Scene, wanted_in_all}
-use Rattle.lockmachine.specs.Moves.{LockId, parts, lock_ids_of, lock_ids, may_end, may_end_in, may_serve, may_begin, may_begin_in, first_move}
-use Rattle.lockmachine.specs.Turns.{IsTurnOf, IsNextAt, beginning, begin_or_rest, serve_or_begin, end_or_serve}
+use Rattle.lockmachine.specs.Moves.{LockId, first_move, lock_ids, lock_ids_of, may_begin, may_begin_in, may_end, may_end_in, may_serve, parts}
+use Rattle.lockmachine.specs.Turns.{IsNextAt, IsTurnOf, begin_or_rest, beginning, end_or_serve, serve_or_begin}
 use Rattle.lockmachine.proofs.FirstMove.{first-found}
 use Rattle.lockmachine.proofs.Finding.{fails_at, no_part}
 use Rattle.lockmachine.proofs.Rest.{same_key}

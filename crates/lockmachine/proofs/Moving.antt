@@ -4,11 +4,11 @@ use Rattle.std.specs.List.{find}
 use Rattle.std.specs.Option.{option_map, option_map_or}
 use Rattle.std.specs.FinMap as map
 use Rattle.std.specs.Cmp.{nat_cmp_total}
-use Rattle.std.proofs.lemmas.Bool.{eqb-true, eqb-false}
+use Rattle.std.proofs.lemmas.Bool.{eqb-false, eqb-true}
 use Rattle.capbits.specs.declared.cap.Part.{Part}
-use Rattle.capbits.specs.declared.cap.Part.TheVariants.{A, L, X, F}
+use Rattle.capbits.specs.declared.cap.Part.TheVariants.{A, F, L, X}
 use Rattle.capbits.specs.Sets.{and_parts}
-use Rattle.numbered.proofs.Maps.{insert-here, insert-other}
+use Rattle.dense_map.proofs.Maps.{insert-here, insert-other}
 use Rattle.locktable.specs.declared.states.LockState.{LockState}
 use Rattle.captable.proofs.Searches.{find_passes}
 use Rattle.lockmachine.specs.declared.states.InodeLocks.{InodeLocks}
@@ -19,8 +19,8 @@ use Rattle.lockmachine.specs.Inodes.{StateMap, lock_in, with_lock_in}
 use Rattle.lockmachine.specs.Requests.{same_part}
 use Rattle.lockmachine.specs.Locks.{LockMap, lock_at, with_lock}
 use Rattle.lockmachine.specs.Scene.{Scene, target}
-use Rattle.lockmachine.specs.Moves.{LockId, lock_ids, may_end, may_begin, may_serve, present_state, first_move}
-use Rattle.lockmachine.specs.Turns.{begin_or_rest, serve_or_begin, end_or_serve}
+use Rattle.lockmachine.specs.Moves.{LockId, first_move, lock_ids, may_begin, may_end, may_serve, present_state}
+use Rattle.lockmachine.specs.Turns.{begin_or_rest, end_or_serve, serve_or_begin}
 use Rattle.lockmachine.proofs.FirstMove.{first-found}
 use Rattle.lockmachine.proofs.Rest.{same_part_is}
 

@@ -1,21 +1,22 @@
 -- What happens elsewhere leaves what a client is permitted on an inode, and what counts of its want.
 use Rattle.std.specs.Prelude.{if◌then◌else◌}
-use Rattle.std.proofs.Common.{◌≡◌, ℕ, Bool, true, false, cond, Option, Some, None, List, [], ◌∷◌, suc, map as each, filter, refl, ap, ◌∙◌, arith}
+use Rattle.std.proofs.Common.{◌≡◌, ℕ, Bool, true, false, cond, Option, Some, None, List, [], ◌∷◌, suc, filter, refl, ap, ◌∙◌, arith}
+use Rattle.std.proofs.Common.{map as each}
 use Rattle.std.specs.List.{All, slice_index_or}
 use Rattle.std.specs.Option.{option_map}
 use Rattle.std.specs.FinMap as map
 use Rattle.capbits.specs.declared.caller.Caller.{Caller}
 use Rattle.capbits.specs.Caps.{Caps}
 use Rattle.capbits.specs.Refusal.{first_failing}
-use Rattle.capbits.specs.Sets.{no_caps, meet}
+use Rattle.capbits.specs.Sets.{meet, no_caps}
 use Rattle.capspec.specs.declared.grant.Grant.{Grant}
 use Rattle.capgrant.specs.declared.access.Attr.{Attr}
 use Rattle.inotree.specs.declared.node.Kind.{Kind}
 use Rattle.inotree.specs.declared.node.Node.{Node}
-use Rattle.inotree.specs.Tree.{Nodes, IsTree, path_of}
-use Rattle.inotree.specs.Calls.{with_new, changed}
+use Rattle.inotree.specs.Tree.{IsTree, Nodes, path_of}
+use Rattle.inotree.specs.Calls.{changed, with_new}
 use Rattle.inotree.specs.Alike.{IsAlike}
-use Rattle.inotree.proofs.Elsewhere.{alike-new, alike-changed, not_next}
+use Rattle.inotree.proofs.Elsewhere.{alike-changed, alike-new, not_next}
 use Rattle.sessiontab.specs.declared.session.Session.{Session}
 use Rattle.sessiontab.specs.Table.{SessionTable}
 use Rattle.sessiontab.specs.Calls.{has_session, status_of, with_session}
@@ -24,7 +25,7 @@ use Rattle.sessiontab.proofs.Elsewhere.{session-kept}
 use Rattle.captable.specs.declared.entry.Holder.{Holder}
 use Rattle.captable.specs.declared.entry.EntryRow.{EntryRow}
 use Rattle.captable.specs.Calls.{is_of_inode}
-use Rattle.lockmachine.specs.Policy.{Subject, subject_of, permitted_to, permitted}
+use Rattle.lockmachine.specs.Policy.{Subject, permitted, permitted_to, subject_of}
 use Rattle.lockmachine.specs.Wants.{effective_want, want_of}
 use Rattle.lockmachine.specs.Scene.{Scene, wants}
 

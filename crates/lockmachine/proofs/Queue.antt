@@ -1,17 +1,18 @@
 -- The queue: requests stand in it by their numbers.
-use Rattle.std.proofs.Common.{◌≡◌, ℕ, zero, suc, ◌+◌, ◌<◌, ◌≤◌, Bool, true, false, not, cond, Option, Some, None, List, [], ◌∷◌, ◌++◌, length, take, drop, get_or, refl, sym, ap, subst, ◌∙◌, All, Contains, arith, drop-cons}
+use Rattle.std.proofs.Common.{◌≡◌, ℕ, zero, suc, ◌+◌, ◌<◌, ◌≤◌, Bool, true, false, not, cond, Option, Some, None, List, [], ◌∷◌, ◌++◌, length, take, drop}
+use Rattle.std.proofs.Common.{get_or, refl, sym, ap, subst, ◌∙◌, All, Contains, arith, drop-cons}
 use Rattle.std.specs.Prelude.{filter}
 use Rattle.std.specs.List.{find, position, remove, slice_get}
 use Rattle.std.specs.Option.{option_map}
 use Rattle.std.specs.Cmp.{nat_eq_equiv}
-use Rattle.std.proofs.lemmas.Bool.{ne_eqb, both_ways, eqb-true}
+use Rattle.std.proofs.lemmas.Bool.{both_ways, eqb-true, ne_eqb}
 use Rattle.std.proofs.lemmas.List.{length-append, take-append-drop}
 use Rattle.std.proofs.lemmas.List.Folds.{find_at}
 use Rattle.std.proofs.lemmas.Option.{slice_get-get_or}
-use Rattle.std.proofs.lemmas.List.Elements.{All-head, All-tail, All-contains, All-filter, All-push, All-weaker}
+use Rattle.std.proofs.lemmas.List.Elements.{All-contains, All-filter, All-head, All-push, All-tail, All-weaker}
 use Rattle.std.proofs.lemmas.List.Kept.{AllPairs-filter}
 use Rattle.std.proofs.lemmas.List.Quantifiers.{all_pairs_push}
-use Rattle.std.proofs.lemmas.List.Sums.{length-filter, count_by-le-length}
+use Rattle.std.proofs.lemmas.List.Sums.{count_by-le-length, length-filter}
 use Rattle.lockmachine.proofs.Positions.{at_position}
 use Rattle.capbits.specs.declared.ids.ClientId.{ClientId}
 use Rattle.capbits.specs.declared.ids.Ino.{Ino}
@@ -21,11 +22,12 @@ use Rattle.lockmachine.specs.declared.request.Operation.{Operation}
 use Rattle.lockmachine.specs.declared.request.Request.{Request}
 use Rattle.lockmachine.specs.declared.moves.Move.{Move}
 use Rattle.lockmachine.specs.declared.moves.Move.TheVariants.{Begin, End, Serve, Settled}
-use Rattle.lockmachine.specs.Requests.{is_numbered, is_of_client, AreTicketsRising}
-use Rattle.lockmachine.specs.Locks.{LockMap, IsLockMap, TakesOnly, request_at, next_request, with_request, without_request, requests_of, oldest_of, without_requests_of}
+use Rattle.lockmachine.specs.Requests.{AreTicketsRising, is_numbered, is_of_client}
+use Rattle.lockmachine.specs.Locks.{IsLockMap, LockMap, TakesOnly, next_request, oldest_of, request_at, requests_of, with_request, without_request}
+use Rattle.lockmachine.specs.Locks.{without_requests_of}
 use Rattle.lockmachine.specs.Scene.{Scene}
-use Rattle.lockmachine.specs.Moves.{LockId, lock_ids, may_end, may_serve, first_move, moved, IsFirstServed}
-use Rattle.lockmachine.specs.Turns.{begin_or_rest, serve_or_begin, end_or_serve}
+use Rattle.lockmachine.specs.Moves.{IsFirstServed, LockId, first_move, lock_ids, may_end, may_serve, moved}
+use Rattle.lockmachine.specs.Turns.{begin_or_rest, end_or_serve, serve_or_begin}
 use Rattle.lockmachine.proofs.FirstMove.{first-found}
 use Rattle.lockmachine.proofs.Rest.{not_found}
 

@@ -1,32 +1,34 @@
 -- Where no move applies and nobody waits where there is no lock, each lock is quiet.
-use Rattle.std.proofs.Common.{◌≡◌, ◌≢◌, ℕ, zero, suc, Bool, true, false, ◌&&◌, ◌||◌, not, ◌==◌, cond, Option, Some, None, List, [], ◌∷◌, refl, sym, ap, ◌∙◌, subst}
-use Rattle.std.specs.List.{find, list_any, flat_map}
+use Rattle.std.proofs.Common.{◌≡◌, ◌≢◌, ℕ, zero, suc, Bool, true, false, ◌&&◌, ◌||◌, not, ◌==◌, cond, Option, Some, None, List, [], ◌∷◌, refl, sym, ap, ◌∙◌}
+use Rattle.std.proofs.Common.{subst}
+use Rattle.std.specs.List.{find, flat_map, list_any}
 use Rattle.std.specs.Option.{is_some, option_map, option_map_or}
 use Rattle.std.specs.FinMap as map
-use Rattle.std.specs.Ordering.{nat_cmp, eq_by_cmp}
-use Rattle.std.specs.Cmp.{unsigned_tied, nat_eq_equiv}
-use Rattle.std.proofs.lemmas.Bool.{eqb-true, both_ways}
+use Rattle.std.specs.Ordering.{eq_by_cmp, nat_cmp}
+use Rattle.std.specs.Cmp.{nat_eq_equiv, unsigned_tied}
+use Rattle.std.proofs.lemmas.Bool.{both_ways, eqb-true}
 use Rattle.capbits.specs.declared.cap.Part.{Part}
-use Rattle.capbits.specs.declared.cap.Part.TheVariants.{A, L, X, F}
+use Rattle.capbits.specs.declared.cap.Part.TheVariants.{A, F, L, X}
 use Rattle.capbits.specs.declared.ids.ClientId.{ClientId}
 use Rattle.capbits.specs.Sets.{and_parts}
 use Rattle.locktable.specs.declared.states.StableState.{StableState}
-use Rattle.locktable.specs.declared.states.StableState.TheVariants.{Sync, Lock, Mix, Excl}
+use Rattle.locktable.specs.declared.states.StableState.TheVariants.{Excl, Lock, Mix, Sync}
 use Rattle.locktable.specs.declared.states.LockState.{LockState}
-use Rattle.locktable.specs.declared.states.LockState.TheVariants.{Stable, Gather}
+use Rattle.locktable.specs.declared.states.LockState.TheVariants.{Gather, Stable}
 use Rattle.locktable.specs.declared.targets.Head.TheVariants.{Empty}
 use Rattle.locktable.specs.Targets.{is_served, target_of, target_serves}
 use Rattle.lockmachine.specs.declared.states.InodeLocks.{InodeLocks}
 use Rattle.lockmachine.specs.declared.request.Operation.{Operation}
-use Rattle.lockmachine.specs.declared.request.Operation.TheVariants.{Get, Alter, Unlink, Rmdir, Rename}
+use Rattle.lockmachine.specs.declared.request.Operation.TheVariants.{Alter, Get, Rename, Rmdir, Unlink}
 use Rattle.lockmachine.specs.declared.request.Request.{Request}
 use Rattle.lockmachine.specs.declared.moves.Move.TheVariants.{Settled}
-use Rattle.lockmachine.specs.Requests.{part_place, same_part, part_of_operation, head_of_operation, is_for, first_for, is_numbered}
+use Rattle.lockmachine.specs.Requests.{first_for, head_of_operation, is_for, is_numbered, part_of_operation, part_place, same_part}
 use Rattle.lockmachine.specs.Inodes.{lock_in}
 use Rattle.lockmachine.specs.Locks.{lock_at}
-use Rattle.lockmachine.specs.Scene.{Scene, target, loner, wanted}
-use Rattle.lockmachine.specs.Moves.{LockId, same_state, is_open, lock_ids_of, lock_ids, may_end, may_begin, may_serve, is_served_in, first_move, IsQuiet, IsAtRest, WaitAtLocks}
-use Rattle.lockmachine.specs.Turns.{begin_or_rest, serve_or_begin, end_or_serve}
+use Rattle.lockmachine.specs.Scene.{Scene, loner, target, wanted}
+use Rattle.lockmachine.specs.Moves.{IsAtRest, IsQuiet, LockId, WaitAtLocks, first_move, is_open, is_served_in, lock_ids, lock_ids_of, may_begin, may_end}
+use Rattle.lockmachine.specs.Moves.{may_serve, same_state}
+use Rattle.lockmachine.specs.Turns.{begin_or_rest, end_or_serve, serve_or_begin}
 use Rattle.lockmachine.proofs.FirstMove.{first-found}
 
 -- ---- what is known where no move applies

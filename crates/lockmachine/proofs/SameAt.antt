@@ -1,5 +1,7 @@
 -- What is the same at one inode: what is wanted of it, which moves apply there, and what is quiet there.
-use Rattle.std.proofs.Common.{◌≡◌, ℕ, Bool, true, false, cond, not, Option, Some, None, List, [], ◌∷◌, zero, suc, filter, map as each, refl, sym, ap, subst, ◌∙◌, Contains, arith}
+use Rattle.std.proofs.Common.{◌≡◌, ℕ, Bool, true, false, cond, not, Option, Some, None, List, [], ◌∷◌, zero, suc, filter, refl, sym, ap, subst, ◌∙◌, Contains}
+use Rattle.std.proofs.Common.{arith}
+use Rattle.std.proofs.Common.{map as each}
 use Rattle.std.specs.List.{list_any}
 use Rattle.std.specs.FinMap as map
 use Rattle.std.proofs.lemmas.Bool.{eqb-true}
@@ -8,17 +10,17 @@ use Rattle.capbits.specs.Sets.{is_empty}
 use Rattle.inotree.specs.Alike.{IsAlike}
 use Rattle.locktable.specs.declared.states.StableState.{StableState}
 use Rattle.locktable.specs.declared.states.LockState.{LockState}
-use Rattle.locktable.specs.declared.states.LockState.TheVariants.{Stable, Gather}
+use Rattle.locktable.specs.declared.states.LockState.TheVariants.{Gather, Stable}
 use Rattle.locktable.specs.Targets.{target_of}
 use Rattle.sessiontab.specs.Table.{SessionTable}
 use Rattle.captable.specs.declared.entry.EntryRow.{EntryRow}
-use Rattle.captable.specs.Calls.{is_of_inode, entries_on}
+use Rattle.captable.specs.Calls.{entries_on, is_of_inode}
 use Rattle.lockmachine.specs.Requests.{first_for, head_of}
 use Rattle.lockmachine.specs.Locks.{lock_at}
-use Rattle.lockmachine.specs.Wants.{Want, want_of, in_all}
-use Rattle.lockmachine.specs.Scene.{Scene, wants, wanted, loner, wanted_in_all, target, target_by, outside}
-use Rattle.lockmachine.specs.Moves.{same_state, may_end, may_end_in, may_begin, may_begin_in, IsQuiet}
-use Rattle.lockmachine.specs.Elsewhere.{IsSameOutside, IsSameAt}
+use Rattle.lockmachine.specs.Wants.{Want, in_all, want_of}
+use Rattle.lockmachine.specs.Scene.{Scene, loner, outside, target, target_by, wanted, wanted_in_all, wants}
+use Rattle.lockmachine.specs.Moves.{IsQuiet, may_begin, may_begin_in, may_end, may_end_in, same_state}
+use Rattle.lockmachine.specs.Elsewhere.{IsSameAt, IsSameOutside}
 use Rattle.lockmachine.proofs.PolicyElsewhere.{want-kept}
 
 -- of one inode the entries, their clients' sessions, the locks and who waits first for each are as they were, and so are its path,

@@ -11,16 +11,16 @@ use Rattle.captable.specs.Table.{Table}
 use Rattle.captable.specs.Calls.{entries_on}
 use Rattle.lockmachine.specs.declared.request.Operation.{Operation}
 use Rattle.lockmachine.specs.declared.request.Request.{Request}
-use Rattle.lockmachine.specs.Requests.{is_for, first_for}
-use Rattle.lockmachine.specs.Locks.{LockMap, IsLockMap, next_request, with_request, without_request}
+use Rattle.lockmachine.specs.Requests.{first_for, is_for}
+use Rattle.lockmachine.specs.Locks.{IsLockMap, LockMap, next_request, with_request, without_request}
 use Rattle.lockmachine.specs.Scene.{Scene}
-use Rattle.lockmachine.specs.Moves.{may_end, may_begin}
+use Rattle.lockmachine.specs.Moves.{may_begin, may_end}
 use Rattle.lockmachine.specs.Runs.{ChangesLocksOf}
-use Rattle.lockmachine.specs.Elsewhere.{IsSameBut, IsSameAt}
+use Rattle.lockmachine.specs.Elsewhere.{IsSameAt, IsSameBut}
 use Rattle.lockmachine.proofs.PolicyElsewhere.{alike-itself}
 use Rattle.lockmachine.proofs.Queue.{taken_alone}
-use Rattle.lockmachine.proofs.SameAt.{same-there, begin-there, end-there}
-use Rattle.lockmachine.proofs.SameOutside.{not_for, alike-trans}
+use Rattle.lockmachine.proofs.SameAt.{begin-there, end-there, same-there}
+use Rattle.lockmachine.proofs.SameOutside.{alike-trans, not_for}
 
 -- ---- one after another
 

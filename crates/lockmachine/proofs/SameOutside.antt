@@ -1,9 +1,10 @@
 -- Scenes that are the same outside some inodes: what leaves them so, and what follows of the other inodes' locks.
-use Rattle.std.proofs.Common.{◌≡◌, ◌≢◌, ℕ, Bool, true, false, cond, not, ◌&&◌, ◌==◌, Some, List, [], ◌∷◌, zero, suc, filter, refl, sym, ap, subst, ◌∙◌, Contains, arith, true≢false}
+use Rattle.std.proofs.Common.{◌≡◌, ◌≢◌, ℕ, Bool, true, false, cond, not, ◌&&◌, ◌==◌, Some, List, [], ◌∷◌, zero, suc, filter, refl, sym, ap, subst, ◌∙◌}
+use Rattle.std.proofs.Common.{Contains, arith, true≢false}
 use Rattle.std.specs.List.{find}
 use Rattle.std.specs.FinMap as map
 use Rattle.std.specs.Cmp.{nat_eq_equiv}
-use Rattle.std.proofs.lemmas.Bool.{ne_eqb, eqb-false}
+use Rattle.std.proofs.lemmas.Bool.{eqb-false, ne_eqb}
 use Rattle.capbits.specs.declared.cap.Part.{Part}
 use Rattle.capbits.specs.declared.ids.ClientId.{ClientId}
 use Rattle.sessiontab.specs.Table.{SessionTable}
@@ -12,7 +13,7 @@ use Rattle.captable.specs.Calls.{is_of_inode}
 use Rattle.inotree.specs.Tree.{Nodes}
 use Rattle.inotree.specs.Alike.{IsAlike}
 use Rattle.lockmachine.specs.declared.request.Request.{Request}
-use Rattle.lockmachine.specs.Requests.{same_part, part_of_operation, is_for, is_of_client}
+use Rattle.lockmachine.specs.Requests.{is_for, is_of_client, part_of_operation, same_part}
 use Rattle.lockmachine.specs.Locks.{without_requests_of}
 use Rattle.lockmachine.specs.Scene.{Scene}
 use Rattle.lockmachine.specs.Moves.{IsAtRest, IsQuietOutside}

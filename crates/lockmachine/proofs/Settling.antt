@@ -3,17 +3,17 @@ use Rattle.std.proofs.Common.{◌≡◌, ◌≢◌, ℕ, ◌+◌, ◌<◌, true,
 use Rattle.std.specs.Prelude.{IsTrue}
 use Rattle.capbits.specs.declared.ids.Ticket.{Ticket}
 use Rattle.capbits.specs.declared.cap.Part.{Part}
-use Rattle.capbits.specs.declared.cap.Part.TheVariants.{A, L, X, F}
+use Rattle.capbits.specs.declared.cap.Part.TheVariants.{A, F, L, X}
 use Rattle.locktable.specs.declared.states.LockState.{LockState}
-use Rattle.locktable.specs.declared.states.LockState.TheVariants.{Stable, Gather}
+use Rattle.locktable.specs.declared.states.LockState.TheVariants.{Gather, Stable}
 use Rattle.lockmachine.specs.declared.moves.Move.{Move}
 use Rattle.lockmachine.specs.declared.moves.Move.TheVariants.{Begin, End, Serve, Settled}
 use Rattle.lockmachine.specs.Requests.{same_part}
 use Rattle.lockmachine.specs.Locks.{LockMap, lock_at, with_lock}
 use Rattle.lockmachine.specs.Scene.{Scene}
-use Rattle.lockmachine.specs.Moves.{LockId, present_state, coming_state, first_move, moved, with_moved}
-use Rattle.lockmachine.specs.Runs.{is_of_lock, Runs, is_begin_of, is_end_of, ChangesLocksOf}
-use Rattle.lockmachine.specs.Turns.{IsTurnOf, IsNextAt}
+use Rattle.lockmachine.specs.Moves.{LockId, coming_state, first_move, moved, present_state, with_moved}
+use Rattle.lockmachine.specs.Runs.{ChangesLocksOf, Runs, is_begin_of, is_end_of, is_of_lock}
+use Rattle.lockmachine.specs.Turns.{IsNextAt, IsTurnOf}
 use Rattle.lockmachine.proofs.Moving.{IsMove, first_is, with_lock-each}
 use Rattle.lockmachine.proofs.Ending.{begins_left, ends_left, locks_of, one_left, runs-then}
 use Rattle.lockmachine.proofs.Turns.{turn-kept}

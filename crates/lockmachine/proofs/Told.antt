@@ -3,21 +3,22 @@ use Rattle.std.proofs.Common.{◌≡◌, ℕ, Bool, true, false, not, ◌&&◌, 
 use Rattle.capbits.specs.declared.cap.Cap.{Cap}
 use Rattle.capbits.specs.declared.cap.Cap.TheVariants.{P}
 use Rattle.capbits.specs.declared.cap.Part.{Part}
-use Rattle.capbits.specs.declared.cap.Part.TheVariants.{A, L, X, F}
+use Rattle.capbits.specs.declared.cap.Part.TheVariants.{A, F, L, X}
 use Rattle.capbits.specs.Caps.{has}
-use Rattle.capbits.specs.Sets.{union, minus, meet, of_part, covers, IsSubset, same_caps, has-none, has-caps_in, has-union, has-minus, has-meet, has-of_part, and_parts}
+use Rattle.capbits.specs.Sets.{IsSubset, and_parts, covers, has-caps_in, has-meet, has-minus, has-none, has-of_part, has-union, meet, minus, of_part}
+use Rattle.capbits.specs.Sets.{same_caps, union}
 use Rattle.capbits.specs.declared.ids.ClientId.{ClientId}
 use Rattle.capbits.proofs.Covering.{pin_covers_none}
 use Rattle.locktable.specs.declared.states.LockState.{LockState}
-use Rattle.locktable.specs.declared.states.LockState.TheVariants.{Stable, Gather}
+use Rattle.locktable.specs.declared.states.LockState.TheVariants.{Gather, Stable}
 use Rattle.locktable.specs.Rows.{row_of}
 use Rattle.captable.specs.declared.entry.Entry.{Entry}
 use Rattle.captable.specs.declared.entry.EntryRow.{EntryRow}
 use Rattle.lockmachine.specs.Locks.{lock_at}
 use Rattle.capgrant.proofs.Pins.{nothing_without_pin}
-use Rattle.lockmachine.specs.Policy.{Subject, subject, question_of, permitted_to, permitted}
-use Rattle.lockmachine.specs.Scene.{Scene, against_lock, against_part, against_locks, against_policy, against, told_set}
-use Rattle.lockmachine.specs.Revoked.{is_revoked_by, is_revoked_of, is_revoked}
+use Rattle.lockmachine.specs.Policy.{Subject, permitted, permitted_to, question_of, subject}
+use Rattle.lockmachine.specs.Scene.{Scene, against, against_lock, against_locks, against_part, against_policy, told_set}
+use Rattle.lockmachine.specs.Revoked.{is_revoked, is_revoked_by, is_revoked_of}
 
 and_false : (h : Bool) → false ≡ (h && false)
 and_false true = refl

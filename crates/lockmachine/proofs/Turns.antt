@@ -3,7 +3,7 @@ use Rattle.std.proofs.Common.{◌≡◌, ◌≢◌, ℕ, ◌<◌, true, false, �
 use Rattle.std.specs.List.{find}
 use Rattle.std.specs.Option.{is_some, option_map}
 use Rattle.std.specs.FinMap as map
-use Rattle.std.proofs.lemmas.Bool.{eqb-true, eqb-false}
+use Rattle.std.proofs.lemmas.Bool.{eqb-false, eqb-true}
 use Rattle.capbits.specs.declared.cap.Part.{Part}
 use Rattle.capbits.specs.declared.ids.Ticket.{Ticket}
 use Rattle.lockmachine.specs.declared.states.InodeLocks.{InodeLocks}
@@ -11,15 +11,14 @@ use Rattle.lockmachine.specs.declared.moves.Move.TheVariants.{Serve, Settled}
 use Rattle.lockmachine.specs.Inodes.{lock_in}
 use Rattle.lockmachine.specs.Locks.{LockMap}
 use Rattle.lockmachine.specs.Scene.{Scene}
-use Rattle.lockmachine.specs.Moves.{LockId, lock_ids, may_end, may_end_in, may_begin, may_serve, first_move}
+use Rattle.lockmachine.specs.Moves.{LockId, first_move, lock_ids, may_begin, may_end, may_end_in, may_serve}
 use Rattle.lockmachine.specs.Runs.{ChangesLocksOf}
 use Rattle.lockmachine.specs.Elsewhere.{IsSameBut}
-use Rattle.lockmachine.specs.Turns.{IsTurnOf, IsDoneAt, NothingEnds, begin_or_rest, serve_or_begin, end_or_serve}
+use Rattle.lockmachine.specs.Turns.{IsDoneAt, IsTurnOf, NothingEnds, begin_or_rest, end_or_serve, serve_or_begin}
 use Rattle.lockmachine.proofs.FirstMove.{first-found}
-use Rattle.lockmachine.proofs.Finding.{find_none}
+use Rattle.lockmachine.proofs.Finding.{by_number, find_none}
 use Rattle.lockmachine.proofs.Rest.{none_at}
-use Rattle.lockmachine.proofs.Finding.{find_none, by_number}
-use Rattle.lockmachine.proofs.SameBut.{same-at, same-locks, begin-alike, end-alike}
+use Rattle.lockmachine.proofs.SameBut.{begin-alike, end-alike, same-at, same-locks}
 
 -- ---- whose turn it is
 

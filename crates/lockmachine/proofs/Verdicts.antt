@@ -5,11 +5,11 @@ use Rattle.capbits.specs.declared.caller.Caller.{Caller}
 use Rattle.capgrant.specs.declared.access.Access.{Access}
 use Rattle.inotree.specs.declared.node.Node.{Node}
 use Rattle.sessiontab.specs.declared.session.Session.{Session}
-use Rattle.lockmachine.specs.Policy.{subject_of, failures_of}
+use Rattle.lockmachine.specs.Policy.{failures_of, subject_of}
 use Rattle.capspec.specs.declared.grant.Grant.{Grant}
 use Rattle.capgrant.specs.declared.answer.Verdict.{Verdict}
 use Rattle.capgrant.specs.Question.{Question}
-use Rattle.capgrant.specs.Verdict.{verdict_of, verdict_at, first_failures, IfDenied, allows}
+use Rattle.capgrant.specs.Verdict.{IfDenied, allows, first_failures, verdict_at, verdict_of}
 use Rattle.capgrant.specs.declared.rule.Rule.{Rule}
 use Rattle.std.specs.List.{position}
 

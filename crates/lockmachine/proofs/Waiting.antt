@@ -1,5 +1,6 @@
 -- Who waits outside of some inodes is held up by a gather that is open, and stays so.
-use Rattle.std.proofs.Common.{◌≡◌, ◌≢◌, ℕ, Bool, true, false, not, ◌&&◌, Option, Some, None, List, [], ◌∷◌, filter, refl, sym, ap, subst, ◌∙◌, Contains, true≢false}
+use Rattle.std.proofs.Common.{◌≡◌, ◌≢◌, ℕ, Bool, true, false, not, ◌&&◌, Option, Some, None, List, [], ◌∷◌, filter, refl, sym, ap, subst, ◌∙◌, Contains}
+use Rattle.std.proofs.Common.{true≢false}
 use Rattle.std.specs.Prelude.{IsTrue}
 use Rattle.std.specs.Cmp.{nat_eq_equiv}
 use Rattle.std.specs.List.{find}
@@ -9,17 +10,18 @@ use Rattle.capbits.specs.declared.ids.Ticket.{Ticket}
 use Rattle.inotree.specs.Tree.{Nodes}
 use Rattle.locktable.specs.declared.states.StableState.{StableState}
 use Rattle.locktable.specs.declared.states.LockState.{LockState}
-use Rattle.locktable.specs.declared.states.LockState.TheVariants.{Stable, Gather}
+use Rattle.locktable.specs.declared.states.LockState.TheVariants.{Gather, Stable}
 use Rattle.lockmachine.specs.declared.request.Request.{Request}
 use Rattle.lockmachine.specs.declared.moves.Move.{Move}
 use Rattle.lockmachine.specs.declared.moves.Move.TheVariants.{Begin, End, Serve, Settled}
-use Rattle.lockmachine.specs.Requests.{same_part, part_of_operation, head_of_operation, is_for, first_for, is_numbered}
-use Rattle.lockmachine.specs.Locks.{LockMap, IsLockMap, lock_at, request_at, without_request}
+use Rattle.lockmachine.specs.Requests.{first_for, head_of_operation, is_for, is_numbered, part_of_operation, same_part}
+use Rattle.lockmachine.specs.Locks.{IsLockMap, LockMap, lock_at, request_at, without_request}
 use Rattle.lockmachine.specs.Scene.{Scene, wanted_in_all}
-use Rattle.lockmachine.specs.Moves.{LockId, is_open, may_end_in, may_begin_in, may_serve, is_served_in, present_state, coming_state, first_move, moved, with_moved, IsQuiet, IsQuietOutside}
-use Rattle.lockmachine.specs.Runs.{is_of_lock, Runs}
+use Rattle.lockmachine.specs.Moves.{IsQuiet, IsQuietOutside, LockId, coming_state, first_move, is_open, is_served_in, may_begin_in, may_end_in, may_serve}
+use Rattle.lockmachine.specs.Moves.{moved, present_state, with_moved}
+use Rattle.lockmachine.specs.Runs.{Runs, is_of_lock}
 use Rattle.lockmachine.specs.Turns.{IsHeldUp, WaitAt}
-use Rattle.lockmachine.proofs.Finding.{fails_at, contains-filter}
+use Rattle.lockmachine.proofs.Finding.{contains-filter, fails_at}
 use Rattle.lockmachine.proofs.Moving.{IsMove, first_is, with_lock-each}
 use Rattle.lockmachine.proofs.Queue.{found_by_number, least_served}
 

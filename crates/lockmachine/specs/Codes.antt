@@ -1,14 +1,14 @@
 -- How values are stored.
-use Rattle.std.specs.Prelude.{ℕ, List, refl}
-use Rattle.std.specs.Coded.{Coded, code_by, coded×, coded_ℕ, coded_list}
+use Rattle.std.specs.Prelude.{List, refl, ℕ}
+use Rattle.std.specs.Coded.{Coded, code_by, coded_list, coded_ℕ, coded×}
 use Rattle.std.specs.FinMap as map
 use Rattle.lockmachine.specs.declared.request.Request.{Request}
 use Rattle.lockmachine.specs.contracts.request.Request as request
 use Rattle.lockmachine.specs.contracts.states.InodeLocks as inode_locks
-use Rattle.onelock.specs.contracts.counts.Counts as inode_counts
+use Rattle.lockmachine.specs.contracts.counts.Counts as inode_counts
 use Rattle.lockmachine.specs.contracts.waiters.Waiter as waiter
 use Rattle.lockmachine.specs.Counts.{CountedLocks}
-use Rattle.lockmachine.specs.Inodes.{StateMap, CountMap, CountedStates}
+use Rattle.lockmachine.specs.Inodes.{CountMap, CountedStates, StateMap}
 use Rattle.lockmachine.specs.Locks.{LockMap}
 use Rattle.lockmachine.specs.Waiters.{WaiterList}
 

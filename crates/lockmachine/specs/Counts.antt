@@ -1,4 +1,6 @@
 -- The locks and the queue as they are kept: with a count beside each lock of how many clients its gather waits for.
+pub use Rattle.lockmachine.specs.Held.{has_outside, holders_outside}
+pub use Rattle.lockmachine.specs.Lock.{LockId}
 use Rattle.std.specs.Prelude.{◌≡◌, ◌==◌, ◌-◌, ◌&&◌, ℕ, Bool, false, not, Option, Some, None, if◌then◌else◌}
 use Rattle.std.specs.FinMap as map
 use Rattle.std.specs.Option.{option_map_or}
@@ -6,13 +8,11 @@ use Rattle.capbits.specs.declared.cap.Part.{Part}
 use Rattle.capbits.specs.Caps.{Caps}
 use Rattle.capbits.specs.Maps.{change_at}
 use Rattle.locktable.specs.declared.states.LockState.{LockState}
-use Rattle.locktable.specs.declared.states.LockState.TheVariants.{Stable, Gather}
+use Rattle.locktable.specs.declared.states.LockState.TheVariants.{Gather, Stable}
 use Rattle.captable.specs.Table.{Table}
 use Rattle.captable.specs.declared.entry.EntryRow.{EntryRow}
-pub use Rattle.onelock.specs.Held.{has_outside, holders_outside}
-use Rattle.onelock.specs.Lock.{ends_by_count}
-pub use Rattle.onelock.specs.Lock.{LockId}
-use Rattle.onelock.specs.Counts.{count_in, with_count_in, one_less_in, no_counts}
+use Rattle.lockmachine.specs.Lock.{ends_by_count}
+use Rattle.lockmachine.specs.GatherCounts.{count_in, no_counts, one_less_in, with_count_in}
 use Rattle.lockmachine.specs.Inodes.{CountMap}
 use Rattle.lockmachine.specs.Locks as words
 use Rattle.lockmachine.specs.Locks.{LockMap, lock_at}

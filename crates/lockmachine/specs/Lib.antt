@@ -14,3 +14,6 @@ pub mod Runs
 pub mod Rows
 pub mod Elsewhere
 pub mod Turns
+pub mod GatherCounts
+pub mod Held
+pub mod Lock

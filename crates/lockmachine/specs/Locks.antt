@@ -13,8 +13,8 @@ use Rattle.capbits.specs.Maps.{change_at}
 use Rattle.locktable.specs.declared.states.LockState.{LockState}
 use Rattle.lockmachine.specs.declared.request.Operation.{Operation}
 use Rattle.lockmachine.specs.declared.request.Request.{Request}
-use Rattle.lockmachine.specs.Requests.{is_numbered, is_of_client, AreTicketsRising}
-use Rattle.lockmachine.specs.Inodes.{StateMap, lock_in, with_lock_in, in_sync}
+use Rattle.lockmachine.specs.Requests.{AreTicketsRising, is_numbered, is_of_client}
+use Rattle.lockmachine.specs.Inodes.{StateMap, in_sync, lock_in, with_lock_in}
 
 -- the locks of each inode, the requests that wait, the oldest first, and the last number that a request was given
 pub record LockMap : Type 0 where

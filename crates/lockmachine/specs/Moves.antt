@@ -1,25 +1,26 @@
 -- Which move comes next, what each does to the locks, and when they are at rest.
-use Rattle.std.specs.Prelude.{◌≡◌, ◌≤◌, ℕ, Bool, true, false, ◌&&◌, not, IsTrue, List, [], ◌∷◌, ◌++◌, Option, Some, None, Contains, get_or, map as each}
+pub use Rattle.lockmachine.specs.Held.{is_held_outside}
+pub use Rattle.lockmachine.specs.Lock.{LockId, may_end_in, same_state}
+use Rattle.std.specs.Prelude.{◌≡◌, ◌≤◌, ℕ, Bool, true, false, ◌&&◌, not, IsTrue, List, [], ◌∷◌, ◌++◌, Option, Some, None, Contains, get_or}
+use Rattle.std.specs.Prelude.{map as each}
 use Rattle.std.specs.List.{filter, flat_map}
 use Rattle.std.specs.Option.{option_map_or}
 use Rattle.std.specs.FinMap as map
 use Rattle.capbits.specs.declared.cap.Part.{Part}
-use Rattle.capbits.specs.declared.cap.Part.TheVariants.{A, L, X, F}
+use Rattle.capbits.specs.declared.cap.Part.TheVariants.{A, F, L, X}
 use Rattle.locktable.specs.declared.states.StableState.{StableState}
 use Rattle.locktable.specs.declared.states.StableState.TheVariants.{Sync}
 use Rattle.locktable.specs.declared.states.LockState.{LockState}
-use Rattle.locktable.specs.declared.states.LockState.TheVariants.{Stable, Gather}
+use Rattle.locktable.specs.declared.states.LockState.TheVariants.{Gather, Stable}
 use Rattle.locktable.specs.declared.targets.Head.{Head}
 use Rattle.locktable.specs.Targets.{is_served}
 use Rattle.lockmachine.specs.declared.request.Request.{Request}
 use Rattle.lockmachine.specs.declared.wants.Wants.{Wants}
 use Rattle.lockmachine.specs.declared.moves.Move.{Move}
 use Rattle.lockmachine.specs.declared.moves.Move.TheVariants.{Begin, End, Serve, Settled}
-use Rattle.lockmachine.specs.Requests.{first_for, part_of_operation, head_of_operation, is_numbered}
-use Rattle.lockmachine.specs.Locks.{LockMap, lock_at, with_lock, request_at, without_request}
-use Rattle.lockmachine.specs.Scene.{Scene, wanted_in_all, target_by, target}
-pub use Rattle.onelock.specs.Held.{is_held_outside}
-pub use Rattle.onelock.specs.Lock.{same_state, LockId, may_end_in}
+use Rattle.lockmachine.specs.Requests.{first_for, head_of_operation, is_numbered, part_of_operation}
+use Rattle.lockmachine.specs.Locks.{LockMap, lock_at, request_at, with_lock, without_request}
+use Rattle.lockmachine.specs.Scene.{Scene, target, target_by, wanted_in_all}
 
 -- some caps are still to be acknowledged or released before the lock can be in its target
 abbrev pub is_open : Scene → ℕ → Part → StableState → Bool

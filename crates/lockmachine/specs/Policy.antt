@@ -10,7 +10,7 @@ use Rattle.capgrant.specs.declared.access.Access.{Access}
 use Rattle.capgrant.specs.declared.access.Attr.{Attr}
 use Rattle.capgrant.specs.declared.rule.Rule.{Rule}
 use Rattle.capgrant.specs.Question.{Question}
-use Rattle.capgrant.specs.Verdict.{granted, first_failures}
+use Rattle.capgrant.specs.Verdict.{first_failures, granted}
 use Rattle.capgrant.specs.Permitted.{permitted_of}
 use Rattle.sessiontab.specs.declared.session.Session.{Session}
 use Rattle.sessiontab.specs.Table.{SessionTable}

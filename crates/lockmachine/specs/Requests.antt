@@ -2,16 +2,16 @@
 use Rattle.std.specs.Prelude.{ℕ, ◌<◌, Bool, ◌==◌, ◌&&◌, List, Option, None, Some, AllPairs}
 use Rattle.std.specs.List.{find}
 use Rattle.capbits.specs.declared.cap.Part.{Part}
-use Rattle.capbits.specs.declared.cap.Part.TheVariants.{A, L, X, F}
+use Rattle.capbits.specs.declared.cap.Part.TheVariants.{A, F, L, X}
 use Rattle.capbits.specs.declared.ids.ClientId.{ClientId}
 use Rattle.inotree.specs.declared.node.Setting.{Setting}
-use Rattle.inotree.specs.declared.node.Setting.TheVariants.{Mode, Uid, Gid, Size, Time}
+use Rattle.inotree.specs.declared.node.Setting.TheVariants.{Gid, Mode, Size, Time, Uid}
 use Rattle.locktable.specs.declared.targets.Head.{Head}
 use Rattle.locktable.specs.declared.targets.Head.TheVariants as kind
 use Rattle.lockmachine.specs.declared.request.Change.{Change}
-use Rattle.lockmachine.specs.declared.request.Change.TheVariants.{Set, SetXattr, RemoveXattr}
+use Rattle.lockmachine.specs.declared.request.Change.TheVariants.{RemoveXattr, Set, SetXattr}
 use Rattle.lockmachine.specs.declared.request.Operation.{Operation}
-use Rattle.lockmachine.specs.declared.request.Operation.TheVariants.{Get, Alter, Unlink, Rmdir, Rename}
+use Rattle.lockmachine.specs.declared.request.Operation.TheVariants.{Alter, Get, Rename, Rmdir, Unlink}
 use Rattle.lockmachine.specs.declared.request.Request.{Request}
 
 -- parts count in the order A, L, X, F

@@ -2,12 +2,12 @@
 use Rattle.std.specs.Prelude.{Bool, false, not, ◌&&◌, ◌||◌, Option, Some, None}
 use Rattle.capbits.specs.declared.cap.Cap.{Cap}
 use Rattle.capbits.specs.declared.cap.Part.{Part}
-use Rattle.capbits.specs.declared.cap.Part.TheVariants.{A, L, X, F}
+use Rattle.capbits.specs.declared.cap.Part.TheVariants.{A, F, L, X}
 use Rattle.capbits.specs.declared.ids.ClientId.{ClientId}
 use Rattle.capbits.specs.Caps.{has}
 use Rattle.capbits.specs.Sets.{covers}
 use Rattle.locktable.specs.declared.states.LockState.{LockState}
-use Rattle.locktable.specs.declared.states.LockState.TheVariants.{Stable, Gather}
+use Rattle.locktable.specs.declared.states.LockState.TheVariants.{Gather, Stable}
 use Rattle.locktable.specs.Rows.{row_of}
 use Rattle.captable.specs.declared.entry.Holder.{Holder}
 use Rattle.lockmachine.specs.Locks.{lock_at}

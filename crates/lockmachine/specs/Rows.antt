@@ -1,7 +1,7 @@
 -- Where what clients hold lies in the table of the locks.
-use Rattle.std.specs.Prelude.{Option, Some, None}
+use Rattle.std.specs.Prelude.{None, Option, Some}
 use Rattle.capbits.specs.declared.cap.Part.{Part}
-use Rattle.capbits.specs.Sets.{IsSubset, of_part, no_caps}
+use Rattle.capbits.specs.Sets.{IsSubset, no_caps, of_part}
 use Rattle.locktable.specs.declared.states.LockState.{LockState}
 use Rattle.locktable.specs.Rows.{row_of}
 use Rattle.captable.specs.declared.entry.EntryRow.{EntryRow}

@@ -1,6 +1,6 @@
 -- Whose turn it is, where a step affects many inodes: a caller goes over them in the order of their numbers.
 use Rattle.std.specs.Prelude.{◌≡◌, ◌≢◌, ◌<◌, ◌==◌, ℕ, Bool, true, false, IsTrue, List, Option, Some, None, Contains, if◌then◌else◌}
-use Rattle.std.specs.List.{list_any, find}
+use Rattle.std.specs.List.{find, list_any}
 use Rattle.capbits.specs.declared.cap.Part.{Part}
 use Rattle.capbits.specs.declared.ids.Ticket.{Ticket}
 use Rattle.locktable.specs.declared.states.StableState.{StableState}
@@ -14,8 +14,8 @@ use Rattle.lockmachine.specs.declared.moves.Move.{Move}
 use Rattle.lockmachine.specs.declared.moves.Move.TheVariants.{Begin, End, Serve, Settled}
 use Rattle.lockmachine.specs.Requests.{part_of_operation, waits_for}
 use Rattle.lockmachine.specs.Locks.{LockMap, lock_at}
-use Rattle.lockmachine.specs.Scene.{Scene, wanted_in_all, target_by}
-use Rattle.lockmachine.specs.Moves.{LockId, lock_ids, is_open, may_end, may_end_in, may_begin, may_begin_in, may_serve, is_servable, present_state, first_move}
+use Rattle.lockmachine.specs.Scene.{Scene, target_by, wanted_in_all}
+use Rattle.lockmachine.specs.Moves.{LockId, first_move, is_open, is_servable, lock_ids, may_begin, may_begin_in, may_end, may_end_in, may_serve, present_state}
 
 -- ---- the first move, by what a search finds
 

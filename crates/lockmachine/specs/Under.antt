@@ -3,14 +3,14 @@ use Rattle.std.specs.Prelude.{Option, Some, None, [], ◌∷◌}
 use Rattle.std.specs.Option.{option_map}
 use Rattle.capbits.specs.declared.cap.Cap.TheVariants.{P}
 use Rattle.capbits.specs.declared.cap.Part.{Part}
-use Rattle.capbits.specs.declared.cap.Part.TheVariants.{A, L, X, F}
+use Rattle.capbits.specs.declared.cap.Part.TheVariants.{A, F, L, X}
 use Rattle.capbits.specs.Caps.{Caps}
-use Rattle.capbits.specs.Sets.{no_caps, caps_in, union, minus}
+use Rattle.capbits.specs.Sets.{caps_in, minus, no_caps, union}
 use Rattle.locktable.specs.declared.states.LockState.{LockState}
-use Rattle.locktable.specs.declared.states.LockState.TheVariants.{Stable, Gather}
+use Rattle.locktable.specs.declared.states.LockState.TheVariants.{Gather, Stable}
 use Rattle.locktable.specs.Rows.{allowed_of}
 use Rattle.captable.specs.declared.entry.EntryRow.{EntryRow}
-use Rattle.onelock.specs.Held.{outside}
+use Rattle.lockmachine.specs.Held.{outside}
 use Rattle.lockmachine.specs.Inodes.{lock_in}
 use Rattle.lockmachine.specs.declared.states.InodeLocks.{InodeLocks}
 

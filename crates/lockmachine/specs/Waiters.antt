@@ -6,7 +6,7 @@ use Rattle.capbits.specs.declared.cap.Part.{Part}
 use Rattle.capbits.specs.declared.ids.Ticket.{Ticket}
 use Rattle.lockmachine.specs.declared.request.Request.{Request}
 use Rattle.lockmachine.specs.declared.waiters.Waiter.{Waiter}
-use Rattle.lockmachine.specs.Requests.{part_place, part_of_operation, head_of_operation}
+use Rattle.lockmachine.specs.Requests.{head_of_operation, part_of_operation, part_place}
 
 -- what is kept of a request
 abbrev pub waiter_of : Request → Waiter

@@ -1,11 +1,12 @@
 -- What clients want of an inode, so far as it counts.
-use Rattle.std.specs.Prelude.{ℕ, Bool, not, List, [], ◌∷◌, Option, Some, None, filter, map as each, if◌then◌else◌}
+use Rattle.std.specs.Prelude.{ℕ, Bool, not, List, [], ◌∷◌, Option, Some, None, filter, if◌then◌else◌}
+use Rattle.std.specs.Prelude.{map as each}
 use Rattle.std.specs.List.{fold}
 use Rattle.capbits.specs.declared.cap.Cap.TheVariants.{P}
 use Rattle.capbits.specs.declared.ids.ClientId.{ClientId}
 use Rattle.capbits.specs.declared.ids.Ino.{Ino}
 use Rattle.capbits.specs.Caps.{Caps}
-use Rattle.capbits.specs.Sets.{no_caps, caps_in, is_empty, union, meet, minus}
+use Rattle.capbits.specs.Sets.{caps_in, is_empty, meet, minus, no_caps, union}
 use Rattle.sessiontab.specs.Table.{SessionTable}
 use Rattle.sessiontab.specs.Calls.{status_of}
 use Rattle.sessiontab.specs.Tests.{is_open}

@@ -14,9 +14,10 @@ ghost use Rattle.lockmachine.specs.declared.moves.Move.{Move};
 ghost use Rattle.lockmachine.specs.declared.moves.Move.TheVariants.{Serve, Settled};
 ghost use Rattle.lockmachine.specs.Inodes.{in_sync};
 ghost use Rattle.lockmachine.specs.Scene.{Scene};
-ghost use Rattle.lockmachine.specs.Locks.{LockMap, IsLockMap, TakesOnly, request_at, requests_of, oldest_of, with_request, without_request, without_requests_of};
-ghost use Rattle.lockmachine.specs.Moves.{first_move, moved, with_moved, IsFirstServed, IsAtRest, WaitAtLocks};
-ghost use Rattle.lockmachine.specs.Runs.{Runs, AreFew, MoveLittle, EndLittle};
+ghost use Rattle.lockmachine.specs.Locks.{IsLockMap, LockMap, TakesOnly, oldest_of, request_at, requests_of, with_request, without_request};
+ghost use Rattle.lockmachine.specs.Locks.{without_requests_of};
+ghost use Rattle.lockmachine.specs.Moves.{IsAtRest, IsFirstServed, WaitAtLocks, first_move, moved, with_moved};
+ghost use Rattle.lockmachine.specs.Runs.{AreFew, EndLittle, MoveLittle, Runs};
 ghost use Rattle.lockmachine.specs.Rows.{IsInRow};
 
 /// Where no move applies, and who waits, waits for a lock that is there, the locks are at rest: each is stable at its

@@ -1,5 +1,6 @@
 //! The locks by inode, the queue, and the moves of both.
-ghost use Rattle.std.specs.Prelude.{◌≡◌, ◌==◌, ◌&&◌, ◌+◌, ◌-◌, ◌<◌, ◌≤◌, ◌^◌, ℕ, IsTrue, Contains, List, None, true, false, length, position, IfOk, IfSome, OnOk, OnErr};
+ghost use Rattle.std.specs.Prelude.{◌≡◌, ◌==◌, ◌&&◌, ◌+◌, ◌-◌, ◌<◌, ◌≤◌, ◌^◌, ℕ, IsTrue, Contains, List, None, true, false, length, position, IfOk, IfSome};
+ghost use Rattle.std.specs.Prelude.{OnOk, OnErr};
 ghost use Rattle.std.specs.List.{find, list_any};
 ghost use Rattle.std.specs.Option.{option_map, option_map_or};
 ghost use Rattle.std.specs.Result.{result_err};
@@ -17,15 +18,17 @@ ghost use Rattle.lockmachine.specs.Inodes.{HaveCounts, is_gathering};
 ghost use Rattle.lockmachine.specs.Locks as words;
 ghost use Rattle.lockmachine.specs.Requests as requests;
 ghost use Rattle.lockmachine.specs.Requests.{waits_for};
-ghost use Rattle.lockmachine.specs.Scene.{wanted_in_all, scene, scene_by, head_in, target_by};
+ghost use Rattle.lockmachine.specs.Scene.{head_in, scene, scene_by, target_by, wanted_in_all};
 ghost use Rattle.lockmachine.specs.Policy.{ArePermitted, ArePermittedOn};
 ghost use Rattle.lockmachine.specs.Waiters as waiting;
 ghost use Rattle.lockmachine.specs.Moves as moves;
-ghost use Rattle.lockmachine.specs.Moves.{LockId, first_move, moved, handed};
-ghost use Rattle.lockmachine.specs.Runs.{MoveLittle, EndLittle, ChangesLocksOf};
+ghost use Rattle.lockmachine.specs.Moves.{LockId, first_move, handed, moved};
+ghost use Rattle.lockmachine.specs.Runs.{ChangesLocksOf, EndLittle, MoveLittle};
 ghost use Rattle.lockmachine.specs.Turns as turns;
-ghost use Rattle.lockmachine.specs.Turns.{IsTurnOf, IsNextAt, IsDue, NobodyElsewhere, Suffices};
+ghost use Rattle.lockmachine.specs.Turns.{IsDue, IsNextAt, IsTurnOf, NobodyElsewhere, Suffices};
 
+use crate::held::{has_outside, holders_outside};
+use crate::lock::{ends_by_count, is_off_target};
 use crate::moves::{Move, Sought, Turn};
 use crate::policy::Policy;
 use crate::request::{Operation, Request};
@@ -37,10 +40,9 @@ use capspec::FsName;
 use captable::{CapTable, Entry, EntryRow};
 use inotree::Tree;
 use locktable::{Head, LockState, StableState, serves, target};
-use onelock::{ends_by_count, has_outside, holders_outside, is_off_target};
 use sessiontab::Sessions;
-use std::alloc::{AllocError, Global};
 use std::fmt;
+use std::alloc::{AllocError, Global};
 use std::marker::Model;
 
 // The parts, in their order.
@@ -69,10 +71,11 @@ impl fmt::Debug for Locks {
 }
 
 impl Model for Locks {
-    ghost use Rattle.std.specs.Prelude.{◌≤◌, map as each, vec_capacity};
+    ghost use Rattle.std.specs.Prelude.{◌≤◌, vec_capacity};
+    ghost use Rattle.std.specs.Prelude.{map as each};
     ghost use Rattle.lockmachine.specs.Counts.{CountedLocks};
-    ghost use Rattle.lockmachine.specs.Locks.{LockMap, IsLockMap};
-    ghost use Rattle.lockmachine.specs.Waiters.{waiter_of, StandAlike};
+    ghost use Rattle.lockmachine.specs.Locks.{IsLockMap, LockMap};
+    ghost use Rattle.lockmachine.specs.Waiters.{StandAlike, waiter_of};
     ghost use Rattle.lockmachine.specs.Codes.{counted_locks_code};
 
     ghost Value = { CountedLocks };

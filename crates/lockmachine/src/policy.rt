@@ -1,8 +1,8 @@
 //! What policy reads, and what the grants of a client say of an access.
 ghost use Rattle.std.specs.Prelude.{◌≡◌, []};
-ghost use Rattle.capgrant.specs.Verdict.{is_allowed, IfDenied};
+ghost use Rattle.capgrant.specs.Verdict.{IfDenied, is_allowed};
 ghost use Rattle.capgrant.specs.declared.answer.Verdict.TheVariants as verdict_kind;
-ghost use Rattle.lockmachine.specs.Policy.{is_granted, failures};
+ghost use Rattle.lockmachine.specs.Policy.{failures, is_granted};
 
 use arrayvec::ArrayVec;
 use capgrant::{Access, Rules, Verdict, verdict};

@@ -82,7 +82,7 @@ impl Drop for Waiters {
 impl Model for Waiters {
     ghost use Rattle.std.specs.Prelude.{◌≤◌, vec_capacity};
     ghost use Rattle.lockmachine.specs.Codes.{waiters_code};
-    ghost use Rattle.lockmachine.specs.Waiters.{WaiterList, AreSorted};
+    ghost use Rattle.lockmachine.specs.Waiters.{AreSorted, WaiterList};
 
     ghost Value = { WaiterList };
 

@@ -8,11 +8,11 @@ ghost use Rattle.lockmachine.specs.Policy.{ArePermittedOn};
 ghost use Rattle.lockmachine.specs.Wants as words;
 
 use crate::policy::Policy;
+use crate::want::wanted_while;
 use capbits::{Cap, CapSet, ClientId, Ino};
 use capspec::FsName;
 use captable::{CapTable, EntryRow};
 use inotree::{Names, Node, Tree};
-use onelock::wanted_while;
 use sessiontab::{Session, Sessions};
 
 /// What the clients with an entry on an inode effectively want of it.

@@ -1,20 +1,20 @@
 -- Caps that two clients may not hold together on one inode, and why the table keeps them apart.
 use Rattle.std.specs.Prelude.{◌≡◌, ◌≢◌, Bool, true, false, IsTrue, IsFalse, ◌||◌, not, refl, if◌then◌else◌, List, [], ◌∷◌, All}
-use Rattle.std.specs.List.{list_any, list_all}
+use Rattle.std.specs.List.{list_all, list_any}
 use Rattle.std.proofs.Common.{◌∙◌, sym, subst, true≢false}
-use Rattle.std.proofs.lemmas.List.Elements.{All-nil, All-cons}
+use Rattle.std.proofs.lemmas.List.Elements.{All-cons, All-nil}
 use Rattle.capbits.specs.declared.cap.Cap.{Cap}
-use Rattle.capbits.specs.declared.cap.Cap.TheVariants.{As, Ax, Ls, Lx, Xs, Xx, Fs, Fx, Fc, Fr, Fw, Fb}
+use Rattle.capbits.specs.declared.cap.Cap.TheVariants.{As, Ax, Fb, Fc, Fr, Fs, Fw, Fx, Ls, Lx, Xs, Xx}
 use Rattle.capbits.specs.declared.cap.Part.{Part}
-use Rattle.capbits.specs.declared.cap.Part.TheVariants.{A, L, X, F}
+use Rattle.capbits.specs.declared.cap.Part.TheVariants.{A, F, L, X}
 use Rattle.capbits.specs.declared.ids.ClientId.{ClientId}
 use Rattle.capbits.specs.Caps.{Caps, has}
-use Rattle.capbits.specs.Sets.{caps_in, no_caps, meet, same_cap, true_eq, all_in, and_parts, IsSubset, has-none, has-meet, has-caps_in}
+use Rattle.capbits.specs.Sets.{IsSubset, all_in, and_parts, caps_in, has-caps_in, has-meet, has-none, meet, no_caps, same_cap, true_eq}
 use Rattle.locktable.specs.declared.states.StableState.{StableState}
-use Rattle.locktable.specs.declared.states.StableState.TheVariants.{Sync, Lock, Mix, Excl}
+use Rattle.locktable.specs.declared.states.StableState.TheVariants.{Excl, Lock, Mix, Sync}
 use Rattle.locktable.specs.declared.states.LockState.{LockState}
-use Rattle.locktable.specs.declared.states.LockState.TheVariants.{Stable, Gather}
-use Rattle.locktable.specs.Rows.{cell_of, is_for, row_of, allowed_of, states_of}
+use Rattle.locktable.specs.declared.states.LockState.TheVariants.{Gather, Stable}
+use Rattle.locktable.specs.Rows.{allowed_of, cell_of, is_for, row_of, states_of}
 
 -- while one client holds this cap, no other may hold these
 abbrev pub barred_by : Cap → List Cap

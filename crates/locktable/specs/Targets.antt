@@ -3,16 +3,16 @@ use Rattle.std.specs.Prelude.{◌==◌, ◌≡◌, ◌≢◌, Bool, true, false,
 use Rattle.std.specs.List.{list_any}
 use Rattle.std.proofs.Common.{sym, true≢false}
 use Rattle.capbits.specs.declared.cap.Cap.{Cap}
-use Rattle.capbits.specs.declared.cap.Cap.TheVariants.{Ax, Lx, Xx, Fx, Fw, Fb}
+use Rattle.capbits.specs.declared.cap.Cap.TheVariants.{Ax, Fb, Fw, Fx, Lx, Xx}
 use Rattle.capbits.specs.declared.cap.Part.{Part}
-use Rattle.capbits.specs.declared.cap.Part.TheVariants.{A, L, X, F}
+use Rattle.capbits.specs.declared.cap.Part.TheVariants.{A, F, L, X}
 use Rattle.capbits.specs.declared.ids.ClientId.{ClientId}
 use Rattle.capbits.specs.Caps.{Caps, has}
 use Rattle.capbits.specs.Sets.{caps_of_part}
 use Rattle.locktable.specs.declared.states.StableState.{StableState}
-use Rattle.locktable.specs.declared.states.StableState.TheVariants.{Sync, Lock, Mix, Excl}
+use Rattle.locktable.specs.declared.states.StableState.TheVariants.{Excl, Lock, Mix, Sync}
 use Rattle.locktable.specs.declared.targets.Head.{Head}
-use Rattle.locktable.specs.declared.targets.Head.TheVariants.{Empty, Change, Read}
+use Rattle.locktable.specs.declared.targets.Head.TheVariants.{Change, Empty, Read}
 
 -- whether a lock that is stable in a state serves the head of its queue
 abbrev pub is_served : StableState → Head → Bool

@@ -1,6 +1,6 @@
 //! Which requests a state serves, and where a lock is to go.
 ghost use Rattle.std.specs.Prelude.{◌≡◌, ◌≢◌, IsTrue};
-ghost use Rattle.locktable.specs.Targets.{is_served, has_any, taking, shared_state, wanted_state, target_of};
+ghost use Rattle.locktable.specs.Targets.{has_any, is_served, shared_state, taking, target_of, wanted_state};
 ghost use Rattle.locktable.specs.declared.targets.Head.TheVariants.{Empty};
 
 use crate::states::StableState;

@@ -2,7 +2,7 @@
 use Rattle.std.proofs.Common.{◌≡◌, ℕ, Bool, true, false, cond, List, Option, Some, None, refl, subst, ◌∙◌}
 use Rattle.std.specs.Cmp.{nat_cmp_total}
 use Rattle.std.specs.FinMap as map
-use Rattle.std.specs.Ordering.{nat_cmp, eq_by_cmp}
+use Rattle.std.specs.Ordering.{eq_by_cmp, nat_cmp}
 use Rattle.capbits.specs.declared.caller.Caller.{Caller}
 use Rattle.capbits.specs.Refusal.{first_failing}
 use Rattle.capspec.specs.declared.grant.Grant.{Grant}
@@ -10,7 +10,7 @@ use Rattle.sessiontab.specs.declared.session.Session.{Session}
 use Rattle.sessiontab.specs.Table.{SessionTable}
 use Rattle.sessiontab.specs.Calls.{has_session, with_session}
 use Rattle.sessiontab.specs.Tests.{new_session_tests}
-use Rattle.sessiontab.proofs.Sound.{same_key, not_connected}
+use Rattle.sessiontab.proofs.Sound.{not_connected, same_key}
 
 module _ (table : SessionTable) (client : ℕ) (caller : Caller) (grants : List Grant) (other : ℕ) where
   by_test : (b : Bool) → eq_by_cmp nat_cmp other client ≡ b → (other ≡ client → ⊥) → (new : Option Session) → cond b new (map.get table.sessions other) ≡ map.get table.sessions other

@@ -1,20 +1,21 @@
 -- Each change of the table keeps it sound.
 use Rattle.std.specs.Prelude.{nat_le}
-use Rattle.std.proofs.Common.{◌≡◌, ℕ, ◌+◌, ◌-◌, ◌<◌, ◌≤◌, Bool, true, false, cond, not, ◌||◌, ◌&&◌, Option, Some, None, is_some, Result, Ok, Err, OnOk, OnErr, refl, sym, ap, subst, ◌∙◌, arith}
-use Rattle.std.specs.Cmp.{nat_cmp_total, Equal-is}
+use Rattle.std.proofs.Common.{◌≡◌, ℕ, ◌+◌, ◌-◌, ◌<◌, ◌≤◌, Bool, true, false, cond, not, ◌||◌, ◌&&◌, Option, Some, None, is_some, Result, Ok, Err, OnOk, OnErr}
+use Rattle.std.proofs.Common.{refl, sym, ap, subst, ◌∙◌, arith}
+use Rattle.std.specs.Cmp.{Equal-is, nat_cmp_total}
 use Rattle.std.specs.FinMap as map
 use Rattle.std.specs.FinSet as set
 use Rattle.std.specs.FinSet.{FinSet}
 use Rattle.std.specs.Option.{option_map_or}
-use Rattle.std.specs.Ordering.{nat_cmp, eq_by_cmp}
+use Rattle.std.specs.Ordering.{eq_by_cmp, nat_cmp}
 use Rattle.sessiontab.specs.declared.session.Session.{Session}
 use Rattle.sessiontab.specs.Connected.{SessionMap, change_session}
-use Rattle.sessiontab.specs.Table.{SessionTable, IsSound}
-use Rattle.capbits.specs.declared.refusal.Refusal.TheVariants.{Blocklisted, SessionOpen, NoSession, Limit}
+use Rattle.sessiontab.specs.Table.{IsSound, SessionTable}
+use Rattle.capbits.specs.declared.refusal.Refusal.TheVariants.{Blocklisted, Limit, NoSession, SessionOpen}
 use Rattle.capbits.specs.Refusal.{first_failing}
 use Rattle.capbits.proofs.Tests.{passed-if}
 use Rattle.sessiontab.specs.Calls.{has_session}
-use Rattle.sessiontab.specs.Tests.{new_session_tests, evict_tests}
+use Rattle.sessiontab.specs.Tests.{evict_tests, new_session_tests}
 use Rattle.std.proofs.lemmas.Bool.Decides.{nat_tests}
 
 pub same_key : (q k : ℕ) → eq_by_cmp nat_cmp q k ≡ true → q ≡ k

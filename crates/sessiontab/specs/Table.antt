@@ -1,6 +1,6 @@
 -- The sessions and the blocklist as one value.
 use Rattle.std.specs.Prelude.{◌≡◌, ℕ, ◌≤◌, None, IsTrue, refl}
-use Rattle.std.specs.Coded.{Coded, code_by, coded×, coded_ℕ}
+use Rattle.std.specs.Coded.{Coded, code_by, coded_ℕ, coded×}
 use Rattle.std.specs.Ordering.{nat_cmp}
 use Rattle.std.specs.FinMap as map
 use Rattle.std.specs.FinSet as set

@@ -6,7 +6,7 @@ use Rattle.capbits.specs.declared.refusal.Refusal.{Refusal}
 use Rattle.capbits.specs.declared.refusal.Refusal.TheVariants as refusal
 use Rattle.capbits.specs.Refusal.{Test, refused_if}
 use Rattle.sessiontab.specs.declared.error.SessionError.{SessionError}
-use Rattle.sessiontab.specs.declared.error.SessionError.TheVariants.{Refused, NoMemory}
+use Rattle.sessiontab.specs.declared.error.SessionError.TheVariants.{NoMemory, Refused}
 use Rattle.sessiontab.specs.declared.session.Status.{Status}
 use Rattle.sessiontab.specs.declared.session.Status.TheVariants.{Open}
 use Rattle.sessiontab.specs.Table.{SessionTable}

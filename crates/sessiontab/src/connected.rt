@@ -8,7 +8,7 @@ ghost use Rattle.sessiontab.specs.Connected.{change_session};
 use crate::session::{Session, Status};
 use capbits::ClientId;
 use capspec::{Grants, KeptGrants};
-use numbered::Numbered;
+use dense_map::Numbered;
 use std::alloc::{AllocError, Global};
 use std::marker::Model;
 

@@ -1,6 +1,6 @@
 //! The table of sessions, with the blocklist.
 ghost use Rattle.std.specs.Prelude.{◌≡◌, ◌≤◌, ◌↔◌, [], ◌∷◌, None, IsTrue, IsOk, IfOk, IfErr, OnOk, OnErr};
-ghost use Rattle.std.specs.Option.{option_map, option_copied};
+ghost use Rattle.std.specs.Option.{option_copied, option_map};
 ghost use Rattle.std.specs.Result.{result_err};
 ghost use Rattle.std.specs.FinMap as map;
 ghost use Rattle.std.specs.FinSet as set;
@@ -30,7 +30,7 @@ pub struct Sessions {
 }
 
 impl Model for Sessions {
-    ghost use Rattle.sessiontab.specs.Table.{SessionTable, table_code, IsSound};
+    ghost use Rattle.sessiontab.specs.Table.{IsSound, SessionTable, table_code};
 
     ghost Value = { SessionTable };
 
@@ -54,8 +54,8 @@ impl Drop for Sessions {
 impl Sessions {
     ghost use Rattle.sessiontab.specs.Table.{IsSound};
     ghost use Rattle.capbits.specs.Refusal.{first_failing};
-    ghost use Rattle.sessiontab.specs.Calls.{status_of, with_session, without_session, with_status, with_grants, with_evicted, without_blocked, has_session};
-    ghost use Rattle.sessiontab.specs.Tests.{connected_test, session_tests, stale_tests, mark_tests, new_session_tests, evict_tests, blocked_test, refusal_in};
+    ghost use Rattle.sessiontab.specs.Calls.{has_session, status_of, with_evicted, with_grants, with_session, with_status, without_blocked, without_session};
+    ghost use Rattle.sessiontab.specs.Tests.{blocked_test, connected_test, evict_tests, mark_tests, new_session_tests, refusal_in, session_tests, stale_tests};
     ghost use Rattle.sessiontab.specs.declared.session.Status.TheVariants.{Open, Stale};
 
     /// Nobody is connected, and nobody was thrown out.

@@ -1,12 +1,13 @@
 -- How far a text is that of a set.
 use Rattle.std.specs.Prelude.{◌≡◌, ◌==◌, ◌<◌, ◌≤◌, ℕ, List, [], ◌∷◌, ◌++◌, take, codes, refl}
-use Rattle.std.proofs.Common.{arith, lit≤, ap, subst, sym, true≢false}
-use Rattle.capbits.specs.declared.cap.Cap.TheVariants.{P, Fs, Fx, Fc, Fr, Fw, Fb, Fa, Fl}
-use Rattle.capbits.specs.declared.cap.Part.TheVariants.{A, L, X, F}
+use Rattle.std.proofs.Common.{ap, arith, lit≤, subst, sym, true≢false}
+use Rattle.capbits.specs.declared.cap.Cap.TheVariants.{Fa, Fb, Fc, Fl, Fr, Fs, Fw, Fx, P}
+use Rattle.capbits.specs.declared.cap.Part.TheVariants.{A, F, L, X}
 use Rattle.capbits.specs.Caps.{Caps}
 use Rattle.capbits.specs.Sets.{caps_in, caps_of_part, no_caps}
 use Rattle.capbits.specs.Text.{BeginsText, IsLongestBeginning, text_of}
-use Rattle.capbits.proofs.Following.{apart_caps, apart_parts, apart_parts_behind, behind_capital, behind_letter, first_rest, letters_of, letters_of_text, no_letter, rest_of}
+use Rattle.capbits.proofs.Following.{apart_caps, apart_parts, apart_parts_behind, behind_capital, behind_letter, first_rest, letters_of, letters_of_text}
+use Rattle.capbits.proofs.Following.{no_letter, rest_of}
 use Rattle.worked_cases.proofs.Unfolded.{sets}
 
 -- behind the letter c of the file's caps comes no s

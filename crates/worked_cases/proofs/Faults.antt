@@ -1,21 +1,23 @@
 -- The first fault of a text, derived test by test.
-use Rattle.std.specs.Prelude.{◌≡◌, ◌<◌, ◌-◌, ◌==◌, ℕ, zero, suc, ◌+◌, Bool, true, false, ◌||◌, None, Ok, Err, List, [], ◌∷◌, ◌++◌, length, get_or, codes, bytes_eq, refl, IsTrue, IsFalse}
+use Rattle.std.specs.Prelude.{◌≡◌, ◌<◌, ◌-◌, ◌==◌, ℕ, zero, suc, ◌+◌, Bool, true, false, ◌||◌, None, Ok, Err, List, [], ◌∷◌, ◌++◌, length, get_or, codes}
+use Rattle.std.specs.Prelude.{bytes_eq, refl, IsTrue, IsFalse}
 use Rattle.std.specs.List.{list_all, list_any}
 use Rattle.std.proofs.Common.{arith, inl, inr, lit<, lit≤, ap, sym, ◌∙◌, true≢false}
-use Rattle.capwords.specs.declared.flags.Flags4.{Flags4}
-use Rattle.capwords.specs.declared.flags.Flags4.TheVariants.{R, Rw, Rwp, Rws, Rwps}
-use Rattle.capwords.specs.Flags.{IsFlags}
+use Rattle.capspec.specs.declared.flags.Flags4.{Flags4}
+use Rattle.capspec.specs.declared.flags.Flags4.TheVariants.{R, Rw, Rwp, Rwps, Rws}
+use Rattle.capspec.specs.Flags.{IsFlags}
 use Rattle.capspec.specs.declared.fault.SpecFaultKind.{SpecFaultKind}
 use Rattle.capspec.specs.declared.fault.SpecFaultKind.TheVariants as kinds
 use Rattle.capspec.specs.declared.grant.Grant.{Grant}
-use Rattle.capspec.specs.Bytes.{is_white, is_bare_path_byte}
-use Rattle.capspec.specs.Faults.{IsFault, ItemsGive, grant_ends, wrong_item, next_item, GrantGives, wrong_first, wrong_second, wrong_items, right_grant, GrantsGive, wrong_grant, next_grant, fault_at, stood}
+use Rattle.capspec.specs.Bytes.{is_bare_path_byte, is_white}
+use Rattle.capspec.specs.Faults.{GrantGives, GrantsGive, IsFault, ItemsGive, fault_at, grant_ends, next_grant, next_item, right_grant, stood, wrong_first}
+use Rattle.capspec.specs.Faults.{wrong_grant, wrong_item, wrong_items, wrong_second}
 use Rattle.capspec.specs.Grants.{AreItemsOf}
-use Rattle.capspec.specs.Items.{Item, IsNumber, IsPlainOrQuoted, IsValue, key_of, key_text}
-use Rattle.capspec.specs.Items.Item.{FsName, Path, Uid, Gids, RootSquash}
+use Rattle.capspec.specs.Items.{IsNumber, IsPlainOrQuoted, IsValue, Item, key_of, key_text}
+use Rattle.capspec.specs.Items.Item.{FsName, Gids, Path, RootSquash, Uid}
 use Rattle.capspec.specs.Words.{BeginsWithItem, IsKeyed, IsWrongItem, IsWrongOther, plain_word}
 use Rattle.capspec.proofs.Drafting.{no_key}
-use Rattle.worked_cases.specs.GrantTexts.{fault, behind_others}
+use Rattle.worked_cases.specs.GrantTexts.{behind_others, fault}
 use Rattle.worked_cases.specs.Verdicts.{allow}
 
 -- ---- what is not so

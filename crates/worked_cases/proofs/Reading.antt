@@ -1,11 +1,11 @@
 -- Texts that read, taken apart.
 use Rattle.std.specs.Prelude.{◌≡◌, ℕ, Bool, true, false, Option, Some, List, [], ◌∷◌, codes, refl}
-use Rattle.std.proofs.Common.{inl, inr, lit<, lit≤, ap, sym, true≢false}
-use Rattle.capwords.specs.declared.flags.Flags4.TheVariants.{R, Rw, Rwps}
+use Rattle.std.proofs.Common.{ap, inl, inr, lit<, lit≤, sym, true≢false}
+use Rattle.capspec.specs.declared.flags.Flags4.TheVariants.{R, Rw, Rwps}
 use Rattle.capspec.specs.declared.grant.Grant.{Grant}
 use Rattle.capspec.specs.Grants.{AreWordsOf, IsGrant, Reads}
 use Rattle.capspec.specs.Items.{IsNumber}
-use Rattle.capspec.specs.Items.Item.{Uid, Gids}
+use Rattle.capspec.specs.Items.Item.{Gids, Uid}
 use Rattle.worked_cases.proofs.Faults.{one_is, right_items}
 use Rattle.worked_cases.specs.Verdicts.{allow}
 

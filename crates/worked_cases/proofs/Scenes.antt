@@ -1,9 +1,11 @@
 -- What the maps of the scenes answer.
 use Rattle.std.specs.Prelude.{◌≡◌, Some, List, [], ◌∷◌, length, refl}
-use Rattle.std.specs.{Cmp.{nat_cmp_total}, FinMap.{get-insert, entries-insert, len-entries, len-empty}, Ordering.{nat_cmp}}
+use Rattle.std.specs.Cmp.{nat_cmp_total}
+use Rattle.std.specs.FinMap.{entries-insert, get-insert, len-empty, len-entries}
+use Rattle.std.specs.Ordering.{nat_cmp}
 use Rattle.std.specs.FinMap as map
 use Rattle.std.proofs.Common.{arith, ap, sym, ◌∙◌}
-use Rattle.worked_cases.specs.Scenes.{two_at, three_at}
+use Rattle.worked_cases.specs.Scenes.{three_at, two_at}
 
 pub two-first : {X : Type 0} (a b : X) → map.get (two_at a b) 1 ≡ Some a
 two-first a b = get-insert nat_cmp_total _ 2 b 1 ∙ get-insert nat_cmp_total _ 1 a 1

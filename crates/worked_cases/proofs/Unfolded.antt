@@ -5,7 +5,8 @@ use Rattle.capbits.specs.Sets.{caps_in, is_empty, meet, minus, no_caps, of_part,
 use Rattle.capbits.specs.Text.{group_of, groups_in, letters_in, text_of}
 use Rattle.locktable.specs.Rows.{allowed_of, row_of}
 use Rattle.locktable.specs.Targets.{target_of}
-use Rattle.capgrant.specs.Failing.{fails_fsname, fails_gids, fails_mode_bits, fails_no_p, fails_no_s, fails_no_write, fails_not_own_group, fails_not_owner, fails_path, fails_root_squash, fails_uid, first_failing}
+use Rattle.capgrant.specs.Failing.{fails_fsname, fails_gids, fails_mode_bits, fails_no_p, fails_no_s, fails_no_write, fails_not_own_group, fails_not_owner}
+use Rattle.capgrant.specs.Failing.{fails_path, fails_root_squash, fails_uid, first_failing}
 use Rattle.capgrant.specs.Permitted.{permitted_of}
 use Rattle.capgrant.specs.Question.{listed_gids}
 use Rattle.capgrant.specs.Verdict.{verdict_of}

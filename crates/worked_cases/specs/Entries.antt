@@ -1,9 +1,18 @@
 -- One file, and two clients with an entry on it.
 use Rattle.std.specs.Prelude.{ℕ, false, Option, Some, List, [], ◌∷◌, length}
-use Rattle.capbits.specs.{Caps.{Caps}, Refusal.{first_failing}, Sets.{caps_in}, declared.cap.Cap.TheVariants.{P, Fs, Fx, Fc, Fr, Fw, Fb}, declared.ids.Ino.{Ino}, declared.refusal.Refusal.{Refusal}}
+use Rattle.capbits.specs.Caps.{Caps}
+use Rattle.capbits.specs.Refusal.{first_failing}
+use Rattle.capbits.specs.Sets.{caps_in}
+use Rattle.capbits.specs.declared.cap.Cap.TheVariants.{Fb, Fc, Fr, Fs, Fw, Fx, P}
+use Rattle.capbits.specs.declared.ids.Ino.{Ino}
+use Rattle.capbits.specs.declared.refusal.Refusal.{Refusal}
 use Rattle.locktable.specs.declared.states.LockState.{LockState}
-use Rattle.captable.specs.{Table.{Table, holder, holders_of_rows}, Tests.{ack_tests}, declared.entry.Entry.{Entry}, declared.entry.EntryRow.{EntryRow}}
-use Rattle.lockmachine.specs.{Inodes.{in_sync}, declared.states.InodeLocks.{InodeLocks}}
+use Rattle.captable.specs.Table.{Table, holder, holders_of_rows}
+use Rattle.captable.specs.Tests.{ack_tests}
+use Rattle.captable.specs.declared.entry.Entry.{Entry}
+use Rattle.captable.specs.declared.entry.EntryRow.{EntryRow}
+use Rattle.lockmachine.specs.Inodes.{in_sync}
+use Rattle.lockmachine.specs.declared.states.InodeLocks.{InodeLocks}
 use Rattle.worked_cases.specs.Clients.{first, second}
 
 abbrev pub file : Ino

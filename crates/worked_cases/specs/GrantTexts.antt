@@ -1,6 +1,7 @@
 -- Texts of grants, and what is wrong with them.
 use Rattle.std.specs.Prelude.{ℕ, zero, suc, List, ◌++◌, codes}
-use Rattle.capspec.specs.declared.{fault.SpecFault.{SpecFault}, fault.SpecFaultKind.{SpecFaultKind}}
+use Rattle.capspec.specs.declared.fault.SpecFault.{SpecFault}
+use Rattle.capspec.specs.declared.fault.SpecFaultKind.{SpecFaultKind}
 
 -- a fault at a byte
 abbrev pub fault : SpecFaultKind → ℕ → SpecFault

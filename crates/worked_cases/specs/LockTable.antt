@@ -1,8 +1,14 @@
 -- Questions to the table of the locks.
 use Rattle.std.specs.Prelude.{ℕ, List, [], ◌∷◌, map}
-use Rattle.capbits.specs.{Text.{text_of}, declared.cap.Part.{Part}, declared.cap.Part.TheVariants.{A, L, X, F}, declared.ids.ClientId.{ClientId}}
-use Rattle.locktable.specs.{Rows.{row_of, allowed_of}, declared.states.LockState.{LockState}, declared.states.StableState.{StableState}}
-use Rattle.lockmachine.specs.{Scene.{target_by}, Wants.{Want, in_all}}
+use Rattle.capbits.specs.Text.{text_of}
+use Rattle.capbits.specs.declared.cap.Part.{Part}
+use Rattle.capbits.specs.declared.cap.Part.TheVariants.{A, F, L, X}
+use Rattle.capbits.specs.declared.ids.ClientId.{ClientId}
+use Rattle.locktable.specs.Rows.{allowed_of, row_of}
+use Rattle.locktable.specs.declared.states.LockState.{LockState}
+use Rattle.locktable.specs.declared.states.StableState.{StableState}
+use Rattle.lockmachine.specs.Scene.{target_by}
+use Rattle.lockmachine.specs.Wants.{Want, in_all}
 
 abbrev pub parts : List Part
 parts = A ∷ L ∷ X ∷ F ∷ []

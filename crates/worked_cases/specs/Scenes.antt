@@ -1,17 +1,34 @@
 -- Whole scenes: two clients with a file in the root, and a third client that asks to change the mode of a file that is moved meanwhile.
 use Rattle.std.specs.Prelude.{ℕ, List, [], ◌∷◌, codes}
-use Rattle.std.specs.{FinMap.{FinMap}, Ordering.{nat_cmp}}
+use Rattle.std.specs.FinMap.{FinMap}
+use Rattle.std.specs.Ordering.{nat_cmp}
 use Rattle.std.specs.FinMap as map
 use Rattle.std.specs.FinSet as set
-use Rattle.capbits.specs.{Caps.{Caps}, Sets.{caps_in, no_caps}, declared.cap.Cap.TheVariants.{P, As, Fs, Fc, Fr}, declared.ids.ClientId.{ClientId}, declared.ids.Ino.{Ino}}
-use Rattle.capwords.specs.declared.flags.Flags4.TheVariants.{Rw}
+use Rattle.capbits.specs.Caps.{Caps}
+use Rattle.capbits.specs.Sets.{caps_in, no_caps}
+use Rattle.capbits.specs.declared.cap.Cap.TheVariants.{As, Fc, Fr, Fs, P}
+use Rattle.capbits.specs.declared.ids.ClientId.{ClientId}
+use Rattle.capbits.specs.declared.ids.Ino.{Ino}
+use Rattle.capspec.specs.declared.flags.Flags4.TheVariants.{Rw}
 use Rattle.capspec.specs.declared.grant.Grant.{Grant}
-use Rattle.inotree.specs.{Calls.{first_tree, with_new, moved}, Tree.{Nodes}, declared.node.Kind.TheVariants.{Directory, File}, declared.node.Setting.TheVariants.{Mode}}
-use Rattle.sessiontab.specs.{Table.{SessionTable}, declared.session.Session.{Session}, declared.session.Status.TheVariants.{Open}}
-use Rattle.captable.specs.{Table.{holder}, declared.entry.EntryRow.{EntryRow}}
+use Rattle.inotree.specs.Calls.{first_tree, moved, with_new}
+use Rattle.inotree.specs.Tree.{Nodes}
+use Rattle.inotree.specs.declared.node.Kind.TheVariants.{Directory, File}
+use Rattle.inotree.specs.declared.node.Setting.TheVariants.{Mode}
+use Rattle.sessiontab.specs.Table.{SessionTable}
+use Rattle.sessiontab.specs.declared.session.Session.{Session}
+use Rattle.sessiontab.specs.declared.session.Status.TheVariants.{Open}
+use Rattle.captable.specs.Table.{holder}
+use Rattle.captable.specs.declared.entry.EntryRow.{EntryRow}
 use Rattle.locktable.specs.declared.states.LockState.{LockState}
-use Rattle.lockmachine.specs.{Inodes.{in_sync}, declared.request.Change.TheVariants.{Set}, declared.request.Operation.TheVariants.{Alter}, declared.request.Request.{Request}, Scene.{Scene}}
-use Rattle.worked_cases.specs.{Clients.{third}, Entries.{all, entry, mixed, of_first, of_second, pin, reading, table}, Verdicts.{allow, caller, owned}}
+use Rattle.lockmachine.specs.Inodes.{in_sync}
+use Rattle.lockmachine.specs.declared.request.Change.TheVariants.{Set}
+use Rattle.lockmachine.specs.declared.request.Operation.TheVariants.{Alter}
+use Rattle.lockmachine.specs.declared.request.Request.{Request}
+use Rattle.lockmachine.specs.Scene.{Scene}
+use Rattle.worked_cases.specs.Clients.{third}
+use Rattle.worked_cases.specs.Entries.{all, entry, mixed, of_first, of_second, pin, reading, table}
+use Rattle.worked_cases.specs.Verdicts.{allow, caller, owned}
 
 -- the values of two and of three keys, which are 1, 2 and 3
 abbrev pub two_at : {X : Type 0} → X → X → FinMap nat_cmp X

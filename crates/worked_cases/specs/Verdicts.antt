@@ -1,10 +1,13 @@
 -- Grants, and questions to them.
 use Rattle.std.specs.Prelude.{ℕ, false, List, [], None, codes}
 use Rattle.capbits.specs.declared.caller.Caller.{Caller}
-use Rattle.capwords.specs.declared.flags.Flags4.{Flags4}
+use Rattle.capspec.specs.declared.flags.Flags4.{Flags4}
 use Rattle.capspec.specs.declared.grant.Grant.{Grant}
-use Rattle.capgrant.specs.declared.{access.Access.{Access}, access.Attr.{Attr}, answer.Verdict.{Verdict}}
-use Rattle.capgrant.specs.{Question.{question}, Verdict.{verdict_of}}
+use Rattle.capgrant.specs.declared.access.Access.{Access}
+use Rattle.capgrant.specs.declared.access.Attr.{Attr}
+use Rattle.capgrant.specs.declared.answer.Verdict.{Verdict}
+use Rattle.capgrant.specs.Question.{question}
+use Rattle.capgrant.specs.Verdict.{verdict_of}
 
 -- `allow`, these flags and no item
 abbrev pub allow : Flags4 → Grant

@@ -2,7 +2,7 @@
 #![tactic(auto, unfolding(crate::proofs::Unfolded::sets))]
 
 ghost use Rattle.std.specs.Prelude.{◌≡◌, [], ◌∷◌, codes};
-ghost use Rattle.capbits.specs.declared.cap.Cap.TheVariants.{P, As, Ax, Ls, Xs, Xx, Fs, Fx, Fc, Fr, Fw, Fb};
+ghost use Rattle.capbits.specs.declared.cap.Cap.TheVariants.{As, Ax, Fb, Fc, Fr, Fs, Fw, Fx, Ls, P, Xs, Xx};
 ghost use Rattle.capbits.specs.Caps.{all_caps, bits_of, caps_of};
 ghost use Rattle.capbits.specs.Sets.{caps_in, no_caps};
 ghost use Rattle.capbits.specs.Text.{IsLongestBeginning, text_of};

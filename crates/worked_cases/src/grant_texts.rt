@@ -2,11 +2,12 @@
 #![tactic(auto)]
 
 ghost use Rattle.std.specs.Prelude.{◌≡◌, [], ◌∷◌, codes, Some};
-ghost use Rattle.capspec.specs.declared.fault.SpecFaultKind.TheVariants.{BadFlags, BadItem, BadNumber, BadPath, Empty, GidsWithoutUid, LeftOut, NotAllow, OpenQuote, TooMany, Twice};
+ghost use Rattle.capspec.specs.declared.fault.SpecFaultKind.TheVariants.{BadFlags, BadItem, BadNumber, BadPath, Empty, GidsWithoutUid, LeftOut, NotAllow};
+ghost use Rattle.capspec.specs.declared.fault.SpecFaultKind.TheVariants.{OpenQuote, TooMany, Twice};
 ghost use Rattle.capspec.specs.Faults.{IsFault};
 ghost use Rattle.capspec.specs.Grants.{Reads};
 ghost use Rattle.capspec.specs.Written.{written};
-ghost use Rattle.capwords.specs.declared.flags.Flags4.TheVariants.{R, Rw, Rwps};
+ghost use Rattle.capspec.specs.declared.flags.Flags4.TheVariants.{R, Rw, Rwps};
 ghost use Rattle.worked_cases.specs.GrantTexts.{behind_others, fault};
 ghost use Rattle.worked_cases.specs.Verdicts.{allow};
 

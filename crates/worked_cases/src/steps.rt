@@ -8,17 +8,18 @@ ghost use Rattle.capgrant.specs.declared.access.Access.TheVariants.{Chmod};
 ghost use Rattle.capgrant.specs.declared.rule.Rule.TheVariants.{Path};
 ghost use Rattle.captable.specs.Calls.{acked};
 ghost use Rattle.captable.specs.Table.{holder};
-ghost use Rattle.locktable.specs.declared.states.StableState.TheVariants.{Sync, Lock, Mix, Excl};
-ghost use Rattle.locktable.specs.declared.states.LockState.TheVariants.{Stable, Gather};
+ghost use Rattle.locktable.specs.declared.states.StableState.TheVariants.{Excl, Lock, Mix, Sync};
+ghost use Rattle.locktable.specs.declared.states.LockState.TheVariants.{Gather, Stable};
 ghost use Rattle.lockmachine.specs.Moves.{first_move};
 ghost use Rattle.lockmachine.specs.Scene.{against, told_set};
 ghost use Rattle.lockmachine.specs.declared.moves.Move.TheVariants.{Begin, End, Serve, Settled};
-ghost use Rattle.caprules.specs.Finish.{due};
-ghost use Rattle.caprules.specs.Serving.{judged_again};
-ghost use Rattle.caprules.specs.declared.rejection.Rejection.TheVariants.{ByPolicy};
+ghost use Rattle.step_model.specs.Finish.{due};
+ghost use Rattle.step_model.specs.Serving.{judged_again};
+ghost use Rattle.step_model.specs.declared.rejection.Rejection.TheVariants.{ByPolicy};
 ghost use Rattle.worked_cases.specs.Clients.{first, second};
 ghost use Rattle.worked_cases.specs.Entries.{file, reading, table};
-ghost use Rattle.worked_cases.specs.Scenes.{all_granted, asked, attributes, chmod, holds_all, holds_mixed, holds_pin, in_a, inner, moved_up, opens, shared, shares};
+ghost use Rattle.worked_cases.specs.Scenes.{all_granted, asked, attributes, chmod, holds_all, holds_mixed, holds_pin, in_a, inner, moved_up, opens, shared};
+ghost use Rattle.worked_cases.specs.Scenes.{shares};
 
 /// The first client has the file to itself, and the second opens it to read. The lock of its data gathers for MIX until the first
 /// has acknowledged what it loses; then both are due what they want and MIX allows.

@@ -2,7 +2,7 @@
 #![tactic(auto, unfolding(crate::proofs::Unfolded::rules))]
 
 ghost use Rattle.std.specs.Prelude.{◌≡◌, [], ◌∷◌, codes, Some, true};
-ghost use Rattle.capwords.specs.declared.flags.Flags4.TheVariants.{R, Rw, Rwp, Rws};
+ghost use Rattle.capspec.specs.declared.flags.Flags4.TheVariants.{R, Rw, Rwp, Rws};
 ghost use Rattle.capgrant.specs.declared.access.Access.TheVariants as access;
 ghost use Rattle.capgrant.specs.declared.answer.Verdict.TheVariants.{Allowed, Denied};
 ghost use Rattle.capgrant.specs.declared.rule.Rule.TheVariants as rule;

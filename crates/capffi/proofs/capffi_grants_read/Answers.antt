@@ -1,5 +1,5 @@
-use Rattle.std.proofs.Common.{refl, arith}
-use Rattle.std.specs.Prelude.{Ok, Err}
+use Rattle.std.proofs.Common.{arith, refl}
+use Rattle.std.specs.Prelude.{Err, Ok}
 use Rattle.capffi.proofs.Filled.{as_many, filled}
 use Rattle.capffi.proofs.capffi_grants_read.Goals as goal
 

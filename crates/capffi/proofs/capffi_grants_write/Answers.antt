@@ -1,5 +1,5 @@
 use Rattle.std.proofs.Common.{refl}
-use Rattle.std.specs.Prelude.{Ok, Err}
+use Rattle.std.specs.Prelude.{Err, Ok}
 use Rattle.capffi.proofs.capffi_grants_write.Goals as goal
 
 pub returns-in-Ok : goal.returns-in-Ok

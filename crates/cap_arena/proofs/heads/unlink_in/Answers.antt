@@ -1,9 +1,9 @@
 use Rattle.std.proofs.Common.{◌≡◌, true, false, not, cond, is_some, sym, ap, ◌∙◌, nat_eq}
 use Rattle.std.specs.FinMap as map
 use Rattle.cap_arena.specs.declared.nodes.Ends.{Ends}
-use Rattle.cap_arena.specs.Heads.{ends_or_none, ends_at, kept}
+use Rattle.cap_arena.specs.Heads.{ends_at, ends_or_none, kept}
 use Rattle.cap_arena.specs.Places.{unlinked_ends}
-use Rattle.cap_arena.proofs.HeadMaps.{get-kept, get-gone}
+use Rattle.cap_arena.proofs.HeadMaps.{get-gone, get-kept}
 use Rattle.cap_arena.proofs.heads.unlink_in.Goals as goal
 
 pub returns-then-is_none-clause-heads : goal.returns-then-is_none-clause-heads

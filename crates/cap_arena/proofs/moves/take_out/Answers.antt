@@ -1,5 +1,5 @@
 use Rattle.std.proofs.Common.{ap}
-use Rattle.cap_arena.proofs.Removals.{removed, fewer_left, inode_has_ends, client_has_ends}
+use Rattle.cap_arena.proofs.Removals.{client_has_ends, fewer_left, inode_has_ends, removed}
 use Rattle.cap_arena.proofs.moves.take_out.Goals as goal
 
 pub unlink_in-requires : goal.unlink_in-requires

@@ -1,6 +1,6 @@
 use Rattle.std.proofs.Common.{◌≡◌, [], ap, length, arith, ◌∙◌}
 use Rattle.std.proofs.lemmas.Grind.{common_steps}
-use Rattle.capbits.proofs.Spelling.{all_groups, text_of-some, text_of-none}
+use Rattle.capbits.proofs.Spelling.{all_groups, text_of-none, text_of-some}
 use Rattle.capbits.proofs.text.spell.Goals as goal
 
 pub returns-then-is_empty : goal.returns-then-is_empty

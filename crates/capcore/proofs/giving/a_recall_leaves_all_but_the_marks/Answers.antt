@@ -1,4 +1,4 @@
-use Rattle.capcore.proofs.Recalled.{recalled-sound, recalled-finished}
+use Rattle.capcore.proofs.Recalled.{recalled-finished, recalled-sound}
 use Rattle.capcore.proofs.giving.a_recall_leaves_all_but_the_marks.Goals as goal
 
 pub returns-clause-sound : goal.returns-clause-sound

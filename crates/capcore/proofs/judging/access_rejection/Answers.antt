@@ -1,6 +1,6 @@
 use Rattle.std.proofs.Common.{[], ◌∷◌, None, sym, ap, ◌∙◌}
-use Rattle.capsteps.proofs.Capacts.Again.{denial-rejection}
-use Rattle.capcore.proofs.Common.{basic_tests, first_denied, need, rejection-before, rejection_by, plain, Scene}
+use Rattle.capstep.proofs.Again.{denial-rejection}
+use Rattle.capcore.proofs.Common.{Scene, basic_tests, first_denied, need, plain, rejection-before, rejection_by}
 use Rattle.capcore.proofs.judging.access_rejection.Goals as goal
 
 pub returns-in-Some : goal.returns-in-Some

@@ -1,7 +1,7 @@
 use Rattle.std.proofs.Common.{refl, sym, ap, ◌∙◌}
 use Rattle.captable.specs.Tests.{ack_tests}
-use Rattle.capsteps.specs.Caprules.Judge.{connected_tests}
-use Rattle.capcore.proofs.Common.{before, entry_event, EntryRequest, first_failing, passed-front, revoked_of, plain, Scene}
+use Rattle.step_model.specs.Judge.{connected_tests}
+use Rattle.capcore.proofs.Common.{EntryRequest, Scene, before, entry_event, first_failing, passed-front, plain, revoked_of}
 use Rattle.capcore.proofs.judging.entry_refusal.Goals as goal
 
 pub returns-in-None-connected_refusal : goal.returns-in-None-connected_refusal

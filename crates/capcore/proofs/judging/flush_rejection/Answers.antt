@@ -1,6 +1,9 @@
-use Rattle.std.{proofs.Common.{◌≡◌, [], ◌∷◌, sym, ap, ◌∙◌}, specs.Option.{option_map}}
-use Rattle.capsteps.specs.Capevents.declared.event.Event.TheVariants.{Flush}
-use Rattle.capcore.proofs.{Common.{Access, after, basic_tests, before, ByTest, Cap, Caps, caps_in, change_tests, Event, exclusive, failing-front, first_failing, need, needs, part_of_change, passed, passed-front, rejection, rejection_of, release_tests, plain, Scene}, judging.flush_rejection.Goals.{After-access_rejection, After-release_refusal, in-A, in-L, in-X, in-F}}
+use Rattle.std.proofs.Common.{◌≡◌, [], ◌∷◌, sym, ap, ◌∙◌}
+use Rattle.std.specs.Option.{option_map}
+use Rattle.step_model.specs.declared.event.Event.TheVariants.{Flush}
+use Rattle.capcore.proofs.Common.{Access, ByTest, Cap, Caps, Event, Scene, after, basic_tests, before, caps_in, change_tests, exclusive, failing-front}
+use Rattle.capcore.proofs.Common.{first_failing, need, needs, part_of_change, passed, passed-front, plain, rejection, rejection_of, release_tests}
+use Rattle.capcore.proofs.judging.flush_rejection.Goals.{After-access_rejection, After-release_refusal, in-A, in-F, in-L, in-X}
 use Rattle.capcore.proofs.judging.flush_rejection.Goals as goal
 
 -- what the session, the inode and the grants reject

@@ -1,5 +1,11 @@
-use Rattle.std.{proofs.Common.{sym, ap, ◌∙◌}, specs.Option.{option_map}}
-use Rattle.capcore.{proofs.Common.{ByTest, Holder, judged, Operation, operation_after, operation_before, operation_needs, operation_of, queue_tests, plain, Scene, session_tests}, proofs.LockRequests.{operation-for, enqueuing-rejection}, proofs.Rejections.{rejection-within, rejection-behind}, specs.UnderWay.{operation_event, event_of}, specs.declared.parts.MovingEvent.{MovingEvent}}
+use Rattle.std.proofs.Common.{sym, ap, ◌∙◌}
+use Rattle.std.specs.Option.{option_map}
+use Rattle.capcore.proofs.Common.{ByTest, Holder, Operation, Scene, judged, operation_after, operation_before, operation_needs, operation_of, plain}
+use Rattle.capcore.proofs.Common.{queue_tests, session_tests}
+use Rattle.capcore.proofs.LockRequests.{enqueuing-rejection, operation-for}
+use Rattle.capcore.proofs.Rejections.{rejection-behind, rejection-within}
+use Rattle.capcore.specs.UnderWay.{event_of, operation_event}
+use Rattle.capcore.specs.declared.parts.MovingEvent.{MovingEvent}
 use Rattle.capcore.proofs.judging.rejection.Goals as goal
 
 -- the tests before it is judged, and the one behind

@@ -1,4 +1,4 @@
-use Rattle.capcore.proofs.Determined.{rows-once, opening-order}
+use Rattle.capcore.proofs.Determined.{opening-order, rows-once}
 use Rattle.capcore.proofs.laws.rows_fix_the_state.Goals as goal
 
 pub returns-clause-opening : goal.returns-clause-opening

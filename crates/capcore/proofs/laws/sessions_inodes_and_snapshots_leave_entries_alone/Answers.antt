@@ -1,4 +1,4 @@
-use Rattle.capcore.proofs.Unaffected.{session-leaves, unblocked-leaves, changed-leaves, birth-leaves}
+use Rattle.capcore.proofs.Unaffected.{birth-leaves, changed-leaves, session-leaves, unblocked-leaves}
 use Rattle.capcore.proofs.laws.sessions_inodes_and_snapshots_leave_entries_alone.Goals as goal
 
 pub returns-clause-session : goal.returns-clause-session

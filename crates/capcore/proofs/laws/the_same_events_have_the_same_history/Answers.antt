@@ -1,5 +1,5 @@
 use Rattle.std.proofs.Common.{[]}
-use Rattle.capcore.proofs.Determined.{same-ends, same-rows, opening-order}
+use Rattle.capcore.proofs.Determined.{opening-order, same-ends, same-rows}
 use Rattle.capcore.proofs.laws.the_same_events_have_the_same_history.Goals as goal
 
 pub returns-clause-ends : goal.returns-clause-ends

@@ -1,6 +1,11 @@
-use Rattle.std.{proofs.Common.{rules, tests, ◌≡◌, Some, unwrap_or, sym, ap, ◌∙◌}, proofs.lemmas.Iterator.{YieldsList-from_slice}, proofs.lemmas.Iterator.Search.{position_from_yields_List}, specs.List.{find, position}}
-use Rattle.capsteps.proofs.{Capnotes.Taking.{taken, none_taken}, Lockmachine.Positions.{no_position}}
-use Rattle.capcore.proofs.{Common.{awaited_as, but_for, is_of_ticket, outcome_reply, Reply}, moving.awaited.Goals.{After-position, After-into_reply}}
+use Rattle.std.proofs.Common.{rules, tests, ◌≡◌, Some, unwrap_or, sym, ap, ◌∙◌}
+use Rattle.std.proofs.lemmas.Iterator.{YieldsList-from_slice}
+use Rattle.std.proofs.lemmas.Iterator.Search.{position_from_yields_List}
+use Rattle.std.specs.List.{find, position}
+use Rattle.step_model.proofs.Taking.{none_taken, taken}
+use Rattle.lockmachine.proofs.Positions.{no_position}
+use Rattle.capcore.proofs.Common.{Reply, awaited_as, but_for, is_of_ticket, outcome_reply}
+use Rattle.capcore.proofs.moving.awaited.Goals.{After-into_reply, After-position}
 use Rattle.capcore.proofs.moving.awaited.Goals as goal
 
 placed : (c : After-position) → c.position.result ≡ position (is_of_ticket c.args.ticket) c.args.due.now.items

@@ -1,6 +1,7 @@
 use Rattle.std.proofs.Common.{◌≡◌, ◌==◌, ◌&&◌, is_some, true, false, Some, refl, ap, ◌∙◌}
-use Rattle.capsteps.specs.Capacts.Renewing.{has_entry}
-use Rattle.capcore.proofs.{Common.{KeptScene, permitted, permitted_of, plain}, Granted.{ended-permitted, marked-permitted, other-permitted}}
+use Rattle.capstep.specs.Renewing.{has_entry}
+use Rattle.capcore.proofs.Common.{KeptScene, permitted, permitted_of, plain}
+use Rattle.capcore.proofs.Granted.{ended-permitted, marked-permitted, other-permitted}
 use Rattle.capcore.proofs.moving.renew_granted.Goals as goal
 
 pub returns-in-Regrant-clause-permitted : goal.returns-in-Regrant-clause-permitted

@@ -1,4 +1,4 @@
-use Rattle.capcore.proofs.ShownWords.{takes-only_so, shows-told, all-takes_unshown}
+use Rattle.capcore.proofs.ShownWords.{all-takes_unshown, shows-told, takes-only_so}
 use Rattle.capcore.proofs.shown_laws.what_was_shown_is_what_is_told.Goals as goal
 
 pub returns-clause-shows : goal.returns-clause-shows

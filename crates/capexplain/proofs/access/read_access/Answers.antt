@@ -1,8 +1,8 @@
 use Rattle.std.proofs.Common.{◌≡◌, List, ℕ, Bool, false, Option, None, Some, sym, ◌∙◌}
-use Rattle.std.specs.Prelude.{MatchOption, IfNone, IfSome, IsTrue, codes}
+use Rattle.std.specs.Prelude.{IfNone, IfSome, IsTrue, MatchOption, codes}
 use Rattle.std.proofs.lemmas.Bool.{true≢false}
 use Rattle.capgrant.specs.declared.access.Access.{Access}
-use Rattle.capgrant.specs.declared.access.Access.TheVariants.{Read, Write, SetVxattr, Snapshot, Chmod, Chown, Chgrp}
+use Rattle.capgrant.specs.declared.access.Access.TheVariants.{Chgrp, Chmod, Chown, Read, SetVxattr, Snapshot, Write}
 use Rattle.capexplain.specs.Access.{IsAccessWord}
 use Rattle.capexplain.proofs.access.read_access.Goals as goal
 

@@ -3,7 +3,7 @@ use Rattle.std.specs.Prelude.{codes}
 use Rattle.capexplain.specs.Explaining.{failure_text}
 use Rattle.capexplain.proofs.Numbered.{printed-first, printed-more}
 use Rattle.capexplain.proofs.explaining.print_failures.Goals as goal
-use Rattle.capexplain.proofs.explaining.print_failures.Goals.{then-place-gt0+in_ok-print_str-2, else-place-gt0}
+use Rattle.capexplain.proofs.explaining.print_failures.Goals.{else-place-gt0, then-place-gt0+in_ok-print_str-2}
 
 pub loop-place-preserved : goal.loop-place-preserved
 loop-place-preserved c =

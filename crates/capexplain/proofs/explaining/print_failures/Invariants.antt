@@ -1,5 +1,5 @@
 use Rattle.std.proofs.Common.{◌≡◌, ◌++◌, take, codes}
-use Rattle.std.specs.List.{join_by, enumerate_from}
+use Rattle.std.specs.List.{enumerate_from, join_by}
 use Rattle.capexplain.specs.Explaining.{failure_text}
 use Rattle.capexplain.proofs.explaining.print_failures.Given as goal
 

@@ -1,6 +1,6 @@
 use Rattle.std.proofs.Common.{◌++◌, ◌∷◌, [], List, ℕ, ◌+◌, map, drop, ap, sym, ◌∙◌, append_assoc, slice_index_or, Bor}
-use Rattle.capwords.specs.Paths.{slashed}
-use Rattle.capspec.proofs.OneText.{rest-cons, none_left}
+use Rattle.capspec.specs.Paths.{slashed}
+use Rattle.capspec.proofs.OneText.{none_left, rest-cons}
 use Rattle.capexplain.proofs.explaining.print_names.Goals as goal
 
 pub loop-name-preserved : goal.loop-name-preserved

@@ -1,5 +1,5 @@
 use Rattle.std.proofs.Common.{◌≡◌, ◌++◌, drop, map}
-use Rattle.capwords.specs.Paths.{slashed}
+use Rattle.capspec.specs.Paths.{slashed}
 use Rattle.capexplain.proofs.explaining.print_names.Given as goal
 
 abbrev pub invariant-loop-name : goal.invariant-loop-name

@@ -1,6 +1,6 @@
 use Rattle.capexplain.proofs.Answered.{one_answer}
 use Rattle.capexplain.proofs.Compared.{one_comparison}
-use Rattle.capexplain.proofs.Clients.{one_standing, one_fault, no_fault}
+use Rattle.capexplain.proofs.Clients.{no_fault, one_fault, one_standing}
 use Rattle.capexplain.proofs.Linted.{one_finding}
 use Rattle.capexplain.proofs.Asked.{is_remarked}
 use Rattle.capexplain.proofs.Remarked.{one_remark}

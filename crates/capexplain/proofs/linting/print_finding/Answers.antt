@@ -1,5 +1,5 @@
 use Rattle.std.proofs.Common.{◌≡◌, ℕ, List, ◌++◌, ap, subst, ◌∙◌}
-use Rattle.std.specs.Prelude.{OnOk, is_some, not, codes}
+use Rattle.std.specs.Prelude.{OnOk, codes, is_some, not}
 use Rattle.capexplain.specs.Comparing.{found_line}
 use Rattle.capexplain.specs.Linting.{covered_text, nothing_text, said_if, stands_line, unread_text}
 use Rattle.capexplain.proofs.Texts.{texts-behind}

@@ -3,7 +3,7 @@ use Rattle.std.specs.Prelude.{codes}
 use Rattle.capexplain.specs.Replies.{rule_text}
 use Rattle.capexplain.proofs.Numbered.{printed-first, printed-more}
 use Rattle.capexplain.proofs.reply.print_rules.Goals as goal
-use Rattle.capexplain.proofs.reply.print_rules.Goals.{then-place-gt0+in_ok-print_str-2, else-place-gt0}
+use Rattle.capexplain.proofs.reply.print_rules.Goals.{else-place-gt0, then-place-gt0+in_ok-print_str-2}
 
 pub loop-place-preserved : goal.loop-place-preserved
 loop-place-preserved c =

@@ -1,5 +1,5 @@
 use Rattle.std.proofs.Common.{◌≡◌, ◌++◌, take, codes}
-use Rattle.std.specs.List.{join_by, enumerate_from}
+use Rattle.std.specs.List.{enumerate_from, join_by}
 use Rattle.capexplain.specs.Replies.{rule_text}
 use Rattle.capexplain.proofs.reply.print_rules.Given as goal
 

@@ -1,4 +1,4 @@
-use Rattle.std.proofs.Common.{ℕ, List, refl, rules}
+use Rattle.std.proofs.Common.{List, refl, rules, ℕ}
 use Rattle.capgrant.specs.declared.answer.Verdict.{Verdict}
 use Rattle.capgrant.specs.Verdict.{verdict_of}
 use Rattle.capffi.specs.Blocks.{bare_names, block_fs, block_grants}

@@ -1,4 +1,4 @@
-use Rattle.std.proofs.Common.{ℕ, List}
+use Rattle.std.proofs.Common.{List, ℕ}
 use Rattle.capffi.proofs.by_mask.rule_of_one.Goals as goal
 
 pub returns : goal.returns

@@ -1,4 +1,4 @@
-use Rattle.std.proofs.Common.{ℕ, List, refl}
+use Rattle.std.proofs.Common.{List, refl, ℕ}
 use Rattle.capffi.specs.declared.passed.Answer.{Answer}
 use Rattle.capffi.specs.ByMask.{IsSoonOn, IsSoonToMask, verdict_on}
 use Rattle.capffi.specs.Blocks.{bare_names}

@@ -1,5 +1,5 @@
 use Rattle.std.proofs.Common.{◌≡◌, ◌++◌, take}
-use Rattle.capffi.specs.Filling.{texts_of, AreEntriesOf}
+use Rattle.capffi.specs.Filling.{AreEntriesOf, texts_of}
 use Rattle.capffi.proofs.filling.gather.Given as goal
 
 abbrev pub invariant-loop-grant : goal.invariant-loop-grant

@@ -1,5 +1,5 @@
 use Rattle.std.proofs.Common.{◌+◌, ◌-◌, ◌≤◌, ℕ, length, sym, ◌∙◌, arith}
-use Rattle.capffi.proofs.Leads.{last_piece, first_piece, other_end}
+use Rattle.capffi.proofs.Leads.{first_piece, last_piece, other_end}
 use Rattle.capffi.proofs.given.is_same_at_ends.Goals as goal
 
 pub returns-then-is_same_from : goal.returns-then-is_same_from

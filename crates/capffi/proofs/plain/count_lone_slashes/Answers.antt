@@ -1,6 +1,6 @@
 use Rattle.std.proofs.Common.{◌≡◌, ◌+◌, ◌-◌, ◌*◌, ◌≤◌, ℕ, List, length, drop, false, sym, ap, ◌∙◌, arith}
 use Rattle.std.proofs.lemmas.Bool.{or_from}
-use Rattle.capwords.specs.Paths.{has_double_slash}
+use Rattle.capspec.specs.Paths.{has_double_slash}
 use Rattle.capspec.proofs.OneText.{no_pair}
 use Rattle.capffi.proofs.Slashes.{before, counted_twice}
 use Rattle.capffi.proofs.plain.count_lone_slashes.Goals as goal

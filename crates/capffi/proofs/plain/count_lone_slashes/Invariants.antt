@@ -1,6 +1,6 @@
 use Rattle.std.proofs.Common.{◌≡◌, ◌==◌, ◌+◌, ◌*◌, ◌≤◌, drop}
 use Rattle.std.specs.Prelude.{count_by}
-use Rattle.capwords.specs.Paths.{has_double_slash}
+use Rattle.capspec.specs.Paths.{has_double_slash}
 use Rattle.capffi.proofs.plain.count_lone_slashes.Given as goal
 
 abbrev pub invariant-loop-piece : goal.invariant-loop-piece

@@ -1,5 +1,5 @@
 use Rattle.std.proofs.Common.{sym, ap, ◌∙◌, drop_of_length-le}
-use Rattle.capffi.proofs.Bare.{fits, fit_path}
+use Rattle.capffi.proofs.Bare.{fit_path, fits}
 use Rattle.capffi.proofs.plain.has_fit_names.Goals as goal
 
 pub returns : goal.returns

@@ -1,5 +1,5 @@
 use Rattle.std.proofs.Common.{◌≡◌, ◌+◌, ◌-◌, ◌*◌, ◌≤◌, ℕ, length, drop, sym, ap, ◌∙◌, arith}
-use Rattle.capwords.specs.Paths.{has_double_slash}
+use Rattle.capspec.specs.Paths.{has_double_slash}
 use Rattle.capspec.proofs.OneText.{no_pair}
 use Rattle.capffi.proofs.plain.has_pair.Goals as goal
 

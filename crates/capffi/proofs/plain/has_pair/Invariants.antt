@@ -1,5 +1,5 @@
 use Rattle.std.proofs.Common.{◌≡◌, ◌*◌, drop}
-use Rattle.capwords.specs.Paths.{has_double_slash}
+use Rattle.capspec.specs.Paths.{has_double_slash}
 use Rattle.capffi.proofs.plain.has_pair.Given as goal
 
 abbrev pub invariant-loop-pair : goal.invariant-loop-pair

@@ -1,5 +1,5 @@
 use Rattle.std.proofs.Common.{sym, ◌∙◌, arith, ltb-true, rules}
-use Rattle.capffi.proofs.Bare.{parted_behind, few_behind}
+use Rattle.capffi.proofs.Bare.{few_behind, parted_behind}
 use Rattle.capffi.proofs.plain.is_plain_at_ends.Goals as goal
 
 pub returns-clause-names : goal.returns-clause-names

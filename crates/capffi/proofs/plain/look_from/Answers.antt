@@ -1,5 +1,5 @@
 use Rattle.std.proofs.Common.{arith}
-use Rattle.capffi.proofs.Masked.{lone_in, counted_in, few_in}
+use Rattle.capffi.proofs.Masked.{counted_in, few_in, lone_in}
 use Rattle.capffi.proofs.plain.look_from.Goals as goal
 
 pub returns-clause-lone : goal.returns-clause-lone

@@ -1,5 +1,5 @@
 use Rattle.std.proofs.Common.{sym, ◌∙◌}
-use Rattle.capgrant.proofs.Verdicts.{allowed_at, allowed_nowhere, granted_somewhere, granted_nowhere, each_fails}
+use Rattle.capgrant.proofs.Verdicts.{allowed_at, allowed_nowhere, each_fails, granted_nowhere, granted_somewhere}
 use Rattle.capgrant.proofs.policy.verdict.Goals as goal
 
 pub returns-clause-exact : goal.returns-clause-exact

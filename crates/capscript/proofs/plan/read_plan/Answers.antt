@@ -1,7 +1,7 @@
 use Rattle.std.proofs.Common.{arith}
-use Rattle.capstreams.specs.Caplines.Lines.{lines}
-use Rattle.capscript.specs.Jobs.{work_of, no_work, StopsAt}
-use Rattle.capscript.proofs.Plans.{so_far_more, stopped_at, handed_on}
+use Rattle.script_syntax.specs.Lines.{lines}
+use Rattle.capscript.specs.Jobs.{StopsAt, no_work, work_of}
+use Rattle.capscript.proofs.Plans.{handed_on, so_far_more, stopped_at}
 use Rattle.capscript.proofs.plan.read_plan.Goals as goal
 
 pub overflow_add-number : goal.overflow_add-number

@@ -1,6 +1,6 @@
 use Rattle.std.proofs.Common.{inr, refl}
 use Rattle.std.specs.Prelude.{Err}
-use Rattle.capstreams.specs.Watched.{inner_of, has_ended}
+use Rattle.script_syntax.specs.Watched.{has_ended, inner_of}
 use Rattle.capscript.proofs.Histories.{early_fault, known_ran, whole_ran}
 use Rattle.capscript.proofs.running.run.Goals as goal
 

@@ -1,5 +1,5 @@
 use Rattle.std.proofs.Common.{[], sym, ◌∙◌, true≢false}
-use Rattle.capspec.proofs.Sharing.{one_more, no_more}
+use Rattle.capspec.proofs.Sharing.{no_more, one_more}
 use Rattle.capspec.proofs.begun.go_on.Goals as goal
 
 pub returns-then-not-has_name : goal.returns-then-not-has_name

@@ -1,5 +1,5 @@
 use Rattle.std.proofs.Common.{◌-◌, drop, length, sym, ◌∙◌, arith}
-use Rattle.std.proofs.lemmas.List.{take_all, length-drop}
+use Rattle.std.proofs.lemmas.List.{length-drop, take_all}
 use Rattle.std.proofs.lemmas.Bool.Decides.{Decides-eqb}
 use Rattle.std.proofs.lemmas.Slice.Eq.{starts_is}
 use Rattle.capspec.proofs.Sharing.{has_at}

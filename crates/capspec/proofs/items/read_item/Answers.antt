@@ -1,5 +1,5 @@
 use Rattle.std.proofs.Common.{sym, ◌∙◌}
-use Rattle.capspec.proofs.Drafting.{adds_item, wrong_value, wrong_again}
+use Rattle.capspec.proofs.Drafting.{adds_item, wrong_again, wrong_value}
 use Rattle.capspec.proofs.items.read_item.Goals as goal
 
 pub returns-then-has-clause-err : goal.returns-then-has-clause-err

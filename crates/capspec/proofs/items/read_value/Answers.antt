@@ -1,7 +1,7 @@
 use Rattle.std.proofs.Common.{refl, sym}
-use Rattle.capwords.specs.Paths.{names_of}
-use Rattle.capspec.specs.Items.Item.{FsName, Path, Uid, Gids, RootSquash}
-use Rattle.capspec.proofs.Drafting.{takes_path, takes_nothing}
+use Rattle.capspec.specs.Paths.{names_of}
+use Rattle.capspec.specs.Items.Item.{FsName, Gids, Path, RootSquash, Uid}
+use Rattle.capspec.proofs.Drafting.{takes_nothing, takes_path}
 use Rattle.capspec.proofs.items.read_value.Goals as goal
 
 pub returns-in_ok-name-in-FsName-clause-ok : goal.returns-in_ok-name-in-FsName-clause-ok

@@ -1,4 +1,4 @@
-use Rattle.std.proofs.Common.{sym, subst, ap, length, arith}
+use Rattle.std.proofs.Common.{ap, arith, length, subst, sym}
 use Rattle.capspec.specs.Begun.{AreAlike, IsAlike}
 use Rattle.capspec.proofs.Sharing.{alike_more}
 use Rattle.capspec.proofs.kept.like_each_other.Goals as goal

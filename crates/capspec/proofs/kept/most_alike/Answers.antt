@@ -1,8 +1,8 @@
-use Rattle.std.proofs.Common.{sym, subst}
+use Rattle.std.proofs.Common.{subst, sym}
 use Rattle.capspec.specs.Begun.{IsAlike}
 use Rattle.capspec.proofs.Sharing.{alike_at}
 use Rattle.capspec.proofs.kept.most_alike.Goals as goal
-use Rattle.capspec.proofs.kept.most_alike.Goals.{then-most-bytes, else-most-bytes}
+use Rattle.capspec.proofs.kept.most_alike.Goals.{else-most-bytes, then-most-bytes}
 
 pub loop-other-preserved : goal.loop-other-preserved
 loop-other-preserved c = elim c.if-most-bytes.branch [

@@ -1,6 +1,6 @@
 use Rattle.std.proofs.Common.{◌≡◌, ◌||◌, ◌&&◌, ◌+◌, ◌-◌, ℕ, Bool, List, drop, get_or, eqb, sym, ap, ◌∙◌, arith}
 use Rattle.std.proofs.Math.Bool.{or-false, or_assoc}
-use Rattle.capwords.specs.Paths.{has_double_slash}
+use Rattle.capspec.specs.Paths.{has_double_slash}
 use Rattle.capspec.proofs.OneText.{no_pair, pair_step}
 use Rattle.capspec.proofs.path.has_double_slash.Goals as goal
 

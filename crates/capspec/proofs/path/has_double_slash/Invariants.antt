@@ -1,5 +1,5 @@
 use Rattle.std.proofs.Common.{◌≡◌, ◌-◌, ◌||◌, drop}
-use Rattle.capwords.specs.Paths.{has_double_slash}
+use Rattle.capspec.specs.Paths.{has_double_slash}
 use Rattle.capspec.proofs.path.has_double_slash.Given as goal
 
 abbrev pub invariant-loop-place : goal.invariant-loop-place

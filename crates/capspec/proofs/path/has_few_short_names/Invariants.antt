@@ -1,5 +1,5 @@
 use Rattle.std.proofs.Common.{◌≡◌, ◌-◌}
-use Rattle.capwords.specs.Paths.{names_of}
+use Rattle.capspec.specs.Paths.{names_of}
 use Rattle.capspec.proofs.Paths.{fits}
 use Rattle.capspec.proofs.path.has_few_short_names.Given as goal
 

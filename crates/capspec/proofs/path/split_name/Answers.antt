@@ -1,5 +1,5 @@
 use Rattle.std.proofs.Common.{◌∙◌, sym}
-use Rattle.capspec.proofs.Paths.{no_name, first_name}
+use Rattle.capspec.proofs.Paths.{first_name, no_name}
 use Rattle.capspec.proofs.path.split_name.Goals as goal
 
 pub returns-then-is_empty : goal.returns-then-is_empty

@@ -1,5 +1,5 @@
 use Rattle.std.proofs.Common.{◌≡◌, ◌++◌, length, map}
-use Rattle.capwords.specs.Paths.{names_of}
+use Rattle.capspec.specs.Paths.{names_of}
 use Rattle.capspec.proofs.path.split_names.Given as goal
 
 abbrev pub invariant-loop-name : goal.invariant-loop-name

@@ -1,5 +1,5 @@
 use Rattle.std.proofs.Common.{◌≡◌, ◌++◌, length}
-use Rattle.capwords.specs.Paths.{names_of, slashed}
+use Rattle.capspec.specs.Paths.{names_of, slashed}
 use Rattle.capspec.proofs.path.write_names.Given as goal
 
 abbrev pub invariant-loop-name : goal.invariant-loop-name

@@ -4,7 +4,7 @@ use Rattle.capspec.specs.declared.reading.Refusal.{Refusal}
 use Rattle.capspec.specs.Faults.{GrantGives}
 use Rattle.capspec.specs.Parts.{ReadsItems}
 use Rattle.std.proofs.lemmas.Result.{err_from_is_err_and}
-use Rattle.capspec.proofs.Granting.{reads_grant, not_allow_wrong, longer_wrong, flags_wrong, items_wrong}
+use Rattle.capspec.proofs.Granting.{flags_wrong, items_wrong, longer_wrong, not_allow_wrong, reads_grant}
 use Rattle.capspec.proofs.reading.read_grant.Goals as goal
 
 pub returns-in_default-clause-err : goal.returns-in_default-clause-err

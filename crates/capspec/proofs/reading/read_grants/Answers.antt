@@ -1,7 +1,7 @@
 use Rattle.std.proofs.Common.{sym, ◌∙◌, inl}
 use Rattle.std.proofs.lemmas.List.{nil_from_length}
 use Rattle.capspec.specs.Faults.{IsFault}
-use Rattle.capspec.proofs.Granting.{IsAnswered, has_more_grants, reads_grants, all_kept, only_fault, only_read, empty_fault, grant_fault, many_fault}
+use Rattle.capspec.proofs.Granting.{IsAnswered, all_kept, empty_fault, grant_fault, has_more_grants, many_fault, only_fault, only_read, reads_grants}
 use Rattle.capspec.proofs.reading.read_grants.Goals as goal
 
 pub from_gathered-requires : goal.from_gathered-requires

@@ -3,9 +3,9 @@ use Rattle.std.specs.Prelude.{is_some}
 use Rattle.std.proofs.lemmas.Bool.{true≢false}
 use Rattle.capspec.specs.declared.reading.Refusal.{Refusal}
 use Rattle.capspec.specs.Faults.{ItemsGive}
-use Rattle.capspec.proofs.Words.{drafting_none, drafting_more, drafting_done, gids_alone_wrong, item_wrong, item_within}
+use Rattle.capspec.proofs.Words.{drafting_done, drafting_more, drafting_none, gids_alone_wrong, item_within, item_wrong}
 use Rattle.capspec.proofs.reading.read_items.Goals as goal
-use Rattle.capspec.proofs.reading.read_items.Goals.{then-is_none-2, else-is_none-2, else-is_some-via-then-is_some+else-is_none, else-is_some-via-else-is_some}
+use Rattle.capspec.proofs.reading.read_items.Goals.{else-is_none-2, else-is_some-via-else-is_some, else-is_some-via-then-is_some+else-is_none, then-is_none-2}
 
 pub loop-draft-init : goal.loop-draft-init
 loop-draft-init c = drafting_none c.args.draft.now c.args.text.now c.requires.new c.requires.ends

@@ -1,8 +1,9 @@
 use Rattle.std.proofs.Common.{sym, ◌∙◌}
 use Rattle.std.proofs.lemmas.Bool.{true≢false}
-use Rattle.capspec.proofs.Taken.{takes_bare, unbare, empty_unfit, names_unfit}
+use Rattle.capspec.proofs.Taken.{empty_unfit, names_unfit, takes_bare, unbare}
 use Rattle.capspec.proofs.values.read_bare.Goals as goal
-use Rattle.capspec.proofs.values.read_bare.Goals.{then-is_empty-via-then-is_empty, then-is_empty-via-else-is_empty+then-not-ends_word, then-is_empty-via-else-is_empty+else-not-ends_word+then-not-has_fit_names}
+use Rattle.capspec.proofs.values.read_bare.Goals.{then-is_empty-via-else-is_empty+else-not-ends_word+then-not-has_fit_names}
+use Rattle.capspec.proofs.values.read_bare.Goals.{then-is_empty-via-else-is_empty+then-not-ends_word, then-is_empty-via-then-is_empty}
 
 pub returns-then-is_empty-clause-err : goal.returns-then-is_empty-clause-err
 returns-then-is_empty-clause-err c = unbare c.args.text.now _ _ c.split_bare_path.ensures c.requires (λ ends fit. elim c.then-is_empty.branch [

@@ -1,7 +1,7 @@
 use Rattle.std.proofs.Common.{refl, sym}
 use Rattle.std.proofs.lemmas.Bool.{true≢false}
 use Rattle.std.specs.Prelude.{codes}
-use Rattle.capspec.proofs.Taken.{not_that, no_fs_name}
+use Rattle.capspec.proofs.Taken.{no_fs_name, not_that}
 use Rattle.capspec.proofs.values.read_fsname.Goals as goal
 
 pub returns-in-None-clause-err : goal.returns-in-None-clause-err

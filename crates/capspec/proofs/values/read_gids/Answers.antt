@@ -1,5 +1,5 @@
 use Rattle.std.proofs.Common.{sym, ◌∙◌}
-use Rattle.capspec.proofs.Separating.{more_gids, all_gids, no_number, not_ended, too_many_gids, gids_shrink}
+use Rattle.capspec.proofs.Separating.{all_gids, gids_shrink, more_gids, no_number, not_ended, too_many_gids}
 use Rattle.capspec.proofs.values.read_gids.Goals as goal
 
 pub returns-in_default-clause-err : goal.returns-in_default-clause-err

@@ -2,7 +2,7 @@ use Rattle.std.proofs.Common.{◌≡◌, ℕ, ◌+◌, ◌*◌, ◌<◌, ◌≤�
 use Rattle.std.specs.Char.{digit_value}
 use Rattle.capspec.specs.Bytes.{begins}
 use Rattle.capspec.specs.Words.{is_digit}
-use Rattle.capspec.proofs.Numbers.{Writes, writes_more, ends_at_byte, ends_at_end, number_read, rest_at, too_large}
+use Rattle.capspec.proofs.Numbers.{Writes, ends_at_byte, ends_at_end, number_read, rest_at, too_large, writes_more}
 use Rattle.capspec.proofs.values.read_number.Goals as goal
 use Rattle.capspec.proofs.values.read_number.Goals.{else-loop-byte-test, then-loop-byte-test+in_default}
 

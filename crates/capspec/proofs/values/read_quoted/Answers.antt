@@ -1,5 +1,5 @@
 use Rattle.std.proofs.Common.{sym, ◌∙◌}
-use Rattle.capspec.proofs.Taken.{takes_quoted, open_wrong, behind_wrong, unfit_quoted_wrong}
+use Rattle.capspec.proofs.Taken.{behind_wrong, open_wrong, takes_quoted, unfit_quoted_wrong}
 use Rattle.capspec.proofs.values.read_quoted.Goals as goal
 
 pub returns-in_default-clause-err : goal.returns-in_default-clause-err

@@ -3,7 +3,7 @@ use Rattle.std.specs.Prelude.{codes}
 use Rattle.std.specs.Fmt.{decimal}
 use Rattle.capspec.proofs.Joining.{written_first, written_more}
 use Rattle.capspec.proofs.writing.write_gids.Goals as goal
-use Rattle.capspec.proofs.writing.write_gids.Goals.{then-place-gt0+in_ok-push, else-place-gt0}
+use Rattle.capspec.proofs.writing.write_gids.Goals.{else-place-gt0, then-place-gt0+in_ok-push}
 
 pub loop-place-preserved : goal.loop-place-preserved
 loop-place-preserved c =

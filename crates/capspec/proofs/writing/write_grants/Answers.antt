@@ -5,7 +5,7 @@ use Rattle.capspec.specs.Written.{grant_text, written}
 use Rattle.capspec.proofs.Joining.{written_first, written_more}
 use Rattle.capspec.proofs.Written.{text_reads, text_reads_once}
 use Rattle.capspec.proofs.writing.write_grants.Goals as goal
-use Rattle.capspec.proofs.writing.write_grants.Goals.{then-place-gt0+in_ok-extend_from_slice, else-place-gt0}
+use Rattle.capspec.proofs.writing.write_grants.Goals.{else-place-gt0, then-place-gt0+in_ok-extend_from_slice}
 
 pub loop-place-preserved : goal.loop-place-preserved
 loop-place-preserved c =

@@ -1,4 +1,4 @@
-use Rattle.captable.proofs.Tables.{IsTable-changed, IsTable-opened, IsTable-without, IsTable-without_client, IsTable-recalled, IsTable-released}
+use Rattle.captable.proofs.Tables.{IsTable-changed, IsTable-opened, IsTable-recalled, IsTable-released, IsTable-without, IsTable-without_client}
 use Rattle.captable.proofs.Moves.{IsTable-touched}
 use Rattle.captable.proofs.laws.a_table_stays_a_table.Goals as goal
 

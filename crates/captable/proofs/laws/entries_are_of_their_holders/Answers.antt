@@ -1,5 +1,7 @@
 use Rattle.std.proofs.Common.{refl}
-use Rattle.captable.proofs.ByHolder.{row_found, entry_at-changed, entry_at-changed_other, entry_at-opened, entry_at-opened_other, entry_at-without, entry_at-without_other, entry_at-without_client, entry_at-without_client_other, entry_at-released_pin, entry_at-released, entry_at-released_other, entry_at-recalled, entry_at-recalled_other}
+use Rattle.captable.proofs.ByHolder.{entry_at-changed, entry_at-changed_other, entry_at-opened, entry_at-opened_other, entry_at-recalled}
+use Rattle.captable.proofs.ByHolder.{entry_at-recalled_other, entry_at-released, entry_at-released_other, entry_at-released_pin, entry_at-without}
+use Rattle.captable.proofs.ByHolder.{entry_at-without_client, entry_at-without_client_other, entry_at-without_other, row_found}
 use Rattle.captable.proofs.laws.entries_are_of_their_holders.Goals as goal
 
 pub returns-clause-found : goal.returns-clause-found

@@ -1,5 +1,6 @@
 use Rattle.std.proofs.Common.{refl}
-use Rattle.captable.proofs.ByInode.{entries_on-changed, entries_on-opened, entries_on-without, entries_on-released, entries_on-without_client, entries_on-recalled}
+use Rattle.captable.proofs.ByInode.{entries_on-changed, entries_on-opened, entries_on-recalled, entries_on-released, entries_on-without}
+use Rattle.captable.proofs.ByInode.{entries_on-without_client}
 use Rattle.captable.proofs.laws.inodes_change_by_themselves.Goals as goal
 
 pub returns-clause-changed : goal.returns-clause-changed

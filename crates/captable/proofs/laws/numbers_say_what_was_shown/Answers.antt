@@ -1,4 +1,4 @@
-use Rattle.captable.proofs.Shown.{shown-numbered, shown-less, shown-told}
+use Rattle.captable.proofs.Shown.{shown-less, shown-numbered, shown-told}
 use Rattle.captable.proofs.laws.numbers_say_what_was_shown.Goals as goal
 
 pub returns-clause-numbered : goal.returns-clause-numbered

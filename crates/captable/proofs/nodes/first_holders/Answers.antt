@@ -1,5 +1,5 @@
 use Rattle.std.proofs.Common.{◌∙◌, [], ◌∷◌, sym, ap, subst, arith, length, length-append}
-use Rattle.captable.proofs.Recalling.{AreFirst, first-none, first-there, first-more, first-less, first-full, first-all}
+use Rattle.captable.proofs.Recalling.{AreFirst, first-all, first-full, first-less, first-more, first-none, first-there}
 use Rattle.captable.proofs.nodes.first_holders.Goals as goal
 use Rattle.captable.proofs.nodes.first_holders.Goals.{in-Some+then-len-n, in_default}
 

@@ -1,5 +1,5 @@
 use Rattle.std.proofs.Common.{sym, ◌∙◌}
-use Rattle.captable.proofs.Keyed.{key-is, none-yet, none-behind, step-on, step-less}
+use Rattle.captable.proofs.Keyed.{key-is, none-behind, none-yet, step-less, step-on}
 use Rattle.captable.proofs.nodes.key_from.Goals as goal
 
 pub nodes-init : goal.nodes-init

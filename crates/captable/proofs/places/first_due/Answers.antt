@@ -1,6 +1,6 @@
 use Rattle.std.proofs.Common.{◌∙◌, sym, subst}
 use Rattle.captable.specs.Places.{IsQuiet}
-use Rattle.captable.proofs.Quiet.{step-quiet, step-nearer}
+use Rattle.captable.proofs.Quiet.{step-nearer, step-quiet}
 use Rattle.captable.proofs.places.first_due.Goals as goal
 
 pub places-init : goal.places-init

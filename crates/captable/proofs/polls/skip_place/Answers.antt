@@ -2,10 +2,10 @@ use Rattle.std.proofs.Common.{◌≡◌, true, Some, cond, is_some, IfSome, ◌�
 use Rattle.std.specs.Option.{option_map}
 use Rattle.std.proofs.lemmas.Bool.{eq-eqb}
 use Rattle.captable.specs.declared.polls.Poll.{Poll}
-use Rattle.captable.specs.Places.{same_client, is_due_at, place_of}
+use Rattle.captable.specs.Places.{is_due_at, place_of, same_client}
 use Rattle.captable.specs.Polls.{places_of}
 use Rattle.captable.proofs.Placed.{still}
-use Rattle.captable.proofs.Polled.{places-changed, counts-kept}
+use Rattle.captable.proofs.Polled.{counts-kept, places-changed}
 use Rattle.captable.proofs.Quiet.{quiet-put}
 use Rattle.captable.proofs.polls.skip_place.Goals as goal
 

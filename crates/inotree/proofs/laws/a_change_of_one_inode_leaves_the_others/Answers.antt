@@ -1,8 +1,8 @@
 use Rattle.std.proofs.Common.{refl}
-use Rattle.inotree.specs.Inodes.{with_setting, with_attribute, without_attribute}
+use Rattle.inotree.specs.Inodes.{with_attribute, with_setting, without_attribute}
 use Rattle.inotree.proofs.Changes.{setting_site}
 use Rattle.inotree.proofs.Elsewhere.{alike-changed}
-use Rattle.inotree.proofs.OneInode.{exist-changed, presence-changed, path-changed, alike-but}
+use Rattle.inotree.proofs.OneInode.{alike-but, exist-changed, path-changed, presence-changed}
 use Rattle.inotree.proofs.laws.a_change_of_one_inode_leaves_the_others.Goals as goal
 
 pub returns-clause-exist : goal.returns-clause-exist

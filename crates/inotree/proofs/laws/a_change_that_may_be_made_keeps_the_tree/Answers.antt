@@ -1,4 +1,4 @@
-use Rattle.inotree.proofs.OneInode.{sound-setting, sound-attribute, sound-no-attribute, sound-unlinked, sound-unlink, sound-rmdir}
+use Rattle.inotree.proofs.OneInode.{sound-attribute, sound-no-attribute, sound-rmdir, sound-setting, sound-unlink, sound-unlinked}
 use Rattle.inotree.proofs.laws.a_change_that_may_be_made_keeps_the_tree.Goals as goal
 
 pub returns-clause-set : goal.returns-clause-set

@@ -1,6 +1,6 @@
 use Rattle.inotree.specs.declared.node.Site.TheVariants.{Stray}
 use Rattle.inotree.specs.Inodes.{with_site}
-use Rattle.inotree.proofs.OneInode.{presence-other, alike-unlinked, childless-file, childless-empty}
+use Rattle.inotree.proofs.OneInode.{alike-unlinked, childless-empty, childless-file, presence-other}
 use Rattle.inotree.proofs.laws.an_inode_without_children_leaves_the_others.Goals as goal
 
 pub returns-clause-alike : goal.returns-clause-alike

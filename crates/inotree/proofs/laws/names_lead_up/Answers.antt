@@ -1,5 +1,5 @@
 use Rattle.inotree.proofs.Below.{child-stands, deep-climbs}
-use Rattle.inotree.proofs.Within.{within-climbs, depth-path}
+use Rattle.inotree.proofs.Within.{depth-path, within-climbs}
 use Rattle.inotree.proofs.laws.names_lead_up.Goals as goal
 
 pub returns-clause-within : goal.returns-clause-within

@@ -1,6 +1,6 @@
 use Rattle.std.proofs.Common.{refl}
 use Rattle.inotree.specs.Inodes.{with_snapshot, without_snapshot}
-use Rattle.inotree.proofs.Elsewhere.{alike-new, alike-forgotten, alike-changed}
+use Rattle.inotree.proofs.Elsewhere.{alike-changed, alike-forgotten, alike-new}
 use Rattle.inotree.proofs.laws.what_is_made_or_kept_leaves_the_others.Goals as goal
 
 pub returns-clause-new : goal.returns-clause-new

@@ -1,4 +1,4 @@
-use Rattle.lockmachine.proofs.Queue.{found_by_number, taken_alone, least_served}
+use Rattle.lockmachine.proofs.Queue.{found_by_number, least_served, taken_alone}
 use Rattle.lockmachine.proofs.laws.a_number_names_its_request.Goals as goal
 
 pub returns-clause-found : goal.returns-clause-found

@@ -1,4 +1,4 @@
-use Rattle.lockmachine.proofs.Ending.{few, little-then, ends-little, ends-then}
+use Rattle.lockmachine.proofs.Ending.{ends-little, ends-then, few, little-then}
 use Rattle.lockmachine.proofs.laws.between_servings_locks_move_little.Goals as goal
 
 pub returns-clause-few : goal.returns-clause-few

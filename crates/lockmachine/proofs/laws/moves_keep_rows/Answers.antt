@@ -1,4 +1,4 @@
-use Rattle.lockmachine.proofs.InRows.{one_keeps, all_keep}
+use Rattle.lockmachine.proofs.InRows.{all_keep, one_keeps}
 use Rattle.lockmachine.proofs.laws.moves_keep_rows.Goals as goal
 
 pub returns-clause-one : goal.returns-clause-one

@@ -1,4 +1,4 @@
-use Rattle.lockmachine.proofs.Queue.{moved-kept, with_request-kept, without_requests_of-kept, none_left}
+use Rattle.lockmachine.proofs.Queue.{moved-kept, none_left, with_request-kept, without_requests_of-kept}
 use Rattle.lockmachine.proofs.laws.the_queue_keeps_its_order.Goals as goal
 
 pub returns-clause-moved : goal.returns-clause-moved

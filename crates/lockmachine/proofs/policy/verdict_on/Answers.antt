@@ -1,6 +1,6 @@
 use Rattle.std.proofs.Common.{◌≡◌, Some, ap, sym, ◌∙◌}
 use Rattle.std.specs.FinMap as map
-use Rattle.std.specs.Option.{option_map, option_copied}
+use Rattle.std.specs.Option.{option_copied, option_map}
 use Rattle.sessiontab.specs.declared.session.Session.{Session}
 use Rattle.capgrant.specs.Verdict.{verdict_of}
 use Rattle.inotree.specs.Tree.{path_of}

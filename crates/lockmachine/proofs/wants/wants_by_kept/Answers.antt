@@ -1,4 +1,5 @@
-use Rattle.std.proofs.Common.{ap, sym, ◌∙◌, List, map as each}
+use Rattle.std.proofs.Common.{ap, sym, ◌∙◌, List}
+use Rattle.std.proofs.Common.{map as each}
 use Rattle.captable.specs.declared.entry.KeptEntry.{KeptEntry}
 use Rattle.lockmachine.specs.Wants.{Want, in_all, in_all_with}
 use Rattle.lockmachine.proofs.KeptWants.{kept_want, same_wants}

@@ -1,4 +1,5 @@
-use Rattle.std.proofs.Common.{◌≡◌, length, map as each}
+use Rattle.std.proofs.Common.{◌≡◌, length}
+use Rattle.std.proofs.Common.{map as each}
 use Rattle.lockmachine.specs.Wants.{in_all, in_all_with}
 use Rattle.lockmachine.proofs.KeptWants.{kept_want}
 use Rattle.lockmachine.proofs.wants.wants_by_kept.Given as goal

@@ -1,5 +1,6 @@
-use Rattle.std.proofs.Common.{◌≡◌, length, map as each}
-use Rattle.lockmachine.specs.Wants.{want_of, in_all, in_all_with}
+use Rattle.std.proofs.Common.{◌≡◌, length}
+use Rattle.std.proofs.Common.{map as each}
+use Rattle.lockmachine.specs.Wants.{in_all, in_all_with, want_of}
 use Rattle.lockmachine.proofs.wants.wants_on.Given as goal
 
 abbrev pub decreases-rows : goal.decreases-rows

@@ -1,5 +1,5 @@
 use Rattle.std.proofs.Common.{rules, ◌≡◌}
-use Rattle.locktable.specs.Rows.{row_of, a_row_covers}
+use Rattle.locktable.specs.Rows.{a_row_covers, row_of}
 use Rattle.locktable.specs.Conflicts.{a_row_apart}
 use Rattle.locktable.proofs.rows.row.Goals as goal
 

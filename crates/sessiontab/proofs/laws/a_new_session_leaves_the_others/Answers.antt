@@ -1,4 +1,4 @@
-use Rattle.sessiontab.proofs.Elsewhere.{session-other, session-kept}
+use Rattle.sessiontab.proofs.Elsewhere.{session-kept, session-other}
 use Rattle.sessiontab.proofs.laws.a_new_session_leaves_the_others.Goals as goal
 
 pub returns-clause-others : goal.returns-clause-others

@@ -1,4 +1,5 @@
-use Rattle.worked_cases.proofs.Faults.{empty_text, blank_text, not_allow, bad_flags, left_out_flag, left_out_item, bad_item, twice, open_quote, bad_path, bad_number, gids_without_uid, too_many}
+use Rattle.worked_cases.proofs.Faults.{bad_flags, bad_item, bad_number, bad_path, blank_text, empty_text, gids_without_uid, left_out_flag, left_out_item}
+use Rattle.worked_cases.proofs.Faults.{not_allow, open_quote, too_many, twice}
 use Rattle.worked_cases.proofs.grant_texts.first_faults.Goals as goal
 
 pub returns-clause-empty : goal.returns-clause-empty

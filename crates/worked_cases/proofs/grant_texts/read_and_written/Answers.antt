@@ -1,6 +1,6 @@
 use Rattle.std.specs.Prelude.{refl}
 use Rattle.std.specs.Fmt.{digits}
-use Rattle.worked_cases.proofs.Reading.{reads, all_flags}
+use Rattle.worked_cases.proofs.Reading.{all_flags, reads}
 use Rattle.worked_cases.proofs.grant_texts.read_and_written.Goals as goal
 
 pub returns-clause-reads : goal.returns-clause-reads

@@ -1,5 +1,5 @@
 use Rattle.std.specs.Prelude.{refl}
-use Rattle.worked_cases.proofs.Scenes.{two-first, two-second, two-entries}
+use Rattle.worked_cases.proofs.Scenes.{two-entries, two-first, two-second}
 use Rattle.worked_cases.proofs.Unfolded.{steps}
 use Rattle.worked_cases.proofs.steps.grants_taken_away.Goals as goal
 

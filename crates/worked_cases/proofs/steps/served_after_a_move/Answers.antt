@@ -1,5 +1,5 @@
 use Rattle.std.specs.Prelude.{refl}
-use Rattle.worked_cases.proofs.Scenes.{three-first, three-second, three-third, three-entries, moved-first, moved-third}
+use Rattle.worked_cases.proofs.Scenes.{moved-first, moved-third, three-entries, three-first, three-second, three-third}
 use Rattle.worked_cases.proofs.Unfolded.{steps}
 use Rattle.worked_cases.proofs.steps.served_after_a_move.Goals as goal
 

@@ -1,6 +1,6 @@
 use Rattle.std.proofs.Common.{◌≡◌, sym, ap, ◌∙◌, subst}
 use Rattle.cap_arena.specs.Lists.{IsLists, lists_of}
-use Rattle.cap_arena.specs.Calls.{node, Adds}
+use Rattle.cap_arena.specs.Calls.{Adds, node}
 use Rattle.cap_arena.proofs.Additions.{if_ok, on_err, sound_either}
 use Rattle.cap_arena.proofs.lists.TripleLists.add_tested.Goals as goal
 

@@ -1,6 +1,6 @@
 use Rattle.std.proofs.Common.{◌∙◌, ap}
 use Rattle.cap_arena.specs.Walks.{key_after}
-use Rattle.cap_arena.specs.Lists.{lists_of, OfRecall, keys}
+use Rattle.cap_arena.specs.Lists.{OfRecall, keys, lists_of}
 use Rattle.cap_arena.proofs.Readers.{next_of_recall}
 use Rattle.cap_arena.proofs.lists.TripleLists.newer.Goals as goal
 

@@ -1,7 +1,7 @@
 use Rattle.std.proofs.Common.{◌∙◌, ap}
 use Rattle.std.specs.Option.{option_and_then}
 use Rattle.cap_arena.specs.Walks.{key_after}
-use Rattle.cap_arena.specs.Lists.{lists_of, OfClient, keys, node_at}
+use Rattle.cap_arena.specs.Lists.{OfClient, keys, lists_of, node_at}
 use Rattle.cap_arena.proofs.Readers.{next_of_the_client}
 use Rattle.cap_arena.proofs.lists.TripleLists.next_of_client.Goals as goal
 

@@ -1,7 +1,7 @@
 use Rattle.std.proofs.Common.{◌∙◌, ap}
 use Rattle.std.specs.Option.{option_and_then}
 use Rattle.cap_arena.specs.Walks.{key_after}
-use Rattle.cap_arena.specs.Lists.{lists_of, OfInode, keys, node_at}
+use Rattle.cap_arena.specs.Lists.{OfInode, keys, lists_of, node_at}
 use Rattle.cap_arena.proofs.Readers.{next_of_inode}
 use Rattle.cap_arena.proofs.lists.TripleLists.next_of_ino.Goals as goal
 

@@ -1,4 +1,4 @@
-use Rattle.std.proofs.Common.{sym, subst}
+use Rattle.std.proofs.Common.{subst, sym}
 use Rattle.cap_arena.specs.Places.{moved_slots}
 use Rattle.cap_arena.specs.Lists.{IsLists, lists_of}
 use Rattle.cap_arena.specs.Calls.{Touches}

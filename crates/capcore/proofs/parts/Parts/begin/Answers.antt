@@ -1,6 +1,18 @@
 use Rattle.std.proofs.Common.{◌≡◌, length, refl, sym, ap, subst, arith}
-use Rattle.capsteps.{proofs.EntryKept.{request-less, others-have_all}, proofs.EntryRequests.{below-of_request, effect-affected, keeps-of_request, affects-of_request}, specs.Begun.{AreCountedIn}, specs.EntryRequest.{StillKept, table_after}}
-use Rattle.capcore.{proofs.Begun.{on_err, one-begun}, proofs.Common.{Affected, changes-still, effect, effect_unless, Endings, entry_event, Event, Holder, none-judged, request-table, room-for, plain, Scene, State, view_of}, proofs.EntryWhole.{effect-answer}, proofs.Unaffected.{kept_scene}, specs.UnderWay.{HasBegun, MayBegin, event_of, state_of}, specs.declared.parts.Answer.TheVariants.{Requested}, specs.declared.parts.Effect.{Effect}, specs.declared.parts.MovingEvent.{MovingEvent}, specs.declared.parts.Parts.{Parts}}
+use Rattle.capstep.proofs.EntryKept.{others-have_all, request-less}
+use Rattle.capstep.proofs.EntryRequests.{affects-of_request, below-of_request, effect-affected, keeps-of_request}
+use Rattle.capstep.specs.Begun.{AreCountedIn}
+use Rattle.capstep.specs.EntryRequest.{StillKept, table_after}
+use Rattle.capcore.proofs.Begun.{on_err, one-begun}
+use Rattle.capcore.proofs.Common.{Affected, Endings, Event, Holder, Scene, State, changes-still, effect, effect_unless, entry_event, none-judged, plain}
+use Rattle.capcore.proofs.Common.{request-table, room-for, view_of}
+use Rattle.capcore.proofs.EntryWhole.{effect-answer}
+use Rattle.capcore.proofs.Unaffected.{kept_scene}
+use Rattle.capcore.specs.UnderWay.{HasBegun, MayBegin, event_of, state_of}
+use Rattle.capcore.specs.declared.parts.Answer.TheVariants.{Requested}
+use Rattle.capcore.specs.declared.parts.Effect.{Effect}
+use Rattle.capcore.specs.declared.parts.MovingEvent.{MovingEvent}
+use Rattle.capcore.specs.declared.parts.Parts.{Parts}
 use Rattle.capcore.proofs.parts.Parts.begin.Goals as goal
 
 -- for want of memory all is as it was

@@ -1,5 +1,9 @@
 use Rattle.std.proofs.Common.{◌≡◌, ◌≤◌, length, [], refl, ap, ◌∙◌, arith, vec_capacity, vec_len}
-use Rattle.capcore.{proofs.Begun.{few-earlier}, proofs.Common.{DueEndings, has_list, plain, State}, proofs.EntryWhole.{no_list-request, request-reply}, proofs.parts.Parts.close.Goals.{in-Done, in-Dropped+in-Ok, in-Requested, in-Awaited, then-not-is_empty, else-not-is_empty}, specs.declared.parts.Answer.TheVariants.{Awaited}}
+use Rattle.capcore.proofs.Begun.{few-earlier}
+use Rattle.capcore.proofs.Common.{DueEndings, State, has_list, plain}
+use Rattle.capcore.proofs.EntryWhole.{no_list-request, request-reply}
+use Rattle.capcore.proofs.parts.Parts.close.Goals.{else-not-is_empty, in-Awaited, in-Done, in-Dropped+in-Ok, in-Requested, then-not-is_empty}
+use Rattle.capcore.specs.declared.parts.Answer.TheVariants.{Awaited}
 use Rattle.capcore.proofs.parts.Parts.close.Goals as goal
 
 pub copy_of_reply-for_history-requires : goal.copy_of_reply-for_history-requires

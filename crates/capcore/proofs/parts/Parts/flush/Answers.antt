@@ -1,7 +1,13 @@
 use Rattle.std.proofs.Common.{is_some, ◌≡◌, length, refl, sym, ap, subst, ◌∙◌, arith}
 use Rattle.std.specs.FinSet as set
-use Rattle.capsteps.proofs.Capnotes.Noting.{changes-all}
-use Rattle.capcore.{proofs.Begun.{on_err, one-begun}, proofs.Common.{Affected, AffectsOne, alike-less, AreCounted, direct, Endings, Event, HoldAlike, Holder, InoSet, IsTable, KeptTable, known_of, none-judged, one-counts, one-inode, permitted_of, plain, Reply, room-for, says, still-there, Table, touched, with_flush}, proofs.Flushed.{below-of_flush, flush-calls, flush-direct, flush-table, flush-affects}, specs.UnderWay.{state_of}, specs.declared.parts.Answer.TheVariants.{Done}, specs.declared.parts.Parts.{Parts}}
+use Rattle.step_model.proofs.Noting.{changes-all}
+use Rattle.capcore.proofs.Begun.{on_err, one-begun}
+use Rattle.capcore.proofs.Common.{Affected, AffectsOne, AreCounted, Endings, Event, HoldAlike, Holder, InoSet, IsTable, KeptTable, Reply, Table, alike-less}
+use Rattle.capcore.proofs.Common.{direct, known_of, none-judged, one-counts, one-inode, permitted_of, plain, room-for, says, still-there, touched, with_flush}
+use Rattle.capcore.proofs.Flushed.{below-of_flush, flush-affects, flush-calls, flush-direct, flush-table}
+use Rattle.capcore.specs.UnderWay.{state_of}
+use Rattle.capcore.specs.declared.parts.Answer.TheVariants.{Done}
+use Rattle.capcore.specs.declared.parts.Parts.{Parts}
 use Rattle.capcore.proofs.parts.Parts.flush.Goals as goal
 
 pub alter-requires : goal.alter-requires

@@ -1,6 +1,17 @@
-use Rattle.std.proofs.{Common.{Contains, Some, is_some, ◌≡◌, ◌+◌, ◌∷◌, [], length, None, refl, sym, ap, subst, ◌∙◌, arith}, lemmas.List.{length-append}, lemmas.List.Elements.{Contains-push}}
+use Rattle.std.proofs.Common.{Contains, Some, is_some, ◌≡◌, ◌+◌, ◌∷◌, [], length, None, refl, sym, ap, subst, ◌∙◌, arith}
+use Rattle.std.proofs.lemmas.List.{length-append}
+use Rattle.std.proofs.lemmas.List.Elements.{Contains-push}
 use Rattle.std.specs.FinSet as set
-use Rattle.capcore.{proofs.Begun.{one-begun}, proofs.Common.{Affected, AffectsOne, alike-less, AreCounted, arrival_tests, Awaits, changes-still, CountedLocks, direct, Endings, enqueues, Event, found_by_number, Holder, InoSet, IsJudged, IsLockMap, judged_again, LockMap, next_request, one-counts, one-inode, Operation, operation_needs, operation_of, plain, rejection_of, Request, request_at, room-for, Scene, still-there, Ticket, view_of, waiting_tests, with_request}, proofs.LockRequests.{operation-for, enqueuing-again, enqueuing-direct, enqueuing-rejection, enqueuing-affects, below-of_operation, order-of_operation, room-left}, specs.UnderWay.{operation_event, state_of}, specs.declared.parts.Answer.TheVariants.{Awaited}, specs.declared.parts.Parts.{Parts}}
+use Rattle.capcore.proofs.Begun.{one-begun}
+use Rattle.capcore.proofs.Common.{Affected, AffectsOne, AreCounted, Awaits, CountedLocks, Endings, Event, Holder, InoSet, IsJudged, IsLockMap, LockMap}
+use Rattle.capcore.proofs.Common.{Operation, Request, Scene, Ticket, alike-less, arrival_tests, changes-still, direct, enqueues, found_by_number, judged_again}
+use Rattle.capcore.proofs.Common.{next_request, one-counts, one-inode, operation_needs, operation_of, plain, rejection_of, request_at, room-for, still-there}
+use Rattle.capcore.proofs.Common.{view_of, waiting_tests, with_request}
+use Rattle.capcore.proofs.LockRequests.{below-of_operation, enqueuing-affects, enqueuing-again, enqueuing-direct, enqueuing-rejection, operation-for}
+use Rattle.capcore.proofs.LockRequests.{order-of_operation, room-left}
+use Rattle.capcore.specs.UnderWay.{operation_event, state_of}
+use Rattle.capcore.specs.declared.parts.Answer.TheVariants.{Awaited}
+use Rattle.capcore.specs.declared.parts.Parts.{Parts}
 use Rattle.capcore.proofs.parts.Parts.lock_request.Goals as goal
 
 pub enqueue_tested-ticket-requires-clause-room : goal.enqueue_tested-ticket-requires-clause-room

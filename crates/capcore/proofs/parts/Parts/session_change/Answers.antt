@@ -1,6 +1,15 @@
-use Rattle.std.{proofs.Common.{◌≡◌, ◌≤◌, ◌++◌, length, sym, ap, subst, ◌∙◌, arith}, specs.Option.{option_map}}
-use Rattle.capsteps.specs.declared.settle.Affected.TheVariants.{Inodes}
-use Rattle.capcore.{proofs.Begun.{on_err}, proofs.Common.{AreChanges, dropped_by, Endings, is_end, KeptScene, none-judged, plain, room-for, session_changed, session_event, SessionTable, Sets, view, view_of}, proofs.Granted.{left-permitted}, proofs.SessionStep.{few-waiting, few-messages, noted-few, change-begun}, specs.UnderWay.{HasBegun, state_of}, specs.declared.parts.Answer.TheVariants.{Dropped}, specs.declared.parts.Effect.{Effect}, specs.declared.parts.Parts.{Parts}}
+use Rattle.std.proofs.Common.{◌≡◌, ◌≤◌, ◌++◌, length, sym, ap, subst, ◌∙◌, arith}
+use Rattle.std.specs.Option.{option_map}
+use Rattle.capstep.specs.declared.settle.Affected.TheVariants.{Inodes}
+use Rattle.capcore.proofs.Begun.{on_err}
+use Rattle.capcore.proofs.Common.{AreChanges, Endings, KeptScene, SessionTable, Sets, dropped_by, is_end, none-judged, plain, room-for, session_changed}
+use Rattle.capcore.proofs.Common.{session_event, view, view_of}
+use Rattle.capcore.proofs.Granted.{left-permitted}
+use Rattle.capcore.proofs.SessionStep.{change-begun, few-messages, few-waiting, noted-few}
+use Rattle.capcore.specs.UnderWay.{HasBegun, state_of}
+use Rattle.capcore.specs.declared.parts.Answer.TheVariants.{Dropped}
+use Rattle.capcore.specs.declared.parts.Effect.{Effect}
+use Rattle.capcore.specs.declared.parts.Parts.{Parts}
 use Rattle.capcore.proofs.parts.Parts.session_change.Goals as goal
 
 -- for want of memory all is as it was

@@ -1,6 +1,17 @@
 use Rattle.std.proofs.Common.{◌≡◌, ◌+◌, ◌++◌, ◌∷◌, [], List, length, refl, ap, sym, subst, ◌∙◌}
-use Rattle.capsteps.{proofs.Placed.{all-revoked}, specs.Caprules.History.{made_row}}
-use Rattle.capcore.{proofs.Apart.{held-apart}, proofs.Bounded.{direct-order, moves-bounded}, proofs.Common.{direct, IsAnswered, IsSound, Recorded, recorded, Reply, Row, rows_of, Scene, ShowsWhatIsTold, State, Step, step-shown}, proofs.Growing.{more-recorded, replays-more}, proofs.Kept.{IsKept, recorded-kept}, proofs.OtherLocks.{other-locks}, proofs.Promised.{denied-exactly, rejection-unchanged}, proofs.Servings.{served-denied}, proofs.ShownWords.{takes-only_so, shows-told, shows-permitted, all-takes_unshown}, proofs.step.Core.apply.Goals.{In-Ok}, specs.Promised.{IsPromised}}
+use Rattle.capstep.proofs.Placed.{all-revoked}
+use Rattle.step_model.specs.History.{made_row}
+use Rattle.capcore.proofs.Apart.{held-apart}
+use Rattle.capcore.proofs.Bounded.{direct-order, moves-bounded}
+use Rattle.capcore.proofs.Common.{IsAnswered, IsSound, Recorded, Reply, Row, Scene, ShowsWhatIsTold, State, Step, direct, recorded, rows_of, step-shown}
+use Rattle.capcore.proofs.Growing.{more-recorded, replays-more}
+use Rattle.capcore.proofs.Kept.{IsKept, recorded-kept}
+use Rattle.capcore.proofs.OtherLocks.{other-locks}
+use Rattle.capcore.proofs.Promised.{denied-exactly, rejection-unchanged}
+use Rattle.capcore.proofs.Servings.{served-denied}
+use Rattle.capcore.proofs.ShownWords.{all-takes_unshown, shows-permitted, shows-told, takes-only_so}
+use Rattle.capcore.proofs.step.Core.apply.Goals.{In-Ok}
+use Rattle.capcore.specs.Promised.{IsPromised}
 use Rattle.capcore.proofs.step.Core.apply.Goals as goal
 
 pub step-requires-clause-table : goal.step-requires-clause-table

@@ -1,6 +1,7 @@
 use Rattle.std.proofs.Common.{sym, ap, subst, ◌∙◌}
-use Rattle.capsteps.proofs.Capnotes.Noting.{changes-unseen}
-use Rattle.capcore.proofs.{Common.{changes-still, direct, Event, IsDirect, State, view_of}, Effects.{looked-up}}
+use Rattle.step_model.proofs.Noting.{changes-unseen}
+use Rattle.capcore.proofs.Common.{Event, IsDirect, State, changes-still, direct, view_of}
+use Rattle.capcore.proofs.Effects.{looked-up}
 use Rattle.capcore.proofs.world.World.act.Goals as goal
 
 pub returns-in-Unblock-clause-changes : goal.returns-in-Unblock-clause-changes

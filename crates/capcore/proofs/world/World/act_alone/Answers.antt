@@ -1,5 +1,6 @@
 use Rattle.std.proofs.Common.{subst}
-use Rattle.capcore.proofs.{Common.{IsSound, IsTree, State}, Steps.{alone-answered, no_list-direct}}
+use Rattle.capcore.proofs.Common.{IsSound, IsTree, State}
+use Rattle.capcore.proofs.Steps.{alone-answered, no_list-direct}
 use Rattle.capcore.proofs.world.World.act_alone.Goals as goal
 
 pub alone-requires : goal.alone-requires

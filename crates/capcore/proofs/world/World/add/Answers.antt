@@ -1,7 +1,11 @@
 use Rattle.std.proofs.Common.{◌≡◌, ◌+◌, None, refl, sym, subst, arith}
 use Rattle.inotree.proofs.Passing.{passed-create}
-use Rattle.capsteps.specs.Lockmachine.Counts as counting
-use Rattle.capcore.{proofs.Common.{CountedLocks, create_tests, first_failing, State}, proofs.Unaffected.{birth-whole, undone-whole}, proofs.Undone.{added-dropped, not_given}, specs.UnderWay.{IsWhole}, specs.declared.parts.Parts.{Parts}}
+use Rattle.lockmachine.specs.Counts as counting
+use Rattle.capcore.proofs.Common.{CountedLocks, State, create_tests, first_failing}
+use Rattle.capcore.proofs.Unaffected.{birth-whole, undone-whole}
+use Rattle.capcore.proofs.Undone.{added-dropped, not_given}
+use Rattle.capcore.specs.UnderWay.{IsWhole}
+use Rattle.capcore.specs.declared.parts.Parts.{Parts}
 use Rattle.capcore.proofs.world.World.add.Goals as goal
 
 pub overflow_add-ino : goal.overflow_add-ino

@@ -1,5 +1,6 @@
 use Rattle.std.proofs.Common.{◌≡◌, None, sym, subst}
-use Rattle.capcore.proofs.{Common.{first_failing, new_session_tests, State}, Unaffected.{session-whole}}
+use Rattle.capcore.proofs.Common.{State, first_failing, new_session_tests}
+use Rattle.capcore.proofs.Unaffected.{session-whole}
 use Rattle.capcore.proofs.world.World.connect.Goals as goal
 
 pub invariant_of-self : goal.invariant_of-self

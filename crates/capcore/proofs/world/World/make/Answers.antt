@@ -1,6 +1,8 @@
 use Rattle.std.proofs.Common.{◌≡◌, None, ap, sym, subst, ◌∙◌}
 use Rattle.std.specs.FinMap as map
-use Rattle.capcore.proofs.{Common.{changes-still, create_tests, first_failing, inode_tests, new_inode_tests, owned_by, pass-both, plain, State, view_of, Write}, Effects.{birth-rejection, birth-refused, birth-done}, Rejections.{access-at, inode-passed}}
+use Rattle.capcore.proofs.Common.{State, Write, changes-still, create_tests, first_failing, inode_tests, new_inode_tests, owned_by, pass-both, plain, view_of}
+use Rattle.capcore.proofs.Effects.{birth-done, birth-refused, birth-rejection}
+use Rattle.capcore.proofs.Rejections.{access-at, inode-passed}
 use Rattle.capcore.proofs.world.World.make.Goals as goal
 
 pub returns-in-Some-clause-direct : goal.returns-in-Some-clause-direct

@@ -1,6 +1,10 @@
 use Rattle.std.proofs.Common.{ap, sym, subst, ◌∙◌, refl}
-use Rattle.capsteps.specs.Capview.Sight.{Shows}
-use Rattle.capcore.proofs.{Common.{first_failing, inode_tests, IsLike, like-unseen, new_snapshot_tests, pass-both, plain, shows-tree, Snapshot, State, view, view_of, with_snapshot}, Effects.{making-rejection, snapshot-refused}, Rejections.{access-at, inode-passed}, Unaffected.{changed-whole}}
+use Rattle.policy_view.specs.Sight.{Shows}
+use Rattle.capcore.proofs.Common.{IsLike, Snapshot, State, first_failing, inode_tests, like-unseen, new_snapshot_tests, pass-both, plain, shows-tree, view}
+use Rattle.capcore.proofs.Common.{view_of, with_snapshot}
+use Rattle.capcore.proofs.Effects.{making-rejection, snapshot-refused}
+use Rattle.capcore.proofs.Rejections.{access-at, inode-passed}
+use Rattle.capcore.proofs.Unaffected.{changed-whole}
 use Rattle.capcore.proofs.world.World.make_snapshot.Goals as goal
 
 pub returns-in-Some-clause-direct : goal.returns-in-Some-clause-direct

@@ -1,6 +1,15 @@
-use Rattle.std.proofs.{Common.{◌≡◌, ◌+◌, ◌++◌, List, length, sym, ap, subst, ◌∙◌, arith}, lemmas.List.{length-append}}
-use Rattle.capsteps.specs.Capnotes.Noted.{Noted}
-use Rattle.capcore.{proofs.Begun.{ended-answered, ended-known, ended-numbers, few-earlier, fewer-places, shown-counted, shown-kept, shown-rest}, proofs.Closing.{ends-sessions}, proofs.Common.{AreChanges, AreCounted, changes-still, Ended, Endings, Event, IsAnswered, IsLockMap, IsSound, IsTable, KeptScene, KnownSets, NumbersLeft, plain, Scene, SessionTable, shown, State, Table, view, view_of}, proofs.Rejections.{judged-at, rejection-answered}, proofs.world.World.move_locks.Goals.{After-end, After-close}, specs.UnderWay.{MayBegin, HasBegun, answer_of, AreKept, earlier_of, event_of, state_of}, specs.declared.parts.Effect.{Effect}, specs.declared.parts.Parts.{Parts}}
+use Rattle.std.proofs.Common.{◌≡◌, ◌+◌, ◌++◌, List, length, sym, ap, subst, ◌∙◌, arith}
+use Rattle.std.proofs.lemmas.List.{length-append}
+use Rattle.step_model.specs.NotedChanges.{Noted}
+use Rattle.capcore.proofs.Begun.{ended-answered, ended-known, ended-numbers, few-earlier, fewer-places, shown-counted, shown-kept, shown-rest}
+use Rattle.capcore.proofs.Closing.{ends-sessions}
+use Rattle.capcore.proofs.Common.{AreChanges, AreCounted, Ended, Endings, Event, IsAnswered, IsLockMap, IsSound, IsTable, KeptScene, KnownSets, NumbersLeft}
+use Rattle.capcore.proofs.Common.{Scene, SessionTable, State, Table, changes-still, plain, shown, view, view_of}
+use Rattle.capcore.proofs.Rejections.{judged-at, rejection-answered}
+use Rattle.capcore.proofs.world.World.move_locks.Goals.{After-close, After-end}
+use Rattle.capcore.specs.UnderWay.{AreKept, HasBegun, MayBegin, answer_of, earlier_of, event_of, state_of}
+use Rattle.capcore.specs.declared.parts.Effect.{Effect}
+use Rattle.capcore.specs.declared.parts.Parts.{Parts}
 use Rattle.capcore.proofs.world.World.move_locks.Goals as goal
 
 -- ---- an event that is rejected

@@ -1,5 +1,7 @@
 use Rattle.std.proofs.Common.{◌≡◌, None, ap, refl, rules}
-use Rattle.capcore.proofs.{Common.{entry_at, HasRoom, Holder, IsOpening, State, Table}, Counts.{opening-counted}, Sounding.{opening-sound}}
+use Rattle.capcore.proofs.Common.{HasRoom, Holder, IsOpening, State, Table, entry_at}
+use Rattle.capcore.proofs.Counts.{opening-counted}
+use Rattle.capcore.proofs.Sounding.{opening-sound}
 use Rattle.capcore.proofs.world.World.new.Goals as goal
 
 pub invariant_of-result : goal.invariant_of-result

@@ -1,6 +1,6 @@
 use Rattle.std.proofs.Common.{[], ◌∷◌, refl, sym, ap, subst, ◌∙◌}
-use Rattle.capsteps.proofs.Capnotes.Noting.{changes-one}
-use Rattle.capcore.proofs.Common.{AreChanges, changes-still, State, view_of, ViewChange}
+use Rattle.step_model.proofs.Noting.{changes-one}
+use Rattle.capcore.proofs.Common.{AreChanges, State, ViewChange, changes-still, view_of}
 use Rattle.capcore.proofs.world.World.open_session.Goals as goal
 
 pub returns-in-Some-clause-changes : goal.returns-in-Some-clause-changes

@@ -1,6 +1,16 @@
-use Rattle.std.proofs.{Common.{◌≡◌, ◌≤◌, [], List, length, filter, Some, refl, sym, ap, subst, ◌∙◌, arith}, lemmas.List.Sums.{length-filter, count_by-le-length}}
-use Rattle.capsteps.{proofs.Telling.{given-held}, specs.Capnotes.DueEndings.{AreEndsOf}}
-use Rattle.capcore.{proofs.Common.{after_messages, alike-where, AreChanges, AreCounted, ByTest, changed_where, changes-still, Ended, Event, first_failing, first_messages, is_left, is_of_client, IsAnswered, IsSound, IsTable, KeptTable, Message, plain, rejection-before, Reply, Said, session_tests, State, view_of, with_given}, proofs.Counts.{counted-where}, proofs.Polled.{poll-answered, polled-new}, proofs.Rejections.{rejection-answered}, proofs.Unaffected.{alike-kept}, proofs.world.World.poll.Goals.{After-drop-told}, specs.UnderWay.{AreKept}}
+use Rattle.std.proofs.Common.{◌≡◌, ◌≤◌, [], List, length, filter, Some, refl, sym, ap, subst, ◌∙◌, arith}
+use Rattle.std.proofs.lemmas.List.Sums.{count_by-le-length, length-filter}
+use Rattle.capstep.proofs.Telling.{given-held}
+use Rattle.step_model.specs.DueEndings.{AreEndsOf}
+use Rattle.capcore.proofs.Common.{AreChanges, AreCounted, ByTest, Ended, Event, IsAnswered, IsSound, IsTable, KeptTable, Message, Reply, Said, State}
+use Rattle.capcore.proofs.Common.{after_messages, alike-where, changed_where, changes-still, first_failing, first_messages, is_left, is_of_client, plain}
+use Rattle.capcore.proofs.Common.{rejection-before, session_tests, view_of, with_given}
+use Rattle.capcore.proofs.Counts.{counted-where}
+use Rattle.capcore.proofs.Polled.{poll-answered, polled-new}
+use Rattle.capcore.proofs.Rejections.{rejection-answered}
+use Rattle.capcore.proofs.Unaffected.{alike-kept}
+use Rattle.capcore.proofs.world.World.poll.Goals.{After-drop-told}
+use Rattle.capcore.specs.UnderWay.{AreKept}
 use Rattle.capcore.proofs.world.World.poll.Goals as goal
 
 -- ---- no open session

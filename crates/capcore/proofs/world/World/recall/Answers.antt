@@ -1,5 +1,9 @@
-use Rattle.std.proofs.Common.{sym, ap, subst}
-use Rattle.capcore.{proofs.Common.{AreChanges, changes-still, Event, IsAnswered, KeptTable, plain, Reply, Said, State, view_of, with_table}, proofs.Counts.{recalled-counted}, proofs.Recalled.{recalled-sound, recalled-kept, recall-answered}, proofs.world.World.recall.Goals.{After-new}, specs.declared.parts.Parts.{Parts}}
+use Rattle.std.proofs.Common.{ap, subst, sym}
+use Rattle.capcore.proofs.Common.{AreChanges, Event, IsAnswered, KeptTable, Reply, Said, State, changes-still, plain, view_of, with_table}
+use Rattle.capcore.proofs.Counts.{recalled-counted}
+use Rattle.capcore.proofs.Recalled.{recall-answered, recalled-kept, recalled-sound}
+use Rattle.capcore.proofs.world.World.recall.Goals.{After-new}
+use Rattle.capcore.specs.declared.parts.Parts.{Parts}
 use Rattle.capcore.proofs.world.World.recall.Goals as goal
 
 module _ (c : After-new) where

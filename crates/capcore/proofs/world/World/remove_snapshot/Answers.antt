@@ -1,6 +1,10 @@
 use Rattle.std.proofs.Common.{ap, sym, subst, ◌∙◌, refl}
-use Rattle.capsteps.specs.Capview.Sight.{Shows}
-use Rattle.capcore.proofs.{Common.{first_failing, inode_tests, IsLike, like-unseen, old_snapshot_tests, pass-both, plain, shows-tree, Snapshot, State, view, view_of, without_snapshot}, Effects.{removing-rejection, snapshot-kept}, Rejections.{access-at, inode-passed}, Unaffected.{changed-whole}}
+use Rattle.policy_view.specs.Sight.{Shows}
+use Rattle.capcore.proofs.Common.{IsLike, Snapshot, State, first_failing, inode_tests, like-unseen, old_snapshot_tests, pass-both, plain, shows-tree, view}
+use Rattle.capcore.proofs.Common.{view_of, without_snapshot}
+use Rattle.capcore.proofs.Effects.{removing-rejection, snapshot-kept}
+use Rattle.capcore.proofs.Rejections.{access-at, inode-passed}
+use Rattle.capcore.proofs.Unaffected.{changed-whole}
 use Rattle.capcore.proofs.world.World.remove_snapshot.Goals as goal
 
 pub returns-in-Some-clause-direct : goal.returns-in-Some-clause-direct

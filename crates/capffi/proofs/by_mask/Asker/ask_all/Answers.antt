@@ -1,5 +1,5 @@
 use Rattle.capgrant.specs.declared.access.Access.{Access}
-use Rattle.capgrant.specs.declared.access.Access.TheVariants.{Read, Write, SetVxattr, Snapshot, Chown, Chgrp}
+use Rattle.capgrant.specs.declared.access.Access.TheVariants.{Chgrp, Chown, Read, SetVxattr, Snapshot, Write}
 use Rattle.capgrant.specs.declared.answer.Verdict.{Verdict}
 use Rattle.capffi.specs.declared.passed.Check.{Check}
 use Rattle.capffi.specs.Blocks.{bare_names}

@@ -1,5 +1,5 @@
 use Rattle.std.proofs.Common.{◌∙◌, arith, sym}
-use Rattle.capffi.proofs.Entries.{rest_more, none_more, found_here, found_nowhere}
+use Rattle.capffi.proofs.Entries.{found_here, found_nowhere, none_more, rest_more}
 use Rattle.capffi.proofs.judging.Case.first_allowing.Goals as goal
 
 pub returns-then-allows-clause-exact : goal.returns-then-allows-clause-exact

@@ -1,6 +1,6 @@
 use Rattle.std.proofs.Common.{◌∙◌, arith, sym}
 use Rattle.std.proofs.lemmas.List.{length-append}
-use Rattle.capffi.proofs.Entries.{rest_more, one_more_fails, one_more_allows}
+use Rattle.capffi.proofs.Entries.{one_more_allows, one_more_fails, rest_more}
 use Rattle.capffi.proofs.judging.Case.first_failures.Goals as goal
 use Rattle.capffi.proofs.judging.Case.first_failures.Goals.{in-Some, in_default}
 

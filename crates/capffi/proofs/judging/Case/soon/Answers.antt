@@ -1,7 +1,7 @@
 use Rattle.std.proofs.Common.{◌≡◌, ◌∙◌, ℕ, List, Option, true, ap, rules, refl, inl, inr, arith}
 use Rattle.std.specs.Prelude.{is_none}
 use Rattle.capgrant.specs.declared.rule.Rule.{Rule}
-use Rattle.capffi.proofs.Entries.{rest_more, none_more, found_here, openly, rules_more, allowed_answer, denied_answer}
+use Rattle.capffi.proofs.Entries.{allowed_answer, denied_answer, found_here, none_more, openly, rest_more, rules_more}
 use Rattle.capffi.proofs.judging.Case.soon.Goals as goal
 
 pub loop-place-preserved : goal.loop-place-preserved

@@ -1,6 +1,6 @@
 use Rattle.std.proofs.Common.{true, sym, ap, ◌∙◌}
 use Rattle.capgrant.specs.Question.{Question}
-use Rattle.capgrant.specs.Failing.{fails_fsname, fails_uid, fails_gids, fails_path}
+use Rattle.capgrant.specs.Failing.{fails_fsname, fails_gids, fails_path, fails_uid}
 use Rattle.capgrant.specs.Verdict.{allows, may_allow}
 use Rattle.capgrant.proofs.Verdicts.{among_first}
 use Rattle.capgrant.proofs.question.Question.both_granted.Goals as goal

@@ -1,6 +1,6 @@
 use Rattle.std.proofs.Common.{◌∙◌, arith, sym}
 use Rattle.std.proofs.lemmas.List.{length-append}
-use Rattle.capgrant.proofs.Verdicts.{one_more_fails, one_more_allows}
+use Rattle.capgrant.proofs.Verdicts.{one_more_allows, one_more_fails}
 use Rattle.capgrant.proofs.question.Question.first_failures.Goals as goal
 use Rattle.capgrant.proofs.question.Question.first_failures.Goals.{in-Some, in_default}
 

@@ -1,7 +1,7 @@
 use Rattle.std.proofs.Common.{List, map, inr, refl, ap, ◌∙◌, arith}
 use Rattle.capscript.specs.declared.plan.Job.{Job}
 use Rattle.capscript.specs.Jobs.{Calls, calls_of}
-use Rattle.capscript.proofs.JobLists.{new_gets_job, is_unknown}
+use Rattle.capscript.proofs.JobLists.{is_unknown, new_gets_job}
 use Rattle.capscript.proofs.plan.Plan.add_job.Goals as goal
 
 pub returns-then-len-eq-MAX_CLIENTS-clause-err : goal.returns-then-len-eq-MAX_CLIENTS-clause-err

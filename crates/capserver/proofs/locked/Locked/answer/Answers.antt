@@ -1,4 +1,4 @@
-use Rattle.capserver.proofs.Holding.{known_of, fresh_of}
+use Rattle.capserver.proofs.Holding.{fresh_of, known_of}
 use Rattle.capserver.proofs.locked.Locked.answer.Goals as goal
 
 pub returns-clause-fresh : goal.returns-clause-fresh

@@ -1,4 +1,4 @@
-use Rattle.capserver.proofs.Holding.{led_first, held_first}
+use Rattle.capserver.proofs.Holding.{held_first, led_first}
 use Rattle.capserver.proofs.locked.Locked.new.Goals as goal
 
 pub invariant_of-result : goal.invariant_of-result

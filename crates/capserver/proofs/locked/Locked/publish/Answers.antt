@@ -1,10 +1,10 @@
-use Rattle.std.proofs.Common.{Option, MatchOption, ap, sym, subst}
+use Rattle.std.proofs.Common.{MatchOption, Option, ap, subst, sym}
 use mathlib.Core.List.{IsPrefix}
-use Rattle.capcore.specs.Caprules.History.{Recorded}
-use Rattle.onecall.specs.Cappass.Published.Publishing.{Publishing}
+use Rattle.step_model.specs.History.{Recorded}
+use Rattle.snapshot.specs.Publishing.{Publishing}
 use Rattle.capserver.specs.Held.{IsHeld}
-use Rattle.onecall.proofs.Cappass.Published.Publishing.{held_of}
-use Rattle.capserver.proofs.Holding.{legal_of, room_of, held_mended, held_shown, ready_of, all_of}
+use Rattle.snapshot.proofs.Publishing.{held_of}
+use Rattle.capserver.proofs.Holding.{all_of, held_mended, held_shown, legal_of, ready_of, room_of}
 use Rattle.capserver.proofs.locked.Locked.publish.Given.{Over}
 use Rattle.capserver.proofs.locked.Locked.publish.Goals as goal
 

@@ -1,14 +1,14 @@
 use Rattle.std.proofs.Common.{◌∙◌, ◌≤◌, ℕ, List, Option, MatchOption, ap, sym, subst}
 use Rattle.std.specs.Option.{option_copied_mut}
 use mathlib.Core.List.{IsPrefix}
-use Rattle.capcore.specs.Capview.declared.change.ViewChange.{ViewChange}
-use Rattle.capcore.specs.Capview.Changes.{AreChanges}
-use Rattle.capcore.specs.Caprules.History.{Recorded}
-use Rattle.capcore.specs.Caprules.Noted.{view_of}
+use Rattle.policy_view.specs.declared.change.ViewChange.{ViewChange}
+use Rattle.policy_view.specs.Changes.{AreChanges}
+use Rattle.step_model.specs.History.{Recorded}
+use Rattle.step_model.specs.Noted.{view_of}
 use Rattle.capcore.specs.Promised.{IsPromised}
-use Rattle.onecall.specs.Cappass.Published.Publishing.{Publishing}
+use Rattle.snapshot.specs.Publishing.{Publishing}
 use Rattle.capserver.specs.Held.{IsHeld}
-use Rattle.onecall.specs.Cappass.Passes.{pass_id}
+use Rattle.snapshot.specs.Passes.{pass_id}
 use Rattle.capserver.proofs.Holding.{begins_next, held_next, legal_of, room_of}
 use Rattle.capserver.proofs.locked.Locked.step.Goals as goal
 

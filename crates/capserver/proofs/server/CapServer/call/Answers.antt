@@ -1,4 +1,4 @@
-use Rattle.std.specs.Prelude.{Result, Ok, Err, IfOk}
+use Rattle.std.specs.Prelude.{Err, IfOk, Ok, Result}
 use Rattle.capserver.proofs.server.CapServer.call.Goals as goal
 
 answered_as : {T E : Type 0} → (Said Fact : T → Type 0) → ((x : T) → Said x → Fact x) → (result : Result T E) → IfOk result Said → IfOk result Fact

@@ -1,9 +1,9 @@
 use Rattle.std.proofs.Common.{◌≡◌, List, ap, sym, subst, arith, length}
 use mathlib.Core.List.{IsPrefix}
-use Rattle.capcore.specs.Capevents.declared.row.Row.{Row}
-use Rattle.capcore.specs.Caprules.History.{Recorded}
-use Rattle.onecall.specs.Cappass.Passes.{AllBegin}
-use Rattle.onecall.proofs.Cappass.Numbering.{begin_longer}
+use Rattle.step_model.specs.declared.row.Row.{Row}
+use Rattle.step_model.specs.History.{Recorded}
+use Rattle.snapshot.specs.Passes.{AllBegin}
+use Rattle.snapshot.proofs.Numbering.{begin_longer}
 use Rattle.capserver.proofs.server.CapServer.close.Goals as goal
 
 pub returns-clause-rows : goal.returns-clause-rows

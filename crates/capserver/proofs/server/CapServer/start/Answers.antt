@@ -1,6 +1,6 @@
 use Rattle.std.proofs.Common.{subst}
-use Rattle.onecall.specs.Cappass.Published.Pairs.{origin_of}
-use Rattle.onecall.specs.Cappass.Published.Places.{IsOf}
+use Rattle.snapshot.specs.Pairs.{origin_of}
+use Rattle.snapshot.specs.Places.{IsOf}
 use Rattle.capserver.specs.Opened.{Opened}
 use Rattle.capserver.proofs.server.CapServer.start.Goals as goal
 

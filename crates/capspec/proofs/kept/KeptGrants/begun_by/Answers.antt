@@ -1,9 +1,9 @@
 use Rattle.std.proofs.Common.{sym, subst, ap, ◌∙◌, map, get_or, arith}
-use Rattle.capwords.specs.Paths.{slashed}
-use Rattle.capspec.specs.Begun.{IsBegun, AreAlike, AreBegun}
+use Rattle.capspec.specs.Paths.{slashed}
+use Rattle.capspec.specs.Begun.{AreAlike, AreBegun, IsBegun}
 use Rattle.capspec.proofs.Sharing.{begun_more, known_of}
 use Rattle.capspec.proofs.kept.KeptGrants.begun_by.Goals as goal
-use Rattle.capspec.proofs.kept.KeptGrants.begun_by.Goals.{in-Some, in-None}
+use Rattle.capspec.proofs.kept.KeptGrants.begun_by.Goals.{in-None, in-Some}
 
 pub begun_in-here-requires : goal.begun_in-here-requires
 begun_in-here-requires c =

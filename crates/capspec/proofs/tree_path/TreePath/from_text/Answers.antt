@@ -1,5 +1,5 @@
 use Rattle.std.proofs.Common.{◌≡◌, ◌++◌, List, ℕ, ap, sym, ◌∙◌}
-use Rattle.capwords.specs.Paths.{names_of, slashed}
+use Rattle.capspec.specs.Paths.{names_of, slashed}
 use Rattle.capspec.proofs.Slashed.{same_names}
 use Rattle.capspec.proofs.tree_path.TreePath.from_text.Goals as goal
 

@@ -1,7 +1,7 @@
 use Rattle.std.proofs.Common.{ℕ, List, length, eqb, ap, sym, subst, ◌∙◌, eqb-true, eq-eqb}
 use Rattle.std.specs.List.{starts_with}
 use Rattle.std.specs.Str.{bytes_eq}
-use Rattle.capwords.specs.Paths.{slashed}
+use Rattle.capspec.specs.Paths.{slashed}
 use Rattle.capspec.specs.Begun.{IsBegun}
 use Rattle.capspec.proofs.Led.{led}
 use Rattle.capspec.proofs.tree_path.TreePath.leads_as_begun.Goals as goal

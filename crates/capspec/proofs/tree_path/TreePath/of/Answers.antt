@@ -1,6 +1,6 @@
 use Rattle.std.proofs.Common.{◌++◌, ◌∷◌, [], List, ℕ, ◌+◌, map, drop, ap, sym, ◌∙◌, append_assoc, slice_index_or, Bor}
-use Rattle.capwords.specs.Paths.{names_of, slashed}
-use Rattle.capspec.proofs.OneText.{names_back, rest-cons, all_written}
+use Rattle.capspec.specs.Paths.{names_of, slashed}
+use Rattle.capspec.proofs.OneText.{all_written, names_back, rest-cons}
 use Rattle.capspec.proofs.tree_path.TreePath.of.Goals as goal
 
 pub loop-name-preserved : goal.loop-name-preserved

@@ -1,5 +1,5 @@
 use Rattle.std.proofs.Common.{◌≡◌, ◌++◌, drop, map}
-use Rattle.capwords.specs.Paths.{slashed}
+use Rattle.capspec.specs.Paths.{slashed}
 use Rattle.capspec.proofs.tree_path.TreePath.of.Given as goal
 
 abbrev pub invariant-loop-name : goal.invariant-loop-name

@@ -2,7 +2,7 @@ use Rattle.std.proofs.Common.{◌∙◌, sym, ap, arith, get_or}
 use Rattle.std.proofs.lemmas.List.Sums.{fold_more}
 use Rattle.captable.specs.declared.entry.Holder.{Holder}
 use Rattle.captable.specs.Kept.{KeptTable}
-use Rattle.captable.specs.Many.{changed_by, asking}
+use Rattle.captable.specs.Many.{asking, changed_by}
 use Rattle.captable.specs.Table.{Table}
 use Rattle.captable.proofs.table.CapTable.ask_all.Goals as goal
 

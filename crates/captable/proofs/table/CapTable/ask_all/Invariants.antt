@@ -1,6 +1,6 @@
 use Rattle.std.proofs.Common.{◌≡◌, take}
 use Rattle.std.specs.List.{fold}
-use Rattle.captable.specs.Many.{changed_by, asking}
+use Rattle.captable.specs.Many.{asking, changed_by}
 use Rattle.captable.proofs.table.CapTable.ask_all.Given as goal
 
 abbrev pub invariant-loop-holder : goal.invariant-loop-holder

@@ -2,9 +2,9 @@ use Rattle.std.proofs.Common.{◌≡◌, ◌∙◌, Some, sym, ap, subst, ◌<�
 use Rattle.captable.specs.Calls.{is_of_client}
 use Rattle.captable.specs.Kept.{KeptTable, with_no_client}
 use Rattle.captable.specs.Walks.{first_holder}
-use Rattle.captable.proofs.Absent.{without-one, first-of, fewer, without-nobody}
+use Rattle.captable.proofs.Absent.{fewer, first-of, without-nobody, without-one}
 use Rattle.captable.proofs.Beside.{two}
-use Rattle.captable.proofs.Kept.{kept-without-one, kept-of-nobody}
+use Rattle.captable.proofs.Kept.{kept-of-nobody, kept-without-one}
 use Rattle.captable.proofs.table.CapTable.drop_client.Goals as goal
 
 pub entries-smaller : goal.entries-smaller

@@ -1,7 +1,7 @@
 use Rattle.std.proofs.Common.{◌∙◌, ap, filter}
 use Rattle.cap_arena.specs.Lists.{OfClient, keys}
 use Rattle.captable.specs.Table.{Table}
-use Rattle.captable.specs.Calls.{is_of_client, is_due}
+use Rattle.captable.specs.Calls.{is_due, is_of_client}
 use Rattle.captable.proofs.QuietKeys.{rows-due}
 use Rattle.captable.proofs.Beside.{entries_are}
 use Rattle.captable.proofs.table.CapTable.due_of.Goals as goal

@@ -8,25 +8,25 @@ use Rattle.captable.specs.declared.entry.Entry.{Entry}
 use Rattle.captable.specs.declared.entry.Holder.{Holder}
 use Rattle.captable.specs.declared.entry.Slot.{Slot}
 use Rattle.captable.specs.Table.{Table, entry_at}
-use Rattle.captable.specs.Nodes.{SetsEntry, IsKeyOf, table_of, both_of}
-use Rattle.captable.specs.Polls.{places_of, counts_of, recounted}
+use Rattle.captable.specs.Nodes.{IsKeyOf, SetsEntry, both_of, table_of}
+use Rattle.captable.specs.Polls.{counts_of, places_of, recounted}
 use Rattle.captable.specs.Calls.{changed, is_due_entry}
 use Rattle.captable.specs.Edits.{edited}
 use Rattle.captable.specs.Kept.{with_changed}
 use Rattle.captable.specs.Linked.{IsLinked}
-use Rattle.captable.specs.Places.{lowered, is_due_at}
-use Rattle.captable.proofs.Changes.{put_found, none_found}
+use Rattle.captable.specs.Places.{is_due_at, lowered}
+use Rattle.captable.proofs.Changes.{none_found, put_found}
 use Rattle.captable.proofs.Counting.{count-fits, counted-same}
 use Rattle.captable.proofs.Counted.{counted-put}
 use Rattle.captable.proofs.Keeping.{held}
-use Rattle.captable.proofs.Placed.{placed-set, placed-alike, placed-same, quiet-same}
-use Rattle.captable.proofs.Polled.{if_part, places-changed, places-kept, counts-changed, counts-kept, counts-placed}
-use Rattle.captable.proofs.Quiet.{quiet-set, quiet-due}
+use Rattle.captable.proofs.Placed.{placed-alike, placed-same, placed-set, quiet-same}
+use Rattle.captable.proofs.Polled.{counts-changed, counts-kept, counts-placed, if_part, places-changed, places-kept}
+use Rattle.captable.proofs.Quiet.{quiet-due, quiet-set}
 use Rattle.captable.proofs.Reading.{entry-found, entry-none, node-there}
-use Rattle.captable.proofs.Setting.{IsLinked-put, table-put, kept-put}
-use Rattle.captable.proofs.Beside.{two, entries_are, kept_are}
+use Rattle.captable.proofs.Setting.{IsLinked-put, kept-put, table-put}
+use Rattle.captable.proofs.Beside.{entries_are, kept_are, two}
 use Rattle.captable.proofs.table.CapTable.edit.Goals as goal
-use Rattle.captable.proofs.table.CapTable.edit.Goals.{Joined-is, then-is, else-is}
+use Rattle.captable.proofs.table.CapTable.edit.Goals.{Joined-is, else-is, then-is}
 
 pub returns-in_err-key-clause-was : goal.returns-in_err-key-clause-was
 returns-in_err-key-clause-was c =

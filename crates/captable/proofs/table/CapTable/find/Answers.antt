@@ -1,5 +1,5 @@
 use Rattle.std.proofs.Common.{◌∙◌, sym, ap}
-use Rattle.captable.specs.Table.{holder, entry_at}
+use Rattle.captable.specs.Table.{entry_at, holder}
 use Rattle.captable.proofs.Reading.{entry-found, entry-none, no_hole}
 use Rattle.captable.proofs.Beside.{entries_are}
 use Rattle.captable.proofs.table.CapTable.find.Goals as goal

@@ -2,11 +2,11 @@ use Rattle.std.proofs.Common.{◌∙◌, List, refl, sym, ap, subst}
 use Rattle.cap_arena.specs.Lists.{OfClient}
 use Rattle.captable.specs.Edits.{kept_as}
 use Rattle.captable.specs.Kept.{KeptRow, keeping}
-use Rattle.captable.specs.Nodes.{KeepsSets, IsKeyOf, both_of, kept_of}
-use Rattle.captable.specs.Polls.{AreCounted, places_of, counts_of}
+use Rattle.captable.specs.Nodes.{IsKeyOf, KeepsSets, both_of, kept_of}
+use Rattle.captable.specs.Polls.{AreCounted, counts_of, places_of}
 use Rattle.captable.specs.Table.{Table}
-use Rattle.captable.proofs.Beside.{two, entries_are, kept_are}
-use Rattle.captable.proofs.Kept.{IsLinked-kept, table-kept, sets-put, sets-found, found-kept, kept-once, are_beside, keeping-nobody}
+use Rattle.captable.proofs.Beside.{entries_are, kept_are, two}
+use Rattle.captable.proofs.Kept.{IsLinked-kept, are_beside, found-kept, keeping-nobody, kept-once, sets-found, sets-put, table-kept}
 use Rattle.captable.proofs.Placed.{placed-alike}
 use Rattle.captable.proofs.Quiet.{quiet-kept}
 use Rattle.captable.proofs.Reading.{node-there}

@@ -1,4 +1,4 @@
-use Rattle.std.proofs.Common.{sym, ap, unwrap_or}
+use Rattle.std.proofs.Common.{ap, sym, unwrap_or}
 use Rattle.captable.specs.Kept.{no_sets}
 use Rattle.captable.proofs.table.CapTable.kept_near.Goals as goal
 

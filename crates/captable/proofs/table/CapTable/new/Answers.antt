@@ -2,9 +2,9 @@ use Rattle.std.proofs.Common.{ap}
 use Rattle.cap_arena.specs.Lists.{Lists}
 use Rattle.captable.specs.declared.entry.Slot.{Slot}
 use Rattle.captable.specs.Nodes.{table_of}
-use Rattle.captable.specs.Polls.{places_of, counts_of}
+use Rattle.captable.specs.Polls.{counts_of, places_of}
 use Rattle.captable.proofs.Counting.{AreCounted-empty}
-use Rattle.captable.proofs.Empty.{IsLinked-empty, AreQuiet-empty}
+use Rattle.captable.proofs.Empty.{AreQuiet-empty, IsLinked-empty}
 use Rattle.captable.proofs.Placed.{ArePlaced-empty}
 use Rattle.captable.proofs.Polled.{part-none}
 use Rattle.captable.proofs.table.CapTable.new.Goals as goal

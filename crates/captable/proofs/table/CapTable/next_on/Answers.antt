@@ -1,8 +1,8 @@
 use Rattle.std.proofs.Common.{◌∙◌, sym, ap}
-use Rattle.std.specs.Option.{option_map, option_and_then}
+use Rattle.std.specs.Option.{option_and_then, option_map}
 use Rattle.cap_arena.specs.Lists.{OfInode, node_at}
 use Rattle.captable.specs.Table.{Table, holder, holders_of_rows}
-use Rattle.captable.specs.Calls.{newer_in, entries_on}
+use Rattle.captable.specs.Calls.{entries_on, newer_in}
 use Rattle.captable.specs.Nodes.{holder_of, table_of}
 use Rattle.captable.proofs.Reading.{next-on, none-next}
 use Rattle.captable.proofs.Beside.{entries_are}

@@ -6,19 +6,19 @@ use Rattle.cap_arena.specs.Lists.{Lists, OfClient, keys}
 use Rattle.captable.specs.declared.entry.Slot.{Slot}
 use Rattle.captable.specs.declared.polls.Poll.{Poll}
 use Rattle.captable.specs.Nodes.{table_of}
-use Rattle.captable.specs.Table.{Table, holder, entry_at}
-use Rattle.captable.specs.Calls.{opened, new_entry, is_due_entry}
+use Rattle.captable.specs.Table.{Table, entry_at, holder}
+use Rattle.captable.specs.Calls.{is_due_entry, new_entry, opened}
 use Rattle.captable.specs.Tests.{open_tests}
 use Rattle.captable.specs.Linked.{IsLinked}
-use Rattle.captable.specs.Places.{AreQuiet, ArePlaced}
-use Rattle.captable.specs.Polls.{Polls, AreCounted, places_of, counts_of, begun, ended}
+use Rattle.captable.specs.Places.{ArePlaced, AreQuiet}
+use Rattle.captable.specs.Polls.{AreCounted, Polls, begun, counts_of, ended, places_of}
 use Rattle.captable.proofs.Counting.{counted-more}
-use Rattle.captable.proofs.Placed.{quiet-begun, placed-begun, begun-there}
-use Rattle.captable.proofs.Polled.{begun_at, part-begun, part-there, begun-back}
+use Rattle.captable.proofs.Placed.{begun-there, placed-begun, quiet-begun}
+use Rattle.captable.proofs.Polled.{begun-back, begun_at, part-begun, part-there}
 use Rattle.captable.proofs.Quiet.{quiet-added}
 use Rattle.captable.proofs.Reading.{refused-alike}
-use Rattle.captable.proofs.Opening.{IsLinked-more, table-more, kept-more}
-use Rattle.captable.proofs.Beside.{two, entries_are, kept_are}
+use Rattle.captable.proofs.Opening.{IsLinked-more, kept-more, table-more}
+use Rattle.captable.proofs.Beside.{entries_are, kept_are, two}
 use Rattle.captable.specs.Kept as words
 use Rattle.captable.proofs.table.CapTable.open_entry_tested.Goals as goal
 

@@ -1,6 +1,6 @@
 use Rattle.std.proofs.Common.{◌∙◌, ap}
 use Rattle.std.specs.List.{fold}
-use Rattle.captable.specs.Many.{changed_by, asking}
+use Rattle.captable.specs.Many.{asking, changed_by}
 use Rattle.captable.specs.Table.{Table}
 use Rattle.captable.proofs.Recalling.{fold-asked}
 use Rattle.captable.proofs.table.CapTable.recall.Goals as goal

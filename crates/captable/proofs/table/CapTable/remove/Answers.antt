@@ -12,19 +12,19 @@ use Rattle.captable.specs.Calls.{without}
 use Rattle.captable.specs.Kept.{kept_without}
 use Rattle.captable.specs.Linked.{IsLinked}
 use Rattle.captable.specs.Nodes.{IsKeyOf, table_of}
-use Rattle.captable.specs.Places.{same_client, AreQuiet, moved_on}
-use Rattle.captable.specs.Polls.{places_of, counts_of, recounted}
+use Rattle.captable.specs.Places.{AreQuiet, moved_on, same_client}
+use Rattle.captable.specs.Polls.{counts_of, places_of, recounted}
 use Rattle.captable.proofs.Counting.{count-fits}
 use Rattle.captable.proofs.Counted.{counted-gone}
 use Rattle.captable.proofs.Absent.{without-none}
 use Rattle.captable.proofs.Reading.{entry-none, node-there}
 use Rattle.captable.proofs.Keeping.{held, is_in}
-use Rattle.captable.proofs.Placed.{quiet-ended, placed-removed}
-use Rattle.captable.proofs.Polled.{if_part, part-ended, places-changed, places-kept, counts-changed, counts-kept, counts-placed}
+use Rattle.captable.proofs.Placed.{placed-removed, quiet-ended}
+use Rattle.captable.proofs.Polled.{counts-changed, counts-kept, counts-placed, if_part, part-ended, places-changed, places-kept}
 use Rattle.captable.proofs.Quiet.{quiet-removed}
 use Rattle.captable.proofs.WalkOn.{next-of-client}
-use Rattle.captable.proofs.Removing.{IsLinked-left, table-left, kept-left}
-use Rattle.captable.proofs.Beside.{two, entries_are, kept_are}
+use Rattle.captable.proofs.Removing.{IsLinked-left, kept-left, table-left}
+use Rattle.captable.proofs.Beside.{entries_are, kept_are, two}
 use Rattle.captable.proofs.Kept.{kept-without-none}
 use Rattle.captable.proofs.table.CapTable.remove.Goals as goal
 

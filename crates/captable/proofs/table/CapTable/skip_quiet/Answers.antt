@@ -1,10 +1,10 @@
 use Rattle.std.proofs.Common.{◌≡◌, None, is_some, refl, ap, sym, ◌∙◌}
 use Rattle.captable.specs.Places.{same_client}
-use Rattle.captable.specs.Polls.{due_count, places_of, counts_of}
+use Rattle.captable.specs.Polls.{counts_of, due_count, places_of}
 use Rattle.captable.specs.Nodes.{table_of}
-use Rattle.captable.proofs.Counting.{quiet-uncounted, counted-same}
+use Rattle.captable.proofs.Counting.{counted-same, quiet-uncounted}
 use Rattle.captable.proofs.Placed.{placed-alike, still}
-use Rattle.captable.proofs.Polled.{places-changed, counts-kept}
+use Rattle.captable.proofs.Polled.{counts-kept, places-changed}
 use Rattle.captable.proofs.Quiet.{quiet-put}
 use Rattle.captable.proofs.table.CapTable.skip_quiet.Goals as goal
 

@@ -2,8 +2,8 @@ use Rattle.std.proofs.Common.{◌≡◌, Some, sym, ap, ◌∙◌}
 use Rattle.std.specs.Option.{option_map}
 use Rattle.cap_arena.specs.Lists.{node_at}
 use Rattle.captable.specs.Kept.{sets_beside}
-use Rattle.captable.specs.Nodes.{holder_of, IsKeyOf}
-use Rattle.captable.specs.Table.{holder, entry_at}
+use Rattle.captable.specs.Nodes.{IsKeyOf, holder_of}
+use Rattle.captable.specs.Table.{entry_at, holder}
 use Rattle.captable.proofs.Beside.{entries_are, kept_are}
 use Rattle.captable.proofs.Kept.{sets-found}
 use Rattle.captable.proofs.Reading.{entry-found}

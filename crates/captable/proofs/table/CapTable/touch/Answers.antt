@@ -1,14 +1,14 @@
 use Rattle.std.proofs.Common.{◌≡◌, ◌∙◌, sym, ap, subst}
-use Rattle.captable.specs.Polls.{AreCounted, places_of, counts_of}
+use Rattle.captable.specs.Polls.{AreCounted, counts_of, places_of}
 use Rattle.captable.specs.Nodes.{table_of}
-use Rattle.captable.specs.Table.{Table, IsTable, holder, entry_at}
+use Rattle.captable.specs.Table.{IsTable, Table, entry_at, holder}
 use Rattle.captable.specs.Calls.{touched}
 use Rattle.captable.proofs.Absent.{touched-none}
 use Rattle.captable.proofs.Reading.{entry-none, node-there}
 use Rattle.captable.proofs.Placed.{placed-touched}
 use Rattle.captable.proofs.Quiet.{quiet-touched}
-use Rattle.captable.proofs.Touching.{IsLinked-touched, table-moved, kept-moved}
-use Rattle.captable.proofs.Beside.{two, entries_are, kept_are}
+use Rattle.captable.proofs.Touching.{IsLinked-touched, kept-moved, table-moved}
+use Rattle.captable.proofs.Beside.{entries_are, kept_are, two}
 use Rattle.captable.proofs.table.CapTable.touch.Goals as goal
 
 pub touch_node-requires-clause-there : goal.touch_node-requires-clause-there

@@ -2,7 +2,7 @@ use Rattle.std.proofs.Common.{◌≡◌, ℕ, true, ◌∷◌, ◌∙◌, sym, a
 use Rattle.cap_arena.specs.Walks.{is_among, key_after}
 use Rattle.cap_arena.specs.Lists.{Lists, OfInode, keys}
 use Rattle.captable.specs.declared.entry.Slot.{Slot}
-use Rattle.captable.specs.Walks.{kept_from, IsPlaceOf}
+use Rattle.captable.specs.Walks.{IsPlaceOf, kept_from}
 use Rattle.captable.proofs.WalkOn.{after-in, kept-next, next-of-inode}
 use Rattle.captable.proofs.walk.KeptWalk.next.Goals as goal
 

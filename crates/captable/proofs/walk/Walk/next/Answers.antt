@@ -1,9 +1,9 @@
 use Rattle.std.proofs.Common.{◌≡◌, ℕ, true, ◌∷◌, ◌∙◌, sym, ap, subst}
 use Rattle.cap_arena.specs.Walks.{is_among, key_after}
-use Rattle.cap_arena.specs.Lists.{Lists, OfInode, OfClient, keys}
+use Rattle.cap_arena.specs.Lists.{Lists, OfClient, OfInode, keys}
 use Rattle.captable.specs.declared.entry.Slot.{Slot}
-use Rattle.captable.specs.Walks.{name_of, rows_from, IsPlaceOf}
-use Rattle.captable.proofs.WalkOn.{after-in, rows-next, next-of-client, next-of-inode}
+use Rattle.captable.specs.Walks.{IsPlaceOf, name_of, rows_from}
+use Rattle.captable.proofs.WalkOn.{after-in, next-of-client, next-of-inode, rows-next}
 use Rattle.captable.proofs.walk.Walk.next.Goals as goal
 use Rattle.captable.proofs.walk.Walk.next.Goals.{in-Client, in-Inode}
 

@@ -1,9 +1,10 @@
-use Rattle.std.proofs.Common.{◌++◌, map as each, sym, ap, ◌∙◌}
+use Rattle.std.proofs.Common.{◌++◌, sym, ap, ◌∙◌}
+use Rattle.std.proofs.Common.{map as each}
 use Rattle.std.specs.FinMap as map
 use Rattle.std.specs.Map.Iter.{deref_pair}
-use Rattle.std.proofs.lemmas.Map.Iter.{rest_so_far, rest_more, iter_end}
-use Rattle.inotree.proofs.Order.{name_total, name_same}
-use Rattle.numbered.proofs.Copies.{copied_none, copied_turn, copied_end}
+use Rattle.std.proofs.lemmas.Map.Iter.{iter_end, rest_more, rest_so_far}
+use Rattle.inotree.proofs.Order.{name_same, name_total}
+use Rattle.dense_map.proofs.Copies.{copied_end, copied_none, copied_turn}
 use Rattle.inotree.proofs.attributes.Attributes.copy.Goals as goal
 
 pub loop-name-init : goal.loop-name-init

@@ -1,7 +1,7 @@
 use Rattle.std.proofs.Common.{sym, ap, ◌∙◌}
 use Rattle.std.specs.FinMap as map
 use Rattle.capbits.proofs.Entries.{entries-entries}
-use Rattle.inotree.proofs.Order.{name_total, name_same}
+use Rattle.inotree.proofs.Order.{name_same, name_total}
 use Rattle.inotree.proofs.attributes.Attributes.iter.Goals as goal
 
 pub returns : goal.returns

@@ -1,10 +1,10 @@
 use Rattle.std.proofs.Common.{◌≡◌, ◌<◌, ◌-◌, ◌++◌, true, map, sym, ap, subst, ◌∙◌}
 use Rattle.std.specs.Map.Iter.{deref_pair}
-use Rattle.std.proofs.lemmas.Map.Iter.{rest_so_far, rest_more, iter_end}
+use Rattle.std.proofs.lemmas.Map.Iter.{iter_end, rest_more, rest_so_far}
 use Rattle.inotree.specs.Inodes.{InodeMap}
 use Rattle.inotree.specs.Heights.{height}
 use Rattle.inotree.specs.Index.{index_reaches}
-use Rattle.inotree.proofs.Lowering.{none_higher, none_left, still_lower, lowered, all_known, turn_few, none_reached, set_few}
+use Rattle.inotree.proofs.Lowering.{all_known, lowered, none_higher, none_left, none_reached, set_few, still_lower, turn_few}
 use Rattle.inotree.proofs.Reaching.{reaches-zero}
 use Rattle.inotree.proofs.heights.Heights.+lower.Goals as goal
 

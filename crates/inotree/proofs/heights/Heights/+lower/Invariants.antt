@@ -1,6 +1,6 @@
 use Rattle.std.proofs.Common.{◌≡◌, ◌<◌, false, nat_le}
 use Rattle.std.specs.List.{list_any}
-use Rattle.inotree.specs.Heights.{height, AreNoHigher, AreAllKnown, HeightsRise}
+use Rattle.inotree.specs.Heights.{AreAllKnown, AreNoHigher, HeightsRise, height}
 use Rattle.inotree.specs.Index.{index_reaches}
 use Rattle.inotree.proofs.heights.Heights.+lower.Given as goal
 

@@ -1,4 +1,4 @@
-use Rattle.std.proofs.Common.{refl, ap}
+use Rattle.std.proofs.Common.{ap, refl}
 use Rattle.inotree.specs.Heights.{HeightMap, bound}
 use Rattle.inotree.proofs.Results.{either}
 use Rattle.inotree.proofs.Rising.{inserted_same}

@@ -1,8 +1,8 @@
 use Rattle.std.proofs.Common.{◌≡◌, ℕ, ◌<◌, ◌≤◌, true, Some, None, sym, subst, arith}
 use Rattle.inotree.specs.Inodes.{InodeMap}
-use Rattle.inotree.specs.Tree.{parent, is_directory}
-use Rattle.inotree.specs.Heights.{HeightMap, height, IsHigher, HeightsRiseBut}
-use Rattle.inotree.proofs.Rising.{climb_next, climb_last, all-rise, raise-step, parent_under}
+use Rattle.inotree.specs.Tree.{is_directory, parent}
+use Rattle.inotree.specs.Heights.{HeightMap, HeightsRiseBut, IsHigher, height}
+use Rattle.inotree.proofs.Rising.{all-rise, climb_last, climb_next, parent_under, raise-step}
 use Rattle.inotree.proofs.heights.Heights.raise_above.Goals as goal
 
 pub loop-init : goal.loop-init

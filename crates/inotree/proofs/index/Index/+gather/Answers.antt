@@ -5,7 +5,7 @@ use Rattle.std.proofs.lemmas.List.Folds.{flat_map-map}
 use Rattle.std.proofs.lemmas.Map.Iter.{iter_end}
 use Rattle.capbits.specs.declared.ids.Ino.{Ino}
 use Rattle.inotree.specs.declared.index.Slot.{Slot}
-use Rattle.inotree.specs.Index.{names_in, gathered}
+use Rattle.inotree.specs.Index.{gathered, names_in}
 use Rattle.inotree.proofs.Gathering.{gathered-none, gathered-step}
 use Rattle.inotree.proofs.index.Index.+gather.Goals as goal
 

@@ -1,11 +1,11 @@
 use Rattle.std.proofs.Common.{ℕ, ◌-◌, ◌++◌, Bool, map, sym, ap, ◌∙◌}
 use Rattle.std.specs.List.{list_any}
 use Rattle.std.specs.Map.Iter.{deref_pair}
-use Rattle.std.proofs.lemmas.Map.Iter.{rest_so_far, rest_more, iter_end}
+use Rattle.std.proofs.lemmas.Map.Iter.{iter_end, rest_more, rest_so_far}
 use Rattle.inotree.specs.declared.index.Slot.{Slot}
 use Rattle.inotree.specs.Index.{index_reaches}
-use Rattle.numbered.proofs.Found.{any-map}
-use Rattle.inotree.proofs.Reaching.{reaches-zero, reaches-step, any_found}
+use Rattle.dense_map.proofs.Found.{any-map}
+use Rattle.inotree.proofs.Reaching.{any_found, reaches-step, reaches-zero}
 use Rattle.inotree.proofs.index.Index.+reaches.Goals as goal
 
 pub returns-then-steps-eq0 : goal.returns-then-steps-eq0

@@ -1,7 +1,7 @@
 use Rattle.std.proofs.Common.{sym, ap, ◌∙◌}
 use Rattle.std.specs.FinMap as map
 use Rattle.capbits.proofs.Entries.{entries-entries}
-use Rattle.inotree.proofs.Slots.{slot_total, slot_same}
+use Rattle.inotree.proofs.Slots.{slot_same, slot_total}
 use Rattle.inotree.proofs.index.Index.iter.Goals as goal
 
 pub returns : goal.returns

@@ -1,11 +1,11 @@
 use Rattle.std.proofs.Common.{◌≡◌, ℕ, ◌<◌, ◌^◌, ◌==◌, sym, ap, subst, ◌∙◌}
-use Rattle.std.specs.List.{filter, AllByRecursion}
+use Rattle.std.specs.List.{AllByRecursion, filter}
 use Rattle.std.specs.FinMap as map
 use Rattle.inotree.specs.declared.index.Slot.{Slot}
 use Rattle.capbits.proofs.Entries.{entries-entries}
-use Rattle.inotree.proofs.Slots.{slot_total, slot_same, up_to_next, up_to_end}
+use Rattle.inotree.proofs.Slots.{slot_same, slot_total, up_to_end, up_to_next}
 use Rattle.inotree.proofs.index.Index.names_in.Goals as goal
-use Rattle.inotree.proofs.index.Index.names_in.Goals.{in-Some, in-None}
+use Rattle.inotree.proofs.index.Index.names_in.Goals.{in-None, in-Some}
 
 pub returns : goal.returns
 returns c =

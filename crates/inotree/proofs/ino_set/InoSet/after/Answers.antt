@@ -3,7 +3,7 @@ use Rattle.std.specs.Ordering.{nat_cmp}
 use Rattle.std.specs.declared.ops.Bound.TheVariants.{Excluded, Unbounded}
 use Rattle.std.specs.BTreeSet.{IsKeyRangeOf}
 use Rattle.inotree.specs.InoSets.{IsNext}
-use Rattle.inotree.proofs.InoSets.{begins-behind, none-from, least-from}
+use Rattle.inotree.proofs.InoSets.{begins-behind, least-from, none-from}
 use Rattle.inotree.proofs.ino_set.InoSet.after.Goals as goal
 
 pub returns-in_err-number : goal.returns-in_err-number

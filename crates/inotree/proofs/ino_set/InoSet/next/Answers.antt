@@ -1,9 +1,9 @@
-use Rattle.std.proofs.Common.{sym, subst}
+use Rattle.std.proofs.Common.{subst, sym}
 use Rattle.std.specs.Ordering.{nat_cmp}
 use Rattle.std.specs.declared.ops.Bound.TheVariants.{Included, Unbounded}
 use Rattle.std.specs.BTreeSet.{IsKeyRangeOf}
 use Rattle.inotree.specs.InoSets.{IsNext}
-use Rattle.inotree.proofs.InoSets.{begins-at, none-from, least-from}
+use Rattle.inotree.proofs.InoSets.{begins-at, least-from, none-from}
 use Rattle.inotree.proofs.ino_set.InoSet.next.Goals as goal
 
 pub returns-in_err-number : goal.returns-in_err-number

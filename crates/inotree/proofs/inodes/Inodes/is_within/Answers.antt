@@ -2,8 +2,8 @@ use Rattle.std.proofs.Common.{◌≡◌, ◌+◌, ◌-◌, Some, None, sym, ap, 
 use Rattle.std.proofs.lemmas.Bool.{or_left}
 use Rattle.std.specs.Option.{option_map}
 use Rattle.capbits.specs.declared.ids.Ino.{Ino}
-use Rattle.inotree.specs.Tree.{lies_below, site_of, parent}
-use Rattle.inotree.proofs.Walks.{is_within-is, lies_below-none, lies_below-step, no_dir, to_dir, or_same, same_test, other_test}
+use Rattle.inotree.specs.Tree.{lies_below, parent, site_of}
+use Rattle.inotree.proofs.Walks.{is_within-is, lies_below-none, lies_below-step, no_dir, or_same, other_test, same_test, to_dir}
 use Rattle.inotree.proofs.inodes.Inodes.is_within.Goals as goal
 
 pub loop-init : goal.loop-init

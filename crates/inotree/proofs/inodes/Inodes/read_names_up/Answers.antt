@@ -3,7 +3,7 @@ use Rattle.std.specs.Option.{option_map}
 use Rattle.inotree.specs.declared.node.Node.{Node}
 use Rattle.inotree.specs.declared.node.Site.TheVariants.{Under}
 use Rattle.std.proofs.lemmas.List.{append-nil}
-use Rattle.inotree.specs.Tree.{site_of, dir_at, upward, names_up}
+use Rattle.inotree.specs.Tree.{dir_at, names_up, site_of, upward}
 use Rattle.inotree.proofs.Walks.{names_up-none, names_up-step, no_dir, not_under}
 use Rattle.inotree.proofs.inodes.Inodes.read_names_up.Goals as goal
 

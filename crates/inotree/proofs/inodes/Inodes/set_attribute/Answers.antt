@@ -2,12 +2,12 @@ use Rattle.std.proofs.Common.{ℕ, OnOk, OnErr, sym, ap, subst, ◌∙◌}
 use Rattle.std.specs.Cmp.{nat_cmp_total}
 use Rattle.std.specs.FinMap as map
 use Rattle.capbits.specs.Maps.{change_at}
-use Rattle.numbered.proofs.Maps.{change-is, change-none, insert-same}
+use Rattle.dense_map.proofs.Maps.{change-is, change-none, insert-same}
 use Rattle.inotree.specs.declared.node.Node.{Node}
 use Rattle.inotree.specs.Inodes.{InodeMap, with_attribute}
-use Rattle.inotree.proofs.Results.{on_ok, on_err, ok_of, err_of}
+use Rattle.inotree.proofs.Results.{err_of, ok_of, on_err, on_ok}
 use Rattle.inotree.proofs.inodes.Inodes.set_attribute.Goals as goal
-use Rattle.inotree.proofs.inodes.Inodes.set_attribute.Goals.{in-Some, in-None}
+use Rattle.inotree.proofs.inodes.Inodes.set_attribute.Goals.{in-None, in-Some}
 
 pub returns-clause-ok : goal.returns-clause-ok
 returns-clause-ok c =

@@ -1,5 +1,5 @@
 use Rattle.std.proofs.Common.{ℕ, List, length, map, reverse, ap, ◌∙◌, Bor}
-use Rattle.inotree.proofs.Turning.{refill_all, map-reverse}
+use Rattle.inotree.proofs.Turning.{map-reverse, refill_all}
 use Rattle.inotree.proofs.names.Names.reverse.Goals as goal
 
 pub returns : goal.returns

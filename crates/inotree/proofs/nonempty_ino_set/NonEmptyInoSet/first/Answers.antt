@@ -1,4 +1,4 @@
-use Rattle.std.proofs.Common.{inr, arith}
+use Rattle.std.proofs.Common.{arith, inr}
 use Rattle.inotree.proofs.InoSets.{least-one, least-other}
 use Rattle.inotree.proofs.nonempty_ino_set.NonEmptyInoSet.first.Goals as goal
 

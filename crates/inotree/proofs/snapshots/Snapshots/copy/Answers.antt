@@ -1,12 +1,13 @@
-use Rattle.std.proofs.Common.{map as each, ap, ◌∙◌}
+use Rattle.std.proofs.Common.{map as each}
+use Rattle.std.proofs.Common.{ap, ◌∙◌}
 use Rattle.std.specs.FinSet as set
 use Rattle.std.specs.List.{list_any}
 use Rattle.std.specs.Ordering.{eq_by_cmp}
 use Rattle.std.specs.Map.Iter.{deref}
 use Rattle.std.proofs.lemmas.Map.Iter.{iter_end}
 use Rattle.inotree.specs.Names.{name_cmp}
-use Rattle.inotree.proofs.Order.{name_total, name_same}
-use Rattle.numbered.proofs.Copies.{copied_set_none, copied_set_turn, copied_set_all}
+use Rattle.inotree.proofs.Order.{name_same, name_total}
+use Rattle.dense_map.proofs.Copies.{copied_set_all, copied_set_none, copied_set_turn}
 use Rattle.inotree.proofs.snapshots.Snapshots.copy.Goals as goal
 
 pub loop-name-init : goal.loop-name-init

@@ -1,7 +1,7 @@
 use Rattle.std.proofs.Common.{ap, ◌∙◌}
 use Rattle.std.specs.FinSet as set
 use Rattle.capbits.proofs.Entries.{insert-keys}
-use Rattle.inotree.proofs.Order.{name_total, name_same}
+use Rattle.inotree.proofs.Order.{name_same, name_total}
 use Rattle.inotree.proofs.snapshots.Snapshots.insert.Goals as goal
 
 pub returns-clause-ok : goal.returns-clause-ok

@@ -10,10 +10,10 @@ use Rattle.capbits.specs.Refusal.{first_failing}
 use Rattle.inotree.specs.Calls.{new_node}
 use Rattle.inotree.specs.Tests.{create_tests}
 use Rattle.inotree.proofs.Changes.{consistent-added, consistent_at, raisable_at}
-use Rattle.numbered.proofs.Maps.{put_back}
+use Rattle.dense_map.proofs.Maps.{put_back}
 use Rattle.inotree.proofs.Named.{child-index}
 use Rattle.inotree.proofs.Passing.{passed-create}
-use Rattle.inotree.proofs.Results.{at_ok, at_err}
+use Rattle.inotree.proofs.Results.{at_err, at_ok}
 use Rattle.inotree.proofs.tree.Tree.add.Goals as goal
 
 pub overflow_add-ino : goal.overflow_add-ino

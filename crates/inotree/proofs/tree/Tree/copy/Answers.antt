@@ -1,6 +1,6 @@
-use Rattle.std.proofs.Common.{sym, subst}
+use Rattle.std.proofs.Common.{subst, sym}
 use Rattle.inotree.specs.Tree.{IsTree}
-use Rattle.inotree.specs.Heights.{HeightMap, AreConsistent}
+use Rattle.inotree.specs.Heights.{AreConsistent, HeightMap}
 use Rattle.inotree.proofs.Changes.{consistent_at}
 use Rattle.inotree.proofs.tree.Tree.copy.Goals as goal
 

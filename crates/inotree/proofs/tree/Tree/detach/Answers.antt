@@ -1,10 +1,10 @@
 use Rattle.std.proofs.Common.{◌≡◌, ℕ, None, sym, subst}
 use Rattle.inotree.specs.Inodes.{InodeMap}
-use Rattle.inotree.specs.Tree.{Nodes, IsUnder, site_of}
+use Rattle.inotree.specs.Tree.{IsUnder, Nodes, site_of}
 use Rattle.capbits.specs.Refusal.{first_failing}
 use Rattle.inotree.specs.Tests.{detach_tests}
 use Rattle.inotree.proofs.Changes.{consistent-unlinked, consistent_at}
-use Rattle.inotree.proofs.Passing.{slot_site, passed-detach, childless_empty}
+use Rattle.inotree.proofs.Passing.{childless_empty, passed-detach, slot_site}
 use Rattle.inotree.proofs.tree.Tree.detach.Goals as goal
 
 pub invariant_of-self : goal.invariant_of-self

@@ -1,6 +1,6 @@
 use Rattle.std.proofs.Common.{sym, ◌∙◌, ◌∷◌}
 use Rattle.capbits.proofs.Tests.{failing-front}
-use Rattle.inotree.specs.Tests.{directory_test, name_tests, move_tests}
+use Rattle.inotree.specs.Tests.{directory_test, move_tests, name_tests}
 use Rattle.inotree.proofs.tree.Tree.new_site_refusal.Goals as goal
 
 pub returns-in-Some : goal.returns-in-Some

@@ -1,7 +1,7 @@
 use Rattle.std.proofs.Common.{◌<◌, length, Some, None, inl, inr, not, is_some, sym, ap, ◌∙◌}
 use Rattle.std.specs.Prelude.{if◌then◌else◌}
 use Rattle.std.proofs.lemmas.Bool.{cases_lt}
-use Rattle.capbits.specs.declared.refusal.Refusal.TheVariants.{NotDir, NoEnt}
+use Rattle.capbits.specs.declared.refusal.Refusal.TheVariants.{NoEnt, NotDir}
 use Rattle.inotree.proofs.Inner.{no_long_snapshot}
 use Rattle.inotree.proofs.tree.Tree.old_snapshot_refusal.Goals as goal
 

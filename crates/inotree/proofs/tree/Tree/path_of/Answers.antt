@@ -1,11 +1,11 @@
 use Rattle.std.proofs.Common.{◌≡◌, ℕ, Bool, List, None, Some, reverse, ap, subst, ◌∙◌, All}
 use Rattle.std.specs.Prelude.{if◌then◌else◌}
 use Rattle.inotree.specs.declared.node.Presence.{Presence}
-use Rattle.inotree.specs.declared.node.Presence.TheVariants.{NoIno, Gone, Here}
+use Rattle.inotree.specs.declared.node.Presence.TheVariants.{Gone, Here, NoIno}
 use Rattle.inotree.proofs.Leading.{path_leads}
-use Rattle.inotree.proofs.Naming.{IsName, turned_names, names_of_walk}
+use Rattle.inotree.proofs.Naming.{IsName, names_of_walk, turned_names}
 use Rattle.inotree.specs.Inodes.{InodeMap}
-use Rattle.inotree.specs.Tree.{IsTree, presence, path_of, path_at, names_up}
+use Rattle.inotree.specs.Tree.{IsTree, names_up, path_at, path_of, presence}
 use Rattle.inotree.proofs.tree.Tree.path_of.Goals as goal
 
 -- a path is the walk up, turned round

@@ -1,6 +1,6 @@
 use Rattle.std.proofs.Common.{sym, ap, ◌∙◌, arith}
 use Rattle.inotree.specs.Tree.{Nodes, reaches}
-use Rattle.inotree.proofs.Named.{reaches-index, index_inodes}
+use Rattle.inotree.proofs.Named.{index_inodes, reaches-index}
 use Rattle.inotree.proofs.Rising.{are-bounds}
 use Rattle.inotree.proofs.tree.Tree.reaches.Goals as goal
 

@@ -3,11 +3,11 @@ use Rattle.std.specs.Prelude.{◌==◌}
 use Rattle.std.proofs.lemmas.Bool.{eqb-true}
 use Rattle.std.proofs.lemmas.List.{nil_from_length}
 use Rattle.inotree.specs.declared.node.Presence.{Presence}
-use Rattle.inotree.specs.declared.node.Presence.TheVariants.{NoIno, Gone, Here}
+use Rattle.inotree.specs.declared.node.Presence.TheVariants.{Gone, Here, NoIno}
 use Rattle.inotree.specs.declared.node.Site.{Site}
-use Rattle.inotree.specs.declared.node.Site.TheVariants.{Root, Under, Stray}
+use Rattle.inotree.specs.declared.node.Site.TheVariants.{Root, Stray, Under}
 use Rattle.inotree.specs.Inodes.{InodeMap}
-use Rattle.inotree.specs.Tree.{Nodes, site_of, presence, presence_at, path_at, path_of, names_up, upward}
+use Rattle.inotree.specs.Tree.{Nodes, names_up, path_at, path_of, presence, presence_at, site_of, upward}
 use Rattle.inotree.proofs.Walks.{names_up-step}
 use Rattle.inotree.proofs.tree.Tree.read_path.Goals as goal
 

@@ -1,7 +1,7 @@
 use Rattle.std.proofs.Common.{◌≡◌, List, ◌∷◌, ◌++◌, [], sym, ◌∙◌}
 use Rattle.capbits.specs.Refusal.{Test, first_failing}
 use Rattle.capbits.proofs.Tests.{failing-front}
-use Rattle.inotree.specs.Tests.{inode_tests, root_test, new_site_tests}
+use Rattle.inotree.specs.Tests.{inode_tests, new_site_tests, root_test}
 use Rattle.inotree.proofs.FirstOf.{first-both, first-last}
 use Rattle.inotree.proofs.tree.Tree.rename_fault.Goals as goal
 

@@ -4,13 +4,13 @@ use Rattle.inotree.specs.declared.node.Site.TheVariants.{Under}
 use Rattle.capbits.specs.Maps.{change_at}
 use Rattle.inotree.specs.Inodes.{InodeMap, with_site}
 use Rattle.inotree.specs.Index.{NameIndex}
-use Rattle.inotree.specs.Tree.{Nodes, IsIndexed, IsUnder, site_of}
+use Rattle.inotree.specs.Tree.{IsIndexed, IsUnder, Nodes, site_of}
 use Rattle.capbits.specs.Refusal.{first_failing}
 use Rattle.inotree.specs.Tests.{rename_tests}
 use Rattle.inotree.proofs.Changes.{consistent-moved, raisable_at}
 use Rattle.inotree.proofs.Named.{child-index, index_inodes}
-use Rattle.inotree.proofs.Passing.{slot_site, passed-rename}
-use Rattle.inotree.proofs.Results.{at_ok, at_err}
+use Rattle.inotree.proofs.Passing.{passed-rename, slot_site}
+use Rattle.inotree.proofs.Results.{at_err, at_ok}
 use Rattle.inotree.proofs.tree.Tree.rename_tested.Goals as goal
 
 pub lower_to_fit-requires : goal.lower_to_fit-requires

@@ -1,5 +1,5 @@
 use Rattle.std.proofs.Common.{◌∷◌, ◌++◌, []}
-use Rattle.inotree.specs.Tests.{inode_tests, root_test, directory_test, empty_test}
+use Rattle.inotree.specs.Tests.{directory_test, empty_test, inode_tests, root_test}
 use Rattle.inotree.proofs.FirstOf.{first-both}
 use Rattle.inotree.proofs.tree.Tree.rmdir_fault.Goals as goal
 

@@ -1,5 +1,5 @@
 use Rattle.std.proofs.Common.{◌∷◌, ◌++◌, [], sym, ◌∙◌}
-use Rattle.inotree.specs.Tests.{inode_tests, root_test, file_test}
+use Rattle.inotree.specs.Tests.{file_test, inode_tests, root_test}
 use Rattle.inotree.proofs.FirstOf.{first-both}
 use Rattle.inotree.proofs.tree.Tree.unlink.Goals as goal
 

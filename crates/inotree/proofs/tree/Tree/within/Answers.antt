@@ -3,7 +3,7 @@ use Rattle.capbits.specs.declared.ids.Ino.{Ino}
 use Rattle.inotree.specs.Index.{gathered}
 use Rattle.inotree.specs.Tree.{Nodes, is_within}
 use Rattle.inotree.proofs.Gathering.{all-gathered, only-gathered}
-use Rattle.inotree.proofs.Named.{index_inodes, index_directories}
+use Rattle.inotree.proofs.Named.{index_directories, index_inodes}
 use Rattle.inotree.proofs.tree.Tree.within.Goals as goal
 
 pub gather-requires-clause-inside : goal.gather-requires-clause-inside

@@ -3,9 +3,9 @@ use Rattle.std.proofs.lemmas.Fn.{filter_same}
 use Rattle.lockmachine.specs.declared.request.Request.{Request}
 use Rattle.lockmachine.specs.Requests.{is_of_client}
 use Rattle.lockmachine.specs.Counts.{CountedLocks}
-use Rattle.lockmachine.specs.Locks.{LockMap, IsLockMap, without_requests_of}
+use Rattle.lockmachine.specs.Locks.{IsLockMap, LockMap, without_requests_of}
 use Rattle.lockmachine.specs.declared.waiters.Waiter.{Waiter}
-use Rattle.lockmachine.specs.Waiters.{waiter_of, StandAlike}
+use Rattle.lockmachine.specs.Waiters.{StandAlike, waiter_of}
 use Rattle.lockmachine.proofs.ByLock.{kept}
 use Rattle.lockmachine.proofs.Queue.{without_requests_of-kept}
 use Rattle.lockmachine.proofs.Counted.{locks_are}

@@ -1,9 +1,9 @@
 use Rattle.std.proofs.Common.{◌≡◌, ◌+◌, take, sym, subst, ◌∙◌, arith}
 use Rattle.lockmachine.specs.Moves.{parts}
-use Rattle.lockmachine.proofs.Counted.{EndsCounted, ends-first, ends-passed, ends-ended}
+use Rattle.lockmachine.proofs.Counted.{EndsCounted, ends-ended, ends-first, ends-passed}
 use Rattle.lockmachine.proofs.EndsFirst.{EndsSoFar, all_ended, ends_little}
 use Rattle.lockmachine.proofs.locks.Locks.end_gathers_at.Goals as goal
-use Rattle.lockmachine.proofs.locks.Locks.end_gathers_at.Goals.{then-may_end_at, else-may_end_at}
+use Rattle.lockmachine.proofs.locks.Locks.end_gathers_at.Goals.{else-may_end_at, then-may_end_at}
 
 pub loop-part-init : goal.loop-part-init
 loop-part-init c = ends-first c.args.self.now c.args.ino.0

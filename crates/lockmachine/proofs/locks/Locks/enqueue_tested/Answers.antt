@@ -1,9 +1,9 @@
 use Rattle.std.proofs.Common.{◌≡◌, ◌+◌, ◌<◌, List, [], ◌∷◌, ◌++◌, length, map, sym, ap, subst, arith}
 use Rattle.lockmachine.specs.declared.request.Request.{Request}
 use Rattle.lockmachine.specs.declared.waiters.Waiter.{Waiter}
-use Rattle.lockmachine.specs.Locks.{LockMap, IsLockMap, next_request}
-use Rattle.lockmachine.specs.Waiters.{waiter_of, StandAlike}
-use Rattle.lockmachine.proofs.ByLock.{as-many-wait, fills, added}
+use Rattle.lockmachine.specs.Locks.{IsLockMap, LockMap, next_request}
+use Rattle.lockmachine.specs.Waiters.{StandAlike, waiter_of}
+use Rattle.lockmachine.proofs.ByLock.{added, as-many-wait, fills}
 use Rattle.lockmachine.proofs.Queue.{with_request-kept}
 use Rattle.lockmachine.proofs.Counted.{locks_are}
 use Rattle.lockmachine.proofs.locks.Locks.enqueue_tested.Goals as goal

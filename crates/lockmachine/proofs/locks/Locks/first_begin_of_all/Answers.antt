@@ -6,10 +6,10 @@ use Rattle.std.proofs.lemmas.Map.Iter.{rest_more}
 use Rattle.lockmachine.specs.declared.moves.Move.{Move}
 use Rattle.lockmachine.specs.declared.wants.Wants.{Wants}
 use Rattle.lockmachine.specs.Scene.{Scene, scene_by, wanted_in_all}
-use Rattle.lockmachine.specs.Moves.{parts, may_begin}
-use Rattle.lockmachine.specs.Turns.{beginning, may_begin_by, begin_or_rest}
+use Rattle.lockmachine.specs.Moves.{may_begin, parts}
+use Rattle.lockmachine.specs.Turns.{begin_or_rest, beginning, may_begin_by}
 use Rattle.lockmachine.proofs.KeptWants.{permitted-on}
-use Rattle.lockmachine.proofs.LockIds.{lock_ids_in, begin-lock_ids_in}
+use Rattle.lockmachine.proofs.LockIds.{begin-lock_ids_in, lock_ids_in}
 use Rattle.lockmachine.proofs.locks.Locks.first_begin_of_all.Goals as goal
 
 -- what begins at this inode, or else at those behind it

@@ -2,7 +2,7 @@ use Rattle.std.proofs.Common.{◌≡◌}
 use Rattle.std.specs.List.{find}
 use Rattle.lockmachine.specs.Policy.{ArePermitted}
 use Rattle.lockmachine.specs.Scene.{scene_by}
-use Rattle.lockmachine.specs.Moves.{may_begin, lock_ids}
+use Rattle.lockmachine.specs.Moves.{lock_ids, may_begin}
 use Rattle.lockmachine.specs.Turns.{begin_or_rest}
 use Rattle.lockmachine.proofs.LockIds.{lock_ids_in}
 use Rattle.lockmachine.proofs.locks.Locks.first_begin_of_all.Given as goal

@@ -1,5 +1,5 @@
 use Rattle.std.proofs.Common.{◌∙◌}
-use Rattle.lockmachine.proofs.FirstServed.{of_each, first_of_four}
+use Rattle.lockmachine.proofs.FirstServed.{first_of_four, of_each}
 use Rattle.lockmachine.proofs.locks.Locks.first_served_at.Goals as goal
 
 pub returns : goal.returns

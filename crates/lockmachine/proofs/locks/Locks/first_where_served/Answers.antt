@@ -5,7 +5,7 @@ use Rattle.lockmachine.specs.Locks.{LockMap, lock_at}
 use Rattle.lockmachine.specs.Moves.{is_served_in}
 use Rattle.lockmachine.specs.Requests.{first_for}
 use Rattle.lockmachine.proofs.ByLock.{seen-first}
-use Rattle.lockmachine.proofs.FirstServed.{served-is, none-served}
+use Rattle.lockmachine.proofs.FirstServed.{none-served, served-is}
 use Rattle.lockmachine.proofs.Counted.{locks_are}
 use Rattle.lockmachine.proofs.locks.Locks.first_where_served.Goals as goal
 

@@ -2,9 +2,9 @@ use Rattle.std.proofs.Common.{◌≡◌, ◌+◌, Some, take, sym, ap, subst, �
 use Rattle.std.specs.FinMap as map
 use Rattle.lockmachine.specs.Counts.{waits_no_longer}
 use Rattle.lockmachine.specs.Moves.{parts}
-use Rattle.lockmachine.proofs.GivesUp.{GivesUp, gives-first, gives-none, gives-all, gives-passed, gives-less}
+use Rattle.lockmachine.proofs.GivesUp.{GivesUp, gives-all, gives-first, gives-less, gives-none, gives-passed}
 use Rattle.lockmachine.proofs.locks.Locks.gives_up.Goals as goal
-use Rattle.lockmachine.proofs.locks.Locks.gives_up.Goals.{then-waits_no_longer, else-waits_no_longer}
+use Rattle.lockmachine.proofs.locks.Locks.gives_up.Goals.{else-waits_no_longer, then-waits_no_longer}
 
 pub loop-part-init : goal.loop-part-init
 loop-part-init c = gives-first c.args.row c.args.left c.args.self.now

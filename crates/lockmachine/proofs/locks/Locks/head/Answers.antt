@@ -4,7 +4,7 @@ use Rattle.lockmachine.specs.Locks.{LockMap}
 use Rattle.lockmachine.specs.Requests.{first_for}
 use Rattle.lockmachine.specs.Scene.{head_in}
 use Rattle.lockmachine.specs.Waiters.{queue_if}
-use Rattle.lockmachine.proofs.ByLock.{seen-first, head-is, no-head}
+use Rattle.lockmachine.proofs.ByLock.{head-is, no-head, seen-first}
 use Rattle.lockmachine.proofs.Counted.{locks_are}
 use Rattle.lockmachine.proofs.locks.Locks.head.Goals as goal
 

@@ -2,9 +2,9 @@ use Rattle.std.proofs.Common.{sym, ap, ◌∙◌}
 use Rattle.std.specs.List.{find}
 use Rattle.std.specs.Option.{option_copied}
 use Rattle.lockmachine.specs.Locks.{LockMap}
-use Rattle.lockmachine.specs.Requests.{part_of_operation, first_for}
-use Rattle.lockmachine.specs.Waiters.{lock_number, is_at}
-use Rattle.lockmachine.proofs.ByLock.{seen-first, number-is, no-number}
+use Rattle.lockmachine.specs.Requests.{first_for, part_of_operation}
+use Rattle.lockmachine.specs.Waiters.{is_at, lock_number}
+use Rattle.lockmachine.proofs.ByLock.{no-number, number-is, seen-first}
 use Rattle.lockmachine.proofs.Counted.{locks_are}
 use Rattle.lockmachine.proofs.locks.Locks.is_first.Goals as goal
 

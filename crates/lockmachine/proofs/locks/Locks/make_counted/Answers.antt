@@ -2,7 +2,7 @@ use Rattle.std.proofs.Common.{◌≡◌, ◌∙◌, refl, sym, ap, subst}
 use Rattle.captable.specs.Table.{Table}
 use Rattle.lockmachine.specs.declared.moves.Move.{Move}
 use Rattle.lockmachine.specs.declared.moves.Move.TheVariants.{Begin, End, Serve, Settled}
-use Rattle.lockmachine.specs.Counts.{CountedLocks, AreCounted, with_count}
+use Rattle.lockmachine.specs.Counts.{AreCounted, CountedLocks, with_count}
 use Rattle.lockmachine.specs.Inodes.{HaveCounts}
 use Rattle.lockmachine.specs.Locks.{lock_at}
 use Rattle.lockmachine.specs.Moves.{begun_locks, coming_state, moved, present_state}

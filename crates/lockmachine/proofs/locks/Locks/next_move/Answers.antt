@@ -3,7 +3,7 @@ use Rattle.std.specs.Option.{option_map}
 use Rattle.lockmachine.specs.Scene.{Scene, scene}
 use Rattle.lockmachine.specs.Moves.{lock_ids}
 use Rattle.lockmachine.proofs.Counted.{counted-all}
-use Rattle.lockmachine.proofs.LockIds.{end_first, serve_first, begin_first}
+use Rattle.lockmachine.proofs.LockIds.{begin_first, end_first, serve_first}
 use Rattle.lockmachine.proofs.locks.Locks.next_move.Goals as goal
 
 pub returns-in-Some : goal.returns-in-Some

@@ -3,11 +3,11 @@ use Rattle.std.specs.List.{find}
 use Rattle.std.specs.Option.{option_map}
 use Rattle.lockmachine.specs.declared.moves.Move.TheVariants.{Settled}
 use Rattle.lockmachine.specs.Scene.{Scene, scene_by}
-use Rattle.lockmachine.specs.Moves.{parts, may_begin}
+use Rattle.lockmachine.specs.Moves.{may_begin, parts}
 use Rattle.lockmachine.specs.Turns.{IsNextAt, beginning, may_begin_by}
 use Rattle.lockmachine.proofs.Alone.{sought-beginning}
 use Rattle.lockmachine.proofs.Counted.{counted-first}
-use Rattle.lockmachine.proofs.LockIds.{ends_at, next_begin, end_first, serve_first}
+use Rattle.lockmachine.proofs.LockIds.{end_first, ends_at, next_begin, serve_first}
 use Rattle.lockmachine.proofs.locks.Locks.next_move_by.Goals as goal
 
 pub returns-in-Some-clause-next : goal.returns-in-Some-clause-next

@@ -5,10 +5,10 @@ use Rattle.lockmachine.specs.declared.request.Request.{Request}
 use Rattle.lockmachine.specs.Requests.{is_numbered}
 use Rattle.lockmachine.specs.declared.waiters.Waiter.{Waiter}
 use Rattle.lockmachine.specs.Counts.{CountedLocks}
-use Rattle.lockmachine.specs.Locks.{LockMap, IsLockMap, request_at, without_request}
-use Rattle.lockmachine.specs.Waiters.{waiter_of, StandAlike}
+use Rattle.lockmachine.specs.Locks.{IsLockMap, LockMap, request_at, without_request}
+use Rattle.lockmachine.specs.Waiters.{StandAlike, waiter_of}
 use Rattle.lockmachine.proofs.ByLock.{kept}
-use Rattle.lockmachine.proofs.Queue.{taken, none_taken, without_request-kept}
+use Rattle.lockmachine.proofs.Queue.{none_taken, taken, without_request-kept}
 use Rattle.lockmachine.proofs.Counted.{locks_are}
 use Rattle.lockmachine.proofs.locks.Locks.take_request.Goals as goal
 

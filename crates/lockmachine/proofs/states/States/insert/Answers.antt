@@ -1,9 +1,9 @@
 use Rattle.std.proofs.Common.{Result, Ok, Err, OnOk, OnErr, sym, ap, ◌∙◌}
 use Rattle.std.specs.FinMap as map
-use Rattle.onelock.specs.Counts.{no_counts}
+use Rattle.lockmachine.specs.GatherCounts.{no_counts}
 use Rattle.lockmachine.specs.declared.states.LocksAt.{LocksAt}
 use Rattle.lockmachine.specs.Inodes.{CountedStates}
-use Rattle.lockmachine.proofs.EachValue.{both_of, both-insert}
+use Rattle.lockmachine.proofs.EachValue.{both-insert, both_of}
 use Rattle.lockmachine.proofs.states.States.insert.Goals as goal
 
 where-ok : {A E : Type 0} (r : Result A E) (P Q : Type 0) → (P → Q) → OnOk r P → OnOk r Q

@@ -1,5 +1,5 @@
 use Rattle.std.proofs.Common.{ap, ◌∙◌}
-use Rattle.lockmachine.proofs.EachValue.{both_of, both-empty}
+use Rattle.lockmachine.proofs.EachValue.{both-empty, both_of}
 use Rattle.lockmachine.proofs.states.States.new.Goals as goal
 
 pub returns : goal.returns

@@ -1,7 +1,7 @@
 use Rattle.std.proofs.Common.{ap, ◌∙◌}
 use Rattle.std.specs.FinMap as map
 use Rattle.lockmachine.specs.Inodes.{CountedStates}
-use Rattle.lockmachine.proofs.EachValue.{both_of, both-remove}
+use Rattle.lockmachine.proofs.EachValue.{both-remove, both_of}
 use Rattle.lockmachine.proofs.states.States.remove.Goals as goal
 
 pub returns : goal.returns

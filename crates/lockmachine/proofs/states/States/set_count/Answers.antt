@@ -4,12 +4,12 @@ use Rattle.std.specs.FinMap as map
 use Rattle.std.specs.FinMap.{FinMap}
 use Rattle.std.specs.Ordering.{nat_cmp}
 use Rattle.capbits.specs.Maps.{change_at}
-use Rattle.numbered.proofs.Maps.{change-is, change-none}
-use Rattle.onelock.specs.declared.counts.Counts.{Counts}
-use Rattle.onelock.specs.Counts.{with_count_in}
+use Rattle.dense_map.proofs.Maps.{change-is, change-none}
+use Rattle.lockmachine.specs.declared.counts.Counts.{Counts}
+use Rattle.lockmachine.specs.GatherCounts.{with_count_in}
 use Rattle.lockmachine.specs.declared.states.LocksAt.{LocksAt}
 use Rattle.lockmachine.specs.Inodes.{CountedStates, HaveCounts}
-use Rattle.lockmachine.proofs.EachValue.{both_of, both-counts, have-counts}
+use Rattle.lockmachine.proofs.EachValue.{both-counts, both_of, have-counts}
 use Rattle.lockmachine.proofs.states.States.set_count.Goals as goal
 use Rattle.lockmachine.proofs.states.States.set_count.Goals.{in-Some, in_default}
 

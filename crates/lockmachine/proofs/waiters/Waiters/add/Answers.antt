@@ -2,7 +2,7 @@ use Rattle.std.proofs.Common.{rules, of_calls, not, ltb, List, [], ◌∷◌, �
 use Rattle.std.specs.List.{insert}
 use Rattle.std.proofs.lemmas.List.Sorted.{IsPartitionPoint-from_clause}
 use Rattle.lockmachine.specs.declared.waiters.Waiter.{Waiter}
-use Rattle.lockmachine.specs.Waiters.{lock_of, is_at, AreSorted, StandAlike}
+use Rattle.lockmachine.specs.Waiters.{AreSorted, StandAlike, is_at, lock_of}
 use Rattle.lockmachine.proofs.ByLock.{parted-above, placed}
 use Rattle.lockmachine.proofs.waiters.Waiters.add.Goals as goal
 use Rattle.lockmachine.proofs.waiters.Waiters.add.Goals.{In-Ok}

@@ -1,7 +1,7 @@
 use Rattle.std.proofs.Common.{◌≡◌, ◌≤◌, List, length, subst, ◌∙◌}
 use Rattle.lockmachine.specs.declared.waiters.Waiter.{Waiter}
 use Rattle.lockmachine.specs.Waiters.{AreSorted}
-use Rattle.lockmachine.proofs.ByLock.{IsRead, any-read, any-past}
+use Rattle.lockmachine.proofs.ByLock.{IsRead, any-past, any-read}
 use Rattle.lockmachine.proofs.waiters.Waiters.any_at.Goals as goal
 
 pub returns-in-Some : goal.returns-in-Some

@@ -1,9 +1,9 @@
 use Rattle.std.proofs.Common.{rules, of_calls, ltb, ℕ, ◌≤◌, ◌<◌, List, length, sym, subst, ◌∙◌}
-use Rattle.std.proofs.lemmas.Bool.{ltb-true, ltb-false}
+use Rattle.std.proofs.lemmas.Bool.{ltb-false, ltb-true}
 use Rattle.std.proofs.lemmas.List.Sorted.{IsPartitionPoint-from_clause, IsPartitionedBy-ltb}
 use Rattle.lockmachine.specs.declared.waiters.Waiter.{Waiter}
-use Rattle.lockmachine.specs.Waiters.{lock_number, lock_of, AreSorted, AreLower}
-use Rattle.lockmachine.proofs.ByLock.{none-lower, all-lower, lower-at}
+use Rattle.lockmachine.specs.Waiters.{AreLower, AreSorted, lock_number, lock_of}
+use Rattle.lockmachine.proofs.ByLock.{all-lower, lower-at, none-lower}
 use Rattle.lockmachine.proofs.waiters.Waiters.count_below.Goals as goal
 
 pub returns-then-not-is_below : goal.returns-then-not-is_below

@@ -1,7 +1,7 @@
 use Rattle.std.proofs.Common.{rules, ◌≡◌, ◌==◌, not, filter, sym, ap, subst, ◌∙◌, arith}
 use Rattle.std.proofs.lemmas.Fn.{filter_same}
 use Rattle.std.proofs.lemmas.List.Kept.{IsNonDecreasingBy-filter}
-use Rattle.lockmachine.specs.Waiters.{lock_of, AreSorted}
+use Rattle.lockmachine.specs.Waiters.{AreSorted, lock_of}
 use Rattle.lockmachine.proofs.waiters.Waiters.drop_those_of.Goals as goal
 use Rattle.lockmachine.proofs.waiters.Waiters.drop_those_of.Goals.{After-retain}
 

@@ -2,7 +2,7 @@ use Rattle.std.proofs.Common.{◌≡◌, ◌≤◌, List, length, sym, ap, subst
 use Rattle.std.specs.Bool.{then_some}
 use Rattle.std.specs.Option.{option_copied}
 use Rattle.lockmachine.specs.declared.waiters.Waiter.{Waiter}
-use Rattle.lockmachine.specs.Waiters.{lock_number, AreSorted}
+use Rattle.lockmachine.specs.Waiters.{AreSorted, lock_number}
 use Rattle.lockmachine.proofs.ByLock.{IsRead, read-if, read-past}
 use Rattle.lockmachine.proofs.waiters.Waiters.first_at.Goals as goal
 

@@ -2,7 +2,7 @@ use Rattle.std.proofs.Common.{◌≡◌, None, sym, subst}
 use Rattle.capbits.specs.Refusal.{first_failing}
 use Rattle.sessiontab.specs.Table.{SessionTable}
 use Rattle.sessiontab.specs.Tests.{evict_tests}
-use Rattle.sessiontab.proofs.Sound.{sound-evict, may_evict}
+use Rattle.sessiontab.proofs.Sound.{may_evict, sound-evict}
 use Rattle.sessiontab.proofs.table.Sessions.evict_tested.Goals as goal
 
 pub invariant_of-self-2 : goal.invariant_of-self-2

@@ -2,7 +2,7 @@ use Rattle.std.proofs.Common.{◌≡◌, None, sym, subst}
 use Rattle.capbits.specs.Refusal.{first_failing}
 use Rattle.sessiontab.specs.Table.{SessionTable}
 use Rattle.sessiontab.specs.Tests.{new_session_tests}
-use Rattle.sessiontab.proofs.Sound.{sound-insert, may_open, kept_if}
+use Rattle.sessiontab.proofs.Sound.{kept_if, may_open, sound-insert}
 use Rattle.sessiontab.proofs.table.Sessions.open_session_tested.Goals as goal
 
 pub invariant_of-self : goal.invariant_of-self

@@ -1,0 +1,194 @@
+//! Questions on policy, which threads ask of a server beside one that calls events all the time; and the same questions under a
+//! lock that its calls take too, so that the one can be compared with the other.
+
+use crate::fault::Fault;
+use crate::lines::event_of;
+use crate::work::{Asking, Way};
+use capbits::{ClientId, Ino, Mode, PassId};
+use capgrant::{Access, Verdict};
+use capserver::{CapServer, NoGate};
+use capstep::stop::Stop;
+use inotree::Setting;
+use lockmachine::Change;
+use policy_view::Question;
+use snapshot::{Pass, Server};
+use std::alloc::Global;
+use std::sync::{Mutex, MutexGuard, Wait};
+use std::sync::atomic::{AtomicU64, Ordering};
+use std::thread::{Threads, map_vec};
+use step_model::Event;
+
+/// Who asks, and who changes modes.
+const CLIENT: ClientId = ClientId(1);
+
+/// How far apart two inodes are that follow each other. It shares no divisor with a number of inodes.
+const STRIDE: u64 = 7919;
+
+/// The modes that are set by turns.
+const MODES: [u16; 2] = [0o700, 0o755];
+
+/// Has the last pass call what the lines of a script say, and then change modes until all others have asked their questions, each in a
+/// thread of its own. Returns how many questions were answered with yes.
+pub(crate) fn explain<L: Server + Send + Sync, T: Threads + Wait + Sync>(
+    rt: &T,
+    alloc: Global,
+    server: &CapServer<NoGate, L>,
+    mut passes: Vec<Pass<L>>,
+    asking: Asking,
+    lines: &[&[u8]],
+) -> Result<u64, Fault> {
+    call_lines(rt, alloc, server, passes.last_mut(), lines)?;
+    let (done, lock) = (AtomicU64::new(0), Mutex::new(()));
+    let work = &|pass: Pass<L>| { take_part(rt, server, pass, &done, &lock, asking) };
+    match map_vec(rt, passes, work) {
+        Ok(sums) => total(sums.as_slice()),
+        Err(_) => Err(Fault::NoMemory),
+    }
+}
+
+// What a pass does in its thread: the last one calls, and the others ask. It needs threads: where none can be made, nobody asks, and the
+// last one goes on.
+fn take_part<L: Server, T: Wait>(
+    rt: &T,
+    server: &CapServer<NoGate, L>,
+    pass: Pass<L>,
+    done: &AtomicU64,
+    lock: &Mutex<()>,
+    asking: Asking,
+) -> Result<u64, Fault> {
+    if pass.number() > PassId(asking.readers) {
+        return call_while(rt, server, pass, done, lock, asking);
+    }
+    let sum = ask(rt, server, pass, lock, asking);
+    done.fetch_add(1, Ordering::SeqCst);
+    Ok(sum)
+}
+
+// The sum of what all passes came to, or the first fault.
+fn total(sums: &[Result<u64, Fault>]) -> Result<u64, Fault> {
+    let mut total: u64 = 0;
+    for sum in sums {
+        total = total.wrapping_add((*sum)?);
+    }
+    Ok(total)
+}
+
+// Takes the lock, where it is to be taken.
+fn enter<'a, T: Wait>(rt: &T, lock: &'a Mutex<()>, way: Way) -> Option<MutexGuard<'a, ()>> {
+    match way {
+        Way::Beside => None,
+        Way::Locked => Some(lock.lock(rt)),
+    }
+}
+
+fn leave(guard: Option<MutexGuard<()>>) {
+    if let Some(guard) = guard {
+        MutexGuard::unlock(guard);
+    }
+}
+
+// An inode for an operation. Those that follow each other come to each inode once before one comes again.
+fn inode_at(turn: u32, inodes: u32) -> Ino {
+    match (u64::from(turn) * STRIDE).checked_rem(u64::from(inodes)) {
+        Some(place) => Ino(place + 2),
+        None => Ino(2),
+    }
+}
+
+// ---- the thread that calls
+
+fn call_lines<L: Server, T: Wait>(
+    rt: &T,
+    alloc: Global,
+    server: &CapServer<NoGate, L>,
+    pass: Option<&mut Pass<L>>,
+    lines: &[&[u8]],
+) -> Result<(), Fault> {
+    let Some(pass) = pass else {
+        return Err(Fault::Usage);
+    };
+    for line in lines {
+        let event = event_of(alloc, line)?;
+        call(rt, server, pass, event)?;
+    }
+    Ok(())
+}
+
+// Changes the mode of one inode after another until all others have asked.
+fn call_while<L: Server, T: Wait>(
+    rt: &T,
+    server: &CapServer<NoGate, L>,
+    mut pass: Pass<L>,
+    done: &AtomicU64,
+    lock: &Mutex<()>,
+    asking: Asking,
+) -> Result<u64, Fault> {
+    let mut turn: u32 = 0;
+    for _ in rt.forever() {
+        if done.load(Ordering::SeqCst) == u64::from(asking.readers) {
+            break;
+        }
+        let event = mode_change(inode_at(turn, asking.inodes), turn);
+        let guard = enter(rt, lock, asking.way);
+        let called = call(rt, server, &mut pass, event);
+        leave(guard);
+        called?;
+        turn = turn.wrapping_add(1);
+    }
+    Ok(0)
+}
+
+fn mode_change(ino: Ino, turn: u32) -> Event {
+    let Some(mode) = Mode::new(MODES[(turn % 2) as usize]) else {
+        unreachable!()
+    };
+    Event::Alter {
+        client: CLIENT,
+        ino,
+        change: Change::Set(Setting::Mode(mode)),
+    }
+}
+
+// Calls an event. What the server promises of an answer stays behind here.
+fn call<L: Server, T: Wait>(
+    rt: &T,
+    server: &CapServer<NoGate, L>,
+    pass: &mut Pass<L>,
+    event: Event,
+) -> Result<(), Fault> {
+    match server.call(rt, pass, event) {
+        Ok(_answer) => Ok(()),
+        Err(Stop::NoMemory) => Err(Fault::NoMemory),
+        Err(Stop::Full) => Err(Fault::Full),
+    }
+}
+
+// ---- the threads that ask
+
+// Asks so many questions, and returns how many were answered with yes.
+fn ask<L: Server, T: Wait>(
+    rt: &T,
+    server: &CapServer<NoGate, L>,
+    mut pass: Pass<L>,
+    lock: &Mutex<()>,
+    asking: Asking,
+) -> u64 {
+    let mut sum: u64 = 0;
+    for turn in 0..asking.times {
+        let guard = enter(rt, lock, asking.way);
+        let is_allowed = is_allowed(server, &mut pass, inode_at(turn, asking.inodes));
+        leave(guard);
+        sum = sum.wrapping_add(u64::from(is_allowed));
+    }
+    sum
+}
+
+// Asks whether the client may write an inode.
+fn is_allowed<L: Server>(server: &CapServer<NoGate, L>, pass: &mut Pass<L>, ino: Ino) -> bool {
+    let question = Question {
+        client: CLIENT,
+        ino,
+        access: Access::Write,
+    };
+    matches!(server.explain(pass, &question), Ok(Verdict::Allowed { .. }))
+}

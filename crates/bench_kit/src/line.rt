@@ -1,0 +1,78 @@
+//! The lines of a file of talks.
+
+use crate::run::Program;
+use crate::talk_fault::BookFault;
+
+// The marks that a line begins with, but that of a remark.
+const MARKS: &[u8] = b"*+$%@>!=";
+
+/// What a line is, by its first byte, with the text behind that.
+#[derive(Clone, Copy)]
+pub enum Line<'a> {
+    /// Nothing, or a remark.
+    Remark,
+    /// A talk of this name begins.
+    Talk(&'a [u8]),
+    /// The talk begins with all lines of the earlier talk of this name.
+    Begins(&'a [u8]),
+    /// The words of a command line of a program.
+    Command(Program, &'a [u8]),
+    /// What a stream takes before it fails.
+    Limit(&'a [u8]),
+    /// A line that the command reads.
+    Asked(&'a [u8]),
+    /// A line that the command writes.
+    Written(&'a [u8]),
+    /// A line that it writes to standard error.
+    Complaint(&'a [u8]),
+    /// The status with which it ends.
+    Status(&'a [u8]),
+}
+
+impl<'a> Line<'a> {
+    /// Reads a line. A space at its end would not be seen, so it means nothing.
+    pub fn read(text: &'a [u8]) -> Result<Line<'a>, BookFault> {
+        let Some((first, behind)) = text.split_first() else {
+            return Ok(Line::Remark);
+        };
+        if ends_unseen(text) {
+            return Err(BookFault::NotUnderstood);
+        }
+        match *first {
+            b'#' => Ok(Line::Remark),
+            mark if MARKS.contains(&mark) => Line::by_mark(mark, marked(behind)?),
+            _ => Ok(Line::Written(text)),
+        }
+    }
+
+    // What one of the marks says of the text behind it. A talk has a name.
+    fn by_mark(mark: u8, text: &'a [u8]) -> Result<Line<'a>, BookFault> {
+        match mark {
+            b'*' | b'+' if text.is_empty() => Err(BookFault::NotUnderstood),
+            b'*' => Ok(Line::Talk(text)),
+            b'+' => Ok(Line::Begins(text)),
+            b'$' => Ok(Line::Command(Program::Capd, text)),
+            b'%' => Ok(Line::Command(Program::Capbench, text)),
+            b'@' => Ok(Line::Limit(text)),
+            b'>' => Ok(Line::Asked(text)),
+            b'!' => Ok(Line::Complaint(text)),
+            _ => Ok(Line::Status(text)),
+        }
+    }
+}
+
+fn ends_unseen(text: &[u8]) -> bool {
+    match text.last() {
+        Some(last) => *last == b' ' || *last == b'\t' || *last == b'\r',
+        None => false,
+    }
+}
+
+// What stands behind a mark: a space, and the text; or nothing.
+fn marked(behind: &[u8]) -> Result<&[u8], BookFault> {
+    match behind.split_first() {
+        Some((b' ', text)) => Ok(text),
+        Some(_) => Err(BookFault::NotUnderstood),
+        None => Ok(behind),
+    }
+}

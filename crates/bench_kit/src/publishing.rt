@@ -1,0 +1,147 @@
+//! The work that publishes: a pass of a server calls what a script says, and it and another one, which calls nothing, ask what came of each
+//! call. What finds no memory is called again; what was made and found none for its publication is published with the next event.
+
+use crate::fault::Fault;
+use crate::lines::{Heard, TRIES, event_of, tell, tell_stop, write};
+use capbits::{ClientId, Ino};
+use capgrant::{Access, Verdict};
+use capserver::{Answer, CapServer, NoGate};
+use policy_view::{Question, Unknown};
+use snapshot::{Pass, Server};
+use std::alloc::Global;
+use std::io::Write;
+use std::sync::Wait;
+
+/// Clients and inodes that are asked about have these numbers from 1 on.
+const ASKED: u32 = 4;
+
+/// How many questions there are on them: whether each client may read and write each inode.
+const QUESTIONS: usize = 32;
+
+/// The line of what a pass is told, before its letters are in it.
+const VIEW: &[u8; 38] = b"view ................................\n";
+
+/// The line that is called where an event was made and not published: it changes nothing, and is published with it.
+const CATCH_UP: &[u8] = b"poll 1 9";
+
+/// Has the first pass call what the lines of a script say. What is answered is written, and behind that what each pass is told of all
+/// questions.
+pub(crate) fn publish<L: Server, T: Wait, W: Write>(
+    rt: &T,
+    alloc: Global,
+    server: &CapServer<NoGate, L>,
+    passes: &mut [Pass<L>],
+    lines: &[&[u8]],
+    writer: &mut W,
+) -> Result<(), Fault> {
+    for line in lines {
+        take_line(rt, alloc, server, passes, line, writer)?;
+    }
+    Ok(())
+}
+
+// Calls what a line says until it is made and published.
+fn take_line<L: Server, T: Wait, W: Write>(
+    rt: &T,
+    alloc: Global,
+    server: &CapServer<NoGate, L>,
+    passes: &mut [Pass<L>],
+    line: &[u8],
+    writer: &mut W,
+) -> Result<(), Fault> {
+    let mut line = line;
+    for _ in 0..TRIES {
+        let heard = call(rt, alloc, server, passes, line, writer)?;
+        see_all(server, passes, writer)?;
+        match heard {
+            Heard::Answered => return Ok(()),
+            Heard::Late => line = CATCH_UP,
+            Heard::Starved | Heard::Stopped => (),
+        }
+    }
+    Err(Fault::InVain)
+}
+
+fn call<L: Server, T: Wait, W: Write>(
+    rt: &T,
+    alloc: Global,
+    server: &CapServer<NoGate, L>,
+    passes: &mut [Pass<L>],
+    line: &[u8],
+    writer: &mut W,
+) -> Result<Heard, Fault> {
+    let Some(caller) = passes.first_mut() else {
+        return Err(Fault::Usage);
+    };
+    let event = event_of(alloc, line)?;
+    match server.call(rt, caller, event) {
+        Ok(answer) => tell_answer(alloc, &answer, writer),
+        Err(stop) => tell_stop(stop, writer),
+    }
+}
+
+// Writes an answer, and behind it that it is not published yet.
+fn tell_answer<W: Write>(alloc: Global, answer: &Answer, writer: &mut W) -> Result<Heard, Fault> {
+    let heard = tell(alloc, &answer.reply, writer)?;
+    if answer.fresh {
+        return Ok(heard);
+    }
+    write(writer, b"late\n")?;
+    Ok(match heard {
+        Heard::Answered => Heard::Late,
+        heard => heard,
+    })
+}
+
+fn see_all<L: Server, W: Write>(
+    server: &CapServer<NoGate, L>,
+    passes: &mut [Pass<L>],
+    writer: &mut W,
+) -> Result<(), Fault> {
+    for pass in passes {
+        see(server, pass, writer)?;
+    }
+    Ok(())
+}
+
+// Writes what a pass is told, a letter for each question.
+fn see<L: Server, W: Write>(
+    server: &CapServer<NoGate, L>,
+    pass: &mut Pass<L>,
+    writer: &mut W,
+) -> Result<(), Fault> {
+    let mut view = *VIEW;
+    for place in 0..QUESTIONS {
+        view[5 + place] = letter_at(server, pass, place as u32);
+    }
+    write(writer, &view)
+}
+
+// What is told of the question at a place. What the server promises of it stays behind here.
+fn letter_at<L: Server>(server: &CapServer<NoGate, L>, pass: &mut Pass<L>, place: u32) -> u8 {
+    letter_of(server.explain(pass, &question_at(place)))
+}
+
+// The question at a place: client by client, and for each of them inode by inode.
+fn question_at(place: u32) -> Question {
+    Question {
+        client: ClientId(1 + place / 2 / ASKED),
+        ino: Ino(1 + u64::from(place / 2 % ASKED)),
+        access: if place % 2 == 0 {
+            Access::Read
+        } else {
+            Access::Write
+        },
+    }
+}
+
+fn letter_of(answer: Result<Verdict, Unknown>) -> u8 {
+    match answer {
+        Ok(Verdict::Allowed { .. }) => b'a',
+        Ok(Verdict::Denied { .. }) => b'd',
+        Err(Unknown::NoSession) => b's',
+        Err(Unknown::NoIno) => b'i',
+        Err(Unknown::Gone) => b'g',
+        Err(Unknown::NoView) => b'v',
+    }
+}

@@ -1,0 +1,154 @@
+//! Whole scripts: those that are run as `capd run` does it, and those that a program with a server serves as `capd serve` does.
+
+use crate::day::Amount;
+use crate::day_fault::DayFault;
+use crate::talk::Talk;
+use capscript::run;
+use script_syntax::Watched;
+use std::alloc::Global;
+use std::hash::{DefaultHasher, Hasher};
+
+/// How many directories stand in each other.
+const DEPTH: u64 = 28;
+
+/// How many clients are served by threads.
+const THREADS: u64 = 8;
+
+/// How many files each of them has.
+const FILES: u64 = 64;
+
+/// The lines with which a script that is run begins, those of one more file and of another one: one client makes the file and writes it,
+/// and another looks it up; the other opens the other file for a moment, and the first changes its mode.
+const INGEST: &str = "session 1 10 10 - allow rw\nsession 2 20 20 - allow r path=/pub, allow r\n";
+
+const UPLOAD: &str =
+    "create 1 # upload# 0644\nopen 1 # w\nflush 1 # size #\nlookup 2 # upload#\nrelease 1 # p\n";
+
+const CHANGE: &str = "open 2 # r\nrelease 2 # p\nalter 1 # chmod 0640\n";
+
+/// The first lines of a client that is served.
+const CLIENT: &str = "session # 10 10 - allow rw\nmkdir # 1 home# 0755\n";
+
+/// Runs a script of so many rounds, and returns the digest of its transcript.
+pub(crate) fn run_script(alloc: Global, count: u32, seed: u32) -> Result<u64, DayFault> {
+    let script = ingest(Talk::new(alloc, seed), count)?;
+    let written = transcript(alloc, script.as_slice())?;
+    Ok(digest_of(written.as_slice()))
+}
+
+// What is written of a script that is run. What is promised of it stays behind here.
+fn transcript(alloc: Global, script: &[u8]) -> Result<Vec<u8>, DayFault> {
+    let mut written = Vec::new(alloc);
+    let mut reader = script;
+    run(
+        alloc,
+        &mut Watched::new(&mut reader),
+        &mut Watched::new(&mut written),
+    )?;
+    Ok(written)
+}
+
+/// The script of so many rounds that is to be served: clients that each work on files of their own, from threads of their own. Nothing that
+/// they ask for waits, since the number of a request that waits depends on when its thread was served.
+pub fn served_script(alloc: Global, amount: Amount) -> Result<Vec<u8>, DayFault> {
+    let Amount { count, seed } = amount;
+    let mut talk = Talk::new(alloc, seed);
+    let mut script = Vec::new(alloc);
+    add_clients(&mut talk, &mut script);
+    talk.write(&mut script, "threads\n", &[]);
+    for round in 0..u64::from(count) {
+        add_round(&mut talk, &mut script, round);
+    }
+    talk.made(script)
+}
+
+/// The digest of the history of a script that is served. It is the same in whatever order the threads were served: the sum of the digests of
+/// the lines, of which each has the pass of its client, and its number among that client's.
+pub fn history_digest(text: &[u8]) -> u64 {
+    let mut sum: u64 = 0;
+    for line in text.split(|byte| *byte == b'\n') {
+        sum = sum.wrapping_add(digest_of(line));
+    }
+    sum
+}
+
+// The digest of a text.
+fn digest_of(text: &[u8]) -> u64 {
+    let mut digest = DefaultHasher::new();
+    digest.write(text);
+    digest.finish()
+}
+
+// A client fills a deep chain of directories with files, and looks at them; another opens what it finds there.
+fn ingest(mut talk: Talk, count: u32) -> Result<Vec<u8>, DayFault> {
+    let mut script = Vec::new(talk.alloc());
+    talk.write(&mut script, INGEST, &[]);
+    add_levels(&mut talk, &mut script);
+    for round in 0..u64::from(count) {
+        add_file(&mut talk, &mut script, round);
+    }
+    talk.made(script)
+}
+
+fn add_levels(talk: &mut Talk, script: &mut Vec<u8>) {
+    for level in 0..DEPTH {
+        talk.write(script, "mkdir 1 # level# 0755\n", &[level + 1, level]);
+    }
+}
+
+// The lines of one more file, which gets the next number, and of one that is there.
+fn add_file(talk: &mut Talk, script: &mut Vec<u8>, round: u64) {
+    let folder = talk.among(1, DEPTH + 1);
+    let any = talk.among(DEPTH + 2, round.saturating_add(1));
+    let made = round.saturating_add(DEPTH + 2);
+    talk.write(
+        script,
+        UPLOAD,
+        &[folder, round, made, made, round, folder, round, made],
+    );
+    talk.write(script, CHANGE, &[any, any, any]);
+}
+
+fn add_clients(talk: &mut Talk, script: &mut Vec<u8>) {
+    for client in 1..=THREADS {
+        add_client(talk, script, client);
+    }
+}
+
+// A line of each client.
+fn add_round(talk: &mut Talk, script: &mut Vec<u8>, round: u64) {
+    for client in 1..=THREADS {
+        add_job(talk, script, client, round);
+    }
+}
+
+// A client with its directory and its files: the directory of client 1 is inode 2, and its files follow it.
+fn add_client(talk: &mut Talk, script: &mut Vec<u8>, client: u64) {
+    let home = home_of(client);
+    talk.write(script, CLIENT, &[client, client, client]);
+    for file in 0..FILES {
+        talk.write(script, "create # # file# 0644\n", &[client, home, file]);
+    }
+}
+
+fn home_of(client: u64) -> u64 {
+    client
+        .saturating_sub(1)
+        .saturating_mul(FILES + 1)
+        .saturating_add(2)
+}
+
+fn add_job(talk: &mut Talk, script: &mut Vec<u8>, client: u64, round: u64) {
+    let home = home_of(client);
+    let file = talk.below(FILES);
+    let ino = home.saturating_add(1).saturating_add(file);
+    let (line, ino, number) = match talk.below(6) {
+        0 => ("open # # rw\n", ino, round),
+        1 => ("flush # # size #\n", ino, round),
+        2 => ("get # # A\n", ino, round),
+        3 => ("release # # p\n", ino, round),
+        4 => ("want # # pFscr\n", ino, round),
+        _ => ("lookup # # file#\n", home, file),
+    };
+    talk.write(script, line, &[client, ino, number]);
+}

@@ -1,0 +1,105 @@
+//! The work on a server: it is started and ended here alone.
+ghost use Rattle.std.specs.Prelude.{◌≡◌};
+ghost use Rattle.capserver.specs.Opened.{opened};
+
+use crate::explaining::explain;
+use crate::fault::Fault;
+use crate::lines::tell_rows;
+use crate::publishing::publish;
+use crate::work::ServerWork;
+use capscript::file_system;
+use capserver::{CapServer, NoGate, Opening};
+use snapshot::Server;
+use std::alloc::Global;
+use std::io::Write;
+use std::marker::Brand;
+use std::sync::Wait;
+use std::sync::ledger::Blank;
+use std::thread::Threads;
+
+/// Starts a server on a root alone, does the work by its passes, and ends it. The sum is that of the questions that were answered with yes,
+/// or else that of the rows of the history.
+pub(crate) fn serve<T: Threads + Wait + Sync, W: Write>(
+    rt: &T,
+    alloc: Global,
+    work: ServerWork,
+    lines: &[&[u8]],
+    writer: &mut W,
+) -> Result<u64, Fault> {
+    let count = passes_for(work);
+    let (fs, tree) = file_system(alloc)?;
+    let opening = Opening::new(alloc, fs, tree, u32::MAX)?;
+    served::<Brand, T, W>(
+        rt,
+        alloc,
+        opening,
+        Blank::new(32),
+        count,
+        work,
+        lines,
+        writer,
+    )
+}
+
+// How many passes there are: one calls, and the others ask alone.
+fn passes_for(work: ServerWork) -> u32 {
+    match work {
+        ServerWork::Publish => 2,
+        ServerWork::Explain(asking) => asking.readers.saturating_add(1),
+    }
+}
+
+fn served<L: Server + Send + Sync, T: Threads + Wait + Sync, W: Write>(
+    rt: &T,
+    alloc: Global,
+    opening: Opening,
+    blank: Blank,
+    count: u32,
+    work: ServerWork,
+    lines: &[&[u8]],
+    writer: &mut W,
+) -> Result<u64, Fault>
+    requires opening { opening ≡ opened L.opening L.max_rows L.history L.tally }
+    requires name { blank.name ≡ L.name }
+    requires parts { (blank.parts ≡ L.parts) × (L.parts ≡ 32) }
+{
+    let (server, mut passes) = CapServer::<NoGate, L>::start(
+        rt, alloc, opening, blank, count, NoGate,
+    )?;
+    match work {
+        ServerWork::Publish => {
+            match publish(rt, alloc, &server, passes.as_mut_slice(), lines, writer) {
+                Ok(()) => tell_history(rt, alloc, server, writer),
+                Err(fault) => {
+                    end(rt, alloc, server);
+                    Err(fault)
+                }
+            }
+        }
+        ServerWork::Explain(asking) => {
+            let sum = explain(rt, alloc, &server, passes, asking, lines);
+            end(rt, alloc, server);
+            sum
+        }
+    }
+}
+
+// Ends a server.
+fn end<L: Server, T: Wait>(rt: &T, alloc: Global, server: CapServer<NoGate, L>) {
+    drop(server.close(rt, Vec::new(alloc)));
+}
+
+// Ends a server, writes the rows of its history, and tells how many they are.
+fn tell_history<L: Server, T: Wait, W: Write>(
+    rt: &T,
+    alloc: Global,
+    server: CapServer<NoGate, L>,
+    writer: &mut W,
+) -> Result<u64, Fault> {
+    let closed = server.close(rt, Vec::new(alloc));
+    let rows = closed.core.history().len() as u64;
+    let told = tell_rows(alloc, closed.core.history(), writer);
+    drop(closed);
+    told?;
+    Ok(rows)
+}

@@ -1,8 +1,0 @@
-pub mod Unwritten
-pub mod Audits
-pub mod Grown
-pub mod Inquired
-pub mod Surveyed
-pub mod Logged
-pub mod Matches
-pub use Rattle.capquestion.proofs as Capquestion

@@ -1,3 +1,0 @@
-pub mod Callers
-pub mod Findings
-pub mod Conflicts

@@ -1,7 +1,0 @@
-use Rattle.std.proofs.Common.{◌≡◌, [], drop}
-use Rattle.serde_json.specs.View.{items_view}
-use Rattle.capauth.specs.Auth.{entities_of}
-use Rattle.capauth.proofs.reading.read_entities.Given as goal
-
-abbrev pub invariant-loop-item : goal.invariant-loop-item
-invariant-loop-item l = entities_of l.entities.items (items_view (drop l.item-index l.items)) ≡ entities_of [] (items_view l.items)

@@ -1,4 +1,0 @@
-pub mod Values
-pub mod Sessions
-pub mod Dump
-pub mod Reader

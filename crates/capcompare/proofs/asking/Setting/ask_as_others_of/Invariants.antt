@@ -1,6 +1,0 @@
-use Rattle.std.proofs.Common.{take}
-use Rattle.capcompare.specs.Asking.{NoneAsOthersOf}
-use Rattle.capcompare.proofs.asking.Setting.ask_as_others_of.Given as goal
-
-abbrev pub invariant-loop-group : goal.invariant-loop-group
-invariant-loop-group l = NoneAsOthersOf l.self l.caller (take l.group-index l.groups)

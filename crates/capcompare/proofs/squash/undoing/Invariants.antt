@@ -1,7 +1,0 @@
-use Rattle.std.proofs.Common.{take}
-use Rattle.std.specs.Prelude.{All}
-use Rattle.capcompare.specs.Squashing.{KeepsAgainst}
-use Rattle.capcompare.proofs.squash.undoing.Given as goal
-
-abbrev pub invariant-loop-other : goal.invariant-loop-other
-invariant-loop-other l = All (KeepsAgainst l.grant) (take l.other-index l.grants)

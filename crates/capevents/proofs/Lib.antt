@@ -1,1 +1,0 @@
-pub use Rattle.lockmachine.proofs as Lockmachine

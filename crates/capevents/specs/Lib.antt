@@ -1,2 +1,0 @@
-pub mod Replies
-pub use Rattle.lockmachine.specs as Lockmachine

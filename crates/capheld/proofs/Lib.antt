@@ -1,9 +1,0 @@
-pub mod Said
-pub mod Saying
-pub mod Noting
-pub mod Giving
-pub mod Words
-pub mod Spaces
-pub mod Openings
-pub mod Tells
-pub mod Values

@@ -1,7 +1,0 @@
-use Rattle.std.proofs.Common.{◌≡◌, take}
-use Rattle.std.specs.List.{flat_map}
-use Rattle.capheld.specs.Order.{counted_line}
-use Rattle.capheld.proofs.order.counts.Given as goal
-
-abbrev pub invariant-loop-kind : goal.invariant-loop-kind
-invariant-loop-kind l = l.text.items ≡ flat_map (counted_line l.shape l.lines) (take l.kind-index l.kinds)

@@ -1,9 +1,0 @@
-use Rattle.std.proofs.Common.{◌≡◌, ◌++◌, length, map}
-use Rattle.caplines.specs.Lines.{lines}
-use Rattle.capheld.proofs.order.cut.Given as goal
-
-abbrev pub invariant-loop-line : goal.invariant-loop-line
-invariant-loop-line l = map (λ line. line.items) l.lines.items ++ lines l.rest ≡ lines l.text
-
-abbrev pub decreases-loop-line : goal.decreases-loop-line
-decreases-loop-line l = length l.rest

@@ -1,6 +1,0 @@
-use Rattle.std.proofs.Common.{◌≡◌, take}
-use Rattle.capheld.specs.Summary.{entry_count}
-use Rattle.capheld.proofs.summary.entry_count.Given as goal
-
-abbrev pub invariant-loop-inode : goal.invariant-loop-inode
-invariant-loop-inode l = l.entries ≡ entry_count (take l.inode-index l.inodes)

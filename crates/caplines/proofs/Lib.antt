@@ -1,5 +1,0 @@
-pub mod LineWords
-pub mod Numerals
-pub mod GroupNumbers
-pub mod SaidLines
-pub use Rattle.capexplain.proofs as Capexplain

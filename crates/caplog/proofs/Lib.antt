@@ -1,4 +1,0 @@
-pub mod Cuts
-pub mod Telling
-pub mod Fitting
-pub mod Items

@@ -1,4 +1,0 @@
-pub mod Checks
-pub mod Masks
-pub mod Told
-pub mod Items

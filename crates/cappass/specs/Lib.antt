@@ -1,3 +1,0 @@
-pub mod Passes
-pub use Rattle.witness.specs.Published
-pub use Rattle.witness.specs as Witness

@@ -1,5 +1,0 @@
-use Rattle.capquestion.proofs.ClientLines.{IsBegun}
-use Rattle.capquestion.proofs.clients.client_lines.Given as goal
-
-abbrev pub invariant-loop-entity : goal.invariant-loop-entity
-invariant-loop-entity l = IsBegun l.telling l.wanted l.attr l.entities l.entity-index l.lines.items

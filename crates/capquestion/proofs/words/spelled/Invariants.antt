@@ -1,5 +1,0 @@
-use Rattle.std.proofs.Common.{◌≡◌, ◌<◌, All}
-use Rattle.capquestion.proofs.words.spelled.Given as goal
-
-abbrev pub invariant-loop-character : goal.invariant-loop-character
-invariant-loop-character l = All (λ c. c < 256) l.yielded → l.bytes.items ≡ l.yielded

@@ -1,5 +1,0 @@
-use Rattle.capremarks.proofs.Unnamed.{looks_at_none, names_none}
-use Rattle.capremarks.proofs.laws.a_grant_without_uid_looks_at_no_inode.Goals as goal
-
-pub returns : goal.returns
-returns c = λ q g allowed. (looks_at_none q g allowed, names_none q g)

@@ -1,3 +1,0 @@
-pub mod Left
-pub mod Differences
-pub use Rattle.capcompare.specs as Capcompare

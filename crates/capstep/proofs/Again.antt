@@ -1,0 +1,85 @@
+-- What rejects a request, from what rejects its parts.
+use Rattle.std.proofs.Common.{◌≡◌, ◌⊎◌, inl, inr, ℕ, true, List, [], ◌∷◌, Option, Some, None, refl, sym, ap, subst, ◌∙◌, arith}
+use Rattle.capbits.proofs.Tests.{pass-both}
+use Rattle.capbits.specs.Refusal.{Test}
+use Rattle.capbits.specs.declared.cap.Part.{Part}
+use Rattle.inotree.specs.declared.node.Node.{Node}
+use Rattle.step_model.specs.Judge.{first_denied, rejection_by}
+use Rattle.step_model.specs.Operations.{change_tests}
+use Rattle.step_model.specs.Serving.{As_judged, MayEndAs, Without_memory, outcome_unless, passed_as, rejection_outcome, values_outcome}
+use Rattle.step_model.specs.declared.rejection.Rejection.TheVariants.{ByTest}
+use Rattle.capstep.proofs.CommonActs.{Access, Alter, Change, ClientId, Need, Nodes, Operation, Outcome, Refusal, Rejection, Request, Scene, denial_of}
+use Rattle.capstep.proofs.CommonActs.{first_failing, judged_again, need, operation_after, operation_before, rejection_of, takes_memory, tree_after, tree_with}
+use Rattle.capstep.specs.Served.{call_tests, change_call_tests}
+
+-- ---- policy alone
+
+-- one access is denied as it is by itself
+pub denial-rejection : (s : Scene) (client : ClientId) (ino : ℕ) (access : Access) →
+    denial_of s.fs s.tree s.sessions (need client ino access).holder access ≡ rejection_of s [] (need client ino access ∷ []) []
+denial-rejection s client ino access = grind arith
+
+-- where no test rejects a request, the first access that it needs does, if that is denied
+module _ (s : Scene) (n : Need) (ns : List Need) (tests more : List Test) where
+  pub denied-first : (d : Rejection) → first_failing tests ≡ None → denial_of s.fs s.tree s.sessions n.holder n.access ≡ Some d → rejection_of s tests (n ∷ ns) more ≡ Some d
+  denied-first d passed is = grind arith
+
+-- ---- tests and policy
+
+module _ (s : Scene) (tests : List Test) (needed : List Need) (more : List Test) where
+  -- a test before policy that fails is what rejects it
+  pub rejection-before : (r : Refusal) → first_failing tests ≡ Some r → rejection_of s tests needed more ≡ Some (ByTest r)
+  rejection-before r is = ap (λ o. rejection_by s o (first_denied s needed) (first_failing more)) is
+
+  -- what nothing rejects passed the tests before policy and those behind it
+  pub passed-all : rejection_of s tests needed more ≡ None → (first_failing tests ≡ None) × (first_failing more ≡ None)
+  passed-all free = grind arith
+
+-- ---- a request
+
+-- the call that makes a change finds its tests passed
+pub change-passed : (s : Scene) (ino : ℕ) (change : Change) → first_failing (operation_before s ino (Alter change)) ≡ None → first_failing (change_tests s ino change) ≡ None → first_failing (change_call_tests s.tree ino change) ≡ None
+change-passed s ino change one more = grind (arith, pass-both)
+
+operation_passed : (s : Scene) (ino : ℕ) (operation : Operation) → first_failing (operation_before s ino operation) ≡ None → first_failing (operation_after s ino operation) ≡ None → first_failing (call_tests s.tree ino operation) ≡ None
+operation_passed s ino operation one more = grind (arith, change-passed, pass-both)
+
+-- the call that carries out a request that nothing rejects finds its tests passed
+pub calls-passed : (s : Scene) (q : Request) → judged_again s q ≡ None → first_failing (call_tests s.tree q.ino.0 q.operation) ≡ None
+calls-passed s q free = grind (arith, passed-all, operation_passed)
+
+-- a request that is rejected ends so
+pub ends-rejection : (s : Scene) (q : Request) (rejection : Rejection) (o : Outcome) → judged_again s q ≡ Some rejection → o ≡ rejection_outcome rejection → MayEndAs s q o
+ends-rejection s q rejection o is ends = subst (MayEndAs s q) (sym (ends ∙ ap (outcome_unless s q) (sym is))) As_judged
+
+-- and one that nothing rejects as its operation ends
+pub ends-passed : (s : Scene) (q : Request) (o : Outcome) → judged_again s q ≡ None → o ≡ passed_as s q.ino.0 q.operation → MayEndAs s q o
+ends-passed s q o free ends = subst (MayEndAs s q) (sym (ends ∙ ap (outcome_unless s q) (sym free))) As_judged
+
+pub ends-without_memory : (s : Scene) (q : Request) (o : Outcome) → judged_again s q ≡ None → takes_memory q.operation ≡ true → o ≡ Outcome.OutOfMemory → MayEndAs s q o
+ends-without_memory s q o free takes ends = subst (MayEndAs s q) (sym ends) (Without_memory free takes)
+
+-- ---- the tree that it leaves
+
+pub tree-rejection : (tree : Nodes) (q : Request) (rejection : Rejection) (o : Outcome) → o ≡ rejection_outcome rejection → tree ≡ tree_after tree q o
+tree-rejection tree q rejection o is = grind arith
+
+told-tree : (tree : Nodes) (q : Request) (part : Part) (node : Option Node) (same : tree_with tree q.ino.0 q.operation ≡ tree) → tree_with tree q.ino.0 q.operation ≡ tree_after tree q (values_outcome part node)
+told-tree tree q part node same = grind arith
+
+passed_tree : (s : Scene) (q : Request) (operation : Operation) → q.operation ≡ operation → tree_with s.tree q.ino.0 q.operation ≡ tree_after s.tree q (passed_as s q.ino.0 operation)
+passed_tree s q operation is = grind (arith, told-tree)
+
+pub tree-passed : (s : Scene) (q : Request) → tree_with s.tree q.ino.0 q.operation ≡ tree_after s.tree q (passed_as s q.ino.0 q.operation)
+tree-passed s q = passed_tree s q q.operation refl
+
+-- a serving leaves the tree, or makes the change that nothing rejects
+pub leaves-or-makes : (s : Scene) (q : Request) (o : Outcome) → MayEndAs s q o →
+    (s.tree ≡ tree_after s.tree q o) ⊎ ((judged_again s q ≡ None) × (tree_with s.tree q.ino.0 q.operation ≡ tree_after s.tree q o))
+leaves-or-makes s q o (As_judged) = by_rejection (judged_again s q) refl
+  where
+    by_rejection : (rejection : Option Rejection) → judged_again s q ≡ rejection →
+        (s.tree ≡ tree_after s.tree q (outcome_unless s q (judged_again s q))) ⊎ ((judged_again s q ≡ None) × (tree_with s.tree q.ino.0 q.operation ≡ tree_after s.tree q (outcome_unless s q (judged_again s q))))
+    by_rejection None is = inr (is, tree-passed s q ∙ ap (λ rejection. tree_after s.tree q (outcome_unless s q rejection)) (sym is))
+    by_rejection (Some rejection) is = inl (tree-rejection s.tree q rejection (outcome_unless s q (judged_again s q)) (ap (outcome_unless s q) is))
+leaves-or-makes s q o (Without_memory free takes) = inl refl

@@ -1,0 +1,16 @@
+pub mod EntryRequest
+pub mod Affected
+pub mod SessionChange
+pub mod Leaving
+pub mod Answered
+pub mod Judged
+pub mod Begun
+pub mod Serves
+pub mod Sweep
+pub mod Operations
+pub mod Served
+pub mod Finishing
+pub mod Known
+pub mod Reach
+pub mod Left
+pub mod Renewing

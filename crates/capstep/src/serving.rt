@@ -1,0 +1,162 @@
+//! How a request that waited for a lock is served: it is judged again, and then its operation is carried out.
+ghost use Rattle.std.specs.Prelude.{◌≡◌, None, Some, true, false, IfOk, OnOk, OnErr};
+ghost use Rattle.capbits.specs.Refusal.{first_failing};
+ghost use Rattle.captable.specs.Table.{Table};
+ghost use Rattle.step_model.specs.Changing.{tree_after, tree_changed, tree_with};
+ghost use Rattle.lockmachine.specs.Locks.{LockMap};
+ghost use Rattle.lockmachine.specs.Scene.{Scene, plain};
+ghost use Rattle.lockmachine.specs.Scene.{scene as scene_of};
+ghost use Rattle.step_model.specs.Serving.{MayEndAs, judged_again, rejection_outcome, takes_memory, values_outcome};
+ghost use Rattle.lockmachine.specs.declared.request.Operation.TheVariants as operation_kind;
+ghost use Rattle.step_model.specs.Serving as words;
+ghost use Rattle.capstep.specs.Served.{call_tests, change_call_tests, is_rename};
+
+use crate::judge::operation_rejection;
+use crate::operations::operation_ref;
+use capbits::{Ino, Part};
+use captable::Holder;
+use inotree::{Node, Tree};
+use lockmachine::{Change, KeptScene, Operation, Request};
+use std::alloc::{AllocError, Global};
+use step_model::{Outcome, PartValues, Rejection, copy_of_rules};
+
+/// How a request ended, once for its client and once for the history.
+#[derive(Drop)]
+pub struct Served {
+    pub outcome: Outcome,
+    pub for_history: Outcome,
+}
+
+/// Serves a request: it ends by what rejects it now, or its operation is carried out. One that was judged on this tree when it
+/// came is not judged again. A request that moves its inode and found no room for what it reaches ends as out of memory, unless
+/// something rejects it.
+pub fn serve(
+    alloc: Global,
+    scene: &mut KeptScene,
+    request: &Request,
+    room: bool,
+    judged: bool,
+) -> Served
+    requires room { room ≡ false → is_rename request.now.operation ≡ true }
+    requires judged { judged ≡ true → judged_again (plain scene.old) request.now ≡ None }
+    ensures ends { (table : Table) (locks : LockMap)
+        → MayEndAs (scene_of scene.old.fs scene.old.tree scene.old.sessions table locks) request.now result.outcome }
+    ensures for_history { result.for_history ≡ result.outcome }
+    ensures tree { scene.new.tree ≡ tree_after scene.old.tree request.now result.outcome }
+    ensures rest { scene.new ≡ record scene.old { tree = scene.new.tree } }
+    ensures stays { room ≡ false → scene.new.tree ≡ scene.old.tree }
+{
+    if !judged {
+        let (client, ino) = (request.client, request.ino);
+        let operation = operation_ref(&request.operation);
+        if let Some(rejection) = operation_rejection(scene, Holder { client, ino }, operation) {
+            return rejected(rejection);
+        }
+    }
+    if !room {
+        return Served {
+            outcome: Outcome::OutOfMemory,
+            for_history: Outcome::OutOfMemory,
+        };
+    }
+    match carry_out(alloc, &mut scene.tree, request.ino, &request.operation) {
+        Ok(served) => served,
+        Err(AllocError) => Served {
+            outcome: Outcome::OutOfMemory,
+            for_history: Outcome::OutOfMemory,
+        },
+    }
+}
+
+// ---- what it does
+
+// For want of memory nothing changes.
+fn carry_out(
+    alloc: Global,
+    tree: &mut Tree,
+    ino: Ino,
+    operation: &Operation,
+) -> Result<Served, AllocError>
+    requires passed { first_failing (call_tests tree.old ino.0 operation.now) ≡ None }
+    ensures outcome { IfOk result (λ served. (s : Scene) → s.tree ≡ tree.old
+        → served.outcome ≡ words.passed_as s ino.0 operation.now) }
+    ensures for_history { IfOk result (λ served. served.for_history ≡ served.outcome) }
+    ensures tree { OnOk result (tree.new ≡ tree_with tree.old ino.0 operation.now) }
+    ensures err { OnErr result (tree.new ≡ tree.old) }
+    ensures memory { OnErr result (takes_memory operation.now ≡ true) }
+{
+    match operation {
+        Operation::Get(part) => {
+            // Tested before: the inode exists.
+            if let Some(node) = tree.node(ino) {
+                return Ok(Served {
+                    outcome: values_of(alloc, node, *part)?,
+                    for_history: values_of(alloc, node, *part)?,
+                });
+            }
+        }
+        Operation::Alter(change) => alter(tree, ino, change)?,
+        Operation::Unlink => tree.unlink_tested(ino),
+        Operation::Rmdir => tree.rmdir_tested(ino),
+        Operation::Rename { dir, name } => tree.rename_tested(ino, *dir, name.as_slice())?,
+    }
+    Ok(Served {
+        outcome: Outcome::Done,
+        for_history: Outcome::Done,
+    })
+}
+
+/// Changes what the inode keeps.
+pub fn alter(tree: &mut Tree, ino: Ino, change: &Change) -> Result<(), AllocError>
+    requires passed { first_failing (change_call_tests tree.old ino.0 change.now) ≡ None }
+    ensures ok { OnOk result (tree.new ≡ tree_changed tree.old ino.0 change.now) }
+    ensures err { OnErr result (tree.new ≡ tree.old) }
+    ensures memory { OnErr result (words.change_takes_memory change.now ≡ true) }
+{
+    match change {
+        Change::Set(setting) => tree.set_tested(ino, *setting),
+        Change::SetXattr { name, value } => tree.set_xattr_tested(
+            ino,
+            name.as_slice(),
+            value.as_slice(),
+        )?,
+        Change::RemoveXattr { name } => tree.remove_xattr_tested(ino, name.as_slice()),
+    }
+    Ok(())
+}
+
+// What the inode keeps of the part. A list of attributes is copied.
+fn values_of(alloc: Global, node: &Node, part: Part) -> Result<Outcome, AllocError>
+    ensures values { IfOk result (λ outcome. outcome ≡ values_outcome part (Some node.now)) }
+    ensures memory { OnErr result (takes_memory (operation_kind.Get part) ≡ true) }
+{
+    Ok(Outcome::Values(match part {
+        Part::A => PartValues::Auth(node.attr),
+        Part::L => PartValues::Link,
+        Part::X => PartValues::Xattr(node.attributes.copy(alloc)?),
+        Part::F => PartValues::File {
+            size: node.size,
+            time: node.time,
+        },
+    }))
+}
+
+// How a request ends that was rejected.
+fn rejected(rejection: Rejection) -> Served
+    ensures outcome { result.outcome ≡ rejection_outcome rejection }
+    ensures for_history { result.for_history ≡ rejection_outcome rejection }
+{
+    let (outcome, for_history) = match rejection {
+        Rejection::ByPolicy { access, rules } => {
+            let copy = copy_of_rules(&rules);
+            let outcome = Outcome::Denied { access, rules };
+            let rules = copy;
+            (outcome, Outcome::Denied { access, rules })
+        }
+        Rejection::ByTest(refusal) => (Outcome::Refused(refusal), Outcome::Refused(refusal)),
+    };
+    Served {
+        outcome,
+        for_history,
+    }
+}

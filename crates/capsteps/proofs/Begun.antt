@@ -1,8 +1,0 @@
--- Room for the requests that a step ends.
-use Rattle.std.proofs.Common.{◌≤◌, ℕ, Option, arith}
-use Rattle.capacts.specs.Capnotes.Noted.{Noted}
-use Rattle.capsteps.{proofs.Common.{Ticket}, specs.Begun.{HaveRoomFor}, specs.declared.endings.Endings.{Endings}}
-
--- room for some is room for fewer, whatever changes are noted and whoever was judged
-pub room-for : (e : Endings) (changes : Noted) (judged : Option Ticket) (n m : ℕ) → HaveRoomFor n e → m ≤ n → HaveRoomFor m (record e { changes = changes; judged = judged })
-room-for e changes judged n m room fewer = grind arith

@@ -1,6 +1,0 @@
-use Rattle.std.{proofs.Common.{◌≡◌, take}, specs.List.{fold}}
-use Rattle.capsteps.proofs.{AtEnd.{named}, Common.{changed_by, owed}}
-use Rattle.capsteps.proofs.sizes.owe_on.Given as goal
-
-abbrev pub invariant-loop-number : goal.invariant-loop-number
-invariant-loop-number l = l.table ≡ record l.fn.table { entries = fold (changed_by owed) l.fn.table.entries (take l.number-index (named l.ino l.numbers)) }

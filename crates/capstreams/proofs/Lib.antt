@@ -1,4 +1,0 @@
-pub mod KnownBytes
-pub mod Flags
-pub use Rattle.caplines.proofs.Capexplain
-pub use Rattle.caplines.proofs as Caplines

@@ -1,7 +1,0 @@
-use Rattle.std.proofs.Common.{take}
-use Rattle.captext.proofs.Reading.{HasRead}
-use Rattle.captext.proofs.reader.read_letters.Given as goal
-
--- what was read, and what can follow
-abbrev pub invariant-loop-at : goal.invariant-loop-at
-invariant-loop-at l = HasRead (take l.at l.text) l.set l.needs_letter l.caps l.parts

@@ -1,5 +1,0 @@
-use Rattle.capview.proofs.Answering.{like-answer}
-use Rattle.capview.proofs.view.View.explain.Goals as goal
-
-pub returns : goal.returns
-returns c real shows = like-answer c.args.fs.now c.args.self.now real c.args.question.now shows c.answer.result c.answer.ensures

@@ -1,7 +1,0 @@
-use Rattle.std.proofs.Common.{◌≡◌, false, take}
-use Rattle.std.specs.Prelude.{All}
-use Rattle.capwho.specs.Standing.{allows_anyway}
-use Rattle.capwho.proofs.asking.Wanted.first_anyway.Given as goal
-
-abbrev pub invariant-loop-place : goal.invariant-loop-place
-invariant-loop-place l = All (λ g. allows_anyway l.self g ≡ false) (take l.place l.grants)

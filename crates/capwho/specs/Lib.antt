@@ -1,4 +1,0 @@
-pub mod Callers
-pub mod Standing
-pub mod Otherwise
-pub use Rattle.capremarks.specs as Capremarks

@@ -1,2 +1,0 @@
-pub mod Backwards
-pub mod Pairs

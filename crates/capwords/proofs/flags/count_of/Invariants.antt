@@ -1,6 +1,0 @@
-use Rattle.std.proofs.Common.{◌≡◌, take}
-use Rattle.capwords.specs.Flags.{count_of}
-use Rattle.capwords.proofs.flags.count_of.Given as goal
-
-abbrev pub invariant-loop-other : goal.invariant-loop-other
-invariant-loop-other l = l.count ≡ count_of l.byte (take l.other-index l.word)

@@ -1,0 +1,4 @@
+pub mod KnownParts
+pub mod KeyringLines
+pub mod Listed
+pub mod ArrayText

@@ -1,0 +1,41 @@
+-- The sessions of a cluster's clients.
+use Rattle.std.specs.Prelude.{ℕ, ◌+◌, List, [], ◌∷◌, ◌++◌, length, codes, Option, unwrap_or, option_map, option_and_then, Result, Ok, Err}
+use Rattle.serde_json.specs.Data.{Data, Items, item, no_items}
+use Rattle.serde_json.specs.Find.{as_array, get}
+use Rattle.ceph_input.specs.Auth.{json_of}
+use Rattle.ceph_input.specs.declared.cluster_fault.ClusterFault.{ClusterFault}
+use Rattle.ceph_input.specs.declared.cluster_fault.ClusterFault.TheVariants.{BadItem, NoList}
+use Rattle.ceph_input.specs.Values.{number_at, text_at}
+
+-- a session: its number, and the name of its client in the auth list, if it tells one
+pub record Connected : Type 0 where
+  pub number : ℕ
+  pub client : Option (List ℕ)
+
+abbrev pub connected : ℕ → Option (List ℕ) → Connected
+connected number client = record { number = number; client = client }
+
+-- the auth list has `client.` before what a client calls itself
+abbrev pub client_name : List ℕ → List ℕ
+client_name entity = codes "client." ++ entity
+
+-- what the client of a session calls itself
+abbrev pub entity_in : Data → Option (List ℕ)
+entity_in d = option_and_then (text_at (codes "entity_id")) (get (codes "client_metadata") d)
+
+-- the session that an item is: with a number at `id`
+abbrev pub session_of : Data → Option Connected
+session_of d = option_map (λ number. connected number (option_map client_name (entity_in d))) (number_at (codes "id") d)
+
+-- the sessions that the items are, behind those before; or the number of the first that is none
+abbrev pub sessions_from : List Connected → Items → Result (List Connected) ClusterFault
+sessions_from before no_items = Ok before
+sessions_from before (item d ds) = unwrap_or (option_map (λ s. sessions_from (before ++ s ∷ []) ds) (session_of d)) (Err (BadItem (length before + 1)))
+
+-- the sessions that a JSON value lists
+abbrev pub sessions_in : Data → Result (List Connected) ClusterFault
+sessions_in d = unwrap_or (option_map (sessions_from []) (as_array d)) (Err NoList)
+
+-- the same of a text; None where it is no JSON
+abbrev pub sessions_of : List ℕ → Option (Result (List Connected) ClusterFault)
+sessions_of text = option_map sessions_in (json_of text)

@@ -1,0 +1,57 @@
+//! Why an auth list gives no grants.
+
+use std::alloc::{AllocError, AllocFailed};
+use thiserror::Error;
+
+/// Why a text is no auth list, or an auth list gives no grants of an entity.
+#[derive(Clone, Copy, Debug, PartialEq, Eq, Error)]
+pub enum AuthFault {
+    /// The text is no JSON.
+    #[error("NotJson at line {line} column {column}")]
+    NotJson {
+        /// The line at which the JSON reader stopped, from 1.
+        line: usize,
+        /// The byte of that line.
+        column: usize,
+    },
+    /// The JSON is no list, and is no object with a list at `auth_dump`.
+    #[error("NoList")]
+    NoList,
+    /// An item of the list is no entity: it has no text at `entity`, no object at `caps`, or something that is no text at `caps.mds`.
+    #[error("NotAnEntity {number}")]
+    NotAnEntity {
+        /// The number of the first such item, from 1.
+        number: usize,
+    },
+    /// No entity of the list has the name.
+    #[error("NoEntity")]
+    NoEntity,
+    /// The first entity of the name has no grants for the MDS.
+    #[error("NoCaps")]
+    NoCaps,
+    /// No memory was left.
+    #[error("no memory")]
+    NoMemory,
+}
+
+impl From<AllocError> for AuthFault {
+    ghost use Rattle.std.specs.Prelude.{◌≡◌};
+    ghost use Rattle.ceph_input.specs.declared.auth_fault.AuthFault.TheVariants as faults;
+
+    ghost from_gives = { λ _ fault. fault ≡ faults.NoMemory };
+
+    fn from(_: AllocError) -> Self {
+        AuthFault::NoMemory
+    }
+}
+
+impl<T: Drop> From<AllocFailed<T>> for AuthFault {
+    ghost use Rattle.std.specs.Prelude.{◌≡◌};
+    ghost use Rattle.ceph_input.specs.declared.auth_fault.AuthFault.TheVariants as faults;
+
+    ghost from_gives = { λ _ fault. fault ≡ faults.NoMemory };
+
+    fn from(_: AllocFailed<T>) -> Self {
+        AuthFault::NoMemory
+    }
+}

@@ -1,0 +1,127 @@
+//! The sessions of clients.
+
+ghost use Rattle.std.specs.Prelude.{◌≡◌, [], Some, IfOk, IfErr, Ok, option_map};
+ghost use Rattle.serde_json.specs.View.{items_view, view};
+ghost use Rattle.ceph_input.specs.Values.{IsFaultIn};
+ghost use Rattle.ceph_input.specs.Sessions.{client_name, entity_in, session_of, sessions_from, sessions_of};
+
+use crate::cluster_fault::ClusterFault;
+use crate::values::{number_at, read_json, text_at};
+use serde_json::Value;
+use std::alloc::{AllocError, Global};
+use std::marker::Model;
+
+/// The session of a client.
+pub struct Session {
+    number: u64,
+    client: Option<Vec<u8>>,
+}
+
+// Not derived: so the proof of a function that drops one has a single call there.
+impl Drop for Session {
+    fn drop(self) {
+        let Session {
+            number: _,
+            client: _,
+        } = self;
+    }
+}
+
+impl Model for Session {
+    ghost use Rattle.std.specs.Prelude.{option_map};
+    ghost use Rattle.ceph_input.specs.Sessions.{Connected, connected};
+
+    ghost Value = { Connected };
+
+    ghost view = { λ s. connected s.number (option_map (λ name. name.items) s.client) };
+}
+
+impl Session {
+    ghost use Rattle.std.specs.Prelude.{◌≡◌, IfOk, option_map};
+    ghost use Rattle.ceph_input.specs.Sessions.{client_name, connected};
+
+    // The session with this number, whose client calls itself this.
+    fn new(alloc: Global, number: u64, entity: Option<&str>) -> Result<Session, AllocError>
+        ensures { IfOk result (λ s. s ≡ connected number (option_map client_name (option_map (λ name. name.now) entity.entry))) }
+    {
+        let client = match entity {
+            None => None,
+            Some(entity) => Some(client_name(alloc, entity)?),
+        };
+        Ok(Session { number, client })
+    }
+
+    /// Its number, by which the tree names the client.
+    pub fn number(&self) -> u64
+        ensures { result ≡ self.now.number }
+    {
+        self.number
+    }
+
+    /// The name that its client has in the auth list, such as `client.tenant`, if it tells one.
+    pub fn client(&self) -> Option<&[u8]>
+        ensures { option_map (λ name. name.now) result ≡ self.now.client }
+    {
+        match &self.client {
+            None => None,
+            Some(name) => Some(name.as_slice()),
+        }
+    }
+}
+
+// The name in the auth list of a client that calls itself this.
+fn client_name(alloc: Global, entity: &str) -> Result<Vec<u8>, AllocError>
+    ensures { IfOk result (λ name. name.items ≡ client_name entity.now) }
+{
+    let mut name = Vec::from_slice(alloc, b"client.")?;
+    name.extend_from_slice(entity.as_bytes())?;
+    Ok(name)
+}
+
+/// The sessions that a text lists, in its order. Each has a number at `id`; its client calls itself what stands at
+/// `client_metadata.entity_id`. The fault is the first thing that is wrong, or want of memory.
+pub fn read_sessions(alloc: Global, text: &[u8]) -> Result<Vec<Session>, ClusterFault>
+    ensures ok { IfOk result (λ sessions. sessions_of text.now ≡ Some (Ok sessions.items)) }
+    ensures err { IfErr result (λ fault. IsFaultIn fault (sessions_of text.now)) }
+{
+    let value = read_json(alloc, text)?;
+    let Some(items) = value.as_array() else {
+        return Err(ClusterFault::NoList);
+    };
+    let sessions = read_each(alloc, items.as_slice())?;
+    Ok(sessions)
+}
+
+// The sessions that these items are.
+fn read_each(alloc: Global, items: &[Value]) -> Result<Vec<Session>, ClusterFault>
+    ensures ok { IfOk result (λ sessions. sessions_from [] (items_view items.now) ≡ Ok sessions.items) }
+    ensures err { IfErr result (λ fault. IsFaultIn fault (Some (sessions_from [] (items_view items.now)))) }
+{
+    let mut sessions = Vec::new(alloc);
+    for item in items {
+        let Some(session) = read_session(alloc, item)? else {
+            return Err(ClusterFault::BadItem {
+                number: sessions.len() + 1,
+            });
+        };
+        sessions.push(session)?;
+    }
+    Ok(sessions)
+}
+
+// The session that an item is, if it is one.
+fn read_session(alloc: Global, item: &Value) -> Result<Option<Session>, AllocError>
+    ensures { IfOk result (λ session. session ≡ session_of (view item.now)) }
+{
+    let Some(number) = number_at(item, "id") else {
+        return Ok(None);
+    };
+    Ok(Some(Session::new(alloc, number, entity_in(item))?))
+}
+
+// What the client of a session calls itself.
+fn entity_in(item: &Value) -> Option<&str>
+    ensures { option_map (λ name. name.now) result ≡ entity_in (view item.now) }
+{
+    text_at(item.get("client_metadata")?, "entity_id")
+}

@@ -1,0 +1,62 @@
+//! What stands at the keys of JSON objects.
+
+ghost use Rattle.std.specs.Prelude.{◌≡◌, Some, IfOk, IfErr, option_map};
+ghost use Rattle.serde_json.specs.View.{items_view, view};
+ghost use Rattle.ceph_input.specs.Auth.{json_of};
+ghost use Rattle.ceph_input.specs.Values.{IsNoJson, id_at, items_at, number_at, text_at};
+
+use crate::cluster_fault::ClusterFault;
+use serde_json::Value;
+use std::alloc::Global;
+
+// The JSON that the text is.
+pub(crate) fn read_json(alloc: Global, text: &[u8]) -> Result<Value, ClusterFault>
+    ensures ok { IfOk result (λ value. json_of text.now ≡ Some (view value)) }
+    ensures err { IfErr result (λ fault. IsNoJson fault (json_of text.now)) }
+{
+    match Value::from_slice(alloc, text) {
+        Ok(value) => Ok(value),
+        Err(error) if error.is_memory() => Err(ClusterFault::NoMemory),
+        Err(error) => Err(ClusterFault::NotJson {
+            line: error.line(),
+            column: error.column(),
+        }),
+    }
+}
+
+// The text at a key.
+pub(crate) fn text_at<'v>(value: &'v Value, key: &str) -> Option<&'v str>
+    ensures { option_map (λ text. text.now) result ≡ text_at key.now (view value.now) }
+{
+    value.get(key).and_then(Value::as_str)
+}
+
+// The number at a key.
+pub(crate) fn number_at(value: &Value, key: &str) -> Option<u64>
+    ensures { result ≡ number_at key.now (view value.now) }
+{
+    value.get(key).and_then(Value::as_u64)
+}
+
+// The number at a key, where it has at most 32 bits.
+pub(crate) fn id_at(value: &Value, key: &str) -> Option<u32>
+    ensures { result ≡ id_at key.now (view value.now) }
+{
+    let number = number_at(value, key)?;
+    if number < 0x1_0000_0000 {
+        Some(number as u32)
+    } else {
+        None
+    }
+}
+
+// The items of the list at a key. None stand where there is nothing at the key.
+pub(crate) fn items_at<'v>(value: &'v Value, key: &str) -> Option<&'v [Value]>
+    ensures { option_map (λ items. items_view items.now) result ≡ items_at key.now (view value.now) }
+{
+    let Some(list) = value.get(key) else {
+        return Some(&[]);
+    };
+    let items = list.as_array()?;
+    Some(items.as_slice())
+}

@@ -1,4 +1,0 @@
-pub mod Words
-pub mod Scanned
-pub mod Grants
-pub mod InOrder

@@ -1,0 +1,3 @@
+mod Done
+mod NewPasses
+mod Writing

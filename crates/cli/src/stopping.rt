@@ -1,0 +1,16 @@
+//! Why a command stopped before its end.
+
+use capscript::ServeFault;
+use cli_queries::AnswerFault;
+use script_syntax::ScriptFault;
+
+/// Why a command stopped before its end.
+#[derive(Clone, Copy)]
+pub enum Fault {
+    /// A question about grants has no answer.
+    Answer(AnswerFault),
+    /// A script was not run to its end.
+    Script(ScriptFault),
+    /// A script was not served to its end.
+    Serve(ServeFault),
+}

@@ -1,0 +1,50 @@
+-- How a fault of a question, or of a text of grants, is told.
+use Rattle.std.specs.Prelude.{◌≡◌, ℕ, List}
+use Rattle.queries.specs.declared.fault.QuestionFault.{QuestionFault}
+use Rattle.queries.specs.declared.fault.QuestionFault.TheVariants.{BadValue, Grants}
+use Rattle.queries.specs.declared.fault.QuestionFault.TheVariants as asked
+use Rattle.queries.specs.declared.comparing.CompareFault.{CompareFault}
+use Rattle.queries.specs.declared.comparing.CompareFault.TheVariants as compared
+use Rattle.queries.specs.Comparing.{IsFaultOfTexts}
+use Rattle.ceph_input.specs.declared.auth_fault.AuthFault.{AuthFault}
+use Rattle.ceph_input.specs.declared.auth_fault.AuthFault.TheVariants as auths
+use Rattle.ceph_input.specs.declared.keyring_fault.KeyringFault.{KeyringFault}
+use Rattle.ceph_input.specs.declared.keyring_fault.KeyringFault.TheVariants as keyrings
+use Rattle.cli_queries.specs.declared.fault.AnswerFault.{AnswerFault}
+use Rattle.cli_queries.specs.declared.fault.AnswerFault.TheVariants.{Auth, Compare, Keyring, NoMemory, Question}
+
+-- want of memory stays that; any other fault is passed on as it is
+abbrev pub fault_of : QuestionFault → AnswerFault
+fault_of (Grants refused) = Question (Grants refused)
+fault_of (BadValue option) = Question (BadValue option)
+fault_of asked.NoMemory = NoMemory
+
+-- what is told is a fault of which this holds
+abbrev pub Tells : (QuestionFault → Type 0) → AnswerFault → Type 0
+Tells P fault = (found : QuestionFault) × (fault ≡ fault_of found) × P found
+
+-- the same of a keyring
+abbrev pub keyring_fault_of : KeyringFault → AnswerFault
+keyring_fault_of keyrings.NoEntity = Keyring keyrings.NoEntity
+keyring_fault_of keyrings.NoCaps = Keyring keyrings.NoCaps
+keyring_fault_of keyrings.NotQuoted = Keyring keyrings.NotQuoted
+keyring_fault_of keyrings.NoMemory = NoMemory
+
+-- the same of an auth list
+abbrev pub auth_fault_of : AuthFault → AnswerFault
+auth_fault_of (auths.NotJson line column) = Auth (auths.NotJson line column)
+auth_fault_of auths.NoList = Auth auths.NoList
+auth_fault_of (auths.NotAnEntity number) = Auth (auths.NotAnEntity number)
+auth_fault_of auths.NoEntity = Auth auths.NoEntity
+auth_fault_of auths.NoCaps = Auth auths.NoCaps
+auth_fault_of auths.NoMemory = NoMemory
+
+-- the same of two texts that are compared
+abbrev pub compare_fault_of : CompareFault → AnswerFault
+compare_fault_of (compared.Old refused) = Compare (compared.Old refused)
+compare_fault_of (compared.New refused) = Compare (compared.New refused)
+compare_fault_of compared.NoMemory = NoMemory
+
+-- what is told is why these two texts are not compared
+abbrev pub TellsOfTexts : List ℕ → List ℕ → AnswerFault → Type 0
+TellsOfTexts before after fault = (found : CompareFault) × (fault ≡ compare_fault_of found) × IsFaultOfTexts before after found

@@ -1,0 +1,223 @@
+//! The words of the command line.
+
+use crate::checkup::Checkup;
+use crate::inquiry::Inquiry;
+use crate::matched::invoked;
+use crate::survey::Survey;
+use crate::usage::{COMMANDS, Kind, Usage, Word};
+use capexplain::Shape;
+use clap::{Arg, ArgAction, Command, Error};
+use queries::spell;
+use std::alloc::{AllocError, Global};
+
+const CAPD: &str = "capd";
+
+// The project's version. `tools/dev package` takes it from what `capd --version` prints.
+const VERSION: &str = "0";
+
+pub const EXPLAIN: &str = "explain";
+
+pub const GRANTS: &str = "grants";
+
+pub const COMPARE: &str = "compare";
+
+pub const LINT: &str = "lint";
+
+pub const WHO: &str = "who";
+
+pub const AUDIT: &str = "audit";
+
+pub const LOG: &str = "log";
+
+pub const RUN: &str = "run";
+
+pub const SERVE: &str = "serve";
+
+pub const TEXT: &str = "text";
+
+pub const OLD: &str = "old";
+
+pub const NEW: &str = "new";
+
+pub const AUTH: &str = "auth";
+
+pub const SESSIONS: &str = "sessions";
+
+pub const TREE: &str = "tree";
+
+pub const RULE: &str = "rule";
+
+pub const KEYRING: &str = "keyring";
+
+pub const CLIENT: &str = "client";
+
+pub const QUIET: &str = "quiet";
+
+pub const MORE: &str = "more";
+
+pub const JSON: &str = "json";
+
+/// The value of `--grants`, of `--keyring` or of `--auth` that stands for standard input.
+pub const INPUT: &[u8] = b"-";
+
+const STATUSES: &str = "Status:
+  0  the whole answer was written; of `explain --quiet`: allowed
+  1  a value, a text or a script has a fault, a read or a write failed, or memory was missing
+  2  the command line is wrong
+  3  of `explain --quiet`: denied; of `lint` and `audit`: something was found, or `audit` could not judge it";
+
+/// What a command line asks for.
+pub enum Invocation {
+    /// Whether grants allow an access.
+    Explain(Inquiry),
+    /// The written form of the grants in a text.
+    Grants {
+        text: Vec<u8>,
+        /// Whether the place of a fault is to be shown.
+        more: bool,
+    },
+    /// What grants allow that others deny.
+    Compare {
+        /// The text of the old grants.
+        old: Vec<u8>,
+        /// The text of the new ones.
+        new: Vec<u8>,
+        /// How the answer is written.
+        shape: Shape,
+    },
+    /// What is found in the grants of a text.
+    Lint {
+        text: Vec<u8>,
+        /// How the answer is written.
+        shape: Shape,
+    },
+    /// Which clients of a cluster may make an access.
+    Who(Survey),
+    /// What clients of a cluster hold and may not.
+    Audit(Checkup),
+    /// What the checks of policy in a log are answered, on the file system of this name.
+    Log(Vec<u8>),
+    /// The transcript of a script.
+    Run {
+        /// Whether more is to be said of what stops it.
+        more: bool,
+    },
+    /// The history of a script whose clients call at once.
+    Serve {
+        /// Whether more is to be said of what stops it.
+        more: bool,
+    },
+}
+
+// Not derived: so the proof of a function that drops one has a single call there.
+impl Drop for Invocation {
+    fn drop(self) {
+        match self {
+            Invocation::Explain(_) => {}
+            Invocation::Grants { text: _, more: _ } => {}
+            Invocation::Compare {
+                old: _,
+                new: _,
+                shape: _,
+            } => {}
+            Invocation::Lint { text: _, shape: _ } => {}
+            Invocation::Who(_) => {}
+            Invocation::Audit(_) => {}
+            Invocation::Log(_) => {}
+            Invocation::Run { more: _ } => {}
+            Invocation::Serve { more: _ } => {}
+        }
+    }
+}
+
+/// What the words behind the program's name ask for. The error's text says what is wrong with the words, or it is the
+/// help that they ask for; `queries::spelled` gives its bytes.
+pub fn parse(alloc: Global, words: &[Vec<u8>]) -> Result<Invocation, Error> {
+    let mut texts = Vec::new(alloc);
+    for word in words {
+        texts.push(spell(alloc, word.as_slice())?)?;
+    }
+    parse_texts(alloc, texts.as_slice())
+}
+
+fn parse_texts(alloc: Global, texts: &[String]) -> Result<Invocation, Error> {
+    let mut command = capd(alloc)?;
+    parse_by(alloc, &mut command, texts)
+}
+
+fn parse_by<'a>(
+    alloc: Global,
+    command: &mut Command<'a>,
+    texts: &'a [String],
+) -> Result<Invocation, Error> {
+    let matches = command.try_get_matches_from_mut(texts)?;
+    match invoked(alloc, &matches) {
+        Ok(invocation) => Ok(invocation),
+        Err(kind) => Err(command.error(kind, "a word is missing")?),
+    }
+}
+
+fn capd<'a>(alloc: Global) -> Result<Command<'a>, AllocError> {
+    let mut command = Command::new(alloc, CAPD)
+        .no_binary_name(true)
+        .version(VERSION)
+        .about("What CephFS clients may do, and why not")
+        .after_help(STATUSES)
+        .subcommand_required(true)
+        .bin_name(CAPD)?;
+    for usage in &COMMANDS {
+        command = command.subcommand(subcommand(alloc, usage)?)?;
+    }
+    Ok(command)
+}
+
+fn subcommand<'a>(alloc: Global, usage: &Usage) -> Result<Command<'a>, AllocError> {
+    let (name, about, example): (&'a str, &'a str, &'a str) = (
+        usage.name,
+        usage.about,
+        usage.example,
+    );
+    let mut command = Command::new(alloc, name).about(about).after_help(example);
+    for word in usage.words {
+        command = command.arg(argument(alloc, word)?)?;
+    }
+    Ok(command)
+}
+
+fn argument<'a>(alloc: Global, word: &Word) -> Result<Arg<'a>, AllocError> {
+    let mut argument = given(alloc, word)?;
+    for name in word.bars {
+        let name: &'a str = name.text();
+        argument = argument.conflicts_with(name)?;
+    }
+    match &word.needs {
+        Some(name) => {
+            let name: &'a str = name.text();
+            argument.requires_arg(name)
+        }
+        None => Ok(argument),
+    }
+}
+
+// How the word is given.
+fn given<'a>(alloc: Global, word: &Word) -> Result<Arg<'a>, AllocError> {
+    let (name, value, help): (&'a str, &'a str, &'a str) = (
+        word.name.text(),
+        word.value,
+        word.help,
+    );
+    let argument = Arg::new(alloc, name).help(help);
+    if let Kind::Flag = word.kind {
+        return Ok(argument.long(name).action(ArgAction::SetTrue));
+    }
+    let argument = argument.value_name(value).action(ArgAction::Set);
+    match word.kind {
+        Kind::Bare => Ok(argument.required(true)),
+        Kind::Needed => Ok(argument.long(name).required(true)),
+        Kind::Text => argument
+            .long(name)
+            .required_unless_present_any(&[KEYRING, AUTH]),
+        Kind::Usual => Ok(argument.long(name).default_value("cephfs")),
+        Kind::Optional | Kind::Flag => Ok(argument.long(name)),
+    }
+}

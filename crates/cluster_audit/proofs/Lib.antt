@@ -1,0 +1,15 @@
+pub mod Said
+pub mod Saying
+pub mod Noting
+pub mod Giving
+pub mod Words
+pub mod Spaces
+pub mod Openings
+pub mod Tells
+pub mod Values
+pub mod Permitting
+pub mod Somebody
+pub mod Gathering
+pub mod Missing
+pub mod Rivals
+pub mod Apart

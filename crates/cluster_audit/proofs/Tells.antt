@@ -1,0 +1,372 @@
+-- Two lines of an audit that are equal tell the same, and so do two texts, line by line.
+use Rattle.std.proofs.Common.{◌≡◌, ℕ, ◌<◌, ◌^◌, false, Option, Some, None, List, [], ◌∷◌, ◌++◌, refl, sym, ap, ◌∙◌, append_assoc, arith}
+use Rattle.std.specs.Prelude.{All, codes}
+use Rattle.std.specs.Fmt.{decimal}
+use Rattle.std.specs.List.{flat_map}
+use Rattle.std.proofs.lemmas.Bool.{eqb-false}
+use Rattle.std.proofs.lemmas.List.{append_cancel_left}
+use Rattle.std.proofs.lemmas.List.Elements.{All-head, All-tail}
+use Rattle.capbits.specs.Caps.{Caps}
+use Rattle.capbits.specs.Sets.{minus}
+use Rattle.capbits.specs.Text.{text_of}
+use Rattle.capspec.specs.declared.fault.SpecFault.{SpecFault}
+use Rattle.cluster_audit.specs.declared.findings.Finding.{Finding}
+use Rattle.cluster_audit.specs.declared.conflicts.Conflict.{Conflict}
+use Rattle.capexplain.specs.Explaining.{path_text}
+use Rattle.capexplain.specs.Quoting.{quoted}
+use Rattle.capexplain.specs.Standing.{fault_word, unread_line}
+use Rattle.capexplain.proofs.Clients.{one_fault}
+use Rattle.capexplain.proofs.Quoted.{bare, before_a_line_feed, before_a_space, before_word, clash, first_byte}
+use Rattle.cluster_audit.specs.declared.notes.Detail.TheVariants.{Each, Groups}
+use Rattle.cluster_audit.specs.declared.summary.Counts.{Counts}
+use Rattle.cluster_audit.specs.Lines.{holder_text, on_inode, place_text, revoked_text, who_text, why_text}
+use Rattle.cluster_audit.specs.Told.{AllTellTheSame, AreCounts, HasNumbers, IsOneClient, IsOneInode, Line, TellTheSame, line_text}
+use Rattle.cluster_audit.specs.Told as told
+use Rattle.cluster_audit.proofs.Words.{before_why, is_digit, no_number, number, one_caps, one_revoked, one_why}
+use Rattle.cluster_audit.proofs.Spaces.{behind, past_quoted}
+use Rattle.cluster_audit.proofs.Openings.{kind_of, none, of_clash, of_group, of_held, of_nothing, of_pathless, of_strange, of_summary, of_unlisted, of_unnamed}
+use Rattle.cluster_audit.proofs.Openings.{of_unread, on_number, on_path, opening, opening_path, place_is, plain_fault}
+
+-- ---- a line and what stands behind it, part by part
+
+abbrev beside : Conflict → List ℕ → List ℕ
+beside c s = codes " beside " ++ (text_of c.other.caps ++ (codes " of " ++ s))
+
+abbrev holds : Conflict → List ℕ → List ℕ
+holds c s = codes "holds " ++ (text_of c.one.caps ++ beside c s)
+
+abbrev from_conflicts : Counts → List ℕ → List ℕ
+from_conflicts n s = codes ", conflicts " ++ (decimal n.conflicts ++ (codes ", not judged " ++ (decimal n.not_judged ++ 10 ∷ s)))
+
+abbrev from_beyond : Counts → List ℕ → List ℕ
+from_beyond n s = codes ", held beyond " ++ (decimal n.held_beyond ++ from_conflicts n s)
+
+abbrev from_sessions : Counts → List ℕ → List ℕ
+from_sessions n s = codes ", sessions " ++ (decimal n.sessions ++ from_beyond n s)
+
+abbrev from_entries : Counts → List ℕ → List ℕ
+from_entries n s = codes ", entries " ++ (decimal n.entries ++ from_sessions n s)
+
+abbrev from_why : Finding → List ℕ → List ℕ
+from_why f s = why_text f.missing f.rules ++ 10 ∷ s
+
+abbrev from_beyond_caps : Caps → Finding → List ℕ → List ℕ
+from_beyond_caps x f s = revoked_text (minus f.caps x) ++ (codes ": " ++ from_why f s)
+
+abbrev laid : Line → List ℕ → List ℕ
+laid (told.held k p c n i x f) s = place_text p c n ++ (codes " holds " ++ (text_of i ++ (codes ", may not " ++ (text_of f.caps ++ from_beyond_caps x f s))))
+laid (told.group c f n) s = why_text f.missing f.rules ++ 32 ∷ (quoted c ++ (codes ": " ++ (decimal n ++ 10 ∷ s)))
+laid (told.conflict m p a b c) s = on_inode Each m p ++ (holder_text Each c.one.client a ++ 32 ∷ holds c (holder_text Each c.other.client b ++ 10 ∷ s))
+laid (told.rivals a b c n) s = holder_text Groups c.one.client a ++ 32 ∷ holds c (holder_text Groups c.other.client b ++ (codes ": " ++ (decimal n ++ 10 ∷ s)))
+laid (told.unnamed n) s = codes "client " ++ (decimal n ++ (codes ": no session names it\n" ++ s))
+laid (told.unlisted c) s = quoted c ++ (codes ": no entry in the auth list\n" ++ s)
+laid (told.unread c f) s = quoted c ++ (codes ": grants: " ++ (fault_word f.kind ++ (codes " at " ++ (decimal f.at ++ 10 ∷ s))))
+laid (told.strange k p c n) s = place_text p c n ++ (codes " holds what is not known\n" ++ s)
+laid (told.pathless k c n i) s = codes "inode " ++ (decimal k ++ (codes ": no path: " ++ (who_text c n ++ (codes " holds " ++ (quoted i ++ 10 ∷ s)))))
+laid told.nothing s = codes "nothing found\n" ++ s
+laid (told.summary n) s = codes "inodes " ++ (decimal n.inodes ++ from_entries n s)
+
+held_apart : (p i m r w s : List ℕ) → (p ++ ((codes " holds " ++ (i ++ (codes ", may not " ++ (m ++ (r ++ (codes ": " ++ w)))))) ++ codes "\n")) ++ s ≡ p ++ (codes " holds " ++ (i ++ (codes ", may not " ++ (m ++ (r ++ (codes ": " ++ (w ++ 10 ∷ s)))))))
+held_apart p i m r w s = simp append_assoc
+
+group_apart : (w c n s : List ℕ) → ((((w ++ (codes " " ++ c)) ++ codes ": ") ++ n) ++ codes "\n") ++ s ≡ w ++ 32 ∷ (c ++ (codes ": " ++ (n ++ 10 ∷ s)))
+group_apart w c n s = simp append_assoc
+
+conflict_apart : (p h i j k s : List ℕ) → (p ++ ((h ++ ((codes " holds " ++ (i ++ (codes " beside " ++ (j ++ codes " of ")))) ++ k)) ++ codes "\n")) ++ s ≡ p ++ (h ++ (codes " holds " ++ (i ++ (codes " beside " ++ (j ++ (codes " of " ++ (k ++ 10 ∷ s)))))))
+conflict_apart p h i j k s = simp append_assoc
+
+rivals_apart : (h i j k n s : List ℕ) → ((((h ++ ((codes " holds " ++ (i ++ (codes " beside " ++ (j ++ codes " of ")))) ++ k)) ++ codes ": ") ++ n) ++ codes "\n") ++ s
+    ≡ h ++ (codes " holds " ++ (i ++ (codes " beside " ++ (j ++ (codes " of " ++ (k ++ (codes ": " ++ (n ++ 10 ∷ s))))))))
+rivals_apart h i j k n s = simp append_assoc
+
+unnamed_apart : (n s : List ℕ) → (codes "client " ++ (n ++ codes ": no session names it\n")) ++ s ≡ codes "client " ++ (n ++ (codes ": no session names it\n" ++ s))
+unnamed_apart n s = simp append_assoc
+
+unread_apart : (c k n s : List ℕ) → (c ++ (codes ": grants: " ++ (k ++ (codes " at " ++ (n ++ codes "\n"))))) ++ s ≡ c ++ (codes ": grants: " ++ (k ++ (codes " at " ++ (n ++ 10 ∷ s))))
+unread_apart c k n s = simp append_assoc
+
+pathless_apart : (k w i s : List ℕ) → (codes "inode " ++ (k ++ (codes ": no path: " ++ (w ++ (codes " holds " ++ (i ++ codes "\n")))))) ++ s ≡ codes "inode " ++ (k ++ (codes ": no path: " ++ (w ++ (codes " holds " ++ (i ++ 10 ∷ s)))))
+pathless_apart k w i s = simp append_assoc
+
+summary_apart : (a b c d e f s : List ℕ)
+    → (codes "inodes " ++ a ++ codes ", entries " ++ b ++ codes ", sessions " ++ c ++ codes ", held beyond " ++ d ++ codes ", conflicts " ++ e ++ codes ", not judged " ++ f ++ codes "\n") ++ s
+    ≡ codes "inodes " ++ (a ++ (codes ", entries " ++ (b ++ (codes ", sessions " ++ (c ++ (codes ", held beyond " ++ (d ++ (codes ", conflicts " ++ (e ++ (codes ", not judged " ++ (f ++ 10 ∷ s)))))))))))
+summary_apart a b c d e f s = simp append_assoc
+
+laid_out : (l : Line) (s : List ℕ) → line_text l ++ s ≡ laid l s
+laid_out (told.held k p c n i x f) s = held_apart (place_text p c n) (text_of i) (text_of f.caps) (revoked_text (minus f.caps x)) (why_text f.missing f.rules) s
+laid_out (told.group c f n) s = group_apart (why_text f.missing f.rules) (quoted c) (decimal n) s
+laid_out (told.conflict m p a b c) s = conflict_apart (on_inode Each m p) (holder_text Each c.one.client a) (text_of c.one.caps) (text_of c.other.caps) (holder_text Each c.other.client b) s
+laid_out (told.rivals a b c n) s = rivals_apart (holder_text Groups c.one.client a) (text_of c.one.caps) (text_of c.other.caps) (holder_text Groups c.other.client b) (decimal n) s
+laid_out (told.unnamed n) s = unnamed_apart (decimal n) s
+laid_out (told.unlisted c) s = append_assoc (quoted c) (codes ": no entry in the auth list\n") s
+laid_out (told.unread c f) s = unread_apart (quoted c) (fault_word f.kind) (decimal f.at) s
+laid_out (told.strange k p c n) s = append_assoc (place_text p c n) (codes " holds what is not known\n") s
+laid_out (told.pathless k c n i) s = pathless_apart (decimal k) (who_text c n) (quoted i) s
+laid_out told.nothing s = refl
+laid_out (told.summary n) s = summary_apart (decimal n.inodes) (decimal n.entries) (decimal n.sessions) (decimal n.held_beyond) (decimal n.conflicts) (decimal n.not_judged) s
+
+-- ---- kinds
+
+abbrev pub kind : Line → ℕ
+kind (told.held k p c n i x f) = 1
+kind (told.group c f n) = 2
+kind (told.conflict m p a b c) = 3
+kind (told.rivals a b c n) = 4
+kind (told.unnamed n) = 5
+kind (told.unlisted c) = 6
+kind (told.unread c f) = 7
+kind (told.strange k p c n) = 8
+kind (told.pathless k c n i) = 9
+kind told.nothing = 10
+kind (told.summary n) = 11
+
+some_kind : (l : Line) → 0 < kind l
+some_kind told.nothing = omega arith
+some_kind l = omega arith
+
+kind_is : (l : Line) (s : List ℕ) → HasNumbers l → kind_of (laid l s) ≡ kind l
+kind_is (told.held k p c n i x f) s small = of_held p c n i (text_of f.caps ++ from_beyond_caps x f s) small
+kind_is (told.group c f n) s small = of_group f.missing f.rules (quoted c ++ (codes ": " ++ (decimal n ++ 10 ∷ s)))
+kind_is (told.conflict m None a b c) s small =
+    let rest : List ℕ = 32 ∷ holds c (holder_text Each c.other.client b ++ 10 ∷ s) in
+    ap (λ (w : List ℕ). kind_of (codes "inode " ++ w)) (append_assoc (decimal m) (codes " ") (holder_text Each c.one.client a ++ rest)) ∙ on_number m c.one.client a rest small.0 small.1
+kind_is (told.conflict m (Some p) a b c) s small = on_path p m c.one.client a c.one.caps (text_of c.other.caps ++ (codes " of " ++ (holder_text Each c.other.client b ++ 10 ∷ s))) small.1
+kind_is (told.rivals a b c n) s small = of_clash c.one.client a c.one.caps (text_of c.other.caps ++ (codes " of " ++ (holder_text Groups c.other.client b ++ (codes ": " ++ (decimal n ++ 10 ∷ s))))) small.1
+kind_is (told.unnamed n) s small = of_unnamed n s small
+kind_is (told.unlisted c) s small = of_unlisted c s
+kind_is (told.unread c f) s small = of_unread c f.kind (decimal f.at ++ 10 ∷ s)
+kind_is (told.strange k p c n) s small = of_strange p c n s small
+kind_is (told.pathless k c n i) s small = of_pathless k (who_text c n ++ (codes " holds " ++ (quoted i ++ 10 ∷ s))) small.0
+kind_is told.nothing s small = of_nothing s
+kind_is (told.summary n) s small = of_summary n.inodes (from_entries n s) small.inodes
+
+-- ---- parts of lines
+
+behind_word : (word : List ℕ) (m n : ℕ) (s t : List ℕ) → m < 2 ^ 64 → n < 2 ^ 64 → is_digit (first_byte s) ≡ false → is_digit (first_byte t) ≡ false → word ++ (decimal m ++ s) ≡ word ++ (decimal n ++ t) → (m ≡ n) × (s ≡ t)
+behind_word word m n s t small also ends too same = number m n s t small also ends too (append_cancel_left word (decimal m ++ s) (decimal n ++ t) same)
+
+-- a number that ends a line
+last_number : (m n : ℕ) (s t : List ℕ) → m < 2 ^ 64 → n < 2 ^ 64 → decimal m ++ 10 ∷ s ≡ decimal n ++ 10 ∷ t → (m ≡ n) × (s ≡ t)
+last_number m n s t small also same =
+    let both = number m n (10 ∷ s) (10 ∷ t) small also refl refl same in
+    (both.0, append_cancel_left (codes "\n") s t both.1)
+
+-- a session that tells no name is none that tells one
+no_session : {X : Type 0} (m n : ℕ) (d s t : List ℕ) → m < 2 ^ 64 → holder_text Each m None ++ s ≡ holder_text Each n (Some d) ++ t → X
+no_session m n d s t small same =
+    let both = before_a_space (codes "client") d (decimal m ++ s) (codes "session " ++ (decimal n ++ t)) (same ∙ append_assoc (quoted d) (codes " session " ++ decimal n) t) in
+    no_number m s (codes "session " ++ (decimal n ++ t)) small refl both.1
+
+one_holder : (m n : ℕ) (a b : Option (List ℕ)) (s t : List ℕ) → m < 2 ^ 64 → n < 2 ^ 64 → is_digit (first_byte s) ≡ false → is_digit (first_byte t) ≡ false → holder_text Each m a ++ s ≡ holder_text Each n b ++ t
+    → (m ≡ n) × (a ≡ b) × (s ≡ t)
+one_holder m n None None s t small also ends too same = let both = behind_word (codes "client ") m n s t small also ends too same in (both.0, refl, both.1)
+one_holder m n None (Some d) s t small also ends too same = no_session m n d s t small same
+one_holder m n (Some c) None s t small also ends too same = no_session n m c t s also (sym same)
+one_holder m n (Some c) (Some d) s t small also ends too same =
+    let name = before_a_space c d (codes "session " ++ (decimal m ++ s)) (codes "session " ++ (decimal n ++ t))
+    (sym (append_assoc (quoted c) (codes " session " ++ decimal m) s) ∙ same ∙ append_assoc (quoted d) (codes " session " ++ decimal n) t) in
+    let both = behind_word (codes "session ") m n s t small also ends too name.1 in
+    (both.0, ap Some name.0, both.1)
+
+one_place : (p q : List (List ℕ)) (c d : List ℕ) (m n : ℕ) (s t : List ℕ) → m < 2 ^ 64 → n < 2 ^ 64 → is_digit (first_byte s) ≡ false → is_digit (first_byte t) ≡ false → place_text p c m ++ s ≡ place_text q d n ++ t
+    → (path_text p ≡ path_text q) × (c ≡ d) × (m ≡ n) × (s ≡ t)
+one_place p q c d m n s t small also ends too same =
+    let path = before_a_space (path_text p) (path_text q) (quoted c ++ 32 ∷ (codes "session " ++ (decimal m ++ s))) (quoted d ++ 32 ∷ (codes "session " ++ (decimal n ++ t)))
+    (sym (place_is p c m s) ∙ same ∙ place_is q d n t) in
+    let name = before_a_space c d (codes "session " ++ (decimal m ++ s)) (codes "session " ++ (decimal n ++ t)) path.1 in
+    let both = behind_word (codes "session ") m n s t small also ends too name.1 in
+    (path.0, name.0, both.0, both.1)
+
+no_inode : {X : Type 0} (q : List (List ℕ)) (s t : List ℕ) → codes "inode " ++ s ≡ (quoted (path_text q) ++ codes " ") ++ t → X
+no_inode q s t same = clash 47 105 (omega arith) (sym (ap opening (same ∙ append_assoc (quoted (path_text q)) (codes " ") t) ∙ opening_path q (codes " " ++ t)))
+
+one_inode : (m n : ℕ) (p q : Option (List (List ℕ))) (s t : List ℕ) → m < 2 ^ 64 → n < 2 ^ 64 → on_inode Each m p ++ s ≡ on_inode Each n q ++ t → IsOneInode m p n q × (s ≡ t)
+one_inode m n None None s t small also same =
+    let both = behind_word (codes "inode ") m n (32 ∷ s) (32 ∷ t) small also refl refl
+    (ap (λ (w : List ℕ). codes "inode " ++ w) (sym (append_assoc (decimal m) (codes " ") s)) ∙ same ∙ ap (λ (w : List ℕ). codes "inode " ++ w) (append_assoc (decimal n) (codes " ") t)) in
+    (both.0, append_cancel_left (codes " ") s t both.1)
+one_inode m n None (Some q) s t small also same = no_inode q ((decimal m ++ codes " ") ++ s) t same
+one_inode m n (Some p) None s t small also same = no_inode p ((decimal n ++ codes " ") ++ t) s (sym same)
+one_inode m n (Some p) (Some q) s t small also same =
+    before_a_space (path_text p) (path_text q) s t (sym (append_assoc (quoted (path_text p)) (codes " ") s) ∙ same ∙ append_assoc (quoted (path_text q)) (codes " ") t)
+
+-- the first client of a group, and the last one with how many there are
+one_first : (m n : ℕ) (a b : Option (List ℕ)) (s t : List ℕ) → m < 2 ^ 64 → n < 2 ^ 64 → is_digit (first_byte s) ≡ false → is_digit (first_byte t) ≡ false → holder_text Groups m a ++ 32 ∷ s ≡ holder_text Groups n b ++ 32 ∷ t
+    → IsOneClient m a n b × (s ≡ t)
+one_first m n None None s t small also ends too same =
+    let both = behind_word (codes "client ") m n (32 ∷ s) (32 ∷ t) small also refl refl same in
+    (both.0, append_cancel_left (codes " ") s t both.1)
+one_first m n None (Some d) s t small also ends too same = no_number m (32 ∷ s) t small too (before_a_space (codes "client") d (decimal m ++ 32 ∷ s) t same).1
+one_first m n (Some c) None s t small also ends too same = no_number n (32 ∷ t) s also ends (before_a_space (codes "client") c (decimal n ++ 32 ∷ t) s (sym same)).1
+one_first m n (Some c) (Some d) s t small also ends too same = before_a_space c d s t same
+
+no_last : {X : Type 0} (m k l : ℕ) (d s t : List ℕ) → m < 2 ^ 64 → l < 2 ^ 64 → codes "client " ++ (decimal m ++ (codes ": " ++ (decimal k ++ 10 ∷ s))) ≡ quoted d ++ (codes ": " ++ (decimal l ++ 10 ∷ t)) → X
+no_last m k l d s t small also same =
+    let rest : decimal m ++ (codes ": " ++ (decimal k ++ 10 ∷ s)) ≡ decimal l ++ 10 ∷ t = ap behind same ∙ past_quoted d (codes ": " ++ (decimal l ++ 10 ∷ t)) in
+    let both = number m l (codes ": " ++ (decimal k ++ 10 ∷ s)) (10 ∷ t) small also refl refl rest in
+    clash 10 58 (omega arith) (sym (ap first_byte both.1))
+
+one_last : (m n k l : ℕ) (a b : Option (List ℕ)) (s t : List ℕ) → m < 2 ^ 64 → n < 2 ^ 64 → k < 2 ^ 64 → l < 2 ^ 64
+    → holder_text Groups m a ++ (codes ": " ++ (decimal k ++ 10 ∷ s)) ≡ holder_text Groups n b ++ (codes ": " ++ (decimal l ++ 10 ∷ t)) → IsOneClient m a n b × (k ≡ l) × (s ≡ t)
+one_last m n k l None None s t small also few too same =
+    let both = behind_word (codes "client ") m n (codes ": " ++ (decimal k ++ 10 ∷ s)) (codes ": " ++ (decimal l ++ 10 ∷ t)) small also refl refl same in
+    let count = last_number k l s t few too (append_cancel_left (codes ": ") (decimal k ++ 10 ∷ s) (decimal l ++ 10 ∷ t) both.1) in
+    (both.0, count.0, count.1)
+one_last m n k l None (Some d) s t small also few too same = no_last m k l d s t small too same
+one_last m n k l (Some c) None s t small also few too same = no_last n l k c t s also few (sym same)
+one_last m n k l (Some c) (Some d) s t small also few too same =
+    let name = before_word (codes ":") c d (decimal k ++ 10 ∷ s) (decimal l ++ 10 ∷ t) refl same in
+    let count = last_number k l s t few too name.1 in
+    (name.0, count.0, count.1)
+
+one_beside : (c d : Conflict) (s t : List ℕ) → holds c s ≡ holds d t → (c.one.caps ≡ d.one.caps) × (c.other.caps ≡ d.other.caps) × (s ≡ t)
+one_beside c d s t same =
+    let one = one_caps c.one.caps d.one.caps (beside c s) (beside d t) refl refl (append_cancel_left (codes "holds ") (text_of c.one.caps ++ beside c s) (text_of d.one.caps ++ beside d t) same) in
+    let other = one_caps c.other.caps d.other.caps (codes " of " ++ s) (codes " of " ++ t) refl refl
+    (append_cancel_left (codes " beside ") (text_of c.other.caps ++ (codes " of " ++ s)) (text_of d.other.caps ++ (codes " of " ++ t)) one.1) in
+    (one.0, other.0, append_cancel_left (codes " of ") s t other.1)
+
+-- ---- two lines of one kind
+
+one_held : (p q : List (List ℕ)) (c d : List ℕ) (m n : ℕ) (i j x y : Caps) (f g : Finding) (s t : List ℕ) → m < 2 ^ 64 → n < 2 ^ 64 → laid (told.held 0 p c m i x f) s ≡ laid (told.held 0 q d n j y g) t
+    → TellTheSame (told.held 0 p c m i x f) (told.held 0 q d n j y g) × (s ≡ t)
+one_held p q c d m n i j x y f g s t small also same =
+    let u : List ℕ = text_of f.caps ++ from_beyond_caps x f s in
+    let v : List ℕ = text_of g.caps ++ from_beyond_caps y g t in
+    let place = one_place p q c d m n (codes " holds " ++ (text_of i ++ (codes ", may not " ++ u))) (codes " holds " ++ (text_of j ++ (codes ", may not " ++ v))) small also refl refl same in
+    let issued = one_caps i j (codes ", may not " ++ u) (codes ", may not " ++ v) refl refl (append_cancel_left (codes " holds ") (text_of i ++ (codes ", may not " ++ u)) (text_of j ++ (codes ", may not " ++ v)) place.3) in
+    let beyond = one_caps f.caps g.caps (from_beyond_caps x f s) (from_beyond_caps y g t) (before_why (minus f.caps x) (32 ∷ from_why f s)) (before_why (minus g.caps y) (32 ∷ from_why g t)) (append_cancel_left (codes ", may not ") u v issued.1) in
+    let revoked = one_revoked (minus f.caps x) (minus g.caps y) (32 ∷ from_why f s) (32 ∷ from_why g t) beyond.1 in
+    let why = one_why f.missing g.missing f.rules g.rules (10 ∷ s) (10 ∷ t) (omega arith) (omega arith) (append_cancel_left (codes " ") (from_why f s) (from_why g t) revoked.1) in
+    ((place.0, place.1, place.2, issued.0, beyond.0, revoked.0, why.0), append_cancel_left (codes "\n") s t why.1)
+
+one_group : (c d : List ℕ) (f g : Finding) (m n : ℕ) (s t : List ℕ) → m < 2 ^ 64 → n < 2 ^ 64 → laid (told.group c f m) s ≡ laid (told.group d g n) t → TellTheSame (told.group c f m) (told.group d g n) × (s ≡ t)
+one_group c d f g m n s t small also same =
+    let u : List ℕ = quoted c ++ (codes ": " ++ (decimal m ++ 10 ∷ s)) in
+    let v : List ℕ = quoted d ++ (codes ": " ++ (decimal n ++ 10 ∷ t)) in
+    let why = one_why f.missing g.missing f.rules g.rules (32 ∷ u) (32 ∷ v) (omega arith) (omega arith) same in
+    let name = before_word (codes ":") c d (decimal m ++ 10 ∷ s) (decimal n ++ 10 ∷ t) refl (append_cancel_left (codes " ") u v why.1) in
+    let count = last_number m n s t small also name.1 in
+    ((why.0, name.0, count.0), count.1)
+
+one_conflict : (m n : ℕ) (p q : Option (List (List ℕ))) (a b x y : Option (List ℕ)) (c d : Conflict) (s t : List ℕ) → HasNumbers (told.conflict m p a b c) → HasNumbers (told.conflict n q x y d)
+    → laid (told.conflict m p a b c) s ≡ laid (told.conflict n q x y d) t → TellTheSame (told.conflict m p a b c) (told.conflict n q x y d) × (s ≡ t)
+one_conflict m n p q a b x y c d s t small also same =
+    let u : List ℕ = holder_text Each c.other.client b ++ 10 ∷ s in
+    let v : List ℕ = holder_text Each d.other.client y ++ 10 ∷ t in
+    let inode = one_inode m n p q (holder_text Each c.one.client a ++ 32 ∷ holds c u) (holder_text Each d.one.client x ++ 32 ∷ holds d v) small.0 also.0 same in
+    let one = one_holder c.one.client d.one.client a x (32 ∷ holds c u) (32 ∷ holds d v) small.1 also.1 refl refl inode.1 in
+    let caps = one_beside c d u v (append_cancel_left (codes " ") (holds c u) (holds d v) one.2) in
+    let other = one_holder c.other.client d.other.client b y (10 ∷ s) (10 ∷ t) small.2 also.2 refl refl caps.2 in
+    let one_number : c.one.client ≡ d.one.client = one.0 in
+    let other_number : c.other.client ≡ d.other.client = other.0 in
+    let one_has : c.one.caps ≡ d.one.caps = caps.0 in
+    let other_has : c.other.caps ≡ d.other.caps = caps.1 in
+    let both : c ≡ d = λ i. record { one = record { client = one_number i; caps = one_has i }; other = record { client = other_number i; caps = other_has i } } in
+    ((inode.0, one.1, other.1, both), append_cancel_left (codes "\n") s t other.2)
+
+one_rivals : (a b x y : Option (List ℕ)) (c d : Conflict) (m n : ℕ) (s t : List ℕ) → HasNumbers (told.rivals a b c m) → HasNumbers (told.rivals x y d n)
+    → laid (told.rivals a b c m) s ≡ laid (told.rivals x y d n) t → TellTheSame (told.rivals a b c m) (told.rivals x y d n) × (s ≡ t)
+one_rivals a b x y c d m n s t small also same =
+    let u : List ℕ = holder_text Groups c.other.client b ++ (codes ": " ++ (decimal m ++ 10 ∷ s)) in
+    let v : List ℕ = holder_text Groups d.other.client y ++ (codes ": " ++ (decimal n ++ 10 ∷ t)) in
+    let one = one_first c.one.client d.one.client a x (holds c u) (holds d v) small.1 also.1 refl refl same in
+    let caps = one_beside c d u v one.1 in
+    let other = one_last c.other.client d.other.client m n b y s t small.2 also.2 small.0 also.0 caps.2 in
+    ((one.0, caps.0, caps.1, other.0, other.1), other.2)
+
+one_unnamed : (m n : ℕ) (s t : List ℕ) → m < 2 ^ 64 → n < 2 ^ 64 → laid (told.unnamed m) s ≡ laid (told.unnamed n) t → (m ≡ n) × (s ≡ t)
+one_unnamed m n s t small also same =
+    let both = behind_word (codes "client ") m n (codes ": no session names it\n" ++ s) (codes ": no session names it\n" ++ t) small also refl refl same in
+    (both.0, append_cancel_left (codes ": no session names it\n") s t both.1)
+
+one_unlisted : (c d s t : List ℕ) → laid (told.unlisted c) s ≡ laid (told.unlisted d) t → (c ≡ d) × (s ≡ t)
+one_unlisted c d s t same =
+    let both = before_word (codes ":") c d (codes "no entry in the auth list\n" ++ s) (codes "no entry in the auth list\n" ++ t) refl same in
+    (both.0, append_cancel_left (codes "no entry in the auth list\n") s t both.1)
+
+one_unread : (c d : List ℕ) (f g : SpecFault) (s t : List ℕ) → f.at < 2 ^ 64 → g.at < 2 ^ 64 → laid (told.unread c f) s ≡ laid (told.unread d g) t → TellTheSame (told.unread c f) (told.unread d g) × (s ≡ t)
+one_unread c d f g s t small also same =
+    let u : List ℕ = codes "at " ++ (decimal f.at ++ 10 ∷ s) in
+    let v : List ℕ = codes "at " ++ (decimal g.at ++ 10 ∷ t) in
+    let name = before_word (codes ":") c d (codes "grants: " ++ (fault_word f.kind ++ 32 ∷ u)) (codes "grants: " ++ (fault_word g.kind ++ 32 ∷ v)) refl same in
+    let word = bare (fault_word f.kind) (fault_word g.kind) u v (plain_fault f.kind) (plain_fault g.kind) (append_cancel_left (codes "grants: ") (fault_word f.kind ++ 32 ∷ u) (fault_word g.kind ++ 32 ∷ v) name.1) in
+    let place = last_number f.at g.at s t small also (append_cancel_left (codes "at ") (decimal f.at ++ 10 ∷ s) (decimal g.at ++ 10 ∷ t) word.1) in
+    let one_word : fault_word f.kind ≡ fault_word g.kind = word.0 in
+    let one_at : f.at ≡ g.at = place.0 in
+    let line : unread_line [] f ≡ unread_line [] g = λ i. quoted [] ++ (codes ": grants: " ++ (one_word i ++ (codes " at " ++ (decimal (one_at i) ++ codes "\n")))) in
+    ((name.0, (one_fault [] [] f g small also line).1), place.1)
+
+one_strange : (p q : List (List ℕ)) (c d : List ℕ) (m n : ℕ) (s t : List ℕ) → m < 2 ^ 64 → n < 2 ^ 64 → laid (told.strange 0 p c m) s ≡ laid (told.strange 0 q d n) t
+    → TellTheSame (told.strange 0 p c m) (told.strange 0 q d n) × (s ≡ t)
+one_strange p q c d m n s t small also same =
+    let place = one_place p q c d m n (codes " holds what is not known\n" ++ s) (codes " holds what is not known\n" ++ t) small also refl refl same in
+    ((place.0, place.1, place.2), append_cancel_left (codes " holds what is not known\n") s t place.3)
+
+one_pathless : (k l : ℕ) (c d : List ℕ) (m n : ℕ) (i j s t : List ℕ) → HasNumbers (told.pathless k c m i) → HasNumbers (told.pathless l d n j) → laid (told.pathless k c m i) s ≡ laid (told.pathless l d n j) t
+    → TellTheSame (told.pathless k c m i) (told.pathless l d n j) × (s ≡ t)
+one_pathless k l c d m n i j s t small also same =
+    let u : List ℕ = codes " holds " ++ (quoted i ++ 10 ∷ s) in
+    let v : List ℕ = codes " holds " ++ (quoted j ++ 10 ∷ t) in
+    let inode = behind_word (codes "inode ") k l (codes ": no path: " ++ (who_text c m ++ u)) (codes ": no path: " ++ (who_text d n ++ v)) small.0 also.0 refl refl same in
+    let who = one_holder m n (Some c) (Some d) u v small.1 also.1 refl refl (append_cancel_left (codes ": no path: ") (who_text c m ++ u) (who_text d n ++ v) inode.1) in
+    let names : Some c ≡ Some d = who.1 in
+    let name : c ≡ d = cc in
+    let issued = before_a_line_feed i j s t (append_cancel_left (codes " holds ") (quoted i ++ 10 ∷ s) (quoted j ++ 10 ∷ t) who.2) in
+    ((inode.0, name, who.0, issued.0), issued.1)
+
+one_summary : (m n : Counts) (s t : List ℕ) → AreCounts m → AreCounts n → laid (told.summary m) s ≡ laid (told.summary n) t → (m ≡ n) × (s ≡ t)
+one_summary m n s t small also same =
+    let a = behind_word (codes "inodes ") m.inodes n.inodes (from_entries m s) (from_entries n t) small.inodes also.inodes refl refl same in
+    let b = behind_word (codes ", entries ") m.entries n.entries (from_sessions m s) (from_sessions n t) small.entries also.entries refl refl a.1 in
+    let c = behind_word (codes ", sessions ") m.sessions n.sessions (from_beyond m s) (from_beyond n t) small.sessions also.sessions refl refl b.1 in
+    let d = behind_word (codes ", held beyond ") m.held_beyond n.held_beyond (from_conflicts m s) (from_conflicts n t) small.held_beyond also.held_beyond refl refl c.1 in
+    let u : List ℕ = codes ", not judged " ++ (decimal m.not_judged ++ 10 ∷ s) in
+    let v : List ℕ = codes ", not judged " ++ (decimal n.not_judged ++ 10 ∷ t) in
+    let e = behind_word (codes ", conflicts ") m.conflicts n.conflicts u v small.conflicts also.conflicts refl refl d.1 in
+    let f = last_number m.not_judged n.not_judged s t small.not_judged also.not_judged (append_cancel_left (codes ", not judged ") (decimal m.not_judged ++ 10 ∷ s) (decimal n.not_judged ++ 10 ∷ t) e.1) in
+    let one : m.inodes ≡ n.inodes = a.0 in
+    let two : m.entries ≡ n.entries = b.0 in
+    let three : m.sessions ≡ n.sessions = c.0 in
+    let four : m.held_beyond ≡ n.held_beyond = d.0 in
+    let five : m.conflicts ≡ n.conflicts = e.0 in
+    let six : m.not_judged ≡ n.not_judged = f.0 in
+    (λ i. record { inodes = one i; entries = two i; sessions = three i; held_beyond = four i; conflicts = five i; not_judged = six i }, f.1)
+
+-- ---- two lines
+
+of_kind : (a b : Line) (s t : List ℕ) → kind a ≡ kind b → HasNumbers a → HasNumbers b → laid a s ≡ laid b t → TellTheSame a b × (s ≡ t)
+of_kind (told.held k p c m i x f) (told.held l q d n j y g) s t e small also same = one_held p q c d m n i j x y f g s t small also same
+of_kind (told.group c f m) (told.group d g n) s t e small also same = one_group c d f g m n s t small also same
+of_kind (told.conflict m p a b c) (told.conflict n q x y d) s t e small also same = one_conflict m n p q a b x y c d s t small also same
+of_kind (told.rivals a b c m) (told.rivals x y d n) s t e small also same = one_rivals a b x y c d m n s t small also same
+of_kind (told.unnamed m) (told.unnamed n) s t e small also same = one_unnamed m n s t small also same
+of_kind (told.unlisted c) (told.unlisted d) s t e small also same = one_unlisted c d s t same
+of_kind (told.unread c f) (told.unread d g) s t e small also same = one_unread c d f g s t small also same
+of_kind (told.strange k p c m) (told.strange l q d n) s t e small also same = one_strange p q c d m n s t small also same
+of_kind (told.pathless k c m i) (told.pathless l d n j) s t e small also same = one_pathless k l c d m n i j s t small also same
+of_kind told.nothing told.nothing s t e small also same = (tt, append_cancel_left (codes "nothing found\n") s t same)
+of_kind (told.summary m) (told.summary n) s t e small also same = one_summary m n s t small also same
+of_kind a b s t e small also same = absurd (eqb-false (kind a) (kind b) refl e)
+
+one_and_more : (a b : Line) (s t : List ℕ) → HasNumbers a → HasNumbers b → line_text a ++ s ≡ line_text b ++ t → TellTheSame a b × (s ≡ t)
+one_and_more a b s t small also same =
+    let e : laid a s ≡ laid b t = sym (laid_out a s) ∙ same ∙ laid_out b t in
+    of_kind a b s t (sym (kind_is a s small) ∙ ap kind_of e ∙ kind_is b t also) small also e
+
+pub one_line : (a b : Line) → HasNumbers a → HasNumbers b → line_text a ≡ line_text b → TellTheSame a b
+one_line a b small also same = (one_and_more a b [] [] small also (ap (λ (w : List ℕ). w ++ []) same)).0
+
+-- ---- two texts
+
+no_line : {X : Type 0} (l : Line) (s : List ℕ) → HasNumbers l → line_text l ++ s ≡ [] → X
+no_line l s small same = clash 0 (kind l) (some_kind l) (sym none ∙ sym (ap kind_of (sym (laid_out l s) ∙ same)) ∙ kind_is l s small)
+
+pub one_text : (xs ys : List Line) → All HasNumbers xs → All HasNumbers ys → flat_map line_text xs ≡ flat_map line_text ys → AllTellTheSame xs ys
+one_text [] [] small also same = tt
+one_text [] (b ∷ ys) small also same = no_line b (flat_map line_text ys) (All-head HasNumbers b ys also) (sym same)
+one_text (a ∷ xs) [] small also same = no_line a (flat_map line_text xs) (All-head HasNumbers a xs small) same
+one_text (a ∷ xs) (b ∷ ys) small also same =
+    let both = one_and_more a b (flat_map line_text xs) (flat_map line_text ys) (All-head HasNumbers a xs small) (All-head HasNumbers b ys also) same in
+    (both.0, one_text xs ys (All-tail HasNumbers a xs small) (All-tail HasNumbers b ys also) both.1)

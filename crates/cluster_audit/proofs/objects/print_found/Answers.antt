@@ -1,0 +1,35 @@
+use Rattle.std.proofs.Common.{ℕ, List, [], ◌∷◌, ◌++◌, codes, map, sym, ap, ◌∙◌}
+use Rattle.std.proofs.lemmas.Result.{on_ok_weaker}
+use Rattle.serde_json.specs.Data.{Data, string}
+use Rattle.capexplain.specs.Pieces.{piece_value}
+use Rattle.capexplain.specs.Values.{bytes_value, json_line, natural, object_of, or_null}
+use Rattle.cluster_audit.specs.declared.notes.Detail.{Detail}
+use Rattle.cluster_audit.specs.Objects.{access_value, caps_value, found_object, path_value, why_value}
+use Rattle.cluster_audit.proofs.objects.print_found.Goals as goal
+
+pub returns-in-Each : goal.returns-in-Each
+returns-in-Each c =
+    let a = c.args in
+    let f = a.found.now in
+    let old = a.text.now.items in
+    let path : List (List ℕ) = map (λ name. name.now) a.path.now in
+    let line : Data → Data → Data → List ℕ = λ why missing revoked. old ++ json_line (object_of (
+    (codes "kind", string (codes "held-beyond"))
+    ∷ (codes "client", bytes_value a.client.now)
+    ∷ (codes "rules", why)
+    ∷ (codes "missing", missing)
+    ∷ (codes "inode", natural a.number)
+    ∷ (codes "path", path_value path)
+    ∷ (codes "session", natural a.session)
+    ∷ (codes "holds", caps_value a.issued)
+    ∷ (codes "may_not", caps_value f.caps)
+    ∷ (codes "being_revoked", revoked)
+    ∷ [])) in
+    let missing : Data = or_null access_value f.missing in
+    on_ok_weaker c.print_pieces.result
+    (λ more. more
+    ∙ ap (λ (w : Data). line w (piece_value c.access_if.result) (piece_value c.revoked_if.result)) c.why.ensures
+    ∙ ap (λ (m : Data). line (why_value f.missing f.rules) m (piece_value c.revoked_if.result)) c.access_if.ensures
+    ∙ ap (line (why_value f.missing f.rules) missing) c.revoked_if.ensures
+    ∙ ap (λ (d : Detail). old ++ found_object d a.number path a.client.now a.session a.issued a.pending f) (sym c.in-Each.is))
+    c.print_pieces.ensures.line

@@ -1,0 +1,192 @@
+-- What clients of a cluster hold and may not.
+use Rattle.std.specs.Prelude.{◌≡◌, ◌⊎◌, ◌==◌, ℕ, Bool, not, if◌then◌else◌, Option, Some, None, option_and_then, Ok, List, [], ◌∷◌, ◌++◌, length, find}
+use Rattle.std.specs.Prelude.{bytes_eq, IsTrue}
+use Rattle.std.specs.FinMap as map
+use Rattle.std.specs.List.{flat_map}
+use Rattle.capbits.specs.declared.cap.Cap.{Cap}
+use Rattle.capbits.specs.Caps.{Caps, has}
+use Rattle.capbits.specs.Text.{text_of}
+use Rattle.capspec.specs.declared.fault.SpecFault.{SpecFault}
+use Rattle.capspec.specs.declared.grant.Grant.{Grant}
+use Rattle.capspec.specs.Faults.{IsFault}
+use Rattle.capspec.specs.Grants.{Reads}
+use Rattle.ceph_input.specs.Auth.{IsFaultOf, Named, auth_of}
+use Rattle.ceph_input.specs.Values.{IsFaultIn}
+use Rattle.ceph_input.specs.Sessions.{Connected, sessions_of}
+use Rattle.ceph_input.specs.Dump.{Dump, Held, Listed, PathMap}
+use Rattle.cluster_audit.specs.declared.findings.Finding.{Finding}
+use Rattle.cluster_audit.specs.declared.conflicts.Conflict.{Conflict}
+use Rattle.cluster_audit.specs.declared.conflicts.Holding.{Holding}
+use Rattle.cluster_audit.specs.Conflicts.{conflicts_of}
+use Rattle.cluster_audit.specs.Callers.{Inode, IsPermittedToSome, inode}
+use Rattle.cluster_audit.specs.Findings.{IsBeyond}
+use Rattle.capexplain.specs.declared.shape.Shape.{Shape}
+use Rattle.capexplain.specs.Shapes.{nothing_in}
+use Rattle.cluster_audit.specs.declared.fault.HeldFault.{HeldFault}
+use Rattle.cluster_audit.specs.declared.fault.HeldFault.TheVariants.{Auth, Sessions}
+use Rattle.cluster_audit.specs.declared.notes.Detail.{Detail}
+use Rattle.cluster_audit.specs.declared.notes.Detail.TheVariants.{Each, Groups}
+use Rattle.cluster_audit.specs.declared.notes.Manner.{Manner}
+use Rattle.cluster_audit.specs.declared.notes.Notes.{Notes}
+use Rattle.cluster_audit.specs.Order.{AreCounted, AreInOrder}
+use Rattle.cluster_audit.specs.Summary.{counts_of}
+use Rattle.cluster_audit.specs.Shaped.{conflict_in, counts_in, found_in, pathless_in, strange_in, unlisted_in, unnamed_in, unread_in}
+
+-- ---- who it is
+
+-- the entities of the auth list, and the sessions
+pub record Roster : Type 0 where
+  pub entities : List Named
+  pub sessions : List Connected
+
+abbrev pub roster : List Named → List Connected → Roster
+roster entities sessions = record { entities = entities; sessions = sessions }
+
+-- the same, and how is told what is found of them
+pub record Clients : Type 0 where
+  pub manner : Manner
+  pub entities : List Named
+  pub sessions : List Connected
+
+abbrev pub clients : Manner → List Named → List Connected → Clients
+clients manner entities sessions = record { manner = manner; entities = entities; sessions = sessions }
+
+abbrev pub clients_of : Manner → Roster → Clients
+clients_of manner known = clients manner known.entities known.sessions
+
+-- the first session of this number
+abbrev pub session_of : List Connected → ℕ → Option Connected
+session_of sessions number = find (λ s. s.number == number) sessions
+
+-- the name that it tells, if there is one and it tells any
+abbrev pub name_of : List Connected → ℕ → Option (List ℕ)
+name_of sessions number = option_and_then (λ s. s.client) (session_of sessions number)
+
+-- ---- what is said of one who holds something
+
+-- all of it is permitted to somebody, and nothing is said; else a line tells what is not
+abbrev pub IsToldBeyond : Manner → ℕ → Inode → List ℕ → ℕ → List Grant → Caps → Caps → List ℕ → Type 0
+IsToldBeyond m number i client session grants issued pending found = (((cap : Cap) → IsTrue (has issued cap) → IsPermittedToSome i grants cap) × (found ≡ []))
+    ⊎ ((f : Finding) × IsBeyond issued grants i f × (found ≡ found_in m number i.path client session issued pending f))
+
+-- what is known to be held is judged by these grants; else a line says that it is not known
+abbrev pub IsJudged : Manner → ℕ → Inode → List ℕ → List Grant → Held → List ℕ → List ℕ → Type 0
+IsJudged m number i client grants h found unknown = ((issued : Caps) × (pending : Caps) × (h.issued ≡ text_of issued) × (h.pending ≡ text_of pending) × IsToldBeyond m number i client h.client grants issued pending found × (unknown ≡ []))
+    ⊎ (((issued pending : Caps) → h.issued ≡ text_of issued → h.pending ≡ text_of pending → ⊥) × (found ≡ []) × (unknown ≡ strange_in m.shape number i.path client h.client))
+
+-- the grants are those that the text means; else a line tells its first fault
+abbrev pub IsJudgedBy : Manner → ℕ → Inode → List ℕ → Held → List ℕ → List ℕ → List ℕ → Type 0
+IsJudgedBy m number i client h text found unknown = ((grants : List Grant) × Reads text grants × IsJudged m number i client grants h found unknown)
+    ⊎ ((fault : SpecFault) × IsFault text fault × (found ≡ []) × (unknown ≡ unread_in m.shape client fault))
+
+-- the same of the text that the auth list has of a client; one that has none is permitted nothing
+abbrev pub SaysOfCaps : Manner → ℕ → Inode → List ℕ → Held → Option (List ℕ) → List ℕ → List ℕ → Type 0
+SaysOfCaps m number i client h None found unknown = IsJudged m number i client [] h found unknown
+SaysOfCaps m number i client h (Some text) found unknown = IsJudgedBy m number i client h text found unknown
+
+-- of the entry that the auth list has of it
+abbrev pub SaysOfEntity : Manner → ℕ → Inode → List ℕ → Held → Option Named → List ℕ → List ℕ → Type 0
+SaysOfEntity m number i client h None found unknown = (found ≡ []) × (unknown ≡ unlisted_in m.shape client)
+SaysOfEntity m number i client h (Some e) found unknown = SaysOfCaps m number i client h e.caps found unknown
+
+-- of the name of it that is known
+abbrev pub SaysOfName : Clients → ℕ → Inode → Held → Option (List ℕ) → List ℕ → List ℕ → Type 0
+SaysOfName known number i h None found unknown = (found ≡ []) × (unknown ≡ unnamed_in known.manner.shape h.client)
+SaysOfName known number i h (Some client) found unknown = SaysOfEntity known.manner number i client h (find (λ e. bytes_eq e.name client) known.entities) found unknown
+
+-- of one who holds something of the inode of this number
+abbrev pub SaysOf : Clients → ℕ → Inode → Held → List ℕ → List ℕ → Type 0
+SaysOf known number i h found unknown = SaysOfName known number i h (name_of known.sessions h.client) found unknown
+
+-- ---- what is said of all
+
+-- texts of which this holds are added to the notes
+abbrev pub Adds : (List ℕ → List ℕ → Type 0) → Notes → Notes → Type 0
+Adds P old new = (found : List ℕ) × (unknown : List ℕ) × (new.found.items ≡ old.found.items ++ found) × (new.unknown.items ≡ old.unknown.items ++ unknown) × P found unknown
+
+-- each says something in turn, of what is found and of what is not known
+pub data AreSaid {X : Type 0} (Says : X → List ℕ → List ℕ → Type 0) : List X → List ℕ → List ℕ → Type 0 where
+  no_more : AreSaid Says [] [] []
+  one_more : {x : X} {xs : List X} (found unknown founds unknowns : List ℕ) → Says x found unknown → AreSaid Says xs founds unknowns → AreSaid Says (x ∷ xs) (found ++ founds) (unknown ++ unknowns)
+
+-- of one who holds something of the inode of this number, to which no path leads, and whose name may be known
+abbrev pub pathless_text : Shape → ℕ → Held → Option (List ℕ) → List ℕ
+pathless_text shape number h None = unnamed_in shape h.client
+pathless_text shape number h (Some client) = pathless_in shape number client h.client h.issued
+
+abbrev pub pathless_of : Shape → List Connected → ℕ → Held → List ℕ
+pathless_of shape sessions number h = pathless_text shape number h (name_of sessions h.client)
+
+-- of an inode: of each who holds something of it, on the path that leads to it; or that none does
+abbrev pub SaysAt : List ℕ → Clients → Listed → Option (List (List ℕ)) → List ℕ → List ℕ → Type 0
+SaysAt fs known it None found unknown = (found ≡ []) × (unknown ≡ flat_map (pathless_of known.manner.shape known.sessions it.number) it.holders)
+SaysAt fs known it (Some path) found unknown = AreSaid (SaysOf known it.number (inode fs path it.attr)) it.holders found unknown
+
+abbrev pub SaysOfInode : List ℕ → Clients → PathMap → Listed → List ℕ → List ℕ → Type 0
+SaysOfInode fs known paths it found unknown = SaysAt fs known it (map.get paths it.number) found unknown
+
+-- ---- what two sessions hold together
+
+-- each gives some, one after the other
+pub data Give {X Y : Type 0} (Gives : X → List Y → Type 0) : List X → List Y → Type 0 where
+  no_more : Give Gives [] []
+  one_more : {x : X} {xs : List X} (some others : List Y) → Gives x some → Give Gives xs others → Give Gives (x ∷ xs) (some ++ others)
+
+-- a text of which this holds is added
+abbrev pub AddsTo : (List ℕ → Type 0) → List ℕ → List ℕ → Type 0
+AddsTo P old new = (more : List ℕ) × (new ≡ old ++ more) × P more
+
+-- what the MDS has issued is held, also where it is being revoked; what is spelled otherwise than caps are is not known
+abbrev pub Holds : Held → List Holding → Type 0
+Holds h known = ((caps : Caps) × (h.issued ≡ text_of caps) × (known ≡ record { client = h.client; caps = caps } ∷ []))
+    ⊎ (((caps : Caps) → h.issued ≡ text_of caps → ⊥) × (known ≡ []))
+
+-- two sessions in conflict on the inode of this number, to which a path may lead, by the names that they tell
+abbrev pub conflict_at : Manner → List Connected → ℕ → Option (List (List ℕ)) → Conflict → List ℕ
+conflict_at m sessions number path c = conflict_in m number path (name_of sessions c.one.client) (name_of sessions c.other.client) c
+
+-- of an inode a line for each pair that holds of it what the table of the locks keeps apart
+abbrev pub SaysOfPairs : Manner → List Connected → PathMap → Listed → List ℕ → Type 0
+SaysOfPairs m sessions paths it text = (holdings : List Holding) × Give Holds it.holders holdings
+    × (text ≡ flat_map (conflict_at m sessions it.number (map.get paths it.number)) (conflicts_of holdings))
+
+-- ---- the audit
+
+-- lines in order, or lines that are alike counted
+abbrev pub AreShown : Detail → Shape → List ℕ → List ℕ → Type 0
+AreShown Each shape text shown = AreInOrder text shown
+AreShown Groups shape text shown = AreCounted shape text shown
+
+-- what is found beyond grants and in conflict, in order or counted, and behind it, in order, what is not known
+abbrev pub AreLines : Manner → List ℕ → List ℕ → List ℕ → List ℕ → Type 0
+AreLines m beyond conflicts unknown lines = (first : List ℕ) × (last : List ℕ) × AreShown m.detail m.shape (beyond ++ conflicts) first × AreInOrder unknown last × (lines ≡ first ++ last)
+
+-- these lines are told, or that nothing is found where there are none, and behind them the last one
+abbrev pub IsTold : Shape → List ℕ → List ℕ → List ℕ → Bool → Type 0
+IsTold shape lines last text found = (found ≡ not (length lines == 0)) × (text ≡ (if found then lines else nothing_in shape) ++ last)
+
+-- what is told of the inodes of a tree
+pub record IsReport (fs : List ℕ) (known : Clients) (seen : Dump) (text : List ℕ) (found : Bool) : Type 0 where
+  pub beyond : List ℕ
+  pub conflicts : List ℕ
+  pub unknown : List ℕ
+  pub lines : List ℕ
+  pub said : AreSaid (SaysOfInode fs known seen.paths) seen.inodes beyond unknown
+  pub paired : Give (SaysOfPairs known.manner known.sessions seen.paths) seen.inodes conflicts
+  pub ordered : AreLines known.manner beyond conflicts unknown lines
+  pub told : IsTold known.manner.shape lines (counts_in known.manner.shape (counts_of known.sessions seen.inodes beyond conflicts unknown)) text found
+
+-- ---- the texts
+
+-- two texts mean an auth list and sessions, and these are the clients of the cluster
+abbrev pub AreClients : List ℕ → List ℕ → Roster → Type 0
+AreClients auth sessions known = (auth_of auth ≡ Some (Ok known.entities)) × (sessions_of sessions ≡ Some (Ok known.sessions))
+
+-- the text means an auth list
+abbrev pub IsAuthList : List ℕ → Type 0
+IsAuthList auth = (entities : List Named) × (auth_of auth ≡ Some (Ok entities))
+
+-- the fault is that of the first of the two that means nothing
+abbrev pub IsFaultOfClients : List ℕ → List ℕ → HeldFault → Type 0
+IsFaultOfClients auth sessions (Auth fault) = IsFaultOf fault (auth_of auth)
+IsFaultOfClients auth sessions (Sessions fault) = IsAuthList auth × IsFaultIn fault (sessions_of sessions)

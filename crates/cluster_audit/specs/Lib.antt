@@ -1,0 +1,11 @@
+pub mod Lines
+pub mod Objects
+pub mod Shaped
+pub mod Told
+pub mod Instead
+pub mod Order
+pub mod Summary
+pub mod Audited
+pub mod Callers
+pub mod Findings
+pub mod Conflicts

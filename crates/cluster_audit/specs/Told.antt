@@ -1,0 +1,121 @@
+-- What a line of an audit tells.
+use Rattle.std.specs.Prelude.{◌≡◌, ℕ, ◌<◌, ◌^◌, Option, Some, None, List, [], ◌∷◌, All}
+use Rattle.std.specs.List.{flat_map}
+use Rattle.capbits.specs.Caps.{Caps}
+use Rattle.capbits.specs.Sets.{minus}
+use Rattle.capspec.specs.declared.fault.SpecFault.{SpecFault}
+use Rattle.capgrant.specs.declared.access.Access.{Access}
+use Rattle.capgrant.specs.declared.rule.Rule.{Rule}
+use Rattle.cluster_audit.specs.declared.findings.Finding.{Finding}
+use Rattle.cluster_audit.specs.declared.conflicts.Conflict.{Conflict}
+use Rattle.capexplain.specs.Explaining.{path_text}
+use Rattle.capexplain.specs.Standing.{unread_line}
+use Rattle.capexplain.specs.declared.shape.Shape.TheVariants.{Lines}
+use Rattle.capexplain.specs.Shapes.{nothing_in}
+use Rattle.cluster_audit.specs.declared.notes.Detail.TheVariants.{Each, Groups}
+use Rattle.cluster_audit.specs.declared.summary.Counts.{Counts}
+use Rattle.cluster_audit.specs.Lines.{clash_text, conflict_line, counts_line, group_text, held_line, pathless_line, strange_line, unlisted_line, unnamed_line}
+use Rattle.cluster_audit.specs.Shaped.{counted_in}
+
+-- a line of an audit, by what its text is made of
+pub data Line : Type 0 where
+  -- of this inode, at this path, this client in this session was issued and is left to hold; and what of it nobody is permitted
+  held : ℕ → List (List ℕ) → List ℕ → ℕ → Caps → Caps → Finding → Line
+  -- how many lines of a client are so
+  group : List ℕ → Finding → ℕ → Line
+  -- of this inode, to which a path may lead, two sessions, each with the name that it may tell, hold what no two may hold
+  conflict : ℕ → Option (List (List ℕ)) → Option (List ℕ) → Option (List ℕ) → Conflict → Line
+  -- how many of two clients do so
+  rivals : Option (List ℕ) → Option (List ℕ) → Conflict → ℕ → Line
+  unnamed : ℕ → Line
+  unlisted : List ℕ → Line
+  unread : List ℕ → SpecFault → Line
+  strange : ℕ → List (List ℕ) → List ℕ → ℕ → Line
+  pathless : ℕ → List ℕ → ℕ → List ℕ → Line
+  nothing : Line
+  summary : Counts → Line
+
+abbrev pub line_text : Line → List ℕ
+line_text (held number path client session issued pending found) = held_line path client session issued pending found
+line_text (group client found count) = counted_in Lines (group_text client found) count
+line_text (conflict number path one other c) = conflict_line Each number path one other c
+line_text (rivals one other c count) = counted_in Lines (clash_text Groups one other c) count
+line_text (unnamed number) = unnamed_line number
+line_text (unlisted client) = unlisted_line client
+line_text (unread client fault) = unread_line client fault
+line_text (strange number path client session) = strange_line path client session
+line_text (pathless number client session issued) = pathless_line number client session issued
+line_text nothing = nothing_in Lines
+line_text (summary n) = counts_line n
+
+-- ---- its numbers have 64 bits, as each of an audit has
+
+pub record AreCounts (n : Counts) : Type 0 where
+  pub inodes : n.inodes < 2 ^ 64
+  pub entries : n.entries < 2 ^ 64
+  pub sessions : n.sessions < 2 ^ 64
+  pub held_beyond : n.held_beyond < 2 ^ 64
+  pub conflicts : n.conflicts < 2 ^ 64
+  pub not_judged : n.not_judged < 2 ^ 64
+
+abbrev pub HasNumbers : Line → Type 0
+HasNumbers (held number path client session issued pending found) = session < 2 ^ 64
+HasNumbers (group client found count) = count < 2 ^ 64
+HasNumbers (conflict number path one other c) = (number < 2 ^ 64) × (c.one.client < 2 ^ 64) × (c.other.client < 2 ^ 64)
+HasNumbers (rivals one other c count) = (count < 2 ^ 64) × (c.one.client < 2 ^ 64) × (c.other.client < 2 ^ 64)
+HasNumbers (unnamed number) = number < 2 ^ 64
+HasNumbers (unlisted client) = Unit {0}
+HasNumbers (unread client fault) = fault.at < 2 ^ 64
+HasNumbers (strange number path client session) = session < 2 ^ 64
+HasNumbers (pathless number client session issued) = (number < 2 ^ 64) × (session < 2 ^ 64)
+HasNumbers nothing = Unit {0}
+HasNumbers (summary n) = AreCounts n
+
+-- ---- two lines tell the same
+
+-- the rules by which the grants deny an access that is missing
+abbrev pub reasons : Option Access → List Rule → Option (List Rule)
+reasons None rules = None
+reasons (Some access) rules = Some rules
+
+-- of an inode to which a path leads the text of the path counts, and else its number
+abbrev pub IsOneInode : ℕ → Option (List (List ℕ)) → ℕ → Option (List (List ℕ)) → Type 0
+IsOneInode m None n None = m ≡ n
+IsOneInode m (Some p) n (Some q) = path_text p ≡ path_text q
+IsOneInode m p n q = ⊥
+
+-- of a client that tells a name the name counts, and else the number of its session
+abbrev pub IsOneClient : ℕ → Option (List ℕ) → ℕ → Option (List ℕ) → Type 0
+IsOneClient m None n None = m ≡ n
+IsOneClient m (Some c) n (Some d) = c ≡ d
+IsOneClient m c n d = ⊥
+
+abbrev pub TellTheSame : Line → Line → Type 0
+TellTheSame (held k p c m i x f) (held l q d n j y g) =
+    (path_text p ≡ path_text q) × (c ≡ d) × (m ≡ n) × (i ≡ j) × (f.caps ≡ g.caps) × (minus f.caps x ≡ minus g.caps y) × (reasons f.missing f.rules ≡ reasons g.missing g.rules)
+TellTheSame (group c f m) (group d g n) = (reasons f.missing f.rules ≡ reasons g.missing g.rules) × (c ≡ d) × (m ≡ n)
+TellTheSame (conflict m p a b c) (conflict n q x y d) = IsOneInode m p n q × (a ≡ x) × (b ≡ y) × (c ≡ d)
+TellTheSame (rivals a b c m) (rivals x y d n) =
+    IsOneClient c.one.client a d.one.client x × (c.one.caps ≡ d.one.caps) × (c.other.caps ≡ d.other.caps) × IsOneClient c.other.client b d.other.client y × (m ≡ n)
+TellTheSame (unnamed m) (unnamed n) = m ≡ n
+TellTheSame (unlisted c) (unlisted d) = c ≡ d
+TellTheSame (unread c f) (unread d g) = (c ≡ d) × (f ≡ g)
+TellTheSame (strange k p c m) (strange l q d n) = (path_text p ≡ path_text q) × (c ≡ d) × (m ≡ n)
+TellTheSame (pathless k c m i) (pathless l d n j) = (k ≡ l) × (c ≡ d) × (m ≡ n) × (i ≡ j)
+TellTheSame nothing nothing = Unit {0}
+TellTheSame (summary m) (summary n) = m ≡ n
+TellTheSame a b = ⊥
+
+-- each the same as the other's line at its place, and as many
+abbrev pub AllTellTheSame : List Line → List Line → Type 0
+AllTellTheSame [] [] = Unit {0}
+AllTellTheSame (a ∷ xs) (b ∷ ys) = TellTheSame a b × AllTellTheSame xs ys
+AllTellTheSame xs ys = ⊥
+
+-- ---- the law
+
+abbrev pub OneLine : Type 0
+OneLine = (a b : Line) → HasNumbers a → HasNumbers b → line_text a ≡ line_text b → TellTheSame a b
+
+abbrev pub OneText : Type 0
+OneText = (xs ys : List Line) → All HasNumbers xs → All HasNumbers ys → flat_map line_text xs ≡ flat_map line_text ys → AllTellTheSame xs ys

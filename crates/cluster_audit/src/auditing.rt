@@ -1,0 +1,166 @@
+//! From the clients and the tree of a cluster to what is held and may not be.
+ghost use Rattle.std.specs.Prelude.{IfOk, OnOk};
+ghost use Rattle.ceph_input.specs.Dump.{dump};
+ghost use Rattle.cluster_audit.specs.Audited.{Adds, AreLines, AreSaid, IsReport, IsTold, SaysOf, SaysOfInode, clients, clients_of};
+
+use crate::clients::ClusterClients;
+use crate::holders::{note_holder, print_pathless_holders};
+use crate::inode::Inode;
+use crate::notes::{Detail, Manner, Notes, Report};
+use crate::order::{counted, in_order};
+use crate::pairs::conflict_lines;
+use crate::summary::summary_line;
+use capbits::print_str;
+use capexplain::Shape;
+use capspec::{FsName, TreePath};
+use ceph_input::{AuthList, Holder, Session, Tree, TreeInode};
+use dense_map::Numbered;
+use std::alloc::{AllocError, Global};
+
+/// What the clients of a cluster hold of the inodes of this file system, by the tree that a metadata server has in memory, and nobody
+/// behind their keys is permitted, and what two of them hold that no two may hold together; behind that what could not be judged; each
+/// line once, in the order of the lines' bytes, which is first that of paths, or those that are alike counted; and a line that sums it
+/// up.
+pub fn audit(
+    alloc: Global,
+    manner: Manner,
+    fs: &FsName,
+    clients: &ClusterClients,
+    tree: &Tree,
+) -> Result<Report, AllocError>
+    ensures { IfOk result (λ report. IsReport fs.now (clients_of manner clients.now) (dump tree.now.inodes.items tree.now.paths) report.text.items report.found) }
+{
+    let sessions = clients.sessions();
+    let inodes = tree.inodes.as_slice();
+    let notes = note_inodes(
+        alloc,
+        manner,
+        fs,
+        clients.auth(),
+        sessions,
+        inodes,
+        &tree.paths,
+    )?;
+    let conflicts = conflict_lines(alloc, manner, sessions, inodes, &tree.paths)?;
+    let lines = all_lines(alloc, manner, &notes, conflicts.as_slice())?;
+    let last = summary_line(
+        alloc,
+        manner.shape,
+        sessions,
+        inodes,
+        &notes,
+        conflicts.as_slice(),
+    )?;
+    let report = report_of(manner.shape, lines, last.as_slice())?;
+    Ok(report)
+}
+
+// What is found, in order or counted, and behind it what could not be judged.
+fn all_lines(
+    alloc: Global,
+    manner: Manner,
+    notes: &Notes,
+    conflicts: &[u8],
+) -> Result<Vec<u8>, AllocError>
+    ensures { IfOk result (λ lines. AreLines manner notes.now.found.items conflicts.now notes.now.unknown.items lines.items) }
+{
+    let mut found = Vec::from_slice(alloc, notes.found.as_slice())?;
+    found.extend_from_slice(conflicts)?;
+    let mut lines = match manner.detail {
+        Detail::Each => in_order(alloc, found.as_slice())?,
+        Detail::Groups => counted(alloc, manner.shape, found.as_slice())?,
+    };
+    let unknown = in_order(alloc, notes.unknown.as_slice())?;
+    lines.extend_from_slice(unknown.as_slice())?;
+    Ok(lines)
+}
+
+// These lines, or that nothing is found where there are none, and the last line.
+fn report_of(shape: Shape, mut lines: Vec<u8>, last: &[u8]) -> Result<Report, AllocError>
+    ensures { IfOk result (λ report. IsTold shape lines.items last.now report.text.items report.found) }
+{
+    let found = !lines.is_empty();
+    if !found {
+        print_str(&mut lines, shape.nothing())?;
+    }
+    lines.extend_from_slice(last)?;
+    Ok(Report { text: lines, found })
+}
+
+// What is said of these inodes.
+fn note_inodes(
+    alloc: Global,
+    manner: Manner,
+    fs: &FsName,
+    auth: &AuthList,
+    sessions: &[Session],
+    inodes: &[TreeInode],
+    paths: &Numbered<TreePath>,
+) -> Result<Notes, AllocError>
+    ensures { IfOk result (λ notes. AreSaid (SaysOfInode fs.now (clients manner auth.now sessions.now) paths.now) inodes.now notes.found.items notes.unknown.items) }
+{
+    let mut notes = Notes::none(alloc);
+    for inode in inodes {
+        note_inode(alloc, manner, &mut notes, fs, auth, sessions, paths, inode)?;
+    }
+    Ok(notes)
+}
+
+// Appends what is said of an inode.
+fn note_inode(
+    alloc: Global,
+    manner: Manner,
+    notes: &mut Notes,
+    fs: &FsName,
+    auth: &AuthList,
+    sessions: &[Session],
+    paths: &Numbered<TreePath>,
+    inode: &TreeInode,
+) -> Result<(), AllocError>
+    ensures { OnOk result (Adds (SaysOfInode fs.now (clients manner auth.now sessions.now) paths.now inode.now) notes.old notes.new) }
+{
+    let Some(path) = paths.get(inode.number()) else {
+        return print_pathless_holders(
+            &mut notes.unknown,
+            manner.shape,
+            sessions,
+            inode.number(),
+            inode.holders(),
+        );
+    };
+    let names = path.names(alloc)?;
+    let place = Inode {
+        fs,
+        path: names.as_slice(),
+        attr: inode.attr(),
+    };
+    note_holders(
+        alloc,
+        manner,
+        notes,
+        auth,
+        sessions,
+        inode.number(),
+        &place,
+        inode.holders(),
+    )
+}
+
+// Appends what is said of those who hold something of the inode of this number.
+fn note_holders(
+    alloc: Global,
+    manner: Manner,
+    notes: &mut Notes,
+    auth: &AuthList,
+    sessions: &[Session],
+    number: u64,
+    inode: &Inode,
+    holders: &[Holder],
+) -> Result<(), AllocError>
+    ensures { OnOk result (Adds (AreSaid (SaysOf (clients manner auth.now sessions.now) number inode.now) holders.now) notes.old notes.new) }
+{
+    for holder in holders {
+        note_holder(alloc, manner, notes, auth, sessions, number, inode, holder)?;
+    }
+    Ok(())
+}

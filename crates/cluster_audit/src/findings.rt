@@ -1,0 +1,118 @@
+//! What a client holds and nobody behind its key is permitted.
+
+ghost use Rattle.std.specs.Prelude.{◌≡◌, false, length, filter_map, IsTrue, IfSome, MatchOption};
+ghost use Rattle.locktable.specs.Targets.{has_any};
+ghost use Rattle.capbits.specs.declared.caller.Caller.{Caller};
+ghost use Rattle.capbits.specs.declared.cap.Cap.{Cap};
+ghost use Rattle.capbits.specs.Caps.{has};
+ghost use Rattle.capgrant.specs.Verdict.{granted};
+ghost use Rattle.cluster_audit.specs.Callers.{IsPermittedToSome, asked};
+ghost use Rattle.cluster_audit.specs.Findings.{IsBeyond, least_access, reason, reasons};
+
+use crate::callers::permitted_to_some;
+use crate::inode::Inode;
+use arrayvec::ArrayVec;
+use capbits::{Cap, CapSet};
+use capgrant::{Access, Rules};
+use capspec::Grants;
+use policy_analysis::Standing;
+
+/// What a client holds of an inode and no caller of it is permitted.
+pub struct Finding {
+    /// The caps, at least one.
+    pub caps: CapSet,
+    /// The least access that would permit some of them, to read or to write, which no grant allows to anybody. None for `Fa`
+    /// alone, which no access permits.
+    pub missing: Option<Access>,
+    /// For each grant, in order, the first rule by which it denies that access to its own user, or to user 1 where it names
+    /// none, in all of the groups that it lists. None where no access is missing.
+    pub rules: Rules,
+}
+
+// Not derived: so the proof of a function that drops one has a single call there.
+impl Drop for Finding {
+    fn drop(self) {
+        let Finding {
+            caps: _,
+            missing: _,
+            rules: _,
+        } = self;
+    }
+}
+
+/// What of the caps that a client with these grants holds of the inode none of its callers is permitted, or None where
+/// each is permitted to some caller. Needs no memory.
+pub fn beyond(held: CapSet, grants: &Grants, inode: &Inode) -> Option<Finding>
+    ensures { MatchOption result ((cap : Cap) → IsTrue (has held cap) → IsPermittedToSome inode.now grants.now cap) (IsBeyond held grants.now inode.now) }
+{
+    let caps = held.minus(permitted_to_some(grants, inode));
+    if caps.is_empty() {
+        return None;
+    }
+    let missing = least_access(caps);
+    Some(Finding {
+        caps,
+        missing,
+        rules: inode.reasons(grants, missing),
+    })
+}
+
+// The access that some of these caps need, to read before to write.
+fn least_access(caps: CapSet) -> Option<Access>
+    ensures { result ≡ least_access caps }
+{
+    if has_any(caps, &READERS) {
+        Some(Access::Read)
+    } else if has_any(caps, &WRITERS) {
+        Some(Access::Write)
+    } else {
+        None
+    }
+}
+
+/// What leave to read permits; the pin, which leave to write permits too, is missing only where both are.
+pub(crate) const READERS: [Cap; 8] = [
+    Cap::P,
+    Cap::As,
+    Cap::Ls,
+    Cap::Xs,
+    Cap::Fs,
+    Cap::Fc,
+    Cap::Fr,
+    Cap::Fl,
+];
+
+/// What leave to write permits, beside the pin.
+pub(crate) const WRITERS: [Cap; 6] = [Cap::Ax, Cap::Lx, Cap::Xx, Cap::Fx, Cap::Fw, Cap::Fb];
+
+fn has_any(caps: CapSet, of: &[Cap]) -> bool
+    ensures { result ≡ has_any caps of.now }
+{
+    of.iter().any(|cap| caps.has(*cap))
+}
+
+impl Inode<'_> {
+    // Why each grant denies the access that is missing.
+    fn reasons(&self, grants: &Grants, missing: Option<Access>) -> Rules
+        requires { IfSome missing (λ access. (caller : Caller) → granted (asked self.now caller access) grants.now ≡ false) }
+        ensures exact { result ≡ reasons self.now grants.now missing }
+        ensures one_each { IfSome missing (λ access. length result ≡ length grants.now) }
+    {
+        match missing {
+            Some(access) => self.each_reason(grants, access),
+            None => Rules::from(ArrayVec::new()),
+        }
+    }
+
+    // Why each grant denies an access that nobody is allowed.
+    fn each_reason(&self, grants: &Grants, access: Access) -> Rules
+        requires { (caller : Caller) → granted (asked self.now caller access) grants.now ≡ false }
+        ensures exact { result ≡ filter_map (reason self.now access) grants.now }
+        ensures one_each { length result ≡ length grants.now }
+    {
+        match self.standing(grants, access) {
+            Standing::Denied { rules } => rules,
+            _ => unreachable!(),
+        }
+    }
+}

@@ -1,0 +1,32 @@
+//! The audit of a running cluster: which caps a client holds that nobody behind its key is permitted, and which clients hold
+//! together what the table of the locks keeps apart. The tree that a metadata server has in memory is laid beside the sessions and
+//! the auth list of its cluster.
+//!
+//! Public source: "Capabilities in CephFS" and "CephFS client capabilities" in the Ceph documentation.
+#![tactic(auto)]
+
+mod auditing;
+mod callers;
+mod clients;
+mod conflict_laws;
+mod conflicts;
+mod fault;
+mod findings;
+mod holders;
+mod inode;
+mod laws;
+mod lines;
+mod notes;
+mod objects;
+mod order;
+mod pairs;
+mod summary;
+mod unjudged;
+
+pub use auditing::audit;
+pub use clients::ClusterClients;
+pub use conflicts::{Conflict, Holding, conflicts};
+pub use fault::HeldFault;
+pub use findings::{Finding, beyond};
+pub use inode::Inode;
+pub use notes::{Detail, Manner};

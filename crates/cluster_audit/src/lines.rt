@@ -1,0 +1,143 @@
+//! The lines of an audit.
+ghost use Rattle.std.specs.Prelude.{◌≡◌, ◌++◌, OnOk, map};
+ghost use Rattle.capexplain.specs.Explaining.{path_text};
+ghost use Rattle.capexplain.specs.Quoting.{quoted};
+ghost use Rattle.cluster_audit.specs.Lines.{beyond_text, group_line, held_line, pathless_line, place_text, revoked_text, strange_line, who_text, why_text};
+
+use crate::findings::Finding;
+use capbits::{CapSet, print_caps, print_numbered, print_str};
+use capexplain::{print_failures, print_path, print_quoted};
+use std::alloc::AllocError;
+
+// Appends the line for a client that holds of an inode what nobody behind its key is permitted.
+pub(crate) fn print_held(
+    text: &mut Vec<u8>,
+    path: &[&[u8]],
+    client: &[u8],
+    session: u64,
+    issued: CapSet,
+    pending: CapSet,
+    found: &Finding,
+) -> Result<(), AllocError>
+    ensures { OnOk result (text.new.items ≡ text.old.items ++ held_line (map (λ name. name.now) path.now) client.now session issued pending found.now) }
+{
+    print_place(text, path, client, session)?;
+    print_beyond(text, issued, pending, found)?;
+    print_str(text, "\n")
+}
+
+// Appends why a client holds what nobody behind its key is permitted, and which client, by which such lines are counted.
+pub(crate) fn print_group(
+    text: &mut Vec<u8>,
+    client: &[u8],
+    found: &Finding,
+) -> Result<(), AllocError>
+    ensures { OnOk result (text.new.items ≡ text.old.items ++ group_line client.now found.now) }
+{
+    print_why(text, found)?;
+    print_str(text, " ")?;
+    print_quoted(text, client)?;
+    print_str(text, "\n")
+}
+
+// Appends where something is held and by whom.
+fn print_place(
+    text: &mut Vec<u8>,
+    path: &[&[u8]],
+    client: &[u8],
+    session: u64,
+) -> Result<(), AllocError>
+    ensures { OnOk result (text.new.items ≡ text.old.items ++ place_text (map (λ name. name.now) path.now) client.now session) }
+{
+    print_at(text, path)?;
+    print_str(text, " ")?;
+    print_who(text, client, session)
+}
+
+// Appends a path, in quotes where it has to be.
+pub(crate) fn print_at(text: &mut Vec<u8>, path: &[&[u8]]) -> Result<(), AllocError>
+    ensures { OnOk result (text.new.items ≡ text.old.items ++ quoted (path_text (map (λ name. name.now) path.now))) }
+{
+    let mut names = Vec::new(*text.allocator());
+    print_path(&mut names, path)?;
+    print_quoted(text, names.as_slice())
+}
+
+// Appends a client and the number of its session.
+pub(crate) fn print_who(text: &mut Vec<u8>, client: &[u8], session: u64) -> Result<(), AllocError>
+    ensures { OnOk result (text.new.items ≡ text.old.items ++ who_text client.now session) }
+{
+    print_quoted(text, client)?;
+    print_numbered(text, " session ", session)
+}
+
+// Appends what is held, what of it nobody is permitted, and why.
+fn print_beyond(
+    text: &mut Vec<u8>,
+    issued: CapSet,
+    pending: CapSet,
+    found: &Finding,
+) -> Result<(), AllocError>
+    ensures { OnOk result (text.new.items ≡ text.old.items ++ beyond_text issued pending found.now) }
+{
+    print_str(text, " holds ")?;
+    print_caps(text, issued)?;
+    print_str(text, ", may not ")?;
+    print_caps(text, found.caps)?;
+    print_revoked(text, found.caps.minus(pending))?;
+    print_str(text, ": ")?;
+    print_why(text, found)
+}
+
+// Appends which of these are being revoked already.
+fn print_revoked(text: &mut Vec<u8>, revoked: CapSet) -> Result<(), AllocError>
+    ensures { OnOk result (text.new.items ≡ text.old.items ++ revoked_text revoked) }
+{
+    if revoked.is_empty() {
+        return Ok(());
+    }
+    print_str(text, " (being revoked: ")?;
+    print_caps(text, revoked)?;
+    print_str(text, ")")
+}
+
+// Appends by which rules the grants deny the access that is missing.
+fn print_why(text: &mut Vec<u8>, found: &Finding) -> Result<(), AllocError>
+    ensures { OnOk result (text.new.items ≡ text.old.items ++ why_text found.now.missing found.now.rules) }
+{
+    match found.missing {
+        None => print_str(text, "no access permits it"),
+        Some(_) => print_failures(text, found.rules.as_slice()),
+    }
+}
+
+// Appends that what a client holds is spelled otherwise than caps are.
+pub(crate) fn print_strange_line(
+    text: &mut Vec<u8>,
+    path: &[&[u8]],
+    client: &[u8],
+    session: u64,
+) -> Result<(), AllocError>
+    ensures { OnOk result (text.new.items ≡ text.old.items ++ strange_line (map (λ name. name.now) path.now) client.now session) }
+{
+    print_place(text, path, client, session)?;
+    print_str(text, " holds what is not known\n")
+}
+
+// Appends that a client holds something of an inode to which no path leads.
+pub(crate) fn print_pathless_line(
+    text: &mut Vec<u8>,
+    number: u64,
+    client: &[u8],
+    session: u64,
+    issued: &[u8],
+) -> Result<(), AllocError>
+    ensures { OnOk result (text.new.items ≡ text.old.items ++ pathless_line number client.now session issued.now) }
+{
+    print_numbered(text, "inode ", number)?;
+    print_str(text, ": no path: ")?;
+    print_who(text, client, session)?;
+    print_str(text, " holds ")?;
+    print_quoted(text, issued)?;
+    print_str(text, "\n")
+}

@@ -1,0 +1,159 @@
+//! What an audit finds, as objects of JSON.
+ghost use Rattle.std.specs.Prelude.{◌≡◌, ◌++◌, OnOk, map, option_map};
+ghost use Rattle.capbits.specs.Sets.{minus};
+ghost use Rattle.capexplain.specs.Pieces.{piece_value};
+ghost use Rattle.capexplain.specs.Values.{bytes_value, or_null};
+ghost use Rattle.cluster_audit.specs.Objects.{access_value, caps_or_null, conflict_object, found_object, group_object, path_value, session_value, why_value};
+
+use crate::conflicts::Conflict;
+use crate::findings::Finding;
+use crate::notes::Detail;
+use capbits::{CapSet, print_numbered, print_str};
+use capexplain::{Piece, print_pieces};
+use capgrant::Access;
+use std::alloc::AllocError;
+
+// How many members of what is found those of one client and one reason have in common, and how many those of two clients in conflict
+// by the same caps.
+const SHARED_BY_FINDINGS: usize = 3;
+
+const SHARED_BY_CONFLICTS: usize = 7;
+
+// Appends the object for a client that holds of an inode what nobody behind its key is permitted, or what such objects have in common.
+pub(crate) fn print_found<'x>(
+    text: &mut Vec<u8>,
+    detail: Detail,
+    number: u64,
+    path: &'x [&'x [u8]],
+    client: &'x [u8],
+    session: u64,
+    issued: CapSet,
+    pending: CapSet,
+    found: &'x Finding,
+) -> Result<(), AllocError>
+    ensures { OnOk result (text.new.items ≡ text.old.items ++ found_object detail number (map (λ name. name.now) path.now) client.now session issued pending found.now) }
+{
+    let table = [
+        ("kind", Piece::Word("held-beyond")),
+        ("client", Piece::Bytes(client)),
+        ("rules", why(found)),
+        ("missing", access_if(found.missing)),
+        ("inode", Piece::Number(number)),
+        ("path", Piece::Path(path)),
+        ("session", Piece::Number(session)),
+        ("holds", Piece::Caps(issued)),
+        ("may_not", Piece::Caps(found.caps)),
+        ("being_revoked", revoked_if(found.caps, pending)),
+    ];
+    match detail {
+        Detail::Each => print_pieces(text, &table),
+        Detail::Groups => print_pieces(text, &table[..SHARED_BY_FINDINGS]),
+    }
+}
+
+// Appends the object for two sessions, each with the name that it may tell, in conflict on the inode of this number, to which this path
+// may lead; or what such objects have in common.
+pub(crate) fn print_rivals<'x>(
+    text: &mut Vec<u8>,
+    detail: Detail,
+    number: u64,
+    path: Option<&'x [&'x [u8]]>,
+    one: Option<&'x [u8]>,
+    other: Option<&'x [u8]>,
+    conflict: &Conflict,
+) -> Result<(), AllocError>
+    ensures { OnOk result (text.new.items ≡ text.old.items ++ conflict_object detail number (option_map (λ names. map (λ name. name.now) names.now) path.entry)
+        (option_map (λ name. name.now) one.entry) (option_map (λ name. name.now) other.entry) conflict.now) }
+{
+    let table = [
+        ("kind", Piece::Word("conflict")),
+        ("client", bytes_if(one)),
+        ("session", session_of(detail, conflict.one.client, one)),
+        ("caps", Piece::Caps(conflict.one.caps)),
+        ("other_client", bytes_if(other)),
+        (
+            "other_session",
+            session_of(detail, conflict.other.client, other),
+        ),
+        ("other_caps", Piece::Caps(conflict.other.caps)),
+        ("inode", Piece::Number(number)),
+        ("path", path_if(path)),
+    ];
+    match detail {
+        Detail::Each => print_pieces(text, &table),
+        Detail::Groups => print_pieces(text, &table[..SHARED_BY_CONFLICTS]),
+    }
+}
+
+// Appends the object for so many of which this is the text of what they have in common.
+pub(crate) fn print_group_object(
+    text: &mut Vec<u8>,
+    count: u64,
+    each: &[u8],
+) -> Result<(), AllocError>
+    ensures { OnOk result (text.new.items ≡ text.old.items ++ group_object count each.now) }
+{
+    print_numbered(text, "{\"count\":", count)?;
+    print_str(text, ",\"each\":")?;
+    text.extend_from_slice(each)?;
+    print_str(text, ",\"kind\":\"group\"}\n")
+}
+
+// By which rules the grants deny the access that is missing. Null where no access permits it.
+fn why(found: &Finding) -> Piece<'_>
+    ensures { piece_value result ≡ why_value found.now.missing found.now.rules }
+{
+    match found.missing {
+        None => Piece::Null,
+        Some(_) => Piece::Rules(found.rules.as_slice()),
+    }
+}
+
+fn access_if(access: Option<Access>) -> Piece<'static>
+    ensures { piece_value result ≡ or_null access_value access }
+{
+    match access {
+        None => Piece::Null,
+        Some(access) => Piece::Access(access),
+    }
+}
+
+// Which of these are being revoked already.
+fn revoked_if(caps: CapSet, pending: CapSet) -> Piece<'static>
+    ensures { piece_value result ≡ caps_or_null (minus caps pending) }
+{
+    let revoked = caps.minus(pending);
+    if revoked.is_empty() {
+        Piece::Null
+    } else {
+        Piece::Caps(revoked)
+    }
+}
+
+fn bytes_if(bytes: Option<&[u8]>) -> Piece<'_>
+    ensures { piece_value result ≡ or_null bytes_value (option_map (λ bytes. bytes.now) bytes.entry) }
+{
+    match bytes {
+        None => Piece::Null,
+        Some(bytes) => Piece::Bytes(bytes),
+    }
+}
+
+fn path_if<'a>(path: Option<&'a [&'a [u8]]>) -> Piece<'a>
+    ensures { piece_value result ≡ or_null path_value (option_map (λ names. map (λ name. name.now) names.now) path.entry) }
+{
+    match path {
+        None => Piece::Null,
+        Some(path) => Piece::Path(path),
+    }
+}
+
+// The number of a session, which stands in a group for a client that tells no name, alone.
+fn session_of(detail: Detail, number: u64, name: Option<&[u8]>) -> Piece<'static>
+    ensures { piece_value result ≡ session_value detail number (option_map (λ name. name.now) name.entry) }
+{
+    match (detail, name) {
+        (Detail::Groups, Some(_)) => Piece::Null,
+        _ => Piece::Number(number),
+    }
+}

@@ -1,0 +1,184 @@
+//! Which sessions hold of one inode what the table of the locks keeps apart.
+ghost use Rattle.std.specs.Prelude.{◌≡◌, ◌++◌, IfOk, OnOk, map, option_map};
+ghost use Rattle.std.specs.List.{flat_map};
+ghost use Rattle.cluster_audit.specs.Audited.{AddsTo, Give, Holds, SaysOfPairs, conflict_at};
+ghost use Rattle.cluster_audit.specs.Lines.{beside_text, conflict_line, holder_text, on_inode};
+
+use crate::conflicts::{Conflict, Holding, conflicts};
+use crate::holders::name_of;
+use crate::lines::{print_at, print_who};
+use crate::notes::{Detail, Manner};
+use crate::objects::print_rivals;
+use capbits::{print_caps, print_numbered, print_str, read_caps};
+use capexplain::{Shape, print_quoted};
+use capspec::TreePath;
+use ceph_input::{Holder, Session, TreeInode};
+use dense_map::Numbered;
+use std::alloc::{AllocError, Global};
+
+// A line for each pair of sessions that hold of one of these inodes what no two may hold together.
+pub(crate) fn conflict_lines(
+    alloc: Global,
+    manner: Manner,
+    sessions: &[Session],
+    inodes: &[TreeInode],
+    paths: &Numbered<TreePath>,
+) -> Result<Vec<u8>, AllocError>
+    ensures { IfOk result (λ text. Give (SaysOfPairs manner sessions.now paths.now) inodes.now text.items) }
+{
+    let mut text = Vec::new(alloc);
+    for inode in inodes {
+        print_pairs(alloc, manner, &mut text, sessions, paths, inode)?;
+    }
+    Ok(text)
+}
+
+// Appends the lines for those of one inode.
+fn print_pairs(
+    alloc: Global,
+    manner: Manner,
+    text: &mut Vec<u8>,
+    sessions: &[Session],
+    paths: &Numbered<TreePath>,
+    inode: &TreeInode,
+) -> Result<(), AllocError>
+    ensures { OnOk result (AddsTo (SaysOfPairs manner sessions.now paths.now inode.now) text.old.items text.new.items) }
+{
+    let number = inode.number();
+    let holdings = holdings_of(alloc, inode.holders())?;
+    let found = conflicts(alloc, holdings.as_slice())?;
+    let Some(path) = paths.get(number) else {
+        return print_conflicts(manner, text, sessions, number, None, found.as_slice());
+    };
+    let names = path.names(alloc)?;
+    print_conflicts(
+        manner,
+        text,
+        sessions,
+        number,
+        Some(names.as_slice()),
+        found.as_slice(),
+    )
+}
+
+// Who holds which caps. Whose are spelled otherwise than caps are is left out.
+fn holdings_of(alloc: Global, holders: &[Holder]) -> Result<Vec<Holding>, AllocError>
+    ensures { IfOk result (λ holdings. Give Holds holders.now holdings.items) }
+{
+    let mut holdings = Vec::new(alloc);
+    for holder in holders {
+        let issued = holder.issued();
+        if let Ok(caps) = read_caps(issued) {
+            holdings.push(Holding {
+                client: holder.client(),
+                caps,
+            })?;
+        }
+    }
+    Ok(holdings)
+}
+
+// Appends the lines for conflicts on the inode of this number, to which this path may lead.
+fn print_conflicts(
+    manner: Manner,
+    text: &mut Vec<u8>,
+    sessions: &[Session],
+    number: u64,
+    path: Option<&[&[u8]]>,
+    conflicts: &[Conflict],
+) -> Result<(), AllocError>
+    ensures { OnOk result (text.new.items ≡ text.old.items
+        ++ flat_map (conflict_at manner sessions.now number (option_map (λ names. map (λ name. name.now) names.now) path.entry)) conflicts.now) }
+{
+    for conflict in conflicts {
+        print_conflict(manner, text, sessions, number, path, conflict)?;
+    }
+    Ok(())
+}
+
+// Appends the line for one of them.
+fn print_conflict(
+    manner: Manner,
+    text: &mut Vec<u8>,
+    sessions: &[Session],
+    number: u64,
+    path: Option<&[&[u8]]>,
+    conflict: &Conflict,
+) -> Result<(), AllocError>
+    ensures { OnOk result (text.new.items ≡ text.old.items
+        ++ conflict_at manner sessions.now number (option_map (λ names. map (λ name. name.now) names.now) path.entry) conflict.now) }
+{
+    let detail = manner.detail;
+    let one = name_of(sessions, conflict.one.client);
+    let other = name_of(sessions, conflict.other.client);
+    match manner.shape {
+        Shape::Lines => print_clash(text, detail, number, path, one, other, conflict),
+        Shape::Objects => print_rivals(text, detail, number, path, one, other, conflict),
+    }
+}
+
+// Appends it as a line for people.
+fn print_clash(
+    text: &mut Vec<u8>,
+    detail: Detail,
+    number: u64,
+    path: Option<&[&[u8]]>,
+    one: Option<&[u8]>,
+    other: Option<&[u8]>,
+    conflict: &Conflict,
+) -> Result<(), AllocError>
+    ensures { OnOk result (text.new.items ≡ text.old.items ++ conflict_line detail number (option_map (λ names. map (λ name. name.now) names.now) path.entry)
+        (option_map (λ name. name.now) one.entry) (option_map (λ name. name.now) other.entry) conflict.now) }
+{
+    print_on(text, detail, number, path)?;
+    print_client(text, detail, conflict.one.client, one)?;
+    print_beside(text, conflict)?;
+    print_client(text, detail, conflict.other.client, other)?;
+    print_str(text, "\n")
+}
+
+// Appends the path of the inode of this number, or the number where no path leads to it. Groups are of many inodes.
+fn print_on(
+    text: &mut Vec<u8>,
+    detail: Detail,
+    number: u64,
+    path: Option<&[&[u8]]>,
+) -> Result<(), AllocError>
+    ensures { OnOk result (text.new.items ≡ text.old.items ++ on_inode detail number (option_map (λ names. map (λ name. name.now) names.now) path.entry)) }
+{
+    if let Detail::Groups = detail {
+        return Ok(());
+    }
+    match path {
+        None => print_numbered(text, "inode ", number)?,
+        Some(path) => print_at(text, path)?,
+    }
+    print_str(text, " ")
+}
+
+// Appends what the one holds beside what the other holds.
+fn print_beside(text: &mut Vec<u8>, conflict: &Conflict) -> Result<(), AllocError>
+    ensures { OnOk result (text.new.items ≡ text.old.items ++ beside_text conflict.now) }
+{
+    print_str(text, " holds ")?;
+    print_caps(text, conflict.one.caps)?;
+    print_str(text, " beside ")?;
+    print_caps(text, conflict.other.caps)?;
+    print_str(text, " of ")
+}
+
+// Appends the number of a session, behind the name that it may tell. Among groups a name stands alone.
+fn print_client(
+    text: &mut Vec<u8>,
+    detail: Detail,
+    number: u64,
+    name: Option<&[u8]>,
+) -> Result<(), AllocError>
+    ensures { OnOk result (text.new.items ≡ text.old.items ++ holder_text detail number (option_map (λ name. name.now) name.entry)) }
+{
+    match (name, detail) {
+        (None, _) => print_numbered(text, "client ", number),
+        (Some(client), Detail::Each) => print_who(text, client, number),
+        (Some(client), Detail::Groups) => print_quoted(text, client),
+    }
+}

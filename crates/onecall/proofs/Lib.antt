@@ -1,1 +1,0 @@
-pub use Rattle.cappass.proofs as Cappass

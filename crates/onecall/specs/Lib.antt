@@ -1,1 +1,0 @@
-pub use Rattle.cappass.specs as Cappass

@@ -1,0 +1,29 @@
+-- What is not among all gids of some grants is listed by none of them.
+use Rattle.std.proofs.Common.{◌≡◌, ℕ, false, List, [], ◌∷◌, ◌++◌, sym, ap, ◌∙◌}
+use Rattle.std.specs.Prelude.{◌==◌}
+use Rattle.std.specs.List.{flat_map}
+use Rattle.std.proofs.lemmas.Bool.{or_parts}
+use Rattle.std.proofs.lemmas.List.Elements.{All-cons, All-nil}
+use Rattle.std.proofs.lemmas.List.Folds.{list_any-append}
+use Rattle.capspec.specs.declared.grant.Grant.{Grant}
+use Rattle.capgrant.specs.Question.{contains}
+use Rattle.policy_analysis.specs.Free.{NoneLists}
+
+-- all gids that they list
+abbrev pub gids_in : List Grant → List ℕ
+gids_in grants = flat_map (λ g. g.gids) grants
+
+in_neither : (n : ℕ) (xs ys : List ℕ) → contains (xs ++ ys) n ≡ false → (contains xs n ≡ false) × (contains ys n ≡ false)
+in_neither n xs ys none = or_parts (contains xs n) (contains ys n) (sym (list_any-append (λ x. x == n) xs ys) ∙ none)
+
+none_lists : (n : ℕ) (grants : List Grant) → contains (gids_in grants) n ≡ false → NoneLists n grants
+none_lists n [] none = All-nil (λ g. contains g.gids n ≡ false)
+none_lists n (g ∷ grants) none =
+    let parts = in_neither n g.gids (gids_in grants) none in
+    All-cons (λ h. contains h.gids n ≡ false) g grants parts.0 (none_lists n grants parts.1)
+
+pub first_of : (n : ℕ) (one other : List Grant) (all : List ℕ) → all ≡ gids_in one ++ gids_in other → contains all n ≡ false → NoneLists n one
+first_of n one other all is none = none_lists n one (in_neither n (gids_in one) (gids_in other) (ap (λ (xs : List ℕ). contains xs n) (sym is) ∙ none)).0
+
+pub second_of : (n : ℕ) (one other : List Grant) (all : List ℕ) → all ≡ gids_in one ++ gids_in other → contains all n ≡ false → NoneLists n other
+second_of n one other all is none = none_lists n other (in_neither n (gids_in one) (gids_in other) (ap (λ (xs : List ℕ). contains xs n) (sym is) ∙ none)).1

@@ -1,0 +1,15 @@
+pub mod Comparing
+pub mod Asking
+pub mod Free
+pub mod Searching
+pub mod CephOrder
+pub mod Linting
+pub mod Squashing
+pub mod Findings
+pub mod Ceph16Syntax
+pub mod Scanning
+pub mod Left
+pub mod Differences
+pub mod Callers
+pub mod Standing
+pub mod Otherwise

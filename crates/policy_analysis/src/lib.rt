@@ -1,0 +1,38 @@
+//! What grants say to more than one question: what one list of grants allows and another denies, with a question that shows it;
+//! what is to be looked at in a list; what some caller behind a client's key may do; and where the MDS of Ceph 16 is known to decide
+//! otherwise, or reads the grants of a text otherwise than they stand there.
+//!
+//! Public source: "CephFS Client Capabilities" in the Ceph documentation; what Ceph 16 takes of the grammar was asked of its reader.
+#![tactic(auto)]
+
+mod asking;
+mod bytes;
+mod callers;
+mod ceph;
+mod client_questions;
+mod compare;
+mod difference_laws;
+mod differences;
+mod dots;
+mod finding;
+mod free;
+mod items;
+mod key;
+mod left;
+mod otherwise;
+mod redundant;
+mod search;
+mod squash;
+mod standing;
+mod unread;
+mod unread_laws;
+mod witness;
+
+pub use client_questions::Wanted;
+pub use compare::{gained, lost};
+pub use differences::{Difference, Otherwise, answered_otherwise};
+pub use finding::{Finding, lint};
+pub use left::left_to_client;
+pub use standing::Standing;
+pub use unread::{Unread, unread_grants};
+pub use witness::Witness;

@@ -1,0 +1,62 @@
+//! The grants of a text, one after the other.
+
+ghost use Rattle.std.specs.Prelude.{◌≡◌, List, [], IfOk};
+ghost use Rattle.capspec.specs.declared.grant.Grant.{Grant};
+ghost use Rattle.capspec.specs.Bytes.{is_mark};
+ghost use Rattle.capspec.specs.Grants.{Reads};
+ghost use Rattle.capspec.specs.Separated.{AreSeparated};
+ghost use Rattle.policy_analysis.specs.Scanning.{wrong_between};
+ghost use Rattle.policy_analysis.specs.Ceph16Syntax.{AreTold, Standing, Stands, why_each};
+
+use crate::bytes::{has_spaces, skip_white};
+use crate::items::scan_grant;
+use crate::key::Key;
+use std::alloc::{AllocError, Global};
+
+/// Why Ceph 16 does not read a grant as it stands in its text: the first thing from the left.
+#[derive(Clone, Copy)]
+pub enum Unread {
+    /// White space other than spaces stands beside the separator before it.
+    WhiteSpace,
+    /// Its fsname is `*`.
+    AnyFileSystem,
+    /// An item with the first key stands behind one with the second, and Ceph 16 reads it before that.
+    Order {
+        /// What the item speaks of that stands too late.
+        first: Key,
+        /// What that speaks of behind which it stands.
+        second: Key,
+    },
+}
+
+/// Of each grant of a text, in their order, why Ceph 16 does not read it as it stands; None where that holds nothing against it.
+/// Whether Ceph 16 reads what the grant says in any text is another question.
+pub fn unread_grants(alloc: Global, text: &[u8]) -> Result<Vec<Option<Unread>>, AllocError>
+    ensures told { (grants : List Grant) → Reads text.now grants → IfOk result (λ told. AreTold text.now grants told.items) }
+    // However the text is divided into grants.
+    ensures exact { (standings : List Standing) → AreSeparated is_mark Stands text.now standings → IfOk result (λ told. told.items ≡ why_each [] standings) }
+{
+    let mut told = Vec::new(alloc);
+    let mut before = None;
+    let mut rest = text;
+    loop {
+        let (found, behind) = scan_grant(before, rest);
+        told.push(found)?;
+        let Some((_, more)) = skip_white(behind).split_first() else {
+            return Ok(told);
+        };
+        before = wrong_between(behind, more);
+        rest = more;
+    }
+}
+
+// What is wrong with the white space on both sides of a separator.
+fn wrong_between(before: &[u8], behind: &[u8]) -> Option<Unread>
+    ensures { result ≡ wrong_between before.now behind.now }
+{
+    if has_spaces(before) && has_spaces(behind) {
+        None
+    } else {
+        Some(Unread::WhiteSpace)
+    }
+}

@@ -1,9 +1,0 @@
-use Rattle.std.proofs.Common.{sym, subst}
-use Rattle.published.specs.Rows.{Legal}
-use Rattle.published.proofs.Gathering.{legal_none}
-use Rattle.published.proofs.recorder.NewRows.named.Goals as goal
-
-pub of-rows-requires-clause-legal : goal.of-rows-requires-clause-legal
-of-rows-requires-clause-legal g c =
-    let o = g.L.Server.opening in
-    subst (Legal o) (sym c.args.self.empty) (record { last = o; is_legal = legal_none o })

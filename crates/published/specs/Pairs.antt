@@ -1,7 +1,0 @@
--- Pairs as contracts see them.
-use Rattle.published.specs.declared.pair.Pair.{Pair}
-use Rattle.published.specs.declared.place.Origin.{Origin}
-
--- of which server it is
-abbrev pub origin_of : Pair → Origin
-origin_of pair = pair.writer.desk.shown.value.origin

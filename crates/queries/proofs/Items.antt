@@ -1,0 +1,255 @@
+-- What is told of a log is one thing after the other, and its text tells which.
+use Rattle.std.proofs.Common.{◌≡◌, ◌⊎◌, inl, inr, ℕ, ◌+◌, ◌<◌, ◌≤◌, ◌^◌, ◌%◌, true, Option, Some, None, List, [], ◌∷◌, ◌++◌, drop, length, refl, sym, ap, ◌∙◌}
+use Rattle.std.proofs.Common.{append_assoc, arith}
+use Rattle.std.specs.Prelude.{codes, All, IfSome, bytes_eq, ◌==◌, if◌then◌else◌}
+use Rattle.std.specs.Fmt.{decimal}
+use Rattle.std.specs.List.{AllZip, flat_map, list_all}
+use Rattle.std.proofs.lemmas.Fmt.{decimal_by_steps}
+use Rattle.std.proofs.lemmas.List.{append-nil, append_cancel_left}
+use Rattle.std.proofs.lemmas.List.Concat.{flat_map-append}
+use Rattle.std.proofs.lemmas.List.Elements.{All-append, All-cons, All-head, All-nil, All-tail}
+use Rattle.capspec.specs.declared.fault.SpecFault.{SpecFault}
+use Rattle.capgrant.specs.declared.access.Access.{Access}
+use Rattle.capgrant.specs.declared.answer.Verdict.{Verdict}
+use Rattle.capgrant.specs.declared.answer.Verdict.TheVariants.{Allowed, Denied}
+use Rattle.capgrant.specs.Question.{Question as Asked}
+use Rattle.policy_analysis.specs.declared.differences.Otherwise.{Otherwise}
+use Rattle.policy_analysis.specs.Left.{left_to_client}
+use Rattle.policy_analysis.specs.Differences.{answered_otherwise}
+use Rattle.capexplain.specs.Lines.{HasNumber}
+use Rattle.capexplain.specs.Quoting.{is_plain, quoted}
+use Rattle.capexplain.specs.Remarks.{remarked_text}
+use Rattle.capexplain.specs.Standing.{fault_word}
+use Rattle.capexplain.proofs.Answered.{number_and, number_to, plain_number}
+use Rattle.capexplain.proofs.Asked.{is_remarked}
+use Rattle.capexplain.proofs.Clients.{has_word, kind_of}
+use Rattle.capexplain.proofs.Quoted.{bare, bare_to, before_a_line_feed, first_byte}
+use Rattle.capexplain.proofs.Remarked.{IsOther, one_remark_to}
+use Rattle.queries.specs.declared.fault.QuestionFault.{QuestionFault}
+use Rattle.queries.specs.declared.fault.QuestionFault.TheVariants.{Grants as BadGrants}
+use Rattle.queries.specs.declared.fault.QuestionFault.TheVariants.{BadValue, NoMemory}
+use Rattle.queries.specs.declared.options.Opt.{Opt}
+use Rattle.queries.specs.declared.options.Opt.TheVariants.{Fs, Gid, Grants, Group, Groups, Mode, Owner, Path, Uid}
+use Rattle.queries.specs.declared.options.Opt.TheVariants.{Access as AccessWord}
+use Rattle.queries.specs.declared.question.Question.{Question}
+use Rattle.queries.specs.declared.question.Values.{Values}
+use Rattle.queries.specs.Options.{option_name}
+use Rattle.queries.specs.Question.{AsksFor, IsFaultIn, verdict_on}
+use Rattle.queries.specs.Remarks.{asked_of, full_text}
+use Rattle.script_syntax.specs.Lines.{lines, longest_script}
+use Rattle.queries.specs.Checks.{CheckTexts, check_of, check_text}
+use Rattle.queries.specs.Items.{HasLines, IsTellable, SameOfLine, SameTold, Told, lines_of, told_in, told_lines}
+use Rattle.queries.specs.Items.Told.{answered, bad, formless, refused, unknown}
+use Rattle.queries.specs.Masks.{accesses_of}
+use Rattle.queries.specs.Told.{AreTold, AreValues, IsAnswered, IsFaulty, IsToldOf, Says, SaysFault, SaysIf, SaysOf, answer_lines, passed_in, passed_line}
+use Rattle.queries.specs.Told.{with_access}
+use Rattle.queries.proofs.Fitting.{AreShort, HasFew, all_asked, few_lines, few_passed_in, fits, more_than, near_fault, short_check, short_grants, short_lines}
+
+-- ---- how the lines begin
+
+-- behind the number
+abbrev said : Told → List ℕ
+said (answered q) = full_text q
+said formless = codes "a check that is not as Ceph 16 writes it\n"
+said (unknown mask) = codes "unknown mask " ++ (quoted mask ++ codes "\n")
+said (refused fault) = codes "grants: " ++ (fault_word fault.kind ++ (codes " at " ++ (decimal fault.at ++ codes "\n")))
+said (bad option) = codes "bad value of --" ++ (option_name option ++ codes "\n")
+
+abbrev behind_number : ℕ → List ℕ → List ℕ
+behind_number number more = decimal number ++ 58 ∷ 32 ∷ more
+
+bare_number : (number : ℕ) → number < 2 ^ 64 → quoted (decimal number) ≡ decimal number
+bare_number number small = let plain = plain_number number small in rw plain refl
+
+laid_out : (number : ℕ) (told : Told) (s : List ℕ) → number < 2 ^ 64 → lines_of number told ++ s ≡ behind_number number (said told ++ s)
+laid_out number (answered q) s small = append_assoc (decimal number) (codes ": " ++ full_text q) s
+laid_out number formless s small = append_assoc (decimal number) (codes ": " ++ said formless) s
+laid_out number (unknown mask) s small = append_assoc (decimal number) (codes ": " ++ said (unknown mask)) s
+laid_out number (refused fault) s small =
+    ap (λ (digits : List ℕ). (digits ++ (codes ": " ++ said (refused fault))) ++ s) (bare_number number small) ∙ append_assoc (decimal number) (codes ": " ++ said (refused fault)) s
+laid_out number (bad option) s small = append_assoc (decimal number) (codes ": " ++ said (bad option)) s
+
+low_number : (number : ℕ) → number < 2 ^ 64 → (s : List ℕ) → first_byte (decimal number ++ s) < 58
+low_number =
+    decimal_by_steps (λ n ds. (s : List ℕ) → first_byte (ds ++ s) < 58)
+    (λ n below s. omega arith)
+    (λ n ds large all s. let is : (ds ++ (48 + n % 10) ∷ []) ++ s ≡ ds ++ ((48 + n % 10) ∷ s) = append_assoc ds ((48 + n % 10) ∷ []) s in omega (arith, ap first_byte is, all ((48 + n % 10) ∷ s)))
+
+-- nothing that is told, and no count at the end, begins as what is said beside an answer
+others : (xs : List (ℕ × Told)) (passed : ℕ) → All HasLines xs → IsOther (told_in xs passed)
+others [] passed told = omega arith
+others (x ∷ xs) passed told =
+    let here = All-head HasLines x xs told in
+    let is : told_in (x ∷ xs) passed ≡ behind_number x.0 (said x.1 ++ told_in xs passed) = append_assoc (told_lines x) (flat_map told_lines xs) (passed_line passed) ∙ laid_out x.0 x.1 (told_in xs passed) here.0 in
+    omega (arith, ap first_byte is, low_number x.0 here.0 (58 ∷ 32 ∷ (said x.1 ++ told_in xs passed)))
+
+-- ---- the kinds of things
+
+abbrev tag : Told → ℕ
+tag (answered q) = 0
+tag formless = 1
+tag (unknown mask) = 2
+tag (refused fault) = 3
+tag (bad option) = 4
+
+abbrev tag_at : List ℕ → ℕ
+tag_at text =
+    let byte : ℕ = first_byte text in
+    if byte == 117 then 2 else (if byte == 103 then 3 else (if byte == 98 then 4 else (if first_byte (drop 1 text) == 32 then 1 else 0)))
+
+of_answer : (q : Asked) (v : Verdict) (left : Option ℕ) (other : Option Otherwise) (s : List ℕ) → tag_at (remarked_text q v left other ++ s) ≡ 0
+of_answer q (Allowed grant) left other s = refl
+of_answer q (Denied rules) left other s = refl
+
+has_tag : (told : Told) (s : List ℕ) → tag_at (said told ++ s) ≡ tag told
+has_tag (answered q) s = of_answer (asked_of q) (verdict_on q) (left_to_client (asked_of q) q.grants) (answered_otherwise (asked_of q) q.grants) s
+has_tag formless s = refl
+has_tag (unknown mask) s = refl
+has_tag (refused fault) s = refl
+has_tag (bad option) s = refl
+
+-- ---- options
+
+abbrev option_of : List ℕ → Opt
+option_of word =
+    if bytes_eq word (codes "grants") then Grants else (if bytes_eq word (codes "fs") then Fs else (if bytes_eq word (codes "uid") then Uid
+    else (if bytes_eq word (codes "gid") then Gid else (if bytes_eq word (codes "groups") then Groups else (if bytes_eq word (codes "path") then Path
+    else (if bytes_eq word (codes "owner") then Owner else (if bytes_eq word (codes "group") then Group else (if bytes_eq word (codes "mode") then Mode else AccessWord))))))))
+
+has_name : (option : Opt) → (option_of (option_name option) ≡ option) × (list_all is_plain (option_name option) ≡ true)
+has_name Grants = (refl, refl)
+has_name Fs = (refl, refl)
+has_name Uid = (refl, refl)
+has_name Gid = (refl, refl)
+has_name Groups = (refl, refl)
+has_name Path = (refl, refl)
+has_name Owner = (refl, refl)
+has_name Group = (refl, refl)
+has_name Mode = (refl, refl)
+has_name AccessWord = (refl, refl)
+
+-- ---- one thing for its lines
+
+one_fault : (f g : SpecFault) (s t : List ℕ) → f.at < 2 ^ 64 → g.at < 2 ^ 64 → said (refused f) ++ s ≡ said (refused g) ++ t → (f ≡ g) × (s ≡ t)
+one_fault f g s t small also same =
+    let words = bare (fault_word f.kind) (fault_word g.kind) (codes "at " ++ (decimal f.at ++ 10 ∷ s)) (codes "at " ++ (decimal g.at ++ 10 ∷ t)) (has_word f.kind).1 (has_word g.kind).1
+    (append_cancel_left (codes "grants: ") _ _ (sym (placed f s) ∙ same ∙ placed g t)) in
+    let kind : f.kind ≡ g.kind = sym (has_word f.kind).0 ∙ ap kind_of words.0 ∙ (has_word g.kind).0 in
+    let number = number_to 10 f.at g.at s t refl small also (append_cancel_left (codes "at ") _ _ words.1) in
+    let place : f.at ≡ g.at = number.0 in
+    (λ i. record { kind = kind i; at = place i }, number.1)
+  where
+    placed : (f : SpecFault) (s : List ℕ) → said (refused f) ++ s ≡ codes "grants: " ++ (fault_word f.kind ++ 32 ∷ (codes "at " ++ (decimal f.at ++ 10 ∷ s)))
+    placed f s =
+        ap (λ (r : List ℕ). codes "grants: " ++ r)
+        (append_assoc (fault_word f.kind) (codes " at " ++ (decimal f.at ++ codes "\n")) s ∙ ap (λ (r : List ℕ). fault_word f.kind ++ (codes " at " ++ r)) (append_assoc (decimal f.at) (codes "\n") s))
+
+one_option : (o p : Opt) (s t : List ℕ) → said (bad o) ++ s ≡ said (bad p) ++ t → (o ≡ p) × (s ≡ t)
+one_option o p s t same =
+    let both = bare_to 10 (option_name o) (option_name p) s t refl (has_name o).1 (has_name p).1
+    (sym (append_assoc (option_name o) (codes "\n") s) ∙ append_cancel_left (codes "bad value of --") _ _ same ∙ append_assoc (option_name p) (codes "\n") t) in
+    (sym (has_name o).0 ∙ ap option_of both.0 ∙ (has_name p).0, both.1)
+
+one_said : (x y : Told) (s t : List ℕ) → IsTellable x → IsTellable y → IsOther s → IsOther t → said x ++ s ≡ said y ++ t → SameTold x y × (s ≡ t)
+one_said (answered q) (answered r) s t p o low too same =
+    one_remark_to (asked_of q) (asked_of r) (verdict_on q) (verdict_on r) (left_to_client (asked_of q) q.grants) (left_to_client (asked_of r) r.grants) (answered_otherwise (asked_of q) q.grants) (answered_otherwise (asked_of r) r.grants) s t
+    (is_remarked (asked_of q) q.grants p) (is_remarked (asked_of r) r.grants o) low too same
+one_said formless formless s t p o low too same = (tt, append_cancel_left (said formless) s t same)
+one_said (unknown mask) (unknown other) s t p o low too same =
+    before_a_line_feed mask other s t (sym (append_assoc (quoted mask) (codes "\n") s) ∙ append_cancel_left (codes "unknown mask ") _ _ same ∙ append_assoc (quoted other) (codes "\n") t)
+one_said (refused fault) (refused other) s t p o low too same = one_fault fault other s t p o same
+one_said (bad option) (bad other) s t p o low too same = one_option option other s t same
+one_said x y s t p o low too same = absurd (let e : tag x ≡ tag y = sym (has_tag x s) ∙ ap tag_at same ∙ has_tag y t in omega (arith, e))
+
+one_thing : (x y : ℕ × Told) (s t : List ℕ) → HasLines x → HasLines y → IsOther s → IsOther t → told_lines x ++ s ≡ told_lines y ++ t → SameOfLine x y × (s ≡ t)
+one_thing x y s t p o low too same =
+    let number = number_and 58 32 x.0 y.0 (said x.1 ++ s) (said y.1 ++ t) refl refl p.0 o.0 (sym (laid_out x.0 x.1 s p.0) ∙ same ∙ laid_out y.0 y.1 t o.0) in
+    let told = one_said x.1 y.1 s t p.1 o.1 low too number.1 in
+    ((number.0, told.0), told.1)
+
+-- ---- whole logs
+
+one_count : (m n : ℕ) → m < 2 ^ 64 → n < 2 ^ 64 → passed_line m ≡ passed_line n → m ≡ n
+one_count m n small also same = (number_to 10 m n [] [] refl small also (append_cancel_left (codes "lines that are no check of policy: ") (decimal m ++ codes "\n") (decimal n ++ codes "\n") same)).0
+
+-- the count begins as no number does
+no_thing : {A : Type 0} (y : ℕ × Told) (m : ℕ) (rest : List ℕ) → HasLines y → passed_line m ≡ told_lines y ++ rest → A
+no_thing y m rest told same =
+    absurd (omega (arith, ap first_byte (same ∙ laid_out y.0 y.1 rest told.0), low_number y.0 told.0 (58 ∷ 32 ∷ (said y.1 ++ rest))))
+
+pub one_log : (xs ys : List (ℕ × Told)) (m n : ℕ) → All HasLines xs → All HasLines ys → m < 2 ^ 64 → n < 2 ^ 64 → told_in xs m ≡ told_in ys n → AllZip SameOfLine xs ys × (m ≡ n)
+one_log [] [] m n p o small also same = (tt, one_count m n small also same)
+one_log [] (y ∷ ys) m n p o small also same = no_thing y m (told_in ys n) (All-head HasLines y ys o) (same ∙ append_assoc (told_lines y) (flat_map told_lines ys) (passed_line n))
+one_log (x ∷ xs) [] m n p o small also same = no_thing x n (told_in xs m) (All-head HasLines x xs p) (sym same ∙ append_assoc (told_lines x) (flat_map told_lines xs) (passed_line m))
+one_log (x ∷ xs) (y ∷ ys) m n p o small also same =
+    let first = All-tail HasLines x xs p in
+    let other = All-tail HasLines y ys o in
+    let both = one_thing x y (told_in xs m) (told_in ys n) (All-head HasLines x xs p) (All-head HasLines y ys o) (others xs m first) (others ys n other)
+    (sym (append_assoc (told_lines x) (flat_map told_lines xs) (passed_line m)) ∙ same ∙ append_assoc (told_lines y) (flat_map told_lines ys) (passed_line n)) in
+    let more = one_log xs ys m n first other small also both.1 in
+    ((both.0, more.0), more.1)
+
+-- ---- what is told of a log
+
+abbrev AreLines : List ℕ → Type 0
+AreLines text = (xs : List (ℕ × Told)) × All HasLines xs × (text ≡ flat_map told_lines xs)
+
+module _ (number : ℕ) (small : number < 2 ^ 64) where
+  none : (text : List ℕ) → text ≡ [] → AreLines text
+  none text is = ([], All-nil HasLines, is)
+
+  one : (told : Told) (text : List ℕ) → IsTellable told → text ≡ lines_of number told → AreLines text
+  one told text fits is = ((number, told) ∷ [], All-cons HasLines (number, told) [] (small, fits) (All-nil HasLines), is ∙ sym (append-nil (lines_of number told)))
+
+  of_accesses : (v : Values) (q : Question) → AsksFor v q → (accesses : List Access) → All HasNumber accesses → AreLines (flat_map (answer_lines number q) accesses)
+  of_accesses v q asks [] numbers = none [] refl
+  of_accesses v q asks (access ∷ accesses) numbers =
+      let told : Told = answered (with_access q access) in
+      let more = of_accesses v q asks accesses (All-tail HasNumber access accesses numbers) in (
+        (number, told) ∷ more.0,
+        All-cons HasLines (number, told) more.0 (small, fits v q access asks (All-head HasNumber access accesses numbers)) more.1,
+        ap (λ (r : List ℕ). answer_lines number q access ++ r) more.2,
+      )
+
+  of_fault : (check : CheckTexts) (v : Values) (fault : QuestionFault) (text : List ℕ) → v.grants.items ≡ check.grants → length check.grants < 2 ^ 64 → IsFaultIn v fault → SaysFault number fault text → AreLines text
+  of_fault check v (BadGrants fault) text same short first says = one (refused fault) text (omega (arith, near_fault v.grants.items fault first, ap (λ (bytes : List ℕ). length bytes) same, short)) says
+  of_fault check v (BadValue option) text same short first says = one (bad option) text tt says
+  of_fault check v NoMemory text same short first says = absurd says
+
+  of_values : (fs : List ℕ) (check : CheckTexts) (v : Values) (text : List ℕ) → length check.grants < 2 ^ 64 → AreValues fs check v → IsAnswered number check v text ⊎ IsFaulty number v text → AreLines text
+  of_values fs check v text short values (inl says) =
+      let told = of_accesses v says.question says.asks (accesses_of says.mask) (all_asked check says.mask says.is_mask) in
+      (told.0, told.1, says.more_is ∙ told.2)
+  of_values fs check v text short values (inr says) = of_fault check v says.fault text values.grants short says.first says.says
+
+  of_check : (fs : List ℕ) (check : CheckTexts) (text : List ℕ) → length check.grants < 2 ^ 64 → Says fs number check text → AreLines text
+  of_check fs check text short (inl says) = one (unknown check.mask) text tt says.1
+  of_check fs check text short (inr says) = of_values fs check says.0 text short says.1 says.2
+
+  of_form : (fs : List ℕ) (check : Option CheckTexts) (text : List ℕ) → IfSome check (λ c. length c.grants < 2 ^ 64) → SaysIf fs number check text → AreLines text
+  of_form fs None text short says = one formless text tt says
+  of_form fs (Some check) text short says = of_check fs check text short says
+
+-- the grants of a check in a line of a short log
+short_check_of : (most : ℕ) (text : List ℕ) → length text ≤ most → most < 2 ^ 63 → IfSome (check_of text) (λ c. length c.grants < 2 ^ 64)
+short_check_of most text inside short = by_check (check_of text) (short_grants text)
+  where
+    by_check : (check : Option CheckTexts) → IfSome check (λ c. length c.grants ≤ length text) → IfSome check (λ c. length c.grants < 2 ^ 64)
+    by_check None fit = tt
+    by_check (Some check) fit = omega (arith, fit, inside, short)
+
+of_line : (fs : List ℕ) (number most : ℕ) (behind : Option (List ℕ)) (text : List ℕ) → number < 2 ^ 64 → most < 2 ^ 63 → HasFew most behind → SaysOf fs number behind text → AreLines text
+of_line fs number most None text small short few says = none number small text says
+of_line fs number most (Some behind) text small short few says = of_form number small fs (check_of behind) text (short_check_of most behind few short) says
+
+of_lines : (fs : List ℕ) (number most : ℕ) (log : List (List ℕ)) (text : List ℕ) → number + length log < 2 ^ 64 → most < 2 ^ 63 → AreShort most log → AreTold fs number log text → AreLines text
+of_lines fs number most [] text small short few told = ([], All-nil HasLines, told)
+of_lines fs number most (line ∷ log) text small short few told =
+    let first = of_line fs number most (check_text line) told.0 (omega (arith, small)) short (more_than (length line) most (check_text line) few.0 (short_check line)) told.2 in
+    let more = of_lines fs (number + 1) most log told.1 (omega (arith, small)) short few.1 told.3 in
+    (first.0 ++ more.0, All-append HasLines first.0 more.0 first.1 more.1, told.4 ∙ ap (λ (r : List ℕ). r ++ told.1) first.2 ∙ ap (λ (r : List ℕ). flat_map told_lines first.0 ++ r) more.2 ∙ sym (flat_map-append told_lines first.0 more.0))
+
+pub each_has_its_lines : (fs log told : List ℕ) → length log ≤ longest_script → IsToldOf fs log told → (xs : List (ℕ × Told)) × All HasLines xs × (passed_in (lines log) < 2 ^ 64) × (told ≡ told_in xs (passed_in (lines log)))
+each_has_its_lines fs log told short says =
+    let front = of_lines fs 1 (length log) (lines log) says.0 (omega (arith, short, few_lines log)) (omega (arith, short)) (short_lines log) says.1 in
+    (front.0, front.1, omega (arith, short, few_lines log, few_passed_in (lines log)), says.2 ∙ ap (λ (r : List ℕ). r ++ passed_line (passed_in (lines log))) front.2)

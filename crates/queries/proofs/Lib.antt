@@ -1,0 +1,12 @@
+pub mod Pieces
+pub mod FirstBad
+pub mod Spelling
+pub mod TextFault
+pub mod ClientLines
+pub mod ClientsTold
+pub mod Looked
+pub mod Linted
+pub mod Cuts
+pub mod Telling
+pub mod Fitting
+pub mod Items

@@ -1,0 +1,14 @@
+pub mod Options
+pub mod Fault
+pub mod Values
+pub mod Question
+pub mod Remarks
+pub mod Comparing
+pub mod Linting
+pub mod Attempts
+pub mod Clients
+pub mod ClientsTold
+pub mod Checks
+pub mod Masks
+pub mod Told
+pub mod Items

@@ -1,0 +1,140 @@
+//! Which clients of a cluster may make an access.
+ghost use Rattle.std.specs.Prelude.{◌≡◌, ◌++◌, ℕ, List, IfOk, IfErr, OnOk};
+ghost use Rattle.ceph_input.specs.Auth.{IsFaultOf, auth_of};
+ghost use Rattle.queries.specs.Attempts.{wanted_by};
+ghost use Rattle.queries.specs.Clients.{AnswersWho, AreLines, Says, standing_in, unread_in};
+
+use crate::attempt::Attempt;
+use crate::texts::read_text;
+use capexplain::{print_standing, print_standing_object, print_standing_otherwise, print_unread, print_unread_object};
+use capgrant::Attr;
+use capspec::SpecFault;
+use ceph_input::{AuthFault, Entity, read_auth};
+use policy_analysis::{Otherwise, Standing, Wanted};
+use std::alloc::{AllocError, Global};
+
+/// How it is told of a client whether it may.
+#[derive(Clone, Copy)]
+pub enum Telling {
+    /// By a line.
+    Line,
+    /// By that line, and by lines for where the MDS of Ceph 16 answers somebody behind its key otherwise.
+    More,
+    /// By an object of JSON that says all of it, as a line.
+    Object,
+}
+
+/// For each client of an auth list, in its order: whether somebody behind its key may do what is asked, by which grant, or why nobody may;
+/// or that it depends on owner, group and mode, where these are not given. Where a client's grants can't be read, its line says why. The
+/// fault is that of the list. `auth` is what `ceph auth ls -f json` prints.
+pub fn who(
+    alloc: Global,
+    auth: &[u8],
+    attempt: &Attempt,
+    telling: Telling,
+) -> Result<Vec<u8>, AuthFault>
+    ensures ok { IfOk result (λ lines. AnswersWho telling (wanted_by attempt.now) attempt.now.attr auth.now lines.items) }
+    ensures err { IfErr result (λ fault. IsFaultOf fault (auth_of auth.now)) }
+{
+    let list = read_auth(alloc, auth)?;
+    let names = attempt.path.names(alloc)?;
+    let wanted = Wanted {
+        fs: &attempt.fs,
+        path: names.as_slice(),
+        access: attempt.access,
+    };
+    let clients = list.entities();
+    Ok(client_lines(alloc, clients, &wanted, &attempt.attr, telling)?)
+}
+
+// The lines of those who are clients.
+fn client_lines(
+    alloc: Global,
+    entities: &[Entity],
+    wanted: &Wanted<'_>,
+    attr: &Option<Attr>,
+    telling: Telling,
+) -> Result<Vec<u8>, AllocError>
+    ensures { IfOk result (λ lines. AreLines telling wanted.now attr.now entities.now lines.items) }
+{
+    let mut lines = Vec::new(alloc);
+    for entity in entities {
+        if entity.is_client() {
+            print_client(&mut lines, entity, wanted, attr, telling)?;
+        }
+    }
+    Ok(lines)
+}
+
+// Appends the line of a client.
+fn print_client(
+    lines: &mut Vec<u8>,
+    client: &Entity,
+    wanted: &Wanted<'_>,
+    attr: &Option<Attr>,
+    telling: Telling,
+) -> Result<(), AllocError>
+    ensures { OnOk result ((line : List ℕ) × (lines.new.items ≡ lines.old.items ++ line)
+        × Says telling wanted.now attr.now client.now.name client.now.caps line) }
+{
+    let name = client.name();
+    let Some(text) = client.caps() else {
+        return print_said(
+            lines,
+            name,
+            wanted,
+            attr,
+            &Standing::without_grants(),
+            &None,
+            telling,
+        );
+    };
+    match read_text(*lines.allocator(), text) {
+        Ok(Some(grants)) => {
+            let standing = wanted.standing(&grants, attr);
+            let other = wanted.answered_otherwise(&grants, attr);
+            print_said(lines, name, wanted, attr, &standing, &other, telling)
+        }
+        Ok(None) => Err(AllocError),
+        Err(fault) => print_fault(lines, name, wanted, attr, &fault, telling),
+    }
+}
+
+// Appends what is said of a client.
+fn print_said(
+    lines: &mut Vec<u8>,
+    client: &[u8],
+    wanted: &Wanted<'_>,
+    attr: &Option<Attr>,
+    standing: &Standing,
+    other: &Option<Otherwise>,
+    telling: Telling,
+) -> Result<(), AllocError>
+    ensures { OnOk result (lines.new.items ≡ lines.old.items ++ standing_in telling client.now wanted.now attr.now standing.now other.now) }
+{
+    match telling {
+        Telling::Line => print_standing(lines, client, wanted.access, wanted.path, standing),
+        Telling::More => {
+            print_standing(lines, client, wanted.access, wanted.path, standing)?;
+            print_standing_otherwise(lines, client, other)
+        }
+        Telling::Object => print_standing_object(lines, client, wanted, attr, standing, other),
+    }
+}
+
+// Appends why the grants of a client can't be read.
+fn print_fault(
+    lines: &mut Vec<u8>,
+    client: &[u8],
+    wanted: &Wanted<'_>,
+    attr: &Option<Attr>,
+    fault: &SpecFault,
+    telling: Telling,
+) -> Result<(), AllocError>
+    ensures { OnOk result (lines.new.items ≡ lines.old.items ++ unread_in telling client.now wanted.now attr.now fault.now) }
+{
+    match telling {
+        Telling::Line | Telling::More => print_unread(lines, client, fault),
+        Telling::Object => print_unread_object(lines, client, wanted, attr, fault),
+    }
+}

@@ -1,0 +1,36 @@
+//! Questions about the grants of a CephFS client: whether they let a caller make an access to an inode, how two texts of grants
+//! differ, what is found in one, and what the checks in the log of an MDS of Ceph 16 asked. What grants are is said by "CephFS
+//! client capabilities" in the Ceph documentation.
+//!
+//! A question is read from the values of options, each as the bytes that stand on a command line, and is answered in lines.
+//! What reads a command line takes text, so bytes are spelled as text here, and spelled back.
+#![tactic(auto)]
+
+mod attempt;
+mod check;
+mod clients;
+mod comparing;
+mod fault;
+mod laws;
+mod linting;
+mod lists;
+mod log_laws;
+mod mask;
+mod modes;
+mod options;
+mod question;
+mod remarks;
+mod texts;
+mod told;
+mod values;
+mod words;
+
+pub use attempt::{Attempt, AttemptValues, AttrValues};
+pub use clients::{Telling, who};
+pub use comparing::{CompareFault, compare};
+pub use fault::QuestionFault;
+pub use linting::lint_text;
+pub use options::Opt;
+pub use question::{Question, Values};
+pub use told::log_lines;
+pub use words::{spell, spelled};

@@ -1,0 +1,10 @@
+use Rattle.std.proofs.Common.{arith, sym}
+use Rattle.step_model.specs.declared.event.Event.TheVariants as events
+use Rattle.script_syntax.proofs.SaidLines.{five, refused_by}
+use Rattle.script_syntax.proofs.event.read_session.Goals as goal
+
+pub returns-in_err-grants : goal.returns-in_err-grants
+returns-in_err-grants c =
+    rw (five c.args.arguments.now (omega arith), sym c.in_ok-client.ensures, sym c.in_ok-read_number.ensures, sym c.in_ok-read_number-2.ensures, sym c.in_ok-read_groups.ensures)
+    (refused_by _ _ _ c.in_err-grants.field-0.0 c.from_residual-in_err-grants.ensures.1
+    (c.in_err-grants.ensures (events.Session c.in_ok-client.client (record { uid = c.in_ok-read_number.field-0; gid = c.in_ok-read_number-2.field-0; groups = c.in_ok-read_groups.field-0 }))))

@@ -1,0 +1,8 @@
+use Rattle.std.proofs.Common.{arith, sym}
+use Rattle.script_syntax.proofs.SaidLines.{first_two, refused_by}
+use Rattle.script_syntax.proofs.inode_event.read_inode_change.Goals as goal
+
+pub returns-in_err-change : goal.returns-in_err-change
+returns-in_err-change c = λ event.
+    rw (first_two c.args.arguments.now (omega arith), sym c.is_counted.ensures, c.if-not-is_counted.false, sym c.in_ok-client.ensures, sym c.in_ok-ino.ensures)
+    (refused_by _ _ _ c.in_err-change.field-0.0 c.from_residual-in_err-change.ensures.1 (c.in_err-change.ensures (event c.in_ok-client.client c.in_ok-ino.ino)))

@@ -1,0 +1,82 @@
+//! The events of one entry, and of the messages to a client.
+ghost use Rattle.std.specs.Prelude.{MatchResult, map};
+ghost use Rattle.capbits.specs.Caps.{Caps};
+ghost use Rattle.capbits.specs.declared.ids.ClientId.{ClientId as AClient};
+ghost use Rattle.capbits.specs.declared.ids.Ino.{Ino as AnIno};
+ghost use Rattle.step_model.specs.declared.event.Event.{Event as AnEvent};
+ghost use Rattle.script_syntax.specs.Events.{Tells, ack_by, caps_by, open_by, poll_by};
+ghost use Rattle.script_syntax.specs.Faults.{IsRefused};
+
+use crate::fault::{LineFault, Refused};
+use crate::values::{read_cap_set, read_client, read_ino, read_long_number, read_number, read_open_mode};
+use capbits::{CapSet, ClientId, Ino};
+use step_model::Event;
+
+// Caps on an inode, and whose they are.
+#[derive(Clone, Copy)]
+pub(crate) struct EntryCaps {
+    pub(crate) client: ClientId,
+    pub(crate) ino: Ino,
+    pub(crate) caps: CapSet,
+}
+
+// A client, an inode and what it is opened for.
+#[tactic(auto, using(crate::proofs::SaidLines::three))]
+pub(crate) fn read_open(arguments: &[&[u8]]) -> Result<Event, Refused>
+    ensures { let said = open_by (map (λ word. word.now) arguments.now) in
+        MatchResult result (Tells said) (IsRefused said) }
+{
+    let [client, ino, mode] = arguments else {
+        return Err(Refused::Wrong(LineFault::Count));
+    };
+    let client = read_client(client)?;
+    let ino = read_ino(ino)?;
+    let mode = read_open_mode(mode)?;
+    Ok(Event::Open { client, ino, mode })
+}
+
+// A client, an inode and the number of a change.
+#[tactic(auto, using(crate::proofs::SaidLines::three))]
+pub(crate) fn read_ack(arguments: &[&[u8]]) -> Result<Event, Refused>
+    ensures { let said = ack_by (map (λ word. word.now) arguments.now) in
+        MatchResult result (Tells said) (IsRefused said) }
+{
+    let [client, ino, seq] = arguments else {
+        return Err(Refused::Wrong(LineFault::Count));
+    };
+    let client = read_client(client)?;
+    let ino = read_ino(ino)?;
+    let seq = read_long_number(seq)?;
+    Ok(Event::Ack { client, ino, seq })
+}
+
+// A client, and how many messages it takes at most.
+pub(crate) fn read_poll(arguments: &[&[u8]]) -> Result<Event, Refused>
+    ensures { let said = poll_by (map (λ word. word.now) arguments.now) in
+        MatchResult result (Tells said) (IsRefused said) }
+{
+    let [client, max] = arguments else {
+        return Err(Refused::Wrong(LineFault::Count));
+    };
+    let client = read_client(client)?;
+    let max = read_number(max)?;
+    Ok(Event::Poll { client, max })
+}
+
+// A client, an inode and a set of caps, whichever event they are said for.
+#[tactic(auto, using(crate::proofs::SaidLines::three))]
+pub(crate) fn read_entry_caps(arguments: &[&[u8]]) -> Result<EntryCaps, Refused>
+    ensures { (event : AClient → AnIno → Caps → AnEvent)
+        → let said = caps_by event (map (λ word. word.now) arguments.now) in
+        MatchResult result
+        (λ entry. Tells said (event entry.client entry.ino entry.caps))
+        (IsRefused said) }
+{
+    let [client, ino, caps] = arguments else {
+        return Err(Refused::Wrong(LineFault::Count));
+    };
+    let client = read_client(client)?;
+    let ino = read_ino(ino)?;
+    let caps = read_cap_set(caps)?;
+    Ok(EntryCaps { client, ino, caps })
+}

@@ -1,0 +1,272 @@
+//! The events that lines say.
+ghost use Rattle.std.specs.Prelude.{◌≡◌, ℕ, List, map, MatchResult};
+ghost use Rattle.capbits.specs.declared.ids.ClientId.{ClientId as AClient};
+ghost use Rattle.capbits.specs.declared.ids.Ino.{Ino as AnIno};
+ghost use Rattle.capspec.specs.declared.grant.Grant.{Grant as AGrant};
+ghost use Rattle.step_model.specs.declared.event.Event.{Event as AnEvent};
+ghost use Rattle.script_syntax.specs.Events.{Tells, granting, named_by, new_inode_by, regrant_by, said_in, said_with, session_by};
+ghost use Rattle.script_syntax.specs.Faults.{IsRefused};
+ghost use Rattle.script_syntax.specs.Words.{arguments_in};
+
+use crate::entry_event::{EntryCaps, read_ack, read_entry_caps, read_open, read_poll};
+use crate::fault::{LineFault, Refused};
+use crate::inode_event::{InodeChange, InodeOf, read_get, read_inode, read_inode_change, read_rename};
+use crate::line::MAX_LINE;
+use crate::session_event::{read_only_client, read_recall};
+use crate::values::{read_client, read_groups, read_ino, read_number, read_permissions};
+use crate::words::{split_at_space, split_words};
+use capbits::{Caller, ClientId, Ino, Mode};
+use capspec::{Grants, read_grants};
+use lockmachine::Bytes;
+use std::alloc::Global;
+use step_model::{Command, Event};
+
+// A name in a directory, and who asks for it.
+#[derive(Drop)]
+struct Named {
+    client: ClientId,
+    ino: Ino,
+    name: Bytes,
+}
+
+// A name in a directory for a new inode with a mode.
+#[derive(Drop)]
+struct NewInode {
+    client: ClientId,
+    dir: Ino,
+    name: Bytes,
+    mode: Mode,
+}
+
+// The event that a line says, if it is not skipped.
+pub(crate) fn read_event(alloc: Global, text: &[u8]) -> Result<Event, Refused>
+    ensures { let said = said_in text.now in MatchResult result (Tells said) (IsRefused said) }
+{
+    let words = split_words(text);
+    let Some((first, arguments)) = words.as_slice().split_first() else {
+        return Err(Refused::Wrong(LineFault::Command));
+    };
+    let command = Command::by_word(first).ok_or(LineFault::Command)?;
+    if text.len() > MAX_LINE {
+        return Err(Refused::Wrong(LineFault::Count));
+    }
+    read_arguments(alloc, command, text, arguments)
+}
+
+// The event that a command says with the arguments of its line, of which the fifth is all that is left of it.
+fn read_arguments(
+    alloc: Global,
+    command: Command,
+    text: &[u8],
+    arguments: &[&[u8]],
+) -> Result<Event, Refused>
+    requires { map (λ word. word.now) arguments.now ≡ arguments_in text.now }
+    ensures { let said = said_with command (map (λ word. word.now) arguments.now) in
+        MatchResult result (Tells said) (IsRefused said) }
+{
+    match command {
+        Command::Session => read_session(alloc, arguments),
+        Command::CloseSession => {
+            let client = read_only_client(arguments)?;
+            Ok(Event::CloseSession { client })
+        }
+        Command::Mark(status) => {
+            let client = read_only_client(arguments)?;
+            Ok(Event::Mark { client, status })
+        }
+        Command::Regrant => read_regrant(alloc, text),
+        Command::Evict => {
+            let client = read_only_client(arguments)?;
+            Ok(Event::Evict { client })
+        }
+        Command::Unblock => {
+            let client = read_only_client(arguments)?;
+            Ok(Event::Unblock { client })
+        }
+        Command::Recall => read_recall(arguments),
+        Command::Lookup => {
+            let Named { client, ino, name } = read_named(alloc, arguments)?;
+            Ok(Event::Lookup {
+                client,
+                dir: ino,
+                name,
+            })
+        }
+        Command::Create => {
+            let NewInode {
+                client,
+                dir,
+                name,
+                mode,
+            } = read_new_inode(alloc, arguments)?;
+            Ok(Event::Create {
+                client,
+                dir,
+                name,
+                mode,
+            })
+        }
+        Command::Mkdir => {
+            let NewInode {
+                client,
+                dir,
+                name,
+                mode,
+            } = read_new_inode(alloc, arguments)?;
+            Ok(Event::Mkdir {
+                client,
+                dir,
+                name,
+                mode,
+            })
+        }
+        Command::MakeSnapshot => {
+            let Named { client, ino, name } = read_named(alloc, arguments)?;
+            Ok(Event::MakeSnapshot { client, ino, name })
+        }
+        Command::RemoveSnapshot => {
+            let Named { client, ino, name } = read_named(alloc, arguments)?;
+            Ok(Event::RemoveSnapshot { client, ino, name })
+        }
+        Command::Open => read_open(arguments),
+        Command::Want => {
+            let EntryCaps { client, ino, caps } = read_entry_caps(arguments)?;
+            Ok(Event::Want { client, ino, caps })
+        }
+        Command::Ack => read_ack(arguments),
+        Command::Release => {
+            let EntryCaps { client, ino, caps } = read_entry_caps(arguments)?;
+            Ok(Event::Release { client, ino, caps })
+        }
+        Command::Get => read_get(arguments),
+        Command::Alter => {
+            let InodeChange {
+                client,
+                ino,
+                change,
+            } = read_inode_change(alloc, arguments)?;
+            Ok(Event::Alter {
+                client,
+                ino,
+                change,
+            })
+        }
+        Command::Unlink => {
+            let InodeOf { client, ino } = read_inode(arguments)?;
+            Ok(Event::Unlink { client, ino })
+        }
+        Command::Rmdir => {
+            let InodeOf { client, ino } = read_inode(arguments)?;
+            Ok(Event::Rmdir { client, ino })
+        }
+        Command::Rename => read_rename(alloc, arguments),
+        Command::Flush => {
+            let InodeChange {
+                client,
+                ino,
+                change,
+            } = read_inode_change(alloc, arguments)?;
+            Ok(Event::Flush {
+                client,
+                ino,
+                change,
+            })
+        }
+        Command::Poll => read_poll(arguments),
+    }
+}
+
+#[tactic(auto, using(crate::proofs::SaidLines::five))]
+fn read_session(alloc: Global, arguments: &[&[u8]]) -> Result<Event, Refused>
+    ensures { let said = session_by (map (λ word. word.now) arguments.now) in
+        MatchResult result (Tells said) (IsRefused said) }
+{
+    let [client, uid, gid, groups, grants] = arguments else {
+        return Err(Refused::Wrong(LineFault::Count));
+    };
+    let client = read_client(client)?;
+    let caller = Caller {
+        uid: read_number(uid)?,
+        gid: read_number(gid)?,
+        groups: read_groups(groups)?,
+    };
+    let grants = read_all_grants(alloc, grants)?;
+    Ok(Event::Session {
+        client,
+        caller,
+        grants,
+    })
+}
+
+// A client, and its new grants, which are all that is left of the line behind it.
+fn read_regrant(alloc: Global, text: &[u8]) -> Result<Event, Refused>
+    ensures { let said = regrant_by (arguments_in text.now) in
+        MatchResult result (Tells said) (IsRefused said) }
+{
+    let Some((_command, behind)) = split_at_space(text) else {
+        return Err(Refused::Wrong(LineFault::Count));
+    };
+    let Some((client, grants)) = split_at_space(behind) else {
+        return Err(Refused::Wrong(LineFault::Count));
+    };
+    let client = read_client(client)?;
+    let grants = read_all_grants(alloc, grants)?;
+    Ok(Event::Regrant { client, grants })
+}
+
+// A client, an inode and a name, whichever event they are said for.
+#[tactic(auto, using(crate::proofs::SaidLines::three))]
+fn read_named(alloc: Global, arguments: &[&[u8]]) -> Result<Named, Refused>
+    ensures { (event : AClient → AnIno → List ℕ → AnEvent)
+        → let said = named_by event (map (λ word. word.now) arguments.now) in
+        MatchResult result
+        (λ named. Tells said (event named.client named.ino named.name))
+        (IsRefused said) }
+{
+    let [client, ino, name] = arguments else {
+        return Err(Refused::Wrong(LineFault::Count));
+    };
+    let client = read_client(client)?;
+    let ino = read_ino(ino)?;
+    let name = Bytes::read(alloc, name)?;
+    Ok(Named { client, ino, name })
+}
+
+// A client, a directory, a name in it and a mode, whichever event they are said for.
+#[tactic(auto, using(crate::proofs::SaidLines::four))]
+fn read_new_inode(alloc: Global, arguments: &[&[u8]]) -> Result<NewInode, Refused>
+    ensures { (event : AClient → AnIno → List ℕ → ℕ → AnEvent)
+        → let said = new_inode_by event (map (λ word. word.now) arguments.now) in
+        MatchResult result
+        (λ new. Tells said (event new.client new.dir new.name new.mode))
+        (IsRefused said) }
+{
+    let [client, dir, name, mode] = arguments else {
+        return Err(Refused::Wrong(LineFault::Count));
+    };
+    let client = read_client(client)?;
+    let dir = read_ino(dir)?;
+    let mode = read_permissions(mode)?;
+    let name = Bytes::read(alloc, name)?;
+    Ok(NewInode {
+        client,
+        dir,
+        name,
+        mode,
+    })
+}
+
+// The grants that a text says, or none where it is `none`, whichever event they are said for.
+fn read_all_grants(alloc: Global, text: &[u8]) -> Result<Grants, Refused>
+    ensures { (event : List AGrant → AnEvent)
+        → let said = granting event text.now in
+        MatchResult result (λ grants. Tells said (event grants)) (IsRefused said) }
+{
+    if text == b"none".as_slice() {
+        return Ok(Grants::none(alloc)?);
+    }
+    let mut grants = read_grants(alloc, text)?;
+    // the event stays in the history, and the grants in the session
+    grants.shrink_to_fit();
+    Ok(grants)
+}

@@ -1,0 +1,118 @@
+//! Why a script stopped.
+
+use capspec::{SpecFault, SpecFaultKind};
+use std::fmt;
+use std::alloc::AllocError;
+use thiserror::Error;
+
+/// What is wrong with a line. It prints as the name of its kind; that of a grant text has the fault of the text behind it.
+#[derive(Clone, Copy, PartialEq, Eq, Error)]
+pub enum LineFault {
+    /// The first word is no command.
+    #[error("Command")]
+    Command,
+    /// The command wants fewer words or more of them, or the line is too long.
+    #[error("Count")]
+    Count,
+    /// A word is no number of its size, or no list of group numbers.
+    #[error("Number")]
+    Number,
+    /// A word spells no set of caps.
+    #[error("Caps")]
+    Caps,
+    /// A word is no mode of a file, or nothing that an inode is opened for.
+    #[error("Mode")]
+    Mode,
+    /// A word is no part of what an inode keeps.
+    #[error("Part")]
+    Part,
+    /// A word begins no change.
+    #[error("Change")]
+    Change,
+    /// A word writes no bytes.
+    #[error("Hex")]
+    Hex,
+    /// The rest of the line is no grant text.
+    #[error("Grants {0}")]
+    Grants(SpecFault),
+}
+
+/// Why a script stopped before its end.
+#[derive(Clone, Copy, PartialEq, Eq, Error)]
+pub enum ScriptFault {
+    /// The script could not be read, or is too long.
+    #[error("read failed")]
+    ReadFault,
+    /// An answer could not be written.
+    #[error("write failed")]
+    WriteFault,
+    /// A line has a fault.
+    #[error("line {line}: {kind}")]
+    LineFault {
+        /// The number of the line, the first being 1. Skipped lines count.
+        line: u64,
+        /// What is wrong with it.
+        kind: LineFault,
+    },
+    /// No memory was left.
+    #[error("no memory")]
+    NoMemory,
+}
+
+// Faults print for programmers as they do for people, so that their words stand once.
+impl fmt::Debug for LineFault {
+    fn fmt<W: fmt::Write>(&self, f: &mut fmt::Formatter<W>) -> fmt::Result {
+        fmt::Display::fmt(self, f)
+    }
+}
+
+impl fmt::Debug for ScriptFault {
+    fn fmt<W: fmt::Write>(&self, f: &mut fmt::Formatter<W>) -> fmt::Result {
+        fmt::Display::fmt(self, f)
+    }
+}
+
+// Why a line gave no event.
+#[derive(Clone, Copy)]
+pub(crate) enum Refused {
+    // The line is wrong.
+    Wrong(LineFault),
+    // The line says an event, but no memory was left for it.
+    NoMemory,
+}
+
+impl From<LineFault> for Refused {
+    ghost use Rattle.std.specs.Prelude.{◌≡◌};
+    ghost use Rattle.script_syntax.specs.declared.fault.Refused.TheVariants.{Wrong};
+
+    ghost from_gives = { λ kind refused. refused ≡ Wrong kind };
+
+    fn from(kind: LineFault) -> Self {
+        Refused::Wrong(kind)
+    }
+}
+
+// Where only memory was missing, the grants are not to blame.
+impl From<SpecFault> for Refused {
+    ghost use Rattle.script_syntax.specs.Faults.{IsRefusedFor};
+
+    ghost from_gives = { IsRefusedFor };
+
+    fn from(fault: SpecFault) -> Self {
+        match fault.kind {
+            SpecFaultKind::NoMemory => Refused::NoMemory,
+            _ => Refused::Wrong(LineFault::Grants(fault)),
+        }
+    }
+}
+
+impl From<AllocError> for Refused {
+    ghost use Rattle.std.specs.Prelude.{◌≡◌};
+    ghost use Rattle.script_syntax.specs.declared.fault.Refused.TheVariants as refusals;
+
+    ghost from_gives = { λ _ refused. refused ≡ refusals.NoMemory };
+
+    fn from(_missing: AllocError) -> Self {
+        Refused::NoMemory
+    }
+}

@@ -1,0 +1,98 @@
+//! Cutting a script into lines, and reading a line of it.
+ghost use Rattle.std.specs.Prelude.{◌≡◌, ◌↔◌, ◌⊎◌, ◌<◌, ◌∷◌, [], length, None, Some, Ok, Err, IsTrue, IfOk, IfErr, IfSome, MatchOption};
+ghost use Rattle.step_model.specs.declared.event.Event.{Event as AnEvent};
+ghost use Rattle.script_syntax.specs.declared.fault.LineFault.{LineFault as AKind};
+ghost use Rattle.script_syntax.specs.declared.fault.ScriptFault.TheVariants as stops;
+ghost use Rattle.script_syntax.specs.Events.{Reads, client_of};
+ghost use Rattle.script_syntax.specs.Faults.{HasFault, IsStop};
+ghost use Rattle.script_syntax.specs.Lines.{is_skipped, lines};
+
+use crate::event::read_event;
+use crate::fault::{Refused, ScriptFault};
+use capbits::ClientId;
+use std::alloc::Global;
+use step_model::Event;
+
+/// How many bytes a line may have, without its line feed. A line that is skipped may have more.
+pub const MAX_LINE: usize = 65536;
+
+/// The line before the first line feed and what stands behind it, if there is one.
+pub fn split_line(script: &[u8]) -> Option<(&[u8], &[u8])>
+    ensures lines { MatchOption result
+        (lines script.now ≡ script.now ∷ [])
+        (λ cut. lines script.now ≡ cut.0.now ∷ lines cut.1.now) }
+    ensures shorter { IfSome result (λ cut. length cut.1.now < length script.now) }
+{
+    let end = script.iter().position(|byte| *byte == b'\n')?;
+    Some((&script[..end], &script[end + 1..]))
+}
+
+/// Reads a line, which has no line feed, by its number in the script: the event that it says, with the client that it is about.
+/// None for a line that is skipped: it is empty, or begins with `#`.
+///
+/// A line that says no event and is not skipped has one fault, which is told with the line's number. `NoMemory` comes last, and only for a line that
+/// says an event.
+pub fn read_line(
+    alloc: Global,
+    line: u64,
+    text: &[u8],
+) -> Result<Option<(Option<ClientId>, Event)>, ScriptFault>
+    ensures skipped { (result ≡ Ok None) ↔ IsTrue (is_skipped text.now) }
+    // What is read is what the line says, with the client that it is about.
+    ensures event { IfOk result (λ read. IfSome read (λ said. Reads text.now said.1)) }
+    ensures client { IfOk result (λ read. IfSome read (λ said. said.0 ≡ client_of said.1)) }
+    // What the line says is read, unless memory runs out.
+    ensures only { (event : AnEvent) → Reads text.now event
+        → (result ≡ Err stops.NoMemory) ⊎ (result ≡ Ok (Some (client_of event, event))) }
+    // Which fault it is.
+    ensures err { IfErr result (IsStop line text.now) }
+    // A fault of the line is told, whatever memory there is.
+    ensures told { (kind : AKind) → HasFault text.now kind
+        → result ≡ Err (stops.LineFault line kind) }
+{
+    if is_skipped(text) {
+        return Ok(None);
+    }
+    match read_event(alloc, text) {
+        Ok(event) => Ok(Some((client_of(&event), event))),
+        Err(Refused::Wrong(kind)) => Err(ScriptFault::LineFault { line, kind }),
+        Err(Refused::NoMemory) => Err(ScriptFault::NoMemory),
+    }
+}
+
+fn is_skipped(text: &[u8]) -> bool
+    ensures { result ≡ is_skipped text.now }
+{
+    matches!(text, [] | [b'#', ..])
+}
+
+// The client that the event is about, if it is about one.
+fn client_of(event: &Event) -> Option<ClientId>
+    ensures { result ≡ client_of event.now }
+{
+    match event {
+        Event::Recall { .. } => None,
+        Event::Session { client, .. }
+        | Event::CloseSession { client }
+        | Event::Mark { client, .. }
+        | Event::Regrant { client, .. }
+        | Event::Evict { client }
+        | Event::Unblock { client }
+        | Event::Lookup { client, .. }
+        | Event::Create { client, .. }
+        | Event::Mkdir { client, .. }
+        | Event::MakeSnapshot { client, .. }
+        | Event::RemoveSnapshot { client, .. }
+        | Event::Open { client, .. }
+        | Event::Want { client, .. }
+        | Event::Ack { client, .. }
+        | Event::Release { client, .. }
+        | Event::Get { client, .. }
+        | Event::Alter { client, .. }
+        | Event::Unlink { client, .. }
+        | Event::Rmdir { client, .. }
+        | Event::Rename { client, .. }
+        | Event::Flush { client, .. }
+        | Event::Poll { client, .. } => Some(*client),
+    }
+}

@@ -1,0 +1,8 @@
+pub mod Rows
+pub mod Value
+pub mod Places
+pub mod Publishing
+pub mod Pairs
+pub mod Tallies
+pub mod Answers
+pub mod Passes

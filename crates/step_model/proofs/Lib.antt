@@ -1,0 +1,3 @@
+pub mod EndNumbers
+pub mod Noting
+pub mod Taking

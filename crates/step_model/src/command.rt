@@ -1,0 +1,160 @@
+//! The words that lines begin with.
+ghost use Rattle.std.specs.Prelude.{◌≡◌};
+ghost use Rattle.step_model.specs.Words.{command_by, command_of, command_word};
+
+use crate::event::Event;
+use sessiontab::Status;
+
+/// What a line says, by its first word.
+#[derive(Clone, Copy)]
+pub enum Command {
+    /// A client opens a session.
+    Session,
+    /// A client ends its session.
+    CloseSession,
+    /// A client's session has another status.
+    Mark(Status),
+    /// A client's grants are replaced.
+    Regrant,
+    /// A client is thrown out.
+    Evict,
+    /// A client comes off the blocklist.
+    Unblock,
+    /// Clients are asked to release.
+    Recall,
+    /// A client asks for the inode of a name.
+    Lookup,
+    /// A client makes a file.
+    Create,
+    /// A client makes a directory.
+    Mkdir,
+    /// A client makes a snapshot.
+    MakeSnapshot,
+    /// A client removes a snapshot.
+    RemoveSnapshot,
+    /// A client opens an inode.
+    Open,
+    /// A client says what it wants of an inode.
+    Want,
+    /// A client acknowledges a message.
+    Ack,
+    /// A client releases caps.
+    Release,
+    /// A client asks what an inode keeps.
+    Get,
+    /// A client changes what an inode keeps.
+    Alter,
+    /// A client unlinks a file.
+    Unlink,
+    /// A client removes a directory.
+    Rmdir,
+    /// A client moves an inode.
+    Rename,
+    /// A client says what it has changed by itself.
+    Flush,
+    /// A client asks for its messages.
+    Poll,
+}
+
+// Those that come most often stand first, since they are searched for in this order.
+const COMMANDS: [Command; 24] = [
+    Command::Open,
+    Command::Want,
+    Command::Ack,
+    Command::Release,
+    Command::Lookup,
+    Command::Get,
+    Command::Alter,
+    Command::Poll,
+    Command::Create,
+    Command::Flush,
+    Command::Unlink,
+    Command::Rename,
+    Command::Mkdir,
+    Command::Rmdir,
+    Command::Recall,
+    Command::Session,
+    Command::CloseSession,
+    Command::Mark(Status::Stale),
+    Command::Mark(Status::Open),
+    Command::Regrant,
+    Command::Evict,
+    Command::Unblock,
+    Command::MakeSnapshot,
+    Command::RemoveSnapshot,
+];
+
+impl Command {
+    /// That which the word is.
+    pub fn by_word(word: &[u8]) -> Option<Command>
+        ensures { result ≡ command_by word.now }
+    {
+        COMMANDS
+            .iter()
+            .copied()
+            .find(|command| word == command.word().as_bytes())
+    }
+
+    /// That of the line which says the event.
+    pub fn of(event: &Event) -> Command
+        ensures { result ≡ command_of event.now }
+    {
+        match event {
+            Event::Session { .. } => Command::Session,
+            Event::CloseSession { .. } => Command::CloseSession,
+            Event::Mark { status, .. } => Command::Mark(*status),
+            Event::Regrant { .. } => Command::Regrant,
+            Event::Evict { .. } => Command::Evict,
+            Event::Unblock { .. } => Command::Unblock,
+            Event::Recall { .. } => Command::Recall,
+            Event::Lookup { .. } => Command::Lookup,
+            Event::Create { .. } => Command::Create,
+            Event::Mkdir { .. } => Command::Mkdir,
+            Event::MakeSnapshot { .. } => Command::MakeSnapshot,
+            Event::RemoveSnapshot { .. } => Command::RemoveSnapshot,
+            Event::Open { .. } => Command::Open,
+            Event::Want { .. } => Command::Want,
+            Event::Ack { .. } => Command::Ack,
+            Event::Release { .. } => Command::Release,
+            Event::Get { .. } => Command::Get,
+            Event::Alter { .. } => Command::Alter,
+            Event::Unlink { .. } => Command::Unlink,
+            Event::Rmdir { .. } => Command::Rmdir,
+            Event::Rename { .. } => Command::Rename,
+            Event::Flush { .. } => Command::Flush,
+            Event::Poll { .. } => Command::Poll,
+        }
+    }
+
+    /// The word.
+    pub fn word(self) -> &'static str
+        ensures { result.now ≡ command_word self }
+    {
+        match self {
+            Command::Session => "session",
+            Command::CloseSession => "close",
+            Command::Mark(Status::Stale) => "stale",
+            Command::Mark(Status::Open) => "renew",
+            Command::Regrant => "regrant",
+            Command::Evict => "evict",
+            Command::Unblock => "unblock",
+            Command::Recall => "recall",
+            Command::Lookup => "lookup",
+            Command::Create => "create",
+            Command::Mkdir => "mkdir",
+            Command::MakeSnapshot => "mksnap",
+            Command::RemoveSnapshot => "rmsnap",
+            Command::Open => "open",
+            Command::Want => "want",
+            Command::Ack => "ack",
+            Command::Release => "release",
+            Command::Get => "get",
+            Command::Alter => "alter",
+            Command::Unlink => "unlink",
+            Command::Rmdir => "rmdir",
+            Command::Rename => "rename",
+            Command::Flush => "flush",
+            Command::Poll => "poll",
+        }
+    }
+}

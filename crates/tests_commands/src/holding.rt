@@ -1,0 +1,148 @@
+//! A question beside a call that is held under the lock: it is answered, by what was published before. Once that call has
+//! ended, who only asked sees what it made.
+
+use crate::asserting::{present, same};
+use crate::calls::{ask_read, call_line};
+use capserver::{CapServer, Gate};
+use snapshot::{Pass, Server};
+use std::alloc::{AllocError, Global};
+use std::process::Abort;
+use std::sync::{Arc, Wait};
+use std::sync::atomic::{AtomicU64, Ordering};
+use std::thread::{Threads, join, yield_now};
+
+// How often a thread yields while it waits for another one.
+const TURNS: u64 = 1_000_000;
+
+/// What the threads of the test tell each other, each word by a 1.
+#[derive(Drop)]
+pub struct Signs {
+    // The gate holds calls from now on.
+    closed: AtomicU64,
+    // A call is held.
+    entered: AtomicU64,
+    // The questions were answered.
+    answered: AtomicU64,
+    // Somebody waited for too many turns.
+    late: AtomicU64,
+}
+
+/// Once it is closed, holds each call until the questions were answered.
+#[derive(Drop)]
+pub struct Hold {
+    signs: Arc<Signs, Global>,
+}
+
+/// A gate that is open, and the signs that it heeds.
+pub fn open_gate(alloc: Global) -> Result<(Hold, Arc<Signs, Global>), AllocError> {
+    let signs = Signs {
+        closed: AtomicU64::new(0),
+        entered: AtomicU64::new(0),
+        answered: AtomicU64::new(0),
+        late: AtomicU64::new(0),
+    };
+    let Ok(signs) = Arc::new(alloc, signs) else {
+        return Err(AllocError);
+    };
+    match Arc::try_clone(&signs) {
+        Ok(theirs) => Ok((Hold { signs: theirs }, signs)),
+        Err(_) => Err(AllocError),
+    }
+}
+
+// Waits for the sign, or until it is too late.
+fn wait_for(sign: &AtomicU64, late: &AtomicU64) {
+    for _ in 0..TURNS {
+        if sign.load(Ordering::SeqCst) == 1 {
+            return;
+        }
+        yield_now();
+    }
+    late.store(1, Ordering::SeqCst);
+}
+
+impl Gate for Hold {
+    fn pause<R: Wait>(&self, _rt: &R) {
+        if self.signs.closed.load(Ordering::SeqCst) == 1 {
+            self.signs.entered.store(1, Ordering::SeqCst);
+            wait_for(&self.signs.answered, &self.signs.late);
+        }
+    }
+}
+
+// What came of the calls and of the questions: of what stood there before, asked for while the call of pass 2 was held; of
+// what that call made, at the same time; of the call that was held; of what it made, asked for by its pass afterwards; of the
+// same, asked for by the pass that calls nothing, once both threads have ended; and whether somebody waited for too long.
+const TOLD: Told = (
+    ["allowed", "no inode", "fresh", "allowed", "allowed"],
+    false,
+);
+
+// What came of the calls and of the questions, as in `TOLD`.
+type Told = ([&'static str; 5], bool);
+
+// A pass, and what came of its two turns.
+type Came<L> = (Pass<L>, &'static str, &'static str);
+
+// While a call of the second pass is held, the first one asks for what stood there before, and for what that call makes.
+fn both<L: Server + Send + Sync, R: Threads + Wait + Sync>(
+    rt: &R,
+    alloc: Global,
+    server: &CapServer<Hold, L>,
+    signs: &Signs,
+    (one, two): (Pass<L>, Pass<L>),
+) -> (Came<L>, Came<L>) {
+    let (mut one, mut two) = (one, two);
+    join(
+        rt,
+        move || {
+            wait_for(&signs.entered, &signs.late);
+            let beside = ask_read(server, &mut one, 1, 1);
+            let unpublished = ask_read(server, &mut one, 1, 2);
+            signs.answered.store(1, Ordering::SeqCst);
+            (one, beside, unpublished)
+        },
+        move || {
+            let held = call_line(rt, alloc, server, &mut two, "create 1 1 f 0644");
+            let after = ask_read(server, &mut two, 1, 2);
+            (two, held, after)
+        },
+    )
+}
+
+// Holds a call of the second pass, while the first one asks, which calls nothing at all.
+fn told_beside<L: Server + Send + Sync, R: Threads + Wait + Sync>(
+    rt: &R,
+    alloc: Global,
+    server: &CapServer<Hold, L>,
+    signs: &Signs,
+    (one, two): (Pass<L>, Pass<L>),
+) -> Told {
+    let mut two = two;
+    call_line(rt, alloc, server, &mut two, "session 1 10 10 - allow rw");
+    signs.closed.store(1, Ordering::SeqCst);
+    let (asked, called) = both(rt, alloc, server, signs, (one, two));
+    let (mut one, beside, unpublished) = asked;
+    let (two, held, after) = called;
+    let by_the_other = ask_read(server, &mut one, 1, 2);
+    drop(one);
+    drop(two);
+    let late = signs.late.load(Ordering::SeqCst) == 1;
+    ([beside, unpublished, held, after, by_the_other], late)
+}
+
+/// Has the last pass call and the one before it ask, and sees what came of it. Those two are gone then.
+pub fn ask_beside<L: Server + Send + Sync, R: Abort + Threads + Wait + Sync>(
+    rt: &R,
+    alloc: Global,
+    server: &CapServer<Hold, L>,
+    signs: &Signs,
+    passes: Vec<Pass<L>>,
+) -> Vec<Pass<L>> {
+    let mut passes = passes;
+    let two = present(rt, passes.pop(), "pass 2");
+    let one = present(rt, passes.pop(), "pass 1");
+    let told = told_beside(rt, alloc, server, signs, (one, two));
+    same(rt, told, TOLD, "a held call");
+    passes
+}

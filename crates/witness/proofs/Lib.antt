@@ -1,2 +1,0 @@
-pub mod Asking
-pub use Rattle.published.proofs as Published
