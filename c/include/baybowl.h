@@ -277,12 +277,12 @@ uint32_t baybowl_grants_read(const char *grants, size_t grants_len, const char *
 /* What baybowl_verdict_by and baybowl_verdict_mask call: the answer where it is soon seen, of grants for everybody, and the whole
  * verdict. No calls for a program: those that begin with capffi take what they are given as it is, and tell the number of the grant that
  * allows, 17 with the answer of a denial, or 0. */
-uint32_t capffi_soon(const struct baybowl_block *block, const uint8_t *text, size_t text_len, const uint8_t *path, size_t path_len,
+uint32_t capffi_fast_verdict(const struct baybowl_block *block, const uint8_t *text, size_t text_len, const uint8_t *path, size_t path_len,
                      const struct baybowl_question *question, struct baybowl_answer *answer);
 uint32_t baybowl_whole_verdict_by(const struct baybowl_block *block, size_t block_len, const char *path, size_t path_len,
                                   const uint32_t *groups, size_t groups_len, const struct baybowl_question *question,
                                   struct baybowl_answer *answer);
-uint32_t capffi_soon_mask(const struct baybowl_block *block, const uint8_t *text, size_t text_len, const uint8_t *path, size_t path_len,
+uint32_t capffi_fast_verdict_mask(const struct baybowl_block *block, const uint8_t *text, size_t text_len, const uint8_t *path, size_t path_len,
                           const struct baybowl_check *check, struct baybowl_answer *answer);
 uint32_t baybowl_whole_verdict_mask(const struct baybowl_block *block, size_t block_len, const char *path, size_t path_len,
                                     const uint32_t *groups, size_t groups_len, const struct baybowl_check *check,
@@ -331,7 +331,7 @@ inline uint32_t baybowl_verdict_by(const struct baybowl_block *block, size_t blo
                                    struct baybowl_answer *answer) {
     if (baybowl_is_sound(block, block_len, path, path_len, groups, groups_len, question, answer) && groups_len <= 16) {
         struct baybowl_answer denied;
-        const uint32_t told = capffi_soon(block, (const uint8_t *)(block + 1), block_len - sizeof *block, (const uint8_t *)path, path_len,
+        const uint32_t told = capffi_fast_verdict(block, (const uint8_t *)(block + 1), block_len - sizeof *block, (const uint8_t *)path, path_len,
                                           question, &denied);
         if (baybowl_is_told(told, &denied, answer)) {
             return BAYBOWL_OK;
@@ -353,7 +353,7 @@ BAYBOWL_INLINE uint32_t baybowl_verdict_mask(const struct baybowl_block *block, 
         (uintptr_t)access % 4 == 0) {
         const uint32_t mask = check->mask;
         struct baybowl_answer denied;
-        const uint32_t told = capffi_soon_mask(block, (const uint8_t *)(block + 1), block_len - sizeof *block, (const uint8_t *)path,
+        const uint32_t told = capffi_fast_verdict_mask(block, (const uint8_t *)(block + 1), block_len - sizeof *block, (const uint8_t *)path,
                                                path_len, check, &denied);
         if (baybowl_is_told(told, &denied, answer)) {
             /* It answers masks of one bit, to read or to write. */

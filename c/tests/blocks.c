@@ -386,13 +386,13 @@ static uint32_t told_soon(const struct baybowl_block *block, size_t len, const c
     static const struct baybowl_check check = {9, 50, 7, 50, 0640, BAYBOWL_MAY_WRITE, 0, 0};
     const uint8_t *text = (const uint8_t *)(block + 1), *at = (const uint8_t *)path;
     size_t text_len = len - sizeof *block;
-    return by_mask ? capffi_soon_mask(block, text, text_len, at, strlen(path), &check, denied)
-                   : capffi_soon(block, text, text_len, at, strlen(path), &question, denied);
+    return by_mask ? capffi_fast_verdict_mask(block, text, text_len, at, strlen(path), &check, denied)
+                   : capffi_fast_verdict(block, text, text_len, at, strlen(path), &question, denied);
 }
 
 /* One grant or several, which are for everybody, are answered soon, by a question and by a mask. If they were not, the whole verdict
  * would say the same, and only take longer. */
-static void soon(void) {
+static void fast_verdicts(void) {
     const struct {
         const char *grants, *path;
         uint32_t told, count;
@@ -442,7 +442,7 @@ int main(void) {
     slashes();
     same_verdicts();
     masks();
-    soon();
+    fast_verdicts();
     threads();
     return told();
 }

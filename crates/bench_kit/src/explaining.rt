@@ -13,8 +13,8 @@ use lockmachine::Change;
 use policy_view::Question;
 use snapshot::{Pass, Server};
 use std::alloc::Global;
-use std::sync::{Mutex, MutexGuard, Wait};
 use std::sync::atomic::{AtomicU64, Ordering};
+use std::sync::{Mutex, MutexGuard, Wait};
 use std::thread::{Threads, map_vec};
 use step_model::Event;
 
@@ -81,7 +81,7 @@ fn enter<'a, T: Wait>(rt: &T, lock: &'a Mutex<()>, way: Way) -> Option<MutexGuar
     }
 }
 
-fn leave(guard: Option<MutexGuard<()>>) {
+fn unlock(guard: Option<MutexGuard<()>>) {
     if let Some(guard) = guard {
         MutexGuard::unlock(guard);
     }
@@ -131,7 +131,7 @@ fn call_while<L: Server, T: Wait>(
         let event = mode_change(inode_at(turn, asking.inodes), turn);
         let guard = enter(rt, lock, asking.way);
         let called = call(rt, server, &mut pass, event);
-        leave(guard);
+        unlock(guard);
         called?;
         turn = turn.wrapping_add(1);
     }
@@ -177,7 +177,7 @@ fn ask<L: Server, T: Wait>(
     for turn in 0..asking.times {
         let guard = enter(rt, lock, asking.way);
         let is_allowed = is_allowed(server, &mut pass, inode_at(turn, asking.inodes));
-        leave(guard);
+        unlock(guard);
         sum = sum.wrapping_add(u64::from(is_allowed));
     }
     sum

@@ -1,7 +1,7 @@
 //! Why a file of talks can't be played.
 
-use std::fmt;
 use std::alloc::{AllocError, AllocFailed};
+use std::fmt;
 use std::fmt::Display;
 
 /// What is wrong with a line, or with a file.

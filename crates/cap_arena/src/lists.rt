@@ -10,8 +10,8 @@ use crate::nodes::{Ends, Linked, Node, Order};
 use capbits::{ClientId, Ino, Refusal};
 use dense_map::Numbered;
 use slab::Slab;
-use std::fmt;
 use std::alloc::{AllocError, Global};
+use std::fmt;
 use std::marker::{Brand, Model};
 use std::sync::ledger::{Blank, Ledger};
 

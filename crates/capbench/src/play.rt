@@ -1,7 +1,9 @@
 //! Talks, played to the commands of `capd` and to those of this program.
 
 use crate::work;
-use bench_kit::{BookFault, Outcome, Output, Page, Place, Program, Run, Stop, Talk, read_talks, topic};
+use bench_kit::{
+    BookFault, Outcome, Output, Page, Place, Program, Run, Stop, Talk, read_talks, topic,
+};
 use script_syntax::Watched;
 use std::fs;
 use std::fs::Files;

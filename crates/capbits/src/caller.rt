@@ -4,9 +4,9 @@ ghost use Rattle.std.specs.List.{list_any};
 ghost use Rattle.std.specs.Slice.Iter.{iter_rest};
 
 use arrayvec::ArrayVec;
-use std::{fmt, slice};
 use std::error::Error;
 use std::marker::Model;
+use std::{fmt, slice};
 
 /// How many groups a caller may have besides its first.
 pub const MAX_GROUPS: usize = 16;

@@ -2,8 +2,8 @@
 ghost use Rattle.std.specs.Prelude.{Some};
 ghost use Rattle.capbits.specs.Refusal.{refusal_word};
 
-use std::fmt;
 use std::error::Error;
+use std::fmt;
 
 /// Why a request is refused, other than by policy: what it asks for was not done. Each prints as its name, and `OldSeq`
 /// with its number behind it, in decimal.

@@ -6,8 +6,8 @@ use Rattle.capstep.proofs.Knowing.{held_at}
 use Rattle.capstep.specs.Begun.{MayEndAt, among}
 use Rattle.capcore.proofs.Closing.{affects-ends, affects-one, affects-settles, ends-table, for_clients-all, for_clients-but_own, for_clients-own_numbers}
 use Rattle.capcore.proofs.Common.{Affected, Affects, AffectsOne, AreBelow, AreChanges, AreCounted, AreCountedIn, AreGiven, AreKnown, ArePermittedIn}
-use Rattle.capcore.proofs.Common.{CountedLocks, Direct, Ended, Endings, EndsWith, Entry, EntryRequest, Event, HasRoom, HaveOwnNumbers, HaveRoomFor, Holder}
-use Rattle.capcore.proofs.Common.{IsAnswered, IsJudged, IsLockMap, IsSubset, IsTable, KnownSets, Knows, MayEnd, MaySettle, NumbersLeft, Said, Scene, SettlesAt}
+use Rattle.capcore.proofs.Common.{CountedLocks, Direct, Ended, StepOutput, EndsWith, Entry, EntryRequest, Event, HasRoom, HaveOwnNumbers, HaveRoomFor, Holder}
+use Rattle.capcore.proofs.Common.{IsAnswered, IsJudged, IsLockMap, IsSubset, IsTable, ClientViews, Knows, MayEnd, MaySettle, NumbersLeft, StepReply, Scene, SettlesAt}
 use Rattle.capcore.proofs.Common.{SettlesWith, State, StillKnown, all_ended, direct, earlier, entry_answer, entry_at, finished_at, known_in, plain, reply_of}
 use Rattle.capcore.proofs.Common.{shown, sized_in, sizes_owed, state_at_end, still-knows, view_of}
 use Rattle.capcore.proofs.Concluded.{IsConcluded, concluded}
@@ -15,13 +15,13 @@ use Rattle.capcore.proofs.EndKnown.{ends-known}
 use Rattle.capcore.proofs.EntryWhole.{request-counted, show_reply-alike}
 use Rattle.capcore.proofs.Unaffected.{alike-kept}
 use Rattle.capcore.specs.UnderWay.{AreKept, GivesOne, HasBegun, HasPlaces, IsNumbered, MayBegin, answer_of, dropped_of, earlier_of, state_of}
-use Rattle.capcore.specs.declared.parts.Answer.{Answer}
-use Rattle.capcore.specs.declared.parts.Answer.TheVariants.{Awaited, Done, Dropped, Requested}
-use Rattle.capcore.specs.declared.parts.Effect.{Effect}
-use Rattle.capcore.specs.declared.parts.Parts.{Parts}
+use Rattle.capcore.specs.declared.parts.ReplyDue.{ReplyDue}
+use Rattle.capcore.specs.declared.parts.ReplyDue.TheVariants.{Awaited, Done, Dropped, Requested}
+use Rattle.capcore.specs.declared.parts.Applied.{Applied}
+use Rattle.capcore.specs.declared.parts.CoreState.{CoreState}
 
 -- each entry has a number left then
-pub begun-entries : (p q : Parts) (e : Event) (from : ℕ → Bool) → MayBegin p e → state_of q ≡ (direct (state_of p) e).state → Affects from (state_of p) (state_of q) → GivesOne (state_of p) e
+pub begun-entries : (p q : CoreState) (e : Event) (from : ℕ → Bool) → MayBegin p e → state_of q ≡ (direct (state_of p) e).state → Affects from (state_of p) (state_of q) → GivesOne (state_of p) e
     → ArePermittedIn q.scene.table.kept (plain q.scene) → MayEnd q.scene.table.kept (plain q.scene)
 begun-entries p q e from may is affects gives permitted = by_count may.numbers
   where
@@ -36,7 +36,7 @@ on_err r p = grind arith
 
 -- ---- an event about one inode
 
-module _ (p q : Parts) (endings : Endings) (e : Event) (k : Holder) (may : MayBegin p e) (d : Direct) (by_itself : direct (state_of p) e ≡ d) (keeps : Keeps (state_of p) d)
+module _ (p q : CoreState) (output : StepOutput) (e : Event) (k : Holder) (may : MayBegin p e) (d : Direct) (by_itself : direct (state_of p) e ≡ d) (keeps : Keeps (state_of p) d)
     (below : (count : ℕ) → AreGiven count (state_of p) → AreBelow count d.state) (is : plain q.scene ≡ d.state.scene) (left : q.messages.items ≡ p.messages.items) where
   abbrev from : ℕ → Bool
   from = λ other. other == k.ino.0
@@ -50,11 +50,11 @@ module _ (p q : Parts) (endings : Endings) (e : Event) (k : Holder) (may : MayBe
   one-gives : GivesOne old e
   one-gives count given = subst (λ (x : Direct). AreBelow count x.state) (sym by_itself) (below count given)
 
-  pub one-begun : (affected : Affected) (answer : Answer) → among affected ≡ from → answer_of answer ≡ d.answer → dropped_of answer ≡ []
+  pub one-begun : (affected : Affected) (answer : ReplyDue) → among affected ≡ from → answer_of answer ≡ d.answer → dropped_of answer ≡ []
       → IsNumbered answer p.scene.locks.locks.last q.scene.locks.locks.last → AffectsOne k.ino.0 old (plain q.scene) → IsTable q.scene.table.entries → StillKnown p.scene.table.entries q.scene.table.entries p.scene.table.kept q.scene.table.kept → ArePermittedIn q.scene.table.kept (plain q.scene)
       → ((j : Holder) (f : Entry) → entry_at q.scene.table.entries j ≡ Some f → IsSubset f.held (held_at p.scene.table.entries j)) → AreCountedIn q.scene → IsLockMap q.scene.locks.locks
-      → HaveRoomFor (length q.scene.locks.locks.queue) endings → IsJudged endings.judged (plain q.scene) → MayEndAt affected q.scene.table.kept (plain q.scene) endings.changes → HasRoom q.messages q.scene.locks.locks → HasPlaces answer (length q.scene.locks.locks.queue)
-      → AreChanges endings.changes.items (view_of old) (view_of (state_of q)) → HasBegun p e (record { affected = affected; answer = answer }) q endings
+      → HaveRoomFor (length q.scene.locks.locks.queue) output → IsJudged output.judged (plain q.scene) → MayEndAt affected q.scene.table.kept (plain q.scene) output.changes → HasRoom q.messages q.scene.locks.locks → HasPlaces answer (length q.scene.locks.locks.queue)
+      → AreChanges output.changes.items (view_of old) (view_of (state_of q)) → HasBegun p e (record { affected = affected; answer = answer }) q output
   one-begun affected answer same answers none number one table still permitted less counted order room judged at left_room places noted =
       let affects : Affects from old (state_of q) =
       subst (λ (ms : List Ended). Affects from old (record { scene = plain q.scene; messages = ms })) (sym left) (affects-one k.ino.0 old (plain q.scene) may.whole.0 one) in
@@ -87,10 +87,10 @@ module _ (p q : Parts) (endings : Endings) (e : Event) (k : Holder) (may : MayBe
 request-rest : (k : Holder) (request : EntryRequest) (s : State) → (shown (entry_answer k request) s).scene ≡ record s.scene { table = (shown (entry_answer k request) s).scene.table }
 request-rest k request s = grind arith
 
-pub shown-rest : (a : Answer) (s : State) → (shown (answer_of a) s).scene ≡ record s.scene { table = (shown (answer_of a) s).scene.table }
+pub shown-rest : (a : ReplyDue) (s : State) → (shown (answer_of a) s).scene ≡ record s.scene { table = (shown (answer_of a) s).scene.table }
 shown-rest a s = grind arith
 
-pub shown-kept : (a : Answer) (s : State) (sets : KnownSets) → AreKept sets s.scene → AreKept sets (shown (answer_of a) s).scene
+pub shown-kept : (a : ReplyDue) (s : State) (sets : ClientViews) → AreKept sets s.scene → AreKept sets (shown (answer_of a) s).scene
 shown-kept Done s sets kept = kept
 shown-kept (Dropped dropped) s sets kept = kept
 shown-kept (Requested k request) s sets kept =
@@ -98,24 +98,24 @@ shown-kept (Requested k request) s sets kept =
 shown-kept (Awaited ticket) s sets kept = kept
 
 -- and leaves what is held
-pub shown-counted : (a : Answer) (s : State) (l : CountedLocks) → AreCounted s.scene.table l → AreCounted (shown (answer_of a) s).scene.table l
+pub shown-counted : (a : ReplyDue) (s : State) (l : CountedLocks) → AreCounted s.scene.table l → AreCounted (shown (answer_of a) s).scene.table l
 shown-counted Done s l are = are
 shown-counted (Dropped dropped) s l are = are
 shown-counted (Requested k request) s l are = request-counted s k request l are
 shown-counted (Awaited ticket) s l are = are
 
 -- where there is room for some, there is for fewer
-pub fewer-places : (a : Answer) (n m : ℕ) → m ≤ n → HasPlaces a n → HasPlaces a m
+pub fewer-places : (a : ReplyDue) (n m : ℕ) → m ≤ n → HasPlaces a n → HasPlaces a m
 fewer-places a n m few places = grind arith
 
 -- those of earlier steps are no more than all
-pub few-earlier : (a : Answer) (for_clients : List Ended) → length (earlier_of a for_clients) ≤ length for_clients
+pub few-earlier : (a : ReplyDue) (for_clients : List Ended) → length (earlier_of a for_clients) ≤ length for_clients
 few-earlier a for_clients = grind (arith, length-filter, count_by-le-length)
 
 -- ---- the end of the step
 
-module _ (p q : Parts) (endings : Endings) (e : Event) (effect : Effect) (may : MayBegin p e) (begun : HasBegun p e effect q endings)
-    (now : KnownSets) (last : Scene) (for_clients : List Ended) (ends : EndsWith (among effect.affected) q.scene.table.kept now (plain q.scene) last for_clients) where
+module _ (p q : CoreState) (output : StepOutput) (e : Event) (effect : Applied) (may : MayBegin p e) (begun : HasBegun p e effect q output)
+    (now : ClientViews) (last : Scene) (for_clients : List Ended) (ends : EndsWith (among effect.affected) q.scene.table.kept now (plain q.scene) last for_clients) where
   abbrev before : State
   before = state_of p
 
@@ -138,7 +138,7 @@ module _ (p q : Parts) (endings : Endings) (e : Event) (effect : Effect) (may : 
   all : q.scene.locks.locks.last ≡ p.scene.locks.locks.last → earlier p.scene.locks.locks.last for_clients ≡ for_clients
   all same = subst (λ n. earlier n for_clients ≡ for_clients) same (for_clients-all ends.at (among effect.affected) (plain q.scene) ends.settled for_clients ends.sized settles order)
 
-  by_answer : (a : Answer) → IsNumbered a p.scene.locks.locks.last q.scene.locks.locks.last → earlier p.scene.locks.locks.last for_clients ≡ earlier_of a for_clients
+  by_answer : (a : ReplyDue) → IsNumbered a p.scene.locks.locks.last q.scene.locks.locks.last → earlier p.scene.locks.locks.last for_clients ≡ earlier_of a for_clients
   by_answer (Awaited ticket) (own, next) = for_clients-but_own ends.at (among effect.affected) (plain q.scene) ends.settled for_clients ends.sized settles order p.scene.locks.locks.last ticket own next
   by_answer a same = all same
 
@@ -155,17 +155,17 @@ module _ (p q : Parts) (endings : Endings) (e : Event) (effect : Effect) (may : 
   same_state : closed ≡ by_the_rules
   same_state = grind (arith, others)
 
-  pub ended-answered : (said : Said) (new : State) → said.reply ≡ reply_of closed for_clients (answer_of effect.answer) → said.for_history ≡ said.reply
-      → said.ended ≡ dropped_of effect.answer ++ earlier_of effect.answer for_clients → new ≡ shown (answer_of effect.answer) closed → IsAnswered before e said new
-  ended-answered said new replies for_history ended new-is =
+  pub ended-answered : (step_reply : StepReply) (new : State) → step_reply.reply ≡ reply_of closed for_clients (answer_of effect.answer) → step_reply.for_history ≡ step_reply.reply
+      → step_reply.ended ≡ dropped_of effect.answer ++ earlier_of effect.answer for_clients → new ≡ shown (answer_of effect.answer) closed → IsAnswered before e step_reply new
+  ended-answered step_reply new replies for_history ended new-is =
       let c =
       concluded ends.at (among effect.affected) (known_in q.scene.table.kept) before e settles.moves ends.settled may.whole.0 (subst (Affects (among effect.affected) before) begun.is begun.affects)
       (subst (λ (s : State). IsTable s.scene.table) begun.is begun.table) (subst (λ (s : State). IsLockMap s.scene.locks) begun.is order)
       (subst (λ (s : State). Knows (known_in q.scene.table.kept) before.scene s.scene.table) begun.is begun.knows) begun.gives
       (subst (λ (s : State). SettlesAt ends.at (among effect.affected) settles.moves s.scene ends.settled) begun.is settles.settles) ends.tree
-      (subst (λ (s : State). IsTable s.scene.table) same_state (ends-table (among effect.affected) q.scene.table.kept now (plain q.scene) last for_clients ends begun.table)) said.reply new
+      (subst (λ (s : State). IsTable s.scene.table) same_state (ends-table (among effect.affected) q.scene.table.kept now (plain q.scene) last for_clients ends begun.table)) step_reply.reply new
       (replies ∙ (λ i. reply_of (same_state i) (settles.ended_is i) (begun.answer i))) (new-is ∙ (λ i. shown (begun.answer i) (same_state i))) in
-      let ends_so : all_ended before (direct before e) settles.moves ≡ said.ended =
+      let ends_so : all_ended before (direct before e) settles.moves ≡ step_reply.ended =
       (λ i. (sym begun.dropped) i ++ earlier p.scene.locks.locks.last ((sym settles.ended_is) i)) ∙ ap (λ ms. dropped_of effect.answer ++ ms) others ∙ sym ended in
-      let whole : IsConcluded before e said.reply said.ended new = subst (λ (ms : List Ended). IsConcluded before e said.reply ms new) ends_so c in
+      let whole : IsConcluded before e step_reply.reply step_reply.ended new = subst (λ (ms : List Ended). IsConcluded before e step_reply.reply ms new) ends_so c in
       record { step = whole.step; for_history = for_history; sound = whole.sound; issued = whole.issued; given = whole.given }

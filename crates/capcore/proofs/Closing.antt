@@ -6,7 +6,7 @@ use Rattle.capstep.proofs.Forgotten.{all_rows}
 use Rattle.lockmachine.proofs.SameOutside.{outside-one, rest-outside}
 use Rattle.capstep.specs.Affected.{finished_entry}
 use Rattle.capcore.proofs.Common.{Affects, AffectsOne, ArePermittedIn, Ended, EndsWith, EntryRow, HaveOwnNumbers, Ino, IsAffectedEntry, IsLockMap, IsSound}
-use Rattle.capcore.proofs.Common.{IsSoundEntry, IsTable, KnownSets, MakesAll, MayEnd, MaySettle, Scene, SessionTable, SettlesWith, State, Ticket, but_for}
+use Rattle.capcore.proofs.Common.{IsSoundEntry, IsTable, ClientViews, MakesAll, MayEnd, MaySettle, Scene, SessionTable, SettlesWith, State, Ticket, but_for}
 use Rattle.capcore.proofs.Common.{earlier, entries_on, filter-contains, first_for, has_session, is_of_inode, is_sized, known_in, lock_at, moved-all, owed}
 use Rattle.capcore.proofs.Common.{row_elsewhere, sizes_owed, table-where, with_scene}
 use Rattle.capcore.proofs.EndedIn.{earlier-all, earlier-but_own, own-numbers}
@@ -29,10 +29,10 @@ module _ (at from : ℕ → Bool) (first settled : Scene) (for_clients : List En
 
 -- ---- at the end the sessions are as they were, and each entry has one row still
 
-pub ends-sessions : (from : ℕ → Bool) (was now : KnownSets) (first last : Scene) (for_clients : List Ended) → EndsWith from was now first last for_clients → last.sessions ≡ first.sessions
+pub ends-sessions : (from : ℕ → Bool) (was now : ClientViews) (first last : Scene) (for_clients : List Ended) → EndsWith from was now first last for_clients → last.sessions ≡ first.sessions
 ends-sessions from was now first last for_clients ends = grind arith
 
-pub ends-table : (from : ℕ → Bool) (was now : KnownSets) (first last : Scene) (for_clients : List Ended) → EndsWith from was now first last for_clients → IsTable first.table → IsTable last.table
+pub ends-table : (from : ℕ → Bool) (was now : ClientViews) (first last : Scene) (for_clients : List Ended) → EndsWith from was now first last for_clients → IsTable first.table → IsTable last.table
 ends-table from was now first last for_clients ends table =
     let then = sizes_owed ends.sized ends.settled in
     let moved = moved-all first ends.settles.moves ends.settled (made ends.at from first ends.settled for_clients ends.sized ends.settles) in
@@ -66,7 +66,7 @@ module _ (from : ℕ → Bool) (old affected : State) (sound : IsSound old) (aff
   pub affects-settles : IsLockMap affected.scene.locks → MaySettle from affected.scene
   affects-settles order = record { quiet = rest-outside from old.scene affected.scene sound.at_rest affects.same; order = order }
 
-  pub affects-ends : (sets : KnownSets) (count : ℕ) → count < 2 ^ 32 → All (λ row. row.entry.seq ≤ count) rows → ArePermittedIn sets affected.scene → MayEnd sets affected.scene
+  pub affects-ends : (sets : ClientViews) (count : ℕ) → count < 2 ^ 32 → All (λ row. row.entry.seq ≤ count) rows → ArePermittedIn sets affected.scene → MayEnd sets affected.scene
   affects-ends sets count less given permitted = record {
     numbers = All-weaker (λ (row : EntryRow). row.entry.seq ≤ count) (λ (row : EntryRow). row.entry.seq < 2 ^ 64 - 1) (λ row few. omega (arith, few, less)) rows given;
     clients = affects-clients;

@@ -32,7 +32,7 @@ pub use Rattle.captable.specs.Tests.{release_tests}
 pub use Rattle.captable.specs.declared.entry.Entry.{Entry}
 pub use Rattle.captable.specs.declared.entry.EntryRow.{EntryRow}
 pub use Rattle.captable.specs.declared.entry.Holder.{Holder}
-pub use Rattle.captable.specs.declared.entry.Sets.{Sets}
+pub use Rattle.captable.specs.declared.entry.ClientView.{ClientView}
 pub use Rattle.locktable.specs.declared.states.LockState.{LockState}
 pub use Rattle.locktable.specs.declared.states.LockState.TheVariants.{Gather, Stable}
 pub use Rattle.sessiontab.specs.Calls.{has_session}
@@ -62,13 +62,13 @@ pub use Rattle.capstep.specs.Judged.{IsJudged}
 pub use Rattle.capstep.specs.Leaving.{LeavesEntries, with_parts}
 pub use Rattle.capstep.specs.Serves.{EndsWith, SettlesWith}
 pub use Rattle.capstep.specs.SessionChange.{changed_sessions, session_changed, session_event}
-pub use Rattle.capstep.specs.declared.endings.Endings.{Endings}
+pub use Rattle.capstep.specs.declared.output.StepOutput.{StepOutput}
 pub use Rattle.capstep.specs.declared.entry_request.EntryRequest.{EntryRequest}
 pub use Rattle.capstep.specs.declared.entry_request.EntryRequest.TheVariants.{Ack, Release}
-pub use Rattle.capstep.specs.declared.said.Said.{Said}
+pub use Rattle.capstep.specs.declared.step_reply.StepReply.{StepReply}
 pub use Rattle.capstep.specs.declared.settle.Affected.{Affected}
 pub use Rattle.capstep.proofs.Again.{rejection-before}
-pub use Rattle.capstep.specs.Known.{AreKnown, KnownSets, StillKnown, known_in, known_of}
+pub use Rattle.capstep.specs.Known.{AreKnown, ClientViews, StillKnown, known_in, known_of}
 pub use Rattle.capstep.specs.Left.{dropped_by, is_end, locks_left, messages_left, table_left}
 pub use Rattle.capstep.specs.Operations.{operation_of}
 pub use Rattle.capstep.specs.declared.leaving.SessionChange.{SessionChange}
@@ -104,7 +104,7 @@ pub use Rattle.step_model.specs.declared.rejection.Rejection.{Rejection}
 pub use Rattle.step_model.specs.declared.rejection.Rejection.TheVariants.{ByTest}
 pub use Rattle.policy_view.proofs.Likeness.{like-unseen, shows-tree}
 pub use Rattle.policy_view.specs.Changes.{AreChanges}
-pub use Rattle.policy_view.specs.Sight.{IsLike}
+pub use Rattle.policy_view.specs.Visible.{IsLike}
 pub use Rattle.policy_view.specs.declared.change.ViewChange.{ViewChange}
 pub use Rattle.lockmachine.proofs.Finding.{contains-filter, filter-contains}
 pub use Rattle.lockmachine.proofs.Moving.{is_at, with_lock-each}

@@ -8,10 +8,10 @@ use Rattle.capstep.proofs.SizesOwed.{sizes-known}
 use Rattle.capstep.specs.Affected.{told_then}
 use Rattle.capstep.specs.Known.{KnownAnew}
 use Rattle.lockmachine.specs.Scene.{told_set}
-use Rattle.capcore.proofs.Common.{Affects, AreKnown, Ended, EndsWith, EntryRow, Ino, IsSound, IsTable, KnownSets, Knows, Scene, SettlesWith, State, StillKnown}
+use Rattle.capcore.proofs.Common.{Affects, AreKnown, Ended, EndsWith, EntryRow, Ino, IsSound, IsTable, ClientViews, Knows, Scene, SettlesWith, State, StillKnown}
 use Rattle.capcore.proofs.Common.{finished_at, known_in, known_of, row_elsewhere, sizes_owed}
 
-module _ (before was now : KnownSets) (from : ℕ → Bool) (old affected : State) (sound : IsSound old) (old_table : IsTable old.scene.table) (table : IsTable affected.scene.table)
+module _ (before was now : ClientViews) (from : ℕ → Bool) (old affected : State) (sound : IsSound old) (old_table : IsTable old.scene.table) (table : IsTable affected.scene.table)
     (affects : Affects from old affected) (known : AreKnown before old.scene) (still : StillKnown old.scene.table affected.scene.table before was) (knows : Knows (known_in was) old.scene affected.scene.table)
     (last : Scene) (for_clients : List Ended) (ends : EndsWith from was now affected.scene last for_clients) where
   abbrev settles : SettlesWith ends.at from affected.scene ends.settled for_clients ends.sized

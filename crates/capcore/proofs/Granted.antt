@@ -10,7 +10,7 @@ use Rattle.sessiontab.specs.declared.session.Status.{Status}
 use Rattle.lockmachine.proofs.PolicyElsewhere.{permitted-kept}
 use Rattle.capstep.specs.declared.leaving.SessionChange.TheVariants.{Close, Evict, Mark}
 use Rattle.lockmachine.specs.Policy.{permitted_to, subject_of}
-use Rattle.capcore.proofs.Common.{ArePermittedIn, ClientId, Entry, Holder, KnownSets, Node, Scene, Session, SessionChange, Sets, State, Table, alike-itself}
+use Rattle.capcore.proofs.Common.{ArePermittedIn, ClientId, Entry, Holder, ClientViews, Node, Scene, Session, SessionChange, ClientView, State, Table, alike-itself}
 use Rattle.capcore.proofs.Common.{apart_client, change-at, changed_sessions, entry_at, entry_at-without_client_other, is_end, permitted, permitted_of}
 use Rattle.capcore.proofs.Common.{session_changed, table_left, without_client}
 use Rattle.capcore.proofs.SessionChanged.{apart, session_changed-other}
@@ -28,13 +28,13 @@ left-was false t client k e there = there
 left-was true t client k e there = sym (entry_at-without_client_other t client k (apart_client k.client client (left-other t client k e there))) ∙ there
 
 -- so where of each the same is kept, it is kept what was permitted
-module _ (was now : KnownSets) (s : Scene) (b : Bool) (client : ClientId) (table : Table) (left : table ≡ table_left b s.table client)
+module _ (was now : ClientViews) (s : Scene) (b : Bool) (client : ClientId) (table : Table) (left : table ≡ table_left b s.table client)
     (kept : (k : Holder) (e : Entry) → entry_at table k ≡ Some e → sets_of now k ≡ sets_of was k) where
   had : (k : Holder) (e : Entry) → entry_at table k ≡ Some e → entry_at s.table k ≡ Some e
   had k e there = left-was b s.table client k e (ap (λ (t : Table). entry_at t k) (sym left) ∙ there)
 
   pub left-permitted : ArePermittedIn was s → ArePermittedIn now (record s { table = table })
-  left-permitted may k e there = ap (option_map (λ (sets : Sets). sets.permitted)) (kept k e there) ∙ may k e (had k e there)
+  left-permitted may k e there = ap (option_map (λ (sets : ClientView). sets.permitted)) (kept k e there) ∙ may k e (had k e there)
 
 -- ---- what is permitted
 
@@ -47,7 +47,7 @@ marked status true (Some session) None inode = refl
 marked status true (Some session) (Some path) None = refl
 marked status true (Some session) (Some path) (Some node) = refl
 
-module _ (sets : KnownSets) (old : State) (client : ClientId) (change : SessionChange) (now : Scene) (is : now ≡ (session_changed old client change).scene)
+module _ (sets : ClientViews) (old : State) (client : ClientId) (change : SessionChange) (now : Scene) (is : now ≡ (session_changed old client change).scene)
     (was : ArePermittedIn sets (record old.scene { table = now.table })) where
   -- what is kept of an entry is so still, where the same is permitted
   same-permitted : (k : Holder) (e : Entry) → entry_at now.table k ≡ Some e

@@ -1,7 +1,7 @@
 -- A poll is a whole step: no lock moves, and nothing is left to do but to give the messages.
 use Rattle.std.proofs.Common.{◌≡◌, ℕ, Option, None, List, [], filter, sym, ap, subst, ◌∙◌, append-nil, arith}
 use Rattle.capstep.proofs.SoundEnd.{sound-ends}
-use Rattle.capcore.proofs.Common.{ClientId, Direct, Ended, Event, Gives, IsAnswered, IsSound, IsTable, IssuesExactly, Message, Rejection, Reply, Said, Settles}
+use Rattle.capcore.proofs.Common.{ClientId, Direct, Ended, Event, Gives, IsAnswered, IsSound, IsTable, IssuesExactly, Message, Rejection, Reply, StepReply, Settles}
 use Rattle.capcore.proofs.Common.{State, Step, Table, after_messages, all_ended, changed_where, direct, effect_unless, first_denied, first_failing}
 use Rattle.capcore.proofs.Common.{first_messages, is_left, is_of_client, judged, rejection_by, reply_of, session_tests, shown, shown-given, shown-issued}
 use Rattle.capcore.proofs.Common.{shown-sound, sound-settles, state_after, with_given}
@@ -43,11 +43,11 @@ module _ (old : State) (sound : IsSound old) (table : IsTable old.scene.table) (
       nothing_left : state_after old here [] old.scene ≡ old
       nothing_left = λ i. record old { scene = sound-ends old sound table i; messages = append-nil old.messages i }
 
-  pub poll-answered : (said : Said) → first_failing (session_tests old.scene.sessions client.0) ≡ None
-      → said.reply ≡ Reply.Messages (first_messages old client max) → said.for_history ≡ said.reply → said.ended ≡ []
-      → IsAnswered old (Event.Poll client max) said (with_given old client (first_messages old client max))
-  poll-answered said is answers for_history none = record {
-    step = subst (λ (ended : List Ended). Step old poll said.reply ended new) (sym none) (subst (λ (r : Reply). Step old poll r [] new) (sym answers) (polled-step is));
+  pub poll-answered : (step_reply : StepReply) → first_failing (session_tests old.scene.sessions client.0) ≡ None
+      → step_reply.reply ≡ Reply.Messages (first_messages old client max) → step_reply.for_history ≡ step_reply.reply → step_reply.ended ≡ []
+      → IsAnswered old (Event.Poll client max) step_reply (with_given old client (first_messages old client max))
+  poll-answered step_reply is answers for_history none = record {
+    step = subst (λ (ended : List Ended). Step old poll step_reply.reply ended new) (sym none) (subst (λ (r : Reply). Step old poll r [] new) (sym answers) (polled-step is));
     for_history = for_history;
     sound = shown-sound old (Gives client max) sound table;
     issued = subst (λ (s : State). IssuesExactly s.scene new.scene) (sym (same_state (judged old.scene poll))) (shown-issued old.scene old (Gives client max) table (has-due old sound));

@@ -3,7 +3,7 @@ use Rattle.std.proofs.Common.{◌≡◌, ◌≤◌, ℕ, Bool, true, ◌||◌, L
 use Rattle.std.proofs.lemmas.List.Elements.{All-map}
 use Rattle.capstep.proofs.SoundEnd.{same-finished}
 use Rattle.capstep.proofs.Telling.{as_sized, as_told, retold, retold-sound, retold_table}
-use Rattle.capcore.proofs.Common.{AreGiven, EntryRow, Event, HoldAlike, Holder, IsAnswered, IsSound, IsTable, IsTable-recalled, KnownSets, Reply, Said, State}
+use Rattle.capcore.proofs.Common.{AreGiven, EntryRow, Event, HoldAlike, Holder, IsAnswered, IsSound, IsTable, IsTable-recalled, ClientViews, Reply, StepReply, State}
 use Rattle.capcore.proofs.Common.{Table, alike-where, finished, is_among, recalled, with_table}
 use Rattle.capcore.proofs.Sounding.{later-given}
 use Rattle.capcore.proofs.Steps.{direct-answered}
@@ -33,18 +33,18 @@ module _ (old : State) (sound : IsSound old) (count : ℕ) where
   pub recalled-finished : IsTable old.scene.table → finished old.scene (with_table old (recalled old.scene.table count)).scene (with_table old (recalled old.scene.table count)).scene ≡ (with_table old (recalled old.scene.table count)).scene
   recalled-finished table = same-finished new recalled-sound (IsTable-recalled old.scene.table count table) old.scene (λ row inside. refl)
 
-  pub recall-answered : (said : Said) → IsTable old.scene.table → said.reply ≡ Reply.Recalled (take count old.scene.table.recall)
-      → said.for_history ≡ Reply.Recalled (take count old.scene.table.recall) → said.ended ≡ []
-      → IsAnswered old (Event.Recall count) said (with_table old (recalled old.scene.table count))
-  recall-answered said table answers for_history none =
+  pub recall-answered : (step_reply : StepReply) → IsTable old.scene.table → step_reply.reply ≡ Reply.Recalled (take count old.scene.table.recall)
+      → step_reply.for_history ≡ Reply.Recalled (take count old.scene.table.recall) → step_reply.ended ≡ []
+      → IsAnswered old (Event.Recall count) step_reply (with_table old (recalled old.scene.table count))
+  recall-answered step_reply table answers for_history none =
       direct-answered old new (Event.Recall count) refl (Reply.Recalled (take count old.scene.table.recall)) (record { answer_is = refl; state_is = refl })
-      recalled-sound (recalled-finished table) said
+      recalled-sound (recalled-finished table) step_reply
       (λ most given. later-given most new (
       subst (λ t. AreGiven most (with_table old t)) (sym (recalled-retold old.scene.table count))
       (record { entries = All-map (λ row. row.entry.seq ≤ most) (retold as_told as_sized (asked_too named)) old.scene.table.rows given.entries; last = given.last; made = given.made }))) answers for_history none
 
   -- each entry holds what it held
-  pub recalled-kept : (sets : KnownSets) → AreKept sets old.scene → AreKept sets (with_table old (recalled old.scene.table count)).scene
+  pub recalled-kept : (sets : ClientViews) → AreKept sets old.scene → AreKept sets (with_table old (recalled old.scene.table count)).scene
   recalled-kept sets kept =
       alike-kept sets old.scene (recalled old.scene.table count)
       (subst (HoldAlike old.scene.table) (sym (recalled-retold old.scene.table count))

@@ -1,7 +1,7 @@
 -- An event that is rejected is answered so; and which inode an event affects that waits for a lock.
 use Rattle.std.proofs.Common.{◌≡◌, ℕ, List, Option, Some, None, [], ◌∷◌, ◌++◌, refl, sym, ap, ◌∙◌, arith}
 use Rattle.std.specs.Option.{option_map}
-use Rattle.capcore.proofs.Common.{Access, ByTest, ClientId, Event, IsAnswered, IsSound, IsTable, Need, Refusal, Rejection, Said, Scene, State, Test}
+use Rattle.capcore.proofs.Common.{Access, ByTest, ClientId, Event, IsAnswered, IsSound, IsTable, Need, Refusal, Rejection, StepReply, Scene, State, Test}
 use Rattle.capcore.proofs.Common.{basic_tests, failing-front, first_denied, first_failing, inode_tests, judged, need, no_test, passed-both, passed-front}
 use Rattle.capcore.proofs.Common.{rejection-step, rejection_by, rejection_of, rejection_reply, session_tests}
 use Rattle.capcore.proofs.Promised.{has-due}
@@ -10,9 +10,9 @@ use Rattle.capcore.proofs.Sounding.{later-given}
 -- ---- what is rejected
 
 -- it is a step that changes nothing
-pub rejection-answered : (old : State) (e : Event) (rejection : Rejection) (said : Said) → IsSound old → IsTable old.scene.table → judged old.scene e ≡ Some rejection
-    → said.reply ≡ rejection_reply rejection → said.for_history ≡ said.reply → said.ended ≡ [] → IsAnswered old e said old
-rejection-answered old e rejection said sound table is answers for_history none = grind (arith, rejection-step, has-due, later-given)
+pub rejection-answered : (old : State) (e : Event) (rejection : Rejection) (step_reply : StepReply) → IsSound old → IsTable old.scene.table → judged old.scene e ≡ Some rejection
+    → step_reply.reply ≡ rejection_reply rejection → step_reply.for_history ≡ step_reply.reply → step_reply.ended ≡ [] → IsAnswered old e step_reply old
+rejection-answered old e rejection step_reply sound table is answers for_history none = grind (arith, rejection-step, has-due, later-given)
 
 -- what rejects an event by its parts, read before it was known which state they make up
 pub judged-at : (old now : State) (e : Event) (o : Option Rejection) → old ≡ now → o ≡ judged old.scene e → judged now.scene e ≡ o

@@ -7,7 +7,7 @@ use Rattle.capstep.specs.SessionChange.{ReachesClient}
 use Rattle.capstep.specs.declared.settle.Affected.TheVariants.{Inodes}
 use Rattle.capcore.proofs.Begun.{begun-entries}
 use Rattle.capcore.proofs.Closing.{affects-settles}
-use Rattle.capcore.proofs.Common.{Affects, AreChanges, AreCountedIn, ArePermittedIn, ClientId, Direct, DueEndings, Ended, Endings, Entry, Event, HasRoom}
+use Rattle.capcore.proofs.Common.{Affects, AreChanges, AreCountedIn, ArePermittedIn, ClientId, Direct, DueEndings, Ended, StepOutput, Entry, Event, HasRoom}
 use Rattle.capcore.proofs.Common.{HaveRoomFor, HoldAlike, Holder, InoSet, IsJudged, IsLockMap, IsTable, LockMap, Scene, SessionChange, State, StillKnown}
 use Rattle.capcore.proofs.Common.{ViewChange, alike-less, direct, dropped_by, entry_at, is_end, judged, known_of, locks_left, messages_left, plain}
 use Rattle.capcore.proofs.Common.{session_changed, session_event, still-knows, still-there, view_of, without_requests_of-kept}
@@ -15,8 +15,8 @@ use Rattle.capcore.proofs.Granted.{left-was}
 use Rattle.capcore.proofs.SessionChanged.{direct-session_changed, session_changed-affects, session_changed-below, session_changed-last, session_changed-made}
 use Rattle.capcore.proofs.SessionChanged.{session_changed-table, session_direct}
 use Rattle.capcore.specs.UnderWay.{GivesOne, HasBegun, MayBegin, state_of}
-use Rattle.capcore.specs.declared.parts.Answer.TheVariants.{Dropped}
-use Rattle.capcore.specs.declared.parts.Parts.{Parts}
+use Rattle.capcore.specs.declared.parts.ReplyDue.TheVariants.{Dropped}
+use Rattle.capcore.specs.declared.parts.CoreState.{CoreState}
 
 -- ---- no more are left than there were
 
@@ -37,7 +37,7 @@ left-order b locks client order = grind (arith, without_requests_of-kept)
 
 -- ---- an event that nothing rejects
 
-module _ (p q : Parts) (endings : Endings) (client : ClientId) (change : SessionChange) (may : MayBegin p (session_event client change)) (is : plain q.scene ≡ (session_changed (state_of p) client change).scene)
+module _ (p q : CoreState) (output : StepOutput) (client : ClientId) (change : SessionChange) (may : MayBegin p (session_event client change)) (is : plain q.scene ≡ (session_changed (state_of p) client change).scene)
     (left : q.messages.items ≡ messages_left (is_end change) p.messages.items client) (inos : InoSet) (reaches : ReachesClient client p.scene.table.entries p.scene.locks.locks inos)
     (kept : (k : Holder) (f : Entry) → entry_at q.scene.table.entries k ≡ Some f → known_of q.scene.table.kept k ≡ known_of p.scene.table.kept k) (permitted : ArePermittedIn q.scene.table.kept (plain q.scene)) (counted : AreCountedIn q.scene) where
   abbrev e : Event
@@ -74,9 +74,9 @@ module _ (p q : Parts) (endings : Endings) (client : ClientId) (change : Session
   order : IsLockMap q.scene.locks.locks
   order = subst (λ (s : Scene). IsLockMap s.locks) (sym is) (left-order (is_end change) p.scene.locks.locks client may.order)
 
-  pub change-begun : (dropped : DueEndings) → dropped.items ≡ dropped_by (is_end change) p.scene.locks.locks client → HaveRoomFor (length q.scene.locks.locks.queue) endings
-      → IsJudged endings.judged (plain q.scene) → HavePlaces endings.changes q.scene.locks.locks inos → HasRoom q.messages q.scene.locks.locks → length dropped.items + length q.scene.locks.locks.queue ≤ vec_capacity dropped
-      → AreChanges endings.changes.items (view_of old) (view_of (state_of q)) → HasBegun p e (record { affected = Inodes inos; answer = Dropped dropped }) q endings
+  pub change-begun : (dropped : DueEndings) → dropped.items ≡ dropped_by (is_end change) p.scene.locks.locks client → HaveRoomFor (length q.scene.locks.locks.queue) output
+      → IsJudged output.judged (plain q.scene) → HavePlaces output.changes q.scene.locks.locks inos → HasRoom q.messages q.scene.locks.locks → length dropped.items + length q.scene.locks.locks.queue ≤ vec_capacity dropped
+      → AreChanges output.changes.items (view_of old) (view_of (state_of q)) → HasBegun p e (record { affected = Inodes inos; answer = Dropped dropped }) q output
   change-begun dropped dropped_is room judged at left_room places noted =
       let by_rule : state_of q ≡ (direct old e).state = state_is ∙ sym (ap (λ (d : Direct). d.state) by_itself) in
       record {

@@ -4,7 +4,7 @@ use Rattle.capstep.proofs.SoundEnd.{none-sized}
 use Rattle.capstep.specs.Affected.{affected_by, is_listing, session_changed_by}
 use Rattle.capcore.proofs.Bounded.{found-keeps}
 use Rattle.capcore.proofs.Common.{Answer, AreGiven, Awaits, Direct, Directory, Ended, Event, File, Gives, IsAnswered, IsDirect, IsSound, IsTable, IsTree}
-use Rattle.capcore.proofs.Common.{LeavesEntries, Rejection, Reply, Said, Says, Settles, Shows, State, Step, child, direct, effect, effect_unless, finished}
+use Rattle.capcore.proofs.Common.{LeavesEntries, Rejection, Reply, StepReply, Says, Settles, Shows, State, Step, child, direct, effect, effect_unless, finished}
 use Rattle.capcore.proofs.Common.{first_failing, has_list, judged, kept-finished, kept-sound, new_session_tests, no_test, reply_of, shown, sizes_owed}
 use Rattle.capcore.proofs.Common.{sound-settles, state_after, with_parts, with_scene, with_snapshot, without_snapshot}
 use Rattle.capcore.proofs.Promised.{issues-exactly}
@@ -47,7 +47,7 @@ module _ (old new : State) (e : Event) (still : session_changed_by e ≡ None) (
           ap (finished old.scene d.state.scene) (none-sized d.state.scene)
           ∙ subst (λ (s : State). finished old.scene s.scene s.scene ≡ s.scene) is.state_is finishes
 
-  pub direct-answered : (says : Said) → ((count : ℕ) → AreGiven count old → AreGiven (count + 1) new)
+  pub direct-answered : (says : StepReply) → ((count : ℕ) → AreGiven count old → AreGiven (count + 1) new)
       → says.reply ≡ answer → says.for_history ≡ answer → says.ended ≡ [] → IsAnswered old e says new
   direct-answered says given answers for_history none = record {
     step = subst (λ (ended : List Ended). Step old e says.reply ended new) (sym none) (subst (λ (r : Reply). Step old e r [] new) (sym answers) whole_step);
@@ -103,7 +103,7 @@ module _ (old : State) (sound : IsSound old) (tree : IsTree old.scene.tree) wher
     left : IsLeft old new
     left = subst (IsLeft old) (sym is.state_is) (left_unless e alone (judged old.scene e) refl)
 
-    pub alone-answered : (says : Said) → IsTable old.scene.table → says.reply ≡ answer → says.for_history ≡ answer → says.ended ≡ [] → IsAnswered old e says new
+    pub alone-answered : (says : StepReply) → IsTable old.scene.table → says.reply ≡ answer → says.for_history ≡ answer → says.ended ≡ [] → IsAnswered old e says new
     alone-answered says table answers for_history none =
         direct-answered old new e alone.2 answer is
         (subst IsSound (sym left.is) (kept-sound old sound new.scene.tree new.scene.sessions new.scene.locks.states left.leaves))

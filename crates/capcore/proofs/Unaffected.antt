@@ -20,11 +20,11 @@ use Rattle.lockmachine.proofs.CountsStay.{counted-born, counted-dropped}
 use Rattle.lockmachine.proofs.PolicyElsewhere.{permitted-changed, permitted-new, permitted-session, want-changed, want-new, want-session}
 use Rattle.lockmachine.specs.Locks.{without_ino}
 use Rattle.lockmachine.specs.Counts as counting
-use Rattle.capcore.proofs.Common.{AreCounted, AreCountedIn, Attr, CountMap, EntryRow, HoldAlike, InodeLocks, IsSound, IsTree, KeptScene, Kind, KnownSets}
+use Rattle.capcore.proofs.Common.{AreCounted, AreCountedIn, Attr, CountMap, EntryRow, HoldAlike, InodeLocks, IsSound, IsTree, KeptScene, Kind, ClientViews}
 use Rattle.capcore.proofs.Common.{LeavesEntries, LockMap, Node, Nodes, Scene, SessionTable, State, StateMap, Table, first_failing, found-contains, in_sync}
 use Rattle.capcore.proofs.Common.{is_row_of, kept-sound, new_session_tests, no_locks, permitted, plain, row_of-entry, with_ino, with_parts}
 use Rattle.capcore.specs.UnderWay.{AreKept, IsWhole, state_of}
-use Rattle.capcore.specs.declared.parts.Parts.{Parts}
+use Rattle.capcore.specs.declared.parts.CoreState.{CoreState}
 
 -- the locks that an inode begins with, where there is an inode
 abbrev first_of : Option Node → Option InodeLocks
@@ -68,18 +68,18 @@ module _ (s : State) (sound : IsSound s) where
 -- ---- what is kept of entries
 
 -- it is kept where they hold alike
-pub alike-kept : (sets : KnownSets) (s : Scene) (new : Table) → HoldAlike s.table new → AreKept sets s → AreKept sets (record s { table = new })
+pub alike-kept : (sets : ClientViews) (s : Scene) (new : Table) → HoldAlike s.table new → AreKept sets s → AreKept sets (record s { table = new })
 alike-kept sets s new alike kept = (known-alike sets s new alike kept.0, λ k e there. let was = alike k e there in kept.1 k was.0 was.1)
 
 -- ---- so they keep all that holds between two steps
 
 -- the scene with what is kept beside it
-abbrev pub kept_scene : Scene → KnownSets → CountMap → KeptScene
+abbrev pub kept_scene : Scene → ClientViews → CountMap → KeptScene
 kept_scene s kept counts = record { fs = s.fs; tree = s.tree; sessions = s.sessions; table = record { entries = s.table; kept = kept }; locks = record { locks = s.locks; counts = counts } }
 
-module _ (p : Parts) (whole : IsWhole p) where
+module _ (p : CoreState) (whole : IsWhole p) where
   -- the parts with another tree, other sessions, and other locks with their counts
-  abbrev beside : Nodes → SessionTable → StateMap → CountMap → Parts
+  abbrev beside : Nodes → SessionTable → StateMap → CountMap → CoreState
   beside tree sessions states counts = record p { scene = kept_scene (with_parts (plain p.scene) tree sessions states) p.scene.table.kept counts }
 
   left-whole : (tree : Nodes) (sessions : SessionTable) (states : StateMap) (counts : CountMap) → LeavesEntries (plain p.scene) tree sessions states

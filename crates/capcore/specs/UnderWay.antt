@@ -5,7 +5,7 @@ use Rattle.capbits.specs.declared.ids.Ino.{Ino}
 use Rattle.captable.specs.Table.{IsTable}
 use Rattle.capstep.specs.Affected.{Affects, Knows}
 use Rattle.capstep.specs.Begun.{AreCountedIn, ArePermittedIn, IsReady, among}
-use Rattle.capstep.specs.Known.{AreKnown, KnownSets, StillKnown, known_in}
+use Rattle.capstep.specs.Known.{AreKnown, ClientViews, StillKnown, known_in}
 use Rattle.capstep.specs.declared.operations.OperationRef.{OperationRef}
 use Rattle.capstep.specs.declared.operations.OperationRef.TheVariants.{Alter, Get, Rename, Rmdir, Unlink}
 use Rattle.step_model.specs.declared.event.Event.{Event}
@@ -22,25 +22,25 @@ use Rattle.capstep.specs.EntryRequest.{entry_answer, entry_event}
 use Rattle.lockmachine.specs.Locks.{IsLockMap}
 use Rattle.lockmachine.specs.Scene.{Scene, plain}
 use Rattle.capstep.specs.SessionChange.{session_event}
-use Rattle.capstep.specs.declared.endings.Endings.{Endings}
+use Rattle.capstep.specs.declared.output.StepOutput.{StepOutput}
 use Rattle.step_model.specs.Direct as rules
-use Rattle.capcore.specs.declared.parts.Answer.{Answer}
-use Rattle.capcore.specs.declared.parts.Answer.TheVariants.{Awaited, Done, Dropped, Requested}
-use Rattle.capcore.specs.declared.parts.Effect.{Effect}
-use Rattle.capcore.specs.declared.parts.MovingEvent.{MovingEvent}
-use Rattle.capcore.specs.declared.parts.MovingEvent.TheVariants.{Flush, OfEntry, OfLock, OfSession}
-use Rattle.capcore.specs.declared.parts.Parts.{Parts}
+use Rattle.capcore.specs.declared.parts.ReplyDue.{ReplyDue}
+use Rattle.capcore.specs.declared.parts.ReplyDue.TheVariants.{Awaited, Done, Dropped, Requested}
+use Rattle.capcore.specs.declared.parts.Applied.{Applied}
+use Rattle.capcore.specs.declared.parts.LockEvent.{LockEvent}
+use Rattle.capcore.specs.declared.parts.LockEvent.TheVariants.{Flush, OfEntry, OfLock, OfSession}
+use Rattle.capcore.specs.declared.parts.CoreState.{CoreState}
 
-abbrev pub state_of : Parts → State
+abbrev pub state_of : CoreState → State
 state_of p = record { scene = plain p.scene; messages = p.messages.items }
 
 -- of each entry it is kept what its client is to know of, and what it is permitted
-abbrev pub AreKept : KnownSets → Scene → Type 0
+abbrev pub AreKept : ClientViews → Scene → Type 0
 AreKept sets s = AreKnown sets s × ArePermittedIn sets s
 
 -- what the parts are between two steps: sound, with room for each message that is to come, with these of each entry, and of each
 -- gather how many clients it waits for
-abbrev pub IsWhole : Parts → Type 0
+abbrev pub IsWhole : CoreState → Type 0
 IsWhole p = IsSound (state_of p) × HasRoom p.messages p.scene.locks.locks × AreKept p.scene.table.kept (plain p.scene) × AreCountedIn p.scene
 
 -- ---- the event
@@ -53,14 +53,14 @@ operation_event client ino Unlink = Event.Unlink client ino
 operation_event client ino Rmdir = Event.Rmdir client ino
 operation_event client ino (Rename dir name) = Event.Rename client ino dir name.now
 
-abbrev pub event_of : MovingEvent → Event
+abbrev pub event_of : LockEvent → Event
 event_of (OfEntry k request) = entry_event k.client k.ino request
 event_of (OfLock k operation) = operation_event k.client k.ino operation
 event_of (Flush k change) = Event.Flush k.client k.ino change.now
 event_of (OfSession client change) = session_event client change
 
 -- nothing rejects it
-pub record MayBegin (p : Parts) (e : Event) : Type 0 where
+pub record MayBegin (p : CoreState) (e : Event) : Type 0 where
   pub whole : IsWhole p
   pub table : IsTable p.scene.table.entries
   pub order : IsLockMap p.scene.locks.locks
@@ -69,27 +69,27 @@ pub record MayBegin (p : Parts) (e : Event) : Type 0 where
 
 -- ---- what it leaves by itself
 
-abbrev pub answer_of : Answer → rules.Answer
+abbrev pub answer_of : ReplyDue → rules.Answer
 answer_of (Requested k request) = entry_answer k request
 answer_of (Awaited ticket) = rules.Awaits ticket
 answer_of answer = rules.Says Reply.Done
 
-abbrev pub dropped_of : Answer → List Ended
+abbrev pub dropped_of : ReplyDue → List Ended
 dropped_of (Dropped dropped) = dropped.items
 dropped_of answer = []
 
 -- of the requests that the step ends, those of earlier steps
-abbrev pub earlier_of : Answer → List Ended → List Ended
+abbrev pub earlier_of : ReplyDue → List Ended → List Ended
 earlier_of (Awaited ticket) for_clients = but_for ticket for_clients
 earlier_of answer for_clients = for_clients
 
 -- the last number of a request, before and after: the one that is awaited, is new
-abbrev pub IsNumbered : Answer → ℕ → ℕ → Type 0
+abbrev pub IsNumbered : ReplyDue → ℕ → ℕ → Type 0
 IsNumbered (Awaited ticket) was now = (ticket.0 ≡ was + 1) × (now ≡ was + 1)
 IsNumbered answer was now = now ≡ was
 
 -- where requests were dropped, there is room for so many beside them
-abbrev pub HasPlaces : Answer → ℕ → Type 0
+abbrev pub HasPlaces : ReplyDue → ℕ → Type 0
 HasPlaces (Dropped dropped) waiting = length dropped.items + waiting ≤ vec_capacity dropped
 HasPlaces answer waiting = Unit
 
@@ -102,19 +102,19 @@ GivesOne old e =
 
 -- ---- the event alone has been applied
 
-pub record HasBegun (p : Parts) (e : Event) (effect : Effect) (q : Parts) (endings : Endings) : Type 0 where
+pub record HasBegun (p : CoreState) (e : Event) (applied : Applied) (q : CoreState) (output : StepOutput) : Type 0 where
   pub is : state_of q ≡ (direct (state_of p) e).state
-  pub answer : answer_of effect.answer ≡ (direct (state_of p) e).answer
-  pub dropped : dropped_of effect.answer ≡ (direct (state_of p) e).dropped
-  pub number : IsNumbered effect.answer p.scene.locks.locks.last q.scene.locks.locks.last
-  pub affects : Affects (among effect.affected) (state_of p) (state_of q)
+  pub answer : answer_of applied.answer ≡ (direct (state_of p) e).answer
+  pub dropped : dropped_of applied.answer ≡ (direct (state_of p) e).dropped
+  pub number : IsNumbered applied.answer p.scene.locks.locks.last q.scene.locks.locks.last
+  pub affects : Affects (among applied.affected) (state_of p) (state_of q)
   pub table : IsTable q.scene.table.entries
   pub gives : GivesOne (state_of p) e
   -- of each entry what was known is kept
   pub still : StillKnown p.scene.table.entries q.scene.table.entries p.scene.table.kept q.scene.table.kept
   pub knows : Knows (known_in q.scene.table.kept) (plain p.scene) q.scene.table.entries
-  pub ready : IsReady effect.affected q.scene.table.kept (plain q.scene) endings
+  pub ready : IsReady applied.affected q.scene.table.kept (plain q.scene) output
   pub counted : AreCountedIn q.scene
   pub room : HasRoom q.messages q.scene.locks.locks
-  pub places : HasPlaces effect.answer (length q.scene.locks.locks.queue)
-  pub noted : AreChanges endings.changes.items (view_of (state_of p)) (view_of (state_of q))
+  pub places : HasPlaces applied.answer (length q.scene.locks.locks.queue)
+  pub noted : AreChanges output.changes.items (view_of (state_of p)) (view_of (state_of q))

@@ -11,7 +11,7 @@ ghost use Rattle.capstep.specs.EntryRequest.{entry_event};
 ghost use Rattle.step_model.specs.declared.event.Event.TheVariants as event;
 ghost use Rattle.capcore.specs.UnderWay.{event_of};
 
-use crate::parts::MovingEvent;
+use crate::parts::LockEvent;
 use capbits::{Cap, CapSet, Part, Refusal};
 use capgrant::Access;
 use capstep::client::session_change_refusal;
@@ -24,18 +24,18 @@ use sessiontab::Sessions;
 use step_model::{OpenMode, Rejection};
 
 // What rejects an event.
-pub(crate) fn rejection(scene: &KeptScene, moving: &MovingEvent) -> Option<Rejection>
-    ensures { AreKnown scene.now.table.kept (plain scene.now) → result ≡ judged (plain scene.now) (event_of moving.now) }
+pub(crate) fn rejection(scene: &KeptScene, lock_event: &LockEvent) -> Option<Rejection>
+    ensures { AreKnown scene.now.table.kept (plain scene.now) → result ≡ judged (plain scene.now) (event_of lock_event.now) }
 {
-    match moving {
-        MovingEvent::OfEntry(holder, EntryRequest::Open(mode)) => open_rejection(
+    match lock_event {
+        LockEvent::OfEntry(holder, EntryRequest::Open(mode)) => open_rejection(
             scene, *holder, *mode,
         ),
-        MovingEvent::OfEntry(holder, request) => {
+        LockEvent::OfEntry(holder, request) => {
             Some(Rejection::ByTest(entry_refusal(scene, *holder, request)?))
         }
         // Its session and the room in the queue are tested besides; else it is judged as when it is served.
-        MovingEvent::OfLock(holder, operation) => {
+        LockEvent::OfLock(holder, operation) => {
             if let Some(refusal) = scene.sessions.session_refusal(holder.client) {
                 return Some(Rejection::ByTest(refusal));
             }
@@ -45,8 +45,8 @@ pub(crate) fn rejection(scene: &KeptScene, moving: &MovingEvent) -> Option<Rejec
             let refusal = scene.locks.enqueue_refusal()?;
             Some(Rejection::ByTest(refusal))
         }
-        MovingEvent::Flush(holder, change) => flush_rejection(scene, *holder, *change),
-        MovingEvent::OfSession(client, change) => {
+        LockEvent::Flush(holder, change) => flush_rejection(scene, *holder, *change),
+        LockEvent::OfSession(client, change) => {
             let refusal = session_change_refusal(&scene.sessions, *client, *change)?;
             Some(Rejection::ByTest(refusal))
         }

@@ -19,10 +19,18 @@ pub use capbits::Refusal;
 pub use capstep::serving_laws::{a_serving_changes_what_it_moves, a_serving_keeps_what_exists};
 pub use capstep::stop::Stop;
 pub use giving::{a_recall_leaves_all_but_the_marks, telling_leaves_all_but_what_was_told};
-pub use laws::{a_rejection_changes_nothing, a_row_fixes_its_step, a_settling_serves_at_most_who_waits, a_sound_state_has_nothing_left_to_do, a_step_that_finds_memory_has_one_end, an_opening_is_sound, rows_fix_the_state, sessions_inodes_and_snapshots_leave_entries_alone, the_held_are_apart, the_same_events_have_the_same_history, the_served_are_denied_exactly, what_leaves_entries_alone_leaves_nothing_to_do};
+pub use laws::{
+    a_rejection_changes_nothing, a_row_fixes_its_step, a_settling_serves_at_most_who_waits,
+    a_sound_state_has_nothing_left_to_do, a_step_that_finds_memory_has_one_end,
+    an_opening_is_sound, rows_fix_the_state, sessions_inodes_and_snapshots_leave_entries_alone,
+    the_held_are_apart, the_same_events_have_the_same_history, the_served_are_denied_exactly,
+    what_leaves_entries_alone_leaves_nothing_to_do,
+};
 pub use lockmachine::Change;
 pub use own_laws::what_is_served_at_once_is_not_rejected;
 pub use policy_view::{View, ViewChange};
 pub use step::Core;
 pub use step_laws::an_event_is_a_step_once_it_has_ended;
-pub use step_model::{Ended, EndedList, Event, Message, MessageList, OpenMode, Outcome, PartValues, Reply, Row};
+pub use step_model::{
+    Ended, EndedList, Event, Message, MessageList, OpenMode, Outcome, PartValues, Reply, Row,
+};

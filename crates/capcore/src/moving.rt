@@ -14,17 +14,17 @@ ghost use Rattle.capstep.specs.SessionChange.{session_changed, session_event};
 ghost use Rattle.step_model.specs.declared.event.Event.TheVariants as event;
 ghost use Rattle.capcore.specs.UnderWay.{HasBegun, HasPlaces, IsWhole, MayBegin, answer_of, dropped_of, earlier_of, event_of, operation_event, state_of};
 
-use crate::parts::{Answer, Effect, MovingEvent, Parts};
+use crate::parts::{Applied, CoreState, LockEvent, ReplyDue};
 use capbits::{ClientId, Ticket};
-use capstep::{OperationRef, copy_of_operation};
 use capstep::client::{Room, apply_session_change};
-use capstep::endings::Endings;
 use capstep::entry_request::{apply_request, show_reply};
-use capstep::leaving::{SessionChange, leave};
+use capstep::leaving::{SessionChange, drop_client_state};
+use capstep::output::StepOutput;
 use capstep::renewing::{renew_changed, renew_client};
-use capstep::said::Said;
 use capstep::serving::alter;
 use capstep::settle::Affected;
+use capstep::step_reply::StepReply;
+use capstep::{OperationRef, copy_of_operation};
 use captable::Holder;
 use inotree::NonEmptyInoSet;
 use lockmachine::{Change, KeptScene, Policy};
@@ -32,39 +32,35 @@ use std::alloc::AllocError;
 use std::mem::swap;
 use step_model::{Ended, EndedList, Reply, copy_of_reply};
 
-impl Parts {
+impl CoreState {
     // ---- the event by itself. For want of memory nothing changes, and what the last step changed stays listed
 
     pub(crate) fn begin(
         &mut self,
-        moving: &MovingEvent,
-        endings: &mut Endings,
-    ) -> Result<Effect, AllocError>
-        requires may { MayBegin self.old (event_of moving.now) }
-        ensures begun { IfOk result (λ effect. HasBegun self.old (event_of moving.now) effect self.new endings.new) }
+        lock_event: &LockEvent,
+        output: &mut StepOutput,
+    ) -> Result<Applied, AllocError>
+        requires may { MayBegin self.old (event_of lock_event.now) }
+        ensures begun { IfOk result (λ applied. HasBegun self.old (event_of lock_event.now) applied self.new output.new) }
         ensures err { OnErr result (state_of self.new ≡ state_of self.old) }
         ensures whole { OnErr result (IsWhole self.new) }
-        ensures changes { OnErr result (endings.new.changes.items ≡ endings.old.changes.items) }
+        ensures changes { OnErr result (output.new.changes.items ≡ output.old.changes.items) }
     {
-        match moving {
+        match lock_event {
             // The request is applied to the entry.
-            MovingEvent::OfEntry(holder, request) => {
+            LockEvent::OfEntry(holder, request) => {
                 let waiting = self.scene.locks.waiting();
-                endings.begin(waiting, waiting + 1)?;
+                output.begin(waiting, waiting + 1)?;
                 apply_request(&mut self.scene, *holder, request)?;
-                endings.changes.clear();
-                Ok(Effect {
+                output.changes.clear();
+                Ok(Applied {
                     affected: Affected::Entry(*holder),
-                    answer: Answer::Requested(*holder, *request),
+                    answer: ReplyDue::Requested(*holder, *request),
                 })
             }
-            MovingEvent::OfLock(holder, operation) => self.lock_request(
-                *holder, *operation, endings,
-            ),
-            MovingEvent::Flush(holder, change) => self.flush(*holder, *change, endings),
-            MovingEvent::OfSession(client, change) => self.session_change(
-                *client, *change, endings,
-            ),
+            LockEvent::OfLock(holder, operation) => self.lock_request(*holder, *operation, output),
+            LockEvent::Flush(holder, change) => self.flush(*holder, *change, output),
+            LockEvent::OfSession(client, change) => self.session_change(*client, *change, output),
         }
     }
 
@@ -73,29 +69,29 @@ impl Parts {
         &mut self,
         holder: Holder,
         operation: OperationRef,
-        endings: &mut Endings,
-    ) -> Result<Effect, AllocError>
+        output: &mut StepOutput,
+    ) -> Result<Applied, AllocError>
         requires may { MayBegin self.old (operation_event holder.client holder.ino operation) }
-        ensures begun { IfOk result (λ effect. HasBegun self.old (operation_event holder.client holder.ino operation.entry) effect self.new endings.new) }
+        ensures begun { IfOk result (λ applied. HasBegun self.old (operation_event holder.client holder.ino operation.entry) applied self.new output.new) }
         ensures err { OnErr result (state_of self.new ≡ state_of self.old) }
         ensures whole { OnErr result (IsWhole self.new) }
-        ensures changes { OnErr result (endings.new.changes.items ≡ endings.old.changes.items) }
+        ensures changes { OnErr result (output.new.changes.items ≡ output.old.changes.items) }
     {
         let waiting = self.scene.locks.waiting() + 1;
-        endings.begin(waiting, waiting + 1)?;
+        output.begin(waiting, waiting + 1)?;
         let alloc = *self.messages.allocator();
         let copy = copy_of_operation(alloc, operation)?;
         if let Err(refused) = self.messages.reserve(waiting) {
             drop(copy);
             return Err(refused);
         }
-        endings.changes.clear();
+        output.changes.clear();
         let locks = &mut self.scene.locks;
         let ticket = locks.enqueue_tested(holder.client, holder.ino, copy);
-        endings.judged = Some(ticket);
-        Ok(Effect {
+        output.judged = Some(ticket);
+        Ok(Applied {
             affected: Affected::Inodes(NonEmptyInoSet::of(alloc, holder.ino)),
-            answer: Answer::Awaited(ticket),
+            answer: ReplyDue::Awaited(ticket),
         })
     }
 
@@ -104,20 +100,20 @@ impl Parts {
         &mut self,
         holder: Holder,
         change: &Change,
-        endings: &mut Endings,
-    ) -> Result<Effect, AllocError>
+        output: &mut StepOutput,
+    ) -> Result<Applied, AllocError>
         requires may { MayBegin self.old (event.Flush holder.client holder.ino change.now) }
-        ensures begun { IfOk result (λ effect. HasBegun self.old (event.Flush holder.client holder.ino change.now) effect self.new endings.new) }
+        ensures begun { IfOk result (λ applied. HasBegun self.old (event.Flush holder.client holder.ino change.now) applied self.new output.new) }
         ensures err { OnErr result (state_of self.new ≡ state_of self.old) }
         ensures whole { OnErr result (IsWhole self.new) }
-        ensures changes { OnErr result (endings.new.changes.items ≡ endings.old.changes.items) }
+        ensures changes { OnErr result (output.new.changes.items ≡ output.old.changes.items) }
     {
         let waiting = self.scene.locks.waiting();
-        endings.begin(waiting, waiting + 2)?;
+        output.begin(waiting, waiting + 2)?;
         let (tree, ino) = (&mut self.scene.tree, holder.ino);
         alter(tree, ino, change)?;
-        endings.changes.clear();
-        endings.changes.note_change(&self.scene.tree, ino, change);
+        output.changes.clear();
+        output.changes.note_change(&self.scene.tree, ino, change);
         let policy = Policy {
             fs: &self.scene.fs,
             tree: &self.scene.tree,
@@ -125,9 +121,9 @@ impl Parts {
         };
         renew_changed(&policy, &mut self.scene.table, ino, change);
         self.scene.table.touch(holder.client, ino);
-        Ok(Effect {
-            affected: Affected::Inodes(NonEmptyInoSet::of(endings.alloc(), ino)),
-            answer: Answer::Done,
+        Ok(Applied {
+            affected: Affected::Inodes(NonEmptyInoSet::of(output.alloc(), ino)),
+            answer: ReplyDue::Done,
         })
     }
 
@@ -137,13 +133,13 @@ impl Parts {
         &mut self,
         client: ClientId,
         change: SessionChange,
-        endings: &mut Endings,
-    ) -> Result<Effect, AllocError>
+        output: &mut StepOutput,
+    ) -> Result<Applied, AllocError>
         requires may { MayBegin self.old (session_event client change) }
-        ensures begun { IfOk result (λ effect. HasBegun self.old (session_event client change.entry) effect self.new endings.new) }
+        ensures begun { IfOk result (λ applied. HasBegun self.old (session_event client change.entry) applied self.new output.new) }
         ensures err { OnErr result (state_of self.new ≡ state_of self.old) }
         ensures whole { OnErr result (IsWhole self.new) }
-        ensures changes { OnErr result (endings.new.changes.items ≡ endings.old.changes.items) }
+        ensures changes { OnErr result (output.new.changes.items ≡ output.old.changes.items) }
     {
         let (alloc, table, locks) = (
             *self.messages.allocator(),
@@ -154,15 +150,15 @@ impl Parts {
             inodes,
             mut dropped,
             note,
-        } = Room::new(alloc, table, locks, client, change, endings)?;
+        } = Room::new(alloc, table, locks, client, change, output)?;
         apply_session_change(&mut self.scene.sessions, client, change)?;
-        endings.changes.start(note);
+        output.changes.start(note);
         let (scene, messages) = (&mut self.scene, &mut self.messages);
-        leave(scene, messages, client, change, &mut dropped);
+        drop_client_state(scene, messages, client, change, &mut dropped);
         renew_granted(&mut self.scene, client, change);
-        Ok(Effect {
+        Ok(Applied {
             affected: Affected::Inodes(inodes),
-            answer: Answer::Dropped(dropped),
+            answer: ReplyDue::Dropped(dropped),
         })
     }
 
@@ -170,56 +166,56 @@ impl Parts {
 
     // What the step says: clients are to be told of the requests that it ended, and the history keeps them; of those that were
     // dropped, which come first there, nobody is told.
-    pub(crate) fn close(&mut self, answer: Answer, endings: &mut Endings) -> Said
-        requires differ { HaveOwnNumbers endings.old.for_clients.items }
-        requires same { endings.old.for_history.items ≡ endings.old.for_clients.items }
-        requires room { length self.old.messages.items + length endings.old.for_clients.items ≤ vec_capacity self.old.messages }
-        requires places { HasPlaces answer (length endings.old.for_clients.items) }
+    pub(crate) fn close(&mut self, answer: ReplyDue, output: &mut StepOutput) -> StepReply
+        requires differ { HaveOwnNumbers output.old.for_clients.items }
+        requires same { output.old.for_history.items ≡ output.old.for_clients.items }
+        requires room { length self.old.messages.items + length output.old.for_clients.items ≤ vec_capacity self.old.messages }
+        requires places { HasPlaces answer (length output.old.for_clients.items) }
         requires known { AreKnown self.old.scene.table.kept (plain self.old.scene) }
         ensures reply { (ms : List AnEnded) → let last : State = record { scene = plain self.old.scene; messages = ms } in
-            result.reply ≡ reply_of last endings.old.for_clients.items (answer_of answer) }
+            result.reply ≡ reply_of last output.old.for_clients.items (answer_of answer) }
         ensures shown { (ms : List AnEnded) → let last : State = record { scene = plain self.old.scene; messages = ms } in
             record { scene = plain self.new.scene; messages = ms } ≡ shown (answer_of answer) last }
         ensures for_history { result.for_history ≡ result.reply }
-        ensures ended { result.ended ≡ dropped_of answer ++ earlier_of answer endings.old.for_clients.items }
-        ensures changes { endings.new.changes ≡ endings.old.changes }
-        ensures messages { self.new.messages.items ≡ self.old.messages.items ++ earlier_of answer endings.old.for_clients.items }
+        ensures ended { result.ended ≡ dropped_of answer ++ earlier_of answer output.old.for_clients.items }
+        ensures changes { output.new.changes ≡ output.old.changes }
+        ensures messages { self.new.messages.items ≡ self.old.messages.items ++ earlier_of answer output.old.for_clients.items }
         ensures room { vec_capacity self.old.messages ≤ vec_capacity self.new.messages }
         ensures rest { self.new.scene ≡ record self.old.scene { table = record self.old.scene.table { entries = self.new.scene.table.entries } } }
     {
         let (reply, for_history) = match answer {
-            Answer::Done => (Reply::Done, Reply::Done),
-            Answer::Dropped(mut dropped) => {
-                let Ok(()) = dropped.append(&mut endings.for_history) else {
+            ReplyDue::Done => (Reply::Done, Reply::Done),
+            ReplyDue::Dropped(mut dropped) => {
+                let Ok(()) = dropped.append(&mut output.for_history) else {
                     unreachable!()
                 };
-                endings.for_history = dropped;
+                output.for_history = dropped;
                 (Reply::Done, Reply::Done)
             }
-            Answer::Requested(holder, request) => {
+            ReplyDue::Requested(holder, request) => {
                 let reply = show_reply(&mut self.scene.table, holder, &request);
                 let for_history = copy_of_reply(&reply);
                 (reply, for_history)
             }
-            Answer::Awaited(ticket) => {
-                let reply = awaited(&mut endings.for_clients, ticket);
-                let for_history = awaited(&mut endings.for_history, ticket);
+            ReplyDue::Awaited(ticket) => {
+                let reply = awaited(&mut output.for_clients, ticket);
+                let for_history = awaited(&mut output.for_history, ticket);
                 (reply, for_history)
             }
         };
-        let mut ended = Vec::new(endings.alloc());
+        let mut ended = Vec::new(output.alloc());
         // Where none ended, the room stays.
-        if !endings.for_history.is_empty() {
-            swap(&mut ended, &mut endings.for_history);
+        if !output.for_history.is_empty() {
+            swap(&mut ended, &mut output.for_history);
             // The history keeps the list for good, but not the room for all who waited.
             ended.shrink_to_fit();
         }
-        if !endings.for_clients.is_empty() {
-            let Ok(()) = self.messages.append(&mut endings.for_clients) else {
+        if !output.for_clients.is_empty() {
+            let Ok(()) = self.messages.append(&mut output.for_clients) else {
                 unreachable!()
             };
         }
-        Said {
+        StepReply {
             reply,
             for_history,
             ended: EndedList::from(ended),

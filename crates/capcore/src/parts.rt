@@ -11,16 +11,16 @@ use step_model::Ended;
 
 // Tree, sessions, entries and locks, with what is kept beside entries and locks, and what clients are still to be told.
 #[derive(Debug)]
-pub(crate) struct Parts {
+pub(crate) struct CoreState {
     pub(crate) scene: KeptScene,
     // The requests that ended and that no client was told of.
     pub(crate) messages: Vec<Ended>,
 }
 
 // Not derived: so the proof of a function that drops one has a single call there.
-impl Drop for Parts {
+impl Drop for CoreState {
     fn drop(self) {
-        let Parts {
+        let CoreState {
             scene: _,
             messages: _,
         } = self;
@@ -29,7 +29,7 @@ impl Drop for Parts {
 
 // An event that may move locks, borrowed.
 #[derive(Clone, Copy)]
-pub(crate) enum MovingEvent<'a> {
+pub(crate) enum LockEvent<'a> {
     OfEntry(Holder, EntryRequest),
     OfLock(Holder, OperationRef<'a>),
     // The holder, which alone may change a part, has changed it.
@@ -39,14 +39,14 @@ pub(crate) enum MovingEvent<'a> {
 
 // What the event left by itself, before any lock moves.
 #[derive(Drop)]
-pub(crate) struct Effect {
+pub(crate) struct Applied {
     pub(crate) affected: Affected,
-    pub(crate) answer: Answer,
+    pub(crate) answer: ReplyDue,
 }
 
 // What is answered at the end of the step.
 #[derive(Drop)]
-pub(crate) enum Answer {
+pub(crate) enum ReplyDue {
     Done,
     // That it is done, where these requests were dropped.
     Dropped(Vec<Ended>),

@@ -6,24 +6,28 @@ ghost use Rattle.policy_view.specs.Changes.{AreChanges};
 ghost use Rattle.step_model.specs.declared.event.Event.TheVariants as event;
 
 use crate::world::World;
-use capstep::endings::Endings;
-use capstep::said::Said;
+use capstep::output::StepOutput;
+use capstep::step_reply::StepReply;
 use std::alloc::AllocError;
 use step_model::{EndedList, Reply};
 
 impl World {
     // A step that marks the first entries in the order of recall as asked to release caps, and names them. The order stays.
-    pub(crate) fn recall(&mut self, count: u32, endings: &mut Endings) -> Result<Said, AllocError>
-        ensures answered { IfOk result (λ said. IsAnswered self.old (event.Recall count) said self.new) }
-        ensures changes { OnOk result (AreChanges endings.new.changes.items (view_of self.old) (view_of self.new)) }
-        ensures err { OnErr result ((self.new ≡ self.old) × (endings.new.changes.items ≡ endings.old.changes.items)) }
+    pub(crate) fn recall(
+        &mut self,
+        count: u32,
+        output: &mut StepOutput,
+    ) -> Result<StepReply, AllocError>
+        ensures answered { IfOk result (λ step_reply. IsAnswered self.old (event.Recall count) step_reply self.new) }
+        ensures changes { OnOk result (AreChanges output.new.changes.items (view_of self.old) (view_of self.new)) }
+        ensures err { OnErr result ((self.new ≡ self.old) × (output.new.changes.items ≡ output.old.changes.items)) }
     {
         let alloc = *self.parts.messages.allocator();
         // The list once for the history and once for the reply, both before an entry is marked.
         let for_history = self.parts.scene.table.first_to_recall(count)?;
         let named = self.parts.scene.table.recall(count)?;
-        endings.changes.clear();
-        Ok(Said {
+        output.changes.clear();
+        Ok(StepReply {
             reply: Reply::Recalled(named),
             for_history: Reply::Recalled(for_history),
             ended: EndedList::new(alloc),

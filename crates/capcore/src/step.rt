@@ -11,8 +11,8 @@ ghost use Rattle.capcore.specs.Promised.{IsPromised};
 use crate::world::World;
 use capbits::{ClientId, Ino, Part, PassId};
 use capspec::FsName;
-use capstep::endings::Endings;
 use capstep::history::make_room;
+use capstep::output::StepOutput;
 use capstep::stop::Stop;
 use captable::Entry;
 use inotree::Tree;
@@ -30,7 +30,7 @@ pub struct Core {
     rows: Vec<Row>,
     max_rows: u32,
     // What the last step changed of what readers see, with the room of the next.
-    endings: Endings,
+    output: StepOutput,
 }
 
 impl Model for Core {
@@ -41,9 +41,9 @@ impl Model for Core {
 
     ghost coded = { recorded_code };
 
-    ghost view = { λ c. recorded c.world c.rows.items c.max_rows c.endings.changes.items };
+    ghost view = { λ c. recorded c.world c.rows.items c.max_rows c.output.changes.items };
 
-    ghost invariant = { λ c. IsRecorded (recorded c.world c.rows.items c.max_rows c.endings.changes.items) };
+    ghost invariant = { λ c. IsRecorded (recorded c.world c.rows.items c.max_rows c.output.changes.items) };
 }
 
 // Not derived: so the proof of a function that drops one has a single call there, and no step for each part.
@@ -53,7 +53,7 @@ impl Drop for Core {
             world: _world,
             rows: _rows,
             max_rows: _max_rows,
-            endings: _endings,
+            output: _output,
         } = self;
     }
 }
@@ -71,7 +71,7 @@ impl Core {
             world: World::new(alloc, fs, tree)?,
             rows: Vec::new(alloc),
             max_rows,
-            endings: Endings::new(alloc),
+            output: StepOutput::new(alloc),
         })
     }
 
@@ -84,18 +84,18 @@ impl Core {
         ensures err { OnErr result (self.new ≡ self.old) }
     {
         let nth = make_room(&mut self.rows, self.max_rows, pass)?;
-        let said = self.world.step(&event, &mut self.endings)?;
+        let step_reply = self.world.step(&event, &mut self.output)?;
         let Ok(()) = self.rows.push(Row {
             pass,
             nth,
             event,
-            reply: said.for_history,
-            ended: said.ended,
+            reply: step_reply.for_history,
+            ended: step_reply.ended,
         })
         else {
             unreachable!()
         };
-        Ok(said.reply)
+        Ok(step_reply.reply)
     }
 
     /// The client's entry on the inode, where it has one.
@@ -147,6 +147,6 @@ impl Core {
     pub fn last_changes(&self) -> &[ViewChange]
         ensures { result.now ≡ self.now.changes }
     {
-        self.endings.changes.as_slice()
+        self.output.changes.as_slice()
     }
 }

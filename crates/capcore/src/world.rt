@@ -17,26 +17,26 @@ ghost use Rattle.step_model.specs.Noted.{view_of};
 ghost use Rattle.step_model.specs.Sound.{NumbersLeft};
 ghost use Rattle.step_model.specs.State.{State};
 ghost use Rattle.policy_view.specs.Changes.{AreChanges};
-ghost use Rattle.policy_view.specs.Sight.{Shows};
+ghost use Rattle.policy_view.specs.Visible.{Shows};
 ghost use Rattle.lockmachine.specs.Locks.{IsLockMap, LockMap};
 ghost use Rattle.lockmachine.specs.Scene.{scene};
 ghost use Rattle.step_model.specs.declared.event.Event.TheVariants as event;
 ghost use Rattle.capcore.specs.UnderWay.{event_of};
 
 use crate::judging::{access_rejection, basic_refusal, rejection};
-use crate::parts::{Effect, MovingEvent, Parts};
+use crate::parts::{Applied, CoreState, LockEvent};
 use capbits::{Caller, ClientId, Ino, Mode, Refusal};
 use capgrant::{Access, Attr};
 use capspec::{FsName, Grants};
 use capstep::OperationRef;
-use capstep::endings::Endings;
 use capstep::entry_request::EntryRequest;
 use capstep::judge::denial;
 use capstep::leaving::SessionChange;
+use capstep::output::StepOutput;
 use capstep::poll::{due_messages, give};
-use capstep::said::Said;
 use capstep::settle::end;
 use capstep::start::first_locks;
+use capstep::step_reply::StepReply;
 use captable::{CapTable, Holder};
 use inotree::{Kind, Tree};
 use lockmachine::KeptScene;
@@ -44,13 +44,13 @@ use policy_view::ViewChange;
 use sessiontab::Sessions;
 use std::alloc::{AllocError, Global};
 use std::marker::Model;
-use step_model::{ChangeList, EndedList, EndedTickets, Event, Reply, copy_of_messages};
 use step_model::due_endings::remove_given;
+use step_model::{ChangeList, EndedList, EndedTickets, Event, Reply, copy_of_messages};
 
 // The state that events change.
 #[derive(Debug)]
 pub(crate) struct World {
-    pub(crate) parts: Parts,
+    pub(crate) parts: CoreState,
 }
 
 // Not derived: so the proof of a function that drops one has a single call there.
@@ -91,7 +91,7 @@ impl World {
             table,
             locks,
         };
-        let parts = Parts {
+        let parts = CoreState {
             scene,
             messages: Vec::new(alloc),
         };
@@ -99,112 +99,116 @@ impl World {
     }
 
     // Makes one step.
-    pub(crate) fn step(&mut self, event: &Event, endings: &mut Endings) -> Result<Said, AllocError>
+    pub(crate) fn step(
+        &mut self,
+        event: &Event,
+        output: &mut StepOutput,
+    ) -> Result<StepReply, AllocError>
         requires numbers { NumbersLeft self.old }
         requires table { IsTable self.old.scene.table }
         requires locks { IsLockMap self.old.scene.locks }
-        ensures answered { IfOk result (λ said. IsAnswered self.old event.now said self.new) }
-        ensures changes { OnOk result (AreChanges endings.new.changes.items (view_of self.old) (view_of self.new)) }
-        ensures err { OnErr result ((self.new ≡ self.old) × (endings.new.changes.items ≡ endings.old.changes.items)) }
+        ensures answered { IfOk result (λ step_reply. IsAnswered self.old event.now step_reply self.new) }
+        ensures changes { OnOk result (AreChanges output.new.changes.items (view_of self.old) (view_of self.new)) }
+        ensures err { OnErr result ((self.new ≡ self.old) × (output.new.changes.items ≡ output.old.changes.items)) }
     {
-        let moving = match event {
+        let lock_event = match event {
             &Event::Open { client, ino, mode } => {
-                MovingEvent::OfEntry(Holder { client, ino }, EntryRequest::Open(mode))
+                LockEvent::OfEntry(Holder { client, ino }, EntryRequest::Open(mode))
             }
             &Event::Want { client, ino, caps } => {
-                MovingEvent::OfEntry(Holder { client, ino }, EntryRequest::Want(caps))
+                LockEvent::OfEntry(Holder { client, ino }, EntryRequest::Want(caps))
             }
             &Event::Ack { client, ino, seq } => {
-                MovingEvent::OfEntry(Holder { client, ino }, EntryRequest::Ack(seq))
+                LockEvent::OfEntry(Holder { client, ino }, EntryRequest::Ack(seq))
             }
             &Event::Release { client, ino, caps } => {
-                MovingEvent::OfEntry(Holder { client, ino }, EntryRequest::Release(caps))
+                LockEvent::OfEntry(Holder { client, ino }, EntryRequest::Release(caps))
             }
             &Event::Get { client, ino, part } => {
-                MovingEvent::OfLock(Holder { client, ino }, OperationRef::Get(part))
+                LockEvent::OfLock(Holder { client, ino }, OperationRef::Get(part))
             }
             &Event::Alter {
                 client,
                 ino,
                 ref change,
-            } => MovingEvent::OfLock(Holder { client, ino }, OperationRef::Alter(change)),
+            } => LockEvent::OfLock(Holder { client, ino }, OperationRef::Alter(change)),
             &Event::Unlink { client, ino } => {
-                MovingEvent::OfLock(Holder { client, ino }, OperationRef::Unlink)
+                LockEvent::OfLock(Holder { client, ino }, OperationRef::Unlink)
             }
             &Event::Rmdir { client, ino } => {
-                MovingEvent::OfLock(Holder { client, ino }, OperationRef::Rmdir)
+                LockEvent::OfLock(Holder { client, ino }, OperationRef::Rmdir)
             }
             &Event::Rename {
                 client,
                 ino,
                 dir,
                 ref name,
-            } => MovingEvent::OfLock(Holder { client, ino }, OperationRef::Rename { dir, name }),
+            } => LockEvent::OfLock(Holder { client, ino }, OperationRef::Rename { dir, name }),
             &Event::Flush {
                 client,
                 ino,
                 ref change,
-            } => MovingEvent::Flush(Holder { client, ino }, change),
+            } => LockEvent::Flush(Holder { client, ino }, change),
             &Event::CloseSession { client } => {
-                MovingEvent::OfSession(client, SessionChange::Close)
+                LockEvent::OfSession(client, SessionChange::Close)
             }
             &Event::Mark { client, status } => {
-                MovingEvent::OfSession(client, SessionChange::Mark(status))
+                LockEvent::OfSession(client, SessionChange::Mark(status))
             }
             &Event::Regrant { client, ref grants } => {
-                MovingEvent::OfSession(client, SessionChange::Regrant(grants))
+                LockEvent::OfSession(client, SessionChange::Regrant(grants))
             }
-            &Event::Evict { client } => MovingEvent::OfSession(client, SessionChange::Evict),
-            &Event::Poll { client, max } => return self.poll(client, max, endings),
-            &Event::Recall { count } => return self.recall(count, endings),
+            &Event::Evict { client } => LockEvent::OfSession(client, SessionChange::Evict),
+            &Event::Poll { client, max } => return self.poll(client, max, output),
+            &Event::Recall { count } => return self.recall(count, output),
             Event::Session { .. }
             | Event::Unblock { .. }
             | Event::Lookup { .. }
             | Event::Create { .. }
             | Event::Mkdir { .. }
             | Event::MakeSnapshot { .. }
-            | Event::RemoveSnapshot { .. } => return self.act_alone(event, endings),
+            | Event::RemoveSnapshot { .. } => return self.act_alone(event, output),
         };
-        self.move_locks(&moving, endings)
+        self.move_locks(&lock_event, output)
     }
 
     // A step that leaves alone what entries and requests depend on: no lock moves, and all is done when the event is.
-    fn act_alone(&mut self, event: &Event, endings: &mut Endings) -> Result<Said, AllocError>
+    fn act_alone(&mut self, event: &Event, output: &mut StepOutput) -> Result<StepReply, AllocError>
         requires affects { affected_by event.now ≡ None }
         requires lists { is_listing event.now ≡ false }
         requires changes_session { session_changed_by event.now ≡ None }
         requires table { IsTable self.old.scene.table }
-        ensures answered { IfOk result (λ said. IsAnswered self.old event.now said self.new) }
-        ensures changes { OnOk result (AreChanges endings.new.changes.items (view_of self.old) (view_of self.new)) }
-        ensures err { OnErr result ((self.new ≡ self.old) × (endings.new.changes.items ≡ endings.old.changes.items)) }
+        ensures answered { IfOk result (λ step_reply. IsAnswered self.old event.now step_reply self.new) }
+        ensures changes { OnOk result (AreChanges output.new.changes.items (view_of self.old) (view_of self.new)) }
+        ensures err { OnErr result ((self.new ≡ self.old) × (output.new.changes.items ≡ output.old.changes.items)) }
     {
         // From the tree, whose contract tells the proof that it is one.
         let alloc = self.parts.scene.tree.alloc();
-        let reply = self.act(event, &mut endings.changes)?;
-        Ok(Said::alone(alloc, reply))
+        let reply = self.act(event, &mut output.changes)?;
+        Ok(StepReply::alone(alloc, reply))
     }
 
     // A step that may move locks: what rejects its event is answered. Else it has its effect, the locks settle of all that it affected,
     // and it ends there.
     fn move_locks(
         &mut self,
-        moving: &MovingEvent,
-        endings: &mut Endings,
-    ) -> Result<Said, AllocError>
+        lock_event: &LockEvent,
+        output: &mut StepOutput,
+    ) -> Result<StepReply, AllocError>
         requires numbers { NumbersLeft self.old }
         requires table { IsTable self.old.scene.table }
         requires locks { IsLockMap self.old.scene.locks }
-        ensures answered { IfOk result (λ said. IsAnswered self.old (event_of moving.now) said self.new) }
-        ensures changes { OnOk result (AreChanges endings.new.changes.items (view_of self.old) (view_of self.new)) }
-        ensures err { OnErr result ((self.new ≡ self.old) × (endings.new.changes.items ≡ endings.old.changes.items)) }
+        ensures answered { IfOk result (λ step_reply. IsAnswered self.old (event_of lock_event.now) step_reply self.new) }
+        ensures changes { OnOk result (AreChanges output.new.changes.items (view_of self.old) (view_of self.new)) }
+        ensures err { OnErr result ((self.new ≡ self.old) × (output.new.changes.items ≡ output.old.changes.items)) }
     {
-        if let Some(rejection) = rejection(&self.parts.scene, moving) {
-            endings.changes.clear();
-            return Ok(Said::alone(*self.parts.messages.allocator(), rejection.into_reply()));
+        if let Some(rejection) = rejection(&self.parts.scene, lock_event) {
+            output.changes.clear();
+            return Ok(StepReply::alone(*self.parts.messages.allocator(), rejection.into_reply()));
         }
-        let Effect { affected, answer } = self.parts.begin(moving, endings)?;
-        end(&mut self.parts.scene, affected, endings);
-        Ok(self.parts.close(answer, endings))
+        let Applied { affected, answer } = self.parts.begin(lock_event, output)?;
+        end(&mut self.parts.scene, affected, output);
+        Ok(self.parts.close(answer, output))
     }
 
     // A step that gives a client the first messages that are due to it.
@@ -212,16 +216,16 @@ impl World {
         &mut self,
         client: ClientId,
         max: u32,
-        endings: &mut Endings,
-    ) -> Result<Said, AllocError>
+        output: &mut StepOutput,
+    ) -> Result<StepReply, AllocError>
         requires table { IsTable self.old.scene.table }
-        ensures answered { IfOk result (λ said. IsAnswered self.old (event.Poll client max) said self.new) }
-        ensures changes { OnOk result (AreChanges endings.new.changes.items (view_of self.old) (view_of self.new)) }
-        ensures err { OnErr result ((self.new ≡ self.old) × (endings.new.changes.items ≡ endings.old.changes.items)) }
+        ensures answered { IfOk result (λ step_reply. IsAnswered self.old (event.Poll client max) step_reply self.new) }
+        ensures changes { OnOk result (AreChanges output.new.changes.items (view_of self.old) (view_of self.new)) }
+        ensures err { OnErr result ((self.new ≡ self.old) × (output.new.changes.items ≡ output.old.changes.items)) }
     {
         if let Some(refusal) = self.parts.scene.sessions.session_refusal(client) {
-            endings.changes.clear();
-            return Ok(Said::alone(*self.parts.messages.allocator(), Reply::Refused(refusal)));
+            output.changes.clear();
+            return Ok(StepReply::alone(*self.parts.messages.allocator(), Reply::Refused(refusal)));
         }
         // The list once for the reply and once for the history, both before the client was told of anything.
         let alloc = *self.parts.messages.allocator();
@@ -229,11 +233,11 @@ impl World {
         let given = due_messages(alloc, ended, &self.parts.scene, client, max)?;
         let for_history = copy_of_messages(alloc, given.as_slice())?;
         let told = EndedTickets::of(alloc, given.as_slice())?;
-        endings.changes.clear();
+        output.changes.clear();
         give(&mut self.parts.scene.table, client, given.as_slice());
-        self.parts.scene.table.skip_quiet(client);
+        self.parts.scene.table.skip_not_due(client);
         remove_given(&mut self.parts.messages, client, &told);
-        Ok(Said {
+        Ok(StepReply {
             reply: Reply::Messages(given),
             for_history: Reply::Messages(for_history),
             ended: EndedList::new(alloc),

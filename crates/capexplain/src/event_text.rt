@@ -8,7 +8,10 @@ ghost use Rattle.capexplain.specs.PartTexts.{mode_text};
 ghost use Rattle.step_model.specs.Words.{open_word, part_word};
 
 use crate::part_text::{print_bytes, print_mode};
-use capbits::{Caller, CapSet, ClientId, Groups, Ino, Mode, Part, print_caps, print_number, print_numbered, print_str};
+use capbits::{
+    Caller, CapSet, ClientId, Groups, Ino, Mode, Part, print_caps, print_number, print_numbered,
+    print_str,
+};
 use capspec::{Grants, write_grants};
 use inotree::Setting;
 use lockmachine::{Bytes, Change};

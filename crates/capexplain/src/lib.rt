@@ -7,12 +7,12 @@
 
 mod access;
 mod answer;
-mod audit;
 mod changes;
 mod comparing;
 mod event_text;
 mod explaining;
 mod findings;
+mod history_text;
 mod json_laws;
 mod laws;
 mod linting;
@@ -30,12 +30,12 @@ mod verdicts;
 
 pub use access::read_access;
 pub use answer::answer_object;
-pub use audit::{append_audit_line, audit_line};
 pub use changes::change_objects;
 pub use comparing::comparison_lines;
 pub use event_text::event_line;
 pub use explaining::{explain_line, print_failures, print_path};
 pub use findings::print_finding_object;
+pub use history_text::{append_audit_line, audit_line};
 pub use laws::{one_answer_for_a_line, one_text_for_what_is_shown};
 pub use linting::print_finding;
 pub use quoting::print_quoted;

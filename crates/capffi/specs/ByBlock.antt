@@ -58,20 +58,20 @@ abbrev pub IsSaid : Block → List ℕ → List ℕ → List ℕ → Question �
 IsSaid block text path groups q said = IsSaidOn block text (names_of path) groups q said
 
 -- the numbers are those of the verdict, whatever the groups of the caller
-abbrev pub IsSoon : Block → List ℕ → List ℕ → Question → Answer → Type 0
-IsSoon block text path q answered = (groups : List ℕ) → length groups ≤ 16 → (verdict : Verdict) × IsSaid block text path groups q (Ok verdict) × (answered ≡ answer_of verdict)
+abbrev pub IsFast : Block → List ℕ → List ℕ → Question → Answer → Type 0
+IsFast block text path q answered = (groups : List ℕ) → length groups ≤ 16 → (verdict : Verdict) × IsSaid block text path groups q (Ok verdict) × (answered ≡ answer_of verdict)
 
 -- the same of the names of a path that are neither too many nor too long
-abbrev pub IsSoonOf : Block → List ℕ → List (List ℕ) → Question → Answer → Type 0
-IsSoonOf block text path q answered = (groups : List ℕ) → (verdict : Verdict) × IsVerdictOf block text path groups q verdict × (answered ≡ answer_of verdict)
+abbrev pub IsFastOf : Block → List ℕ → List (List ℕ) → Question → Answer → Type 0
+IsFastOf block text path q answered = (groups : List ℕ) → (verdict : Verdict) × IsVerdictOf block text path groups q verdict × (answered ≡ answer_of verdict)
 
 -- 17 says that the answer was written, a number from 1 to 16 that the grant of this number allows, and 0 nothing
 abbrev pub Tells : (Answer → Type 0) → Answer → Answer → ℕ → Type 0
 Tells Is before after told =
     ((told ≡ 0) × (after ≡ before)) ⊎ ((told ≡ 17) × Is after) ⊎ ((1 ≤ told) × (told ≤ 16) × (after ≡ before) × Is (answer_of (Allowed told)))
 
-abbrev pub TellsSoon : Block → List ℕ → List ℕ → Question → Answer → Answer → ℕ → Type 0
-TellsSoon block text path q before after told = Tells (IsSoon block text path q) before after told
+abbrev pub TellsFast : Block → List ℕ → List ℕ → Question → Answer → Answer → ℕ → Type 0
+TellsFast block text path q before after told = Tells (IsFast block text path q) before after told
 
 -- the answer of a grant that is alone, by the number of the rule that it fails by, or 0 where it allows
 abbrev pub alone : ℕ → Answer

@@ -2,7 +2,7 @@
 ghost use Rattle.std.specs.Prelude.{◌≡◌, ◌≤◌, ◌↔◌, ℕ, List, length, IsTrue, IfSome};
 ghost use Rattle.capspec.specs.Paths.{names_of};
 ghost use Rattle.capffi.specs.Blocks.{IsBlock, bare_names};
-ghost use Rattle.capffi.specs.ByBlock.{IsSaid, IsSaidOf, IsSoon, IsSoonOf, Tells, TellsSoon, alone};
+ghost use Rattle.capffi.specs.ByBlock.{IsSaid, IsSaidOf, IsFast, IsFastOf, Tells, TellsFast, alone};
 ghost use Rattle.capgrant.specs.Question.{question as asked};
 
 use crate::answering::tell_alone;
@@ -11,7 +11,7 @@ use crate::block::{BLOCK_VERSION, Block};
 use crate::given::split_front;
 use crate::judging::{Case, verdict_of};
 use crate::passed::{Answer, Question};
-use crate::plain::{MAX_SOON, is_soon_plain, plain, without_slash};
+use crate::plain::{MAX_FAST, is_plain_fast, plain, without_slash};
 use crate::trouble::Trouble;
 use capbits::Mode;
 use capgrant::{Access, Attr, Verdict};
@@ -21,40 +21,40 @@ use std::alloc::{AllocError, Global};
 /// Tells the answer of a block, whatever the groups of the caller, where that is soon seen: where the grants up to the first that
 /// allows, or all where none does, are for everybody. Else 0, and the whole verdict has to be asked for.
 #[inline(always)]
-pub(crate) fn soon(
+pub(crate) fn fast_verdict(
     block: &Block,
     text: &[u8],
     path: &[u8],
     question: &Question,
     answer: &mut Answer,
 ) -> u32
-    ensures { TellsSoon block.now text.now path.now question.now answer.old answer.new result }
+    ensures { TellsFast block.now text.now path.now question.now answer.old answer.new result }
 {
     let bare = without_slash(path);
-    soon_bare(block, text, bare, question, answer)
+    fast_bare(block, text, bare, question, answer)
 }
 
 // Tells the answer of a block to a question, where that is soon seen, by a path without a slash in front.
 #[inline(always)]
-fn soon_bare(
+fn fast_bare(
     block: &Block,
     text: &[u8],
     path: &[u8],
     question: &Question,
     answer: &mut Answer,
 ) -> u32
-    ensures { TellsSoon block.now text.now path.now question.now answer.old answer.new result }
+    ensures { TellsFast block.now text.now path.now question.now answer.old answer.new result }
 {
     if is_first_for_one(block) {
         return 0;
     }
     if !is_one_for_all(block) || question.access > 1 {
-        return soon_of_many(block, text, path, question, answer);
+        return fast_of_many(block, text, path, question, answer);
     }
-    if path.len() > MAX_SOON || !is_block(block, text) {
+    if path.len() > MAX_FAST || !is_block(block, text) {
         return 0;
     }
-    match soon_of_one(block, text, path, question) {
+    match fast_of_one(block, text, path, question) {
         Some(rule) => tell_alone(rule, answer),
         None => 0,
     }
@@ -63,13 +63,13 @@ fn soon_bare(
 // The answer of one grant to a question, where that is soon seen: the number of the rule that it fails by, or 0 where it allows. The
 // path's form is looked at last, when little else is left in registers.
 #[inline(always)]
-fn soon_of_one(block: &Block, text: &[u8], path: &[u8], question: &Question) -> Option<u8>
+fn fast_of_one(block: &Block, text: &[u8], path: &[u8], question: &Question) -> Option<u8>
     requires whole { IsBlock block.now text.now }
     requires one { block.now.count ≡ 1 }
-    ensures { IfSome result (λ rule. IsSoon block.now text.now path.now question.now (alone rule)) }
+    ensures { IfSome result (λ rule. IsFast block.now text.now path.now question.now (alone rule)) }
 {
     let rule = rule_of_one(block, text, path, question)?;
-    if !is_soon_plain(path) {
+    if !is_plain_fast(path) {
         return None;
     }
     Some(rule)
@@ -78,22 +78,22 @@ fn soon_of_one(block: &Block, text: &[u8], path: &[u8], question: &Question) -> 
 // Tells the answer of any number of grants to a question, where that is soon seen. It stands apart from that of one grant on an access to
 // read or to write, which takes fewer registers.
 #[inline(never)]
-fn soon_of_many(
+fn fast_of_many(
     block: &Block,
     text: &[u8],
     path: &[u8],
     question: &Question,
     answer: &mut Answer,
 ) -> u32
-    ensures { TellsSoon block.now text.now path.now question.now answer.old answer.new result }
+    ensures { TellsFast block.now text.now path.now question.now answer.old answer.new result }
 {
     if !is_block(block, text) {
         return 0;
     }
-    if !is_soon_plain(path) {
+    if !is_plain_fast(path) {
         return 0;
     }
-    told_of_many(block, text, path, question, answer)
+    fast_of_any(block, text, path, question, answer)
 }
 
 /// Whether the first grant is for one caller, so that it isn't seen soon what it allows.
@@ -169,7 +169,7 @@ pub(crate) fn bare_text(path: &TreePath) -> &[u8]
 fn rule_of_one(block: &Block, text: &[u8], path: &[u8], question: &Question) -> Option<u8>
     requires whole { IsBlock block.now text.now }
     requires one { block.now.count ≡ 1 }
-    ensures { IfSome result (λ rule. IsSoonOf block.now text.now (bare_names path.now) question.now (alone rule)) }
+    ensures { IfSome result (λ rule. IsFastOf block.now text.now (bare_names path.now) question.now (alone rule)) }
 {
     let mode = read_mode(question.mode)?;
     let access = read_access(question.access, question.number)?;
@@ -178,13 +178,13 @@ fn rule_of_one(block: &Block, text: &[u8], path: &[u8], question: &Question) -> 
     }
     let (fs, rest) = split_front(text, block.fs_len as usize);
     let case = case_of(fs, path, &[], question, mode, access);
-    let rule = case.soon_alone(&block.entries[..block.count as usize], rest)?;
+    let rule = case.fast_alone(&block.entries[..block.count as usize], rest)?;
     Some(rule)
 }
 
 // What is told of any number of grants, for the names of a path without a slash in front.
 #[inline(always)]
-fn told_of_many(
+fn fast_of_any(
     block: &Block,
     text: &[u8],
     path: &[u8],
@@ -192,7 +192,7 @@ fn told_of_many(
     answer: &mut Answer,
 ) -> u32
     requires { IsBlock block.now text.now }
-    ensures { Tells (IsSoonOf block.now text.now (bare_names path.now) question.now) answer.old answer.new result }
+    ensures { Tells (IsFastOf block.now text.now (bare_names path.now) question.now) answer.old answer.new result }
 {
     let Some(mode) = read_mode(question.mode) else {
         return 0;
@@ -202,7 +202,7 @@ fn told_of_many(
     };
     let (fs, rest) = split_front(text, block.fs_len as usize);
     let case = case_of(fs, path, &[], question, mode, access);
-    case.soon(&block.entries[..block.count as usize], rest, answer)
+    case.fast_verdict(&block.entries[..block.count as usize], rest, answer)
 }
 
 // What is asked of each grant.

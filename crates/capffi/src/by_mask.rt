@@ -3,8 +3,8 @@ ghost use Rattle.std.specs.Prelude.{◌≡◌, ◌<◌, ◌%◌, ℕ, List, [], 
 ghost use Rattle.capgrant.specs.Question.{question};
 ghost use Rattle.capffi.specs.Blocks.{IsBlock, bare_names};
 ghost use Rattle.capffi.specs.ByBlock.{Tells, alone};
-ghost use Rattle.capffi.specs.ByMask.{IsSaidOfMask, IsSaidToMask, IsSoonOn, IsSoonToMask, TellsSoonToMask, access_number, accesses_of, asked_if, is_denied};
-ghost use Rattle.capffi.specs.ByMask.{is_known, told_next, told_of, verdict_on};
+ghost use Rattle.capffi.specs.ByMask.{IsSaidOfMask, IsSaidToMask, IsFastOn, IsFastToMask, TellsFastToMask, access_number, accesses_of, asked_if, is_denied};
+ghost use Rattle.capffi.specs.ByMask.{is_known, mask_verdict_next, mask_verdict_of, verdict_on};
 
 use crate::answering::tell_alone;
 use crate::block::Block;
@@ -12,7 +12,7 @@ use crate::by_block::{bare_text, is_block, is_first_for_one, is_one_for_all};
 use crate::given::split_front;
 use crate::judging::{Case, verdict_of};
 use crate::passed::{Answer, Check};
-use crate::plain::{MAX_SOON, is_soon_plain, plain, without_slash};
+use crate::plain::{MAX_FAST, is_plain_fast, plain, without_slash};
 use crate::trouble::Trouble;
 use capbits::Mode;
 use capgrant::{Access, Attr, Verdict};
@@ -21,7 +21,7 @@ use std::alloc::{AllocError, Global};
 
 /// An access, and the verdict on it.
 #[derive(Drop)]
-pub(crate) struct Told {
+pub(crate) struct MaskVerdict {
     pub(crate) access: Access,
     pub(crate) verdict: Verdict,
 }
@@ -40,37 +40,37 @@ struct Asker<'a> {
 /// Tells the answer of a block to a mask that is to read or to write, whatever the groups of the caller, where that is soon seen: where
 /// the grants up to the first that allows, or all where none does, are for everybody. Else 0, and the whole verdict has to be asked for.
 #[inline(always)]
-pub(crate) fn soon_mask(
+pub(crate) fn fast_verdict_mask(
     block: &Block,
     text: &[u8],
     path: &[u8],
     check: &Check,
     answer: &mut Answer,
 ) -> u32
-    ensures { TellsSoonToMask block.now text.now path.now check.now answer.old answer.new result }
+    ensures { TellsFastToMask block.now text.now path.now check.now answer.old answer.new result }
 {
     let bare = without_slash(path);
-    soon_bare(block, text, bare, check, answer)
+    fast_bare(block, text, bare, check, answer)
 }
 
 // Tells the answer of a block to a mask, where that is soon seen, by a path without a slash in front.
 #[inline(always)]
-fn soon_bare(block: &Block, text: &[u8], path: &[u8], check: &Check, answer: &mut Answer) -> u32
-    ensures { TellsSoonToMask block.now text.now path.now check.now answer.old answer.new result }
+fn fast_bare(block: &Block, text: &[u8], path: &[u8], check: &Check, answer: &mut Answer) -> u32
+    ensures { TellsFastToMask block.now text.now path.now check.now answer.old answer.new result }
 {
     if is_first_for_one(block) {
         return 0;
     }
     if !is_one_for_all(block) {
-        return soon_of_many(block, text, path, check, answer);
+        return fast_of_many(block, text, path, check, answer);
     }
     let Some(access) = frequent_access(check) else {
         return 0;
     };
-    if path.len() > MAX_SOON || !is_block(block, text) {
+    if path.len() > MAX_FAST || !is_block(block, text) {
         return 0;
     }
-    match soon_of_one(block, text, path, check, access) {
+    match fast_of_one(block, text, path, check, access) {
         Some(rule) => tell_alone(rule, answer),
         None => 0,
     }
@@ -79,15 +79,15 @@ fn soon_bare(block: &Block, text: &[u8], path: &[u8], check: &Check, answer: &mu
 // The answer of one grant to a mask, where that is soon seen: the number of the rule that it fails by, or 0 where it allows. The path's
 // form is looked at last, when little else is left in registers.
 #[inline(always)]
-fn soon_of_one(block: &Block, text: &[u8], path: &[u8], check: &Check, access: Access) -> Option<u8>
+fn fast_of_one(block: &Block, text: &[u8], path: &[u8], check: &Check, access: Access) -> Option<u8>
     requires whole { IsBlock block.now text.now }
     requires one { block.now.count ≡ 1 }
     requires known { IsTrue (is_known check.now.mask) }
     requires asked { accesses_of check.now ≡ access ∷ [] }
-    ensures { IfSome result (λ rule. IsSoonToMask block.now text.now path.now check.now (alone rule)) }
+    ensures { IfSome result (λ rule. IsFastToMask block.now text.now path.now check.now (alone rule)) }
 {
     let rule = rule_of_one(block, text, path, check, access)?;
-    if !is_soon_plain(path) {
+    if !is_plain_fast(path) {
         return None;
     }
     Some(rule)
@@ -96,8 +96,8 @@ fn soon_of_one(block: &Block, text: &[u8], path: &[u8], check: &Check, access: A
 // Tells the answer of any number of grants to a mask, where that is soon seen. It stands apart from that of one grant, which takes fewer
 // registers. What is passed on is passed as it came, so that the one goes over into the other.
 #[inline(never)]
-fn soon_of_many(block: &Block, text: &[u8], path: &[u8], check: &Check, answer: &mut Answer) -> u32
-    ensures { TellsSoonToMask block.now text.now path.now check.now answer.old answer.new result }
+fn fast_of_many(block: &Block, text: &[u8], path: &[u8], check: &Check, answer: &mut Answer) -> u32
+    ensures { TellsFastToMask block.now text.now path.now check.now answer.old answer.new result }
 {
     let Some(access) = frequent_access(check) else {
         return 0;
@@ -105,10 +105,10 @@ fn soon_of_many(block: &Block, text: &[u8], path: &[u8], check: &Check, answer: 
     if !is_block(block, text) {
         return 0;
     }
-    if !is_soon_plain(path) {
+    if !is_plain_fast(path) {
         return 0;
     }
-    told_of_many(block, text, path, check, access, answer)
+    fast_of_any(block, text, path, check, access, answer)
 }
 
 // The rule that one grant fails by, for the names of a path without a slash in front.
@@ -116,20 +116,20 @@ fn soon_of_many(block: &Block, text: &[u8], path: &[u8], check: &Check, answer: 
 fn rule_of_one(block: &Block, text: &[u8], path: &[u8], check: &Check, access: Access) -> Option<u8>
     requires whole { IsBlock block.now text.now }
     requires one { block.now.count ≡ 1 }
-    ensures { IfSome result (λ rule. IsSoonOn block.now text.now (bare_names path.now) check.now access (alone rule)) }
+    ensures { IfSome result (λ rule. IsFastOn block.now text.now (bare_names path.now) check.now access (alone rule)) }
 {
     if block.fs_len as usize > text.len() {
         return None;
     }
     let (fs, rest) = split_front(text, block.fs_len as usize);
     let case = case_of(fs, path, &[], check, access);
-    let rule = case.soon_alone(&block.entries[..block.count as usize], rest)?;
+    let rule = case.fast_alone(&block.entries[..block.count as usize], rest)?;
     Some(rule)
 }
 
 // What is told of any number of grants, for the names of a path without a slash in front.
 #[inline(always)]
-fn told_of_many(
+fn fast_of_any(
     block: &Block,
     text: &[u8],
     path: &[u8],
@@ -138,11 +138,11 @@ fn told_of_many(
     answer: &mut Answer,
 ) -> u32
     requires { IsBlock block.now text.now }
-    ensures { Tells (IsSoonOn block.now text.now (bare_names path.now) check.now access) answer.old answer.new result }
+    ensures { Tells (IsFastOn block.now text.now (bare_names path.now) check.now access) answer.old answer.new result }
 {
     let (fs, rest) = split_front(text, block.fs_len as usize);
     let case = case_of(fs, path, &[], check, access);
-    case.soon(&block.entries[..block.count as usize], rest, answer)
+    case.fast_verdict(&block.entries[..block.count as usize], rest, answer)
 }
 
 /// What the grants of a block say to a mask: the first of its accesses that is denied, or else the last.
@@ -154,7 +154,7 @@ pub(crate) fn judge_mask(
     path: &[u8],
     groups: &[u32],
     check: &Check,
-) -> Result<Told, Trouble>
+) -> Result<MaskVerdict, Trouble>
     ensures { IsSaidToMask block.now text.now path.now groups.now check.now result }
 {
     if !is_block(block, text) {
@@ -176,7 +176,7 @@ fn judge_other(
     path: &[u8],
     groups: &[u32],
     check: &Check,
-) -> Result<Told, Trouble>
+) -> Result<MaskVerdict, Trouble>
     requires { IsBlock block.now text.now }
     ensures { IsSaidToMask block.now text.now path.now groups.now check.now result }
 {
@@ -195,7 +195,7 @@ fn judge_bare(
     path: &[u8],
     groups: &[u32],
     check: &Check,
-) -> Result<Told, Trouble>
+) -> Result<MaskVerdict, Trouble>
     requires { IsBlock block.now text.now }
     ensures { IsSaidOfMask block.now text.now (bare_names path.now) groups.now check.now result }
 {
@@ -217,13 +217,13 @@ fn judge_bare(
 
 impl Asker<'_> {
     // What is told of the accesses of the mask. Of one alone it is the verdict.
-    #[tactic(auto, using(crate::proofs::Masks::one_told))]
-    fn told(&self) -> Option<Told>
+    #[tactic(auto, using(crate::proofs::Masks::one_mask_verdict))]
+    fn told(&self) -> Option<MaskVerdict>
         requires { IsBlock self.now.block.now self.now.text.now }
-        ensures { result ≡ told_of (verdict_on self.now.block.now self.now.text.now (bare_names self.now.path.now) self.now.groups.now self.now.check.now) (accesses_of self.now.check.now) }
+        ensures { result ≡ mask_verdict_of (verdict_on self.now.block.now self.now.text.now (bare_names self.now.path.now) self.now.groups.now self.now.check.now) (accesses_of self.now.check.now) }
     {
         match frequent_access(self.check) {
-            Some(access) => Some(Told {
+            Some(access) => Some(MaskVerdict {
                 access,
                 verdict: self.verdict(access),
             }),
@@ -232,9 +232,9 @@ impl Asker<'_> {
     }
 
     // What is told of the accesses of the mask, which are asked for one after the other.
-    fn ask_all(&self) -> Option<Told>
+    fn ask_all(&self) -> Option<MaskVerdict>
         requires { IsBlock self.now.block.now self.now.text.now }
-        ensures { result ≡ told_of (verdict_on self.now.block.now self.now.text.now (bare_names self.now.path.now) self.now.groups.now self.now.check.now) (accesses_of self.now.check.now) }
+        ensures { result ≡ mask_verdict_of (verdict_on self.now.block.now self.now.text.now (bare_names self.now.path.now) self.now.groups.now self.now.check.now) (accesses_of self.now.check.now) }
     {
         let read = self.ask(None, 1, Access::Read);
         let written = self.ask(read, 2, Access::Write);
@@ -246,10 +246,10 @@ impl Asker<'_> {
 
     // What is told with one access more, where the mask has its bit.
     #[tactic(auto, using(crate::proofs::Masks::not_asked, crate::proofs::Masks::not_judged, crate::proofs::Masks::judged))]
-    fn ask(&self, told: Option<Told>, bit: u32, access: Access) -> Option<Told>
+    fn ask(&self, told: Option<MaskVerdict>, bit: u32, access: Access) -> Option<MaskVerdict>
         requires whole { IsBlock self.now.block.now self.now.text.now }
         requires some { 0 < bit }
-        ensures { result ≡ fold (told_next (verdict_on self.now.block.now self.now.text.now (bare_names self.now.path.now) self.now.groups.now self.now.check.now)) told (asked_if self.now.check.now.mask bit access) }
+        ensures { result ≡ fold (mask_verdict_next (verdict_on self.now.block.now self.now.text.now (bare_names self.now.path.now) self.now.groups.now self.now.check.now)) told (asked_if self.now.check.now.mask bit access) }
     {
         if self.check.mask / bit % 2 != 1 {
             return told;
@@ -257,7 +257,7 @@ impl Asker<'_> {
         if is_denied(&told) {
             return told;
         }
-        Some(Told {
+        Some(MaskVerdict {
             access,
             verdict: self.verdict(access),
         })
@@ -314,7 +314,7 @@ fn mode_of(mode: u32) -> Mode
 
 // Whether an access was denied.
 #[inline(always)]
-fn is_denied(told: &Option<Told>) -> bool
+fn is_denied(told: &Option<MaskVerdict>) -> bool
     ensures { result ≡ is_denied told.now }
 {
     match told {

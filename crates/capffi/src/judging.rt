@@ -77,7 +77,7 @@ impl Case<'_> {
     /// Tells the answer, whatever the caller's groups, where that is soon seen: where the grants up to the first that allows, or all
     /// where none does, are for everybody.
     #[inline(always)]
-    pub(crate) fn soon(&self, entries: &[Entry], text: &[u8], answer: &mut Answer) -> u32
+    pub(crate) fn fast_verdict(&self, entries: &[Entry], text: &[u8], answer: &mut Answer) -> u32
         requires { length entries.now ≤ 16 }
         ensures { Tells (λ told. (groups : List ℕ) → told ≡ answer_of (verdict_of (with_groups self.now groups) (grants_in entries.now text.now))) answer.old answer.new result }
     {
@@ -106,7 +106,7 @@ impl Case<'_> {
     /// where it allows.
     #[inline(always)]
     #[tactic(auto, using(crate::proofs::Entries::further_same))]
-    pub(crate) fn soon_alone(&self, entries: &[Entry], text: &[u8]) -> Option<u8>
+    pub(crate) fn fast_alone(&self, entries: &[Entry], text: &[u8]) -> Option<u8>
         requires { length entries.now ≡ 1 }
         ensures { IfSome result (λ rule. (groups : List ℕ) → alone rule ≡ answer_of (verdict_of (with_groups self.now groups) (grants_in entries.now text.now))) }
     {

@@ -22,23 +22,24 @@ mod trouble;
 ghost use Rattle.std.specs.Prelude.{◌≡◌, ℕ, List};
 ghost use Rattle.capspec.specs.Paths.{names_of};
 ghost use Rattle.capffi.specs.Calls.{TellsCheck, TellsForm, TellsPermitted, TellsRead, TellsTarget, TellsVerdict, TellsVerdictBy, caps_bits, status};
-ghost use Rattle.capffi.specs.ByBlock.{TellsSoon};
-ghost use Rattle.capffi.specs.ByMask.{TellsMask, TellsSoonToMask};
+ghost use Rattle.capffi.specs.ByBlock.{TellsFast};
+ghost use Rattle.capffi.specs.ByMask.{TellsMask, TellsFastToMask};
 ghost use Rattle.capffi.specs.Locks.{allowed_by};
 
 use crate::answering::{answer_of, no_answer};
 use crate::asking::{judge, permit, read_text};
-use crate::by_block::{judge_by, soon};
-use crate::by_mask::{access_number, judge_mask, soon_mask};
+use crate::by_block::{fast_verdict, judge_by};
+use crate::by_mask::{access_number, fast_verdict_mask, judge_mask};
 use crate::filling::{prepare, put_block};
 use crate::locks::{allowed_by, numbers_of, target_of};
 use crate::texts::{form, put};
 use crate::trouble::no_fault;
-use std::alloc::Global;
-
 pub use block::{BLOCK_VERSION, Block, Entry};
 pub use passed::{Answer, Check, Fault, Lock, Question, StableState, Wants};
-pub use trouble::{ACCESS, BLOCK, CAPS, FS, GRANTS, GROUPS, HEAD, MEMORY, MODE, OK, PART, PATH, ROOM, STATE};
+use std::alloc::Global;
+pub use trouble::{
+    ACCESS, BLOCK, CAPS, FS, GRANTS, GROUPS, HEAD, MEMORY, MODE, OK, PART, PATH, ROOM, STATE,
+};
 
 /// The version of these calls: each that changes what a call takes or answers has a greater one.
 pub const VERSION: u32 = 3;
@@ -139,16 +140,16 @@ pub extern "C" fn capffi_grants_read(
 /// that is soon seen: the number of the grant that allows, or 17, with the answer of a denial; else 0, and `capffi_verdict_by` has to be
 /// asked. It is for a server that asks often: most of what it takes is passed in registers.
 #[unsafe(no_mangle)]
-pub extern "C" fn capffi_soon(
+pub extern "C" fn capffi_fast_verdict(
     block: &Block,
     text: &[u8],
     path: &[u8],
     question: &Question,
     answer: &mut Answer,
 ) -> u32
-    ensures { TellsSoon block.now text.now path.now question.now answer.old answer.new result }
+    ensures { TellsFast block.now text.now path.now question.now answer.old answer.new result }
 {
-    soon(block, text, path, question, answer)
+    fast_verdict(block, text, path, question, answer)
 }
 
 /// Whether the grants of a block let a caller make an access to an inode on the block's file system.
@@ -180,18 +181,18 @@ pub extern "C" fn capffi_verdict_by(
 }
 
 /// Whether the grants of a block let a caller do what a mask asks for, whatever the caller's groups, where that is soon seen: told as
-/// `capffi_soon` does, or 0, and `capffi_verdict_mask` has to be asked.
+/// `capffi_fast_verdict` does, or 0, and `capffi_verdict_mask` has to be asked.
 #[unsafe(no_mangle)]
-pub extern "C" fn capffi_soon_mask(
+pub extern "C" fn capffi_fast_verdict_mask(
     block: &Block,
     text: &[u8],
     path: &[u8],
     check: &Check,
     answer: &mut Answer,
 ) -> u32
-    ensures { TellsSoonToMask block.now text.now path.now check.now answer.old answer.new result }
+    ensures { TellsFastToMask block.now text.now path.now check.now answer.old answer.new result }
 {
-    soon_mask(block, text, path, check, answer)
+    fast_verdict_mask(block, text, path, check, answer)
 }
 
 /// Whether the grants of a block let a caller, who may have any number of groups, do all that a mask asks for. `access` is the number of

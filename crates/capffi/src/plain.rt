@@ -14,7 +14,7 @@ const LONG_PIECE: usize = 64;
 const LONG_STEP: usize = LONG_PIECE - 1;
 
 /// How many bytes a path may have that is soon seen to be plain.
-pub(crate) const MAX_SOON: usize = 2 * LONG_PIECE - 1;
+pub(crate) const MAX_FAST: usize = 2 * LONG_PIECE - 1;
 
 // How many names a path may have, and how many bytes a name.
 const MAX_NAMES: usize = 32;
@@ -57,17 +57,17 @@ fn is_plain(bare: &[u8]) -> bool
     }
 }
 
-/// Whether a path is plain, where that is soon seen: not of more than `MAX_SOON` bytes, and, of those with more than 63, not of some with
+/// Whether a path is plain, where that is soon seen: not of more than `MAX_FAST` bytes, and, of those with more than 63, not of some with
 /// 17 names and more and of none with 32.
 #[inline(always)]
-pub(crate) fn is_soon_plain(bare: &[u8]) -> bool
+pub(crate) fn is_plain_fast(bare: &[u8]) -> bool
     ensures names { IsTrue result → bare_names bare.now ≡ names_of bare.now }
     ensures fit { IsTrue result → IsTrue (are_few_and_short (names_of bare.now)) }
 {
     if is_short(bare) {
         return is_parted(bare);
     }
-    bare.len() <= MAX_SOON && is_plain_at_ends(bare)
+    bare.len() <= MAX_FAST && is_plain_at_ends(bare)
 }
 
 // Whether a path is plain, where two pieces cover it.

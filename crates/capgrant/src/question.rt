@@ -9,7 +9,7 @@ use crate::rule::Rule;
 use crate::rules::{MAX_RULES, Rules};
 use arrayvec::ArrayVec;
 use capbits::Caller;
-use capspec::{Begun, FsName, Grant};
+use capspec::{FsName, Grant, SharedPrefix};
 use std::marker::Model;
 
 /// What is asked of each grant: whether, on this file system, this caller may make this access to an inode.
@@ -40,7 +40,7 @@ impl<'a> Model for Question<'a> {
 impl Question<'_> {
     ghost use Rattle.std.specs.Prelude.{◌≡◌, ◌≤◌, find, length, not, position, IfSome};
     ghost use Rattle.capspec.specs.Paths.{slashed};
-    ghost use Rattle.capspec.specs.Begun.{AreBegun, IsBegun};
+    ghost use Rattle.capspec.specs.SharedPrefix.{AreSharedPrefixes, IsSharedPrefix};
     ghost use Rattle.capgrant.specs.Access.{is_read};
     ghost use Rattle.capgrant.specs.Question.{class_of};
     ghost use Rattle.capgrant.specs.Failing.{fails, fails_fsname, fails_gids, fails_mode_bits, fails_no_p, fails_no_s, fails_no_write, fails_not_own_group};
@@ -128,13 +128,13 @@ impl Question<'_> {
 
     /// Whether some grant allows what is asked, and whether some grant allows the other access, where it is known of the first grants how
     /// much of their paths the inode's path begins with.
-    pub(crate) fn both_granted_begun(
+    pub(crate) fn both_granted_by_prefixes(
         &self,
         other: &Question<'_>,
         grants: &[Grant],
-        begun: &[Begun],
+        shared_prefix: &[SharedPrefix],
     ) -> (bool, bool)
-        requires begun { AreBegun self.now.path grants.now begun.now }
+        requires shared_prefix { AreSharedPrefixes self.now.path grants.now shared_prefix.now }
         requires other { other.now ≡ record self.now { access = other.now.access } }
         ensures one { result.0 ≡ granted self.now grants.now }
         ensures other { result.1 ≡ granted other.now grants.now }
@@ -144,7 +144,7 @@ impl Question<'_> {
             if one && two {
                 return (true, true);
             }
-            let is_below = self.is_below_as_begun(grant, begun.get(place).copied());
+            let is_below = self.is_below_by_prefix(grant, shared_prefix.get(place).copied());
             let passed = self.may_allow(grant, is_below);
             one = one || self.allows_passed(grant, passed);
             two = two || other.allows_passed(grant, passed);
@@ -240,12 +240,12 @@ impl Question<'_> {
     // Whether the inode lies at or below the grant's path, where it may be known how much of that path the inode's path begins with.
     #[inline(always)]
     #[tactic(auto, unfolding(crate::specs::Failing::fails_path))]
-    fn is_below_as_begun(&self, grant: &Grant, begun: Option<Begun>) -> bool
-        requires { IfSome begun (λ begun. IsBegun self.now.path (slashed grant.now.path) begun) }
+    fn is_below_by_prefix(&self, grant: &Grant, shared_prefix: Option<SharedPrefix>) -> bool
+        requires { IfSome shared_prefix (λ shared_prefix. IsSharedPrefix self.now.path (slashed grant.now.path) shared_prefix) }
         ensures { result ≡ not (fails_path self.now grant.now) }
     {
-        match begun {
-            Some(begun) => grant.path.leads_as_begun(begun),
+        match shared_prefix {
+            Some(shared_prefix) => grant.path.leads_by_prefix(shared_prefix),
             None => self.is_below(grant),
         }
     }

@@ -5,8 +5,8 @@ ghost use Rattle.capgrant.specs.declared.rule.Rule.{Rule};
 
 use crate::rule::Rule;
 use arrayvec::ArrayVec;
-use std::slice;
 use std::marker::Model;
+use std::slice;
 
 /// How many rules a list may have: as many as a client may have grants.
 pub const MAX_RULES: usize = 16;

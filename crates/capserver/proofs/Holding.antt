@@ -6,7 +6,7 @@ use Rattle.capbits.specs.declared.ids.PassId.{PassId}
 use Rattle.policy_view.specs.declared.change.ViewChange.{ViewChange}
 use Rattle.policy_view.specs.declared.view.View.{View}
 use Rattle.policy_view.specs.Changes.{AreChanges, view_by}
-use Rattle.policy_view.specs.Sight.{Shows}
+use Rattle.policy_view.specs.Visible.{Shows}
 use Rattle.policy_view.proofs.Likeness.{shows-refl}
 use Rattle.step_model.specs.declared.event.Event.{Event}
 use Rattle.step_model.specs.declared.reply.Reply.{Reply}

@@ -3,7 +3,7 @@ use Rattle.std.specs.Prelude.{◌≡◌, ◌≤◌, ℕ, false, length}
 use mathlib.Core.List.{IsPrefix}
 use Rattle.step_model.specs.State.{State}
 use Rattle.step_model.specs.History.{Recorded, Replays}
-use Rattle.policy_view.specs.Sight.{Shows}
+use Rattle.policy_view.specs.Visible.{Shows}
 use Rattle.step_model.specs.Noted.{view_of}
 use Rattle.snapshot.specs.Publishing.{Publishing}
 

@@ -20,11 +20,13 @@ use capgrant::Verdict;
 use capspec::FsName;
 use capstep::stop::Stop;
 use policy_view::{Question, Unknown};
-use snapshot::{MAX_PASSES, Pass, Server, StartFault, Tally, audit_all, make_passes, merge_all};
+use snapshot::{
+    MAX_PASSES, Pass, Server, StartFault, Tally, check_all_against, make_passes, merge_all,
+};
 use std::alloc::Global;
 use std::marker::Model;
-use std::sync::{Mutex, MutexGuard, Wait};
 use std::sync::ledger::Blank;
+use std::sync::{Mutex, MutexGuard, Wait};
 use step_model::Event;
 
 /// A core that many threads call, each through a pass of its own. To contracts it is the number of its passes.
@@ -151,7 +153,7 @@ impl<G: Gate, L: Server> CapServer<G, L> {
             fs: _,
         } = self;
         let (core, mut calls, mut rest, mut recorder) = locked.into_inner().end(rt, &count);
-        audit_all(&mut recorder, passes.as_slice());
+        check_all_against(&mut recorder, passes.as_slice());
         merge_all(&mut rest, passes);
         calls.audit(&mut rest);
         Closed { core }

@@ -10,8 +10,8 @@ use Rattle.std.proofs.lemmas.Option.{get_or_from_slice_get, slice_get-get_or}
 use Rattle.capspec.specs.Paths.{slashed}
 use Rattle.capspec.specs.declared.grant.Grant.{Grant}
 use Rattle.capspec.proofs.Backwards.{slashed-append}
-use Rattle.capspec.specs.declared.begun.Begun.{Begun}
-use Rattle.capspec.specs.Begun.{AreAlike, AreBegun, Begins, IsAlike, IsBegun, ShareFirst}
+use Rattle.capspec.specs.declared.shared_prefix.SharedPrefix.{SharedPrefix}
+use Rattle.capspec.specs.SharedPrefix.{AreAlike, AreSharedPrefixes, Begins, IsAlike, IsSharedPrefix, ShareFirst}
 use Rattle.capspec.specs.declared.kept.Alike.{Alike}
 
 -- ---- one name
@@ -37,7 +37,7 @@ next names k d inside =
 pub next_size : (names : List (Bor (List ℕ))) (k : ℕ) (d : Bor (List ℕ)) → k < length names → length (slashed (take (k + 1) (texts names))) ≡ length (slashed (take k (texts names))) + 1 + length (get_or names k d).now
 next_size names k d inside = ap length (next names k d inside) ∙ length-append (slashed (take k (texts names))) (47 ∷ (get_or names k d).now) ∙ omega arith
 
-module _ (names : List (Bor (List ℕ))) (text : List ℕ) (b : Begun) (d : Bor (List ℕ)) (begins : Begins (texts names) text b) (inside : b.count < length names) where
+module _ (names : List (Bor (List ℕ))) (text : List ℕ) (b : SharedPrefix) (d : Bor (List ℕ)) (begins : Begins (texts names) text b) (inside : b.count < length names) where
   abbrev name : List ℕ
   name = (get_or names b.count d).now
 
@@ -58,10 +58,10 @@ module _ (names : List (Bor (List ℕ))) (text : List ℕ) (b : Begun) (d : Bor 
     ap (λ n. take n text) long ∙ cut ∙ ap (λ (t : List ℕ). before ++ t) here ∙ sym (next names b.count d inside),
   )
 
-  pub no_more : (take (length name + 1) (drop b.size text) ≡ 47 ∷ name → ⊥) → IsBegun (texts names) text b
+  pub no_more : (take (length name + 1) (drop b.size text) ≡ 47 ∷ name → ⊥) → IsSharedPrefix (texts names) text b
   no_more apart = (begins, λ _ more. apart (append_cancel_left before _ _ (sym cut ∙ ap (λ n. take n text) (sym long) ∙ more ∙ next names b.count d inside)))
 
-pub fits : (names : List (List ℕ)) (text : List ℕ) (b : Begun) → Begins names text b → b.size ≤ length text
+pub fits : (names : List (List ℕ)) (text : List ℕ) (b : SharedPrefix) → Begins names text b → b.size ≤ length text
 fits names text b begins =
     let size : ℕ = length (slashed (take b.count names)) in
     elim (cases_lt (length text) size) [
@@ -74,14 +74,14 @@ fits names text b begins =
 shared_take : (one other : List ℕ) (n m : ℕ) → ShareFirst one other n → m ≤ n → take m one ≡ take m other
 shared_take one other n m shared less = sym (take-take m n one less) ∙ ap (take m) shared.2 ∙ take-take m n other less
 
-module _ (names : List (List ℕ)) (one other : List ℕ) (known : Begun) (n : ℕ) (is : IsBegun names one known) (shared : ShareFirst one other n) where
+module _ (names : List (List ℕ)) (one other : List ℕ) (known : SharedPrefix) (n : ℕ) (is : IsSharedPrefix names one known) (shared : ShareFirst one other n) where
   -- those that are counted take no more
   pub carried : known.size ≤ n → Begins names other known
   carried less =
       (is.0.0, is.0.1, (let m : length (slashed (take known.count names)) ≤ n = omega (arith, is.0.1, less) in sym (shared_take one other n _ shared m) ∙ is.0.2))
 
   -- those of them that take no more
-  pub carried_part : (b : Begun) → b.count ≤ known.count → b.size ≡ length (slashed (take b.count names)) → b.size ≤ n → Begins names other b
+  pub carried_part : (b : SharedPrefix) → b.count ≤ known.count → b.size ≡ length (slashed (take b.count names)) → b.size ≤ n → Begins names other b
   carried_part b fewer size less =
       let few : take known.count names ≡ take b.count names ++ drop b.count (take known.count names) = sym (take-append-drop b.count (take known.count names)) ∙ ap (λ (l : List (List ℕ)). l ++ drop b.count (take known.count names)) (take-take b.count known.count names fewer) in
       let split : slashed (take known.count names) ≡ slashed (take b.count names) ++ slashed (drop b.count (take known.count names)) = ap slashed few ∙ slashed-append (take b.count names) (drop b.count (take known.count names)) in
@@ -94,7 +94,7 @@ module _ (names : List (List ℕ)) (one other : List ℕ) (known : Begun) (n : �
       )
 
 -- where the next name ends before the texts differ, it is in neither
-pub carried_whole : (names : List (Bor (List ℕ))) (one other : List ℕ) (known : Begun) (n : ℕ) (d : Bor (List ℕ)) → IsBegun (texts names) one known → ShareFirst one other n → known.count < length names → known.size ≤ n → length (get_or names known.count d).now < n - known.size → IsBegun (texts names) other known
+pub carried_whole : (names : List (Bor (List ℕ))) (one other : List ℕ) (known : SharedPrefix) (n : ℕ) (d : Bor (List ℕ)) → IsSharedPrefix (texts names) one known → ShareFirst one other n → known.count < length names → known.size ≤ n → length (get_or names known.count d).now < n - known.size → IsSharedPrefix (texts names) other known
 carried_whole names one other known n d is shared inside less next_fits = (
   carried (texts names) one other known n is shared less,
   λ counted more. is.1 counted (let m : length (slashed (take (known.count + 1) (texts names))) ≤ n = omega (arith, next_size names known.count d inside, is.0.1, less, next_fits) in shared_take one other n _ shared m ∙ more),
@@ -120,25 +120,25 @@ alike_more grants alike a room so_far here = (
   λ place b at. elim (pushed alike a b place at) [ inl inside ↦ so_far.1 place b inside | inr last ↦ subst (λ n. IsAlike grants n b) (sym last.0) (subst (IsAlike grants (length alike)) last.1 here) ],
 )
 
-pub begun_more : (names : List (List ℕ)) (grants : List Grant) (begun : List Begun) (b : Begun) (d : Grant) (text : List ℕ) → AreBegun names grants begun → text ≡ slashed (get_or grants (length begun) d).path → IsBegun names text b → AreBegun names grants (begun ++ b ∷ [])
-begun_more names grants begun b d text so_far text-is here place g c at_place at =
-    elim (pushed begun b c place at) [
+pub prefix_more : (names : List (List ℕ)) (grants : List Grant) (shared_prefix : List SharedPrefix) (b : SharedPrefix) (d : Grant) (text : List ℕ) → AreSharedPrefixes names grants shared_prefix → text ≡ slashed (get_or grants (length shared_prefix) d).path → IsSharedPrefix names text b → AreSharedPrefixes names grants (shared_prefix ++ b ∷ [])
+prefix_more names grants shared_prefix b d text so_far text-is here place g c at_place at =
+    elim (pushed shared_prefix b c place at) [
       | inl inside ↦ so_far place g c at_place inside
       | inr last ↦
-          let there : slice_get grants (length begun) ≡ Some g = ap (slice_get grants) (sym last.0) ∙ at_place in
-          subst (IsBegun names (slashed g.path)) last.1 (subst (λ (t : List ℕ). IsBegun names t b) (text-is ∙ ap (λ (x : Grant). slashed x.path) (get_or_from_slice_get grants (length begun) g d there)) here)
+          let there : slice_get grants (length shared_prefix) ≡ Some g = ap (slice_get grants) (sym last.0) ∙ at_place in
+          subst (IsSharedPrefix names (slashed g.path)) last.1 (subst (λ (t : List ℕ). IsSharedPrefix names t b) (text-is ∙ ap (λ (x : Grant). slashed x.path) (get_or_from_slice_get grants (length shared_prefix) g d there)) here)
     ]
 
 -- what is known of the grant that one is alike to
-pub known_of : (names : List (List ℕ)) (grants : List Grant) (begun slice : List Begun) (alike al : List Alike) (place : ℕ) (d : Grant) (e : Alike) (known : Begun) (text : List ℕ) → slice ≡ begun → al ≡ alike → AreBegun names grants begun → length begun ≡ place → place < length al → AreAlike grants alike → text ≡ slashed (get_or grants place d).path → (get_or al place e).other < length slice → known ≡ get_or slice (get_or al place e).other known → (x : List ℕ) × IsBegun names x known × ShareFirst x text (get_or al place e).bytes
-known_of names grants begun slice alike al place d e known text slice-is al-is so_far count inside likes text-is before known-is =
+pub known_of : (names : List (List ℕ)) (grants : List Grant) (shared_prefix slice : List SharedPrefix) (alike al : List Alike) (place : ℕ) (d : Grant) (e : Alike) (known : SharedPrefix) (text : List ℕ) → slice ≡ shared_prefix → al ≡ alike → AreSharedPrefixes names grants shared_prefix → length shared_prefix ≡ place → place < length al → AreAlike grants alike → text ≡ slashed (get_or grants place d).path → (get_or al place e).other < length slice → known ≡ get_or slice (get_or al place e).other known → (x : List ℕ) × IsSharedPrefix names x known × ShareFirst x text (get_or al place e).bytes
+known_of names grants shared_prefix slice alike al place d e known text slice-is al-is so_far count inside likes text-is before known-is =
     let a : Alike = get_or al place e in
-    let lengths : length slice ≡ length begun = ap length slice-is in
+    let lengths : length slice ≡ length shared_prefix = ap length slice-is in
     let counts : length al ≡ length alike = ap length al-is in
     let here : slice_get grants place ≡ Some (get_or grants place d) = slice_get-get_or grants place d (omega (arith, inside, counts, likes.0)) in
     let there : slice_get grants a.other ≡ Some (get_or grants a.other d) = slice_get-get_or grants a.other d (omega (arith, before, lengths, count, inside, counts, likes.0)) in
     let its : slice_get alike place ≡ Some a = ap (λ (l : List Alike). slice_get l place) (sym al-is) ∙ slice_get-get_or al place e inside in
-    let seen : slice_get begun a.other ≡ Some known = ap (λ (l : List Begun). slice_get l a.other) (sym slice-is) ∙ slice_get-get_or slice a.other known before ∙ ap Some (sym known-is) in (
+    let seen : slice_get shared_prefix a.other ≡ Some known = ap (λ (l : List SharedPrefix). slice_get l a.other) (sym slice-is) ∙ slice_get-get_or slice a.other known before ∙ ap Some (sym known-is) in (
       slashed (get_or grants a.other d).path,
       so_far a.other (get_or grants a.other d) known there seen,
       subst (λ (t : List ℕ). ShareFirst (slashed (get_or grants a.other d).path) t a.bytes) (sym text-is) (likes.1 place a its (get_or grants place d) (get_or grants a.other d) here there),

@@ -8,6 +8,6 @@ pub mod Parts
 pub mod Words
 pub mod Faults
 pub mod Written
-pub mod Begun
+pub mod SharedPrefix
 pub mod Flags
 pub mod Paths

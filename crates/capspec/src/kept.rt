@@ -1,10 +1,10 @@
 //! The grants of a session, whose paths are compared with those of many inodes.
 ghost use Rattle.std.specs.Prelude.{◌≡◌, ◌<◌, ◌≤◌, List, length, map};
 ghost use Rattle.capspec.specs.declared.grant.Grant.{Grant as AGrant};
-ghost use Rattle.capspec.specs.Begun.{AreAlike, AreBegun, IsAlike};
+ghost use Rattle.capspec.specs.SharedPrefix.{AreAlike, AreSharedPrefixes, IsAlike};
 
-use crate::begun::{Begun, NOTHING_BEGUN, begun_in, count_shared, go_on};
 use crate::grant::{Grant, Grants, MAX_GRANTS};
+use crate::shared_prefix::{NOTHING_SHARED, SharedPrefix, count_shared, go_on, shared_prefix_in};
 use arrayvec::ArrayVec;
 use std::fmt;
 use std::marker::Model;
@@ -73,20 +73,20 @@ impl KeptGrants {
 
     /// How far the paths of the first grants begin with these names: of all where their paths are long, and else of none. Needs no
     /// memory.
-    pub fn begun_by(&self, names: &[&[u8]]) -> ArrayVec<Begun, MAX_GRANTS>
-        ensures { AreBegun (map (λ name. name.now) names.now) self.now result.items }
+    pub fn shared_prefixes(&self, names: &[&[u8]]) -> ArrayVec<SharedPrefix, MAX_GRANTS>
+        ensures { AreSharedPrefixes (map (λ name. name.now) names.now) self.now result.items }
     {
         let grants = self.grants.as_slice();
-        let mut begun: ArrayVec<Begun, MAX_GRANTS> = ArrayVec::new();
+        let mut shared_prefix: ArrayVec<SharedPrefix, MAX_GRANTS> = ArrayVec::new();
         for (place, alike) in self.alike.iter().enumerate() {
             let text = grants[place].path.as_bytes();
-            let here = match begun.get(alike.other) {
-                Some(known) => begun_in(names, text, *known, alike.bytes),
-                None => go_on(names, text, NOTHING_BEGUN),
+            let here = match shared_prefix.get(alike.other) {
+                Some(known) => shared_prefix_in(names, text, *known, alike.bytes),
+                None => go_on(names, text, NOTHING_SHARED),
             };
-            begun.push(here);
+            shared_prefix.push(here);
         }
-        begun
+        shared_prefix
     }
 }
 

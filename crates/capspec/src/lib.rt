@@ -4,7 +4,6 @@
 //! Public source: "CephFS Client Capabilities" in the Ceph documentation.
 #![tactic(auto)]
 
-mod begun;
 mod bytes;
 mod draft;
 mod fault;
@@ -19,18 +18,22 @@ mod measure;
 mod names;
 mod path;
 mod reading;
+mod shared_prefix;
 mod tree_path;
 mod values;
 mod writing;
 
-pub use begun::Begun;
 pub use fault::{SpecFault, SpecFaultKind};
 pub use flags::Flags4;
 pub use fsname::FsName;
 pub use gids::Gids;
 pub use grant::{Grant, Grants};
 pub use kept::KeptGrants;
-pub use laws::{fault_where_nothing_reads, no_fault_where_it_reads, one_fault, one_list_of_grants, the_written_form_reads};
+pub use laws::{
+    fault_where_nothing_reads, no_fault_where_it_reads, one_fault, one_list_of_grants,
+    the_written_form_reads,
+};
 pub use reading::read_grants;
+pub use shared_prefix::SharedPrefix;
 pub use tree_path::TreePath;
 pub use writing::write_grants;

@@ -1,9 +1,9 @@
 //! Paths in the tree.
 
-use crate::begun::Begun;
 use crate::measure::{count_slashes, has_fit_names};
 use crate::names::is_text_of;
 use crate::path::{is_slashed, split_names, write_names};
+use crate::shared_prefix::SharedPrefix;
 use std::alloc::{AllocError, Global};
 use std::marker::Model;
 
@@ -39,7 +39,7 @@ impl TreePath {
     ghost use Rattle.std.specs.Prelude.{◌≡◌, ◌++◌, ℕ, List, IfOk, OnOk, OnErr, All, IsTrue, IsFalse, MatchOption, map};
     ghost use Rattle.std.specs.List.{starts_with};
     ghost use Rattle.std.specs.Str.{bytes_eq};
-    ghost use Rattle.capspec.specs.Begun.{IsBegun};
+    ghost use Rattle.capspec.specs.SharedPrefix.{IsSharedPrefix};
     ghost use Rattle.capspec.specs.Paths.{are_few_and_short, is_name, names_of, slashed};
 
     /// The path that a text names. Slashes only separate: leading, trailing and doubled ones mean nothing.
@@ -114,10 +114,10 @@ impl TreePath {
     }
 
     /// Whether this path is the beginning of some names, where it is known how many of them its text begins with. Needs no memory.
-    pub fn leads_as_begun(&self, begun: Begun) -> bool
-        ensures { (names : List (List ℕ)) → IsBegun names (slashed self.now) begun → result ≡ starts_with bytes_eq names self.now }
+    pub fn leads_by_prefix(&self, shared_prefix: SharedPrefix) -> bool
+        ensures { (names : List (List ℕ)) → IsSharedPrefix names (slashed self.now) shared_prefix → result ≡ starts_with bytes_eq names self.now }
     {
-        begun.count == self.count && begun.size == self.text.as_slice().len()
+        shared_prefix.count == self.count && shared_prefix.size == self.text.as_slice().len()
     }
 
     // A copy of the path, in memory of its own.

@@ -3,8 +3,8 @@ use Rattle.std.proofs.Common.{◌≤◌, ℕ, Option, arith}
 use Rattle.step_model.specs.NotedChanges.{Noted}
 use Rattle.capstep.proofs.Common.{Ticket}
 use Rattle.capstep.specs.Begun.{HaveRoomFor}
-use Rattle.capstep.specs.declared.endings.Endings.{Endings}
+use Rattle.capstep.specs.declared.output.StepOutput.{StepOutput}
 
 -- room for some is room for fewer, whatever changes are noted and whoever was judged
-pub room-for : (e : Endings) (changes : Noted) (judged : Option Ticket) (n m : ℕ) → HaveRoomFor n e → m ≤ n → HaveRoomFor m (record e { changes = changes; judged = judged })
+pub room-for : (e : StepOutput) (changes : Noted) (judged : Option Ticket) (n m : ℕ) → HaveRoomFor n e → m ≤ n → HaveRoomFor m (record e { changes = changes; judged = judged })
 room-for e changes judged n m room fewer = grind arith

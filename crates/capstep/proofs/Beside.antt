@@ -4,12 +4,12 @@ use Rattle.std.specs.List.{find}
 use Rattle.std.specs.Option.{option_map}
 use Rattle.captable.proofs.Searches.{find-filter_gone, find-filter_kept, find-map, find_passes}
 use Rattle.captable.specs.Kept.{AreBeside, KeptRow, KeptTable, is_kept_of, keeping, kept_without_client}
-use Rattle.capstep.proofs.CommonActs.{ClientId, EntryRow, Holder, Sets, entry_at, entry_of, holders_of_rows, is_among, is_row_of, same, same-is}
-use Rattle.capstep.specs.Known.{KnownSets, sets_of}
+use Rattle.capstep.proofs.CommonActs.{ClientId, EntryRow, Holder, ClientView, entry_at, entry_of, holders_of_rows, is_among, is_row_of, same, same-is}
+use Rattle.capstep.specs.Known.{ClientViews, sets_of}
 
 -- ---- who has an entry
 
-sets-among : (kept : KnownSets) (k : Holder) → is_some (sets_of kept k) ≡ is_among (map (λ (row : KeptRow). row.holder) kept) k
+sets-among : (kept : ClientViews) (k : Holder) → is_some (sets_of kept k) ≡ is_among (map (λ (row : KeptRow). row.holder) kept) k
 sets-among [] k = refl
 sets-among (row ∷ kept) k =
     elim (is_kept_of k row) as (λ b. is_some (option_map (λ (r : KeptRow). r.sets) (cond b (Some row) (find (is_kept_of k) kept))) ≡ (b || is_among (map (λ (r : KeptRow). r.holder) kept) k))
@@ -27,7 +27,7 @@ beside-entry t k beside = sets-among t.kept k ∙ ap (λ hs. is_among hs k) besi
 
 -- ---- other sets are kept of a holder
 
-module _ (kept : KnownSets) (k : Holder) (f : Sets → Sets) where
+module _ (kept : ClientViews) (k : Holder) (f : ClientView → ClientView) where
   abbrev changed_row : KeptRow → KeptRow
   changed_row row = cond (is_kept_of k row) (record row { sets = f row.sets }) row
 
@@ -54,7 +54,7 @@ module _ (kept : KnownSets) (k : Holder) (f : Sets → Sets) where
 
 -- ---- a client has gone
 
-module _ (kept : KnownSets) (client : ClientId) (k : Holder) where
+module _ (kept : ClientViews) (client : ClientId) (k : Holder) where
   on : (row : KeptRow) → is_kept_of k row ≡ true → (row.holder.client.0 == client.0) ≡ (k.client.0 == client.0)
   on row is = ap (λ (h : Holder). h.client.0 == client.0) (sym (same-is k row.holder is))
 

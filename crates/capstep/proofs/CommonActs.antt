@@ -17,7 +17,7 @@ pub use Rattle.captable.specs.Table.{Table, entry_at, entry_of, holders_of_rows,
 pub use Rattle.captable.specs.declared.entry.Entry.{Entry}
 pub use Rattle.captable.specs.declared.entry.EntryRow.{EntryRow}
 pub use Rattle.captable.specs.declared.entry.Holder.{Holder}
-pub use Rattle.captable.specs.declared.entry.Sets.{Sets}
+pub use Rattle.captable.specs.declared.entry.ClientView.{ClientView}
 pub use Rattle.step_model.specs.Judge.{denial_of, rejection_of}
 pub use Rattle.step_model.specs.Needs.{Need, need}
 pub use Rattle.step_model.specs.Numbers.{rows_of}

@@ -9,7 +9,7 @@ use Rattle.std.specs.FinMap as finite
 use Rattle.capbits.specs.Caps.{has}
 use Rattle.lockmachine.proofs.Told.{told-same}
 use Rattle.capstep.proofs.Common.{AreKnown, Cap, Caps, Entry, EntryRow, Holder, IsSound, IsSoundEntry, IsSubset, IsTable, IsTree, IssuesExactly, KnownAnew}
-use Rattle.capstep.proofs.Common.{KnownSets, Made, Part, Scene, State, Table, due, entry_at, entry_of, find-map, find_passes, finished, forget, has-union}
+use Rattle.capstep.proofs.Common.{ClientViews, Made, Part, Scene, State, Table, due, entry_at, entry_of, find-map, find_passes, finished, forget, has-union}
 use Rattle.capstep.proofs.Common.{is_gone, is_in_use, is_of_inode, is_row_of, issue, issue_row, known_anew, known_of, lock_at, lock_in, meet, number_row}
 use Rattle.capstep.proofs.Common.{or_inside, permitted, permitted-kept, presence, remade, renumbered, row_found, same, same-is, still_known, told_set}
 use Rattle.capstep.proofs.SoundEnd.{each-alike, kept_by, same-issue_row, same-renumbered}
@@ -154,7 +154,7 @@ module _ (at : ℕ → Bool) (known : Holder → Caps) (old : State) (now : Scen
   pub found_last : (k : Holder) → find (is_row_of k) (finished_at at known now).table.rows ≡ option_map ended (find (is_row_of k) now.table.rows)
   found_last k = find-map (is_row_of k) ended (λ row. ap (same k) (holder_ended row)) now.table.rows
 
-  module _ (was sets : KnownSets) (off_known : (row : EntryRow) → Contains now.table.rows row → at row.holder.ino.0 ≡ false → known_of was row.holder ≡ Some (told_set old.scene row))
+  module _ (was sets : ClientViews) (off_known : (row : EntryRow) → Contains now.table.rows row → at row.holder.ino.0 ≡ false → known_of was row.holder ≡ Some (told_set old.scene row))
       (kept : KnownAnew (λ k. at k.ino.0) (told_then now) now.table was sets) where
     by_place : (row : EntryRow) → Contains now.table.rows row → (b : Bool) → at row.holder.ino.0 ≡ b
         → known_anew b (told_then now) (Some row) (known_of was row.holder) ≡ Some (told_set (finished_at at known now) (record row { entry = (cond b (remade (finished_entry known now) row) row).entry }))
@@ -234,7 +234,7 @@ module _ (at from : ℕ → Bool) (known : Holder → Caps) (old affected : Stat
       ∙ ends_there at known old settled sound settled-table off-these tree knows_settled
 
   -- of each entry elsewhere what was known is known; and of each on these inodes what its client is to know
-  pub affected-known : (was sets : KnownSets)
+  pub affected-known : (was sets : ClientViews)
       → ((row : EntryRow) → Contains affected.scene.table.rows row → at row.holder.ino.0 ≡ false → known_of was row.holder ≡ Some (told_set old.scene row))
       → KnownAnew (λ k. at k.ino.0) (told_then settled) settled.table was sets → AreKnown sets (finished_at at known settled)
   affected-known was sets off_known kept =

@@ -7,10 +7,10 @@ use Rattle.std.specs.Option.{option_map, option_or}
 use Rattle.capbits.specs.Caps.{has}
 use Rattle.capbits.specs.Sets.{no_caps}
 use Rattle.captable.specs.Kept.{KeptRow, is_kept_of, keeping, kept_more, kept_without, no_sets}
-use Rattle.captable.specs.declared.entry.Sets.{Sets}
+use Rattle.captable.specs.declared.entry.ClientView.{ClientView}
 use Rattle.capstep.proofs.Beside.{keeping-other, keeping-own}
 use Rattle.capstep.specs.Known.{sets_of}
-use Rattle.capstep.proofs.Common.{AreKnown, ArePermitted, Caps, Entry, Holder, IsSound, IsSoundEntry, IsSubset, KnownSets, OpenMode, OthersHaveAll, P, Scene}
+use Rattle.capstep.proofs.Common.{AreKnown, ArePermitted, Caps, Entry, Holder, IsSound, IsSoundEntry, IsSubset, ClientViews, OpenMode, OthersHaveAll, P, Scene}
 use Rattle.capstep.proofs.Common.{State, StillKnown, Table, caps_in, changed, entry_at, entry_at-opened, entry_at-opened_other, entry_at-without, entry_of}
 use Rattle.capstep.proofs.Common.{find-filter_kept, has-caps_in, has-minus, has-none, has-union, is_row_of, is_still_known, known_of, new_entry, opened}
 use Rattle.capstep.proofs.Common.{opening_wants, permitted, permitted_of, permitting, revoked_of, row_of-entry, same, same-is, same_equiv, union, wanting}
@@ -26,28 +26,28 @@ use Rattle.capstep.specs.declared.entry_request.EntryRequest.TheVariants.{Ack, O
 -- ---- what is kept of each
 
 -- a change of one entry, of which the same is kept of all that are left
-pub kept-changed : (s : Scene) (mid new : Table) (was now last : KnownSets) (k : Holder) (gone : Bool) (g : Entry → Entry) → StillKept s mid was now → new.rows ≡ (cond gone (without mid k) (changed mid k g)).rows
+pub kept-changed : (s : Scene) (mid new : Table) (was now last : ClientViews) (k : Holder) (gone : Bool) (g : Entry → Entry) → StillKept s mid was now → new.rows ≡ (cond gone (without mid k) (changed mid k g)).rows
     → ((j : Holder) (e : Entry) → entry_at new j ≡ Some e → sets_of last j ≡ sets_of now j) → StillKept s new was last
 kept-changed s mid new was now last k gone g kept is same_kept = record {
   known = λ j e here. let f = there j e here in let known = kept.known j f.0 f.1 in let same_sets = same_kept j e here in grind arith;
-  permitted = λ all j e here. let f = there j e here in ap (option_map (λ (s : Sets). s.permitted)) (same_kept j e here) ∙ kept.permitted all j f.0 f.1;
+  permitted = λ all j e here. let f = there j e here in ap (option_map (λ (s : ClientView). s.permitted)) (same_kept j e here) ∙ kept.permitted all j f.0 f.1;
 }
   where
     there : (j : Holder) (e : Entry) → entry_at new j ≡ Some e → (f : Entry) × (entry_at mid j ≡ Some f)
     there j e here = let m = changed-as gone mid k g j e (ap (λ rows. entry_of (find (is_row_of j) rows)) (sym is) ∙ here) in (m.before, m.there)
 
 -- where nothing changes, all is
-pub kept-itself : (s : Scene) (sets : KnownSets) → StillKept s s.table sets sets
+pub kept-itself : (s : Scene) (sets : ClientViews) → StillKept s s.table sets sets
 kept-itself s sets = grind arith
 
 -- what is kept of others, where the sets of a holder go
-without-other : (kept : KnownSets) (k j : Holder) → same k j ≡ false → sets_of (kept_without kept k) j ≡ sets_of kept j
+without-other : (kept : ClientViews) (k j : Holder) → same k j ≡ false → sets_of (kept_without kept k) j ≡ sets_of kept j
 without-other kept k j apart =
     ap (option_map (λ (row : KeptRow). row.sets))
     (find-filter_kept (is_kept_of j) (λ row. not (is_kept_of k row)) (λ row is. ap not (ap (same k) (sym (same-is j row.holder is)) ∙ apart)) kept)
 
 -- where one entry changes, or goes with what is kept of it, all is kept of those that are left
-pub kept-less : (s : Scene) (sets : KnownSets) (k : Holder) (gone : Bool) (g : Entry → Entry) → StillKept s (cond gone (without s.table k) (changed s.table k g)) sets (cond gone (kept_without sets k) sets)
+pub kept-less : (s : Scene) (sets : ClientViews) (k : Holder) (gone : Bool) (g : Entry → Entry) → StillKept s (cond gone (without s.table k) (changed s.table k g)) sets (cond gone (kept_without sets k) sets)
 kept-less s sets k gone g = kept-changed s s.table (cond gone (without s.table k) (changed s.table k g)) sets sets (cond gone (kept_without sets k) sets) k gone g (kept-itself s sets) refl (by_gone gone)
   where
     other : (j : Holder) (e : Entry) → entry_at (without s.table k) j ≡ Some e → (b : Bool) → same k j ≡ b → same k j ≡ false
@@ -58,7 +58,7 @@ kept-less s sets k gone g = kept-changed s s.table (cond gone (without s.table k
     by_gone true j e here = without-other sets k j (other j e here (same k j) refl)
     by_gone false j e here = refl
 
-module _ (s : Scene) (h : Holder) (was now : KnownSets) (none : entry_at s.table h ≡ None) (others : (k : Holder) → k ≢ h → sets_of now k ≡ sets_of was k) where
+module _ (s : Scene) (h : Holder) (was now : ClientViews) (none : entry_at s.table h ≡ None) (others : (k : Holder) → k ≢ h → sets_of now k ≡ sets_of was k) where
   other : (k : Holder) (e : Entry) → entry_at s.table k ≡ Some e → sets_of now k ≡ sets_of was k
   other k e there = others k (λ is. let gone : entry_at s.table k ≡ None = ap (entry_at s.table) is ∙ none in cc)
 
@@ -82,7 +82,7 @@ module _ (s : Scene) (h : Holder) (was now : KnownSets) (none : entry_at s.table
       each k e here false off = let there = sym (entry_at-opened_other s.table h k (apart-of k h off)) ∙ here in (kept-but.known k e there, λ all. kept-but.permitted all k e there)
 
 -- of a new entry it is kept what its client is permitted
-module _ (s : Scene) (h : Holder) (sets : KnownSets) (may : Caps) where
+module _ (s : Scene) (h : Holder) (sets : ClientViews) (may : Caps) where
   abbrev new_row : KeptRow
   new_row = record { holder = h; sets = no_sets }
 
@@ -101,11 +101,11 @@ module _ (s : Scene) (h : Holder) (sets : KnownSets) (may : Caps) where
 
   opened-own : permitted_of (keeping (kept_more sets h) h (permitting may)) h ≡ Some may
   opened-own =
-      ap (option_map (λ (s : Sets). s.permitted)) (keeping-own (kept_more sets h) h (permitting may)
+      ap (option_map (λ (s : ClientView). s.permitted)) (keeping-own (kept_more sets h) h (permitting may)
       ∙ ap (λ o. option_map (permitting may) (option_map (λ (row : KeptRow). row.sets) o)) (find-append (is_kept_of h) sets (new_row ∷ []) ∙ ap (λ b. option_or (find (is_kept_of h) sets) (cond b (Some new_row) None)) (same_equiv.refl h)))
       ∙ one (find (is_kept_of h) sets)
     where
-      one : (o : Option KeptRow) → option_map (λ (s : Sets). s.permitted) (option_map (permitting may) (option_map (λ (row : KeptRow). row.sets) (option_or o (Some new_row)))) ≡ Some may
+      one : (o : Option KeptRow) → option_map (λ (s : ClientView). s.permitted) (option_map (permitting may) (option_map (λ (row : KeptRow). row.sets) (option_or o (Some new_row)))) ≡ Some may
       one None = refl
       one (Some row) = refl
 
@@ -213,7 +213,7 @@ module _ (s : Scene) (k : Holder) where
   other-before request j e is apart = grind (arith, same_equiv.refl)
 
 -- and where the old state was sound, each has all still
-pub others-have_all : (was now : KnownSets) (old : State) (k : Holder) (request : EntryRequest) → IsSound old → AreKnown was old.scene
+pub others-have_all : (was now : ClientViews) (old : State) (k : Holder) (request : EntryRequest) → IsSound old → AreKnown was old.scene
     → StillKnown old.scene.table (table_after old.scene k request) was now → OthersHaveAll now (record old.scene { table = table_after old.scene k request }) k
 others-have_all was now old k request sound known still j e on apart there =
     let before = other-before old.scene k request j e (each-after old.scene k request j e there) apart in

@@ -10,9 +10,9 @@ use Rattle.captable.proofs.Searches.{find-map, find_passes}
 use Rattle.captable.specs.Calls.{entries_on}
 use Rattle.captable.specs.Many.{changed_where, remade}
 use Rattle.captable.specs.Table.{entry_of}
-use Rattle.capstep.proofs.CommonActs.{Caps, Entry, EntryRow, Holder, Ino, Sets, Table, among-filter, entry_at, holders-filter, holders_of_rows, is_among}
+use Rattle.capstep.proofs.CommonActs.{Caps, Entry, EntryRow, Holder, Ino, ClientView, Table, among-filter, entry_at, holders-filter, holders_of_rows, is_among}
 use Rattle.capstep.proofs.CommonActs.{is_row_of, no_caps, no_sets, row_of-entry, same, same-is, same_equiv}
-use Rattle.capstep.specs.Known.{KnownAnew, KnownSets, known_anew, known_of, permitted_of, sets_of}
+use Rattle.capstep.specs.Known.{KnownAnew, ClientViews, known_anew, known_of, permitted_of, sets_of}
 
 -- ---- of the sets of a holder, one
 
@@ -20,7 +20,7 @@ pub some-mapped : {A B : Type 0} (f : A → B) (o : Option A) → is_some (optio
 some-mapped f None = refl
 some-mapped f (Some x) = refl
 
-pub told-or : (o : Option Sets) → (unwrap_or o no_sets).told ≡ unwrap_or (option_map (λ (s : Sets). s.told) o) no_caps
+pub told-or : (o : Option ClientView) → (unwrap_or o no_sets).told ≡ unwrap_or (option_map (λ (s : ClientView). s.told) o) no_caps
 told-or None = refl
 told-or (Some s) = refl
 
@@ -30,19 +30,19 @@ other-holder j k off is = true≢false (sym (same_equiv.refl j) ∙ ap (same j) 
 
 -- ---- one holder
 
-module _ (f : EntryRow → Caps) (t : Table) (was : KnownSets) (h : Holder) where
+module _ (f : EntryRow → Caps) (t : Table) (was : ClientViews) (h : Holder) where
   -- where it has an entry, and what is told of it is kept anew
-  module _ (now : KnownSets) (e : Entry) (s : Sets) (there : entry_at t h ≡ Some e) (first : sets_of was h ≡ Some s) (own : sets_of now h ≡ Some (record s { told = f (record { holder = h; entry = e }) }))
+  module _ (now : ClientViews) (e : Entry) (s : ClientView) (there : entry_at t h ≡ Some e) (first : sets_of was h ≡ Some s) (own : sets_of now h ≡ Some (record s { told = f (record { holder = h; entry = e }) }))
       (others : (k : Holder) → k ≢ h → sets_of now k ≡ sets_of was k) where
     abbrev Ends : Holder → Bool → Type 0
     Ends k b = (known_of now k ≡ known_anew b f (find (is_row_of k) t.rows) (known_of was k)) × (permitted_of now k ≡ permitted_of was k)
 
     ends : (k : Holder) (b : Bool) → same k h ≡ b → Ends k b
     ends k true on = subst (λ q. Ends q true) (sym (same-is k h on)) (
-      ap (option_map (λ (s : Sets). s.told)) own ∙ sym (ap (λ o. known_anew true f o (known_of was h)) (row_of-entry t h e there)),
-      ap (option_map (λ (s : Sets). s.permitted)) own ∙ ap (option_map (λ (s : Sets). s.permitted)) (sym first),
+      ap (option_map (λ (s : ClientView). s.told)) own ∙ sym (ap (λ o. known_anew true f o (known_of was h)) (row_of-entry t h e there)),
+      ap (option_map (λ (s : ClientView). s.permitted)) own ∙ ap (option_map (λ (s : ClientView). s.permitted)) (sym first),
     )
-    ends k false off = let is = others k (other-holder k h off) in (ap (option_map (λ (s : Sets). s.told)) is, ap (option_map (λ (s : Sets). s.permitted)) is)
+    ends k false off = let is = others k (other-holder k h off) in (ap (option_map (λ (s : ClientView). s.told)) is, ap (option_map (λ (s : ClientView). s.permitted)) is)
 
     pub kept-one : KnownAnew (λ k. same k h) f t was now × ((k : Holder) → permitted_of now k ≡ permitted_of was k)
     kept-one = (λ k. (ends k (same k h) refl).0, λ k. (ends k (same k h) refl).1)
@@ -58,11 +58,11 @@ module _ (f : EntryRow → Caps) (t : Table) (was : KnownSets) (h : Holder) wher
 -- ---- some after others
 
 -- none
-pub kept-nobody : (f : EntryRow → Caps) (t : Table) (sets : KnownSets) → KnownAnew (λ k. false) f t sets sets
+pub kept-nobody : (f : EntryRow → Caps) (t : Table) (sets : ClientViews) → KnownAnew (λ k. false) f t sets sets
 kept-nobody f t sets k = refl
 
 -- the same, so far as they have entries
-pub kept-where : (p q : Holder → Bool) (f : EntryRow → Caps) (t : Table) (was now : KnownSets) → ((k : Holder) (row : EntryRow) → find (is_row_of k) t.rows ≡ Some row → p k ≡ q k)
+pub kept-where : (p q : Holder → Bool) (f : EntryRow → Caps) (t : Table) (was now : ClientViews) → ((k : Holder) (row : EntryRow) → find (is_row_of k) t.rows ≡ Some row → p k ≡ q k)
     → KnownAnew p f t was now → KnownAnew q f t was now
 kept-where p q f t was now same_tests kept k = kept k ∙ by_row (find (is_row_of k) t.rows) refl (p k) (q k) (same_tests k)
   where
@@ -74,11 +74,11 @@ kept-where p q f t was now same_tests kept k = kept k ∙ by_row (find (is_row_o
     by_row None none a b tests = nobody a ∙ sym (nobody b)
     by_row (Some row) found a b tests = ap (λ b. known_anew b f (Some row) (known_of was k)) (tests row found)
 
-pub kept-same : (p q : Holder → Bool) (f : EntryRow → Caps) (t : Table) (was now : KnownSets) → ((k : Holder) → p k ≡ q k) → KnownAnew p f t was now → KnownAnew q f t was now
+pub kept-same : (p q : Holder → Bool) (f : EntryRow → Caps) (t : Table) (was now : ClientViews) → ((k : Holder) → p k ≡ q k) → KnownAnew p f t was now → KnownAnew q f t was now
 kept-same p q f t was now same_tests = kept-where p q f t was now (λ k row found. same_tests k)
 
 -- by sets that are the same for those who are among them
-pub kept-as : (p : Holder → Bool) (f g : EntryRow → Caps) (t : Table) (was now : KnownSets) → ((row : EntryRow) → p row.holder ≡ true → f row ≡ g row)
+pub kept-as : (p : Holder → Bool) (f g : EntryRow → Caps) (t : Table) (was now : ClientViews) → ((row : EntryRow) → p row.holder ≡ true → f row ≡ g row)
     → KnownAnew p f t was now → KnownAnew p g t was now
 kept-as p f g t was now same_sets kept k = kept k ∙ by_row (p k) refl (find (is_row_of k) t.rows) refl
   where
@@ -88,7 +88,7 @@ kept-as p f g t was now same_sets kept k = kept k ∙ by_row (p k) refl (find (i
     by_row false off o found = refl
 
 -- those whose rows in a later table are as in the first
-pub kept-then : (p q : Holder → Bool) (f : EntryRow → Caps) (t later : Table) (was mid now : KnownSets) → KnownAnew p f t was mid → KnownAnew q f later mid now
+pub kept-then : (p q : Holder → Bool) (f : EntryRow → Caps) (t later : Table) (was mid now : ClientViews) → KnownAnew p f t was mid → KnownAnew q f later mid now
     → ((k : Holder) → q k ≡ true → find (is_row_of k) later.rows ≡ find (is_row_of k) t.rows) → KnownAnew (λ k. p k || q k) f t was now
 kept-then p q f t later was mid now first then alike k = then k ∙ by_second (q k) refl
   where
@@ -106,7 +106,7 @@ kept-then p q f t later was mid now first then alike k = then k ∙ by_second (q
     by_second false off = first k ∙ once (p k) row (known_of was k)
 
 -- of who is not among them the same is kept
-pub kept-not : (p : Holder → Bool) (f : EntryRow → Caps) (t : Table) (was now : KnownSets) → KnownAnew p f t was now → (k : Holder) → p k ≡ false → known_of now k ≡ known_of was k
+pub kept-not : (p : Holder → Bool) (f : EntryRow → Caps) (t : Table) (was now : ClientViews) → KnownAnew p f t was now → (k : Holder) → p k ≡ false → known_of now k ≡ known_of was k
 kept-not p f t was now kept k off = kept k ∙ ap (λ b. known_anew b f (find (is_row_of k) t.rows) (known_of was k)) off
 
 -- ---- entries of a table that was changed
@@ -158,7 +158,7 @@ among_rows k (r ∷ rows) row found =
     ] found
 
 -- they are all whose entries are on it
-pub kept-on : (ino : Ino) (f : EntryRow → Caps) (t : Table) (was now : KnownSets) → KnownAnew (is_among (holders_of_rows (entries_on t ino))) f t was now → KnownAnew (λ k. k.ino.0 == ino.0) f t was now
+pub kept-on : (ino : Ino) (f : EntryRow → Caps) (t : Table) (was now : ClientViews) → KnownAnew (is_among (holders_of_rows (entries_on t ino))) f t was now → KnownAnew (λ k. k.ino.0 == ino.0) f t was now
 kept-on ino f t was now = kept-where (is_among (holders_of_rows (entries_on t ino))) on f t was now (λ k row found.
     ap (λ (hs : List Holder). is_among hs k) (holders-filter on t.rows) ∙ among-filter on (holders_of_rows t.rows) k ∙ ap (λ b. on k && b) (among_rows k t.rows row found) ∙ and-true (on k))
   where

@@ -5,7 +5,7 @@ use Rattle.std.specs.Option.{option_map_or, unwrap_or}
 use Rattle.capbits.specs.Caps.{has}
 use Rattle.capbits.specs.Sets.{no_caps}
 use Rattle.capstep.proofs.KeptSets.{made-there}
-use Rattle.capstep.proofs.Common.{AreKnown, Caps, Entry, EntryRow, Holder, IsSubset, IsTable, KnownSets, Scene, StillKnown, Table, changed_where, entry_at}
+use Rattle.capstep.proofs.Common.{AreKnown, Caps, Entry, EntryRow, Holder, IsSubset, IsTable, ClientViews, Scene, StillKnown, Table, changed_where, entry_at}
 use Rattle.capstep.proofs.Common.{entry_of, has-against, has-meet, has-minus, has-none, has-told, is_revoked, is_still_known, known_in, known_of, meet, minus}
 use Rattle.capstep.proofs.Common.{remade, revoked_of, row_found, same_caps, told-less, told_set}
 use Rattle.capstep.proofs.Revoking.{revoked-found}
@@ -29,7 +29,7 @@ alike-less old new alike k e there c held =
     ap (λ (o : Option Entry). has (option_map_or (λ (x : Entry). x.held) o no_caps) c) was.1 ∙ ap (λ caps. has caps c) (sym was.2) ∙ held
 
 -- entries that hold alike keep what is kept of them
-pub known-alike : (sets : KnownSets) (s : Scene) (new : Table) → HoldAlike s.table new → AreKnown sets s → AreKnown sets (record s { table = new })
+pub known-alike : (sets : ClientViews) (s : Scene) (new : Table) → HoldAlike s.table new → AreKnown sets s → AreKnown sets (record s { table = new })
 known-alike sets s new alike known k e there =
     let was = alike k e there in
     known k was.0 was.1 ∙ ap Some (sym (told-held s k was.0 e was.2))
@@ -50,7 +50,7 @@ rest_of : (h t : Bool) → (h && not (h && not t)) ≡ (h && t)
 rest_of h t = grind arith
 
 -- it is what is held and is not known
-pub revoked-known : (sets : KnownSets) (s : Scene) (k : Holder) (e : Entry) → AreKnown sets s → entry_at s.table k ≡ Some e → minus e.held (known_in sets k) ≡ revoked_of s k
+pub revoked-known : (sets : ClientViews) (s : Scene) (k : Holder) (e : Entry) → AreKnown sets s → entry_at s.table k ≡ Some e → minus e.held (known_in sets k) ≡ revoked_of s k
 revoked-known sets s k e known there =
     ap (λ (o : Option Caps). minus e.held (unwrap_or o no_caps)) (known k e there)
     ∙ same_caps _ _ (λ c.
@@ -63,7 +63,7 @@ revoked-known sets s k e known there =
 -- ---- what an event leaves by itself
 
 -- entries of a table of which each was there, where of each the same is kept
-pub still-there : (old new : Table) (was now : KnownSets) → ((k : Holder) (e : Entry) → entry_at new k ≡ Some e → IsSome (entry_at old k))
+pub still-there : (old new : Table) (was now : ClientViews) → ((k : Holder) (e : Entry) → entry_at new k ≡ Some e → IsSome (entry_at old k))
     → ((k : Holder) (e : Entry) → entry_at new k ≡ Some e → known_of now k ≡ known_of was k) → StillKnown old new was now
 still-there old new was now there same_kept k e here =
     elim (entry_at old k) as (λ o. IsSome o → is_still_known o (known_of was k) (known_of now k)) [
@@ -71,7 +71,7 @@ still-there old new was now there same_kept k e here =
       | Some f ↦ λ some. same_kept k e here
     ] (there k e here)
 
-module _ (was now : KnownSets) (old : Scene) (table : Table) (known : AreKnown was old) (still : StillKnown old.table table was now) where
+module _ (was now : ClientViews) (old : Scene) (table : Table) (known : AreKnown was old) (still : StillKnown old.table table was now) where
   -- of an entry that was there, what was kept is kept
   pub still-known : (k : Holder) (e f : Entry) → entry_at table k ≡ Some e → entry_at old.table k ≡ Some f → known_of now k ≡ Some (told_set old (record { holder = k; entry = f }))
   still-known k e f here there = subst (λ o. is_still_known o (known_of was k) (known_of now k)) there (still k e here) ∙ known k f there
@@ -95,5 +95,5 @@ module _ (was now : KnownSets) (old : Scene) (table : Table) (known : AreKnown w
           ∙ sym (has-told old row c ∙ ap (λ b. b && not (is_revoked old row.holder c)) out))
 
 -- where the table stays, all is still known
-pub still-all : (was now : KnownSets) (s : Scene) → AreKnown was s → StillKnown s.table s.table was now → AreKnown now s
+pub still-all : (was now : ClientViews) (s : Scene) → AreKnown was s → StillKnown s.table s.table was now → AreKnown now s
 still-all was now s known still k e there = still-known was now s s.table known still k e e there there

@@ -10,7 +10,7 @@ use Rattle.capbits.specs.Sets.{no_caps}
 use Rattle.locktable.specs.Targets.{target_of}
 use Rattle.locktable.specs.declared.targets.Head.TheVariants.{Empty}
 use Rattle.lockmachine.specs.Scene.{rows_on, wanted}
-use Rattle.capstep.proofs.Common.{AreKnown, EntryRow, IsInPlace, IsQuiet, IsSound, IsSoundEntry, IsTable, KnownSets, LockState, Node, Nodes, Part, Scene}
+use Rattle.capstep.proofs.Common.{AreKnown, EntryRow, IsInPlace, IsQuiet, IsSound, IsSoundEntry, IsTable, ClientViews, LockState, Node, Nodes, Part, Scene}
 use Rattle.capstep.proofs.Common.{SessionTable, Stable, StableState, State, StateMap, Sync, against, finished, first_for, has_session, in_sync, is_open}
 use Rattle.capstep.proofs.Common.{is_row_of, lock_at, lock_in, minus, row_of-entry, wants, wants-kept, with_scene}
 use Rattle.capstep.proofs.SoundEnd.{same-finished}
@@ -108,7 +108,7 @@ module _ (s : State) (sound : IsSound s) (tree : Nodes) (sessions : SessionTable
       same-finished (with_scene s (with_parts s.scene tree sessions states)) kept-sound table s.scene (λ row inside. ap (minus row.entry.held) (sym (same_against row inside)))
 
   -- what is known of each entry is known
-  pub kept-known : (sets : KnownSets) → AreKnown sets s.scene → AreKnown sets (with_parts s.scene tree sessions states)
+  pub kept-known : (sets : ClientViews) → AreKnown sets s.scene → AreKnown sets (with_parts s.scene tree sessions states)
   kept-known sets known k e there =
       let row : EntryRow = record { holder = k; entry = e } in
       let inside : Contains s.scene.table.rows row = found-contains (is_row_of k) s.scene.table.rows row (row_of-entry s.scene.table k e there) in

@@ -13,7 +13,7 @@ use Rattle.std.specs.List.{AllByRecursion, IsDistinct, find, list_any}
 use Rattle.std.specs.Ordering.{eq_by_cmp, nat_cmp}
 use Rattle.std.specs.FinSet as set
 use Rattle.captable.proofs.Tables.{IsTable-rows}
-use Rattle.capstep.proofs.Common.{Caps, Entry, EntryRow, Holder, Ino, InoSet, IsListOf, IsTable, KnownAnew, KnownSets, Table, changed_where, entries_on}
+use Rattle.capstep.proofs.Common.{Caps, Entry, EntryRow, Holder, Ino, InoSet, IsListOf, IsTable, KnownAnew, ClientViews, Table, changed_where, entries_on}
 use Rattle.capstep.proofs.Common.{found-stays, is_of_inode, is_row_of, kept-nobody, kept-not, kept-same, kept-then, known_of, remade, same_holder}
 
 -- the same number
@@ -64,14 +64,14 @@ entries_on-stay p g ino fails t = rows-stay p g ino fails t.rows
 -- ---- one inode after another
 
 -- some inodes are done, of those that are named: their entries are finished, and what their clients are to know is kept
-pub record IsFinishing (g : EntryRow → Entry) (f : EntryRow → Caps) (t : Table) (was : KnownSets) (all : List ℕ) (left : List ℕ) (now : Table) (sets : KnownSets) : Type 0 where
+pub record IsFinishing (g : EntryRow → Entry) (f : EntryRow → Caps) (t : Table) (was : ClientViews) (all : List ℕ) (left : List ℕ) (now : Table) (sets : ClientViews) : Type 0 where
   pub done : List ℕ
   pub named : done ++ left ≡ all
   pub finished : now ≡ changed_where (on (λ n. list_any (same_number n) done)) g t
   pub kept : KnownAnew (λ k. list_any (same_number k.ino.0) done) f t was sets
 
 -- at first none is
-pub none-finished : (g : EntryRow → Entry) (f : EntryRow → Caps) (t : Table) (was : KnownSets) (all : List ℕ) → IsFinishing g f t was all all t was
+pub none-finished : (g : EntryRow → Entry) (f : EntryRow → Caps) (t : Table) (was : ClientViews) (all : List ℕ) → IsFinishing g f t was all all t was
 none-finished g f t was all = record {
   done = [];
   named = refl;
@@ -97,8 +97,8 @@ next-apart (d ∷ done) k left apart n is =
         true≢false (sym (unsigned_tied k k ∙ eq-eqb k k refl) ∙ ap (λ q. same_number q k) (sym equal) ∙ behind done apart.0)
 
 -- it is finished in its turn, as it would have been at first
-pub next-finished : (g : EntryRow → Entry) (f : EntryRow → Caps) (t : Table) (was : KnownSets) (all : List ℕ) (k : ℕ) (left : List ℕ) (mid : Table) (sets : KnownSets)
-    (h : EntryRow → Entry) (now : Table) (then : KnownSets)
+pub next-finished : (g : EntryRow → Entry) (f : EntryRow → Caps) (t : Table) (was : ClientViews) (all : List ℕ) (k : ℕ) (left : List ℕ) (mid : Table) (sets : ClientViews)
+    (h : EntryRow → Entry) (now : Table) (then : ClientViews)
     → IsDistinct same_number all → IsFinishing g f t was all (k ∷ left) mid sets → now ≡ changed_where (is_of_inode (record { 0 = k })) h mid
     → ((row : EntryRow) → is_of_inode (record { 0 = k }) row ≡ true → known_of sets row.holder ≡ known_of was row.holder → h row ≡ g row)
     → KnownAnew (λ q. q.ino.0 == k) f mid sets then → IsFinishing g f t was all left now then
@@ -131,7 +131,7 @@ next-finished g f t was all k left mid sets h now then once so_far step alike ke
         ∙ sym (list_any-append (same_number n) so_far.done (k ∷ []))
 
 -- at the end all inodes of a set are
-pub all-finished : (g : EntryRow → Entry) (f : EntryRow → Caps) (t : Table) (was : KnownSets) (inos : InoSet) (all : List ℕ) (now : Table) (sets : KnownSets)
+pub all-finished : (g : EntryRow → Entry) (f : EntryRow → Caps) (t : Table) (was : ClientViews) (inos : InoSet) (all : List ℕ) (now : Table) (sets : ClientViews)
     → IsListOf inos all → IsFinishing g f t was all [] now sets
     → (now ≡ changed_where (on (set.contains inos)) g t) × KnownAnew (λ k. set.contains inos k.ino.0) f t was sets
 all-finished g f t was inos all now sets lists so_far = grind (arith, append-nil)

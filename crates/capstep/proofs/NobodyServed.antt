@@ -5,7 +5,7 @@ use Rattle.std.specs.Option.{unwrap_or}
 use Rattle.std.specs.FinMap as map
 use Rattle.capbits.specs.Sets.{no_caps}
 use Rattle.capstep.specs.Finishing.{told_under}
-use Rattle.capstep.proofs.Common.{Began, Caps, Ended, EntryRow, Gathered, Holder, Ino, IsSubset, IsTree, KnownSets, LockMap, Made, MakesAll, OthersHaveAll}
+use Rattle.capstep.proofs.Common.{Began, Caps, Ended, EntryRow, Gathered, Holder, Ino, IsSubset, IsTree, ClientViews, LockMap, Made, MakesAll, OthersHaveAll}
 use Rattle.capstep.proofs.Common.{Scene, Served, SessionTable, Table, changed_where, due_under, ended_in, has_session, is_row_of, is_sized, known_anew}
 use Rattle.capstep.proofs.Common.{known_in, known_of, owed, permitted, permitted-kept, permitted_of, row_of-entry, sized_in, sizes_owed, was-there}
 use Rattle.capstep.proofs.LeftAlone.{found-contains}
@@ -25,11 +25,11 @@ nobody-served first (Gathered ino part ∷ ms) settled (mid, makes, rest) none =
 nobody-served first (Served q o ∷ ms) settled made none = absurd (cc)
 
 -- of each client as much is kept that it is to know of
-abbrev AreToldAlike : KnownSets → KnownSets → Type 0
+abbrev AreToldAlike : ClientViews → ClientViews → Type 0
 AreToldAlike was now = (k : Holder) → known_of now k ≡ known_of was k
 
 -- whoever has all there by some locks, has it by others that are the same at the inode
-still-all_there : (was now : KnownSets) (s : Scene) (then : LockMap) (k : Holder) → AreToldAlike was now → map.get then.states k.ino.0 ≡ map.get s.locks.states k.ino.0 → OthersHaveAll was s k
+still-all_there : (was now : ClientViews) (s : Scene) (then : LockMap) (k : Holder) → AreToldAlike was now → map.get then.states k.ino.0 ≡ map.get s.locks.states k.ino.0 → OthersHaveAll was s k
     → OthersHaveAll now (record s { locks = then }) k
 still-all_there was now s then k told same others j e on apart there =
     let row : EntryRow = record { holder = j; entry = e } in
@@ -44,7 +44,7 @@ module _ (at from : ℕ → Bool) (first settled : Scene) (ended : List Ended) (
   pub served_none : (sized ≡ []) × (settled.tree ≡ first.tree)
   served_none = let none = nobody-served first settles.moves settled settles.settles.settles.made (sym settles.ended_is ∙ nobody) in (settles.sized_is ∙ none.0, none.1)
 
-  pub others-still : (was now : KnownSets) (k : Holder) → AreToldAlike was now → map.get settled.locks.states k.ino.0 ≡ map.get first.locks.states k.ino.0 → OthersHaveAll was first k → OthersHaveAll now settled k
+  pub others-still : (was now : ClientViews) (k : Holder) → AreToldAlike was now → map.get settled.locks.states k.ino.0 ≡ map.get first.locks.states k.ino.0 → OthersHaveAll was first k → OthersHaveAll now settled k
   others-still was now k told here others =
       let there = settles.settles in
       let same = there.same in
@@ -56,7 +56,7 @@ module _ (at from : ℕ → Bool) (first settled : Scene) (ended : List Ended) (
 -- ---- the step
 
 -- the locks settle, and the step may end still, where it is kept what is permitted then
-pub settled-may : (at from : ℕ → Bool) (was now : KnownSets) (first settled : Scene) (ended : List Ended) (sized : List Ino) → SettlesWith at from first settled ended sized
+pub settled-may : (at from : ℕ → Bool) (was now : ClientViews) (first settled : Scene) (ended : List Ended) (sized : List Ino) → SettlesWith at from first settled ended sized
     → ArePermittedIn now settled → MayEnd was first → MayEnd now settled
 settled-may at from was now first settled ended sized settles permitted may =
     let there = settles.settles in
@@ -69,7 +69,7 @@ settled-may at from was now first settled ended sized settles permitted may =
     }
 
 -- the end of a step makes no entry and forgets nothing that somebody has one on, so what is permitted stays so
-finished-permitted : (at : ℕ → Bool) (known : Holder → Caps) (sized : List Ino) (s : Scene) (was now : KnownSets) → IsTree s.tree → ((k : Holder) → permitted_of now k ≡ permitted_of was k)
+finished-permitted : (at : ℕ → Bool) (known : Holder → Caps) (sized : List Ino) (s : Scene) (was now : ClientViews) → IsTree s.tree → ((k : Holder) → permitted_of now k ≡ permitted_of was k)
     → ArePermittedIn was s → ArePermittedIn now (finished_at at known (sizes_owed sized s))
 finished-permitted at known sized s was now tree kept all k e here =
     let told : Scene = sizes_owed sized s in
@@ -83,7 +83,7 @@ finished-permitted at known sized s was now tree kept all k e here =
     (alike-retained s.tree (stays at left) tree (λ q gone. (goes at left q gone).1) k.ino.0 (stays-kept at left k.ino.0 (kept-held left (record { holder = k; entry = e }) inside))) refl))
 
 -- the locks settle and then the step ends
-pub settled-ends : (at from : ℕ → Bool) (was mid now : KnownSets) (first settled last : Scene) (ended : List Ended) (sized : List Ino)
+pub settled-ends : (at from : ℕ → Bool) (was mid now : ClientViews) (first settled last : Scene) (ended : List Ended) (sized : List Ino)
     → SettlesWith at from first settled ended sized → IsTree first.tree → AreToldAlike was mid → ArePermittedIn mid settled → EndsAt at sized mid now settled last → EndsWith from was now first last ended
 settled-ends at from was mid now first settled last ended sized settles tree told permitted ends = record {
   at = at;

@@ -6,7 +6,7 @@ use Rattle.sessiontab.specs.Calls.{with_status}
 use Rattle.sessiontab.specs.Connected.{SessionMap}
 use Rattle.sessiontab.specs.declared.session.Status.{Status}
 use Rattle.step_model.proofs.Noting.{changes-one, changes-unseen}
-use Rattle.policy_view.proofs.Likeness.{guests-unseen, shows-sessions}
+use Rattle.policy_view.proofs.Likeness.{clients-unseen, shows-sessions}
 use Rattle.step_model.specs.NotedChanges.{view}
 use Rattle.policy_view.specs.Changes.{AreChanges}
 use Rattle.policy_view.specs.declared.change.ViewChange.{ViewChange}
@@ -34,7 +34,7 @@ module _ (client : ClientId) (change : SessionChange) where
     lead = λ tree sessions.
         subst (λ (t : SessionChange). AreChanges [] (view tree sessions.sessions) (view tree (changed_sessions sessions client t).sessions)) (sym turns)
         (changes-unseen [] (view tree sessions.sessions) (view tree (with_status sessions client.0 status).sessions) refl
-        (shows-sessions tree sessions.sessions (with_status sessions client.0 status).sessions (guests-unseen sessions.sessions (λ session. record session { status = status }) client.0 (λ session. refl))));
+        (shows-sessions tree sessions.sessions (with_status sessions client.0 status).sessions (clients-unseen sessions.sessions (λ session. record session { status = status }) client.0 (λ session. refl))));
   }
 
   -- it has other grants

@@ -10,7 +10,7 @@ use Rattle.std.specs.Option.{unwrap_or}
 use Rattle.std.specs.FinMap as finite
 use Rattle.capbits.specs.Sets.{no_caps}
 use Rattle.step_model.specs.Messages.{size_message}
-use Rattle.capstep.proofs.Common.{AreKnown, Caps, ClientId, Ended, Entry, EntryRow, Ino, IsTable, KnownSets, Message, Scene, State, Table, after_messages}
+use Rattle.capstep.proofs.Common.{AreKnown, Caps, ClientId, Ended, Entry, EntryRow, Ino, IsTable, ClientViews, Message, Scene, State, Table, after_messages}
 use Rattle.capstep.proofs.Common.{changed, changed_where, end_messages, entry_at, entry_of, first_messages, fold-changed_by, holder, is_among, is_caps_of}
 use Rattle.capstep.proofs.Common.{is_due, is_of_client, is_recall_of, is_size_of, known_in, remade, row_found, row_messages, told_set, with_asked}
 use Rattle.capstep.proofs.Common.{with_size_due, with_told}
@@ -87,7 +87,7 @@ listed-first s client max t ended rows listed of table messages is =
     is ∙ ap (λ ms. take max (end_messages client ended ++ ms)) (sym (due-rows s.scene rows) ∙ ap (due_of s.scene) of ∙ due-rows s.scene (filter (is_of_client client) t.rows)) ∙ sym (first-due s client max t ended table messages)
 
 -- of an entry of the table it is known what its client is to know
-pub known-row : (sets : KnownSets) (s : Scene) (t : Table) → s.table ≡ t → IsTable t → AreKnown sets s → (row : EntryRow) → Contains t.rows row → known_in sets row.holder ≡ told_set s row
+pub known-row : (sets : ClientViews) (s : Scene) (t : Table) → s.table ≡ t → IsTable t → AreKnown sets s → (row : EntryRow) → Contains t.rows row → known_in sets row.holder ≡ told_set s row
 known-row sets s t same_table is known row inside =
     ap (λ (o : Option Caps). unwrap_or o no_caps) (known row.holder row.entry (ap (λ (u : Table). entry_at u row.holder) same_table ∙ ap entry_of (row_found t row is inside)))
 

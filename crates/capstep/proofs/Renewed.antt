@@ -19,30 +19,30 @@ use Rattle.lockmachine.proofs.PolicyElsewhere.{alike-itself, permitted-kept}
 use Rattle.step_model.specs.Changing.{tree_changed}
 use Rattle.step_model.specs.NotedChanges.{sets_attr}
 use Rattle.lockmachine.specs.declared.request.Change.TheVariants.{RemoveXattr, Set, SetXattr}
-use Rattle.capstep.proofs.CommonActs.{ArePermitted, Caps, Change, Entry, EntryRow, Holder, InoSet, IsAlike, Nodes, Outcome, Request, Scene, Sets, Table}
+use Rattle.capstep.proofs.CommonActs.{ArePermitted, Caps, Change, Entry, EntryRow, Holder, InoSet, IsAlike, Nodes, Outcome, Request, Scene, ClientView, Table}
 use Rattle.capstep.proofs.CommonActs.{among-filter, entry_at, holders-filter, holders_of_rows, is_among, is_row_of, no_sets, permitted, row_of-entry, same}
 use Rattle.capstep.proofs.Beside.{entry-among}
 use Rattle.capstep.proofs.Walked.{second_true}
-use Rattle.capstep.specs.Known.{KnownSets, known_of, permitted_of}
+use Rattle.capstep.specs.Known.{ClientViews, known_of, permitted_of}
 use Rattle.capstep.specs.Renewing.{Renews, ServedFrom, has_entry}
 use Rattle.capstep.specs.Served.{is_rename}
 
 -- ---- what is kept of a holder that is known to be permitted this
 
-pub kept-is : (o : Option Sets) (may : Caps) → option_map (λ (s : Sets). s.permitted) o ≡ Some may → (o ≡ Some (unwrap_or o no_sets)) × ((unwrap_or o no_sets).permitted ≡ may)
+pub kept-is : (o : Option ClientView) (may : Caps) → option_map (λ (s : ClientView). s.permitted) o ≡ Some may → (o ≡ Some (unwrap_or o no_sets)) × ((unwrap_or o no_sets).permitted ≡ may)
 kept-is None may is = absurd (cc)
 kept-is (Some s) may is = (refl, cc)
 
 -- ---- some after others
 
 -- of those of all that are not left it is kept
-pub record Along (may : Holder → Caps) (all left : Holder → Bool) (was now : KnownSets) : Type 0 where
+pub record Along (may : Holder → Caps) (all left : Holder → Bool) (was now : ClientViews) : Type 0 where
   pub inside : (k : Holder) → left k ≡ true → all k ≡ true
   pub anew : (k : Holder) → all k ≡ true → left k ≡ false → permitted_of now k ≡ Some (may k)
   pub others : (k : Holder) → all k ≡ false → permitted_of now k ≡ permitted_of was k
   pub told : (k : Holder) → known_of now k ≡ known_of was k
 
-pub along-begins : (may : Holder → Caps) (all left : Holder → Bool) (sets : KnownSets) → ((k : Holder) → all k ≡ left k) → Along may all left sets sets
+pub along-begins : (may : Holder → Caps) (all left : Holder → Bool) (sets : ClientViews) → ((k : Holder) → all k ≡ left k) → Along may all left sets sets
 along-begins may all left sets are = record {
   inside = λ k among. are k ∙ among;
   anew = λ k among none. absurd (true≢false (sym among ∙ are k ∙ none));
@@ -50,7 +50,7 @@ along-begins may all left sets are = record {
   told = λ k. refl;
 }
 
-pub along-more : (may : Holder → Caps) (all left one rest : Holder → Bool) (was mid now : KnownSets) → Along may all left was mid → Renews one may mid now
+pub along-more : (may : Holder → Caps) (all left one rest : Holder → Bool) (was mid now : ClientViews) → Along may all left was mid → Renews one may mid now
     → ((k : Holder) → left k ≡ (one k || rest k)) → Along may all rest was now
 along-more may all left one rest was mid now along then parts = record {
   inside = λ k among. along.inside k (parts k ∙ second_true (one k) (rest k) among);
@@ -64,7 +64,7 @@ along-more may all left one rest was mid now along then parts = record {
     by_one k among none false off =
         then.others k off ∙ along.anew k among (parts k ∙ (λ i. off i || none i))
 
-pub along-ends : (may : Holder → Caps) (all left : Holder → Bool) (was now : KnownSets) → Along may all left was now → ((k : Holder) → left k ≡ false) → Renews all may was now
+pub along-ends : (may : Holder → Caps) (all left : Holder → Bool) (was now : ClientViews) → Along may all left was now → ((k : Holder) → left k ≡ false) → Renews all may was now
 along-ends may all left was now along none = record { anew = λ k among. along.anew k among (none k); others = along.others; told = along.told }
 
 -- ---- who has an entry
@@ -80,7 +80,7 @@ module _ (passes : Holder → Bool) (t : Table) where
       ap (λ hs. is_among hs k) (holders-filter passes t.rows) ∙ among-filter passes (holders_of_rows t.rows) k ∙ ap (λ b. passes k && b) (sym (entry-among t.rows k))
 
 -- where nobody passes
-pub renews-nobody : (passes : Holder → Bool) (may : Holder → Caps) (t : Table) (sets : KnownSets) → list_any (λ row. passes row.holder) t.rows ≡ false → Renews (λ k. passes k && has_entry t k) may sets sets
+pub renews-nobody : (passes : Holder → Bool) (may : Holder → Caps) (t : Table) (sets : ClientViews) → list_any (λ row. passes row.holder) t.rows ≡ false → Renews (λ k. passes k && has_entry t k) may sets sets
 renews-nobody passes may t sets none = record {
   anew = λ k on. absurd (true≢false (sym on ∙ sym (among-passing passes t k) ∙ ap (λ (rows : List EntryRow). is_among (holders_of_rows rows) k) (none_pass (λ row. passes row.holder) t.rows none)));
   others = λ k off. refl;
@@ -99,7 +99,7 @@ renews-nobody passes may t sets none = record {
 abbrev pub is_at : Table → List ℕ → Holder → Bool
 is_at t numbers k = list_any (eq_by_cmp nat_cmp k.ino.0) numbers && has_entry t k
 
-pub inodes-more : (may : Holder → Caps) (t : Table) (all : Holder → Bool) (n : ℕ) (rest left : List ℕ) (was mid now : KnownSets) → left ≡ n ∷ rest
+pub inodes-more : (may : Holder → Caps) (t : Table) (all : Holder → Bool) (n : ℕ) (rest left : List ℕ) (was mid now : ClientViews) → left ≡ n ∷ rest
     → Along may all (is_at t left) was mid → Renews (λ k. (k.ino.0 == n) && has_entry t k) may mid now → Along may all (is_at t rest) was now
 inodes-more may t all n rest left was mid now first along then =
     along-more may all (is_at t left) (λ k. (k.ino.0 == n) && has_entry t k) (is_at t rest) was mid now along then
@@ -128,7 +128,7 @@ off_within tree i k out = off_here 32 tree.nodes i k out
 
 -- ---- where nothing that policy looks at changed
 
-module _ (fs : List ℕ) (old new : Nodes) (before after : SessionTable) (t : Table) (was now : KnownSets) where
+module _ (fs : List ℕ) (old new : Nodes) (before after : SessionTable) (t : Table) (was now : ClientViews) where
   pub permitted-anew : (among : Holder → Bool) → Renews (λ k. among k && has_entry t k) (permitted fs new after) was now
       → ((k : Holder) (e : Entry) → entry_at t k ≡ Some e → among k ≡ false → permitted fs new after k ≡ permitted fs old before k)
       → ArePermitted was fs old before t → ArePermitted now fs new after t
@@ -140,13 +140,13 @@ module _ (fs : List ℕ) (old new : Nodes) (before after : SessionTable) (t : Ta
           renews.others k (ap (λ b. b && has_entry t k) off) ∙ are k e there ∙ ap Some (sym (alike k e there off))
 
 -- the sessions are the same, and each inode that they are not on is alike
-pub permitted-on : (fs : List ℕ) (old new : Nodes) (sessions : SessionTable) (t : Table) (was now : KnownSets) (at : ℕ → Bool) → Renews (λ k. at k.ino.0 && has_entry t k) (permitted fs new sessions) was now
+pub permitted-on : (fs : List ℕ) (old new : Nodes) (sessions : SessionTable) (t : Table) (was now : ClientViews) (at : ℕ → Bool) → Renews (λ k. at k.ino.0 && has_entry t k) (permitted fs new sessions) was now
     → ((k : Holder) (e : Entry) → entry_at t k ≡ Some e → at k.ino.0 ≡ false → IsAlike old new k.ino.0) → ArePermitted was fs old sessions t → ArePermitted now fs new sessions t
 permitted-on fs old new sessions t was now at renews alike =
     permitted-anew fs old new sessions sessions t was now (λ k. at k.ino.0) renews (λ k e there off. permitted-kept fs old new sessions sessions k (alike k e there off) refl)
 
 -- nothing changed anywhere
-pub permitted-still : (fs : List ℕ) (old new : Nodes) (sessions : SessionTable) (t : Table) (sets : KnownSets) → ((ino : ℕ) → IsAlike old new ino) → ArePermitted sets fs old sessions t → ArePermitted sets fs new sessions t
+pub permitted-still : (fs : List ℕ) (old new : Nodes) (sessions : SessionTable) (t : Table) (sets : ClientViews) → ((ino : ℕ) → IsAlike old new ino) → ArePermitted sets fs old sessions t → ArePermitted sets fs new sessions t
 permitted-still fs old new sessions t sets alike are k e there = are k e there ∙ ap Some (sym (permitted-kept fs old new sessions sessions k (alike k.ino.0) refl))
 
 -- policy looks at the owner, the group and the mode alone

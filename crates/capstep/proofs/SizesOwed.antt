@@ -8,7 +8,7 @@ use Rattle.std.specs.Option.{option_map_or}
 use Rattle.std.specs.FinMap as finite
 use Rattle.capbits.specs.Caps.{has}
 use Rattle.capstep.proofs.Common.{AreGiven, AreKnown, Caps, Entry, EntryRow, Fc, Holder, Ino, IsLockMap, IsSound, IsTable, IsTree, IssuesExactly, KnownAnew}
-use Rattle.capstep.proofs.Common.{KnownSets, Made, Scene, State, Table, changed_where, find-map, finished, forget, is_gone, is_in_use, is_of_inode, is_row_of}
+use Rattle.capstep.proofs.Common.{ClientViews, Made, Scene, State, Table, changed_where, find-map, finished, forget, is_gone, is_in_use, is_of_inode, is_row_of}
 use Rattle.capstep.proofs.Common.{is_sized, issue, issue_row, known_of, meet, number, number_row, owed, presence, remade, renumbered, row_found, sized_in}
 use Rattle.capstep.proofs.Common.{sizes_owed, state_at_end, still_known, told_set, with_size_due}
 use Rattle.capstep.proofs.EndsThere.{affected-ends, affected-issues, affected-known, settled-table}
@@ -117,7 +117,7 @@ module _ (sized : List Ino) (t : Table) where
     told_owed row b h = grind arith
 
     -- it is the same, whether sizes are to be told or not
-    pub sizes-kept : (among : Holder → Bool) (was now : KnownSets) → KnownAnew among (told_then (sizes_owed sized s)) (sizes_owed sized s).table was now
+    pub sizes-kept : (among : Holder → Bool) (was now : ClientViews) → KnownAnew among (told_then (sizes_owed sized s)) (sizes_owed sized s).table was now
         → KnownAnew among (told_then s) s.table was now
     sizes-kept among was now kept = grind (arith, find-map, told_owed)
 
@@ -160,7 +160,7 @@ module _ (at from : ℕ → Bool) (known : Holder → Caps) (old affected : Stat
         made = given.made;
       })
 
-  pub sizes-known : (was sets : KnownSets)
+  pub sizes-known : (was sets : ClientViews)
       → ((row : EntryRow) → Contains affected.scene.table.rows row → at row.holder.ino.0 ≡ false → known_of was row.holder ≡ Some (told_set old.scene row))
       → KnownAnew (λ k. at k.ino.0) (told_then (sizes_owed (sized_in moves) settled)) (sizes_owed (sized_in moves) settled).table was sets
       → AreKnown sets (finished_at at known (sizes_owed (sized_in moves) settled))

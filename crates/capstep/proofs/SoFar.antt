@@ -10,12 +10,12 @@ use Rattle.std.specs.FinSet as set
 use Rattle.lockmachine.proofs.Alone.{nobody-held, served-alone}
 use Rattle.lockmachine.proofs.Exact.{begins_not}
 use Rattle.lockmachine.proofs.SameBut.{begin-alike, first-moved}
-use Rattle.lockmachine.proofs.Turns.{ends-turn, served-ends}
+use Rattle.lockmachine.proofs.Cursors.{ends-cursor, served-ends}
 use Rattle.lockmachine.proofs.Waiting.{waits-less-at, waits-wider}
 use Rattle.lockmachine.specs.Moves.{IsQuietOutside, is_servable, may_begin}
-use Rattle.lockmachine.specs.Turns.{NobodyElsewhere, NothingEnds}
+use Rattle.lockmachine.specs.Cursors.{NobodyElsewhere, NothingEnds}
 use Rattle.capstep.proofs.Among.{none-besides}
-use Rattle.capstep.proofs.Common.{Began, Ended, EntryRow, Gathered, Ino, InoSet, IsAlike, IsLockMap, IsTree, IsTurnOf, Made, Makes, MakesAll, Nodes, Part}
+use Rattle.capstep.proofs.Common.{Began, Ended, EntryRow, Gathered, Ino, InoSet, IsAlike, IsLockMap, IsTree, IsCursorAt, Made, Makes, MakesAll, Nodes, Part}
 use Rattle.capstep.proofs.Common.{Reaches, Request, Scene, Serve, Served, Settled, Ticket, WaitAt, Widens, alike-itself, contains-filter, ended_by, ended_in}
 use Rattle.capstep.proofs.Common.{ends_not, entries_on, first_for, first_move, is_numbered, is_of_inode, is_rename, is_within, lock_at, part_of_operation}
 use Rattle.capstep.proofs.Common.{quiet-waits-at, request_at, served-at, sized_by, sized_in, tree_after, without_request}
@@ -25,7 +25,7 @@ use Rattle.capstep.proofs.SameOff.{off-refl, off-trans, off-wider}
 use Rattle.capstep.proofs.Sweeping.{still-kept}
 use Rattle.capstep.specs.Affected.{IsSameOff}
 use Rattle.capstep.specs.Serves.{Serves, SettlesWith}
-use Rattle.capstep.specs.Sweep.{AreStill, IsFirstPlace, IsSwept, IsTurnOfLeast, StandsAt, changed_alone}
+use Rattle.capstep.specs.Sweep.{AreStill, IsFirstPlace, IsSwept, IsCursorAtTheLeast, StandsAt, changed_alone}
 use Rattle.capstep.specs.declared.settle.SweepPlace.{SweepPlace}
 
 -- these moves were made and these requests ended; nothing changed but at the inodes that are affected, among which are those of the
@@ -69,21 +69,21 @@ none-sized (Gathered ino part ∷ moves) none = none-sized moves none
 none-sized (Served q o ∷ moves) none = absurd (cc)
 
 -- where nothing ends, it is the turn of the least one
-pub turn-of_least : (inos : InoSet) (s : Scene) → AreStill (set.contains inos) s → NothingEnds s → IsTurnOfLeast inos s
-turn-of_least inos s still ends a least = ends-turn s a ends (λ other part below. still.begins other part (least.least other (omega arith) below))
+pub cursor-of_least : (inos : InoSet) (s : Scene) → AreStill (set.contains inos) s → NothingEnds s → IsCursorAtTheLeast inos s
+cursor-of_least inos s still ends a least = ends-cursor s a ends (λ other part below. still.begins other part (least.least other (omega arith) below))
 
 -- where one alone is affected, it is its turn
-turn-of_only : (inos : InoSet) (s : Scene) → AreStill (set.contains inos) s → set.len inos ≡ 1 → IsTurnOfLeast inos s
-turn-of_only inos s still one a least = record {
+cursor-of_only : (inos : InoSet) (s : Scene) → AreStill (set.contains inos) s → set.len inos ≡ 1 → IsCursorAtTheLeast inos s
+cursor-of_only inos s still one a least = record {
   ends = λ other part off. still.ends other part (ap (λ (among : ℕ → Bool). among other) (none-besides inos a one least.has) ∙ ne_eqb other a off);
   begins = λ other part below. still.begins other part (least.least other (omega arith) below);
 }
 
 -- it is the turn of the least one where nothing ends, or one alone is affected
-pub turn-at_first : (inos : InoSet) (s : Scene) → AreStill (set.contains inos) s → (set.len inos ≢ 1 → NothingEnds s) → IsTurnOfLeast inos s
-turn-at_first inos s still ends = elim (set.len inos == 1) as (λ b. (set.len inos == 1) ≡ b → IsTurnOfLeast inos s) [
-  | true ↦ λ one. turn-of_only inos s still (eqb-true (set.len inos) 1 one)
-  | false ↦ λ many. turn-of_least inos s still (ends (eqb-false (set.len inos) 1 many))
+pub cursor-at_first : (inos : InoSet) (s : Scene) → AreStill (set.contains inos) s → (set.len inos ≢ 1 → NothingEnds s) → IsCursorAtTheLeast inos s
+cursor-at_first inos s still ends = elim (set.len inos == 1) as (λ b. (set.len inos == 1) ≡ b → IsCursorAtTheLeast inos s) [
+  | true ↦ λ one. cursor-of_only inos s still (eqb-true (set.len inos) 1 one)
+  | false ↦ λ many. cursor-of_least inos s still (ends (eqb-false (set.len inos) 1 many))
 ] refl
 
 -- ---- where the sweep begins
@@ -92,10 +92,10 @@ turn-at_first inos s still ends = elim (set.len inos == 1) as (λ b. (set.len in
 nobody_first : (affected : InoSet) (s : Scene) (at : ℕ) → WaitAt (set.contains affected) s → set.contains affected at ≡ true → set.len affected ≡ 1 → NobodyElsewhere s.locks at
 nobody_first affected s at waits here one = nobody-held s at (waits-wider (set.contains affected) (λ other. other == at) s (λ other off. ap (λ (among : ℕ → Bool). among other) (none-besides affected at one here) ∙ off) waits)
 
-pub stands-first : (affected : InoSet) (s : Scene) (place : SweepPlace) → IsTurnOfLeast affected s → WaitAt (set.contains affected) s
+pub stands-first : (affected : InoSet) (s : Scene) (place : SweepPlace) → IsCursorAtTheLeast affected s → WaitAt (set.contains affected) s
     → IsFirstPlace affected place → StandsAt (set.contains affected) place s
-stands-first affected s place turn waits first = record {
-  turn = turn place.at.0 first.least;
+stands-first affected s place cursor waits first = record {
+  cursor = cursor place.at.0 first.least;
   here = first.least.has;
   alone = λ known. nobody_first affected s place.at.0 waits first.least.has (first.alone known);
 }
@@ -226,11 +226,11 @@ module _ (from : ℕ → Bool) (affected : InoSet) (first now : Scene) (for_clie
     }
 
     -- nothing ends, so that it is the least one's turn again
-    turn_after : IsTurnOfLeast kept after
-    turn_after = turn-of_least kept after still_after (served-ends now ticket move)
+    cursor_after : IsCursorAtTheLeast kept after
+    cursor_after = cursor-of_least kept after still_after (served-ends now ticket move)
 
-    turn_served : IsTurnOfLeast kept new
-    turn_served = by_after (IsTurnOfLeast kept) turn_after
+    cursor_served : IsCursorAtTheLeast kept new
+    cursor_served = by_after (IsCursorAtTheLeast kept) cursor_after
 
     pub so-far-served : IsSoFar from kept first new (for_clients ++ ended ∷ []) (sized ++ sized_in (Served q ended.outcome ∷ []))
     so-far-served = record {
@@ -261,11 +261,11 @@ module _ (from : ℕ → Bool) (affected : InoSet) (first now : Scene) (for_clie
     -- ---- where the sweep goes on
 
     -- where it moves no inode, others stay as they were, and it stays an inode's turn that is not behind its own
-    turn_stays : (at : ℕ) → is_rename q.operation ≡ false → at ≤ q.ino.0 → IsTurnOf now at → IsTurnOf after at
-    turn_stays at stays before turn = ends-turn after at (served-ends now ticket move) (λ other part below.
+    cursor_stays : (at : ℕ) → is_rename q.operation ≡ false → at ≤ q.ino.0 → IsCursorAt now at → IsCursorAt after at
+    cursor_stays at stays before cursor = ends-cursor after at (served-ends now ticket move) (λ other part below.
         let off : other ≢ q.ino.0 = λ same. omega (arith, before, below, same) in
         let alike = alike-apart now q ended.outcome other tree serves.may off (λ moves. absurd (true≢false (sym moves ∙ stays))) in
-        alike_begin other off alike part ∙ turn.begins other part below)
+        alike_begin other off alike part ∙ cursor.begins other part below)
 
     -- nobody comes to be served at another inode
     alone_stays : (at : ℕ) → NobodyElsewhere now.locks at → NobodyElsewhere after.locks at
@@ -286,9 +286,9 @@ module _ (from : ℕ → Bool) (affected : InoSet) (first now : Scene) (for_clie
           let alone = alone_by on.1.0 (sym is ∙ on.1.1) in
           let before : place.at.0 ≤ q.ino.0 = subst (λ (i : Ino). place.at.0 ≤ i.0) alone.1 on.1.2 in
           subst (λ (at : SweepPlace). StandsAt (set.contains kept) at new) (sym on.0) (by_after (StandsAt (set.contains kept) place) (record {
-            turn = turn_stays place.at.0 alone.0 before stood.turn;
+            cursor = cursor_stays place.at.0 alone.0 before stood.cursor;
             here = more place.at.0 stood.here;
             alone = λ known. alone_stays place.at.0 (stood.alone known);
           }))
-      | inr first ↦ stands-first kept new next turn_served so-far-served.waits first
+      | inr first ↦ stands-first kept new next cursor_served so-far-served.waits first
     ]

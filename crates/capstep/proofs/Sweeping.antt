@@ -9,10 +9,10 @@ use Rattle.std.specs.Option.{option_map}
 use Rattle.std.specs.Ordering.{eq_by_cmp, nat_cmp}
 use Rattle.std.specs.FinMap as map
 use Rattle.std.specs.FinSet as set
-use Rattle.lockmachine.proofs.Turns.{turn-passes, turn-rests}
+use Rattle.lockmachine.proofs.Cursors.{cursor-passes, cursor-rests}
 use Rattle.lockmachine.specs.Runs.{MoveLittle}
-use Rattle.lockmachine.specs.Turns.{IsDoneAt}
-use Rattle.capstep.proofs.Common.{A, ChangesLocksOf, F, Ino, InoSet, InodeLocks, IsNext, IsTurnOf, L, LockMap, Part, Scene, Settled, Table, WaitAt, X}
+use Rattle.lockmachine.specs.Cursors.{IsDoneAt}
+use Rattle.capstep.proofs.Common.{A, ChangesLocksOf, F, Ino, InoSet, InodeLocks, IsNext, IsCursorAt, L, LockMap, Part, Scene, Settled, Table, WaitAt, X}
 use Rattle.capstep.proofs.Common.{ended_by, ended_in, first_move, lock_at, lock_in, may_end_by, same_key, waits-kept-at}
 use Rattle.capstep.proofs.Moved.{as_made, makes-append}
 use Rattle.capstep.specs.Sweep.{AreStill, IsSwept}
@@ -84,13 +84,13 @@ ends-passed at t first old new here elsewhere same lower changes done other part
 -- ---- turns
 
 -- an inode is done, and it is the next one's turn
-pub next-turn : (inos : InoSet) (s : Scene) (here : ℕ) (next : Ino) → AreStill (set.contains inos) s → IsTurnOf s here → IsDoneAt s here → IsNext inos (here + 1) (Some next) → IsTurnOf s next.0
-next-turn inos s here next still turn done is =
-    turn-passes s here next.0 turn done (omega (arith, is.reached)) (λ other part above below. still.begins other part (is.least other (omega (arith, above)) below))
+pub next-cursor : (inos : InoSet) (s : Scene) (here : ℕ) (next : Ino) → AreStill (set.contains inos) s → IsCursorAt s here → IsDoneAt s here → IsNext inos (here + 1) (Some next) → IsCursorAt s next.0
+next-cursor inos s here next still cursor done is =
+    cursor-passes s here next.0 cursor done (omega (arith, is.reached)) (λ other part above below. still.begins other part (is.least other (omega (arith, above)) below))
 
 -- the last is done, and no move applies
-pub last-turn : (inos : InoSet) (s : Scene) (here : ℕ) → AreStill (set.contains inos) s → IsTurnOf s here → IsDoneAt s here → IsNext inos (here + 1) None → first_move s ≡ Settled
-last-turn inos s here still turn done beyond = turn-rests s here turn done (λ other part above. still.begins other part (beyond other (omega (arith, above))))
+pub last-cursor : (inos : InoSet) (s : Scene) (here : ℕ) → AreStill (set.contains inos) s → IsCursorAt s here → IsDoneAt s here → IsNext inos (here + 1) None → first_move s ≡ Settled
+last-cursor inos s here still cursor done beyond = cursor-rests s here cursor done (λ other part above. still.begins other part (beyond other (omega (arith, above))))
 
 -- ---- how many inodes are left
 

@@ -10,11 +10,11 @@ use Rattle.captable.specs.Kept.{AreBeside, KeptTable, keeping, permitting, with_
 use Rattle.captable.specs.Table.{IsTable}
 use Rattle.captable.specs.Walks.{first_holder}
 use Rattle.capstep.proofs.Beside.{beside-entry, keeping-other, keeping-own}
-use Rattle.capstep.proofs.CommonActs.{Caps, EntryRow, Holder, Sets, holders-filter, holders_of_rows, is_among, same, same-is, same_equiv}
+use Rattle.capstep.proofs.CommonActs.{Caps, EntryRow, Holder, ClientView, holders-filter, holders_of_rows, is_among, same, same-is, same_equiv}
 use Rattle.capstep.proofs.KeptSets.{some-mapped}
 use Rattle.capstep.proofs.Onward.{Comes, onward, onward-first, onward-next}
 use Rattle.capstep.proofs.Renewed.{Along, along-begins, along-ends, along-more, among-passing, passing}
-use Rattle.capstep.specs.Known.{KnownSets, known_of, permitted_of, sets_of}
+use Rattle.capstep.specs.Known.{ClientViews, known_of, permitted_of, sets_of}
 use Rattle.capstep.specs.Renewing.{Renews, has_entry}
 
 -- it comes to this holder next, and of those before it is kept what they are permitted
@@ -23,11 +23,11 @@ pub record Walking (passes : Holder → Bool) (may : Holder → Caps) (was now :
   pub next : at ≡ first_holder (onward (passing passes was.entries) at)
   pub kept : Along may (λ k. passes k && has_entry was.entries k) (is_among (holders_of_rows (onward (passing passes was.entries) at))) was.kept now.kept
 
-permitting-some : (o : Option Sets) (caps : Caps) → is_some o ≡ true → option_map (λ (s : Sets). s.permitted) (option_map (permitting caps) o) ≡ Some caps
+permitting-some : (o : Option ClientView) (caps : Caps) → is_some o ≡ true → option_map (λ (s : ClientView). s.permitted) (option_map (permitting caps) o) ≡ Some caps
 permitting-some None caps some = absurd (true≢false (sym some))
 permitting-some (Some s) caps some = refl
 
-permitting-told : (o : Option Sets) (caps : Caps) → option_map (λ (s : Sets). s.told) (option_map (permitting caps) o) ≡ option_map (λ (s : Sets). s.told) o
+permitting-told : (o : Option ClientView) (caps : Caps) → option_map (λ (s : ClientView). s.told) (option_map (permitting caps) o) ≡ option_map (λ (s : ClientView). s.told) o
 permitting-told None caps = refl
 permitting-told (Some s) caps = refl
 
@@ -68,7 +68,7 @@ module _ (passes : Holder → Bool) (may : Holder → Caps) (was : KeptTable) wh
 
     some_kept : is_some (sets_of mid.kept own) ≡ true
     some_kept =
-        sym (some-mapped (λ (s : Sets). s.told) (sets_of mid.kept own)) ∙ ap is_some (walking.kept.told own) ∙ some-mapped (λ (s : Sets). s.told) (sets_of was.kept own)
+        sym (some-mapped (λ (s : ClientView). s.told) (sets_of mid.kept own)) ∙ ap is_some (walking.kept.told own) ∙ some-mapped (λ (s : ClientView). s.told) (sets_of was.kept own)
         ∙ beside-entry was own beside ∙ inside.1
 
     module _ (caps : Caps) (now : KeptTable) (is : now ≡ with_kept mid own (permitting caps)) where
@@ -76,21 +76,21 @@ module _ (passes : Holder → Bool) (may : Holder → Caps) (was : KeptTable) wh
       kept_now = ap (λ (t : KeptTable). t.kept) is
 
       own_now : sets_of now.kept own ≡ option_map (permitting caps) (sets_of mid.kept own)
-      own_now = ap (λ (kept : KnownSets). sets_of kept own) kept_now ∙ keeping-own mid.kept own (permitting caps)
+      own_now = ap (λ (kept : ClientViews). sets_of kept own) kept_now ∙ keeping-own mid.kept own (permitting caps)
 
       other_now : (k : Holder) → same k own ≡ false → sets_of now.kept k ≡ sets_of mid.kept k
-      other_now k off = ap (λ (kept : KnownSets). sets_of kept k) kept_now ∙ keeping-other mid.kept own (permitting caps) k (same_equiv.symm own k ∙ off)
+      other_now k off = ap (λ (kept : ClientViews). sets_of kept k) kept_now ∙ keeping-other mid.kept own (permitting caps) k (same_equiv.symm own k ∙ off)
 
       same_told : (k : Holder) (b : Bool) → same k own ≡ b → known_of now.kept k ≡ known_of mid.kept k
       same_told k true on =
-          subst (λ h. known_of now.kept h ≡ known_of mid.kept h) (sym (same-is k own on)) (ap (option_map (λ (s : Sets). s.told)) own_now ∙ permitting-told (sets_of mid.kept own) caps)
-      same_told k false off = ap (option_map (λ (s : Sets). s.told)) (other_now k off)
+          subst (λ h. known_of now.kept h ≡ known_of mid.kept h) (sym (same-is k own on)) (ap (option_map (λ (s : ClientView). s.told)) own_now ∙ permitting-told (sets_of mid.kept own) caps)
+      same_told k false off = ap (option_map (λ (s : ClientView). s.told)) (other_now k off)
 
       renews : caps ≡ may own → Renews (λ k. same k own) may mid.kept now.kept
       renews are = record {
         anew = λ k on. subst (λ h. permitted_of now.kept h ≡ Some (may h)) (sym (same-is k own on))
-            (ap (option_map (λ (s : Sets). s.permitted)) own_now ∙ permitting-some (sets_of mid.kept own) caps some_kept ∙ ap Some are);
-        others = λ k off. ap (option_map (λ (s : Sets). s.permitted)) (other_now k off);
+            (ap (option_map (λ (s : ClientView). s.permitted)) own_now ∙ permitting-some (sets_of mid.kept own) caps some_kept ∙ ap Some are);
+        others = λ k off. ap (option_map (λ (s : ClientView). s.permitted)) (other_now k off);
         told = λ k. same_told k (same k own) refl;
       }
 

@@ -26,7 +26,7 @@ use Rattle.lockmachine.specs.Locks.{lock_at, without_ino}
 use Rattle.lockmachine.specs.Requests.{first_for}
 use Rattle.lockmachine.specs.Rows.{IsInRow}
 use Rattle.lockmachine.specs.Scene.{Scene, told_set}
-use Rattle.lockmachine.specs.Turns.{WaitAt}
+use Rattle.lockmachine.specs.Cursors.{WaitAt}
 use Rattle.lockmachine.specs.Wants.{effective_want}
 use Rattle.lockmachine.specs.declared.request.Operation.{Operation}
 use Rattle.lockmachine.specs.declared.request.Operation.TheVariants.{Alter, Get, Rename, Rmdir, Unlink}

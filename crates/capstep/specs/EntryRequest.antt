@@ -11,7 +11,7 @@ use Rattle.step_model.specs.declared.event.Event.{Event}
 use Rattle.step_model.specs.declared.reply.Reply.{Reply}
 use Rattle.step_model.specs.Direct.{Answer, Says, Shows, with_opening, with_wanted}
 use Rattle.step_model.specs.Judge.{revoked_of, room_for}
-use Rattle.capstep.specs.Known.{KnownSets, StillKnown}
+use Rattle.capstep.specs.Known.{ClientViews, StillKnown}
 use Rattle.lockmachine.specs.Policy.{ArePermitted}
 use Rattle.lockmachine.specs.Scene.{Scene}
 use Rattle.capstep.specs.declared.entry_request.EntryRequest.{EntryRequest}
@@ -46,6 +46,6 @@ entry_answer k (Ack seq) = Says Reply.Done
 entry_answer k (Release caps) = Says Reply.Done
 
 -- what is known of each entry is kept still; and where it was kept what their clients are permitted, it is of a new one too
-pub record StillKept (s : Scene) (new : Table) (was now : KnownSets) : Type 0 where
+pub record StillKept (s : Scene) (new : Table) (was now : ClientViews) : Type 0 where
   pub known : StillKnown s.table new was now
   pub permitted : ArePermitted was s.fs s.tree s.sessions s.table → ArePermitted now s.fs s.tree s.sessions new

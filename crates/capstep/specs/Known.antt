@@ -1,5 +1,5 @@
 -- What is kept of each entry from the end of the last step: the set that its client is to know of.
-pub use Rattle.captable.specs.Known.{KnownSets, known_of, permitted_of, sets_of}
+pub use Rattle.captable.specs.Known.{ClientViews, known_of, permitted_of, sets_of}
 use Rattle.std.specs.List.{find}
 use Rattle.std.specs.Prelude.{◌≡◌, Bool, true, false, Option, Some, None, IsSome, unwrap_or}
 use Rattle.capbits.specs.Caps.{Caps}
@@ -12,11 +12,11 @@ use Rattle.step_model.specs.Finish.{due}
 use Rattle.lockmachine.specs.Scene.{Scene, told_set}
 
 -- what is kept of a holder, and nothing where nothing is
-abbrev pub known_in : KnownSets → Holder → Caps
+abbrev pub known_in : ClientViews → Holder → Caps
 known_in sets k = unwrap_or (known_of sets k) no_caps
 
 -- of each entry it is kept, and it is what its client is to know of. What is kept of others counts for nothing
-abbrev pub AreKnown : KnownSets → Scene → Type 0
+abbrev pub AreKnown : ClientViews → Scene → Type 0
 AreKnown sets s = (k : Holder) (e : Entry) → entry_at s.table k ≡ Some e → known_of sets k ≡ Some (told_set s (record { holder = k; entry = e }))
 
 -- ---- as an event leaves it
@@ -27,17 +27,17 @@ is_still_known (Some e) was now = now ≡ was
 is_still_known None was now = IsSome now
 
 -- so it is of each entry of the new table
-abbrev pub StillKnown : Table → Table → KnownSets → KnownSets → Type 0
+abbrev pub StillKnown : Table → Table → ClientViews → ClientViews → Type 0
 StillKnown old new was now = (k : Holder) (e : Entry) → entry_at new k ≡ Some e → is_still_known (entry_at old k) (known_of was k) (known_of now k)
 
 -- ---- who has all
 
 -- all that is due to the entry is held, and what is kept of it is what its client is to know of: the end of a step leaves it so
-abbrev pub HasAll : KnownSets → Scene → EntryRow → Type 0
+abbrev pub HasAll : ClientViews → Scene → EntryRow → Type 0
 HasAll sets s row = IsSubset (due s row) row.entry.held × (known_of sets row.holder ≡ Some (told_set s row))
 
 -- so it is of each entry on the holder's inode but its own
-abbrev pub OthersHaveAll : KnownSets → Scene → Holder → Type 0
+abbrev pub OthersHaveAll : ClientViews → Scene → Holder → Type 0
 OthersHaveAll sets s k =
     (j : Holder) (e : Entry) → j.ino.0 ≡ k.ino.0 → same j k ≡ false → entry_at s.table j ≡ Some e → HasAll sets s (record { holder = j; entry = e })
 
@@ -49,6 +49,6 @@ known_anew true set_of (Some row) was = Some (set_of row)
 known_anew among set_of row was = was
 
 -- of each entry of the table whose holder is among those, its new set is kept
-abbrev pub KnownAnew : (Holder → Bool) → (EntryRow → Caps) → Table → KnownSets → KnownSets → Type 0
+abbrev pub KnownAnew : (Holder → Bool) → (EntryRow → Caps) → Table → ClientViews → ClientViews → Type 0
 KnownAnew among set_of table was now =
     (k : Holder) → known_of now k ≡ known_anew (among k) set_of (find (is_row_of k) table.rows) (known_of was k)

@@ -10,7 +10,7 @@ use Rattle.step_model.specs.declared.outcome.Outcome.{Outcome}
 use Rattle.step_model.specs.Changing.{tree_after}
 use Rattle.lockmachine.specs.declared.request.Request.{Request}
 use Rattle.lockmachine.specs.Scene.{Scene}
-use Rattle.capstep.specs.Known.{KnownSets, known_of, permitted_of}
+use Rattle.capstep.specs.Known.{ClientViews, known_of, permitted_of}
 use Rattle.capstep.specs.Reach.{Covers}
 use Rattle.capstep.specs.Served.{is_rename}
 
@@ -20,7 +20,7 @@ has_entry table k = is_some (entry_at table k)
 
 -- of each of these holders it is kept that its client is permitted this, of the others what was kept of that, and of all what their
 -- clients are to know of is what it was
-pub record Renews (among : Holder → Bool) (may : Holder → Caps) (was now : KnownSets) : Type 0 where
+pub record Renews (among : Holder → Bool) (may : Holder → Caps) (was now : ClientViews) : Type 0 where
   pub anew : (k : Holder) → among k ≡ true → permitted_of now k ≡ Some (may k)
   pub others : (k : Holder) → among k ≡ false → permitted_of now k ≡ permitted_of was k
   pub told : (k : Holder) → known_of now k ≡ known_of was k

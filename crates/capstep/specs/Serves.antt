@@ -9,7 +9,7 @@ use Rattle.step_model.specs.Changing.{tree_after}
 use Rattle.step_model.specs.Finish.{sizes_owed}
 use Rattle.step_model.specs.Serving.{MayEndAs}
 use Rattle.step_model.specs.Settle.{Made, ended_in, sized_in}
-use Rattle.capstep.specs.Known.{KnownAnew, KnownSets, known_in, permitted_of}
+use Rattle.capstep.specs.Known.{KnownAnew, ClientViews, known_in, permitted_of}
 use Rattle.lockmachine.specs.Locks.{request_at, without_request}
 use Rattle.lockmachine.specs.Scene.{Scene}
 use Rattle.lockmachine.specs.declared.request.Request.{Request}
@@ -33,14 +33,14 @@ pub record SettlesWith (at from : ℕ → Bool) (first settled : Scene) (ended :
   pub sized_is : sized ≡ sized_in moves
 
 -- the locks have settled and the sizes of these inodes changed: the step ends at those that it affected. What is permitted is kept
-pub record EndsAt (at : ℕ → Bool) (sized : List Ino) (was now : KnownSets) (settled last : Scene) : Type 0 where
+pub record EndsAt (at : ℕ → Bool) (sized : List Ino) (was now : ClientViews) (settled last : Scene) : Type 0 where
   pub finished : last ≡ finished_at at (known_in was) (sizes_owed sized settled)
   pub kept : KnownAnew (λ k. at k.ino.0) (told_then (sizes_owed sized settled)) (sizes_owed sized settled).table was now
   pub permitted : (k : Holder) → permitted_of now k ≡ permitted_of was k
 
 -- the event was about these inodes: the locks settle, these requests end, and the step ends at the inodes that it affected. What
 -- was known of entries is kept in `was`, and what is known of them at the end in `now`, and what their clients are permitted
-pub record EndsWith (from : ℕ → Bool) (was now : KnownSets) (first last : Scene) (ended : List Ended) : Type 0 where
+pub record EndsWith (from : ℕ → Bool) (was now : ClientViews) (first last : Scene) (ended : List Ended) : Type 0 where
   pub at : ℕ → Bool
   pub settled : Scene
   pub sized : List Ino

@@ -9,20 +9,20 @@ use Rattle.inotree.specs.InoSets.{InoSet, IsLeastFrom}
 use Rattle.step_model.specs.Settle.{Made, MakesAll, ended_in}
 use Rattle.lockmachine.specs.Moves.{first_move, may_begin, may_end}
 use Rattle.lockmachine.specs.Scene.{Scene}
-use Rattle.lockmachine.specs.Turns.{IsTurnOf, NobodyElsewhere, WaitAt}
+use Rattle.lockmachine.specs.Cursors.{IsCursorAt, NobodyElsewhere, WaitAt}
 use Rattle.lockmachine.specs.declared.moves.Move.TheVariants.{Serve, Settled}
 use Rattle.lockmachine.specs.declared.request.Request.{Request}
 use Rattle.capstep.specs.Served.{is_rename}
 use Rattle.capstep.specs.declared.settle.SweepPlace.{SweepPlace}
 
 -- it is the turn of the least of them
-abbrev pub IsTurnOfLeast : InoSet → Scene → Type 0
-IsTurnOfLeast inos s = (ino : ℕ) → IsLeastFrom inos 0 ino → IsTurnOf s ino
+abbrev pub IsCursorAtTheLeast : InoSet → Scene → Type 0
+IsCursorAtTheLeast inos s = (ino : ℕ) → IsLeastFrom inos 0 ino → IsCursorAt s ino
 
 -- where the sweep has come to: it is the turn of this inode, which is one of these; and where that is known, nobody who waits at
 -- another may be served
 pub record StandsAt (at : ℕ → Bool) (place : SweepPlace) (s : Scene) : Type 0 where
-  pub turn : IsTurnOf s place.at.0
+  pub cursor : IsCursorAt s place.at.0
   pub here : at place.at.0 ≡ true
   pub alone : place.alone ≡ true → NobodyElsewhere s.locks place.at.0
 

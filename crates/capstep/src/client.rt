@@ -10,8 +10,8 @@ ghost use Rattle.capstep.specs.Reach.{Widens};
 ghost use Rattle.capstep.specs.Begun.{HaveRoomFor};
 ghost use Rattle.capstep.specs.SessionChange.{Notes, ReachesClient, changed_sessions, session_change_tests};
 
-use crate::endings::Endings;
 use crate::leaving::SessionChange;
+use crate::output::StepOutput;
 use capbits::{ClientId, Ino, Refusal};
 use captable::CapTable;
 use inotree::{NonEmptyInoSet, ROOT};
@@ -80,16 +80,16 @@ impl Room {
         locks: &Locks,
         client: ClientId,
         change: SessionChange,
-        endings: &mut Endings,
+        output: &mut StepOutput,
     ) -> Result<Room, AllocError>
         ensures reaches { IfOk result (λ room. ReachesClient client table.now.entries locks.now.locks room.inodes) }
-        ensures room { OnOk result (HaveRoomFor (length locks.now.locks.queue) endings.new) }
+        ensures room { OnOk result (HaveRoomFor (length locks.now.locks.queue) output.new) }
         ensures dropped { IfOk result (λ room. (room.dropped.items ≡ []) × (length locks.now.locks.queue ≤ vec_capacity room.dropped)) }
-        ensures places { IfOk result (λ room. length locks.now.locks.queue + set.len room.inodes + 1 ≤ endings.new.changes.room) }
+        ensures places { IfOk result (λ room. length locks.now.locks.queue + set.len room.inodes + 1 ≤ output.new.changes.room) }
         ensures note { IfOk result (λ room. Notes (option_to_list room.note) client change.entry) }
-        ensures judged { OnOk result (endings.new.judged ≡ None) }
+        ensures judged { OnOk result (output.new.judged ≡ None) }
         // What the last step changed stays listed.
-        ensures changes { endings.new.changes.items ≡ endings.old.changes.items }
+        ensures changes { output.new.changes.items ≡ output.old.changes.items }
     {
         // What settles is not empty, and the client may be at no inode; the root is always there.
         let mut inodes = NonEmptyInoSet::of(alloc, ROOT);
@@ -99,7 +99,7 @@ impl Room {
         let waiting = locks.waiting();
         let mut dropped = Vec::new(alloc);
         dropped.reserve(waiting)?;
-        endings.begin(waiting, waiting + inodes.len() + 1)?;
+        output.begin(waiting, waiting + inodes.len() + 1)?;
         Ok(Room {
             inodes,
             dropped,

@@ -16,8 +16,8 @@ ghost use Rattle.capstep.specs.Affected.{forget_among};
 ghost use Rattle.capstep.specs.Begun.{AreCountedIn, MayEnd};
 ghost use Rattle.capstep.specs.Serves.{EndsAt};
 
-use crate::endings::Endings;
 use crate::finishing::finish_row;
+use crate::output::StepOutput;
 use crate::sizes::owe_sizes;
 use arrayvec::ArrayVec;
 use capbits::{ClientId, Ino};
@@ -32,23 +32,23 @@ use step_model::ChangeList;
 
 /// Ends the step at the affected inodes, whose locks have settled: clients are to be told the sizes that changed, it ends for each
 /// entry on these inodes, and strays without an entry are forgotten.
-pub fn finish(scene: &mut KeptScene, affected: &NonEmptyInoSet, endings: &mut Endings)
-    requires places { length endings.old.changes.items + set.len affected.now ≤ endings.old.changes.room }
+pub fn finish(scene: &mut KeptScene, affected: &NonEmptyInoSet, output: &mut StepOutput)
+    requires places { length output.old.changes.items + set.len affected.now ≤ output.old.changes.room }
     requires entries { MayEnd scene.old.table.kept (plain scene.old) }
-    ensures ends { EndsAt (set.contains affected.now) endings.old.sized.items scene.old.table.kept scene.new.table.kept (plain scene.old) (plain scene.new) }
+    ensures ends { EndsAt (set.contains affected.now) output.old.sized.items scene.old.table.kept scene.new.table.kept (plain scene.old) (plain scene.new) }
     ensures queue { scene.new.locks.locks.queue ≡ scene.old.locks.locks.queue }
-    ensures lead { LeadOn endings.old.changes.items endings.new.changes.items scene.old.tree scene.new.tree }
-    ensures rest { endings.new ≡ record endings.old { changes = endings.new.changes } }
+    ensures lead { LeadOn output.old.changes.items output.new.changes.items scene.old.tree scene.new.tree }
+    ensures rest { output.new ≡ record output.old { changes = output.new.changes } }
     ensures counted { AreCountedIn scene.old → AreCountedIn scene.new }
 {
-    owe_sizes(&scene.sessions, &mut scene.table, endings.sized.as_slice());
+    owe_sizes(&scene.sessions, &mut scene.table, output.sized.as_slice());
     let policy = Policy {
         fs: &scene.fs,
         tree: &scene.tree,
         sessions: &scene.sessions,
     };
     finish_affected(&policy, &mut scene.table, &scene.locks, affected);
-    forget_affected(scene, affected, &mut endings.changes);
+    forget_affected(scene, affected, &mut output.changes);
 }
 
 /// Ends the step at the holder's inode alone, where each other entry on it has all that the end would give it: only the holder's

@@ -17,8 +17,8 @@ use capspec::Grants;
 use captable::CapTable;
 use lockmachine::{KeptScene, Locks};
 use sessiontab::Status;
-use step_model::{Ended, Outcome};
 use step_model::due_endings::remove_to;
+use step_model::{Ended, Outcome};
 
 /// What becomes of a client's session.
 #[derive(Clone, Copy)]
@@ -34,7 +34,7 @@ pub enum SessionChange<'a> {
 }
 
 /// Where the session ends, takes out all that is the client's, and lists its requests as dropped.
-pub fn leave(
+pub fn drop_client_state(
     scene: &mut KeptScene,
     messages: &mut Vec<Ended>,
     client: ClientId,

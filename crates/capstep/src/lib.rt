@@ -5,23 +5,23 @@
 #![tactic(auto)]
 
 pub mod client;
-pub mod endings;
 pub mod entry_request;
 pub mod finish;
 pub mod finishing;
+pub mod held_below;
 pub mod history;
 pub mod judge;
 pub mod leaving;
 mod operations;
+pub mod output;
 pub mod poll;
-pub mod reach;
 pub mod renewing;
-pub mod said;
 pub mod serving;
 pub mod serving_laws;
 pub mod settle;
 pub mod sizes;
 pub mod start;
+pub mod step_reply;
 pub mod stop;
 
 pub use operations::{OperationRef, copy_of_operation};

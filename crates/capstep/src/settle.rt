@@ -14,7 +14,7 @@ ghost use Rattle.lockmachine.specs.Counts.{AreCounted};
 ghost use Rattle.lockmachine.specs.Locks.{request_at};
 ghost use Rattle.lockmachine.specs.Scene.{plain};
 ghost use Rattle.lockmachine.specs.Scene.{scene as scene_of};
-ghost use Rattle.lockmachine.specs.Turns.{WaitAt, may_end_by};
+ghost use Rattle.lockmachine.specs.Cursors.{WaitAt, may_end_by};
 ghost use Rattle.lockmachine.specs.declared.request.Request.{Request};
 ghost use Rattle.capstep.specs.Reach.{AreWalked, Reaches};
 ghost use Rattle.capstep.specs.Begun.{AreCountedIn, ArePermittedIn, HaveRoomFor, IsReady, MaySettle, among};
@@ -22,9 +22,9 @@ ghost use Rattle.capstep.specs.Judged.{IsJudged};
 ghost use Rattle.capstep.specs.Serves.{EndsWith, Serves, SettlesWith};
 ghost use Rattle.capstep.specs.Sweep.{AreStill, GoesOn, IsFirstPlace, IsSwept, StandsAt, changed_alone};
 
-use crate::endings::Endings;
 use crate::finish::{finish, finish_alone};
-use crate::reach::reach;
+use crate::held_below::add_held_below;
+use crate::output::StepOutput;
 use crate::renewing::renew_served;
 use crate::serving::{Served, serve};
 use capbits::{Ino, Ticket};
@@ -44,54 +44,54 @@ pub enum Affected {
 
 /// Lets the locks settle that an event affected, and ends the step. All other locks are quiet. Where one entry alone was affected,
 /// the state was sound before.
-pub fn end(scene: &mut KeptScene, affected: Affected, endings: &mut Endings)
-    requires ready { IsReady affected scene.old.table.kept (plain scene.old) endings.old }
+pub fn end(scene: &mut KeptScene, affected: Affected, output: &mut StepOutput)
+    requires ready { IsReady affected scene.old.table.kept (plain scene.old) output.old }
     requires counted { AreCountedIn scene.old }
-    ensures ends { EndsWith (among affected) scene.old.table.kept scene.new.table.kept (plain scene.old) (plain scene.new) endings.new.for_clients.items }
-    ensures for_history { endings.new.for_history.items ≡ endings.new.for_clients.items }
-    ensures lead { LeadOn endings.old.changes.items endings.new.changes.items scene.old.tree scene.new.tree }
+    ensures ends { EndsWith (among affected) scene.old.table.kept scene.new.table.kept (plain scene.old) (plain scene.new) output.new.for_clients.items }
+    ensures for_history { output.new.for_history.items ≡ output.new.for_clients.items }
+    ensures lead { LeadOn output.old.changes.items output.new.changes.items scene.old.tree scene.new.tree }
     ensures counted { AreCountedIn scene.new }
     // As many waited as wait and have ended.
-    ensures count { length endings.new.for_clients.items + length scene.new.locks.locks.queue ≡ length scene.old.locks.locks.queue }
+    ensures count { length output.new.for_clients.items + length scene.new.locks.locks.queue ≡ length scene.old.locks.locks.queue }
 {
     match affected {
         Affected::Entry(holder) => {
             let before = scene.locks.of_ino(holder.ino);
-            let mut reached = NonEmptyInoSet::of(endings.alloc(), holder.ino);
-            settle(scene, &mut reached, endings);
+            let mut reached = NonEmptyInoSet::of(output.alloc(), holder.ino);
+            settle(scene, &mut reached, output);
             // Most steps of such events serve nobody, by which the tree could have changed, and leave these locks as they were; by
             // the same locks and the same tree the others on the inode still have all that the end would give them.
-            if endings.for_clients.is_empty()
+            if output.for_clients.is_empty()
                 && reached.is_single()
                 && scene.locks.of_ino(holder.ino) == before
             {
-                finish_alone(scene, holder, &reached, &mut endings.changes);
+                finish_alone(scene, holder, &reached, &mut output.changes);
             } else {
-                finish(scene, &reached, endings);
+                finish(scene, &reached, output);
             }
         }
         Affected::Inodes(mut inos) => {
-            settle(scene, &mut inos, endings);
-            finish(scene, &inos, endings);
+            settle(scene, &mut inos, output);
+            finish(scene, &inos, output);
         }
     }
 }
 
 // Makes the moves, always the first that applies, until none does. Each request that is served ends, once for its client and
 // once for the history. Inodes that are moved are affected besides.
-fn settle(scene: &mut KeptScene, affected: &mut NonEmptyInoSet, endings: &mut Endings)
+fn settle(scene: &mut KeptScene, affected: &mut NonEmptyInoSet, output: &mut StepOutput)
     requires settles { MaySettle (set.contains affected.old) (plain scene.old) }
-    requires judged { IsJudged endings.old.judged (plain scene.old) }
-    requires room { HaveRoomFor (length scene.old.locks.locks.queue) endings.old }
-    requires places { HavePlaces endings.old.changes scene.old.locks.locks affected.old }
+    requires judged { IsJudged output.old.judged (plain scene.old) }
+    requires room { HaveRoomFor (length scene.old.locks.locks.queue) output.old }
+    requires places { HavePlaces output.old.changes scene.old.locks.locks affected.old }
     requires permitted { ArePermittedIn scene.old.table.kept (plain scene.old) }
     requires counted { AreCountedIn scene.old }
-    ensures settles { SettlesWith (set.contains affected.new) (set.contains affected.old) (plain scene.old) (plain scene.new) endings.new.for_clients.items endings.new.sized.items }
+    ensures settles { SettlesWith (set.contains affected.new) (set.contains affected.old) (plain scene.old) (plain scene.new) output.new.for_clients.items output.new.sized.items }
     ensures tree { IsTree scene.old.tree }
-    ensures for_history { endings.new.for_history.items ≡ endings.new.for_clients.items }
-    ensures count { length endings.new.for_clients.items + length scene.new.locks.locks.queue ≡ length scene.old.locks.locks.queue }
-    ensures lead { LeadOn endings.old.changes.items endings.new.changes.items scene.old.tree scene.new.tree }
-    ensures places { HavePlaces endings.new.changes scene.new.locks.locks affected.new }
+    ensures for_history { output.new.for_history.items ≡ output.new.for_clients.items }
+    ensures count { length output.new.for_clients.items + length scene.new.locks.locks.queue ≡ length scene.old.locks.locks.queue }
+    ensures lead { LeadOn output.old.changes.items output.new.changes.items scene.old.tree scene.new.tree }
+    ensures places { HavePlaces output.new.changes scene.new.locks.locks affected.new }
     ensures told { (k : Holder) → known_of scene.new.table.kept k ≡ known_of scene.old.table.kept k }
     ensures permitted { ArePermittedIn scene.new.table.kept (plain scene.new) }
     ensures counted { AreCountedIn scene.new }
@@ -101,7 +101,7 @@ fn settle(scene: &mut KeptScene, affected: &mut NonEmptyInoSet, endings: &mut En
     let mut walked = InoSet::new(scene.tree.alloc());
     let mut place = SweepPlace::first(affected);
     'servings: while let Some(ticket) = sweep(scene, affected, &mut place) {
-        let changed = serve_next(scene, ticket, affected, &mut walked, endings);
+        let changed = serve_next(scene, ticket, affected, &mut walked, output);
         // Where no inode changed that the sweep has passed, it goes on; else it begins anew.
         place = match changed {
             Some(inode) if place.at.0 <= inode.0 => place,
@@ -201,34 +201,34 @@ fn serve_next(
     ticket: Ticket,
     affected: &mut NonEmptyInoSet,
     walked: &mut InoSet,
-    endings: &mut Endings,
+    output: &mut StepOutput,
 ) -> Option<Ino>
     requires tree { IsTree scene.old.tree }
     requires permitted { ArePermittedIn scene.old.table.kept (plain scene.old) }
     requires walked { AreWalked walked.old scene.old.tree scene.old.table.entries affected.old }
     requires waits { (q : Request) × (request_at scene.old.locks.locks ticket.0 ≡ Some q) }
-    requires for_clients { length endings.old.for_clients.items < vec_capacity endings.old.for_clients }
-    requires for_history { length endings.old.for_history.items < vec_capacity endings.old.for_history }
-    requires sized { length endings.old.sized.items < vec_capacity endings.old.sized }
-    requires place { length endings.old.changes.items < endings.old.changes.room }
-    requires judged { IsJudged endings.old.judged (plain scene.old) }
-    ensures judged { endings.new.judged ≡ None }
+    requires for_clients { length output.old.for_clients.items < vec_capacity output.old.for_clients }
+    requires for_history { length output.old.for_history.items < vec_capacity output.old.for_history }
+    requires sized { length output.old.sized.items < vec_capacity output.old.sized }
+    requires place { length output.old.changes.items < output.old.changes.room }
+    requires judged { IsJudged output.old.judged (plain scene.old) }
+    ensures judged { output.new.judged ≡ None }
     ensures served { (ended : Ended) × Serves (plain scene.old) ticket ended (plain scene.new)
-        × (endings.new.for_clients.items ≡ endings.old.for_clients.items ++ ended ∷ [])
-        × (endings.new.for_history.items ≡ endings.old.for_history.items ++ ended ∷ [])
+        × (output.new.for_clients.items ≡ output.old.for_clients.items ++ ended ∷ [])
+        × (output.new.for_history.items ≡ output.old.for_history.items ++ ended ∷ [])
         × ((q : Request) → request_at scene.old.locks.locks ticket.0 ≡ Some q
-        → endings.new.sized.items ≡ endings.old.sized.items ++ sized_in (Serving q ended.outcome ∷ [])) }
+        → output.new.sized.items ≡ output.old.sized.items ++ sized_in (Serving q ended.outcome ∷ [])) }
     ensures reached { (q : Request) → request_at scene.old.locks.locks ticket.0 ≡ Some q
         → Reaches q scene.old.tree scene.new.tree scene.old.table.entries affected.old affected.new }
     // By the tree of before.
     ensures walked { AreWalked walked.new scene.old.tree scene.old.table.entries affected.new }
     ensures changed { (q : Request) → request_at scene.old.locks.locks ticket.0 ≡ Some q → result ≡ changed_alone q }
-    ensures room { (vec_capacity endings.old.for_clients ≤ vec_capacity endings.new.for_clients) × (vec_capacity endings.old.for_history ≤ vec_capacity endings.new.for_history)
-        × (vec_capacity endings.old.sized ≤ vec_capacity endings.new.sized) }
+    ensures room { (vec_capacity output.old.for_clients ≤ vec_capacity output.new.for_clients) × (vec_capacity output.old.for_history ≤ vec_capacity output.new.for_history)
+        × (vec_capacity output.old.sized ≤ vec_capacity output.new.sized) }
     // At most one change is noted, and there is a place more for each inode that is affected besides.
-    ensures lead { LeadOn endings.old.changes.items endings.new.changes.items scene.old.tree scene.new.tree }
-    ensures noted { length endings.new.changes.items ≤ length endings.old.changes.items + 1 }
-    ensures places { endings.old.changes.room + set.len affected.new ≤ endings.new.changes.room + set.len affected.old }
+    ensures lead { LeadOn output.old.changes.items output.new.changes.items scene.old.tree scene.new.tree }
+    ensures noted { length output.new.changes.items ≤ length output.old.changes.items + 1 }
+    ensures places { output.old.changes.room + set.len affected.new ≤ output.new.changes.room + set.len affected.old }
     ensures told { (k : Holder) → known_of scene.new.table.kept k ≡ known_of scene.old.table.kept k }
     ensures permitted { ArePermittedIn scene.new.table.kept (plain scene.new) }
     ensures counted { AreCountedIn scene.old → AreCountedIn scene.new }
@@ -237,9 +237,9 @@ fn serve_next(
         unreachable!()
     };
     // Only the first that is served finds the tree as it was when the event came.
-    let judged = endings.judged.take() == Some(ticket);
-    let (alloc, changes) = (endings.alloc(), &mut endings.changes);
-    let room = reach(scene, &request, walked, affected, changes);
+    let judged = output.judged.take() == Some(ticket);
+    let (alloc, changes) = (output.alloc(), &mut output.changes);
+    let room = add_held_below(scene, &request, walked, affected, changes);
     let served = serve(alloc, scene, &request, room.is_ok(), judged);
     changes.note_served(&scene.tree, &request, &served.outcome);
     renew_served(scene, &request, &served.outcome, affected);
@@ -247,7 +247,7 @@ fn serve_next(
     let (sized, changed) = changed_inodes(&request, &served);
     // The request goes before its end is told, so that the proof has to follow it but once.
     drop(request);
-    endings.push(client, ticket, served, sized);
+    output.push(client, ticket, served, sized);
     changed
 }
 

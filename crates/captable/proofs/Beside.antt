@@ -4,7 +4,7 @@ use Rattle.std.proofs.lemmas.List.{map-append}
 use Rattle.cap_arena.specs.declared.nodes.Node.{Node}
 use Rattle.captable.specs.declared.entry.Holder.{Holder}
 use Rattle.captable.specs.declared.entry.Entry.{Entry}
-use Rattle.captable.specs.declared.entry.Sets.{Sets}
+use Rattle.captable.specs.declared.entry.ClientView.{ClientView}
 use Rattle.captable.specs.declared.entry.Slot.{Slot}
 use Rattle.captable.specs.Table.{Table, same}
 use Rattle.captable.specs.Kept.{KeptRow, KeptTable, is_kept_of, keeping, kept_more, kept_without, no_sets}
@@ -37,7 +37,7 @@ pub kept-added : (ns : List (Node Slot)) (x : Node Slot) (made : ℕ) → x.valu
 kept-added ns x made sets number below =
     let next : made + 1 ≡ suc made = omega arith in
     ap (λ m. map kept_row_of (by_number m (ns ++ x ∷ []))) next ∙ ap (map kept_row_of) (by_number-next ns x made number below) ∙ map-append kept_row_of (by_number made ns) (x ∷ [])
-    ∙ ap (λ (s : Sets). map kept_row_of (by_number made ns) ++ record { holder = holder_of x; sets = s } ∷ []) sets
+    ∙ ap (λ (s : ClientView). map kept_row_of (by_number made ns) ++ record { holder = holder_of x; sets = s } ∷ []) sets
 
 -- one node less
 pub kept-removed : (ns : List (Node Slot)) (h : Holder) (made : ℕ) → kept_by (filter (λ m. not (is_held_by h m)) ns) made ≡ kept_without (kept_by ns made) h
@@ -59,31 +59,31 @@ kept-entry ns h x made = ap (map kept_row_of) (by_number-map (set_in h x) (keeps
 
 -- ---- other sets
 
-abbrev pub keep_in : Holder → Sets → Node Slot → Node Slot
+abbrev pub keep_in : Holder → ClientView → Node Slot → Node Slot
 keep_in h s = change_in h (with_sets s)
 
-pub sets-number : (h : Holder) (s : Sets) (m : Node Slot) → (keep_in h s m).value.number ≡ m.value.number
+pub sets-number : (h : Holder) (s : ClientView) (m : Node Slot) → (keep_in h s m).value.number ≡ m.value.number
 sets-number h s m = elim (is_held_by h m) as (λ b. (cond b (with_sets s m) m).value.number ≡ m.value.number) [ true ↦ refl | false ↦ refl ]
 
-pub sets-rows : (h : Holder) (s : Sets) (ns : List (Node Slot)) → map row_of (map (keep_in h s) ns) ≡ map row_of ns
+pub sets-rows : (h : Holder) (s : ClientView) (ns : List (Node Slot)) → map row_of (map (keep_in h s) ns) ≡ map row_of ns
 sets-rows h s ns = unmoved row_of (keep_in h s) same_row ns
   where
     same_row : (m : Node Slot) → row_of (keep_in h s m) ≡ row_of m
     same_row m = elim (is_held_by h m) as (λ b. row_of (cond b (with_sets s m) m) ≡ row_of m) [ true ↦ refl | false ↦ refl ]
 
-sets-holders : (h : Holder) (s : Sets) (ns : List (Node Slot)) → map holder_of (map (keep_in h s) ns) ≡ map holder_of ns
+sets-holders : (h : Holder) (s : ClientView) (ns : List (Node Slot)) → map holder_of (map (keep_in h s) ns) ≡ map holder_of ns
 sets-holders h s ns = unmoved holder_of (keep_in h s) same_holder ns
   where
     same_holder : (m : Node Slot) → holder_of (keep_in h s m) ≡ holder_of m
     same_holder m = elim (is_held_by h m) as (λ b. holder_of (cond b (with_sets s m) m) ≡ holder_of m) [ true ↦ refl | false ↦ refl ]
 
-pub sets-table : (ns : List (Node Slot)) (h : Holder) (s : Sets) (made : ℕ) → table_by (map (keep_in h s) ns) made ≡ table_by ns made
+pub sets-table : (ns : List (Node Slot)) (h : Holder) (s : ClientView) (made : ℕ) → table_by (map (keep_in h s) ns) made ≡ table_by ns made
 sets-table ns h s made =
     let rows : map row_of (by_number made (map (keep_in h s) ns)) ≡ map row_of (by_number made ns) =
     ap (map row_of) (by_number-map (keep_in h s) (sets-number h s) made ns) ∙ sets-rows h s (by_number made ns) in
     λ i. record { rows = rows i; recall = sets-holders h s ns i; made = made }
 
-pub sets-kept : (ns : List (Node Slot)) (h : Holder) (s : Sets) (made : ℕ) → kept_by (map (keep_in h s) ns) made ≡ keeping (kept_by ns made) h (λ _. s)
+pub sets-kept : (ns : List (Node Slot)) (h : Holder) (s : ClientView) (made : ℕ) → kept_by (map (keep_in h s) ns) made ≡ keeping (kept_by ns made) h (λ _. s)
 sets-kept ns h s made =
     ap (map kept_row_of) (by_number-map (keep_in h s) (sets-number h s) made ns)
     ∙ map-mapped kept_row_of (keep_in h s) (λ row. cond (is_kept_of h row) (record row { sets = s }) row) kept_row_of kept_row (by_number made ns)

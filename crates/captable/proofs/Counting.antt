@@ -18,10 +18,10 @@ use Rattle.captable.specs.declared.entry.Holder.{Holder}
 use Rattle.captable.specs.Table.{holders_of_rows, is_row_of, same}
 use Rattle.captable.specs.Calls.{change_rows, is_due, is_due_entry, is_of_client}
 use Rattle.captable.specs.Nodes.{nodes_at, nodes_in, row_of, with_first}
-use Rattle.captable.specs.Places.{IsQuiet, is_due_at, same_client}
+use Rattle.captable.specs.Places.{NoneDueBefore, is_due_at, same_client}
 use Rattle.captable.specs.Polls.{AreCounted, due_count, recounted}
 use Rattle.captable.proofs.Polled.{begun_at, left}
-use Rattle.captable.proofs.Quiet.{clients-same}
+use Rattle.captable.proofs.NotDue.{clients-same}
 use Rattle.captable.proofs.Searches.{find_passes}
 use Rattle.captable.proofs.Tables.{same-is}
 
@@ -242,7 +242,7 @@ none-listed t (k ∷ ks) none key listed due = by_node (node_at t k) refl (λ re
         by_key (nat_eq key k) refl listed (λ same. let out : is_due_at t key ≡ false = ap (λ o. option_map_or (λ (node : Node Slot). is_due_entry node.value.entry) o false) (here same ∙ at) ∙ o.0 in absurd (cc)) (rest o.1)
 
 -- the end is a quiet place of it
-pub quiet-uncounted : (t : Lists Slot) (client : ClientId) (rows : List EntryRow) → map row_of (nodes_in t (OfClient client)) ≡ filter (is_of_client client) rows → due_count client rows ≡ 0 → IsQuiet t client None
-quiet-uncounted t client rows own none =
+pub none_due-uncounted : (t : Lists Slot) (client : ClientId) (rows : List EntryRow) → map row_of (nodes_in t (OfClient client)) ≡ filter (is_of_client client) rows → due_count client rows ≡ 0 → NoneDueBefore t client None
+none_due-uncounted t client rows own none =
     let nothing : filter is_due (map row_of (nodes_in t (OfClient client))) ≡ [] = ap (filter is_due) own ∙ nil_from_length (filter is_due (filter (is_of_client client) rows)) none in
     record { placed = tt; later = λ key listed due. absurd (none-listed t (keys t (OfClient client)) nothing key listed due) }

@@ -9,7 +9,7 @@ use Rattle.cap_arena.specs.declared.nodes.Ends.{Ends}
 use Rattle.cap_arena.specs.Lists.{IsList, IsLists, ListName, Lists, OfClient, OfInode, OfRecall, empty}
 use Rattle.captable.specs.declared.entry.Slot.{Slot}
 use Rattle.captable.specs.Linked.{IsLinked}
-use Rattle.captable.specs.Places.{AreQuiet}
+use Rattle.captable.specs.Places.{NoneDueBeforeAny}
 use Rattle.captable.proofs.Tables.{IsTable-empty}
 
 no_ends_at : (number : ℕ) → map.get (map.empty {X = Ends} {R = nat_cmp}) number ≡ None
@@ -43,5 +43,5 @@ IsLinked-empty t nodes =
       ordered = λ client. record { rises = λ i j there apart. absurd (cc) };
     }
 
-pub AreQuiet-empty : (t : Lists Slot) (places : ClientId → Option (Option ℕ)) → ((q : ClientId) → places q ≡ None) → AreQuiet t places
-AreQuiet-empty t places none client place e = absurd (let n : None ≡ Some place = sym (none client) ∙ e in cc)
+pub NoneDueBeforeAny-empty : (t : Lists Slot) (places : ClientId → Option (Option ℕ)) → ((q : ClientId) → places q ≡ None) → NoneDueBeforeAny t places
+NoneDueBeforeAny-empty t places none client place e = absurd (let n : None ≡ Some place = sym (none client) ∙ e in cc)

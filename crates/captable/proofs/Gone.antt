@@ -8,18 +8,18 @@ use Rattle.captable.specs.declared.entry.Entry.{Entry}
 use Rattle.captable.specs.declared.entry.EntryRow.{EntryRow}
 use Rattle.captable.specs.Table.{Table, entry_at, entry_of, holder, is_row_of, same}
 use Rattle.captable.specs.Calls.{is_of_client}
-use Rattle.captable.specs.Known.{KnownSets, sets_of}
+use Rattle.captable.specs.Known.{ClientViews, sets_of}
 use Rattle.captable.proofs.Tables.{same-is, same_equiv}
 use Rattle.captable.proofs.Searches.{find-filter_kept}
 
 -- where these entries of the client are left to be looked at, nothing is kept of the others that it has, and of who else has one
 -- what was
-pub record IsGoing (table : Table) (client : ClientId) (was now : KnownSets) (left : List EntryRow) : Type 0 where
+pub record IsGoing (table : Table) (client : ClientId) (was now : ClientViews) (left : List EntryRow) : Type 0 where
   pub gone : (k : Holder) (e : Entry) → k.client ≡ client → entry_at table k ≡ Some e → find (is_row_of k) left ≡ None → sets_of now k ≡ None
   pub others : (k : Holder) → k.client ≢ client → sets_of now k ≡ sets_of was k
 
 -- at first all are left
-pub going-all : (table : Table) (client : ClientId) (was : KnownSets) → IsGoing table client was was (filter (is_of_client client) table.rows)
+pub going-all : (table : Table) (client : ClientId) (was : ClientViews) → IsGoing table client was was (filter (is_of_client client) table.rows)
 going-all table client was = record {
   gone = λ k e mine there none.
       let found : find (is_row_of k) table.rows ≡ None = sym (find-filter_kept (is_row_of k) (is_of_client client) (λ row own. eq-eqb row.holder.client.0 client.0 (ap (λ (h : Holder). h.client.0) (sym (same-is k row.holder own)) ∙ ap (λ (c : ClientId). c.0) mine)) table.rows) ∙ none in
@@ -29,7 +29,7 @@ going-all table client was = record {
 }
 
 -- and then one less, if what is kept of it goes
-pub going-on : (table : Table) (client : ClientId) (was now then : KnownSets) (row : EntryRow) (left : List EntryRow) → IsGoing table client was now (row ∷ left)
+pub going-on : (table : Table) (client : ClientId) (was now then : ClientViews) (row : EntryRow) (left : List EntryRow) → IsGoing table client was now (row ∷ left)
     → sets_of then (holder client row.holder.ino) ≡ None → ((k : Holder) → k ≢ holder client row.holder.ino → sets_of then k ≡ sets_of now k)
     → IsGoing table client was then left
 going-on table client was now then row left going own others = record {

@@ -10,7 +10,7 @@ use Rattle.cap_arena.specs.declared.nodes.Node.{Node}
 use Rattle.cap_arena.specs.Lists.{IsLists, ListName, Lists, OfClient, OfInode, OfRecall, keys, node_at}
 use Rattle.captable.specs.declared.entry.Holder.{Holder}
 use Rattle.captable.specs.declared.entry.EntryRow.{EntryRow}
-use Rattle.captable.specs.declared.entry.Sets.{Sets}
+use Rattle.captable.specs.declared.entry.ClientView.{ClientView}
 use Rattle.captable.specs.declared.entry.Slot.{Slot}
 use Rattle.captable.specs.Table.{IsTable, Table, is_row_of, same}
 use Rattle.captable.specs.Calls.{is_of_client, is_of_inode}
@@ -74,13 +74,13 @@ below-one p (n ∷ ns) x end one below =
 -- ---- the sets of a holder, changed
 
 -- nothing is kept of the holder
-kept-stays : (kept : List KeptRow) (h : Holder) (f : Sets → Sets) → find (is_kept_of h) kept ≡ None → keeping kept h f ≡ kept
+kept-stays : (kept : List KeptRow) (h : Holder) (f : ClientView → ClientView) → find (is_kept_of h) kept ≡ None → keeping kept h f ≡ kept
 kept-stays [] h f none = refl
 kept-stays (row ∷ kept) h f none =
     elim (is_kept_of h row) as (λ b. cond b (Some row) (find (is_kept_of h) kept) ≡ None → cond b (record row { sets = f row.sets }) row ∷ keeping kept h f ≡ row ∷ kept)
     [ true ↦ λ none. absurd (cc) | false ↦ λ none. ap (λ rest. row ∷ rest) (kept-stays kept h f none) ] none
 
-pub nobody-kept : (kept : List KeptRow) (h : Holder) (f : Sets → Sets) → sets_beside kept h ≡ None → kept ≡ keeping kept h f
+pub nobody-kept : (kept : List KeptRow) (h : Holder) (f : ClientView → ClientView) → sets_beside kept h ≡ None → kept ≡ keeping kept h f
 nobody-kept kept h f none = sym (kept-stays kept h f (no_row (find (is_kept_of h) kept) none))
   where
     no_row : (o : Option KeptRow) → option_map (λ (row : KeptRow). row.sets) o ≡ None → o ≡ None
@@ -95,7 +95,7 @@ none-behind row (r ∷ kept) h own apart =
     ∙ ap (λ b. cond b (Some r) (find (is_kept_of h) kept)) apart.0 ∙ none-behind row kept h own apart.1
 
 -- the sets that were found, changed by f, are kept
-pub found-kept : (kept : List KeptRow) (h : Holder) (s : Sets) (f : Sets → Sets) → IsDistinct same (map (λ (row : KeptRow). row.holder) kept) → sets_beside kept h ≡ Some s
+pub found-kept : (kept : List KeptRow) (h : Holder) (s : ClientView) (f : ClientView → ClientView) → IsDistinct same (map (λ (row : KeptRow). row.holder) kept) → sets_beside kept h ≡ Some s
     → keeping kept h (λ _. f s) ≡ keeping kept h f
 unfolding IsDistinct
 found-kept [] h s f once there = refl
@@ -187,12 +187,12 @@ module _ (t : Lists Slot) (made : ℕ) (is : IsLinked t made) where
           elim (p row) as (λ b. cond b (Some row) (find p rows) ≡ None → cond b (row ∷ filter p rows) (filter p rows) ≡ [])
           [ true ↦ λ e. absurd (cc) | false ↦ λ e. unfiltered p rows e ] e
 
-  pub keeping-nobody : (h : Holder) (f : Sets → Sets) → ((key : ℕ) → is_key_of t h key ≡ false) → kept_of t made ≡ keeping (kept_of t made) h f
+  pub keeping-nobody : (h : Holder) (f : ClientView → ClientView) → ((key : ℕ) → is_key_of t h key ≡ false) → kept_of t made ≡ keeping (kept_of t made) h f
   keeping-nobody h f none = sym (kept-stays (kept_of t made) h f (none-kept h none))
 
 -- ---- other sets beside an entry
 
-module _ (t t' : Lists Slot) (made : ℕ) (h : Holder) (key : ℕ) (s : Sets) (is : IsLinked t made) (found : IsKeyOf t h key) (keeps : KeepsSets t t' key s) where
+module _ (t t' : Lists Slot) (made : ℕ) (h : Holder) (key : ℕ) (s : ClientView) (is : IsLinked t made) (found : IsKeyOf t h key) (keeps : KeepsSets t t' key s) where
   nodes-now : (name : ListName) → nodes_in t' name ≡ map (keep_in h s) (nodes_in t name)
   nodes-now name =
       let o = held t made is h key found in

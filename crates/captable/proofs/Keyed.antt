@@ -11,11 +11,11 @@ use Rattle.captable.specs.declared.entry.Slot.{Slot}
 use Rattle.captable.specs.Table.{same}
 use Rattle.captable.specs.Nodes.{IsKeyOf, holder_of, is_key_of}
 use Rattle.captable.specs.Walks.{IsPlaceIn, keys_from, keys_on}
-use Rattle.captable.specs.Places.{IsQuietIn}
+use Rattle.captable.specs.Places.{NoneDueIn}
 use Rattle.captable.proofs.Tables.{same-is}
 use Rattle.captable.proofs.Orders.{on-in}
 use Rattle.captable.proofs.WalkOn.{from-first, keys-next, next-of-inode}
-use Rattle.captable.proofs.QuietKeys.{quiet-next}
+use Rattle.captable.proofs.KeysNotDue.{none_due-next}
 
 -- whose node it is
 pub key-is : (t : Lists Slot) (h : Holder) (key : ℕ) → is_key_of t h key ≡ true → IsKeyOf t h key
@@ -33,7 +33,7 @@ is_sought t h from key = is_among (keys_from (keys t (OfInode h.ino)) from) key 
 
 -- no key from the place on is passed over on the way to this one
 abbrev pub NoneBefore : Lists Slot → Holder → Option ℕ → Option ℕ → Type 0
-NoneBefore t h from place = IsQuietIn (keys t (OfInode h.ino)) (is_sought t h from) place
+NoneBefore t h from place = NoneDueIn (keys t (OfInode h.ino)) (is_sought t h from) place
 
 module _ (t : Lists Slot) (h : Holder) (from : Option ℕ) where
   -- where the walk begins
@@ -43,8 +43,8 @@ module _ (t : Lists Slot) (h : Holder) (from : Option ℕ) where
   -- where it ends
   pub none-behind : (place : Option ℕ) → NoneBefore t h from place
       → IfNone place ((key : ℕ) → is_among (keys_from (keys t (OfInode h.ino)) from) key ≡ true → is_key_of t h key ≡ false)
-  none-behind (Some i) quiet = tt
-  none-behind None quiet = λ key there. by_test key there (is_key_of t h key) refl
+  none-behind (Some i) none_due = tt
+  none-behind None none_due = λ key there. by_test key there (is_key_of t h key) refl
     where
       from-in : (key : ℕ) (place : Option ℕ) → is_among (keys_from (keys t (OfInode h.ino)) place) key ≡ true → is_among (keys t (OfInode h.ino)) key ≡ true
       from-in key None there = absurd (cc)
@@ -52,12 +52,12 @@ module _ (t : Lists Slot) (h : Holder) (from : Option ℕ) where
 
       by_test : (key : ℕ) → is_among (keys_from (keys t (OfInode h.ino)) from) key ≡ true → (b : Bool) → is_key_of t h key ≡ b → b ≡ false
       by_test key there false e = refl
-      by_test key there true e = absurd (let none = quiet.later key (from-in key from there) (and_from _ _ there e) in cc)
+      by_test key there true e = absurd (let none = none_due.later key (from-in key from there) (and_from _ _ there e) in cc)
 
-  module _ (sound : IsLists t) (place : Option ℕ) (key : ℕ) (at : place ≡ Some key) (quiet : NoneBefore t h from place)
+  module _ (sound : IsLists t) (place : Option ℕ) (key : ℕ) (at : place ≡ Some key) (none_due : NoneBefore t h from place)
       (next : Option ℕ) (next_is : next ≡ option_and_then (λ (node : Node Slot). key_after (keys t (OfInode node.ino)) key) (node_at t key)) where
     here : NoneBefore t h from (Some key)
-    here = subst (NoneBefore t h from) at quiet
+    here = subst (NoneBefore t h from) at none_due
 
     listed : is_among (keys t (OfInode h.ino)) key ≡ true
     listed = here.placed
@@ -77,7 +77,7 @@ module _ (t : Lists Slot) (h : Holder) (from : Option ℕ) where
     step-on other =
         let not_sought : is_sought t h from key ≡ false = ap (λ b. is_among (keys_from (keys t (OfInode h.ino)) from) key && b) other ∙ and_no (is_among (keys_from (keys t (OfInode h.ino)) from) key) in
         subst (NoneBefore t h from) (sym next-key)
-        (quiet-next (keys t (OfInode h.ino)) (is_sought t h from) key (sound.lists (OfInode h.ino)).once not_sought here)
+        (none_due-next (keys t (OfInode h.ino)) (is_sought t h from) key (sound.lists (OfInode h.ino)).once not_sought here)
       where
         and_no : (b : Bool) → (b && false) ≡ false
         and_no true = refl

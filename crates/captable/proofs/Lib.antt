@@ -18,8 +18,8 @@ pub mod Opening
 pub mod Orders
 pub mod Placed
 pub mod Polled
-pub mod Quiet
-pub mod QuietKeys
+pub mod NotDue
+pub mod KeysNotDue
 pub mod Reading
 pub mod Recalling
 pub mod Removing

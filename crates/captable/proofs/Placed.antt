@@ -10,11 +10,11 @@ use Rattle.cap_arena.specs.Lists.{IsLists, Lists, OfClient, belongs, empty, keys
 use Rattle.captable.specs.declared.entry.Entry.{Entry}
 use Rattle.captable.specs.declared.entry.Slot.{Slot}
 use Rattle.captable.specs.Nodes.{SetsEntry}
-use Rattle.captable.specs.Places.{ArePlaced, AreQuiet, IsQuiet, IsQuietIn, is_due_at, same_client}
+use Rattle.captable.specs.Places.{ArePlaced, NoneDueBeforeAny, NoneDueBefore, NoneDueIn, is_due_at, same_client}
 use Rattle.captable.proofs.Polled.{begun_at, left}
 use Rattle.captable.proofs.NodesAt.{rest_in}
 use Rattle.captable.proofs.Keeping.{is_in}
-use Rattle.captable.proofs.Quiet.{clients-same, elsewhere}
+use Rattle.captable.proofs.NotDue.{clients-same, elsewhere}
 
 -- whether a list has a first key
 abbrev has_first : List ℕ → Bool
@@ -35,9 +35,9 @@ has-more [] key = refl
 has-more (k ∷ ks) key = refl
 
 -- the end is quiet where there is no key
-pub quiet-end : (ks : List ℕ) (due : ℕ → Bool) → false ≡ has_first ks → IsQuietIn ks due None
-quiet-end [] due first = record { placed = tt; later = λ key there is. there }
-quiet-end (k ∷ ks) due first = absurd (cc)
+pub none_due-end : (ks : List ℕ) (due : ℕ → Bool) → false ≡ has_first ks → NoneDueIn ks due None
+none_due-end [] due first = record { placed = tt; later = λ key there is. there }
+none_due-end (k ∷ ks) due first = absurd (cc)
 
 -- a key that is not among them takes nothing away
 without-other : (ks : List ℕ) (key : ℕ) → (is_among ks key ≡ true → ⊥) → keys_without ks key ≡ ks
@@ -68,8 +68,8 @@ ArePlaced-empty t places nodes none client =
 
 -- ---- the same places
 
-pub quiet-same : (t : Lists Slot) (places places' : ClientId → Option (Option ℕ)) → ((q : ClientId) → places' q ≡ places q) → AreQuiet t places → AreQuiet t places'
-quiet-same t places places' same all q place e = all q place (sym (same q) ∙ e)
+pub none_due-same : (t : Lists Slot) (places places' : ClientId → Option (Option ℕ)) → ((q : ClientId) → places' q ≡ places q) → NoneDueBeforeAny t places → NoneDueBeforeAny t places'
+none_due-same t places places' same all q place e = all q place (sym (same q) ∙ e)
 
 pub placed-same : {V : Type 0} (t : Lists Slot) (places places' : ClientId → Option V) → ((q : ClientId) → places' q ≡ places q) → ArePlaced t places → ArePlaced t places'
 placed-same t places places' same all q = ap is_some (same q) ∙ all q
@@ -79,14 +79,14 @@ placed-same t places places' same all q = ap is_some (same q) ∙ all q
 module _ (t : Lists Slot) (client : ClientId) (places places' : ClientId → Option (Option ℕ))
     (updates : (q : ClientId) → places' q ≡ cond (same_client client q) (begun_at None (places q)) (places q)) where
   -- whose client's place is quiet: it is the one that it had, or the end of an empty list
-  pub quiet-begun : ArePlaced t places → AreQuiet t places → AreQuiet t places'
-  quiet-begun placed all q place e = by_test (same_client client q) (sym (updates q) ∙ e)
+  pub none_due-begun : ArePlaced t places → NoneDueBeforeAny t places → NoneDueBeforeAny t places'
+  none_due-begun placed all q place e = by_test (same_client client q) (sym (updates q) ∙ e)
     where
-      own : (o : Option (Option ℕ)) → places q ≡ o → begun_at None o ≡ Some place → IsQuiet t q place
-      own None was e = let is : None ≡ place = cc in subst (IsQuiet t q) is (quiet-end (keys t (OfClient q)) (is_due_at t) (sym (ap is_some was) ∙ placed q))
+      own : (o : Option (Option ℕ)) → places q ≡ o → begun_at None o ≡ Some place → NoneDueBefore t q place
+      own None was e = let is : None ≡ place = cc in subst (NoneDueBefore t q) is (none_due-end (keys t (OfClient q)) (is_due_at t) (sym (ap is_some was) ∙ placed q))
       own (Some p) was e = all q place (was ∙ e)
 
-      by_test : (b : Bool) → cond b (begun_at None (places q)) (places q) ≡ Some place → IsQuiet t q place
+      by_test : (b : Bool) → cond b (begun_at None (places q)) (places q) ≡ Some place → NoneDueBefore t q place
       by_test true e = own (places q) refl e
       by_test false e = all q place e
 
@@ -110,10 +110,10 @@ begun-there v (Some p) = refl
 module _ (t : Lists Slot) (client : ClientId) (first : Option ℕ) (moved places' : ClientId → Option (Option ℕ))
     (ends : (q : ClientId) → places' q ≡ cond (same_client client q) (left first (moved q)) (moved q)) where
   -- the places that are left are as they were
-  pub quiet-ended : AreQuiet t moved → AreQuiet t places'
-  quiet-ended all q place e = by_test (same_client client q) first (sym (ends q) ∙ e)
+  pub none_due-ended : NoneDueBeforeAny t moved → NoneDueBeforeAny t places'
+  none_due-ended all q place e = by_test (same_client client q) first (sym (ends q) ∙ e)
     where
-      by_test : (b : Bool) (o : Option ℕ) → cond b (left o (moved q)) (moved q) ≡ Some place → IsQuiet t q place
+      by_test : (b : Bool) (o : Option ℕ) → cond b (left o (moved q)) (moved q) ≡ Some place → NoneDueBefore t q place
       by_test true None e = absurd (cc)
       by_test true (Some k) e = all q place e
       by_test false o e = all q place e

@@ -3,10 +3,10 @@ use Rattle.std.specs.Prelude.{List, refl, ℕ}
 use Rattle.std.specs.Coded.{Coded, code_by, coded_list, coded_ℕ, coded×}
 use Rattle.captable.specs.declared.entry.Holder.{Holder}
 use Rattle.captable.specs.declared.entry.EntryRow.{EntryRow}
-use Rattle.captable.specs.declared.entry.Sets.{Sets}
+use Rattle.captable.specs.declared.entry.ClientView.{ClientView}
 use Rattle.captable.specs.contracts.entry.Holder as holder
 use Rattle.captable.specs.contracts.entry.EntryRow as entry_row
-use Rattle.captable.specs.contracts.entry.Sets as sets
+use Rattle.captable.specs.contracts.entry.ClientView as sets
 use Rattle.captable.specs.Kept.{KeptRow, KeptTable}
 use Rattle.captable.specs.Table.{Table}
 
@@ -17,7 +17,7 @@ table_code =
 
 abbrev pub kept_row_code : Coded KeptRow
 kept_row_code =
-    code_by (Holder × Sets) (coded× holder.the_row.coded sets.the_row.coded)
+    code_by (Holder × ClientView) (coded× holder.the_row.coded sets.the_row.coded)
     (λ r. (r.holder, r.sets)) (λ p. record { holder = p.0; sets = p.1 }) (λ _. refl)
 
 -- with what is kept beside it

@@ -5,7 +5,7 @@ use Rattle.captable.specs.declared.entry.Edit.TheVariants.{Ack, Ask, Issue, Issu
 use Rattle.captable.specs.declared.entry.Entry.{Entry}
 use Rattle.captable.specs.declared.entry.Keeping.{Keeping}
 use Rattle.captable.specs.declared.entry.Keeping.TheVariants.{Both, Permitted, Told}
-use Rattle.captable.specs.declared.entry.Sets.{Sets}
+use Rattle.captable.specs.declared.entry.ClientView.{ClientView}
 use Rattle.captable.specs.Kept.{permitting, telling}
 use Rattle.captable.specs.Calls.{issued, renumbered, wanting, with_asked, with_size_due, with_told, without_acked, without_released}
 
@@ -28,7 +28,7 @@ is_numbering (IssueNumbered caps before after) = true
 is_numbering _ = false
 
 -- what becomes of the sets beside it
-abbrev pub kept_as : Keeping → Sets → Sets
+abbrev pub kept_as : Keeping → ClientView → ClientView
 kept_as (Both sets) = λ _. sets
 kept_as (Told caps) = telling caps
 kept_as (Permitted caps) = permitting caps

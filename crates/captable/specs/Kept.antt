@@ -10,7 +10,7 @@ use Rattle.captable.specs.declared.entry.Holder.{Holder}
 use Rattle.captable.specs.declared.entry.Entry.{Entry}
 use Rattle.captable.specs.declared.entry.EntryRow.{EntryRow}
 use Rattle.captable.specs.declared.entry.KeptEntry.{KeptEntry}
-use Rattle.captable.specs.declared.entry.Sets.{Sets}
+use Rattle.captable.specs.declared.entry.ClientView.{ClientView}
 use Rattle.captable.specs.Table as table
 use Rattle.captable.specs.Table.{Table, entry_at, holders_of_rows, same}
 use Rattle.captable.specs.Calls.{acked, changed, has_pin, opened, released, without, without_client}
@@ -19,7 +19,7 @@ use Rattle.captable.specs.Tests.{test_at}
 -- the sets beside one entry, with its holder
 pub record KeptRow : Type 0 where
   pub holder : Holder
-  pub sets : Sets
+  pub sets : ClientView
 
 -- the table, and what is kept beside its entries
 pub record KeptTable : Type 0 where
@@ -30,18 +30,18 @@ abbrev pub is_kept_of : Holder → KeptRow → Bool
 is_kept_of k row = same k row.holder
 
 -- the sets beside the holder's entry, where it has one
-abbrev pub sets_beside : List KeptRow → Holder → Option Sets
+abbrev pub sets_beside : List KeptRow → Holder → Option ClientView
 sets_beside kept k = option_map (λ (row : KeptRow). row.sets) (find (is_kept_of k) kept)
 
 -- what its client is to know of, and what it is permitted
 abbrev pub told_beside : List KeptRow → Holder → Option Caps
-told_beside kept k = option_map (λ (sets : Sets). sets.told) (sets_beside kept k)
+told_beside kept k = option_map (λ (sets : ClientView). sets.told) (sets_beside kept k)
 
 abbrev pub permitted_beside : List KeptRow → Holder → Option Caps
-permitted_beside kept k = option_map (λ (sets : Sets). sets.permitted) (sets_beside kept k)
+permitted_beside kept k = option_map (λ (sets : ClientView). sets.permitted) (sets_beside kept k)
 
 -- nothing is kept yet
-abbrev pub no_sets : Sets
+abbrev pub no_sets : ClientView
 no_sets = record { told = no_caps; permitted = no_caps }
 
 -- an entry, with what is kept beside it
@@ -69,7 +69,7 @@ abbrev pub kept_without_client : List KeptRow → ClientId → List KeptRow
 kept_without_client kept client = filter (λ row. not (row.holder.client.0 == client.0)) kept
 
 -- the holder's sets, changed by f
-abbrev pub keeping : List KeptRow → Holder → (Sets → Sets) → List KeptRow
+abbrev pub keeping : List KeptRow → Holder → (ClientView → ClientView) → List KeptRow
 keeping kept k f = map (λ row. if is_kept_of k row then record row { sets = f row.sets } else row) kept
 
 -- a new entry
@@ -101,11 +101,11 @@ abbrev pub with_released : KeptTable → Holder → Caps → KeptTable
 with_released t k caps = record { entries = released t.entries k caps; kept = if has caps P then kept_without t.kept k else t.kept }
 
 -- other sets beside the entry
-abbrev pub with_kept : KeptTable → Holder → (Sets → Sets) → KeptTable
+abbrev pub with_kept : KeptTable → Holder → (ClientView → ClientView) → KeptTable
 with_kept t k f = record t { kept = keeping t.kept k f }
 
-abbrev pub permitting : Caps → Sets → Sets
+abbrev pub permitting : Caps → ClientView → ClientView
 permitting caps sets = record sets { permitted = caps }
 
-abbrev pub telling : Caps → Sets → Sets
+abbrev pub telling : Caps → ClientView → ClientView
 telling caps sets = record sets { told = caps }

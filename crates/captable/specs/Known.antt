@@ -3,20 +3,20 @@ pub use Rattle.captable.specs.Kept.{no_sets}
 use Rattle.std.specs.Prelude.{List, Option}
 use Rattle.capbits.specs.Caps.{Caps}
 use Rattle.captable.specs.declared.entry.Holder.{Holder}
-use Rattle.captable.specs.declared.entry.Sets.{Sets}
+use Rattle.captable.specs.declared.entry.ClientView.{ClientView}
 use Rattle.captable.specs.Kept.{KeptRow, permitted_beside, sets_beside, told_beside}
 
 -- what is kept of each holder that has an entry
-abbrev pub KnownSets : Type 0
-KnownSets = List KeptRow
+abbrev pub ClientViews : Type 0
+ClientViews = List KeptRow
 
 -- what is kept of a holder, where something is
-abbrev pub sets_of : KnownSets → Holder → Option Sets
+abbrev pub sets_of : ClientViews → Holder → Option ClientView
 sets_of kept k = sets_beside kept k
 
 -- what the client is to know of, and what it is permitted, where something is kept of the holder
-abbrev pub known_of : KnownSets → Holder → Option Caps
+abbrev pub known_of : ClientViews → Holder → Option Caps
 known_of kept k = told_beside kept k
 
-abbrev pub permitted_of : KnownSets → Holder → Option Caps
+abbrev pub permitted_of : ClientViews → Holder → Option Caps
 permitted_of kept k = permitted_beside kept k

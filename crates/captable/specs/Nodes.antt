@@ -9,7 +9,7 @@ use Rattle.captable.specs.declared.entry.Holder.{Holder}
 use Rattle.captable.specs.declared.entry.Entry.{Entry}
 use Rattle.captable.specs.declared.entry.EntryRow.{EntryRow}
 use Rattle.captable.specs.declared.entry.KeptEntry.{KeptEntry}
-use Rattle.captable.specs.declared.entry.Sets.{Sets}
+use Rattle.captable.specs.declared.entry.ClientView.{ClientView}
 use Rattle.captable.specs.declared.entry.Slot.{Slot}
 use Rattle.captable.specs.Table.{Table, entry_at, holder, same}
 use Rattle.captable.specs.Calls.{entries_on, is_of_client}
@@ -34,7 +34,7 @@ kept_row_of node = record { holder = holder_of node; sets = node.value.sets }
 abbrev pub kept_entry_of : Node Slot → KeptEntry
 kept_entry_of node = record { row = row_of node; sets = node.value.sets }
 
-abbrev pub with_sets : Sets → Node Slot → Node Slot
+abbrev pub with_sets : ClientView → Node Slot → Node Slot
 with_sets sets node = record node { value = record node.value { sets = sets } }
 
 -- whether so many entries were made before it
@@ -97,7 +97,7 @@ pub record SetsEntry (old new : Lists Slot) (key : ℕ) (entry : Entry) : Type 0
   pub lists : (name : ListName) → keys new name ≡ keys old name
 
 -- beside its entry stand these sets, and nothing else changes
-pub record KeepsSets (old new : Lists Slot) (key : ℕ) (sets : Sets) : Type 0 where
+pub record KeepsSets (old new : Lists Slot) (key : ℕ) (sets : ClientView) : Type 0 where
   pub nodes : (k : ℕ) → node_at new k ≡ (if nat_eq k key then option_map (with_sets sets) (node_at old k) else node_at old k)
   pub lists : (name : ListName) → keys new name ≡ keys old name
 

@@ -29,17 +29,17 @@ pub record AreInOrder (number : ℕ → ℕ) (ks : List ℕ) : Type 0 where
 -- ---- places
 
 -- the place is one of these keys, or their end, and each key that is due comes from there on
-pub record IsQuietIn (ks : List ℕ) (due : ℕ → Bool) (place : Option ℕ) : Type 0 where
+pub record NoneDueIn (ks : List ℕ) (due : ℕ → Bool) (place : Option ℕ) : Type 0 where
   pub placed : IsPlaceIn ks place
   pub later : (key : ℕ) → is_among ks key ≡ true → due key ≡ true → is_among (keys_from ks place) key ≡ true
 
 -- no entry of the client before the place is due
-abbrev pub IsQuiet : Lists Slot → ClientId → Option ℕ → Type 0
-IsQuiet lists client place = IsQuietIn (keys lists (OfClient client)) (is_due_at lists) place
+abbrev pub NoneDueBefore : Lists Slot → ClientId → Option ℕ → Type 0
+NoneDueBefore lists client place = NoneDueIn (keys lists (OfClient client)) (is_due_at lists) place
 
 -- so it is of each place that is kept
-abbrev pub AreQuiet : Lists Slot → (ClientId → Option (Option ℕ)) → Type 0
-AreQuiet lists places = (client : ClientId) (place : Option ℕ) → places client ≡ Some place → IsQuiet lists client place
+abbrev pub NoneDueBeforeAny : Lists Slot → (ClientId → Option (Option ℕ)) → Type 0
+NoneDueBeforeAny lists places = (client : ClientId) (place : Option ℕ) → places client ≡ Some place → NoneDueBefore lists client place
 
 -- a value, as a place, is kept of each client with an entry, and of nobody else
 abbrev pub ArePlaced : {V : Type 0} → Lists Slot → (ClientId → Option V) → Type 0

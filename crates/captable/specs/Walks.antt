@@ -6,13 +6,13 @@ use Rattle.captable.specs.declared.entry.Holder.{Holder}
 use Rattle.captable.specs.declared.entry.EntryRow.{EntryRow}
 use Rattle.captable.specs.declared.entry.KeptEntry.{KeptEntry}
 use Rattle.captable.specs.declared.entry.Slot.{Slot}
-use Rattle.captable.specs.declared.walk.Sought.{Sought}
-use Rattle.captable.specs.declared.walk.Sought.TheVariants as by
+use Rattle.captable.specs.declared.walk.WalkOver.{WalkOver}
+use Rattle.captable.specs.declared.walk.WalkOver.TheVariants as by
 use Rattle.captable.specs.Table.{holders_of_rows}
 use Rattle.captable.specs.Nodes.{kept_entry_of, nodes_at, row_of}
 
 -- the list that is walked
-abbrev pub name_of : Sought → ListName
+abbrev pub name_of : WalkOver → ListName
 name_of (by.Client client) = OfClient client
 name_of (by.Inode ino) = OfInode ino
 

@@ -45,7 +45,7 @@ pub struct EntryRow {
 
 /// What is kept beside an entry, so that it is not found anew.
 #[derive(Clone, Copy, Debug)]
-pub struct Sets {
+pub struct ClientView {
     /// The set that its client is to know of.
     pub told: CapSet,
     /// What its client is permitted to hold.
@@ -58,7 +58,7 @@ pub struct KeptEntry {
     /// The entry with its holder.
     pub row: EntryRow,
     /// The sets beside it.
-    pub sets: Sets,
+    pub sets: ClientView,
 }
 
 /// What is kept with the node of a holder: its entry, the sets beside it, and how many entries were made before it.
@@ -66,7 +66,7 @@ pub struct KeptEntry {
 pub struct Slot {
     pub entry: Entry,
     /// The sets beside it.
-    pub sets: Sets,
+    pub sets: ClientView,
     /// How many entries were made before it, those that are gone too.
     pub number: u64,
 }
@@ -105,32 +105,32 @@ pub(crate) enum Edit {
 #[derive(Clone, Copy)]
 pub(crate) enum Keeping {
     // Both sets.
-    Both(Sets),
+    Both(ClientView),
     // What the client is to know of.
     Told(CapSet),
     // What it is permitted to hold.
     Permitted(CapSet),
 }
 
-impl Sets {
+impl ClientView {
     // Empty sets.
-    pub(crate) fn none() -> Sets
+    pub(crate) fn none() -> ClientView
         ensures { result ≡ no_sets }
     {
-        Sets {
+        ClientView {
             told: CapSet::empty(),
             permitted: CapSet::empty(),
         }
     }
 
     // The sets, changed.
-    pub(crate) fn kept(self, keeping: Keeping) -> Sets
+    pub(crate) fn kept(self, keeping: Keeping) -> ClientView
         ensures { result ≡ kept_as keeping self }
     {
         match keeping {
             Keeping::Both(sets) => sets,
-            Keeping::Told(told) => Sets { told, ..self },
-            Keeping::Permitted(permitted) => Sets { permitted, ..self },
+            Keeping::Told(told) => ClientView { told, ..self },
+            Keeping::Permitted(permitted) => ClientView { permitted, ..self },
         }
     }
 }

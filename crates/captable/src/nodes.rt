@@ -9,7 +9,7 @@ ghost use Rattle.captable.specs.Nodes as words;
 ghost use Rattle.captable.specs.Nodes.{IsKeyOf, KeepsSets, SetsEntry, holder_of, nodes_in};
 ghost use Rattle.captable.specs.Walks.{IsPlaceOf, keys_from};
 
-use crate::entry::{Entry, EntryRow, Holder, KeptEntry, Sets, Slot};
+use crate::entry::{ClientView, Entry, EntryRow, Holder, KeptEntry, Slot};
 use cap_arena::{LinkWrites, Node, TripleLists};
 use capbits::Ino;
 use std::alloc::{AllocError, Global};
@@ -140,7 +140,7 @@ pub(crate) fn set_entry(lists: &mut TripleLists<Slot>, key: usize, entry: Entry)
 }
 
 // Keeps these sets beside the entry of the node, where the key has one.
-pub(crate) fn keep_sets(lists: &mut TripleLists<Slot>, key: usize, sets: Sets)
+pub(crate) fn keep_sets(lists: &mut TripleLists<Slot>, key: usize, sets: ClientView)
     ensures there { IsSome (node_at lists.old key) → KeepsSets lists.old lists.new key sets }
     ensures sound { IsLists lists.new }
 {

@@ -1,7 +1,7 @@
 //! Places in the lists of clients, before which no entry is due.
 ghost use Rattle.std.specs.Prelude.{◌≡◌, true, IfSome};
 ghost use Rattle.captable.specs.Places as words;
-ghost use Rattle.captable.specs.Places.{IsQuiet};
+ghost use Rattle.captable.specs.Places.{NoneDueBefore};
 
 use crate::entry::Slot;
 use cap_arena::TripleLists;
@@ -64,8 +64,8 @@ pub(crate) fn first_due(
     client: ClientId,
     from: Option<usize>,
 ) -> Option<usize>
-    requires { IsQuiet lists.now client from }
-    ensures quiet { IsQuiet lists.now client result }
+    requires { NoneDueBefore lists.now client from }
+    ensures none_due { NoneDueBefore lists.now client result }
     ensures due { IfSome result (λ key. words.is_due_at lists.now key ≡ true) }
 {
     let mut place = from;

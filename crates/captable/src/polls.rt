@@ -6,10 +6,10 @@ ghost use Rattle.capbits.specs.Maps.{change_at};
 ghost use Rattle.cap_arena.specs.Lists.{OfClient, keys};
 ghost use Rattle.captable.specs.Polls as words;
 ghost use Rattle.captable.specs.Polls.{begun, counts_of, ended, places_of};
-ghost use Rattle.captable.specs.Places.{ArePlaced, AreQuiet, IsQuiet, is_due_at, lowered, moved_on, place_of};
+ghost use Rattle.captable.specs.Places.{ArePlaced, NoneDueBeforeAny, NoneDueBefore, is_due_at, lowered, moved_on, place_of};
 
-use crate::places;
 use crate::entry::Slot;
+use crate::places;
 use cap_arena::TripleLists;
 use capbits::ClientId;
 use dense_map::Numbered;
@@ -106,15 +106,15 @@ fn recounted(count: usize, was: bool, is: bool) -> usize
 }
 
 // The client's place; the end, where it has no entry.
-pub(crate) fn quiet_place(
+pub(crate) fn place_to_poll_from(
     polls: &Numbered<Poll>,
     lists: &TripleLists<Slot>,
     client: ClientId,
 ) -> Option<usize>
-    requires quiet { AreQuiet lists.now (places_of polls.now) }
+    requires none_due { NoneDueBeforeAny lists.now (places_of polls.now) }
     requires placed { ArePlaced lists.now (places_of polls.now) }
     ensures kept { result ≡ place_of (places_of polls.now client) }
-    ensures quiet { IsQuiet lists.now client result }
+    ensures none_due { NoneDueBefore lists.now client result }
 {
     match polls.get(client.0 as u64) {
         Some(poll) => poll.place,
@@ -124,8 +124,8 @@ pub(crate) fn quiet_place(
 
 // The client's place moves on over entries that are not due, to the first one that is.
 pub(crate) fn skip_place(polls: &mut Numbered<Poll>, lists: &TripleLists<Slot>, client: ClientId)
-    requires { AreQuiet lists.now (places_of polls.old) }
-    ensures quiet { AreQuiet lists.now (places_of polls.new) }
+    requires { NoneDueBeforeAny lists.now (places_of polls.old) }
+    ensures none_due { NoneDueBeforeAny lists.now (places_of polls.new) }
     ensures due { IfSome (place_of (places_of polls.new client)) (λ key. is_due_at lists.now key ≡ true) }
     ensures others { (q : ClientId) → is_some (places_of polls.new q) ≡ is_some (places_of polls.old q) }
     ensures counts { (q : ClientId) → counts_of polls.new q ≡ counts_of polls.old q }

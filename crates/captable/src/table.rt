@@ -2,17 +2,22 @@
 ghost use Rattle.std.specs.Prelude.{◌≡◌, ◌<◌, ◌^◌, ◌-◌, true, false, [], ◌∷◌, IfSome, IfOk, OnOk, OnErr, Some, None, length, slice_get, take, filter, map};
 ghost use Rattle.std.specs.Prelude.{unwrap_or};
 
-use crate::entry::{Edit, Entry, Holder, Keeping, Sets, Slot};
+use crate::entry::{ClientView, Edit, Entry, Holder, Keeping, Slot};
 use crate::holders::Holders;
-use crate::nodes::{add_node, first_holders, holder_at, keep_sets, key_of, remove_node, set_entry, touch_node};
+use crate::nodes::{
+    add_node, first_holders, holder_at, keep_sets, key_of, remove_node, set_entry, touch_node,
+};
 use crate::places::is_due_at;
-use crate::polls::{Poll, begin_poll, count_again, count_of, end_poll, lower_place, move_place, quiet_place, set_place, skip_place};
+use crate::polls::{
+    Poll, begin_poll, count_again, count_of, end_poll, lower_place, move_place, place_to_poll_from,
+    set_place, skip_place,
+};
 use crate::walk::{KeptWalk, Walk};
 use cap_arena::{AddError, MAX_NODES, TripleLists};
 use capbits::{Cap, CapSet, ClientId, Ino, Refusal};
 use dense_map::Numbered;
-use std::fmt;
 use std::alloc::{AllocError, Global};
+use std::fmt;
 use std::marker::{Brand, Model};
 use std::sync::ledger::Blank;
 
@@ -38,7 +43,7 @@ impl Model for CapTable {
     ghost use Rattle.captable.specs.Codes.{kept_table_code};
     ghost use Rattle.captable.specs.Nodes.{both_of, table_of};
     ghost use Rattle.captable.specs.Linked.{IsLinked};
-    ghost use Rattle.captable.specs.Places.{ArePlaced, AreQuiet};
+    ghost use Rattle.captable.specs.Places.{ArePlaced, NoneDueBeforeAny};
     ghost use Rattle.captable.specs.Polls.{AreCounted, counts_of, places_of};
 
     ghost Value = { KeptTable };
@@ -47,7 +52,7 @@ impl Model for CapTable {
 
     ghost view = { λ t. both_of t.lists t.made };
 
-    ghost invariant = { λ t. IsLinked t.lists t.made × AreQuiet t.lists (places_of t.polls) × ArePlaced t.lists (places_of t.polls)
+    ghost invariant = { λ t. IsLinked t.lists t.made × NoneDueBeforeAny t.lists (places_of t.polls) × ArePlaced t.lists (places_of t.polls)
         × AreCounted (table_of t.lists t.made).rows (counts_of t.polls) };
 }
 
@@ -290,7 +295,7 @@ impl CapTable {
         begin_poll(&mut self.polls, client)?;
         let entry = Entry::new();
         let number = self.made;
-        let sets = Sets::none();
+        let sets = ClientView::none();
         let slot = Slot {
             entry,
             sets,
@@ -431,7 +436,7 @@ impl CapTable {
     // ---- what is kept beside the entries
 
     /// What is kept beside the client's entry on the inode, where it has one.
-    pub fn kept(&self, client: ClientId, ino: Ino) -> Option<Sets>
+    pub fn kept(&self, client: ClientId, ino: Ino) -> Option<ClientView>
         ensures kept { result ≡ sets_beside self.now.kept (holder client ino) }
         ensures beside { AreBeside self.now }
         ensures sound { IsTable self.now.entries }
@@ -450,12 +455,12 @@ impl CapTable {
 
     /// What is kept beside the client's entry on the inode, guessed to stand at a place, as for `find_near`; empty sets where it has
     /// no entry. If it stands there, it is not searched for.
-    pub fn kept_near(&self, client: ClientId, ino: Ino, place: usize) -> Sets
+    pub fn kept_near(&self, client: ClientId, ino: Ino, place: usize) -> ClientView
         ensures { result ≡ unwrap_or (sets_beside self.now.kept (holder client ino)) words.no_sets }
     {
         match self.slot_near(Holder { client, ino }, place) {
             Some(slot) => slot.sets,
-            None => self.kept(client, ino).unwrap_or(Sets::none()),
+            None => self.kept(client, ino).unwrap_or(ClientView::none()),
         }
     }
 
@@ -477,7 +482,7 @@ impl CapTable {
 
     /// Keeps these sets beside the client's entry on the inode from now on. Where it has no entry, nothing happens. It takes no
     /// memory.
-    pub fn keep(&mut self, client: ClientId, ino: Ino, sets: Sets)
+    pub fn keep(&mut self, client: ClientId, ino: Ino, sets: ClientView)
         ensures { self.new ≡ words.with_kept self.old (holder client ino) (λ _. sets) }
     {
         self.keep_as(Holder { client, ino }, Keeping::Both(sets));
@@ -617,13 +622,13 @@ impl CapTable {
         Walk::of_client(&self.lists, client)
     }
 
-    /// The client's entries from the place on that `skip_quiet` came to, or from an earlier one, of which an entry is due
+    /// The client's entries from the place on that `skip_not_due` came to, or from an earlier one, of which an entry is due
     /// since then, in the order of making: among them each entry that is due.
     pub fn due_of(&self, client: ClientId) -> Walk<'_>
         ensures due { filter is_due result ≡ filter is_due (filter (is_of_client client) self.now.entries.rows) }
         ensures sound { IsTable self.now.entries }
     {
-        let at = quiet_place(&self.polls, &self.lists, client);
+        let at = place_to_poll_from(&self.polls, &self.lists, client);
         Walk::from_place(&self.lists, client, at)
     }
 
@@ -636,7 +641,7 @@ impl CapTable {
 
     /// Walks over those of the client's entries that are not due, up to the first that is, so that `due_of` begins there.
     /// It takes no memory: the client has its place since it has an entry.
-    pub fn skip_quiet(&mut self, client: ClientId)
+    pub fn skip_not_due(&mut self, client: ClientId)
         ensures { self.new ≡ self.old }
     {
         if count_of(&self.polls, client) == 0 {

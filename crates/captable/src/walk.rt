@@ -13,7 +13,7 @@ use std::marker::Model;
 
 // Whose entries are sought.
 #[derive(Clone, Copy)]
-pub(crate) enum Sought {
+pub(crate) enum WalkOver {
     Client(ClientId),
     Inode(Ino),
 }
@@ -22,7 +22,7 @@ pub(crate) enum Sought {
 #[derive(Drop)]
 pub struct Walk<'a> {
     lists: &'a TripleLists<Slot>,
-    sought: Sought,
+    over: WalkOver,
     // The key of the next node, where there is one.
     at: Option<usize>,
 }
@@ -34,9 +34,9 @@ impl<'a> Model for Walk<'a> {
 
     ghost Value = { List EntryRow };
 
-    ghost view = { λ w. rows_from w.lists.now (name_of w.sought) w.at };
+    ghost view = { λ w. rows_from w.lists.now (name_of w.over) w.at };
 
-    ghost invariant = { λ w. IsPlaceOf w.lists.now (name_of w.sought) w.at };
+    ghost invariant = { λ w. IsPlaceOf w.lists.now (name_of w.over) w.at };
 }
 
 impl<'a> Walk<'a> {
@@ -45,8 +45,8 @@ impl<'a> Walk<'a> {
         ensures { result ≡ map words.row_of (nodes_in lists.now (OfClient client)) }
     {
         let at = lists.first_of_client(client);
-        let sought = Sought::Client(client);
-        Walk { lists, sought, at }
+        let over = WalkOver::Client(client);
+        Walk { lists, over, at }
     }
 
     // The entries of the client from a place on.
@@ -58,8 +58,8 @@ impl<'a> Walk<'a> {
         requires { IsPlaceOf lists.now (OfClient client) at }
         ensures { result ≡ rows_from lists.now (OfClient client) at }
     {
-        let sought = Sought::Client(client);
-        Walk { lists, sought, at }
+        let over = WalkOver::Client(client);
+        Walk { lists, over, at }
     }
 
     // The entries on the inode.
@@ -67,8 +67,8 @@ impl<'a> Walk<'a> {
         ensures { result ≡ map words.row_of (nodes_in lists.now (OfInode ino)) }
     {
         let at = lists.first_of_ino(ino);
-        let sought = Sought::Inode(ino);
-        Walk { lists, sought, at }
+        let over = WalkOver::Inode(ino);
+        Walk { lists, over, at }
     }
 
     /// The next entry, with its holder; none at the end of the walk.
@@ -78,9 +78,9 @@ impl<'a> Walk<'a> {
     {
         let key = self.at?;
         let node = self.lists.get(key)?;
-        self.at = match self.sought {
-            Sought::Client(_client) => self.lists.next_of_client(key),
-            Sought::Inode(_ino) => self.lists.next_of_ino(key),
+        self.at = match self.over {
+            WalkOver::Client(_client) => self.lists.next_of_client(key),
+            WalkOver::Inode(_ino) => self.lists.next_of_ino(key),
         };
         Some(row_of(&node))
     }

@@ -1,7 +1,7 @@
 //! Why a text is no array.
 
-use std::fmt;
 use std::alloc::AllocError;
+use std::fmt;
 use std::fmt::Display;
 
 /// What an array has where a text has something else.

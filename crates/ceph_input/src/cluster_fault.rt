@@ -1,7 +1,7 @@
 //! Why the sessions of a cluster can't be read.
 
-use std::fmt;
 use std::alloc::{AllocError, AllocFailed};
+use std::fmt;
 use std::fmt::Display;
 
 /// Why a text is no list of sessions.

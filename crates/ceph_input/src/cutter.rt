@@ -2,7 +2,7 @@
 
 use crate::array_fault::{Expected, RowFault};
 use crate::cut::Cut;
-use crate::outside::{enter, leave, unindented};
+use crate::outside::{check_end, enter, unindented};
 use crate::place::{Place, ends, scan};
 use crate::stage::Stage;
 use std::alloc::Global;
@@ -134,6 +134,6 @@ impl RowCutter {
             (λ _. rows_left self.now [] ≡ closed)
             (λ fault. IsBroken fault (rows_left self.now [])) }
     {
-        leave(self.stage, self.byte)
+        check_end(self.stage, self.byte)
     }
 }

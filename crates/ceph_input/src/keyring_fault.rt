@@ -1,7 +1,7 @@
 //! Why a keyring gives no grants.
 
-use std::fmt;
 use std::alloc::{AllocError, AllocFailed};
+use std::fmt;
 use std::fmt::Display;
 
 /// Why a keyring gives no grants of an entity.

@@ -102,7 +102,7 @@ pub(crate) fn enter(stage: Stage, byte: u64, chunk: &[u8]) -> Result<(Stage, usi
 }
 
 /// Whether the text may end where the reader stands, before the byte of this number.
-pub(crate) fn leave(stage: Stage, byte: u64) -> Result<(), RowFault>
+pub(crate) fn check_end(stage: Stage, byte: u64) -> Result<(), RowFault>
     ensures { (item : List ℕ) → MatchResult result
         (λ _. rows_at stage byte item [] ≡ closed)
         (λ fault. IsBroken fault (rows_at stage byte item [])) }

@@ -1,8 +1,8 @@
 //! Why a text is no tree.
 
 use crate::array_fault::RowFault;
-use std::fmt;
 use std::alloc::AllocError;
+use std::fmt;
 use std::fmt::Display;
 
 /// Why a text is no tree.

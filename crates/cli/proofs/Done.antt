@@ -3,15 +3,15 @@ use Rattle.std.proofs.Common.{◌≡◌, ◌≤◌, ◌⊎◌, ℕ, Option, List
 use Rattle.cli_queries.specs.Files.{ReadsFile}
 use Rattle.cli_queries.specs.Words.{SaysSomething, ShowsHelp}
 use Rattle.cli_queries.specs.declared.command_line.Invocation.{Invocation}
-use Rattle.cli_queries.specs.declared.reading.Said.{Said}
-use Rattle.cli_queries.specs.declared.reading.Said.TheVariants as said
+use Rattle.cli_queries.specs.declared.reading.NoCommand.{NoCommand}
+use Rattle.cli_queries.specs.declared.reading.NoCommand.TheVariants as no_command
 use Rattle.cli.specs.Commands.{Answers, WasDone}
 
 -- help was asked for
-pub by_help : (some : Said) (input : Option (List ℕ)) (status : ℕ) (old new : Option (List ℕ)) → SaysSomething some → status ≤ 2 → (status ≡ 0 → ShowsHelp some old new) → (status ≡ 0) ⊎ (status ≡ 3) → WasDone input status old new
-by_help (said.Help text) input status old new says small shows (inl done) = inr (text.items, done, says, shows done)
-by_help (said.Usage text) input status old new says small shows (inl done) = absurd (shows done)
-by_help said.NoMemory input status old new says small shows (inl done) = absurd (shows done)
+pub by_help : (some : NoCommand) (input : Option (List ℕ)) (status : ℕ) (old new : Option (List ℕ)) → SaysSomething some → status ≤ 2 → (status ≡ 0 → ShowsHelp some old new) → (status ≡ 0) ⊎ (status ≡ 3) → WasDone input status old new
+by_help (no_command.Help text) input status old new says small shows (inl done) = inr (text.items, done, says, shows done)
+by_help (no_command.Usage text) input status old new says small shows (inl done) = absurd (shows done)
+by_help no_command.NoMemory input status old new says small shows (inl done) = absurd (shows done)
 by_help some input status old new says small shows (inr denied) = absurd (omega (arith, small, denied))
 
 -- a command was, by the input or by a file

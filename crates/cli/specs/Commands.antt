@@ -17,9 +17,9 @@ use Rattle.cli_queries.specs.declared.command_line.Invocation.{Invocation}
 use Rattle.cli_queries.specs.declared.command_line.Invocation.TheVariants as invocations
 use Rattle.cli_queries.specs.declared.fault.AnswerFault.{AnswerFault}
 use Rattle.cli_queries.specs.Files.{ReadsFile}
-use Rattle.cli_queries.specs.Answers.{AnswersInquiry, AnswersLint, StopsBefore, StopsComparing, StopsInquiry}
-use Rattle.cli_queries.specs.Checkup.{AnswersCheckup, StopsCheckup}
-use Rattle.cli_queries.specs.Survey.{AnswersSurvey, StopsSurvey}
+use Rattle.cli_queries.specs.Answers.{AnswersExplainArgs, AnswersLint, StopsBefore, StopsComparing, StopsExplainArgs}
+use Rattle.cli_queries.specs.AuditArgs.{AnswersAuditArgs, StopsAuditArgs}
+use Rattle.cli_queries.specs.WhoArgs.{AnswersWhoArgs, StopsWhoArgs}
 use Rattle.cli_queries.specs.Logging.{AnswersLog, StopsLog}
 use Rattle.cli.specs.declared.stopping.Fault.{Fault}
 use Rattle.cli.specs.declared.stopping.Fault.TheVariants.{Answer, Script, Serve}
@@ -28,12 +28,12 @@ use Rattle.cli.specs.declared.stopping.Fault.TheVariants.{Answer, Script, Serve}
 -- the lines for the clients of a cluster, what they hold and may not, those that tell of a log, the transcript of the script that was to be read, or the history; with the status 0, but for a question that is answered by the status alone,
 -- and for what is found
 abbrev pub Answers : Invocation → Option (List ℕ) → ℕ → Option (List ℕ) → Option (List ℕ) → Type 0
-Answers (invocations.Explain inquiry) input status old new = AnswersInquiry inquiry input status old new
+Answers (invocations.Explain explain_args) input status old new = AnswersExplainArgs explain_args input status old new
 Answers (invocations.Grants text more) input status old new = (status ≡ 0) × ((grants : List Grant) × Reads text.items grants × Appends old new (written grants ++ codes "\n"))
 Answers (invocations.Compare before after shape) input status old new = (status ≡ 0) × ((lines : List ℕ) × IsComparison shape before.items after.items lines × Appends old new lines)
 Answers (invocations.Lint text shape) input status old new = AnswersLint shape text.items status old new
-Answers (invocations.Who survey) input status old new = (status ≡ 0) × AnswersSurvey survey input old new
-Answers (invocations.Audit checkup) input status old new = AnswersCheckup checkup input status old new
+Answers (invocations.Who who_args) input status old new = (status ≡ 0) × AnswersWhoArgs who_args input old new
+Answers (invocations.Audit audit_args) input status old new = AnswersAuditArgs audit_args input status old new
 Answers (invocations.Log fs) input status old new = (status ≡ 0) × AnswersLog fs.items input old new
 Answers (invocations.Run more) input status old new = (status ≡ 0) × IfSome input (λ script. (length script ≤ longest_script) × ((text : List ℕ) × IsTranscript (lines script) text × Appends old new text))
 Answers (invocations.Serve more) input status old new = (status ≡ 0) × IfSome input (λ script. (length script ≤ longest_script) × ((text : List ℕ) × IsServed (lines script) text × Appends old new text))
@@ -64,12 +64,12 @@ TellsOfAnswer P (Serve stop) = ⊥
 
 -- why there is no whole answer, by whether the input was read to its end, whether a read failed and whether a write did
 abbrev pub Stops : Invocation → Fault → Option (List ℕ) → Bool → Bool → Bool → Option (List ℕ) → Option (List ℕ) → Type 0
-Stops (invocations.Explain inquiry) fault input ended unread unwritten old new = TellsOfAnswer (λ told. StopsInquiry inquiry told input unread unwritten old new) fault
+Stops (invocations.Explain explain_args) fault input ended unread unwritten old new = TellsOfAnswer (λ told. StopsExplainArgs explain_args told input unread unwritten old new) fault
 Stops (invocations.Grants text more) fault input ended unread unwritten old new = TellsOfAnswer (λ told. StopsBefore (IsFaultOfText text.items) told unwritten old new) fault
 Stops (invocations.Compare before after shape) fault input ended unread unwritten old new = TellsOfAnswer (λ told. StopsComparing before.items after.items told unwritten old new) fault
 Stops (invocations.Lint text shape) fault input ended unread unwritten old new = TellsOfAnswer (λ told. StopsBefore (IsFaultOfText text.items) told unwritten old new) fault
-Stops (invocations.Who survey) fault input ended unread unwritten old new = TellsOfAnswer (λ told. StopsSurvey survey told input unread unwritten old new) fault
-Stops (invocations.Audit checkup) fault input ended unread unwritten old new = TellsOfAnswer (λ told. StopsCheckup checkup told input unread unwritten old new) fault
+Stops (invocations.Who who_args) fault input ended unread unwritten old new = TellsOfAnswer (λ told. StopsWhoArgs who_args told input unread unwritten old new) fault
+Stops (invocations.Audit audit_args) fault input ended unread unwritten old new = TellsOfAnswer (λ told. StopsAuditArgs audit_args told input unread unwritten old new) fault
 Stops (invocations.Log fs) fault input ended unread unwritten old new = TellsOfAnswer (λ told. StopsLog fs.items told input unread unwritten old new) fault
 Stops (invocations.Run more) fault input ended unread unwritten old new = (stop : ScriptFault) × (fault ≡ Script stop) × RunStops stop input ended unread unwritten old new
 Stops (invocations.Serve more) fault input ended unread unwritten old new = (stop : ServeFault) × (fault ≡ Serve stop) × ServeStops stop input unread unwritten old new

@@ -17,8 +17,8 @@ abbrev pub row_line : Row → List ℕ
 row_line row = audit_text row ++ codes "\n"
 
 -- the line of each row, in order
-abbrev pub audit_lines : List Row → List ℕ
-audit_lines rows = flat_map row_line rows
+abbrev pub history_lines : List Row → List ℕ
+history_lines rows = flat_map row_line rows
 
 -- the rows are a legal history on a root alone that leads to this state, as many as there are events
 pub record IsHistory (work : Work) (rows : List Row) (last : State) : Type 0 where
@@ -34,7 +34,7 @@ pub record IsServed (script : List (List ℕ)) (text : List ℕ) : Type 0 where
   pub rows : List Row
   pub last : State
   pub history : IsHistory work rows last
-  pub text_is : text ≡ audit_lines rows
+  pub text_is : text ≡ history_lines rows
 
 -- how many rows the history takes at most
 abbrev pub most_rows : ℕ

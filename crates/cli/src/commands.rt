@@ -15,7 +15,10 @@ ghost use Rattle.cli.specs.Hints.{hint_of, hint_unread};
 use crate::serving::serve;
 use crate::stopping::Fault;
 use capscript::{ServeFault, run};
-use cli_queries::{DENIED, DONE, FAILED, FOUND, Invocation, USAGE, check_cluster, compare_texts, gather, grants, inquire, keyring_file, look_over, read_words, report, show, tell_log, tell_who};
+use cli_queries::{
+    DENIED, DONE, FAILED, FOUND, Invocation, USAGE, audit, compare_texts, explain, gather, grants,
+    keyring_file, lint, log, read_words, report, show, who,
+};
 use script_syntax::{ScriptFault, Watched};
 use std::alloc::Global;
 use std::fs::Files;
@@ -45,7 +48,7 @@ pub fn dispatch<E: AllocGlobal + Files + Threads + Wait + Sync, R: Read, W: Writ
 {
     let mut invocation = match read_words(rt.alloc(), words) {
         Ok(invocation) => invocation,
-        Err(said) => return show(&said, writer, faults),
+        Err(no_command) => return show(&no_command, writer, faults),
     };
     if let Err(fault) = gather(rt, rt.alloc(), &mut invocation) {
         return cli_queries::refuse(rt.alloc(), &invocation, fault, faults);
@@ -109,15 +112,15 @@ fn answer<T: Threads + Wait + Sync, R: Read, W: Write>(
         (W.contents (inner_of writer.old)) (W.contents (inner_of writer.new))) }
 {
     let answered = match invocation {
-        Invocation::Explain(inquiry) => inquire(alloc, inquiry, reader, writer),
+        Invocation::Explain(explain_args) => explain(alloc, explain_args, reader, writer),
         Invocation::Grants { text, more: _ } => grants(alloc, text.as_slice(), writer),
         Invocation::Compare { old, new, shape } => {
             compare_texts(alloc, old.as_slice(), new.as_slice(), *shape, writer)
         }
-        Invocation::Lint { text, shape } => look_over(alloc, text.as_slice(), *shape, writer),
-        Invocation::Who(survey) => tell_who(alloc, survey, reader, writer),
-        Invocation::Audit(checkup) => check_cluster(alloc, checkup, reader, writer),
-        Invocation::Log(fs) => tell_log(alloc, fs.as_slice(), reader, writer),
+        Invocation::Lint { text, shape } => lint(alloc, text.as_slice(), *shape, writer),
+        Invocation::Who(who_args) => who(alloc, who_args, reader, writer),
+        Invocation::Audit(audit_args) => audit(alloc, audit_args, reader, writer),
+        Invocation::Log(fs) => log(alloc, fs.as_slice(), reader, writer),
         Invocation::Run { more: _ } => return run_script(alloc, reader, writer),
         Invocation::Serve { more: _ } => return serve_script(rt, alloc, reader, writer),
     };

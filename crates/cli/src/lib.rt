@@ -6,9 +6,9 @@
 //! They stand in a library, as nothing can stand on a program, and the checks of a program load all that it links.
 #![tactic(auto)]
 
-mod audit;
 mod calling;
 mod commands;
+mod history_text;
 mod serving;
 mod stopping;
 

@@ -11,8 +11,8 @@ ghost use Rattle.capscript.specs.declared.serve_fault.ServeFault.TheVariants as 
 ghost use Rattle.capscript.specs.Jobs.{event_count, work_of};
 ghost use Rattle.cli.specs.Served.{IsCutShort, IsHistory, IsServed, IsUnserved, IsWritten, most_rows};
 
-use crate::audit::audit_lines;
 use crate::calling::{Called, call_all};
+use crate::history_text::history_lines;
 use capcore::Core;
 use capscript::{Plan, ServeFault, file_system, read_plan};
 use capserver::{CapServer, Closed, Gate, NoGate, Opening};
@@ -98,7 +98,7 @@ fn serve_text<T: Threads + Wait + Sync>(
 {
     let plan = read_plan(alloc, script)?;
     let core = serve_plan(rt, alloc, plan, NoGate)?;
-    let text = audit_lines(alloc, core.history());
+    let text = history_lines(alloc, core.history());
     drop(core);
     Ok(text?)
 }

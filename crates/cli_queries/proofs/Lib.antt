@@ -1,7 +1,7 @@
 pub mod Unwritten
 pub mod Audits
 pub mod Grown
-pub mod Inquired
-pub mod Surveyed
+pub mod Explained
+pub mod WhoAnswered
 pub mod Logged
 pub mod Matches

@@ -6,7 +6,7 @@ use Rattle.capspec.specs.Names.{IsFsName}
 use Rattle.script_syntax.specs.Lines.{longest_script}
 use Rattle.queries.specs.Told.{IsToldOf}
 use Rattle.cli_queries.specs.Logging.{AnswersLog}
-use Rattle.cli_queries.proofs.Surveyed.{all_of}
+use Rattle.cli_queries.proofs.WhoAnswered.{all_of}
 
 pub log_told : {T E : Type 0} (fs log read lines text : List ℕ) (input left old new : Option (List ℕ)) (failed : Bool) (answer : Result T E) → IsFsName fs → Consumes input left log → IsAtEnd left → length log ≤ longest_script
     → read ≡ log → IsToldOf fs read lines → text ≡ lines → OnOk answer (IsFalse failed × Appends old new text) → OnOk answer (AnswersLog fs input old new)

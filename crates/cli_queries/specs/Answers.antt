@@ -10,9 +10,9 @@ use Rattle.capexplain.specs.Shapes.{nothing_in}
 use Rattle.queries.specs.Linting.{IsLintOf}
 use Rattle.cli_queries.specs.declared.fault.AnswerFault.{AnswerFault}
 use Rattle.cli_queries.specs.declared.fault.AnswerFault.TheVariants.{WriteFailed}
-use Rattle.cli_queries.specs.declared.inquiry.Inquiry.{Inquiry}
+use Rattle.cli_queries.specs.declared.explain_args.ExplainArgs.{ExplainArgs}
 use Rattle.cli_queries.specs.Fault.{Tells, TellsOfTexts}
-use Rattle.cli_queries.specs.Inquiry.{IsAnswered, IsGrantsText, IsUnread, with_grants}
+use Rattle.cli_queries.specs.ExplainArgs.{IsAnswered, IsGrantsText, IsUnread, with_grants}
 
 -- a write failed, or the fault is one of which this holds, and nothing was written
 abbrev pub StopsBefore : (QuestionFault → Type 0) → AnswerFault → Bool → Option (List ℕ) → Option (List ℕ) → Type 0
@@ -23,18 +23,18 @@ abbrev pub StopsComparing : List ℕ → List ℕ → AnswerFault → Bool → O
 StopsComparing before after fault failed old new = ((fault ≡ WriteFailed) × IsTrue failed) ⊎ (TellsOfTexts before after fault × Keeps old new)
 
 -- the question of `explain` was answered with this status, by the text of the grants from where it is
-pub record AnswersInquiry (inquiry : Inquiry) (input : Option (List ℕ)) (status : ℕ) (old new : Option (List ℕ)) : Type 0 where
+pub record AnswersExplainArgs (explain_args : ExplainArgs) (input : Option (List ℕ)) (status : ℕ) (old new : Option (List ℕ)) : Type 0 where
   pub grants : Vec ℕ
   pub asked : Question
-  pub text : IsGrantsText inquiry.source inquiry.values.grants.items input grants.items
-  pub asks : AsksFor (with_grants inquiry.values grants) asked
-  pub answered : IsAnswered inquiry.form asked status old new
+  pub text : IsGrantsText explain_args.source explain_args.values.grants.items input grants.items
+  pub asks : AsksFor (with_grants explain_args.values grants) asked
+  pub answered : IsAnswered explain_args.form asked status old new
 
 -- the text of the grants can't be had, and nothing was written; or no read failed, and the question by that text stops
-abbrev pub StopsInquiry : Inquiry → AnswerFault → Option (List ℕ) → Bool → Bool → Option (List ℕ) → Option (List ℕ) → Type 0
-StopsInquiry inquiry fault input unread unwritten old new = (IsUnread inquiry.source fault input unread × Keeps old new)
-    ⊎ ((grants : Vec ℕ) × IsGrantsText inquiry.source inquiry.values.grants.items input grants.items × IsFalse unread
-    × StopsBefore (IsFaultIn (with_grants inquiry.values grants)) fault unwritten old new)
+abbrev pub StopsExplainArgs : ExplainArgs → AnswerFault → Option (List ℕ) → Bool → Bool → Option (List ℕ) → Option (List ℕ) → Type 0
+StopsExplainArgs explain_args fault input unread unwritten old new = (IsUnread explain_args.source fault input unread × Keeps old new)
+    ⊎ ((grants : Vec ℕ) × IsGrantsText explain_args.source explain_args.values.grants.items input grants.items × IsFalse unread
+    × StopsBefore (IsFaultIn (with_grants explain_args.values grants)) fault unwritten old new)
 
 -- the lines for what is found in a text of grants were written in this shape, with the status 3; or that nothing is, with 0
 abbrev pub AnswersLint : Shape → List ℕ → ℕ → Option (List ℕ) → Option (List ℕ) → Type 0

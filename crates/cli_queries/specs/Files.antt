@@ -2,8 +2,8 @@
 use Rattle.std.specs.Prelude.{◌≢◌, codes}
 use Rattle.cli_queries.specs.declared.command_line.Invocation.{Invocation}
 use Rattle.cli_queries.specs.declared.command_line.Invocation.TheVariants as invocations
-use Rattle.cli_queries.specs.declared.inquiry.Source.{Source}
-use Rattle.cli_queries.specs.declared.inquiry.Source.TheVariants as sources
+use Rattle.cli_queries.specs.declared.explain_args.Source.{Source}
+use Rattle.cli_queries.specs.declared.explain_args.Source.TheVariants as sources
 
 -- the text of the grants is looked for in a file
 abbrev pub IsInFile : Source → Type 0
@@ -14,12 +14,12 @@ IsInFile (sources.Auth file client) = file.items ≢ codes "-"
 
 -- the command reads a file
 abbrev pub ReadsFile : Invocation → Type 0
-ReadsFile (invocations.Explain inquiry) = IsInFile inquiry.source
+ReadsFile (invocations.Explain explain_args) = IsInFile explain_args.source
 ReadsFile (invocations.Grants text more) = ⊥
 ReadsFile (invocations.Compare old new shape) = ⊥
 ReadsFile (invocations.Lint text shape) = ⊥
-ReadsFile (invocations.Who survey) = survey.auth.items ≢ codes "-"
-ReadsFile (invocations.Audit checkup) = checkup.files.tree.items ≢ codes "-"
+ReadsFile (invocations.Who who_args) = who_args.auth.items ≢ codes "-"
+ReadsFile (invocations.Audit audit_args) = audit_args.files.tree.items ≢ codes "-"
 ReadsFile (invocations.Log fs) = ⊥
 ReadsFile (invocations.Run more) = ⊥
 ReadsFile (invocations.Serve more) = ⊥

@@ -1,9 +1,9 @@
 pub mod Fault
-pub mod Inquiry
+pub mod ExplainArgs
 pub mod Answers
-pub mod Survey
+pub mod WhoArgs
 pub mod Growing
-pub mod Checkup
+pub mod AuditArgs
 pub mod Logging
 pub mod Matched
 pub mod Files

@@ -8,7 +8,7 @@ use Rattle.queries.specs.declared.options.Opt.TheVariants.{Fs}
 use Rattle.queries.specs.Told.{IsToldOf}
 use Rattle.cli_queries.specs.declared.fault.AnswerFault.{AnswerFault}
 use Rattle.cli_queries.specs.declared.fault.AnswerFault.TheVariants.{NoMemory, Question, WriteFailed}
-use Rattle.cli_queries.specs.Inquiry.{IsUnreadInput}
+use Rattle.cli_queries.specs.ExplainArgs.{IsUnreadInput}
 
 -- the lines that tell of the log that was to be read were written, on the file system of this name
 pub record AnswersLog (fs : List ℕ) (input old new : Option (List ℕ)) : Type 0 where

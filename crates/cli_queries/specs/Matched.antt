@@ -16,15 +16,15 @@ use Rattle.queries.specs.declared.attempt.AttrValues.{AttrValues}
 use Rattle.queries.specs.declared.clients.Telling.{Telling}
 use Rattle.queries.specs.declared.clients.Telling.TheVariants as tellings
 use Rattle.queries.specs.Options.{option_name}
-use Rattle.cli_queries.specs.declared.checkup.Checkup.{Checkup}
+use Rattle.cli_queries.specs.declared.audit_args.AuditArgs.{AuditArgs}
 use Rattle.cli_queries.specs.declared.command_line.Invocation.{Invocation}
 use Rattle.cli_queries.specs.declared.command_line.Invocation.TheVariants as invocations
-use Rattle.cli_queries.specs.declared.inquiry.Form.{Form}
-use Rattle.cli_queries.specs.declared.inquiry.Form.TheVariants as forms
-use Rattle.cli_queries.specs.declared.inquiry.Inquiry.{Inquiry}
-use Rattle.cli_queries.specs.declared.inquiry.Source.{Source}
-use Rattle.cli_queries.specs.declared.inquiry.Source.TheVariants as sources
-use Rattle.cli_queries.specs.declared.survey.Survey.{Survey}
+use Rattle.cli_queries.specs.declared.explain_args.Form.{Form}
+use Rattle.cli_queries.specs.declared.explain_args.Form.TheVariants as forms
+use Rattle.cli_queries.specs.declared.explain_args.ExplainArgs.{ExplainArgs}
+use Rattle.cli_queries.specs.declared.explain_args.Source.{Source}
+use Rattle.cli_queries.specs.declared.explain_args.Source.TheVariants as sources
+use Rattle.cli_queries.specs.declared.who_args.WhoArgs.{WhoArgs}
 
 -- the words of a command as they were matched
 abbrev pub words_of : ArgMatches → List Row
@@ -92,10 +92,10 @@ IsForm words forms.More = IsFlag words (codes "quiet") false × IsFlag words (co
 IsForm words forms.Object = IsFlag words (codes "quiet") false × IsFlag words (codes "more") false × IsFlag words (codes "json") true
 IsForm words forms.Line = IsFlag words (codes "quiet") false × IsFlag words (codes "more") false × IsFlag words (codes "json") false
 
-pub record IsInquiry (words : List Row) (inquiry : Inquiry) : Type 0 where
-  pub values : AreValues words inquiry.values
-  pub source : IsSource words inquiry.values.grants.items inquiry.source
-  pub form : IsForm words inquiry.form
+pub record IsExplainArgs (words : List Row) (explain_args : ExplainArgs) : Type 0 where
+  pub values : AreValues words explain_args.values
+  pub source : IsSource words explain_args.values.grants.items explain_args.source
+  pub form : IsForm words explain_args.form
 
 -- ---- who
 
@@ -110,13 +110,13 @@ IsTelling words tellings.More = IsFlag words (codes "more") true
 IsTelling words tellings.Object = IsFlag words (codes "more") false × IsFlag words (codes "json") true
 IsTelling words tellings.Line = IsFlag words (codes "more") false × IsFlag words (codes "json") false
 
-pub record IsSurvey (words : List Row) (survey : Survey) : Type 0 where
-  pub access : IsOption words options.Access survey.values.access
-  pub path : IsOption words options.Path survey.values.path
-  pub fs : IsOption words options.Fs survey.values.fs
-  pub attr : IsAttr words survey.values.attr
-  pub auth : IsValue words (codes "auth") survey.auth
-  pub telling : IsTelling words survey.telling
+pub record IsWhoArgs (words : List Row) (who_args : WhoArgs) : Type 0 where
+  pub access : IsOption words options.Access who_args.values.access
+  pub path : IsOption words options.Path who_args.values.path
+  pub fs : IsOption words options.Fs who_args.values.fs
+  pub attr : IsAttr words who_args.values.attr
+  pub auth : IsValue words (codes "auth") who_args.auth
+  pub telling : IsTelling words who_args.telling
 
 -- ---- audit
 
@@ -129,24 +129,24 @@ abbrev pub IsManner : List Row → Manner → Type 0
 IsManner words manner = IsDetail words manner.detail × IsShape words manner.shape
 
 -- the files are named, and none is read yet
-pub record IsCheckup (words : List Row) (checkup : Checkup) : Type 0 where
-  pub manner : IsManner words checkup.manner
-  pub fs : IsOption words options.Fs checkup.fs
-  pub auth : IsValue words (codes "auth") checkup.files.auth
-  pub sessions : IsValue words (codes "sessions") checkup.files.sessions
-  pub tree : IsValue words (codes "tree") checkup.files.tree
-  pub unread : (checkup.auth.items ≡ []) × (checkup.sessions.items ≡ [])
+pub record IsAuditArgs (words : List Row) (audit_args : AuditArgs) : Type 0 where
+  pub manner : IsManner words audit_args.manner
+  pub fs : IsOption words options.Fs audit_args.fs
+  pub auth : IsValue words (codes "auth") audit_args.files.auth
+  pub sessions : IsValue words (codes "sessions") audit_args.files.sessions
+  pub tree : IsValue words (codes "tree") audit_args.files.tree
+  pub unread : (audit_args.auth.items ≡ []) × (audit_args.sessions.items ≡ [])
 
 -- ---- all commands
 
 -- the command of this name asks for this, with the values of its words
 abbrev pub AsksFor : List ℕ → List Row → Invocation → Type 0
-AsksFor name words (invocations.Explain inquiry) = (name ≡ codes "explain") × IsInquiry words inquiry
+AsksFor name words (invocations.Explain explain_args) = (name ≡ codes "explain") × IsExplainArgs words explain_args
 AsksFor name words (invocations.Grants text more) = (name ≡ codes "grants") × IsValue words (codes "text") text × IsFlag words (codes "more") more
 AsksFor name words (invocations.Compare old new shape) = (name ≡ codes "compare") × IsValue words (codes "old") old × IsValue words (codes "new") new × IsShape words shape
 AsksFor name words (invocations.Lint text shape) = (name ≡ codes "lint") × IsValue words (codes "text") text × IsShape words shape
-AsksFor name words (invocations.Who survey) = (name ≡ codes "who") × IsSurvey words survey
-AsksFor name words (invocations.Audit checkup) = (name ≡ codes "audit") × IsCheckup words checkup
+AsksFor name words (invocations.Who who_args) = (name ≡ codes "who") × IsWhoArgs words who_args
+AsksFor name words (invocations.Audit audit_args) = (name ≡ codes "audit") × IsAuditArgs words audit_args
 AsksFor name words (invocations.Log fs) = (name ≡ codes "log") × IsOption words options.Fs fs
 AsksFor name words (invocations.Run more) = (name ≡ codes "run") × IsFlag words (codes "more") more
 AsksFor name words (invocations.Serve more) = (name ≡ codes "serve") × IsFlag words (codes "more") more

@@ -1,10 +1,10 @@
 //! What is said of a fault, and beside it.
 ghost use Rattle.std.specs.Prelude.{◌≡◌};
 
+use crate::caret::point_at;
 use crate::command_line::Invocation;
+use crate::explain_args::Form;
 use crate::fault::AnswerFault;
-use crate::inquiry::Form;
-use crate::pointing::point_at;
 use crate::status::{FAILED, report};
 use capexplain::print_quoted;
 use capspec::SpecFaultKind;
@@ -44,7 +44,7 @@ pub fn refuse(
 
 // Writes the bad value, in quotes where it has to be, and what the option takes. Without memory for that nothing is written.
 fn name_value(alloc: Global, invocation: &Invocation, option: Opt, faults: &mut impl Write) {
-    let Ok(value) = shown(alloc, value_of(invocation, option)) else {
+    let Ok(value) = quoted_value(alloc, value_of(invocation, option)) else {
         return;
     };
     let taken = taken_by(option);
@@ -53,7 +53,7 @@ fn name_value(alloc: Global, invocation: &Invocation, option: Opt, faults: &mut 
     let _ = writeln!(faults, ": {taken}");
 }
 
-fn shown(alloc: Global, value: &[u8]) -> Result<Vec<u8>, AllocError> {
+fn quoted_value(alloc: Global, value: &[u8]) -> Result<Vec<u8>, AllocError> {
     let mut text = Vec::new(alloc);
     if value.is_empty() {
         text.extend_from_slice(b"\"\"")?;
@@ -65,9 +65,9 @@ fn shown(alloc: Global, value: &[u8]) -> Result<Vec<u8>, AllocError> {
 
 fn value_of(invocation: &Invocation, option: Opt) -> &[u8] {
     match invocation {
-        Invocation::Explain(inquiry) => asked_value(&inquiry.values, option),
-        Invocation::Who(survey) => attempted_value(&survey.values, option),
-        Invocation::Audit(checkup) => checkup.fs.as_slice(),
+        Invocation::Explain(explain_args) => asked_value(&explain_args.values, option),
+        Invocation::Who(who_args) => attempted_value(&who_args.values, option),
+        Invocation::Audit(audit_args) => audit_args.fs.as_slice(),
         Invocation::Log(fs) => fs.as_slice(),
         _ => b"",
     }
@@ -187,7 +187,7 @@ fn connecting(fault: ClusterFault) -> Option<&'static str> {
 // Whether more than the line of the fault is shown: with `--more` alone where this line is all that a script may look for.
 fn shows_more(invocation: &Invocation) -> bool {
     match invocation {
-        Invocation::Explain(inquiry) => matches!(inquiry.form, Form::More),
+        Invocation::Explain(explain_args) => matches!(explain_args.form, Form::More),
         Invocation::Grants { text: _, more } => *more,
         _ => true,
     }
@@ -196,9 +196,8 @@ fn shows_more(invocation: &Invocation) -> bool {
 // The text of grants that has the fault, and how many bytes stand before it. Of a text with nothing but white space there is no place.
 fn refused<'a>(invocation: &'a Invocation, fault: AnswerFault) -> Option<(&'a [u8], usize)> {
     let (text, found) = match (invocation, fault) {
-        (Invocation::Explain(inquiry), AnswerFault::Question(QuestionFault::Grants(found))) => {
-            (&inquiry.values.grants, found)
-        }
+        (Invocation::Explain(explain_args), AnswerFault::Question(QuestionFault::Grants(found))) =>
+            { (&explain_args.values.grants, found) }
         (
             Invocation::Grants { text, .. } | Invocation::Lint { text, .. },
             AnswerFault::Question(QuestionFault::Grants(found)),

@@ -1,10 +1,10 @@
 //! The words of the command line.
 
-use crate::checkup::Checkup;
-use crate::inquiry::Inquiry;
-use crate::matched::invoked;
-use crate::survey::Survey;
+use crate::audit_args::AuditArgs;
+use crate::explain_args::ExplainArgs;
+use crate::from_clap::invoked;
 use crate::usage::{COMMANDS, Kind, Usage, Word};
+use crate::who_args::WhoArgs;
 use capexplain::Shape;
 use clap::{Arg, ArgAction, Command, Error};
 use queries::spell;
@@ -69,7 +69,7 @@ const STATUSES: &str = "Status:
 /// What a command line asks for.
 pub enum Invocation {
     /// Whether grants allow an access.
-    Explain(Inquiry),
+    Explain(ExplainArgs),
     /// The written form of the grants in a text.
     Grants {
         text: Vec<u8>,
@@ -92,9 +92,9 @@ pub enum Invocation {
         shape: Shape,
     },
     /// Which clients of a cluster may make an access.
-    Who(Survey),
+    Who(WhoArgs),
     /// What clients of a cluster hold and may not.
-    Audit(Checkup),
+    Audit(AuditArgs),
     /// What the checks of policy in a log are answered, on the file system of this name.
     Log(Vec<u8>),
     /// The transcript of a script.

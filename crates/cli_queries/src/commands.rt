@@ -10,11 +10,11 @@ ghost use Rattle.queries.specs.Comparing.{IsComparison};
 ghost use Rattle.queries.specs.Question.{AsksFor, IsFaultIn};
 ghost use Rattle.script_syntax.specs.Watched.{has_ended, has_failed, inner_of};
 ghost use Rattle.cli_queries.specs.declared.fault.AnswerFault.TheVariants as faults;
-ghost use Rattle.cli_queries.specs.Answers.{AnswersInquiry, AnswersLint, StopsBefore, StopsComparing, StopsInquiry};
-ghost use Rattle.cli_queries.specs.Inquiry.{IsAnswered};
+ghost use Rattle.cli_queries.specs.Answers.{AnswersExplainArgs, AnswersLint, StopsBefore, StopsComparing, StopsExplainArgs};
+ghost use Rattle.cli_queries.specs.ExplainArgs.{IsAnswered};
 
+use crate::explain_args::{ExplainArgs, Form, fill};
 use crate::fault::AnswerFault;
-use crate::inquiry::{Form, Inquiry, fill};
 use crate::status::{DENIED, DONE, FOUND};
 use capexplain::Shape;
 use capspec::{read_grants, write_grants};
@@ -23,10 +23,10 @@ use script_syntax::Watched;
 use std::alloc::Global;
 use std::io::{Read, Write};
 
-/// Answers a question by the text of its grants from where it is, and answers the status. The text is kept in `inquiry`.
-pub fn inquire<R: Read, W: Write>(
+/// Answers a question by the text of its grants from where it is, and answers the status. The text is kept in `explain_args`.
+pub fn explain<R: Read, W: Write>(
     alloc: Global,
-    inquiry: &mut Inquiry,
+    explain_args: &mut ExplainArgs,
     reader: &mut Watched<R>,
     writer: &mut Watched<W>,
 ) -> Result<u8, AnswerFault>
@@ -35,17 +35,22 @@ pub fn inquire<R: Read, W: Write>(
     requires writer_clear { IsFalse (has_failed writer.old) }
     ensures status { IfOk result (λ status. (status ≡ DONE) ⊎ (status ≡ DENIED)) }
     ensures ok { OnOk result (IsFalse (has_failed reader.new) × IsFalse (has_failed writer.new)) }
-    ensures answer { IfOk result (λ status. AnswersInquiry inquiry.old (R.remaining (inner_of reader.old)) status
+    ensures answer { IfOk result (λ status. AnswersExplainArgs explain_args.old (R.remaining (inner_of reader.old)) status
         (W.contents (inner_of writer.old)) (W.contents (inner_of writer.new))) }
-    ensures err { IfErr result (λ fault. StopsInquiry inquiry.old fault (R.remaining (inner_of reader.old))
+    ensures err { IfErr result (λ fault. StopsExplainArgs explain_args.old fault (R.remaining (inner_of reader.old))
         (has_failed reader.new) (has_failed writer.new) (W.contents (inner_of writer.old)) (W.contents (inner_of writer.new))) }
 {
-    fill(alloc, &inquiry.source, &mut inquiry.values.grants, reader)?;
-    explain(alloc, &inquiry.values, inquiry.form, writer)
+    fill(
+        alloc,
+        &explain_args.source,
+        &mut explain_args.values.grants,
+        reader,
+    )?;
+    write_answer(alloc, &explain_args.values, explain_args.form, writer)
 }
 
 // Answers a question by a line, by that with more behind it, by an object, or by the status alone.
-fn explain<W: Write>(
+fn write_answer<W: Write>(
     alloc: Global,
     values: &Values,
     form: Form,
@@ -121,7 +126,7 @@ pub fn compare_texts<W: Write>(
 }
 
 /// Writes in this shape what is found in the grants of a text, and says by the status whether that is anything.
-pub fn look_over<W: Write>(
+pub fn lint<W: Write>(
     alloc: Global,
     text: &[u8],
     shape: Shape,

@@ -5,8 +5,8 @@ use ceph_input::{AuthFault, KeyringFault, TreeFault};
 use cluster_audit::HeldFault;
 use queries::{CompareFault, QuestionFault};
 use script_syntax::ScriptFault;
-use std::fmt;
 use std::alloc::{AllocError, AllocFailed};
+use std::fmt;
 use std::fmt::Display;
 
 /// Why a command gave no answer.

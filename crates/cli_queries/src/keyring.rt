@@ -3,8 +3,8 @@ ghost use Rattle.std.specs.Prelude.{◌≡◌, ◌≢◌, codes, IfOk, MatchOpti
 ghost use Rattle.cli_queries.specs.Files.{ReadsFile};
 
 use crate::command_line::{INPUT, Invocation};
+use crate::explain_args::Source;
 use crate::fault::AnswerFault;
-use crate::inquiry::Source;
 use std::fs::{Files, open};
 
 /// The file that is to be read in the place of standard input, if one is.
@@ -15,7 +15,7 @@ pub fn keyring_file<E: Files>(
     ensures { IfOk result (λ file. MatchOption file (¬ ReadsFile invocation.now) (λ opened. ReadsFile invocation.now)) }
 {
     match invocation {
-        Invocation::Explain(inquiry) => match &inquiry.source {
+        Invocation::Explain(explain_args) => match &explain_args.source {
             Source::Keyring { file, .. } => {
                 open_file(files, file.as_slice(), AnswerFault::Unopened)
             }
@@ -24,14 +24,14 @@ pub fn keyring_file<E: Files>(
             }
             Source::Word | Source::Input => Ok(None),
         },
-        Invocation::Who(survey) => open_file(
+        Invocation::Who(who_args) => open_file(
             files,
-            survey.auth.as_slice(),
+            who_args.auth.as_slice(),
             AnswerFault::UnopenedAuth,
         ),
-        Invocation::Audit(checkup) => open_file(
+        Invocation::Audit(audit_args) => open_file(
             files,
-            checkup.files.tree.as_slice(),
+            audit_args.files.tree.as_slice(),
             AnswerFault::UnopenedText,
         ),
         _ => Ok(None),

@@ -13,7 +13,7 @@ use std::alloc::Global;
 use std::io::{Read, Write};
 
 /// Writes lines for each check of policy in the log that the reader has, judged on the file system of this name.
-pub fn tell_log<R: Read, W: Write>(
+pub fn log<R: Read, W: Write>(
     alloc: Global,
     fs: &[u8],
     reader: &mut Watched<R>,

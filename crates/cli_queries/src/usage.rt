@@ -1,6 +1,9 @@
 //! The commands of the program and the words of each, as its help tells them.
 
-use crate::command_line::{AUDIT, AUTH, CLIENT, COMPARE, EXPLAIN, GRANTS, JSON, KEYRING, LINT, LOG, MORE, NEW, OLD, QUIET, RULE, RUN, SERVE, SESSIONS, TEXT, TREE, WHO};
+use crate::command_line::{
+    AUDIT, AUTH, CLIENT, COMPARE, EXPLAIN, GRANTS, JSON, KEYRING, LINT, LOG, MORE, NEW, OLD, QUIET,
+    RULE, RUN, SERVE, SESSIONS, TEXT, TREE, WHO,
+};
 use queries::Opt;
 
 /// A command.

@@ -11,5 +11,5 @@ pub mod Permitting
 pub mod Somebody
 pub mod Gathering
 pub mod Missing
-pub mod Rivals
+pub mod ConflictingCaps
 pub mod Apart

@@ -147,8 +147,8 @@ of_held p c n caps s small =
     let rest : List ℕ = text_of caps ++ (codes ", may not " ++ s) in
     ap kind_of (place_is p c n (codes " holds " ++ rest)) ∙ named p n small rest c 109 (ap leading (past_caps caps (codes ", may not " ++ s)))
 
-pub of_strange : (p : List (List ℕ)) (c : List ℕ) (n : ℕ) (s : List ℕ) → n < 2 ^ 64 → kind_of (place_text p c n ++ (codes " holds what is not known\n" ++ s)) ≡ 8
-of_strange p c n s small =
+pub of_bad_caps : (p : List (List ℕ)) (c : List ℕ) (n : ℕ) (s : List ℕ) → n < 2 ^ 64 → kind_of (place_text p c n ++ (codes " holds what is not known\n" ++ s)) ≡ 8
+of_bad_caps p c n s small =
     let rest : List ℕ = codes "what is not known\n" ++ s in
     ap kind_of (place_is p c n (codes " holds " ++ rest)) ∙ named p n small rest c 105 refl
 
@@ -179,14 +179,14 @@ of_group (Some access) (r ∷ rs) s =
     (grant_first (decimal 1) (codes " rule ") n (codes " ") (rule_word r) more (32 ∷ s))
 
 -- two clients, of which the first tells a name or none
-pub of_clash : (n : ℕ) (name : Option (List ℕ)) (caps : Caps) (s : List ℕ) → n < 2 ^ 64 → kind_of (holder_text Groups n name ++ (codes " holds " ++ (text_of caps ++ (codes " beside " ++ s)))) ≡ 4
-of_clash n None caps s small =
+pub of_conflict_text : (n : ℕ) (name : Option (List ℕ)) (caps : Caps) (s : List ℕ) → n < 2 ^ 64 → kind_of (holder_text Groups n name ++ (codes " holds " ++ (text_of caps ++ (codes " beside " ++ s)))) ≡ 4
+of_conflict_text n None caps s small =
     let rest : List ℕ = text_of caps ++ (codes " beside " ++ s) in
     let text : List ℕ = codes "client " ++ (decimal n ++ (codes " holds " ++ rest)) in
     let second : leading (behind (behind text)) ≡ 104 = ap leading (past_number n (codes " holds " ++ rest) small) in
     let looked : number_of text ≡ 4 = λ i. by_number 99 (sixth text) (second i) (leading (word_3 text)) in
     at_number text n (codes " holds " ++ rest) small refl refl ∙ looked
-of_clash n (Some client) caps s small =
+of_conflict_text n (Some client) caps s small =
     let rest : List ℕ = text_of caps ++ (codes " beside " ++ s) in
     let text : List ℕ = quoted client ++ (codes " holds " ++ rest) in
     let one : behind text ≡ codes "holds " ++ rest = past_quoted client (codes " holds " ++ rest) in

@@ -24,7 +24,7 @@ use Rattle.cluster_audit.specs.Told.{AllTellTheSame, AreCounts, HasNumbers, IsOn
 use Rattle.cluster_audit.specs.Told as told
 use Rattle.cluster_audit.proofs.Words.{before_why, is_digit, no_number, number, one_caps, one_revoked, one_why}
 use Rattle.cluster_audit.proofs.Spaces.{behind, past_quoted}
-use Rattle.cluster_audit.proofs.Openings.{kind_of, none, of_clash, of_group, of_held, of_nothing, of_pathless, of_strange, of_summary, of_unlisted, of_unnamed}
+use Rattle.cluster_audit.proofs.Openings.{kind_of, none, of_conflict_text, of_group, of_held, of_nothing, of_pathless, of_bad_caps, of_summary, of_unlisted, of_unnamed}
 use Rattle.cluster_audit.proofs.Openings.{of_unread, on_number, on_path, opening, opening_path, place_is, plain_fault}
 
 -- ---- a line and what stands behind it, part by part
@@ -57,11 +57,11 @@ abbrev laid : Line → List ℕ → List ℕ
 laid (told.held k p c n i x f) s = place_text p c n ++ (codes " holds " ++ (text_of i ++ (codes ", may not " ++ (text_of f.caps ++ from_beyond_caps x f s))))
 laid (told.group c f n) s = why_text f.missing f.rules ++ 32 ∷ (quoted c ++ (codes ": " ++ (decimal n ++ 10 ∷ s)))
 laid (told.conflict m p a b c) s = on_inode Each m p ++ (holder_text Each c.one.client a ++ 32 ∷ holds c (holder_text Each c.other.client b ++ 10 ∷ s))
-laid (told.rivals a b c n) s = holder_text Groups c.one.client a ++ 32 ∷ holds c (holder_text Groups c.other.client b ++ (codes ": " ++ (decimal n ++ 10 ∷ s)))
+laid (told.conflict_group a b c n) s = holder_text Groups c.one.client a ++ 32 ∷ holds c (holder_text Groups c.other.client b ++ (codes ": " ++ (decimal n ++ 10 ∷ s)))
 laid (told.unnamed n) s = codes "client " ++ (decimal n ++ (codes ": no session names it\n" ++ s))
 laid (told.unlisted c) s = quoted c ++ (codes ": no entry in the auth list\n" ++ s)
 laid (told.unread c f) s = quoted c ++ (codes ": grants: " ++ (fault_word f.kind ++ (codes " at " ++ (decimal f.at ++ 10 ∷ s))))
-laid (told.strange k p c n) s = place_text p c n ++ (codes " holds what is not known\n" ++ s)
+laid (told.bad_caps k p c n) s = place_text p c n ++ (codes " holds what is not known\n" ++ s)
 laid (told.pathless k c n i) s = codes "inode " ++ (decimal k ++ (codes ": no path: " ++ (who_text c n ++ (codes " holds " ++ (quoted i ++ 10 ∷ s)))))
 laid told.nothing s = codes "nothing found\n" ++ s
 laid (told.summary n) s = codes "inodes " ++ (decimal n.inodes ++ from_entries n s)
@@ -75,9 +75,9 @@ group_apart w c n s = simp append_assoc
 conflict_apart : (p h i j k s : List ℕ) → (p ++ ((h ++ ((codes " holds " ++ (i ++ (codes " beside " ++ (j ++ codes " of ")))) ++ k)) ++ codes "\n")) ++ s ≡ p ++ (h ++ (codes " holds " ++ (i ++ (codes " beside " ++ (j ++ (codes " of " ++ (k ++ 10 ∷ s)))))))
 conflict_apart p h i j k s = simp append_assoc
 
-rivals_apart : (h i j k n s : List ℕ) → ((((h ++ ((codes " holds " ++ (i ++ (codes " beside " ++ (j ++ codes " of ")))) ++ k)) ++ codes ": ") ++ n) ++ codes "\n") ++ s
+conflict_groups_apart : (h i j k n s : List ℕ) → ((((h ++ ((codes " holds " ++ (i ++ (codes " beside " ++ (j ++ codes " of ")))) ++ k)) ++ codes ": ") ++ n) ++ codes "\n") ++ s
     ≡ h ++ (codes " holds " ++ (i ++ (codes " beside " ++ (j ++ (codes " of " ++ (k ++ (codes ": " ++ (n ++ 10 ∷ s))))))))
-rivals_apart h i j k n s = simp append_assoc
+conflict_groups_apart h i j k n s = simp append_assoc
 
 unnamed_apart : (n s : List ℕ) → (codes "client " ++ (n ++ codes ": no session names it\n")) ++ s ≡ codes "client " ++ (n ++ (codes ": no session names it\n" ++ s))
 unnamed_apart n s = simp append_assoc
@@ -97,11 +97,11 @@ laid_out : (l : Line) (s : List ℕ) → line_text l ++ s ≡ laid l s
 laid_out (told.held k p c n i x f) s = held_apart (place_text p c n) (text_of i) (text_of f.caps) (revoked_text (minus f.caps x)) (why_text f.missing f.rules) s
 laid_out (told.group c f n) s = group_apart (why_text f.missing f.rules) (quoted c) (decimal n) s
 laid_out (told.conflict m p a b c) s = conflict_apart (on_inode Each m p) (holder_text Each c.one.client a) (text_of c.one.caps) (text_of c.other.caps) (holder_text Each c.other.client b) s
-laid_out (told.rivals a b c n) s = rivals_apart (holder_text Groups c.one.client a) (text_of c.one.caps) (text_of c.other.caps) (holder_text Groups c.other.client b) (decimal n) s
+laid_out (told.conflict_group a b c n) s = conflict_groups_apart (holder_text Groups c.one.client a) (text_of c.one.caps) (text_of c.other.caps) (holder_text Groups c.other.client b) (decimal n) s
 laid_out (told.unnamed n) s = unnamed_apart (decimal n) s
 laid_out (told.unlisted c) s = append_assoc (quoted c) (codes ": no entry in the auth list\n") s
 laid_out (told.unread c f) s = unread_apart (quoted c) (fault_word f.kind) (decimal f.at) s
-laid_out (told.strange k p c n) s = append_assoc (place_text p c n) (codes " holds what is not known\n") s
+laid_out (told.bad_caps k p c n) s = append_assoc (place_text p c n) (codes " holds what is not known\n") s
 laid_out (told.pathless k c n i) s = pathless_apart (decimal k) (who_text c n) (quoted i) s
 laid_out told.nothing s = refl
 laid_out (told.summary n) s = summary_apart (decimal n.inodes) (decimal n.entries) (decimal n.sessions) (decimal n.held_beyond) (decimal n.conflicts) (decimal n.not_judged) s
@@ -112,11 +112,11 @@ abbrev pub kind : Line → ℕ
 kind (told.held k p c n i x f) = 1
 kind (told.group c f n) = 2
 kind (told.conflict m p a b c) = 3
-kind (told.rivals a b c n) = 4
+kind (told.conflict_group a b c n) = 4
 kind (told.unnamed n) = 5
 kind (told.unlisted c) = 6
 kind (told.unread c f) = 7
-kind (told.strange k p c n) = 8
+kind (told.bad_caps k p c n) = 8
 kind (told.pathless k c n i) = 9
 kind told.nothing = 10
 kind (told.summary n) = 11
@@ -132,11 +132,11 @@ kind_is (told.conflict m None a b c) s small =
     let rest : List ℕ = 32 ∷ holds c (holder_text Each c.other.client b ++ 10 ∷ s) in
     ap (λ (w : List ℕ). kind_of (codes "inode " ++ w)) (append_assoc (decimal m) (codes " ") (holder_text Each c.one.client a ++ rest)) ∙ on_number m c.one.client a rest small.0 small.1
 kind_is (told.conflict m (Some p) a b c) s small = on_path p m c.one.client a c.one.caps (text_of c.other.caps ++ (codes " of " ++ (holder_text Each c.other.client b ++ 10 ∷ s))) small.1
-kind_is (told.rivals a b c n) s small = of_clash c.one.client a c.one.caps (text_of c.other.caps ++ (codes " of " ++ (holder_text Groups c.other.client b ++ (codes ": " ++ (decimal n ++ 10 ∷ s))))) small.1
+kind_is (told.conflict_group a b c n) s small = of_conflict_text c.one.client a c.one.caps (text_of c.other.caps ++ (codes " of " ++ (holder_text Groups c.other.client b ++ (codes ": " ++ (decimal n ++ 10 ∷ s))))) small.1
 kind_is (told.unnamed n) s small = of_unnamed n s small
 kind_is (told.unlisted c) s small = of_unlisted c s
 kind_is (told.unread c f) s small = of_unread c f.kind (decimal f.at ++ 10 ∷ s)
-kind_is (told.strange k p c n) s small = of_strange p c n s small
+kind_is (told.bad_caps k p c n) s small = of_bad_caps p c n s small
 kind_is (told.pathless k c n i) s small = of_pathless k (who_text c n ++ (codes " holds " ++ (quoted i ++ 10 ∷ s))) small.0
 kind_is told.nothing s small = of_nothing s
 kind_is (told.summary n) s small = of_summary n.inodes (from_entries n s) small.inodes
@@ -266,9 +266,9 @@ one_conflict m n p q a b x y c d s t small also same =
     let both : c ≡ d = λ i. record { one = record { client = one_number i; caps = one_has i }; other = record { client = other_number i; caps = other_has i } } in
     ((inode.0, one.1, other.1, both), append_cancel_left (codes "\n") s t other.2)
 
-one_rivals : (a b x y : Option (List ℕ)) (c d : Conflict) (m n : ℕ) (s t : List ℕ) → HasNumbers (told.rivals a b c m) → HasNumbers (told.rivals x y d n)
-    → laid (told.rivals a b c m) s ≡ laid (told.rivals x y d n) t → TellTheSame (told.rivals a b c m) (told.rivals x y d n) × (s ≡ t)
-one_rivals a b x y c d m n s t small also same =
+one_conflict_group : (a b x y : Option (List ℕ)) (c d : Conflict) (m n : ℕ) (s t : List ℕ) → HasNumbers (told.conflict_group a b c m) → HasNumbers (told.conflict_group x y d n)
+    → laid (told.conflict_group a b c m) s ≡ laid (told.conflict_group x y d n) t → TellTheSame (told.conflict_group a b c m) (told.conflict_group x y d n) × (s ≡ t)
+one_conflict_group a b x y c d m n s t small also same =
     let u : List ℕ = holder_text Groups c.other.client b ++ (codes ": " ++ (decimal m ++ 10 ∷ s)) in
     let v : List ℕ = holder_text Groups d.other.client y ++ (codes ": " ++ (decimal n ++ 10 ∷ t)) in
     let one = one_first c.one.client d.one.client a x (holds c u) (holds d v) small.1 also.1 refl refl same in
@@ -298,9 +298,9 @@ one_unread c d f g s t small also same =
     let line : unread_line [] f ≡ unread_line [] g = λ i. quoted [] ++ (codes ": grants: " ++ (one_word i ++ (codes " at " ++ (decimal (one_at i) ++ codes "\n")))) in
     ((name.0, (one_fault [] [] f g small also line).1), place.1)
 
-one_strange : (p q : List (List ℕ)) (c d : List ℕ) (m n : ℕ) (s t : List ℕ) → m < 2 ^ 64 → n < 2 ^ 64 → laid (told.strange 0 p c m) s ≡ laid (told.strange 0 q d n) t
-    → TellTheSame (told.strange 0 p c m) (told.strange 0 q d n) × (s ≡ t)
-one_strange p q c d m n s t small also same =
+one_bad_caps : (p q : List (List ℕ)) (c d : List ℕ) (m n : ℕ) (s t : List ℕ) → m < 2 ^ 64 → n < 2 ^ 64 → laid (told.bad_caps 0 p c m) s ≡ laid (told.bad_caps 0 q d n) t
+    → TellTheSame (told.bad_caps 0 p c m) (told.bad_caps 0 q d n) × (s ≡ t)
+one_bad_caps p q c d m n s t small also same =
     let place = one_place p q c d m n (codes " holds what is not known\n" ++ s) (codes " holds what is not known\n" ++ t) small also refl refl same in
     ((place.0, place.1, place.2), append_cancel_left (codes " holds what is not known\n") s t place.3)
 
@@ -340,11 +340,11 @@ of_kind : (a b : Line) (s t : List ℕ) → kind a ≡ kind b → HasNumbers a �
 of_kind (told.held k p c m i x f) (told.held l q d n j y g) s t e small also same = one_held p q c d m n i j x y f g s t small also same
 of_kind (told.group c f m) (told.group d g n) s t e small also same = one_group c d f g m n s t small also same
 of_kind (told.conflict m p a b c) (told.conflict n q x y d) s t e small also same = one_conflict m n p q a b x y c d s t small also same
-of_kind (told.rivals a b c m) (told.rivals x y d n) s t e small also same = one_rivals a b x y c d m n s t small also same
+of_kind (told.conflict_group a b c m) (told.conflict_group x y d n) s t e small also same = one_conflict_group a b x y c d m n s t small also same
 of_kind (told.unnamed m) (told.unnamed n) s t e small also same = one_unnamed m n s t small also same
 of_kind (told.unlisted c) (told.unlisted d) s t e small also same = one_unlisted c d s t same
 of_kind (told.unread c f) (told.unread d g) s t e small also same = one_unread c d f g s t small also same
-of_kind (told.strange k p c m) (told.strange l q d n) s t e small also same = one_strange p q c d m n s t small also same
+of_kind (told.bad_caps k p c m) (told.bad_caps l q d n) s t e small also same = one_bad_caps p q c d m n s t small also same
 of_kind (told.pathless k c m i) (told.pathless l d n j) s t e small also same = one_pathless k l c d m n i j s t small also same
 of_kind told.nothing told.nothing s t e small also same = (tt, append_cancel_left (codes "nothing found\n") s t same)
 of_kind (told.summary m) (told.summary n) s t e small also same = one_summary m n s t small also same

@@ -193,9 +193,9 @@ one_conflict m n p q a b x y c d fit fits same =
       number,
     )
 
-one_rivals : (a b x y : Option (List ℕ)) (c d : Conflict) (m n : ℕ) → HasBytes (told.rivals a b c m) → HasBytes (told.rivals x y d n) → value_of (told.rivals a b c m) ≡ value_of (told.rivals x y d n)
-    → TellTheSame (told.rivals a b c m) (told.rivals x y d n)
-one_rivals a b x y c d m n fit fits same = (
+one_conflict_group : (a b x y : Option (List ℕ)) (c d : Conflict) (m n : ℕ) → HasBytes (told.conflict_group a b c m) → HasBytes (told.conflict_group x y d n) → value_of (told.conflict_group a b c m) ≡ value_of (told.conflict_group x y d n)
+    → TellTheSame (told.conflict_group a b c m) (told.conflict_group x y d n)
+one_conflict_group a b x y c d m n fit fits same = (
   one_client c.one.client d.one.client a x fit.0 fits.0 (ap (at_each (codes "client")) same) (ap (at_each (codes "session")) same),
   one_set c.one.caps d.one.caps (ap (at_each (codes "caps")) same),
   one_set c.other.caps d.other.caps (ap (at_each (codes "other_caps")) same),
@@ -209,9 +209,9 @@ one_unread c d f g fit fits same =
     let place : f.at ≡ g.at = ap (number_at (codes "at")) same in
     (one_spelling c d fit fits (ap (at_key (codes "client")) same), λ i. record { kind = kind i; at = place i })
 
-one_strange : (k l : ℕ) (p q : List (List ℕ)) (c d : List ℕ) (m n : ℕ) → HasBytes (told.strange k p c m) → HasBytes (told.strange l q d n) → value_of (told.strange k p c m) ≡ value_of (told.strange l q d n)
-    → TellTheSame (told.strange k p c m) (told.strange l q d n) × (k ≡ l)
-one_strange k l p q c d m n fit fits same = (
+one_bad_caps : (k l : ℕ) (p q : List (List ℕ)) (c d : List ℕ) (m n : ℕ) → HasBytes (told.bad_caps k p c m) → HasBytes (told.bad_caps l q d n) → value_of (told.bad_caps k p c m) ≡ value_of (told.bad_caps l q d n)
+    → TellTheSame (told.bad_caps k p c m) (told.bad_caps l q d n) × (k ≡ l)
+one_bad_caps k l p q c d m n fit fits same = (
   (
     one_spelling (path_text p) (path_text q) fit.0 fits.0 (ap (at_key (codes "path")) same),
     one_spelling c d fit.1 fits.1 (ap (at_key (codes "client")) same),
@@ -245,11 +245,11 @@ of_kind : (a b : Line) → kind a ≡ kind b → HasBytes a → HasBytes b → v
 of_kind (told.held k p c m i x f) (told.held l q d n j y g) e fit fits same = one_held k l p q c d m n i j x y f g fit fits same
 of_kind (told.group c f m) (told.group d g n) e fit fits same = (one_group c d f g m n fit fits same, tt)
 of_kind (told.conflict m p a b c) (told.conflict n q x y d) e fit fits same = one_conflict m n p q a b x y c d fit fits same
-of_kind (told.rivals a b c m) (told.rivals x y d n) e fit fits same = (one_rivals a b x y c d m n fit fits same, tt)
+of_kind (told.conflict_group a b c m) (told.conflict_group x y d n) e fit fits same = (one_conflict_group a b x y c d m n fit fits same, tt)
 of_kind (told.unnamed m) (told.unnamed n) e fit fits same = (ap (number_at (codes "session")) same, tt)
 of_kind (told.unlisted c) (told.unlisted d) e fit fits same = (one_spelling c d fit fits (ap (at_key (codes "client")) same), tt)
 of_kind (told.unread c f) (told.unread d g) e fit fits same = (one_unread c d f g fit fits same, tt)
-of_kind (told.strange k p c m) (told.strange l q d n) e fit fits same = one_strange k l p q c d m n fit fits same
+of_kind (told.bad_caps k p c m) (told.bad_caps l q d n) e fit fits same = one_bad_caps k l p q c d m n fit fits same
 of_kind (told.pathless k c m i) (told.pathless l d n j) e fit fits same = (one_pathless k l c d m n i j fit fits same, tt)
 of_kind told.nothing told.nothing e fit fits same = (tt, tt)
 of_kind (told.summary m) (told.summary n) e fit fits same = (one_summary m n same, tt)

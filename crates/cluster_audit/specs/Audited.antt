@@ -30,7 +30,7 @@ use Rattle.cluster_audit.specs.declared.notes.Manner.{Manner}
 use Rattle.cluster_audit.specs.declared.notes.Notes.{Notes}
 use Rattle.cluster_audit.specs.Order.{AreCounted, AreInOrder}
 use Rattle.cluster_audit.specs.Summary.{counts_of}
-use Rattle.cluster_audit.specs.Shaped.{conflict_in, counts_in, found_in, pathless_in, strange_in, unlisted_in, unnamed_in, unread_in}
+use Rattle.cluster_audit.specs.Shaped.{conflict_in, counts_in, found_in, pathless_in, bad_caps_in, unlisted_in, unnamed_in, unread_in}
 
 -- ---- who it is
 
@@ -72,7 +72,7 @@ IsToldBeyond m number i client session grants issued pending found = (((cap : Ca
 -- what is known to be held is judged by these grants; else a line says that it is not known
 abbrev pub IsJudged : Manner → ℕ → Inode → List ℕ → List Grant → Held → List ℕ → List ℕ → Type 0
 IsJudged m number i client grants h found unknown = ((issued : Caps) × (pending : Caps) × (h.issued ≡ text_of issued) × (h.pending ≡ text_of pending) × IsToldBeyond m number i client h.client grants issued pending found × (unknown ≡ []))
-    ⊎ (((issued pending : Caps) → h.issued ≡ text_of issued → h.pending ≡ text_of pending → ⊥) × (found ≡ []) × (unknown ≡ strange_in m.shape number i.path client h.client))
+    ⊎ (((issued pending : Caps) → h.issued ≡ text_of issued → h.pending ≡ text_of pending → ⊥) × (found ≡ []) × (unknown ≡ bad_caps_in m.shape number i.path client h.client))
 
 -- the grants are those that the text means; else a line tells its first fault
 abbrev pub IsJudgedBy : Manner → ℕ → Inode → List ℕ → Held → List ℕ → List ℕ → List ℕ → Type 0

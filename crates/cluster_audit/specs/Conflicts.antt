@@ -10,15 +10,15 @@ use Rattle.cluster_audit.specs.declared.conflicts.Holding.{Holding}
 use Rattle.cluster_audit.specs.declared.conflicts.Conflict.{Conflict}
 
 -- the caps that conflict with some of these, where another client holds them
-unfoldable pub rivals : Caps → Caps
-rivals caps = caps_where (λ c. list_any (λ d. has caps d && conflict c d) all_caps)
+unfoldable pub conflicting_caps : Caps → Caps
+conflicting_caps caps = caps_where (λ c. list_any (λ d. has caps d && conflict c d) all_caps)
 
 -- two clients, each with those of its caps that conflict with some of the other's; None where there are none, or it is one client
 abbrev pub conflict_of : Holding → Holding → Option Conflict
 conflict_of one other =
-    if (one.client == other.client) || is_empty (meet other.caps (rivals one.caps)) then None else Some (record {
-      one = record { client = one.client; caps = meet one.caps (rivals other.caps) };
-      other = record { client = other.client; caps = meet other.caps (rivals one.caps) };
+    if (one.client == other.client) || is_empty (meet other.caps (conflicting_caps one.caps)) then None else Some (record {
+      one = record { client = one.client; caps = meet one.caps (conflicting_caps other.caps) };
+      other = record { client = other.client; caps = meet other.caps (conflicting_caps one.caps) };
     })
 
 -- of each holding with each later one

@@ -4,20 +4,20 @@ use Rattle.hex.specs.Hex.{IsBytes}
 use Rattle.serde_json.specs.Data.{Data}
 use Rattle.capexplain.specs.Explaining.{path_text}
 use Rattle.capexplain.specs.Lines.{HasNumber}
-use Rattle.cluster_audit.specs.Objects.{alike_value, conflict_value, counts_value, found_value, group_value, pathless_value, rivals_value, strange_value}
+use Rattle.cluster_audit.specs.Objects.{alike_value, conflict_value, counts_value, found_value, group_value, pathless_value, conflict_group_value, bad_caps_value}
 use Rattle.cluster_audit.specs.Objects.{unlisted_value, unnamed_value, unread_value}
-use Rattle.cluster_audit.specs.Told.{Line, TellTheSame, conflict, group, held, nothing, pathless, rivals, strange, summary, unlisted, unnamed, unread}
+use Rattle.cluster_audit.specs.Told.{Line, TellTheSame, conflict, group, held, nothing, pathless, conflict_group, bad_caps, summary, unlisted, unnamed, unread}
 
 -- the value of the object, which stands in the place of each line but the one that says that nothing is found
 abbrev pub value_of : Line → Option Data
 value_of (held number path client session issued pending found) = Some (found_value number path client session issued pending found)
 value_of (group client found count) = Some (group_value count (alike_value client found))
 value_of (conflict number path one other c) = Some (conflict_value number path one other c)
-value_of (rivals one other c count) = Some (group_value count (rivals_value one other c))
+value_of (conflict_group one other c count) = Some (group_value count (conflict_group_value one other c))
 value_of (unnamed number) = Some (unnamed_value number)
 value_of (unlisted client) = Some (unlisted_value client)
 value_of (unread client fault) = Some (unread_value client fault)
-value_of (strange number path client session) = Some (strange_value number path client session)
+value_of (bad_caps number path client session) = Some (bad_caps_value number path client session)
 value_of (pathless number client session issued) = Some (pathless_value number client session issued)
 value_of nothing = None
 value_of (summary n) = Some (counts_value n)
@@ -27,10 +27,10 @@ abbrev pub HasBytes : Line → Type 0
 HasBytes (held number path client session issued pending f) = IsBytes (path_text path) × IsBytes client × IfSome f.missing HasNumber
 HasBytes (group client f count) = IsBytes client
 HasBytes (conflict number path one other c) = IfSome path (λ names. IsBytes (path_text names)) × IfSome one IsBytes × IfSome other IsBytes
-HasBytes (rivals one other c count) = IfSome one IsBytes × IfSome other IsBytes
+HasBytes (conflict_group one other c count) = IfSome one IsBytes × IfSome other IsBytes
 HasBytes (unlisted client) = IsBytes client
 HasBytes (unread client fault) = IsBytes client
-HasBytes (strange number path client session) = IsBytes (path_text path) × IsBytes client
+HasBytes (bad_caps number path client session) = IsBytes (path_text path) × IsBytes client
 HasBytes (pathless number client session issued) = IsBytes client × IsBytes issued
 HasBytes line = Unit {0}
 
@@ -38,7 +38,7 @@ HasBytes line = Unit {0}
 abbrev pub TellMore : Line → Line → Type 0
 TellMore (held k p c m i x f) (held l q d n j y g) = (k ≡ l) × (f.missing ≡ g.missing)
 TellMore (conflict m p a b c) (conflict n q x y d) = m ≡ n
-TellMore (strange k p c m) (strange l q d n) = k ≡ l
+TellMore (bad_caps k p c m) (bad_caps l q d n) = k ≡ l
 TellMore a b = Unit {0}
 
 abbrev pub OneObject : Type 0

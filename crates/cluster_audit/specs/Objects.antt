@@ -78,8 +78,8 @@ session_value Groups number None = natural number
 session_value Groups number (Some client) = null
 
 -- two clients, of which the one and the other may tell a name, and what of each conflicts
-abbrev pub clash_table : Detail → Option (List ℕ) → Option (List ℕ) → Conflict → Table
-clash_table detail one other c = (codes "kind", string (codes "conflict"))
+abbrev pub conflict_table : Detail → Option (List ℕ) → Option (List ℕ) → Conflict → Table
+conflict_table detail one other c = (codes "kind", string (codes "conflict"))
     ∷ (codes "client", or_null bytes_value one)
     ∷ (codes "session", session_value detail c.one.client one)
     ∷ (codes "caps", caps_value c.one.caps)
@@ -94,15 +94,15 @@ inode_table number path = (codes "inode", natural number) ∷ (codes "path", or_
 
 -- two sessions hold of an inode what no two may hold together
 abbrev pub conflict_value : ℕ → Option (List (List ℕ)) → Option (List ℕ) → Option (List ℕ) → Conflict → Data
-conflict_value number path one other c = object_of (clash_table Each one other c ++ inode_table number path)
+conflict_value number path one other c = object_of (conflict_table Each one other c ++ inode_table number path)
 
 -- what all such pairs of two clients by the same caps have in common
-abbrev pub rivals_value : Option (List ℕ) → Option (List ℕ) → Conflict → Data
-rivals_value one other c = object_of (clash_table Groups one other c)
+abbrev pub conflict_group_value : Option (List ℕ) → Option (List ℕ) → Conflict → Data
+conflict_group_value one other c = object_of (conflict_table Groups one other c)
 
 abbrev pub conflict_object : Detail → ℕ → Option (List (List ℕ)) → Option (List ℕ) → Option (List ℕ) → Conflict → List ℕ
 conflict_object Each number path one other c = json_line (conflict_value number path one other c)
-conflict_object Groups number path one other c = json_line (rivals_value one other c)
+conflict_object Groups number path one other c = json_line (conflict_group_value one other c)
 
 -- ---- groups
 
@@ -129,8 +129,8 @@ abbrev pub unread_value : List ℕ → SpecFault → Data
 unread_value client fault = object_of ((codes "kind", string (codes "unread")) ∷ (codes "client", bytes_value client) ∷ (codes "fault", string (fault_word fault.kind)) ∷ (codes "at", natural fault.at) ∷ [])
 
 -- caps that are spelled otherwise
-abbrev pub strange_value : ℕ → List (List ℕ) → List ℕ → ℕ → Data
-strange_value number path client session = object_of ((codes "kind", string (codes "unknown-caps")) ∷ (codes "inode", natural number) ∷ (codes "path", path_value path) ∷ (codes "client", bytes_value client) ∷ (codes "session", natural session) ∷ [])
+abbrev pub bad_caps_value : ℕ → List (List ℕ) → List ℕ → ℕ → Data
+bad_caps_value number path client session = object_of ((codes "kind", string (codes "unknown-caps")) ∷ (codes "inode", natural number) ∷ (codes "path", path_value path) ∷ (codes "client", bytes_value client) ∷ (codes "session", natural session) ∷ [])
 
 -- a client holds something of an inode to which no path leads
 abbrev pub pathless_value : ℕ → List ℕ → ℕ → List ℕ → Data

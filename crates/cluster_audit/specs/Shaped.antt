@@ -13,8 +13,8 @@ use Rattle.cluster_audit.specs.declared.notes.Detail.{Detail}
 use Rattle.cluster_audit.specs.declared.notes.Detail.TheVariants.{Each, Groups}
 use Rattle.cluster_audit.specs.declared.notes.Manner.{Manner}
 use Rattle.cluster_audit.specs.declared.summary.Counts.{Counts}
-use Rattle.cluster_audit.specs.Lines.{conflict_line, counts_line, group_line, held_line, pathless_line, strange_line, unlisted_line, unnamed_line}
-use Rattle.cluster_audit.specs.Objects.{conflict_object, counts_object, found_object, group_object, pathless_value, strange_value, unlisted_value}
+use Rattle.cluster_audit.specs.Lines.{conflict_line, counts_line, group_line, held_line, pathless_line, bad_caps_line, unlisted_line, unnamed_line}
+use Rattle.cluster_audit.specs.Objects.{conflict_object, counts_object, found_object, group_object, pathless_value, bad_caps_value, unlisted_value}
 use Rattle.cluster_audit.specs.Objects.{unnamed_value, unread_value}
 
 -- the line, or the object in its place
@@ -51,8 +51,8 @@ unlisted_in shape client = in_shape shape (unlisted_line client) (json_line (unl
 abbrev pub unread_in : Shape → List ℕ → SpecFault → List ℕ
 unread_in shape client fault = in_shape shape (unread_line client fault) (json_line (unread_value client fault))
 
-abbrev pub strange_in : Shape → ℕ → List (List ℕ) → List ℕ → ℕ → List ℕ
-strange_in shape number path client session = in_shape shape (strange_line path client session) (json_line (strange_value number path client session))
+abbrev pub bad_caps_in : Shape → ℕ → List (List ℕ) → List ℕ → ℕ → List ℕ
+bad_caps_in shape number path client session = in_shape shape (bad_caps_line path client session) (json_line (bad_caps_value number path client session))
 
 abbrev pub pathless_in : Shape → ℕ → List ℕ → ℕ → List ℕ → List ℕ
 pathless_in shape number client session issued = in_shape shape (pathless_line number client session issued) (json_line (pathless_value number client session issued))

@@ -14,7 +14,7 @@ use Rattle.capexplain.specs.declared.shape.Shape.TheVariants.{Lines}
 use Rattle.capexplain.specs.Shapes.{nothing_in}
 use Rattle.cluster_audit.specs.declared.notes.Detail.TheVariants.{Each, Groups}
 use Rattle.cluster_audit.specs.declared.summary.Counts.{Counts}
-use Rattle.cluster_audit.specs.Lines.{clash_text, conflict_line, counts_line, group_text, held_line, pathless_line, strange_line, unlisted_line, unnamed_line}
+use Rattle.cluster_audit.specs.Lines.{conflict_text, conflict_line, counts_line, group_text, held_line, pathless_line, bad_caps_line, unlisted_line, unnamed_line}
 use Rattle.cluster_audit.specs.Shaped.{counted_in}
 
 -- a line of an audit, by what its text is made of
@@ -26,11 +26,11 @@ pub data Line : Type 0 where
   -- of this inode, to which a path may lead, two sessions, each with the name that it may tell, hold what no two may hold
   conflict : ℕ → Option (List (List ℕ)) → Option (List ℕ) → Option (List ℕ) → Conflict → Line
   -- how many of two clients do so
-  rivals : Option (List ℕ) → Option (List ℕ) → Conflict → ℕ → Line
+  conflict_group : Option (List ℕ) → Option (List ℕ) → Conflict → ℕ → Line
   unnamed : ℕ → Line
   unlisted : List ℕ → Line
   unread : List ℕ → SpecFault → Line
-  strange : ℕ → List (List ℕ) → List ℕ → ℕ → Line
+  bad_caps : ℕ → List (List ℕ) → List ℕ → ℕ → Line
   pathless : ℕ → List ℕ → ℕ → List ℕ → Line
   nothing : Line
   summary : Counts → Line
@@ -39,11 +39,11 @@ abbrev pub line_text : Line → List ℕ
 line_text (held number path client session issued pending found) = held_line path client session issued pending found
 line_text (group client found count) = counted_in Lines (group_text client found) count
 line_text (conflict number path one other c) = conflict_line Each number path one other c
-line_text (rivals one other c count) = counted_in Lines (clash_text Groups one other c) count
+line_text (conflict_group one other c count) = counted_in Lines (conflict_text Groups one other c) count
 line_text (unnamed number) = unnamed_line number
 line_text (unlisted client) = unlisted_line client
 line_text (unread client fault) = unread_line client fault
-line_text (strange number path client session) = strange_line path client session
+line_text (bad_caps number path client session) = bad_caps_line path client session
 line_text (pathless number client session issued) = pathless_line number client session issued
 line_text nothing = nothing_in Lines
 line_text (summary n) = counts_line n
@@ -62,11 +62,11 @@ abbrev pub HasNumbers : Line → Type 0
 HasNumbers (held number path client session issued pending found) = session < 2 ^ 64
 HasNumbers (group client found count) = count < 2 ^ 64
 HasNumbers (conflict number path one other c) = (number < 2 ^ 64) × (c.one.client < 2 ^ 64) × (c.other.client < 2 ^ 64)
-HasNumbers (rivals one other c count) = (count < 2 ^ 64) × (c.one.client < 2 ^ 64) × (c.other.client < 2 ^ 64)
+HasNumbers (conflict_group one other c count) = (count < 2 ^ 64) × (c.one.client < 2 ^ 64) × (c.other.client < 2 ^ 64)
 HasNumbers (unnamed number) = number < 2 ^ 64
 HasNumbers (unlisted client) = Unit {0}
 HasNumbers (unread client fault) = fault.at < 2 ^ 64
-HasNumbers (strange number path client session) = session < 2 ^ 64
+HasNumbers (bad_caps number path client session) = session < 2 ^ 64
 HasNumbers (pathless number client session issued) = (number < 2 ^ 64) × (session < 2 ^ 64)
 HasNumbers nothing = Unit {0}
 HasNumbers (summary n) = AreCounts n
@@ -95,12 +95,12 @@ TellTheSame (held k p c m i x f) (held l q d n j y g) =
     (path_text p ≡ path_text q) × (c ≡ d) × (m ≡ n) × (i ≡ j) × (f.caps ≡ g.caps) × (minus f.caps x ≡ minus g.caps y) × (reasons f.missing f.rules ≡ reasons g.missing g.rules)
 TellTheSame (group c f m) (group d g n) = (reasons f.missing f.rules ≡ reasons g.missing g.rules) × (c ≡ d) × (m ≡ n)
 TellTheSame (conflict m p a b c) (conflict n q x y d) = IsOneInode m p n q × (a ≡ x) × (b ≡ y) × (c ≡ d)
-TellTheSame (rivals a b c m) (rivals x y d n) =
+TellTheSame (conflict_group a b c m) (conflict_group x y d n) =
     IsOneClient c.one.client a d.one.client x × (c.one.caps ≡ d.one.caps) × (c.other.caps ≡ d.other.caps) × IsOneClient c.other.client b d.other.client y × (m ≡ n)
 TellTheSame (unnamed m) (unnamed n) = m ≡ n
 TellTheSame (unlisted c) (unlisted d) = c ≡ d
 TellTheSame (unread c f) (unread d g) = (c ≡ d) × (f ≡ g)
-TellTheSame (strange k p c m) (strange l q d n) = (path_text p ≡ path_text q) × (c ≡ d) × (m ≡ n)
+TellTheSame (bad_caps k p c m) (bad_caps l q d n) = (path_text p ≡ path_text q) × (c ≡ d) × (m ≡ n)
 TellTheSame (pathless k c m i) (pathless l d n j) = (k ≡ l) × (c ≡ d) × (m ≡ n) × (i ≡ j)
 TellTheSame nothing nothing = Unit {0}
 TellTheSame (summary m) (summary n) = m ≡ n

@@ -21,7 +21,7 @@ use std::alloc::{AllocError, Global};
 /// behind their keys is permitted, and what two of them hold that no two may hold together; behind that what could not be judged; each
 /// line once, in the order of the lines' bytes, which is first that of paths, or those that are alike counted; and a line that sums it
 /// up.
-pub fn audit(
+pub fn audit_report(
     alloc: Global,
     manner: Manner,
     fs: &FsName,

@@ -1,7 +1,7 @@
 //! Which clients hold together what the table of the locks keeps apart.
 
 ghost use Rattle.std.specs.Prelude.{◌≡◌, ◌++◌, filter_map, IfOk, OnOk};
-ghost use Rattle.cluster_audit.specs.Conflicts.{conflict_of, conflicting, conflicts_of, rivals};
+ghost use Rattle.cluster_audit.specs.Conflicts.{conflict_of, conflicting, conflicts_of, conflicting_caps};
 
 use capbits::{Cap, CapSet};
 use std::alloc::{AllocError, Global};
@@ -42,9 +42,9 @@ fn push_conflicts(
 ) -> Result<(), AllocError>
     ensures { OnOk result (found.new.items ≡ found.old.items ++ filter_map (conflict_of one.now) others.now) }
 {
-    let rivals = rivals(one.caps);
+    let conflicting_caps = conflicting_caps(one.caps);
     for other in others {
-        if let Some(conflict) = conflict_of(one, rivals, other) {
+        if let Some(conflict) = conflict_of(one, conflicting_caps, other) {
             found.push(conflict)?;
         }
     }
@@ -52,18 +52,18 @@ fn push_conflicts(
 }
 
 // How two holdings conflict, where the rivals of the first are known.
-fn conflict_of(one: &Holding, rivals_of_one: CapSet, other: &Holding) -> Option<Conflict>
-    requires { rivals_of_one ≡ rivals one.now.caps }
+fn conflict_of(one: &Holding, conflicting_with_one: CapSet, other: &Holding) -> Option<Conflict>
+    requires { conflicting_with_one ≡ conflicting_caps one.now.caps }
     ensures { result ≡ conflict_of one.now other.now }
 {
-    let caps = other.caps.meet(rivals_of_one);
+    let caps = other.caps.meet(conflicting_with_one);
     if one.client == other.client || caps.is_empty() {
         return None;
     }
     Some(Conflict {
         one: Holding {
             client: one.client,
-            caps: one.caps.meet(rivals(other.caps)),
+            caps: one.caps.meet(conflicting_caps(other.caps)),
         },
         other: Holding {
             client: other.client,
@@ -91,16 +91,16 @@ const ALL: [Cap; 15] = [
 ];
 
 // The caps that conflict with some of these.
-fn rivals(caps: CapSet) -> CapSet
-    ensures { result ≡ rivals caps }
+fn conflicting_caps(caps: CapSet) -> CapSet
+    ensures { result ≡ conflicting_caps caps }
 {
-    let mut rivals = CapSet::empty();
+    let mut conflicting_caps = CapSet::empty();
     for cap in &ALL {
         if caps.has(*cap) {
-            rivals = rivals.union(CapSet::of(conflicting(*cap)));
+            conflicting_caps = conflicting_caps.union(CapSet::of(conflicting(*cap)));
         }
     }
-    rivals
+    conflicting_caps
 }
 
 // The caps that no other client may hold beside this one.

@@ -9,7 +9,9 @@ use crate::inode::Inode;
 use crate::lines::{print_group, print_held};
 use crate::notes::{Detail, Manner, Notes};
 use crate::objects::print_found;
-use crate::unjudged::{print_pathless, print_strange, print_torn, print_unlisted, print_unnamed};
+use crate::unjudged::{
+    print_bad_caps, print_bad_grants, print_pathless, print_unlisted, print_unnamed,
+};
 use capbits::{CapSet, read_caps};
 use capexplain::Shape;
 use capspec::{Grants, SpecFaultKind, read_grants};
@@ -114,7 +116,7 @@ fn note_by_text(
         Ok(grants) => note_judged(manner, notes, number, inode, client, &grants, holder),
         Err(fault) => match fault.kind {
             SpecFaultKind::NoMemory => Err(AllocError),
-            _ => print_torn(&mut notes.unknown, manner.shape, client, &fault),
+            _ => print_bad_grants(&mut notes.unknown, manner.shape, client, &fault),
         },
     }
 }
@@ -133,7 +135,7 @@ fn note_judged(
 {
     let session = holder.client();
     let Ok(issued) = read_caps(holder.issued()) else {
-        return print_strange(
+        return print_bad_caps(
             &mut notes.unknown,
             manner.shape,
             number,
@@ -143,7 +145,7 @@ fn note_judged(
         );
     };
     let Ok(pending) = read_caps(holder.pending()) else {
-        return print_strange(
+        return print_bad_caps(
             &mut notes.unknown,
             manner.shape,
             number,

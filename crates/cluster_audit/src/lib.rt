@@ -23,7 +23,7 @@ mod pairs;
 mod summary;
 mod unjudged;
 
-pub use auditing::audit;
+pub use auditing::audit_report;
 pub use clients::ClusterClients;
 pub use conflicts::{Conflict, Holding, conflicts};
 pub use fault::HeldFault;

@@ -2,7 +2,7 @@
 ghost use Rattle.std.specs.Prelude.{◌≡◌, ◌++◌, OnOk, map};
 ghost use Rattle.capexplain.specs.Explaining.{path_text};
 ghost use Rattle.capexplain.specs.Quoting.{quoted};
-ghost use Rattle.cluster_audit.specs.Lines.{beyond_text, group_line, held_line, pathless_line, place_text, revoked_text, strange_line, who_text, why_text};
+ghost use Rattle.cluster_audit.specs.Lines.{beyond_text, group_line, held_line, pathless_line, place_text, revoked_text, bad_caps_line, who_text, why_text};
 
 use crate::findings::Finding;
 use capbits::{CapSet, print_caps, print_numbered, print_str};
@@ -112,13 +112,13 @@ fn print_why(text: &mut Vec<u8>, found: &Finding) -> Result<(), AllocError>
 }
 
 // Appends that what a client holds is spelled otherwise than caps are.
-pub(crate) fn print_strange_line(
+pub(crate) fn print_bad_caps_line(
     text: &mut Vec<u8>,
     path: &[&[u8]],
     client: &[u8],
     session: u64,
 ) -> Result<(), AllocError>
-    ensures { OnOk result (text.new.items ≡ text.old.items ++ strange_line (map (λ name. name.now) path.now) client.now session) }
+    ensures { OnOk result (text.new.items ≡ text.old.items ++ bad_caps_line (map (λ name. name.now) path.now) client.now session) }
 {
     print_place(text, path, client, session)?;
     print_str(text, " holds what is not known\n")

@@ -53,7 +53,7 @@ pub(crate) fn print_found<'x>(
 
 // Appends the object for two sessions, each with the name that it may tell, in conflict on the inode of this number, to which this path
 // may lead; or what such objects have in common.
-pub(crate) fn print_rivals<'x>(
+pub(crate) fn print_conflict_object<'x>(
     text: &mut Vec<u8>,
     detail: Detail,
     number: u64,

@@ -8,7 +8,7 @@ use crate::conflicts::{Conflict, Holding, conflicts};
 use crate::holders::name_of;
 use crate::lines::{print_at, print_who};
 use crate::notes::{Detail, Manner};
-use crate::objects::print_rivals;
+use crate::objects::print_conflict_object;
 use capbits::{print_caps, print_numbered, print_str, read_caps};
 use capexplain::{Shape, print_quoted};
 use capspec::TreePath;
@@ -112,13 +112,13 @@ fn print_conflict(
     let one = name_of(sessions, conflict.one.client);
     let other = name_of(sessions, conflict.other.client);
     match manner.shape {
-        Shape::Lines => print_clash(text, detail, number, path, one, other, conflict),
-        Shape::Objects => print_rivals(text, detail, number, path, one, other, conflict),
+        Shape::Lines => print_conflict_text(text, detail, number, path, one, other, conflict),
+        Shape::Objects => print_conflict_object(text, detail, number, path, one, other, conflict),
     }
 }
 
 // Appends it as a line for people.
-fn print_clash(
+fn print_conflict_text(
     text: &mut Vec<u8>,
     detail: Detail,
     number: u64,

@@ -1,8 +1,8 @@
 //! What is said where it is not known what may be held.
 ghost use Rattle.std.specs.Prelude.{◌≡◌, ◌++◌, OnOk, map};
-ghost use Rattle.cluster_audit.specs.Shaped.{pathless_in, strange_in, unlisted_in, unnamed_in, unread_in};
+ghost use Rattle.cluster_audit.specs.Shaped.{pathless_in, bad_caps_in, unlisted_in, unnamed_in, unread_in};
 
-use crate::lines::{print_pathless_line, print_strange_line};
+use crate::lines::{print_bad_caps_line, print_pathless_line};
 use capbits::{print_numbered, print_str};
 use capexplain::{Piece, Shape, fault_word, print_pieces, print_quoted, print_unread};
 use capspec::SpecFault;
@@ -51,7 +51,7 @@ pub(crate) fn print_unlisted(
 }
 
 // Appends that the grants of a client can't be read.
-pub(crate) fn print_torn(
+pub(crate) fn print_bad_grants(
     text: &mut Vec<u8>,
     shape: Shape,
     client: &[u8],
@@ -74,7 +74,7 @@ pub(crate) fn print_torn(
 }
 
 // Appends that what a client holds is spelled otherwise than caps are.
-pub(crate) fn print_strange<'x>(
+pub(crate) fn print_bad_caps<'x>(
     text: &mut Vec<u8>,
     shape: Shape,
     number: u64,
@@ -82,10 +82,10 @@ pub(crate) fn print_strange<'x>(
     client: &'x [u8],
     session: u64,
 ) -> Result<(), AllocError>
-    ensures { OnOk result (text.new.items ≡ text.old.items ++ strange_in shape number (map (λ name. name.now) path.now) client.now session) }
+    ensures { OnOk result (text.new.items ≡ text.old.items ++ bad_caps_in shape number (map (λ name. name.now) path.now) client.now session) }
 {
     match shape {
-        Shape::Lines => print_strange_line(text, path, client, session),
+        Shape::Lines => print_bad_caps_line(text, path, client, session),
         Shape::Objects => print_pieces(
             text,
             &[

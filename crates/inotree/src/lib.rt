@@ -21,7 +21,11 @@ mod tree;
 pub use attributes::{Attributes, MAX_ATTRIBUTES, MAX_VALUE, Value};
 pub use error::TreeError;
 pub use ino_set::InoSet;
-pub use laws::{a_change_of_one_inode_leaves_the_others, a_change_that_may_be_made_keeps_the_tree, a_move_leaves_what_is_not_below, an_inode_without_children_leaves_the_others, names_lead_up, what_is_made_or_kept_leaves_the_others};
+pub use laws::{
+    a_change_of_one_inode_leaves_the_others, a_change_that_may_be_made_keeps_the_tree,
+    a_move_leaves_what_is_not_below, an_inode_without_children_leaves_the_others, names_lead_up,
+    what_is_made_or_kept_leaves_the_others,
+};
 pub use name::{MAX_NAME, Name, is_bad_attribute, is_bad_name};
 pub use names::{MAX_NAMES, Names};
 pub use node::{Kind, Node, Presence, Setting, Site};

@@ -24,8 +24,8 @@ use crate::node::{Kind, Node, Presence, Setting, Site};
 use crate::snapshots::{MAX_SNAPSHOTS, Snapshots};
 use capbits::{Ino, Refusal};
 use capgrant::Attr;
-use std::fmt;
 use std::alloc::{AllocError, Global};
+use std::fmt;
 use std::marker::Model;
 
 /// How many inodes there may be at a time, with the root and the strays.

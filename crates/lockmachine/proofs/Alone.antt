@@ -13,8 +13,8 @@ use Rattle.locktable.specs.declared.states.LockState.{LockState}
 use Rattle.locktable.specs.declared.states.LockState.TheVariants.{Gather, Stable}
 use Rattle.lockmachine.specs.declared.moves.Move.{Move}
 use Rattle.lockmachine.specs.declared.moves.Move.TheVariants.{Begin, Serve}
-use Rattle.lockmachine.specs.declared.moves.Sought.{Sought}
-use Rattle.lockmachine.specs.declared.moves.Sought.TheVariants.{Everybody, Here, Nobody}
+use Rattle.lockmachine.specs.declared.moves.QueueScope.{QueueScope}
+use Rattle.lockmachine.specs.declared.moves.QueueScope.TheVariants.{Everybody, Here, Nobody}
 use Rattle.lockmachine.specs.declared.request.Request.{Request}
 use Rattle.lockmachine.specs.declared.wants.Wants.{Wants}
 use Rattle.lockmachine.specs.Requests.{first_for, head_of, head_of_operation, part_of_operation, same_part, waits_for}
@@ -22,7 +22,7 @@ use Rattle.lockmachine.specs.Locks.{IsLockMap, LockMap, lock_at, request_at}
 use Rattle.lockmachine.specs.Scene.{Scene, target_by}
 use Rattle.lockmachine.specs.Moves.{first_move, is_first, is_servable, is_served_in, may_begin_in, may_serve, parts, present_state, same_state}
 use Rattle.lockmachine.specs.Runs.{ChangesLocksOf}
-use Rattle.lockmachine.specs.Turns.{IsDoneAt, NobodyElsewhere, Suffices, WaitAt, beginning, beginning_by, may_begin_by, may_wait}
+use Rattle.lockmachine.specs.Cursors.{IsDoneAt, NobodyElsewhere, Suffices, WaitAt, beginning, beginning_by, may_begin_by, may_wait}
 use Rattle.lockmachine.specs.Waiters.{queue_if}
 use Rattle.lockmachine.proofs.Finding.{find_none}
 use Rattle.lockmachine.proofs.Queue.{found_by_number, least_served}
@@ -73,14 +73,14 @@ same-beginning locks wants ino none k =
 abbrev begins_if : LockMap → Wants → ℕ → Bool → Option Move
 begins_if locks wants ino waits = option_map (λ part. beginning_by (queue_if waits locks.queue) locks wants (ino, part)) (find (λ part. may_begin_in (queue_if waits locks.queue) wants (ino, part) (lock_at locks ino part)) parts)
 
-sought_begins : (locks : LockMap) (wants : Wants) (ino : ℕ) (sought : Sought) → Suffices sought locks ino → begins_if locks wants ino (may_wait sought) ≡ begins_if locks wants ino true
-sought_begins locks wants ino Everybody is = refl
-sought_begins locks wants ino Here is = refl
-sought_begins locks wants ino Nobody is = same-beginning locks wants ino is.1
+scope_begins : (locks : LockMap) (wants : Wants) (ino : ℕ) (scope : QueueScope) → Suffices scope locks ino → begins_if locks wants ino (may_wait scope) ≡ begins_if locks wants ino true
+scope_begins locks wants ino Everybody is = refl
+scope_begins locks wants ino Here is = refl
+scope_begins locks wants ino Nobody is = same-beginning locks wants ino is.1
 
-pub sought-beginning : (locks : LockMap) (wants : Wants) (ino : ℕ) (sought : Sought) (waits : Bool) → waits ≡ may_wait sought → Suffices sought locks ino
+pub scope-beginning : (locks : LockMap) (wants : Wants) (ino : ℕ) (scope : QueueScope) (waits : Bool) → waits ≡ may_wait scope → Suffices scope locks ino
     → begins_if locks wants ino waits ≡ option_map (λ part. beginning locks wants (ino, part)) (find (λ part. may_begin_by locks wants (ino, part)) parts)
-sought-beginning locks wants ino sought waits is suffices = ap (begins_if locks wants ino) is ∙ sought_begins locks wants ino sought suffices
+scope-beginning locks wants ino scope waits is suffices = ap (begins_if locks wants ino) is ∙ scope_begins locks wants ino scope suffices
 
 -- where nobody who waits at another inode may be served
 
@@ -99,7 +99,7 @@ nobody-kept ino old new changes nobody q inside away =
     ∙ ap (λ o. is_first old.queue q && is_served_in o (head_of_operation q.client q.operation)) (changes.others q.ino.0 part (eqb-false q.ino.0 ino away))
     ∙ nobody q (subst (λ (qs : List Request). Contains qs q) changes.queue inside) away
 
-pub suffices-kept : (sought : Sought) (ino : ℕ) (old new : LockMap) → ChangesLocksOf ino old new → Suffices sought old ino → Suffices sought new ino
+pub suffices-kept : (scope : QueueScope) (ino : ℕ) (old new : LockMap) → ChangesLocksOf ino old new → Suffices scope old ino → Suffices scope new ino
 suffices-kept Everybody ino old new changes is = is
 suffices-kept Here ino old new changes is = nobody-kept ino old new changes is
 suffices-kept Nobody ino old new changes is = (nobody-kept ino old new changes is.0, ap (list_any (waits_for ino)) changes.queue ∙ is.1)

@@ -26,7 +26,7 @@ use Rattle.lockmachine.specs.Inodes.{CountMap, HaveCounts, lock_in}
 use Rattle.lockmachine.specs.Requests.{same_part}
 use Rattle.lockmachine.specs.Locks.{LockMap, lock_at, with_lock}
 use Rattle.lockmachine.specs.Moves.{coming_state, moved, parts}
-use Rattle.lockmachine.specs.Turns.{may_end_by}
+use Rattle.lockmachine.specs.Cursors.{may_end_by}
 use Rattle.lockmachine.specs.Runs.{ChangesLocksOf}
 use Rattle.lockmachine.specs.declared.moves.Move.TheVariants.{End}
 use Rattle.lockmachine.proofs.EndsFirst.{EndsSoFar, NoneBelow, ended_next, ends_none, passed_next}

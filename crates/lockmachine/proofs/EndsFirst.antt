@@ -22,7 +22,7 @@ use Rattle.lockmachine.specs.Requests.{same_part}
 use Rattle.lockmachine.specs.Locks.{LockMap, lock_at}
 use Rattle.lockmachine.specs.Scene.{scene}
 use Rattle.lockmachine.specs.Moves.{LockId, coming_state, first_move, lock_ids_of, may_end_in, moved, parts}
-use Rattle.lockmachine.specs.Turns.{may_end_by}
+use Rattle.lockmachine.specs.Cursors.{may_end_by}
 use Rattle.lockmachine.specs.Runs.{ChangesLocksOf, EndLittle, Runs, is_end}
 use Rattle.lockmachine.proofs.Ending.{few}
 use Rattle.lockmachine.proofs.Finding.{no_part}

@@ -13,7 +13,7 @@ use Rattle.lockmachine.specs.Locks.{lock_at}
 use Rattle.lockmachine.specs.Scene.{Scene, wanted_in_all}
 use Rattle.lockmachine.specs.Moves.{IsAtRest, IsQuiet, LockId, first_move, is_served_in, lock_ids, may_begin, may_begin_in, may_end, may_end_in, may_serve}
 use Rattle.lockmachine.specs.Moves.{same_state}
-use Rattle.lockmachine.specs.Turns.{begin_or_rest, end_or_serve, serve_or_begin}
+use Rattle.lockmachine.specs.Cursors.{begin_or_rest, end_or_serve, serve_or_begin}
 use Rattle.lockmachine.proofs.FirstMove.{first-found}
 use Rattle.lockmachine.proofs.Finding.{find_none}
 

@@ -8,7 +8,7 @@ use Rattle.lockmachine.specs.declared.moves.Move.{Move}
 use Rattle.lockmachine.specs.declared.moves.Move.TheVariants.{Settled}
 use Rattle.lockmachine.specs.Scene.{Scene}
 use Rattle.lockmachine.specs.Moves.{LockId, begin_of, end_of, first_move, lock_ids, may_begin, may_end, may_serve, serve_of}
-use Rattle.lockmachine.specs.Turns.{begin_or_rest, end_or_serve, serve_or_begin}
+use Rattle.lockmachine.specs.Cursors.{begin_or_rest, end_or_serve, serve_or_begin}
 
 -- the first of what passes a test, else the first of what stands behind
 first-passes : {A : Type 0} (p : A → Bool) (f : A → Move) (xs : List A) (behind : List Move)

@@ -15,7 +15,7 @@ use Rattle.lockmachine.specs.declared.waiters.Waiter.{Waiter}
 use Rattle.lockmachine.specs.Requests.{first_for, is_for, is_numbered, part_of_operation, same_part, waits_for}
 use Rattle.lockmachine.specs.Locks.{IsLockMap, LockMap, request_at}
 use Rattle.lockmachine.specs.Moves.{is_first, is_servable, may_serve}
-use Rattle.lockmachine.specs.Turns.{served_of}
+use Rattle.lockmachine.specs.Cursors.{served_of}
 use Rattle.lockmachine.specs.Waiters.{earlier, waiter_of}
 use Rattle.lockmachine.proofs.Finding.{fails_at}
 use Rattle.lockmachine.proofs.Queue.{IsLeast, found_by_number, least}

@@ -17,7 +17,7 @@ use Rattle.lockmachine.specs.declared.moves.Move.TheVariants.{Settled}
 use Rattle.lockmachine.specs.Inodes.{in_sync, lock_in}
 use Rattle.lockmachine.specs.Scene.{Scene, target}
 use Rattle.lockmachine.specs.Moves.{LockId, first_move, lock_ids, may_begin, may_end, may_serve}
-use Rattle.lockmachine.specs.Turns.{begin_or_rest, end_or_serve, serve_or_begin}
+use Rattle.lockmachine.specs.Cursors.{begin_or_rest, end_or_serve, serve_or_begin}
 use Rattle.lockmachine.proofs.FirstMove.{first-found}
 use Rattle.lockmachine.proofs.Finding.{find_none}
 

@@ -10,7 +10,7 @@ use Rattle.sessiontab.specs.Table.{SessionTable}
 use Rattle.inotree.specs.Tree.{Nodes}
 use Rattle.captable.specs.declared.entry.EntryRow.{EntryRow}
 use Rattle.captable.specs.declared.entry.KeptEntry.{KeptEntry}
-use Rattle.captable.specs.declared.entry.Sets.{Sets}
+use Rattle.captable.specs.declared.entry.ClientView.{ClientView}
 use Rattle.captable.specs.Table.{IsTable, Table, entry_of, holder}
 use Rattle.captable.specs.Calls.{entries_on, is_of_inode}
 use Rattle.captable.specs.Kept.{KeptRow, kept_entry, no_sets, sets_beside}
@@ -39,7 +39,7 @@ each_same f g p (x ∷ xs) same =
       | false ↦ λ is. rest
     ] refl
 
-known_permitted : (o : Option Sets) (caps : Caps) → option_map (λ sets. sets.permitted) o ≡ Some caps → (unwrap_or o no_sets).permitted ≡ caps
+known_permitted : (o : Option ClientView) (caps : Caps) → option_map (λ sets. sets.permitted) o ≡ Some caps → (unwrap_or o no_sets).permitted ≡ caps
 known_permitted None caps is = absurd (cc)
 known_permitted (Some sets) caps is = cc
 

@@ -18,7 +18,7 @@ pub mod SameOutside
 pub mod Waiting
 pub mod SameBut
 pub mod Told
-pub mod Turns
+pub mod Cursors
 pub mod Alone
 pub mod ByLock
 pub mod FirstServed

@@ -21,7 +21,7 @@ use Rattle.lockmachine.specs.Inodes.{lock_in}
 use Rattle.lockmachine.specs.Locks.{LockMap}
 use Rattle.lockmachine.specs.Scene.{Scene, wanted_in_all}
 use Rattle.lockmachine.specs.Moves.{LockId, first_move, lock_ids, lock_ids_of, may_begin, may_begin_in, may_end, may_end_in, may_serve, parts}
-use Rattle.lockmachine.specs.Turns.{IsNextAt, IsTurnOf, begin_or_rest, beginning, end_or_serve, serve_or_begin}
+use Rattle.lockmachine.specs.Cursors.{IsNextAt, IsCursorAt, begin_or_rest, beginning, end_or_serve, serve_or_begin}
 use Rattle.lockmachine.proofs.FirstMove.{first-found}
 use Rattle.lockmachine.proofs.Finding.{fails_at, no_part}
 use Rattle.lockmachine.proofs.Rest.{same_key}
@@ -158,10 +158,10 @@ module _ (p : LockId → Bool) (ino : ℕ) (lower : (other : ℕ) (part : Part) 
 
 -- ---- where it is an inode's turn
 
-module _ (s : Scene) (ino : ℕ) (turn : IsTurnOf s ino) where
+module _ (s : Scene) (ino : ℕ) (cursor : IsCursorAt s ino) where
   pub ends_at : find (may_end s) (lock_ids s.locks) ≡ option_map (λ part. (ino, part)) (find (λ part. may_end s (ino, part)) parts)
   ends_at =
-      found_at (may_end s) ino turn.ends s.locks (λ none part. ap (λ o. may_end_in s.table (ino, part) (option_map (lock_in part) o)) none)
+      found_at (may_end s) ino cursor.ends s.locks (λ none part. ap (λ o. may_end_in s.table (ino, part) (option_map (lock_in part) o)) none)
       ∙ find-each (may_end s) (λ (part : Part). (ino, part)) parts
 
   -- where a lock may begin, its inode has locks
@@ -173,7 +173,7 @@ module _ (s : Scene) (ino : ℕ) (turn : IsTurnOf s ino) where
   begins_at : (part : Part) → find (λ part. may_begin s (ino, part)) parts ≡ Some part → find (may_begin s) (lock_ids s.locks) ≡ Some (ino, part)
   begins_at part found =
       let may = find_passes (λ part. may_begin s (ino, part)) parts part found in
-      first_found (may_begin s) ino turn.begins (ino, part)
+      first_found (may_begin s) ino cursor.begins (ino, part)
       (find-each (may_begin s) (λ (part : Part). (ino, part)) parts ∙ ap (option_map (λ part. (ino, part))) found) s.locks
       (ap is_some refl ∙ has_locks part may (map.get s.locks.states ino) refl)
 

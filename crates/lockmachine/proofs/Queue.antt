@@ -27,7 +27,7 @@ use Rattle.lockmachine.specs.Locks.{IsLockMap, LockMap, TakesOnly, next_request,
 use Rattle.lockmachine.specs.Locks.{without_requests_of}
 use Rattle.lockmachine.specs.Scene.{Scene}
 use Rattle.lockmachine.specs.Moves.{IsFirstServed, LockId, first_move, lock_ids, may_end, may_serve, moved}
-use Rattle.lockmachine.specs.Turns.{begin_or_rest, end_or_serve, serve_or_begin}
+use Rattle.lockmachine.specs.Cursors.{begin_or_rest, end_or_serve, serve_or_begin}
 use Rattle.lockmachine.proofs.FirstMove.{first-found}
 use Rattle.lockmachine.proofs.Rest.{not_found}
 

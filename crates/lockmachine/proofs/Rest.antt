@@ -28,7 +28,7 @@ use Rattle.lockmachine.specs.Locks.{lock_at}
 use Rattle.lockmachine.specs.Scene.{Scene, loner, target, wanted}
 use Rattle.lockmachine.specs.Moves.{IsAtRest, IsQuiet, LockId, WaitAtLocks, first_move, is_open, is_served_in, lock_ids, lock_ids_of, may_begin, may_end}
 use Rattle.lockmachine.specs.Moves.{may_serve, same_state}
-use Rattle.lockmachine.specs.Turns.{begin_or_rest, end_or_serve, serve_or_begin}
+use Rattle.lockmachine.specs.Cursors.{begin_or_rest, end_or_serve, serve_or_begin}
 use Rattle.lockmachine.proofs.FirstMove.{first-found}
 
 -- ---- what is known where no move applies

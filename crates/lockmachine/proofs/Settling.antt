@@ -13,10 +13,10 @@ use Rattle.lockmachine.specs.Locks.{LockMap, lock_at, with_lock}
 use Rattle.lockmachine.specs.Scene.{Scene}
 use Rattle.lockmachine.specs.Moves.{LockId, coming_state, first_move, moved, present_state, with_moved}
 use Rattle.lockmachine.specs.Runs.{ChangesLocksOf, Runs, is_begin_of, is_end_of, is_of_lock}
-use Rattle.lockmachine.specs.Turns.{IsNextAt, IsTurnOf}
+use Rattle.lockmachine.specs.Cursors.{IsNextAt, IsCursorAt}
 use Rattle.lockmachine.proofs.Moving.{IsMove, first_is, with_lock-each}
 use Rattle.lockmachine.proofs.Ending.{begins_left, ends_left, locks_of, one_left, runs-then}
-use Rattle.lockmachine.proofs.Turns.{turn-kept}
+use Rattle.lockmachine.proofs.Cursors.{cursor-kept}
 
 -- ---- the moves that are left at the inode
 
@@ -108,7 +108,7 @@ runs_more a steps b step runs first of_lock = runs-then a steps b (step ∷ []) 
 pub record SoFar (first now : Scene) (ino : ℕ) : Type 0 where
   pub steps : List Move
   pub runs : Runs first steps now
-  pub turn : IsTurnOf now ino
+  pub cursor : IsCursorAt now ino
   pub elsewhere : ChangesLocksOf ino first.locks now.locks
 
 pub record OneMore (first now new : Scene) (ino : ℕ) : Type 0 where
@@ -131,7 +131,7 @@ one_more first now ino step new so next unsettled unserved new_is =
       so_far = record {
         steps = so.steps ++ step ∷ [];
         runs = subst (λ (t : LockMap). Runs first (so.steps ++ step ∷ []) (record now { locks = t })) one.is (runs_more first so.steps now step so.runs at.first at.of_lock);
-        turn = turn-kept ino now (with_lock now.locks ino one.part one.lock) (one_changed now.locks ino one.part one.lock) so.turn;
+        cursor = cursor-kept ino now (with_lock now.locks ino one.part one.lock) (one_changed now.locks ino one.part one.lock) so.cursor;
         elsewhere = record { others = λ other part n. kept other part n ∙ so.elsewhere.others other part n; queue = so.elsewhere.queue; last = so.elsewhere.last };
       };
       fewer = subst (λ (t : LockMap). moves_left (record now { locks = t }) ino < moves_left now ino) one.is (fewer now ino step move at.of_lock at.here);

@@ -20,7 +20,7 @@ use Rattle.lockmachine.specs.Scene.{Scene, wanted_in_all}
 use Rattle.lockmachine.specs.Moves.{IsQuiet, IsQuietOutside, LockId, coming_state, first_move, is_open, is_served_in, may_begin_in, may_end_in, may_serve}
 use Rattle.lockmachine.specs.Moves.{moved, present_state, with_moved}
 use Rattle.lockmachine.specs.Runs.{Runs, is_of_lock}
-use Rattle.lockmachine.specs.Turns.{IsHeldUp, WaitAt}
+use Rattle.lockmachine.specs.Cursors.{IsHeldUp, WaitAt}
 use Rattle.lockmachine.proofs.Finding.{contains-filter, fails_at}
 use Rattle.lockmachine.proofs.Moving.{IsMove, first_is, with_lock-each}
 use Rattle.lockmachine.proofs.Queue.{found_by_number, least_served}

@@ -13,7 +13,7 @@ pub mod Waiters
 pub mod Runs
 pub mod Rows
 pub mod Elsewhere
-pub mod Turns
+pub mod Cursors
 pub mod GatherCounts
 pub mod Held
 pub mod Lock

@@ -20,7 +20,7 @@ use Rattle.captable.specs.declared.entry.Holder.{Holder}
 use Rattle.captable.specs.declared.entry.Entry.{Entry}
 use Rattle.captable.specs.Table.{Table, entry_at}
 use Rattle.captable.specs.Known as known
-use Rattle.captable.specs.Known.{KnownSets}
+use Rattle.captable.specs.Known.{ClientViews}
 
 -- all that a verdict reads: the caller with its grants, and of the inode its path and whose it is
 pub record Subject : Type 0 where
@@ -72,11 +72,11 @@ permitted fs tree sessions k = permitted_to fs (subject tree sessions k)
 -- ---- what is known of it
 
 -- of each entry is known what its client is permitted
-abbrev pub ArePermitted : KnownSets → List ℕ → Nodes → SessionTable → Table → Type 0
+abbrev pub ArePermitted : ClientViews → List ℕ → Nodes → SessionTable → Table → Type 0
 ArePermitted sets fs tree sessions table =
     (k : Holder) (e : Entry) → entry_at table k ≡ Some e → known.permitted_of sets k ≡ Some (permitted fs tree sessions k)
 
 -- and so of each on one inode
-abbrev pub ArePermittedOn : KnownSets → List ℕ → Nodes → SessionTable → Table → ℕ → Type 0
+abbrev pub ArePermittedOn : ClientViews → List ℕ → Nodes → SessionTable → Table → ℕ → Type 0
 ArePermittedOn sets fs tree sessions table ino =
     (k : Holder) (e : Entry) → k.ino.0 ≡ ino → entry_at table k ≡ Some e → known.permitted_of sets k ≡ Some (permitted fs tree sessions k)

@@ -22,7 +22,10 @@ mod wants;
 
 pub use bytes::Bytes;
 pub use held::holders_outside;
-pub use laws::{a_number_names_its_request, between_servings_locks_move_little, moves_keep_rows, settled_is_at_rest, the_queue_keeps_its_order};
+pub use laws::{
+    a_number_names_its_request, between_servings_locks_move_little, moves_keep_rows,
+    settled_is_at_rest, the_queue_keeps_its_order,
+};
 pub use locks::Locks;
 pub use moves::Move;
 pub use policy::{Policy, verdict_on};

@@ -24,12 +24,12 @@ ghost use Rattle.lockmachine.specs.Waiters as waiting;
 ghost use Rattle.lockmachine.specs.Moves as moves;
 ghost use Rattle.lockmachine.specs.Moves.{LockId, first_move, handed, moved};
 ghost use Rattle.lockmachine.specs.Runs.{ChangesLocksOf, EndLittle, MoveLittle};
-ghost use Rattle.lockmachine.specs.Turns as turns;
-ghost use Rattle.lockmachine.specs.Turns.{IsDue, IsNextAt, IsTurnOf, NobodyElsewhere, Suffices};
+ghost use Rattle.lockmachine.specs.Cursors as turns;
+ghost use Rattle.lockmachine.specs.Cursors.{IsDue, IsNextAt, IsCursorAt, NobodyElsewhere, Suffices};
 
 use crate::held::{has_outside, holders_outside};
 use crate::lock::{ends_by_count, is_off_target};
-use crate::moves::{Move, Sought, Turn};
+use crate::moves::{Move, QueueScope, SweepCursor};
 use crate::policy::Policy;
 use crate::request::{Operation, Request};
 use crate::states::{InodeLocks, LocksAt, States};
@@ -41,8 +41,8 @@ use captable::{CapTable, Entry, EntryRow};
 use inotree::Tree;
 use locktable::{Head, LockState, StableState, serves, target};
 use sessiontab::Sessions;
-use std::fmt;
 use std::alloc::{AllocError, Global};
+use std::fmt;
 use std::marker::Model;
 
 // The parts, in their order.
@@ -289,39 +289,39 @@ impl Locks {
         &self,
         policy: &Policy<'_>,
         table: &CapTable,
-        turn: Turn,
+        cursor: SweepCursor,
         wanted: &mut Option<Wants>,
     ) -> Move
-        requires turn { IsTurnOf (scene_by policy.now table.now.entries self.now.locks) turn.ino.0 }
-        requires counted { AreCountedAt table.now.entries self.now turn.ino.0 }
-        requires sought { Suffices turn.sought self.now.locks turn.ino.0 }
-        requires permitted { ArePermittedOn table.now.kept policy.now.fs.now policy.now.tree.now policy.now.sessions.now table.now.entries turn.ino.0 }
-        requires wanted { IfSome wanted.old (λ wants. wants ≡ wanted_in_all (scene_by policy.now table.now.entries self.now.locks) turn.ino.0) }
-        ensures next { IsNextAt (scene_by policy.now table.now.entries self.now.locks) turn.ino.0 result }
-        ensures wanted { IfSome wanted.new (λ wants. wants ≡ wanted_in_all (scene_by policy.now table.now.entries self.now.locks) turn.ino.0) }
+        requires cursor { IsCursorAt (scene_by policy.now table.now.entries self.now.locks) cursor.ino.0 }
+        requires counted { AreCountedAt table.now.entries self.now cursor.ino.0 }
+        requires scope { Suffices cursor.scope self.now.locks cursor.ino.0 }
+        requires permitted { ArePermittedOn table.now.kept policy.now.fs.now policy.now.tree.now policy.now.sessions.now table.now.entries cursor.ino.0 }
+        requires wanted { IfSome wanted.old (λ wants. wants ≡ wanted_in_all (scene_by policy.now table.now.entries self.now.locks) cursor.ino.0) }
+        ensures next { IsNextAt (scene_by policy.now table.now.entries self.now.locks) cursor.ino.0 result }
+        ensures wanted { IfSome wanted.new (λ wants. wants ≡ wanted_in_all (scene_by policy.now table.now.entries self.now.locks) cursor.ino.0) }
     {
-        let Turn { ino, sought } = turn;
+        let SweepCursor { ino, scope } = cursor;
         if let Some(part) = self.first_end(ino) {
             return Move::End { ino, part };
         }
-        if let Some(served) = self.first_among(sought, ino) {
+        if let Some(served) = self.first_among(scope, ino) {
             return Move::Serve(served);
         }
         let wants = given_or_found(*wanted, policy, table, ino);
         *wanted = Some(wants);
-        self.first_begin(sought.may_wait(), ino, &wants)
+        self.first_begin(scope.may_wait(), ino, &wants)
             .unwrap_or(Move::Settled)
     }
 
     // The oldest request that may be served, which is among those who are sought.
-    fn first_among(&self, sought: Sought, ino: Ino) -> Option<Ticket>
-        requires { Suffices sought self.now.locks ino.0 }
+    fn first_among(&self, scope: QueueScope, ino: Ino) -> Option<Ticket>
+        requires { Suffices scope self.now.locks ino.0 }
         ensures { result ≡ option_map (λ q. q.ticket) (find (moves.may_serve self.now.locks) self.now.locks.queue) }
     {
-        match sought {
-            Sought::Everybody => self.first_served(),
-            Sought::Here => self.first_served_at(ino),
-            Sought::Nobody => None,
+        match scope {
+            QueueScope::Everybody => self.first_served(),
+            QueueScope::Here => self.first_served_at(ino),
+            QueueScope::Nobody => None,
         }
     }
 
@@ -639,7 +639,7 @@ impl Locks {
         ino: Ino,
         alone: bool,
     ) -> Option<Ticket>
-        requires turn { IsTurnOf (scene_by policy.now table.now.entries self.old.locks) ino.0 }
+        requires cursor { IsCursorAt (scene_by policy.now table.now.entries self.old.locks) ino.0 }
         requires permitted { ArePermittedOn table.now.kept policy.now.fs.now policy.now.tree.now policy.now.sessions.now table.now.entries ino.0 }
         requires counted { AreCounted table.now.entries self.old }
         requires alone { alone ≡ true → NobodyElsewhere self.old.locks ino.0 }
@@ -648,17 +648,17 @@ impl Locks {
         ensures moves { MoveLittle (scene_by policy.now table.now.entries self.old.locks)
             (scene_by policy.now table.now.entries self.new.locks) }
         ensures due { IsDue (scene_by policy.now table.now.entries self.new.locks) ino.0 result }
-        ensures turn { IsTurnOf (scene_by policy.now table.now.entries self.new.locks) ino.0 }
+        ensures cursor { IsCursorAt (scene_by policy.now table.now.entries self.new.locks) ino.0 }
         ensures elsewhere { ChangesLocksOf ino.0 self.old.locks self.new.locks }
         ensures counted { AreCounted table.now.entries self.new }
     {
         // A move of a lock changes nothing of what is wanted, which is found once, and not where a request is served first; nor of who
         // waits.
         let mut wanted = None;
-        let sought = self.sought_at(ino, alone);
-        let turn = Turn { ino, sought };
+        let scope = self.queue_scope_at(ino, alone);
+        let cursor = SweepCursor { ino, scope };
         'moves: loop {
-            match self.next_move_by(policy, table, turn, &mut wanted) {
+            match self.next_move_by(policy, table, cursor, &mut wanted) {
                 Move::Settled => return None,
                 Move::Serve(ticket) => return Some(ticket),
                 step => self.make_counted(step, table),
@@ -667,17 +667,17 @@ impl Locks {
     }
 
     // Among whom one that may be served is sought.
-    fn sought_at(&self, ino: Ino, alone: bool) -> Sought
+    fn queue_scope_at(&self, ino: Ino, alone: bool) -> QueueScope
         requires { alone ≡ true → NobodyElsewhere self.now.locks ino.0 }
         ensures { Suffices result self.now.locks ino.0 }
     {
         if !alone {
-            return Sought::Everybody;
+            return QueueScope::Everybody;
         }
         if self.waiters.any_at(ino) {
-            return Sought::Here;
+            return QueueScope::Here;
         }
-        Sought::Nobody
+        QueueScope::Nobody
     }
 
     /// Where no gather of a lower inode may end, ends those of an inode that may, in the order of the parts. It looks at

@@ -1,6 +1,6 @@
 //! The moves of a step.
 ghost use Rattle.std.specs.Prelude.{◌≡◌};
-ghost use Rattle.lockmachine.specs.Turns.{may_wait};
+ghost use Rattle.lockmachine.specs.Cursors.{may_wait};
 
 use capbits::{Ino, Part, Ticket};
 use locktable::StableState;
@@ -30,7 +30,7 @@ pub enum Move {
 
 // Among whom one who waits and may be served is sought, where it is an inode's turn.
 #[derive(Clone, Copy)]
-pub(crate) enum Sought {
+pub(crate) enum QueueScope {
     Everybody,
     // Those at the inode, where nobody elsewhere may be served.
     Here,
@@ -40,19 +40,19 @@ pub(crate) enum Sought {
 
 // Whose turn it is, and among whom one who may be served is sought then.
 #[derive(Clone, Copy)]
-pub(crate) struct Turn {
+pub(crate) struct SweepCursor {
     pub(crate) ino: Ino,
-    pub(crate) sought: Sought,
+    pub(crate) scope: QueueScope,
 }
 
-impl Sought {
+impl QueueScope {
     // Whether one may wait at the inode.
     pub(crate) fn may_wait(self) -> bool
         ensures { result ≡ may_wait self }
     {
         match self {
-            Sought::Everybody | Sought::Here => true,
-            Sought::Nobody => false,
+            QueueScope::Everybody | QueueScope::Here => true,
+            QueueScope::Nobody => false,
         }
     }
 }

@@ -15,7 +15,7 @@ use Rattle.policy_view.specs.declared.answer.Unknown.{Unknown}
 use Rattle.policy_view.specs.declared.answer.Unknown.TheVariants as unknown
 use Rattle.policy_view.specs.declared.view.View.{View}
 use Rattle.policy_view.specs.Answers.{IsAnswer, IsConnected, IsJudged}
-use Rattle.policy_view.specs.Sight.{Shows, guest_of}
+use Rattle.policy_view.specs.Visible.{Shows, connected_client_of}
 use Rattle.policy_view.proofs.Likeness.{like-attr, like-path, like-presence}
 
 module _ (fs : List ℕ) (a b : View) (asked : Question) (shows : Shows a b) where
@@ -47,10 +47,10 @@ pub judged_by : (fs : List ℕ) (view : View) (asked : Question) (session : Sess
     → map.get view.sessions asked.client.0 ≡ Some session → path_of view.tree.nodes asked.ino.0 ≡ Some path → map.get view.tree.nodes asked.ino.0 ≡ Some node
     → verdict ≡ verdict_of (question fs session.caller path node.attr asked.access) session.grants → IsJudged fs view asked verdict
 judged_by fs view asked session path node verdict session_is path_is node_is verdict_is = record {
-  by = guest_of session;
+  by = connected_client_of session;
   path = path;
   attr = node.attr;
-  by_is = ap (option_map guest_of) session_is;
+  by_is = ap (option_map connected_client_of) session_is;
   path_is = path_is;
   attr_is = ap (option_map (λ (n : Node). n.attr)) node_is;
   verdict_is = verdict_is;

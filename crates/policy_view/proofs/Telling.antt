@@ -5,7 +5,7 @@ use Rattle.std.proofs.lemmas.List.Sums.{fold-append}
 use Rattle.policy_view.specs.declared.change.ViewChange.{ViewChange}
 use Rattle.policy_view.specs.declared.view.View.{View}
 use Rattle.policy_view.specs.Changes.{AreChanges, view_by}
-use Rattle.policy_view.specs.Sight.{Shows}
+use Rattle.policy_view.specs.Visible.{Shows}
 use Rattle.policy_view.proofs.Likeness.{shows-trans, shows_by}
 
 pub changes-none : (view : View) → AreChanges [] view view

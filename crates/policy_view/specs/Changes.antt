@@ -11,7 +11,7 @@ use Rattle.sessiontab.specs.Connected.{SessionMap, change_session}
 use Rattle.policy_view.specs.declared.change.ViewChange.{ViewChange}
 use Rattle.policy_view.specs.declared.change.ViewChange.TheVariants as change
 use Rattle.policy_view.specs.declared.view.View.{View}
-use Rattle.policy_view.specs.Sight.{Shows}
+use Rattle.policy_view.specs.Visible.{Shows}
 
 -- what an inode is that was made
 abbrev pub kind_by : Bool → Kind
@@ -30,19 +30,19 @@ tree_by tree (change.Ended client) = tree
 tree_by tree (change.Regranted client grants) = tree
 
 -- who is connected after a change
-abbrev pub guests_by : SessionMap → ViewChange → SessionMap
-guests_by sessions (change.Born ino dir name attr is_dir) = sessions
-guests_by sessions (change.Moved ino dir name) = sessions
-guests_by sessions (change.Removed ino) = sessions
-guests_by sessions (change.Forgotten ino) = sessions
-guests_by sessions (change.Settled ino attr) = sessions
-guests_by sessions (change.Opened client caller grants) = map.insert sessions client.0 (record { status = Open; caller = caller; grants = grants })
-guests_by sessions (change.Ended client) = map.remove sessions client.0
-guests_by sessions (change.Regranted client grants) = change_session (λ session. record session { grants = grants }) sessions client.0
+abbrev pub connected_clients_by : SessionMap → ViewChange → SessionMap
+connected_clients_by sessions (change.Born ino dir name attr is_dir) = sessions
+connected_clients_by sessions (change.Moved ino dir name) = sessions
+connected_clients_by sessions (change.Removed ino) = sessions
+connected_clients_by sessions (change.Forgotten ino) = sessions
+connected_clients_by sessions (change.Settled ino attr) = sessions
+connected_clients_by sessions (change.Opened client caller grants) = map.insert sessions client.0 (record { status = Open; caller = caller; grants = grants })
+connected_clients_by sessions (change.Ended client) = map.remove sessions client.0
+connected_clients_by sessions (change.Regranted client grants) = change_session (λ session. record session { grants = grants }) sessions client.0
 
 -- the view after a change
 abbrev pub view_by : View → ViewChange → View
-view_by view c = record { tree = tree_by view.tree c; sessions = guests_by view.sessions c }
+view_by view c = record { tree = tree_by view.tree c; sessions = connected_clients_by view.sessions c }
 
 -- the changes, made one after the other, lead from whatever shows the old view to what shows the new one
 pub record AreChanges (changes : List ViewChange) (old new : View) : Type 0 where

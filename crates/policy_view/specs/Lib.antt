@@ -1,4 +1,4 @@
-pub mod Sight
+pub mod Visible
 pub mod Changes
 pub mod Answers
 pub mod Codes

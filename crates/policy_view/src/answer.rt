@@ -2,7 +2,7 @@
 ghost use Rattle.std.specs.Prelude.{◌≡◌, Some};
 ghost use Rattle.std.specs.FinMap as map;
 ghost use Rattle.policy_view.specs.declared.view.View.{View};
-ghost use Rattle.policy_view.specs.Sight.{Shows};
+ghost use Rattle.policy_view.specs.Visible.{Shows};
 ghost use Rattle.inotree.specs.declared.node.Presence.TheVariants.{Here};
 ghost use Rattle.inotree.specs.Tree.{presence};
 ghost use Rattle.policy_view.specs.Answers.{IsAnswer, IsJudged};

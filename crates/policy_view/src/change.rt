@@ -6,8 +6,8 @@ use capbits::{Caller, ClientId, Ino};
 use capgrant::Attr;
 use capspec::Grants;
 use inotree::Name;
-use std::fmt;
 use std::alloc::AllocError;
+use std::fmt;
 
 /// One change of what readers see.
 pub enum ViewChange {

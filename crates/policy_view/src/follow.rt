@@ -4,7 +4,7 @@ ghost use Rattle.std.specs.Prelude.{◌≡◌, OnOk, OnErr};
 ghost use Rattle.capbits.specs.Refusal.{first_failing};
 ghost use Rattle.inotree.specs.Calls.{with_new};
 ghost use Rattle.inotree.specs.Tests.{create_tests};
-ghost use Rattle.policy_view.specs.Changes.{guests_by, kind_by, tree_by};
+ghost use Rattle.policy_view.specs.Changes.{connected_clients_by, kind_by, tree_by};
 ghost use Rattle.policy_view.specs.declared.change.ViewChange.TheVariants as change;
 
 use crate::change::ViewChange;
@@ -142,7 +142,7 @@ fn settled(tree: &mut Tree, ino: Ino, attr: Attr) -> Result<(), AllocError>
 
 // Makes a change of the sessions. Those of the tree leave them.
 pub(crate) fn follow_session(sessions: &mut Connected, told: &ViewChange) -> Result<(), AllocError>
-    ensures ok { OnOk result (sessions.new ≡ guests_by sessions.old told.now) }
+    ensures ok { OnOk result (sessions.new ≡ connected_clients_by sessions.old told.now) }
     ensures err { OnErr result (sessions.new ≡ sessions.old) }
 {
     match told {
@@ -171,7 +171,7 @@ fn opened(
     caller: &Caller,
     grants: &Grants,
 ) -> Result<(), AllocError>
-    ensures ok { OnOk result (sessions.new ≡ guests_by sessions.old (change.Opened client caller.now grants.now)) }
+    ensures ok { OnOk result (sessions.new ≡ connected_clients_by sessions.old (change.Opened client caller.now grants.now)) }
     ensures err { OnErr result (sessions.new ≡ sessions.old) }
 {
     let grants = grants.copy()?;
@@ -185,7 +185,7 @@ fn opened(
 
 // A client that is connected has other grants.
 fn regranted(sessions: &mut Connected, client: ClientId, grants: &Grants) -> Result<(), AllocError>
-    ensures ok { OnOk result (sessions.new ≡ guests_by sessions.old (change.Regranted client grants.now)) }
+    ensures ok { OnOk result (sessions.new ≡ connected_clients_by sessions.old (change.Regranted client grants.now)) }
     ensures err { OnErr result (sessions.new ≡ sessions.old) }
 {
     let grants = grants.copy()?;

@@ -16,7 +16,7 @@ ghost use Rattle.policy_view.specs.declared.change.ViewChange.{ViewChange};
 ghost use Rattle.policy_view.specs.declared.view.View.{View};
 ghost use Rattle.policy_view.specs.Answers.{IsAnswer};
 ghost use Rattle.policy_view.specs.Changes.{AreChanges, view_by};
-ghost use Rattle.policy_view.specs.Sight.{AreGuests, IsLike, Shows, guest_of, sight_of};
+ghost use Rattle.policy_view.specs.Visible.{AreSameClients, IsLike, Shows, connected_client_of, visible_of};
 
 /// Views that show the same do so after a change of both. Each shows itself, and what is shown by one that another shows is
 /// shown by that other one.
@@ -48,10 +48,10 @@ pub fn changes_are_told_one_after_another()
 /// A change of an inode or of a session of which readers see nothing leaves the view one that shows the same. And whatever
 /// sets the owner, the group or the mode of an inode is told by what they are then.
 pub fn what_no_reader_sees_leaves_views_alike()
-    ensures inodes { (tree : Nodes) (f : Node → Node) (ino : ℕ) → ((node : Node) → sight_of (f node) ≡ sight_of node)
+    ensures inodes { (tree : Nodes) (f : Node → Node) (ino : ℕ) → ((node : Node) → visible_of (f node) ≡ visible_of node)
         → IsLike tree (changed f tree ino) }
     ensures sessions { (sessions : SessionMap) (f : Session → Session) (client : ℕ)
-        → ((session : Session) → guest_of (f session) ≡ guest_of session) → AreGuests sessions (change_session f sessions client) }
+        → ((session : Session) → connected_client_of (f session) ≡ connected_client_of session) → AreSameClients sessions (change_session f sessions client) }
     ensures settled { (tree : Nodes) (f : Node → Node) (ino : ℕ) (attr : Attr)
         → ((node : Node) → (f node).kind ≡ node.kind) → ((node : Node) → (f node).site ≡ node.site)
         → attr_of (changed f tree ino).nodes ino ≡ Some attr → IsLike (changed (with_attr attr) tree ino) (changed f tree ino) }

@@ -6,7 +6,10 @@ ghost use Rattle.queries.specs.Clients.{AnswersWho, AreLines, Says, standing_in,
 
 use crate::attempt::Attempt;
 use crate::texts::read_text;
-use capexplain::{print_standing, print_standing_object, print_standing_otherwise, print_unread, print_unread_object};
+use capexplain::{
+    print_standing, print_standing_object, print_standing_otherwise, print_unread,
+    print_unread_object,
+};
 use capgrant::Attr;
 use capspec::SpecFault;
 use ceph_input::{AuthFault, Entity, read_auth};
@@ -27,7 +30,7 @@ pub enum Telling {
 /// For each client of an auth list, in its order: whether somebody behind its key may do what is asked, by which grant, or why nobody may;
 /// or that it depends on owner, group and mode, where these are not given. Where a client's grants can't be read, its line says why. The
 /// fault is that of the list. `auth` is what `ceph auth ls -f json` prints.
-pub fn who(
+pub fn who_lines(
     alloc: Global,
     auth: &[u8],
     attempt: &Attempt,

@@ -6,8 +6,8 @@ use crate::texts::read_text;
 use capexplain::{Shape, change_objects, comparison_lines};
 use capspec::{Grants, SpecFault};
 use policy_analysis::{gained, lost};
-use std::fmt;
 use std::alloc::{AllocError, Global};
+use std::fmt;
 use std::fmt::Display;
 
 /// Why two texts of grants are not compared.

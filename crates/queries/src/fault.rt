@@ -2,8 +2,8 @@
 
 use crate::options::Opt;
 use capspec::{SpecFault, SpecFaultKind};
-use std::fmt;
 use std::alloc::AllocError;
+use std::fmt;
 use std::fmt::Display;
 
 /// Why values ask no question.

@@ -8,7 +8,9 @@ ghost use Rattle.script_syntax.specs.Events.{Tells, ack_by, caps_by, open_by, po
 ghost use Rattle.script_syntax.specs.Faults.{IsRefused};
 
 use crate::fault::{LineFault, Refused};
-use crate::values::{read_cap_set, read_client, read_ino, read_long_number, read_number, read_open_mode};
+use crate::values::{
+    read_cap_set, read_client, read_ino, read_long_number, read_number, read_open_mode,
+};
 use capbits::{CapSet, ClientId, Ino};
 use step_model::Event;
 

@@ -10,7 +10,9 @@ ghost use Rattle.script_syntax.specs.Words.{arguments_in};
 
 use crate::entry_event::{EntryCaps, read_ack, read_entry_caps, read_open, read_poll};
 use crate::fault::{LineFault, Refused};
-use crate::inode_event::{InodeChange, InodeOf, read_get, read_inode, read_inode_change, read_rename};
+use crate::inode_event::{
+    InodeChange, InodeOf, read_get, read_inode, read_inode_change, read_rename,
+};
 use crate::line::MAX_LINE;
 use crate::session_event::{read_only_client, read_recall};
 use crate::values::{read_client, read_groups, read_ino, read_number, read_permissions};

@@ -1,8 +1,8 @@
 //! Why a script stopped.
 
 use capspec::{SpecFault, SpecFaultKind};
-use std::fmt;
 use std::alloc::AllocError;
+use std::fmt;
 use thiserror::Error;
 
 /// What is wrong with a line. It prints as the name of its kind; that of a grant text has the fault of the text behind it.

@@ -4,7 +4,9 @@ ghost use Rattle.script_syntax.specs.declared.fault.LineFault.TheVariants as fau
 ghost use Rattle.script_syntax.specs.Values.{Spells, SpellsNone, client_in, groups_in, ino_in, mode_in, number_below, number_in, open_mode_in, part_in};
 
 use crate::fault::LineFault;
-use capbits::{CapSet, ClientId, Groups, Ino, Mode, Part, read_caps, read_mode, read_u32, read_u64};
+use capbits::{
+    CapSet, ClientId, Groups, Ino, Mode, Part, read_caps, read_mode, read_u32, read_u64,
+};
 use step_model::OpenMode;
 
 // The decimal number of 32 bits.

@@ -9,7 +9,7 @@ use Rattle.policy_view.specs.declared.answer.Unknown.{Unknown}
 use Rattle.policy_view.specs.declared.answer.Unknown.TheVariants as unknown
 use Rattle.policy_view.specs.declared.view.View.{View}
 use Rattle.policy_view.specs.Answers.{IsAnswer}
-use Rattle.policy_view.specs.Sight.{Shows}
+use Rattle.policy_view.specs.Visible.{Shows}
 use Rattle.snapshot.specs.declared.value.Published.{Published}
 use Rattle.step_model.specs.Noted.{view_of}
 use Rattle.snapshot.specs.Places.{IsPublished}

@@ -10,7 +10,7 @@ use Rattle.step_model.specs.declared.row.Row.{Row}
 use Rattle.step_model.specs.History.{IsLegal, IsOpening}
 use Rattle.step_model.specs.State.{State}
 use Rattle.policy_view.specs.declared.view.View.{View}
-use Rattle.policy_view.specs.Sight.{Shows}
+use Rattle.policy_view.specs.Visible.{Shows}
 use Rattle.snapshot.specs.declared.place.Origin.{Origin}
 use Rattle.snapshot.specs.declared.place.Place.{Place}
 use Rattle.snapshot.specs.declared.value.Published.{Published}

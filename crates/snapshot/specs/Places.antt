@@ -9,7 +9,7 @@ use Rattle.step_model.specs.History.{IsOpening}
 use Rattle.step_model.specs.Noted.{view_of}
 use Rattle.step_model.specs.State.{State}
 use Rattle.step_model.specs.declared.row.Row.{Row}
-use Rattle.policy_view.specs.Sight.{Shows}
+use Rattle.policy_view.specs.Visible.{Shows}
 use Rattle.snapshot.specs.declared.value.Published.{Published}
 use Rattle.snapshot.specs.declared.place.Origin.{Origin}
 use Rattle.snapshot.specs.declared.place.Place.{Place}

@@ -7,7 +7,7 @@ use Rattle.step_model.specs.declared.row.Row.{Row}
 use Rattle.step_model.specs.State.{State}
 use Rattle.policy_view.specs.declared.view.View.{View}
 use Rattle.policy_view.specs.Codes.{view_code}
-use Rattle.policy_view.specs.Sight.{Shows}
+use Rattle.policy_view.specs.Visible.{Shows}
 use Rattle.snapshot.specs.declared.value.Published.{Published}
 use Rattle.snapshot.specs.declared.value.Stage.{Stage}
 use Rattle.step_model.specs.Noted.{view_of}

@@ -8,8 +8,8 @@ ghost use Rattle.snapshot.specs.Passes.{pass_state};
 
 use crate::beginning::Beginning;
 use crate::ledger::Server;
+use crate::reader::Reader;
 use crate::recorder::Recorder;
-use crate::witness::Witness;
 use capbits::PassId;
 use capgrant::Verdict;
 use capspec::FsName;
@@ -23,7 +23,7 @@ pub struct Pass<L: Server> {
     // One part of the ledger, with the number of the answered calls as its amount.
     share: Share<L>,
     // Who reads what is published.
-    witness: Witness<L>,
+    reader: Reader<L>,
 }
 
 // Not derived: so the proof of a function that drops one has a single call there.
@@ -32,7 +32,7 @@ impl<L: Server> Drop for Pass<L> {
         let Pass {
             number: _,
             share: _,
-            witness: _,
+            reader: _,
         } = self;
     }
 }
@@ -45,21 +45,21 @@ impl<L: Server> Model for Pass<L> {
 
     ghost coded = { pass_state_code };
 
-    ghost view = { λ p. pass_state p.number.0 p.share.amount p.witness };
+    ghost view = { λ p. pass_state p.number.0 p.share.amount p.reader };
 
     ghost invariant = { λ p. p.share.parts ≡ 1 };
 }
 
 impl<L: Server> Pass<L> {
     /// A pass over one part of the ledger.
-    pub fn new(number: PassId, share: Share<L>, witness: Witness<L>) -> Pass<L>
+    pub fn new(number: PassId, share: Share<L>, reader: Reader<L>) -> Pass<L>
         requires { share.parts ≡ 1 }
-        ensures { result ≡ pass_state number.0 share.amount witness }
+        ensures { result ≡ pass_state number.0 share.amount reader }
     {
         Pass {
             number,
             share,
-            witness,
+            reader,
         }
     }
 
@@ -87,7 +87,7 @@ impl<L: Server> Pass<L> {
         ensures answer { result ≢ Err unknown.NoView → IsAnswered L.opening self.new.known question.now result }
         ensures no_view { result ≡ Err unknown.NoView → self.new ≡ self.old }
     {
-        self.witness.explain(fs, question)
+        self.reader.explain(fs, question)
     }
 
     /// Knows what is published from then on.
@@ -96,7 +96,7 @@ impl<L: Server> Pass<L> {
         ensures known { IsPrefix self.old.known self.new.known }
         ensures legal { Legal L.opening self.new.known }
     {
-        self.witness.look();
+        self.reader.look();
     }
 
     /// Knows what is published from then on, and says whether that is more than it knew, and just these rows.
@@ -106,15 +106,15 @@ impl<L: Server> Pass<L> {
         ensures legal { Legal L.opening self.new.known }
         ensures all { IsTrue result → (self.new.known ≡ rows.now) × (length self.old.known < length self.new.known) }
     {
-        self.witness.catch_up(rows)
+        self.reader.catch_up(rows)
     }
 
     /// What it knows begins the rows of the book.
-    pub fn audit(&self, recorder: &mut Recorder<L>)
+    pub fn check_against(&self, recorder: &mut Recorder<L>)
         ensures begins { IsPrefix self.now.known recorder.old }
         ensures same { recorder.new ≡ recorder.old }
     {
-        self.witness.audit(recorder);
+        self.reader.check_against(recorder);
     }
 
     /// Ends the pass, and gives back its part of the ledger.
@@ -124,7 +124,7 @@ impl<L: Server> Pass<L> {
         let Pass {
             number: _,
             share,
-            witness: _,
+            reader: _,
         } = self;
         share
     }

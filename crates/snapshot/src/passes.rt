@@ -7,8 +7,8 @@ ghost use Rattle.snapshot.specs.Passes.{AllBegin, AllNew};
 use crate::ledger::Server;
 use crate::pass::Pass;
 use crate::publisher::Publisher;
+use crate::reader::Reader;
 use crate::recorder::Recorder;
-use crate::witness::Witness;
 use capbits::PassId;
 use std::alloc::Global;
 use std::sync::ledger::Share;
@@ -47,21 +47,21 @@ pub fn make_passes<L: Server>(
         if passes.reserve(1).is_err() {
             return Err(StartFault::NoMemory);
         }
-        let Ok(witness) = Witness::of(publisher) else {
+        let Ok(reader) = Reader::of(publisher) else {
             return Err(StartFault::NoReader);
         };
         let share = rest.split_off(1, 0);
-        passes.push_reserved(Pass::new(PassId(at + 1), share, witness));
+        passes.push_reserved(Pass::new(PassId(at + 1), share, reader));
     }
     Ok(passes)
 }
 
 /// What each pass knows begins the rows of the book.
-pub fn audit_all<L: Server>(recorder: &mut Recorder<L>, passes: &[Pass<L>])
+pub fn check_all_against<L: Server>(recorder: &mut Recorder<L>, passes: &[Pass<L>])
     ensures { AllBegin recorder.old passes.now }
 {
     for pass in passes {
-        pass.audit(recorder);
+        pass.check_against(recorder);
     }
 }
 

@@ -130,7 +130,7 @@ impl<L: Server> Recorder<L> {
     }
 
     /// What somebody knows begins these rows: who has the pen for the next one has seen all.
-    pub fn audit(&mut self, known: &Beginning<L>)
+    pub fn check_against(&mut self, known: &Beginning<L>)
         ensures begins { IsPrefix known.now self.old }
         ensures same { self.new ≡ self.old }
     {

@@ -18,7 +18,7 @@ use Rattle.sessiontab.specs.Connected.{SessionMap}
 use Rattle.policy_view.proofs.Likeness.{like-settled, like-unseen, shows-tree}
 use Rattle.policy_view.proofs.Telling.{changes-alike, changes-more, changes-none}
 use Rattle.policy_view.specs.Changes.{AreChanges, kind_by, tree_by, view_by}
-use Rattle.policy_view.specs.Sight.{IsLike, Shows, sight_of}
+use Rattle.policy_view.specs.Visible.{IsLike, Shows, visible_of}
 use Rattle.policy_view.specs.declared.change.ViewChange.{ViewChange}
 use Rattle.policy_view.specs.declared.view.View.{View}
 use Rattle.lockmachine.specs.declared.request.Change.{Change}
@@ -94,7 +94,7 @@ module _ (items : List ViewChange) (before after : Nodes) (ino : Ino) where
       (like-settled before f ino.0 node.attr kinds sites (ap (option_map (λ (n : Node). n.attr)) (ap (λ (t : Nodes). map.get t.nodes ino.0) (sym is) ∙ here))))
 
   -- what no reader sees was changed
-  pub leads-unseen : (f : Node → Node) → ((node : Node) → sight_of (f node) ≡ sight_of node) → after ≡ changed f before ino.0 → LeadOn items items before after
+  pub leads-unseen : (f : Node → Node) → ((node : Node) → visible_of (f node) ≡ visible_of node) → after ≡ changed f before ino.0 → LeadOn items items before after
   leads-unseen f law is =
       subst (LeadOn items items before) (sym is) (leads-alike items items before before (changed f before ino.0) (leads-none items before) (like-unseen before f ino.0 law))
 

@@ -8,8 +8,8 @@ use cli::serve_plan;
 use script_syntax::MAX_SCRIPT;
 use std::alloc::Global;
 use std::process::Abort;
-use std::sync::{Arc, Wait};
 use std::sync::atomic::{AtomicU64, Ordering};
+use std::sync::{Arc, Wait};
 use std::thread::{Threads, yield_now};
 
 // How often a call gives way to the others.

@@ -7,8 +7,8 @@ use capserver::{CapServer, Gate};
 use snapshot::{Pass, Server};
 use std::alloc::{AllocError, Global};
 use std::process::Abort;
-use std::sync::{Arc, Wait};
 use std::sync::atomic::{AtomicU64, Ordering};
+use std::sync::{Arc, Wait};
 use std::thread::{Threads, join, yield_now};
 
 // How often a thread yields while it waits for another one.

@@ -13,8 +13,8 @@ use snapshot::{Server, StartFault};
 use std::alloc::{AllocError, Global};
 use std::marker::Brand;
 use std::process::Abort;
-use std::sync::{Arc, Wait};
 use std::sync::ledger::Blank;
+use std::sync::{Arc, Wait};
 use std::thread::Threads;
 
 /// How many rows the history of a server in a test may have, where that doesn't matter.

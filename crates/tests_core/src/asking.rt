@@ -1,11 +1,11 @@
 //! The core that is asked: steps of passes, what is seen beside each answer, and what is left.
 
-use crate::{gathers, histories, moved_entries, recalls, sessions_end, viewing, waits};
 use crate::asserting::{made, same};
 use crate::looking::{Look, row_text};
 use crate::steps::{auth_lock_text, locks_text};
 use crate::texts::text_of;
 use crate::viewing::changes_text;
+use crate::{gathers, histories, moved_entries, recalls, sessions_end, viewing, waits};
 use capbits::PassId;
 use capcore::Core;
 use capexplain::reply_lines;

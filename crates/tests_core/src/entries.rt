@@ -5,7 +5,7 @@ use crate::texts::caps;
 use Step::*;
 use cap_arena::AddError;
 use capbits::{CapSet, ClientId, Ino, Refusal};
-use captable::{CapTable, Entry, Holder, Holders, Sets, Walk};
+use captable::{CapTable, ClientView, Entry, Holder, Holders, Walk};
 use std::alloc::AllocError;
 use std::process::Abort;
 
@@ -58,7 +58,6 @@ enum Step {
     // The client's entries from the first on that may be due.
     DueOf(u32, Rows),
 }
-
 
 // Where a test fails: the case, and the number of the step.
 type At = (&'static str, usize);
@@ -157,7 +156,7 @@ fn beside(
 
 // Keeps both sets beside the holder's entry.
 fn keep(table: &mut CapTable, holder: Holder, told: &str, permitted: &str) {
-    let sets = Sets {
+    let sets = ClientView {
         told: caps(told),
         permitted: caps(permitted),
     };
@@ -240,7 +239,7 @@ fn take(rt: &impl Abort, table: &mut CapTable, step: &Step, at: At) {
         DropClient(client) => table.drop_client(ClientId(*client)),
         Recall(n, want) => recall(rt, table, *n, want, at),
         Mark(h, asked) => table.ask(h.client, h.ino, *asked),
-        SkipQuiet(client) => table.skip_quiet(ClientId(*client)),
+        SkipQuiet(client) => table.skip_not_due(ClientId(*client)),
         Keeps(h, want) => keeps(rt, table.find(h.client, h.ino), *want, at),
         Permit(h, text) => table.keep_permitted(h.client, h.ino, caps(text)),
         Keep(h, told, permitted) => keep(table, *h, told, permitted),

@@ -1,7 +1,7 @@
 //! The life of a gather, step by step.
 
-use crate::asking::{Case, Step};
 use crate::asking::Beside::Locks;
+use crate::asking::{Case, Step};
 
 // A lock gathers until all is acknowledged.
 const A_GATHER: &[Step] = &[

@@ -1,7 +1,7 @@
 //! What a core keeps of its events: the rows of its history, and whose they are.
 
-use crate::asking::{Case, Part, Step};
 use crate::asking::Beside::Changes;
+use crate::asking::{Case, Part, Step};
 use crate::looking::Look;
 
 const MORE_THAN_TWO_ROWS: &[Step] = &[

@@ -61,7 +61,6 @@ enum Step {
     Wanted(&'static str, Option<(u32, &'static str)>),
 }
 
-
 // Where a test fails: the case, and the number of the step, and of the move in it.
 type At = (&'static str, usize, usize);
 

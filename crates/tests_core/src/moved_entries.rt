@@ -1,8 +1,8 @@
 //! What clients hold of inodes that are moved, and of all that stand below them: what they come to hold and what is taken
 //! back, in the step in which the rename is served.
 
-use crate::asking::{Case, Step};
 use crate::asking::Beside::Locks;
+use crate::asking::{Case, Step};
 use crate::looking::Look;
 
 // The row of the step has the ends in their order. The file lock of inode 2 stands beside each step.

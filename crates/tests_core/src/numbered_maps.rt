@@ -13,7 +13,6 @@ enum Step {
     Remove(u64),
 }
 
-
 fn take(rt: &impl Abort, map: &mut Numbered<u64>, step: &Step) {
     match step {
         Insert(number, value) => made(rt, map.insert(*number, *value), *number),

@@ -1,7 +1,7 @@
 //! Who is asked to release, and who hears of it; and who comes off the blocklist.
 
-use crate::asking::{Case, Step};
 use crate::asking::Beside::Locks;
+use crate::asking::{Case, Step};
 use crate::looking::Look;
 
 // Two clients share a file, and a change waits for both.

@@ -3,8 +3,8 @@
 use crate::asserting::{made, same};
 use capscript::run;
 use script_syntax::{ScriptFault, Watched};
-use std::io;
 use std::alloc::Global;
+use std::io;
 use std::process::Abort;
 
 /// What a run over a script writes, and how it ends, in words behind an equals sign.

@@ -115,7 +115,6 @@ enum Call {
     Unblock,
 }
 
-
 fn refused(rt: &impl Abort, done: Result<(), SessionError>) -> Option<Refusal> {
     match done {
         Ok(()) => None,

@@ -1,7 +1,7 @@
 //! Sessions that end, and what ends with them.
 
-use crate::asking::{Case, Step};
 use crate::asking::Beside::{AuthLock, Locks};
+use crate::asking::{Case, Step};
 use crate::looking::Look;
 
 // Four requests wait, two of each client, the change of the second first.

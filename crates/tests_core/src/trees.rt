@@ -101,7 +101,6 @@ enum Call {
     SnapRemove(u64, Name),
 }
 
-
 fn refused<T: Drop>(rt: &impl Abort, done: Result<T, TreeError>) -> Option<Refusal> {
     match done {
         Ok(_done) => None,

@@ -30,7 +30,6 @@ enum Asked {
     Newer(usize),
 }
 
-
 const A: usize = 0;
 
 const B: usize = 1;

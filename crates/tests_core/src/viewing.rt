@@ -1,7 +1,7 @@
 //! What a step changes of what readers see.
 
-use crate::asking::{Case, Step};
 use crate::asking::Beside::Changes;
+use crate::asking::{Case, Step};
 use crate::asserting::made;
 use crate::texts::text_of;
 use capcore::Core;

@@ -26,7 +26,6 @@ enum Told {
     Regranted(u32, &'static str),
 }
 
-
 // What a client asks of an inode, and the answer: `grant` with a number, the word of the rule by which the first grant fails,
 // or why there is no verdict.
 type Look = (u32, u64, Access, &'static str);

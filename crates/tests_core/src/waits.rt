@@ -1,7 +1,7 @@
 //! Who waits for a file, step by step, and what is kept of it.
 
-use crate::asking::{Case, Step};
 use crate::asking::Beside::Locks;
+use crate::asking::{Case, Step};
 use crate::looking::Look;
 
 const ONE_HAS_A_FILE: &[Step] = &[

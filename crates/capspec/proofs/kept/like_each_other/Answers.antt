@@ -1,5 +1,5 @@
 use Rattle.std.proofs.Common.{ap, arith, length, subst, sym}
-use Rattle.capspec.specs.Begun.{AreAlike, IsAlike}
+use Rattle.capspec.specs.SharedPrefix.{AreAlike, IsAlike}
 use Rattle.capspec.proofs.Sharing.{alike_more}
 use Rattle.capspec.proofs.kept.like_each_other.Goals as goal
 

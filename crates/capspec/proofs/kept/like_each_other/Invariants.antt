@@ -1,5 +1,5 @@
 use Rattle.std.proofs.Common.{◌≡◌, length}
-use Rattle.capspec.specs.Begun.{AreAlike}
+use Rattle.capspec.specs.SharedPrefix.{AreAlike}
 use Rattle.capspec.proofs.kept.like_each_other.Given as goal
 
 abbrev pub invariant-loop-place : goal.invariant-loop-place

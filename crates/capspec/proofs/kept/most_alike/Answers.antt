@@ -1,5 +1,5 @@
 use Rattle.std.proofs.Common.{subst, sym}
-use Rattle.capspec.specs.Begun.{IsAlike}
+use Rattle.capspec.specs.SharedPrefix.{IsAlike}
 use Rattle.capspec.proofs.Sharing.{alike_at}
 use Rattle.capspec.proofs.kept.most_alike.Goals as goal
 use Rattle.capspec.proofs.kept.most_alike.Goals.{else-most-bytes, then-most-bytes}

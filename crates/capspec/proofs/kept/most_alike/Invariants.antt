@@ -1,4 +1,4 @@
-use Rattle.capspec.specs.Begun.{IsAlike}
+use Rattle.capspec.specs.SharedPrefix.{IsAlike}
 use Rattle.capspec.proofs.kept.most_alike.Given as goal
 
 abbrev pub invariant-loop-other : goal.invariant-loop-other

@@ -4,7 +4,7 @@ use Rattle.capbits.specs.Caps.{has}
 use Rattle.captable.specs.Tests.{ack_tests}
 use Rattle.lockmachine.proofs.CountsStay.{held-change}
 use Rattle.step_model.specs.Direct.{with_want}
-use Rattle.capstep.proofs.Common.{AreCounted, Caps, Entry, Holder, KeptScene, KeptTable, KnownSets, OpenMode, P, Scene, Table, acked, changed, counted-held}
+use Rattle.capstep.proofs.Common.{AreCounted, Caps, Entry, Holder, KeptScene, KeptTable, ClientViews, OpenMode, P, Scene, Table, acked, changed, counted-held}
 use Rattle.capstep.proofs.Common.{entry_at, first_failing, has_pin, opening_wants, plain, revoked_of, same_found, test_at, touched, union, wanting, with_entry}
 use Rattle.capstep.proofs.Common.{without, without_acked, without_released}
 use Rattle.capstep.proofs.CountsKept.{counted-entry, counted-less}
@@ -104,7 +104,7 @@ pub returns-clause-kept : goal.returns-clause-kept
 returns-clause-kept c =
     let s : Scene = plain c.args.scene.now in
     let k : Holder = c.args.holder in
-    let sets : KnownSets = c.args.scene.now.table.kept in
+    let sets : ClientViews = c.args.scene.now.table.kept in
     let m = c.match-request in
     let step : c.touch.new.self ≡ record m.scene.table { entries = with_want m.scene.table.entries k (λ _. m.wanted) } = c.touch.ensures ∙ ap (λ (t : KeptTable). record t { entries = touched t.entries k }) c.set_want.ensures in
     subst (λ (t : KeptTable). StillKept s t.entries sets t.kept) (sym step)

@@ -2,7 +2,7 @@ use Rattle.std.proofs.Common.{◌≡◌, ◌<◌, Bool, true, false, cond, List,
 use Rattle.std.specs.FinSet as set
 use Rattle.capbits.specs.Caps.{has}
 use Rattle.lockmachine.proofs.CountsStay.{held-map}
-use Rattle.capstep.proofs.Common.{AreCounted, CountedLocks, EntryRow, Fc, Ino, KeptTable, KnownAnew, KnownSets, Scene, Table, changed_where, counted-held}
+use Rattle.capstep.proofs.Common.{AreCounted, CountedLocks, EntryRow, Fc, Ino, KeptTable, KnownAnew, ClientViews, Scene, Table, changed_where, counted-held}
 use Rattle.capstep.proofs.Common.{has_session, is_sized, known_in, owed, permitted_of, plain, remade, sizes_owed, was-there, with_size_due}
 use Rattle.capstep.proofs.IssuedRows.{counted-issued}
 use Rattle.capstep.proofs.ManyInodes.{holders-stay}
@@ -14,7 +14,7 @@ use Rattle.capstep.specs.Serves.{EndsAt}
 use Rattle.capstep.proofs.finish.finish.Goals as goal
 
 -- the step may end still where sizes are owed
-still-may : (sized : List Ino) (known : KnownSets) (s : Scene) → MayEnd known s → MayEnd known (sizes_owed sized s)
+still-may : (sized : List Ino) (known : ClientViews) (s : Scene) → MayEnd known s → MayEnd known (sizes_owed sized s)
 still-may sized known s may = record {
   numbers = owed-numbers (is_sized sized) (λ seq. seq < 18446744073709551615) s.table may.numbers;
   clients = holders-stay (is_sized sized) owed (λ h. IsTrue (has_session s.sessions h.client.0)) s.table may.clients;
@@ -26,7 +26,7 @@ module _ (c : After-owe_sizes) where
   s = plain c.args.scene.now
 
   abbrev sized : List Ino
-  sized = c.args.endings.now.sized.items
+  sized = c.args.output.now.sized.items
 
   owes : c.owe_sizes.new.table ≡ record c.args.scene.now.table { entries = changed_where (is_sized sized) owed s.table }
   owes = c.owe_sizes.ensures ∙ ap (λ (sized : List Ino). record c.args.scene.now.table { entries = changed_where (is_sized sized) owed s.table }) c.as_slice.ensures.value

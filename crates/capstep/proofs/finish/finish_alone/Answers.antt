@@ -9,7 +9,7 @@ use Rattle.std.specs.FinSet as set
 use Rattle.capbits.specs.Sets.{no_caps}
 use Rattle.captable.proofs.OneByOne.{one_at_once}
 use Rattle.capstep.specs.Known.{HasAll}
-use Rattle.capstep.proofs.Common.{AreCounted, Caps, Entry, EntryRow, Holder, InodeLocks, IsTable, KeptScene, KeptTable, KnownAnew, KnownSets, OthersHaveAll}
+use Rattle.capstep.proofs.Common.{AreCounted, Caps, Entry, EntryRow, Holder, InodeLocks, IsTable, KeptScene, KeptTable, KnownAnew, ClientViews, OthersHaveAll}
 use Rattle.capstep.proofs.Common.{Scene, Table, changed_by, changed_where, entry_at, entry_of, entry_under, find_passes, found-contains, is_row_of, kept-as}
 use Rattle.capstep.proofs.Common.{kept-none, known_anew, known_in, known_of, meet, none_found, permitted_of, plain, remade, renumbered, row_found}
 use Rattle.capstep.proofs.Common.{row_of-entry, same, same-is, same_equiv, told-less, told_at, told_set}
@@ -25,7 +25,7 @@ use Rattle.capstep.proofs.finish.finish_alone.Goals as goal
 
 -- ---- an entry that has all
 
-module _ (sets : KnownSets) (s : Scene) (row : EntryRow) (all : HasAll sets s row) where
+module _ (sets : ClientViews) (s : Scene) (row : EntryRow) (all : HasAll sets s row) where
   -- at the end its client is to know of what it is to know of already
   told-alike : told_then s row ≡ told_set s row
   told-alike = ap (told_set s) (same-issue_row s row all.0)
@@ -40,7 +40,7 @@ module _ (sets : KnownSets) (s : Scene) (row : EntryRow) (all : HasAll sets s ro
 
 -- ---- the entries of an inode
 
-module _ (sets : KnownSets) (s : Scene) (k : Holder) (others : OthersHaveAll sets s k) (table : IsTable s.table) where
+module _ (sets : ClientViews) (s : Scene) (k : Holder) (others : OthersHaveAll sets s k) (table : IsTable s.table) where
   -- what the end of the step makes of an entry
   abbrev last : EntryRow → Entry
   last = finished_entry (known_in sets) s
@@ -67,7 +67,7 @@ module _ (sets : KnownSets) (s : Scene) (k : Holder) (others : OthersHaveAll set
       ∙ each-alike (λ row. cond (is_row_of k row) (remade last row) row) (λ row. cond (row.holder.ino.0 == k.ino.0) (remade last row) row) s.table.rows row-alike)
 
   -- and to keep anew what the holder's client is to know of, is to keep it of all
-  alone-kept : (now : KnownSets) → KnownAnew (λ j. same j k) (told_then s) s.table sets now → KnownAnew (λ j. j.ino.0 == k.ino.0) (told_then s) s.table sets now
+  alone-kept : (now : ClientViews) → KnownAnew (λ j. same j k) (told_then s) s.table sets now → KnownAnew (λ j. j.ino.0 == k.ino.0) (told_then s) s.table sets now
   alone-kept now kept j = kept j ∙ by_tests (same j k) refl (j.ino.0 == k.ino.0) refl (find (is_row_of j) s.table.rows) refl
     where
       by_tests : (a : Bool) → same j k ≡ a → (b : Bool) → (j.ino.0 == k.ino.0) ≡ b → (o : Option EntryRow) → find (is_row_of j) s.table.rows ≡ o
@@ -103,7 +103,7 @@ module _ (c : After-forget_affected) where
   abbrev k : Holder
   k = c.args.holder
 
-  abbrev was : KnownSets
+  abbrev was : ClientViews
   was = c.args.scene.now.table.kept
 
   abbrev g : EntryRow → Entry

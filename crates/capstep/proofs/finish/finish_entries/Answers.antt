@@ -11,7 +11,7 @@ use Rattle.std.specs.Option.{unwrap_or}
 use Rattle.capbits.specs.Sets.{no_caps}
 use Rattle.capstep.proofs.KeptSets.{kept-on, not-yet}
 use Rattle.capstep.proofs.AtEnd.{distinct-on, named, named-clients}
-use Rattle.capstep.proofs.Common.{Caps, Entry, EntryRow, Holder, KnownAnew, KnownSets, Table, changed, changed_by, changed_where, due_under, entries_on}
+use Rattle.capstep.proofs.Common.{Caps, Entry, EntryRow, Holder, KnownAnew, ClientViews, Table, changed, changed_by, changed_where, due_under, entries_on}
 use Rattle.capstep.proofs.Common.{entry_at, entry_of, entry_under, filter-contains, fold-changed_by, fold-on_inode, found-contains, found-stays, holder}
 use Rattle.capstep.proofs.Common.{holders_of_rows, is_among, is_of_inode, is_row_of, kept-nobody, kept-none, kept-not, kept-same, kept-then, known_in}
 use Rattle.capstep.proofs.Common.{none_found, numbered_as, permitted_of, row_of-entry, same, same-is, told_at}
@@ -24,7 +24,7 @@ module _ (c : After-is_empty) where
   ks = named c.args.ino c.as_slice-numbers.result.now
 
   -- what the end of the step makes of an entry of which this is known, and tells its client
-  abbrev made : KnownSets → EntryRow → Entry
+  abbrev made : ClientViews → EntryRow → Entry
   made sets = entry_under (known_in sets) c.args.policy.now.fs.now c.args.policy.now.tree.now c.args.policy.now.sessions.now c.args.locks.now
 
   abbrev says : EntryRow → Caps
@@ -34,11 +34,11 @@ module _ (c : After-is_empty) where
   all = ap (named c.args.ino) (c.as_slice-numbers.ensures.value ∙ c.clients_on-clients.ensures.clients) ∙ named-clients c.args.ino c.args.table.now.entries.rows
 
   -- so many were gone through
-  module _ (i : ℕ) (u : Table) (mid : KnownSets) (table : u ≡ fold (changed_by (made c.args.table.now.kept)) c.args.table.now.entries (take i ks)) (known : KnownAnew (is_among (take i ks)) says c.args.table.now.entries c.args.table.now.kept mid) where
+  module _ (i : ℕ) (u : Table) (mid : ClientViews) (table : u ≡ fold (changed_by (made c.args.table.now.kept)) c.args.table.now.entries (take i ks)) (known : KnownAnew (is_among (take i ks)) says c.args.table.now.entries c.args.table.now.kept mid) where
     abbrev t : Table
     t = c.args.table.now.entries
 
-    abbrev was : KnownSets
+    abbrev was : ClientViews
     was = c.args.table.now.kept
 
     abbrev g : EntryRow → Entry
@@ -85,7 +85,7 @@ module _ (c : After-is_empty) where
           ap (λ (o : Option Caps). numbered_as (unwrap_or o no_caps) (says row) (due_under c.args.policy.now.fs.now c.args.policy.now.tree.now c.args.policy.now.sessions.now c.args.locks.now row) row)
           (kept-not (is_among (take i ks)) says t was mid known next named_before)
 
-      one_more : (v : Table) (now : KnownSets) → v ≡ changed_by (made mid) u next → KnownAnew (λ j. same j next) says u mid now
+      one_more : (v : Table) (now : ClientViews) → v ≡ changed_by (made mid) u next → KnownAnew (λ j. same j next) says u mid now
           → (v ≡ fold (changed_by g) t (take (i + 1) ks)) × KnownAnew (is_among (take (i + 1) ks)) says t was now
       one_more v now step kept =
           let more : take (i + 1) ks ≡ take i ks ++ next ∷ [] = take_more ks i next inside ∙ ap (λ (k : Holder). take i ks ++ k ∷ []) here in (
@@ -128,7 +128,7 @@ pub loop-number-preserved : goal.loop-number-preserved
 loop-number-preserved g =
     let c = (goal.at.loop-number-preserved g).After-is_empty in
     let u : Table = g.loop-number.table.entries in
-    let mid : KnownSets = g.loop-number.table.kept in
+    let mid : ClientViews = g.loop-number.table.kept in
     let k : Holder = holder (record { 0 = get_or c.as_slice-numbers.result.now g.loop-number.number-index 0 }) c.args.ino in
     let done : (g.match-find_near.table.entries ≡ changed_by (made c mid) u k) × KnownAnew (λ j. same j k) (says c) u mid g.match-find_near.table.kept × ((j : Holder) → permitted_of g.match-find_near.table.kept j ≡ permitted_of mid j) =
     elim g.match-find_near.branch [

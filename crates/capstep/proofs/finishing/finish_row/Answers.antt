@@ -9,12 +9,12 @@ use Rattle.captable.proofs.Changes.{left_found, same_found}
 use Rattle.captable.specs.Calls.{changed, issued}
 use Rattle.captable.specs.Kept.{KeptTable, telling}
 use Rattle.capstep.proofs.Beside.{keeping-other, keeping-own}
-use Rattle.capstep.proofs.CommonActs.{Caps, Entry, EntryRow, Holder, Sets, Table, entry_at, no_caps, permitted, renumbered, same}
+use Rattle.capstep.proofs.CommonActs.{Caps, Entry, EntryRow, Holder, ClientView, Table, entry_at, no_caps, permitted, renumbered, same}
 use Rattle.capstep.proofs.Held.{same-renumbered}
 use Rattle.capstep.proofs.KeptSets.{kept-one}
 use Rattle.capstep.proofs.Renewed.{kept-is}
 use Rattle.capstep.proofs.finishing.finish_row.Goals.{After-meet-before, else-ne, then-ne}
-use Rattle.capstep.specs.Known.{KnownAnew, KnownSets, known_in, permitted_of, sets_of}
+use Rattle.capstep.specs.Known.{KnownAnew, ClientViews, known_in, permitted_of, sets_of}
 use Rattle.capstep.specs.Finishing as words
 use Rattle.capstep.proofs.finishing.finish_row.Goals as goal
 
@@ -36,7 +36,7 @@ was : (c : After-meet-before) → (sets_of c.args.table.now.kept c.args.row.hold
     × (c.kept_near-kept.result.permitted ≡ permitted c.args.policy.now.fs.now c.args.policy.now.tree.now c.args.policy.now.sessions.now c.args.row.holder)
 was c =
     let is = kept-is (sets_of c.args.table.now.kept c.args.row.holder) (permitted c.args.policy.now.fs.now c.args.policy.now.tree.now c.args.policy.now.sessions.now c.args.row.holder) c.requires.permitted in
-    (is.0 ∙ ap Some (sym c.kept_near-kept.ensures), ap (λ (s : Sets). s.permitted) c.kept_near-kept.ensures ∙ is.1)
+    (is.0 ∙ ap Some (sym c.kept_near-kept.ensures), ap (λ (s : ClientView). s.permitted) c.kept_near-kept.ensures ∙ is.1)
 
 due : (c : After-meet-before) → c.meet-due.result ≡ due_of c c.args.row
 due c = let may = (was c).1 in cc
@@ -49,7 +49,7 @@ told c =
 -- the entry with all that is due, numbered
 made : (c : After-meet-before) → renumbered c.meet-before.result c.told_under-told.result (issued c.meet-due.result c.args.row.entry) ≡ made_of c c.args.row
 made c =
-    let before = c.meet-before.ensures ∙ ap (λ (o : Option Sets). meet (unwrap_or (option_map (λ (s : Sets). s.told) o) no_caps) c.args.row.entry.held) (sym (was c).0) in
+    let before = c.meet-before.ensures ∙ ap (λ (o : Option ClientView). meet (unwrap_or (option_map (λ (s : ClientView). s.told) o) no_caps) c.args.row.entry.held) (sym (was c).0) in
     λ i. renumbered (before i) (told c i) (issued (due c i) c.args.row.entry)
 
 -- what is kept at the end, beside the same entries
@@ -76,7 +76,7 @@ kept c = elim c.if-ne.branch [
   )
 ]
 
-abbrev KeptAnew : After-meet-before → KnownSets → Type 0
+abbrev KeptAnew : After-meet-before → ClientViews → Type 0
 KeptAnew c sets = KnownAnew (λ k. same k c.args.row.holder) (told_of c) c.args.table.now.entries c.args.table.now.kept sets × ((k : Holder) → permitted_of sets k ≡ permitted_of c.args.table.now.kept k)
 
 known : (c : After-meet-before) → KeptAnew c c.if-ne.table.kept

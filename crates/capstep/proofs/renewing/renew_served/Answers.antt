@@ -4,13 +4,13 @@ use Rattle.captable.specs.Kept.{KeptTable}
 use Rattle.lockmachine.specs.Scene.{plain}
 use Rattle.capstep.proofs.CommonActs.{ArePermitted, Caps, Holder, Nodes, Operation, Rmdir, Scene, Table, Unlink, permitted, tree_after, tree_with}
 use Rattle.capstep.proofs.Renewed.{alike-far, alike-off, along-begins, along-ends, inodes-more, is_at, permitted-on}
-use Rattle.capstep.specs.Known.{KnownSets}
+use Rattle.capstep.specs.Known.{ClientViews}
 use Rattle.capstep.specs.Renewing.{Renews, has_entry}
 use Rattle.capstep.specs.Served.{is_rename}
 use Rattle.capstep.proofs.renewing.renew_served.Goals as goal
 
 -- the tree is that of before
-still : (sets : KnownSets) (s : Scene) (tree : Nodes) → s.tree ≡ tree → ArePermitted sets s.fs tree s.sessions s.table → ArePermitted sets s.fs s.tree s.sessions s.table
+still : (sets : ClientViews) (s : Scene) (tree : Nodes) → s.tree ≡ tree → ArePermitted sets s.fs tree s.sessions s.table → ArePermitted sets s.fs s.tree s.sessions s.table
 still sets s tree same are = subst (λ (t : Nodes). ArePermitted sets s.fs t s.sessions s.table) (sym same) are
 
 pub returns-clause-permitted : goal.returns-clause-permitted

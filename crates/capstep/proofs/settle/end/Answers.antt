@@ -3,21 +3,21 @@ use Rattle.std.proofs.lemmas.Bool.{eqb-true}
 use Rattle.std.proofs.lemmas.List.{nil_from_length}
 use Rattle.std.specs.FinSet as set
 use Rattle.capstep.proofs.Among.{none-besides, one-counts, one-inode}
-use Rattle.capstep.proofs.Common.{Ended, Ino, InoSet, KnownSets, Scene, leads-then, plain}
+use Rattle.capstep.proofs.Common.{Ended, Ino, InoSet, ClientViews, Scene, leads-then, plain}
 use Rattle.capstep.proofs.NobodyServed.{others-still, served_none, settled-ends, settled-may}
 use Rattle.capstep.proofs.SameLocks.{same-locks}
 use Rattle.capstep.proofs.settle.end.Goals.{After-settle, In-Entry, In-Inodes}
 use Rattle.capstep.specs.Begun.{IsReady, MayEnd, MaySettle}
 use Rattle.capstep.specs.Serves.{EndsAt, EndsWith}
-use Rattle.capstep.specs.declared.endings.Endings.{Endings}
+use Rattle.capstep.specs.declared.output.StepOutput.{StepOutput}
 use Rattle.capstep.specs.declared.settle.Affected.{Affected}
 use Rattle.capstep.specs.declared.settle.Affected.TheVariants.{Entry, Inodes}
 use Rattle.capstep.proofs.settle.end.Goals as goal
 
 -- ---- where one entry alone was affected
 
-entry_ready : (c : In-Entry) → IsReady (Entry c.in-Entry.holder) c.args.scene.now.table.kept (plain c.args.scene.now) c.args.endings.now
-entry_ready c = subst (λ (a : Affected). IsReady a c.args.scene.now.table.kept (plain c.args.scene.now) c.args.endings.now) c.in-Entry.is c.requires.ready
+entry_ready : (c : In-Entry) → IsReady (Entry c.in-Entry.holder) c.args.scene.now.table.kept (plain c.args.scene.now) c.args.output.now
+entry_ready c = subst (λ (a : Affected). IsReady a c.args.scene.now.table.kept (plain c.args.scene.now) c.args.output.now) c.in-Entry.is c.requires.ready
 
 pub settle-requires : goal.settle-requires
 settle-requires c =
@@ -40,8 +40,8 @@ module _ (c : After-settle) where
   only : set.contains c.of-reached.result ≡ (λ other. other == ino)
   only = ap set.contains c.of-reached.ensures ∙ one-inode ino
 
-  ready_was : IsReady (Entry c.in-Entry.holder) c.args.scene.now.table.kept (plain c.args.scene.now) c.args.endings.now
-  ready_was = subst (λ (a : Affected). IsReady a c.args.scene.now.table.kept (plain c.args.scene.now) c.args.endings.now) c.in-Entry.is c.requires.ready
+  ready_was : IsReady (Entry c.in-Entry.holder) c.args.scene.now.table.kept (plain c.args.scene.now) c.args.output.now
+  ready_was = subst (λ (a : Affected). IsReady a c.args.scene.now.table.kept (plain c.args.scene.now) c.args.output.now) c.in-Entry.is c.requires.ready
 
   -- where one inode is affected still, it is none but that
   alone : set.len c.settle.new.affected ≡ 1 → set.contains c.settle.new.affected ≡ (λ other. other == ino)
@@ -51,14 +51,14 @@ module _ (c : After-settle) where
       none-besides c.settle.new.affected ino one (there.among ino (ap (λ (f : ℕ → Bool). f ino) only ∙ eq-eqb ino ino refl))
 
   -- the locks settle, and the step ends
-  ends_there : (sized : List Ino) → c.settle.new.endings.sized.items ≡ sized → (sets : KnownSets) (last : Scene)
+  ends_there : (sized : List Ino) → c.settle.new.output.sized.items ≡ sized → (sets : ClientViews) (last : Scene)
       → EndsAt (set.contains c.settle.new.affected) sized c.settle.new.scene.table.kept sets (plain c.settle.new.scene) last
-      → EndsWith (λ other. other == ino) c.args.scene.now.table.kept sets (plain c.args.scene.now) last c.settle.new.endings.for_clients.items
+      → EndsWith (λ other. other == ino) c.args.scene.now.table.kept sets (plain c.args.scene.now) last c.settle.new.output.for_clients.items
   ends_there sized are sets last ends =
       let settles = c.settle.ensures.settles in
-      subst (λ (from : ℕ → Bool). EndsWith from c.args.scene.now.table.kept sets (plain c.args.scene.now) last c.settle.new.endings.for_clients.items) only
+      subst (λ (from : ℕ → Bool). EndsWith from c.args.scene.now.table.kept sets (plain c.args.scene.now) last c.settle.new.output.for_clients.items) only
       (settled-ends (set.contains c.settle.new.affected) (set.contains c.of-reached.result) c.args.scene.now.table.kept c.settle.new.scene.table.kept sets (plain c.args.scene.now) (plain c.settle.new.scene) last
-      c.settle.new.endings.for_clients.items c.settle.new.endings.sized.items settles c.settle.ensures.tree c.settle.ensures.told c.settle.ensures.permitted
+      c.settle.new.output.for_clients.items c.settle.new.output.sized.items settles c.settle.ensures.tree c.settle.ensures.told c.settle.ensures.permitted
       (subst (λ (sized : List Ino). EndsAt (set.contains c.settle.new.affected) sized c.settle.new.scene.table.kept sets (plain c.settle.new.scene) last) (sym are) ends))
 
   may_end : MayEnd c.settle.new.scene.table.kept (plain c.settle.new.scene)
@@ -68,9 +68,9 @@ pub finish_alone-requires-clause-others : goal.finish_alone-requires-clause-othe
 finish_alone-requires-clause-others c =
     let here = (goal.at.finish_alone-requires-clause-others c).After-settle in
     let ready = ready_was here in
-    let nobody : c.settle.new.endings.for_clients.items ≡ [] = nil_from_length c.settle.new.endings.for_clients.items (omega (arith, eqb-true (vec_len c.settle.new.endings.for_clients) 0 (sym c.is_empty.ensures ∙ c.if-is_empty.true))) in
+    let nobody : c.settle.new.output.for_clients.items ≡ [] = nil_from_length c.settle.new.output.for_clients.items (omega (arith, eqb-true (vec_len c.settle.new.output.for_clients) 0 (sym c.is_empty.ensures ∙ c.if-is_empty.true))) in
     let same = sym c.of_ino.ensures ∙ same-locks c.of_ino.result c.of_ino-before.result (sym c.eq.ensures ∙ c.if-eq.true) ∙ c.of_ino-before.ensures in
-    others-still (set.contains c.settle.new.affected) (set.contains c.of-reached.result) (plain c.args.scene.now) (plain c.settle.new.scene) c.settle.new.endings.for_clients.items c.settle.new.endings.sized.items
+    others-still (set.contains c.settle.new.affected) (set.contains c.of-reached.result) (plain c.args.scene.now) (plain c.settle.new.scene) c.settle.new.output.for_clients.items c.settle.new.output.sized.items
     c.settle.ensures.settles nobody c.args.scene.now.table.kept c.settle.new.scene.table.kept c.in-Entry.holder c.settle.ensures.told same ready.at.1
 
 pub finish_alone-requires-clause-entries : goal.finish_alone-requires-clause-entries
@@ -88,14 +88,14 @@ finish-requires-clause-entries c = may_end (goal.at.finish-requires-clause-entri
 pub returns-then-eq-clause-ends : goal.returns-then-eq-clause-ends
 returns-then-eq-clause-ends c =
     let here = (goal.at.returns-then-eq-clause-ends c).After-settle in
-    let nobody : c.settle.new.endings.for_clients.items ≡ [] = nil_from_length c.settle.new.endings.for_clients.items (omega (arith, eqb-true (vec_len c.settle.new.endings.for_clients) 0 (sym c.is_empty.ensures ∙ c.if-is_empty.true))) in
-    let none = served_none (set.contains c.settle.new.affected) (set.contains c.of-reached.result) (plain c.args.scene.now) (plain c.settle.new.scene) c.settle.new.endings.for_clients.items c.settle.new.endings.sized.items
+    let nobody : c.settle.new.output.for_clients.items ≡ [] = nil_from_length c.settle.new.output.for_clients.items (omega (arith, eqb-true (vec_len c.settle.new.output.for_clients) 0 (sym c.is_empty.ensures ∙ c.if-is_empty.true))) in
+    let none = served_none (set.contains c.settle.new.affected) (set.contains c.of-reached.result) (plain c.args.scene.now) (plain c.settle.new.scene) c.settle.new.output.for_clients.items c.settle.new.output.sized.items
     c.settle.ensures.settles nobody in
     rw c.in-Entry.is (ends_there here [] none.0 c.finish_alone.new.scene.table.kept (plain c.finish_alone.new.scene) c.finish_alone.ensures.ends)
 
 pub returns-then-eq-clause-lead : goal.returns-then-eq-clause-lead
 returns-then-eq-clause-lead c =
-    leads-then c.args.endings.now.changes.items c.settle.new.endings.changes.items c.finish_alone.new.changes.items c.args.scene.now.tree c.settle.new.scene.tree c.finish_alone.new.scene.tree
+    leads-then c.args.output.now.changes.items c.settle.new.output.changes.items c.finish_alone.new.changes.items c.args.scene.now.tree c.settle.new.scene.tree c.finish_alone.new.scene.tree
     c.settle.ensures.lead c.finish_alone.ensures.lead
 
 pub returns-in-Entry-clause-ends : goal.returns-in-Entry-clause-ends
@@ -103,18 +103,18 @@ returns-in-Entry-clause-ends c =
     let here = (goal.at.returns-in-Entry-clause-ends c).After-settle in
     rw c.in-Entry.is
     (subst (λ (for_clients : List Ended). EndsWith (λ other. other == ino here) c.args.scene.now.table.kept c.finish.new.scene.table.kept (plain c.args.scene.now) (plain c.finish.new.scene) for_clients)
-    (sym (ap (λ (e : Endings). e.for_clients.items) c.finish.ensures.rest))
-    (ends_there here c.settle.new.endings.sized.items refl c.finish.new.scene.table.kept (plain c.finish.new.scene) c.finish.ensures.ends))
+    (sym (ap (λ (e : StepOutput). e.for_clients.items) c.finish.ensures.rest))
+    (ends_there here c.settle.new.output.sized.items refl c.finish.new.scene.table.kept (plain c.finish.new.scene) c.finish.ensures.ends))
 
 pub returns-in-Entry-clause-lead : goal.returns-in-Entry-clause-lead
 returns-in-Entry-clause-lead c =
-    leads-then c.args.endings.now.changes.items c.settle.new.endings.changes.items c.finish.new.endings.changes.items c.args.scene.now.tree c.settle.new.scene.tree c.finish.new.scene.tree
+    leads-then c.args.output.now.changes.items c.settle.new.output.changes.items c.finish.new.output.changes.items c.args.scene.now.tree c.settle.new.scene.tree c.finish.new.scene.tree
     c.settle.ensures.lead c.finish.ensures.lead
 
 -- ---- at several inodes
 
-inodes_ready : (c : In-Inodes) → IsReady (Inodes c.in-Inodes.inos) c.args.scene.now.table.kept (plain c.args.scene.now) c.args.endings.now
-inodes_ready c = subst (λ (a : Affected). IsReady a c.args.scene.now.table.kept (plain c.args.scene.now) c.args.endings.now) c.in-Inodes.is c.requires.ready
+inodes_ready : (c : In-Inodes) → IsReady (Inodes c.in-Inodes.inos) c.args.scene.now.table.kept (plain c.args.scene.now) c.args.output.now
+inodes_ready c = subst (λ (a : Affected). IsReady a c.args.scene.now.table.kept (plain c.args.scene.now) c.args.output.now) c.in-Inodes.is c.requires.ready
 
 pub settle-requires-in-Inodes : goal.settle-requires-in-Inodes
 settle-requires-in-Inodes c =
@@ -132,12 +132,12 @@ returns-clause-ends c =
     let settled : Scene = plain c.settle-in-Inodes.new.scene in
     rw c.in-Inodes.is
     (subst (λ (for_clients : List Ended). EndsWith (set.contains c.in-Inodes.inos) c.args.scene.now.table.kept c.finish-in-Inodes.new.scene.table.kept (plain c.args.scene.now) (plain c.finish-in-Inodes.new.scene) for_clients)
-    (sym (ap (λ (e : Endings). e.for_clients.items) c.finish-in-Inodes.ensures.rest))
+    (sym (ap (λ (e : StepOutput). e.for_clients.items) c.finish-in-Inodes.ensures.rest))
     (settled-ends (set.contains c.settle-in-Inodes.new.affected) (set.contains c.in-Inodes.inos) c.args.scene.now.table.kept c.settle-in-Inodes.new.scene.table.kept c.finish-in-Inodes.new.scene.table.kept
-    (plain c.args.scene.now) settled (plain c.finish-in-Inodes.new.scene) c.settle-in-Inodes.new.endings.for_clients.items c.settle-in-Inodes.new.endings.sized.items
+    (plain c.args.scene.now) settled (plain c.finish-in-Inodes.new.scene) c.settle-in-Inodes.new.output.for_clients.items c.settle-in-Inodes.new.output.sized.items
     c.settle-in-Inodes.ensures.settles c.settle-in-Inodes.ensures.tree c.settle-in-Inodes.ensures.told c.settle-in-Inodes.ensures.permitted c.finish-in-Inodes.ensures.ends))
 
 pub returns-clause-lead : goal.returns-clause-lead
 returns-clause-lead c =
-    leads-then c.args.endings.now.changes.items c.settle-in-Inodes.new.endings.changes.items c.finish-in-Inodes.new.endings.changes.items
+    leads-then c.args.output.now.changes.items c.settle-in-Inodes.new.output.changes.items c.finish-in-Inodes.new.output.changes.items
     c.args.scene.now.tree c.settle-in-Inodes.new.scene.tree c.finish-in-Inodes.new.scene.tree c.settle-in-Inodes.ensures.lead c.finish-in-Inodes.ensures.lead

@@ -37,11 +37,11 @@ returns-clause-served c =
       ended outcome,
       serves,
       c.push.ensures.for_clients,
-      c.push.ensures.for_history ∙ ap (λ (o : Outcome). c.args.endings.now.for_history.items ++ ended o ∷ []) c.serve-served.ensures.for_history,
+      c.push.ensures.for_history ∙ ap (λ (o : Outcome). c.args.output.now.for_history.items ++ ended o ∷ []) c.serve-served.ensures.for_history,
       λ q there.
           let same : request ≡ q = (let both : Some request ≡ Some q = c.in-Some.ensures.request ∙ there in cc) in
           c.push.ensures.sized
-          ∙ ap (λ (sized : Option Ino). c.args.endings.now.sized.items ++ filter_map (λ (ino : Option Ino). ino) (sized ∷ []))
+          ∙ ap (λ (sized : Option Ino). c.args.output.now.sized.items ++ filter_map (λ (ino : Option Ino). ino) (sized ∷ []))
           (c.changed_inodes-sized.ensures.sized ∙ ap (λ (r : Request). sized_by (Served r outcome)) same),
     )
 
@@ -55,7 +55,7 @@ returns-clause-permitted c =
     let old : Scene = plain c.args.scene.now in
     let request : Request = c.in-Some.request in
     let outcome : Outcome = c.serve-served.result.outcome in
-    let affected : InoSet = c.reach-room.new.affected in
+    let affected : InoSet = c.add_held_below-room.new.affected in
     let is = c.serve-served.ensures.rest in
     let after = c.serve-served.ensures.tree in
     let from : ServedFrom old.tree request outcome affected (plain c.serve-served.new.scene) = record {
@@ -63,7 +63,7 @@ returns-clause-permitted c =
       alike = λ other apart below. subst (λ (t : Nodes). IsAlike old.tree t other) (sym after)
           (alike-apart old request outcome other c.requires.tree (c.serve-served.ensures.ends old.table old.locks) apart below);
       covers = subst (λ (t : Table). (c.serve-served.new.scene.tree ≡ old.tree) ⊎ Covers request old.tree t affected) (sym (ap (λ (s : KeptScene). s.table.entries) is))
-          (covered c.reach-room.result c.reach-room.ensures.covers (λ failed. c.serve-served.ensures.stays (c.is_ok.ensures.value ∙ failed)));
+          (covered c.add_held_below-room.result c.add_held_below-room.ensures.covers (λ failed. c.serve-served.ensures.stays (c.is_ok.ensures.value ∙ failed)));
     } in
     subst (λ (s : KeptScene). ArePermittedIn c.renew_served.new.scene.table.kept (plain s)) (sym c.renew_served.ensures.rest)
     (c.renew_served.ensures.permitted old.tree from

@@ -11,7 +11,7 @@ use Rattle.capstep.proofs.Common.{tree_after}
 use Rattle.capstep.proofs.Judged.{none-judged, still-judged}
 use Rattle.capstep.proofs.Moved.{moved-all, tree-moved}
 use Rattle.capstep.proofs.OneChange.{within-after}
-use Rattle.capstep.proofs.SoFar.{GoesOnBehind, IsSoFar, so-far-begins, so-far-served, so-far-settled, so-far-swept, stands-behind, stands-first, turn-at_first}
+use Rattle.capstep.proofs.SoFar.{GoesOnBehind, IsSoFar, so-far-begins, so-far-served, so-far-settled, so-far-swept, stands-behind, stands-first, cursor-at_first}
 use Rattle.capstep.proofs.settle.settle.Goals.{After-serve_next-changed, In-Some}
 use Rattle.capstep.proofs.settle.settle.Invariants.{invariant-servings}
 use Rattle.capstep.specs.Begun.{ArePermittedIn}
@@ -54,13 +54,13 @@ servings-init c =
     let room = c.requires.room in
     record {
       so_far =
-          subst (λ (for_clients : List Ended). IsSoFar at c.args.affected.now first now for_clients c.args.endings.now.sized.items) (sym c.requires.room.for_clients)
+          subst (λ (for_clients : List Ended). IsSoFar at c.args.affected.now first now for_clients c.args.output.now.sized.items) (sym c.requires.room.for_clients)
           (subst (IsSoFar at c.args.affected.now first now []) (sym c.requires.room.sized) so);
-      stands = stands-first c.args.affected.now now c.first-place.result (turn-at_first c.args.affected.now now so.still c.end_gathers.ensures.ends) so.waits c.first-place.ensures;
+      stands = stands-first c.args.affected.now now c.first-place.result (cursor-at_first c.args.affected.now now so.still c.end_gathers.ensures.ends) so.waits c.first-place.ensures;
       walked = none-walked c.new-walked.result c.args.scene.now.tree c.args.scene.now.table.entries c.args.affected.now c.new-walked.ensures;
-      judged = still-judged c.args.endings.now.judged first now.locks swept.queue c.requires.judged;
+      judged = still-judged c.args.output.now.judged first now.locks swept.queue c.requires.judged;
       same = c.requires.room.for_history ∙ sym c.requires.room.for_clients;
-      lead = leads-none c.args.endings.now.changes.items c.args.scene.now.tree;
+      lead = leads-none c.args.output.now.changes.items c.args.scene.now.tree;
       places = omega (arith, queue, c.requires.places);
       known = λ k. refl;
       permitted = c.requires.permitted;
@@ -92,8 +92,8 @@ module _ (c : In-Some) where
   mid = plain c.sweep.new.scene
 
   -- gathers began and ended
-  swept : IsSoFar (from c) c.servings.affected first mid c.servings.endings.for_clients.items c.servings.endings.sized.items
-  swept = so-far-swept (set.contains c.args.affected.now) c.servings.affected first now c.servings.endings.for_clients.items c.servings.endings.sized.items c.servings.invariant.so_far mid c.sweep.ensures.swept
+  swept : IsSoFar (from c) c.servings.affected first mid c.servings.output.for_clients.items c.servings.output.sized.items
+  swept = so-far-swept (set.contains c.args.affected.now) c.servings.affected first now c.servings.output.for_clients.items c.servings.output.sized.items c.servings.invariant.so_far mid c.sweep.ensures.swept
 
   -- the moves so far leave the requests in their order, and a tree
   order : IsLockMap mid.locks
@@ -138,7 +138,7 @@ serve_next-changed-requires-clause-permitted c =
 pub serve_next-changed-requires-clause-judged : goal.serve_next-changed-requires-clause-judged
 serve_next-changed-requires-clause-judged c =
     let is = c.sweep.ensures.swept in
-    let judged = c.servings.endings.judged in
+    let judged = c.servings.output.judged in
     subst (IsJudged judged) (sym is.is) (still-judged judged (plain c.servings.scene) c.sweep.new.scene.locks.locks is.queue c.servings.invariant.judged)
 
 pub serve_next-changed-requires-clause-for_clients : goal.serve_next-changed-requires-clause-for_clients
@@ -169,13 +169,13 @@ module _ (c : After-serve_next-changed) where
   abbrev reaches : Reaches serves.request c.sweep.new.scene.tree c.serve_next-changed.new.scene.tree c.sweep.new.scene.table.entries c.servings.affected c.serve_next-changed.new.affected
   reaches = c.serve_next-changed.ensures.reached serves.request serves.waits
 
-  served : IsSoFar (from (before_serving c)) c.serve_next-changed.new.affected (first (before_serving c)) new (c.servings.endings.for_clients.items ++ ended ∷ []) (c.servings.endings.sized.items ++ sized_in (Served serves.request ended.outcome ∷ []))
+  served : IsSoFar (from (before_serving c)) c.serve_next-changed.new.affected (first (before_serving c)) new (c.servings.output.for_clients.items ++ ended ∷ []) (c.servings.output.sized.items ++ sized_in (Served serves.request ended.outcome ∷ []))
   served =
-      so-far-served (from (before_serving c)) c.servings.affected (first (before_serving c)) (mid (before_serving c)) c.servings.endings.for_clients.items c.servings.endings.sized.items (swept (before_serving c))
+      so-far-served (from (before_serving c)) c.servings.affected (first (before_serving c)) (mid (before_serving c)) c.servings.output.for_clients.items c.servings.output.sized.items (swept (before_serving c))
       c.in-Some.ticket ended new c.serve_next-changed.new.affected (order (before_serving c)) (tree (before_serving c)) (move (before_serving c)) serves reaches
 
-  one_more : length (c.servings.endings.for_clients.items ++ ended ∷ []) ≡ length c.servings.endings.for_clients.items + 1
-  one_more = length-append c.servings.endings.for_clients.items (ended ∷ [])
+  one_more : length (c.servings.output.for_clients.items ++ ended ∷ []) ≡ length c.servings.output.for_clients.items + 1
+  one_more = length-append c.servings.output.for_clients.items (ended ∷ [])
 
   one_less : length c.serve_next-changed.new.scene.locks.locks.queue + 1 ≡ length c.servings.scene.locks.locks.queue
   one_less =
@@ -186,11 +186,11 @@ module _ (c : After-serve_next-changed) where
 -- the invariant, where the sweep goes on here
 abbrev Holds : After-serve_next-changed → SweepPlace → Type 0
 Holds c next = invariant-servings (record {
-  fn = record { scene = c.args.scene.now; affected = c.args.affected.now; endings = c.args.endings.now };
-  initial = record { scene = record c.args.scene.now { locks = c.end_gathers.new.locks }; affected = c.args.affected.now; endings = c.args.endings.now; walked = c.new-walked.result; place = c.first-place.result };
+  fn = record { scene = c.args.scene.now; affected = c.args.affected.now; output = c.args.output.now };
+  initial = record { scene = record c.args.scene.now { locks = c.end_gathers.new.locks }; affected = c.args.affected.now; output = c.args.output.now; walked = c.new-walked.result; place = c.first-place.result };
   scene = c.serve_next-changed.new.scene;
   affected = c.serve_next-changed.new.affected;
-  endings = c.serve_next-changed.new.endings;
+  output = c.serve_next-changed.new.output;
   walked = c.serve_next-changed.new.walked;
   place = next;
 })
@@ -198,31 +198,31 @@ Holds c next = invariant-servings (record {
 holds : (c : After-serve_next-changed) (next : SweepPlace) → GoesOnBehind c.sweep.new.place c.serve_next-changed.result c.serve_next-changed.new.affected next → Holds c next
 holds c next goes =
     let all = c.serve_next-changed.ensures.served in
-    let same : c.serve_next-changed.new.endings.for_history.items ≡ c.serve_next-changed.new.endings.for_clients.items = all.3 ∙ ap (λ ms. ms ++ ended c ∷ []) c.servings.invariant.same ∙ sym all.2 in
+    let same : c.serve_next-changed.new.output.for_history.items ≡ c.serve_next-changed.new.output.for_clients.items = all.3 ∙ ap (λ ms. ms ++ ended c ∷ []) c.servings.invariant.same ∙ sym all.2 in
     let request = (serves c).request in
-    let sizes : c.serve_next-changed.new.endings.sized.items ≡ c.servings.endings.sized.items ++ sized_in (Served request (ended c).outcome ∷ []) = all.4 request (serves c).waits in
-    let few_sizes : length c.serve_next-changed.new.endings.sized.items ≤ length c.servings.endings.sized.items + 1 = few-sized c.servings.endings.sized.items c.serve_next-changed.new.endings.sized.items request (ended c).outcome sizes in
-    let more : length c.serve_next-changed.new.endings.for_clients.items ≡ length c.servings.endings.for_clients.items + 1 = ap length all.2 ∙ one_more c in
+    let sizes : c.serve_next-changed.new.output.sized.items ≡ c.servings.output.sized.items ++ sized_in (Served request (ended c).outcome ∷ []) = all.4 request (serves c).waits in
+    let few_sizes : length c.serve_next-changed.new.output.sized.items ≤ length c.servings.output.sized.items + 1 = few-sized c.servings.output.sized.items c.serve_next-changed.new.output.sized.items request (ended c).outcome sizes in
+    let more : length c.serve_next-changed.new.output.for_clients.items ≡ length c.servings.output.for_clients.items + 1 = ap length all.2 ∙ one_more c in
     let less = one_less c in
-    let history_more : length c.serve_next-changed.new.endings.for_history.items ≡ length c.servings.endings.for_history.items + 1 = ap length same ∙ more ∙ ap (λ (ms : List Ended). length ms + 1) (sym c.servings.invariant.same) in
+    let history_more : length c.serve_next-changed.new.output.for_history.items ≡ length c.servings.output.for_history.items + 1 = ap length same ∙ more ∙ ap (λ (ms : List Ended). length ms + 1) (sym c.servings.invariant.same) in
     let room = c.serve_next-changed.ensures.room in
     let is = stays (before_serving c) in
     record {
       so_far =
-          subst (λ (for_clients : List Ended). IsSoFar (from (before_serving c)) c.serve_next-changed.new.affected (first (before_serving c)) (new c) for_clients c.serve_next-changed.new.endings.sized.items) (sym all.2)
-          (subst (IsSoFar (from (before_serving c)) c.serve_next-changed.new.affected (first (before_serving c)) (new c) (c.servings.endings.for_clients.items ++ ended c ∷ [])) (sym sizes) (served c));
+          subst (λ (for_clients : List Ended). IsSoFar (from (before_serving c)) c.serve_next-changed.new.affected (first (before_serving c)) (new c) for_clients c.serve_next-changed.new.output.sized.items) (sym all.2)
+          (subst (IsSoFar (from (before_serving c)) c.serve_next-changed.new.affected (first (before_serving c)) (new c) (c.servings.output.for_clients.items ++ ended c ∷ [])) (sym sizes) (served c));
       stands =
-          stands-behind (from (before_serving c)) c.servings.affected (first (before_serving c)) (mid (before_serving c)) c.servings.endings.for_clients.items c.servings.endings.sized.items (swept (before_serving c))
+          stands-behind (from (before_serving c)) c.servings.affected (first (before_serving c)) (mid (before_serving c)) c.servings.output.for_clients.items c.servings.output.sized.items (swept (before_serving c))
           c.in-Some.ticket (ended c) (new c) c.serve_next-changed.new.affected (order (before_serving c)) (tree (before_serving c)) (move (before_serving c)) (serves c) (reaches c)
           c.sweep.new.place next c.serve_next-changed.result c.sweep.ensures.place (c.serve_next-changed.ensures.changed (serves c).request (serves c).waits) goes;
       walked =
           subst (λ (t : Table). AreWalked c.serve_next-changed.new.walked (new c).tree t c.serve_next-changed.new.affected) (sym (ap (λ (s : Scene). s.table) (serves c).is))
           (walked-served c.sweep.new.scene.tree (new c).tree request (ended c).outcome c.sweep.new.scene.table.entries c.serve_next-changed.new.walked c.servings.affected c.serve_next-changed.new.affected
           (ap (λ (s : Scene). s.tree) (serves c).is) (reaches c) c.serve_next-changed.ensures.walked);
-      judged = none-judged c.serve_next-changed.new.endings.judged (new c) c.serve_next-changed.ensures.judged;
+      judged = none-judged c.serve_next-changed.new.output.judged (new c) c.serve_next-changed.ensures.judged;
       same = same;
-      lead = leads-then c.args.endings.now.changes.items c.servings.endings.changes.items c.serve_next-changed.new.endings.changes.items c.args.scene.now.tree c.sweep.new.scene.tree (new c).tree
-          (subst (λ (s : Scene). LeadOn c.args.endings.now.changes.items c.servings.endings.changes.items c.args.scene.now.tree s.tree) (sym is) c.servings.invariant.lead) c.serve_next-changed.ensures.lead;
+      lead = leads-then c.args.output.now.changes.items c.servings.output.changes.items c.serve_next-changed.new.output.changes.items c.args.scene.now.tree c.sweep.new.scene.tree (new c).tree
+          (subst (λ (s : Scene). LeadOn c.args.output.now.changes.items c.servings.output.changes.items c.args.scene.now.tree s.tree) (sym is) c.servings.invariant.lead) c.serve_next-changed.ensures.lead;
       places = omega (arith, less, c.serve_next-changed.ensures.noted, c.serve_next-changed.ensures.places, c.servings.invariant.places);
       known = λ k. c.serve_next-changed.ensures.told k ∙ ap (λ (s : KeptScene). known_of s.table.kept k) c.sweep.ensures.rest ∙ c.servings.invariant.known k;
       permitted = c.serve_next-changed.ensures.permitted;
@@ -250,14 +250,14 @@ returns-clause-settles c =
     let first : Scene = plain c.args.scene.now in
     let now : Scene = plain c.servings.scene in
     let last : Scene = plain c.sweep.new.scene in
-    so-far-settled (set.contains c.args.affected.now) c.servings.affected first last c.servings.endings.for_clients.items c.servings.endings.sized.items
-    (so-far-swept (set.contains c.args.affected.now) c.servings.affected first now c.servings.endings.for_clients.items c.servings.endings.sized.items c.servings.invariant.so_far last c.sweep.ensures.swept)
+    so-far-settled (set.contains c.args.affected.now) c.servings.affected first last c.servings.output.for_clients.items c.servings.output.sized.items
+    (so-far-swept (set.contains c.args.affected.now) c.servings.affected first now c.servings.output.for_clients.items c.servings.output.sized.items c.servings.invariant.so_far last c.sweep.ensures.swept)
     (subst (GoesOn last) c.in_default.is c.sweep.ensures.next)
 
 pub returns-clause-lead : goal.returns-clause-lead
 returns-clause-lead c =
     let swept = c.sweep.ensures.swept in
-    subst (λ (s : Scene). LeadOn c.args.endings.now.changes.items c.servings.endings.changes.items c.args.scene.now.tree s.tree) (sym swept.is) c.servings.invariant.lead
+    subst (λ (s : Scene). LeadOn c.args.output.now.changes.items c.servings.output.changes.items c.args.scene.now.tree s.tree) (sym swept.is) c.servings.invariant.lead
 
 pub returns-clause-permitted : goal.returns-clause-permitted
 returns-clause-permitted c = subst (λ (s : KeptScene). ArePermittedIn s.table.kept (plain s)) (sym c.sweep.ensures.rest) c.servings.invariant.permitted

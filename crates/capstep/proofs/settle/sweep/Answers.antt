@@ -1,9 +1,9 @@
 use Rattle.std.proofs.Common.{◌≡◌, ◌+◌, Some, sym, ap, subst}
 use Rattle.std.specs.FinSet as set
 use Rattle.lockmachine.proofs.Alone.{nobody-done, nobody-kept}
-use Rattle.lockmachine.specs.Turns.{IsDue}
+use Rattle.lockmachine.specs.Cursors.{IsDue}
 use Rattle.capstep.proofs.Common.{IsNext, KeptScene, Scene, plain}
-use Rattle.capstep.proofs.Sweeping.{fewer_behind, last-turn, next-turn, still-kept, swept-on}
+use Rattle.capstep.proofs.Sweeping.{fewer_behind, last-cursor, next-cursor, still-kept, swept-on}
 use Rattle.capstep.proofs.settle.sweep.Goals.{After-advance_at}
 use Rattle.capstep.specs.Begun.{ArePermittedIn}
 use Rattle.capstep.specs.Sweep.{AreStill, IsSwept, StandsAt}
@@ -39,7 +39,7 @@ module _ (c : After-advance_at) where
   -- it stands where it stood
   stands : StandsAt (set.contains c.args.affected.now) c.inodes.place new
   stands = record {
-    turn = c.advance_at.ensures.turn;
+    cursor = c.advance_at.ensures.cursor;
     here = c.inodes.invariant.stands.here;
     alone = λ known. nobody-kept c.inodes.place.at.0 now.locks new.locks c.advance_at.ensures.elsewhere (c.inodes.invariant.stands.alone known);
   }
@@ -69,7 +69,7 @@ inodes-preserved c =
       counted = c.advance_at.ensures.counted;
       swept = more here;
       stands = record {
-        turn = next-turn c.args.affected.now (new here) c.inodes.place.at.0 c.in-Some-after.at (still here) c.advance_at.ensures.turn done next;
+        cursor = next-cursor c.args.affected.now (new here) c.inodes.place.at.0 c.in-Some-after.at (still here) c.advance_at.ensures.cursor done next;
         here = next.has;
         alone = λ known. nobody-done (new here) c.inodes.place.at.0 c.in-Some-after.at.0 done;
       };
@@ -86,11 +86,11 @@ returns-in-None-clause-next c =
     let here = (goal.at.returns-in-None-clause-next c).After-advance_at in
     let beyond = subst (IsNext c.args.affected.now (c.inodes.place.at.0 + 1)) c.in-None.is c.after.ensures in
     let done = subst (IsDue (new here) c.inodes.place.at.0) c.in_default.is c.advance_at.ensures.due in
-    last-turn c.args.affected.now (new here) c.inodes.place.at.0 (still here) c.advance_at.ensures.turn done beyond
+    last-cursor c.args.affected.now (new here) c.inodes.place.at.0 (still here) c.advance_at.ensures.cursor done beyond
 
 pub advance_at-requires : goal.advance_at-requires
 advance_at-requires c = record {
-  turn = c.inodes.invariant.stands.turn;
+  cursor = c.inodes.invariant.stands.cursor;
   alone = c.inodes.invariant.stands.alone;
   permitted = λ k e on here. subst (λ (s : KeptScene). ArePermittedIn s.table.kept (plain s)) (sym c.inodes.invariant.rest) c.requires.permitted k e here;
   counted = c.inodes.invariant.counted;

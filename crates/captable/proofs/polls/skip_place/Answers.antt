@@ -6,18 +6,18 @@ use Rattle.captable.specs.Places.{is_due_at, place_of, same_client}
 use Rattle.captable.specs.Polls.{places_of}
 use Rattle.captable.proofs.Placed.{still}
 use Rattle.captable.proofs.Polled.{counts-kept, places-changed}
-use Rattle.captable.proofs.Quiet.{quiet-put}
+use Rattle.captable.proofs.NotDue.{none_due-put}
 use Rattle.captable.proofs.polls.skip_place.Goals as goal
 
 pub first_due-first-requires : goal.first_due-first-requires
 first_due-first-requires c = c.requires c.args.client c.in-Some.poll.now.place (ap (option_map (λ (poll : Poll). poll.place)) (sym c.in-Some.ensures))
 
-pub returns-in-Some-clause-quiet : goal.returns-in-Some-clause-quiet
-returns-in-Some-clause-quiet c =
+pub returns-in-Some-clause-none_due : goal.returns-in-Some-clause-none_due
+returns-in-Some-clause-none_due c =
     let m = c.args.polls.now in
     let n = c.set_place.new.polls in
     let first = c.first_due-first.result in
-    quiet-put (places_of m) (places_of n) c.args.lists.now c.args.client first (places-changed m c.args.client n (λ _. first) c.set_place.ensures) c.first_due-first.ensures.quiet c.requires
+    none_due-put (places_of m) (places_of n) c.args.lists.now c.args.client first (places-changed m c.args.client n (λ _. first) c.set_place.ensures) c.first_due-first.ensures.none_due c.requires
 
 pub returns-in-Some-clause-due : goal.returns-in-Some-clause-due
 returns-in-Some-clause-due c =

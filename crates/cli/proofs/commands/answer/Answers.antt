@@ -2,9 +2,9 @@ use Rattle.std.proofs.Common.{ℕ, List, rules, sym, subst, ◌∙◌}
 use Rattle.std.specs.Prelude.{IfErr}
 use Rattle.std.proofs.lemmas.Result.{IfErr-at_err}
 use Rattle.script_syntax.specs.Watched.{has_failed, inner_of}
-use Rattle.cli_queries.specs.Answers.{StopsInquiry}
-use Rattle.cli_queries.specs.Checkup.{StopsCheckup}
-use Rattle.cli_queries.specs.Survey.{StopsSurvey}
+use Rattle.cli_queries.specs.Answers.{StopsExplainArgs}
+use Rattle.cli_queries.specs.AuditArgs.{StopsAuditArgs}
+use Rattle.cli_queries.specs.WhoArgs.{StopsWhoArgs}
 use Rattle.cli_queries.specs.Logging.{StopsLog}
 use Rattle.cli_queries.specs.declared.fault.AnswerFault.{AnswerFault}
 use Rattle.cli.proofs.commands.answer.Goals as goal
@@ -13,19 +13,19 @@ use Rattle.cli.proofs.commands.answer.Goals.{in-Audit, in-Compare, in-Explain, i
 pub returns-in-Err-clause-err : goal.returns-in-Err-clause-err
 returns-in-Err-clause-err g c = elim c.match-invocation.branch [
   | in-Explain w ↦
-      let stops = λ (fault : AnswerFault). StopsInquiry w.in-Explain.inquiry fault (g.R.Read.remaining (inner_of c.args.reader.now)) (has_failed w.inquire-answered.new.reader) (has_failed w.inquire-answered.new.writer) (g.W.Write.contents (inner_of c.args.writer.now)) (g.W.Write.contents (inner_of w.inquire-answered.new.writer)) in
-      rw (w.in-Explain.is, w.reader-is, w.writer-is) (IfErr-at_err stops (sym w.answered-is ∙ c.in-Err.is) w.inquire-answered.ensures.err)
+      let stops = λ (fault : AnswerFault). StopsExplainArgs w.in-Explain.explain_args fault (g.R.Read.remaining (inner_of c.args.reader.now)) (has_failed w.explain-answered.new.reader) (has_failed w.explain-answered.new.writer) (g.W.Write.contents (inner_of c.args.writer.now)) (g.W.Write.contents (inner_of w.explain-answered.new.writer)) in
+      rw (w.in-Explain.is, w.reader-is, w.writer-is) (IfErr-at_err stops (sym w.answered-is ∙ c.in-Err.is) w.explain-answered.ensures.err)
   | in-Grants w ↦ search rules
   | in-Compare w ↦ search rules
   | in-Lint w ↦ search rules
   | in-Who w ↦
-      let stops = λ (fault : AnswerFault). StopsSurvey w.in-Who.survey fault (g.R.Read.remaining (inner_of c.args.reader.now)) (has_failed w.tell_who-answered.new.reader) (has_failed w.tell_who-answered.new.writer) (g.W.Write.contents (inner_of c.args.writer.now)) (g.W.Write.contents (inner_of w.tell_who-answered.new.writer)) in
-      rw (w.in-Who.is, w.reader-is, w.writer-is) (IfErr-at_err stops (sym w.answered-is ∙ c.in-Err.is) w.tell_who-answered.ensures.err)
+      let stops = λ (fault : AnswerFault). StopsWhoArgs w.in-Who.who_args fault (g.R.Read.remaining (inner_of c.args.reader.now)) (has_failed w.who-answered.new.reader) (has_failed w.who-answered.new.writer) (g.W.Write.contents (inner_of c.args.writer.now)) (g.W.Write.contents (inner_of w.who-answered.new.writer)) in
+      rw (w.in-Who.is, w.reader-is, w.writer-is) (IfErr-at_err stops (sym w.answered-is ∙ c.in-Err.is) w.who-answered.ensures.err)
   | in-Audit w ↦
-      let stops = λ (fault : AnswerFault). StopsCheckup w.in-Audit.checkup fault (g.R.Read.remaining (inner_of c.args.reader.now)) (has_failed w.check_cluster-answered.new.reader) (has_failed w.check_cluster-answered.new.writer) (g.W.Write.contents (inner_of c.args.writer.now)) (g.W.Write.contents (inner_of w.check_cluster-answered.new.writer)) in
-      rw (w.in-Audit.is, w.reader-is, w.writer-is) (IfErr-at_err stops (sym w.answered-is ∙ c.in-Err.is) w.check_cluster-answered.ensures.err)
+      let stops = λ (fault : AnswerFault). StopsAuditArgs w.in-Audit.audit_args fault (g.R.Read.remaining (inner_of c.args.reader.now)) (has_failed w.audit-answered.new.reader) (has_failed w.audit-answered.new.writer) (g.W.Write.contents (inner_of c.args.writer.now)) (g.W.Write.contents (inner_of w.audit-answered.new.writer)) in
+      rw (w.in-Audit.is, w.reader-is, w.writer-is) (IfErr-at_err stops (sym w.answered-is ∙ c.in-Err.is) w.audit-answered.ensures.err)
   | in-Log w ↦
-      let stops = λ (fs : List ℕ) (fault : AnswerFault). StopsLog fs fault (g.R.Read.remaining (inner_of c.args.reader.now)) (has_failed w.tell_log-answered.new.reader) (has_failed w.tell_log-answered.new.writer) (g.W.Write.contents (inner_of c.args.writer.now)) (g.W.Write.contents (inner_of w.tell_log-answered.new.writer)) in
-      let told = subst (λ (fs : List ℕ). IfErr w.tell_log-answered.result (stops fs)) w.as_slice-in-Log.ensures.value w.tell_log-answered.ensures.err in
+      let stops = λ (fs : List ℕ) (fault : AnswerFault). StopsLog fs fault (g.R.Read.remaining (inner_of c.args.reader.now)) (has_failed w.log-answered.new.reader) (has_failed w.log-answered.new.writer) (g.W.Write.contents (inner_of c.args.writer.now)) (g.W.Write.contents (inner_of w.log-answered.new.writer)) in
+      let told = subst (λ (fs : List ℕ). IfErr w.log-answered.result (stops fs)) w.as_slice-in-Log.ensures.value w.log-answered.ensures.err in
       rw (w.in-Log.is, w.reader-is, w.writer-is) (IfErr-at_err (stops w.in-Log.fs.items) (sym w.answered-is ∙ c.in-Err.is) told)
 ]

@@ -1,7 +1,7 @@
 use Rattle.std.proofs.Common.{ap, ◌∙◌}
 use Rattle.script_syntax.specs.Lines.{lines}
 use Rattle.capscript.specs.Jobs.{work_of}
-use Rattle.cli.specs.Served.{IsUnserved, audit_lines}
+use Rattle.cli.specs.Served.{IsUnserved, history_lines}
 use Rattle.capscript.proofs.Plans.{handed_on}
 use Rattle.cli.proofs.Writing.{stopped_unserved}
 use Rattle.cli.proofs.serving.serve_text.Goals as goal
@@ -17,5 +17,5 @@ returns-clause-text g c = record {
   rows = c.in_ok-core.core.rows;
   last = c.in_ok-core.core.state;
   history = c.in_ok-core.ensures.served;
-  text_is = c.in_ok-text.ensures ∙ ap audit_lines c.history.ensures.rows;
+  text_is = c.in_ok-text.ensures ∙ ap history_lines c.history.ensures.rows;
 }

@@ -1,7 +1,7 @@
 use Rattle.std.proofs.Common.{◌++◌, [], ◌∷◌, List, Some, None, ap, sym, ◌∙◌}
 use Rattle.std.proofs.lemmas.List.{append-nil}
 use Rattle.cluster_audit.specs.declared.conflicts.Conflict.{Conflict}
-use Rattle.cluster_audit.proofs.Rivals.{conflicts_more}
+use Rattle.cluster_audit.proofs.ConflictingCaps.{conflicts_more}
 use Rattle.cluster_audit.proofs.conflicts.push_conflicts.Goals as goal
 use Rattle.cluster_audit.proofs.conflicts.push_conflicts.Goals.{in-Some+in_ok-push, in_default}
 

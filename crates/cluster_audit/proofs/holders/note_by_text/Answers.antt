@@ -10,7 +10,7 @@ use Rattle.cluster_audit.proofs.holders.note_by_text.Goals as goal
 pub returns-in_default : goal.returns-in_default
 returns-in_default c =
     let is : IsFault c.args.text.now c.in-Err.fault = elim c.in-Err.ensures.fault [ inl told ↦ told | inr missed ↦ absurd (c.in_default.not-NoMemory (ap (λ (fault : SpecFault). fault.kind) missed.0)) ] in
-    on_ok_weaker c.print_torn.result
-    (λ more. unknown_added (IsJudgedBy c.args.manner c.args.number c.args.inode.now c.args.client.now c.args.holder.now c.args.text.now) c.args.notes.now (record { found = c.args.notes.now.found; unknown = c.print_torn.new.text }) (unread_in c.args.manner.shape c.args.client.now c.in-Err.fault) refl more
+    on_ok_weaker c.print_bad_grants.result
+    (λ more. unknown_added (IsJudgedBy c.args.manner c.args.number c.args.inode.now c.args.client.now c.args.holder.now c.args.text.now) c.args.notes.now (record { found = c.args.notes.now.found; unknown = c.print_bad_grants.new.text }) (unread_in c.args.manner.shape c.args.client.now c.in-Err.fault) refl more
     (inr (c.in-Err.fault, is, refl, refl)))
-    c.print_torn.ensures
+    c.print_bad_grants.ensures

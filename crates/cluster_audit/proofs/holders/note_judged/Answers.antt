@@ -2,7 +2,7 @@ use Rattle.std.proofs.Common.{ℕ, ◌++◌, refl, sym, ap, inl, inr, ◌∙◌}
 use Rattle.std.proofs.lemmas.Result.{on_ok_weaker}
 use Rattle.cluster_audit.specs.Callers.{Inode}
 use Rattle.cluster_audit.specs.Audited.{IsJudged}
-use Rattle.cluster_audit.specs.Shaped.{found_in, strange_in}
+use Rattle.cluster_audit.specs.Shaped.{found_in, bad_caps_in}
 use Rattle.cluster_audit.proofs.Noting.{found_added, nothing_added, unknown_added}
 use Rattle.cluster_audit.proofs.holders.note_judged.Goals as goal
 
@@ -12,11 +12,11 @@ returns-in_default c =
     let number = c.args.number in
     let i = c.args.inode.now in
     let client = c.args.client.now in
-    on_ok_weaker c.print_strange.result
-    (λ more. unknown_added (IsJudged m number i client c.args.grants.now c.args.holder.now) c.args.notes.now (record { found = c.args.notes.now.found; unknown = c.print_strange.new.text }) (strange_in m.shape number i.path client c.args.holder.now.client) refl
-    (more ∙ ap (λ (at : Inode). c.args.notes.now.unknown.items ++ strange_in m.shape number at.path client c.client-session.result) c.inode.view_is ∙ ap (λ (n : ℕ). c.args.notes.now.unknown.items ++ strange_in m.shape number i.path client n) c.client-session.ensures)
+    on_ok_weaker c.print_bad_caps.result
+    (λ more. unknown_added (IsJudged m number i client c.args.grants.now c.args.holder.now) c.args.notes.now (record { found = c.args.notes.now.found; unknown = c.print_bad_caps.new.text }) (bad_caps_in m.shape number i.path client c.args.holder.now.client) refl
+    (more ∙ ap (λ (at : Inode). c.args.notes.now.unknown.items ++ bad_caps_in m.shape number at.path client c.client-session.result) c.inode.view_is ∙ ap (λ (n : ℕ). c.args.notes.now.unknown.items ++ bad_caps_in m.shape number i.path client n) c.client-session.ensures)
     (inr ((λ issued pending is told. c.in_default.not-Ok issued (c.read_caps.ensures.each_text issued (c.issued.ensures ∙ is))), refl, refl)))
-    c.print_strange.ensures
+    c.print_bad_caps.ensures
 
 pub returns-in_default-read_caps : goal.returns-in_default-read_caps
 returns-in_default-read_caps c =
@@ -24,11 +24,11 @@ returns-in_default-read_caps c =
     let number = c.args.number in
     let i = c.args.inode.now in
     let client = c.args.client.now in
-    on_ok_weaker c.print_strange-in_default-read_caps.result
-    (λ more. unknown_added (IsJudged m number i client c.args.grants.now c.args.holder.now) c.args.notes.now (record { found = c.args.notes.now.found; unknown = c.print_strange-in_default-read_caps.new.text }) (strange_in m.shape number i.path client c.args.holder.now.client) refl
-    (more ∙ ap (λ (at : Inode). c.args.notes.now.unknown.items ++ strange_in m.shape number at.path client c.client-session.result) c.inode.view_is ∙ ap (λ (n : ℕ). c.args.notes.now.unknown.items ++ strange_in m.shape number i.path client n) c.client-session.ensures)
+    on_ok_weaker c.print_bad_caps-in_default-read_caps.result
+    (λ more. unknown_added (IsJudged m number i client c.args.grants.now c.args.holder.now) c.args.notes.now (record { found = c.args.notes.now.found; unknown = c.print_bad_caps-in_default-read_caps.new.text }) (bad_caps_in m.shape number i.path client c.args.holder.now.client) refl
+    (more ∙ ap (λ (at : Inode). c.args.notes.now.unknown.items ++ bad_caps_in m.shape number at.path client c.client-session.result) c.inode.view_is ∙ ap (λ (n : ℕ). c.args.notes.now.unknown.items ++ bad_caps_in m.shape number i.path client n) c.client-session.ensures)
     (inr ((λ issued pending is told. c.in_default-read_caps.not-Ok pending (c.read_caps-2.ensures.each_text pending (c.pending.ensures ∙ told))), refl, refl)))
-    c.print_strange-in_default-read_caps.ensures
+    c.print_bad_caps-in_default-read_caps.ensures
 
 pub returns-in-None : goal.returns-in-None
 returns-in-None c =

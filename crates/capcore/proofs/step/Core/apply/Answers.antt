@@ -21,17 +21,17 @@ pub step-requires-clause-locks : goal.step-requires-clause-locks
 step-requires-clause-locks c = (recorded-kept _ c.self.invariant).1
 
 -- what the step says and leaves
-answered_of : (c : In-Ok) → IsAnswered c.self.inside.world c.args.event c.in_ok-said.said c.step.new.self
-answered_of c = c.in_ok-said.ensures.answered
+answered_of : (c : In-Ok) → IsAnswered c.self.inside.world c.args.event c.in_ok-step_reply.step_reply c.step.new.self
+answered_of c = c.in_ok-step_reply.ensures.answered
 
 -- the step, with what is answered and with what the row keeps of it
-step_of : (c : In-Ok) → Step c.self.inside.world c.args.event c.in_ok-said.said.reply c.in_ok-said.said.ended c.step.new.self
+step_of : (c : In-Ok) → Step c.self.inside.world c.args.event c.in_ok-step_reply.step_reply.reply c.in_ok-step_reply.step_reply.ended c.step.new.self
 step_of c = let all = answered_of c in all.step
 
-step_for_history : (c : In-Ok) → Step c.self.inside.world c.args.event c.in_ok-said.said.for_history c.in_ok-said.said.ended c.step.new.self
+step_for_history : (c : In-Ok) → Step c.self.inside.world c.args.event c.in_ok-step_reply.step_reply.for_history c.in_ok-step_reply.step_reply.ended c.step.new.self
 step_for_history c =
     let all = answered_of c in
-    subst (λ (answer : Reply). Step c.self.inside.world c.args.event answer c.in_ok-said.said.ended c.step.new.self) (sym all.for_history) all.step
+    subst (λ (answer : Reply). Step c.self.inside.world c.args.event answer c.in_ok-step_reply.step_reply.ended c.step.new.self) (sym all.for_history) all.step
 
 -- the world has its entries and requests in order before the step
 kept_of : (c : In-Ok) → IsKept c.self.inside.world
@@ -43,12 +43,12 @@ next c = let all = answered_of c in all.sound
 
 -- its row, which comes last
 abbrev row_of : In-Ok → Row
-row_of c = record { pass = c.args.pass; nth = c.in_ok-nth.nth; event = c.args.event; reply = c.in_ok-said.said.for_history; ended = c.in_ok-said.said.ended }
+row_of c = record { pass = c.args.pass; nth = c.in_ok-nth.nth; event = c.args.event; reply = c.in_ok-step_reply.step_reply.for_history; ended = c.in_ok-step_reply.step_reply.ended }
 
-row_is : (c : In-Ok) → row_of c ≡ made_row c.args.pass (rows_of c.args.pass c.self.inside.rows.items + 1) c.args.event c.in_ok-said.said.reply c.in_ok-said.said.ended
+row_is : (c : In-Ok) → row_of c ≡ made_row c.args.pass (rows_of c.args.pass c.self.inside.rows.items + 1) c.args.event c.in_ok-step_reply.step_reply.reply c.in_ok-step_reply.step_reply.ended
 row_is c =
     let all = answered_of c in
-    λ i. record { pass = c.args.pass; nth = c.in_ok-nth.ensures.number i; event = c.args.event; reply = all.for_history i; ended = c.in_ok-said.said.ended }
+    λ i. record { pass = c.args.pass; nth = c.in_ok-nth.ensures.number i; event = c.args.event; reply = all.for_history i; ended = c.in_ok-step_reply.step_reply.ended }
 
 added : (c : In-Ok) → c.push.new.self.items ≡ c.self.inside.rows.items ++ row_of c ∷ []
 added c = c.in-Ok.ensures.items ∙ ap (λ rows. rows ++ row_of c ∷ []) c.make_room.ensures.items
@@ -59,7 +59,7 @@ invariant_of-self-2 c =
     let step : Step c.self.inside.world row.event row.reply row.ended c.step.new.self = step_for_history c in
     let all = answered_of c in
     rw (c.in-Ok.ensures.items, c.make_room.ensures.items)
-    (more-recorded (recorded c.self.inside.world c.self.inside.rows.items c.self.inside.max_rows c.self.inside.endings.changes.items) row c.step.new.self c.step.new.endings.changes.items c.self.invariant step c.in_ok-nth.ensures.number c.in_ok-nth.ensures.room.0
+    (more-recorded (recorded c.self.inside.world c.self.inside.rows.items c.self.inside.max_rows c.self.inside.output.changes.items) row c.step.new.self c.step.new.output.changes.items c.self.invariant step c.in_ok-nth.ensures.number c.in_ok-nth.ensures.room.0
     (kept_of c).0 all.sound (all.given (length c.self.inside.rows.items) c.self.invariant.given))
 
 shows_told : (c : In-Ok) → ShowsWhatIsTold (c.self.inside.rows.items ++ row_of c ∷ []) c.step.new.self.scene
@@ -69,18 +69,18 @@ shows_told c =
 
 -- what the core was, and what it is with these rows
 abbrev before : In-Ok → Recorded
-before c = recorded c.self.inside.world c.self.inside.rows.items c.self.inside.max_rows c.self.inside.endings.changes.items
+before c = recorded c.self.inside.world c.self.inside.rows.items c.self.inside.max_rows c.self.inside.output.changes.items
 
 abbrev after : In-Ok → List Row → Recorded
-after c rows = recorded c.step.new.self rows c.self.inside.max_rows c.step.new.endings.changes.items
+after c rows = recorded c.step.new.self rows c.self.inside.max_rows c.step.new.output.changes.items
 
-promised : (c : In-Ok) → IsPromised (before c) c.args.pass c.args.event c.in_ok-said.said.reply (after c (c.self.inside.rows.items ++ row_of c ∷ []))
+promised : (c : In-Ok) → IsPromised (before c) c.args.pass c.args.event c.in_ok-step_reply.step_reply.reply (after c (c.self.inside.rows.items ++ row_of c ∷ []))
 promised c =
     let old : State = c.self.inside.world in
     let new : State = c.step.new.self in
     let event = c.args.event in
-    let reply : Reply = c.in_ok-said.said.reply in
-    let ended = c.in_ok-said.said.ended in
+    let reply : Reply = c.in_ok-step_reply.step_reply.reply in
+    let ended = c.in_ok-step_reply.step_reply.ended in
     let rows : List Row = c.self.inside.rows.items in
     let all = answered_of c in
     let one = step_of c in
@@ -107,10 +107,10 @@ promised c =
       at_rest = sound.at_rest;
       unchanged = rejection-unchanged old event reply ended new one c.self.invariant.sound locks table;
       legal = λ first past. replays-more first rows old (row_of c) new past (step_for_history c);
-      changes = c.in_ok-said.ensures.changes;
+      changes = c.in_ok-step_reply.ensures.changes;
     }
 
 pub returns-clause-promised : goal.returns-clause-promised
 returns-clause-promised c =
-    subst (λ (t : Recorded). IsPromised t c.args.pass c.args.event c.in_ok-said.said.reply (after c c.push.new.self.items)) c.self.view_is
-    (subst (λ (rows : List Row). IsPromised (before c) c.args.pass c.args.event c.in_ok-said.said.reply (after c rows)) (sym (added c)) (promised c))
+    subst (λ (t : Recorded). IsPromised t c.args.pass c.args.event c.in_ok-step_reply.step_reply.reply (after c c.push.new.self.items)) c.self.view_is
+    (subst (λ (rows : List Row). IsPromised (before c) c.args.pass c.args.event c.in_ok-step_reply.step_reply.reply (after c rows)) (sym (added c)) (promised c))

@@ -5,7 +5,7 @@ use Rattle.capcore.proofs.Common.{CountedLocks, State, create_tests, first_faili
 use Rattle.capcore.proofs.Unaffected.{birth-whole, undone-whole}
 use Rattle.capcore.proofs.Undone.{added-dropped, not_given}
 use Rattle.capcore.specs.UnderWay.{IsWhole}
-use Rattle.capcore.specs.declared.parts.Parts.{Parts}
+use Rattle.capcore.specs.declared.parts.CoreState.{CoreState}
 use Rattle.capcore.proofs.world.World.add.Goals as goal
 
 pub overflow_add-ino : goal.overflow_add-ino
@@ -25,7 +25,7 @@ invariant_of-self c = rw c.in_err-add_ino.ensures.err c.self.invariant
 
 pub invariant_of-self-in-Err : goal.invariant_of-self-in-Err
 invariant_of-self-in-Err c =
-    let p : Parts = c.self.inside.parts in
+    let p : CoreState = c.self.inside.parts in
     let next = p.scene.tree.last + 1 in
     let undone = added-dropped p.scene.locks.locks next (not_given c.self.invariant.0 c.last.ensures.sound) in
     let left : c.drop_ino.new.self ≡ counting.without_ino (counting.with_ino p.scene.locks next) next = rw (c.drop_ino.ensures, c.in_ok-add_ino.ensures.ok, c.last.ensures.last) refl in

@@ -3,13 +3,13 @@ use Rattle.std.proofs.lemmas.List.{length-append}
 use Rattle.step_model.specs.NotedChanges.{Noted}
 use Rattle.capcore.proofs.Begun.{ended-answered, ended-known, ended-numbers, few-earlier, fewer-places, shown-counted, shown-kept, shown-rest}
 use Rattle.capcore.proofs.Closing.{ends-sessions}
-use Rattle.capcore.proofs.Common.{AreChanges, AreCounted, Ended, Endings, Event, IsAnswered, IsLockMap, IsSound, IsTable, KeptScene, KnownSets, NumbersLeft}
+use Rattle.capcore.proofs.Common.{AreChanges, AreCounted, Ended, StepOutput, Event, IsAnswered, IsLockMap, IsSound, IsTable, KeptScene, ClientViews, NumbersLeft}
 use Rattle.capcore.proofs.Common.{Scene, SessionTable, State, Table, changes-still, plain, shown, view, view_of}
 use Rattle.capcore.proofs.Rejections.{judged-at, rejection-answered}
 use Rattle.capcore.proofs.world.World.move_locks.Goals.{After-close, After-end}
 use Rattle.capcore.specs.UnderWay.{AreKept, HasBegun, MayBegin, answer_of, earlier_of, event_of, state_of}
-use Rattle.capcore.specs.declared.parts.Effect.{Effect}
-use Rattle.capcore.specs.declared.parts.Parts.{Parts}
+use Rattle.capcore.specs.declared.parts.Applied.{Applied}
+use Rattle.capcore.specs.declared.parts.CoreState.{CoreState}
 use Rattle.capcore.proofs.world.World.move_locks.Goals as goal
 
 -- ---- an event that is rejected
@@ -17,8 +17,8 @@ use Rattle.capcore.proofs.world.World.move_locks.Goals as goal
 pub returns-in-Some-clause-answered : goal.returns-in-Some-clause-answered
 returns-in-Some-clause-answered c =
     let s = c.args.self.now in
-    rejection-answered s (event_of c.args.moving.now) c.in-Some.rejection c.alone.result (subst IsSound c.self.view_is c.self.invariant.0) c.requires.table
-    (judged-at _ s (event_of c.args.moving.now) c.rejection.result c.self.view_is (c.rejection.ensures c.self.invariant.2.0) ∙ c.in-Some.is)
+    rejection-answered s (event_of c.args.lock_event.now) c.in-Some.rejection c.alone.result (subst IsSound c.self.view_is c.self.invariant.0) c.requires.table
+    (judged-at _ s (event_of c.args.lock_event.now) c.rejection.result c.self.view_is (c.rejection.ensures c.self.invariant.2.0) ∙ c.in-Some.is)
     (c.alone.ensures.reply ∙ c.into_reply.ensures.reply) (c.alone.ensures.for_history ∙ sym c.alone.ensures.reply) c.alone.ensures.ended
 
 pub returns-in-Some-clause-changes : goal.returns-in-Some-clause-changes
@@ -43,25 +43,25 @@ end-requires c = let begun = c.in_ok-affected.ensures.begun in record { ready = 
 -- ---- the end of the step
 
 module _ (c : After-end) where
-  abbrev p : Parts
+  abbrev p : CoreState
   p = c.self.inside.parts
 
-  abbrev q : Parts
+  abbrev q : CoreState
   q = c.begin.new.self
 
-  abbrev last : Parts
+  abbrev last : CoreState
   last = record c.begin.new.self { scene = c.end.new.scene }
 
-  abbrev endings : Endings
-  endings = c.begin.new.endings
+  abbrev output : StepOutput
+  output = c.begin.new.output
 
   abbrev for_clients : List Ended
-  for_clients = c.end.new.endings.for_clients.items
+  for_clients = c.end.new.output.for_clients.items
 
   abbrev e : Event
-  e = event_of c.args.moving.now
+  e = event_of c.args.lock_event.now
 
-  abbrev effect : Effect
+  abbrev effect : Applied
   effect = c.in_ok-affected.field-0
 
   may : MayBegin p e
@@ -73,17 +73,17 @@ module _ (c : After-end) where
     passed = sym (c.rejection.ensures c.self.invariant.2.0) ∙ c.in_default.is;
   }
 
-  begun : HasBegun p e effect q endings
+  begun : HasBegun p e effect q output
   begun = c.in_ok-affected.ensures.begun
 
   kept : AreKept last.scene.table.kept (plain last.scene)
-  kept = let ends = c.end.ensures.ends in (ended-known p q endings e effect may begun last.scene.table.kept (plain last.scene) for_clients ends, ends.permitted)
+  kept = let ends = c.end.ensures.ends in (ended-known p q output e effect may begun last.scene.table.kept (plain last.scene) for_clients ends, ends.permitted)
 
 pub close-requires : goal.close-requires
 close-requires g =
     let c = (goal.at.close-requires g).After-end in
     record {
-      differ = ended-numbers (p c) (q c) (endings c) (e c) (effect c) (may c) (begun c) (last c).scene.table.kept (plain (last c).scene) (for_clients c) c.end.ensures.ends;
+      differ = ended-numbers (p c) (q c) (output c) (e c) (effect c) (may c) (begun c) (last c).scene.table.kept (plain (last c).scene) (for_clients c) c.end.ensures.ends;
       same = c.end.ensures.for_history;
       room = omega (arith, c.end.ensures.count, (begun c).room);
       places = fewer-places (effect c).answer (length (q c).scene.locks.locks.queue) (length (for_clients c)) (omega (arith, c.end.ensures.count)) (begun c).places;
@@ -94,7 +94,7 @@ module _ (g : After-close) where
   abbrev c : After-end
   c = (goal.at.returns-clause-answered g).After-end
 
-  abbrev new : Parts
+  abbrev new : CoreState
   new = g.close.new.self
 
   abbrev left : List Ended
@@ -114,7 +114,7 @@ module _ (g : After-close) where
 
   whole : IsAnswered (state_of (p c)) (e c) g.close.result (state_of new)
   whole =
-      ended-answered (p c) (q c) (endings c) (e c) (effect c) (may c) (begun c) (last c).scene.table.kept (plain (last c).scene) (for_clients c) g.end.ensures.ends g.close.result (state_of new)
+      ended-answered (p c) (q c) (output c) (e c) (effect c) (may c) (begun c) (last c).scene.table.kept (plain (last c).scene) (for_clients c) g.end.ensures.ends g.close.result (state_of new)
       (g.close.ensures.reply left) g.close.ensures.for_history g.close.ensures.ended new_is
 
 pub returns-clause-answered : goal.returns-clause-answered
@@ -129,7 +129,7 @@ invariant_of-self-2 g =
       w.sound,
       omega (arith, items, few, queue, g.close.ensures.room, g.end.ensures.count, (begun (c g)).room),
       subst (λ (s : Scene). AreKept (new g).scene.table.kept s) (sym (ap (λ (s : State). s.scene) (new_is g)))
-          (subst (λ (sets : KnownSets). AreKept sets (shown (answer_of (effect (c g)).answer) (closed g)).scene) (sym (ap (λ (s : KeptScene). s.table.kept) g.close.ensures.rest))
+          (subst (λ (sets : ClientViews). AreKept sets (shown (answer_of (effect (c g)).answer) (closed g)).scene) (sym (ap (λ (s : KeptScene). s.table.kept) g.close.ensures.rest))
           (shown-kept (effect (c g)).answer (closed g) (last (c g)).scene.table.kept (kept (c g)))),
       subst (AreCounted (new g).scene.table.entries) (sym (ap (λ (s : KeptScene). s.locks) g.close.ensures.rest))
           (subst (λ (t : Table). AreCounted t (last (c g)).scene.locks) (sym (ap (λ (s : State). s.scene.table) (new_is g)))
@@ -138,12 +138,12 @@ invariant_of-self-2 g =
 
 pub returns-clause-changes : goal.returns-clause-changes
 returns-clause-changes g =
-    let changes = g.end.new.endings.changes.items in
+    let changes = g.end.new.output.changes.items in
     let first : State = state_of (p (c g)) in
     let all : AreChanges changes (view_of first) (view (last (c g)).scene.tree (q (c g)).scene.sessions.sessions) =
     g.end.ensures.lead.on (view_of first) (q (c g)).scene.sessions.sessions (begun (c g)).noted in
     let stay : (new g).scene.sessions ≡ (q (c g)).scene.sessions = ap (λ (s : Scene). s.sessions) (rest g) ∙ ends-sessions _ _ _ _ _ _ g.end.ensures.ends in
-    subst (λ (s : State). AreChanges g.close.new.endings.changes.items (view_of s) (view_of (state_of (new g)))) g.self.view_is
+    subst (λ (s : State). AreChanges g.close.new.output.changes.items (view_of s) (view_of (state_of (new g)))) g.self.view_is
     (subst (λ (noted : Noted). AreChanges noted.items (view_of first) (view_of (state_of (new g)))) (sym g.close.ensures.changes)
     (subst (λ (t : SessionTable). AreChanges changes (view_of first) (view (new g).scene.tree t.sessions)) (sym stay)
     (rw (ap (λ (s : Scene). s.tree) (rest g)) all)))

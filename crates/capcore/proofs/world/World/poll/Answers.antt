@@ -2,7 +2,7 @@ use Rattle.std.proofs.Common.{◌≡◌, ◌≤◌, [], List, length, filter, So
 use Rattle.std.proofs.lemmas.List.Sums.{count_by-le-length, length-filter}
 use Rattle.capstep.proofs.Telling.{given-held}
 use Rattle.step_model.specs.DueEndings.{AreEndsOf}
-use Rattle.capcore.proofs.Common.{AreChanges, AreCounted, ByTest, Ended, Event, IsAnswered, IsSound, IsTable, KeptTable, Message, Reply, Said, State}
+use Rattle.capcore.proofs.Common.{AreChanges, AreCounted, ByTest, Ended, Event, IsAnswered, IsSound, IsTable, KeptTable, Message, Reply, StepReply, State}
 use Rattle.capcore.proofs.Common.{after_messages, alike-where, changed_where, changes-still, first_failing, first_messages, is_left, is_of_client, plain}
 use Rattle.capcore.proofs.Common.{rejection-before, session_tests, view_of, with_given}
 use Rattle.capcore.proofs.Counts.{counted-where}
@@ -34,10 +34,10 @@ module _ (c : After-drop-told) where
 
   -- and behind it
   abbrev new : State
-  new = record { scene = record old.scene { table = c.skip_quiet.new.self.entries }; messages = c.remove_given.new.due.items }
+  new = record { scene = record old.scene { table = c.skip_not_due.new.self.entries }; messages = c.remove_given.new.due.items }
 
-  abbrev said : Said
-  said = record { reply = Reply.Messages c.in_ok-given.given; for_history = Reply.Messages c.in_ok-for_history.for_history; ended = c.new.result }
+  abbrev step_reply : StepReply
+  step_reply = record { reply = Reply.Messages c.in_ok-given.given; for_history = Reply.Messages c.in_ok-for_history.for_history; ended = c.new.result }
 
   first : c.in_ok-given.given ≡ first_messages old c.args.client c.args.max
   first = c.in_ok-given.ensures old refl refl c.self.invariant.2.0 (sym c.as_slice-ended.ensures.value)
@@ -50,21 +50,21 @@ module _ (c : After-drop-told) where
       c.remove_given.ensures.items c.in_ok-given.given
       (subst (λ (given : List Message). AreEndsOf given c.in_ok-told.told) c.as_slice-2.ensures c.in_ok-told.ensures)
 
-  all : c.skip_quiet.new.self ≡ record c.self.inside.parts.scene.table { entries = changed_where (is_of_client c.args.client) (after_messages c.in_ok-given.given) old.scene.table }
+  all : c.skip_not_due.new.self ≡ record c.self.inside.parts.scene.table { entries = changed_where (is_of_client c.args.client) (after_messages c.in_ok-given.given) old.scene.table }
   all =
-      c.skip_quiet.ensures ∙ c.give.ensures
+      c.skip_not_due.ensures ∙ c.give.ensures
       ∙ ap (λ (given : List Message). record c.self.inside.parts.scene.table { entries = changed_where (is_of_client c.args.client) (after_messages given) old.scene.table }) c.as_slice-3.ensures
 
-  told : c.skip_quiet.new.self.entries ≡ changed_where (is_of_client c.args.client) (after_messages c.in_ok-given.given) old.scene.table
+  told : c.skip_not_due.new.self.entries ≡ changed_where (is_of_client c.args.client) (after_messages c.in_ok-given.given) old.scene.table
   told = ap (λ (t : KeptTable). t.entries) all
 
   left : with_given old c.args.client (first_messages old c.args.client c.args.max) ≡ new
-  left = polled-new old c.self.invariant.0 (subst (λ (s : State). IsTable s.scene.table) (sym c.self.view_is) c.requires.table) c.args.client c.args.max c.in_ok-given.given c.skip_quiet.new.self.entries c.remove_given.new.due.items first told kept_items
+  left = polled-new old c.self.invariant.0 (subst (λ (s : State). IsTable s.scene.table) (sym c.self.view_is) c.requires.table) c.args.client c.args.max c.in_ok-given.given c.skip_not_due.new.self.entries c.remove_given.new.due.items first told kept_items
 
-  whole : IsAnswered old (Event.Poll c.args.client c.args.max) said new
+  whole : IsAnswered old (Event.Poll c.args.client c.args.max) step_reply new
   whole =
-      subst (IsAnswered old (Event.Poll c.args.client c.args.max) said) left
-      (poll-answered old c.self.invariant.0 (subst (λ (s : State). IsTable s.scene.table) (sym c.self.view_is) c.requires.table) c.args.client c.args.max said (sym c.session_refusal.ensures ∙ c.in_default.is)
+      subst (IsAnswered old (Event.Poll c.args.client c.args.max) step_reply) left
+      (poll-answered old c.self.invariant.0 (subst (λ (s : State). IsTable s.scene.table) (sym c.self.view_is) c.requires.table) c.args.client c.args.max step_reply (sym c.session_refusal.ensures ∙ c.in_default.is)
       (ap Reply.Messages first) (ap Reply.Messages same) c.new.ensures)
 
 pub invariant_of-self : goal.invariant_of-self
@@ -85,7 +85,7 @@ invariant_of-self c =
 
 pub returns-clause-answered : goal.returns-clause-answered
 returns-clause-answered c =
-    subst (λ (s : State). IsAnswered s (Event.Poll c.args.client c.args.max) (said c) (new c)) c.self.view_is (whole c)
+    subst (λ (s : State). IsAnswered s (Event.Poll c.args.client c.args.max) (step_reply c) (new c)) c.self.view_is (whole c)
 
 pub returns-in-Some-clause-changes : goal.returns-in-Some-clause-changes
 returns-in-Some-clause-changes c = changes-still c.clear.new.self.items (view_of c.args.self.now) c.clear.ensures.items

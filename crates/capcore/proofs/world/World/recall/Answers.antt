@@ -1,9 +1,9 @@
 use Rattle.std.proofs.Common.{ap, subst, sym}
-use Rattle.capcore.proofs.Common.{AreChanges, Event, IsAnswered, KeptTable, Reply, Said, State, changes-still, plain, view_of, with_table}
+use Rattle.capcore.proofs.Common.{AreChanges, Event, IsAnswered, KeptTable, Reply, StepReply, State, changes-still, plain, view_of, with_table}
 use Rattle.capcore.proofs.Counts.{recalled-counted}
 use Rattle.capcore.proofs.Recalled.{recall-answered, recalled-kept, recalled-sound}
 use Rattle.capcore.proofs.world.World.recall.Goals.{After-new}
-use Rattle.capcore.specs.declared.parts.Parts.{Parts}
+use Rattle.capcore.specs.declared.parts.CoreState.{CoreState}
 use Rattle.capcore.proofs.world.World.recall.Goals as goal
 
 module _ (c : After-new) where
@@ -15,20 +15,20 @@ module _ (c : After-new) where
   abbrev new : State
   new = with_table old c.recall.new.self.entries
 
-  abbrev said : Said
-  said = record { reply = Reply.Recalled c.in_ok-named.named; for_history = Reply.Recalled c.in_ok-for_history.for_history; ended = c.new.result }
+  abbrev step_reply : StepReply
+  step_reply = record { reply = Reply.Recalled c.in_ok-named.named; for_history = Reply.Recalled c.in_ok-for_history.for_history; ended = c.new.result }
 
-  whole : IsAnswered old (Event.Recall c.args.count) said new
+  whole : IsAnswered old (Event.Recall c.args.count) step_reply new
   whole =
-      subst (λ t. IsAnswered old (Event.Recall c.args.count) said (with_table old t)) (sym (ap (λ (t : KeptTable). t.entries) c.in_ok-named.ensures.ok))
-      (recall-answered old c.self.invariant.0 c.args.count said c.first_to_recall.ensures.sound (ap Reply.Recalled c.in_ok-named.ensures.named) (ap Reply.Recalled c.in_ok-for_history.ensures.named) c.new.ensures)
+      subst (λ t. IsAnswered old (Event.Recall c.args.count) step_reply (with_table old t)) (sym (ap (λ (t : KeptTable). t.entries) c.in_ok-named.ensures.ok))
+      (recall-answered old c.self.invariant.0 c.args.count step_reply c.first_to_recall.ensures.sound (ap Reply.Recalled c.in_ok-named.ensures.named) (ap Reply.Recalled c.in_ok-for_history.ensures.named) c.new.ensures)
 
 pub invariant_of-self : goal.invariant_of-self
 invariant_of-self c = rw c.in_err-named.ensures.err c.self.invariant
 
 pub invariant_of-self-2 : goal.invariant_of-self-2
 invariant_of-self-2 c =
-    let p : Parts = c.self.inside.parts in
+    let p : CoreState = c.self.inside.parts in
     rw c.in_ok-named.ensures.ok (
       recalled-sound _ c.self.invariant.0 c.args.count,
       c.self.invariant.1,
@@ -37,7 +37,7 @@ invariant_of-self-2 c =
     )
 
 pub returns-clause-answered : goal.returns-clause-answered
-returns-clause-answered c = subst (λ (s : State). IsAnswered s (Event.Recall c.args.count) (said c) (new c)) c.self.view_is (whole c)
+returns-clause-answered c = subst (λ (s : State). IsAnswered s (Event.Recall c.args.count) (step_reply c) (new c)) c.self.view_is (whole c)
 
 pub returns-clause-changes : goal.returns-clause-changes
 returns-clause-changes c = subst (λ (s : State). AreChanges c.clear.new.self.items (view_of s) (view_of (new c))) c.self.view_is (changes-still c.clear.new.self.items (view_of (old c)) c.clear.ensures.items)

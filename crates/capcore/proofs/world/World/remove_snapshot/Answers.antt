@@ -1,5 +1,5 @@
 use Rattle.std.proofs.Common.{ap, sym, subst, ◌∙◌, refl}
-use Rattle.policy_view.specs.Sight.{Shows}
+use Rattle.policy_view.specs.Visible.{Shows}
 use Rattle.capcore.proofs.Common.{IsLike, Snapshot, State, first_failing, inode_tests, like-unseen, old_snapshot_tests, pass-both, plain, shows-tree, view}
 use Rattle.capcore.proofs.Common.{view_of, without_snapshot}
 use Rattle.capcore.proofs.Effects.{removing-rejection, snapshot-kept}

@@ -19,4 +19,4 @@ pub returns-clause-known : goal.returns-clause-known
 returns-clause-known g c =
     let rows : List Row = c.end-core.result.0.rows in
     let up : IsPrefix c.end-core.result.3 rows = subst (λ (t : Recorded). IsPrefix c.end-core.result.3 t.rows) (sym c.end-core.ensures.core) c.end-core.ensures.rows in
-    begin_longer c.end-core.result.3 rows c.args.passes.items (subst (AllBegin c.end-core.result.3) c.as_slice.ensures.value c.audit_all.ensures) up
+    begin_longer c.end-core.result.3 rows c.args.passes.items (subst (AllBegin c.end-core.result.3) c.as_slice.ensures.value c.check_all_against.ensures) up

@@ -1,5 +1,5 @@
 use Rattle.std.proofs.Common.{subst}
-use Rattle.capspec.specs.Begun.{AreAlike}
+use Rattle.capspec.specs.SharedPrefix.{AreAlike}
 use Rattle.capspec.proofs.kept.KeptGrants.new.Goals as goal
 
 pub invariant_of-result : goal.invariant_of-result

@@ -8,7 +8,7 @@ use Rattle.captable.specs.Table.{Table}
 use Rattle.captable.proofs.Beside.{entries_are, kept_are, two}
 use Rattle.captable.proofs.Kept.{IsLinked-kept, are_beside, found-kept, keeping-nobody, kept-once, sets-found, sets-put, table-kept}
 use Rattle.captable.proofs.Placed.{placed-alike}
-use Rattle.captable.proofs.Quiet.{quiet-kept}
+use Rattle.captable.proofs.NotDue.{none_due-kept}
 use Rattle.captable.proofs.Reading.{node-there}
 use Rattle.captable.proofs.table.CapTable.keep_as.Goals as goal
 
@@ -26,7 +26,7 @@ invariant_of-self c =
     let m = c.self.inside.polls in
     let found : IsKeyOf t c.args.holder key = c.in-Some.ensures.found in (
       IsLinked-kept t t' made c.args.holder key s c.self.invariant.0 found (keeps c) c.keep_sets.ensures.sound,
-      quiet-kept t t' key s (keeps c) (places_of m) c.self.invariant.1,
+      none_due-kept t t' key s (keeps c) (places_of m) c.self.invariant.1,
       placed-alike t t' (places_of m) (places_of m) (λ q. (keeps c).lists (OfClient q)) (λ q. refl) c.self.invariant.2,
       subst (λ (u : Table). AreCounted u.rows (counts_of m)) (sym (table-kept t t' made c.args.holder key s c.self.invariant.0 found (keeps c))) c.self.invariant.3,
     )

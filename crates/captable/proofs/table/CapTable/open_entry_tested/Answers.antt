@@ -10,12 +10,12 @@ use Rattle.captable.specs.Table.{Table, entry_at, holder}
 use Rattle.captable.specs.Calls.{is_due_entry, new_entry, opened}
 use Rattle.captable.specs.Tests.{open_tests}
 use Rattle.captable.specs.Linked.{IsLinked}
-use Rattle.captable.specs.Places.{ArePlaced, AreQuiet}
+use Rattle.captable.specs.Places.{ArePlaced, NoneDueBeforeAny}
 use Rattle.captable.specs.Polls.{AreCounted, Polls, begun, counts_of, ended, places_of}
 use Rattle.captable.proofs.Counting.{counted-more}
-use Rattle.captable.proofs.Placed.{begun-there, placed-begun, quiet-begun}
+use Rattle.captable.proofs.Placed.{begun-there, placed-begun, none_due-begun}
 use Rattle.captable.proofs.Polled.{begun-back, begun_at, part-begun, part-there}
-use Rattle.captable.proofs.Quiet.{quiet-added}
+use Rattle.captable.proofs.NotDue.{none_due-added}
 use Rattle.captable.proofs.Reading.{refused-alike}
 use Rattle.captable.proofs.Opening.{IsLinked-more, kept-more, table-more}
 use Rattle.captable.proofs.Beside.{entries_are, kept_are, two}
@@ -30,7 +30,7 @@ pub invariant_of-self : goal.invariant_of-self
 invariant_of-self c =
     let t = c.self.inside.lists in
     let made = c.self.inside.made in
-    subst (λ (m : Polls). IsLinked t made × AreQuiet t (places_of m) × ArePlaced t (places_of m) × AreCounted (table_of t made).rows (counts_of m)) (sym c.in_err-begin_poll.ensures.err) (
+    subst (λ (m : Polls). IsLinked t made × NoneDueBeforeAny t (places_of m) × ArePlaced t (places_of m) × AreCounted (table_of t made).rows (counts_of m)) (sym c.in_err-begin_poll.ensures.err) (
       c.self.invariant.0,
       c.self.invariant.1,
       c.self.invariant.2,
@@ -48,8 +48,8 @@ invariant_of-self-in_default c =
     c.end_poll.ensures ∙ ap (λ (n : Polls). ended (slice_get (keys c.add_node-added.new.lists (OfClient client)) 0) n client) c.in_ok-begin_poll.ensures.ok
     ∙ ap (λ (u : Lists Slot). ended (slice_get (keys u (OfClient client)) 0) (begun m client) client) c.in_default.ensures.err
     ∙ begun-back m client (slice_get (keys t (OfClient client)) 0) (part-there (λ (poll : Poll). poll.place) (map.get m client.0) ∙ c.self.invariant.2 client) in
-    subst (λ (u : Lists Slot). IsLinked u made × AreQuiet u (places_of left) × ArePlaced u (places_of left) × AreCounted (table_of u made).rows (counts_of left)) (sym c.in_default.ensures.err)
-    (subst (λ (m : Polls). IsLinked t made × AreQuiet t (places_of m) × ArePlaced t (places_of m) × AreCounted (table_of t made).rows (counts_of m)) (sym again) (
+    subst (λ (u : Lists Slot). IsLinked u made × NoneDueBeforeAny u (places_of left) × ArePlaced u (places_of left) × AreCounted (table_of u made).rows (counts_of left)) (sym c.in_default.ensures.err)
+    (subst (λ (m : Polls). IsLinked t made × NoneDueBeforeAny t (places_of m) × ArePlaced t (places_of m) × AreCounted (table_of t made).rows (counts_of m)) (sym again) (
       c.self.invariant.0,
       c.self.invariant.1,
       c.self.invariant.2,
@@ -75,7 +75,7 @@ invariant_of-self-2 c =
     table-more t t' made key x c.self.invariant.0 c.in-Ok.ensures.ok c.new-entry.ensures refl new in (
       IsLinked-more t t' made key x c.self.invariant.0 c.in-Ok.ensures.ok c.new-entry.ensures refl new c.in-Ok.ensures.sound
           (ap (λ t. first_failing (open_tests t)) (entries_are c.self.view_is) ∙ c.requires.passed),
-      quiet-added t t' key x c.in-Ok.ensures.ok (ap is_due_entry c.new-entry.ensures) (places_of n) (quiet-begun t client (places_of m) (places_of n) places c.self.invariant.2 c.self.invariant.1),
+      none_due-added t t' key x c.in-Ok.ensures.ok (ap is_due_entry c.new-entry.ensures) (places_of n) (none_due-begun t client (places_of m) (places_of n) places c.self.invariant.2 c.self.invariant.1),
       placed-begun t client (begun_at None) (begun-there None) (places_of m) (places_of n) places t' key x c.in-Ok.ensures.ok refl c.self.invariant.2,
       subst (λ (u : Table). AreCounted u.rows (counts_of n)) (sym more)
           (counted-more rows (record { holder = h; entry = new_entry }) client (counts_of m) (counts_of n) refl counts c.self.invariant.3),

@@ -12,16 +12,16 @@ use Rattle.captable.specs.Calls.{without}
 use Rattle.captable.specs.Kept.{kept_without}
 use Rattle.captable.specs.Linked.{IsLinked}
 use Rattle.captable.specs.Nodes.{IsKeyOf, table_of}
-use Rattle.captable.specs.Places.{AreQuiet, moved_on, same_client}
+use Rattle.captable.specs.Places.{NoneDueBeforeAny, moved_on, same_client}
 use Rattle.captable.specs.Polls.{counts_of, places_of, recounted}
 use Rattle.captable.proofs.Counting.{count-fits}
 use Rattle.captable.proofs.Counted.{counted-gone}
 use Rattle.captable.proofs.Absent.{without-none}
 use Rattle.captable.proofs.Reading.{entry-none, node-there}
 use Rattle.captable.proofs.Keeping.{held, is_in}
-use Rattle.captable.proofs.Placed.{placed-removed, quiet-ended}
+use Rattle.captable.proofs.Placed.{placed-removed, none_due-ended}
 use Rattle.captable.proofs.Polled.{counts-changed, counts-kept, counts-placed, if_part, part-ended, places-changed, places-kept}
-use Rattle.captable.proofs.Quiet.{quiet-removed}
+use Rattle.captable.proofs.NotDue.{none_due-removed}
 use Rattle.captable.proofs.WalkOn.{next-of-client}
 use Rattle.captable.proofs.Removing.{IsLinked-left, kept-left, table-left}
 use Rattle.captable.proofs.Beside.{entries_are, kept_are, two}
@@ -64,15 +64,15 @@ invariant_of-self c =
     let moves = λ (q : ClientId). same_places q ∙ places-changed m client n next c.move_place.ensures q in
     let recounts = λ (q : ClientId). counts-changed n client again count c.count_again.ensures q
     ∙ ap (λ o. cond (same_client client q) (option_map count o) o) (same_counts q) in
-    let moved : AreQuiet left (places_of again) =
-    quiet-removed t left c.in-Some.key c.remove_node.ensures.removed c.self.invariant.0.sound client o.0 o.1.there of
+    let moved : NoneDueBeforeAny left (places_of again) =
+    none_due-removed t left c.in-Some.key c.remove_node.ensures.removed c.self.invariant.0.sound client o.0 o.1.there of
     c.next_of_client-next.result (c.next_of_client-next.ensures.next ∙ next-of-client t c.self.invariant.0.sound client c.in-Some.key o.0 o.1.there listed)
     (places_of m) (places_of again) moves c.self.invariant.1 in
     let linked : IsLinked left c.self.inside.made =
     IsLinked-left t c.remove_node.new.lists c.self.inside.made c.args.holder c.in-Some.key c.self.invariant.0
     found c.remove_node.ensures.removed c.remove_node.ensures.sound in (
       linked,
-      quiet-ended left client first (places_of again) (places_of last) (part-ended (λ poll. poll.place) again client first last c.end_poll.ensures) moved,
+      none_due-ended left client first (places_of again) (places_of last) (part-ended (λ poll. poll.place) again client first last c.end_poll.ensures) moved,
       placed-removed left client first (places_of again) (places_of last) (part-ended (λ poll. poll.place) again client first last c.end_poll.ensures)
           t c.in-Some.key c.remove_node.ensures.removed c.self.invariant.0.sound o.0 o.1.there of refl next (places_of m) moves c.self.invariant.2,
       counted-gone t left c.self.inside.made c.args.holder c.in-Some.key c.self.invariant.0 found o.0 o.1.there o.2 (counts_of m) (counts_of again)

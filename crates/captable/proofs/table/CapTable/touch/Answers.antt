@@ -6,7 +6,7 @@ use Rattle.captable.specs.Calls.{touched}
 use Rattle.captable.proofs.Absent.{touched-none}
 use Rattle.captable.proofs.Reading.{entry-none, node-there}
 use Rattle.captable.proofs.Placed.{placed-touched}
-use Rattle.captable.proofs.Quiet.{quiet-touched}
+use Rattle.captable.proofs.NotDue.{none_due-touched}
 use Rattle.captable.proofs.Touching.{IsLinked-touched, kept-moved, table-moved}
 use Rattle.captable.proofs.Beside.{entries_are, kept_are, two}
 use Rattle.captable.proofs.table.CapTable.touch.Goals as goal
@@ -23,7 +23,7 @@ invariant_of-self c =
     c.in-Some.ensures.found c.touch_node.ensures.touched in (
       IsLinked-touched c.self.inside.lists c.touch_node.new.lists c.self.inside.made (holder c.args.client c.args.ino) c.in-Some.key c.self.invariant.0
           c.in-Some.ensures.found c.touch_node.ensures.touched c.touch_node.ensures.sound,
-      quiet-touched c.self.inside.lists c.touch_node.new.lists c.in-Some.key c.touch_node.ensures.touched (places_of c.self.inside.polls) c.self.invariant.1,
+      none_due-touched c.self.inside.lists c.touch_node.new.lists c.in-Some.key c.touch_node.ensures.touched (places_of c.self.inside.polls) c.self.invariant.1,
       placed-touched c.self.inside.lists c.touch_node.new.lists c.in-Some.key c.touch_node.ensures.touched (places_of c.self.inside.polls) c.self.invariant.2,
       subst (λ (u : Table). AreCounted u.rows (counts_of c.self.inside.polls)) (sym moved) c.self.invariant.3,
     )

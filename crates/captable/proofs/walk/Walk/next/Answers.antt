@@ -8,11 +8,11 @@ use Rattle.captable.proofs.walk.Walk.next.Goals as goal
 use Rattle.captable.proofs.walk.Walk.next.Goals.{in-Client, in-Inode}
 
 -- the key of the next node is one of the list
-listed : (c : goal.After-row_of) → is_among (keys c.self.inside.lists.now (name_of c.self.inside.sought)) c.in_ok-key.key ≡ true
-listed c = subst (IsPlaceOf c.self.inside.lists.now (name_of c.self.inside.sought)) c.in_ok-key.was c.self.invariant
+listed : (c : goal.After-row_of) → is_among (keys c.self.inside.lists.now (name_of c.self.inside.over)) c.in_ok-key.key ≡ true
+listed c = subst (IsPlaceOf c.self.inside.lists.now (name_of c.self.inside.over)) c.in_ok-key.was c.self.invariant
 
 -- the place after it
-place-after : (c : goal.After-row_of) → c.match-self.self ≡ key_after (keys c.self.inside.lists.now (name_of c.self.inside.sought)) c.in_ok-key.key
+place-after : (c : goal.After-row_of) → c.match-self.self ≡ key_after (keys c.self.inside.lists.now (name_of c.self.inside.over)) c.in_ok-key.key
 place-after c =
     let t : Lists Slot = c.self.inside.lists.now in
     let key : ℕ = c.in_ok-key.key in
@@ -28,12 +28,12 @@ place-after c =
 pub invariant_of-self : goal.invariant_of-self
 invariant_of-self c =
     let t : Lists Slot = c.self.inside.lists.now in
-    subst (IsPlaceOf t (name_of c.self.inside.sought)) (sym (place-after c)) (after-in (keys t (name_of c.self.inside.sought)) c.in_ok-key.key)
+    subst (IsPlaceOf t (name_of c.self.inside.over)) (sym (place-after c)) (after-in (keys t (name_of c.self.inside.over)) c.in_ok-key.key)
 
 pub returns-clause-some : goal.returns-clause-some
 returns-clause-some c =
     let t : Lists Slot = c.self.inside.lists.now in
-    let name = name_of c.self.inside.sought in
+    let name = name_of c.self.inside.over in
     sym c.self.view_is ∙ ap (rows_from t name) c.in_ok-key.was
     ∙ rows-next t c.get.ensures.sound name c.in_ok-key.key c.in_ok-node.node (sym c.in_ok-node.ensures.node) (listed c)
     ∙ (λ i. sym c.row_of.ensures i ∷ rows_from t name (sym (place-after c) i))

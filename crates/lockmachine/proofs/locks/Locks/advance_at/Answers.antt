@@ -20,5 +20,5 @@ returns-in-Settled-clause-moves c = (c.moves.invariant.0.steps, few _ _ _ c.move
 pub returns-in-Serve-clause-moves : goal.returns-in-Serve-clause-moves
 returns-in-Serve-clause-moves c = (c.moves.invariant.0.steps, few _ _ _ c.moves.invariant.0.runs, c.moves.invariant.0.runs)
 
-pub next_move_by-requires-clause-sought : goal.next_move_by-requires-clause-sought
-next_move_by-requires-clause-sought c = suffices-kept c.sought_at-sought.result c.args.ino.0 c.args.self.now.locks c.moves.self.locks c.moves.invariant.0.elsewhere c.sought_at-sought.ensures
+pub next_move_by-requires-clause-scope : goal.next_move_by-requires-clause-scope
+next_move_by-requires-clause-scope c = suffices-kept c.queue_scope_at-scope.result c.args.ino.0 c.args.self.now.locks c.moves.self.locks c.moves.invariant.0.elsewhere c.queue_scope_at-scope.ensures

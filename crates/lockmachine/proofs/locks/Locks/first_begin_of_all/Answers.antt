@@ -7,7 +7,7 @@ use Rattle.lockmachine.specs.declared.moves.Move.{Move}
 use Rattle.lockmachine.specs.declared.wants.Wants.{Wants}
 use Rattle.lockmachine.specs.Scene.{Scene, scene_by, wanted_in_all}
 use Rattle.lockmachine.specs.Moves.{may_begin, parts}
-use Rattle.lockmachine.specs.Turns.{begin_or_rest, beginning, may_begin_by}
+use Rattle.lockmachine.specs.Cursors.{begin_or_rest, beginning, may_begin_by}
 use Rattle.lockmachine.proofs.KeptWants.{permitted-on}
 use Rattle.lockmachine.proofs.LockIds.{begin-lock_ids_in, lock_ids_in}
 use Rattle.lockmachine.proofs.locks.Locks.first_begin_of_all.Goals as goal

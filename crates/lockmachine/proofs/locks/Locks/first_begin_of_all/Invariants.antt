@@ -3,7 +3,7 @@ use Rattle.std.specs.List.{find}
 use Rattle.lockmachine.specs.Policy.{ArePermitted}
 use Rattle.lockmachine.specs.Scene.{scene_by}
 use Rattle.lockmachine.specs.Moves.{lock_ids, may_begin}
-use Rattle.lockmachine.specs.Turns.{begin_or_rest}
+use Rattle.lockmachine.specs.Cursors.{begin_or_rest}
 use Rattle.lockmachine.proofs.LockIds.{lock_ids_in}
 use Rattle.lockmachine.proofs.locks.Locks.first_begin_of_all.Given as goal
 

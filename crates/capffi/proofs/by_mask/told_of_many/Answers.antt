@@ -1,4 +1,0 @@
-use Rattle.capffi.proofs.by_mask.told_of_many.Goals as goal
-
-pub returns : goal.returns
-returns c = rw (c.case_of-case.ensures, c.split_front.ensures.front, c.split_front.ensures.behind) at c.soon.ensures

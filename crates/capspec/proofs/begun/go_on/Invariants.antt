@@ -1,9 +1,0 @@
-use Rattle.std.proofs.Common.{length, ◌-◌, map}
-use Rattle.capspec.specs.Begun.{Begins}
-use Rattle.capspec.proofs.begun.go_on.Given as goal
-
-abbrev pub invariant-loop-at : goal.invariant-loop-at
-invariant-loop-at l = Begins (map (λ name. name.now) l.names) l.text l.at
-
-abbrev pub decreases-loop-at : goal.decreases-loop-at
-decreases-loop-at l = length l.names - l.at.count

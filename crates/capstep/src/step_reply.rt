@@ -1,0 +1,32 @@
+//! What a step says.
+ghost use Rattle.std.specs.Prelude.{◌≡◌, false, []};
+ghost use Rattle.step_model.specs.Replies.{has_list};
+
+use std::alloc::Global;
+use step_model::{EndedList, Reply, copy_of_reply};
+
+/// What a step says: its reply, the same once more for the history, and the requests of earlier steps that it ended.
+#[derive(Drop)]
+pub struct StepReply {
+    pub reply: Reply,
+    pub for_history: Reply,
+    pub ended: EndedList,
+}
+
+impl StepReply {
+    /// A reply that has no list, of a step that ended no request.
+    pub fn alone(alloc: Global, reply: Reply) -> StepReply
+        requires { has_list reply ≡ false }
+        ensures reply { result.reply ≡ reply }
+        ensures for_history { result.for_history ≡ reply }
+        ensures ended { result.ended ≡ [] }
+    {
+        let for_history = copy_of_reply(&reply);
+        let ended = EndedList::new(alloc);
+        StepReply {
+            reply,
+            for_history,
+            ended,
+        }
+    }
+}

@@ -1,0 +1,24 @@
+-- An auth list that was read and is none.
+use Rattle.std.proofs.Common.{◌≡◌, ℕ, Bool, List, ◌++◌, Option, None, Some, inr, sym, ap, subst, ◌∙◌}
+use Rattle.std.specs.Io.KnownBytes.{Consumes, IsAtEnd}
+use Rattle.std.specs.Prelude.{Err, IfErr, IfSome, IsErrAnd, Ok, Result}
+use Rattle.std.proofs.lemmas.List.{append-nil}
+use Rattle.ceph_input.specs.declared.auth_fault.AuthFault.{AuthFault}
+use Rattle.ceph_input.specs.Auth.{IsFaultOf, auth_of}
+use Rattle.cli_queries.specs.declared.fault.AnswerFault.{AnswerFault}
+use Rattle.cli_queries.specs.declared.who_args.WhoArgs.{WhoArgs}
+use Rattle.cli_queries.specs.Fault.{auth_fault_of}
+use Rattle.cli_queries.specs.WhoArgs.{StopsWhoArgs}
+use Rattle.cli_queries.proofs.Unwritten.{unchanged}
+
+-- what holds of all that was read holds of the input
+pub all_of : (P : List ℕ → Type 0) (input left : Option (List ℕ)) (all : List ℕ) → Consumes input left all → IsAtEnd left → P all → IfSome input P
+all_of P None left all taken end holds = tt
+all_of P (Some xs) None all taken end holds = absurd taken
+all_of P (Some xs) (Some ys) all taken end holds = subst P (sym (taken ∙ ap (λ l. all ++ l) end ∙ append-nil all)) holds
+
+pub list_refused : {T : Type 0} (who_args : WhoArgs) (input left known : Option (List ℕ)) (auth : List ℕ) (unread unwritten : Bool) (found : AuthFault) (answer : Result T AnswerFault) → Consumes input left auth → IsAtEnd left → IsFaultOf found (auth_of auth)
+    → IsErrAnd answer (λ fault. fault ≡ auth_fault_of found) → IfErr answer (λ fault. StopsWhoArgs who_args fault input unread unwritten known known)
+list_refused who_args input left known auth unread unwritten found (Ok x) taken end why told = tt
+list_refused who_args input left known auth unread unwritten found (Err fault) taken end why told =
+    inr (inr (inr (found, told, all_of (λ all. IsFaultOf found (auth_of all)) input left auth taken end why)), unchanged known)

@@ -1,0 +1,99 @@
+//! The command that tells what clients of a running cluster hold and may not.
+ghost use Rattle.std.specs.Prelude.{◌≡◌, ◌⊎◌, OnOk, IfOk, IfErr, IsFalse};
+ghost use Rattle.script_syntax.specs.Watched.{has_ended, has_failed, inner_of};
+ghost use Rattle.cli_queries.specs.AuditArgs.{AnswersAuditArgs, StopsAuditArgs};
+
+use crate::commands::write_text;
+use crate::fault::AnswerFault;
+use crate::read_tree::read_tree;
+use crate::status::{DONE, FOUND};
+use capspec::FsName;
+use cluster_audit::{ClusterClients, Manner, audit_report};
+use queries::{Opt, QuestionFault};
+use script_syntax::Watched;
+use std::alloc::Global;
+use std::io::{Read, Write};
+
+/// What `audit` is asked.
+pub struct AuditArgs {
+    /// How is told what is found.
+    pub manner: Manner,
+    /// The name of the file system.
+    pub fs: Vec<u8>,
+    /// The names of the files in which the texts of the cluster stand.
+    pub files: ClusterFiles,
+    /// The text of the auth list, of no byte until `gather` has read it.
+    pub auth: Vec<u8>,
+    /// The text of the sessions, of no byte until `gather` has read it.
+    pub sessions: Vec<u8>,
+}
+
+// Not derived: so the proof of a function that drops one has a single call there.
+impl Drop for AuditArgs {
+    fn drop(self) {
+        let AuditArgs {
+            manner: _,
+            fs: _,
+            files: _,
+            auth: _,
+            sessions: _,
+        } = self;
+    }
+}
+
+/// The names of the files in which the texts of a cluster stand.
+pub struct ClusterFiles {
+    /// That of the auth list.
+    pub auth: Vec<u8>,
+    /// That of the sessions.
+    pub sessions: Vec<u8>,
+    /// That of the tree, or `-` for standard input.
+    pub tree: Vec<u8>,
+}
+
+// Not derived: so the proof of a function that drops one has a single call there.
+impl Drop for ClusterFiles {
+    fn drop(self) {
+        let ClusterFiles {
+            auth: _,
+            sessions: _,
+            tree: _,
+        } = self;
+    }
+}
+
+/// Writes what clients hold and may not by the tree that the reader has, what could not be judged, and a line that sums it up, and says
+/// by the status whether there is any of either.
+pub fn audit<R: Read, W: Write>(
+    alloc: Global,
+    audit_args: &AuditArgs,
+    reader: &mut Watched<R>,
+    writer: &mut Watched<W>,
+) -> Result<u8, AnswerFault>
+    requires reader_clear { IsFalse (has_failed reader.old) }
+    requires reader_unended { IsFalse (has_ended reader.old) }
+    requires writer_clear { IsFalse (has_failed writer.old) }
+    ensures status { IfOk result (λ status. (status ≡ DONE) ⊎ (status ≡ FOUND)) }
+    ensures ok { OnOk result (IsFalse (has_failed reader.new) × IsFalse (has_failed writer.new)) }
+    ensures told { IfOk result (λ status. AnswersAuditArgs audit_args.now (R.remaining (inner_of reader.old)) status
+        (W.contents (inner_of writer.old)) (W.contents (inner_of writer.new))) }
+    ensures err { IfErr result (λ fault. StopsAuditArgs audit_args.now fault (R.remaining (inner_of reader.old))
+        (has_failed reader.new) (has_failed writer.new) (W.contents (inner_of writer.old)) (W.contents (inner_of writer.new))) }
+{
+    let Some(fs) = FsName::read(audit_args.fs.as_slice()) else {
+        return Err(AnswerFault::Question(QuestionFault::BadValue(Opt::Fs)));
+    };
+    let clients = ClusterClients::read(
+        alloc,
+        audit_args.auth.as_slice(),
+        audit_args.sessions.as_slice(),
+    )?;
+    let tree = read_tree(alloc, reader)?;
+    let report = audit_report(alloc, audit_args.manner, &fs, &clients, &tree)?;
+    let text = report.text.as_slice();
+    if report.found {
+        write_text(text, FOUND, writer)
+    } else {
+        write_text(text, DONE, writer)
+    }
+}

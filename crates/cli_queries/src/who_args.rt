@@ -1,0 +1,56 @@
+//! The command that tells which clients of a cluster may make an access.
+ghost use Rattle.std.specs.Prelude.{◌≡◌, OnOk, IfOk, IfErr, IsFalse};
+ghost use Rattle.script_syntax.specs.Watched.{has_ended, has_failed, inner_of};
+ghost use Rattle.cli_queries.specs.WhoArgs.{AnswersWhoArgs, StopsWhoArgs};
+
+use crate::commands::write_text;
+use crate::fault::AnswerFault;
+use crate::status::DONE;
+use queries::{Attempt, AttemptValues, Telling, who_lines};
+use script_syntax::{Watched, read_script};
+use std::alloc::Global;
+use std::io::{Read, Write};
+
+/// What `who` is asked.
+pub struct WhoArgs {
+    /// The values of the words and options.
+    pub values: AttemptValues,
+    /// The name of the file of the auth list, or `-` for standard input.
+    pub auth: Vec<u8>,
+    /// How it is told of each client.
+    pub telling: Telling,
+}
+
+// Not derived: so the proof of a function that drops one has a single call there.
+impl Drop for WhoArgs {
+    fn drop(self) {
+        let WhoArgs {
+            values: _,
+            auth: _,
+            telling: _,
+        } = self;
+    }
+}
+
+/// Writes a line for each client of the auth list that the reader has.
+pub fn who<R: Read, W: Write>(
+    alloc: Global,
+    who_args: &WhoArgs,
+    reader: &mut Watched<R>,
+    writer: &mut Watched<W>,
+) -> Result<u8, AnswerFault>
+    requires reader_clear { IsFalse (has_failed reader.old) }
+    requires reader_unended { IsFalse (has_ended reader.old) }
+    requires writer_clear { IsFalse (has_failed writer.old) }
+    ensures status { IfOk result (λ status. status ≡ DONE) }
+    ensures ok { OnOk result (IsFalse (has_failed reader.new) × IsFalse (has_failed writer.new)) }
+    ensures told { OnOk result (AnswersWhoArgs who_args.now (R.remaining (inner_of reader.old))
+        (W.contents (inner_of writer.old)) (W.contents (inner_of writer.new))) }
+    ensures err { IfErr result (λ fault. StopsWhoArgs who_args.now fault (R.remaining (inner_of reader.old))
+        (has_failed reader.new) (has_failed writer.new) (W.contents (inner_of writer.old)) (W.contents (inner_of writer.new))) }
+{
+    let attempt = Attempt::read(alloc, &who_args.values)?;
+    let auth = read_script(alloc, reader)?;
+    let lines = who_lines(alloc, auth.as_slice(), &attempt, who_args.telling)?;
+    write_text(lines.as_slice(), DONE, writer)
+}

@@ -1,6 +1,0 @@
-use Rattle.std.proofs.Common.{◌≡◌, take}
-use Rattle.snapshot.specs.Passes.{AllBegin}
-use Rattle.snapshot.proofs.passes.audit_all.Given as goal
-
-abbrev pub invariant-loop-pass : goal.invariant-loop-pass
-invariant-loop-pass g l = record { same : l.recorder ≡ l.fn.recorder; begin : AllBegin l.fn.recorder (take l.pass-index l.passes) }
