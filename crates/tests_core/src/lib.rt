@@ -1,5 +1,5 @@
-//! Tests of the public calls of all that needs no server: caps, grants, the tree, the table of caps, sessions and locks;
-//! the core and its scripts; and the calls behind the commands that answer questions about grants.
+//! Tests of the public calls of all that needs no server and no command: caps, grants, the tree, the table of caps, sessions and
+//! locks; the core and its scripts; and what an audit finds.
 //!
 //! They show what no answer of a command shows; all else is asked in the talks of `capbench`. They stand in a crate of their own,
 //! since a crate with tests is proved twice. The asserts stand in helpers without a contract, and so do the reads of values, since
@@ -28,8 +28,6 @@ mod gathers;
 mod histories;
 #[cfg(test)]
 mod library;
-#[cfg(test)]
-mod lines;
 #[cfg(test)]
 mod lock_moves;
 #[cfg(test)]
@@ -70,5 +68,3 @@ mod viewing;
 mod views;
 #[cfg(test)]
 mod waits;
-#[cfg(test)]
-mod words;
