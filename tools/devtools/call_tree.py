@@ -29,7 +29,7 @@ STEPS = {
 ASKED = {
     "searches of an entry in the table": ["captable::nodes::key_of"],
     "guesses at one": ["captable::table::CapTable::slot_near"],
-    "verdicts on an access": ["capacts::judge::denial"],
+    "verdicts on an access": ["capstep::judge::denial"],
     "sets that a client is permitted": ["capgrant::policy::permitted_by_kept"],
 }
 GETTER = re.compile(r"[&*]*(mut )?self(\.\w+)+(\.(as_slice|len|is_empty|copied|alloc|allocator)\(\))?")

@@ -131,7 +131,7 @@ def for_proofs_alone(sources):
 
 def variants():
     """The names of the variants of Event."""
-    source = (CRATES / "capevents/src/event.rt").read_text(encoding="utf-8")
+    source = (CRATES / "step_model/src/event.rt").read_text(encoding="utf-8")
     body = re.search(r"pub enum Event \{\n(.*?)\n\}", source, re.DOTALL)[1]
     return set(re.findall(r"^    (\w+) \{", body, re.MULTILINE))
 

@@ -15,7 +15,7 @@ from .workspace import CRATES, ROOT, TOOLS
 
 TABLE = TOOLS / "no_memory.txt"
 # Programs for tests and timing answer to nobody.
-LEFT_OUT = {"capbench", "capload", "capwork", "talks", "tests_policy", "tests_server"}
+LEFT_OUT = {"capbench", "bench_kit", "tests_core", "tests_commands"}
 WORD = r"\bAllocError\b|\b\w+::(?:NoMemory|OutOfMemory|Memory|NoReader|NoView)\b"
 MADE = re.compile(WORD + r"|\bout_of_memory\(\)")
 # A pattern that names it, whose arm hands it on.

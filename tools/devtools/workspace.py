@@ -13,7 +13,7 @@ C_BUILT = ROOT / "out" / "c"
 LIBRARY = C_BUILT / "libbaybowl.a"
 
 # The crates that make the step of the core; those below each know one thing.
-CORE = ["capcore", "capsteps", "capacts", "caprules", "capnotes", "capevents"]
+CORE = ["capcore", "capstep", "step_model"]
 
 
 def needs():

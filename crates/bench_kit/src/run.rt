@@ -98,7 +98,7 @@ impl Run {
     }
 
     /// One line more of what the program is given, or is to answer.
-    pub fn take(&mut self, line: Line<'_>) -> Result<(), BookFault> {
+    pub(crate) fn take(&mut self, line: Line<'_>) -> Result<(), BookFault> {
         let taken = match line {
             Line::Asked(text) => push_line(&mut self.input, text),
             Line::Written(text) => push_line(&mut self.wanted.written, text),
