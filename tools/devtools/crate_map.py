@@ -8,18 +8,14 @@ With `--check` nothing is written, and the status is 1 where docs/crates.svg is 
 part, or stands on one of a part above its own.
 """
 
-import re
 import sys
 from dataclasses import dataclass, field
 from functools import cache
 from itertools import accumulate, combinations, product
 
-from .workspace import ROOT, needs
+from .workspace import BESIDE, ROOT, needs, parts
 
 FILE = ROOT / "docs" / "crates.svg"
-HEADING = re.compile(r"# ([A-Z][\w ]*)$")
-# The part that stands beside the others, as the programs are not made of it.
-BESIDE = "Measured and tested"
 # Sizes in pixels: of the whole, of a band and of what stands between two, of a crate and of a letter of its name.
 WIDTH, MARGIN, LABEL, ASIDE = 1120, 16, 140, 190
 BAND, GAP = 64, 26
@@ -47,18 +43,6 @@ STYLE = """
 
 
 # ---- the crates
-
-
-def parts():
-    """The crates of each part of crates.txt, by its name."""
-    found, name = {}, None
-    for line in (ROOT / "crates.txt").read_text(encoding="utf-8").splitlines():
-        if heading := HEADING.match(line):
-            name = heading[1]
-            found[name] = []
-        elif name and ":" in line.split("#")[0]:
-            found[name].append(line.split(":")[0].split()[0])
-    return found
 
 
 def direct():

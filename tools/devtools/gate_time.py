@@ -33,7 +33,7 @@ BUILDING = {"llvm": "by LLVM", "rattle": "by Rattle's own compiler", "linked": "
 # What LLVM's compiler took within the check of a crate's tests.
 COMPILED = "compiled"
 # The proofs that tell how fast a machine is, and the seconds of the processor that they took in the run by which the limit was set.
-YARDSTICK, SECONDS_THEN = ("capbits", "capbits", "locktable"), 182
+YARDSTICK, SECONDS_THEN = ("capbits", "locktable"), 182
 
 
 @dataclass(frozen=True)

@@ -131,9 +131,9 @@ def for_proofs_alone(sources):
 
 def variants():
     """The names of the variants of Event."""
-    source = (CRATES / "step_model/src/event.rt").read_text(encoding="utf-8")
-    body = re.search(r"pub enum Event \{\n(.*?)\n\}", source, re.DOTALL)[1]
-    return set(re.findall(r"^    (\w+) \{", body, re.MULTILINE))
+    sources = (path.read_text(encoding="utf-8") for path in files(CORE, "src", (".rt",)))
+    bodies = (found[1] for source in sources if (found := re.search(r"pub enum Event \{\n(.*?)\n\}", source, re.DOTALL)))
+    return set(re.findall(r"^    (\w+) \{", next(bodies), re.MULTILINE))
 
 
 def event_tables(folder):

@@ -11,11 +11,11 @@ is a decision, and a line there. The status is 1 where the sources and that file
 import re
 from collections import Counter
 
-from .workspace import CRATES, ROOT, TOOLS
+from .workspace import BESIDE, CRATES, ROOT, TOOLS, parts
 
 TABLE = TOOLS / "no_memory.txt"
 # Programs for tests and timing answer to nobody.
-LEFT_OUT = {"capbench", "bench_kit", "tests_core", "tests_commands"}
+LEFT_OUT = set(parts()[BESIDE])
 WORD = r"\bAllocError\b|\b\w+::(?:NoMemory|OutOfMemory|Memory|NoReader|NoView)\b"
 MADE = re.compile(WORD + r"|\bout_of_memory\(\)")
 # A pattern that names it, whose arm hands it on.

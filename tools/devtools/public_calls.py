@@ -34,7 +34,7 @@ class Function:
 
     crate: str
     module: str
-    # The type that it is a method of, and whether a trait demands it.
+    # The type that it is a method of, by its crate, module and name, and whether a trait demands it.
     of: tuple | None
     trait: bool
     name: str
@@ -46,7 +46,7 @@ class Function:
     scope: dict
 
     def where(self):
-        return " ".join((self.crate, f"{self.of[1]}::{self.name}" if self.of else self.name))
+        return " ".join((self.crate, f"{self.of[-1]}::{self.name}" if self.of else self.name))
 
 
 @dataclass
@@ -152,7 +152,7 @@ class Reader:
 
     def type(self, kind, name, tokens):
         self.mine.items.add((self.module, name))
-        self.program.types[self.crate, name] = kind, tokens, self.scope, self.module
+        self.program.types[self.crate, self.module, name] = kind, tokens, self.scope, self.module
 
     def fields(self, tokens, at, _part):
         start = until(tokens, at, "{;(")
@@ -168,14 +168,14 @@ class Reader:
         head = head[: head.index("where")] if "where" in head else head
         named = head[head.index("for") + 1 :] if "for" in head else head
         of = next((token for token in named if token.isidentifier() and token != "mut"), "")
-        self.items(tokens[start + 1 : end - 1], (self.crate, of), "for" in head)
+        self.items(tokens[start + 1 : end - 1], (self.crate, self.module, of), "for" in head)
         return end
 
     def demands(self, tokens, at, _part):
         start = until(tokens, at, "{")
         end = end_of(tokens, start)
         self.type("trait", tokens[at + 1], [])
-        self.items(tokens[start + 1 : end - 1], (self.crate, tokens[at + 1]), True)
+        self.items(tokens[start + 1 : end - 1], (self.crate, self.module, tokens[at + 1]), True)
         return end
 
     def uses(self, tokens, at, part):
@@ -208,6 +208,10 @@ class Program:
                 tokens = TOKEN.findall(without_clauses(path.read_text(encoding="utf-8")))
                 Reader(self, crate, "" if module == "lib" else module, tokens)
         self.functions = [function for function in self.functions if function.name not in without]
+        self.seen_types = {}
+        # Where a type's methods stand is not always where the type does.
+        for function in (it for it in self.functions if it.of):
+            function.of = self.type_named(function.scope, function.crate, function.module, function.of[-1]) or function.of
         self.methods, self.free = defaultdict(list), {}
         for function in self.functions:
             if function.of:
@@ -218,7 +222,6 @@ class Program:
         for function in self.functions:
             if function.trait and function.of:
                 self.demanded[function.of].append(function)
-        self.seen_types = {}
 
     def item(self, crate, path):
         """What a path in a crate names: the crate, the module and the name of the item; None for what is of no crate here."""
@@ -253,7 +256,7 @@ class Program:
         key = id(scope), name
         if key not in self.seen_types:
             found = self.resolve(scope, crate, module, (name,)) if name.isidentifier() and name[0].isupper() else None
-            self.seen_types[key] = (found[0], found[2]) if found and (found[0], found[2]) in self.types else None
+            self.seen_types[key] = found if found in self.types else None
         return self.seen_types[key]
 
     def types_in(self, function, tokens):
@@ -323,8 +326,7 @@ class Program:
                 yield from (found for of in (list(at_hand) if types is None else types) for found in self.methods.get((of, path[0]), ()))
             elif len(path) > 1 and path[-2][0].isupper():
                 of = function.of if path[-2] == "Self" else None
-                if not of and (found := self.resolve(function.scope, function.crate, function.module, path[:-1])):
-                    of = found[0], found[2]
+                of = of or self.resolve(function.scope, function.crate, function.module, path[:-1])
                 yield from self.methods.get((of, path[-1]), ())
             elif is_call or len(path) > 1 or (before in ("(", ",") and behind in (")", ",")):
                 if (found := self.resolve(function.scope, function.crate, function.module, path)) in self.free:
@@ -349,11 +351,10 @@ class Program:
         for crate, items in self.crates.items():
             passed = {self.item(crate, ("crate", name)) for name in items.passed}
             passed |= {(crate, *item) for item in items.items if item[0] in items.open_modules | {""}}
-            types = {(found[0], found[2]) for found in passed if found}
             for function in self.functions:
                 if function.crate != crate or not function.public or function.trait or not function.body:
                     continue
-                if function.of in types or (not function.of and (crate, function.module, function.name) in passed):
+                if (function.of or (crate, function.module, function.name)) in passed:
                     yield function
 
 
