@@ -274,16 +274,16 @@ uint32_t baybowl_grants_write(const char *grants, size_t grants_len, char *room,
 uint32_t baybowl_grants_read(const char *grants, size_t grants_len, const char *fs, size_t fs_len, struct baybowl_block *block,
                              size_t block_len, uint64_t *needed, struct baybowl_fault *fault);
 
-/* What baybowl_verdict_by and baybowl_verdict_mask call: the answer where it is soon seen, of grants for everybody, and the whole
- * verdict. No calls for a program: those that begin with capffi take what they are given as it is, and tell the number of the grant that
- * allows, 17 with the answer of a denial, or 0. */
-uint32_t capffi_fast_verdict(const struct baybowl_block *block, const uint8_t *text, size_t text_len, const uint8_t *path, size_t path_len,
-                     const struct baybowl_question *question, struct baybowl_answer *answer);
+/* What baybowl_verdict_by and baybowl_verdict_mask call: the fast verdict, which is an answer where grants are for everybody, and the
+ * whole verdict. These are no calls for a program: those that begin with capffi take what they are given as it is, and return the
+ * number of the grant that allows, 17 with the answer of a denial, or 0. */
+uint32_t capffi_fast_verdict(const struct baybowl_block *block, const uint8_t *text, size_t text_len, const uint8_t *path,
+                             size_t path_len, const struct baybowl_question *question, struct baybowl_answer *answer);
 uint32_t baybowl_whole_verdict_by(const struct baybowl_block *block, size_t block_len, const char *path, size_t path_len,
                                   const uint32_t *groups, size_t groups_len, const struct baybowl_question *question,
                                   struct baybowl_answer *answer);
-uint32_t capffi_fast_verdict_mask(const struct baybowl_block *block, const uint8_t *text, size_t text_len, const uint8_t *path, size_t path_len,
-                          const struct baybowl_check *check, struct baybowl_answer *answer);
+uint32_t capffi_fast_verdict_mask(const struct baybowl_block *block, const uint8_t *text, size_t text_len, const uint8_t *path,
+                                  size_t path_len, const struct baybowl_check *check, struct baybowl_answer *answer);
 uint32_t baybowl_whole_verdict_mask(const struct baybowl_block *block, size_t block_len, const char *path, size_t path_len,
                                     const uint32_t *groups, size_t groups_len, const struct baybowl_check *check,
                                     struct baybowl_answer *answer, uint32_t *access);
@@ -303,15 +303,16 @@ inline int baybowl_is_sound(const struct baybowl_block *block, size_t block_len,
            block_len >= sizeof *block && block_len <= BAYBOWL_MAX_LEN && path_len <= BAYBOWL_MAX_LEN && groups_len <= BAYBOWL_MAX_LEN;
 }
 
-/* Whether a number tells an answer: that of the grant of this number, or that of a denial. */
-inline int baybowl_is_told(uint32_t told, const struct baybowl_answer *denied, struct baybowl_answer *answer) {
-    if (told - 1 < 16) {
-        answer->grant = told;
+/* Whether a number of capffi_fast_verdict or capffi_fast_verdict_mask is an answer, which is written then: that the grant of this number
+ * allows, or a denial. */
+inline int baybowl_is_fast_answer(uint32_t fast, const struct baybowl_answer *denied, struct baybowl_answer *answer) {
+    if (fast - 1 < 16) {
+        answer->grant = fast;
         answer->count = 0;
         memset(answer->rules, 0, sizeof answer->rules);
         return 1;
     }
-    if (told != 0) {
+    if (fast != 0) {
         *answer = *denied;
         return 1;
     }
@@ -323,17 +324,17 @@ inline int baybowl_is_told(uint32_t told, const struct baybowl_answer *denied, s
  * The values are tested in the order block, groups, path, mode, access, and the first bad one is told: BAYBOWL_BLOCK,
  * BAYBOWL_GROUPS, BAYBOWL_PATH, BAYBOWL_MODE, BAYBOWL_ACCESS. Else BAYBOWL_MEMORY, BAYBOWL_POINTER, BAYBOWL_LENGTH.
  * It takes memory only for a path that has two '/' side by side, or one behind its last name. One in front of the first name may be
- * there or not. Any number of threads may ask one block, as long as none writes it. A block that was overwritten gets BAYBOWL_BLOCK, or the verdict of the
- * grants that it then says: what is read of it stays within `block_len`.
+ * there or not. Any number of threads may ask one block, as long as none writes it. A block that was overwritten gets BAYBOWL_BLOCK, or
+ * the verdict of the grants that it then says: what is read of it stays within `block_len`.
  * It is inline, since a server asks often: what a compiler sees of the pointers need not be tested. */
 inline uint32_t baybowl_verdict_by(const struct baybowl_block *block, size_t block_len, const char *path, size_t path_len,
                                    const uint32_t *groups, size_t groups_len, const struct baybowl_question *question,
                                    struct baybowl_answer *answer) {
     if (baybowl_is_sound(block, block_len, path, path_len, groups, groups_len, question, answer) && groups_len <= 16) {
         struct baybowl_answer denied;
-        const uint32_t told = capffi_fast_verdict(block, (const uint8_t *)(block + 1), block_len - sizeof *block, (const uint8_t *)path, path_len,
-                                          question, &denied);
-        if (baybowl_is_told(told, &denied, answer)) {
+        const uint32_t fast = capffi_fast_verdict(block, (const uint8_t *)(block + 1), block_len - sizeof *block,
+                                                  (const uint8_t *)path, path_len, question, &denied);
+        if (baybowl_is_fast_answer(fast, &denied, answer)) {
             return BAYBOWL_OK;
         }
     }
@@ -353,9 +354,9 @@ BAYBOWL_INLINE uint32_t baybowl_verdict_mask(const struct baybowl_block *block, 
         (uintptr_t)access % 4 == 0) {
         const uint32_t mask = check->mask;
         struct baybowl_answer denied;
-        const uint32_t told = capffi_fast_verdict_mask(block, (const uint8_t *)(block + 1), block_len - sizeof *block, (const uint8_t *)path,
-                                               path_len, check, &denied);
-        if (baybowl_is_told(told, &denied, answer)) {
+        const uint32_t fast = capffi_fast_verdict_mask(block, (const uint8_t *)(block + 1), block_len - sizeof *block,
+                                                       (const uint8_t *)path, path_len, check, &denied);
+        if (baybowl_is_fast_answer(fast, &denied, answer)) {
             /* It answers masks of one bit, to read or to write. */
             *access = mask == BAYBOWL_MAY_READ ? BAYBOWL_READ : BAYBOWL_WRITE;
             return BAYBOWL_OK;

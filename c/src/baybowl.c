@@ -151,7 +151,7 @@ uint32_t baybowl_grants_read(const char *grants, size_t grants_len, const char *
 /* The calls that the header has inline, for a program that can't take them from there. */
 extern inline int baybowl_is_sound(const struct baybowl_block *block, size_t block_len, const char *path, size_t path_len,
                                    const uint32_t *groups, size_t groups_len, const void *question, const void *answer);
-extern inline int baybowl_is_told(uint32_t told, const struct baybowl_answer *denied, struct baybowl_answer *answer);
+extern inline int baybowl_is_fast_answer(uint32_t fast, const struct baybowl_answer *denied, struct baybowl_answer *answer);
 extern inline uint32_t baybowl_verdict_mask(const struct baybowl_block *block, size_t block_len, const char *path, size_t path_len,
                                             const uint32_t *groups, size_t groups_len, const struct baybowl_check *check,
                                             struct baybowl_answer *answer, uint32_t *access);

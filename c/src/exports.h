@@ -17,13 +17,13 @@ uint32_t capffi_grants_write(const uint8_t *grants, size_t grants_len, uint8_t *
                              struct baybowl_fault *fault);
 uint32_t capffi_grants_read(const uint8_t *grants, size_t grants_len, const uint8_t *fs, size_t fs_len, struct baybowl_block *block,
                             uint8_t *text, size_t text_len, uint64_t *len, struct baybowl_fault *fault);
-uint32_t capffi_fast_verdict(const struct baybowl_block *block, const uint8_t *text, size_t text_len, const uint8_t *path, size_t path_len,
-                     const struct baybowl_question *question, struct baybowl_answer *answer);
+uint32_t capffi_fast_verdict(const struct baybowl_block *block, const uint8_t *text, size_t text_len, const uint8_t *path,
+                             size_t path_len, const struct baybowl_question *question, struct baybowl_answer *answer);
 uint32_t capffi_verdict_by(const struct baybowl_block *block, const uint8_t *text, size_t text_len, const uint8_t *path,
                            size_t path_len, const uint32_t *groups, size_t groups_len, const struct baybowl_question *question,
                            struct baybowl_answer *answer);
-uint32_t capffi_fast_verdict_mask(const struct baybowl_block *block, const uint8_t *text, size_t text_len, const uint8_t *path, size_t path_len,
-                          const struct baybowl_check *check, struct baybowl_answer *answer);
+uint32_t capffi_fast_verdict_mask(const struct baybowl_block *block, const uint8_t *text, size_t text_len, const uint8_t *path,
+                                  size_t path_len, const struct baybowl_check *check, struct baybowl_answer *answer);
 uint32_t capffi_verdict_mask(const struct baybowl_block *block, const uint8_t *text, size_t text_len, const uint8_t *path,
                              size_t path_len, const uint32_t *groups, size_t groups_len, const struct baybowl_check *check,
                              struct baybowl_answer *answer, uint32_t *access);

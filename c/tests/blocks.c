@@ -382,7 +382,7 @@ static void *ask_shared(void *given) {
     return NULL;
 }
 
-static uint32_t told_soon(const struct baybowl_block *block, size_t len, const char *path, int by_mask, struct baybowl_answer *denied) {
+static uint32_t fast_answer_of(const struct baybowl_block *block, size_t len, const char *path, int by_mask, struct baybowl_answer *denied) {
     static const struct baybowl_check check = {9, 50, 7, 50, 0640, BAYBOWL_MAY_WRITE, 0, 0};
     const uint8_t *text = (const uint8_t *)(block + 1), *at = (const uint8_t *)path;
     size_t text_len = len - sizeof *block;
@@ -390,7 +390,7 @@ static uint32_t told_soon(const struct baybowl_block *block, size_t len, const c
                    : capffi_fast_verdict(block, text, text_len, at, strlen(path), &question, denied);
 }
 
-/* One grant or several, which are for everybody, are answered soon, by a question and by a mask. If they were not, the whole verdict
+/* One grant or several, which are for everybody, have a fast answer, to a question and to a mask. If they had not, the whole verdict
  * would say the same, and only take longer. */
 static void fast_verdicts(void) {
     const struct {
@@ -408,7 +408,7 @@ static void fast_verdicts(void) {
         const struct baybowl_block *block = read_at_the_end(rows[row].grants, &len);
         for (int by_mask = 0; by_mask < 2; by_mask++) {
             struct baybowl_answer denied = {0};
-            CHECK(told_soon(block, len, rows[row].path, by_mask, &denied) == rows[row].told);
+            CHECK(fast_answer_of(block, len, rows[row].path, by_mask, &denied) == rows[row].told);
             CHECK(denied.grant == 0 && denied.count == rows[row].count);
             CHECK(memcmp(denied.rules, rows[row].rules, sizeof denied.rules) == 0);
         }
