@@ -1,4 +1,4 @@
-"""Prints how large the house is: what of the sources and pages is to become smaller, or to stay small, each beside its bound.
+"""Prints how large sources and pages are: what is to become smaller, or to stay small, each beside its bound.
 
 The status is 0, also where a bound is not met: this tells, and decides nothing. It reads the sources as `rt fmt` lays them out. The
 core's crates are those that make its step. A page is README.md and each other .md of the root, of docs/ and of a crate.

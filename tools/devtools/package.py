@@ -77,7 +77,7 @@ def files(prefix):
     yield "share/bash-completion/completions/capd", (ROOT / "packaging" / "capd.bash").read_bytes(), 0o644
     yield "lib/libbaybowl.a", LIBRARY.read_bytes(), 0o644
     yield "lib/pkgconfig/baybowl.pc", pkg_config(prefix).encode(), 0o644
-    yield "c/include/baybowl.h", HEADER.read_bytes(), 0o644
+    yield "include/baybowl.h", HEADER.read_bytes(), 0o644
     pages = [ROOT / "README.md", ROOT / "CHANGELOG.md", *sorted((ROOT / "docs").glob("*.md"))]
     for page in [*pages, *sorted((C / "examples").glob("*.c"))]:
         yield f"share/doc/baybowl/{page.relative_to(ROOT)}", page.read_bytes(), 0o644
