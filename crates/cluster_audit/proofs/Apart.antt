@@ -12,7 +12,7 @@ use Rattle.capbits.specs.Sets.{has-meet, has-none, has-where, is_empty, meet, no
 use Rattle.capbits.proofs.Emptiness.{has-is_empty, is_empty-no_caps}
 use Rattle.locktable.specs.Conflicts.{AreApart, barred_by, conflict}
 use Rattle.policy_analysis.proofs.Lists.{found, none_passes}
-use Rattle.cluster_audit.specs.declared.conflicts.Holding.{Holding}
+use Rattle.cluster_audit.specs.declared.conflict.Holding.{Holding}
 use Rattle.cluster_audit.specs.Conflicts.{conflict_of, conflicting_caps}
 use Rattle.cluster_audit.proofs.ConflictingCaps.{in_all, test}
 

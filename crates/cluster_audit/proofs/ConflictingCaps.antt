@@ -11,8 +11,8 @@ use Rattle.capbits.specs.declared.cap.Cap.TheVariants.{As, Ax, Fa, Fb, Fc, Fl, F
 use Rattle.capbits.specs.Caps.{Caps, all_caps, has}
 use Rattle.capbits.specs.Sets.{all_in, caps_in, has-caps_in, has-where, same_cap, same_caps, union}
 use Rattle.locktable.specs.Conflicts.{conflict}
-use Rattle.cluster_audit.specs.declared.conflicts.Holding.{Holding}
-use Rattle.cluster_audit.specs.declared.conflicts.Conflict.{Conflict}
+use Rattle.cluster_audit.specs.declared.conflict.Holding.{Holding}
+use Rattle.cluster_audit.specs.declared.conflict.Conflict.{Conflict}
 use Rattle.cluster_audit.specs.Conflicts.{conflict_of, conflicting, conflicting_caps}
 use Rattle.cluster_audit.proofs.Gathering.{IsGathered, all_of, no_more, one_more}
 

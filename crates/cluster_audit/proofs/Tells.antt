@@ -11,7 +11,7 @@ use Rattle.capbits.specs.Sets.{minus}
 use Rattle.capbits.specs.Text.{text_of}
 use Rattle.capspec.specs.declared.fault.SpecFault.{SpecFault}
 use Rattle.cluster_audit.specs.declared.findings.Finding.{Finding}
-use Rattle.cluster_audit.specs.declared.conflicts.Conflict.{Conflict}
+use Rattle.cluster_audit.specs.declared.conflict.Conflict.{Conflict}
 use Rattle.capexplain.specs.Explaining.{path_text}
 use Rattle.capexplain.specs.Quoting.{quoted}
 use Rattle.capexplain.specs.Standing.{fault_word, unread_line}

@@ -18,7 +18,7 @@ use Rattle.capspec.specs.declared.fault.SpecFaultKind.{SpecFaultKind}
 use Rattle.capgrant.specs.declared.access.Access.{Access}
 use Rattle.capgrant.specs.declared.rule.Rule.{Rule}
 use Rattle.cluster_audit.specs.declared.findings.Finding.{Finding}
-use Rattle.cluster_audit.specs.declared.conflicts.Conflict.{Conflict}
+use Rattle.cluster_audit.specs.declared.conflict.Conflict.{Conflict}
 use Rattle.capexplain.specs.Explaining.{path_text}
 use Rattle.capexplain.specs.Lines.{HasNumber}
 use Rattle.capexplain.specs.Quoting.{quoted}

@@ -15,8 +15,8 @@ use Rattle.ceph_input.specs.Values.{IsFaultIn}
 use Rattle.ceph_input.specs.Sessions.{Connected, sessions_of}
 use Rattle.ceph_input.specs.Dump.{Dump, Held, Listed, PathMap}
 use Rattle.cluster_audit.specs.declared.findings.Finding.{Finding}
-use Rattle.cluster_audit.specs.declared.conflicts.Conflict.{Conflict}
-use Rattle.cluster_audit.specs.declared.conflicts.Holding.{Holding}
+use Rattle.cluster_audit.specs.declared.conflict.Conflict.{Conflict}
+use Rattle.cluster_audit.specs.declared.conflict.Holding.{Holding}
 use Rattle.cluster_audit.specs.Conflicts.{conflicts_of}
 use Rattle.cluster_audit.specs.Callers.{Inode, IsPermittedToSome, inode}
 use Rattle.cluster_audit.specs.Findings.{IsBeyond}

@@ -6,8 +6,8 @@ use Rattle.capbits.specs.declared.cap.Cap.TheVariants.{As, Ax, Fb, Fc, Fr, Fs, F
 use Rattle.capbits.specs.Caps.{Caps, all_caps, caps_where, has}
 use Rattle.capbits.specs.Sets.{is_empty, meet}
 use Rattle.locktable.specs.Conflicts.{conflict}
-use Rattle.cluster_audit.specs.declared.conflicts.Holding.{Holding}
-use Rattle.cluster_audit.specs.declared.conflicts.Conflict.{Conflict}
+use Rattle.cluster_audit.specs.declared.conflict.Holding.{Holding}
+use Rattle.cluster_audit.specs.declared.conflict.Conflict.{Conflict}
 
 -- the caps that conflict with some of these, where another client holds them
 unfoldable pub conflicting_caps : Caps → Caps

@@ -10,7 +10,7 @@ use Rattle.capgrant.specs.declared.access.Access.{Access}
 use Rattle.capgrant.specs.declared.rule.Rule.{Rule}
 use Rattle.capgrant.specs.Access.{access_word}
 use Rattle.cluster_audit.specs.declared.findings.Finding.{Finding}
-use Rattle.cluster_audit.specs.declared.conflicts.Conflict.{Conflict}
+use Rattle.cluster_audit.specs.declared.conflict.Conflict.{Conflict}
 use Rattle.capexplain.specs.Explaining.{path_text}
 use Rattle.capexplain.specs.Standing.{fault_word}
 use Rattle.capexplain.specs.Answers.{rules_value}

@@ -4,7 +4,7 @@ use Rattle.std.specs.Fmt.{decimal}
 use Rattle.capbits.specs.Caps.{Caps}
 use Rattle.capspec.specs.declared.fault.SpecFault.{SpecFault}
 use Rattle.cluster_audit.specs.declared.findings.Finding.{Finding}
-use Rattle.cluster_audit.specs.declared.conflicts.Conflict.{Conflict}
+use Rattle.cluster_audit.specs.declared.conflict.Conflict.{Conflict}
 use Rattle.capexplain.specs.Standing.{unread_line}
 use Rattle.capexplain.specs.declared.shape.Shape.{Shape}
 use Rattle.capexplain.specs.declared.shape.Shape.TheVariants.{Lines, Objects}

@@ -7,7 +7,7 @@ use Rattle.capspec.specs.declared.fault.SpecFault.{SpecFault}
 use Rattle.capgrant.specs.declared.access.Access.{Access}
 use Rattle.capgrant.specs.declared.rule.Rule.{Rule}
 use Rattle.cluster_audit.specs.declared.findings.Finding.{Finding}
-use Rattle.cluster_audit.specs.declared.conflicts.Conflict.{Conflict}
+use Rattle.cluster_audit.specs.declared.conflict.Conflict.{Conflict}
 use Rattle.capexplain.specs.Explaining.{path_text}
 use Rattle.capexplain.specs.Standing.{unread_line}
 use Rattle.capexplain.specs.declared.shape.Shape.TheVariants.{Lines}

@@ -2,7 +2,7 @@
 
 ghost use Rattle.std.specs.Prelude.{◌≡◌, ◌≢◌, ◌↔◌, None};
 ghost use Rattle.locktable.specs.Conflicts.{AreApart};
-ghost use Rattle.cluster_audit.specs.declared.conflicts.Holding.{Holding};
+ghost use Rattle.cluster_audit.specs.declared.conflict.Holding.{Holding};
 ghost use Rattle.cluster_audit.specs.Conflicts.{conflict_of};
 
 /// Of two clients there is a conflict except where what they hold is apart: no cap of the one conflicts, by the rule of

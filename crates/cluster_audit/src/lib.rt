@@ -8,8 +8,8 @@
 mod auditing;
 mod callers;
 mod clients;
+mod conflict;
 mod conflict_laws;
-mod conflicts;
 mod fault;
 mod findings;
 mod holders;
@@ -25,7 +25,7 @@ mod unjudged;
 
 pub use auditing::audit_report;
 pub use clients::ClusterClients;
-pub use conflicts::{Conflict, Holding, conflicts};
+pub use conflict::{Conflict, Holding, conflicts};
 pub use fault::HeldFault;
 pub use findings::{Finding, beyond};
 pub use inode::Inode;

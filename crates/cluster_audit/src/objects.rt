@@ -5,7 +5,7 @@ ghost use Rattle.capexplain.specs.Pieces.{piece_value};
 ghost use Rattle.capexplain.specs.Values.{bytes_value, or_null};
 ghost use Rattle.cluster_audit.specs.Objects.{access_value, caps_or_null, conflict_object, found_object, group_object, path_value, session_value, why_value};
 
-use crate::conflicts::Conflict;
+use crate::conflict::Conflict;
 use crate::findings::Finding;
 use crate::notes::Detail;
 use capbits::{CapSet, print_numbered, print_str};

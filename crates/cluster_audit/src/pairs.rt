@@ -4,7 +4,7 @@ ghost use Rattle.std.specs.List.{flat_map};
 ghost use Rattle.cluster_audit.specs.Audited.{AddsTo, Give, Holds, SaysOfPairs, conflict_at};
 ghost use Rattle.cluster_audit.specs.Lines.{beside_text, conflict_line, holder_text, on_inode};
 
-use crate::conflicts::{Conflict, Holding, conflicts};
+use crate::conflict::{Conflict, Holding, conflicts};
 use crate::holders::name_of;
 use crate::lines::{print_at, print_who};
 use crate::notes::{Detail, Manner};

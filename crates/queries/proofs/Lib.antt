@@ -7,6 +7,6 @@ pub mod ClientsTold
 pub mod Looked
 pub mod Linted
 pub mod Cuts
-pub mod Telling
+pub mod LogLines
 pub mod Fitting
 pub mod Items

@@ -1,7 +1,7 @@
 use Rattle.std.proofs.Common.{ℕ, List, [], ◌∷◌, ◌++◌, refl, sym, ap, inl, inr, ◌∙◌}
 use Rattle.std.proofs.lemmas.List.{append-nil}
 use Rattle.capbits.specs.Caps.{Caps}
-use Rattle.cluster_audit.specs.declared.conflicts.Holding.{Holding}
+use Rattle.cluster_audit.specs.declared.conflict.Holding.{Holding}
 use Rattle.cluster_audit.specs.Audited.{Holds}
 use Rattle.cluster_audit.proofs.Giving.{all_given, one_given}
 use Rattle.cluster_audit.proofs.pairs.holdings_of.Goals as goal

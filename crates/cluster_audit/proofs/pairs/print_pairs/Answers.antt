@@ -2,8 +2,8 @@ use Rattle.std.proofs.Common.{◌≡◌, ℕ, List, ◌++◌, Bor, Option, None,
 use Rattle.std.proofs.lemmas.Result.{on_ok_weaker}
 use Rattle.std.specs.FinMap as paths
 use Rattle.std.specs.List.{flat_map}
-use Rattle.cluster_audit.specs.declared.conflicts.Conflict.{Conflict}
-use Rattle.cluster_audit.specs.declared.conflicts.Holding.{Holding}
+use Rattle.cluster_audit.specs.declared.conflict.Conflict.{Conflict}
+use Rattle.cluster_audit.specs.declared.conflict.Holding.{Holding}
 use Rattle.cluster_audit.specs.Conflicts.{conflicts_of}
 use Rattle.ceph_input.specs.Dump.{Held, Listed, PathMap}
 use Rattle.ceph_input.specs.Sessions.{Connected}

@@ -1,6 +1,6 @@
 use Rattle.std.proofs.Common.{ℕ, ◌++◌, ap, ◌∙◌, arith}
 use Rattle.queries.specs.Told.{passed_line}
-use Rattle.queries.proofs.Telling.{all_counted, all_told, one_more}
+use Rattle.queries.proofs.LogLines.{all_counted, all_told, one_more}
 use Rattle.queries.proofs.log_text.log_lines.Goals as goal
 
 pub overflow_add-number : goal.overflow_add-number

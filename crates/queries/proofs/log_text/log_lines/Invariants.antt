@@ -1,5 +1,5 @@
 use Rattle.std.proofs.Common.{length}
-use Rattle.queries.proofs.Telling.{SoFar}
+use Rattle.queries.proofs.LogLines.{SoFar}
 use Rattle.queries.proofs.log_text.log_lines.Given as goal
 
 abbrev pub invariant-loop-line : goal.invariant-loop-line

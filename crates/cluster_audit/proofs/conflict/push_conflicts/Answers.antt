@@ -1,9 +1,9 @@
 use Rattle.std.proofs.Common.{◌++◌, [], ◌∷◌, List, Some, None, ap, sym, ◌∙◌}
 use Rattle.std.proofs.lemmas.List.{append-nil}
-use Rattle.cluster_audit.specs.declared.conflicts.Conflict.{Conflict}
+use Rattle.cluster_audit.specs.declared.conflict.Conflict.{Conflict}
 use Rattle.cluster_audit.proofs.ConflictingCaps.{conflicts_more}
-use Rattle.cluster_audit.proofs.conflicts.push_conflicts.Goals as goal
-use Rattle.cluster_audit.proofs.conflicts.push_conflicts.Goals.{in-Some+in_ok-push, in_default}
+use Rattle.cluster_audit.proofs.conflict.push_conflicts.Goals as goal
+use Rattle.cluster_audit.proofs.conflict.push_conflicts.Goals.{in-Some+in_ok-push, in_default}
 
 pub loop-other-preserved : goal.loop-other-preserved
 loop-other-preserved c = elim c.match-conflict_of.branch [

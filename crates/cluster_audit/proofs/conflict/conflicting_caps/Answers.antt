@@ -2,8 +2,8 @@ use Rattle.std.proofs.Common.{ap, sym, ◌∙◌}
 use Rattle.capbits.specs.Sets.{caps_in}
 use Rattle.cluster_audit.proofs.Gathering.{none_yet}
 use Rattle.cluster_audit.proofs.ConflictingCaps.{are_conflicting, no_rival_more, one_rival_more}
-use Rattle.cluster_audit.proofs.conflicts.conflicting_caps.Goals as goal
-use Rattle.cluster_audit.proofs.conflicts.conflicting_caps.Goals.{else-has, then-has}
+use Rattle.cluster_audit.proofs.conflict.conflicting_caps.Goals as goal
+use Rattle.cluster_audit.proofs.conflict.conflicting_caps.Goals.{else-has, then-has}
 
 pub loop-cap-init : goal.loop-cap-init
 loop-cap-init c = none_yet c.empty-conflicting_caps.result c.empty-conflicting_caps.ensures
