@@ -1,4 +1,4 @@
-"""Reads what the crates of a checkout promise, for tools/same_contracts.
+"""Reads what the crates of a checkout promise, for the command same-contracts.
 
 Of each `crates/NAME/src` it reads functions, methods, types, traits, constants and impls with their clauses, of each `crates/NAME/specs`
 the definitions. Each becomes an `Item` of named parts, as its signature, a field, a clause. The words of a part are read with what the
@@ -14,14 +14,13 @@ from dataclasses import dataclass, field
 from pathlib import Path
 from typing import NamedTuple
 
-CODE_WORD = re.compile(
-    r"""//[^\n]*|b?r"[^"]*"|b?"(?:\\.|[^"\\])*"|b?'(?:\\(?:u\{\w+\}|x\w\w|.)|[^'\\\s])'|'\w+|\w+|::|->|=>|[^\w\s]""", re.DOTALL
-)
+from .sources import DEAD, PAIRS, TOKEN, behind_types, end_of, until
+
+CODE_WORD = re.compile(f"{DEAD.pattern}|{TOKEN.pattern}", re.DOTALL)
 SPEC_WORD = re.compile(r"""--[^\n]*|"(?:\\.|[^"\\])*"|[^\s(){}.;,@"]+|\.\s?|\n(?=\S)|[(){};,@]""")
 SIGNATURE = re.compile(r"((?:(?:pattern|unfoldable|abbrev|pub) )*)(?:(record|data|ruleset) )?(\S+)((?: \{[^}]*\})? :\s.*|.*)", re.DOTALL)
 KEYWORDS = set("as const dyn else extern false fn for if impl in let mut pub ref static struct true type unsafe where".split())
 MARKS = set("( ) { } . ; , @ → × ↦ = | λ".split()) | {". ", "\n", ""}
-PAIRS = {"(": ")", "[": "]", "{": "}"}
 # What says how a thing is compiled or proved, and not what it is.
 UNSEEN = {"tactic", "inline", "cycle", "allow", "cfg", "test", "cold"}
 PRELUDES = ("Rattle.std.specs.Prelude.", "Rattle.std.proofs.Common.")
@@ -79,33 +78,6 @@ def code_words(source):
 def spec_words(source):
     """The words of clauses or of a definition, with a line feed where a line begins anew, and another dot behind the binders of a λ."""
     return [". " if found[0] == ".\n" else found[0] for found in SPEC_WORD.finditer(source) if found[0][:2] != "--"]
-
-
-def end_of(words, at):
-    """Behind the bracket that closes the one at `at`."""
-    depth = 0
-    for place in range(at, len(words)):
-        depth += (words[place] in "([{") - (words[place] in ")]}")
-        if depth == 0:
-            return place + 1
-    return len(words)
-
-
-def until(words, at, ends):
-    """The place of the first of these words that stands in no bracket."""
-    while at < len(words) and words[at] not in ends:
-        at = end_of(words, at) if words[at] in PAIRS else at + 1
-    return at
-
-
-def behind_types(words, at):
-    """Behind the angle brackets that begin at `at`, if any do."""
-    depth = 0
-    for place in range(at, len(words)):
-        depth += (words[place] == "<") - (words[place] == ">")
-        if depth == 0:
-            return place + (place > at)
-    return len(words)
 
 
 def split(text):
@@ -363,6 +335,10 @@ class CodeFile:
         words = self.words[start:end]
         return "".join(word + " " * (word.end < after.start) for word, after in zip(words, [*words[1:], *words[-1:]]))
 
+    def behind_generics(self, at):
+        """Behind the parameters in angle brackets at `at`, if there are any."""
+        return behind_types(self.words, at) if self.words[at] == "<" else at
+
     def code(self, start, end, scope):
         return Text(self.raw(start, end), scope)
 
@@ -446,7 +422,7 @@ class CodeFile:
         return end
 
     def function(self, start, at, scope, owner):
-        name, head = self.words[at + 1], behind_types(self.words, at + 2)
+        name, head = self.words[at + 1], self.behind_generics(at + 2)
         stop = until(self.words, head, ("requires", "ensures", "ghost", "{", ";"))
         marks = [self.words[place] for place in range(start, at) if self.words[place] in ("const", "unsafe", "extern", '"C"')]
         parts = {"signature": Text(" ".join([*marks, self.raw(at + 2, stop)]), scope)}
@@ -491,7 +467,7 @@ class CodeFile:
         while at < end:
             first = stop = at
             while stop < end and self.words[stop] != ",":
-                stop = end_of(self.words, stop) if self.words[stop] in PAIRS else max(behind_types(self.words, stop), stop + 1)
+                stop = end_of(self.words, stop) if self.words[stop] in PAIRS else max(self.behind_generics(stop), stop + 1)
             while self.words[first] in ("#", "pub"):
                 first = end_of(self.words, first + 1) if self.words[first] == "#" or self.words[first + 1] == "(" else first + 1
             if self.words[first] == "ghost":
@@ -507,7 +483,7 @@ class CodeFile:
     def impl(self, start, at, scope, _owner):
         """An impl, or a trait."""
         begin = until(self.words, at, "{")
-        first, stop = behind_types(self.words, at + 1), until(self.words, at, ("{", "where"))
+        first, stop = self.behind_generics(at + 1), until(self.words, at, ("{", "where"))
         heads = [place for place in range(first, stop) if self.words[place] == "for"]
         names = [self.words[place] for place in range(heads[-1] if heads else first, stop) if self.words[place].isidentifier()]
         of = next(name for name in names if name not in KEYWORDS)

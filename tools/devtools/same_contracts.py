@@ -1,4 +1,3 @@
-#!/usr/bin/env python3
 """Compares what two checkouts promise, an older and a newer one, between which crates were merged, files moved and items renamed.
 
 It reads the sources alone, and builds nothing. A call, type, trait, constant, impl or definition of OLD is laid beside the one of NEW at
@@ -21,14 +20,11 @@ The status is 0 where all else is the same, 1 where it is not.
 
 import argparse
 import re
-import sys
 from collections import Counter, defaultdict
 from itertools import zip_longest
 from pathlib import Path
 
-sys.path.insert(0, str(Path(__file__).resolve().parent))
-sys.dont_write_bytecode = True
-from contracts import Checkout, Home  # noqa: E402
+from .contracts import Checkout, Home
 
 PROGRAM_FILES = ["crates/*/stdin", "crates/*/stdout", "crates/*/args", "crates/*/status", "crates/*/data/**/*"]
 PROGRAM_FILES += [f"{folder}examples/**/*.{ending}" for folder in ("", "*/") for ending in ("stdout", "transcript", "script")]
@@ -47,7 +43,7 @@ class Map:
         for number, line in enumerate(lines, 1):
             kind, *rest = line.split("#")[0].split() or [""]
             if kind and len(rest) + 1 not in self.KINDS.get(kind, []):
-                sys.exit(f"same_contracts: line {number} of the map is not read: {line}")
+                raise argparse.ArgumentTypeError(f"line {number} is not read: {line}")
             whole = kind in ("word", "gone", "new", "changed")
             self.said.update({(kind, *(rest if whole else rest[:-1])): rest[-1]} if kind else {})
             if kind == "word" or kind == "item" and "::" in rest[1]:
@@ -279,7 +275,7 @@ class Comparison:
             yield f"{kind} {place}:\n    old: {old}\n    new: {new}"
         yield from (f"The map needs no line: {line}" for line in self.map.idle())
         counts = ", ".join(f"{self.counts[kind]:,} {name}" for kind, name in COUNTED.items())
-        yield f"same_contracts: {counts} compared; {self.count():,} differences"
+        yield f"same-contracts: {counts} compared; {self.count():,} differences"
 
 
 def reachable(checkout):
@@ -308,23 +304,30 @@ def reachable_lines(old, new, names):
     yield f"Passed on from other crates by lib.rt: {passed_before} names in OLD, {passed_now} in NEW"
 
 
-def main():
-    reader = argparse.ArgumentParser(description=__doc__, formatter_class=argparse.RawDescriptionHelpFormatter)
-    reader.add_argument("old", metavar="OLD", help="the older checkout")
-    reader.add_argument("new", metavar="NEW", help="the newer one")
-    reader.add_argument("--map", metavar="FILE", type=Path, help="what was merged, moved and renamed")
-    reader.add_argument("--reachable", action="store_true", help="tell also what other crates can name in one checkout alone")
-    words = reader.parse_args()
-    for top in (words.old, words.new):
-        if not (Path(top) / "crates").is_dir():
-            reader.error(f"{top} has no crates/")
-    names = Map(words.map.read_text(encoding="utf-8").splitlines() if words.map else [])
-    old, new = Side(words.old), Side(words.new)
-    comparison = Comparison(old, new, names)
-    if words.reachable:
-        print(*reachable_lines(old, new, names), sep="\n")
+def checkout(text):
+    if not (Path(text) / "crates").is_dir():
+        raise argparse.ArgumentTypeError(f"{text} has no crates/")
+    return Path(text)
+
+
+def read_map(text):
+    try:
+        return Map(Path(text).read_text(encoding="utf-8").splitlines())
+    except OSError as fault:
+        raise argparse.ArgumentTypeError(fault) from None
+
+
+def arguments(parser):
+    parser.add_argument("old", metavar="OLD", type=checkout, help="the older checkout")
+    parser.add_argument("new", metavar="NEW", type=checkout, help="the newer one")
+    parser.add_argument("--map", metavar="FILE", type=read_map, default=Map([]), help="what was merged, moved and renamed")
+    parser.add_argument("--reachable", action="store_true", help="tell also what other crates can name in one checkout alone")
+
+
+def main(given):
+    old, new = Side(given.old), Side(given.new)
+    comparison = Comparison(old, new, given.map)
+    if given.reachable:
+        print(*reachable_lines(old, new, given.map), sep="\n")
     print(*comparison.report(), sep="\n")
     return 1 if comparison.count() else 0
-
-
-sys.exit(main())
