@@ -506,7 +506,8 @@ class SpecFile:
 
     def __init__(self, checkout, crate, file, source):
         self.checkout, self.crate, self.file = checkout, crate, file
-        self.scope, self.around, self.item = Scope(crate, file), "", None
+        self.scope, self.around = Scope(crate, file), ""
+        self.item = Item("", None, False, {"text": Text("", None)})
         passed = crate.spec_passed.setdefault(file, {})
         for line in self.lines(source):
             if found := re.match(r"(?:unfoldable )?(pub )?use (.*)", line, re.DOTALL):
