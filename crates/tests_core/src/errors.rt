@@ -8,6 +8,7 @@ use capscript::ServeFault;
 use capspec::{SpecFault, SpecFaultKind};
 use capstep::stop::Stop;
 use inotree::TreeError;
+use osd_caps::{OsdFault, OsdFaultKind};
 use policy_view::Unknown;
 use script_syntax::{LineFault, ScriptFault};
 use sessiontab::{NoSession, SessionError};
@@ -113,6 +114,11 @@ const GRANTS: SpecFault = SpecFault {
     kind: SpecFaultKind::BadFlags,
 };
 
+const OSD_CAPS: OsdFault = OsdFault {
+    at: 7,
+    kind: OsdFaultKind::LeftOver,
+};
+
 const OF_A_LINE: &[(LineFault, &str)] = &[
     (LineFault::Command, "Command"),
     (LineFault::Count, "Count"),
@@ -151,6 +157,7 @@ fn faults_of_texts_print_what_is_wrong(rt: HostRuntime) {
     print(&rt, alloc, OF_A_SCRIPT);
     print(&rt, alloc, OF_A_SERVED_SCRIPT);
     print(&rt, alloc, &[(GRANTS, "BadFlags at 5")]);
+    print(&rt, alloc, &[(OSD_CAPS, "LeftOver at 7")]);
     let caps = CapText { at: 3 };
     let wanted = "no set of capabilities, wrong at 3";
     print(&rt, alloc, &[(caps, wanted)]);

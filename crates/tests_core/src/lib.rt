@@ -41,9 +41,13 @@ mod moved_entries;
 #[cfg(test)]
 mod numbered_maps;
 #[cfg(test)]
+mod osd_grants;
+#[cfg(test)]
 mod permitted;
 #[cfg(test)]
 mod recalls;
+#[cfg(test)]
+mod releases;
 #[cfg(test)]
 mod replies;
 #[cfg(test)]

@@ -1,0 +1,5 @@
+pub mod Words
+pub mod Scopes
+pub mod Accesses
+pub mod Caps
+pub mod Opening

@@ -1,0 +1,14 @@
+pub mod Releases
+pub mod Flags
+pub mod Asked
+pub mod Rules
+pub mod Networks
+pub mod Paths
+pub mod Question
+pub mod Failing
+pub mod Verdicts
+pub mod Clients
+pub mod Texts
+pub mod Items
+pub mod Sets
+pub mod Reading
