@@ -404,7 +404,8 @@ fn a_mask_without_a_write_asks_for_no_w(rt: HostRuntime) {
         "allowed",
         "a change of the owner alone",
     );
-    match failures(&rt, 18, &[Said { path: "/b", ..RW }, R]) {
+    let verdict = failures(&rt, 18, &[Said { path: "/b", ..RW }, R]);
+    match &verdict {
         Verdict::Denied { rules } => {
             for (rule, wanted) in rules.as_slice().iter().zip([(4, "path"), (5, "no-write")]) {
                 same(&rt, (rule.number(), rule.word()), wanted, "a rule");
