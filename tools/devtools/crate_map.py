@@ -17,7 +17,7 @@ from .workspace import BESIDE, ROOT, needs, parts
 
 FILE = ROOT / "docs" / "crates.svg"
 # Sizes in pixels: of the whole, of a band and of what stands between two, of a crate and of a letter of its name.
-WIDTH, MARGIN, LABEL, ASIDE = 1120, 16, 140, 190
+WIDTH, MARGIN, LABEL, ASIDE = 1260, 16, 170, 190
 BAND, GAP = 64, 26
 HEIGHT, LETTER, PADDING = 32, 7.9, 22
 # How far apart the crates of a band are, what leads through it, and two arrows at a crate; and by how much a lane may be moved.

@@ -36,6 +36,10 @@ def all_crates():
     return sorted(path.name for path in CRATES.iterdir() if path.is_dir())
 
 
+# A line that imports names. How many there are is a matter of layout.
+IMPORT = re.compile(r"\s*(pub )?(ghost )?use ")
+
+
 def lines_of(path):
     return path.read_text(encoding="utf-8").splitlines()
 
@@ -161,7 +165,7 @@ def words(path):
 
 
 def line_count(crates, folder):
-    return sum(len(lines_of(path)) for path in files(crates, folder))
+    return sum(sum(IMPORT.match(line) is None for line in lines_of(path)) for path in files(crates, folder))
 
 
 def measures():
@@ -180,7 +184,7 @@ def measures():
     counts = {folder: line_count(CORE, folder) for folder in ("src", "specs", "proofs")}
     for folder, count in counts.items():
         yield f"lines of {folder}/ of the core's crates", count, "", []
-    yield "lines of all three", sum(counts.values()), "at most 18,900", [
+    yield "lines of all three, without imports", sum(counts.values()), "at most 17,400", [
         f"{crate} {sum(line_count([crate], folder) for folder in counts):,}" for crate in CORE]
     large = [f"{short(path)} {len(lines_of(path)):,}" for folder in counts for path in files(all_crates(), folder)
              if len(lines_of(path)) > LONGEST_FILE]
