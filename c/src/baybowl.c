@@ -46,8 +46,7 @@ uint32_t baybowl_version(void) { return capffi_version(); }
 uint32_t baybowl_verdict(const char *grants, size_t grants_len, const char *fs, size_t fs_len, const char *path, size_t path_len,
                          const uint32_t *groups, size_t groups_len, const struct baybowl_question *question,
                          struct baybowl_answer *answer, struct baybowl_fault *fault) {
-    struct baybowl_answer said;
-    struct baybowl_fault why;
+    struct capffi_text_verdict said;
     uint32_t status = first_of(text_status(grants, grants_len), text_status(fs, fs_len), text_status(path, path_len),
                                groups_status(groups, groups_len));
     if (status != BAYBOWL_OK) {
@@ -58,18 +57,17 @@ uint32_t baybowl_verdict(const char *grants, size_t grants_len, const char *fs, 
         return BAYBOWL_POINTER;
     }
     /* Both are written at the end, so that they may overlap with what is read. */
-    status = capffi_verdict(bytes(grants, grants_len), grants_len, bytes(fs, fs_len), fs_len, bytes(path, path_len), path_len,
-                            groups_len == 0 ? no_groups : groups, groups_len, question, &said, &why);
-    *answer = said;
-    *fault = why;
-    return status;
+    said = capffi_verdict(bytes(grants, grants_len), grants_len, bytes(fs, fs_len), fs_len, bytes(path, path_len), path_len,
+                          groups_len == 0 ? no_groups : groups, groups_len, question);
+    *answer = said.answer;
+    *fault = said.fault;
+    return said.status;
 }
 
 uint32_t baybowl_permitted(const char *grants, size_t grants_len, const char *fs, size_t fs_len, const char *path, size_t path_len,
                            const uint32_t *groups, size_t groups_len, const struct baybowl_question *question, uint32_t *caps,
                            struct baybowl_fault *fault) {
-    uint32_t said;
-    struct baybowl_fault why;
+    struct capffi_text_permitted said;
     uint32_t status = first_of(text_status(grants, grants_len), text_status(fs, fs_len), text_status(path, path_len),
                                groups_status(groups, groups_len));
     if (status != BAYBOWL_OK) {
@@ -78,11 +76,11 @@ uint32_t baybowl_permitted(const char *grants, size_t grants_len, const char *fs
     if (!ALIGNED(question, struct baybowl_question) || !ALIGNED(caps, uint32_t) || !ALIGNED(fault, struct baybowl_fault)) {
         return BAYBOWL_POINTER;
     }
-    status = capffi_permitted(bytes(grants, grants_len), grants_len, bytes(fs, fs_len), fs_len, bytes(path, path_len), path_len,
-                              groups_len == 0 ? no_groups : groups, groups_len, question, &said, &why);
-    *caps = said;
-    *fault = why;
-    return status;
+    said = capffi_permitted(bytes(grants, grants_len), grants_len, bytes(fs, fs_len), fs_len, bytes(path, path_len), path_len,
+                            groups_len == 0 ? no_groups : groups, groups_len, question);
+    *caps = said.caps;
+    *fault = said.fault;
+    return said.status;
 }
 
 uint32_t baybowl_grants_check(const char *grants, size_t grants_len, struct baybowl_fault *fault) {
@@ -124,8 +122,7 @@ uint32_t baybowl_grants_read(const char *grants, size_t grants_len, const char *
     struct baybowl_block none;
     uint8_t no_text[1], *text = no_text;
     size_t text_len = 0;
-    uint64_t len;
-    struct baybowl_fault why;
+    struct capffi_text_read said;
     uint32_t status = first_of(text_status(grants, grants_len), text_status(fs, fs_len),
                                block_len > BAYBOWL_MAX_LEN ? BAYBOWL_LENGTH : BAYBOWL_OK, BAYBOWL_OK);
     if (status != BAYBOWL_OK) {
@@ -142,10 +139,10 @@ uint32_t baybowl_grants_read(const char *grants, size_t grants_len, const char *
         text = (uint8_t *)(block + 1);
         text_len = block_len - sizeof *block;
     }
-    status = capffi_grants_read(bytes(grants, grants_len), grants_len, bytes(fs, fs_len), fs_len, block, text, text_len, &len, &why);
-    *needed = status == BAYBOWL_OK || status == BAYBOWL_ROOM ? sizeof *block + len : 0;
-    *fault = why;
-    return status;
+    said = capffi_grants_read(bytes(grants, grants_len), grants_len, bytes(fs, fs_len), fs_len, block, text, text_len);
+    *needed = said.status == BAYBOWL_OK || said.status == BAYBOWL_ROOM ? sizeof *block + said.needed : 0;
+    *fault = said.fault;
+    return said.status;
 }
 
 /* The calls that the header has inline, for a program that can't take them from there. */
@@ -163,7 +160,7 @@ uint32_t baybowl_whole_verdict_by(const struct baybowl_block *block, size_t bloc
                                   const uint32_t *groups, size_t groups_len, const struct baybowl_question *question,
                                   struct baybowl_answer *answer) {
     static const struct baybowl_answer none;
-    struct baybowl_answer said;
+    struct capffi_block_verdict said;
     uint32_t status = first_of(block_len > BAYBOWL_MAX_LEN ? BAYBOWL_LENGTH : BAYBOWL_OK, text_status(path, path_len),
                                groups_status(groups, groups_len), BAYBOWL_OK);
     if (status != BAYBOWL_OK) {
@@ -177,18 +174,17 @@ uint32_t baybowl_whole_verdict_by(const struct baybowl_block *block, size_t bloc
         *answer = none;
         return BAYBOWL_BLOCK;
     }
-    status = capffi_verdict_by(block, (const uint8_t *)(block + 1), block_len - sizeof *block, bytes(path, path_len), path_len,
-                               groups_len == 0 ? no_groups : groups, groups_len, question, &said);
-    *answer = said;
-    return status;
+    said = capffi_verdict_by(block, (const uint8_t *)(block + 1), block_len - sizeof *block, bytes(path, path_len), path_len,
+                             groups_len == 0 ? no_groups : groups, groups_len, question);
+    *answer = said.answer;
+    return said.status;
 }
 
 uint32_t baybowl_whole_verdict_mask(const struct baybowl_block *block, size_t block_len, const char *path, size_t path_len,
                                     const uint32_t *groups, size_t groups_len, const struct baybowl_check *check,
                                     struct baybowl_answer *answer, uint32_t *access) {
     static const struct baybowl_answer none;
-    struct baybowl_answer said;
-    uint32_t asked;
+    struct capffi_check_verdict said;
     uint32_t status = first_of(block_len > BAYBOWL_MAX_LEN ? BAYBOWL_LENGTH : BAYBOWL_OK, text_status(path, path_len),
                                groups_status(groups, groups_len), BAYBOWL_OK);
     if (status != BAYBOWL_OK) {
@@ -203,11 +199,11 @@ uint32_t baybowl_whole_verdict_mask(const struct baybowl_block *block, size_t bl
         *access = 0;
         return BAYBOWL_BLOCK;
     }
-    status = capffi_verdict_mask(block, (const uint8_t *)(block + 1), block_len - sizeof *block, bytes(path, path_len), path_len,
-                                 groups_len == 0 ? no_groups : groups, groups_len, check, &said, &asked);
-    *answer = said;
-    *access = asked;
-    return status;
+    said = capffi_verdict_mask(block, (const uint8_t *)(block + 1), block_len - sizeof *block, bytes(path, path_len), path_len,
+                               groups_len == 0 ? no_groups : groups, groups_len, check);
+    *answer = said.answer;
+    *access = said.access;
+    return said.status;
 }
 
 uint32_t baybowl_allowed(uint32_t part, const struct baybowl_lock *lock, uint32_t client, uint32_t *caps) {

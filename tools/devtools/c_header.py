@@ -13,6 +13,8 @@ SIZES = {"u8": (1, "uint8_t"), "u32": (4, "uint32_t"), "u64": (8, "uint64_t")}
 OF_THE_SHIM = {"BAYBOWL_POINTER", "BAYBOWL_LENGTH"}
 OF_THE_HEADER = {"BAYBOWL_MAX_LEN", "BAYBOWL_FORM_ROOM", "BAYBOWL_BLOCK_ROOM", "BAYBOWL_MODE_BITS", "BAYBOWL_INLINE", "BAYBOWL_H"}
 STRUCT_FILES = ("passed", "block")
+# The structs of exports.h, which calls return to the shim alone.
+RETURNED = "returned"
 
 
 @dataclass(frozen=True)
@@ -36,17 +38,17 @@ def words_of(name):
     return re.sub(r"(?<=[a-z])(?=[A-Z])", "_", name).upper()
 
 
-def c_struct(name):
-    return f"baybowl_{words_of(name).lower()}"
+def c_struct(name, prefix="baybowl"):
+    return f"{prefix}_{words_of(name).lower()}"
 
 
 def aligned(offset, align):
     return -(-offset // align) * align
 
 
-def structs_of(source):
-    """The structs of a file, each laid out as C lays it out."""
-    known = {name: (size, size) for name, (size, _) in SIZES.items()}
+def structs_of(source, others=()):
+    """The structs of a file, each laid out as C lays it out. Those of other files may stand in them."""
+    known = {name: (size, size) for name, (size, _) in SIZES.items()} | {it.name: (it.size, it.align) for it in others}
     found = []
     for name, body in re.findall(r"#\[repr\(C\)\]\npub struct (\w+) \{(.*?)\n\}", source, re.S):
         fields, offset, most = [], 0, 1
@@ -62,6 +64,10 @@ def structs_of(source):
 
 def all_structs(root):
     return [it for file in STRUCT_FILES for it in structs_of(source_of(root, "capffi", file))]
+
+
+def returned_structs(root):
+    return structs_of(source_of(root, "capffi", RETURNED), all_structs(root))
 
 
 def variants_of(source, name):
@@ -97,7 +103,7 @@ def numbers_of(root):
 def declared(lib):
     """The exports of lib.rt, as C declares them."""
     found = {}
-    for name, given in re.findall(r'pub extern "C" fn (\w+)\((.*?)\) -> u32', lib, re.S):
+    for name, given, answer in re.findall(r'pub extern "C" fn (\w+)\((.*?)\) -> (\w+)', lib, re.S):
         params = []
         for param, kind in re.findall(r"(\w+): (&mut \[\w+\]|&\[\w+\]|&mut \w+|&\w+|\w+)", given):
             if kind == "Global":
@@ -108,8 +114,18 @@ def declared(lib):
             params.append(f"{c_name}{pointer} {param}")
             if "[" in kind:
                 params.append(f"size_t {param}_len")
-        found[name] = f"uint32_t {name}({', '.join(params) or 'void'});"
+        c_answer = SIZES[answer][1] if answer in SIZES else f"struct {c_struct(answer, 'capffi')}"
+        found[name] = f"{c_answer} {name}({', '.join(params) or 'void'});"
     return found
+
+
+def layout(name, struct):
+    """The assertions that a struct of C has the layout of one of the sources."""
+    yield f'static_assert(sizeof({name}) == {struct.size}, "size of {name}");'
+    for field in struct.fields:
+        place = f"{name}.{field.name}"
+        yield f'static_assert(offsetof({name}, {field.name}) == {field.offset}, "place of {place}");'
+        yield f'static_assert(sizeof((({name} *)0)->{field.name}) == {field.size}, "size of {place}");'
 
 
 def assertions(root):
@@ -117,38 +133,42 @@ def assertions(root):
     crate = root / "crates" / "capffi" / "src"
     lines = ["#include <assert.h>", "#include <stddef.h>", '#include "baybowl.h"', ""]
     for struct in all_structs(root):
-        name = f"struct {c_struct(struct.name)}"
-        lines.append(f'static_assert(sizeof({name}) == {struct.size}, "size of {name}");')
-        for field in struct.fields:
-            place = f"{name}.{field.name}"
-            lines.append(f'static_assert(offsetof({name}, {field.name}) == {field.offset}, "place of {place}");')
-            lines.append(f'static_assert(sizeof((({name} *)0)->{field.name}) == {field.size}, "size of {place}");')
+        lines += layout(f"struct {c_struct(struct.name)}", struct)
     for name, number in numbers_of(root).items():
         lines.append(f'static_assert({name} == {number}, "{name}");')
     lines += ["", "#ifndef __cplusplus", '#include "exports.h"']
+    for struct in returned_structs(root):
+        lines += layout(f"struct {c_struct(struct.name, 'capffi')}", struct)
     lines += declared((crate / "lib.rt").read_text(encoding="utf-8")).values()
     return "\n".join([*lines, "#endif", ""])
 
 
 def differences(root):
     """What no compiler sees: names on one side alone, and words."""
-    header = re.sub(r"/\*.*?\*/", "", (root / "c" / "include" / "baybowl.h").read_text(encoding="utf-8"), flags=re.S)
+    header = without_comments(root / "c" / "include" / "baybowl.h")
     named = set(re.findall(r"\b(BAYBOWL_\w+) = \d+", header)) | set(re.findall(r"#define (BAYBOWL_\w+)", header))
     known = set(numbers_of(root)) | OF_THE_SHIM | OF_THE_HEADER
     found = [f"{name}: on one side alone" for name in sorted(named ^ known)]
+    exported = without_comments(root / "c" / "src" / "exports.h")
     fields = {c_struct(it.name): [field.name for field in it.fields] for it in all_structs(root)}
+    fields |= {c_struct(it.name, "capffi"): [field.name for field in it.fields] for it in returned_structs(root)}
     told = {
-        name: re.findall(r"(\w+)(?:\[\d+\])?;", body) for name, body in re.findall(r"^struct (\w+) \{(.*?)^\};", header, re.S | re.M)
+        name: re.findall(r"(\w+)(?:\[\d+\])?;", body)
+        for name, body in re.findall(r"^struct (\w+) \{(.*?)^\};", header + exported, re.S | re.M)
     }
     found += [f"struct {name}: fields differ" for name in sorted(fields.keys() | told.keys()) if fields.get(name) != told.get(name)]
-    exports = set(re.findall(r"\b(capffi_\w+)\(", (root / "c" / "src" / "exports.h").read_text(encoding="utf-8")))
+    exports = set(re.findall(r"\b(capffi_\w+)\(", exported))
     found += [f"{name}: on one side alone" for name in sorted(exports ^ set(declared(source_of(root, "capffi", "lib"))))]
     return found
 
 
+def without_comments(path):
+    return re.sub(r"/\*.*?\*/", "", path.read_text(encoding="utf-8"), flags=re.S)
+
+
 def calls(root):
     """The names of the calls that the header declares."""
-    header = re.sub(r"/\*.*?\*/", "", (root / "c" / "include" / "baybowl.h").read_text(encoding="utf-8"), flags=re.S)
+    header = without_comments(root / "c" / "include" / "baybowl.h")
     return sorted(set(re.findall(r"^(?:inline |BAYBOWL_INLINE )?\w[\w ]*[ *]((?:baybowl|capffi)_\w+)\(", header, re.M)))
 
 

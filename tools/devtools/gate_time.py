@@ -32,9 +32,9 @@ KINDS = ("proof", "tests", "edits", "built")
 BUILDING = {"llvm": "by LLVM", "rattle": "by Rattle's own compiler", "linked": "linked", "library": "the library for C with its proof"}
 # What LLVM's compiler took within the check of a crate's tests.
 COMPILED = "compiled"
-# The proofs that tell how fast a machine is, and the seconds of the processor that they took in the run by which the limit was set. A crate
-# captext was proved apart then, and all three took 182: in capbits it spares some ten, in which it read what stood below.
-YARDSTICK, SECONDS_THEN = ("capbits", "locktable"), 172
+# The proof that tells how fast a machine is, and its seconds of the processor in the run by which the limit was set. It stands at the
+# bottom, and its sources change least. (Until 30 November `locktable` was counted with it, as 172 together; since then that has more code.)
+YARDSTICK, SECONDS_THEN = "capbits", 132
 
 
 @dataclass(frozen=True)
@@ -309,13 +309,12 @@ def told_sums(checks, of_all):
 
 
 def told_yardstick(tasks, of_all):
-    if not all((crate, "proof") in tasks for crate in YARDSTICK):
-        print(f"\nNot all of the proofs of {', '.join(YARDSTICK)} were seen, so there is no yardstick.")
+    if (YARDSTICK, "proof") not in tasks:
+        print(f"\nThe proof of {YARDSTICK} was not seen, so there is no yardstick.")
         return
-    seconds = {crate: tasks[crate, "proof"].spent for crate in YARDSTICK}
-    told, total = ", ".join(f"`{crate}` {it:.0f}" for crate, it in seconds.items()), sum(seconds.values())
-    then = f", so all would be {minutes(of_all.spent * SECONDS_THEN / total)} minutes where it is {SECONDS_THEN}" if of_all else ""
-    print(f"\nThe yardstick: {told}, together {total:.0f} seconds{then}.")
+    seconds = tasks[YARDSTICK, "proof"].spent
+    then = f", so all would be {minutes(of_all.spent * SECONDS_THEN / seconds)} minutes where it takes {SECONDS_THEN}" if of_all else ""
+    print(f"\nThe yardstick: the proof of `{YARDSTICK}` took {seconds:.0f} seconds{then}.")
 
 
 def report(checks, of_all):

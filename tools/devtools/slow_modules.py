@@ -13,7 +13,7 @@ from itertools import pairwise
 
 from .workspace import CRATES
 
-SHOWN = 40
+SHOWN = 400
 
 
 def arguments(parser):

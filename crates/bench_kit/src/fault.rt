@@ -1,8 +1,8 @@
 //! Why the program gave no sum.
 
+use capserver::StartFault;
 use capspec::{SpecFault, SpecFaultKind};
 use script_syntax::ScriptFault;
-use snapshot::StartFault;
 use std::alloc::{AllocError, AllocFailed};
 
 /// Why a piece of work gave no sum.

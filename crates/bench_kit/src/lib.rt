@@ -6,7 +6,7 @@
 #![tactic(auto)]
 
 mod book;
-mod commands;
+pub mod commands;
 mod day;
 mod day_fault;
 mod digest;

@@ -17,6 +17,13 @@ use std::sync::Wait;
 use std::sync::ledger::Blank;
 use std::thread::Threads;
 
+// What is done with a server, by the lines of a script.
+#[derive(Clone, Copy)]
+struct ScriptedWork<'a> {
+    work: ServerWork,
+    lines: &'a [&'a [u8]],
+}
+
 /// Starts a server on a root alone, does the work by its passes, and ends it. The sum is that of the questions that were answered with yes,
 /// or else that of the rows of the history.
 pub(crate) fn serve<T: Threads + Wait + Sync, W: Write>(
@@ -26,19 +33,10 @@ pub(crate) fn serve<T: Threads + Wait + Sync, W: Write>(
     lines: &[&[u8]],
     writer: &mut W,
 ) -> Result<u64, Fault> {
-    let count = passes_for(work);
     let (fs, tree) = file_system(alloc)?;
     let opening = Opening::new(alloc, fs, tree, u32::MAX)?;
-    served::<Brand, T, W>(
-        rt,
-        alloc,
-        opening,
-        Blank::new(32),
-        count,
-        work,
-        lines,
-        writer,
-    )
+    let scripted = ScriptedWork { work, lines };
+    served::<Brand, T, W>(rt, alloc, opening, Blank::new(32), scripted, writer)
 }
 
 // How many passes there are: one calls, and the others ask alone.
@@ -54,15 +52,15 @@ fn served<L: Server + Send + Sync, T: Threads + Wait + Sync, W: Write>(
     alloc: Global,
     opening: Opening,
     blank: Blank,
-    count: u32,
-    work: ServerWork,
-    lines: &[&[u8]],
+    scripted: ScriptedWork<'_>,
     writer: &mut W,
 ) -> Result<u64, Fault>
     requires opening { opening ≡ opened L.opening L.max_rows L.history L.tally }
     requires name { blank.name ≡ L.name }
     requires parts { (blank.parts ≡ L.parts) × (L.parts ≡ 32) }
 {
+    let ScriptedWork { work, lines } = scripted;
+    let count = passes_for(work);
     let (server, mut passes) = CapServer::<NoGate, L>::start(
         rt, alloc, opening, blank, count, NoGate,
     )?;

@@ -21,6 +21,16 @@ pub(crate) struct Head {
     ends: Option<Ends>,
 }
 
+// Where each list begins and ends.
+#[derive(Drop)]
+pub(crate) struct AllEnds {
+    pub(crate) recall: Ends,
+    // By the inode's number.
+    pub(crate) inodes: Numbered<Head>,
+    // By the client's number.
+    pub(crate) clients: Numbered<Head>,
+}
+
 impl Model for Head {
     ghost use Rattle.cap_arena.specs.declared.nodes.Ends.{Ends};
     ghost use Rattle.cap_arena.specs.Codes.{head_code};

@@ -3,7 +3,7 @@ ghost use Rattle.std.specs.Prelude.{◌≡◌, ◌+◌, ◌≤◌, Some, None, I
 
 use crate::chain::{move_last, next_of};
 use crate::error::AddError;
-use crate::heads::{Head, first_in};
+use crate::heads::{AllEnds, first_in};
 use crate::link::LinkWrites;
 use crate::moves::{put_value, take_in, take_out};
 use crate::nodes::{Ends, Linked, Node, Order};
@@ -23,22 +23,13 @@ pub const MAX_NODES: usize = 65_536;
 /// that was left alone longest is the oldest, and comes first.
 pub struct TripleLists<T> {
     nodes: Slab<Linked<T>>,
-    recall: Ends,
-    // By the inode's number.
-    inodes: Numbered<Head>,
-    // By the client's number.
-    clients: Numbered<Head>,
+    ends: AllEnds,
 }
 
 // Not derived: so the proof of a function that drops one has a single call there.
 impl<T: Drop> Drop for TripleLists<T> {
     fn drop(self) {
-        let TripleLists {
-            nodes: _,
-            recall: _,
-            inodes: _,
-            clients: _,
-        } = self;
+        let TripleLists { nodes: _, ends: _ } = self;
     }
 }
 
@@ -57,15 +48,15 @@ impl<T> Model for TripleLists<T> {
     ghost use Rattle.std.specs.Coded.{codes};
     ghost use Rattle.cap_arena.specs.Codes.{ends_code};
     ghost use Rattle.cap_arena.specs.contracts.nodes.Linked as linked;
-    ghost use Rattle.cap_arena.specs.contracts.nodes.Ends as ends;
+    ghost use Rattle.cap_arena.specs.contracts.nodes.Ends as list_ends;
 
-    ghost coded = { Prim.hlevel (codes, ends_code, ends.the_row.coded, T.code) };
+    ghost coded = { Prim.hlevel (codes, ends_code, list_ends.the_row.coded, T.code) };
 
     ghost use Rattle.cap_arena.specs.Lists.{IsLists, lists_of};
 
-    ghost view = { λ t. lists_of t.nodes.slots t.recall t.inodes t.clients };
+    ghost view = { λ t. lists_of t.nodes.slots t.ends.recall t.ends.inodes t.ends.clients };
 
-    ghost invariant = { λ t. IsLists (lists_of t.nodes.slots t.recall t.inodes t.clients) };
+    ghost invariant = { λ t. IsLists (lists_of t.nodes.slots t.ends.recall t.ends.inodes t.ends.clients) };
 }
 
 // A list without nodes. Its links are the first writes to them, and nobody counts these.
@@ -91,9 +82,11 @@ impl<T: Copy> TripleLists<T> {
     {
         Ok(TripleLists {
             nodes: Slab::new(alloc),
-            recall: no_ends::<Brand>(Blank::new(1)),
-            inodes: Numbered::new(alloc),
-            clients: Numbered::new(alloc),
+            ends: AllEnds {
+                recall: no_ends::<Brand>(Blank::new(1)),
+                inodes: Numbered::new(alloc),
+                clients: Numbered::new(alloc),
+            },
         })
     }
 
@@ -148,14 +141,7 @@ impl<T: Copy> TripleLists<T> {
     {
         self.nodes.reserve(1)?;
         let node = Node { client, ino, value };
-        take_in(
-            &mut self.nodes,
-            &mut self.recall,
-            &mut self.inodes,
-            &mut self.clients,
-            node,
-            writes,
-        )
+        take_in(&mut self.nodes, &mut self.ends, node, writes)
     }
 
     /// The node with this key.
@@ -182,7 +168,7 @@ impl<T: Copy> TripleLists<T> {
         ensures first { result ≡ slice_get (keys self.now (OfInode ino)) 0 }
         ensures sound { IsLists self.now }
     {
-        first_in(&self.inodes, ino.0)
+        first_in(&self.ends.inodes, ino.0)
     }
 
     /// The node after this one in the list of its inode.
@@ -190,7 +176,7 @@ impl<T: Copy> TripleLists<T> {
         ensures next { result ≡ option_and_then (λ node. key_after (keys self.now (OfInode node.ino)) key) (node_at self.now key) }
         ensures sound { IsLists self.now }
     {
-        next_of(&self.nodes, &self.recall, Order::Inode, Some(key))
+        next_of(&self.nodes, &self.ends.recall, Order::Inode, Some(key))
     }
 
     /// The first node of the client.
@@ -198,7 +184,7 @@ impl<T: Copy> TripleLists<T> {
         ensures first { result ≡ slice_get (keys self.now (OfClient client)) 0 }
         ensures sound { IsLists self.now }
     {
-        first_in(&self.clients, client.0 as u64)
+        first_in(&self.ends.clients, client.0 as u64)
     }
 
     /// The node after this one in the list of its client.
@@ -206,7 +192,7 @@ impl<T: Copy> TripleLists<T> {
         ensures next { result ≡ option_and_then (λ node. key_after (keys self.now (OfClient node.client)) key) (node_at self.now key) }
         ensures sound { IsLists self.now }
     {
-        next_of(&self.nodes, &self.recall, Order::Client, Some(key))
+        next_of(&self.nodes, &self.ends.recall, Order::Client, Some(key))
     }
 
     /// The first node in the order of recall.
@@ -214,7 +200,7 @@ impl<T: Copy> TripleLists<T> {
         ensures first { result ≡ slice_get (keys self.now OfRecall) 0 }
         ensures sound { IsLists self.now }
     {
-        self.recall.first.key()
+        self.ends.recall.first.key()
     }
 
     /// The node after this one in the order of recall.
@@ -222,7 +208,7 @@ impl<T: Copy> TripleLists<T> {
         ensures next { result ≡ key_after (keys self.now OfRecall) key }
         ensures sound { IsLists self.now }
     {
-        next_of(&self.nodes, &self.recall, Order::Recall, Some(key))
+        next_of(&self.nodes, &self.ends.recall, Order::Recall, Some(key))
     }
 
     /// The node becomes the last one in the order of recall. Where no node has the key, nothing happens.
@@ -235,7 +221,7 @@ impl<T: Copy> TripleLists<T> {
         if !self.nodes.contains(key) {
             return;
         }
-        move_last(&mut self.nodes, &mut self.recall, key, writes);
+        move_last(&mut self.nodes, &mut self.ends.recall, key, writes);
     }
 
     /// Takes the node out of each of its lists, and answers it. Where no node has the key, nothing happens.
@@ -247,15 +233,7 @@ impl<T: Copy> TripleLists<T> {
         ensures sound { IsLists self.new }
     {
         let node = self.get(key)?;
-        take_out(
-            &mut self.nodes,
-            &mut self.recall,
-            &mut self.inodes,
-            &mut self.clients,
-            key,
-            node,
-            writes,
-        );
+        take_out(&mut self.nodes, &mut self.ends, key, node, writes);
         Some(node)
     }
 }

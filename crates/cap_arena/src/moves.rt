@@ -7,10 +7,9 @@ ghost use Rattle.cap_arena.specs.Lists.{IsLists, count, lists_of, node_at};
 ghost use Rattle.cap_arena.specs.Calls.{Adds, Removes};
 
 use crate::chain::{append, unlink};
-use crate::heads::{Head, append_in, last_in, make_rooms, unlink_in};
+use crate::heads::{AllEnds, append_in, last_in, make_rooms, unlink_in};
 use crate::link::LinkWrites;
-use crate::nodes::{Ends, Joint, Linked, Node, Order};
-use dense_map::Numbered;
+use crate::nodes::{Joint, Linked, Node, Order};
 use slab::Slab;
 use std::alloc::AllocError;
 use std::sync::ledger::Ledger;
@@ -19,54 +18,50 @@ use std::sync::ledger::Ledger;
 // ends of its lists nothing changes.
 pub(crate) fn take_in<T: Copy, L: Ledger>(
     nodes: &mut Slab<Linked<T>>,
-    recall: &mut Ends,
-    inodes: &mut Numbered<Head>,
-    clients: &mut Numbered<Head>,
+    ends: &mut AllEnds,
     node: Node<T>,
     writes: &mut LinkWrites<L>,
 ) -> Result<usize, AllocError>
-    requires sound { IsLists (lists_of nodes.old.slots recall.old inodes.old clients.old) }
-    requires below { count (lists_of nodes.old.slots recall.old inodes.old clients.old) < 65536 }
+    requires sound { IsLists (lists_of nodes.old.slots ends.old.recall ends.old.inodes ends.old.clients) }
+    requires below { count (lists_of nodes.old.slots ends.old.recall ends.old.inodes ends.old.clients) < 65536 }
     requires slot { HasRoomFor nodes.old 1 }
-    ensures added { IfOk result (λ key. IsLists (lists_of nodes.new.slots recall.new inodes.new clients.new) × Adds (lists_of nodes.old.slots recall.old inodes.old clients.old) (lists_of nodes.new.slots recall.new inodes.new clients.new) key node) }
-    ensures err { OnErr result (lists_of nodes.new.slots recall.new inodes.new clients.new ≡ lists_of nodes.old.slots recall.old inodes.old clients.old) }
+    ensures added { IfOk result (λ key. IsLists (lists_of nodes.new.slots ends.new.recall ends.new.inodes ends.new.clients) × Adds (lists_of nodes.old.slots ends.old.recall ends.old.inodes ends.old.clients) (lists_of nodes.new.slots ends.new.recall ends.new.inodes ends.new.clients) key node) }
+    ensures err { OnErr result (lists_of nodes.new.slots ends.new.recall ends.new.inodes ends.new.clients ≡ lists_of nodes.old.slots ends.old.recall ends.old.inodes ends.old.clients) }
     ensures unwritten { OnErr result (writes.new ≡ writes.old) }
     ensures count { writes.new ≤ writes.old + 12 }
 {
     let (ino, client) = (node.ino.0, node.client.0 as u64);
-    make_rooms(inodes, ino, clients, client)?;
+    make_rooms(&mut ends.inodes, ino, &mut ends.clients, client)?;
     let linked = Linked {
         node,
-        of_ino: Joint::behind(last_in(inodes, ino), writes),
-        of_client: Joint::behind(last_in(clients, client), writes),
-        recall: Joint::behind(recall.last.key(), writes),
+        of_ino: Joint::behind(last_in(&ends.inodes, ino), writes),
+        of_client: Joint::behind(last_in(&ends.clients, client), writes),
+        recall: Joint::behind(ends.recall.last.key(), writes),
     };
     let key = nodes.insert_reserved(linked);
-    append_in(inodes, ino, nodes, Order::Inode, key, writes);
-    append_in(clients, client, nodes, Order::Client, key, writes);
-    append(nodes, recall, Order::Recall, key, writes);
+    append_in(&mut ends.inodes, ino, nodes, Order::Inode, key, writes);
+    append_in(&mut ends.clients, client, nodes, Order::Client, key, writes);
+    append(nodes, &mut ends.recall, Order::Recall, key, writes);
     Ok(key)
 }
 
 // Takes the node out of its three lists. Its key may be given again from then on.
 pub(crate) fn take_out<T: Copy, L: Ledger>(
     nodes: &mut Slab<Linked<T>>,
-    recall: &mut Ends,
-    inodes: &mut Numbered<Head>,
-    clients: &mut Numbered<Head>,
+    ends: &mut AllEnds,
     key: usize,
     node: Node<T>,
     writes: &mut LinkWrites<L>,
 )
-    requires sound { IsLists (lists_of nodes.old.slots recall.old inodes.old clients.old) }
-    requires there { node_at (lists_of nodes.old.slots recall.old inodes.old clients.old) key ≡ Some node }
-    ensures removed { IsLists (lists_of nodes.new.slots recall.new inodes.new clients.new) × Removes (lists_of nodes.old.slots recall.old inodes.old clients.old) (lists_of nodes.new.slots recall.new inodes.new clients.new) key }
+    requires sound { IsLists (lists_of nodes.old.slots ends.old.recall ends.old.inodes ends.old.clients) }
+    requires there { node_at (lists_of nodes.old.slots ends.old.recall ends.old.inodes ends.old.clients) key ≡ Some node }
+    ensures removed { IsLists (lists_of nodes.new.slots ends.new.recall ends.new.inodes ends.new.clients) × Removes (lists_of nodes.old.slots ends.old.recall ends.old.inodes ends.old.clients) (lists_of nodes.new.slots ends.new.recall ends.new.inodes ends.new.clients) key }
     ensures count { writes.new ≤ writes.old + 12 }
 {
     let (ino, client) = (node.ino.0, node.client.0 as u64);
-    unlink_in(inodes, ino, nodes, Order::Inode, key, writes);
-    unlink_in(clients, client, nodes, Order::Client, key, writes);
-    unlink(nodes, recall, Order::Recall, key, writes);
+    unlink_in(&mut ends.inodes, ino, nodes, Order::Inode, key, writes);
+    unlink_in(&mut ends.clients, client, nodes, Order::Client, key, writes);
+    unlink(nodes, &mut ends.recall, Order::Recall, key, writes);
     let _linked = nodes.try_remove(key);
 }
 

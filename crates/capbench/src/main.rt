@@ -17,7 +17,7 @@ use std::process::ExitCode;
 fn main(rt: HostRuntime) -> ExitCode {
     let (mut reader, mut writer, mut faults) = (rt.stdin(), rt.stdout(), rt.stderr());
     let Ok(words) = words(&rt, rt.alloc()) else {
-        return ExitCode::from(bench_kit::report(Fault::NoMemory, &mut faults));
+        return ExitCode::from(bench_kit::commands::report(Fault::NoMemory, &mut faults));
     };
     let status = match words.as_slice() {
         [first, names @ ..] if first.as_slice() == b"play".as_slice() => {

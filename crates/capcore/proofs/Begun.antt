@@ -6,10 +6,10 @@ use Rattle.capstep.proofs.Knowing.{held_at}
 use Rattle.capstep.specs.Begun.{MayEndAt, among}
 use Rattle.capcore.proofs.Closing.{affects-ends, affects-one, affects-settles, ends-table, for_clients-all, for_clients-but_own, for_clients-own_numbers}
 use Rattle.capcore.proofs.Common.{Affected, Affects, AffectsOne, AreBelow, AreChanges, AreCounted, AreCountedIn, AreGiven, AreKnown, ArePermittedIn}
-use Rattle.capcore.proofs.Common.{CountedLocks, Direct, Ended, StepOutput, EndsWith, Entry, EntryRequest, Event, HasRoom, HaveOwnNumbers, HaveRoomFor, Holder}
-use Rattle.capcore.proofs.Common.{IsAnswered, IsJudged, IsLockMap, IsSubset, IsTable, ClientViews, Knows, MayEnd, MaySettle, NumbersLeft, StepReply, Scene, SettlesAt}
-use Rattle.capcore.proofs.Common.{SettlesWith, State, StillKnown, all_ended, direct, earlier, entry_answer, entry_at, finished_at, known_in, plain, reply_of}
-use Rattle.capcore.proofs.Common.{shown, sized_in, sizes_owed, state_at_end, still-knows, view_of}
+use Rattle.capcore.proofs.Common.{ClientViews, CountedLocks, Direct, Ended, EndsWith, Entry, EntryRequest, Event, HasRoom, HaveOwnNumbers, HaveRoomFor, Holder}
+use Rattle.capcore.proofs.Common.{IsAnswered, IsJudged, IsLockMap, IsSubset, IsTable, Knows, MayEnd, MaySettle, NumbersLeft, Scene, SettlesAt, SettlesWith}
+use Rattle.capcore.proofs.Common.{State, StepOutput, StepReply, StillKnown, all_ended, direct, earlier, entry_answer, entry_at, finished_at, known_in, plain}
+use Rattle.capcore.proofs.Common.{reply_of, shown, sized_in, sizes_owed, state_at_end, still-knows, view_of}
 use Rattle.capcore.proofs.Concluded.{IsConcluded, concluded}
 use Rattle.capcore.proofs.EndKnown.{ends-known}
 use Rattle.capcore.proofs.EntryWhole.{request-counted, show_reply-alike}

@@ -5,8 +5,8 @@ use Rattle.std.proofs.lemmas.List.Elements.{All-contains, All-weaker}
 use Rattle.capstep.proofs.Forgotten.{all_rows}
 use Rattle.lockmachine.proofs.SameOutside.{outside-one, rest-outside}
 use Rattle.capstep.specs.Affected.{finished_entry}
-use Rattle.capcore.proofs.Common.{Affects, AffectsOne, ArePermittedIn, Ended, EndsWith, EntryRow, HaveOwnNumbers, Ino, IsAffectedEntry, IsLockMap, IsSound}
-use Rattle.capcore.proofs.Common.{IsSoundEntry, IsTable, ClientViews, MakesAll, MayEnd, MaySettle, Scene, SessionTable, SettlesWith, State, Ticket, but_for}
+use Rattle.capcore.proofs.Common.{Affects, AffectsOne, ArePermittedIn, ClientViews, Ended, EndsWith, EntryRow, HaveOwnNumbers, Ino, IsAffectedEntry, IsLockMap}
+use Rattle.capcore.proofs.Common.{IsSound, IsSoundEntry, IsTable, MakesAll, MayEnd, MaySettle, Scene, SessionTable, SettlesWith, State, Ticket, but_for}
 use Rattle.capcore.proofs.Common.{earlier, entries_on, filter-contains, first_for, has_session, is_of_inode, is_sized, known_in, lock_at, moved-all, owed}
 use Rattle.capcore.proofs.Common.{row_elsewhere, sizes_owed, table-where, with_scene}
 use Rattle.capcore.proofs.EndedIn.{earlier-all, earlier-but_own, own-numbers}

@@ -8,8 +8,8 @@ use Rattle.capstep.proofs.SizesOwed.{sizes-known}
 use Rattle.capstep.specs.Affected.{told_then}
 use Rattle.capstep.specs.Known.{KnownAnew}
 use Rattle.lockmachine.specs.Scene.{told_set}
-use Rattle.capcore.proofs.Common.{Affects, AreKnown, Ended, EndsWith, EntryRow, Ino, IsSound, IsTable, ClientViews, Knows, Scene, SettlesWith, State, StillKnown}
-use Rattle.capcore.proofs.Common.{finished_at, known_in, known_of, row_elsewhere, sizes_owed}
+use Rattle.capcore.proofs.Common.{Affects, AreKnown, ClientViews, Ended, EndsWith, EntryRow, Ino, IsSound, IsTable, Knows, Scene, SettlesWith, State}
+use Rattle.capcore.proofs.Common.{StillKnown, finished_at, known_in, known_of, row_elsewhere, sizes_owed}
 
 module _ (before was now : ClientViews) (from : ℕ → Bool) (old affected : State) (sound : IsSound old) (old_table : IsTable old.scene.table) (table : IsTable affected.scene.table)
     (affects : Affects from old affected) (known : AreKnown before old.scene) (still : StillKnown old.scene.table affected.scene.table before was) (knows : Knows (known_in was) old.scene affected.scene.table)

@@ -10,9 +10,9 @@ use Rattle.sessiontab.specs.declared.session.Status.{Status}
 use Rattle.lockmachine.proofs.PolicyElsewhere.{permitted-kept}
 use Rattle.capstep.specs.declared.leaving.SessionChange.TheVariants.{Close, Evict, Mark}
 use Rattle.lockmachine.specs.Policy.{permitted_to, subject_of}
-use Rattle.capcore.proofs.Common.{ArePermittedIn, ClientId, Entry, Holder, ClientViews, Node, Scene, Session, SessionChange, ClientView, State, Table, alike-itself}
-use Rattle.capcore.proofs.Common.{apart_client, change-at, changed_sessions, entry_at, entry_at-without_client_other, is_end, permitted, permitted_of}
-use Rattle.capcore.proofs.Common.{session_changed, table_left, without_client}
+use Rattle.capcore.proofs.Common.{ArePermittedIn, ClientId, ClientView, ClientViews, Entry, Holder, Node, Scene, Session, SessionChange, State, Table}
+use Rattle.capcore.proofs.Common.{alike-itself, apart_client, change-at, changed_sessions, entry_at, entry_at-without_client_other, is_end, permitted}
+use Rattle.capcore.proofs.Common.{permitted_of, session_changed, table_left, without_client}
 use Rattle.capcore.proofs.SessionChanged.{apart, session_changed-other}
 
 -- ---- who is left

@@ -3,8 +3,8 @@ use Rattle.std.proofs.Common.{◌≡◌, ◌≤◌, ℕ, Bool, true, ◌||◌, L
 use Rattle.std.proofs.lemmas.List.Elements.{All-map}
 use Rattle.capstep.proofs.SoundEnd.{same-finished}
 use Rattle.capstep.proofs.Telling.{as_sized, as_told, retold, retold-sound, retold_table}
-use Rattle.capcore.proofs.Common.{AreGiven, EntryRow, Event, HoldAlike, Holder, IsAnswered, IsSound, IsTable, IsTable-recalled, ClientViews, Reply, StepReply, State}
-use Rattle.capcore.proofs.Common.{Table, alike-where, finished, is_among, recalled, with_table}
+use Rattle.capcore.proofs.Common.{AreGiven, ClientViews, EntryRow, Event, HoldAlike, Holder, IsAnswered, IsSound, IsTable, IsTable-recalled, Reply, State}
+use Rattle.capcore.proofs.Common.{StepReply, Table, alike-where, finished, is_among, recalled, with_table}
 use Rattle.capcore.proofs.Sounding.{later-given}
 use Rattle.capcore.proofs.Steps.{direct-answered}
 use Rattle.capcore.proofs.Unaffected.{alike-kept}

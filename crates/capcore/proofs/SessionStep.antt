@@ -7,8 +7,8 @@ use Rattle.capstep.specs.SessionChange.{ReachesClient}
 use Rattle.capstep.specs.declared.settle.Affected.TheVariants.{Inodes}
 use Rattle.capcore.proofs.Begun.{begun-entries}
 use Rattle.capcore.proofs.Closing.{affects-settles}
-use Rattle.capcore.proofs.Common.{Affects, AreChanges, AreCountedIn, ArePermittedIn, ClientId, Direct, DueEndings, Ended, StepOutput, Entry, Event, HasRoom}
-use Rattle.capcore.proofs.Common.{HaveRoomFor, HoldAlike, Holder, InoSet, IsJudged, IsLockMap, IsTable, LockMap, Scene, SessionChange, State, StillKnown}
+use Rattle.capcore.proofs.Common.{Affects, AreChanges, AreCountedIn, ArePermittedIn, ClientId, Direct, DueEndings, Ended, Entry, Event, HasRoom, HaveRoomFor}
+use Rattle.capcore.proofs.Common.{HoldAlike, Holder, InoSet, IsJudged, IsLockMap, IsTable, LockMap, Scene, SessionChange, State, StepOutput, StillKnown}
 use Rattle.capcore.proofs.Common.{ViewChange, alike-less, direct, dropped_by, entry_at, is_end, judged, known_of, locks_left, messages_left, plain}
 use Rattle.capcore.proofs.Common.{session_changed, session_event, still-knows, still-there, view_of, without_requests_of-kept}
 use Rattle.capcore.proofs.Granted.{left-was}

@@ -4,9 +4,9 @@ use Rattle.capstep.proofs.SoundEnd.{none-sized}
 use Rattle.capstep.specs.Affected.{affected_by, is_listing, session_changed_by}
 use Rattle.capcore.proofs.Bounded.{found-keeps}
 use Rattle.capcore.proofs.Common.{Answer, AreGiven, Awaits, Direct, Directory, Ended, Event, File, Gives, IsAnswered, IsDirect, IsSound, IsTable, IsTree}
-use Rattle.capcore.proofs.Common.{LeavesEntries, Rejection, Reply, StepReply, Says, Settles, Shows, State, Step, child, direct, effect, effect_unless, finished}
-use Rattle.capcore.proofs.Common.{first_failing, has_list, judged, kept-finished, kept-sound, new_session_tests, no_test, reply_of, shown, sizes_owed}
-use Rattle.capcore.proofs.Common.{sound-settles, state_after, with_parts, with_scene, with_snapshot, without_snapshot}
+use Rattle.capcore.proofs.Common.{LeavesEntries, Rejection, Reply, Says, Settles, Shows, State, Step, StepReply, child, direct, effect, effect_unless}
+use Rattle.capcore.proofs.Common.{finished, first_failing, has_list, judged, kept-finished, kept-sound, new_session_tests, no_test, reply_of, shown}
+use Rattle.capcore.proofs.Common.{sizes_owed, sound-settles, state_after, with_parts, with_scene, with_snapshot, without_snapshot}
 use Rattle.capcore.proofs.Promised.{issues-exactly}
 use Rattle.capcore.proofs.Sounding.{later-given}
 use Rattle.capcore.proofs.Unaffected.{birth-leaves, changed-leaves, nothing-leaves, session-leaves, unblocked-leaves}

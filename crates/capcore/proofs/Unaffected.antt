@@ -20,7 +20,7 @@ use Rattle.lockmachine.proofs.CountsStay.{counted-born, counted-dropped}
 use Rattle.lockmachine.proofs.PolicyElsewhere.{permitted-changed, permitted-new, permitted-session, want-changed, want-new, want-session}
 use Rattle.lockmachine.specs.Locks.{without_ino}
 use Rattle.lockmachine.specs.Counts as counting
-use Rattle.capcore.proofs.Common.{AreCounted, AreCountedIn, Attr, CountMap, EntryRow, HoldAlike, InodeLocks, IsSound, IsTree, KeptScene, Kind, ClientViews}
+use Rattle.capcore.proofs.Common.{AreCounted, AreCountedIn, Attr, ClientViews, CountMap, EntryRow, HoldAlike, InodeLocks, IsSound, IsTree, KeptScene, Kind}
 use Rattle.capcore.proofs.Common.{LeavesEntries, LockMap, Node, Nodes, Scene, SessionTable, State, StateMap, Table, first_failing, found-contains, in_sync}
 use Rattle.capcore.proofs.Common.{is_row_of, kept-sound, new_session_tests, no_locks, permitted, plain, row_of-entry, with_ino, with_parts}
 use Rattle.capcore.specs.UnderWay.{AreKept, IsWhole, state_of}

@@ -44,11 +44,11 @@ pub(crate) struct Applied {
     pub(crate) answer: ReplyDue,
 }
 
-// What is answered at the end of the step.
+// Which reply is due at the end of the step.
 #[derive(Drop)]
 pub(crate) enum ReplyDue {
     Done,
-    // That it is done, where these requests were dropped.
+    // That the event is done, where these requests were dropped.
     Dropped(Vec<Ended>),
     // The reply to this request on the holder's entry.
     Requested(Holder, EntryRequest),

@@ -13,8 +13,9 @@ use Rattle.capffi.specs.declared.block.Block.{Block}
 use Rattle.capffi.specs.declared.by_mask.MaskVerdict.{MaskVerdict}
 use Rattle.capffi.specs.declared.passed.Check.{Check}
 use Rattle.capffi.specs.declared.trouble.Trouble.{Trouble}
+use Rattle.capgrant.specs.Masks.{asked_if, is_known}
 use Rattle.capffi.specs.Blocks.{IsBlock, bare_names}
-use Rattle.capffi.specs.ByMask.{IsMaskTrouble, IsSaidOfMask, IsSaidToMask, accesses_of, asked_if, is_denied, is_known, mask_verdict_next, mask_verdict_of, verdict_on}
+use Rattle.capffi.specs.ByMask.{IsMaskTrouble, IsSaidOfMask, IsSaidToMask, accesses_of, is_denied, mask_verdict_next, mask_verdict_of, verdict_on}
 
 -- ---- one access more
 

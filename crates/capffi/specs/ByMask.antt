@@ -1,10 +1,10 @@
 -- What the grants of a block say to the mask of a server.
-use Rattle.std.specs.Prelude.{◌≡◌, ◌==◌, ◌/◌, ◌%◌, ◌&&◌, ◌⊎◌, nat_lt, not, false, ℕ, Bool, List, [], ◌∷◌, ◌++◌, IsTrue, IsFalse, Option, Some, None, Result}
-use Rattle.std.specs.Prelude.{Ok, Err, MatchResult, fold, if◌then◌else◌}
-use Rattle.capspec.specs.Paths.{are_few_and_short, names_of}
+use Rattle.std.specs.Prelude.{◌≡◌, ◌%◌, ◌⊎◌, not, false, ℕ, Bool, List, [], ◌∷◌, IsTrue, IsFalse, Option, Some, None, Result, Ok, Err, MatchResult, fold, if◌then◌else◌}
+use Rattle.capspec.specs.Paths.{names_of, are_few_and_short}
 use Rattle.capgrant.specs.declared.access.Access.{Access}
 use Rattle.capgrant.specs.declared.access.Access.TheVariants.{Chgrp, Chmod, Chown, Read, SetVxattr, Snapshot, Write}
 use Rattle.capgrant.specs.declared.answer.Verdict.{Verdict}
+use Rattle.capgrant.specs.Masks.{accesses_in, is_known}
 use Rattle.capgrant.specs.Question.{question}
 use Rattle.capgrant.specs.Verdict.{is_allowed, verdict_of}
 use Rattle.capffi.specs.declared.block.Block.{Block}
@@ -18,23 +18,9 @@ use Rattle.capffi.specs.ByBlock.{Tells}
 use Rattle.capffi.specs.Blocks.{IsBlock, block_fs, block_grants}
 use Rattle.capffi.specs.Trouble.{status_of}
 
--- no bit but 1, 2, 16, 32, 64 and 128
-abbrev pub is_known : ℕ → Bool
-is_known mask = nat_lt mask 256 && (mask / 4 % 4 == 0)
-
--- the access, where the bit is set
-abbrev pub asked_if : ℕ → ℕ → Access → List Access
-asked_if mask bit access = if mask / bit % 2 == 1 then access ∷ [] else []
-
--- what the mask asks for, one access for each bit
+-- what the check's mask asks for
 abbrev pub accesses_of : Check → List Access
-accesses_of c =
-    asked_if c.mask 1 Read
-    ++ (asked_if c.mask 2 Write
-    ++ (asked_if c.mask 16 (Chown c.new_uid)
-    ++ (asked_if c.mask 32 (Chgrp c.new_gid)
-    ++ (asked_if c.mask 64 SetVxattr
-    ++ asked_if c.mask 128 Snapshot))))
+accesses_of c = accesses_in c.mask c.new_uid c.new_gid
 
 -- the verdict on an access to an inode whose mode ends in these twelve bits, on the file system of the block
 abbrev pub verdict_on : Block → List ℕ → List (List ℕ) → List ℕ → Check → Access → Verdict

@@ -2,7 +2,7 @@
 ghost use Rattle.std.specs.Prelude.{◌≡◌, ◌≤◌, ◌↔◌, ℕ, List, length, IsTrue, IfSome};
 ghost use Rattle.capspec.specs.Paths.{names_of};
 ghost use Rattle.capffi.specs.Blocks.{IsBlock, bare_names};
-ghost use Rattle.capffi.specs.ByBlock.{IsSaid, IsSaidOf, IsFast, IsFastOf, Tells, TellsFast, alone};
+ghost use Rattle.capffi.specs.ByBlock.{IsFast, IsFastOf, IsSaid, IsSaidOf, Tells, TellsFast, alone};
 ghost use Rattle.capgrant.specs.Question.{question as asked};
 
 use crate::answering::tell_alone;

@@ -1,10 +1,11 @@
 //! The verdict of the grants of a block on the mask of a server, which may ask for several accesses.
 ghost use Rattle.std.specs.Prelude.{◌≡◌, ◌<◌, ◌%◌, ℕ, List, [], ◌∷◌, IfSome, IsTrue, fold};
+ghost use Rattle.capgrant.specs.Masks.{is_known, asked_if};
 ghost use Rattle.capgrant.specs.Question.{question};
 ghost use Rattle.capffi.specs.Blocks.{IsBlock, bare_names};
 ghost use Rattle.capffi.specs.ByBlock.{Tells, alone};
-ghost use Rattle.capffi.specs.ByMask.{IsSaidOfMask, IsSaidToMask, IsFastOn, IsFastToMask, TellsFastToMask, access_number, accesses_of, asked_if, is_denied};
-ghost use Rattle.capffi.specs.ByMask.{is_known, mask_verdict_next, mask_verdict_of, verdict_on};
+ghost use Rattle.capffi.specs.ByMask.{IsFastOn, IsFastToMask, IsSaidOfMask, IsSaidToMask, TellsFastToMask, access_number, accesses_of, is_denied};
+ghost use Rattle.capffi.specs.ByMask.{mask_verdict_next, mask_verdict_of, verdict_on};
 
 use crate::answering::tell_alone;
 use crate::block::Block;

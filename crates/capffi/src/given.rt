@@ -1,10 +1,11 @@
 //! A grant as it stands in a block.
-ghost use Rattle.std.specs.Prelude.{◌≡◌, ◌==◌, ◌↔◌, not, ◌&&◌, ◌+◌, ◌*◌, ◌<◌, ◌≤◌, IsTrue, length, slice_index, take, drop};
+ghost use Rattle.std.specs.Prelude.{◌≡◌, ◌==◌, ◌↔◌, not, ◌&&◌, ◌+◌, ◌<◌, ◌≤◌, IsTrue, length, slice_index, take, drop};
 ghost use Rattle.std.specs.List.{starts_with};
 ghost use Rattle.std.specs.Str.{bytes_eq};
 ghost use Rattle.capffi.specs.Blocks.{bare_names, behind, fs_in, grant_of, path_in, path_names};
 
 use crate::block::Entry;
+use capspec::is_same_by_pairs;
 use std::marker::Model;
 
 /// A grant that stands in a block.
@@ -231,7 +232,7 @@ fn is_same_of_few(one: &[u8], other: &[u8]) -> bool
     ensures { result ≡ bytes_eq one.now other.now }
 {
     match other.len() {
-        2..=4 => is_same_by_pairs(one, other),
+        2..=4 => is_same_of_fewest(one, other),
         5..=8 => is_same_at_ends(one, other, 4, 4),
         9..=16 => is_same_at_ends(one, other, 8, 8),
         _ => is_same_bytewise(one, other),
@@ -275,45 +276,14 @@ fn is_same_from(one: &[u8], other: &[u8], start: usize, piece: usize) -> bool
     is_same
 }
 
-// Whether two texts of one length, of two to four bytes, are the same, as two pairs, which may share bytes.
+// The same of two to four bytes.
 #[inline(always)]
 #[tactic(auto, using(crate::proofs::Leads::same_is))]
-fn is_same_by_pairs(one: &[u8], other: &[u8]) -> bool
+fn is_same_of_fewest(one: &[u8], other: &[u8]) -> bool
     requires same { length one.now ≡ length other.now }
     requires more { 2 ≤ length other.now }
     requires few { length other.now ≤ 4 }
     ensures { result ≡ bytes_eq one.now other.now }
 {
-    are_same(one, other)
-}
-
-#[inline(always)]
-#[tactic(auto, using(capspec::proofs::Pairs::same_by_pairs))]
-fn are_same(one: &[u8], other: &[u8]) -> bool
-    requires same { length one.now ≡ length other.now }
-    requires more { 2 ≤ length other.now }
-    requires few { length other.now ≤ 4 }
-    ensures { IsTrue result ↔ (one.now ≡ other.now) }
-{
-    is_same_pair(one, other, 0) && is_same_pair(one, other, other.len() - 2)
-}
-
-// Whether two bytes from a place on are the same.
-#[inline(always)]
-fn is_same_pair(one: &[u8], other: &[u8], place: usize) -> bool
-    requires inside { place + 2 ≤ length other.now }
-    requires same { length one.now ≡ length other.now }
-    ensures { IsTrue result ↔ ((slice_index one.now place ≡ slice_index other.now place) × (slice_index one.now (place + 1) ≡ slice_index other.now (place + 1))) }
-{
-    pair_at(one, place) == pair_at(other, place)
-}
-
-// Two bytes from a place on as one number, which is read at once.
-#[inline(always)]
-fn pair_at(bytes: &[u8], place: usize) -> u16
-    requires { place + 2 ≤ length bytes.now }
-    ensures value { result ≡ slice_index bytes.now place + 256 * slice_index bytes.now (place + 1) }
-    ensures low { slice_index bytes.now place < 256 }
-{
-    u16::from(bytes[place]) + 256 * u16::from(bytes[place + 1])
+    is_same_by_pairs(one, other)
 }

@@ -1,4 +1,6 @@
-//! The eleven rules on the grants of a block.
+//! The eleven rules on the grants of a block, which are not copied out of there. The bodies of the same rules on a grant by itself stand
+//! in `capgrant/src/question.rt`. The two are equal by their contracts: `first_failing` here and that of `Question` there both answer
+//! `first_failing` of `capgrant/specs/Failing.antt`, of the question and the grant that they are asked.
 ghost use Rattle.std.specs.Prelude.{◌≡◌, ◌<◌, ◌≤◌, ◌==◌, ℕ, List, IfSome, IsTrue, IsFalse, Some, true, false, length, find, not, position, drop};
 ghost use Rattle.std.specs.List.{list_any};
 ghost use Rattle.capbits.specs.Caller.{gids_of};

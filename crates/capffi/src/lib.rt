@@ -2,7 +2,7 @@
 //! text, the caps that they permit, and the table of the locks. `c/include/baybowl.h` declares it, and `docs/EMBED.md` is its page.
 //!
 //! Numbers and texts come in and go out; nothing is kept between calls. Each call answers a status, `OK` or why there is no
-//! answer. What it writes where there is no answer is zeros.
+//! answer. What it writes or returns where there is no answer is zeros.
 #![tactic(auto)]
 
 mod answering;
@@ -16,6 +16,7 @@ mod judging;
 mod locks;
 mod passed;
 mod plain;
+mod returned;
 mod texts;
 mod trouble;
 
@@ -23,7 +24,7 @@ ghost use Rattle.std.specs.Prelude.{◌≡◌, ℕ, List};
 ghost use Rattle.capspec.specs.Paths.{names_of};
 ghost use Rattle.capffi.specs.Calls.{TellsCheck, TellsForm, TellsPermitted, TellsRead, TellsTarget, TellsVerdict, TellsVerdictBy, caps_bits, status};
 ghost use Rattle.capffi.specs.ByBlock.{TellsFast};
-ghost use Rattle.capffi.specs.ByMask.{TellsMask, TellsFastToMask};
+ghost use Rattle.capffi.specs.ByMask.{TellsFastToMask, TellsMask};
 ghost use Rattle.capffi.specs.Locks.{allowed_by};
 
 use crate::answering::{answer_of, no_answer};
@@ -36,6 +37,7 @@ use crate::texts::{form, put};
 use crate::trouble::no_fault;
 pub use block::{BLOCK_VERSION, Block, Entry};
 pub use passed::{Answer, Check, Fault, Lock, Question, StableState, Wants};
+pub use returned::{BlockVerdict, CheckVerdict, TextPermitted, TextRead, TextVerdict};
 use std::alloc::Global;
 pub use trouble::{
     ACCESS, BLOCK, CAPS, FS, GRANTS, GROUPS, HEAD, MEMORY, MODE, OK, PART, PATH, ROOM, STATE,
@@ -61,22 +63,20 @@ pub extern "C" fn capffi_verdict(
     path: &[u8],
     groups: &[u32],
     question: &Question,
-    answer: &mut Answer,
-    fault: &mut Fault,
-) -> u32
-    ensures { TellsVerdict grants.now fs.now path.now groups.now question.now result answer.new fault.new }
+) -> TextVerdict
+    ensures { TellsVerdict grants.now fs.now path.now groups.now question.now result.status result.answer result.fault }
 {
     match judge(alloc, grants, fs, path, groups, question) {
-        Ok(verdict) => {
-            *answer = answer_of(&verdict);
-            *fault = no_fault();
-            OK
-        }
-        Err(trouble) => {
-            *answer = no_answer();
-            *fault = trouble.fault();
-            trouble.status()
-        }
+        Ok(verdict) => TextVerdict {
+            status: OK,
+            answer: answer_of(&verdict),
+            fault: no_fault(),
+        },
+        Err(trouble) => TextVerdict {
+            status: trouble.status(),
+            answer: no_answer(),
+            fault: trouble.fault(),
+        },
     }
 }
 
@@ -89,27 +89,24 @@ pub extern "C" fn capffi_permitted(
     path: &[u8],
     groups: &[u32],
     question: &Question,
-    caps: &mut u32,
-    fault: &mut Fault,
-) -> u32
-    ensures { TellsPermitted grants.now fs.now path.now groups.now question.now result caps.new fault.new }
+) -> TextPermitted
+    ensures { TellsPermitted grants.now fs.now path.now groups.now question.now result.status result.caps result.fault }
 {
     match permit(alloc, grants, fs, path, groups, question) {
-        Ok(permitted) => {
-            *caps = permitted.bits();
-            *fault = no_fault();
-            OK
-        }
-        Err(trouble) => {
-            *caps = 0;
-            *fault = trouble.fault();
-            trouble.status()
-        }
+        Ok(permitted) => TextPermitted {
+            status: OK,
+            caps: permitted.bits(),
+            fault: no_fault(),
+        },
+        Err(trouble) => TextPermitted {
+            status: trouble.status(),
+            caps: 0,
+            fault: trouble.fault(),
+        },
     }
 }
 
-/// Puts the grants of a text on a file system into a block and the text behind it, if that fits there. `needed` is how long that
-/// text is.
+/// Puts the grants of a text on a file system into a block and the text behind it, if that fits there.
 #[tactic(auto, using(crate::proofs::Filled::filled))]
 #[unsafe(no_mangle)]
 pub extern "C" fn capffi_grants_read(
@@ -118,21 +115,24 @@ pub extern "C" fn capffi_grants_read(
     fs: &[u8],
     block: &mut Block,
     text: &mut [u8],
-    needed: &mut u64,
-    fault: &mut Fault,
-) -> u32
-    ensures { TellsRead grants.now fs.now block.old block.new text.old text.new needed.new result fault.new }
+) -> TextRead
+    ensures { TellsRead grants.now fs.now block.old block.new text.old text.new result.needed result.status result.fault }
 {
     match prepare(alloc, grants, fs) {
         Ok(ready) => {
-            *fault = no_fault();
-            put_block(&ready, block, text, needed)
+            let mut needed = 0;
+            let status = put_block(&ready, block, text, &mut needed);
+            TextRead {
+                status,
+                needed,
+                fault: no_fault(),
+            }
         }
-        Err(trouble) => {
-            *needed = 0;
-            *fault = trouble.fault();
-            trouble.status()
-        }
+        Err(trouble) => TextRead {
+            status: trouble.status(),
+            needed: 0,
+            fault: trouble.fault(),
+        },
     }
 }
 
@@ -161,22 +161,21 @@ pub extern "C" fn capffi_verdict_by(
     path: &[u8],
     groups: &[u32],
     question: &Question,
-    answer: &mut Answer,
-) -> u32
-    ensures told { TellsVerdictBy block.now text.now path.now groups.now question.now result answer.new }
+) -> BlockVerdict
+    ensures told { TellsVerdictBy block.now text.now path.now groups.now question.now result.status result.answer }
 
     // So the path may have a slash in front or none.
-    ensures either_form { (other : List ℕ) → names_of other ≡ names_of path.now → TellsVerdictBy block.now text.now other groups.now question.now result answer.new }
+    ensures either_form { (other : List ℕ) → names_of other ≡ names_of path.now → TellsVerdictBy block.now text.now other groups.now question.now result.status result.answer }
 {
     match judge_by(alloc, block, text, path, groups, question) {
-        Ok(said) => {
-            *answer = answer_of(&said);
-            OK
-        }
-        Err(trouble) => {
-            *answer = no_answer();
-            trouble.status()
-        }
+        Ok(said) => BlockVerdict {
+            status: OK,
+            answer: answer_of(&said),
+        },
+        Err(trouble) => BlockVerdict {
+            status: trouble.status(),
+            answer: no_answer(),
+        },
     }
 }
 
@@ -195,8 +194,8 @@ pub extern "C" fn capffi_fast_verdict_mask(
     fast_verdict_mask(block, text, path, check, answer)
 }
 
-/// Whether the grants of a block let a caller, who may have any number of groups, do all that a mask asks for. `access` is the number of
-/// the access that the answer is to: the first that is denied, or else the last.
+/// Whether the grants of a block let a caller, who may have any number of groups, do all that a mask asks for. The answer is to the first
+/// access that is denied, or else to the last.
 #[unsafe(no_mangle)]
 pub extern "C" fn capffi_verdict_mask(
     alloc: Global,
@@ -205,23 +204,21 @@ pub extern "C" fn capffi_verdict_mask(
     path: &[u8],
     groups: &[u32],
     check: &Check,
-    answer: &mut Answer,
-    access: &mut u32,
-) -> u32
-    ensures told { TellsMask block.now text.now path.now groups.now check.now result answer.new access.new }
-    ensures either_form { (other : List ℕ) → names_of other ≡ names_of path.now → TellsMask block.now text.now other groups.now check.now result answer.new access.new }
+) -> CheckVerdict
+    ensures told { TellsMask block.now text.now path.now groups.now check.now result.status result.answer result.access }
+    ensures either_form { (other : List ℕ) → names_of other ≡ names_of path.now → TellsMask block.now text.now other groups.now check.now result.status result.answer result.access }
 {
     match judge_mask(alloc, block, text, path, groups, check) {
-        Ok(told) => {
-            *answer = answer_of(&told.verdict);
-            *access = access_number(told.access);
-            OK
-        }
-        Err(trouble) => {
-            *answer = no_answer();
-            *access = 0;
-            trouble.status()
-        }
+        Ok(told) => CheckVerdict {
+            status: OK,
+            access: access_number(told.access),
+            answer: answer_of(&told.verdict),
+        },
+        Err(trouble) => CheckVerdict {
+            status: trouble.status(),
+            access: 0,
+            answer: no_answer(),
+        },
     }
 }
 

@@ -5,3 +5,4 @@ pub mod Question
 pub mod Failing
 pub mod Verdict
 pub mod Permitted
+pub mod Masks

@@ -1,4 +1,6 @@
-//! The rules of a grant, tested on one question.
+//! The rules of a grant, tested on one question. The library for C tests them on the grants of a block too, which it does not copy out
+//! of there, by bodies of its own in `capffi/src/judging.rt`. The two are equal by their contracts: `first_failing` here and that of
+//! `Case` there both answer `first_failing` of `specs/Failing.antt`, of the question and the grant that they are asked.
 ghost use Rattle.std.specs.Prelude.{◌≡◌};
 ghost use Rattle.capgrant.specs.Question.{contains, listed_gids};
 

@@ -18,14 +18,19 @@ use Rattle.step_model.specs.Noted.{view_of}
 use Rattle.snapshot.specs.Publishing.{IsReady, Publishing, first_of}
 use Rattle.snapshot.specs.Rows.{Legal}
 use Rattle.snapshot.proofs.Beginnings.{prefix_length, prefix_more, prefix_trans}
+use Rattle.snapshot.proofs.Gathering.{legal_none}
 use Rattle.snapshot.proofs.Publishing.{held_of}
 use Rattle.capserver.specs.Fresh.{IsFresh}
 use Rattle.capserver.specs.Held.{IsHeld, IsLed}
-use Rattle.snapshot.specs.Passes.{PassState, pass_id}
+use Rattle.capserver.specs.Passes.{PassState, pass_id}
 
 -- at the opening there are no rows
 pub led_first : (opening : State) (max_rows : ℕ) (core : Recorded) → core.state ≡ opening → core.rows ≡ [] → core.max_rows ≡ max_rows → IsLed opening max_rows core
 led_first opening max_rows core at none most = record { replays = subst (λ (rows : List Row). Replays opening rows core.state) (sym none) at; max_rows_is = most }
+
+-- they are numbered
+pub numbered_first : (core : Recorded) → core.rows ≡ [] → AreNumbered core.rows
+numbered_first core none = subst AreNumbered (sym none) (legal_none core.state).numbered
 
 -- then no row is in the book, and the view of the opening is published
 pub held_first : (opening : State) (core : Recorded) (calls : ℕ) (next : Publishing) → core.state ≡ opening → core.rows ≡ [] → core.max_rows ≤ 4294967295 → calls ≡ 0

@@ -6,7 +6,7 @@ use Rattle.step_model.specs.declared.event.Event.{Event}
 use Rattle.step_model.specs.declared.row.Row.{Row}
 use Rattle.step_model.specs.declared.outcome.Ended.{Ended}
 use Rattle.step_model.specs.declared.reply.Reply.{Reply}
-use Rattle.snapshot.specs.Passes.{PassState, pass_id}
+use Rattle.capserver.specs.Passes.{PassState, pass_id}
 
 -- what the pass knew is a proper beginning of what it knows, and that ends with a row of the pass, of this event and this reply
 pub record IsFresh (old new : PassState) (event : Event) (reply : Reply) : Type 0 where

@@ -3,7 +3,8 @@ ghost use Rattle.std.specs.Prelude.{◌≡◌, ◌<◌, length, IsTrue, MatchOpt
 ghost use mathlib.Core.List.{IsPrefix};
 ghost use Rattle.snapshot.specs.Rows.{Legal};
 
-use snapshot::{Beginning, Pass, Server};
+use crate::pass::Pass;
+use snapshot::{Beginning, Server};
 use step_model::Reply;
 
 /// What a call answers.

@@ -2,11 +2,12 @@
 ghost use Rattle.std.specs.Prelude.{◌≡◌, ◌+◌, ◌↔◌, Err, length, IfOk, OnOk, OnErr};
 ghost use Rattle.capcore.specs.Promised.{IsPromised};
 ghost use Rattle.capstep.specs.declared.stop.Stop.TheVariants as stop_kind;
-ghost use Rattle.snapshot.specs.Passes.{pass_id};
+ghost use Rattle.capserver.specs.Passes.{pass_id};
 
+use crate::pass::Pass;
 use capcore::Core;
 use capstep::stop::Stop;
-use snapshot::{Pass, Server};
+use snapshot::Server;
 use std::sync::ledger::Book;
 use step_model::{Event, Reply};
 

@@ -1,5 +1,6 @@
-//! One core for many threads: each calls through a pass of its own, and the events are made one after the other under a lock. What
-//! is published of them answers questions on policy beside the lock.
+//! One core for many threads: each calls through a pass of its own, which has a number, counts its calls, and knows what it saw of
+//! the history. The events are made one after the other under a lock. What is published of them answers questions on policy beside
+//! the lock: each pass reads it from a place of its own.
 #![tactic(auto)]
 
 mod answer;
@@ -7,6 +8,9 @@ mod event;
 mod gate;
 mod locked;
 mod opening;
+mod pass;
+mod passes;
+mod reader;
 mod server;
 
 pub use answer::Answer;
@@ -15,7 +19,9 @@ pub use capstep::stop::Stop;
 pub use gate::{Gate, NoGate};
 pub use locked::Locked;
 pub use opening::Opening;
+pub use pass::Pass;
+pub use passes::StartFault;
 pub use policy_view::{Question, Unknown};
 pub use server::{CapServer, Closed};
-pub use snapshot::{MAX_PASSES, Pass, Server, StartFault};
+pub use snapshot::{MAX_PASSES, Server};
 pub use step_model::{Event, Reply, Row};

@@ -8,14 +8,15 @@ ghost use Rattle.snapshot.specs.Publishing.{first_of};
 ghost use Rattle.snapshot.specs.Rows.{Legal};
 ghost use Rattle.capserver.specs.Fresh.{IsFresh};
 ghost use Rattle.capserver.specs.Held.{IsLed};
-ghost use Rattle.snapshot.specs.Passes.{pass_id};
+ghost use Rattle.capserver.specs.Passes.{pass_id};
 
 use crate::answer::Answer;
 use crate::event::make;
 use crate::gate::Gate;
+use crate::pass::Pass;
 use capcore::Core;
 use capstep::stop::Stop;
-use snapshot::{Beginning, Pass, Publisher, Recorder, Server, Tally};
+use snapshot::{Beginning, Publisher, Recorder, Server, Tally};
 use std::marker::Model;
 use std::mem::replace;
 use std::sync::Wait;
@@ -23,8 +24,8 @@ use std::sync::ledger::{Book, Share};
 use step_model::{Event, Reply};
 
 /// The core, with the book that counts the calls of all passes and who publishes. To contracts it is the core. It keeps that the
-/// history leads from the server's opening state to the present one and takes as many rows as the opening said, that the book has
-/// counted as many calls as it has rows, and that what is published next is all of that history and a view of that state.
+/// history leads from the server's opening state to the present one, is numbered and takes as many rows as the opening said, that the
+/// book has counted as many calls as it has rows, and that what is published next is all of that history and a view of that state.
 pub struct Locked<L: Server> {
     core: Core,
     calls: Book<L>,
@@ -39,6 +40,7 @@ pub struct Locked<L: Server> {
 impl<L: Server> Model for Locked<L> {
     ghost use Rattle.std.specs.Prelude.{◌≡◌, ◌+◌, MatchOption};
     ghost use Rattle.step_model.specs.History.{Recorded};
+    ghost use Rattle.step_model.specs.Numbers.{AreNumbered};
     ghost use Rattle.capcore.specs.Codes.{recorded_code};
     ghost use Rattle.capserver.specs.Held.{IsHeld, IsLed};
 
@@ -48,7 +50,7 @@ impl<L: Server> Model for Locked<L> {
 
     ghost view = { λ s. s.core };
 
-    ghost invariant = { λ s. (s.rest.parts + s.count ≡ L.parts) × (s.rest.amount ≡ 0) × IsLed L.opening L.max_rows s.core × MatchOption s.publisher ⊥ (IsHeld s.core s.calls.total) };
+    ghost invariant = { λ s. (s.rest.parts + s.count ≡ L.parts) × (s.rest.amount ≡ 0) × IsLed L.opening L.max_rows s.core × AreNumbered s.core.rows × MatchOption s.publisher ⊥ (IsHeld s.core s.calls.total) };
 }
 
 impl<L: Server> Locked<L> {
@@ -167,8 +169,6 @@ impl<L: Server> Locked<L> {
             unreachable!()
         };
         let recorder = publisher.end(rt);
-        // What the history is told to be, it is.
-        let _rows = core.history();
         (core, calls, rest, recorder)
     }
 }

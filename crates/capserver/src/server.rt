@@ -4,25 +4,25 @@ ghost use Rattle.std.specs.List.{sum_by};
 ghost use mathlib.Core.List.{IsPrefix};
 ghost use Rattle.step_model.specs.History.{IsLegal};
 ghost use Rattle.policy_view.specs.declared.answer.Unknown.TheVariants as unknown;
-ghost use Rattle.snapshot.specs.Answers.{IsAnswered};
+ghost use Rattle.capserver.specs.Answers.{IsAnswered};
 ghost use Rattle.snapshot.specs.Rows.{Legal};
 ghost use Rattle.capserver.specs.Called.{IsStep};
 ghost use Rattle.capserver.specs.Fresh.{IsFresh};
 ghost use Rattle.capserver.specs.Opened.{opened};
-ghost use Rattle.snapshot.specs.Passes.{AllBegin, AllNew, IsStartFault, pass_id};
+ghost use Rattle.capserver.specs.Passes.{AllBegin, AllNew, IsStartFault, pass_id};
 
 use crate::answer::Answer;
 use crate::gate::Gate;
 use crate::locked::Locked;
 use crate::opening::{Opening, Parts};
+use crate::pass::Pass;
+use crate::passes::{StartFault, check_all_against, make_passes, merge_all};
 use capcore::Core;
 use capgrant::Verdict;
 use capspec::FsName;
 use capstep::stop::Stop;
 use policy_view::{Question, Unknown};
-use snapshot::{
-    MAX_PASSES, Pass, Server, StartFault, Tally, check_all_against, make_passes, merge_all,
-};
+use snapshot::{MAX_PASSES, Server, Tally};
 use std::alloc::Global;
 use std::marker::Model;
 use std::sync::ledger::Blank;

@@ -33,6 +33,7 @@ pub use laws::{
     fault_where_nothing_reads, no_fault_where_it_reads, one_fault, one_list_of_grants,
     the_written_form_reads,
 };
+pub use names::is_same_by_pairs;
 pub use reading::read_grants;
 pub use shared_prefix::SharedPrefix;
 pub use tree_path::TreePath;

@@ -28,19 +28,30 @@ pub fn is_text_of(text: &[u8], names: &[&[u8]]) -> bool
     end == 0
 }
 
-// Whether two texts of one length are the same. Two to four bytes are compared as two pairs, which costs the least: the
-// pairs may share bytes.
+// Whether two texts of one length are the same.
 #[inline(always)]
-#[tactic(auto, using(crate::proofs::Pairs::same_by_pairs))]
 fn is_same(one: &[u8], other: &[u8]) -> bool
     requires { length one.now ≡ length other.now }
     ensures { IsTrue result ↔ (one.now ≡ other.now) }
 {
     let len = other.len();
     if 2 <= len && len <= 4 {
-        return is_same_pair(one, other, 0) && is_same_pair(one, other, len - 2);
+        return is_same_by_pairs(one, other);
     }
     one == other
+}
+
+/// Whether two texts of one length, of two to four bytes, are the same. They are compared as two pairs, which costs the least: the
+/// pairs may share bytes.
+#[inline(always)]
+#[tactic(auto, using(crate::proofs::Pairs::same_by_pairs))]
+pub fn is_same_by_pairs(one: &[u8], other: &[u8]) -> bool
+    requires same { length one.now ≡ length other.now }
+    requires more { 2 ≤ length other.now }
+    requires few { length other.now ≤ 4 }
+    ensures { IsTrue result ↔ (one.now ≡ other.now) }
+{
+    is_same_pair(one, other, 0) && is_same_pair(one, other, other.len() - 2)
 }
 
 // Whether two bytes from a place on are the same.

@@ -10,7 +10,7 @@ pub struct SharedPrefix {
     pub(crate) size: usize,
 }
 
-/// None of them.
+/// None of the names, and no byte.
 pub(crate) const NOTHING_SHARED: SharedPrefix = SharedPrefix { count: 0, size: 0 };
 
 /// How far the text begins with the names, where that is known of another text, with which it shares its first bytes: these are not
@@ -34,7 +34,7 @@ pub(crate) fn shared_prefix_in(
     go_on(names, text, known)
 }
 
-// As many of the first names as take no more bytes than that.
+// As many of the first names as take at most so many bytes.
 fn within(names: &[&[u8]], most: usize, bytes: usize) -> SharedPrefix
     requires { most ≤ length names.now }
     ensures count { result.count ≤ most }

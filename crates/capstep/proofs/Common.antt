@@ -45,7 +45,7 @@ pub use Rattle.capstep.proofs.KeptSets.{found-stays, kept-as, kept-nobody, kept-
 pub use Rattle.capstep.proofs.Renewed.{found-contains}
 pub use Rattle.capstep.proofs.Walked.{second_true}
 pub use Rattle.capstep.specs.Finishing.{clients_of, entry_by, entry_under, numbered_as, told_at, told_by}
-pub use Rattle.capstep.specs.Known.{AreKnown, KnownAnew, ClientViews, OthersHaveAll, StillKnown, is_still_known, known_anew, known_in, known_of, permitted_of}
+pub use Rattle.capstep.specs.Known.{AreKnown, ClientViews, KnownAnew, OthersHaveAll, StillKnown, is_still_known, known_anew, known_in, known_of, permitted_of}
 pub use Rattle.capstep.specs.Reach.{AreWalked, Covers, Reaches, Widens}
 pub use Rattle.capstep.specs.Served.{is_rename}
 pub use Rattle.step_model.specs.declared.event.Event.{Event}

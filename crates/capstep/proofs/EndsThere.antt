@@ -8,8 +8,8 @@ use Rattle.std.specs.Ordering.{nat_cmp}
 use Rattle.std.specs.FinMap as finite
 use Rattle.capbits.specs.Caps.{has}
 use Rattle.lockmachine.proofs.Told.{told-same}
-use Rattle.capstep.proofs.Common.{AreKnown, Cap, Caps, Entry, EntryRow, Holder, IsSound, IsSoundEntry, IsSubset, IsTable, IsTree, IssuesExactly, KnownAnew}
-use Rattle.capstep.proofs.Common.{ClientViews, Made, Part, Scene, State, Table, due, entry_at, entry_of, find-map, find_passes, finished, forget, has-union}
+use Rattle.capstep.proofs.Common.{AreKnown, Cap, Caps, ClientViews, Entry, EntryRow, Holder, IsSound, IsSoundEntry, IsSubset, IsTable, IsTree, IssuesExactly}
+use Rattle.capstep.proofs.Common.{KnownAnew, Made, Part, Scene, State, Table, due, entry_at, entry_of, find-map, find_passes, finished, forget, has-union}
 use Rattle.capstep.proofs.Common.{is_gone, is_in_use, is_of_inode, is_row_of, issue, issue_row, known_anew, known_of, lock_at, lock_in, meet, number_row}
 use Rattle.capstep.proofs.Common.{or_inside, permitted, permitted-kept, presence, remade, renumbered, row_found, same, same-is, still_known, told_set}
 use Rattle.capstep.proofs.SoundEnd.{each-alike, kept_by, same-issue_row, same-renumbered}

@@ -10,7 +10,7 @@ use Rattle.captable.specs.Kept.{KeptRow, is_kept_of, keeping, kept_more, kept_wi
 use Rattle.captable.specs.declared.entry.ClientView.{ClientView}
 use Rattle.capstep.proofs.Beside.{keeping-other, keeping-own}
 use Rattle.capstep.specs.Known.{sets_of}
-use Rattle.capstep.proofs.Common.{AreKnown, ArePermitted, Caps, Entry, Holder, IsSound, IsSoundEntry, IsSubset, ClientViews, OpenMode, OthersHaveAll, P, Scene}
+use Rattle.capstep.proofs.Common.{AreKnown, ArePermitted, Caps, ClientViews, Entry, Holder, IsSound, IsSoundEntry, IsSubset, OpenMode, OthersHaveAll, P, Scene}
 use Rattle.capstep.proofs.Common.{State, StillKnown, Table, caps_in, changed, entry_at, entry_at-opened, entry_at-opened_other, entry_at-without, entry_of}
 use Rattle.capstep.proofs.Common.{find-filter_kept, has-caps_in, has-minus, has-none, has-union, is_row_of, is_still_known, known_of, new_entry, opened}
 use Rattle.capstep.proofs.Common.{opening_wants, permitted, permitted_of, permitting, revoked_of, row_of-entry, same, same-is, same_equiv, union, wanting}

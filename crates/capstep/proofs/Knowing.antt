@@ -5,7 +5,7 @@ use Rattle.std.specs.Option.{option_map_or, unwrap_or}
 use Rattle.capbits.specs.Caps.{has}
 use Rattle.capbits.specs.Sets.{no_caps}
 use Rattle.capstep.proofs.KeptSets.{made-there}
-use Rattle.capstep.proofs.Common.{AreKnown, Caps, Entry, EntryRow, Holder, IsSubset, IsTable, ClientViews, Scene, StillKnown, Table, changed_where, entry_at}
+use Rattle.capstep.proofs.Common.{AreKnown, Caps, ClientViews, Entry, EntryRow, Holder, IsSubset, IsTable, Scene, StillKnown, Table, changed_where, entry_at}
 use Rattle.capstep.proofs.Common.{entry_of, has-against, has-meet, has-minus, has-none, has-told, is_revoked, is_still_known, known_in, known_of, meet, minus}
 use Rattle.capstep.proofs.Common.{remade, revoked_of, row_found, same_caps, told-less, told_set}
 use Rattle.capstep.proofs.Revoking.{revoked-found}

@@ -10,7 +10,7 @@ use Rattle.capbits.specs.Sets.{no_caps}
 use Rattle.locktable.specs.Targets.{target_of}
 use Rattle.locktable.specs.declared.targets.Head.TheVariants.{Empty}
 use Rattle.lockmachine.specs.Scene.{rows_on, wanted}
-use Rattle.capstep.proofs.Common.{AreKnown, EntryRow, IsInPlace, IsQuiet, IsSound, IsSoundEntry, IsTable, ClientViews, LockState, Node, Nodes, Part, Scene}
+use Rattle.capstep.proofs.Common.{AreKnown, ClientViews, EntryRow, IsInPlace, IsQuiet, IsSound, IsSoundEntry, IsTable, LockState, Node, Nodes, Part, Scene}
 use Rattle.capstep.proofs.Common.{SessionTable, Stable, StableState, State, StateMap, Sync, against, finished, first_for, has_session, in_sync, is_open}
 use Rattle.capstep.proofs.Common.{is_row_of, lock_at, lock_in, minus, row_of-entry, wants, wants-kept, with_scene}
 use Rattle.capstep.proofs.SoundEnd.{same-finished}

@@ -13,7 +13,7 @@ use Rattle.std.specs.List.{AllByRecursion, IsDistinct, find, list_any}
 use Rattle.std.specs.Ordering.{eq_by_cmp, nat_cmp}
 use Rattle.std.specs.FinSet as set
 use Rattle.captable.proofs.Tables.{IsTable-rows}
-use Rattle.capstep.proofs.Common.{Caps, Entry, EntryRow, Holder, Ino, InoSet, IsListOf, IsTable, KnownAnew, ClientViews, Table, changed_where, entries_on}
+use Rattle.capstep.proofs.Common.{Caps, ClientViews, Entry, EntryRow, Holder, Ino, InoSet, IsListOf, IsTable, KnownAnew, Table, changed_where, entries_on}
 use Rattle.capstep.proofs.Common.{found-stays, is_of_inode, is_row_of, kept-nobody, kept-not, kept-same, kept-then, known_of, remade, same_holder}
 
 -- the same number

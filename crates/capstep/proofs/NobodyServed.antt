@@ -5,7 +5,7 @@ use Rattle.std.specs.Option.{unwrap_or}
 use Rattle.std.specs.FinMap as map
 use Rattle.capbits.specs.Sets.{no_caps}
 use Rattle.capstep.specs.Finishing.{told_under}
-use Rattle.capstep.proofs.Common.{Began, Caps, Ended, EntryRow, Gathered, Holder, Ino, IsSubset, IsTree, ClientViews, LockMap, Made, MakesAll, OthersHaveAll}
+use Rattle.capstep.proofs.Common.{Began, Caps, ClientViews, Ended, EntryRow, Gathered, Holder, Ino, IsSubset, IsTree, LockMap, Made, MakesAll, OthersHaveAll}
 use Rattle.capstep.proofs.Common.{Scene, Served, SessionTable, Table, changed_where, due_under, ended_in, has_session, is_row_of, is_sized, known_anew}
 use Rattle.capstep.proofs.Common.{known_in, known_of, owed, permitted, permitted-kept, permitted_of, row_of-entry, sized_in, sizes_owed, was-there}
 use Rattle.capstep.proofs.LeftAlone.{found-contains}

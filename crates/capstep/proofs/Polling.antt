@@ -10,7 +10,7 @@ use Rattle.std.specs.Option.{unwrap_or}
 use Rattle.std.specs.FinMap as finite
 use Rattle.capbits.specs.Sets.{no_caps}
 use Rattle.step_model.specs.Messages.{size_message}
-use Rattle.capstep.proofs.Common.{AreKnown, Caps, ClientId, Ended, Entry, EntryRow, Ino, IsTable, ClientViews, Message, Scene, State, Table, after_messages}
+use Rattle.capstep.proofs.Common.{AreKnown, Caps, ClientId, ClientViews, Ended, Entry, EntryRow, Ino, IsTable, Message, Scene, State, Table, after_messages}
 use Rattle.capstep.proofs.Common.{changed, changed_where, end_messages, entry_at, entry_of, first_messages, fold-changed_by, holder, is_among, is_caps_of}
 use Rattle.capstep.proofs.Common.{is_due, is_of_client, is_recall_of, is_size_of, known_in, remade, row_found, row_messages, told_set, with_asked}
 use Rattle.capstep.proofs.Common.{with_size_due, with_told}

@@ -19,7 +19,7 @@ use Rattle.lockmachine.proofs.PolicyElsewhere.{alike-itself, permitted-kept}
 use Rattle.step_model.specs.Changing.{tree_changed}
 use Rattle.step_model.specs.NotedChanges.{sets_attr}
 use Rattle.lockmachine.specs.declared.request.Change.TheVariants.{RemoveXattr, Set, SetXattr}
-use Rattle.capstep.proofs.CommonActs.{ArePermitted, Caps, Change, Entry, EntryRow, Holder, InoSet, IsAlike, Nodes, Outcome, Request, Scene, ClientView, Table}
+use Rattle.capstep.proofs.CommonActs.{ArePermitted, Caps, Change, ClientView, Entry, EntryRow, Holder, InoSet, IsAlike, Nodes, Outcome, Request, Scene, Table}
 use Rattle.capstep.proofs.CommonActs.{among-filter, entry_at, holders-filter, holders_of_rows, is_among, is_row_of, no_sets, permitted, row_of-entry, same}
 use Rattle.capstep.proofs.Beside.{entry-among}
 use Rattle.capstep.proofs.Walked.{second_true}

@@ -7,8 +7,8 @@ use Rattle.std.specs.List.{find, list_any}
 use Rattle.std.specs.Option.{option_map_or}
 use Rattle.std.specs.FinMap as finite
 use Rattle.capbits.specs.Caps.{has}
-use Rattle.capstep.proofs.Common.{AreGiven, AreKnown, Caps, Entry, EntryRow, Fc, Holder, Ino, IsLockMap, IsSound, IsTable, IsTree, IssuesExactly, KnownAnew}
-use Rattle.capstep.proofs.Common.{ClientViews, Made, Scene, State, Table, changed_where, find-map, finished, forget, is_gone, is_in_use, is_of_inode, is_row_of}
+use Rattle.capstep.proofs.Common.{AreGiven, AreKnown, Caps, ClientViews, Entry, EntryRow, Fc, Holder, Ino, IsLockMap, IsSound, IsTable, IsTree, IssuesExactly}
+use Rattle.capstep.proofs.Common.{KnownAnew, Made, Scene, State, Table, changed_where, find-map, finished, forget, is_gone, is_in_use, is_of_inode, is_row_of}
 use Rattle.capstep.proofs.Common.{is_sized, issue, issue_row, known_of, meet, number, number_row, owed, presence, remade, renumbered, row_found, sized_in}
 use Rattle.capstep.proofs.Common.{sizes_owed, state_at_end, still_known, told_set, with_size_due}
 use Rattle.capstep.proofs.EndsThere.{affected-ends, affected-issues, affected-known, settled-table}

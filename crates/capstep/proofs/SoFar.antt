@@ -15,7 +15,7 @@ use Rattle.lockmachine.proofs.Waiting.{waits-less-at, waits-wider}
 use Rattle.lockmachine.specs.Moves.{IsQuietOutside, is_servable, may_begin}
 use Rattle.lockmachine.specs.Cursors.{NobodyElsewhere, NothingEnds}
 use Rattle.capstep.proofs.Among.{none-besides}
-use Rattle.capstep.proofs.Common.{Began, Ended, EntryRow, Gathered, Ino, InoSet, IsAlike, IsLockMap, IsTree, IsCursorAt, Made, Makes, MakesAll, Nodes, Part}
+use Rattle.capstep.proofs.Common.{Began, Ended, EntryRow, Gathered, Ino, InoSet, IsAlike, IsCursorAt, IsLockMap, IsTree, Made, Makes, MakesAll, Nodes, Part}
 use Rattle.capstep.proofs.Common.{Reaches, Request, Scene, Serve, Served, Settled, Ticket, WaitAt, Widens, alike-itself, contains-filter, ended_by, ended_in}
 use Rattle.capstep.proofs.Common.{ends_not, entries_on, first_for, first_move, is_numbered, is_of_inode, is_rename, is_within, lock_at, part_of_operation}
 use Rattle.capstep.proofs.Common.{quiet-waits-at, request_at, served-at, sized_by, sized_in, tree_after, without_request}
@@ -25,7 +25,7 @@ use Rattle.capstep.proofs.SameOff.{off-refl, off-trans, off-wider}
 use Rattle.capstep.proofs.Sweeping.{still-kept}
 use Rattle.capstep.specs.Affected.{IsSameOff}
 use Rattle.capstep.specs.Serves.{Serves, SettlesWith}
-use Rattle.capstep.specs.Sweep.{AreStill, IsFirstPlace, IsSwept, IsCursorAtTheLeast, StandsAt, changed_alone}
+use Rattle.capstep.specs.Sweep.{AreStill, IsCursorAtTheLeast, IsFirstPlace, IsSwept, StandsAt, changed_alone}
 use Rattle.capstep.specs.declared.settle.SweepPlace.{SweepPlace}
 
 -- these moves were made and these requests ended; nothing changed but at the inodes that are affected, among which are those of the

@@ -12,7 +12,7 @@ use Rattle.std.specs.FinSet as set
 use Rattle.lockmachine.proofs.Cursors.{cursor-passes, cursor-rests}
 use Rattle.lockmachine.specs.Runs.{MoveLittle}
 use Rattle.lockmachine.specs.Cursors.{IsDoneAt}
-use Rattle.capstep.proofs.Common.{A, ChangesLocksOf, F, Ino, InoSet, InodeLocks, IsNext, IsCursorAt, L, LockMap, Part, Scene, Settled, Table, WaitAt, X}
+use Rattle.capstep.proofs.Common.{A, ChangesLocksOf, F, Ino, InoSet, InodeLocks, IsCursorAt, IsNext, L, LockMap, Part, Scene, Settled, Table, WaitAt, X}
 use Rattle.capstep.proofs.Common.{ended_by, ended_in, first_move, lock_at, lock_in, may_end_by, same_key, waits-kept-at}
 use Rattle.capstep.proofs.Moved.{as_made, makes-append}
 use Rattle.capstep.specs.Sweep.{AreStill, IsSwept}

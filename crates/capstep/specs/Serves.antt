@@ -9,7 +9,7 @@ use Rattle.step_model.specs.Changing.{tree_after}
 use Rattle.step_model.specs.Finish.{sizes_owed}
 use Rattle.step_model.specs.Serving.{MayEndAs}
 use Rattle.step_model.specs.Settle.{Made, ended_in, sized_in}
-use Rattle.capstep.specs.Known.{KnownAnew, ClientViews, known_in, permitted_of}
+use Rattle.capstep.specs.Known.{ClientViews, KnownAnew, known_in, permitted_of}
 use Rattle.lockmachine.specs.Locks.{request_at, without_request}
 use Rattle.lockmachine.specs.Scene.{Scene}
 use Rattle.lockmachine.specs.declared.request.Request.{Request}

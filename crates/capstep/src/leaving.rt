@@ -1,4 +1,4 @@
-//! What goes with a client's session where it ends.
+//! What is taken out with a client whose session ends.
 ghost use Rattle.std.specs.Prelude.{true, None, Some, ◌≡◌, ◌+◌, ◌≤◌, ◌++◌, length, vec_capacity};
 ghost use Rattle.std.specs.Prelude.{map as each};
 ghost use Rattle.captable.specs.Calls.{without_client};

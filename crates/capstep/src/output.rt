@@ -1,4 +1,4 @@
-//! The requests that a step ends.
+//! What a step puts out besides its reply: the requests that it ends, and the changes that readers are to see.
 ghost use Rattle.std.specs.List.{filter_map};
 ghost use Rattle.std.specs.Prelude.{◌≡◌, ◌+◌, ◌≤◌, ◌<◌, ◌++◌, [], ◌∷◌, None, length, OnOk, vec_capacity};
 ghost use Rattle.capstep.specs.Begun.{HaveRoomFor};

@@ -1,11 +1,11 @@
-//! What a step says.
+//! The reply of a step.
 ghost use Rattle.std.specs.Prelude.{◌≡◌, false, []};
 ghost use Rattle.step_model.specs.Replies.{has_list};
 
 use std::alloc::Global;
 use step_model::{EndedList, Reply, copy_of_reply};
 
-/// What a step says: its reply, the same once more for the history, and the requests of earlier steps that it ended.
+/// The reply of a step, a copy of it for the history, and the requests of earlier steps that the step ended.
 #[derive(Drop)]
 pub struct StepReply {
     pub reply: Reply,

@@ -241,7 +241,7 @@ none-listed t (k ∷ ks) none key listed due = by_node (node_at t k) refl (λ re
         let o = by_due n (is_due (row_of n)) refl none in
         by_key (nat_eq key k) refl listed (λ same. let out : is_due_at t key ≡ false = ap (λ o. option_map_or (λ (node : Node Slot). is_due_entry node.value.entry) o false) (here same ∙ at) ∙ o.0 in absurd (cc)) (rest o.1)
 
--- the end is a quiet place of it
+-- none of it is due before the end
 pub none_due-uncounted : (t : Lists Slot) (client : ClientId) (rows : List EntryRow) → map row_of (nodes_in t (OfClient client)) ≡ filter (is_of_client client) rows → due_count client rows ≡ 0 → NoneDueBefore t client None
 none_due-uncounted t client rows own none =
     let nothing : filter is_due (map row_of (nodes_in t (OfClient client))) ≡ [] = ap (filter is_due) own ∙ nil_from_length (filter is_due (filter (is_of_client client) rows)) none in

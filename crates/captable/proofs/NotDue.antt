@@ -39,7 +39,7 @@ changed-place f (Some was) place e = (was, refl, let is : f was ≡ place = cc i
 
 -- ---- another place
 
--- one client has another place, which is quiet
+-- one client has another place, before which none is due
 pub none_due-put : (places places' : ClientId → Option (Option ℕ)) (t : Lists Slot) (client : ClientId) (at : Option ℕ)
     → ((q : ClientId) → places' q ≡ cond (same_client client q) (option_map (λ _. at) (places q)) (places q)) → NoneDueBefore t client at → NoneDueBeforeAny t places → NoneDueBeforeAny t places'
 none_due-put places places' t client at updates own all q place e = by_test (same_client client q) refl (sym (updates q) ∙ e)

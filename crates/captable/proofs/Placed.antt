@@ -34,7 +34,7 @@ has-more : (ks : List ℕ) (key : ℕ) → has_first (ks ++ key ∷ []) ≡ true
 has-more [] key = refl
 has-more (k ∷ ks) key = refl
 
--- the end is quiet where there is no key
+-- none is due before the end where there is no key
 pub none_due-end : (ks : List ℕ) (due : ℕ → Bool) → false ≡ has_first ks → NoneDueIn ks due None
 none_due-end [] due first = record { placed = tt; later = λ key there is. there }
 none_due-end (k ∷ ks) due first = absurd (cc)
@@ -78,7 +78,7 @@ placed-same t places places' same all q = ap is_some (same q) ∙ all q
 
 module _ (t : Lists Slot) (client : ClientId) (places places' : ClientId → Option (Option ℕ))
     (updates : (q : ClientId) → places' q ≡ cond (same_client client q) (begun_at None (places q)) (places q)) where
-  -- whose client's place is quiet: it is the one that it had, or the end of an empty list
+  -- before whose client's place none is due: it is the one that it had, or the end of an empty list
   pub none_due-begun : ArePlaced t places → NoneDueBeforeAny t places → NoneDueBeforeAny t places'
   none_due-begun placed all q place e = by_test (same_client client q) (sym (updates q) ∙ e)
     where

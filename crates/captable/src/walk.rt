@@ -11,7 +11,7 @@ use cap_arena::TripleLists;
 use capbits::{ClientId, Ino};
 use std::marker::Model;
 
-// Whose entries are sought.
+// Over whose entries a walk goes.
 #[derive(Clone, Copy)]
 pub(crate) enum WalkOver {
     Client(ClientId),

@@ -2,7 +2,7 @@
 use Rattle.std.proofs.Common.{◌≡◌, ℕ, ◌+◌, ◌<◌, ◌≤◌, List, [], ◌∷◌, ◌++◌, length, get_or, refl, sym, ap, ◌∙◌, arith}
 use Rattle.std.specs.List.{remove, sum_by}
 use Rattle.std.proofs.lemmas.List.Sums.{sum_by-cons, sum_by_push}
-use Rattle.snapshot.specs.Passes.{AllNew, PassState}
+use Rattle.capserver.specs.Passes.{AllNew, PassState}
 
 none_called : (n : ℕ) (ps : List PassState) → AllNew n ps → sum_by (λ p. p.calls) ps ≡ 0
 none_called n [] new = refl

@@ -1,13 +1,13 @@
 //! The calls of a plan, each client's by a thread and a pass of its own.
 ghost use Rattle.std.specs.Prelude.{◌≡◌, ◌≤◌, ◌+◌, length, map, reverse, vec_len, IfOk, IfErr, IsTrue};
 ghost use Rattle.std.specs.List.{sum_by};
-ghost use Rattle.snapshot.specs.Passes.{AllNew};
+ghost use Rattle.capserver.specs.Passes.{AllNew};
 ghost use Rattle.capscript.specs.Jobs.{event_count, work_of};
 ghost use Rattle.cli.specs.Served.{IsMissing};
 
 use capscript::{Job, Plan, ServeFault};
-use capserver::{CapServer, Gate};
-use snapshot::{Pass, Server};
+use capserver::{CapServer, Gate, Pass};
+use snapshot::Server;
 use std::alloc::{AllocError, Global};
 use std::sync::Wait;
 use std::thread::{Promise, PromisedHandle, Scope, Threads, scope, scope_env};

@@ -117,9 +117,7 @@ pub fn serve_plan<T: Threads + Wait + Sync, G: Gate + Send + Sync>(
 {
     let (fs, tree) = file_system(alloc)?;
     let opening = Opening::new(alloc, fs, tree, MAX_ROWS)?;
-    // One pass more than there are clients.
-    let count = plan.jobs.len() as u32 + 1;
-    let core = served::<Brand, G, T>(rt, alloc, opening, Blank::new(32), count, gate, plan)?;
+    let core = served::<Brand, G, T>(rt, alloc, opening, Blank::new(32), gate, plan)?;
     Ok(core)
 }
 
@@ -128,18 +126,19 @@ fn served<L: Server + Send + Sync, G: Gate + Send + Sync, T: Threads + Wait + Sy
     alloc: Global,
     opening: Opening,
     blank: Blank,
-    count: u32,
     gate: G,
     plan: Plan,
 ) -> Result<Core, ServeFault>
     requires opening { opening ≡ opened L.opening L.max_rows L.history L.tally }
     requires name { blank.name ≡ L.name }
     requires parts { (blank.parts ≡ L.parts) × (L.parts ≡ 32) }
-    requires many { count ≡ vec_len plan.jobs + 1 }
+    requires few { vec_len plan.jobs ≤ 31 }
     ensures legal { IfOk result (λ core. IsLegal L.opening core.rows core.state) }
     ensures counted { IfOk result (λ core. length core.rows ≡ event_count (work_of plan)) }
     ensures err { IfErr result (IsCutShort (event_count (work_of plan))) }
 {
+    // One pass more than there are clients.
+    let count = plan.jobs.len() as u32 + 1;
     let Ok((server, passes)) = CapServer::<G, L>::start(rt, alloc, opening, blank, count, gate)
     else {
         return Err(ServeFault::from(Stop::NoMemory));

@@ -16,7 +16,7 @@ use std::io::{Read, Write};
 
 /// What `audit` is asked.
 pub struct AuditArgs {
-    /// How is told what is found.
+    /// In which detail and shape the findings are written.
     pub manner: Manner,
     /// The name of the file system.
     pub fs: Vec<u8>,
@@ -43,11 +43,11 @@ impl Drop for AuditArgs {
 
 /// The names of the files in which the texts of a cluster stand.
 pub struct ClusterFiles {
-    /// That of the auth list.
+    /// The name of the file of the auth list.
     pub auth: Vec<u8>,
-    /// That of the sessions.
+    /// The name of the file of the sessions.
     pub sessions: Vec<u8>,
-    /// That of the tree, or `-` for standard input.
+    /// The name of the file of the tree, or `-` for standard input.
     pub tree: Vec<u8>,
 }
 

@@ -60,8 +60,8 @@ struct Matched<'m, 'a> {
 }
 
 impl Matched<'_, '_> {
-    ghost use Rattle.cli_queries.specs.Matched.{AreValues, IsAttr, IsAuditArgs, IsFlag, IsForm, IsGiven, IsExplainArgs, IsManner, IsOption, IsShape, IsSource};
-    ghost use Rattle.cli_queries.specs.Matched.{IsWhoArgs, IsTelling, IsValue, words_of};
+    ghost use Rattle.cli_queries.specs.Matched.{AreValues, IsAttr, IsAuditArgs, IsExplainArgs, IsFlag, IsForm, IsGiven, IsManner, IsOption, IsShape, IsSource};
+    ghost use Rattle.cli_queries.specs.Matched.{IsTelling, IsValue, IsWhoArgs, words_of};
 
     fn explain_args(&self) -> Result<ExplainArgs, ErrorKind>
         ensures { IfOk result (IsExplainArgs (words_of self.now.matches.now)) }

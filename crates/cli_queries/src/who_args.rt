@@ -17,7 +17,7 @@ pub struct WhoArgs {
     pub values: AttemptValues,
     /// The name of the file of the auth list, or `-` for standard input.
     pub auth: Vec<u8>,
-    /// How it is told of each client.
+    /// How each client is written.
     pub telling: Telling,
 }
 

@@ -24,8 +24,8 @@ use Rattle.cluster_audit.specs.Told.{AllTellTheSame, AreCounts, HasNumbers, IsOn
 use Rattle.cluster_audit.specs.Told as told
 use Rattle.cluster_audit.proofs.Words.{before_why, is_digit, no_number, number, one_caps, one_revoked, one_why}
 use Rattle.cluster_audit.proofs.Spaces.{behind, past_quoted}
-use Rattle.cluster_audit.proofs.Openings.{kind_of, none, of_conflict_text, of_group, of_held, of_nothing, of_pathless, of_bad_caps, of_summary, of_unlisted, of_unnamed}
-use Rattle.cluster_audit.proofs.Openings.{of_unread, on_number, on_path, opening, opening_path, place_is, plain_fault}
+use Rattle.cluster_audit.proofs.Openings.{kind_of, none, of_bad_caps, of_conflict_text, of_group, of_held, of_nothing, of_pathless, of_summary, of_unlisted}
+use Rattle.cluster_audit.proofs.Openings.{of_unnamed, of_unread, on_number, on_path, opening, opening_path, place_is, plain_fault}
 
 -- ---- a line and what stands behind it, part by part
 

@@ -30,7 +30,7 @@ use Rattle.cluster_audit.specs.declared.notes.Manner.{Manner}
 use Rattle.cluster_audit.specs.declared.notes.Notes.{Notes}
 use Rattle.cluster_audit.specs.Order.{AreCounted, AreInOrder}
 use Rattle.cluster_audit.specs.Summary.{counts_of}
-use Rattle.cluster_audit.specs.Shaped.{conflict_in, counts_in, found_in, pathless_in, bad_caps_in, unlisted_in, unnamed_in, unread_in}
+use Rattle.cluster_audit.specs.Shaped.{bad_caps_in, conflict_in, counts_in, found_in, pathless_in, unlisted_in, unnamed_in, unread_in}
 
 -- ---- who it is
 

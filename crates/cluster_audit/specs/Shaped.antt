@@ -13,8 +13,8 @@ use Rattle.cluster_audit.specs.declared.notes.Detail.{Detail}
 use Rattle.cluster_audit.specs.declared.notes.Detail.TheVariants.{Each, Groups}
 use Rattle.cluster_audit.specs.declared.notes.Manner.{Manner}
 use Rattle.cluster_audit.specs.declared.summary.Counts.{Counts}
-use Rattle.cluster_audit.specs.Lines.{conflict_line, counts_line, group_line, held_line, pathless_line, bad_caps_line, unlisted_line, unnamed_line}
-use Rattle.cluster_audit.specs.Objects.{conflict_object, counts_object, found_object, group_object, pathless_value, bad_caps_value, unlisted_value}
+use Rattle.cluster_audit.specs.Lines.{bad_caps_line, conflict_line, counts_line, group_line, held_line, pathless_line, unlisted_line, unnamed_line}
+use Rattle.cluster_audit.specs.Objects.{bad_caps_value, conflict_object, counts_object, found_object, group_object, pathless_value, unlisted_value}
 use Rattle.cluster_audit.specs.Objects.{unnamed_value, unread_value}
 
 -- the line, or the object in its place

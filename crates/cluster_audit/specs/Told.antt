@@ -14,7 +14,8 @@ use Rattle.capexplain.specs.declared.shape.Shape.TheVariants.{Lines}
 use Rattle.capexplain.specs.Shapes.{nothing_in}
 use Rattle.cluster_audit.specs.declared.notes.Detail.TheVariants.{Each, Groups}
 use Rattle.cluster_audit.specs.declared.summary.Counts.{Counts}
-use Rattle.cluster_audit.specs.Lines.{conflict_text, conflict_line, counts_line, group_text, held_line, pathless_line, bad_caps_line, unlisted_line, unnamed_line}
+use Rattle.cluster_audit.specs.Lines.{bad_caps_line, conflict_line, conflict_text, counts_line, group_text, held_line, pathless_line, unlisted_line}
+use Rattle.cluster_audit.specs.Lines.{unnamed_line}
 use Rattle.cluster_audit.specs.Shaped.{counted_in}
 
 -- a line of an audit, by what its text is made of

@@ -1,7 +1,7 @@
 //! From the clients and the tree of a cluster to what is held and may not be.
 ghost use Rattle.std.specs.Prelude.{IfOk, OnOk};
 ghost use Rattle.ceph_input.specs.Dump.{dump};
-ghost use Rattle.cluster_audit.specs.Audited.{Adds, AreLines, AreSaid, IsReport, IsTold, SaysOf, SaysOfInode, clients, clients_of};
+ghost use Rattle.cluster_audit.specs.Audited.{Adds, AreLines, AreSaid, IsReport, IsTold, SaysOf, SaysOfInode, clients_of};
 
 use crate::clients::ClusterClients;
 use crate::holders::{note_holder, print_pathless_holders};
@@ -13,7 +13,7 @@ use crate::summary::summary_line;
 use capbits::print_str;
 use capexplain::Shape;
 use capspec::{FsName, TreePath};
-use ceph_input::{AuthList, Holder, Session, Tree, TreeInode};
+use ceph_input::{Holder, Tree, TreeInode};
 use dense_map::Numbered;
 use std::alloc::{AllocError, Global};
 
@@ -30,23 +30,14 @@ pub fn audit_report(
 ) -> Result<Report, AllocError>
     ensures { IfOk result (λ report. IsReport fs.now (clients_of manner clients.now) (dump tree.now.inodes.items tree.now.paths) report.text.items report.found) }
 {
-    let sessions = clients.sessions();
     let inodes = tree.inodes.as_slice();
-    let notes = note_inodes(
-        alloc,
-        manner,
-        fs,
-        clients.auth(),
-        sessions,
-        inodes,
-        &tree.paths,
-    )?;
-    let conflicts = conflict_lines(alloc, manner, sessions, inodes, &tree.paths)?;
+    let notes = note_inodes(alloc, manner, fs, clients, inodes, &tree.paths)?;
+    let conflicts = conflict_lines(alloc, manner, clients, inodes, &tree.paths)?;
     let lines = all_lines(alloc, manner, &notes, conflicts.as_slice())?;
     let last = summary_line(
         alloc,
         manner.shape,
-        sessions,
+        clients.sessions(),
         inodes,
         &notes,
         conflicts.as_slice(),
@@ -92,54 +83,49 @@ fn note_inodes(
     alloc: Global,
     manner: Manner,
     fs: &FsName,
-    auth: &AuthList,
-    sessions: &[Session],
+    clients: &ClusterClients,
     inodes: &[TreeInode],
     paths: &Numbered<TreePath>,
 ) -> Result<Notes, AllocError>
-    ensures { IfOk result (λ notes. AreSaid (SaysOfInode fs.now (clients manner auth.now sessions.now) paths.now) inodes.now notes.found.items notes.unknown.items) }
+    ensures { IfOk result (λ notes. AreSaid (SaysOfInode fs.now (clients_of manner clients.now) paths.now) inodes.now notes.found.items notes.unknown.items) }
 {
     let mut notes = Notes::none(alloc);
     for inode in inodes {
-        note_inode(alloc, manner, &mut notes, fs, auth, sessions, paths, inode)?;
+        note_inode(manner, &mut notes, fs, clients, paths, inode)?;
     }
     Ok(notes)
 }
 
 // Appends what is said of an inode.
 fn note_inode(
-    alloc: Global,
     manner: Manner,
     notes: &mut Notes,
     fs: &FsName,
-    auth: &AuthList,
-    sessions: &[Session],
+    clients: &ClusterClients,
     paths: &Numbered<TreePath>,
     inode: &TreeInode,
 ) -> Result<(), AllocError>
-    ensures { OnOk result (Adds (SaysOfInode fs.now (clients manner auth.now sessions.now) paths.now inode.now) notes.old notes.new) }
+    ensures { OnOk result (Adds (SaysOfInode fs.now (clients_of manner clients.now) paths.now inode.now) notes.old notes.new) }
 {
     let Some(path) = paths.get(inode.number()) else {
         return print_pathless_holders(
             &mut notes.unknown,
             manner.shape,
-            sessions,
+            clients,
             inode.number(),
             inode.holders(),
         );
     };
-    let names = path.names(alloc)?;
+    let names = path.names(*notes.unknown.allocator())?;
     let place = Inode {
         fs,
         path: names.as_slice(),
         attr: inode.attr(),
     };
     note_holders(
-        alloc,
         manner,
         notes,
-        auth,
-        sessions,
+        clients,
         inode.number(),
         &place,
         inode.holders(),
@@ -148,19 +134,17 @@ fn note_inode(
 
 // Appends what is said of those who hold something of the inode of this number.
 fn note_holders(
-    alloc: Global,
     manner: Manner,
     notes: &mut Notes,
-    auth: &AuthList,
-    sessions: &[Session],
+    clients: &ClusterClients,
     number: u64,
     inode: &Inode,
     holders: &[Holder],
 ) -> Result<(), AllocError>
-    ensures { OnOk result (Adds (AreSaid (SaysOf (clients manner auth.now sessions.now) number inode.now) holders.now) notes.old notes.new) }
+    ensures { OnOk result (Adds (AreSaid (SaysOf (clients_of manner clients.now) number inode.now) holders.now) notes.old notes.new) }
 {
     for holder in holders {
-        note_holder(alloc, manner, notes, auth, sessions, number, inode, holder)?;
+        note_holder(manner, notes, clients, number, inode, holder)?;
     }
     Ok(())
 }

@@ -1,7 +1,9 @@
 //! Who the clients of a cluster are.
+ghost use Rattle.std.specs.Prelude.{◌≡◌, option_map};
+ghost use Rattle.cluster_audit.specs.Audited.{session_of};
 
 use crate::fault::HeldFault;
-use ceph_input::{AuthList, Session, read_auth, read_sessions};
+use ceph_input::{AuthList, Entity, Session, read_auth, read_sessions};
 use std::alloc::Global;
 use std::marker::Model;
 
@@ -30,8 +32,8 @@ impl Model for ClusterClients {
 }
 
 impl ClusterClients {
-    ghost use Rattle.std.specs.Prelude.{◌≡◌, IfOk, IfErr};
-    ghost use Rattle.cluster_audit.specs.Audited.{AreClients, IsFaultOfClients};
+    ghost use Rattle.std.specs.Prelude.{IfOk, IfErr, find, bytes_eq};
+    ghost use Rattle.cluster_audit.specs.Audited.{AreClients, IsFaultOfClients, name_of};
 
     /// The clients that two texts mean: the auth list, as `ceph auth ls -f json` prints it, and the sessions, as `ceph tell mds.N
     /// session ls` does. The fault is that of the first text that is none.
@@ -44,17 +46,31 @@ impl ClusterClients {
         Ok(ClusterClients { auth, sessions })
     }
 
-    /// The auth list.
-    pub(crate) fn auth(&self) -> &AuthList
-        ensures { result.now ≡ self.now.entities }
-    {
-        &self.auth
-    }
-
-    /// The sessions, in the order of their text.
+    // The sessions, in the order of their text.
     pub(crate) fn sessions(&self) -> &[Session]
         ensures { result.now ≡ self.now.sessions }
     {
         self.sessions.as_slice()
     }
+
+    // The name that the session of this number tells.
+    pub(crate) fn name_of(&self, session: u64) -> Option<&[u8]>
+        ensures { option_map (λ name. name.now) result ≡ name_of self.now.sessions session }
+    {
+        session_of(self.sessions.as_slice(), session)?.client()
+    }
+
+    // The entry that the auth list has of the client of this name.
+    pub(crate) fn entity_of(&self, name: &[u8]) -> Option<&Entity>
+        ensures { option_map (λ e. e.now) result ≡ find (λ e. bytes_eq e.name name.now) self.now.entities }
+    {
+        self.auth.find(name)
+    }
+}
+
+// The first session of this number.
+fn session_of(sessions: &[Session], number: u64) -> Option<&Session>
+    ensures { option_map (λ s. s.now) result ≡ session_of sessions.now number }
+{
+    sessions.iter().find(|session| session.number() == number)
 }

@@ -1,7 +1,7 @@
 //! Which clients hold together what the table of the locks keeps apart.
 
 ghost use Rattle.std.specs.Prelude.{◌≡◌, ◌++◌, filter_map, IfOk, OnOk};
-ghost use Rattle.cluster_audit.specs.Conflicts.{conflict_of, conflicting, conflicts_of, conflicting_caps};
+ghost use Rattle.cluster_audit.specs.Conflicts.{conflict_of, conflicting, conflicting_caps, conflicts_of};
 
 use capbits::{Cap, CapSet};
 use std::alloc::{AllocError, Global};
@@ -51,7 +51,7 @@ fn push_conflicts(
     Ok(())
 }
 
-// How two holdings conflict, where the rivals of the first are known.
+// How two holdings conflict, where the caps that conflict with those of the first are known.
 fn conflict_of(one: &Holding, conflicting_with_one: CapSet, other: &Holding) -> Option<Conflict>
     requires { conflicting_with_one ≡ conflicting_caps one.now.caps }
     ensures { result ≡ conflict_of one.now other.now }

@@ -1,10 +1,12 @@
 //! What is said of one who holds something of an inode.
-ghost use Rattle.std.specs.Prelude.{◌≡◌, ◌++◌, OnOk, map, option_map};
+ghost use Rattle.std.specs.Prelude.{◌≡◌, ◌++◌, OnOk, map};
 ghost use Rattle.std.specs.List.{flat_map};
 ghost use Rattle.cluster_audit.specs.Shaped.{found_in};
-ghost use Rattle.cluster_audit.specs.Audited.{Adds, IsJudged, IsJudgedBy, SaysOf, clients, name_of, pathless_of, session_of};
+ghost use Rattle.cluster_audit.specs.Audited.{Adds, IsJudged, IsJudgedBy, SaysOf, clients_of, pathless_of};
 
+use crate::clients::ClusterClients;
 use crate::findings::{Finding, beyond};
+use crate::held::{Entry, Held};
 use crate::inode::Inode;
 use crate::lines::{print_group, print_held};
 use crate::notes::{Detail, Manner, Notes};
@@ -12,43 +14,42 @@ use crate::objects::print_found;
 use crate::unjudged::{
     print_bad_caps, print_bad_grants, print_pathless, print_unlisted, print_unnamed,
 };
-use capbits::{CapSet, read_caps};
+use capbits::read_caps;
 use capexplain::Shape;
 use capspec::{Grants, SpecFaultKind, read_grants};
-use ceph_input::{AuthList, Holder, Session};
-use std::alloc::{AllocError, Global};
+use ceph_input::Holder;
+use std::alloc::AllocError;
 
 // Appends what is said of a client that holds something of the inode.
 pub(crate) fn note_holder(
-    alloc: Global,
     manner: Manner,
     notes: &mut Notes,
-    auth: &AuthList,
-    sessions: &[Session],
+    clients: &ClusterClients,
     number: u64,
     inode: &Inode,
     holder: &Holder,
 ) -> Result<(), AllocError>
-    ensures { OnOk result (Adds (SaysOf (clients manner auth.now sessions.now) number inode.now holder.now) notes.old notes.new) }
+    ensures { OnOk result (Adds (SaysOf (clients_of manner clients.now) number inode.now holder.now) notes.old notes.new) }
 {
     let session = holder.client();
-    let Some(client) = name_of(sessions, session) else {
+    let Some(client) = clients.name_of(session) else {
         return print_unnamed(&mut notes.unknown, manner.shape, session);
     };
-    let Some(entity) = auth.find(client) else {
+    let Some(entity) = clients.entity_of(client) else {
         return print_unlisted(&mut notes.unknown, manner.shape, client);
     };
+    let entry = Entry {
+        number,
+        inode,
+        client,
+        holder,
+    };
     match entity.caps() {
-        None => note_judged(
-            manner,
-            notes,
-            number,
-            inode,
-            client,
-            &Grants::none(alloc)?,
-            holder,
-        ),
-        Some(text) => note_by_text(alloc, manner, notes, number, inode, client, holder, text),
+        None => {
+            let none = Grants::none(*notes.unknown.allocator())?;
+            note_judged(manner, notes, &entry, &none)
+        }
+        Some(text) => note_by_text(manner, notes, &entry, text),
     }
 }
 
@@ -56,14 +57,14 @@ pub(crate) fn note_holder(
 pub(crate) fn print_pathless_holders(
     text: &mut Vec<u8>,
     shape: Shape,
-    sessions: &[Session],
+    clients: &ClusterClients,
     number: u64,
     holders: &[Holder],
 ) -> Result<(), AllocError>
-    ensures { OnOk result (text.new.items ≡ text.old.items ++ flat_map (pathless_of shape sessions.now number) holders.now) }
+    ensures { OnOk result (text.new.items ≡ text.old.items ++ flat_map (pathless_of shape clients.now.sessions number) holders.now) }
 {
     for holder in holders {
-        print_pathless_holder(text, shape, sessions, number, holder)?;
+        print_pathless_holder(text, shape, clients, number, holder)?;
     }
     Ok(())
 }
@@ -72,51 +73,33 @@ pub(crate) fn print_pathless_holders(
 fn print_pathless_holder(
     text: &mut Vec<u8>,
     shape: Shape,
-    sessions: &[Session],
+    clients: &ClusterClients,
     number: u64,
     holder: &Holder,
 ) -> Result<(), AllocError>
-    ensures { OnOk result (text.new.items ≡ text.old.items ++ pathless_of shape sessions.now number holder.now) }
+    ensures { OnOk result (text.new.items ≡ text.old.items ++ pathless_of shape clients.now.sessions number holder.now) }
 {
     let session = holder.client();
-    match name_of(sessions, session) {
+    match clients.name_of(session) {
         None => print_unnamed(text, shape, session),
         Some(client) => print_pathless(text, shape, number, client, session, holder.issued()),
     }
 }
 
-// The name that the session of this number tells.
-pub(crate) fn name_of(sessions: &[Session], number: u64) -> Option<&[u8]>
-    ensures { option_map (λ name. name.now) result ≡ name_of sessions.now number }
-{
-    session_of(sessions, number)?.client()
-}
-
-// The first session of this number.
-fn session_of(sessions: &[Session], number: u64) -> Option<&Session>
-    ensures { option_map (λ s. s.now) result ≡ session_of sessions.now number }
-{
-    sessions.iter().find(|session| session.number() == number)
-}
-
 // Appends what is said of a client by the text of its grants.
 fn note_by_text(
-    alloc: Global,
     manner: Manner,
     notes: &mut Notes,
-    number: u64,
-    inode: &Inode,
-    client: &[u8],
-    holder: &Holder,
+    entry: &Entry<'_>,
     text: &[u8],
 ) -> Result<(), AllocError>
-    ensures { OnOk result (Adds (IsJudgedBy manner number inode.now client.now holder.now text.now) notes.old notes.new) }
+    ensures { OnOk result (Adds (IsJudgedBy manner entry.now.number entry.now.inode.now entry.now.client.now entry.now.holder.now text.now) notes.old notes.new) }
 {
-    match read_grants(alloc, text) {
-        Ok(grants) => note_judged(manner, notes, number, inode, client, &grants, holder),
+    match read_grants(*notes.unknown.allocator(), text) {
+        Ok(grants) => note_judged(manner, notes, entry, &grants),
         Err(fault) => match fault.kind {
             SpecFaultKind::NoMemory => Err(AllocError),
-            _ => print_bad_grants(&mut notes.unknown, manner.shape, client, &fault),
+            _ => print_bad_grants(&mut notes.unknown, manner.shape, entry.client, &fault),
         },
     }
 }
@@ -125,14 +108,15 @@ fn note_by_text(
 fn note_judged(
     manner: Manner,
     notes: &mut Notes,
-    number: u64,
-    inode: &Inode,
-    client: &[u8],
+    entry: &Entry<'_>,
     grants: &Grants,
-    holder: &Holder,
 ) -> Result<(), AllocError>
-    ensures { OnOk result (Adds (IsJudged manner number inode.now client.now grants.now holder.now) notes.old notes.new) }
+    ensures { OnOk result (Adds (IsJudged manner entry.now.number entry.now.inode.now entry.now.client.now grants.now entry.now.holder.now) notes.old notes.new) }
 {
+    let number = entry.number;
+    let inode = entry.inode;
+    let client = entry.client;
+    let holder = entry.holder;
     let session = holder.client();
     let Ok(issued) = read_caps(holder.issued()) else {
         return print_bad_caps(
@@ -154,19 +138,17 @@ fn note_judged(
             session,
         );
     };
+    let held = Held {
+        number,
+        path: inode.path,
+        client,
+        session,
+        issued,
+        pending,
+    };
     match beyond(issued, grants, inode) {
         None => Ok(()),
-        Some(found) => print_finding(
-            &mut notes.found,
-            manner,
-            number,
-            inode.path,
-            client,
-            session,
-            issued,
-            pending,
-            &found,
-        ),
+        Some(found) => print_finding(&mut notes.found, manner, &held, &found),
     }
 }
 
@@ -174,24 +156,16 @@ fn note_judged(
 fn print_finding(
     text: &mut Vec<u8>,
     manner: Manner,
-    number: u64,
-    path: &[&[u8]],
-    client: &[u8],
-    session: u64,
-    issued: CapSet,
-    pending: CapSet,
+    held: &Held<'_>,
     found: &Finding,
 ) -> Result<(), AllocError>
-    ensures { OnOk result (text.new.items ≡ text.old.items ++ found_in manner number (map (λ name. name.now) path.now) client.now session issued pending found.now) }
+    ensures { OnOk result (text.new.items ≡ text.old.items
+        ++ found_in manner held.now.number (map (λ name. name.now) held.now.path.now) held.now.client.now held.now.session held.now.issued held.now.pending found.now) }
 {
     let detail = manner.detail;
     match (manner.shape, detail) {
-        (Shape::Objects, _) => print_found(
-            text, detail, number, path, client, session, issued, pending, found,
-        ),
-        (Shape::Lines, Detail::Each) => {
-            print_held(text, path, client, session, issued, pending, found)
-        }
-        (Shape::Lines, Detail::Groups) => print_group(text, client, found),
+        (Shape::Objects, _) => print_found(text, detail, held, found),
+        (Shape::Lines, Detail::Each) => print_held(text, held, found),
+        (Shape::Lines, Detail::Groups) => print_group(text, held.client, found),
     }
 }

@@ -12,6 +12,7 @@ mod conflict;
 mod conflict_laws;
 mod fault;
 mod findings;
+mod held;
 mod holders;
 mod inode;
 mod laws;

@@ -2,9 +2,10 @@
 ghost use Rattle.std.specs.Prelude.{◌≡◌, ◌++◌, OnOk, map};
 ghost use Rattle.capexplain.specs.Explaining.{path_text};
 ghost use Rattle.capexplain.specs.Quoting.{quoted};
-ghost use Rattle.cluster_audit.specs.Lines.{beyond_text, group_line, held_line, pathless_line, place_text, revoked_text, bad_caps_line, who_text, why_text};
+ghost use Rattle.cluster_audit.specs.Lines.{bad_caps_line, beyond_text, group_line, held_line, pathless_line, place_text, revoked_text, who_text, why_text};
 
 use crate::findings::Finding;
+use crate::held::Held;
 use capbits::{CapSet, print_caps, print_numbered, print_str};
 use capexplain::{print_failures, print_path, print_quoted};
 use std::alloc::AllocError;
@@ -12,17 +13,14 @@ use std::alloc::AllocError;
 // Appends the line for a client that holds of an inode what nobody behind its key is permitted.
 pub(crate) fn print_held(
     text: &mut Vec<u8>,
-    path: &[&[u8]],
-    client: &[u8],
-    session: u64,
-    issued: CapSet,
-    pending: CapSet,
+    held: &Held<'_>,
     found: &Finding,
 ) -> Result<(), AllocError>
-    ensures { OnOk result (text.new.items ≡ text.old.items ++ held_line (map (λ name. name.now) path.now) client.now session issued pending found.now) }
+    ensures { OnOk result (text.new.items ≡ text.old.items
+        ++ held_line (map (λ name. name.now) held.now.path.now) held.now.client.now held.now.session held.now.issued held.now.pending found.now) }
 {
-    print_place(text, path, client, session)?;
-    print_beyond(text, issued, pending, found)?;
+    print_place(text, held.path, held.client, held.session)?;
+    print_beyond(text, held.issued, held.pending, found)?;
     print_str(text, "\n")
 }
 

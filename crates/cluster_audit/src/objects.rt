@@ -5,8 +5,8 @@ ghost use Rattle.capexplain.specs.Pieces.{piece_value};
 ghost use Rattle.capexplain.specs.Values.{bytes_value, or_null};
 ghost use Rattle.cluster_audit.specs.Objects.{access_value, caps_or_null, conflict_object, found_object, group_object, path_value, session_value, why_value};
 
-use crate::conflict::Conflict;
 use crate::findings::Finding;
+use crate::held::{Held, NamedConflict};
 use crate::notes::Detail;
 use capbits::{CapSet, print_numbered, print_str};
 use capexplain::{Piece, print_pieces};
@@ -23,27 +23,23 @@ const SHARED_BY_CONFLICTS: usize = 7;
 pub(crate) fn print_found<'x>(
     text: &mut Vec<u8>,
     detail: Detail,
-    number: u64,
-    path: &'x [&'x [u8]],
-    client: &'x [u8],
-    session: u64,
-    issued: CapSet,
-    pending: CapSet,
+    held: &Held<'x>,
     found: &'x Finding,
 ) -> Result<(), AllocError>
-    ensures { OnOk result (text.new.items ≡ text.old.items ++ found_object detail number (map (λ name. name.now) path.now) client.now session issued pending found.now) }
+    ensures { OnOk result (text.new.items ≡ text.old.items
+        ++ found_object detail held.now.number (map (λ name. name.now) held.now.path.now) held.now.client.now held.now.session held.now.issued held.now.pending found.now) }
 {
     let table = [
         ("kind", Piece::Word("held-beyond")),
-        ("client", Piece::Bytes(client)),
+        ("client", Piece::Bytes(held.client)),
         ("rules", why(found)),
         ("missing", access_if(found.missing)),
-        ("inode", Piece::Number(number)),
-        ("path", Piece::Path(path)),
-        ("session", Piece::Number(session)),
-        ("holds", Piece::Caps(issued)),
+        ("inode", Piece::Number(held.number)),
+        ("path", Piece::Path(held.path)),
+        ("session", Piece::Number(held.session)),
+        ("holds", Piece::Caps(held.issued)),
         ("may_not", Piece::Caps(found.caps)),
-        ("being_revoked", revoked_if(found.caps, pending)),
+        ("being_revoked", revoked_if(found.caps, held.pending)),
     ];
     match detail {
         Detail::Each => print_pieces(text, &table),
@@ -51,33 +47,32 @@ pub(crate) fn print_found<'x>(
     }
 }
 
-// Appends the object for two sessions, each with the name that it may tell, in conflict on the inode of this number, to which this path
-// may lead; or what such objects have in common.
+// Appends the object for two sessions in conflict, or what such objects have in common.
 pub(crate) fn print_conflict_object<'x>(
     text: &mut Vec<u8>,
     detail: Detail,
-    number: u64,
-    path: Option<&'x [&'x [u8]]>,
-    one: Option<&'x [u8]>,
-    other: Option<&'x [u8]>,
-    conflict: &Conflict,
+    named: &NamedConflict<'x>,
 ) -> Result<(), AllocError>
-    ensures { OnOk result (text.new.items ≡ text.old.items ++ conflict_object detail number (option_map (λ names. map (λ name. name.now) names.now) path.entry)
-        (option_map (λ name. name.now) one.entry) (option_map (λ name. name.now) other.entry) conflict.now) }
+    ensures { OnOk result (text.new.items ≡ text.old.items ++ conflict_object detail named.now.number (option_map (λ names. map (λ name. name.now) names.now) named.now.path)
+        (option_map (λ name. name.now) named.now.one) (option_map (λ name. name.now) named.now.other) named.now.conflict) }
 {
+    let conflict = &named.conflict;
     let table = [
         ("kind", Piece::Word("conflict")),
-        ("client", bytes_if(one)),
-        ("session", session_of(detail, conflict.one.client, one)),
+        ("client", bytes_if(named.one)),
+        (
+            "session",
+            session_of(detail, conflict.one.client, named.one),
+        ),
         ("caps", Piece::Caps(conflict.one.caps)),
-        ("other_client", bytes_if(other)),
+        ("other_client", bytes_if(named.other)),
         (
             "other_session",
-            session_of(detail, conflict.other.client, other),
+            session_of(detail, conflict.other.client, named.other),
         ),
         ("other_caps", Piece::Caps(conflict.other.caps)),
-        ("inode", Piece::Number(number)),
-        ("path", path_if(path)),
+        ("inode", Piece::Number(named.number)),
+        ("path", path_if(named.path)),
     ];
     match detail {
         Detail::Each => print_pieces(text, &table),

@@ -4,15 +4,16 @@ ghost use Rattle.std.specs.List.{flat_map};
 ghost use Rattle.cluster_audit.specs.Audited.{AddsTo, Give, Holds, SaysOfPairs, conflict_at};
 ghost use Rattle.cluster_audit.specs.Lines.{beside_text, conflict_line, holder_text, on_inode};
 
+use crate::clients::ClusterClients;
 use crate::conflict::{Conflict, Holding, conflicts};
-use crate::holders::name_of;
+use crate::held::NamedConflict;
 use crate::lines::{print_at, print_who};
 use crate::notes::{Detail, Manner};
 use crate::objects::print_conflict_object;
 use capbits::{print_caps, print_numbered, print_str, read_caps};
 use capexplain::{Shape, print_quoted};
 use capspec::TreePath;
-use ceph_input::{Holder, Session, TreeInode};
+use ceph_input::{Holder, TreeInode};
 use dense_map::Numbered;
 use std::alloc::{AllocError, Global};
 
@@ -20,15 +21,15 @@ use std::alloc::{AllocError, Global};
 pub(crate) fn conflict_lines(
     alloc: Global,
     manner: Manner,
-    sessions: &[Session],
+    clients: &ClusterClients,
     inodes: &[TreeInode],
     paths: &Numbered<TreePath>,
 ) -> Result<Vec<u8>, AllocError>
-    ensures { IfOk result (λ text. Give (SaysOfPairs manner sessions.now paths.now) inodes.now text.items) }
+    ensures { IfOk result (λ text. Give (SaysOfPairs manner clients.now.sessions paths.now) inodes.now text.items) }
 {
     let mut text = Vec::new(alloc);
     for inode in inodes {
-        print_pairs(alloc, manner, &mut text, sessions, paths, inode)?;
+        print_pairs(alloc, manner, &mut text, clients, paths, inode)?;
     }
     Ok(text)
 }
@@ -38,23 +39,23 @@ fn print_pairs(
     alloc: Global,
     manner: Manner,
     text: &mut Vec<u8>,
-    sessions: &[Session],
+    clients: &ClusterClients,
     paths: &Numbered<TreePath>,
     inode: &TreeInode,
 ) -> Result<(), AllocError>
-    ensures { OnOk result (AddsTo (SaysOfPairs manner sessions.now paths.now inode.now) text.old.items text.new.items) }
+    ensures { OnOk result (AddsTo (SaysOfPairs manner clients.now.sessions paths.now inode.now) text.old.items text.new.items) }
 {
     let number = inode.number();
     let holdings = holdings_of(alloc, inode.holders())?;
     let found = conflicts(alloc, holdings.as_slice())?;
     let Some(path) = paths.get(number) else {
-        return print_conflicts(manner, text, sessions, number, None, found.as_slice());
+        return print_conflicts(manner, text, clients, number, None, found.as_slice());
     };
     let names = path.names(alloc)?;
     print_conflicts(
         manner,
         text,
-        sessions,
+        clients,
         number,
         Some(names.as_slice()),
         found.as_slice(),
@@ -82,16 +83,16 @@ fn holdings_of(alloc: Global, holders: &[Holder]) -> Result<Vec<Holding>, AllocE
 fn print_conflicts(
     manner: Manner,
     text: &mut Vec<u8>,
-    sessions: &[Session],
+    clients: &ClusterClients,
     number: u64,
     path: Option<&[&[u8]]>,
     conflicts: &[Conflict],
 ) -> Result<(), AllocError>
     ensures { OnOk result (text.new.items ≡ text.old.items
-        ++ flat_map (conflict_at manner sessions.now number (option_map (λ names. map (λ name. name.now) names.now) path.entry)) conflicts.now) }
+        ++ flat_map (conflict_at manner clients.now.sessions number (option_map (λ names. map (λ name. name.now) names.now) path.entry)) conflicts.now) }
 {
     for conflict in conflicts {
-        print_conflict(manner, text, sessions, number, path, conflict)?;
+        print_conflict(manner, text, clients, number, path, conflict)?;
     }
     Ok(())
 }
@@ -100,20 +101,24 @@ fn print_conflicts(
 fn print_conflict(
     manner: Manner,
     text: &mut Vec<u8>,
-    sessions: &[Session],
+    clients: &ClusterClients,
     number: u64,
     path: Option<&[&[u8]]>,
     conflict: &Conflict,
 ) -> Result<(), AllocError>
     ensures { OnOk result (text.new.items ≡ text.old.items
-        ++ conflict_at manner sessions.now number (option_map (λ names. map (λ name. name.now) names.now) path.entry) conflict.now) }
+        ++ conflict_at manner clients.now.sessions number (option_map (λ names. map (λ name. name.now) names.now) path.entry) conflict.now) }
 {
-    let detail = manner.detail;
-    let one = name_of(sessions, conflict.one.client);
-    let other = name_of(sessions, conflict.other.client);
+    let named = NamedConflict {
+        number,
+        path,
+        one: clients.name_of(conflict.one.client),
+        other: clients.name_of(conflict.other.client),
+        conflict: *conflict,
+    };
     match manner.shape {
-        Shape::Lines => print_conflict_text(text, detail, number, path, one, other, conflict),
-        Shape::Objects => print_conflict_object(text, detail, number, path, one, other, conflict),
+        Shape::Lines => print_conflict_text(text, manner.detail, &named),
+        Shape::Objects => print_conflict_object(text, manner.detail, &named),
     }
 }
 
@@ -121,19 +126,16 @@ fn print_conflict(
 fn print_conflict_text(
     text: &mut Vec<u8>,
     detail: Detail,
-    number: u64,
-    path: Option<&[&[u8]]>,
-    one: Option<&[u8]>,
-    other: Option<&[u8]>,
-    conflict: &Conflict,
+    named: &NamedConflict<'_>,
 ) -> Result<(), AllocError>
-    ensures { OnOk result (text.new.items ≡ text.old.items ++ conflict_line detail number (option_map (λ names. map (λ name. name.now) names.now) path.entry)
-        (option_map (λ name. name.now) one.entry) (option_map (λ name. name.now) other.entry) conflict.now) }
+    ensures { OnOk result (text.new.items ≡ text.old.items ++ conflict_line detail named.now.number (option_map (λ names. map (λ name. name.now) names.now) named.now.path)
+        (option_map (λ name. name.now) named.now.one) (option_map (λ name. name.now) named.now.other) named.now.conflict) }
 {
-    print_on(text, detail, number, path)?;
-    print_client(text, detail, conflict.one.client, one)?;
+    let conflict = &named.conflict;
+    print_on(text, detail, named.number, named.path)?;
+    print_client(text, detail, conflict.one.client, named.one)?;
     print_beside(text, conflict)?;
-    print_client(text, detail, conflict.other.client, other)?;
+    print_client(text, detail, conflict.other.client, named.other)?;
     print_str(text, "\n")
 }
 

@@ -1,6 +1,6 @@
 //! What is said where it is not known what may be held.
 ghost use Rattle.std.specs.Prelude.{◌≡◌, ◌++◌, OnOk, map};
-ghost use Rattle.cluster_audit.specs.Shaped.{pathless_in, bad_caps_in, unlisted_in, unnamed_in, unread_in};
+ghost use Rattle.cluster_audit.specs.Shaped.{bad_caps_in, pathless_in, unlisted_in, unnamed_in, unread_in};
 
 use crate::lines::{print_bad_caps_line, print_pathless_line};
 use capbits::{print_numbered, print_str};

@@ -18,10 +18,10 @@ use Rattle.captable.specs.Calls.{entries_on}
 use Rattle.lockmachine.proofs.NoneAny.{none-any}
 use Rattle.lockmachine.specs.Held.{has_outside, holders_outside}
 use Rattle.lockmachine.specs.Lock.{LockId, ends_by_count, may_end_in}
-use Rattle.lockmachine.specs.declared.counts.Counts.{Counts}
+use Rattle.locktable.specs.declared.counts.Counts.{Counts}
 use Rattle.lockmachine.specs.declared.states.InodeLocks.{InodeLocks}
 use Rattle.lockmachine.specs.Counts.{AreCounted, AreCountedAt, CountedLocks, IsCounted, count_at, count_of, ends_by, with_count}
-use Rattle.lockmachine.specs.GatherCounts.{count_in, one_less_in, with_count_in}
+use Rattle.locktable.specs.GatherCounts.{count_in, one_less_in, with_count_in}
 use Rattle.lockmachine.specs.Inodes.{CountMap, HaveCounts, lock_in}
 use Rattle.lockmachine.specs.Requests.{same_part}
 use Rattle.lockmachine.specs.Locks.{LockMap, lock_at, with_lock}

@@ -21,7 +21,7 @@ use Rattle.captable.specs.Calls.{change_rows, is_of_inode}
 use Rattle.captable.specs.Table.{Table, is_row_of}
 use Rattle.lockmachine.specs.Held.{has_outside, holders_outside}
 use Rattle.lockmachine.specs.Lock.{LockId}
-use Rattle.lockmachine.specs.GatherCounts.{count_in, no_counts}
+use Rattle.locktable.specs.GatherCounts.{count_in, no_counts}
 use Rattle.lockmachine.specs.Counts.{AreCounted, CountedLocks, IsCounted, count_of, with_ino, without_ino}
 use Rattle.lockmachine.specs.Inodes.{in_sync, lock_in}
 use Rattle.lockmachine.specs.Locks.{lock_at}

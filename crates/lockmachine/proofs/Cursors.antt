@@ -14,13 +14,13 @@ use Rattle.lockmachine.specs.Scene.{Scene}
 use Rattle.lockmachine.specs.Moves.{LockId, first_move, lock_ids, may_begin, may_end, may_end_in, may_serve}
 use Rattle.lockmachine.specs.Runs.{ChangesLocksOf}
 use Rattle.lockmachine.specs.Elsewhere.{IsSameBut}
-use Rattle.lockmachine.specs.Cursors.{IsDoneAt, IsCursorAt, NothingEnds, begin_or_rest, end_or_serve, serve_or_begin}
+use Rattle.lockmachine.specs.Cursors.{IsCursorAt, IsDoneAt, NothingEnds, begin_or_rest, end_or_serve, serve_or_begin}
 use Rattle.lockmachine.proofs.FirstMove.{first-found}
 use Rattle.lockmachine.proofs.Finding.{by_number, find_none}
 use Rattle.lockmachine.proofs.Rest.{none_at}
 use Rattle.lockmachine.proofs.SameBut.{begin-alike, end-alike, same-at, same-locks}
 
--- ---- whose turn it is
+-- ---- where the sweep has come to
 
 pub ends-cursor : (s : Scene) (a : ℕ) → NothingEnds s → ((other : ℕ) (part : Part) → other < a → may_begin s (other, part) ≡ false) → IsCursorAt s a
 ends-cursor s a ends begins = record { ends = λ other part off. ends other part; begins = begins }

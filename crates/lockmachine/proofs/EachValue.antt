@@ -10,7 +10,7 @@ use Rattle.std.specs.Option.{option_map, option_map_or}
 use Rattle.std.specs.Ordering.{eq_by_cmp, is_lt, nat_cmp}
 use Rattle.capbits.specs.Maps.{change_at}
 use Rattle.dense_map.proofs.Maps.{insert-same}
-use Rattle.lockmachine.specs.declared.counts.Counts.{Counts}
+use Rattle.locktable.specs.declared.counts.Counts.{Counts}
 use Rattle.lockmachine.specs.declared.states.InodeLocks.{InodeLocks}
 use Rattle.lockmachine.specs.declared.states.LocksAt.{LocksAt}
 use Rattle.lockmachine.specs.Inodes.{CountedStates, HaveCounts, each_value}

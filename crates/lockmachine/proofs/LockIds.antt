@@ -21,7 +21,7 @@ use Rattle.lockmachine.specs.Inodes.{lock_in}
 use Rattle.lockmachine.specs.Locks.{LockMap}
 use Rattle.lockmachine.specs.Scene.{Scene, wanted_in_all}
 use Rattle.lockmachine.specs.Moves.{LockId, first_move, lock_ids, lock_ids_of, may_begin, may_begin_in, may_end, may_end_in, may_serve, parts}
-use Rattle.lockmachine.specs.Cursors.{IsNextAt, IsCursorAt, begin_or_rest, beginning, end_or_serve, serve_or_begin}
+use Rattle.lockmachine.specs.Cursors.{IsCursorAt, IsNextAt, begin_or_rest, beginning, end_or_serve, serve_or_begin}
 use Rattle.lockmachine.proofs.FirstMove.{first-found}
 use Rattle.lockmachine.proofs.Finding.{fails_at, no_part}
 use Rattle.lockmachine.proofs.Rest.{same_key}

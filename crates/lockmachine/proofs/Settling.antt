@@ -13,7 +13,7 @@ use Rattle.lockmachine.specs.Locks.{LockMap, lock_at, with_lock}
 use Rattle.lockmachine.specs.Scene.{Scene}
 use Rattle.lockmachine.specs.Moves.{LockId, coming_state, first_move, moved, present_state, with_moved}
 use Rattle.lockmachine.specs.Runs.{ChangesLocksOf, Runs, is_begin_of, is_end_of, is_of_lock}
-use Rattle.lockmachine.specs.Cursors.{IsNextAt, IsCursorAt}
+use Rattle.lockmachine.specs.Cursors.{IsCursorAt, IsNextAt}
 use Rattle.lockmachine.proofs.Moving.{IsMove, first_is, with_lock-each}
 use Rattle.lockmachine.proofs.Ending.{begins_left, ends_left, locks_of, one_left, runs-then}
 use Rattle.lockmachine.proofs.Cursors.{cursor-kept}

@@ -5,7 +5,7 @@ use Rattle.std.specs.FinMap as map
 use Rattle.lockmachine.specs.declared.request.Request.{Request}
 use Rattle.lockmachine.specs.contracts.request.Request as request
 use Rattle.lockmachine.specs.contracts.states.InodeLocks as inode_locks
-use Rattle.lockmachine.specs.contracts.counts.Counts as inode_counts
+use Rattle.locktable.specs.contracts.counts.Counts as inode_counts
 use Rattle.lockmachine.specs.contracts.waiters.Waiter as waiter
 use Rattle.lockmachine.specs.Counts.{CountedLocks}
 use Rattle.lockmachine.specs.Inodes.{CountMap, CountedStates, StateMap}

@@ -12,7 +12,7 @@ use Rattle.locktable.specs.declared.states.LockState.TheVariants.{Gather, Stable
 use Rattle.captable.specs.Table.{Table}
 use Rattle.captable.specs.declared.entry.EntryRow.{EntryRow}
 use Rattle.lockmachine.specs.Lock.{ends_by_count}
-use Rattle.lockmachine.specs.GatherCounts.{count_in, no_counts, one_less_in, with_count_in}
+use Rattle.locktable.specs.GatherCounts.{count_in, no_counts, one_less_in, with_count_in}
 use Rattle.lockmachine.specs.Inodes.{CountMap}
 use Rattle.lockmachine.specs.Locks as words
 use Rattle.lockmachine.specs.Locks.{LockMap, lock_at}

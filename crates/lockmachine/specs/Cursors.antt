@@ -1,4 +1,4 @@
--- Whose turn it is, where a step affects many inodes: a caller goes over them in the order of their numbers.
+-- Where a sweep over the inodes that a step affects has come to: a caller goes over them in the order of their numbers.
 use Rattle.std.specs.Prelude.{◌≡◌, ◌≢◌, ◌<◌, ◌==◌, ℕ, Bool, true, false, IsTrue, List, Option, Some, None, Contains, if◌then◌else◌}
 use Rattle.std.specs.List.{find, list_any}
 use Rattle.capbits.specs.declared.cap.Part.{Part}
@@ -56,9 +56,9 @@ abbrev pub end_or_serve : Scene → Option LockId → Move
 end_or_serve s None = serve_or_begin s (find (may_serve s.locks) s.locks.queue)
 end_or_serve s (Some at) = End (record { 0 = at.0 }) at.1
 
--- ---- whose turn it is
+-- ---- where the sweep has come to
 
--- it is an inode's turn: no gather of another inode may end, and no lock of a lower inode may begin one
+-- a sweep has come to this inode: no gather of another inode may end, and no lock of a lower inode may begin one
 pub record IsCursorAt (s : Scene) (ino : ℕ) : Type 0 where
   pub ends : (other : ℕ) (part : Part) → other ≢ ino → may_end s (other, part) ≡ false
   pub begins : (other : ℕ) (part : Part) → other < ino → may_begin s (other, part) ≡ false
@@ -102,7 +102,7 @@ WaitAt at s = (q : Request) → Contains s.locks.queue q → at q.ino.0 ≡ fals
 abbrev pub NobodyElsewhere : LockMap → ℕ → Type 0
 NobodyElsewhere locks ino = (q : Request) → Contains locks.queue q → (q.ino.0 == ino) ≡ false → may_serve locks q ≡ false
 
--- who may be served is found among those who are sought
+-- a request that may be served is one of those in the scope
 abbrev pub Suffices : QueueScope → LockMap → ℕ → Type 0
 Suffices Everybody locks ino = IsTrue true
 Suffices Here locks ino = NobodyElsewhere locks ino

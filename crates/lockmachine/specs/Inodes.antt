@@ -9,7 +9,7 @@ use Rattle.capbits.specs.declared.cap.Part.TheVariants.{A, F, L, X}
 use Rattle.locktable.specs.declared.states.StableState.TheVariants.{Sync}
 use Rattle.locktable.specs.declared.states.LockState.{LockState}
 use Rattle.locktable.specs.declared.states.LockState.TheVariants.{Gather, Stable}
-use Rattle.lockmachine.specs.declared.counts.Counts.{Counts}
+use Rattle.locktable.specs.declared.counts.Counts.{Counts}
 use Rattle.lockmachine.specs.declared.states.InodeLocks.{InodeLocks}
 
 -- the locks of each inode, by its number

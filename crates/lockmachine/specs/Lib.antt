@@ -14,6 +14,5 @@ pub mod Runs
 pub mod Rows
 pub mod Elsewhere
 pub mod Cursors
-pub mod GatherCounts
 pub mod Held
 pub mod Lock

@@ -5,7 +5,6 @@
 #![tactic(auto)]
 
 mod bytes;
-mod counts;
 mod held;
 mod laws;
 mod lock;

@@ -25,7 +25,7 @@ ghost use Rattle.lockmachine.specs.Moves as moves;
 ghost use Rattle.lockmachine.specs.Moves.{LockId, first_move, handed, moved};
 ghost use Rattle.lockmachine.specs.Runs.{ChangesLocksOf, EndLittle, MoveLittle};
 ghost use Rattle.lockmachine.specs.Cursors as turns;
-ghost use Rattle.lockmachine.specs.Cursors.{IsDue, IsNextAt, IsCursorAt, NobodyElsewhere, Suffices};
+ghost use Rattle.lockmachine.specs.Cursors.{IsCursorAt, IsDue, IsNextAt, NobodyElsewhere, Suffices};
 
 use crate::held::{has_outside, holders_outside};
 use crate::lock::{ends_by_count, is_off_target};
@@ -313,7 +313,7 @@ impl Locks {
             .unwrap_or(Move::Settled)
     }
 
-    // The oldest request that may be served, which is among those who are sought.
+    // The oldest request that may be served, which is one of those in the scope.
     fn first_among(&self, scope: QueueScope, ino: Ino) -> Option<Ticket>
         requires { Suffices scope self.now.locks ino.0 }
         ensures { result ≡ option_map (λ q. q.ticket) (find (moves.may_serve self.now.locks) self.now.locks.queue) }
@@ -666,7 +666,7 @@ impl Locks {
         }
     }
 
-    // Among whom one that may be served is sought.
+    // Among whose requests one that may be served has to be looked for.
     fn queue_scope_at(&self, ino: Ino, alone: bool) -> QueueScope
         requires { alone ≡ true → NobodyElsewhere self.now.locks ino.0 }
         ensures { Suffices result self.now.locks ino.0 }

@@ -28,7 +28,7 @@ pub enum Move {
     Settled,
 }
 
-// Among whom one who waits and may be served is sought, where it is an inode's turn.
+// Among whose requests one that may be served has to be looked for, at the inode to which a sweep has come.
 #[derive(Clone, Copy)]
 pub(crate) enum QueueScope {
     Everybody,
@@ -38,7 +38,7 @@ pub(crate) enum QueueScope {
     Nobody,
 }
 
-// Whose turn it is, and among whom one who may be served is sought then.
+// The inode to which a sweep has come, and among whose requests one that may be served has to be looked for.
 #[derive(Clone, Copy)]
 pub(crate) struct SweepCursor {
     pub(crate) ino: Ino,

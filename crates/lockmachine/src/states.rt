@@ -3,13 +3,12 @@ ghost use Rattle.std.specs.Prelude.{◌≡◌, OnOk, OnErr};
 ghost use Rattle.std.specs.Option.{option_copied, option_map};
 ghost use Rattle.std.specs.FinMap as map;
 ghost use Rattle.capbits.specs.Maps.{change_at};
-ghost use Rattle.lockmachine.specs.GatherCounts as counted;
+ghost use Rattle.locktable.specs.GatherCounts as counted;
 ghost use Rattle.lockmachine.specs.Inodes as words;
 
-use crate::counts::Counts;
 use capbits::{Ino, Part};
 use dense_map::Numbered;
-use locktable::{LockState, StableState};
+use locktable::{Counts, LockState, StableState};
 use std::alloc::{AllocError, Global};
 use std::collections::btree_map::Keys;
 use std::marker::Model;

@@ -1,3 +1,4 @@
 pub mod Rows
 pub mod Conflicts
 pub mod Targets
+pub mod GatherCounts

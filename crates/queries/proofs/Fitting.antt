@@ -21,7 +21,8 @@ use Rattle.queries.specs.Values.{IsModeText, without_kind}
 use Rattle.script_syntax.specs.Lines.{is_line_feed, lines}
 use Rattle.queries.specs.Checks.{CheckTexts, InodeTexts, behind_space, check_of, check_text, check_texts, cut, cut_below, head, inode_of, then_cut}
 use Rattle.queries.specs.declared.mask.Mask.{Mask}
-use Rattle.queries.specs.Masks.{IsMaskOf, accesses_of, asked_if}
+use Rattle.capgrant.specs.Masks.{asked_if}
+use Rattle.queries.specs.Masks.{IsMaskOf, accesses_of}
 use Rattle.queries.specs.Told.{passed_if, passed_in, with_access}
 
 -- ---- the lines of a log

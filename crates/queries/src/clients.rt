@@ -27,6 +27,14 @@ pub enum Telling {
     Object,
 }
 
+// What the grants of a client say to what is wanted.
+#[derive(Clone, Copy)]
+struct ClientAnswer<'a> {
+    standing: &'a Standing,
+    // What the MDS of Ceph 16 answers somebody behind its key otherwise, if anything.
+    otherwise: &'a Option<Otherwise>,
+}
+
 /// For each client of an auth list, in its order: whether somebody behind its key may do what is asked, by which grant, or why nobody may;
 /// or that it depends on owner, group and mode, where these are not given. Where a client's grants can't be read, its line says why. The
 /// fault is that of the list. `auth` is what `ceph auth ls -f json` prints.
@@ -82,21 +90,22 @@ fn print_client(
 {
     let name = client.name();
     let Some(text) = client.caps() else {
-        return print_said(
-            lines,
-            name,
-            wanted,
-            attr,
-            &Standing::without_grants(),
-            &None,
-            telling,
-        );
+        let standing = Standing::without_grants();
+        let answer = ClientAnswer {
+            standing: &standing,
+            otherwise: &None,
+        };
+        return print_answer(lines, name, wanted, attr, &answer, telling);
     };
     match read_text(*lines.allocator(), text) {
         Ok(Some(grants)) => {
             let standing = wanted.standing(&grants, attr);
             let other = wanted.answered_otherwise(&grants, attr);
-            print_said(lines, name, wanted, attr, &standing, &other, telling)
+            let answer = ClientAnswer {
+                standing: &standing,
+                otherwise: &other,
+            };
+            print_answer(lines, name, wanted, attr, &answer, telling)
         }
         Ok(None) => Err(AllocError),
         Err(fault) => print_fault(lines, name, wanted, attr, &fault, telling),
@@ -104,17 +113,19 @@ fn print_client(
 }
 
 // Appends what is said of a client.
-fn print_said(
+fn print_answer(
     lines: &mut Vec<u8>,
     client: &[u8],
     wanted: &Wanted<'_>,
     attr: &Option<Attr>,
-    standing: &Standing,
-    other: &Option<Otherwise>,
+    answer: &ClientAnswer<'_>,
     telling: Telling,
 ) -> Result<(), AllocError>
-    ensures { OnOk result (lines.new.items ≡ lines.old.items ++ standing_in telling client.now wanted.now attr.now standing.now other.now) }
+    ensures { OnOk result (lines.new.items ≡ lines.old.items
+        ++ standing_in telling client.now wanted.now attr.now answer.now.standing.now answer.now.otherwise.now) }
 {
+    let standing = answer.standing;
+    let other = answer.otherwise;
     match telling {
         Telling::Line => print_standing(lines, client, wanted.access, wanted.path, standing),
         Telling::More => {

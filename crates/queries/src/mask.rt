@@ -2,7 +2,8 @@
 ghost use Rattle.std.specs.Prelude.{◌≡◌, ◌<◌, ◌++◌, IfOk, MatchOption, OnOk};
 ghost use Rattle.queries.specs.declared.mask.Mask.{Mask as AMask};
 ghost use Rattle.queries.specs.Checks.{texts_of};
-ghost use Rattle.queries.specs.Masks.{IsMaskOf, accesses_of, asked_if, is_mask};
+ghost use Rattle.capgrant.specs.Masks.{asked_if};
+ghost use Rattle.queries.specs.Masks.{IsMaskOf, accesses_of, is_mask};
 
 use crate::check::Check;
 use capbits::read_u32;
@@ -31,7 +32,7 @@ pub fn read_mask(check: &Check<'_>) -> Option<Mask>
     }
 }
 
-// Whether there is a bit, and none but those of `accesses`.
+// Whether there is a bit, and none but those of accesses.
 fn is_mask(bits: u32) -> bool
     ensures { result ≡ is_mask bits }
 {

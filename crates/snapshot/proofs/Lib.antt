@@ -6,5 +6,3 @@ pub mod Publishing
 pub mod Seeing
 pub mod Tallying
 pub mod Words
-pub mod Asking
-pub mod Numbering

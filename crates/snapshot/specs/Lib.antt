@@ -4,5 +4,3 @@ pub mod Places
 pub mod Publishing
 pub mod Pairs
 pub mod Tallies
-pub mod Answers
-pub mod Passes

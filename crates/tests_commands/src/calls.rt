@@ -3,11 +3,11 @@
 use crate::asserting::{present, same};
 use capbits::{ClientId, Ino};
 use capgrant::{Access, Verdict};
-use capserver::{Answer, CapServer, Gate};
+use capserver::{Answer, CapServer, Gate, Pass};
 use capstep::stop::Stop;
 use policy_view::{Question, Unknown};
 use script_syntax::read_line;
-use snapshot::{Pass, Server};
+use snapshot::Server;
 use std::alloc::Global;
 use std::process::Abort;
 use std::sync::Wait;

@@ -3,8 +3,8 @@
 
 use crate::asserting::{present, same};
 use crate::calls::{ask_read, call_line};
-use capserver::{CapServer, Gate};
-use snapshot::{Pass, Server};
+use capserver::{CapServer, Gate, Pass};
+use snapshot::Server;
 use std::alloc::{AllocError, Global};
 use std::process::Abort;
 use std::sync::atomic::{AtomicU64, Ordering};

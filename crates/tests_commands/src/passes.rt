@@ -3,7 +3,7 @@
 use crate::asserting::{holds, made, same};
 use crate::rows::{Numbers, count_numbered};
 use crate::servers::{MANY_ROWS, Work, rows_by};
-use snapshot::StartFault;
+use capserver::StartFault;
 use std::process::Abort;
 
 // Sees that two passes have made all their files, and that each inode has the next number.

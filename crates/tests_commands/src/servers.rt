@@ -8,8 +8,8 @@ use crate::holding::{Hold, Signs, ask_beside, open_gate};
 use crate::rows::{Numbers, numbers};
 use crate::threads::{make_all, make_two};
 use capscript::file_system;
-use capserver::{CapServer, Opening};
-use snapshot::{Server, StartFault};
+use capserver::{CapServer, Opening, StartFault};
+use snapshot::Server;
 use std::alloc::{AllocError, Global};
 use std::marker::Brand;
 use std::process::Abort;
@@ -40,9 +40,8 @@ fn opening(alloc: Global, max_rows: u32) -> Result<Opening, AllocError> {
 }
 
 // Serves with so many passes, and answers the rows.
-fn served<L: Server + Send + Sync, R: Abort + Threads + Wait + Sync>(
+fn served<L: Server + Send + Sync, R: AllocGlobal + Abort + Threads + Wait + Sync>(
     rt: &R,
-    alloc: Global,
     opening: Opening,
     blank: Blank,
     count: u32,
@@ -53,6 +52,7 @@ fn served<L: Server + Send + Sync, R: Abort + Threads + Wait + Sync>(
     requires name { blank.name ≡ L.name }
     requires parts { (blank.parts ≡ L.parts) × (L.parts ≡ 32) }
 {
+    let alloc = rt.alloc();
     let (gate, signs) = held;
     let (server, passes) = CapServer::<Hold, L>::start(rt, alloc, opening, blank, count, gate)?;
     let back = match work {
@@ -81,5 +81,5 @@ pub fn rows_by<R: AllocGlobal + Abort + Threads + Wait + Sync>(
     let Ok(opening) = opening(rt.alloc(), max_rows) else {
         return Err(StartFault::NoMemory);
     };
-    served::<Brand, R>(rt, rt.alloc(), opening, Blank::new(32), count, held, work)
+    served::<Brand, R>(rt, opening, Blank::new(32), count, held, work)
 }

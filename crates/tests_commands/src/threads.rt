@@ -2,8 +2,8 @@
 
 use crate::asserting::present;
 use crate::calls::call_line;
-use capserver::{CapServer, Gate};
-use snapshot::{Pass, Server};
+use capserver::{CapServer, Gate, Pass};
+use snapshot::Server;
 use std::alloc::Global;
 use std::process::Abort;
 use std::sync::Wait;

@@ -3,14 +3,14 @@ use Rattle.cap_arena.proofs.Removals.{client_has_ends, fewer_left, inode_has_end
 use Rattle.cap_arena.proofs.moves.take_out.Goals as goal
 
 pub unlink_in-requires : goal.unlink_in-requires
-unlink_in-requires g c = inode_has_ends c.args.nodes.now.slots c.args.recall.now c.args.inodes.now c.args.clients.now c.args.key c.args.node c.requires.sound c.requires.there
+unlink_in-requires g c = inode_has_ends c.args.nodes.now.slots c.args.ends.now.recall c.args.ends.now.inodes c.args.ends.now.clients c.args.key c.args.node c.requires.sound c.requires.there
 
 pub unlink_in-requires-2 : goal.unlink_in-requires-2
-unlink_in-requires-2 g c = client_has_ends c.args.nodes.now.slots c.args.recall.now c.args.inodes.now c.args.clients.now c.args.key c.args.node c.requires.sound c.requires.there
+unlink_in-requires-2 g c = client_has_ends c.args.nodes.now.slots c.args.ends.now.recall c.args.ends.now.inodes c.args.ends.now.clients c.args.key c.args.node c.requires.sound c.requires.there
 
 pub returns-clause-removed : goal.returns-clause-removed
 returns-clause-removed g c =
-    removed c.args.nodes.now.slots c.args.recall.now c.unlink.new.ends c.args.inodes.now c.unlink_in.new.heads c.args.clients.now c.unlink_in-2.new.heads c.args.key c.args.node
+    removed c.args.nodes.now.slots c.args.ends.now.recall c.unlink.new.ends c.args.ends.now.inodes c.unlink_in.new.heads c.args.ends.now.clients c.unlink_in-2.new.heads c.args.key c.args.node
     c.unlink_in.new.nodes.slots c.unlink_in-2.new.nodes.slots c.unlink.new.nodes.slots c.try_remove-linked.new.self.slots c.requires.sound
     record {
       there = c.requires.there;

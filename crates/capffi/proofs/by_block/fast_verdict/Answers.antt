@@ -1,7 +1,7 @@
 use Rattle.std.proofs.Common.{◌≤◌, ℕ, List, length, subst}
 use Rattle.std.specs.Prelude.{Ok}
 use Rattle.capffi.specs.declared.passed.Answer.{Answer}
-use Rattle.capffi.specs.ByBlock.{IsSaidOn, IsFast}
+use Rattle.capffi.specs.ByBlock.{IsFast, IsSaidOn}
 use Rattle.capffi.proofs.Telling.{tells_more}
 use Rattle.capffi.proofs.by_block.fast_verdict.Goals as goal
 

@@ -1,7 +1,7 @@
 use Rattle.std.proofs.Common.{List, subst, ℕ}
 use Rattle.std.specs.Prelude.{Ok}
 use Rattle.capffi.specs.declared.passed.Answer.{Answer}
-use Rattle.capffi.specs.ByMask.{IsSaidOnMask, IsFastToMask}
+use Rattle.capffi.specs.ByMask.{IsFastToMask, IsSaidOnMask}
 use Rattle.capffi.proofs.Telling.{tells_more}
 use Rattle.capffi.proofs.by_mask.fast_verdict_mask.Goals as goal
 

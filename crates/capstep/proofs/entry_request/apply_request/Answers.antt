@@ -4,7 +4,7 @@ use Rattle.capbits.specs.Caps.{has}
 use Rattle.captable.specs.Tests.{ack_tests}
 use Rattle.lockmachine.proofs.CountsStay.{held-change}
 use Rattle.step_model.specs.Direct.{with_want}
-use Rattle.capstep.proofs.Common.{AreCounted, Caps, Entry, Holder, KeptScene, KeptTable, ClientViews, OpenMode, P, Scene, Table, acked, changed, counted-held}
+use Rattle.capstep.proofs.Common.{AreCounted, Caps, ClientViews, Entry, Holder, KeptScene, KeptTable, OpenMode, P, Scene, Table, acked, changed, counted-held}
 use Rattle.capstep.proofs.Common.{entry_at, first_failing, has_pin, opening_wants, plain, revoked_of, same_found, test_at, touched, union, wanting, with_entry}
 use Rattle.capstep.proofs.Common.{without, without_acked, without_released}
 use Rattle.capstep.proofs.CountsKept.{counted-entry, counted-less}

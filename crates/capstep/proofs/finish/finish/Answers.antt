@@ -2,7 +2,7 @@ use Rattle.std.proofs.Common.{◌≡◌, ◌<◌, Bool, true, false, cond, List,
 use Rattle.std.specs.FinSet as set
 use Rattle.capbits.specs.Caps.{has}
 use Rattle.lockmachine.proofs.CountsStay.{held-map}
-use Rattle.capstep.proofs.Common.{AreCounted, CountedLocks, EntryRow, Fc, Ino, KeptTable, KnownAnew, ClientViews, Scene, Table, changed_where, counted-held}
+use Rattle.capstep.proofs.Common.{AreCounted, ClientViews, CountedLocks, EntryRow, Fc, Ino, KeptTable, KnownAnew, Scene, Table, changed_where, counted-held}
 use Rattle.capstep.proofs.Common.{has_session, is_sized, known_in, owed, permitted_of, plain, remade, sizes_owed, was-there, with_size_due}
 use Rattle.capstep.proofs.IssuedRows.{counted-issued}
 use Rattle.capstep.proofs.ManyInodes.{holders-stay}

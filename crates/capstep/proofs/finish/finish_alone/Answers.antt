@@ -9,7 +9,7 @@ use Rattle.std.specs.FinSet as set
 use Rattle.capbits.specs.Sets.{no_caps}
 use Rattle.captable.proofs.OneByOne.{one_at_once}
 use Rattle.capstep.specs.Known.{HasAll}
-use Rattle.capstep.proofs.Common.{AreCounted, Caps, Entry, EntryRow, Holder, InodeLocks, IsTable, KeptScene, KeptTable, KnownAnew, ClientViews, OthersHaveAll}
+use Rattle.capstep.proofs.Common.{AreCounted, Caps, ClientViews, Entry, EntryRow, Holder, InodeLocks, IsTable, KeptScene, KeptTable, KnownAnew, OthersHaveAll}
 use Rattle.capstep.proofs.Common.{Scene, Table, changed_by, changed_where, entry_at, entry_of, entry_under, find_passes, found-contains, is_row_of, kept-as}
 use Rattle.capstep.proofs.Common.{kept-none, known_anew, known_in, known_of, meet, none_found, permitted_of, plain, remade, renumbered, row_found}
 use Rattle.capstep.proofs.Common.{row_of-entry, same, same-is, same_equiv, told-less, told_at, told_set}

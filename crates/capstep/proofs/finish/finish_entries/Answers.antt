@@ -11,7 +11,7 @@ use Rattle.std.specs.Option.{unwrap_or}
 use Rattle.capbits.specs.Sets.{no_caps}
 use Rattle.capstep.proofs.KeptSets.{kept-on, not-yet}
 use Rattle.capstep.proofs.AtEnd.{distinct-on, named, named-clients}
-use Rattle.capstep.proofs.Common.{Caps, Entry, EntryRow, Holder, KnownAnew, ClientViews, Table, changed, changed_by, changed_where, due_under, entries_on}
+use Rattle.capstep.proofs.Common.{Caps, ClientViews, Entry, EntryRow, Holder, KnownAnew, Table, changed, changed_by, changed_where, due_under, entries_on}
 use Rattle.capstep.proofs.Common.{entry_at, entry_of, entry_under, filter-contains, fold-changed_by, fold-on_inode, found-contains, found-stays, holder}
 use Rattle.capstep.proofs.Common.{holders_of_rows, is_among, is_of_inode, is_row_of, kept-nobody, kept-none, kept-not, kept-same, kept-then, known_in}
 use Rattle.capstep.proofs.Common.{none_found, numbered_as, permitted_of, row_of-entry, same, same-is, told_at}

@@ -9,12 +9,12 @@ use Rattle.captable.proofs.Changes.{left_found, same_found}
 use Rattle.captable.specs.Calls.{changed, issued}
 use Rattle.captable.specs.Kept.{KeptTable, telling}
 use Rattle.capstep.proofs.Beside.{keeping-other, keeping-own}
-use Rattle.capstep.proofs.CommonActs.{Caps, Entry, EntryRow, Holder, ClientView, Table, entry_at, no_caps, permitted, renumbered, same}
+use Rattle.capstep.proofs.CommonActs.{Caps, ClientView, Entry, EntryRow, Holder, Table, entry_at, no_caps, permitted, renumbered, same}
 use Rattle.capstep.proofs.Held.{same-renumbered}
 use Rattle.capstep.proofs.KeptSets.{kept-one}
 use Rattle.capstep.proofs.Renewed.{kept-is}
 use Rattle.capstep.proofs.finishing.finish_row.Goals.{After-meet-before, else-ne, then-ne}
-use Rattle.capstep.specs.Known.{KnownAnew, ClientViews, known_in, permitted_of, sets_of}
+use Rattle.capstep.specs.Known.{ClientViews, KnownAnew, known_in, permitted_of, sets_of}
 use Rattle.capstep.specs.Finishing as words
 use Rattle.capstep.proofs.finishing.finish_row.Goals as goal
 

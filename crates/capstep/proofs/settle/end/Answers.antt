@@ -3,7 +3,7 @@ use Rattle.std.proofs.lemmas.Bool.{eqb-true}
 use Rattle.std.proofs.lemmas.List.{nil_from_length}
 use Rattle.std.specs.FinSet as set
 use Rattle.capstep.proofs.Among.{none-besides, one-counts, one-inode}
-use Rattle.capstep.proofs.Common.{Ended, Ino, InoSet, ClientViews, Scene, leads-then, plain}
+use Rattle.capstep.proofs.Common.{ClientViews, Ended, Ino, InoSet, Scene, leads-then, plain}
 use Rattle.capstep.proofs.NobodyServed.{others-still, served_none, settled-ends, settled-may}
 use Rattle.capstep.proofs.SameLocks.{same-locks}
 use Rattle.capstep.proofs.settle.end.Goals.{After-settle, In-Entry, In-Inodes}

@@ -11,7 +11,8 @@ use Rattle.capstep.proofs.Common.{tree_after}
 use Rattle.capstep.proofs.Judged.{none-judged, still-judged}
 use Rattle.capstep.proofs.Moved.{moved-all, tree-moved}
 use Rattle.capstep.proofs.OneChange.{within-after}
-use Rattle.capstep.proofs.SoFar.{GoesOnBehind, IsSoFar, so-far-begins, so-far-served, so-far-settled, so-far-swept, stands-behind, stands-first, cursor-at_first}
+use Rattle.capstep.proofs.SoFar.{GoesOnBehind, IsSoFar, cursor-at_first, so-far-begins, so-far-served, so-far-settled, so-far-swept, stands-behind}
+use Rattle.capstep.proofs.SoFar.{stands-first}
 use Rattle.capstep.proofs.settle.settle.Goals.{After-serve_next-changed, In-Some}
 use Rattle.capstep.proofs.settle.settle.Invariants.{invariant-servings}
 use Rattle.capstep.specs.Begun.{ArePermittedIn}

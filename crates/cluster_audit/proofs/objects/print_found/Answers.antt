@@ -10,18 +10,19 @@ use Rattle.cluster_audit.proofs.objects.print_found.Goals as goal
 pub returns-in-Each : goal.returns-in-Each
 returns-in-Each c =
     let a = c.args in
+    let h = a.held.now in
     let f = a.found.now in
     let old = a.text.now.items in
-    let path : List (List ℕ) = map (λ name. name.now) a.path.now in
+    let path : List (List ℕ) = map (λ name. name.now) h.path.now in
     let line : Data → Data → Data → List ℕ = λ why missing revoked. old ++ json_line (object_of (
     (codes "kind", string (codes "held-beyond"))
-    ∷ (codes "client", bytes_value a.client.now)
+    ∷ (codes "client", bytes_value h.client.now)
     ∷ (codes "rules", why)
     ∷ (codes "missing", missing)
-    ∷ (codes "inode", natural a.number)
+    ∷ (codes "inode", natural h.number)
     ∷ (codes "path", path_value path)
-    ∷ (codes "session", natural a.session)
-    ∷ (codes "holds", caps_value a.issued)
+    ∷ (codes "session", natural h.session)
+    ∷ (codes "holds", caps_value h.issued)
     ∷ (codes "may_not", caps_value f.caps)
     ∷ (codes "being_revoked", revoked)
     ∷ [])) in
@@ -31,5 +32,5 @@ returns-in-Each c =
     ∙ ap (λ (w : Data). line w (piece_value c.access_if.result) (piece_value c.revoked_if.result)) c.why.ensures
     ∙ ap (λ (m : Data). line (why_value f.missing f.rules) m (piece_value c.revoked_if.result)) c.access_if.ensures
     ∙ ap (line (why_value f.missing f.rules) missing) c.revoked_if.ensures
-    ∙ ap (λ (d : Detail). old ++ found_object d a.number path a.client.now a.session a.issued a.pending f) (sym c.in-Each.is))
+    ∙ ap (λ (d : Detail). old ++ found_object d h.number path h.client.now h.session h.issued h.pending f) (sym c.in-Each.is))
     c.print_pieces.ensures.line

@@ -3,4 +3,4 @@ use Rattle.cluster_audit.proofs.Giving.{IsGiven}
 use Rattle.cluster_audit.proofs.pairs.conflict_lines.Given as goal
 
 abbrev pub invariant-loop-inode : goal.invariant-loop-inode
-invariant-loop-inode l = IsGiven (SaysOfPairs l.manner l.sessions l.paths) l.inodes l.inode-index l.text.items
+invariant-loop-inode l = IsGiven (SaysOfPairs l.manner l.clients.sessions l.paths) l.inodes l.inode-index l.text.items

@@ -10,11 +10,11 @@ end_behind a b c d = simp append_assoc
 pub returns : goal.returns
 returns c =
     let last = c.print_str.new.text.items in
-    let conflict = c.args.conflict.now in
+    let conflict = c.args.named.now.conflict in
     let detail = c.args.detail in
-    let place : List ℕ = on_inode detail c.args.number (option_map (λ names. map (λ name. name.now) names.now) c.args.path) in
-    let one : List ℕ = holder_text detail conflict.one.client (option_map (λ name. name.now) c.args.one) in
-    let other : List ℕ = holder_text detail conflict.other.client (option_map (λ name. name.now) c.args.other) in
+    let place : List ℕ = on_inode detail c.args.named.now.number (option_map (λ names. map (λ name. name.now) names.now) c.args.named.now.path) in
+    let one : List ℕ = holder_text detail conflict.one.client (option_map (λ name. name.now) c.args.named.now.one) in
+    let other : List ℕ = holder_text detail conflict.other.client (option_map (λ name. name.now) c.args.named.now.other) in
     let beside : List ℕ = beside_text conflict in
     let behind_beside : List ℕ = other ++ codes "\n" in
     on_ok_weaker c.print_str.result

@@ -30,13 +30,13 @@ module _ (m : Manner) (sessions : List Connected) (known : PathMap) (it : Listed
 pub returns-in_default : goal.returns-in_default
 returns-in_default c =
     on_ok_weaker c.print_conflicts.result
-    (of_inode c.args.manner c.args.sessions.now c.args.paths.now c.args.inode.now c.number-number.result None c.holders.result.now c.in_ok-holdings.holdings.items _ c.args.text.now.items _
+    (of_inode c.args.manner c.args.clients.now.sessions c.args.paths.now c.args.inode.now c.number-number.result None c.holders.result.now c.in_ok-holdings.holdings.items _ c.args.text.now.items _
     c.number-number.ensures c.holders.ensures c.in_ok-holdings.ensures c.in_default.ensures (c.as_slice-in_default.ensures.value ∙ c.in_ok-found.ensures ∙ ap conflicts_of c.as_slice.ensures.value))
     c.print_conflicts.ensures
 
 pub returns : goal.returns
 returns c =
     on_ok_weaker c.print_conflicts-2.result
-    (of_inode c.args.manner c.args.sessions.now c.args.paths.now c.args.inode.now c.number-number.result _ c.holders.result.now c.in_ok-holdings.holdings.items _ c.args.text.now.items _
+    (of_inode c.args.manner c.args.clients.now.sessions c.args.paths.now c.args.inode.now c.number-number.result _ c.holders.result.now c.in_ok-holdings.holdings.items _ c.args.text.now.items _
     c.number-number.ensures c.holders.ensures c.in_ok-holdings.ensures (ap (λ (ns : List (Bor (List ℕ))). Some (names_of ns)) c.as_slice-2.ensures.value ∙ ap Some c.in_ok-names.ensures ∙ c.in-Some.ensures) (c.as_slice-3.ensures.value ∙ c.in_ok-found.ensures ∙ ap conflicts_of c.as_slice.ensures.value))
     c.print_conflicts-2.ensures

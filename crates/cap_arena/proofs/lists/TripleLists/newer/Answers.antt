@@ -7,4 +7,4 @@ use Rattle.cap_arena.proofs.lists.TripleLists.newer.Goals as goal
 pub returns-clause-next : goal.returns-clause-next
 returns-clause-next g c =
     let f = c.self.inside in
-    c.next_of.ensures ∙ next_of_recall (lists_of f.nodes.slots f.recall f.inodes f.clients) f.recall c.args.key c.self.invariant ∙ ap (λ t. key_after (keys t OfRecall) c.args.key) c.self.view_is
+    c.next_of.ensures ∙ next_of_recall (lists_of f.nodes.slots f.ends.recall f.ends.inodes f.ends.clients) f.ends.recall c.args.key c.self.invariant ∙ ap (λ t. key_after (keys t OfRecall) c.args.key) c.self.view_is

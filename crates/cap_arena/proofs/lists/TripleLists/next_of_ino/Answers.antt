@@ -8,4 +8,4 @@ use Rattle.cap_arena.proofs.lists.TripleLists.next_of_ino.Goals as goal
 pub returns-clause-next : goal.returns-clause-next
 returns-clause-next g c =
     let f = c.self.inside in
-    c.next_of.ensures ∙ next_of_inode (lists_of f.nodes.slots f.recall f.inodes f.clients) f.recall c.args.key c.self.invariant ∙ ap (λ t. option_and_then (λ node. key_after (keys t (OfInode node.ino)) c.args.key) (node_at t c.args.key)) c.self.view_is
+    c.next_of.ensures ∙ next_of_inode (lists_of f.nodes.slots f.ends.recall f.ends.inodes f.ends.clients) f.ends.recall c.args.key c.self.invariant ∙ ap (λ t. option_and_then (λ node. key_after (keys t (OfInode node.ino)) c.args.key) (node_at t c.args.key)) c.self.view_is

@@ -4,7 +4,7 @@ use Rattle.capstep.proofs.EntryRequests.{affects-of_request, below-of_request, e
 use Rattle.capstep.specs.Begun.{AreCountedIn}
 use Rattle.capstep.specs.EntryRequest.{StillKept, table_after}
 use Rattle.capcore.proofs.Begun.{on_err, one-begun}
-use Rattle.capcore.proofs.Common.{Affected, StepOutput, Event, Holder, Scene, State, changes-still, effect, effect_unless, entry_event, none-judged, plain}
+use Rattle.capcore.proofs.Common.{Affected, Event, Holder, Scene, State, StepOutput, changes-still, effect, effect_unless, entry_event, none-judged, plain}
 use Rattle.capcore.proofs.Common.{request-table, room-for, view_of}
 use Rattle.capcore.proofs.EntryWhole.{effect-answer}
 use Rattle.capcore.proofs.Unaffected.{kept_scene}

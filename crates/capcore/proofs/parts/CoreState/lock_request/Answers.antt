@@ -3,10 +3,10 @@ use Rattle.std.proofs.lemmas.List.{length-append}
 use Rattle.std.proofs.lemmas.List.Elements.{Contains-push}
 use Rattle.std.specs.FinSet as set
 use Rattle.capcore.proofs.Begun.{one-begun}
-use Rattle.capcore.proofs.Common.{Affected, AffectsOne, AreCounted, Awaits, CountedLocks, StepOutput, Event, Holder, InoSet, IsJudged, IsLockMap, LockMap}
-use Rattle.capcore.proofs.Common.{Operation, Request, Scene, Ticket, alike-less, arrival_tests, changes-still, direct, enqueues, found_by_number, judged_again}
-use Rattle.capcore.proofs.Common.{next_request, one-counts, one-inode, operation_needs, operation_of, plain, rejection_of, request_at, room-for, still-there}
-use Rattle.capcore.proofs.Common.{view_of, waiting_tests, with_request}
+use Rattle.capcore.proofs.Common.{Affected, AffectsOne, AreCounted, Awaits, CountedLocks, Event, Holder, InoSet, IsJudged, IsLockMap, LockMap, Operation}
+use Rattle.capcore.proofs.Common.{Request, Scene, StepOutput, Ticket, alike-less, arrival_tests, changes-still, direct, enqueues, found_by_number}
+use Rattle.capcore.proofs.Common.{judged_again, next_request, one-counts, one-inode, operation_needs, operation_of, plain, rejection_of, request_at, room-for}
+use Rattle.capcore.proofs.Common.{still-there, view_of, waiting_tests, with_request}
 use Rattle.capcore.proofs.LockRequests.{below-of_operation, enqueuing-affects, enqueuing-again, enqueuing-direct, enqueuing-rejection, operation-for}
 use Rattle.capcore.proofs.LockRequests.{order-of_operation, room-left}
 use Rattle.capcore.specs.UnderWay.{operation_event, state_of}

@@ -2,8 +2,8 @@ use Rattle.std.proofs.Common.{◌≡◌, ◌≤◌, ◌++◌, length, sym, ap, s
 use Rattle.std.specs.Option.{option_map}
 use Rattle.capstep.specs.declared.settle.Affected.TheVariants.{Inodes}
 use Rattle.capcore.proofs.Begun.{on_err}
-use Rattle.capcore.proofs.Common.{AreChanges, StepOutput, KeptScene, SessionTable, ClientView, dropped_by, is_end, none-judged, plain, room-for, session_changed}
-use Rattle.capcore.proofs.Common.{session_event, view, view_of}
+use Rattle.capcore.proofs.Common.{AreChanges, ClientView, KeptScene, SessionTable, StepOutput, dropped_by, is_end, none-judged, plain, room-for}
+use Rattle.capcore.proofs.Common.{session_changed, session_event, view, view_of}
 use Rattle.capcore.proofs.Granted.{left-permitted}
 use Rattle.capcore.proofs.SessionStep.{change-begun, few-messages, few-waiting, noted-few}
 use Rattle.capcore.specs.UnderWay.{HasBegun, state_of}

@@ -3,8 +3,8 @@ use Rattle.std.proofs.lemmas.List.{length-append}
 use Rattle.step_model.specs.NotedChanges.{Noted}
 use Rattle.capcore.proofs.Begun.{ended-answered, ended-known, ended-numbers, few-earlier, fewer-places, shown-counted, shown-kept, shown-rest}
 use Rattle.capcore.proofs.Closing.{ends-sessions}
-use Rattle.capcore.proofs.Common.{AreChanges, AreCounted, Ended, StepOutput, Event, IsAnswered, IsLockMap, IsSound, IsTable, KeptScene, ClientViews, NumbersLeft}
-use Rattle.capcore.proofs.Common.{Scene, SessionTable, State, Table, changes-still, plain, shown, view, view_of}
+use Rattle.capcore.proofs.Common.{AreChanges, AreCounted, ClientViews, Ended, Event, IsAnswered, IsLockMap, IsSound, IsTable, KeptScene, NumbersLeft, Scene}
+use Rattle.capcore.proofs.Common.{SessionTable, State, StepOutput, Table, changes-still, plain, shown, view, view_of}
 use Rattle.capcore.proofs.Rejections.{judged-at, rejection-answered}
 use Rattle.capcore.proofs.world.World.move_locks.Goals.{After-close, After-end}
 use Rattle.capcore.specs.UnderWay.{AreKept, HasBegun, MayBegin, answer_of, earlier_of, event_of, state_of}

@@ -2,7 +2,7 @@ use Rattle.std.proofs.Common.{◌≡◌, ◌≤◌, [], List, length, filter, So
 use Rattle.std.proofs.lemmas.List.Sums.{count_by-le-length, length-filter}
 use Rattle.capstep.proofs.Telling.{given-held}
 use Rattle.step_model.specs.DueEndings.{AreEndsOf}
-use Rattle.capcore.proofs.Common.{AreChanges, AreCounted, ByTest, Ended, Event, IsAnswered, IsSound, IsTable, KeptTable, Message, Reply, StepReply, State}
+use Rattle.capcore.proofs.Common.{AreChanges, AreCounted, ByTest, Ended, Event, IsAnswered, IsSound, IsTable, KeptTable, Message, Reply, State, StepReply}
 use Rattle.capcore.proofs.Common.{after_messages, alike-where, changed_where, changes-still, first_failing, first_messages, is_left, is_of_client, plain}
 use Rattle.capcore.proofs.Common.{rejection-before, session_tests, view_of, with_given}
 use Rattle.capcore.proofs.Counts.{counted-where}

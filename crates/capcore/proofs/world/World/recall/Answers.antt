@@ -1,5 +1,5 @@
 use Rattle.std.proofs.Common.{ap, subst, sym}
-use Rattle.capcore.proofs.Common.{AreChanges, Event, IsAnswered, KeptTable, Reply, StepReply, State, changes-still, plain, view_of, with_table}
+use Rattle.capcore.proofs.Common.{AreChanges, Event, IsAnswered, KeptTable, Reply, State, StepReply, changes-still, plain, view_of, with_table}
 use Rattle.capcore.proofs.Counts.{recalled-counted}
 use Rattle.capcore.proofs.Recalled.{recall-answered, recalled-kept, recalled-sound}
 use Rattle.capcore.proofs.world.World.recall.Goals.{After-new}

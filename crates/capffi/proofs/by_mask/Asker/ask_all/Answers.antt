@@ -3,7 +3,8 @@ use Rattle.capgrant.specs.declared.access.Access.TheVariants.{Chgrp, Chown, Read
 use Rattle.capgrant.specs.declared.answer.Verdict.{Verdict}
 use Rattle.capffi.specs.declared.passed.Check.{Check}
 use Rattle.capffi.specs.Blocks.{bare_names}
-use Rattle.capffi.specs.ByMask.{asked_if, mask_verdict_next, verdict_on}
+use Rattle.capgrant.specs.Masks.{asked_if}
+use Rattle.capffi.specs.ByMask.{mask_verdict_next, verdict_on}
 use Rattle.capffi.proofs.Masks.{six}
 use Rattle.capffi.proofs.by_mask.Asker.ask_all.Goals as goal
 

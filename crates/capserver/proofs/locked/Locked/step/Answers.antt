@@ -8,7 +8,7 @@ use Rattle.step_model.specs.Noted.{view_of}
 use Rattle.capcore.specs.Promised.{IsPromised}
 use Rattle.snapshot.specs.Publishing.{Publishing}
 use Rattle.capserver.specs.Held.{IsHeld}
-use Rattle.snapshot.specs.Passes.{pass_id}
+use Rattle.capserver.specs.Passes.{pass_id}
 use Rattle.capserver.proofs.Holding.{begins_next, held_next, legal_of, room_of}
 use Rattle.capserver.proofs.locked.Locked.step.Goals as goal
 
@@ -26,18 +26,18 @@ follow-requires-clause-legal g c =
 
 pub follow-requires-clause-begins : goal.follow-requires-clause-begins
 follow-requires-clause-begins g c =
-    let held = subst (λ (q : Option Publishing). MatchOption q ⊥ (IsHeld c.self.inside.core c.self.inside.calls.total)) (sym c.as_mut.ensures.value ∙ ap option_copied_mut c.in-Some.is) c.self.invariant.3 in
+    let held = subst (λ (q : Option Publishing). MatchOption q ⊥ (IsHeld c.self.inside.core c.self.inside.calls.total)) (sym c.as_mut.ensures.value ∙ ap option_copied_mut c.in-Some.is) c.self.invariant.4 in
     let before = c.in-Some.publisher.now.rows in
     subst (IsPrefix before) (sym c.history.ensures.rows) (begins_next c.self.inside.core c.make.new.core (pass_id c.args.pass.now) c.args.event c.in_ok-reply.reply before held.begins c.in_ok-reply.ensures.promised.next)
 
 pub follow-requires-clause-room : goal.follow-requires-clause-room
 follow-requires-clause-room g c =
-    let held = subst (λ (q : Option Publishing). MatchOption q ⊥ (IsHeld c.self.inside.core c.self.inside.calls.total)) (sym c.as_mut.ensures.value ∙ ap option_copied_mut c.in-Some.is) c.self.invariant.3 in
+    let held = subst (λ (q : Option Publishing). MatchOption q ⊥ (IsHeld c.self.inside.core c.self.inside.calls.total)) (sym c.as_mut.ensures.value ∙ ap option_copied_mut c.in-Some.is) c.self.invariant.4 in
     room_of c.make.new.core c.history.result.now (subst (λ (n : ℕ). n ≤ 4294967295) (sym c.in_ok-reply.ensures.promised.next.max_rows) held.room) c.history.ensures.recorded c.history.ensures.rows
 
 pub invariant_of-self-2 : goal.invariant_of-self-2
 invariant_of-self-2 g c =
-    let held = subst (λ (q : Option Publishing). MatchOption q ⊥ (IsHeld c.self.inside.core c.self.inside.calls.total)) (sym c.as_mut.ensures.value ∙ ap option_copied_mut c.in-Some.is) c.self.invariant.3 in
+    let held = subst (λ (q : Option Publishing). MatchOption q ⊥ (IsHeld c.self.inside.core c.self.inside.calls.total)) (sym c.as_mut.ensures.value ∙ ap option_copied_mut c.in-Some.is) c.self.invariant.4 in
     let after = c.follow.new.self in
     let made = c.in_ok-reply.ensures.promised in
     let history = c.history.ensures in
@@ -45,6 +45,7 @@ invariant_of-self-2 g c =
       c.self.invariant.0,
       c.self.invariant.1,
       record { replays = made.legal g.L.Server.opening led.replays; max_rows_is = made.next.max_rows ∙ led.max_rows_is },
+      history.recorded.legal.numbered,
       held_next c.self.inside.core c.make.new.core (pass_id c.args.pass.now) c.args.event c.in_ok-reply.reply c.self.inside.calls.total c.make.new.calls.total c.in-Some.publisher.now after c.last_changes.result.now held made.next c.in_ok-reply.ensures.book
           (subst (λ (changes : List ViewChange). AreChanges changes (view_of c.self.inside.core.state) (view_of c.make.new.core.state)) (sym c.last_changes.ensures) made.changes)
           (subst (IsPrefix after.rows) history.rows c.follow.ensures.begins) c.follow.ensures.kept (λ there. c.follow.ensures.rows there ∙ history.rows) c.follow.ensures.view,

@@ -2,8 +2,8 @@ use Rattle.std.proofs.Common.{◌≡◌, List, ap, sym, subst, arith, length}
 use mathlib.Core.List.{IsPrefix}
 use Rattle.step_model.specs.declared.row.Row.{Row}
 use Rattle.step_model.specs.History.{Recorded}
-use Rattle.snapshot.specs.Passes.{AllBegin}
-use Rattle.snapshot.proofs.Numbering.{begin_longer}
+use Rattle.capserver.specs.Passes.{AllBegin}
+use Rattle.capserver.proofs.Numbering.{begin_longer}
 use Rattle.capserver.proofs.server.CapServer.close.Goals as goal
 
 pub returns-clause-rows : goal.returns-clause-rows

@@ -5,8 +5,8 @@ use Rattle.std.specs.FinMap.{FinMap}
 use Rattle.std.specs.Ordering.{nat_cmp}
 use Rattle.capbits.specs.Maps.{change_at}
 use Rattle.dense_map.proofs.Maps.{change-is, change-none}
-use Rattle.lockmachine.specs.declared.counts.Counts.{Counts}
-use Rattle.lockmachine.specs.GatherCounts.{one_less_in}
+use Rattle.locktable.specs.declared.counts.Counts.{Counts}
+use Rattle.locktable.specs.GatherCounts.{one_less_in}
 use Rattle.lockmachine.specs.declared.states.LocksAt.{LocksAt}
 use Rattle.lockmachine.specs.Inodes.{CountedStates}
 use Rattle.lockmachine.proofs.EachValue.{both-counts, both_of}

@@ -1,6 +1,6 @@
 use Rattle.std.proofs.Common.{Result, Ok, Err, OnOk, OnErr, sym, ap, ◌∙◌}
 use Rattle.std.specs.FinMap as map
-use Rattle.lockmachine.specs.GatherCounts.{no_counts}
+use Rattle.locktable.specs.GatherCounts.{no_counts}
 use Rattle.lockmachine.specs.declared.states.LocksAt.{LocksAt}
 use Rattle.lockmachine.specs.Inodes.{CountedStates}
 use Rattle.lockmachine.proofs.EachValue.{both-insert, both_of}

@@ -13,7 +13,7 @@ use Rattle.policy_view.specs.Visible.{Shows}
 use Rattle.snapshot.specs.declared.value.Published.{Published}
 use Rattle.step_model.specs.Noted.{view_of}
 use Rattle.snapshot.specs.Places.{IsPublished}
-use Rattle.snapshot.specs.Answers.{IsAnswered}
+use Rattle.capserver.specs.Answers.{IsAnswered}
 
 pub answered : (opening : State) (book : Book) (value : Published) (fs : List ℕ) (asked : Question) (known : List Row) (answer : Result Verdict Unknown)
     → IsPublished opening book value → fs ≡ opening.scene.fs → known ≡ value.rows.seen.log → ((real : View) → Shows value.view real → IsAnswer fs real asked answer) → IsAnswered opening known asked answer

@@ -1,6 +1,6 @@
 use Rattle.std.proofs.Common.{◌≡◌, ◌+◌, length}
 use Rattle.std.specs.List.{sum_by}
-use Rattle.snapshot.proofs.passes.merge_all.Given as goal
+use Rattle.capserver.proofs.passes.merge_all.Given as goal
 
 abbrev pub invariant-loop-pass : goal.invariant-loop-pass
 invariant-loop-pass g l = record {

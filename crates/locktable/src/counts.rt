@@ -1,6 +1,6 @@
 //! How many clients the gathers of an inode wait for.
 ghost use Rattle.std.specs.Prelude.{◌≡◌};
-ghost use Rattle.lockmachine.specs.GatherCounts as words;
+ghost use Rattle.locktable.specs.GatherCounts as words;
 
 use capbits::Part;
 

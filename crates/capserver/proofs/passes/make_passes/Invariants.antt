@@ -1,6 +1,6 @@
 use Rattle.std.proofs.Common.{◌≡◌, ◌+◌, length}
-use Rattle.snapshot.specs.Passes.{AllNew}
-use Rattle.snapshot.proofs.passes.make_passes.Given as goal
+use Rattle.capserver.specs.Passes.{AllNew}
+use Rattle.capserver.proofs.passes.make_passes.Given as goal
 
 abbrev pub invariant-loop-at : goal.invariant-loop-at
 invariant-loop-at g l = record {

@@ -5,8 +5,8 @@ use Rattle.policy_view.specs.Visible.{Shows}
 use Rattle.policy_view.proofs.Likeness.{shows-refl}
 use Rattle.snapshot.specs.Rows.{Legal}
 use Rattle.snapshot.specs.declared.value.Published.{Published}
-use Rattle.snapshot.proofs.Asking.{answered, never_unseen}
-use Rattle.snapshot.proofs.reader.Reader.explain.Goals as goal
+use Rattle.capserver.proofs.Asking.{answered, never_unseen}
+use Rattle.capserver.proofs.reader.Reader.explain.Goals as goal
 
 pub returns-clause-answer : goal.returns-clause-answer
 returns-clause-answer g c seen =

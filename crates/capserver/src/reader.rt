@@ -1,24 +1,20 @@
-//! Who knows a beginning of the history, and reads what is published.
+//! A reader of what is published, which knows a beginning of the history.
 ghost use Rattle.std.specs.Prelude.{◌≡◌, ◌≢◌, ◌<◌, Err, None, [], length, IfOk, IfSome, IsTrue, MatchOption};
 ghost use mathlib.Core.List.{IsPrefix};
 ghost use Rattle.left_right.specs.Sides.{view as place_view};
 ghost use Rattle.policy_view.specs.declared.answer.Unknown.TheVariants as unknown;
 ghost use Rattle.snapshot.specs.Places.{HasSeen, IsPublished, IsTold};
 ghost use Rattle.snapshot.specs.Rows.{Legal};
-ghost use Rattle.snapshot.specs.Answers.{IsAnswered};
+ghost use Rattle.capserver.specs.Answers.{IsAnswered};
 
-use crate::beginning::Beginning;
-use crate::ledger::Server;
-use crate::place::{PublishedReader, PublishedReading, Sees};
-use crate::publisher::Publisher;
-use crate::recorder::Recorder;
 use capgrant::Verdict;
 use capspec::FsName;
 use policy_view::{Question, Unknown};
+use snapshot::{Beginning, PublishedReader, PublishedReading, Publisher, Recorder, Sees, Server};
 use std::alloc::AllocError;
 use std::marker::Model;
 
-/// Who has a reader's place, and knows what it saw there. To contracts it is the rows that it knows.
+/// A reader has a place in the published pair, and knows what it saw there. To contracts it is the rows that it knows.
 pub struct Reader<L: Server> {
     known: Beginning<L>,
     // Its place, which it has between two calls.
@@ -49,7 +45,7 @@ impl<L: Server> Model for Reader<L> {
 }
 
 impl<L: Server> Reader<L> {
-    /// Who knows no row yet, and can read what is published.
+    /// A reader that knows no row yet, and can read what is published.
     pub fn of(publisher: &mut Publisher<L>) -> Result<Reader<L>, AllocError>
         requires { publisher.old.rows ≡ [] }
         ensures same { publisher.new ≡ publisher.old }
@@ -57,8 +53,6 @@ impl<L: Server> Reader<L> {
     {
         let place = publisher.reader()?;
         let known = publisher.rows().again();
-        // What it knows is legal.
-        let _count = known.len();
         Ok(Reader {
             known,
             place: Some(place),
@@ -103,7 +97,7 @@ impl<L: Server> Reader<L> {
         before < self.known.len() && self.known.is(rows)
     }
 
-    /// What it knows begins the rows that were added.
+    /// What the reader knows begins the rows that were added.
     pub fn check_against(&self, recorder: &mut Recorder<L>)
         ensures begins { IsPrefix self.now recorder.old }
         ensures same { recorder.new ≡ recorder.old }
@@ -133,7 +127,7 @@ fn begin_reading<L: Server>(
     }
 }
 
-// Ends it, and gives the rows that were read.
+// Ends to read at a place, and gives the rows that were read.
 fn end_reading<L: Server>(
     place: &mut Option<PublishedReader>,
     reading: PublishedReading,

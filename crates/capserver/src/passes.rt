@@ -1,15 +1,13 @@
 //! All passes of a server: made before it starts, and looked at and taken back when it ends.
 ghost use Rattle.std.specs.Prelude.{◌≡◌, ◌⊎◌, ◌≤◌, ◌+◌, [], Err, vec_len, IfOk, OnOk, OnErr};
 ghost use Rattle.std.specs.List.{sum_by};
-ghost use Rattle.snapshot.specs.declared.passes.StartFault.TheVariants as faults;
-ghost use Rattle.snapshot.specs.Passes.{AllBegin, AllNew};
+ghost use Rattle.capserver.specs.declared.passes.StartFault.TheVariants as faults;
+ghost use Rattle.capserver.specs.Passes.{AllBegin, AllNew};
 
-use crate::ledger::Server;
 use crate::pass::Pass;
-use crate::publisher::Publisher;
 use crate::reader::Reader;
-use crate::recorder::Recorder;
 use capbits::PassId;
+use snapshot::{Publisher, Recorder, Server};
 use std::alloc::Global;
 use std::sync::ledger::Share;
 use thiserror::Error;

@@ -3,7 +3,7 @@ use Rattle.left_right.specs.Sides.{view as place_view}
 use Rattle.snapshot.specs.Places.{IsTold}
 use Rattle.snapshot.proofs.Publishing.{has_seen, held_of, told_same}
 use Rattle.snapshot.proofs.Seeing.{looks}
-use Rattle.snapshot.proofs.reader.begin_reading.Goals as goal
+use Rattle.capserver.proofs.reader.begin_reading.Goals as goal
 
 pub enter_as-requires : goal.enter_as-requires
 enter_as-requires g c x = looks g.L.Server.opening g.L.Server.history _ _ (held_of c.args.place.now c.take.result c.in-Some.reader _ c.requires c.take.ensures.value c.in-Some.is).1 x

@@ -2,7 +2,7 @@
 use Rattle.std.specs.Prelude.{ℕ, ◌-◌}
 use Rattle.capbits.specs.declared.cap.Part.{Part}
 use Rattle.capbits.specs.declared.cap.Part.TheVariants.{A, F, L, X}
-use Rattle.lockmachine.specs.declared.counts.Counts.{Counts}
+use Rattle.locktable.specs.declared.counts.Counts.{Counts}
 
 -- that of a part
 abbrev pub count_in : Part → Counts → ℕ

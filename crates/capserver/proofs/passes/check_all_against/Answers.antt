@@ -1,9 +1,9 @@
 use Rattle.std.proofs.Common.{◌≡◌, ◌∙◌, ℕ, suc, ◌+◌, List, take, subst, arith}
 use mathlib.Core.List.{IsPrefix}
 use Rattle.step_model.specs.declared.row.Row.{Row}
-use Rattle.snapshot.specs.Passes.{AllBegin}
-use Rattle.snapshot.proofs.Numbering.{begin_all, begin_more}
-use Rattle.snapshot.proofs.passes.check_all_against.Goals as goal
+use Rattle.capserver.specs.Passes.{AllBegin}
+use Rattle.capserver.proofs.Numbering.{begin_all, begin_more}
+use Rattle.capserver.proofs.passes.check_all_against.Goals as goal
 
 pub loop-pass-preserved : goal.loop-pass-preserved
 loop-pass-preserved g c =

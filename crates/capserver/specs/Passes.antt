@@ -4,8 +4,8 @@ use Rattle.std.specs.Coded.{Coded, code_by, coded_ℕ, coded×}
 use mathlib.Core.List.{IsPrefix}
 use Rattle.capbits.specs.declared.ids.PassId.{PassId}
 use Rattle.step_model.specs.declared.row.Row.{Row}
-use Rattle.snapshot.specs.declared.passes.StartFault.{StartFault}
-use Rattle.snapshot.specs.declared.passes.StartFault.TheVariants.{BadCount, NoMemory, NoReader}
+use Rattle.capserver.specs.declared.passes.StartFault.{StartFault}
+use Rattle.capserver.specs.declared.passes.StartFault.TheVariants.{BadCount, NoMemory, NoReader}
 use Rattle.snapshot.specs.Rows.{rows_code}
 
 -- a pass's number, how many of its calls were answered, and the rows of the history that it knows

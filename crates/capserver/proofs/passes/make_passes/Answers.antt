@@ -1,7 +1,7 @@
 use Rattle.std.proofs.Common.{◌≡◌, ◌+◌, [], ◌∷◌, length, ap, sym, ◌∙◌, subst, arith, length-append}
-use Rattle.snapshot.specs.Passes.{AllNew, pass_state}
-use Rattle.snapshot.proofs.Numbering.{new_more}
-use Rattle.snapshot.proofs.passes.make_passes.Goals as goal
+use Rattle.capserver.specs.Passes.{AllNew, pass_state}
+use Rattle.capserver.proofs.Numbering.{new_more}
+use Rattle.capserver.proofs.passes.make_passes.Goals as goal
 
 pub loop-at-preserved : goal.loop-at-preserved
 loop-at-preserved g c =

@@ -3,7 +3,7 @@ use Rattle.std.proofs.Common.{◌≡◌, ℕ, zero, suc, ◌+◌, ◌<◌, ◌�
 use mathlib.Core.List.{IsPrefix}
 use Rattle.step_model.specs.declared.row.Row.{Row}
 use Rattle.snapshot.proofs.Beginnings.{prefix_trans}
-use Rattle.snapshot.specs.Passes.{AllBegin, AllNew, PassState, pass_state}
+use Rattle.capserver.specs.Passes.{AllBegin, AllNew, PassState, pass_state}
 
 -- one more new pass
 pub new_more : (n m : ℕ) (ps : List PassState) (p : PassState) → AllNew n ps → p ≡ pass_state m 0 [] → m ≡ (n + length ps) + 1 → AllNew n (ps ++ p ∷ [])

@@ -2,18 +2,16 @@
 ghost use Rattle.std.specs.Prelude.{◌≡◌, ◌≢◌, ◌<◌, ◌+◌, Err, length, IsTrue};
 ghost use mathlib.Core.List.{IsPrefix};
 ghost use Rattle.policy_view.specs.declared.answer.Unknown.TheVariants as unknown;
-ghost use Rattle.snapshot.specs.Answers.{IsAnswered};
+ghost use Rattle.capserver.specs.Answers.{IsAnswered};
 ghost use Rattle.snapshot.specs.Rows.{Legal};
-ghost use Rattle.snapshot.specs.Passes.{pass_state};
+ghost use Rattle.capserver.specs.Passes.{pass_state};
 
-use crate::beginning::Beginning;
-use crate::ledger::Server;
 use crate::reader::Reader;
-use crate::recorder::Recorder;
 use capbits::PassId;
 use capgrant::Verdict;
 use capspec::FsName;
 use policy_view::{Question, Unknown};
+use snapshot::{Beginning, Recorder, Server};
 use std::marker::Model;
 use std::sync::ledger::{Book, Share};
 
@@ -22,7 +20,7 @@ pub struct Pass<L: Server> {
     number: PassId,
     // One part of the ledger, with the number of the answered calls as its amount.
     share: Share<L>,
-    // Who reads what is published.
+    // The pass's reader of what is published.
     reader: Reader<L>,
 }
 
@@ -39,7 +37,7 @@ impl<L: Server> Drop for Pass<L> {
 
 impl<L: Server> Model for Pass<L> {
     ghost use Rattle.std.specs.Prelude.{◌≡◌};
-    ghost use Rattle.snapshot.specs.Passes.{PassState, pass_state, pass_state_code};
+    ghost use Rattle.capserver.specs.Passes.{PassState, pass_state, pass_state_code};
 
     ghost Value = { PassState };
 
@@ -109,7 +107,7 @@ impl<L: Server> Pass<L> {
         self.reader.catch_up(rows)
     }
 
-    /// What it knows begins the rows of the book.
+    /// What the pass knows begins the rows of the recorder.
     pub fn check_against(&self, recorder: &mut Recorder<L>)
         ensures begins { IsPrefix self.now.known recorder.old }
         ensures same { recorder.new ≡ recorder.old }
