@@ -37,6 +37,9 @@ pub pushed : {X : Type 0} (f : X → Data) (before after : List Value) (gone : L
 pushed f before after gone x v is now held =
     ap (map view) now ∙ map-append view before (v ∷ []) ∙ ap (λ ds. ds ++ view v ∷ []) held ∙ ap (λ d. map f gone ++ d ∷ []) is ∙ sym (map-append f gone (x ∷ []))
 
+pub one_item : {X : Type 0} (f : X → Data) (before after : List Value) (xs : List X) (i : ℕ) (d : X) (v : Value) → i < length xs → view v ≡ f (get_or xs i d) → after ≡ before ++ v ∷ [] → map view before ≡ map f (take i xs) → map view after ≡ map f (take (i + 1) xs)
+one_item f before after xs i d v inside is now held = pushed f before after (take i xs) (get_or xs i d) v is now held ∙ ap (map f) (sym (take_more xs i d inside))
+
 pub one_numbered : {X : Type 0} (f : ℕ × X → Data) (before after : List Value) (xs : List X) (i : ℕ) (d : X) (v : Value) → i < length xs → view v ≡ f (i + 1, get_or xs i d) → after ≡ before ++ v ∷ [] → map view before ≡ map f (enumerate_from 1 (take i xs))
     → map view after ≡ map f (enumerate_from 1 (take (i + 1) xs))
 one_numbered f before after xs i d v inside is now held =

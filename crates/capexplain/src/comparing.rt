@@ -3,9 +3,8 @@ ghost use Rattle.std.specs.Prelude.{◌≡◌, ◌++◌, IfOk, OnOk};
 ghost use Rattle.capexplain.specs.Comparing.{caller_text, comparison, found_line, owner_text, witness_text};
 
 use crate::event_text::print_groups;
-use crate::explaining::print_path;
 use crate::part_text::print_mode;
-use crate::quoting::print_quoted;
+use crate::quoting::print_quoted_path;
 use capbits::{Caller, print, print_str};
 use capgrant::Attr;
 use policy_analysis::Witness;
@@ -49,13 +48,10 @@ pub(crate) fn print_found(
 fn print_witness(text: &mut Vec<u8>, witness: &Witness<'_>) -> Result<(), AllocError>
     ensures { OnOk result (text.new.items ≡ text.old.items ++ witness_text witness.now) }
 {
-    let alloc = *text.allocator();
-    let names = witness.path.names(alloc)?;
-    let mut path = Vec::new(alloc);
-    print_path(&mut path, names.as_slice())?;
+    let names = witness.path.names(*text.allocator())?;
     let (access, grant) = (witness.access, witness.grant);
     print(text, format_args!("{access} "))?;
-    print_quoted(text, path.as_slice())?;
+    print_quoted_path(text, names.as_slice())?;
     print_str(text, " fs ")?;
     text.extend_from_slice(witness.fs.as_bytes())?;
     print_caller(text, &witness.caller)?;

@@ -49,9 +49,9 @@ fn print_arguments(text: &mut Vec<u8>, event: &Event) -> Result<(), AllocError>
         Event::CloseSession { client }
         | Event::Mark { client, .. }
         | Event::Evict { client }
-        | Event::Unblock { client } => print_numbers(text, &[u64::from(client.0)]),
+        | Event::Unblock { client } => print_numbered(text, " ", u64::from(client.0)),
         Event::Regrant { client, grants } => print_regrant(text, *client, grants),
-        Event::Recall { count } => print_numbers(text, &[u64::from(*count)]),
+        Event::Recall { count } => print_numbered(text, " ", u64::from(*count)),
         Event::Lookup { client, dir, name } => print_named(text, *client, *dir, name),
         Event::MakeSnapshot { client, ino, name } | Event::RemoveSnapshot { client, ino, name } => {
             print_named(text, *client, *ino, name)

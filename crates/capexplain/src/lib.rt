@@ -38,7 +38,7 @@ pub use findings::print_finding_object;
 pub use history_text::{append_audit_line, audit_line};
 pub use laws::{one_answer_for_a_line, one_text_for_what_is_shown};
 pub use linting::print_finding;
-pub use quoting::print_quoted;
+pub use quoting::{print_quoted, print_quoted_path};
 pub use remarking::remarked_lines;
 pub use reply::reply_lines;
 pub use shape::Shape;

@@ -4,7 +4,7 @@ ghost use Rattle.std.specs.Prelude.{◌≡◌, ◌++◌, OnOk};
 ghost use Rattle.capexplain.specs.Linting.{finding_lines, said_if, stands_line};
 
 use crate::comparing::print_found;
-use capbits::{print_numbered, print_str};
+use capbits::{print, print_numbered, print_str};
 use policy_analysis::{Finding, Unread};
 use std::alloc::AllocError;
 
@@ -64,11 +64,9 @@ fn print_as_it_stands(
         Some(Unread::WhiteSpace) => print_if(text, true, grant, SPACES),
         Some(Unread::AnyFileSystem) => print_if(text, true, grant, STAR),
         Some(Unread::Order { first, second }) => {
+            let (first, second) = (first.name(), second.name());
             print_if(text, true, grant, ORDER)?;
-            print_str(text, first.name())?;
-            print_str(text, " before ")?;
-            print_str(text, second.name())?;
-            print_str(text, "\n")
+            print(text, format_args!("{first} before {second}\n"))
         }
     }
 }

@@ -1,8 +1,10 @@
 //! Bytes as they are shown where nothing else may be taken for them.
-ghost use Rattle.std.specs.Prelude.{◌≡◌, ◌++◌, OnOk};
+ghost use Rattle.std.specs.Prelude.{◌≡◌, ◌++◌, OnOk, map};
 ghost use Rattle.std.specs.List.{flat_map, list_all};
+ghost use Rattle.capexplain.specs.Explaining.{path_text};
 ghost use Rattle.capexplain.specs.Quoting.{escaped, is_control, is_mark, is_plain, quoted};
 
+use crate::explaining::print_path;
 use crate::part_text::print_byte;
 use std::alloc::AllocError;
 
@@ -17,6 +19,16 @@ pub fn print_quoted(text: &mut Vec<u8>, bytes: &[u8]) -> Result<(), AllocError>
     text.push(b'"')?;
     print_escaped(text, bytes)?;
     Ok(text.push(b'"')?)
+}
+
+/// Appends the path that these names are from the root down, by `print_quoted`. `AllocError` where no memory is left for it; some of it may
+/// stand in the text then.
+pub fn print_quoted_path(text: &mut Vec<u8>, path: &[&[u8]]) -> Result<(), AllocError>
+    ensures { OnOk result (text.new.items ≡ text.old.items ++ quoted (path_text (map (λ name. name.now) path.now))) }
+{
+    let mut names = Vec::new(*text.allocator());
+    print_path(&mut names, path)?;
+    print_quoted(text, names.as_slice())
 }
 
 // Whether the bytes can stand without quotes.

@@ -2,9 +2,9 @@
 ghost use Rattle.std.specs.Prelude.{◌≡◌, ◌++◌, IfOk, OnOk};
 ghost use Rattle.capexplain.specs.Remarks.{difference_line, difference_text, inode_text, left_line, otherwise_lines, remarked_text, there_text};
 
-use crate::explaining::{print_outcome, print_path, print_reason};
+use crate::explaining::{print_outcome, print_reason};
 use crate::part_text::print_mode;
-use crate::quoting::print_quoted;
+use crate::quoting::print_quoted_path;
 use capbits::print;
 use capgrant::{Attr, Question, Verdict};
 use policy_analysis::{Difference, Otherwise};
@@ -22,11 +22,9 @@ pub fn remarked_lines(
 ) -> Result<Vec<u8>, AllocError>
     ensures { IfOk result (λ lines. lines.items ≡ remarked_text question.now verdict.now left other.now) }
 {
-    let mut path = Vec::new(alloc);
-    print_path(&mut path, question.path)?;
     let mut lines = Vec::new(alloc);
     print_outcome(&mut lines, question.access, verdict)?;
-    print_quoted(&mut lines, path.as_slice())?;
+    print_quoted_path(&mut lines, question.path)?;
     print_reason(&mut lines, verdict)?;
     lines.push(b'\n')?;
     print_left(&mut lines, question.attr, left)?;

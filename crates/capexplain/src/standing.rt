@@ -2,8 +2,8 @@
 ghost use Rattle.std.specs.Prelude.{◌≡◌, ◌++◌, OnOk, map};
 ghost use Rattle.capexplain.specs.Standing.{fault_word, standing_line, standing_otherwise, standing_reason, standing_word, unread_line};
 
-use crate::explaining::{print_failures, print_path};
-use crate::quoting::print_quoted;
+use crate::explaining::print_failures;
+use crate::quoting::{print_quoted, print_quoted_path};
 use crate::remarking::print_otherwise;
 use capbits::{print, print_numbered, print_str};
 use capgrant::Access;
@@ -22,12 +22,10 @@ pub fn print_standing(
 ) -> Result<(), AllocError>
     ensures { OnOk result (text.new.items ≡ text.old.items ++ standing_line client.now access (map (λ name. name.now) path.now) standing.now) }
 {
-    let mut names = Vec::new(*text.allocator());
-    print_path(&mut names, path)?;
     let word = word(standing);
     print_quoted(text, client)?;
     print(text, format_args!("{word}{access} "))?;
-    print_quoted(text, names.as_slice())?;
+    print_quoted_path(text, path)?;
     print_by(text, standing)?;
     Ok(text.push(b'\n')?)
 }

@@ -143,6 +143,7 @@ changed event of (a ∷ b ∷ more) = elim (is_counted more) as (λ counted. IsO
 ]
 
 of_command : (command : Command) (arguments : Words) → command ≢ commands.Recall → IsOfClient (said_with command arguments)
+unfolding said_with
 of_command commands.Session arguments other = session arguments
 of_command commands.CloseSession arguments other = client events.CloseSession (λ client. refl) arguments
 of_command (commands.Mark status) arguments other = client (λ client. events.Mark client status) (λ client. refl) arguments

@@ -9,7 +9,7 @@ use Rattle.std.proofs.lemmas.Bool.Decides.{nat_tests}
 use Rattle.capspec.specs.Items.{is_comma}
 use Rattle.script_syntax.specs.declared.fault.LineFault.{LineFault}
 use Rattle.script_syntax.specs.declared.fault.LineFault.TheVariants.{Number}
-use Rattle.script_syntax.specs.Values.{is_numeral, number_in, numbers_in, list_in, groups_in, ◌>>=◌}
+use Rattle.script_syntax.specs.Values.{is_numeral, number_below, number_in, numbers_in, list_in, groups_in, ◌>>=◌}
 
 abbrev pub between_commas : List ℕ → List (List ℕ)
 between_commas text = slice_split is_comma text
@@ -31,6 +31,7 @@ numbers_more (w ∷ words) word gids gid is last = more_read (number_in w) (numb
 -- ---- all words are numbers, or the answer is that one is none
 
 number_or_none : (word : List ℕ) → IsOk (number_in word) ⊎ (number_in word ≡ Err Number)
+unfolding number_below
 number_or_none word = by_test (is_numeral 10 word && nat_lt (digits_value 10 word) (2 ^ 32))
   where
     by_test : (b : Bool) → (let read : Result ℕ LineFault = (if b then Ok (digits_value 10 word) else Err Number) in IsOk read ⊎ (read ≡ Err Number))
@@ -87,6 +88,7 @@ beyond gids many = grind (arith, nat_tests)
 
 -- `-` is no list of numbers
 listed : (text : List ℕ) → false ≡ bytes_eq text (codes "-") → groups_in text ≡ list_in text
+unfolding groups_in
 listed text other = rw (sym other) refl
 
 -- what could take one more did

@@ -29,7 +29,9 @@ by_test (Some x) false value fault decides some = let bad : false ≡ true = dec
 by_test (Some x) true value fault decides some = ap Ok some.1
 
 pub number_read : (limit : ℕ) (word : List ℕ) (found : Option ℕ) → SomeIff found (IsNumeral 10 word × (digits_value 10 word < limit)) (digits_value 10 word) → ok_or found faults.Number ≡ number_below limit word
+unfolding number_below
 number_read limit word found is = by_test found (is_numeral 10 word && nat_lt (digits_value 10 word) limit) (digits_value 10 word) faults.Number (Decides-and (is_numeral 10 word) (nat_lt (digits_value 10 word) limit) (numeral_decides 10 word) (Decides-ltb (digits_value 10 word) limit)) is
 
 pub mode_read : (word : List ℕ) (found : Option ℕ) → SomeIff found (IsNumeral 8 word × (length word ≤ 4)) (digits_value 8 word) → ok_or found faults.Mode ≡ mode_in word
+unfolding mode_in
 mode_read word found is = by_test found (is_numeral 8 word && nat_le (length word) 4) (digits_value 8 word) faults.Mode (Decides-and (is_numeral 8 word) (nat_le (length word) 4) (numeral_decides 8 word) (at_most (length word) 4)) is

@@ -21,6 +21,6 @@ takes kind (word ∷ []) = true
 takes kind more = false
 
 -- there is a first word, and what it begins takes the others; where it is none of these, it takes any
-abbrev pub is_counted : List (List ℕ) → Bool
+unfoldable pub is_counted : List (List ℕ) → Bool
 is_counted [] = false
 is_counted (word ∷ more) = option_map_or (λ kind. takes kind more) (change_kind word) true

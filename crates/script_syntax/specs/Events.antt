@@ -224,7 +224,7 @@ poll_by (client_word ∷ max_word ∷ []) = do
 poll_by arguments = Faulty faults.Count
 
 -- a command with its arguments
-abbrev pub said_with : Command → List (List ℕ) → Line
+unfoldable pub said_with : Command → List (List ℕ) → Line
 said_with commands.Session arguments = session_by arguments
 said_with commands.CloseSession arguments = client_by events.CloseSession arguments
 said_with (commands.Mark status) arguments = client_by (λ client. events.Mark client status) arguments

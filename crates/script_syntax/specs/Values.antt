@@ -31,13 +31,13 @@ abbrev pub is_numeral : ℕ → List ℕ → Bool
 is_numeral radix text = nat_lt 0 (length text) && list_all (λ b. nat_lt (digit_value b) radix) text
 
 -- the decimal number, if it is below the limit
-abbrev pub number_below : ℕ → List ℕ → Result ℕ LineFault
+unfoldable pub number_below : ℕ → List ℕ → Result ℕ LineFault
 number_below limit word = if is_numeral 10 word && nat_lt (digits_value 10 word) limit then Ok (digits_value 10 word) else Err Number
 
 abbrev pub number_in : List ℕ → Result ℕ LineFault
 number_in word = number_below (2 ^ 32) word
 
-abbrev pub client_in : List ℕ → Result ClientId LineFault
+unfoldable pub client_in : List ℕ → Result ClientId LineFault
 client_in word = do
   number ← number_in word
   Ok (record { 0 = number })
@@ -47,7 +47,7 @@ abbrev pub only_client : List (List ℕ) → Result ClientId LineFault
 only_client (word ∷ []) = client_in word
 only_client words = Err faults.Count
 
-abbrev pub ino_in : List ℕ → Result Ino LineFault
+unfoldable pub ino_in : List ℕ → Result Ino LineFault
 ino_in word = do
   number ← number_below (2 ^ 64) word
   Ok (record { 0 = number })
@@ -57,7 +57,7 @@ abbrev pub seq_in : List ℕ → Result ℕ LineFault
 seq_in word = number_below (2 ^ 64) word
 
 -- one to four octal digits
-abbrev pub mode_in : List ℕ → Result ℕ LineFault
+unfoldable pub mode_in : List ℕ → Result ℕ LineFault
 mode_in word = if is_numeral 8 word && nat_le (length word) 4 then Ok (digits_value 8 word) else Err Mode
 
 abbrev pub numbers_in : List (List ℕ) → Result (List ℕ) LineFault
@@ -74,15 +74,15 @@ list_in word = do
   if nat_le (length gids) 16 then Ok gids else Err Number
 
 -- `-` for none, or a list of them
-abbrev pub groups_in : List ℕ → Result (List ℕ) LineFault
+unfoldable pub groups_in : List ℕ → Result (List ℕ) LineFault
 groups_in word = if bytes_eq word (codes "-") then Ok [] else list_in word
 
 -- what an inode is opened for
-abbrev pub open_mode_in : List ℕ → Result OpenMode LineFault
+unfoldable pub open_mode_in : List ℕ → Result OpenMode LineFault
 open_mode_in word = ok_or (find (λ mode. bytes_eq word (open_word mode)) (opens.Read ∷ opens.Write ∷ opens.ReadWrite ∷ [])) Mode
 
 -- a part of what an inode keeps
-abbrev pub part_in : List ℕ → Result Part LineFault
+unfoldable pub part_in : List ℕ → Result Part LineFault
 part_in word = ok_or (find (λ part. bytes_eq word (part_word part)) (A ∷ L ∷ X ∷ F ∷ [])) faults.Part
 
 -- 0 to 9, and a to f

@@ -54,6 +54,7 @@ fn is_one_word(part: &[u8]) -> bool
 }
 
 // Whether a change has as many words as it takes. What is no change takes any.
+#[tactic(auto, unfolding(crate::specs::Changes::is_counted))]
 pub(crate) fn is_counted(words: &[&[u8]]) -> bool
     ensures { result ≡ changes.is_counted (map (λ word. word.now) words.now) }
 {

@@ -56,6 +56,7 @@ pub(crate) fn read_event(alloc: Global, text: &[u8]) -> Result<Event, Refused>
 }
 
 // The event that a command says with the arguments of its line, of which the fifth is all that is left of it.
+#[tactic(auto, unfolding(crate::specs::Events::said_with))]
 fn read_arguments(
     alloc: Global,
     command: Command,

@@ -17,6 +17,7 @@ pub(crate) fn read_number(word: &[u8]) -> Result<u32, LineFault>
 }
 
 // The client with the decimal number of 32 bits.
+#[tactic(auto, unfolding(crate::specs::Values::client_in))]
 pub(crate) fn read_client(word: &[u8]) -> Result<ClientId, LineFault>
     ensures { result ≡ client_in word.now }
 {
@@ -24,6 +25,7 @@ pub(crate) fn read_client(word: &[u8]) -> Result<ClientId, LineFault>
 }
 
 // The inode with the decimal number of 64 bits.
+#[tactic(auto, unfolding(crate::specs::Values::ino_in))]
 pub(crate) fn read_ino(word: &[u8]) -> Result<Ino, LineFault>
     ensures { result ≡ ino_in word.now }
 {
@@ -45,6 +47,7 @@ pub(crate) fn read_permissions(word: &[u8]) -> Result<Mode, LineFault>
 }
 
 // What an inode is opened for.
+#[tactic(auto, unfolding(crate::specs::Values::open_mode_in))]
 pub(crate) fn read_open_mode(word: &[u8]) -> Result<OpenMode, LineFault>
     ensures { result ≡ open_mode_in word.now }
 {
@@ -57,6 +60,7 @@ pub(crate) fn read_open_mode(word: &[u8]) -> Result<OpenMode, LineFault>
 }
 
 // A part of what an inode keeps.
+#[tactic(auto, unfolding(crate::specs::Values::part_in))]
 pub(crate) fn read_part(word: &[u8]) -> Result<Part, LineFault>
     ensures { result ≡ part_in word.now }
 {
@@ -82,6 +86,7 @@ pub(crate) fn read_cap_set(word: &[u8]) -> Result<CapSet, LineFault>
 }
 
 // The group numbers between the commas, at most 16 of them, or none where the word is `-`.
+#[tactic(auto, unfolding(crate::specs::Values::groups_in))]
 pub(crate) fn read_groups(word: &[u8]) -> Result<Groups, LineFault>
     ensures { result ≡ groups_in word.now }
 {
