@@ -12,12 +12,9 @@ pub fn same<T: PartialEq + Debug + Drop>(
     wanted: T,
     place: impl Debug + Copy,
 ) {
-    assert_eq!(rt; found, wanted, "at {place:?}");
-}
-
-/// Fails the test unless the condition holds.
-pub fn holds(rt: &impl Abort, condition: bool, place: impl Debug + Copy) {
-    assert!(rt; condition, "at {place:?}");
+    if found != wanted {
+        panic!(rt; "{found:?}, and not {wanted:?}: at {place:?}");
+    }
 }
 
 /// What a call has made. Fails the test where it has not.

@@ -1,7 +1,7 @@
 //! What one pass does at a server: it calls events, and asks.
 
 use crate::asserting::{present, same};
-use capbits::{ClientId, Ino};
+use capbits::{ClientId, Ino, read_u32, read_u64};
 use capgrant::{Access, Verdict};
 use capserver::{Answer, CapServer, Gate, Pass};
 use capstep::stop::Stop;
@@ -11,31 +11,29 @@ use snapshot::Server;
 use std::alloc::Global;
 use std::process::Abort;
 use std::sync::Wait;
-use step_model::Reply;
-
-/// What is done by one pass.
-pub enum Turn {
-    /// Calls the event that a line says.
-    Call(&'static str),
-    /// Calls it until it is answered, be it fresh or not.
-    Make(&'static str),
-    /// Asks whether a client may read an inode.
-    Read(u32, u64),
-}
-
-/// In short what it shows, and what is done, with what comes of each turn.
-pub type Case = (&'static str, &'static [(Turn, &'static str)]);
+use step_model::{Event, Reply};
 
 // How often an event is called that finds no memory.
 const TRIES: u32 = 3;
 
 // What came of a call: `fresh`, or why it isn't.
-fn called(answer: &Answer) -> &'static str {
-    match &answer.reply {
-        Reply::Denied { .. } | Reply::Refused(_) | Reply::OutOfMemory => "stopped",
-        Reply::Waiting(_) => "waits",
-        _ if answer.fresh => "fresh",
-        _ => "answered",
+fn called(answer: Result<Answer, Stop>) -> &'static str {
+    match answer {
+        Ok(answer) => match &answer.reply {
+            Reply::Denied { .. } | Reply::Refused(_) | Reply::OutOfMemory => "stopped",
+            Reply::Waiting(_) => "waits",
+            _ if answer.fresh => "fresh",
+            _ => "answered",
+        },
+        Err(Stop::NoMemory) => "no memory",
+        Err(Stop::Full) => "full",
+    }
+}
+
+fn event_of(alloc: Global, line: &str) -> Option<Event> {
+    match read_line(alloc, 1, line.as_bytes()) {
+        Ok(Some((_, event))) => Some(event),
+        _ => None,
     }
 }
 
@@ -47,13 +45,24 @@ pub fn call_line<G: Gate, L: Server, R: Wait>(
     pass: &mut Pass<L>,
     line: &str,
 ) -> &'static str {
-    match read_line(alloc, 1, line.as_bytes()) {
-        Ok(Some((_, event))) => match server.call(rt, pass, event) {
-            Ok(answer) => called(&answer),
-            Err(Stop::NoMemory) => "no memory",
-            Err(Stop::Full) => "full",
+    match event_of(alloc, line) {
+        Some(event) => called(server.call(rt, pass, event)),
+        None => "no event",
+    }
+}
+
+// The answer to a question, in a word.
+fn word_of(answer: Result<Verdict, Unknown>) -> &'static str {
+    match answer {
+        Ok(Verdict::Allowed { .. }) => "allowed",
+        Ok(Verdict::Denied { rules }) => match rules.as_slice().first() {
+            Some(rule) => rule.word(),
+            None => "no grants",
         },
-        _ => "no event",
+        Err(Unknown::NoSession) => "no session",
+        Err(Unknown::NoIno) => "no inode",
+        Err(Unknown::Gone) => "gone",
+        Err(Unknown::NoView) => "no view",
     }
 }
 
@@ -69,17 +78,7 @@ pub fn ask_read<G: Gate, L: Server>(
         ino: Ino(ino),
         access: Access::Read,
     };
-    match server.explain(pass, &question) {
-        Ok(Verdict::Allowed { .. }) => "allowed",
-        Ok(Verdict::Denied { rules }) => match rules.as_slice().first() {
-            Some(rule) => rule.word(),
-            None => "no grants",
-        },
-        Err(Unknown::NoSession) => "no session",
-        Err(Unknown::NoIno) => "no inode",
-        Err(Unknown::Gone) => "gone",
-        Err(Unknown::NoView) => "no view",
-    }
+    word_of(server.explain(pass, &question))
 }
 
 // Calls the event that a line says until it is answered: memory may be missing once.
@@ -98,23 +97,42 @@ fn make<G: Gate, L: Server, R: Wait>(
     "no memory"
 }
 
-/// Takes the turns by the first of the passes, and sees that each comes out as it is to.
+// Does what a line says: calls its event; behind `make` until that is answered, be it fresh or not; or behind `read` asks whether a client
+// may read an inode.
+fn take<G: Gate, L: Server, R: Wait>(
+    rt: &R,
+    alloc: Global,
+    server: &CapServer<G, L>,
+    pass: &mut Pass<L>,
+    line: &str,
+) -> &'static str {
+    match line.split_once(' ') {
+        Some(("make", line)) => make(rt, alloc, server, pass, line),
+        Some(("read", numbers)) => {
+            let (client, ino) = numbers.split_once(' ').unwrap_or((numbers, ""));
+            let client = read_u32(client.as_bytes()).unwrap_or(0);
+            let ino = read_u64(ino.as_bytes()).unwrap_or(0);
+            ask_read(server, pass, client, ino)
+        }
+        _ => call_line(rt, alloc, server, pass, line),
+    }
+}
+
+/// Takes the turns of a text by the first of the passes, and sees that each comes out as it is to: a line is `TURN => WHAT COMES OF IT`.
 pub fn take_turns<G: Gate, L: Server, R: Abort + Wait>(
     rt: &R,
     alloc: Global,
     server: &CapServer<G, L>,
     passes: Vec<Pass<L>>,
-    (title, turns): Case,
+    turns: &str,
 ) -> Vec<Pass<L>> {
     let mut passes = passes;
-    let pass = present(rt, passes.first_mut(), title);
-    for (nth, (turn, want)) in turns.iter().enumerate() {
-        let came = match turn {
-            Turn::Call(line) => call_line(rt, alloc, server, pass, line),
-            Turn::Make(line) => make(rt, alloc, server, pass, line),
-            Turn::Read(client, ino) => ask_read(server, pass, *client, *ino),
-        };
-        same(rt, came, *want, (title, nth));
+    let pass = present(rt, passes.first_mut(), "a pass");
+    for line in turns.lines() {
+        if let Some((turn, wanted)) = line.split_once(" => ") {
+            let came = take(rt, alloc, server, pass, turn);
+            same(rt, came, wanted, line);
+        }
     }
     passes
 }

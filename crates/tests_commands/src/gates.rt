@@ -1,6 +1,6 @@
 //! A gate at which each call gives way to the others: the calls of two clients alternate, and stand one behind the other.
 
-use crate::asserting::{holds, present, same};
+use crate::asserting::{present, same};
 use crate::rows::{Numbers, count_numbered, numbers};
 use capscript::read_plan;
 use capserver::Gate;
@@ -126,5 +126,5 @@ fn two_clients_of_a_script_call_at_once(rt: HostRuntime) {
             return;
         }
     }
-    holds(&rt, false, "one pass waits for the other");
+    same(&rt, false, true, "one pass waits for the other");
 }

@@ -3,13 +3,14 @@
 
 use crate::asserting::{present, same};
 use crate::calls::{ask_read, call_line};
+use crate::threads::{Errand, at_once};
 use capserver::{CapServer, Gate, Pass};
 use snapshot::Server;
 use std::alloc::{AllocError, Global};
 use std::process::Abort;
 use std::sync::atomic::{AtomicU64, Ordering};
 use std::sync::{Arc, Wait};
-use std::thread::{Threads, join, yield_now};
+use std::thread::{Threads, yield_now};
 
 // How often a thread yields while it waits for another one.
 const TURNS: u64 = 1_000_000;
@@ -81,33 +82,40 @@ const TOLD: Told = (
 // What came of the calls and of the questions, as in `TOLD`.
 type Told = ([&'static str; 5], bool);
 
-// A pass, and what came of its two turns.
-type Came<L> = (Pass<L>, &'static str, &'static str);
+/// What came of the two turns of a pass.
+#[derive(Clone, Copy)]
+pub struct Came {
+    /// Of the first.
+    pub first: &'static str,
+    /// Of the second.
+    pub second: &'static str,
+}
 
-// While a call of the second pass is held, the first one asks for what stood there before, and for what that call makes.
-fn both<L: Server + Send + Sync, R: Threads + Wait + Sync>(
+/// Asks while a call is held, for what stood there before, and for what that call makes.
+pub fn ask_meanwhile<L: Server>(
+    server: &CapServer<Hold, L>,
+    signs: &Signs,
+    pass: Pass<L>,
+) -> (Pass<L>, Came) {
+    let mut pass = pass;
+    wait_for(&signs.entered, &signs.late);
+    let first = ask_read(server, &mut pass, 1, 1);
+    let second = ask_read(server, &mut pass, 1, 2);
+    signs.answered.store(1, Ordering::SeqCst);
+    (pass, Came { first, second })
+}
+
+/// Calls what is held, and asks for what it made.
+pub fn call_held<L: Server, R: Wait>(
     rt: &R,
     alloc: Global,
     server: &CapServer<Hold, L>,
-    signs: &Signs,
-    (one, two): (Pass<L>, Pass<L>),
-) -> (Came<L>, Came<L>) {
-    let (mut one, mut two) = (one, two);
-    join(
-        rt,
-        move || {
-            wait_for(&signs.entered, &signs.late);
-            let beside = ask_read(server, &mut one, 1, 1);
-            let unpublished = ask_read(server, &mut one, 1, 2);
-            signs.answered.store(1, Ordering::SeqCst);
-            (one, beside, unpublished)
-        },
-        move || {
-            let held = call_line(rt, alloc, server, &mut two, "create 1 1 f 0644");
-            let after = ask_read(server, &mut two, 1, 2);
-            (two, held, after)
-        },
-    )
+    pass: Pass<L>,
+) -> (Pass<L>, Came) {
+    let mut pass = pass;
+    let first = call_line(rt, alloc, server, &mut pass, "create 1 1 f 0644");
+    let second = ask_read(server, &mut pass, 1, 2);
+    (pass, Came { first, second })
 }
 
 // Holds a call of the second pass, while the first one asks, which calls nothing at all.
@@ -121,14 +129,23 @@ fn told_beside<L: Server + Send + Sync, R: Threads + Wait + Sync>(
     let mut two = two;
     call_line(rt, alloc, server, &mut two, "session 1 10 10 - allow rw");
     signs.closed.store(1, Ordering::SeqCst);
-    let (asked, called) = both(rt, alloc, server, signs, (one, two));
-    let (mut one, beside, unpublished) = asked;
-    let (two, held, after) = called;
+    let (asked, called) = at_once(rt, alloc, server, signs, (one, two), Errand::Question);
+    let (mut one, beside) = asked;
+    let (two, held) = called;
     let by_the_other = ask_read(server, &mut one, 1, 2);
     drop(one);
     drop(two);
     let late = signs.late.load(Ordering::SeqCst) == 1;
-    ([beside, unpublished, held, after, by_the_other], late)
+    (
+        [
+            beside.first,
+            beside.second,
+            held.first,
+            held.second,
+            by_the_other,
+        ],
+        late,
+    )
 }
 
 /// Has the last pass call and the one before it ask, and sees what came of it. Those two are gone then.

@@ -1,6 +1,6 @@
 //! Passes: how many there can be, and what the calls of two threads leave.
 
-use crate::asserting::{holds, made, same};
+use crate::asserting::{made, same};
 use crate::rows::{Numbers, count_numbered};
 use crate::servers::{MANY_ROWS, Work, rows_by};
 use capserver::StartFault;
@@ -31,7 +31,7 @@ fn two_threads_make_four_hundred_files(rt: HostRuntime) {
 fn a_server_has_one_to_thirty_two_passes(rt: HostRuntime) {
     for count in [0, 33] {
         let found = rows_by(&rt, MANY_ROWS, count, Work::Files);
-        holds(&rt, matches!(found, Err(StartFault::BadCount)), count);
+        same(&rt, matches!(found, Err(StartFault::BadCount)), true, count);
     }
     // A history takes as many rows as its bound, however many call.
     for (count, all) in [(1, 201), (32, 1000)] {

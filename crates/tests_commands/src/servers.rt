@@ -3,7 +3,7 @@ ghost use Rattle.std.specs.Prelude.{◌≡◌};
 ghost use Rattle.capserver.specs.Opened.{opened};
 
 use crate::asserting::made;
-use crate::calls::{Case, take_turns};
+use crate::calls::take_turns;
 use crate::holding::{Hold, Signs, ask_beside, open_gate};
 use crate::rows::{Numbers, numbers};
 use crate::threads::{make_all, make_two};
@@ -23,8 +23,8 @@ pub const MANY_ROWS: u32 = 1000;
 /// What is done at a server.
 #[derive(Clone, Copy)]
 pub enum Work {
-    /// Its first pass takes turns.
-    Turns(Case),
+    /// Its first pass takes the turns of a text.
+    Turns(&'static str),
     /// Each pass makes files, one after the other.
     Files,
     /// Two passes make files at once.
@@ -56,9 +56,9 @@ fn served<L: Server + Send + Sync, R: AllocGlobal + Abort + Threads + Wait + Syn
     let (gate, signs) = held;
     let (server, passes) = CapServer::<Hold, L>::start(rt, alloc, opening, blank, count, gate)?;
     let back = match work {
-        Work::Turns(case) => take_turns(rt, alloc, &server, passes, case),
+        Work::Turns(turns) => take_turns(rt, alloc, &server, passes, turns),
         Work::Files => make_all(rt, alloc, &server, passes),
-        Work::Both => make_two(rt, alloc, &server, passes),
+        Work::Both => make_two(rt, alloc, &server, &signs, passes),
         Work::Beside => ask_beside(rt, alloc, &server, &signs, passes),
     };
     let closed = server.close(rt, back);

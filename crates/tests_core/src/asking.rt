@@ -1,9 +1,9 @@
-//! The core that is asked: steps of passes, what is seen beside each answer, and what is left.
+//! The core that is asked: cases as text, what is seen beside each answer, and what is left.
 
 use crate::asserting::{made, same};
-use crate::looking::{Look, row_text};
+use crate::looking::row_text;
 use crate::steps::{auth_lock_text, locks_text};
-use crate::texts::text_of;
+use crate::texts::{number, sides, text_of};
 use crate::viewing::changes_text;
 use crate::{gathers, histories, moved_entries, recalls, sessions_end, viewing, waits};
 use capbits::PassId;
@@ -19,6 +19,8 @@ use step_model::{Event, Reply};
 /// What is seen in the core after each step.
 #[derive(Clone, Copy)]
 pub enum Beside {
+    /// Nothing.
+    Nothing,
     /// The file lock of inode 2, and what the clients 1 and 2 hold of it with the number of the last change, and `due`
     /// where they are not told of it yet.
     Locks,
@@ -28,17 +30,12 @@ pub enum Beside {
     Changes,
 }
 
-/// A line, and the lines that are answered or why none are.
-pub type Exchange = (&'static str, &'static str);
-
-/// A line, the lines that are answered or why none are, and what is seen then.
-pub type Step = (&'static str, &'static str, &'static str);
-
-/// The pass that takes the steps, and what is seen beside them.
-pub type Part = (u32, Beside, &'static [Step]);
-
-/// What it shows, how many rows the history takes, the parts, and what its rows tell behind them.
-pub type Case = (&'static str, u32, &'static [Part], &'static [Look]);
+/// How many rows the history takes, what is seen beside each answer, and the lines that are asked one by one.
+///
+/// A line is `LINE => ANSWER`, or `LINE => ANSWER | SEEN` where something is seen then. Pass 1 calls it, or another one, as in
+/// `7: LINE => ANSWER`. The lines of an answer stand behind each other, a ` /` between them. `row N => ROW` is a row of the history,
+/// from 0, and behind it whose each request was that it ended.
+pub type Case = (u32, Beside, &'static str);
 
 /// The event that a line says.
 pub fn event(rt: &impl Abort, alloc: Global, line: &str) -> Event {
@@ -48,78 +45,50 @@ pub fn event(rt: &impl Abort, alloc: Global, line: &str) -> Event {
     }
 }
 
-// The lines of an answer without the last line feed, or why there is none.
+// The lines of an answer, or why there is none.
 fn answer_text(rt: &impl Abort, alloc: Global, answer: Result<Reply, Stop>) -> String {
     match answer {
         Ok(reply) => {
-            let mut text = made(rt, reply_lines(alloc, &reply), "an answer");
-            text.pop();
-            text_of(rt, alloc, text.as_slice())
+            let mut lines = made(rt, reply_lines(alloc, &reply), "an answer");
+            lines.pop();
+            let lines = text_of(rt, alloc, lines.as_slice());
+            made(rt, lines.replace(alloc, '\n', " /"), "an answer")
         }
         Err(stop) => made(rt, format!(in alloc; "stop {stop}"), "a stop"),
     }
 }
 
-// Asks by a pass, and compares the answer.
-fn answers(
-    rt: &impl Abort,
-    alloc: Global,
-    core: &mut Core,
-    pass: u32,
-    (line, wanted): Exchange,
-    title: &'static str,
-) {
-    let answer = core.apply(PassId(pass), event(rt, alloc, line));
-    let text = answer_text(rt, alloc, answer);
-    same(rt, text.as_str(), wanted, (title, line));
-}
-
-/// Asks one by one, by pass 1, and compares what is answered.
-pub fn ask(rt: &impl Abort, alloc: Global, core: &mut Core, exchanges: &[Exchange]) {
-    for line in exchanges {
-        answers(rt, alloc, core, 1, *line, "asked");
-    }
-}
-
 fn beside_text(rt: &impl Abort, alloc: Global, core: &Core, beside: Beside) -> String {
     match beside {
+        Beside::Nothing => String::new(alloc),
         Beside::Locks => locks_text(rt, alloc, core),
         Beside::AuthLock(ino) => auth_lock_text(rt, alloc, core, ino),
         Beside::Changes => changes_text(rt, alloc, core),
     }
 }
 
-// Takes the steps one by one, and compares what is answered and seen.
-fn take_steps(
-    rt: &impl Abort,
-    alloc: Global,
-    core: &mut Core,
-    (pass, beside, steps): Part,
-    title: &'static str,
-) {
-    for (line, wanted, shown) in steps {
-        answers(rt, alloc, core, pass, (line, wanted), title);
-        let text = beside_text(rt, alloc, core, beside);
-        same(rt, text.as_str(), *shown, (title, *line));
+// Calls the event of a line, behind the number of the pass if it is not 1: what is answered, and what is seen then.
+fn called(rt: &impl Abort, alloc: Global, core: &mut Core, beside: Beside, asked: &str) -> String {
+    let (pass, line) = asked.split_once(": ").unwrap_or(("1", asked));
+    let answer = core.apply(PassId(number(pass, 0)), event(rt, alloc, line));
+    let answer = answer_text(rt, alloc, answer);
+    let seen = beside_text(rt, alloc, core, beside);
+    if seen.is_empty() {
+        return answer;
     }
+    made(rt, format!(in alloc; "{answer} | {seen}"), "an answer")
 }
 
-fn take_parts(
-    rt: &impl Abort,
-    alloc: Global,
-    core: &mut Core,
-    parts: &[Part],
-    title: &'static str,
-) {
-    for part in parts {
-        take_steps(rt, alloc, core, *part, title);
-    }
-}
-
-fn look_at(rt: &impl Abort, alloc: Global, core: &Core, shown: &[Look], title: &'static str) {
-    for (place, wanted) in shown {
-        let text = row_text(rt, alloc, core, *place);
-        same(rt, text.as_str(), *wanted, (title, "the end"));
+/// Asks the lines of a text, and compares what is found with what is wanted.
+pub fn ask(rt: &impl Abort, alloc: Global, core: &mut Core, beside: Beside, text: &str) {
+    for line in text.lines() {
+        if let Some((asked, wanted)) = sides(line) {
+            let found = match asked.strip_prefix("row ") {
+                Some(place) => row_text(rt, alloc, core, number(place, 0) as usize),
+                None => called(rt, alloc, core, beside, asked),
+            };
+            same(rt, found.as_str(), wanted, line);
+        }
     }
 }
 
@@ -129,20 +98,11 @@ fn fresh(alloc: Global, max_rows: u32) -> Result<Core, AllocError> {
     Core::new(alloc, fs, tree, max_rows)
 }
 
-/// A core that was asked this by pass 1, and answered so.
-pub fn core_of(rt: &(impl AllocGlobal + Abort), exchanges: &[Exchange]) -> Core {
-    let mut core = made(rt, fresh(rt.alloc(), 100), "a core");
-    ask(rt, rt.alloc(), &mut core, exchanges);
+/// A fresh core that was asked this. A core is owned by few functions of the tests: each statement of one that does is dear to prove.
+pub fn core_of(rt: &(impl AllocGlobal + Abort), (max_rows, beside, text): Case) -> Core {
+    let mut core = made(rt, fresh(rt.alloc(), max_rows), "a core");
+    ask(rt, rt.alloc(), &mut core, beside, text);
     core
-}
-
-// Takes the parts of a case on a fresh core, and looks at rows of its history. A core is owned by few functions of the tests: each
-// statement of one that does is dear to prove.
-fn plays(rt: &(impl AllocGlobal + Abort), (title, max_rows, parts, shown): Case) {
-    let mut core = made(rt, fresh(rt.alloc(), max_rows), title);
-    take_parts(rt, rt.alloc(), &mut core, parts, title);
-    look_at(rt, rt.alloc(), &core, shown, title);
-    drop(core);
 }
 
 #[test]
@@ -157,7 +117,7 @@ fn each_step_is_answered_by_the_rules(rt: HostRuntime) {
         waits::CASES,
     ] {
         for case in cases {
-            plays(&rt, *case);
+            drop(core_of(&rt, *case));
         }
     }
 }

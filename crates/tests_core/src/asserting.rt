@@ -14,7 +14,9 @@ pub fn same<T: PartialEq + Debug + Drop>(
     wanted: T,
     place: impl Debug + Copy,
 ) {
-    assert_eq!(rt; found, wanted, "at {place:?}");
+    if found != wanted {
+        panic!(rt; "{found:?}, and not {wanted:?}: at {place:?}");
+    }
 }
 
 /// What a call has made. Fails the test where it has not.

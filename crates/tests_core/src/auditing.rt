@@ -1,185 +1,126 @@
 //! What clients hold that nobody behind their key is permitted, and what two of them hold in conflict.
 
 use crate::asserting::{made, same};
-use crate::texts::{Owner, attr_of, cephfs, grants_of};
-use capbits::{CapSet, read_caps};
-use capgrant::{Access, Attr, Rule};
+use crate::texts::{
+    attr_of, caps, caps_text, cephfs, grants_of, line_of, number, part, sides, text_of, word,
+};
 use cluster_audit::{Conflict, Finding, Holding, Inode, beyond, conflicts};
+use std::alloc::Global;
 use std::process::Abort;
 
-// The names of an inode.
-type Names = &'static [&'static [u8]];
+// A line is `GRANTS | PATH OWNER GROUP MODE | HELD => CAPS ACCESS RULES`: the grants of a client, an inode, and what the client holds of it; of
+// that, what nobody is permitted, the access that is missing and why each grant denies it.
+const HELD: &str = "
+# Three findings in the texts of a running cluster.
+allow r | a/y 0 0 0644 | pAsLsXsFrw => Fw Some(write) [NoWrite]
+allow rw path=/a | b/d 0 0 0777 | pAsXs => pAsXs Some(read) [Path]
+allow rw path=/a | b/d/x 0 0 0644 | pAsxLsXsxFsxcrwb => pAsxLsXsxFsxcrwb Some(read) [Path]
+allow rw path=/a | a/y 0 0 0644 | pAsLsXsFrw => -
+# Somebody else than root may write.
+allow rw root_squash | a/y 0 0 0644 | pFrw => -
+allow rw uid=0 root_squash | a/y 0 0 0644 | pFrw => Fw Some(write) [RootSquash]
+# One caller may read, and another write.
+allow r path=/a, allow rw uid=9 | a/y 9 0 0200 | pFrw => -
+# The mode denies to the group what it allows to others.
+allow rw uid=9 gids=50,60 | a/y 7 50 0606 | pFrw => -
+allow rw uid=9 gids=50 | a/y 7 50 0606 | pFrw => pFrw Some(read) [ModeBits]
+allow r path=/b, allow rw uid=9 | a/y 7 50 0604 | pFrw => Fw Some(write) [Path, ModeBits]
+# No access permits to extend.
+allow rw | a/y 7 50 0604 | pFra => Fa None []
+";
 
-const A_Y: Names = &[b"a", b"y"];
+// The names of a path.
+fn names_of(path: &str) -> &'static [&'static [u8]] {
+    match path {
+        "a/y" => &[b"a", b"y"],
+        "b/d" => &[b"b", b"d"],
+        _ => &[b"b", b"d", b"x"],
+    }
+}
 
-const B_D: Names = &[b"b", b"d"];
-
-const B_D_X: Names = &[b"b", b"d", b"x"];
-
-// Of what is held what nobody is permitted, with the access that is missing and why each grant denies it.
-type Found = (&'static str, Option<Access>, &'static [Rule]);
-
-const NOTHING: Found = ("-", None, &[]);
-
-// The grants of a client, an inode with its owner, its group and its mode, what the client holds of it, and what is found.
-const HELD: &[(&str, Names, Owner, &str, Found)] = &[
-    // Three findings in the texts of a running cluster.
-    (
-        "allow r",
-        A_Y,
-        (0, 0, 0o644),
-        "pAsLsXsFrw",
-        ("Fw", Some(Access::Write), &[Rule::NoWrite]),
-    ),
-    (
-        "allow rw path=/a",
-        B_D,
-        (0, 0, 0o777),
-        "pAsXs",
-        ("pAsXs", Some(Access::Read), &[Rule::Path]),
-    ),
-    (
-        "allow rw path=/a",
-        B_D_X,
-        (0, 0, 0o644),
-        "pAsxLsXsxFsxcrwb",
-        ("pAsxLsXsxFsxcrwb", Some(Access::Read), &[Rule::Path]),
-    ),
-    (
-        "allow rw path=/a",
-        A_Y,
-        (0, 0, 0o644),
-        "pAsLsXsFrw",
-        NOTHING,
-    ),
-    // Somebody else than root may write.
-    ("allow rw root_squash", A_Y, (0, 0, 0o644), "pFrw", NOTHING),
-    (
-        "allow rw uid=0 root_squash",
-        A_Y,
-        (0, 0, 0o644),
-        "pFrw",
-        ("Fw", Some(Access::Write), &[Rule::RootSquash]),
-    ),
-    // One caller may read, and another write.
-    (
-        "allow r path=/a, allow rw uid=9",
-        A_Y,
-        (9, 0, 0o200),
-        "pFrw",
-        NOTHING,
-    ),
-    // The mode denies to the group what it allows to others.
-    (
-        "allow rw uid=9 gids=50,60",
-        A_Y,
-        (7, 50, 0o606),
-        "pFrw",
-        NOTHING,
-    ),
-    (
-        "allow rw uid=9 gids=50",
-        A_Y,
-        (7, 50, 0o606),
-        "pFrw",
-        ("pFrw", Some(Access::Read), &[Rule::ModeBits]),
-    ),
-    (
-        "allow r path=/b, allow rw uid=9",
-        A_Y,
-        (7, 50, 0o604),
-        "pFrw",
-        ("Fw", Some(Access::Write), &[Rule::Path, Rule::ModeBits]),
-    ),
-    // No access permits to extend.
-    ("allow rw", A_Y, (7, 50, 0o604), "pFra", ("Fa", None, &[])),
-];
-
-fn audited(
-    rt: &(impl Abort + AllocGlobal),
-    grants: &str,
-    path: Names,
-    attr: Attr,
-    held: CapSet,
-) -> Option<Finding> {
-    let fs = cephfs(rt);
+fn audited(rt: &(impl Abort + AllocGlobal), line: &str) -> Option<Finding> {
+    let (path, owner) = part(line, 1).split_once(' ').unwrap_or(("", ""));
+    let (fs, attr) = (cephfs(rt), attr_of(rt, owner));
     let inode = Inode {
         fs: &fs,
-        path,
+        path: names_of(path),
         attr: &attr,
     };
-    beyond(held, &grants_of(rt, grants), &inode)
+    beyond(caps(part(line, 2)), &grants_of(rt, part(line, 0)), &inode)
 }
 
-// The set that a text names, which has to name one.
-fn caps_of(rt: &impl Abort, text: &str) -> CapSet {
-    made(rt, read_caps(text.as_bytes()), text)
-}
-
-// Sees what was found.
-fn see(rt: &impl Abort, found: Option<Finding>, (text, missing, rules): Found, place: &str) {
+fn finding_text(rt: &impl Abort, alloc: Global, found: Option<Finding>) -> String {
     match found {
         Some(found) => {
-            let held = (found.caps, found.missing);
-            same(rt, held, (caps_of(rt, text), missing), place);
-            same(rt, found.rules.as_slice(), rules, place);
+            let held = caps_text(rt, alloc, found.caps);
+            let missing = line_of(rt, alloc, &found.missing);
+            let rules = line_of(rt, alloc, &found.rules.as_slice());
+            made(
+                rt,
+                format!(in alloc; "{held} {missing} {rules}"),
+                "a finding",
+            )
         }
-        None => same(rt, "-", text, place),
+        None => text_of(rt, alloc, b"-"),
     }
 }
 
 #[test]
 fn what_is_held_beyond_is_found(rt: HostRuntime) {
-    for row in HELD {
-        let (grants, path, attr, held, wanted) = *row;
-        let found = audited(&rt, grants, path, attr_of(&rt, attr), caps_of(&rt, held));
-        see(&rt, found, wanted, grants);
+    for line in HELD.lines() {
+        if let Some((asked, wanted)) = sides(line) {
+            let found = finding_text(&rt, rt.alloc(), audited(&rt, asked));
+            same(&rt, found.as_str(), wanted, line);
+        }
     }
 }
 
 // Who holds what of an inode.
-const HOLDINGS: &[(u64, &str)] = &[
-    (4149, "pAsLsXsFrw"),
-    (4151, "pAsLsXsFrw"),
-    (4135, "pAsFsc"),
-    (4160, "pAx"),
-];
+const HOLDINGS: &str = "4149 pAsLsXsFrw
+4151 pAsLsXsFrw
+4135 pAsFsc
+4160 pAx
+";
 
 // Which of them conflict, and by what.
-const CONFLICTS: &[(u64, &str, u64, &str)] = &[
-    (4149, "Fw", 4135, "Fsc"),
-    (4149, "As", 4160, "Ax"),
-    (4151, "Fw", 4135, "Fsc"),
-    (4151, "As", 4160, "Ax"),
-    (4135, "As", 4160, "Ax"),
-];
-
-fn holding(rt: &impl Abort, client: u64, text: &str) -> Holding {
-    let caps = caps_of(rt, text);
-    Holding { client, caps }
-}
+const CONFLICTS: &str = "4149 Fw 4135 Fsc
+4149 As 4160 Ax
+4151 Fw 4135 Fsc
+4151 As 4160 Ax
+4135 As 4160 Ax
+";
 
 fn holdings(rt: &(impl Abort + AllocGlobal)) -> Vec<Holding> {
     let mut all = Vec::new(rt.alloc());
-    for row in HOLDINGS {
-        made(rt, all.push(holding(rt, row.0, row.1)), row.1);
+    for line in HOLDINGS.lines() {
+        let held = Holding {
+            client: u64::from(number(line, 0)),
+            caps: caps(word(line, 1)),
+        };
+        made(rt, all.push(held), line);
     }
     all
 }
 
-// Sees that these are the conflicts of the holdings.
-fn meet(rt: &impl Abort, found: &[Conflict]) {
-    same(rt, found.len(), CONFLICTS.len(), "how many");
-    for (place, row) in CONFLICTS.iter().enumerate() {
-        let (one, other) = (holding(rt, row.0, row.1), holding(rt, row.2, row.3));
-        let conflict = found.get(place).copied();
-        same(rt, conflict, Some(Conflict { one, other }), place);
-    }
+fn conflict_line(rt: &impl Abort, alloc: Global, conflict: Conflict) -> String {
+    let (one, other) = (conflict.one.client, conflict.other.client);
+    let by_one = caps_text(rt, alloc, conflict.one.caps);
+    let by_other = caps_text(rt, alloc, conflict.other.caps);
+    made(
+        rt,
+        format!(in alloc; "{one} {by_one} {other} {by_other}\n"),
+        one,
+    )
 }
 
 #[test]
 fn conflicts_are_found_in_their_order(rt: HostRuntime) {
     let held = holdings(&rt);
     let found = made(&rt, conflicts(rt.alloc(), held.as_slice()), "conflicts");
-    meet(&rt, found.as_slice());
+    let mut text = String::new(rt.alloc());
+    for conflict in found.as_slice() {
+        let line = conflict_line(&rt, rt.alloc(), *conflict);
+        made(&rt, text.push_str(line.as_str()), "a conflict");
+    }
+    same(&rt, text.as_str(), CONFLICTS, "conflicts");
 }

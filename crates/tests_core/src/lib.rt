@@ -33,8 +33,6 @@ mod lock_moves;
 #[cfg(test)]
 mod lock_table;
 #[cfg(test)]
-mod long_scripts;
-#[cfg(test)]
 mod looking;
 #[cfg(test)]
 mod moved_entries;

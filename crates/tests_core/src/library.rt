@@ -84,8 +84,8 @@ fn left_after_release(alloc: Global, client: ClientId, ino: Ino) -> Result<CapSe
 #[test]
 fn grants_are_asked_alone(rt: HostRuntime) {
     let grants = grants_of(&rt, "allow r, allow rw path=/foo");
-    let (fs, caller) = (cephfs(&rt), caller_of(&rt, (9, 50, &[])));
-    let attr = attr_of(&rt, (7, 50, 0o640));
+    let (fs, caller) = (cephfs(&rt), caller_of(&rt, "9 50"));
+    let attr = attr_of(&rt, "7 50 0640");
     let inside = grant_to_write(&grants, &fs, &caller, &[b"foo"], &attr);
     let beside = grant_to_write(&grants, &fs, &caller, &[b"food"], &attr);
     same(&rt, (inside, beside), (Some(2), None), "to write");
@@ -96,14 +96,14 @@ fn layers_are_used_alone(rt: HostRuntime) {
     let (one, two) = (ClientId(1), ClientId(2));
     let held = (caps("Fsxcrwb"), caps("-"));
     same(&rt, one_writes(one, two), held, "the lock table");
-    let (root, directory) = (attr_of(&rt, (0, 0, 0o755)), attr_of(&rt, (1, 1, 0o755)));
-    let file = attr_of(&rt, (1, 1, 0o644));
+    let (root, directory) = (attr_of(&rt, "0 0 0755"), attr_of(&rt, "1 1 0755"));
+    let file = attr_of(&rt, "1 1 0644");
     let full = match full_directory(rt.alloc(), root, directory, file) {
         Ok(refusal) => refusal,
         Err(_error) => None,
     };
     same(&rt, full, Some(Refusal::NotEmpty), "the tree");
-    let (caller, grants) = (caller_of(&rt, (9, 50, &[])), grants_of(&rt, "allow rw"));
+    let (caller, grants) = (caller_of(&rt, "9 50"), grants_of(&rt, "allow rw"));
     let gone = match thrown_out(rt.alloc(), one, caller, grants) {
         Ok(refusal) => refusal,
         Err(_error) => None,

@@ -8,9 +8,6 @@ use std::alloc::Global;
 use std::process::Abort;
 use step_model::Row;
 
-/// The place of a row in the history, from 0, and what it tells.
-pub type Look = (usize, &'static str);
-
 // What the core promises of it stays here.
 fn row(core: &Core, place: usize) -> Option<&Row> {
     core.history().get(place)

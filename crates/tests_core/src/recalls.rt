@@ -1,42 +1,22 @@
 //! Who is asked to release, and who hears of it; and who comes off the blocklist.
 
 use crate::asking::Beside::Locks;
-use crate::asking::{Case, Step};
-use crate::looking::Look;
+use crate::asking::Case;
 
-// Two clients share a file, and a change waits for both.
-const A_CHANGE_WAITS: &[Step] = &[
-    ("session 1 10 10 - allow rw", "done", "-; -; -"),
-    ("session 2 20 20 - allow rw", "done", "-; -; -"),
-    ("create 1 1 f 0644", "ino 2", "SYNC; -; -"),
-    ("open 1 2 r", "caps 1 pFscr", "SYNC; pFscr 1; -"),
-    ("open 2 2 r", "caps 1 pFscr", "SYNC; pFscr 1; pFscr 1"),
-    (
-        "alter 1 2 size 5",
-        "waiting 1",
-        "SYNC to LOCK; pFscr 2 due; pFscr 2 due",
-    ),
-];
+const A_RECALL: &str = "
+# A recall moves nothing.
+# Two clients share a file, and a change waits for both.
+session 1 10 10 - allow rw => done | -; -; -
+session 2 20 20 - allow rw => done | -; -; -
+create 1 1 f 0644 => ino 2 | SYNC; -; -
+open 1 2 r => caps 1 pFscr | SYNC; pFscr 1; -
+open 2 2 r => caps 1 pFscr | SYNC; pFscr 1; pFscr 1
+alter 1 2 size 5 => waiting 1 | SYNC to LOCK; pFscr 2 due; pFscr 2 due
+# No lock moves, nothing is issued or released, and no number rises.
+recall 2 => recalled 1:2 2:2 | SYNC to LOCK; pFscr 2 due; pFscr 2 due
+poll 1 9 => messages 2 /  caps 2 2 pFc /  recall 2 | SYNC to LOCK; pFscr 2; pFscr 2 due
+row 6 => 1.7 recall 2 => recalled 1:2 2:2
+row 8 => no row
+";
 
-// No lock moves, nothing is issued or released, and no number rises.
-const A_RECALL_MEANWHILE: &[Step] = &[
-    (
-        "recall 2",
-        "recalled 1:2 2:2",
-        "SYNC to LOCK; pFscr 2 due; pFscr 2 due",
-    ),
-    (
-        "poll 1 9",
-        "messages 2\n  caps 2 2 pFc\n  recall 2",
-        "SYNC to LOCK; pFscr 2; pFscr 2 due",
-    ),
-];
-
-const ITS_ROW: &[Look] = &[(6, "1.7 recall 2 => recalled 1:2 2:2"), (8, "no row")];
-
-pub const CASES: &[Case] = &[(
-    "a recall moves nothing",
-    100,
-    &[(1, Locks, A_CHANGE_WAITS), (1, Locks, A_RECALL_MEANWHILE)],
-    ITS_ROW,
-)];
+pub const CASES: &[Case] = &[(100, Locks, A_RECALL)];

@@ -1,454 +1,190 @@
 //! What the MDS of Ceph 16, 18 and 20 answers to the grants of a client. Each case was put to the three programs.
 
 use crate::asserting::{made, present, same};
-use crate::texts::{Owner, Who, attr_of, caller_of, cephfs};
-use capbits::Caller;
-use capgrant::{Access, Attr};
+use crate::texts::{attr_of, caller_of, line_of, number, part, sides, text_of, word};
+use capexplain::read_access;
 use capspec::{FsName, TreePath};
 use release_rules::{
-    Asked, Flags, GidList, Grant, Question, Release, Switches, Text, Verdict, client_refuses,
-    mds_verdict, read_grants,
+    Asked, Grants, Question, Release, Rule, Switches, Verdict, client_refuses, mds_verdict,
+    read_grants,
 };
+use std::alloc::Global;
 use std::net::IpAddr;
 use std::process::Abort;
 
-// What a grant says. A text is empty where the grant has no such item.
-#[derive(Clone, Copy)]
-struct Said {
-    flags: &'static str,
-    fsname: &'static str,
-    path: &'static str,
-    root_squash: bool,
-    uid: Option<u32>,
-    gids: &'static [u32],
-    network: &'static str,
-}
-
-const R: Said = Said {
-    flags: "r",
-    fsname: "",
-    path: "",
-    root_squash: false,
-    uid: None,
-    gids: &[],
-    network: "",
-};
-
-const RW: Said = Said { flags: "rw", ..R };
-
-const RWPS: Said = Said { flags: "rwps", ..R };
-
-const ALL: Said = Said { flags: "*", ..R };
-
-// Grants, the file system, who asks, the inode's path, owner, group and mode, the access, the client's address, and what the three answered.
-type Case = (
-    &'static [Said],
-    &'static str,
-    Who,
-    &'static str,
-    Owner,
-    Access,
-    &'static str,
-    [&'static str; 3],
-);
-
-const TEN: Who = (10, 10, &[]);
-
-const ROOT: Who = (0, 0, &[]);
-
-const ITS_OWN: Owner = (10, 10, 0o644);
-
-const OF_SEVEN: Owner = (7, 7, 0o640);
-
-const OF_ELEVEN: Owner = (11, 11, 0o666);
-
-const ALLOWED: [&str; 3] = ["allowed"; 3];
-
-const DENIED: [&str; 3] = ["denied"; 3];
-
-const NOT_BY_16: [&str; 3] = ["denied", "allowed", "allowed"];
-
-const NOT_BY_20: [&str; 3] = ["allowed", "allowed", "denied"];
-
-const CASES: &[Case] = &[
-    (
-        &[Said {
-            path: "/foo/",
-            ..RW
-        }],
-        "cephfs",
-        TEN,
-        "/foo",
-        ITS_OWN,
-        Access::Write,
-        "",
-        NOT_BY_16,
-    ),
-    (
-        &[Said {
-            path: "/foo//bar",
-            ..RW
-        }],
-        "cephfs",
-        TEN,
-        "/foo/bar",
-        ITS_OWN,
-        Access::Write,
-        "",
-        DENIED,
-    ),
-    (
-        &[Said { path: "/foo", ..RW }],
-        "cephfs",
-        TEN,
-        "/food",
-        ITS_OWN,
-        Access::Write,
-        "",
-        DENIED,
-    ),
-    (
-        &[Said {
-            uid: Some(0),
-            ..RWPS
-        }],
-        "cephfs",
-        TEN,
-        "/foo/bar",
-        OF_SEVEN,
-        Access::Write,
-        "",
-        NOT_BY_16,
-    ),
-    (
-        &[Said {
-            uid: Some(0),
-            gids: &[5],
-            ..RWPS
-        }],
-        "cephfs",
-        TEN,
-        "/foo/bar",
-        OF_SEVEN,
-        Access::Chmod,
-        "",
-        NOT_BY_16,
-    ),
-    (
-        &[
-            R,
-            Said {
-                fsname: "other",
-                ..RW
-            },
-        ],
-        "cephfs",
-        ROOT,
-        "/foo/bar",
-        ITS_OWN,
-        Access::Write,
-        "",
-        NOT_BY_20,
-    ),
-    (
-        &[Said {
-            fsname: "cephfs",
-            ..ALL
-        }],
-        "other",
-        TEN,
-        "/foo/bar",
-        ITS_OWN,
-        Access::Write,
-        "",
-        NOT_BY_20,
-    ),
-    (
-        &[
-            Said {
-                fsname: "cephfs",
-                ..R
-            },
-            Said {
-                fsname: "other",
-                ..RW
-            },
-        ],
-        "third",
-        ROOT,
-        "/foo/bar",
-        ITS_OWN,
-        Access::Write,
-        "",
-        ["cannot mount"; 3],
-    ),
-    (
-        &[
-            Said {
-                network: "192.168.0.0/16",
-                ..ALL
-            },
-            Said {
-                network: "10.0.0.0/8",
-                ..ALL
-            },
-        ],
-        "a",
-        ROOT,
-        "/foo",
-        (0, 0, 0o777),
-        Access::Read,
-        "10.1.2.3",
-        ALLOWED,
-    ),
-    (
-        &[Said {
-            network: "10.0.0.0/8",
-            ..ALL
-        }],
-        "a",
-        ROOT,
-        "/foo",
-        (0, 0, 0o777),
-        Access::Read,
-        "",
-        ["depends"; 3],
-    ),
-    (
-        &[Said {
-            network: "300.0.0.0/8",
-            ..RW
-        }],
-        "cephfs",
-        TEN,
-        "/foo/bar",
-        ITS_OWN,
-        Access::Write,
-        "10.1.2.3",
-        DENIED,
-    ),
-    (
-        &[Said {
-            root_squash: true,
-            ..RWPS
-        }],
-        "cephfs",
-        (0, 5, &[]),
-        "/foo/bar",
-        ITS_OWN,
-        Access::Chgrp(0),
-        "",
-        DENIED,
-    ),
-    (
-        &[Said {
-            uid: Some(10),
-            ..RWPS
-        }],
-        "cephfs",
-        (10, 10, &[11]),
-        "/foo/bar",
-        OF_ELEVEN,
-        Access::Chmod,
-        "",
-        ALLOWED,
-    ),
-    (
-        &[Said {
-            uid: Some(10),
-            ..RWPS
-        }],
-        "cephfs",
-        (10, 10, &[11]),
-        "/foo/bar",
-        OF_ELEVEN,
-        Access::Chown(11),
-        "",
-        DENIED,
-    ),
-];
+// A line is `GRANTS | FILE_SYSTEM UID GID GROUPS | PATH OWNER GROUP MODE | ASKED | ADDRESS => ANSWER | ANSWER | ANSWER`. What is asked is
+// `mds` with an access; `mask` with the bits of a mask, by which the inode may be given to the user 8; or `client` with an access, by which
+// grant the client refuses it. A client without an address has a dash, and an answer that nobody asked for. By a mask a denial has
+// the number and the word of each rule.
+const CASES: &str = "
+# By the path.
+allow rw path=/foo/ | cephfs 10 10 | /foo 10 10 0644 | mds write | - => denied | allowed | allowed
+allow rw path=/foo//bar | cephfs 10 10 | /foo/bar 10 10 0644 | mds write | - => denied | denied | denied
+allow rw path=/foo | cephfs 10 10 | /food 10 10 0644 | mds write | - => denied | denied | denied
+# By the user.
+allow rwps uid=0 | cephfs 10 10 | /foo/bar 7 7 0640 | mds write | - => denied | allowed | allowed
+allow rwps uid=0 gids=5 | cephfs 10 10 | /foo/bar 7 7 0640 | mds chmod | - => denied | allowed | allowed
+allow rwps root_squash | cephfs 0 5 | /foo/bar 10 10 0644 | mds chgrp:0 | - => denied | denied | denied
+allow rwps uid=10 | cephfs 10 10 11 | /foo/bar 11 11 0666 | mds chmod | - => allowed | allowed | allowed
+allow rwps uid=10 | cephfs 10 10 11 | /foo/bar 11 11 0666 | mds chown:11 | - => denied | denied | denied
+# By the file system.
+allow r, allow rw fsname=other | cephfs 0 0 | /foo/bar 10 10 0644 | mds write | - => allowed | allowed | denied
+allow * fsname=cephfs | other 10 10 | /foo/bar 10 10 0644 | mds write | - => allowed | allowed | denied
+allow r fsname=cephfs, allow rw fsname=other | third 0 0 | /foo/bar 10 10 0644 | mds write | - => cannot mount | cannot mount | cannot mount
+# By the network.
+allow * network 192.168.0.0/16, allow * network 10.0.0.0/8 | a 0 0 | /foo 0 0 0777 | mds read | 10.1.2.3 => allowed | allowed | allowed
+allow * network 10.0.0.0/8 | a 0 0 | /foo 0 0 0777 | mds read | - => depends | depends | depends
+allow rw network 300.0.0.0/8 | cephfs 10 10 | /foo/bar 10 10 0644 | mds write | 10.1.2.3 => denied | denied | denied
+# A mask without a write asks for no w.
+allow r | cephfs 10 10 | /a/x 10 10 0644 | mask 16 | - => - | - | allowed
+allow rw path=/b, allow r | cephfs 10 10 | /a/x 10 10 0644 | mask 18 | - => - | - | denied 4 path 5 no-write
+# The last grant decides for a client, where it looks at all.
+allow rw path=/a, allow r | cephfs 10 10 | /a/x 10 10 0644 | client chmod | - => None | Some(2) | Some(2)
+allow r, allow rw path=/a | cephfs 10 10 | /a/x 10 10 0644 | client chmod | - => None | None | None
+";
 
 const RELEASES: [Release; 3] = [Release::Pacific, Release::Reef, Release::Tentacle];
 
-// A text of a grant, where it has one.
-fn text_if(rt: &(impl Abort + AllocGlobal), text: &str) -> Option<Text> {
-    if text.is_empty() {
-        return None;
-    }
-    Some(made(rt, Text::of(rt.alloc(), text.as_bytes()), text))
-}
-
-fn flags_of(word: &str) -> Flags {
-    Flags {
-        all: word == "*",
-        w: word.contains('w'),
-        f: word.contains('f'),
-        p: word.contains('p'),
-        s: word.contains('s'),
+// The grants that a release reads in a text, or the place up to which it reads it.
+fn read(rt: &(impl Abort + AllocGlobal), release: Release, text: &str) -> Result<Grants, usize> {
+    match made(
+        rt,
+        read_grants(rt.alloc(), text.as_bytes(), release.switches()),
+        text,
+    ) {
+        Ok(grants) => Ok(grants),
+        Err(unread) => Err(unread.at),
     }
 }
 
-fn grant_of(rt: &(impl Abort + AllocGlobal), said: &Said) -> Grant {
-    let mut gids = GidList::new(rt.alloc());
-    for gid in said.gids {
-        made(rt, gids.push(*gid), *gid);
+// A verdict in a word, and behind a denial the number and the word of each rule, where these are asked for.
+fn told(rt: &impl Abort, alloc: Global, verdict: &Verdict, with_rules: bool) -> String {
+    let (word, rules): (&str, &[Rule]) = match verdict {
+        Verdict::CannotMount => ("cannot mount", &[]),
+        Verdict::Allowed { .. } => ("allowed", &[]),
+        Verdict::DependsOnAddress { .. } => ("depends", &[]),
+        Verdict::Denied { rules } => ("denied", rules.as_slice()),
+    };
+    let mut text = text_of(rt, alloc, word.as_bytes());
+    if !with_rules {
+        return text;
     }
-    Grant {
-        flags: flags_of(said.flags),
-        fsname: text_if(rt, said.fsname),
-        path: text_if(rt, said.path),
-        root_squash: said.root_squash,
-        uid: said.uid,
-        gids,
-        network: text_if(rt, said.network),
+    for rule in rules {
+        let (number, word) = (rule.number(), rule.word());
+        let more = made(rt, format!(in alloc; " {number} {word}"), word);
+        made(rt, text.push_str(more.as_str()), word);
     }
+    text
 }
 
-fn grants_of(rt: &(impl Abort + AllocGlobal), said: &[Said]) -> Vec<Grant> {
-    let mut grants = Vec::new(rt.alloc());
-    for one in said {
-        made(rt, grants.push(grant_of(rt, one)), "a grant");
+fn asked_by(rt: &impl Abort, asks: &str) -> Asked {
+    if word(asks, 0) == "mask" {
+        return Asked::of_mask(number(asks, 1), 8, 0);
     }
-    grants
+    let access = read_access(word(asks, 1).as_bytes());
+    Asked::of_access(present(rt, access, asks))
 }
 
-fn word_of(verdict: &Verdict) -> &'static str {
-    match verdict {
-        Verdict::CannotMount => "cannot mount",
-        Verdict::Allowed { .. } => "allowed",
-        Verdict::DependsOnAddress { .. } => "depends",
-        Verdict::Denied { .. } => "denied",
+// What is answered to a question by a release's rules.
+fn reply(
+    rt: &impl Abort,
+    alloc: Global,
+    switches: Switches,
+    question: &Question,
+    (grants, asks): (&Grants, &str),
+) -> String {
+    if word(asks, 0) == "client" {
+        let refused = client_refuses(switches, question, grants.as_slice());
+        return line_of(rt, alloc, &refused);
     }
+    let verdict = mds_verdict(alloc, switches, question, grants.as_slice());
+    told(rt, alloc, &made(rt, verdict, asks), word(asks, 0) == "mask")
 }
 
-// The question of a caller about an inode of its own, without an address.
-fn ask<'a>(
-    fs: &'a FsName,
-    caller: &'a Caller,
-    path: &'a TreePath,
-    attr: &'a Attr,
-    asked: Asked,
-) -> Question<'a> {
-    Question {
-        fs,
-        caller,
-        path,
-        attr,
-        asked,
-        address: None,
-    }
-}
-
-// What the release answers to a case.
-fn answer(rt: &(impl Abort + AllocGlobal), switches: Switches, case: &Case) -> &'static str {
-    let (said, fs, who, path, owner, access, address, _) = *case;
-    let fs = present(rt, FsName::read(fs.as_bytes()), fs);
-    let caller = caller_of(rt, who);
+// What a release answers to a case.
+fn answer(rt: &(impl Abort + AllocGlobal), release: Release, case: &str) -> String {
+    let (who, inode, asks) = (part(case, 1), part(case, 2), part(case, 3));
+    let grants = made(rt, read(rt, release, part(case, 0)), case);
+    let (name, ids) = who.split_once(' ').unwrap_or((who, ""));
+    let fs = present(rt, FsName::read(name.as_bytes()), case);
+    let caller = caller_of(rt, ids);
+    let (place, owner) = inode.split_once(' ').unwrap_or((inode, ""));
     let attr = attr_of(rt, owner);
-    let path = made(rt, TreePath::from_text(rt.alloc(), path.as_bytes()), path);
-    let mut question = ask(&fs, &caller, &path, &attr, Asked::of_access(access));
-    question.address = IpAddr::parse_ascii(address.as_bytes()).ok();
-    let grants = grants_of(rt, said);
-    let verdict = mds_verdict(rt.alloc(), switches, &question, grants.as_slice());
-    word_of(&made(rt, verdict, "a verdict"))
+    let path = made(rt, TreePath::from_text(rt.alloc(), place.as_bytes()), case);
+    let question = Question {
+        fs: &fs,
+        caller: &caller,
+        path: &path,
+        attr: &attr,
+        asked: asked_by(rt, asks),
+        address: IpAddr::parse_ascii(part(case, 4).as_bytes()).ok(),
+    };
+    reply(
+        rt,
+        rt.alloc(),
+        release.switches(),
+        &question,
+        (&grants, asks),
+    )
+}
+
+// Sees that each release answers so to a case.
+fn answers(rt: &(impl Abort + AllocGlobal), case: &str, wanted: &str) {
+    for (place, release) in RELEASES.iter().enumerate() {
+        let wanted = part(wanted, place);
+        if wanted != "-" {
+            let found = answer(rt, *release, case);
+            same(rt, found.as_str(), wanted, case);
+        }
+    }
 }
 
 #[test]
 fn each_release_answers_as_its_mds(rt: HostRuntime) {
-    for (at, case) in CASES.iter().enumerate() {
-        for (release, wanted) in RELEASES.iter().zip(case.7) {
-            same(&rt, answer(&rt, release.switches(), case), wanted, at);
+    for line in CASES.lines() {
+        if let Some((case, wanted)) = sides(line) {
+            answers(&rt, case, wanted);
         }
-    }
-}
-
-// Which grant a client of each release refuses by to change attributes of `/a/x`.
-const REFUSALS: &[(&[Said], [Option<usize>; 3])] = &[
-    (&[Said { path: "/a", ..RW }, R], [None, Some(2), Some(2)]),
-    (&[R, Said { path: "/a", ..RW }], [None; 3]),
-];
-
-#[test]
-fn the_last_grant_decides_for_a_client(rt: HostRuntime) {
-    let (fs, caller, attr) = (cephfs(&rt), caller_of(&rt, TEN), attr_of(&rt, ITS_OWN));
-    let path = made(&rt, TreePath::from_text(rt.alloc(), b"/a/x"), "a path");
-    let question = ask(&fs, &caller, &path, &attr, Asked::of_access(Access::Chmod));
-    for (at, (said, wanted)) in REFUSALS.iter().enumerate() {
-        let grants = grants_of(&rt, said);
-        for (release, wanted) in RELEASES.iter().zip(*wanted) {
-            let refused = client_refuses(release.switches(), &question, grants.as_slice());
-            same(&rt, refused, wanted, at);
-        }
-    }
-}
-
-// The rules by which grants fail to let `/a/x` be given to the user 8 by a mask.
-fn failures(rt: &(impl Abort + AllocGlobal), mask: u32, said: &[Said]) -> Verdict {
-    let (fs, caller, attr) = (cephfs(rt), caller_of(rt, TEN), attr_of(rt, ITS_OWN));
-    let path = made(rt, TreePath::from_text(rt.alloc(), b"/a/x"), "a path");
-    let question = ask(&fs, &caller, &path, &attr, Asked::of_mask(mask, 8, 0));
-    let grants = grants_of(rt, said);
-    let switches = Release::Tentacle.switches();
-    made(
-        rt,
-        mds_verdict(rt.alloc(), switches, &question, grants.as_slice()),
-        "a verdict",
-    )
-}
-
-#[test]
-fn a_mask_without_a_write_asks_for_no_w(rt: HostRuntime) {
-    same(
-        &rt,
-        word_of(&failures(&rt, 16, &[R])),
-        "allowed",
-        "a change of the owner alone",
-    );
-    let verdict = failures(&rt, 18, &[Said { path: "/b", ..RW }, R]);
-    match &verdict {
-        Verdict::Denied { rules } => {
-            for (rule, wanted) in rules.as_slice().iter().zip([(4, "path"), (5, "no-write")]) {
-                same(&rt, (rule.number(), rule.word()), wanted, "a rule");
-            }
-            same(&rt, rules.as_slice().len(), 2, "rules");
-        }
-        _ => panic!(rt; "not denied"),
     }
 }
 
 // How many grants each release reads in a text, or the place up to which it does.
-type Reading = (&'static str, [Result<usize, usize>; 3]);
+const READINGS: &str = "
+allow => 1 | 1 | 1
+allow  => at 0 | at 0 | at 0
+allow rwfs => 1 | 1 | 1
+allow rwx => at 8 | at 8 | at 8
+allow r; => at 7 | at 7 | at 7
+allow r ;allow * uid=1 => 2 | 2 | 2
+allow rw path=\"/a\"x => at 18 | at 18 | at 18
+allow rw path=/a path=/b => at 17 | at 17 | at 17
+allow rw uid=1 path=/a => at 15 | at 15 | at 15
+allow rw uid=1 gids=1,2,allow r => 2 | 2 | 2
+allow rw network 10.0.0.0/8 path=/a => at 28 | at 28 | at 28
+allow rw fsname=a path=/b uid=1 => at 26 | 1 | 1
+allow rw root_squash uid=1 => at 21 | 1 | 1
+allow rw fsname=a gids=1000,1001,1002 => at 18 | 1 | 1
+";
 
-const READINGS: &[Reading] = &[
-    ("allow", [Ok(1); 3]),
-    ("allow ", [Err(0); 3]),
-    ("allow rwfs", [Ok(1); 3]),
-    ("allow rwx", [Err(8); 3]),
-    ("allow r;", [Err(7); 3]),
-    ("allow r ;allow * uid=1", [Ok(2); 3]),
-    ("allow rw path=\"/a\"x", [Err(18); 3]),
-    ("allow rw path=/a path=/b", [Err(17); 3]),
-    ("allow rw uid=1 path=/a", [Err(15); 3]),
-    ("allow rw uid=1 gids=1,2,allow r", [Ok(2); 3]),
-    ("allow rw network 10.0.0.0/8 path=/a", [Err(28); 3]),
-    ("allow rw fsname=a path=/b uid=1", [Err(26), Ok(1), Ok(1)]),
-    ("allow rw root_squash uid=1", [Err(21), Ok(1), Ok(1)]),
-    (
-        "allow rw fsname=a gids=1000,1001,1002",
-        [Err(18), Ok(1), Ok(1)],
-    ),
-];
+fn reading(rt: &(impl Abort + AllocGlobal), release: Release, text: &str) -> String {
+    let found = match read(rt, release, text) {
+        Ok(grants) => {
+            let count = grants.as_slice().len();
+            format!(in rt.alloc(); "{count}")
+        }
+        Err(at) => format!(in rt.alloc(); "at {at}"),
+    };
+    made(rt, found, text)
+}
 
 #[test]
 fn each_release_reads_as_its_mds(rt: HostRuntime) {
-    for (text, wanted) in READINGS {
-        for (release, wanted) in RELEASES.iter().zip(*wanted) {
-            let read = read_grants(rt.alloc(), text.as_bytes(), release.switches());
-            let found = match made(&rt, read, *text) {
-                Ok(grants) => Ok(grants.as_slice().len()),
-                Err(unread) => Err(unread.at),
-            };
-            same(&rt, found, wanted, *text);
+    for line in READINGS.lines() {
+        if let Some((text, wanted)) = sides(line) {
+            for (place, release) in RELEASES.iter().enumerate() {
+                let found = reading(&rt, *release, text);
+                same(&rt, found.as_str(), part(wanted, place), line);
+            }
         }
     }
 }

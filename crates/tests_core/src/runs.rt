@@ -1,24 +1,10 @@
 //! Scripts with what they write.
 
-use crate::asserting::{made, same};
+use crate::asserting::same;
 use capscript::run;
 use script_syntax::{ScriptFault, Watched};
 use std::alloc::Global;
 use std::io;
-use std::process::Abort;
-
-/// What a run over a script writes, and how it ends, in words behind an equals sign.
-pub fn transcript(rt: &impl Abort, alloc: Global, script: &[u8]) -> Vec<u8> {
-    let mut text = Vec::new(alloc);
-    let mut reader = Watched::new(script);
-    let mut writer = Watched::new(&mut text);
-    let ended = run(alloc, &mut reader, &mut writer);
-    if let Err(fault) = ended {
-        let word = made(rt, format!(in alloc; "={fault}"), "a fault");
-        made(rt, text.extend_from_slice(word.as_bytes()), "a fault");
-    }
-    text
-}
 
 /// Lines with each kind of answer and of message. The last line has no line feed.
 pub const ALL_KINDS: &str = "# all kinds

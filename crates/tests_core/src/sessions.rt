@@ -1,10 +1,11 @@
 //! Sessions: what is kept of each client, a copy of them, and what each call on them is refused as.
 
-use crate::asking::{Exchange, core_of};
+use crate::asking::Beside::Nothing;
+use crate::asking::core_of;
 use crate::asserting::{made, present, same};
-use crate::texts::{caller_of, grants_of, line_of};
+use crate::texts::{grants_of, line_of};
 use Call::*;
-use capbits::{ClientId, Refusal};
+use capbits::{Caller, ClientId, Groups, Refusal};
 use capcore::Core;
 use capspec::Flags4;
 use sessiontab::{Connected, MAX_BLOCKED, MAX_SESSIONS, Session, SessionError, Sessions, Status};
@@ -62,23 +63,23 @@ fn same_in_a_copy(rt: &impl Abort, alloc: Global, connected: &Connected) {
     same(rt, found.as_str(), wanted.as_str(), "a copy");
 }
 
-const COMING_AND_GOING: &[Exchange] = &[
-    ("session 1 1 1 - allow rws", "done"),
-    ("session 3 3 3 - allow r path=/a, allow rwps", "done"),
-    ("session 2 2 2 - allow rw", "done"),
-    ("session 4 4 4 - allow rw", "done"),
-    ("session 4 4 4 - allow rw", "refused SessionOpen"),
-    ("stale 3", "done"),
-    ("stale 3", "refused SessionStale"),
-    ("evict 2", "done"),
-    ("evict 2", "refused NoSession"),
-    ("session 2 2 2 - allow rw", "refused Blocklisted"),
-    // Other grants are for a stale session too, and leave all else.
-    ("regrant 3 allow rwp", "done"),
-    ("regrant 2 allow rwp", "refused NoSession"),
-    ("session 5 5 5 - allow rw", "done"),
-    ("close 5", "done"),
-];
+const COMING_AND_GOING: &str = "
+session 1 1 1 - allow rws => done
+session 3 3 3 - allow r path=/a, allow rwps => done
+session 2 2 2 - allow rw => done
+session 4 4 4 - allow rw => done
+session 4 4 4 - allow rw => refused SessionOpen
+stale 3 => done
+stale 3 => refused SessionStale
+evict 2 => done
+evict 2 => refused NoSession
+session 2 2 2 - allow rw => refused Blocklisted
+# Other grants are for a stale session too, and leave all else.
+regrant 3 allow rwp => done
+regrant 2 allow rwp => refused NoSession
+session 5 5 5 - allow rw => done
+close 5 => done
+";
 
 const LEFT: &[Look] = &[
     (1, Some(Status::Open), false, Some(1), Some(Flags4::Rws)),
@@ -92,7 +93,7 @@ const LEFT: &[Look] = &[
 #[test]
 fn each_client_has_its_own_session(rt: HostRuntime) {
     same(&rt, (MAX_SESSIONS, MAX_BLOCKED), (64, 1024), "the most");
-    let core = core_of(&rt, COMING_AND_GOING);
+    let core = core_of(&rt, (100, Nothing, COMING_AND_GOING));
     for look in LEFT {
         see(&rt, core.sessions(), *look);
         see_in_core(&rt, &core, *look);
@@ -128,7 +129,11 @@ fn opened(
     sessions: &mut Sessions,
     client: ClientId,
 ) -> Option<Refusal> {
-    let caller = caller_of(rt, (client.0, 0, &[]));
+    let caller = Caller {
+        uid: client.0,
+        gid: 0,
+        groups: Groups::new(),
+    };
     let grants = grants_of(rt, "allow rw");
     refused(rt, sessions.open_session(client, caller, grants))
 }

@@ -1,15 +1,16 @@
 //! What stands beside the answers of steps: a lock, and what clients hold.
 
 use crate::asserting::made;
-use crate::texts::text_of;
-use capbits::{ClientId, Ino, Part, write_caps};
+use crate::texts::{caps_text, text_of};
+use capbits::{ClientId, Ino, Part};
 use capcore::Core;
 use captable::Entry;
 use locktable::{LockState, StableState};
 use std::alloc::Global;
 use std::process::Abort;
 
-fn state_text(rt: &impl Abort, alloc: Global, state: StableState) -> String {
+/// A stable state by its word.
+pub fn state_text(rt: &impl Abort, alloc: Global, state: StableState) -> String {
     let word = match state {
         StableState::Sync => "SYNC",
         StableState::Lock => "LOCK",
@@ -23,8 +24,8 @@ fn state_text(rt: &impl Abort, alloc: Global, state: StableState) -> String {
     text_of(rt, alloc, word.as_bytes())
 }
 
-// A lock by its state, or by the two of a gather; a dash where there is none.
-fn lock_text(rt: &impl Abort, alloc: Global, lock: Option<LockState>) -> String {
+/// A lock by its state, or by the two of a gather; a dash where there is none.
+pub fn lock_text(rt: &impl Abort, alloc: Global, lock: Option<LockState>) -> String {
     match lock {
         None => text_of(rt, alloc, b"-"),
         Some(LockState::Stable(state)) => state_text(rt, alloc, state),
@@ -40,7 +41,7 @@ fn entry_text(rt: &impl Abort, alloc: Global, entry: Option<Entry>) -> String {
     let Some(entry) = entry else {
         return text_of(rt, alloc, b"-");
     };
-    let caps = text_of(rt, alloc, write_caps(entry.held).as_slice());
+    let caps = caps_text(rt, alloc, entry.held);
     let due = if entry.told_seq < entry.seq {
         " due"
     } else {

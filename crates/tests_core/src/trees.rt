@@ -1,6 +1,7 @@
 //! Trees: where inodes stand, a copy that goes its own way, and what each call is refused as.
 
-use crate::asking::{Exchange, ask, core_of};
+use crate::asking::Beside::Nothing;
+use crate::asking::{ask, core_of};
 use crate::asserting::{made, present, same};
 use crate::texts::{attr_of, line_of};
 use Call::*;
@@ -11,31 +12,31 @@ use std::alloc::Global;
 use std::process::Abort;
 
 // A file with an owner and an attribute, in a directory with a snapshot, beside a stray. Whoever has a file open keeps it as a stray.
-const BEFORE: &[Exchange] = &[
-    ("session 1 10 10 - allow rwps", "done"),
-    ("mkdir 1 1 d 0755", "ino 2"),
-    ("create 1 2 f 0755", "ino 3"),
-    ("create 1 1 g 0755", "ino 4"),
-    ("open 1 4 r", "caps 1 pFscr"),
-    ("unlink 1 4", "done"),
-    ("alter 1 3 chown 5", "done"),
-    ("alter 1 3 chgrp 6", "done"),
-    ("alter 1 3 chmod 0640", "done"),
-    ("alter 1 3 setx x 31", "done"),
-    ("mksnap 1 2 s", "done"),
-    ("open 1 3 r", "caps 1 pFscr"),
-];
+const BEFORE: &str = "
+session 1 10 10 - allow rwps => done
+mkdir 1 1 d 0755 => ino 2
+create 1 2 f 0755 => ino 3
+create 1 1 g 0755 => ino 4
+open 1 4 r => caps 1 pFscr
+unlink 1 4 => done
+alter 1 3 chown 5 => done
+alter 1 3 chgrp 6 => done
+alter 1 3 chmod 0640 => done
+alter 1 3 setx x 31 => done
+mksnap 1 2 s => done
+open 1 3 r => caps 1 pFscr
+";
 
-const BEHIND: &[Exchange] = &[
-    ("alter 1 3 chown 15", "done"),
-    ("alter 1 3 chgrp 16", "done"),
-    ("alter 1 3 chmod 0777", "done"),
-    ("alter 1 3 setx x 32", "done"),
-    ("alter 1 1 setx y 33", "done"),
-    ("mksnap 1 2 t", "done"),
-    ("unlink 1 3", "done"),
-    ("create 1 1 h 0755", "ino 5"),
-];
+const BEHIND: &str = "
+alter 1 3 chown 15 => done
+alter 1 3 chgrp 16 => done
+alter 1 3 chmod 0777 => done
+alter 1 3 setx x 32 => done
+alter 1 1 setx y 33 => done
+mksnap 1 2 t => done
+unlink 1 3 => done
+create 1 1 h 0755 => ino 5
+";
 
 // All that is kept of each inode.
 fn inodes_text(rt: &impl Abort, alloc: Global, tree: &Tree) -> String {
@@ -67,7 +68,7 @@ fn see(rt: &impl Abort, tree: &Tree) {
 fn copy_stays(rt: &impl Abort, alloc: Global, core: &mut Core) {
     let before = inodes_text(rt, alloc, core.tree());
     let copy = made(rt, core.tree().copy(), "a copy");
-    ask(rt, alloc, core, BEHIND);
+    ask(rt, alloc, core, Nothing, BEHIND);
     let text = inodes_text(rt, alloc, &copy);
     same(rt, text.as_str(), before.as_str(), "the copy");
     see(rt, &copy);
@@ -77,7 +78,7 @@ fn copy_stays(rt: &impl Abort, alloc: Global, core: &mut Core) {
 
 #[test]
 fn a_copy_of_a_tree_goes_its_own_way(rt: HostRuntime) {
-    let mut core = core_of(&rt, BEFORE);
+    let mut core = core_of(&rt, (100, Nothing, BEFORE));
     see(&rt, core.tree());
     copy_stays(&rt, rt.alloc(), &mut core);
     drop(core);
@@ -109,46 +110,53 @@ fn refused<T: Drop>(rt: &impl Abort, done: Result<T, TreeError>) -> Option<Refus
     }
 }
 
-// The answer of `rmdir_fault` and then that of `rmdir`.
-fn rmdir(tree: &mut Tree, ino: Ino) -> [Option<Refusal>; 2] {
-    [tree.rmdir_fault(ino), tree.rmdir(ino).err()]
+// `rmdir_fault` tells before what `rmdir` answers.
+fn rmdir(rt: &impl Abort, tree: &mut Tree, ino: Ino) -> Option<Refusal> {
+    let fault = tree.rmdir_fault(ino);
+    let answer = tree.rmdir(ino).err();
+    same(rt, fault, answer, ino);
+    answer
 }
 
-// The answer of `rename_fault` and then that of `rename`.
-fn rename(
-    rt: &impl Abort,
-    tree: &mut Tree,
-    ino: Ino,
-    dir: Ino,
-    name: Name,
-) -> [Option<Refusal>; 2] {
+// `rename_fault` tells before what `rename` answers.
+fn rename(rt: &impl Abort, tree: &mut Tree, ino: Ino, dir: Ino, name: Name) -> Option<Refusal> {
     let fault = tree.rename_fault(ino, dir, name.as_bytes());
-    [fault, refused(rt, tree.rename(ino, dir, name.as_bytes()))]
+    let answer = refused(rt, tree.rename(ino, dir, name.as_bytes()));
+    same(rt, fault, answer, ino);
+    answer
 }
 
 fn create(rt: &impl Abort, tree: &mut Tree, dir: u64, name: Name) -> Option<Refusal> {
-    let attr = attr_of(rt, (1, 1, 0o644));
+    let attr = attr_of(rt, "1 1 0644");
     refused(rt, tree.create(Ino(dir), name.as_bytes(), attr))
 }
 
 fn mkdir(rt: &impl Abort, tree: &mut Tree, dir: u64, name: Name) -> Option<Refusal> {
-    let attr = attr_of(rt, (1, 1, 0o755));
+    let attr = attr_of(rt, "1 1 0755");
     refused(rt, tree.mkdir(Ino(dir), name.as_bytes(), attr))
 }
 
-// Makes the call, and answers twice what it is refused as: some calls tell it before, too.
-fn answer(rt: &impl Abort, tree: &mut Tree, call: &Call) -> [Option<Refusal>; 2] {
+// Makes a call that makes something or moves it, and answers what it is refused as.
+fn answer(rt: &impl Abort, tree: &mut Tree, call: &Call) -> Option<Refusal> {
     match call {
-        Create(dir, name) => [create(rt, tree, *dir, name); 2],
-        Mkdir(dir, name) => [mkdir(rt, tree, *dir, name); 2],
-        Unlink(ino) => [tree.unlink(Ino(*ino)).err(); 2],
-        Rmdir(ino) => rmdir(tree, Ino(*ino)),
+        Create(dir, name) => create(rt, tree, *dir, name),
+        Mkdir(dir, name) => mkdir(rt, tree, *dir, name),
         Rename(ino, dir, name) => rename(rt, tree, Ino(*ino), Ino(*dir), name),
-        Size(ino) => [tree.set(Ino(*ino), Setting::Size(5)).err(); 2],
-        SetXattr(ino, name) => [refused(rt, tree.set_xattr(Ino(*ino), name.as_bytes(), b"1")); 2],
-        RemoveXattr(ino, name) => [tree.remove_xattr(Ino(*ino), name.as_bytes()).err(); 2],
-        SnapAdd(ino, name) => [refused(rt, tree.snap_add(Ino(*ino), name.as_bytes())); 2],
-        SnapRemove(ino, name) => [tree.snap_remove(Ino(*ino), name.as_bytes()).err(); 2],
+        SetXattr(ino, name) => refused(rt, tree.set_xattr(Ino(*ino), name.as_bytes(), b"1")),
+        SnapAdd(ino, name) => refused(rt, tree.snap_add(Ino(*ino), name.as_bytes())),
+        other => without_memory(rt, tree, other),
+    }
+}
+
+// The same of a call that takes no memory.
+fn without_memory(rt: &impl Abort, tree: &mut Tree, call: &Call) -> Option<Refusal> {
+    match call {
+        Unlink(ino) => tree.unlink(Ino(*ino)).err(),
+        Rmdir(ino) => rmdir(rt, tree, Ino(*ino)),
+        Size(ino) => tree.set(Ino(*ino), Setting::Size(5)).err(),
+        RemoveXattr(ino, name) => tree.remove_xattr(Ino(*ino), name.as_bytes()).err(),
+        SnapRemove(ino, name) => tree.snap_remove(Ino(*ino), name.as_bytes()).err(),
+        _ => panic!(rt; "a call that takes memory"),
     }
 }
 
@@ -214,14 +222,14 @@ fn plays(
     calls: &'static [(Call, Option<Refusal>)],
     title: &'static str,
 ) {
-    let root = attr_of(rt, (0, 0, 0o755));
+    let root = attr_of(rt, "0 0 0755");
     let mut tree = made(rt, Tree::new(rt.alloc(), root), title);
     for dir in 1..=nested {
         same(rt, mkdir(rt, &mut tree, dir, "d"), None, title);
     }
     for (nth, (asked, wanted)) in calls.iter().enumerate() {
         let found = answer(rt, &mut tree, asked);
-        same(rt, found, [*wanted; 2], (title, nth));
+        same(rt, found, *wanted, (title, nth));
     }
     drop(tree);
 }

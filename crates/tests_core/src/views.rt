@@ -1,91 +1,71 @@
 //! Worked runs: a view that follows a server by the changes that it is told, and what it answers.
+//!
+//! A case is a text, a line a step. A view is told a change: `born INO DIR NAME dir` or `file`, which is user 10's, who alone may write to it;
+//! `moved INO DIR NAME`, `removed INO`, `forgotten INO`, `settled INO | OWNER GROUP MODE`, `opened CLIENT | UID GID | GRANTS`, `ended CLIENT`,
+//! `regranted CLIENT | GRANTS`. Behind one that it can't follow stands `=> other`. `ask CLIENT INO ACCESS` asks it: the answer is `grant` with a
+//! number, the word of the rule by which the first grant fails, or why there is no verdict.
 
-use crate::asking::{Exchange, core_of};
+use crate::asking::Beside::Nothing;
+use crate::asking::core_of;
 use crate::asserting::{made, present, same};
-use crate::texts::{Owner, attr_of, caller_of, cephfs, grants_of};
-use Told::*;
-use capbits::{ClientId, Ino};
-use capgrant::{Access, Verdict};
+use crate::texts::{attr_of, caller_of, cephfs, grants_of, ino_of, number, part, sides, word};
+use capbits::ClientId;
+use capexplain::read_access;
+use capgrant::Verdict;
 use inotree::Name;
 use policy_view::{Question, Unknown, View, ViewChange};
 use std::process::Abort;
 
-// What a view is told. The first number is that of an inode or a client.
-#[derive(Clone, Copy)]
-enum Told {
-    // Made in a directory under a name, as a directory or not.
-    Born(u64, u64, &'static [u8], bool),
-    Moved(u64, u64, &'static [u8]),
-    Removed(u64),
-    Forgotten(u64),
-    // The owner, the group and the bits of the mode.
-    Settled(u64, Owner),
-    // The user, and the text of the grants.
-    Opened(u32, u32, &'static str),
-    Ended(u32),
-    Regranted(u32, &'static str),
-}
-
-// What a client asks of an inode, and the answer: `grant` with a number, the word of the rule by which the first grant fails,
-// or why there is no verdict.
-type Look = (u32, u64, Access, &'static str);
-
-// What is told, whether the view can follow, and what is answered then.
-type Round = (&'static [(Told, bool)], &'static [Look]);
-
-// What it shows, what a core was asked whose view it is, and the rounds.
-type Case = (&'static str, &'static [Exchange], &'static [Round]);
-
-// Where a test fails: the case, the number of the round, and of what is told or asked in it.
-type At = (&'static str, usize, usize);
-
 // ---- what is told
 
-fn name_of(rt: &impl Abort, bytes: &[u8]) -> Name {
-    present(rt, Name::read(bytes), "a name")
+fn name_of(rt: &impl Abort, line: &str) -> Name {
+    present(rt, Name::read(word(line, 3).as_bytes()), line)
 }
 
-// What is made is user 10's, who alone may write to it.
-fn change(rt: &(impl Abort + AllocGlobal), told: Told) -> ViewChange {
-    match told {
-        Born(ino, dir, name, is_dir) => ViewChange::Born {
-            ino: Ino(ino),
-            dir: Ino(dir),
-            name: name_of(rt, name),
-            attr: attr_of(rt, (10, 10, 0o640)),
-            is_dir,
+fn change(rt: &(impl Abort + AllocGlobal), line: &str) -> ViewChange {
+    let (ino, dir, client) = (ino_of(line, 1), ino_of(line, 2), ClientId(number(line, 1)));
+    match word(line, 0) {
+        "born" => ViewChange::Born {
+            ino,
+            dir,
+            name: name_of(rt, line),
+            attr: attr_of(rt, "10 10 0640"),
+            is_dir: word(line, 4) == "dir",
         },
-        Moved(ino, dir, name) => ViewChange::Moved {
-            ino: Ino(ino),
-            dir: Ino(dir),
-            name: name_of(rt, name),
+        "moved" => ViewChange::Moved {
+            ino,
+            dir,
+            name: name_of(rt, line),
         },
-        Removed(ino) => ViewChange::Removed { ino: Ino(ino) },
-        Forgotten(ino) => ViewChange::Forgotten { ino: Ino(ino) },
-        Settled(ino, to) => ViewChange::Settled {
-            ino: Ino(ino),
-            attr: attr_of(rt, to),
+        "removed" => ViewChange::Removed { ino },
+        "forgotten" => ViewChange::Forgotten { ino },
+        "settled" => ViewChange::Settled {
+            ino,
+            attr: attr_of(rt, part(line, 1)),
         },
-        Opened(client, uid, text) => ViewChange::Opened {
-            client: ClientId(client),
-            caller: caller_of(rt, (uid, uid, &[])),
-            grants: grants_of(rt, text),
+        "opened" => ViewChange::Opened {
+            client,
+            caller: caller_of(rt, part(line, 1)),
+            grants: grants_of(rt, part(line, 2)),
         },
-        Ended(client) => ViewChange::Ended {
-            client: ClientId(client),
-        },
-        Regranted(client, text) => ViewChange::Regranted {
-            client: ClientId(client),
-            grants: grants_of(rt, text),
-        },
+        "ended" => ViewChange::Ended { client },
+        other => {
+            same(rt, other, "regranted", line);
+            let grants = grants_of(rt, part(line, 1));
+            ViewChange::Regranted { client, grants }
+        }
     }
 }
 
 // Tells it, once it has been copied.
-fn follow(rt: &(impl Abort + AllocGlobal), view: &mut View, (told, want): (Told, bool), at: At) {
-    let source = change(rt, told);
-    let change = made(rt, source.copy(), at);
-    same(rt, view.follow(&change).is_ok(), want, at);
+fn follow(rt: &(impl Abort + AllocGlobal), view: &mut View, line: &str) -> &'static str {
+    let source = change(rt, line);
+    let change = made(rt, source.copy(), line);
+    if view.follow(&change).is_ok() {
+        "done"
+    } else {
+        "other"
+    }
 }
 
 // ---- what is answered
@@ -106,212 +86,163 @@ fn word_of(answer: Result<Verdict, Unknown>) -> &'static str {
     }
 }
 
-fn ask(rt: &impl Abort, view: &View, (client, ino, access, want): Look, at: At) {
+fn ask(rt: &impl Abort, view: &View, line: &str) -> &'static str {
     let fs = cephfs(rt);
     let question = Question {
-        client: ClientId(client),
-        ino: Ino(ino),
-        access,
+        client: ClientId(number(line, 1)),
+        ino: ino_of(line, 2),
+        access: present(rt, read_access(word(line, 3).as_bytes()), line),
     };
-    same(rt, word_of(view.explain(&fs, &question)), want, at);
+    word_of(view.explain(&fs, &question))
 }
 
 // ---- whole runs
 
-fn play(
-    rt: &(impl Abort + AllocGlobal),
-    view: &mut View,
-    (title, rounds): (&'static str, &'static [Round]),
-) {
-    for (number, (changes, looks)) in rounds.iter().enumerate() {
-        for (nth, told) in changes.iter().enumerate() {
-            follow(rt, view, *told, (title, number, nth));
-        }
-        for (nth, look) in looks.iter().enumerate() {
-            ask(rt, view, *look, (title, number, nth));
+fn play(rt: &(impl Abort + AllocGlobal), view: &mut View, steps: &str) {
+    for line in steps.lines() {
+        if let Some((asked, wanted)) = sides(line) {
+            let found = match word(asked, 0) {
+                "ask" => ask(rt, view, asked),
+                _ => follow(rt, view, asked),
+            };
+            same(rt, found, wanted, line);
         }
     }
 }
 
-// Plays the rounds on a copy of a view of a core that was asked this, and then on the view itself, which is still as it was.
-fn runs(rt: &(impl Abort + AllocGlobal), (title, asks, rounds): Case) {
-    let core = core_of(rt, asks);
-    let mut view = made(rt, View::of(core.tree(), core.sessions()), title);
+// Plays the steps on a copy of a view of a core that was asked this, and then on the view itself, which is still as it was.
+fn runs(rt: &(impl Abort + AllocGlobal), asks: &'static str, steps: &str) {
+    let core = core_of(rt, (100, Nothing, asks));
+    let mut view = made(rt, View::of(core.tree(), core.sessions()), "a view");
     drop(core);
-    let mut copy = made(rt, view.copy(), title);
-    play(rt, &mut copy, (title, rounds));
-    play(rt, &mut view, (title, rounds));
+    let mut copy = made(rt, view.copy(), "a copy");
+    play(rt, &mut copy, steps);
+    play(rt, &mut view, steps);
 }
 
-const MOVED: &[Round] = &[
-    (
-        &[
-            (Opened(1, 10, "allow rw"), true),
-            (Opened(3, 30, "allow rw path=/a"), true),
-            (Born(2, 1, b"a", true), true),
-            (Born(3, 1, b"b", true), true),
-            (Born(4, 2, b"x", false), true),
-        ],
-        &[
-            (3, 4, Access::Read, "grant 1"),
-            (3, 3, Access::Read, "path"),
-            (1, 3, Access::Write, "grant 1"),
-            (3, 9, Access::Read, "NoIno"),
-            (9, 4, Access::Read, "NoSession"),
-            (9, 9, Access::Read, "NoSession"),
-        ],
-    ),
-    (
-        &[(Moved(4, 3, b"y"), true)],
-        &[
-            (3, 4, Access::Read, "path"),
-            (1, 4, Access::Read, "grant 1"),
-        ],
-    ),
-    // A directory, with the file in it.
-    (
-        &[(Moved(3, 2, b"c"), true)],
-        &[(3, 4, Access::Read, "grant 1")],
-    ),
-];
+const MOVED: &str = "
+# An inode is judged where it stands.
+opened 1 | 10 10 | allow rw
+opened 3 | 30 30 | allow rw path=/a
+born 2 1 a dir
+born 3 1 b dir
+born 4 2 x file
+ask 3 4 read => grant 1
+ask 3 3 read => path
+ask 1 3 write => grant 1
+ask 3 9 read => NoIno
+ask 9 4 read => NoSession
+ask 9 9 read => NoSession
+moved 4 3 y
+ask 3 4 read => path
+ask 1 4 read => grant 1
+# A directory, with the file in it.
+moved 3 2 c
+ask 3 4 read => grant 1
+";
 
-const GONE: &[Round] = &[
-    (
-        &[
-            (Opened(1, 10, "allow rw"), true),
-            (Born(2, 1, b"f", false), true),
-            (Removed(2), true),
-        ],
-        &[
-            (1, 2, Access::Read, "Gone"),
-            (9, 2, Access::Read, "NoSession"),
-        ],
-    ),
-    (&[(Forgotten(2), true)], &[(1, 2, Access::Read, "NoIno")]),
-    (
-        &[(Born(3, 1, b"f", false), true), (Ended(1), true)],
-        &[(1, 3, Access::Read, "NoSession")],
-    ),
-    (
-        &[(Opened(1, 10, "allow r"), true)],
-        &[(1, 3, Access::Write, "no-write")],
-    ),
-];
+const GONE: &str = "
+# What is gone has no verdict.
+opened 1 | 10 10 | allow rw
+born 2 1 f file
+removed 2
+ask 1 2 read => Gone
+ask 9 2 read => NoSession
+forgotten 2
+ask 1 2 read => NoIno
+born 3 1 f file
+ended 1
+ask 1 3 read => NoSession
+opened 1 | 10 10 | allow r
+ask 1 3 write => no-write
+";
 
-const SETTLED: &[Round] = &[
-    (
-        &[
-            (Opened(1, 10, "allow rw uid=10"), true),
-            (Born(2, 1, b"f", false), true),
-        ],
-        &[
-            (1, 2, Access::Write, "grant 1"),
-            (1, 2, Access::Chmod, "grant 1"),
-        ],
-    ),
-    (
-        &[(Settled(2, (10, 10, 0o400)), true)],
-        &[
-            (1, 2, Access::Write, "mode-bits"),
-            (1, 2, Access::Read, "grant 1"),
-        ],
-    ),
-    (
-        &[(Settled(2, (11, 10, 0o666)), true)],
-        &[
-            (1, 2, Access::Write, "grant 1"),
-            (1, 2, Access::Chmod, "not-owner"),
-        ],
-    ),
-];
+const SETTLED: &str = "
+# An inode is judged by whose it is.
+opened 1 | 10 10 | allow rw uid=10
+born 2 1 f file
+ask 1 2 write => grant 1
+ask 1 2 chmod => grant 1
+settled 2 | 10 10 0400
+ask 1 2 write => mode-bits
+ask 1 2 read => grant 1
+settled 2 | 11 10 0666
+ask 1 2 write => grant 1
+ask 1 2 chmod => not-owner
+";
 
-const REGRANTED: &[Round] = &[
-    (
-        &[
-            (Opened(1, 10, "allow rw"), true),
-            (Opened(2, 20, "allow rw"), true),
-            (Regranted(1, "allow r"), true),
-            // Who is not connected stays so.
-            (Regranted(9, "allow rw"), true),
-        ],
-        &[
-            (1, 1, Access::Write, "no-write"),
-            (2, 1, Access::Write, "grant 1"),
-            (9, 1, Access::Read, "NoSession"),
-        ],
-    ),
-    (
-        &[(Regranted(1, "allow rws"), true)],
-        &[(1, 1, Access::Snapshot, "grant 1")],
-    ),
-];
+const REGRANTED: &str = "
+# The last grants count.
+opened 1 | 10 10 | allow rw
+opened 2 | 20 20 | allow rw
+regranted 1 | allow r
+# Who is not connected stays so.
+regranted 9 | allow rw
+ask 1 1 write => no-write
+ask 2 1 write => grant 1
+ask 9 1 read => NoSession
+regranted 1 | allow rws
+ask 1 1 snapshot => grant 1
+";
 
-// What is told of another view than this one changes nothing.
-const OF_ANOTHER: &[Round] = &[
-    (
-        &[
-            (Opened(1, 10, "allow rw"), true),
-            (Born(3, 1, b"d", true), false),
-            (Born(2, 9, b"d", true), false),
-            (Born(2, 1, b"d", true), true),
-            (Born(3, 1, b"d", false), false),
-            (Born(3, 2, b"f", false), true),
-            (Removed(1), false),
-            (Removed(2), false),
-            (Removed(9), false),
-            (Moved(1, 2, b"r"), false),
-            (Moved(2, 2, b"r"), false),
-            (Moved(3, 9, b"r"), false),
-            (Forgotten(3), false),
-            (Forgotten(9), false),
-            (Settled(9, (1, 1, 0o777)), false),
-        ],
-        &[
-            (1, 2, Access::Read, "grant 1"),
-            (1, 3, Access::Read, "grant 1"),
-            (1, 9, Access::Read, "NoIno"),
-        ],
-    ),
-    (
-        &[(Removed(3), true), (Moved(3, 1, b"r"), false)],
-        &[(1, 3, Access::Read, "Gone")],
-    ),
-];
+const OF_ANOTHER: &str = "
+# What does not fit changes nothing.
+# What is told of another view than this one changes nothing.
+opened 1 | 10 10 | allow rw
+born 3 1 d dir => other
+born 2 9 d dir => other
+born 2 1 d dir
+born 3 1 d file => other
+born 3 2 f file
+removed 1 => other
+removed 2 => other
+removed 9 => other
+moved 1 2 r => other
+moved 2 2 r => other
+moved 3 9 r => other
+forgotten 3 => other
+forgotten 9 => other
+settled 9 | 1 1 0777 => other
+ask 1 2 read => grant 1
+ask 1 3 read => grant 1
+ask 1 9 read => NoIno
+removed 3
+moved 3 1 r => other
+ask 1 3 read => Gone
+";
 
-// The tree had a directory with a snapshot when it was copied. That the snapshot went is not told.
-const WITH_A_SNAPSHOT: &[Round] = &[(
-    &[
-        (Opened(1, 10, "allow rw"), true),
-        (Removed(2), true),
-        (Forgotten(2), true),
-        (Born(3, 1, b"d", true), true),
-    ],
-    &[
-        (1, 2, Access::Read, "NoIno"),
-        (1, 3, Access::Read, "grant 1"),
-    ],
-)];
+const WITH_A_SNAPSHOT: &str = "
+# A directory had a snapshot.
+# The tree had a directory with a snapshot when it was copied. That the snapshot went is not told.
+opened 1 | 10 10 | allow rw
+removed 2
+forgotten 2
+born 3 1 d dir
+ask 1 2 read => NoIno
+ask 1 3 read => grant 1
+";
 
 // A directory with a snapshot, and nobody has a session.
-const A_SNAPSHOT: &[Exchange] = &[
-    ("session 9 10 10 - allow rws", "done"),
-    ("mkdir 9 1 d 0755", "ino 2"),
-    ("mksnap 9 2 s", "done"),
-    ("close 9", "done"),
-];
+const A_SNAPSHOT: &str = "
+session 9 10 10 - allow rws => done
+mkdir 9 1 d 0755 => ino 2
+mksnap 9 2 s => done
+close 9 => done
+";
 
-const CASES: &[Case] = &[
-    ("an inode is judged where it stands", &[], MOVED),
-    ("what is gone has no verdict", &[], GONE),
-    ("an inode is judged by whose it is", &[], SETTLED),
-    ("the last grants count", &[], REGRANTED),
-    ("what does not fit changes nothing", &[], OF_ANOTHER),
-    ("a directory had a snapshot", A_SNAPSHOT, WITH_A_SNAPSHOT),
+// What a core was asked whose view it is, and the steps.
+const CASES: [(&str, &str); 6] = [
+    ("", MOVED),
+    ("", GONE),
+    ("", SETTLED),
+    ("", REGRANTED),
+    ("", OF_ANOTHER),
+    (A_SNAPSHOT, WITH_A_SNAPSHOT),
 ];
 
 #[test]
 fn a_view_follows_what_it_is_told(rt: HostRuntime) {
-    for case in CASES {
-        runs(&rt, *case);
+    for (asks, steps) in CASES {
+        runs(&rt, asks, steps);
     }
 }

@@ -1,212 +1,104 @@
 //! Who waits for a file, step by step, and what is kept of it.
 
 use crate::asking::Beside::Locks;
-use crate::asking::{Case, Step};
-use crate::looking::Look;
+use crate::asking::Case;
 
-const ONE_HAS_A_FILE: &[Step] = &[
-    ("session 1 10 10 - allow rw", "done", "-; -; -"),
-    ("session 2 20 20 - allow rw", "done", "-; -; -"),
-    ("create 1 1 f 0644", "ino 2", "SYNC; -; -"),
-    ("open 1 2 rw", "caps 1 pFsxcrwb", "EXCL(1); pFsxcrwb 1; -"),
-];
+const TWO_REQUESTS: &str = "
+# Requests wait until the lock serves them in a row.
+session 1 10 10 - allow rw => done | -; -; -
+session 2 20 20 - allow rw => done | -; -; -
+create 1 1 f 0644 => ino 2 | SYNC; -; -
+open 1 2 rw => caps 1 pFsxcrwb | EXCL(1); pFsxcrwb 1; -
+# A change and a request for what it makes wait for the first client, and the second opens the file meanwhile.
+alter 2 2 size 5 => waiting 1 | EXCL(1) to LOCK; pFsxcrwb 2 due; -
+get 2 2 F => waiting 2 | EXCL(1) to LOCK; pFsxcrwb 2 due; -
+open 2 2 r => caps 1 p | EXCL(1) to LOCK; pFsxcrwb 2 due; p 1
+poll 1 9 => messages 1 /  caps 2 2 pFc | EXCL(1) to LOCK; pFsxcrwb 2; p 1
+# Both are served, and the first client is to cache no more beside the second.
+ack 1 2 2 => done | LOCK to MIX; pFc 3 due; p 1
+poll 2 1 => messages 1 /  ended 1 done | LOCK to MIX; pFc 3 due; p 1
+poll 2 9 => messages 1 /  ended 2 attr F 5 0 | LOCK to MIX; pFc 3 due; p 1
+poll 1 9 => messages 2 /  caps 2 3 p /  size 2 5 | LOCK to MIX; pFc 3; p 1
+ack 1 2 3 => done | MIX; pFrw 4 due; pFr 2 due
+poll 1 9 => messages 1 /  caps 2 4 pFrw | MIX; pFrw 4; pFr 2 due
+poll 2 9 => messages 1 /  caps 2 2 pFr | MIX; pFrw 4; pFr 2
+# While both have it open, the second asks for its size.
+get 2 2 F => waiting 3 | MIX to SYNC; pFrw 5 due; pFr 2
+poll 1 9 => messages 1 /  caps 2 5 pFr | MIX to SYNC; pFrw 5; pFr 2
+ack 1 2 5 => done | MIX; pFrw 6 due; pFr 2
+poll 2 9 => messages 1 /  ended 3 attr F 5 0 | MIX; pFrw 6 due; pFr 2
+# What the history has of the first two: none of these rows but the one that served them ended any.
+row 4 => 1.5 alter 2 2 size 5 => waiting 1
+row 5 => 1.6 get 2 2 F => waiting 2
+row 8 => 1.9 ack 1 2 2 => done; ended 1 done; ended 2 attr F 5 0; of 2; of 2
+row 9 => 1.10 poll 2 1 => messages 1
+row 19 => no row
+";
 
-// A change and a request for what it makes wait for the first client, and the second opens the file meanwhile.
-const TWO_REQUESTS: &[Step] = &[
-    (
-        "alter 2 2 size 5",
-        "waiting 1",
-        "EXCL(1) to LOCK; pFsxcrwb 2 due; -",
-    ),
-    (
-        "get 2 2 F",
-        "waiting 2",
-        "EXCL(1) to LOCK; pFsxcrwb 2 due; -",
-    ),
-    (
-        "open 2 2 r",
-        "caps 1 p",
-        "EXCL(1) to LOCK; pFsxcrwb 2 due; p 1",
-    ),
-    (
-        "poll 1 9",
-        "messages 1\n  caps 2 2 pFc",
-        "EXCL(1) to LOCK; pFsxcrwb 2; p 1",
-    ),
-    // Both are served, and the first client is to cache no more beside the second.
-    ("ack 1 2 2", "done", "LOCK to MIX; pFc 3 due; p 1"),
-    (
-        "poll 2 1",
-        "messages 1\n  ended 1 done",
-        "LOCK to MIX; pFc 3 due; p 1",
-    ),
-    (
-        "poll 2 9",
-        "messages 1\n  ended 2 attr F 5 0",
-        "LOCK to MIX; pFc 3 due; p 1",
-    ),
-    (
-        "poll 1 9",
-        "messages 2\n  caps 2 3 p\n  size 2 5",
-        "LOCK to MIX; pFc 3; p 1",
-    ),
-    ("ack 1 2 3", "done", "MIX; pFrw 4 due; pFr 2 due"),
-    (
-        "poll 1 9",
-        "messages 1\n  caps 2 4 pFrw",
-        "MIX; pFrw 4; pFr 2 due",
-    ),
-    (
-        "poll 2 9",
-        "messages 1\n  caps 2 2 pFr",
-        "MIX; pFrw 4; pFr 2",
-    ),
-];
+const SERVED_AT_ONCE: &str = "
+# What is served at once has no other end.
+# A request that is served at once has its end in its reply alone.
+session 1 10 10 - allow rw => done | -; -; -
+create 1 1 f 0644 => ino 2 | SYNC; -; -
+# Nobody wants the file, so its lock stays.
+alter 1 2 size 5 => done | LOCK; -; -
+get 1 2 F => attr F 5 0 | LOCK; -; -
+open 1 2 r => caps 1 pFscr | SYNC; pFscr 1; -
+get 1 2 F => attr F 5 0 | SYNC; pFscr 1; -
+row 2 => 1.3 alter 1 2 size 5 => done
+row 3 => 1.4 get 1 2 F => attr F 5 0
+";
 
-// While both have it open, the second asks for its size.
-const A_REQUEST_FOR_VALUES: &[Step] = &[
-    ("get 2 2 F", "waiting 3", "MIX to SYNC; pFrw 5 due; pFr 2"),
-    (
-        "poll 1 9",
-        "messages 1\n  caps 2 5 pFr",
-        "MIX to SYNC; pFrw 5; pFr 2",
-    ),
-    ("ack 1 2 5", "done", "MIX; pFrw 6 due; pFr 2"),
-    (
-        "poll 2 9",
-        "messages 1\n  ended 3 attr F 5 0",
-        "MIX; pFrw 6 due; pFr 2",
-    ),
-];
+const A_FLUSH: &str = "
+# A flush waits for no lock.
+session 1 10 10 - allow rw => done | -; -; -
+session 2 20 20 - allow rw => done | -; -; -
+create 1 1 f 0644 => ino 2 | SYNC; -; -
+open 1 2 rw => caps 1 pFsxcrwb | EXCL(1); pFsxcrwb 1; -
+# A flush of the data moves no lock, and neither does a holder that asks for what it holds for itself.
+flush 1 2 size 5 => done | EXCL(1); pFsxcrwb 1; -
+get 1 2 F => attr F 5 0 | EXCL(1); pFsxcrwb 1; -
+open 2 2 r => caps 1 p | EXCL(1) to MIX; pFsxcrwb 2 due; p 1
+flush 1 2 times 9 => done | EXCL(1) to MIX; pFsxcrwb 2 due; p 1
+";
 
-// What the history has of the first two: none of these rows but the one that served them ended any.
-const THE_REQUESTS_KEPT: &[Look] = &[
-    (4, "1.5 alter 2 2 size 5 => waiting 1"),
-    (5, "1.6 get 2 2 F => waiting 2"),
-    (
-        8,
-        "1.9 ack 1 2 2 => done; ended 1 done; ended 2 attr F 5 0; of 2; of 2",
-    ),
-    (9, "1.10 poll 2 1 => messages 1"),
-    (19, "no row"),
-];
+const AN_UNLINKED_FILE: &str = "
+# An unlinked file keeps its locks until it is forgotten.
+session 1 10 10 - allow rw => done | -; -; -
+session 2 20 20 - allow rw => done | -; -; -
+create 1 1 f 0644 => ino 2 | SYNC; -; -
+open 1 2 rw => caps 1 pFsxcrwb | EXCL(1); pFsxcrwb 1; -
+# An unlinked file keeps its locks until it is forgotten. Nobody is permitted more of it than the pin, so all else is called
+# back, and a gather ends in a state that nobody fills.
+open 2 2 r => caps 1 p | EXCL(1) to MIX; pFsxcrwb 2 due; p 1
+unlink 2 2 => done | EXCL(1) to MIX; pFsxcrwb 3 due; p 1
+poll 1 9 => messages 1 /  caps 2 3 p | EXCL(1) to MIX; pFsxcrwb 3; p 1
+ack 1 2 3 => done | MIX; p 3; p 1
+release 1 2 p => done | MIX; -; p 1
+get 2 2 F => refused Gone | MIX; -; p 1
+release 2 2 p => done | -; -; -
+get 2 2 F => refused NoIno | -; -; -
+lookup 1 1 f => refused NoEnt | -; -; -
+";
 
-// A request that is served at once has its end in its reply alone.
-const SERVED_AT_ONCE: &[Step] = &[
-    ("session 1 10 10 - allow rw", "done", "-; -; -"),
-    ("create 1 1 f 0644", "ino 2", "SYNC; -; -"),
-    // Nobody wants the file, so its lock stays.
-    ("alter 1 2 size 5", "done", "LOCK; -; -"),
-    ("get 1 2 F", "attr F 5 0", "LOCK; -; -"),
-    ("open 1 2 r", "caps 1 pFscr", "SYNC; pFscr 1; -"),
-    ("get 1 2 F", "attr F 5 0", "SYNC; pFscr 1; -"),
-];
-
-const SERVED_AT_ONCE_KEPT: &[Look] = &[
-    (2, "1.3 alter 1 2 size 5 => done"),
-    (3, "1.4 get 1 2 F => attr F 5 0"),
-];
-
-// A flush of the data moves no lock, and neither does a holder that asks for what it holds for itself.
-const A_FLUSH: &[Step] = &[
-    ("flush 1 2 size 5", "done", "EXCL(1); pFsxcrwb 1; -"),
-    ("get 1 2 F", "attr F 5 0", "EXCL(1); pFsxcrwb 1; -"),
-    (
-        "open 2 2 r",
-        "caps 1 p",
-        "EXCL(1) to MIX; pFsxcrwb 2 due; p 1",
-    ),
-    (
-        "flush 1 2 times 9",
-        "done",
-        "EXCL(1) to MIX; pFsxcrwb 2 due; p 1",
-    ),
-];
-
-// An unlinked file keeps its locks until it is forgotten. Nobody is permitted more of it than the pin, so all else is called
-// back, and a gather ends in a state that nobody fills.
-const AN_UNLINKED_FILE: &[Step] = &[
-    (
-        "open 2 2 r",
-        "caps 1 p",
-        "EXCL(1) to MIX; pFsxcrwb 2 due; p 1",
-    ),
-    ("unlink 2 2", "done", "EXCL(1) to MIX; pFsxcrwb 3 due; p 1"),
-    (
-        "poll 1 9",
-        "messages 1\n  caps 2 3 p",
-        "EXCL(1) to MIX; pFsxcrwb 3; p 1",
-    ),
-    ("ack 1 2 3", "done", "MIX; p 3; p 1"),
-    ("release 1 2 p", "done", "MIX; -; p 1"),
-    ("get 2 2 F", "refused Gone", "MIX; -; p 1"),
-    ("release 2 2 p", "done", "-; -; -"),
-    ("get 2 2 F", "refused NoIno", "-; -; -"),
-    ("lookup 1 1 f", "refused NoEnt", "-; -; -"),
-];
-
-// What is denied when it is served has moved the lock all the same, and the next request finds it where it is to be.
-const DENIED_WHEN_SERVED: &[Step] = &[
-    ("session 1 10 10 - allow rw", "done", "-; -; -"),
-    ("session 2 20 20 - allow rw uid=20", "done", "-; -; -"),
-    ("create 1 1 f 0646", "ino 2", "SYNC; -; -"),
-    ("open 1 2 rw", "caps 1 pFsxcrwb", "EXCL(1); pFsxcrwb 1; -"),
-    (
-        "alter 2 2 size 5",
-        "waiting 1",
-        "EXCL(1) to LOCK; pFsxcrwb 2 due; -",
-    ),
-    (
-        "alter 1 2 chmod 0600",
-        "done",
-        "EXCL(1) to LOCK; pFsxcrwb 2 due; -",
-    ),
-    (
-        "poll 1 9",
-        "messages 1\n  caps 2 2 pFc",
-        "EXCL(1) to LOCK; pFsxcrwb 2; -",
-    ),
-    ("ack 1 2 2", "done", "EXCL(1); pFsxcrwb 3 due; -"),
-];
-
-const DENIED_WHEN_SERVED_KEPT: &[Look] = &[(
-    7,
-    "1.8 ack 1 2 2 => done; ended 1 denied write 1:11; of 2",
-)];
+const DENIED_WHEN_SERVED: &str = "
+# A denial when served is in the row that serves.
+# What is denied when it is served has moved the lock all the same, and the next request finds it where it is to be.
+session 1 10 10 - allow rw => done | -; -; -
+session 2 20 20 - allow rw uid=20 => done | -; -; -
+create 1 1 f 0646 => ino 2 | SYNC; -; -
+open 1 2 rw => caps 1 pFsxcrwb | EXCL(1); pFsxcrwb 1; -
+alter 2 2 size 5 => waiting 1 | EXCL(1) to LOCK; pFsxcrwb 2 due; -
+alter 1 2 chmod 0600 => done | EXCL(1) to LOCK; pFsxcrwb 2 due; -
+poll 1 9 => messages 1 /  caps 2 2 pFc | EXCL(1) to LOCK; pFsxcrwb 2; -
+ack 1 2 2 => done | EXCL(1); pFsxcrwb 3 due; -
+row 7 => 1.8 ack 1 2 2 => done; ended 1 denied write 1:11; of 2
+";
 
 pub const CASES: &[Case] = &[
-    (
-        "requests wait until the lock serves them in a row",
-        100,
-        &[
-            (1, Locks, ONE_HAS_A_FILE),
-            (1, Locks, TWO_REQUESTS),
-            (1, Locks, A_REQUEST_FOR_VALUES),
-        ],
-        THE_REQUESTS_KEPT,
-    ),
-    (
-        "what is served at once has no other end",
-        100,
-        &[(1, Locks, SERVED_AT_ONCE)],
-        SERVED_AT_ONCE_KEPT,
-    ),
-    (
-        "a flush waits for no lock",
-        100,
-        &[(1, Locks, ONE_HAS_A_FILE), (1, Locks, A_FLUSH)],
-        &[],
-    ),
-    (
-        "an unlinked file keeps its locks until it is forgotten",
-        100,
-        &[(1, Locks, ONE_HAS_A_FILE), (1, Locks, AN_UNLINKED_FILE)],
-        &[],
-    ),
-    (
-        "a denial when served is in the row that serves",
-        100,
-        &[(1, Locks, DENIED_WHEN_SERVED)],
-        DENIED_WHEN_SERVED_KEPT,
-    ),
+    (100, Locks, TWO_REQUESTS),
+    (100, Locks, SERVED_AT_ONCE),
+    (100, Locks, A_FLUSH),
+    (100, Locks, AN_UNLINKED_FILE),
+    (100, Locks, DENIED_WHEN_SERVED),
 ];
