@@ -1,8 +1,8 @@
 //! The talks of a file.
 
+use crate::fault::{Fault, Place};
 use crate::line::Line;
 use crate::run::{Program, Run};
-use crate::talk_fault::{BookFault, Place};
 use crate::text::read_words;
 use std::alloc::Global;
 
@@ -30,7 +30,7 @@ impl Drop for Talk<'_> {
 
 impl Talk<'_> {
     // One line more. A command begins a run, and so does a line that is asked before any command: that of a script.
-    fn take(&mut self, alloc: Global, line: Line<'_>) -> Result<(), BookFault> {
+    fn take(&mut self, alloc: Global, line: Line<'_>) -> Result<(), Fault> {
         match line {
             Line::Command(program, words) => self.begin_run(alloc, program, words)?,
             Line::Asked(_) if self.runs.is_empty() => {
@@ -41,16 +41,11 @@ impl Talk<'_> {
         }
         match self.runs.last_mut() {
             Some(run) if self.asks => run.take(line),
-            _ => Err(BookFault::NotUnderstood),
+            _ => Err(Fault::NotUnderstood),
         }
     }
 
-    fn begin_run(
-        &mut self,
-        alloc: Global,
-        program: Program,
-        words: &[u8],
-    ) -> Result<(), BookFault> {
+    fn begin_run(&mut self, alloc: Global, program: Program, words: &[u8]) -> Result<(), Fault> {
         let words = read_words(alloc, words)?;
         self.runs.push(Run::new(alloc, program, words))?;
         self.asks = true;
@@ -68,10 +63,8 @@ pub fn read_talks<'a>(alloc: Global, text: &'a [u8]) -> Result<Vec<Talk<'a>>, Pl
             return Err(fault.at(number));
         }
     }
-    match first_silent(talks.as_slice()) {
-        Some(place) => Err(place),
-        None => Ok(talks),
-    }
+    all_ask(talks.as_slice())?;
+    Ok(talks)
 }
 
 // One line more, of this number.
@@ -80,14 +73,14 @@ fn take<'a>(
     talks: &mut Vec<Talk<'a>>,
     number: usize,
     text: &'a [u8],
-) -> Result<(), BookFault> {
+) -> Result<(), Fault> {
     match Line::read(text)? {
         Line::Remark => Ok(()),
         Line::Talk(name) => begin(alloc, talks, number, name),
         Line::Begins(name) => begin_by(talks.as_mut_slice(), name),
         line => match talks.last_mut() {
             Some(talk) => talk.take(alloc, line),
-            None => Err(BookFault::NotUnderstood),
+            None => Err(Fault::NotUnderstood),
         },
     }
 }
@@ -98,9 +91,9 @@ fn begin<'a>(
     talks: &mut Vec<Talk<'a>>,
     line: usize,
     name: &'a [u8],
-) -> Result<(), BookFault> {
+) -> Result<(), Fault> {
     if find(talks.as_slice(), name).is_some() {
-        return Err(BookFault::NameTwice);
+        return Err(Fault::NameTwice);
     }
     talks.push(Talk {
         name,
@@ -112,29 +105,39 @@ fn begin<'a>(
 }
 
 // The last talk begins with the runs of the earlier one of this name. Nothing stands before that.
-fn begin_by(talks: &mut [Talk<'_>], name: &[u8]) -> Result<(), BookFault> {
+fn begin_by(talks: &mut [Talk<'_>], name: &[u8]) -> Result<(), Fault> {
     let Some((talk, earlier)) = talks.split_last_mut() else {
-        return Err(BookFault::NotUnderstood);
+        return Err(Fault::NotUnderstood);
     };
     if !talk.runs.is_empty() {
-        return Err(BookFault::NotUnderstood);
+        return Err(Fault::NotUnderstood);
     }
     match find(earlier, name) {
         Some(earlier) => talk.runs = earlier.runs.clone()?,
-        None => return Err(BookFault::NoEarlier),
+        None => return Err(Fault::NoEarlier),
     }
     Ok(())
 }
 
+// The talk of this name.
 fn find<'t, 'a>(talks: &'t [Talk<'a>], name: &[u8]) -> Option<&'t Talk<'a>> {
-    talks.iter().find(|talk| talk.name == name)
+    for talk in talks {
+        if talk.name == name {
+            return Some(talk);
+        }
+    }
+    None
 }
 
-// The first talk in which nothing is asked, or that there is no talk.
-fn first_silent(talks: &[Talk<'_>]) -> Option<Place> {
+// There is a talk, and in each something is asked.
+fn all_ask(talks: &[Talk<'_>]) -> Result<(), Place> {
     if talks.is_empty() {
-        return Some(BookFault::NoTalk.at(0));
+        return Err(Fault::NoTalk.at(0));
     }
-    let talk = talks.iter().find(|talk| !talk.asks)?;
-    Some(BookFault::NoLine.at(talk.line))
+    for talk in talks {
+        if !talk.asks {
+            return Err(Fault::NoLine.at(talk.line));
+        }
+    }
+    Ok(())
 }

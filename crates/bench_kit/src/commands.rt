@@ -3,11 +3,12 @@ ghost use Rattle.std.specs.Prelude.{◌≡◌, ◌≤◌};
 ghost use Rattle.bench_kit.specs.Status.{status_of};
 
 use crate::fault::Fault;
-use crate::judging::{judge, read};
+use crate::jobs::{Amount, digest_of};
+use crate::judging::on_grants;
 use crate::lines::lines_of;
 use crate::retry::retry;
 use crate::serving::serve;
-use crate::work::{Work, work_of};
+use crate::work::{ScriptWork, Work, work_of};
 use script_syntax::{Watched, read_script};
 use std::alloc::Global;
 use std::io::{Read, Write};
@@ -23,7 +24,8 @@ pub const FAILED: u8 = 1;
 /// The words are not understood.
 pub const USAGE: u8 = 2;
 
-/// Does what the words behind the program's name ask for, with the text that is read, and returns the status.
+/// Does what the words behind the program's name ask for, and returns the status: a job that takes no server where they are three, and else a
+/// piece of work with the text that is read.
 pub fn dispatch<T: Threads + Wait + Sync, R: Read, W: Write>(
     rt: &T,
     alloc: Global,
@@ -34,24 +36,29 @@ pub fn dispatch<T: Threads + Wait + Sync, R: Read, W: Write>(
 ) -> u8
     ensures { result ≤ USAGE }
 {
-    let done = match work_of(words) {
-        Some(work) => run(rt, alloc, work, reader, writer),
-        None => Err(Fault::Usage),
-    };
-    match done {
+    if let [job, count, seed] = words {
+        let digest = job_digest(alloc, job.as_slice(), count.as_slice(), seed.as_slice());
+        return tell(digest, writer, faults);
+    }
+    match run(rt, alloc, words, reader, writer) {
         Ok(()) => DONE,
         Err(fault) => report(fault, faults),
     }
 }
 
-// Does the work, and writes the sum that it comes to as a line.
+fn job_digest(alloc: Global, job: &[u8], count: &[u8], seed: &[u8]) -> Result<u64, Fault> {
+    digest_of(alloc, job, Amount::read(count, seed)?)
+}
+
+// Does a piece of work, and writes the sum that it comes to as a line.
 fn run<T: Threads + Wait + Sync, R: Read, W: Write>(
     rt: &T,
     alloc: Global,
-    work: Work,
+    words: &[Vec<u8>],
     reader: &mut R,
     writer: &mut W,
 ) -> Result<(), Fault> {
+    let work = work_of(words).ok_or(Fault::Usage)?;
     let text = given(alloc, reader)?;
     let sum = sum_of(rt, alloc, work, without_end(text.as_slice()), writer)?;
     match writeln!(writer, "sum {sum}") {
@@ -82,10 +89,32 @@ fn sum_of<T: Threads + Wait + Sync, W: Write>(
     writer: &mut W,
 ) -> Result<u64, Fault> {
     match work {
-        Work::Verdict(times) => judge(alloc, text, times),
-        Work::Parse(times) => read(alloc, text, times),
-        Work::Retry => retry(alloc, lines_of(alloc, text)?.as_slice(), writer),
-        Work::Serve(work) => serve(rt, alloc, work, lines_of(alloc, text)?.as_slice(), writer),
+        Work::Grants(work, times) => on_grants(alloc, work, text, times),
+        Work::Script(work) => on_script(rt, alloc, work, lines_of(alloc, text)?.as_slice(), writer),
+    }
+}
+
+fn on_script<T: Threads + Wait + Sync, W: Write>(
+    rt: &T,
+    alloc: Global,
+    work: ScriptWork,
+    lines: &[&[u8]],
+    writer: &mut W,
+) -> Result<u64, Fault> {
+    match work {
+        ScriptWork::Retry => retry(alloc, lines, writer),
+        ScriptWork::Serve(work) => serve(rt, alloc, work, lines, writer),
+    }
+}
+
+/// Writes the digest of a job as a line, or why there is none, and returns the status.
+pub fn tell(digest: Result<u64, Fault>, writer: &mut impl Write, faults: &mut impl Write) -> u8
+    ensures { result ≤ USAGE }
+{
+    match digest {
+        Ok(digest) if writeln!(writer, "digest {digest:016x}").is_ok() => DONE,
+        Ok(_) => report(Fault::WriteFailed, faults),
+        Err(fault) => report(fault, faults),
     }
 }
 
@@ -94,9 +123,10 @@ pub fn report(fault: Fault, faults: &mut impl Write) -> u8
     ensures status { result ≡ status_of fault }
     ensures bound { result ≤ USAGE }
 {
-    let _ = faults.write_all(fault.line().as_bytes());
+    let text = fault.text();
+    let _ = writeln!(faults, "capbench: {text}");
     match fault {
-        Fault::Usage => USAGE,
+        Fault::Usage | Fault::NoJob => USAGE,
         _ => FAILED,
     }
 }

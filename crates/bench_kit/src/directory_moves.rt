@@ -1,7 +1,7 @@
 //! Directories with many open files, which an administrator moves out of where their clients may work, and back: the awkward case,
 //! since each move is looked at for all that stands below.
 
-use crate::talk::Talk;
+use crate::job::{Job, POLL};
 use capcore::Core;
 
 /// How many clients have files open.
@@ -16,85 +16,82 @@ const FILES: u64 = 100;
 /// How many clients listen after a move.
 const LISTENERS: u64 = 4;
 
+/// The lines by which an administrator makes the two directories between which the others are moved.
+const PLACES: &str = "session 1 0 0 - allow rwps\nmkdir 1 1 inside 0777\nmkdir 1 1 outside 0777";
+
 /// The line that opens a client's session.
 const SESSION: &str = "session # # # - allow r path=/pub, allow rw path=/inside";
 
-/// The inodes of the two directories between which the others are moved: they are made first.
+/// The inodes of these two: they are made first.
 const INSIDE: u64 = 2;
 
 const OUTSIDE: u64 = 3;
 
 /// Makes the directories, lets the clients in, and moves for so many rounds.
-pub(crate) fn move_about(core: &mut Core, talk: &mut Talk, count: u32) {
-    talk.say(core, "session 1 0 0 - allow rwps", &[]);
-    talk.make(core, "mkdir 1 1 inside 0777", &[]);
-    talk.make(core, "mkdir 1 1 outside 0777", &[]);
-    let_all_in(core, talk);
-    make_folders(core, talk);
-    move_often(core, talk, count)
-}
-
-fn let_all_in(core: &mut Core, talk: &mut Talk) {
-    for client in 2..CLIENTS + 2 {
-        talk.say(core, SESSION, &[client, client, client]);
-    }
-}
-
-fn make_folders(core: &mut Core, talk: &mut Talk) {
-    for name in 0..FOLDERS {
-        make_folder(core, talk, name);
-    }
-}
-
-fn move_often(core: &mut Core, talk: &mut Talk, count: u32) {
+pub(crate) fn move_about(core: &mut Core, job: &mut Job, count: u32) {
+    job.add(PLACES, &[]);
+    job.add_each(SESSION, &[], 2..CLIENTS + 2);
+    make_folders(job);
     let mut are_outside = [false; 40];
     for _ in 0..count {
-        let place = talk.below(FOLDERS);
+        let place = job.below(FOLDERS);
         if let Some(is_outside) = are_outside.get_mut(place as usize) {
             *is_outside = !*is_outside;
-            move_folder(core, talk, place, *is_outside);
+            move_folder(core, job, place, *is_outside);
         }
     }
 }
 
-// Makes a directory with its files, each of which three clients open to read.
-fn make_folder(core: &mut Core, talk: &mut Talk, name: u64) {
-    let ino = talk.make(core, "mkdir 1 # folder# 0777", &[INSIDE, name]);
-    for file in 0..FILES {
-        let made = talk.make(core, "create 1 # file# 0666", &[ino, file]);
-        open_file(core, talk, made, 3);
+// Makes the directories with their files, each of which three clients open to read.
+fn make_folders(job: &mut Job) {
+    for place in 0..FOLDERS {
+        job.add("mkdir 1 # folder# 0777", &[INSIDE, place]);
+        make_files(job, folder_at(place));
     }
 }
 
+fn make_files(job: &mut Job, folder: u64) {
+    for file in 0..FILES {
+        job.add("create 1 # file# 0666", &[folder, file]);
+        open_file(job, folder.saturating_add(1).saturating_add(file), 3);
+    }
+}
+
+// The inode of the directory at a place: its files follow it.
+fn folder_at(place: u64) -> u64 {
+    place.saturating_mul(FILES + 1).saturating_add(OUTSIDE + 1)
+}
+
 // This many clients open the file to read.
-fn open_file(core: &mut Core, talk: &mut Talk, ino: u64, count: u64) {
+fn open_file(job: &mut Job, ino: u64, count: u64) {
     for _ in 0..count {
-        let client = talk.among(2, CLIENTS);
-        talk.say(core, "open # # r", &[client, ino]);
+        let client = job.among(2, CLIENTS);
+        job.add("open # # r", &[client, ino]);
     }
 }
 
 // Moves the directory at a place to where it was not. Some clients listen; and where it is back, its files are opened again.
-fn move_folder(core: &mut Core, talk: &mut Talk, place: u64, is_outside: bool) {
+fn move_folder(core: &mut Core, job: &mut Job, place: u64, is_outside: bool) {
     let target = if is_outside { OUTSIDE } else { INSIDE };
-    let ino = place.saturating_mul(FILES + 1).saturating_add(OUTSIDE + 1);
-    talk.say(core, "rename 1 # # folder#", &[ino, target, ino]);
-    listen_to_move(core, talk);
+    let ino = folder_at(place);
+    job.add("rename 1 # # folder#", &[ino, target, ino]);
+    listen_to_move(core, job);
     if !is_outside {
-        open_files(core, talk, ino.saturating_add(1));
+        open_files(job, ino.saturating_add(1));
     }
 }
 
-fn listen_to_move(core: &mut Core, talk: &mut Talk) {
+fn listen_to_move(core: &mut Core, job: &mut Job) {
     for _ in 0..LISTENERS {
-        let client = talk.among(2, CLIENTS);
-        talk.listen(core, client);
+        let client = job.among(2, CLIENTS);
+        job.add(POLL, &[client]);
+        job.play(core);
     }
 }
 
 // Each file of a directory, of which this is the first, is opened by two clients.
-fn open_files(core: &mut Core, talk: &mut Talk, first: u64) {
+fn open_files(job: &mut Job, first: u64) {
     for file in 0..FILES {
-        open_file(core, talk, first.saturating_add(file), 2);
+        open_file(job, first.saturating_add(file), 2);
     }
 }

@@ -2,17 +2,16 @@
 //! lock that its calls take too, so that the one can be compared with the other.
 
 use crate::fault::Fault;
-use crate::lines::event_of;
+use crate::lines::Transcript;
 use crate::work::{Asking, Way};
 use capbits::{ClientId, Ino, Mode, PassId};
 use capgrant::{Access, Verdict};
 use capserver::{CapServer, NoGate, Pass};
-use capstep::stop::Stop;
 use inotree::Setting;
 use lockmachine::Change;
-use policy_view::Question;
+use policy_view::{Question, Unknown};
 use snapshot::Server;
-use std::alloc::Global;
+use std::io::Write;
 use std::sync::atomic::{AtomicU64, Ordering};
 use std::sync::{Mutex, MutexGuard, Wait};
 use std::thread::{Threads, map_vec};
@@ -28,49 +27,47 @@ const STRIDE: u64 = 7919;
 const MODES: [u16; 2] = [0o700, 0o755];
 
 /// Has the last pass call what the lines of a script say, and then change modes until all others have asked their questions, each in a
-/// thread of its own. Returns how many questions were answered with yes.
-pub(crate) fn explain<L: Server + Send + Sync, T: Threads + Wait + Sync>(
+/// thread of its own. Returns how many questions were answered with yes; the transcript has the fault, if there was one.
+pub(crate) fn explain<L: Server + Send + Sync, T: Threads + Wait + Sync, W: Write>(
     rt: &T,
-    alloc: Global,
     server: &CapServer<NoGate, L>,
     mut passes: Vec<Pass<L>>,
     asking: Asking,
     lines: &[&[u8]],
-) -> Result<u64, Fault> {
-    call_lines(rt, alloc, server, passes.last_mut(), lines)?;
+    transcript: &mut Transcript<'_, W>,
+) -> u64 {
+    call_lines(rt, server, passes.last_mut(), lines, transcript);
+    if transcript.has_failed() {
+        return 0;
+    }
     let (done, lock) = (AtomicU64::new(0), Mutex::new(()));
-    let work = &|pass: Pass<L>| { take_part(rt, server, pass, &done, &lock, asking) };
+    // It needs threads: where none can be made, nobody asks, and the last pass goes on.
+    let work = &|pass: Pass<L>| {
+        if pass.number() > PassId(asking.readers) {
+            call_while(rt, server, pass, &done, &lock, asking)
+        } else {
+            Ok(ask(rt, server, pass, &done, &lock, asking))
+        }
+    };
     match map_vec(rt, passes, work) {
-        Ok(sums) => total(sums.as_slice()),
-        Err(_) => Err(Fault::NoMemory),
+        Ok(sums) => total(sums.as_slice(), transcript),
+        Err(_) => {
+            transcript.fail(Fault::NoMemory);
+            0
+        }
     }
 }
 
-// What a pass does in its thread: the last one calls, and the others ask. It needs threads: where none can be made, nobody asks, and the
-// last one goes on.
-fn take_part<L: Server, T: Wait>(
-    rt: &T,
-    server: &CapServer<NoGate, L>,
-    pass: Pass<L>,
-    done: &AtomicU64,
-    lock: &Mutex<()>,
-    asking: Asking,
-) -> Result<u64, Fault> {
-    if pass.number() > PassId(asking.readers) {
-        return call_while(rt, server, pass, done, lock, asking);
-    }
-    let sum = ask(rt, server, pass, lock, asking);
-    done.fetch_add(1, Ordering::SeqCst);
-    Ok(sum)
-}
-
-// The sum of what all passes came to, or the first fault.
-fn total(sums: &[Result<u64, Fault>]) -> Result<u64, Fault> {
+// The sum of what all passes came to, where none had a fault.
+fn total<W: Write>(sums: &[Result<u64, Fault>], transcript: &mut Transcript<'_, W>) -> u64 {
     let mut total: u64 = 0;
     for sum in sums {
-        total = total.wrapping_add((*sum)?);
+        match sum {
+            Ok(sum) => total = total.wrapping_add(*sum),
+            Err(fault) => transcript.fail(*fault),
+        }
     }
-    Ok(total)
+    total
 }
 
 // Takes the lock, where it is to be taken.
@@ -97,21 +94,24 @@ fn inode_at(turn: u32, inodes: u32) -> Ino {
 
 // ---- the thread that calls
 
-fn call_lines<L: Server, T: Wait>(
+fn call_lines<L: Server, T: Wait, W: Write>(
     rt: &T,
-    alloc: Global,
     server: &CapServer<NoGate, L>,
     pass: Option<&mut Pass<L>>,
     lines: &[&[u8]],
-) -> Result<(), Fault> {
+    transcript: &mut Transcript<'_, W>,
+) {
     let Some(pass) = pass else {
-        return Err(Fault::Usage);
+        return transcript.fail(Fault::Usage);
     };
     for line in lines {
-        let event = event_of(alloc, line)?;
-        call(rt, server, pass, event)?;
+        let Some(event) = transcript.event(line) else {
+            return;
+        };
+        if let Err(fault) = call(rt, server, pass, event) {
+            return transcript.fail(fault);
+        }
     }
-    Ok(())
 }
 
 // Changes the mode of one inode after another until all others have asked.
@@ -158,37 +158,38 @@ fn call<L: Server, T: Wait>(
 ) -> Result<(), Fault> {
     match server.call(rt, pass, event) {
         Ok(_answer) => Ok(()),
-        Err(Stop::NoMemory) => Err(Fault::NoMemory),
-        Err(Stop::Full) => Err(Fault::Full),
+        Err(stop) => Err(Fault::from(stop)),
     }
 }
 
 // ---- the threads that ask
 
-// Asks so many questions, and returns how many were answered with yes.
+// Asks so many questions, says that it is done, and returns how many were answered with yes.
 fn ask<L: Server, T: Wait>(
     rt: &T,
     server: &CapServer<NoGate, L>,
     mut pass: Pass<L>,
+    done: &AtomicU64,
     lock: &Mutex<()>,
     asking: Asking,
 ) -> u64 {
     let mut sum: u64 = 0;
     for turn in 0..asking.times {
+        // Whether the client may write an inode.
+        let question = Question {
+            client: CLIENT,
+            ino: inode_at(turn, asking.inodes),
+            access: Access::Write,
+        };
         let guard = enter(rt, lock, asking.way);
-        let is_allowed = is_allowed(server, &mut pass, inode_at(turn, asking.inodes));
+        let is_allowed = is_yes(&server.explain(&mut pass, &question));
         unlock(guard);
         sum = sum.wrapping_add(u64::from(is_allowed));
     }
+    done.fetch_add(1, Ordering::SeqCst);
     sum
 }
 
-// Asks whether the client may write an inode.
-fn is_allowed<L: Server>(server: &CapServer<NoGate, L>, pass: &mut Pass<L>, ino: Ino) -> bool {
-    let question = Question {
-        client: CLIENT,
-        ino,
-        access: Access::Write,
-    };
-    matches!(server.explain(pass, &question), Ok(Verdict::Allowed { .. }))
+fn is_yes(answer: &Result<Verdict, Unknown>) -> bool {
+    matches!(answer, Ok(Verdict::Allowed { .. }))
 }

@@ -1,15 +1,22 @@
-//! Why the program gave no sum.
+//! Why the program did not do what it was asked for.
 
+use capscript::ServeFault;
 use capserver::StartFault;
 use capspec::{SpecFault, SpecFaultKind};
+use capstep::stop::Stop;
+use queries::QuestionFault;
 use script_syntax::ScriptFault;
 use std::alloc::{AllocError, AllocFailed};
 
-/// Why a piece of work gave no sum.
+/// Why a piece of work gave no sum, a job no digest, or why a talk can't be played.
 #[derive(Clone, Copy)]
 pub enum Fault {
     /// The words are not understood.
     Usage,
+    /// The words are three, and name no job.
+    NoJob,
+    /// The words name no file of talks.
+    NoFile,
     /// The text is no script, or none of grants that can be judged by.
     Text,
     /// The core is not what it was before it took no event.
@@ -24,23 +31,55 @@ pub enum Fault {
     ReadFailed,
     /// What there is to write could not be written.
     WriteFailed,
+    /// The file of talks can't be read.
+    Unread,
+    /// The file has no talk.
+    NoTalk,
+    /// Nothing is asked in the talk that begins here.
+    NoLine,
+    /// An earlier talk of the file has this name.
+    NameTwice,
+    /// No earlier talk of the file has this name.
+    NoEarlier,
+    /// The line means nothing where it stands.
+    NotUnderstood,
 }
 
 impl Fault {
-    /// The line that says it.
-    pub(crate) fn line(self) -> &'static str {
+    /// What is said of it.
+    pub(crate) fn text(self) -> &'static str {
         match self {
             Fault::Usage =>
-                "capbench: wanted is one of: verdict N, parse N, explain READERS INODES N, locked READERS INODES N, retry, publish, a WORKLOAD with COUNT and SEED, or play FILE..\n",
-            Fault::Text => "capbench: the text can't be used\n",
-            Fault::Changed => "capbench: the core changed, where it found no memory\n",
-            Fault::InVain => "capbench: an event was asked for in vain\n",
-            Fault::Full => "capbench: the history is full\n",
-            Fault::NoMemory => "capbench: no memory\n",
-            Fault::ReadFailed => "capbench: read failed\n",
-            Fault::WriteFailed => "capbench: write failed\n",
+                "wanted is one of: verdict N, parse N, explain READERS INODES N, locked READERS INODES N, retry, publish, a WORKLOAD with COUNT and SEED, or play FILE..",
+            Fault::NoJob => "WORKLOAD, COUNT and SEED are wanted",
+            Fault::NoFile => "no file is named",
+            Fault::Text => "the text can't be used",
+            Fault::Changed => "the core changed, where it found no memory",
+            Fault::InVain => "an event was asked for in vain",
+            Fault::Full => "the history is full",
+            Fault::NoMemory => "no memory",
+            Fault::ReadFailed => "read failed",
+            Fault::WriteFailed => "write failed",
+            Fault::Unread => "it can't be read",
+            Fault::NoTalk => "no talk is in it",
+            Fault::NoLine => "the talk has no line",
+            Fault::NameTwice => "the name stands twice",
+            Fault::NoEarlier => "no earlier talk has this name",
+            Fault::NotUnderstood => "the line is not understood",
         }
     }
+
+    /// The fault, at a line of a file of talks.
+    pub fn at(self, line: usize) -> Place {
+        Place { line, fault: self }
+    }
+}
+
+/// A fault in a file of talks, with its line. Lines count from 1; in line 0 it is the whole file's.
+#[derive(Clone, Copy)]
+pub struct Place {
+    pub line: usize,
+    pub fault: Fault,
 }
 
 impl From<AllocError> for Fault {
@@ -64,6 +103,15 @@ impl From<StartFault> for Fault {
     }
 }
 
+impl From<Stop> for Fault {
+    fn from(stop: Stop) -> Self {
+        match stop {
+            Stop::NoMemory => Fault::NoMemory,
+            Stop::Full => Fault::Full,
+        }
+    }
+}
+
 impl From<ScriptFault> for Fault {
     fn from(fault: ScriptFault) -> Self {
         match fault {
@@ -75,12 +123,33 @@ impl From<ScriptFault> for Fault {
     }
 }
 
+impl From<ServeFault> for Fault {
+    fn from(fault: ServeFault) -> Self {
+        match fault {
+            ServeFault::Script(fault) => Fault::from(fault),
+            ServeFault::HistoryFull => Fault::Full,
+            ServeFault::NoThread => Fault::NoMemory,
+            ServeFault::Clients { .. } => Fault::Text,
+        }
+    }
+}
+
 // Where only memory was missing, the grants are not to blame.
 impl From<SpecFault> for Fault {
     fn from(fault: SpecFault) -> Self {
         match fault.kind {
             SpecFaultKind::NoMemory => Fault::NoMemory,
             _ => Fault::Text,
+        }
+    }
+}
+
+impl From<QuestionFault> for Fault {
+    fn from(fault: QuestionFault) -> Self {
+        match fault {
+            QuestionFault::NoMemory => Fault::NoMemory,
+            QuestionFault::Grants(fault) => Fault::from(fault),
+            QuestionFault::BadValue(_) => Fault::Text,
         }
     }
 }

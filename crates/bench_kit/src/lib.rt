@@ -6,19 +6,18 @@
 #![tactic(auto)]
 
 mod book;
-pub mod commands;
-mod day;
-mod day_fault;
+mod commands;
 mod digest;
 mod directory_moves;
 mod explaining;
 mod fault;
+mod job;
+mod jobs;
 mod judging;
 mod limits;
 mod line;
 mod lines;
 mod page;
-mod playing;
 mod publishing;
 mod questions;
 mod retry;
@@ -27,21 +26,16 @@ mod scripts;
 mod serving;
 mod shared_files;
 mod streams;
-mod talk;
-mod talk_fault;
-pub mod telling;
 mod tenants;
 mod text;
+mod words;
 mod work;
 
 pub use book::{Talk, read_talks};
-pub use commands::{dispatch, report};
-pub use day::{Amount, digest_of, tell};
-pub use day_fault::DayFault;
-pub use fault::Fault;
+pub use commands::{dispatch, report, tell};
+pub use fault::{Fault, Place};
+pub use jobs::Amount;
 pub use page::Page;
 pub use run::{Outcome, Program, Run};
 pub use scripts::{history_digest, served_script};
 pub use streams::Output;
-pub use talk_fault::{BookFault, Place, Stop};
-pub use telling::topic;

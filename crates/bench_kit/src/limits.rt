@@ -1,7 +1,26 @@
 //! What the streams of a run take before they fail.
 
-use crate::talk_fault::BookFault;
+use crate::fault::Fault;
+use crate::words::meaning;
+use capbits::read_u32;
 use std::io::ErrorKind;
+
+// A stream that is limited.
+#[derive(Clone, Copy)]
+enum Stream {
+    // What is read, of which a read fails so.
+    Read(ErrorKind),
+    Output,
+    Faults,
+}
+
+// The words that name them.
+const STREAMS: &[(&[u8], Stream)] = &[
+    (b"reads", Stream::Read(ErrorKind::BrokenPipe)),
+    (b"waits", Stream::Read(ErrorKind::WouldBlock)),
+    (b"room", Stream::Output),
+    (b"fault room", Stream::Faults),
+];
 
 /// Reads of one byte each, and the one behind them, which fails.
 #[derive(Clone, Copy)]
@@ -34,55 +53,25 @@ impl Limits {
     }
 
     /// Reads one more limit: which stream it is for, and a number. No stream has two.
-    pub fn take(&mut self, text: &[u8]) -> Result<(), BookFault> {
-        let (stream, number) = split_at_last_space(text);
-        let number = read_number(number)?;
+    pub fn take(&mut self, text: &[u8]) -> Result<(), Fault> {
+        let (stream, count) = stream_and_count(text).ok_or(Fault::NotUnderstood)?;
         match stream {
-            b"reads" if self.reads.is_none() => self.reads = fails_after(
-                number,
-                ErrorKind::BrokenPipe,
-            ),
-            b"waits" if self.reads.is_none() => self.reads = fails_after(
-                number,
-                ErrorKind::WouldBlock,
-            ),
-            b"room" if self.room == usize::MAX => self.room = number,
-            b"fault room" if self.fault_room == usize::MAX => self.fault_room = number,
-            _ => return Err(BookFault::NotUnderstood),
+            Stream::Read(fault) if self.reads.is_none() => self.reads = Some(Reads {
+                count,
+                fault,
+            }),
+            Stream::Output if self.room == usize::MAX => self.room = count,
+            Stream::Faults if self.fault_room == usize::MAX => self.fault_room = count,
+            _ => return Err(Fault::NotUnderstood),
         }
         Ok(())
     }
 }
 
-fn fails_after(count: usize, fault: ErrorKind) -> Option<Reads> {
-    Some(Reads { count, fault })
-}
-
-// What stands before the last space, and what behind it.
-fn split_at_last_space(text: &[u8]) -> (&[u8], &[u8]) {
-    match text.iter().rposition(|byte| *byte == b' ') {
-        Some(place) => {
-            let front = text.get(..place).unwrap_or(&[]);
-            let behind = text.get(place.saturating_add(1)..).unwrap_or(&[]);
-            (front, behind)
-        }
-        None => (&[], text),
-    }
-}
-
-// The number that decimal digits write.
-fn read_number(text: &[u8]) -> Result<usize, BookFault> {
-    if text.is_empty() {
-        return Err(BookFault::NotUnderstood);
-    }
-    let mut number = 0usize;
-    for byte in text {
-        number = match byte {
-            b'0'..=b'9' => number
-                .saturating_mul(10)
-                .saturating_add(usize::from(*byte - b'0')),
-            _ => return Err(BookFault::NotUnderstood),
-        };
-    }
-    Ok(number)
+// What stands before the last space, and the number behind it.
+fn stream_and_count(text: &[u8]) -> Option<(Stream, usize)> {
+    let end = text.iter().rposition(|byte| *byte == b' ')?;
+    let stream = meaning(STREAMS, &text[..end])?;
+    let count = read_u32(&text[end + 1..])?;
+    Some((stream, count as usize))
 }

@@ -1,7 +1,7 @@
 //! The lines of a file of talks.
 
+use crate::fault::Fault;
 use crate::run::Program;
-use crate::talk_fault::BookFault;
 
 // The marks that a line begins with, but that of a remark.
 const MARKS: &[u8] = b"*+$%@>!=";
@@ -31,24 +31,24 @@ pub enum Line<'a> {
 
 impl<'a> Line<'a> {
     /// Reads a line. A space at its end would not be seen, so it means nothing.
-    pub fn read(text: &'a [u8]) -> Result<Line<'a>, BookFault> {
-        let Some((first, behind)) = text.split_first() else {
-            return Ok(Line::Remark);
-        };
-        if ends_unseen(text) {
-            return Err(BookFault::NotUnderstood);
-        }
-        match *first {
-            b'#' => Ok(Line::Remark),
-            mark if MARKS.contains(&mark) => Line::by_mark(mark, marked(behind)?),
+    pub fn read(text: &'a [u8]) -> Result<Line<'a>, Fault> {
+        match text {
+            [] => Ok(Line::Remark),
+            [.., b' ' | b'\t' | b'\r'] => Err(Fault::NotUnderstood),
+            [b'#', ..] => Ok(Line::Remark),
+            [mark, behind @ ..] if MARKS.contains(mark) => match behind {
+                [] => Line::by_mark(*mark, behind),
+                [b' ', text @ ..] => Line::by_mark(*mark, text),
+                _ => Err(Fault::NotUnderstood),
+            },
             _ => Ok(Line::Written(text)),
         }
     }
 
     // What one of the marks says of the text behind it. A talk has a name.
-    fn by_mark(mark: u8, text: &'a [u8]) -> Result<Line<'a>, BookFault> {
+    fn by_mark(mark: u8, text: &'a [u8]) -> Result<Line<'a>, Fault> {
         match mark {
-            b'*' | b'+' if text.is_empty() => Err(BookFault::NotUnderstood),
+            b'*' | b'+' if text.is_empty() => Err(Fault::NotUnderstood),
             b'*' => Ok(Line::Talk(text)),
             b'+' => Ok(Line::Begins(text)),
             b'$' => Ok(Line::Command(Program::Capd, text)),
@@ -58,21 +58,5 @@ impl<'a> Line<'a> {
             b'!' => Ok(Line::Complaint(text)),
             _ => Ok(Line::Status(text)),
         }
-    }
-}
-
-fn ends_unseen(text: &[u8]) -> bool {
-    match text.last() {
-        Some(last) => *last == b' ' || *last == b'\t' || *last == b'\r',
-        None => false,
-    }
-}
-
-// What stands behind a mark: a space, and the text; or nothing.
-fn marked(behind: &[u8]) -> Result<&[u8], BookFault> {
-    match behind.split_first() {
-        Some((b' ', text)) => Ok(text),
-        Some(_) => Err(BookFault::NotUnderstood),
-        None => Ok(behind),
     }
 }

@@ -1,6 +1,7 @@
 //! Lines of a script and what is answered to them, where memory may be refused.
 
 use crate::fault::Fault;
+use capbits::ClientId;
 use capexplain::{append_audit_line, reply_lines};
 use capstep::stop::Stop;
 use script_syntax::{ScriptFault, read_line};
@@ -10,6 +11,23 @@ use step_model::{Event, Reply, Row};
 
 /// How often something is tried that finds no memory: more often than memory is refused in a row.
 pub(crate) const TRIES: u32 = 16;
+
+/// The lines of a script.
+pub(crate) fn lines_of(alloc: Global, script: &[u8]) -> Result<Vec<&[u8]>, Fault> {
+    Ok(script.split(|byte| *byte == b'\n').collect(alloc)?)
+}
+
+/// The event that a line says, with the client that it is about. Where it finds no memory it is read again.
+pub(crate) fn event_of(alloc: Global, line: &[u8]) -> Result<(Option<ClientId>, Event), Fault> {
+    for _ in 0..TRIES {
+        match read_line(alloc, 1, line) {
+            Ok(Some(said)) => return Ok(said),
+            Err(ScriptFault::NoMemory) => (),
+            _ => return Err(Fault::Text),
+        }
+    }
+    Err(Fault::NoMemory)
+}
 
 /// What was answered, as far as who asked has to know it.
 #[derive(Clone, Copy)]
@@ -22,56 +40,108 @@ pub(crate) enum Heard {
     Starved,
     /// The event found no memory.
     Stopped,
+    /// There was a fault, which the transcript keeps.
+    Failed,
 }
 
-/// The lines of a script.
-pub(crate) fn lines_of(alloc: Global, script: &[u8]) -> Result<Vec<&[u8]>, Fault> {
-    Ok(script.split(|byte| *byte == b'\n').collect(alloc)?)
+/// What is written of a script that is played. It keeps its first fault, behind which no line says an event and nothing is written: so who
+/// plays need not look for a fault until the end.
+#[derive(Drop)]
+pub(crate) struct Transcript<'w, W> {
+    alloc: Global,
+    writer: &'w mut W,
+    fault: Option<Fault>,
 }
 
-/// The event that a line says. Where it finds no memory it is read again.
-pub(crate) fn event_of(alloc: Global, line: &[u8]) -> Result<Event, Fault> {
-    for _ in 0..TRIES {
-        match read_line(alloc, 1, line) {
-            Ok(Some((_, event))) => return Ok(event),
-            Err(ScriptFault::NoMemory) => (),
-            _ => return Err(Fault::Text),
+impl<'w, W: Write> Transcript<'w, W> {
+    /// A transcript of which nothing is written.
+    pub(crate) fn new(alloc: Global, writer: &'w mut W) -> Transcript<'w, W> {
+        Transcript {
+            alloc,
+            writer,
+            fault: None,
         }
     }
-    Err(Fault::NoMemory)
-}
 
-/// Writes an answer, as `capd run` does. Where its text finds no memory it is made again.
-pub(crate) fn tell(alloc: Global, reply: &Reply, writer: &mut impl Write) -> Result<Heard, Fault> {
-    for _ in 0..TRIES {
-        if let Ok(text) = reply_lines(alloc, reply) {
-            write(writer, text.as_slice())?;
-            return Ok(match reply {
-                Reply::OutOfMemory => Heard::Starved,
-                _ => Heard::Answered,
-            });
+    /// The event that a line says.
+    pub(crate) fn event(&mut self, line: &[u8]) -> Option<Event> {
+        if self.fault.is_some() {
+            return None;
+        }
+        match event_of(self.alloc, line) {
+            Ok((_, event)) => Some(event),
+            Err(fault) => {
+                self.fail(fault);
+                None
+            }
         }
     }
-    Err(Fault::NoMemory)
-}
 
-/// Writes that an event found no memory. That the history is full is a fault.
-pub(crate) fn tell_stop(stop: Stop, writer: &mut impl Write) -> Result<Heard, Fault> {
-    match stop {
-        Stop::NoMemory => write(writer, b"stopped\n")?,
-        Stop::Full => return Err(Fault::Full),
+    /// Writes an answer, as `capd run` does. Where its text finds no memory it is made again.
+    pub(crate) fn tell(&mut self, reply: &Reply) -> Heard {
+        for _ in 0..TRIES {
+            if let Ok(text) = reply_lines(self.alloc, reply) {
+                self.write(text.as_slice());
+                return match reply {
+                    Reply::OutOfMemory => Heard::Starved,
+                    _ => Heard::Answered,
+                };
+            }
+        }
+        self.fail(Fault::NoMemory);
+        Heard::Failed
     }
-    Ok(Heard::Stopped)
-}
 
-/// Writes the line of each row of a history. Where their text finds no memory it is made again.
-pub(crate) fn tell_rows(alloc: Global, rows: &[Row], writer: &mut impl Write) -> Result<(), Fault> {
-    for _ in 0..TRIES {
-        if let Ok(text) = rows_text(alloc, rows) {
-            return write(writer, text.as_slice());
+    /// Writes that an event found no memory. That the history is full is a fault.
+    pub(crate) fn tell_stop(&mut self, stop: Stop) -> Heard {
+        match stop {
+            Stop::NoMemory => {
+                self.write(b"stopped\n");
+                Heard::Stopped
+            }
+            Stop::Full => {
+                self.fail(Fault::Full);
+                Heard::Failed
+            }
         }
     }
-    Err(Fault::NoMemory)
+
+    /// Writes the line of each row of a history. Where their text finds no memory it is made again.
+    pub(crate) fn tell_rows(&mut self, rows: &[Row]) {
+        for _ in 0..TRIES {
+            if let Ok(text) = rows_text(self.alloc, rows) {
+                return self.write(text.as_slice());
+            }
+        }
+        self.fail(Fault::NoMemory);
+    }
+
+    /// Writes all of a text.
+    pub(crate) fn write(&mut self, text: &[u8]) {
+        if self.fault.is_none() && self.writer.write_all(text).is_err() {
+            self.fail(Fault::WriteFailed);
+        }
+    }
+
+    /// Nothing more is played. The first fault counts.
+    pub(crate) fn fail(&mut self, fault: Fault) {
+        if self.fault.is_none() {
+            self.fault = Some(fault);
+        }
+    }
+
+    /// Whether there was a fault.
+    pub(crate) fn has_failed(&self) -> bool {
+        self.fault.is_some()
+    }
+
+    /// The sum that the work comes to, or the first fault.
+    pub(crate) fn end(&self, sum: u64) -> Result<u64, Fault> {
+        match self.fault {
+            None => Ok(sum),
+            Some(fault) => Err(fault),
+        }
+    }
 }
 
 fn rows_text(alloc: Global, rows: &[Row]) -> Result<Vec<u8>, AllocError> {
@@ -81,12 +151,4 @@ fn rows_text(alloc: Global, rows: &[Row]) -> Result<Vec<u8>, AllocError> {
         text.push(b'\n')?;
     }
     Ok(text)
-}
-
-/// Writes all of a text.
-pub(crate) fn write(writer: &mut impl Write, text: &[u8]) -> Result<(), Fault> {
-    match writer.write_all(text) {
-        Ok(()) => Ok(()),
-        Err(_) => Err(Fault::WriteFailed),
-    }
 }

@@ -2,13 +2,12 @@
 //! call. What finds no memory is called again; what was made and found none for its publication is published with the next event.
 
 use crate::fault::Fault;
-use crate::lines::{Heard, TRIES, event_of, tell, tell_stop, write};
+use crate::lines::{Heard, TRIES, Transcript};
 use capbits::{ClientId, Ino};
 use capgrant::{Access, Verdict};
 use capserver::{Answer, CapServer, NoGate, Pass};
 use policy_view::{Question, Unknown};
 use snapshot::Server;
-use std::alloc::Global;
 use std::io::Write;
 use std::sync::Wait;
 
@@ -24,102 +23,87 @@ const VIEW: &[u8; 38] = b"view ................................\n";
 /// The line that is called where an event was made and not published: it changes nothing, and is published with it.
 const CATCH_UP: &[u8] = b"poll 1 9";
 
-/// Has the first pass call what the lines of a script say. What is answered is written, and behind that what each pass is told of all
-/// questions.
+/// Has the first of two passes call what the lines of a script say. What is answered is written, and behind that what each pass is told of
+/// all questions.
 pub(crate) fn publish<L: Server, T: Wait, W: Write>(
     rt: &T,
-    alloc: Global,
     server: &CapServer<NoGate, L>,
     passes: &mut [Pass<L>],
     lines: &[&[u8]],
-    writer: &mut W,
-) -> Result<(), Fault> {
+    transcript: &mut Transcript<'_, W>,
+) {
+    let [caller, other] = passes else {
+        return transcript.fail(Fault::Usage);
+    };
     for line in lines {
-        take_line(rt, alloc, server, passes, line, writer)?;
+        take_line(rt, server, caller, other, line, transcript);
     }
-    Ok(())
 }
 
 // Calls what a line says until it is made and published.
 fn take_line<L: Server, T: Wait, W: Write>(
     rt: &T,
-    alloc: Global,
     server: &CapServer<NoGate, L>,
-    passes: &mut [Pass<L>],
+    caller: &mut Pass<L>,
+    other: &mut Pass<L>,
     line: &[u8],
-    writer: &mut W,
-) -> Result<(), Fault> {
+    transcript: &mut Transcript<'_, W>,
+) {
     let mut line = line;
     for _ in 0..TRIES {
-        let heard = call(rt, alloc, server, passes, line, writer)?;
-        see_all(server, passes, writer)?;
+        let heard = call(rt, server, caller, line, transcript);
+        see(server, caller, transcript);
+        see(server, other, transcript);
         match heard {
-            Heard::Answered => return Ok(()),
+            Heard::Answered | Heard::Failed => return,
             Heard::Late => line = CATCH_UP,
             Heard::Starved | Heard::Stopped => (),
         }
     }
-    Err(Fault::InVain)
+    transcript.fail(Fault::InVain);
 }
 
+// Calls what a line says, and writes what is answered.
 fn call<L: Server, T: Wait, W: Write>(
     rt: &T,
-    alloc: Global,
     server: &CapServer<NoGate, L>,
-    passes: &mut [Pass<L>],
+    caller: &mut Pass<L>,
     line: &[u8],
-    writer: &mut W,
-) -> Result<Heard, Fault> {
-    let Some(caller) = passes.first_mut() else {
-        return Err(Fault::Usage);
+    transcript: &mut Transcript<'_, W>,
+) -> Heard {
+    let Some(event) = transcript.event(line) else {
+        return Heard::Failed;
     };
-    let event = event_of(alloc, line)?;
     match server.call(rt, caller, event) {
-        Ok(answer) => tell_answer(alloc, &answer, writer),
-        Err(stop) => tell_stop(stop, writer),
+        Ok(answer) => tell_answer(&answer, transcript),
+        Err(stop) => transcript.tell_stop(stop),
     }
 }
 
 // Writes an answer, and behind it that it is not published yet.
-fn tell_answer<W: Write>(alloc: Global, answer: &Answer, writer: &mut W) -> Result<Heard, Fault> {
-    let heard = tell(alloc, &answer.reply, writer)?;
+fn tell_answer<W: Write>(answer: &Answer, transcript: &mut Transcript<'_, W>) -> Heard {
+    let heard = transcript.tell(&answer.reply);
     if answer.fresh {
-        return Ok(heard);
+        return heard;
     }
-    write(writer, b"late\n")?;
-    Ok(match heard {
+    transcript.write(b"late\n");
+    match heard {
         Heard::Answered => Heard::Late,
         heard => heard,
-    })
-}
-
-fn see_all<L: Server, W: Write>(
-    server: &CapServer<NoGate, L>,
-    passes: &mut [Pass<L>],
-    writer: &mut W,
-) -> Result<(), Fault> {
-    for pass in passes {
-        see(server, pass, writer)?;
     }
-    Ok(())
 }
 
 // Writes what a pass is told, a letter for each question.
 fn see<L: Server, W: Write>(
     server: &CapServer<NoGate, L>,
     pass: &mut Pass<L>,
-    writer: &mut W,
-) -> Result<(), Fault> {
+    transcript: &mut Transcript<'_, W>,
+) {
     let mut view = *VIEW;
     for place in 0..QUESTIONS {
-        view[5 + place] = letter_at(server, pass, place as u32);
+        view[5 + place] = letter_of(server.explain(pass, &question_at(place as u32)));
     }
-    write(writer, &view)
-}
-
-// What is told of the question at a place. What the server promises of it stays behind here.
-fn letter_at<L: Server>(server: &CapServer<NoGate, L>, pass: &mut Pass<L>, place: u32) -> u8 {
-    letter_of(server.explain(pass, &question_at(place)))
+    transcript.write(&view);
 }
 
 // The question at a place: client by client, and for each of them inode by inode.

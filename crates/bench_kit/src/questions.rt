@@ -1,66 +1,115 @@
 //! Questions of policy, each with grants, a caller and an inode of its own.
 
-use crate::day_fault::DayFault;
-use crate::talk::Talk;
+use crate::fault::Fault;
+use crate::job::Job;
+use crate::jobs::Amount;
+use crate::lines::lines_of;
 use queries::{Question, Values};
 use std::alloc::Global;
-use std::hash::{DefaultHasher, Hasher};
+
+/// The file system of each question.
+const FS: &[u8] = b"cephfs";
 
 /// How many directories can stand in each.
 const NAMES: u64 = 4;
 
 /// The users of callers and of owners, the first of them, and how many they are.
-const USERS: &[&str] = &["1000", "1001", "1002", "1003", "1004", "1005"];
+const USERS: &[&[u8]] = &[b"1000", b"1001", b"1002", b"1003", b"1004", b"1005"];
 
 const FIRST_USER: u64 = 1000;
 
 const USER_COUNT: u64 = 6;
 
-const MODES: &[&str] = &[
-    "0040", "0141", "0242", "0343", "0444", "0545", "0646", "0747",
+const MODES: &[&[u8]] = &[
+    b"0040", b"0141", b"0242", b"0343", b"0444", b"0545", b"0646", b"0747",
 ];
 
 /// What can be asked for.
-const ACCESSES: &[&str] = &["read", "write", "vxattr", "snapshot", "chmod", "chown:1002"];
+const ACCESSES: &[&[u8]] = &[
+    b"read",
+    b"write",
+    b"vxattr",
+    b"snapshot",
+    b"chmod",
+    b"chown:1002",
+];
 
 /// How many texts of grants, and how many paths, are made before the first question.
 const TEXTS: u64 = 1024;
 
-/// The texts that questions are put together from: grants, and paths.
-type Texts<'a> = (&'a [Vec<u8>], &'a [Vec<u8>]);
-
 /// Answers so many questions, and returns the digest of the answers.
-pub(crate) fn ask_all(alloc: Global, count: u32, seed: u32) -> Result<u64, DayFault> {
-    let mut talk = Talk::new(alloc, seed);
-    let (mut grants, mut paths) = (Vec::new(alloc), Vec::new(alloc));
-    make_texts(&mut talk, &mut grants, &mut paths);
-    ask_often((grants.as_slice(), paths.as_slice()), &mut talk, count);
-    talk.digest()
+pub(crate) fn ask_all(alloc: Global, amount: Amount) -> Result<u64, Fault> {
+    let mut job = Job::new(alloc, amount.seed);
+    write_texts(&mut job);
+    let script = job.script()?;
+    let texts = lines_of(alloc, script.as_slice())?;
+    ask_often(&mut job, texts.as_slice(), amount.count);
+    job.digest()
 }
 
-fn make_texts(talk: &mut Talk, grants: &mut Vec<Vec<u8>>, paths: &mut Vec<Vec<u8>>) {
+// Texts of grants and paths, by turns, a line each.
+fn write_texts(job: &mut Job) {
     for _ in 0..TEXTS {
-        add_grants(talk, grants);
-        add_path(talk, paths);
+        write_grants(job);
+        write_path(job);
+        job.write("\n", &[]);
     }
 }
 
-fn ask_often(texts: Texts, talk: &mut Talk, count: u32) {
-    let mut values = blank(talk.alloc());
+// One to sixteen grants, most of them few.
+fn write_grants(job: &mut Job) {
+    job.write("allow r path=/pub", &[]);
+    let most = job.below(15);
+    for _ in 0..job.below(most) {
+        write_grant(job);
+    }
+    job.write("\n", &[]);
+}
+
+fn write_grant(job: &mut Job) {
+    let kind = job.below(4);
+    let front = match kind {
+        0 => ", allow r path=",
+        1 => ", allow rwp path=",
+        _ => ", allow rw path=",
+    };
+    job.write(front, &[]);
+    write_path(job);
+    match kind {
+        2 => job.write(" root_squash", &[]),
+        3 => {
+            let user = job.among(FIRST_USER, USER_COUNT);
+            job.write(" uid=# gids=#,1001", &[user, user]);
+        }
+        _ => {}
+    }
+}
+
+fn write_path(job: &mut Job) {
+    for _ in 0..job.among(1, 7) {
+        let name = job.below(NAMES);
+        job.write("/directory#", &[name]);
+    }
+}
+
+fn ask_often(job: &mut Job, texts: &[&[u8]], count: u32) {
+    let mut values = no_values(job.alloc());
+    put(job, FS, &mut values.fs);
     for _ in 0..count {
-        choose(texts, talk, &mut values);
-        let answer = answer(talk.alloc(), &values);
-        talk.take(answer);
+        choose_texts(job, texts, &mut values);
+        choose_words(job, &mut values);
+        let answer = answer(job.alloc(), &values);
+        job.take(answer);
     }
 }
 
 // The answer to a question. What is promised of it stays behind here.
-fn answer(alloc: Global, values: &Values) -> Result<Vec<u8>, DayFault> {
+fn answer(alloc: Global, values: &Values) -> Result<Vec<u8>, Fault> {
     Ok(Question::read(alloc, values)?.answer(alloc)?)
 }
 
 // Values without a byte.
-fn blank(alloc: Global) -> Values {
+fn no_values(alloc: Global) -> Values {
     Values {
         grants: Vec::new(alloc),
         fs: Vec::new(alloc),
@@ -75,89 +124,43 @@ fn blank(alloc: Global) -> Values {
     }
 }
 
-// Puts one question together.
-fn choose((grants, paths): Texts, talk: &mut Talk, values: &mut Values) {
-    take(talk, grants, &mut values.grants);
-    take(talk, paths, &mut values.path);
-    choose_word(talk, MODES, &mut values.mode);
-    choose_word(talk, ACCESSES, &mut values.access);
-    choose_users(talk, values);
-    put(talk, b"cephfs", &mut values.fs);
+// The grants of a question, and its path.
+fn choose_texts(job: &mut Job, texts: &[&[u8]], values: &mut Values) {
+    let grants = job.below(TEXTS).saturating_mul(2);
+    put_word(job, texts, grants, &mut values.grants);
+    let path = job.below(TEXTS).saturating_mul(2).saturating_add(1);
+    put_word(job, texts, path, &mut values.path);
 }
 
-// The numbers of the caller and of the owner.
-fn choose_users(talk: &mut Talk, values: &mut Values) {
-    choose_word(talk, USERS, &mut values.uid);
-    choose_word(talk, USERS, &mut values.gid);
-    choose_word(talk, USERS, &mut values.owner);
-    choose_word(talk, USERS, &mut values.group);
+// The mode and the access, and the numbers of the caller and of the owner.
+fn choose_words(job: &mut Job, values: &mut Values) {
+    choose(job, MODES, &mut values.mode);
+    choose(job, ACCESSES, &mut values.access);
+    choose(job, USERS, &mut values.uid);
+    choose(job, USERS, &mut values.gid);
+    choose(job, USERS, &mut values.owner);
+    choose(job, USERS, &mut values.group);
     if let Some(groups) = &mut values.groups {
-        choose_word(talk, USERS, groups);
+        choose(job, USERS, groups);
     }
 }
 
 // One of the words, in the place of another.
-fn choose_word(talk: &mut Talk, words: &[&str], place: &mut Vec<u8>) {
-    let number = talk.below(words.len() as u64);
+fn choose(job: &mut Job, words: &[&[u8]], place: &mut Vec<u8>) {
+    let number = job.below(words.len() as u64);
+    put_word(job, words, number, place);
+}
+
+// The word of a number, in the place of another.
+fn put_word(job: &mut Job, words: &[&[u8]], number: u64, place: &mut Vec<u8>) {
     if let Some(word) = words.get(number as usize) {
-        put(talk, word.as_bytes(), place);
+        put(job, word, place);
     }
 }
 
-// One of the texts, in the place of another.
-fn take(talk: &mut Talk, texts: &[Vec<u8>], place: &mut Vec<u8>) {
-    let number = talk.below(texts.len() as u64);
-    if let Some(text) = texts.get(number as usize) {
-        put(talk, text.as_slice(), place);
-    }
-}
-
-fn put(talk: &mut Talk, text: &[u8], place: &mut Vec<u8>) {
+fn put(job: &mut Job, text: &[u8], place: &mut Vec<u8>) {
     place.clear();
     if place.extend_from_slice(text).is_err() {
-        talk.fail(DayFault::NoMemory);
-    }
-}
-
-// One to sixteen grants, most of them few.
-fn add_grants(talk: &mut Talk, texts: &mut Vec<Vec<u8>>) {
-    let mut grants = Vec::new(talk.alloc());
-    talk.write(&mut grants, "allow r path=/pub", &[]);
-    let most = talk.below(15);
-    for _ in 0..talk.below(most) {
-        write_grant(talk, &mut grants);
-    }
-    talk.keep(texts, grants);
-}
-
-fn write_grant(talk: &mut Talk, grants: &mut Vec<u8>) {
-    let kind = talk.below(4);
-    let line = match kind {
-        0 => ", allow r path=",
-        1 => ", allow rwp path=",
-        _ => ", allow rw path=",
-    };
-    talk.write(grants, line, &[]);
-    write_path(talk, grants);
-    match kind {
-        2 => talk.write(grants, " root_squash", &[]),
-        3 => {
-            let user = talk.among(FIRST_USER, USER_COUNT);
-            talk.write(grants, " uid=# gids=#,1001", &[user, user]);
-        }
-        _ => {}
-    }
-}
-
-fn add_path(talk: &mut Talk, texts: &mut Vec<Vec<u8>>) {
-    let mut path = Vec::new(talk.alloc());
-    write_path(talk, &mut path);
-    talk.keep(texts, path);
-}
-
-fn write_path(talk: &mut Talk, text: &mut Vec<u8>) {
-    for _ in 0..talk.among(1, 7) {
-        let name = talk.below(NAMES);
-        talk.write(text, "/directory#", &[name]);
+        job.fail(Fault::NoMemory);
     }
 }

@@ -3,7 +3,7 @@
 
 use crate::digest::digest_of;
 use crate::fault::Fault;
-use crate::lines::{Heard, TRIES, event_of, tell, tell_rows, tell_stop};
+use crate::lines::{Heard, TRIES, Transcript};
 use capbits::PassId;
 use capcore::Core;
 use capscript::file_system;
@@ -32,49 +32,42 @@ fn play<W: Write>(
     lines: &[&[u8]],
     writer: &mut W,
 ) -> Result<u64, Fault> {
+    let mut transcript = Transcript::new(alloc, writer);
     for line in lines {
-        take_line(alloc, core, line, writer)?;
+        take_line(core, line, &mut transcript);
     }
-    tell_rows(alloc, core.history(), writer)?;
-    Ok(digest_of(core))
+    transcript.tell_rows(core.history());
+    transcript.end(digest_of(core))
 }
 
 // Takes a line until it is answered. Where an event found no memory, the core must not have changed, and where its serving found none, the
 // tree.
-fn take_line<W: Write>(
-    alloc: Global,
-    core: &mut Core,
-    line: &[u8],
-    writer: &mut W,
-) -> Result<(), Fault> {
+fn take_line<W: Write>(core: &mut Core, line: &[u8], transcript: &mut Transcript<'_, W>) {
     for _ in 0..TRIES {
         let (whole, tree) = (digest_of(core), digest_of(core.tree()));
-        let is_same = match ask(alloc, core, line, writer)? {
-            Heard::Answered | Heard::Late => return Ok(()),
+        let is_same = match ask(core, line, transcript) {
             Heard::Starved => tree == digest_of(core.tree()),
             Heard::Stopped => whole == digest_of(core),
+            _ => return,
         };
         if !is_same {
-            return Err(Fault::Changed);
+            return transcript.fail(Fault::Changed);
         }
     }
-    Err(Fault::InVain)
+    transcript.fail(Fault::InVain);
 }
 
 // Asks the core, and writes what it answers. No other function does: what the core promises of a reply is dear to carry along.
-fn ask<W: Write>(
-    alloc: Global,
-    core: &mut Core,
-    line: &[u8],
-    writer: &mut W,
-) -> Result<Heard, Fault> {
-    let event = event_of(alloc, line)?;
+fn ask<W: Write>(core: &mut Core, line: &[u8], transcript: &mut Transcript<'_, W>) -> Heard {
+    let Some(event) = transcript.event(line) else {
+        return Heard::Failed;
+    };
     match core.apply(PASS, event) {
         Ok(reply) => {
-            let heard = tell(alloc, &reply, writer);
+            let heard = transcript.tell(&reply);
             drop(reply);
             heard
         }
-        Err(stop) => tell_stop(stop, writer),
+        Err(stop) => transcript.tell_stop(stop),
     }
 }

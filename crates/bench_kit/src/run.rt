@@ -1,10 +1,10 @@
 //! Runs of a program, and what comes of them.
 ghost use Rattle.std.specs.Prelude.{◌≡◌, take};
 
+use crate::fault::Fault;
 use crate::limits::Limits;
 use crate::line::Line;
 use crate::streams::Input;
-use crate::talk_fault::BookFault;
 use crate::text::push_line;
 use std::alloc::Global;
 
@@ -98,7 +98,7 @@ impl Run {
     }
 
     /// One line more of what the program is given, or is to answer.
-    pub(crate) fn take(&mut self, line: Line<'_>) -> Result<(), BookFault> {
+    pub(crate) fn take(&mut self, line: Line<'_>) -> Result<(), Fault> {
         let taken = match line {
             Line::Asked(text) => push_line(&mut self.input, text),
             Line::Written(text) => push_line(&mut self.wanted.written, text),
@@ -121,12 +121,12 @@ impl Run {
 }
 
 // The status that a program can end with.
-fn status(text: &[u8]) -> Result<u8, BookFault> {
+fn status(text: &[u8]) -> Result<u8, Fault> {
     match text {
         b"0" => Ok(0),
         b"1" => Ok(1),
         b"2" => Ok(2),
         b"3" => Ok(3),
-        _ => Err(BookFault::NotUnderstood),
+        _ => Err(Fault::NotUnderstood),
     }
 }

@@ -1,8 +1,8 @@
 //! Whole scripts: those that are run as `capd run` does it, and those that a program with a server serves as `capd serve` does.
 
-use crate::day::Amount;
-use crate::day_fault::DayFault;
-use crate::talk::Talk;
+use crate::fault::Fault;
+use crate::job::Job;
+use crate::jobs::Amount;
 use capscript::run;
 use script_syntax::Watched;
 use std::alloc::Global;
@@ -19,25 +19,25 @@ const FILES: u64 = 64;
 
 /// The lines with which a script that is run begins, those of one more file and of another one: one client makes the file and writes it,
 /// and another looks it up; the other opens the other file for a moment, and the first changes its mode.
-const INGEST: &str = "session 1 10 10 - allow rw\nsession 2 20 20 - allow r path=/pub, allow r\n";
+const INGEST: &str = "session 1 10 10 - allow rw\nsession 2 20 20 - allow r path=/pub, allow r";
 
 const UPLOAD: &str =
-    "create 1 # upload# 0644\nopen 1 # w\nflush 1 # size #\nlookup 2 # upload#\nrelease 1 # p\n";
+    "create 1 # upload# 0644\nopen 1 # w\nflush 1 # size #\nlookup 2 # upload#\nrelease 1 # p";
 
-const CHANGE: &str = "open 2 # r\nrelease 2 # p\nalter 1 # chmod 0640\n";
+const CHANGE: &str = "open 2 # r\nrelease 2 # p\nalter 1 # chmod 0640";
 
 /// The first lines of a client that is served.
-const CLIENT: &str = "session # 10 10 - allow rw\nmkdir # 1 home# 0755\n";
+const CLIENT: &str = "session # 10 10 - allow rw\nmkdir # 1 home# 0755";
 
 /// Runs a script of so many rounds, and returns the digest of its transcript.
-pub(crate) fn run_script(alloc: Global, count: u32, seed: u32) -> Result<u64, DayFault> {
-    let script = ingest(Talk::new(alloc, seed), count)?;
+pub(crate) fn run_script(alloc: Global, amount: Amount) -> Result<u64, Fault> {
+    let script = ingest(Job::new(alloc, amount.seed), amount.count)?;
     let written = transcript(alloc, script.as_slice())?;
     Ok(digest_of(written.as_slice()))
 }
 
 // What is written of a script that is run. What is promised of it stays behind here.
-fn transcript(alloc: Global, script: &[u8]) -> Result<Vec<u8>, DayFault> {
+fn transcript(alloc: Global, script: &[u8]) -> Result<Vec<u8>, Fault> {
     let mut written = Vec::new(alloc);
     let mut reader = script;
     run(
@@ -50,16 +50,14 @@ fn transcript(alloc: Global, script: &[u8]) -> Result<Vec<u8>, DayFault> {
 
 /// The script of so many rounds that is to be served: clients that each work on files of their own, from threads of their own. Nothing that
 /// they ask for waits, since the number of a request that waits depends on when its thread was served.
-pub fn served_script(alloc: Global, amount: Amount) -> Result<Vec<u8>, DayFault> {
-    let Amount { count, seed } = amount;
-    let mut talk = Talk::new(alloc, seed);
-    let mut script = Vec::new(alloc);
-    add_clients(&mut talk, &mut script);
-    talk.write(&mut script, "threads\n", &[]);
-    for round in 0..u64::from(count) {
-        add_round(&mut talk, &mut script, round);
+pub fn served_script(alloc: Global, amount: Amount) -> Result<Vec<u8>, Fault> {
+    let mut job = Job::new(alloc, amount.seed);
+    add_clients(&mut job);
+    job.add("threads", &[]);
+    for round in 0..u64::from(amount.count) {
+        add_round(&mut job, round);
     }
-    talk.made(script)
+    job.script()
 }
 
 /// The digest of the history of a script that is served. It is the same in whatever order the threads were served: the sum of the digests of
@@ -80,54 +78,36 @@ fn digest_of(text: &[u8]) -> u64 {
 }
 
 // A client fills a deep chain of directories with files, and looks at them; another opens what it finds there.
-fn ingest(mut talk: Talk, count: u32) -> Result<Vec<u8>, DayFault> {
-    let mut script = Vec::new(talk.alloc());
-    talk.write(&mut script, INGEST, &[]);
-    add_levels(&mut talk, &mut script);
+fn ingest(mut job: Job, count: u32) -> Result<Vec<u8>, Fault> {
+    job.add(INGEST, &[]);
+    job.add_each("mkdir 1 # level# 0755", &[], 1..DEPTH + 1);
     for round in 0..u64::from(count) {
-        add_file(&mut talk, &mut script, round);
+        add_file(&mut job, round);
     }
-    talk.made(script)
-}
-
-fn add_levels(talk: &mut Talk, script: &mut Vec<u8>) {
-    for level in 0..DEPTH {
-        talk.write(script, "mkdir 1 # level# 0755\n", &[level + 1, level]);
-    }
+    job.script()
 }
 
 // The lines of one more file, which gets the next number, and of one that is there.
-fn add_file(talk: &mut Talk, script: &mut Vec<u8>, round: u64) {
-    let folder = talk.among(1, DEPTH + 1);
-    let any = talk.among(DEPTH + 2, round.saturating_add(1));
+fn add_file(job: &mut Job, round: u64) {
+    let folder = job.among(1, DEPTH + 1);
+    let any = job.among(DEPTH + 2, round.saturating_add(1));
     let made = round.saturating_add(DEPTH + 2);
-    talk.write(
-        script,
+    job.add(
         UPLOAD,
         &[folder, round, made, made, round, folder, round, made],
     );
-    talk.write(script, CHANGE, &[any, any, any]);
+    job.add(CHANGE, &[any, any, any]);
 }
 
-fn add_clients(talk: &mut Talk, script: &mut Vec<u8>) {
+// The clients with their directories and files: the directory of client 1 is inode 2, and its files follow it.
+fn add_clients(job: &mut Job) {
     for client in 1..=THREADS {
-        add_client(talk, script, client);
-    }
-}
-
-// A line of each client.
-fn add_round(talk: &mut Talk, script: &mut Vec<u8>, round: u64) {
-    for client in 1..=THREADS {
-        add_job(talk, script, client, round);
-    }
-}
-
-// A client with its directory and its files: the directory of client 1 is inode 2, and its files follow it.
-fn add_client(talk: &mut Talk, script: &mut Vec<u8>, client: u64) {
-    let home = home_of(client);
-    talk.write(script, CLIENT, &[client, client, client]);
-    for file in 0..FILES {
-        talk.write(script, "create # # file# 0644\n", &[client, home, file]);
+        job.add(CLIENT, &[client, client, client]);
+        job.add_each(
+            "create # # file# 0644",
+            &[client, home_of(client)],
+            0..FILES,
+        );
     }
 }
 
@@ -138,17 +118,24 @@ fn home_of(client: u64) -> u64 {
         .saturating_add(2)
 }
 
-fn add_job(talk: &mut Talk, script: &mut Vec<u8>, client: u64, round: u64) {
+// A line of each client.
+fn add_round(job: &mut Job, round: u64) {
+    for client in 1..=THREADS {
+        add_line(job, client, round);
+    }
+}
+
+fn add_line(job: &mut Job, client: u64, round: u64) {
     let home = home_of(client);
-    let file = talk.below(FILES);
+    let file = job.below(FILES);
     let ino = home.saturating_add(1).saturating_add(file);
-    let (line, ino, number) = match talk.below(6) {
-        0 => ("open # # rw\n", ino, round),
-        1 => ("flush # # size #\n", ino, round),
-        2 => ("get # # A\n", ino, round),
-        3 => ("release # # p\n", ino, round),
-        4 => ("want # # pFscr\n", ino, round),
-        _ => ("lookup # # file#\n", home, file),
+    let (line, ino, number) = match job.below(6) {
+        0 => ("open # # rw", ino, round),
+        1 => ("flush # # size #", ino, round),
+        2 => ("get # # A", ino, round),
+        3 => ("release # # p", ino, round),
+        4 => ("want # # pFscr", ino, round),
+        _ => ("lookup # # file#", home, file),
     };
-    talk.write(script, line, &[client, ino, number]);
+    job.add(line, &[client, ino, number]);
 }

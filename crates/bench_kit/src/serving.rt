@@ -4,7 +4,7 @@ ghost use Rattle.capserver.specs.Opened.{opened};
 
 use crate::explaining::explain;
 use crate::fault::Fault;
-use crate::lines::tell_rows;
+use crate::lines::Transcript;
 use crate::publishing::publish;
 use crate::work::ServerWork;
 use capscript::file_system;
@@ -16,6 +16,7 @@ use std::marker::Brand;
 use std::sync::Wait;
 use std::sync::ledger::Blank;
 use std::thread::Threads;
+use step_model::Row;
 
 // What is done with a server, by the lines of a script.
 #[derive(Clone, Copy)]
@@ -64,40 +65,27 @@ fn served<L: Server + Send + Sync, T: Threads + Wait + Sync, W: Write>(
     let (server, mut passes) = CapServer::<NoGate, L>::start(
         rt, alloc, opening, blank, count, NoGate,
     )?;
-    match work {
+    let mut transcript = Transcript::new(alloc, writer);
+    let sum = match work {
         ServerWork::Publish => {
-            match publish(rt, alloc, &server, passes.as_mut_slice(), lines, writer) {
-                Ok(()) => tell_history(rt, alloc, server, writer),
-                Err(fault) => {
-                    end(rt, alloc, server);
-                    Err(fault)
-                }
-            }
+            publish(rt, &server, passes.as_mut_slice(), lines, &mut transcript);
+            None
         }
         ServerWork::Explain(asking) => {
-            let sum = explain(rt, alloc, &server, passes, asking, lines);
-            end(rt, alloc, server);
-            sum
+            Some(explain(rt, &server, passes, asking, lines, &mut transcript))
         }
-    }
-}
-
-// Ends a server.
-fn end<L: Server, T: Wait>(rt: &T, alloc: Global, server: CapServer<NoGate, L>) {
-    drop(server.close(rt, Vec::new(alloc)));
-}
-
-// Ends a server, writes the rows of its history, and tells how many they are.
-fn tell_history<L: Server, T: Wait, W: Write>(
-    rt: &T,
-    alloc: Global,
-    server: CapServer<NoGate, L>,
-    writer: &mut W,
-) -> Result<u64, Fault> {
+    };
     let closed = server.close(rt, Vec::new(alloc));
-    let rows = closed.core.history().len() as u64;
-    let told = tell_rows(alloc, closed.core.history(), writer);
+    let sum = match sum {
+        Some(sum) => sum,
+        None => tell_history(closed.core.history(), &mut transcript),
+    };
     drop(closed);
-    told?;
-    Ok(rows)
+    transcript.end(sum)
+}
+
+// Writes the rows of a history, and tells how many they are.
+fn tell_history<W: Write>(rows: &[Row], transcript: &mut Transcript<'_, W>) -> u64 {
+    transcript.tell_rows(rows);
+    rows.len() as u64
 }

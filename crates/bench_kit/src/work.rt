@@ -1,15 +1,30 @@
 //! The pieces of work, and the words that name them.
 
+use crate::words::meaning;
 use capbits::read_u32;
 
 /// A piece of work.
 #[derive(Clone, Copy)]
 pub(crate) enum Work {
-    /// Judge an access so many times, by grants that were read before.
-    Verdict(u32),
-    /// Read the text of grants so many times.
-    Parse(u32),
-    /// Play a script on a core, and ask again for what finds no memory.
+    /// Work on grants, done so many times.
+    Grants(GrantWork, u32),
+    /// Work on the lines of a script.
+    Script(ScriptWork),
+}
+
+/// What is done with the text of grants.
+#[derive(Clone, Copy)]
+pub(crate) enum GrantWork {
+    /// Judge an access, by grants that were read before.
+    Verdict,
+    /// Read the text.
+    Parse,
+}
+
+/// What is done with the lines of a script.
+#[derive(Clone, Copy)]
+pub(crate) enum ScriptWork {
+    /// Play them on a core, and ask again for what finds no memory.
     Retry,
     /// Do it with a server.
     Serve(ServerWork),
@@ -46,34 +61,65 @@ pub(crate) enum Way {
     Locked,
 }
 
+/// The words that stand alone.
+const ALONE: &[(&[u8], ScriptWork)] = &[
+    (b"retry", ScriptWork::Retry),
+    (b"publish", ScriptWork::Serve(ServerWork::Publish)),
+];
+
+/// The words before one number: how often.
+const COUNTED: &[(&[u8], GrantWork)] = &[
+    (b"verdict", GrantWork::Verdict),
+    (b"parse", GrantWork::Parse),
+];
+
+/// The words before three numbers: how many threads, how many inodes, and how many questions of each.
+const ASKED: &[(&[u8], Way)] = &[(b"explain", Way::Beside), (b"locked", Way::Locked)];
+
 /// What the words of a command line ask for; nothing where they are not understood.
 pub(crate) fn work_of(words: &[Vec<u8>]) -> Option<Work> {
     match words {
-        [work] => match work.as_slice() {
-            b"retry" => Some(Work::Retry),
-            b"publish" => Some(Work::Serve(ServerWork::Publish)),
-            _ => None,
-        },
-        [work, times] => {
-            let times = read_u32(times.as_slice())?;
-            match work.as_slice() {
-                b"verdict" => Some(Work::Verdict(times)),
-                b"parse" => Some(Work::Parse(times)),
-                _ => None,
-            }
-        }
+        [work] => script_work(work.as_slice()),
+        [work, times] => grant_work(work.as_slice(), times.as_slice()),
         [way, readers, inodes, times] => {
-            let way = match way.as_slice() {
-                b"explain" => Way::Beside,
-                b"locked" => Way::Locked,
-                _ => return None,
-            };
-            Some(Work::Serve(ServerWork::Explain(Asking {
-                readers: read_u32(readers.as_slice())?,
-                inodes: read_u32(inodes.as_slice())?,
-                times: read_u32(times.as_slice())?,
+            question_work(
+                way.as_slice(),
+                readers.as_slice(),
+                inodes.as_slice(),
+                times.as_slice(),
+            )
+        }
+        _ => None,
+    }
+}
+
+fn script_work(work: &[u8]) -> Option<Work> {
+    match meaning(ALONE, work) {
+        Some(work) => Some(Work::Script(work)),
+        None => None,
+    }
+}
+
+// So much work on grants. Options are matched at once: each `?` would be a way out for the proof.
+fn grant_work(work: &[u8], times: &[u8]) -> Option<Work> {
+    match (meaning(COUNTED, work), read_u32(times)) {
+        (Some(work), Some(times)) => Some(Work::Grants(work, times)),
+        _ => None,
+    }
+}
+
+// Questions of so many threads.
+fn question_work(way: &[u8], readers: &[u8], inodes: &[u8], times: &[u8]) -> Option<Work> {
+    let way = meaning(ASKED, way);
+    match (way, read_u32(readers), read_u32(inodes), read_u32(times)) {
+        (Some(way), Some(readers), Some(inodes), Some(times)) => {
+            let asking = Asking {
+                readers,
+                inodes,
+                times,
                 way,
-            })))
+            };
+            Some(Work::Script(ScriptWork::Serve(ServerWork::Explain(asking))))
         }
         _ => None,
     }

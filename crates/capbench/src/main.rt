@@ -4,24 +4,22 @@
 #![tactic(auto)]
 
 mod play;
-mod serving;
 mod work;
 
 use crate::play::play_files;
 use crate::work::dispatch;
-use bench_kit::Fault;
-use bench_kit::telling::report;
+use bench_kit::{Fault, report};
 use cli_queries::words;
 use std::process::ExitCode;
 
 fn main(rt: HostRuntime) -> ExitCode {
     let (mut reader, mut writer, mut faults) = (rt.stdin(), rt.stdout(), rt.stderr());
     let Ok(words) = words(&rt, rt.alloc()) else {
-        return ExitCode::from(bench_kit::commands::report(Fault::NoMemory, &mut faults));
+        return ExitCode::from(report(Fault::NoMemory, &mut faults));
     };
     let status = match words.as_slice() {
         [first, names @ ..] if first.as_slice() == b"play".as_slice() => {
-            report(play_files(&rt, names, &mut writer), &mut faults)
+            play_files(&rt, names, &mut writer, &mut faults)
         }
         words => dispatch(&rt, words, &mut reader, &mut writer, &mut faults),
     };

@@ -1,9 +1,7 @@
 //! Talks, played to the commands of `capd` and to those of this program.
 
 use crate::work;
-use bench_kit::{
-    BookFault, Outcome, Output, Page, Place, Program, Run, Stop, Talk, read_talks, topic,
-};
+use bench_kit::{Fault, Outcome, Output, Page, Place, Program, Run, read_talks, report};
 use script_syntax::Watched;
 use std::fs;
 use std::fs::Files;
@@ -11,79 +9,56 @@ use std::io::Write;
 use std::sync::Wait;
 use std::thread::Threads;
 
-/// Plays the files of these names, and counts the talks that differ. A line is written for each talk, and for one that differs what was
-/// wanted and what came.
+/// Plays the files of these names, up to the first that has a fault, and returns the status: 0 where all talks agree, else 1. A line is written
+/// for each talk, and for one that differs what was wanted and what came.
 pub fn play_files(
     rt: &(impl AllocGlobal + Files + Threads + Wait + Sync),
     names: &[Vec<u8>],
     writer: &mut impl Write,
-) -> Result<usize, Stop> {
+    faults: &mut impl Write,
+) -> u8 {
     if names.is_empty() {
-        return Err(Stop::NoFile);
+        return report(Fault::NoFile, faults);
     }
-    let mut differing = 0usize;
-    for name in names {
-        let name = String::from_utf8_lossy(rt.alloc(), name.as_slice())?;
-        differing = differing.saturating_add(play_file(rt, name, writer)?);
-    }
-    Ok(differing)
-}
-
-// Plays the talks of a file, and counts those that differ.
-fn play_file(
-    rt: &(impl AllocGlobal + Files + Threads + Wait + Sync),
-    name: String,
-    writer: &mut impl Write,
-) -> Result<usize, Stop> {
-    let played = match fs::read(rt, name.as_str()) {
-        Ok(text) => play_text(rt, topic(name.as_str()), text.as_slice(), writer),
-        Err(_) => Err(BookFault::Unread.at(0)),
-    };
-    match played {
-        Ok(differing) => Ok(differing),
-        Err(place) => Err(Stop::InFile { name, place }),
-    }
-}
-
-// Plays each talk of a file, and counts those that differ.
-fn play_text(
-    rt: &(impl AllocGlobal + Files + Threads + Wait + Sync),
-    topic: &str,
-    text: &[u8],
-    writer: &mut impl Write,
-) -> Result<usize, Place> {
-    let talks = read_talks(rt.alloc(), text)?;
     let mut page = Page::new(writer);
-    let mut differing = 0usize;
-    for talk in talks.as_slice() {
-        if !agrees(rt, topic, talk, &mut page) {
-            differing = differing.saturating_add(1);
-        }
-        if page.failed() {
-            return Err(BookFault::WriteFailed.at(talk.line));
+    for name in names {
+        let Ok(name) = String::from_utf8_lossy(rt.alloc(), name.as_slice()) else {
+            return report(Fault::NoMemory, faults);
+        };
+        if let Err(place) = play_file(rt, name.as_str(), &mut page) {
+            return place.report(name.as_str(), faults);
         }
     }
-    Ok(differing)
+    page.report(faults)
 }
 
-// Whether each run of a talk has the outcome that is wanted. Its line is written, with what differs.
-fn agrees<W: Write>(
+// Plays the talks of a file.
+fn play_file<W: Write>(
     rt: &(impl AllocGlobal + Files + Threads + Wait + Sync),
-    topic: &str,
-    talk: &Talk<'_>,
+    name: &str,
     page: &mut Page<'_, W>,
-) -> bool {
-    page.begin(topic, talk);
-    let mut agrees = true;
-    for run in talk.runs.as_slice() {
-        let came = outcome(rt, run);
-        if came != run.wanted {
-            page.write_difference(agrees, &run.wanted, &came);
-            agrees = false;
-        }
+) -> Result<(), Place> {
+    let Ok(text) = fs::read(rt, name) else {
+        return Err(Fault::Unread.at(0));
+    };
+    let talks = read_talks(rt.alloc(), text.as_slice())?;
+    for talk in talks.as_slice() {
+        page.begin(name, talk);
+        play_runs(rt, talk.runs.as_slice(), page);
+        page.end(talk)?;
     }
-    page.end(agrees);
-    agrees
+    Ok(())
+}
+
+fn play_runs<W: Write>(
+    rt: &(impl AllocGlobal + Files + Threads + Wait + Sync),
+    runs: &[Run],
+    page: &mut Page<'_, W>,
+) {
+    for run in runs {
+        let came = outcome(rt, run);
+        page.compare(&run.wanted, &came);
+    }
 }
 
 // What comes when a run of a talk is done.

@@ -1,12 +1,14 @@
 //! The work that is counted and timed.
 
-use crate::serving::serve_script;
-use bench_kit::{Amount, DayFault, digest_of, tell};
+use bench_kit::{Amount, Fault, history_digest, served_script, tell};
+use cli::serve;
+use script_syntax::Watched;
+use std::alloc::Global;
 use std::io::{Read, Write};
 use std::sync::Wait;
 use std::thread::Threads;
 
-/// Does a day's work where the words are three, and else a piece of the policy's work, and returns the status.
+/// Does what the words ask for, and returns the status. Of all jobs only `serve` is done here: it takes a server.
 pub fn dispatch(
     rt: &(impl AllocGlobal + Threads + Wait + Sync),
     words: &[Vec<u8>],
@@ -15,23 +17,39 @@ pub fn dispatch(
     faults: &mut impl Write,
 ) -> u8 {
     match words {
-        [work, count, seed] => {
-            let task = [work.as_slice(), count.as_slice(), seed.as_slice()];
-            tell(days_work(rt, task), writer, faults)
+        [job, count, seed] if job.as_slice() == b"serve".as_slice() => {
+            let digest = serve_script(rt, rt.alloc(), count.as_slice(), seed.as_slice());
+            tell(digest, writer, faults)
         }
         _ => bench_kit::dispatch(rt, rt.alloc(), words, reader, writer, faults),
     }
 }
 
-// The digest of a day's work.
-fn days_work(
-    rt: &(impl AllocGlobal + Threads + Wait + Sync),
-    task: [&[u8]; 3],
-) -> Result<u64, DayFault> {
-    let [work, count, seed] = task;
-    let amount = Amount::read(count, seed)?;
-    match work {
-        b"serve" => serve_script(rt, rt.alloc(), amount),
-        _ => digest_of(rt.alloc(), work, amount),
-    }
+// Serves a script whose clients call from threads of their own, and returns the digest of its history.
+fn serve_script(
+    rt: &(impl Threads + Wait + Sync),
+    alloc: Global,
+    count: &[u8],
+    seed: &[u8],
+) -> Result<u64, Fault> {
+    let script = served_script(alloc, Amount::read(count, seed)?)?;
+    let history = served(rt, alloc, script.as_slice())?;
+    Ok(history_digest(history.as_slice()))
+}
+
+// What is written of a script that is served. What is promised of it stays behind here.
+fn served(
+    rt: &(impl Threads + Wait + Sync),
+    alloc: Global,
+    script: &[u8],
+) -> Result<Vec<u8>, Fault> {
+    let mut written = Vec::new(alloc);
+    let mut reader = script;
+    serve(
+        rt,
+        alloc,
+        &mut Watched::new(&mut reader),
+        &mut Watched::new(&mut written),
+    )?;
+    Ok(written)
 }
