@@ -4,3 +4,4 @@ pub mod Verdicts
 pub mod GrantTexts
 pub mod Entries
 pub mod Scenes
+pub mod Tables

@@ -6,6 +6,7 @@ mod entries;
 mod grant_texts;
 mod lock_table;
 mod steps;
+mod tables;
 mod verdicts;
 
 pub use cap_texts::{bits_of_sets, longest_beginnings, texts_of_sets};
@@ -13,4 +14,8 @@ pub use entries::{acknowledged, beside_another, renumberings, without_grants};
 pub use grant_texts::{first_faults, read_and_written};
 pub use lock_table::{gathers, lock_cells, lock_targets, wanted_targets};
 pub use steps::{grants_taken_away, opened_beside_another, served_after_a_move};
+pub use tables::{
+    acknowledgements, as_many_as_there_may_be, due_entries, kept_beside_entries, orders_apart,
+    recalls_the_oldest, shared_file,
+};
 pub use verdicts::{mode_bits, paths_by_names, root_is_squashed, rules_in_order};
