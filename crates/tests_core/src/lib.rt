@@ -15,6 +15,8 @@ mod auditing;
 #[cfg(test)]
 mod caps;
 #[cfg(test)]
+mod ceph_rules;
+#[cfg(test)]
 mod entries;
 #[cfg(test)]
 mod errors;
@@ -39,13 +41,9 @@ mod moved_entries;
 #[cfg(test)]
 mod numbered_maps;
 #[cfg(test)]
-mod osd_grants;
-#[cfg(test)]
 mod permitted;
 #[cfg(test)]
 mod recalls;
-#[cfg(test)]
-mod releases;
 #[cfg(test)]
 mod replies;
 #[cfg(test)]

@@ -5,3 +5,5 @@ pub mod GrantTexts
 pub mod Entries
 pub mod Scenes
 pub mod Tables
+pub mod Releases
+pub mod OsdCaps

@@ -5,6 +5,8 @@ mod cap_texts;
 mod entries;
 mod grant_texts;
 mod lock_table;
+mod osd_objects;
+mod releases;
 mod steps;
 mod tables;
 mod verdicts;
@@ -13,6 +15,11 @@ pub use cap_texts::{bits_of_sets, longest_beginnings, texts_of_sets};
 pub use entries::{acknowledged, beside_another, renumberings, without_grants};
 pub use grant_texts::{first_faults, read_and_written};
 pub use lock_table::{gathers, lock_cells, lock_targets, wanted_targets};
+pub use osd_objects::{caps_by_name, caps_by_place, caps_by_rights, caps_by_tag, faults_of_caps};
+pub use releases::{
+    clients_by_release, file_systems_by_release, masks_by_release, networks_by_release,
+    paths_by_release, texts_by_release, users_by_release,
+};
 pub use steps::{grants_taken_away, opened_beside_another, served_after_a_move};
 pub use tables::{
     acknowledgements, as_many_as_there_may_be, due_entries, kept_beside_entries, orders_apart,
