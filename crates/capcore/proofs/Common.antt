@@ -36,6 +36,8 @@ pub use Rattle.captable.specs.declared.entry.ClientView.{ClientView}
 pub use Rattle.locktable.specs.declared.states.LockState.{LockState}
 pub use Rattle.locktable.specs.declared.states.LockState.TheVariants.{Gather, Stable}
 pub use Rattle.sessiontab.specs.Calls.{has_session}
+pub use Rattle.sessiontab.specs.Changes.{changed_sessions, is_end, new_grants}
+pub use Rattle.sessiontab.specs.declared.change.SessionChange.{SessionChange}
 pub use Rattle.sessiontab.specs.Table.{SessionTable}
 pub use Rattle.sessiontab.specs.Tests.{new_session_tests, session_tests}
 pub use Rattle.sessiontab.specs.declared.session.Session.{Session}
@@ -61,7 +63,7 @@ pub use Rattle.capstep.specs.EntryRequest.{entry_answer, entry_event}
 pub use Rattle.capstep.specs.Judged.{IsJudged}
 pub use Rattle.capstep.specs.Leaving.{LeavesEntries, with_parts}
 pub use Rattle.capstep.specs.Serves.{EndsWith, SettlesWith}
-pub use Rattle.capstep.specs.SessionChange.{changed_sessions, session_changed, session_event}
+pub use Rattle.capstep.specs.SessionChange.{session_changed}
 pub use Rattle.capstep.specs.declared.output.StepOutput.{StepOutput}
 pub use Rattle.capstep.specs.declared.entry_request.EntryRequest.{EntryRequest}
 pub use Rattle.capstep.specs.declared.entry_request.EntryRequest.TheVariants.{Ack, Release}
@@ -69,10 +71,10 @@ pub use Rattle.capstep.specs.declared.step_reply.StepReply.{StepReply}
 pub use Rattle.capstep.specs.declared.settle.Affected.{Affected}
 pub use Rattle.capstep.proofs.Again.{rejection-before}
 pub use Rattle.capstep.specs.Known.{AreKnown, ClientViews, StillKnown, known_in, known_of}
-pub use Rattle.capstep.specs.Left.{dropped_by, is_end, locks_left, messages_left, table_left}
+pub use Rattle.capstep.specs.Left.{dropped_by, locks_left, messages_left, table_left}
 pub use Rattle.capstep.specs.Operations.{operation_of}
-pub use Rattle.capstep.specs.declared.leaving.SessionChange.{SessionChange}
 pub use Rattle.step_model.specs.Replies.{has_list, outcome_reply}
+pub use Rattle.step_model.specs.Clients.{session_event}
 pub use Rattle.step_model.specs.declared.event.Event.{Event}
 pub use Rattle.step_model.specs.declared.outcome.Ended.{Ended}
 pub use Rattle.step_model.specs.declared.outcome.Message.{Message}

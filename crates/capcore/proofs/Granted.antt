@@ -1,17 +1,17 @@
 -- What each client is permitted, where the session of one has ended or changed.
-use Rattle.std.proofs.Common.{◌≡◌, ◌==◌, ◌⊎◌, inl, inr, ℕ, Bool, true, false, cond, Option, Some, None, List, refl, sym, ap, subst, ◌∙◌, nat_eq}
+use Rattle.std.proofs.Common.{◌≡◌, ◌==◌, ℕ, Bool, true, false, cond, Option, Some, None, List, refl, sym, ap, subst, ◌∙◌, arith, nat_eq}
 use Rattle.std.proofs.lemmas.Bool.{eqb-true, false_from_ne_true}
 use Rattle.std.specs.Option.{option_map}
 use Rattle.std.specs.FinMap as map
 use Rattle.inotree.specs.Tree.{path_of}
 use Rattle.captable.proofs.ByHolder.{entry_at-without_client}
 use Rattle.captable.specs.Known.{sets_of}
+use Rattle.sessiontab.specs.Calls.{with_status}
 use Rattle.sessiontab.specs.declared.session.Status.{Status}
 use Rattle.lockmachine.proofs.PolicyElsewhere.{permitted-kept}
-use Rattle.capstep.specs.declared.leaving.SessionChange.TheVariants.{Close, Evict, Mark}
 use Rattle.lockmachine.specs.Policy.{permitted_to, subject_of}
-use Rattle.capcore.proofs.Common.{ArePermittedIn, ClientId, ClientView, ClientViews, Entry, Holder, Node, Scene, Session, SessionChange, State, Table}
-use Rattle.capcore.proofs.Common.{alike-itself, apart_client, change-at, changed_sessions, entry_at, entry_at-without_client_other, is_end, permitted}
+use Rattle.capcore.proofs.Common.{ArePermittedIn, ClientId, ClientView, ClientViews, Entry, Holder, Node, Scene, Session, SessionChange, SessionTable, State, Table}
+use Rattle.capcore.proofs.Common.{alike-itself, apart_client, change-at, changed_sessions, entry_at, entry_at-without_client_other, is_end, new_grants, permitted}
 use Rattle.capcore.proofs.Common.{permitted_of, session_changed, table_left, without_client}
 use Rattle.capcore.proofs.SessionChanged.{apart, session_changed-other}
 
@@ -47,11 +47,22 @@ marked status true (Some session) None inode = refl
 marked status true (Some session) (Some path) None = refl
 marked status true (Some session) (Some path) (Some node) = refl
 
+marked-subject : (t : SessionTable) (client other : ℕ) (status : Status) (path : Option (List (List ℕ))) (node : Option Node)
+    → subject_of (map.get (with_status t client status).sessions other) path node ≡ subject_of (map.get t.sessions other) path node
+marked-subject t client other status path node =
+    ap (λ (o : Option Session). subject_of o path node) (change-at t.sessions client other (λ (session : Session). record session { status = status }))
+    ∙ marked status (nat_eq client other) (map.get t.sessions other) path node
+
+-- so a session that goes on is the same to it, unless it has other grants
+same-subject : (t : SessionTable) (client other : ℕ) (change : SessionChange) (path : Option (List (List ℕ))) (node : Option Node) → is_end change ≡ false → new_grants change ≡ None
+    → subject_of (map.get (changed_sessions t client change).sessions other) path node ≡ subject_of (map.get t.sessions other) path node
+same-subject t client other change path inode still none = grind (arith, marked-subject)
+
 module _ (sets : ClientViews) (old : State) (client : ClientId) (change : SessionChange) (now : Scene) (is : now ≡ (session_changed old client change).scene)
     (was : ArePermittedIn sets (record old.scene { table = now.table })) where
   -- what is kept of an entry is so still, where the same is permitted
   same-permitted : (k : Holder) (e : Entry) → entry_at now.table k ≡ Some e
-      → permitted old.scene.fs old.scene.tree (changed_sessions old.scene.sessions client change) k ≡ permitted old.scene.fs old.scene.tree old.scene.sessions k
+      → permitted old.scene.fs old.scene.tree (changed_sessions old.scene.sessions client.0 change) k ≡ permitted old.scene.fs old.scene.tree old.scene.sessions k
       → permitted_of sets k ≡ Some (permitted now.fs now.tree now.sessions k)
   same-permitted k e there same = was k e there ∙ ap Some (sym same) ∙ ap (λ (s : Scene). Some (permitted s.fs s.tree s.sessions k)) (sym is)
 
@@ -59,25 +70,18 @@ module _ (sets : ClientViews) (old : State) (client : ClientId) (change : Sessio
   pub other-permitted : (k : Holder) (e : Entry) → entry_at now.table k ≡ Some e → (k.client.0 == client.0) ≡ false → permitted_of sets k ≡ Some (permitted now.fs now.tree now.sessions k)
   other-permitted k e there off =
       same-permitted k e there
-      (permitted-kept old.scene.fs old.scene.tree old.scene.tree old.scene.sessions (changed_sessions old.scene.sessions client change) k (alike-itself old.scene.tree k.ino.0)
+      (permitted-kept old.scene.fs old.scene.tree old.scene.tree old.scene.sessions (changed_sessions old.scene.sessions client.0 change) k (alike-itself old.scene.tree k.ino.0)
       (session_changed-other old.scene.sessions client change k.client.0 (apart k.client.0 client.0 off)))
 
-  pub ended-permitted : (change ≡ Close) ⊎ (change ≡ Evict) → ArePermittedIn sets now
-  ended-permitted ends k e there =
-      other-permitted k e there
-      (left-other old.scene.table client k e
-      (subst (λ b. entry_at (table_left b old.scene.table client) k ≡ Some e) (is-end ends) (ap (λ (s : Scene). entry_at s.table k) (sym is) ∙ there)))
+  -- as it is to each whose entry is left, where the client has no other grants
+  pub kept-permitted : new_grants change ≡ None → ArePermittedIn sets now
+  kept-permitted none k e there = by_end (is_end change) refl
     where
-      is-end : (change ≡ Close) ⊎ (change ≡ Evict) → is_end change ≡ true
-      is-end (inl closed) = ap is_end closed
-      is-end (inr evicted) = ap is_end evicted
-
-  pub marked-permitted : (status : Status) → change ≡ Mark status → ArePermittedIn sets now
-  marked-permitted status mark k e there =
-      let sessions = old.scene.sessions.sessions in
-      let path = path_of old.scene.tree.nodes k.ino.0 in
-      let node = map.get old.scene.tree.nodes k.ino.0 in
-      same-permitted k e there
-      (ap (λ (c : SessionChange). permitted old.scene.fs old.scene.tree (changed_sessions old.scene.sessions client c) k) mark
-      ∙ ap (λ (o : Option Session). permitted_to old.scene.fs (subject_of o path node)) (change-at sessions client.0 k.client.0 (λ (session : Session). record session { status = status }))
-      ∙ ap (permitted_to old.scene.fs) (marked status (nat_eq client.0 k.client.0) (map.get sessions k.client.0) path node))
+      by_end : (b : Bool) → is_end change ≡ b → permitted_of sets k ≡ Some (permitted now.fs now.tree now.sessions k)
+      by_end true ends =
+          other-permitted k e there
+          (left-other old.scene.table client k e (subst (λ b. entry_at (table_left b old.scene.table client) k ≡ Some e) ends (ap (λ (s : Scene). entry_at s.table k) (sym is) ∙ there)))
+      by_end false still =
+          let path = path_of old.scene.tree.nodes k.ino.0 in
+          let node = map.get old.scene.tree.nodes k.ino.0 in
+          same-permitted k e there (ap (permitted_to old.scene.fs) (same-subject old.scene.sessions client.0 k.client.0 change path node still none))

@@ -45,11 +45,11 @@ module _ (sessions : SessionMap) (client other : ℕ) where
   changed-has : (f : Session → Session) → map.contains_key (change_session f sessions client) other ≡ map.contains_key sessions other
   changed-has f = grind (arith, change-at)
 
-pub session_changed-other : (t : SessionTable) (client : ClientId) (change : SessionChange) (other : ℕ) → other ≢ client.0 → map.get (changed_sessions t client change).sessions other ≡ map.get t.sessions other
+pub session_changed-other : (t : SessionTable) (client : ClientId) (change : SessionChange) (other : ℕ) → other ≢ client.0 → map.get (changed_sessions t client.0 change).sessions other ≡ map.get t.sessions other
 session_changed-other t client change other off = grind (arith, changed-other, removed-other)
 
 -- where the session does not end, it is there
-session_changed-has : (t : SessionTable) (client : ClientId) (change : SessionChange) (other : ℕ) → is_end change ≡ false → has_session (changed_sessions t client change) other ≡ has_session t other
+session_changed-has : (t : SessionTable) (client : ClientId) (change : SessionChange) (other : ℕ) → is_end change ≡ false → has_session (changed_sessions t client.0 change) other ≡ has_session t other
 session_changed-has t client change other still = grind (arith, changed-has)
 
 -- whose session ends is left nowhere
@@ -72,7 +72,7 @@ module _ {T : Type 0} (mine : T → Bool) (Q R : T → Type 0) (xs : List T) (al
 
 module _ (old : State) (client : ClientId) (change : SessionChange) (sound : IsSound old) (table : IsTable old.scene.table) where
   abbrev sessions : SessionTable
-  sessions = changed_sessions old.scene.sessions client change
+  sessions = changed_sessions old.scene.sessions client.0 change
 
   -- the session of another client, or any where none ends
   has_by : (b : Bool) → is_end change ≡ b → (other : ℕ) → (b ≡ true → (other == client.0) ≡ false) → has_session sessions other ≡ has_session old.scene.sessions other

@@ -8,6 +8,7 @@ use Rattle.capstep.specs.Begun.{AreCountedIn, ArePermittedIn, IsReady, among}
 use Rattle.capstep.specs.Known.{AreKnown, ClientViews, StillKnown, known_in}
 use Rattle.capstep.specs.declared.operations.OperationRef.{OperationRef}
 use Rattle.capstep.specs.declared.operations.OperationRef.TheVariants.{Alter, Get, Rename, Rmdir, Unlink}
+use Rattle.step_model.specs.Clients.{session_event}
 use Rattle.step_model.specs.declared.event.Event.{Event}
 use Rattle.step_model.specs.declared.outcome.Ended.{Ended}
 use Rattle.step_model.specs.declared.reply.Reply.{Reply}
@@ -21,7 +22,6 @@ use Rattle.policy_view.specs.Changes.{AreChanges}
 use Rattle.capstep.specs.EntryRequest.{entry_answer, entry_event}
 use Rattle.lockmachine.specs.Locks.{IsLockMap}
 use Rattle.lockmachine.specs.Scene.{Scene, plain}
-use Rattle.capstep.specs.SessionChange.{session_event}
 use Rattle.capstep.specs.declared.output.StepOutput.{StepOutput}
 use Rattle.step_model.specs.Direct as rules
 use Rattle.capcore.specs.declared.parts.ReplyDue.{ReplyDue}

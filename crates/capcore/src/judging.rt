@@ -14,7 +14,6 @@ ghost use Rattle.capcore.specs.UnderWay.{event_of};
 use crate::parts::LockEvent;
 use capbits::{Cap, CapSet, Part, Refusal};
 use capgrant::Access;
-use capstep::client::session_change_refusal;
 use capstep::entry_request::{EntryRequest, revoked_of};
 use capstep::judge::{change_access, change_refusal, denial, operation_rejection};
 use captable::Holder;
@@ -47,7 +46,7 @@ pub(crate) fn rejection(scene: &KeptScene, lock_event: &LockEvent) -> Option<Rej
         }
         LockEvent::Flush(holder, change) => flush_rejection(scene, *holder, *change),
         LockEvent::OfSession(client, change) => {
-            let refusal = session_change_refusal(&scene.sessions, *client, *change)?;
+            let refusal = scene.sessions.change_refusal(*client, *change)?;
             Some(Rejection::ByTest(refusal))
         }
     }

@@ -10,15 +10,16 @@ ghost use Rattle.step_model.specs.DueEndings.{HaveOwnNumbers, but_for, is_of_tic
 ghost use Rattle.step_model.specs.Direct.{awaited_as, reply_of, shown};
 ghost use Rattle.step_model.specs.State.{State};
 ghost use Rattle.lockmachine.specs.Scene.{plain};
-ghost use Rattle.capstep.specs.SessionChange.{session_changed, session_event};
+ghost use Rattle.capstep.specs.SessionChange.{session_changed};
+ghost use Rattle.step_model.specs.Clients.{session_event};
 ghost use Rattle.step_model.specs.declared.event.Event.TheVariants as event;
 ghost use Rattle.capcore.specs.UnderWay.{HasBegun, HasPlaces, IsWhole, MayBegin, answer_of, dropped_of, earlier_of, event_of, operation_event, state_of};
 
 use crate::parts::{Applied, CoreState, LockEvent, ReplyDue};
 use capbits::{ClientId, Ticket};
-use capstep::client::{Room, apply_session_change};
+use capstep::client::Room;
 use capstep::entry_request::{apply_request, show_reply};
-use capstep::leaving::{SessionChange, drop_client_state};
+use capstep::leaving::drop_client_state;
 use capstep::output::StepOutput;
 use capstep::renewing::{renew_changed, renew_client};
 use capstep::serving::alter;
@@ -28,6 +29,7 @@ use capstep::{OperationRef, copy_of_operation};
 use captable::Holder;
 use inotree::NonEmptyInoSet;
 use lockmachine::{Change, KeptScene, Policy};
+use sessiontab::SessionChange;
 use std::alloc::AllocError;
 use std::mem::swap;
 use step_model::{Ended, EndedList, Reply, copy_of_reply};
@@ -151,7 +153,7 @@ impl CoreState {
             mut dropped,
             note,
         } = Room::new(alloc, table, locks, client, change, output)?;
-        apply_session_change(&mut self.scene.sessions, client, change)?;
+        self.scene.sessions.change_tested(client, change)?;
         output.changes.start(note);
         let (scene, messages) = (&mut self.scene, &mut self.messages);
         drop_client_state(scene, messages, client, change, &mut dropped);
@@ -246,18 +248,13 @@ fn renew_granted(scene: &mut KeptScene, client: ClientId, change: SessionChange)
     ensures rest { scene.new ≡ record scene.old { table = record scene.old.table { kept = scene.new.table.kept } } }
     ensures told { (k : Holder) → known_of scene.new.table.kept k ≡ known_of scene.old.table.kept k }
 {
-    match change {
-        SessionChange::Regrant(_) => {
-            let policy = Policy {
-                fs: &scene.fs,
-                tree: &scene.tree,
-                sessions: &scene.sessions,
-            };
-            renew_client(&policy, &mut scene.table, client);
-        }
-        // Policy reads no status.
-        SessionChange::Mark(_) => {}
-        // No entry of the client is left.
-        SessionChange::Close | SessionChange::Evict => {}
+    // Policy reads no status; and where the session ended, no entry of the client is left.
+    if let Some(_grants) = change.new_grants() {
+        let policy = Policy {
+            fs: &scene.fs,
+            tree: &scene.tree,
+            sessions: &scene.sessions,
+        };
+        renew_client(&policy, &mut scene.table, client);
     }
 }

@@ -3,10 +3,10 @@
 use capbits::{ClientId, Ticket};
 use capstep::OperationRef;
 use capstep::entry_request::EntryRequest;
-use capstep::leaving::SessionChange;
 use capstep::settle::Affected;
 use captable::Holder;
 use lockmachine::{Change, KeptScene};
+use sessiontab::SessionChange;
 use step_model::Ended;
 
 // Tree, sessions, entries and locks, with what is kept beside entries and locks, and what clients are still to be told.

@@ -31,7 +31,6 @@ use capspec::{FsName, Grants};
 use capstep::OperationRef;
 use capstep::entry_request::EntryRequest;
 use capstep::judge::denial;
-use capstep::leaving::SessionChange;
 use capstep::output::StepOutput;
 use capstep::poll::{due_messages, give};
 use capstep::settle::end;
@@ -149,25 +148,12 @@ impl World {
                 ino,
                 ref change,
             } => LockEvent::Flush(Holder { client, ino }, change),
-            &Event::CloseSession { client } => {
-                LockEvent::OfSession(client, SessionChange::Close)
-            }
-            &Event::Mark { client, status } => {
-                LockEvent::OfSession(client, SessionChange::Mark(status))
-            }
-            &Event::Regrant { client, ref grants } => {
-                LockEvent::OfSession(client, SessionChange::Regrant(grants))
-            }
-            &Event::Evict { client } => LockEvent::OfSession(client, SessionChange::Evict),
             &Event::Poll { client, max } => return self.poll(client, max, output),
             &Event::Recall { count } => return self.recall(count, output),
-            Event::Session { .. }
-            | Event::Unblock { .. }
-            | Event::Lookup { .. }
-            | Event::Create { .. }
-            | Event::Mkdir { .. }
-            | Event::MakeSnapshot { .. }
-            | Event::RemoveSnapshot { .. } => return self.act_alone(event, output),
+            _ => match event.session_change() {
+                Some((client, change)) => LockEvent::OfSession(client, change),
+                None => return self.act_alone(event, output),
+            },
         };
         self.move_locks(&lock_event, output)
     }
@@ -299,22 +285,7 @@ impl World {
                 changes.clear();
                 Ok(self.remove_snapshot(*client, *ino, name.as_slice()))
             }
-            Event::CloseSession { .. }
-            | Event::Mark { .. }
-            | Event::Regrant { .. }
-            | Event::Evict { .. }
-            | Event::Recall { .. }
-            | Event::Open { .. }
-            | Event::Want { .. }
-            | Event::Ack { .. }
-            | Event::Release { .. }
-            | Event::Get { .. }
-            | Event::Alter { .. }
-            | Event::Unlink { .. }
-            | Event::Rmdir { .. }
-            | Event::Rename { .. }
-            | Event::Flush { .. }
-            | Event::Poll { .. } => unreachable!(),
+            _ => unreachable!(),
         }
     }
 

@@ -5,7 +5,7 @@ ghost use Rattle.capexplain.specs.Audit.{audit_text, ended_text};
 
 use crate::event_text::print_event;
 use crate::message_text::{print_outcome, print_ticket};
-use crate::reply::print_reply;
+use crate::reply_text::print_reply;
 use capbits::{print_number, print_numbered, print_str};
 use std::alloc::{AllocError, Global};
 use step_model::{Ended, Row};

@@ -5,7 +5,7 @@ ghost use Rattle.capbits.specs.Text.{text_of};
 ghost use Rattle.capexplain.specs.Replies.{message_line, message_text, outcome_text};
 
 use crate::part_text::print_values;
-use crate::reply::print_denial;
+use crate::reply_text::print_denial;
 use capbits::{CapSet, Ino, Ticket, print, print_caps, print_numbered, print_str};
 use std::alloc::AllocError;
 use step_model::{Message, Outcome};

@@ -4,7 +4,7 @@ ghost use Rattle.std.specs.List.{flat_map, list_all};
 ghost use Rattle.capexplain.specs.Explaining.{path_text};
 ghost use Rattle.capexplain.specs.Quoting.{escaped, is_control, is_mark, is_plain, quoted};
 
-use crate::explaining::print_path;
+use crate::explain_text::print_path;
 use crate::part_text::print_byte;
 use std::alloc::AllocError;
 

@@ -9,7 +9,7 @@ ghost use Rattle.capexplain.specs.Answers.{rule_value, rules_value};
 ghost use Rattle.capexplain.specs.Pieces.{piece_value, pieces_value};
 ghost use Rattle.capexplain.specs.Values.{IsPlain, ReadsBack, bytes_value, json_line, numbers_value, object_of, with_all};
 
-use crate::explaining::print_path;
+use crate::explain_text::print_path;
 use capbits::{CapSet, print_caps};
 use capgrant::{Access, Rule};
 use serde_json::{Map, Value, put};

@@ -1,6 +1,6 @@
 -- What a line says is about a client, unless the line begins with `recall`.
 use Rattle.std.proofs.Common.{◌≡◌, ◌≢◌, ◌^◌, ℕ, Bool, true, false, cond, Option, Some, None, IsSome, List, [], ◌∷◌, length, refl, sym, ap, subst, ◌∙◌}
-use Rattle.std.proofs.Common.{true≢false}
+use Rattle.std.proofs.Common.{true≢false, arith}
 use Rattle.std.specs.Prelude.{Err, Ok, Result, bytes_eq, codes, if◌then◌else◌, nat_le}
 use Rattle.std.specs.List.{find}
 use Rattle.std.specs.Option.{ok_or}
@@ -15,14 +15,16 @@ use Rattle.lockmachine.specs.declared.request.Change.{Change}
 use Rattle.lockmachine.specs.declared.request.Change.TheVariants.{RemoveXattr, Set, SetXattr}
 use Rattle.step_model.specs.declared.change_word.ChangeWord.{ChangeWord}
 use Rattle.step_model.specs.declared.change_word.ChangeWord.TheVariants as kinds
-use Rattle.step_model.specs.Words.{command_by, command_word}
+use Rattle.step_model.specs.Clients.{client_of}
+use Rattle.step_model.specs.Words.{client_event, command_by, command_word}
 use Rattle.step_model.specs.Words.{commands as all_commands}
+use Rattle.step_model.specs.declared.command.ClientCommand.{ClientCommand}
 use Rattle.step_model.specs.declared.command.Command.{Command}
 use Rattle.step_model.specs.declared.command.Command.TheVariants as commands
 use Rattle.script_syntax.specs.declared.fault.LineFault.{LineFault}
 use Rattle.script_syntax.specs.declared.fault.LineFault.TheVariants as faults
 use Rattle.script_syntax.specs.Changes.{change_kind, is_counted}
-use Rattle.script_syntax.specs.Events.{Line, ◌>>=◌, client_of, named_by, new_inode_by, granting, session_by, regrant_by, client_by, open_by, caps_by, ack_by}
+use Rattle.script_syntax.specs.Events.{Line, ◌>>=◌, named_by, new_inode_by, granting, session_by, regrant_by, client_by, open_by, caps_by, ack_by}
 use Rattle.script_syntax.specs.Events.{get_by, inode_by, rename_by, says_kind, says_change, says_inode_change, change_by, poll_by, said_with, said_by, said_in}
 use Rattle.script_syntax.specs.Events.{line_says, Tells, Reads}
 use Rattle.script_syntax.specs.Events.Line.{Faulty, Grants, Names, Nothing, Says}
@@ -142,14 +144,15 @@ changed event of (a ∷ b ∷ more) = elim (is_counted more) as (λ counted. IsO
   | false ↦ tt
 ]
 
+-- what is said of a client is about it
+said_of : (said : ClientCommand) (client : ClientId) → IsSome (client_of (client_event said client))
+said_of said client = grind arith
+
 of_command : (command : Command) (arguments : Words) → command ≢ commands.Recall → IsOfClient (said_with command arguments)
 unfolding said_with
 of_command commands.Session arguments other = session arguments
-of_command commands.CloseSession arguments other = client events.CloseSession (λ client. refl) arguments
-of_command (commands.Mark status) arguments other = client (λ client. events.Mark client status) (λ client. refl) arguments
+of_command (commands.OfClient said) arguments other = client (client_event said) (said_of said) arguments
 of_command commands.Regrant arguments other = regranted arguments
-of_command commands.Evict arguments other = client events.Evict (λ client. refl) arguments
-of_command commands.Unblock arguments other = client events.Unblock (λ client. refl) arguments
 of_command commands.Recall arguments other = absurd (other refl)
 of_command commands.Lookup arguments other = named events.Lookup (λ client ino name. refl) arguments
 of_command commands.Create arguments other = new_inode events.Create (λ client dir name mode. refl) arguments

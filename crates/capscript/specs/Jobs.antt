@@ -7,7 +7,8 @@ use Rattle.step_model.specs.declared.event.Event.{Event}
 use Rattle.script_syntax.specs.declared.fault.LineFault.{LineFault}
 use Rattle.script_syntax.specs.declared.fault.LineFault.TheVariants as kinds
 use Rattle.script_syntax.specs.declared.fault.ScriptFault.TheVariants as stops
-use Rattle.script_syntax.specs.Events.{Reads, client_of}
+use Rattle.step_model.specs.Clients.{client_of}
+use Rattle.script_syntax.specs.Events.{Reads}
 use Rattle.script_syntax.specs.Faults.{HasFault}
 use Rattle.script_syntax.specs.Lines.{is_skipped}
 use Rattle.script_syntax.specs.Words.{words}

@@ -131,6 +131,28 @@ reads_grant text before first behind gap second word items rest flags draft cut 
       gives = λ count few. grant_right text before first behind gap second word items rest flags draft count cut allow ends cut_gap cut_word are_flags read few;
     }
 
+-- ---- what a refusal leaves is within the text
+
+within : (text front rest : List ℕ) (n : ℕ) → text ≡ front ++ rest → n ≤ length rest → n ≤ length text
+within text front rest n parts few = omega (arith, ap length parts, length-append front rest)
+
+pub first_within : (text before first : List ℕ) (kind : SpecFaultKind) (refusal : Refusal) → SplitsWhile White text before first → refusal ≡ fault_at first kind → refusal.left ≤ length text
+first_within text before first kind refusal cut is = within text before first refusal.left cut.parts (omega (arith, ap (λ (r : Refusal). r.left) is))
+
+second_in : (text before first behind gap second : List ℕ) (n : ℕ) → SplitsWhile White text before first → first ≡ codes "allow" ++ behind → SplitsWhile White behind gap second → n ≤ length second → n ≤ length text
+second_in text before first behind gap second n cut allow cut_gap few =
+    within text before first n cut.parts (within first (codes "allow") behind n allow (within behind gap second n cut_gap.parts few))
+
+pub second_within : (text before first behind gap second : List ℕ) (kind : SpecFaultKind) (refusal : Refusal) → SplitsWhile White text before first → first ≡ codes "allow" ++ behind → SplitsWhile White behind gap second
+    → refusal ≡ fault_at second kind → refusal.left ≤ length text
+second_within text before first behind gap second kind refusal cut allow cut_gap is =
+    second_in text before first behind gap second refusal.left cut allow cut_gap (omega (arith, ap (λ (r : Refusal). r.left) is))
+
+pub items_within : (text before first behind gap second word items : List ℕ) (n : ℕ) → SplitsWhile White text before first → first ≡ codes "allow" ++ behind → SplitsWhile White behind gap second → SplitsWhile Plain second word items
+    → n ≤ length items → n ≤ length text
+items_within text before first behind gap second word items n cut allow cut_gap cut_word few =
+    second_in text before first behind gap second n cut allow cut_gap (within second word items n cut_word.parts few)
+
 -- ---- the loop over the grants
 
 -- what was read of a text, and the grants that found memory
@@ -142,6 +164,9 @@ pub record HasGrants (text rest : List ℕ) (count : ℕ) (kept : Result (Vec Gr
   pub counted : length found ≡ count
   pub are_kept : IfOk kept (λ grants. grants.items ≡ found)
   pub gives : (result : Result (List Grant) Refusal) → GrantsGive found rest result → GrantsGive [] text result
+
+pub rest_within : (text rest : List ℕ) (count : ℕ) (kept : Result (Vec Grant) AllocError) (n : ℕ) → HasGrants text rest count kept → n ≤ length rest → n ≤ length text
+rest_within text rest count kept n so_far few = within text so_far.done rest n so_far.parts few
 
 -- one grant more is kept, if it and those before found memory
 keeps_more : (kept new : Result (Vec Grant) AllocError) (found : List Grant) (grant : Grant) → IfOk kept (λ grants. grants.items ≡ found) → IfOk new (λ now. IsOkAnd kept (λ old. now.items ≡ old.items ++ grant ∷ []))

@@ -39,7 +39,7 @@ no_fs_name text word rest cut not_star none (Uid uid) keyed is = absurd (cc)
 no_fs_name text word rest cut not_star none (Gids gids) keyed is = absurd (cc)
 no_fs_name text word rest cut not_star none RootSquash keyed is = absurd (cc)
 
-not_plain_ends : (rest : List ℕ) → begins (is_in Plain) rest ≡ false → ends_word rest ≡ true
+pub not_plain_ends : (rest : List ℕ) → begins (is_in Plain) rest ≡ false → ends_word rest ≡ true
 not_plain_ends [] stops = refl
 not_plain_ends (b ∷ bs) stops = not-false (is_white b || is_mark b) stops
 

@@ -1,5 +1,6 @@
 -- What rejects a request, from what rejects its parts.
 use Rattle.std.proofs.Common.{◌≡◌, ◌⊎◌, inl, inr, ℕ, true, List, [], ◌∷◌, Option, Some, None, refl, sym, ap, subst, ◌∙◌, arith}
+use Rattle.std.specs.Option.{option_map}
 use Rattle.capbits.proofs.Tests.{pass-both}
 use Rattle.capbits.specs.Refusal.{Test}
 use Rattle.capbits.specs.declared.cap.Part.{Part}
@@ -30,6 +31,22 @@ module _ (s : Scene) (tests : List Test) (needed : List Need) (more : List Test)
   -- a test before policy that fails is what rejects it
   pub rejection-before : (r : Refusal) → first_failing tests ≡ Some r → rejection_of s tests needed more ≡ Some (ByTest r)
   rejection-before r is = ap (λ o. rejection_by s o (first_denied s needed) (first_failing more)) is
+
+  -- where they pass, what policy alone rejects
+  pub rejection-denied : (d : Rejection) → first_failing tests ≡ None → rejection_of s [] needed [] ≡ Some d → rejection_of s tests needed more ≡ Some d
+  rejection-denied d passed denied = ap (λ o. rejection_by s o (first_denied s needed) (first_failing more)) passed ∙ by_need (first_denied s needed) denied
+    where
+      by_need : (n : Option Need) → rejection_by s None n None ≡ Some d → rejection_by s None n (first_failing more) ≡ Some d
+      by_need None is = absurd (cc)
+      by_need (Some n) is = is
+
+  -- where policy rejects nothing either, a test behind it
+  pub rejection-after : first_failing tests ≡ None → rejection_of s [] needed [] ≡ None → rejection_of s tests needed more ≡ option_map ByTest (first_failing more)
+  rejection-after passed free = ap (λ o. rejection_by s o (first_denied s needed) (first_failing more)) passed ∙ by_need (first_denied s needed) free
+    where
+      by_need : (n : Option Need) → rejection_by s None n None ≡ None → rejection_by s None n (first_failing more) ≡ option_map ByTest (first_failing more)
+      by_need None is = refl
+      by_need (Some n) is = absurd (cc)
 
   -- what nothing rejects passed the tests before policy and those behind it
   pub passed-all : rejection_of s tests needed more ≡ None → (first_failing tests ≡ None) × (first_failing more ≡ None)

@@ -1,6 +1,7 @@
 -- Events that are about one inode or about many, and how their steps end.
 use Rattle.std.specs.Prelude.{◌≡◌, ◌≤◌, ℕ, Bool, true, false, not, ◌||◌, List, Option, Some, None, Contains, IsTrue, All, if◌then◌else◌}
 use Rattle.std.specs.FinMap as map
+use Rattle.std.specs.Option.{option_map_or}
 use Rattle.capbits.specs.Caps.{Caps, has}
 use Rattle.capbits.specs.Sets.{meet}
 use Rattle.capbits.specs.declared.cap.Cap.TheVariants.{P}
@@ -16,6 +17,7 @@ use Rattle.captable.specs.declared.entry.Entry.{Entry}
 use Rattle.captable.specs.declared.entry.EntryRow.{EntryRow}
 use Rattle.captable.specs.declared.entry.Holder.{Holder}
 use Rattle.sessiontab.specs.Calls.{has_session}
+use Rattle.step_model.specs.Clients.{session_change}
 use Rattle.step_model.specs.declared.event.Event.{Event}
 use Rattle.step_model.specs.Finish.{due, is_in_use, issue_row}
 use Rattle.step_model.specs.Settle.{Made, Settles}
@@ -45,10 +47,6 @@ pub data Scope : Type 0 where
   Listing : Scope
 
 abbrev pub scope : Event → Scope
-scope (Event.CloseSession client) = OfClient client
-scope (Event.Mark client status) = OfClient client
-scope (Event.Regrant client grants) = OfClient client
-scope (Event.Evict client) = OfClient client
 scope (Event.Recall count) = Listing
 scope (Event.Open client ino mode) = OnEntry (holder client ino)
 scope (Event.Want client ino caps) = OnEntry (holder client ino)
@@ -61,7 +59,7 @@ scope (Event.Rmdir client ino) = Waiting (holder client ino) Rmdir
 scope (Event.Rename client ino dir name) = Waiting (holder client ino) (Rename dir name)
 scope (Event.Flush client ino change) = OnEntry (holder client ino)
 scope (Event.Poll client max) = Listing
-scope e = Alone
+scope e = option_map_or (λ of. OfClient of.0) (session_change e) Alone
 
 abbrev pub affected_in : Scope → Option Holder
 affected_in (OnEntry k) = Some k

@@ -1,5 +1,5 @@
--- What goes with a client's session where it ends, and what is left.
-use Rattle.std.specs.Prelude.{Bool, true, false, not, List, [], filter, if◌then◌else◌}
+-- What goes with a client's session, and what is left, where it ends or does not.
+use Rattle.std.specs.Prelude.{Bool, not, List, [], filter, if◌then◌else◌}
 use Rattle.std.specs.Prelude.{map as each}
 use Rattle.capbits.specs.declared.ids.ClientId.{ClientId}
 use Rattle.captable.specs.Calls.{without_client}
@@ -8,16 +8,6 @@ use Rattle.step_model.specs.declared.outcome.Ended.{Ended}
 use Rattle.step_model.specs.DueEndings.{is_to}
 use Rattle.lockmachine.specs.Locks.{LockMap, requests_of, without_requests_of}
 use Rattle.step_model.specs.Serving.{dropped_of}
-use Rattle.capstep.specs.declared.leaving.SessionChange.{SessionChange}
-use Rattle.capstep.specs.declared.leaving.SessionChange.TheVariants.{Close, Evict}
-
--- the session ends
-abbrev pub is_end : SessionChange → Bool
-is_end Close = true
-is_end Evict = true
-is_end change = false
-
--- ---- what is left, where the session ends or does not
 
 abbrev pub table_left : Bool → Table → ClientId → Table
 table_left ends table client = if ends then without_client table client else table

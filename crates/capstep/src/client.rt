@@ -1,23 +1,21 @@
 //! Steps by which a client's session ends, is marked or has other grants.
-ghost use Rattle.std.specs.Prelude.{◌≡◌, ◌+◌, ◌≤◌, true, [], None, Contains, length, option_to_list, vec_capacity, IfOk, OnOk, OnErr};
+ghost use Rattle.std.specs.Prelude.{◌≡◌, ◌+◌, ◌≤◌, true, [], None, Contains, length, option_to_list, vec_capacity, IfOk, OnOk};
 ghost use Rattle.std.specs.FinSet as set;
-ghost use Rattle.capbits.specs.Refusal.{first_failing};
 ghost use Rattle.captable.specs.Calls.{is_of_client};
 ghost use Rattle.captable.specs.declared.entry.EntryRow.{EntryRow};
 ghost use Rattle.lockmachine.specs.Requests.{is_of_client as is_asked_by};
 ghost use Rattle.lockmachine.specs.declared.request.Request.{Request};
 ghost use Rattle.capstep.specs.Reach.{Widens};
 ghost use Rattle.capstep.specs.Begun.{HaveRoomFor};
-ghost use Rattle.capstep.specs.SessionChange.{Notes, ReachesClient, changed_sessions, session_change_tests};
+ghost use Rattle.capstep.specs.SessionChange.{Notes, ReachesClient};
 
-use crate::leaving::SessionChange;
 use crate::output::StepOutput;
-use capbits::{ClientId, Ino, Refusal};
+use capbits::{ClientId, Ino};
 use captable::CapTable;
 use inotree::{NonEmptyInoSet, ROOT};
 use lockmachine::Locks;
 use policy_view::ViewChange;
-use sessiontab::Sessions;
+use sessiontab::SessionChange;
 use std::alloc::{AllocError, Global};
 use step_model::Ended;
 
@@ -31,46 +29,6 @@ pub struct Room {
     /// What readers are told of the session, if anything.
     pub note: Option<ViewChange>,
 }
-
-// ---- the session
-
-/// The first test that fails, for this change of the client's session.
-pub fn session_change_refusal(
-    sessions: &Sessions,
-    client: ClientId,
-    change: SessionChange,
-) -> Option<Refusal>
-    ensures { result ≡ first_failing (session_change_tests sessions.now client change.entry) }
-{
-    match change {
-        SessionChange::Close => sessions.connected_refusal(client),
-        SessionChange::Mark(status) => sessions.mark_refusal(client, status),
-        SessionChange::Regrant(_grants) => sessions.connected_refusal(client),
-        SessionChange::Evict => sessions.evict_refusal(client),
-    }
-}
-
-/// The session ends, or has another status or other grants. An eviction takes memory, and so do grants, which are copied: for
-/// want of it nothing changes.
-pub fn apply_session_change(
-    sessions: &mut Sessions,
-    client: ClientId,
-    change: SessionChange,
-) -> Result<(), AllocError>
-    requires passed { first_failing (session_change_tests sessions.old client change) ≡ None }
-    ensures ok { OnOk result (sessions.new ≡ changed_sessions sessions.old client change.entry) }
-    ensures err { OnErr result (sessions.new ≡ sessions.old) }
-{
-    match change {
-        SessionChange::Close => sessions.close_session_tested(client),
-        SessionChange::Mark(status) => sessions.mark_tested(client, status),
-        SessionChange::Regrant(grants) => sessions.regrant_tested(client, grants.copy()?),
-        SessionChange::Evict => sessions.evict_tested(client)?,
-    }
-    Ok(())
-}
-
-// ---- room
 
 impl Room {
     /// The root and all inodes where the client is, what is noted of its session, and room for each request that waits.
@@ -112,10 +70,12 @@ impl Room {
 fn note_of(client: ClientId, change: SessionChange) -> Result<Option<ViewChange>, AllocError>
     ensures { IfOk result (λ note. Notes (option_to_list note) client change.entry) }
 {
-    match change {
-        SessionChange::Close | SessionChange::Evict => Ok(Some(ViewChange::Ended { client })),
-        SessionChange::Mark(_) => Ok(None),
-        SessionChange::Regrant(grants) => Ok(Some(ViewChange::of_regrant(client, grants)?)),
+    if change.is_end() {
+        return Ok(Some(ViewChange::Ended { client }));
+    }
+    match change.new_grants() {
+        Some(grants) => Ok(Some(ViewChange::of_regrant(client, grants)?)),
+        None => Ok(None),
     }
 }
 

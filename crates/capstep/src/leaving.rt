@@ -9,29 +9,15 @@ ghost use Rattle.lockmachine.specs.Counts.{AreCounted};
 ghost use Rattle.lockmachine.specs.Locks.{requests_of, without_requests_of};
 ghost use Rattle.step_model.specs.Serving.{dropped_of};
 ghost use Rattle.capstep.specs.Known.{sets_of};
-ghost use Rattle.capstep.specs.Left.{is_end};
 ghost use Rattle.capstep.specs.Left as words;
+ghost use Rattle.sessiontab.specs.Changes.{is_end};
 
 use capbits::{CapSet, ClientId};
-use capspec::Grants;
 use captable::CapTable;
 use lockmachine::{KeptScene, Locks};
-use sessiontab::Status;
+use sessiontab::SessionChange;
 use step_model::due_endings::remove_to;
 use step_model::{Ended, Outcome};
-
-/// What becomes of a client's session.
-#[derive(Clone, Copy)]
-pub enum SessionChange<'a> {
-    /// The client ends it.
-    Close,
-    /// It has this status in place of the one that it had.
-    Mark(Status),
-    /// It has these grants in place of those that it had.
-    Regrant(&'a Grants),
-    /// The client is thrown out.
-    Evict,
-}
 
 /// Where the session ends, takes out all that is the client's, and lists its requests as dropped.
 pub fn drop_client_state(
@@ -53,14 +39,11 @@ pub fn drop_client_state(
     ensures dropped { dropped.new.items ≡ dropped.old.items ++ words.dropped_by (is_end change.entry) scene.old.locks.locks client }
     ensures room { length dropped.new.items + length scene.new.locks.locks.queue ≤ vec_capacity dropped.new }
 {
-    match change {
-        SessionChange::Close | SessionChange::Evict => {
-            give_up_all(&scene.table, &mut scene.locks, client);
-            scene.table.drop_client(client);
-            remove_to(messages, client);
-            drop_requests(&mut scene.locks, client, dropped);
-        }
-        SessionChange::Mark(_) | SessionChange::Regrant(_) => {}
+    if change.is_end() {
+        give_up_all(&scene.table, &mut scene.locks, client);
+        scene.table.drop_client(client);
+        remove_to(messages, client);
+        drop_requests(&mut scene.locks, client, dropped);
     }
 }
 

@@ -1,5 +1,5 @@
 -- What a line says.
-use Rattle.std.specs.Prelude.{◌≡◌, ℕ, ◌^◌, Option, Some, None, Result, Ok, Err, List, [], ◌∷◌, length, codes, bytes_eq, nat_le, if◌then◌else◌}
+use Rattle.std.specs.Prelude.{◌≡◌, ℕ, ◌^◌, Result, Ok, Err, List, [], ◌∷◌, length, codes, bytes_eq, nat_le, if◌then◌else◌}
 use Rattle.std.specs.Option.{ok_or}
 use Rattle.capbits.specs.declared.caller.Caller.{Caller}
 use Rattle.capbits.specs.declared.ids.ClientId.{ClientId}
@@ -14,7 +14,7 @@ use Rattle.step_model.specs.declared.event.Event.{Event}
 use Rattle.step_model.specs.declared.event.Event.TheVariants as events
 use Rattle.step_model.specs.declared.change_word.ChangeWord.{ChangeWord}
 use Rattle.step_model.specs.declared.change_word.ChangeWord.TheVariants as words
-use Rattle.step_model.specs.Words.{command_by}
+use Rattle.step_model.specs.Words.{client_event, command_by}
 use Rattle.step_model.specs.declared.command.Command.{Command}
 use Rattle.step_model.specs.declared.command.Command.TheVariants as commands
 use Rattle.script_syntax.specs.declared.fault.LineFault.{LineFault}
@@ -24,32 +24,6 @@ use Rattle.script_syntax.specs.Lines.{is_skipped, longest_line}
 use Rattle.script_syntax.specs.Values.{Spells, bytes_in, client_in, groups_in, ino_in, mode_in, number_below, number_in, only_client, open_mode_in, part_in}
 use Rattle.script_syntax.specs.Values.{seq_in}
 use Rattle.script_syntax.specs.Words.{parts, spaced}
-
--- the client that the event is about; a recall is about none
-abbrev pub client_of : Event → Option ClientId
-client_of (events.Session client caller grants) = Some client
-client_of (events.CloseSession client) = Some client
-client_of (events.Mark client status) = Some client
-client_of (events.Regrant client grants) = Some client
-client_of (events.Evict client) = Some client
-client_of (events.Unblock client) = Some client
-client_of (events.Recall count) = None
-client_of (events.Lookup client dir name) = Some client
-client_of (events.Create client dir name mode) = Some client
-client_of (events.Mkdir client dir name mode) = Some client
-client_of (events.MakeSnapshot client ino name) = Some client
-client_of (events.RemoveSnapshot client ino name) = Some client
-client_of (events.Open client ino mode) = Some client
-client_of (events.Want client ino caps) = Some client
-client_of (events.Ack client ino seq) = Some client
-client_of (events.Release client ino caps) = Some client
-client_of (events.Get client ino part) = Some client
-client_of (events.Alter client ino change) = Some client
-client_of (events.Unlink client ino) = Some client
-client_of (events.Rmdir client ino) = Some client
-client_of (events.Rename client ino dir name) = Some client
-client_of (events.Flush client ino change) = Some client
-client_of (events.Poll client max) = Some client
 
 -- What a line says: nothing, as it is skipped; an event; an event with the grants that a text means, whatever these are; an event with
 -- the set of caps that a word spells; or nothing that can be read, by its fault.
@@ -226,11 +200,8 @@ poll_by arguments = Faulty faults.Count
 -- a command with its arguments
 unfoldable pub said_with : Command → List (List ℕ) → Line
 said_with commands.Session arguments = session_by arguments
-said_with commands.CloseSession arguments = client_by events.CloseSession arguments
-said_with (commands.Mark status) arguments = client_by (λ client. events.Mark client status) arguments
+said_with (commands.OfClient said) arguments = client_by (client_event said) arguments
 said_with commands.Regrant arguments = regrant_by arguments
-said_with commands.Evict arguments = client_by events.Evict arguments
-said_with commands.Unblock arguments = client_by events.Unblock arguments
 said_with commands.Recall arguments = recall_by arguments
 said_with commands.Lookup arguments = named_by events.Lookup arguments
 said_with commands.Create arguments = new_inode_by events.Create arguments

@@ -69,23 +69,11 @@ fn read_arguments(
 {
     match command {
         Command::Session => read_session(alloc, arguments),
-        Command::CloseSession => {
+        Command::OfClient(said) => {
             let client = read_only_client(arguments)?;
-            Ok(Event::CloseSession { client })
-        }
-        Command::Mark(status) => {
-            let client = read_only_client(arguments)?;
-            Ok(Event::Mark { client, status })
+            Ok(said.event(client))
         }
         Command::Regrant => read_regrant(alloc, text),
-        Command::Evict => {
-            let client = read_only_client(arguments)?;
-            Ok(Event::Evict { client })
-        }
-        Command::Unblock => {
-            let client = read_only_client(arguments)?;
-            Ok(Event::Unblock { client })
-        }
         Command::Recall => read_recall(arguments),
         Command::Lookup => {
             let Named { client, ino, name } = read_named(alloc, arguments)?;

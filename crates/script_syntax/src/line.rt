@@ -1,9 +1,10 @@
 //! Cutting a script into lines, and reading a line of it.
 ghost use Rattle.std.specs.Prelude.{◌≡◌, ◌↔◌, ◌⊎◌, ◌<◌, ◌∷◌, [], length, None, Some, Ok, Err, IsTrue, IfOk, IfErr, IfSome, MatchOption};
+ghost use Rattle.step_model.specs.Clients.{client_of};
 ghost use Rattle.step_model.specs.declared.event.Event.{Event as AnEvent};
 ghost use Rattle.script_syntax.specs.declared.fault.LineFault.{LineFault as AKind};
 ghost use Rattle.script_syntax.specs.declared.fault.ScriptFault.TheVariants as stops;
-ghost use Rattle.script_syntax.specs.Events.{Reads, client_of};
+ghost use Rattle.script_syntax.specs.Events.{Reads};
 ghost use Rattle.script_syntax.specs.Faults.{HasFault, IsStop};
 ghost use Rattle.script_syntax.specs.Lines.{is_skipped, lines};
 
@@ -54,7 +55,7 @@ pub fn read_line(
         return Ok(None);
     }
     match read_event(alloc, text) {
-        Ok(event) => Ok(Some((client_of(&event), event))),
+        Ok(event) => Ok(Some((event.client(), event))),
         Err(Refused::Wrong(kind)) => Err(ScriptFault::LineFault { line, kind }),
         Err(Refused::NoMemory) => Err(ScriptFault::NoMemory),
     }
@@ -64,35 +65,4 @@ fn is_skipped(text: &[u8]) -> bool
     ensures { result ≡ is_skipped text.now }
 {
     matches!(text, [] | [b'#', ..])
-}
-
-// The client that the event is about, if it is about one.
-fn client_of(event: &Event) -> Option<ClientId>
-    ensures { result ≡ client_of event.now }
-{
-    match event {
-        Event::Recall { .. } => None,
-        Event::Session { client, .. }
-        | Event::CloseSession { client }
-        | Event::Mark { client, .. }
-        | Event::Regrant { client, .. }
-        | Event::Evict { client }
-        | Event::Unblock { client }
-        | Event::Lookup { client, .. }
-        | Event::Create { client, .. }
-        | Event::Mkdir { client, .. }
-        | Event::MakeSnapshot { client, .. }
-        | Event::RemoveSnapshot { client, .. }
-        | Event::Open { client, .. }
-        | Event::Want { client, .. }
-        | Event::Ack { client, .. }
-        | Event::Release { client, .. }
-        | Event::Get { client, .. }
-        | Event::Alter { client, .. }
-        | Event::Unlink { client, .. }
-        | Event::Rmdir { client, .. }
-        | Event::Rename { client, .. }
-        | Event::Flush { client, .. }
-        | Event::Poll { client, .. } => Some(*client),
-    }
 }

@@ -2,3 +2,4 @@ pub mod Connected
 pub mod Table
 pub mod Calls
 pub mod Tests
+pub mod Changes

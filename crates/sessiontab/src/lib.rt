@@ -4,12 +4,14 @@
 #![tactic(auto)]
 
 mod blocklist;
+mod change;
 mod connected;
 mod error;
 mod laws;
 mod session;
 mod table;
 
+pub use change::SessionChange;
 pub use connected::Connected;
 pub use error::SessionError;
 pub use laws::a_new_session_leaves_the_others;

@@ -1,6 +1,7 @@
 -- What an event does by itself, before any lock moves; and what it answers and shows, some of it once all has moved.
 use Rattle.std.specs.List.{find}
-use Rattle.std.specs.Prelude.{◌≡◌, ℕ, ◌+◌, List, [], ◌∷◌, filter, not, take, Option, Some, None, unwrap_or}
+use Rattle.std.specs.Option.{option_map_or}
+use Rattle.std.specs.Prelude.{◌≡◌, ℕ, ◌+◌, List, [], ◌∷◌, filter, not, take, Option, Some, None, unwrap_or, if◌then◌else◌}
 use Rattle.std.specs.Prelude.{map as each}
 use Rattle.std.specs.FinMap as map
 use Rattle.capbits.specs.Caps.{Caps}
@@ -21,8 +22,10 @@ use Rattle.captable.specs.Calls.{changed as changed_entry}
 use Rattle.captable.specs.Table.{Table, holder, is_row_of}
 use Rattle.captable.specs.declared.entry.EntryRow.{EntryRow}
 use Rattle.captable.specs.declared.entry.Holder.{Holder}
-use Rattle.sessiontab.specs.Calls.{with_evicted, with_grants, with_session, with_status, without_blocked, without_session}
+use Rattle.sessiontab.specs.Calls.{with_session, without_blocked}
+use Rattle.sessiontab.specs.Changes.{changed_sessions, is_end}
 use Rattle.sessiontab.specs.Table.{SessionTable}
+use Rattle.sessiontab.specs.declared.change.SessionChange.{SessionChange}
 use Rattle.sessiontab.specs.declared.session.Session.{Session}
 use Rattle.step_model.specs.Replies.{outcome_reply}
 use Rattle.step_model.specs.declared.event.Event.{Event}
@@ -36,6 +39,7 @@ use Rattle.lockmachine.specs.Scene.{Scene, told_set}
 use Rattle.lockmachine.specs.declared.request.Change.{Change}
 use Rattle.lockmachine.specs.declared.request.Operation.{Operation}
 use Rattle.lockmachine.specs.declared.request.Operation.TheVariants.{Alter, Get, Rename, Rmdir, Unlink}
+use Rattle.step_model.specs.Clients.{session_change}
 use Rattle.step_model.specs.Judge.{judged, rejection_reply, revoked_of}
 use Rattle.step_model.specs.Messages.{first_messages, with_given}
 use Rattle.step_model.specs.Serving.{dropped_of}
@@ -182,14 +186,16 @@ ends s client sessions = record {
   dropped = each dropped_of (requests_of s.scene.locks client);
 }
 
+-- this becomes of the client's session
+abbrev pub changes : State → ClientId → SessionChange → Direct
+changes s client change =
+    if is_end change then ends s client (changed_sessions s.scene.sessions client.0 change)
+    else says (with_sessions s (changed_sessions s.scene.sessions client.0 change)) Reply.Done
+
 -- ---- the effect of an event that nothing rejects
 
 abbrev pub effect : State → Event → Direct
 effect s (Event.Session client caller grants) = says (with_sessions s (with_session s.scene.sessions client.0 caller grants)) Reply.Done
-effect s (Event.CloseSession client) = ends s client (without_session s.scene.sessions client.0)
-effect s (Event.Mark client status) = says (with_sessions s (with_status s.scene.sessions client.0 status)) Reply.Done
-effect s (Event.Regrant client grants) = says (with_sessions s (with_grants s.scene.sessions client.0 grants)) Reply.Done
-effect s (Event.Evict client) = ends s client (with_evicted s.scene.sessions client.0)
 effect s (Event.Unblock client) = says (with_sessions s (without_blocked s.scene.sessions client.0)) Reply.Done
 effect s (Event.Recall count) = says (with_table s (recalled s.scene.table count)) (Reply.Recalled (take count s.scene.table.recall))
 effect s (Event.Lookup client dir name) = found s (child s.scene.tree.nodes dir.0 name)
@@ -211,6 +217,8 @@ effect s (Event.Rmdir client ino) = enqueues s client ino Rmdir
 effect s (Event.Rename client ino dir name) = enqueues s client ino (Rename dir name)
 effect s (Event.Flush client ino change) = says (with_flush s (holder client ino) change) Reply.Done
 effect s (Event.Poll client max) = record { state = s; answer = Gives client max; dropped = [] }
+-- all others change a session
+effect s e = option_map_or (λ of. changes s of.0 of.1) (session_change e) (says s Reply.Done)
 
 abbrev pub effect_unless : State → Event → Option Rejection → Direct
 effect_unless s e (Some rejection) = says s (rejection_reply rejection)

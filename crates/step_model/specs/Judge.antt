@@ -15,8 +15,9 @@ use Rattle.inotree.specs.Tree.{Nodes, child}
 use Rattle.captable.specs.Table.{Table, entry_at, holder, is_row_of}
 use Rattle.captable.specs.Tests.{ack_tests, entry_test, open_tests, release_tests}
 use Rattle.captable.specs.declared.entry.Holder.{Holder}
+use Rattle.sessiontab.specs.Changes.{session_change_tests}
 use Rattle.sessiontab.specs.Table.{SessionTable}
-use Rattle.sessiontab.specs.Tests.{blocked_test, connected_test, evict_tests, mark_tests, new_session_tests, session_tests}
+use Rattle.sessiontab.specs.Tests.{blocked_test, connected_test, new_session_tests, session_tests}
 use Rattle.step_model.specs.declared.event.Event.{Event}
 use Rattle.step_model.specs.declared.event.OpenMode.{OpenMode}
 use Rattle.step_model.specs.declared.reply.Reply.{Reply}
@@ -27,6 +28,7 @@ use Rattle.lockmachine.specs.Scene.{Scene, against}
 use Rattle.lockmachine.specs.declared.request.Change.{Change}
 use Rattle.lockmachine.specs.declared.request.Operation.{Operation}
 use Rattle.lockmachine.specs.declared.request.Operation.TheVariants.{Alter, Get, Rename, Rmdir, Unlink}
+use Rattle.step_model.specs.Clients.{session_change}
 use Rattle.step_model.specs.Needs.{Need, need, need_if}
 use Rattle.step_model.specs.Operations.{change_access, change_tests, exclusive, operation_after, operation_before, operation_needs}
 use Rattle.step_model.specs.declared.rejection.Rejection.{Rejection}
@@ -104,10 +106,6 @@ request_tests s client ino operation = record {
 -- of each event
 abbrev pub tests_of : Scene → Event → Tests
 tests_of s (Event.Session client caller grants) = without_policy (new_session_tests s.sessions client.0)
-tests_of s (Event.CloseSession client) = without_policy (connected_test s.sessions client.0 ∷ [])
-tests_of s (Event.Mark client status) = without_policy (mark_tests s.sessions client.0 status)
-tests_of s (Event.Regrant client grants) = without_policy (connected_test s.sessions client.0 ∷ [])
-tests_of s (Event.Evict client) = without_policy (evict_tests s.sessions client.0)
 tests_of s (Event.Unblock client) = without_policy (blocked_test s.sessions client.0 ∷ [])
 tests_of s (Event.Recall count) = without_policy []
 tests_of s (Event.Lookup client dir name) = record {
@@ -148,6 +146,8 @@ tests_of s (Event.Flush client ino change) = record {
   last = flush_tests s (holder client ino) change;
 }
 tests_of s (Event.Poll client max) = without_policy (session_tests s.sessions client.0)
+-- all others change a session
+tests_of s e = without_policy (option_map_or (λ of. session_change_tests s.sessions of.0.0 of.1) (session_change e) [])
 
 -- the tests that stand before policy
 abbrev pub before : Scene → Event → List Test

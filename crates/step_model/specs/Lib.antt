@@ -4,6 +4,7 @@ pub mod NotedChanges
 pub mod Changing
 pub mod Codes
 pub mod Needs
+pub mod Clients
 pub mod Operations
 pub mod Judge
 pub mod Serving

@@ -2,27 +2,29 @@
 use Rattle.std.specs.Prelude.{ℕ, Option, List, [], ◌∷◌, codes, find, bytes_eq}
 use Rattle.capbits.specs.declared.cap.Part.{Part}
 use Rattle.capbits.specs.declared.cap.Part.TheVariants.{A, F, L, X}
+use Rattle.capbits.specs.declared.ids.ClientId.{ClientId}
 use Rattle.sessiontab.specs.declared.session.Status.TheVariants as status
 use Rattle.step_model.specs.declared.event.Event.{Event}
 use Rattle.step_model.specs.declared.event.Event.TheVariants as event
 use Rattle.step_model.specs.declared.event.OpenMode.{OpenMode}
 use Rattle.step_model.specs.declared.event.OpenMode.TheVariants as opening
 use Rattle.step_model.specs.declared.command.Command.{Command}
-use Rattle.step_model.specs.declared.command.Command.TheVariants.{Ack, Alter, CloseSession, Create, Evict, Flush, Get, Lookup, MakeSnapshot, Mark, Mkdir, Open}
-use Rattle.step_model.specs.declared.command.Command.TheVariants.{Poll, Recall, Regrant, Release, RemoveSnapshot, Rename, Rmdir, Session, Unblock, Unlink}
-use Rattle.step_model.specs.declared.command.Command.TheVariants.{Want}
+use Rattle.step_model.specs.declared.command.Command.TheVariants.{Ack, Alter, Create, Flush, Get, Lookup, MakeSnapshot, Mkdir, OfClient, Open, Poll, Recall, Regrant}
+use Rattle.step_model.specs.declared.command.Command.TheVariants.{Release, RemoveSnapshot, Rename, Rmdir, Session, Unlink, Want}
+use Rattle.step_model.specs.declared.command.ClientCommand.{ClientCommand}
+use Rattle.step_model.specs.declared.command.ClientCommand.TheVariants.{CloseSession, Evict, Mark, Unblock}
 use Rattle.step_model.specs.declared.change_word.ChangeWord.{ChangeWord}
 use Rattle.step_model.specs.declared.change_word.ChangeWord.TheVariants as words
 
 -- the first word of a line with the command
 abbrev pub command_word : Command → List ℕ
 command_word Session = codes "session"
-command_word CloseSession = codes "close"
-command_word (Mark status.Stale) = codes "stale"
-command_word (Mark status.Open) = codes "renew"
+command_word (OfClient CloseSession) = codes "close"
+command_word (OfClient (Mark status.Stale)) = codes "stale"
+command_word (OfClient (Mark status.Open)) = codes "renew"
 command_word Regrant = codes "regrant"
-command_word Evict = codes "evict"
-command_word Unblock = codes "unblock"
+command_word (OfClient Evict) = codes "evict"
+command_word (OfClient Unblock) = codes "unblock"
 command_word Recall = codes "recall"
 command_word Lookup = codes "lookup"
 command_word Create = codes "create"
@@ -45,8 +47,8 @@ command_word Poll = codes "poll"
 abbrev pub commands : List Command
 commands =
     Open ∷ Want ∷ Ack ∷ Release ∷ Lookup ∷ Get ∷ Alter ∷ Poll ∷ Create
-    ∷ Flush ∷ Unlink ∷ Rename ∷ Mkdir ∷ Rmdir ∷ Recall ∷ Session ∷ CloseSession ∷ Mark status.Stale
-    ∷ Mark status.Open ∷ Regrant ∷ Evict ∷ Unblock ∷ MakeSnapshot ∷ RemoveSnapshot ∷ []
+    ∷ Flush ∷ Unlink ∷ Rename ∷ Mkdir ∷ Rmdir ∷ Recall ∷ Session ∷ OfClient CloseSession ∷ OfClient (Mark status.Stale)
+    ∷ OfClient (Mark status.Open) ∷ Regrant ∷ OfClient Evict ∷ OfClient Unblock ∷ MakeSnapshot ∷ RemoveSnapshot ∷ []
 
 -- the command that a word is
 abbrev pub command_by : List ℕ → Option Command
@@ -55,11 +57,11 @@ command_by word = find (λ command. bytes_eq word (command_word command)) comman
 -- the command of the line that says the event
 abbrev pub command_of : Event → Command
 command_of (event.Session client caller grants) = Session
-command_of (event.CloseSession client) = CloseSession
-command_of (event.Mark client status) = Mark status
+command_of (event.CloseSession client) = OfClient CloseSession
+command_of (event.Mark client status) = OfClient (Mark status)
 command_of (event.Regrant client grants) = Regrant
-command_of (event.Evict client) = Evict
-command_of (event.Unblock client) = Unblock
+command_of (event.Evict client) = OfClient Evict
+command_of (event.Unblock client) = OfClient Unblock
 command_of (event.Recall count) = Recall
 command_of (event.Lookup client dir name) = Lookup
 command_of (event.Create client dir name mode) = Create
@@ -77,6 +79,13 @@ command_of (event.Rmdir client ino) = Rmdir
 command_of (event.Rename client ino dir name) = Rename
 command_of (event.Flush client ino change) = Flush
 command_of (event.Poll client max) = Poll
+
+-- the event that a line says of a client alone
+abbrev pub client_event : ClientCommand → ClientId → Event
+client_event CloseSession client = event.CloseSession client
+client_event (Mark status) client = event.Mark client status
+client_event Evict client = event.Evict client
+client_event Unblock client = event.Unblock client
 
 -- ---- of a change
 

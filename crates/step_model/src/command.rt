@@ -1,8 +1,9 @@
 //! The words that lines begin with.
 ghost use Rattle.std.specs.Prelude.{◌≡◌};
-ghost use Rattle.step_model.specs.Words.{command_by, command_of, command_word};
+ghost use Rattle.step_model.specs.Words.{client_event, command_by, command_of, command_word};
 
 use crate::event::Event;
+use capbits::ClientId;
 use sessiontab::Status;
 
 /// What a line says, by its first word.
@@ -10,16 +11,10 @@ use sessiontab::Status;
 pub enum Command {
     /// A client opens a session.
     Session,
-    /// A client ends its session.
-    CloseSession,
-    /// A client's session has another status.
-    Mark(Status),
+    /// What is said of a client alone.
+    OfClient(ClientCommand),
     /// A client's grants are replaced.
     Regrant,
-    /// A client is thrown out.
-    Evict,
-    /// A client comes off the blocklist.
-    Unblock,
     /// Clients are asked to release.
     Recall,
     /// A client asks for the inode of a name.
@@ -56,6 +51,19 @@ pub enum Command {
     Poll,
 }
 
+/// What a line says of a client, with nothing behind the client.
+#[derive(Clone, Copy)]
+pub enum ClientCommand {
+    /// It ends its session.
+    CloseSession,
+    /// Its session has another status.
+    Mark(Status),
+    /// It is thrown out.
+    Evict,
+    /// It comes off the blocklist.
+    Unblock,
+}
+
 // Those that come most often stand first, since they are searched for in this order.
 const COMMANDS: [Command; 24] = [
     Command::Open,
@@ -74,12 +82,12 @@ const COMMANDS: [Command; 24] = [
     Command::Rmdir,
     Command::Recall,
     Command::Session,
-    Command::CloseSession,
-    Command::Mark(Status::Stale),
-    Command::Mark(Status::Open),
+    Command::OfClient(ClientCommand::CloseSession),
+    Command::OfClient(ClientCommand::Mark(Status::Stale)),
+    Command::OfClient(ClientCommand::Mark(Status::Open)),
     Command::Regrant,
-    Command::Evict,
-    Command::Unblock,
+    Command::OfClient(ClientCommand::Evict),
+    Command::OfClient(ClientCommand::Unblock),
     Command::MakeSnapshot,
     Command::RemoveSnapshot,
 ];
@@ -101,11 +109,11 @@ impl Command {
     {
         match event {
             Event::Session { .. } => Command::Session,
-            Event::CloseSession { .. } => Command::CloseSession,
-            Event::Mark { status, .. } => Command::Mark(*status),
+            Event::CloseSession { .. } => Command::OfClient(ClientCommand::CloseSession),
+            Event::Mark { status, .. } => Command::OfClient(ClientCommand::Mark(*status)),
             Event::Regrant { .. } => Command::Regrant,
-            Event::Evict { .. } => Command::Evict,
-            Event::Unblock { .. } => Command::Unblock,
+            Event::Evict { .. } => Command::OfClient(ClientCommand::Evict),
+            Event::Unblock { .. } => Command::OfClient(ClientCommand::Unblock),
             Event::Recall { .. } => Command::Recall,
             Event::Lookup { .. } => Command::Lookup,
             Event::Create { .. } => Command::Create,
@@ -132,12 +140,12 @@ impl Command {
     {
         match self {
             Command::Session => "session",
-            Command::CloseSession => "close",
-            Command::Mark(Status::Stale) => "stale",
-            Command::Mark(Status::Open) => "renew",
+            Command::OfClient(ClientCommand::CloseSession) => "close",
+            Command::OfClient(ClientCommand::Mark(Status::Stale)) => "stale",
+            Command::OfClient(ClientCommand::Mark(Status::Open)) => "renew",
             Command::Regrant => "regrant",
-            Command::Evict => "evict",
-            Command::Unblock => "unblock",
+            Command::OfClient(ClientCommand::Evict) => "evict",
+            Command::OfClient(ClientCommand::Unblock) => "unblock",
             Command::Recall => "recall",
             Command::Lookup => "lookup",
             Command::Create => "create",
@@ -155,6 +163,20 @@ impl Command {
             Command::Rename => "rename",
             Command::Flush => "flush",
             Command::Poll => "poll",
+        }
+    }
+}
+
+impl ClientCommand {
+    /// The event that the line says.
+    pub fn event(self, client: ClientId) -> Event
+        ensures { result ≡ client_event self client }
+    {
+        match self {
+            ClientCommand::CloseSession => Event::CloseSession { client },
+            ClientCommand::Mark(status) => Event::Mark { client, status },
+            ClientCommand::Evict => Event::Evict { client },
+            ClientCommand::Unblock => Event::Unblock { client },
         }
     }
 }

@@ -1,9 +1,11 @@
 //! What happens.
+ghost use Rattle.std.specs.Prelude.{◌≡◌, None, MatchOption};
+ghost use Rattle.step_model.specs.Clients.{client_of, session_change, session_event};
 
 use capbits::{Caller, CapSet, ClientId, Ino, Mode, Part};
 use capspec::Grants;
 use lockmachine::{Bytes, Change};
-use sessiontab::Status;
+use sessiontab::{SessionChange, Status};
 use std::fmt;
 
 /// What a client opens an inode for.
@@ -269,6 +271,54 @@ impl Drop for Event {
                 change: _,
             } => {}
             Event::Poll { client: _, max: _ } => {}
+        }
+    }
+}
+
+impl Event {
+    /// The client that it is about; a recall is about none.
+    pub fn client(&self) -> Option<ClientId>
+        ensures { result ≡ client_of self.now }
+    {
+        match self {
+            Event::Recall { .. } => None,
+            Event::Session { client, .. }
+            | Event::CloseSession { client }
+            | Event::Mark { client, .. }
+            | Event::Regrant { client, .. }
+            | Event::Evict { client }
+            | Event::Unblock { client }
+            | Event::Lookup { client, .. }
+            | Event::Create { client, .. }
+            | Event::Mkdir { client, .. }
+            | Event::MakeSnapshot { client, .. }
+            | Event::RemoveSnapshot { client, .. }
+            | Event::Open { client, .. }
+            | Event::Want { client, .. }
+            | Event::Ack { client, .. }
+            | Event::Release { client, .. }
+            | Event::Get { client, .. }
+            | Event::Alter { client, .. }
+            | Event::Unlink { client, .. }
+            | Event::Rmdir { client, .. }
+            | Event::Rename { client, .. }
+            | Event::Flush { client, .. }
+            | Event::Poll { client, .. } => Some(*client),
+        }
+    }
+
+    /// What becomes of whose session, if it changes one that is there.
+    pub fn session_change(&self) -> Option<(ClientId, SessionChange<'_>)>
+        ensures { MatchOption result
+            (session_change self.now ≡ None)
+            (λ of. self.now ≡ session_event of.0 of.1) }
+    {
+        match self {
+            Event::CloseSession { client } => Some((*client, SessionChange::Close)),
+            Event::Mark { client, status } => Some((*client, SessionChange::Mark(*status))),
+            Event::Regrant { client, grants } => Some((*client, SessionChange::Regrant(grants))),
+            Event::Evict { client } => Some((*client, SessionChange::Evict)),
+            _ => None,
         }
     }
 }

@@ -21,7 +21,7 @@ mod row;
 
 pub use change_word::ChangeWord;
 pub use changes::{ChangeList, sets_attr};
-pub use command::Command;
+pub use command::{ClientCommand, Command};
 pub use copies::{copy_of_messages, copy_of_outcome, copy_of_reply, copy_of_rules};
 pub use ended_tickets::EndedTickets;
 pub use event::{Event, OpenMode};

@@ -33,8 +33,6 @@ mod library;
 #[cfg(test)]
 mod lock_moves;
 #[cfg(test)]
-mod lock_table;
-#[cfg(test)]
 mod looking;
 #[cfg(test)]
 mod moved_entries;

@@ -1,14 +1,17 @@
 -- How far a text is that of a set.
 use Rattle.std.specs.Prelude.{◌≡◌, ◌==◌, ◌<◌, ◌≤◌, ℕ, List, [], ◌∷◌, ◌++◌, take, codes, refl}
-use Rattle.std.proofs.Common.{ap, arith, lit≤, subst, sym, true≢false}
-use Rattle.capbits.specs.declared.cap.Cap.TheVariants.{Fa, Fb, Fc, Fl, Fr, Fs, Fw, Fx, P}
+use Rattle.std.specs.Int.{bit_at}
+use Rattle.std.proofs.Common.{ap, arith, lit≤, subst, sym, ◌∙◌, true≢false}
+use Rattle.capbits.specs.declared.cap.Cap.TheVariants.{Ax, Fa, Fb, Fc, Fl, Fr, Fs, Fw, Fx, P}
 use Rattle.capbits.specs.declared.cap.Part.TheVariants.{A, F, L, X}
-use Rattle.capbits.specs.Caps.{Caps}
-use Rattle.capbits.specs.Sets.{caps_in, caps_of_part, no_caps}
+use Rattle.capbits.specs.Caps.{Caps, bits_of}
+use Rattle.capbits.specs.SetNumbers.{IsCaps-bits_of}
+use Rattle.capbits.specs.Sets.{IsSubset, and_parts, caps_in, caps_of_part, has-meet, meet, no_caps}
 use Rattle.capbits.specs.Text.{BeginsText, IsLongestBeginning, text_of}
 use Rattle.capbits.proofs.Following.{apart_caps, apart_parts, apart_parts_behind, behind_capital, behind_letter, first_rest, letters_of, letters_of_text}
 use Rattle.capbits.proofs.Following.{no_letter, rest_of}
 use Rattle.worked_cases.proofs.Unfolded.{sets}
+use Rattle.worked_cases.specs.CapTexts.{mine, other}
 
 -- behind the letter c of the file's caps comes no s
 out_of_order : (s : Caps) (w : List ℕ) → text_of s ≡ codes "pFcs" ++ w → ⊥
@@ -34,3 +37,16 @@ capital_alone = record { within = lit≤ tt; begins = (caps_in (P ∷ Fs ∷ [])
 
 pub nothing : IsLongestBeginning [] 0
 nothing = record { within = lit≤ tt; begins = (no_caps, (text_of no_caps, refl)); longest = λ n lt le _. absurd (omega (arith, lt, le)) }
+
+-- no set has a number with the second bit
+pub has_second_bit : (s : Caps) (n : ℕ) → bit_at n 1 ≡ 1 → bits_of s ≡ n → ⊥
+has_second_bit s n one e =
+    let none : bit_at n 1 ≡ 0 = subst (λ m. bit_at m 1 ≡ 0) e (IsCaps-bits_of s).no_bit_1 in
+    omega (arith, one, none)
+
+pub contained : IsSubset (meet mine other) mine
+contained c t = (and_parts _ _ (sym (has-meet mine other c) ∙ t)).0
+
+pub not_contained : IsSubset other mine → ⊥
+unfolding sets
+not_contained each = true≢false (sym (each Ax refl))

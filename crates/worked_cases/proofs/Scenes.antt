@@ -1,8 +1,8 @@
 -- What the maps of the scenes answer.
-use Rattle.std.specs.Prelude.{◌≡◌, Some, List, [], ◌∷◌, length, refl}
+use Rattle.std.specs.Prelude.{◌≡◌, ℕ, cond, Some, None, List, [], ◌∷◌, length, refl}
 use Rattle.std.specs.Cmp.{nat_cmp_total}
-use Rattle.std.specs.FinMap.{entries-insert, get-insert, len-empty, len-entries}
-use Rattle.std.specs.Ordering.{nat_cmp}
+use Rattle.std.specs.FinMap.{FinMap, entries-insert, get-empty, get-insert, get-remove, len-empty, len-entries}
+use Rattle.std.specs.Ordering.{eq_by_cmp, nat_cmp}
 use Rattle.std.specs.FinMap as map
 use Rattle.std.proofs.Common.{arith, ap, sym, ◌∙◌}
 use Rattle.worked_cases.specs.Scenes.{three_at, two_at}
@@ -33,7 +33,7 @@ nothing : {X : Type 0} (xs : List X) → length xs ≡ 0 → xs ≡ []
 nothing [] e = refl
 nothing (x ∷ xs) e = absurd (omega (arith, e))
 
-none : (X : Type 0) → map.entries {X = X} {R = nat_cmp} map.empty ≡ []
+pub none : (X : Type 0) → map.entries {X = X} {R = nat_cmp} map.empty ≡ []
 none X = nothing _ (sym (len-entries map.empty) ∙ len-empty nat_cmp X)
 
 pub two-entries : {X : Type 0} (a b : X) → map.entries (two_at a b) ≡ (1, a) ∷ (2, b) ∷ []
@@ -42,3 +42,32 @@ two-entries {X} a b =
 
 pub three-entries : {X : Type 0} (a b c : X) → map.entries (three_at a b c) ≡ (1, a) ∷ (2, b) ∷ (3, c) ∷ []
 three-entries {X} a b c = entries-insert nat_cmp_total _ 3 c ∙ ap (map.put nat_cmp 3 c) (two-entries a b)
+
+-- ---- any keys
+
+pub get-none : {X : Type 0} (q : ℕ) → map.get {X = X} {R = nat_cmp} map.empty q ≡ None
+get-none q = get-empty nat_cmp q
+
+pub get-more : {X : Type 0} (m : FinMap nat_cmp X) (k : ℕ) (v : X) (q : ℕ) → map.get (map.insert m k v) q ≡ cond (eq_by_cmp nat_cmp q k) (Some v) (map.get m q)
+get-more m k v q = get-insert nat_cmp_total m k v q
+
+pub get-less : {X : Type 0} (m : FinMap nat_cmp X) (k q : ℕ) → map.get (map.remove m k) q ≡ cond (eq_by_cmp nat_cmp q k) None (map.get m q)
+get-less m k q = get-remove nat_cmp_total m k q
+
+pub entries-more : {X : Type 0} (m : FinMap nat_cmp X) (k : ℕ) (v : X) → map.entries (map.insert m k v) ≡ map.put nat_cmp k v (map.entries m)
+entries-more m k v = entries-insert nat_cmp_total m k v
+
+-- ---- the maps of the two files
+
+pub three-get : {X : Type 0} (a b c : X) (q : ℕ) → map.get (three_at a b c) q ≡ cond (eq_by_cmp nat_cmp q 3) (Some c) (cond (eq_by_cmp nat_cmp q 2) (Some b) (cond (eq_by_cmp nat_cmp q 1) (Some a) None))
+three-get a b c q =
+    get-more _ 3 c q ∙ ap (cond (eq_by_cmp nat_cmp q 3) (Some c)) (get-more _ 2 b q ∙ ap (cond (eq_by_cmp nat_cmp q 2) (Some b)) (get-more _ 1 a q ∙ ap (cond (eq_by_cmp nat_cmp q 1) (Some a)) (get-none q)))
+
+pub four-get : {X : Type 0} (a b c d : X) (q : ℕ) → map.get (map.insert (three_at a b c) 4 d) q ≡ cond (eq_by_cmp nat_cmp q 4) (Some d) (cond (eq_by_cmp nat_cmp q 3) (Some c) (cond (eq_by_cmp nat_cmp q 2) (Some b) (cond (eq_by_cmp nat_cmp q 1) (Some a) None)))
+four-get a b c d q = get-more _ 4 d q ∙ ap (cond (eq_by_cmp nat_cmp q 4) (Some d)) (three-get a b c q)
+
+pub files-get : {X : Type 0} (a b : X) (q : ℕ) → map.get {K = ℕ} {X = X} {R = nat_cmp} (map.insert (map.insert map.empty 2 a) 3 b) q ≡ cond (eq_by_cmp nat_cmp q 3) (Some b) (cond (eq_by_cmp nat_cmp q 2) (Some a) None)
+files-get a b q = get-more _ 3 b q ∙ ap (cond (eq_by_cmp nat_cmp q 3) (Some b)) (get-more _ 2 a q ∙ ap (cond (eq_by_cmp nat_cmp q 2) (Some a)) (get-none q))
+
+pub files-entries : {X : Type 0} (a b : X) → map.entries {K = ℕ} {X = X} {R = nat_cmp} (map.insert (map.insert map.empty 2 a) 3 b) ≡ (2, a) ∷ (3, b) ∷ []
+files-entries {X} a b = entries-more _ 3 b ∙ ap (map.put nat_cmp 3 b) (entries-more _ 2 a ∙ ap (map.put nat_cmp 2 a) (none X))

@@ -9,3 +9,9 @@ second = record { 0 = 2 }
 
 abbrev pub third : ClientId
 third = record { 0 = 3 }
+
+abbrev pub fourth : ClientId
+fourth = record { 0 = 4 }
+
+abbrev pub fifth : ClientId
+fifth = record { 0 = 5 }

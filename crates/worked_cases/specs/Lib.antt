@@ -1,4 +1,5 @@
 pub mod Clients
+pub mod CapTexts
 pub mod LockTable
 pub mod Verdicts
 pub mod GrantTexts
@@ -7,3 +8,4 @@ pub mod Scenes
 pub mod Tables
 pub mod Releases
 pub mod OsdCaps
+pub mod LockMoves

@@ -4,18 +4,32 @@
 mod cap_texts;
 mod entries;
 mod grant_texts;
+mod lock_moves;
 mod lock_table;
 mod osd_objects;
+mod permitted;
 mod releases;
 mod steps;
 mod tables;
 mod verdicts;
 
-pub use cap_texts::{bits_of_sets, longest_beginnings, texts_of_sets};
+pub use cap_texts::{
+    bits_of_caps, bits_of_sets, joined_and_parted, longest_beginnings, numbers_of_no_set,
+    texts_of_sets,
+};
 pub use entries::{acknowledged, beside_another, renumberings, without_grants};
 pub use grant_texts::{first_faults, read_and_written};
-pub use lock_table::{gathers, lock_cells, lock_targets, wanted_targets};
+pub use lock_moves::{
+    a_goal_changes, ends_by_its_count, gathers_wait, goals, locks_of_inodes, moves_in_order,
+    no_more_wait, nothing_moves, requests_are_served, two_holders, wants_as_permitted,
+    what_moves_do, who_is_waited_for, who_waits,
+};
+pub use lock_table::{
+    gathers, lock_cells, lock_targets, served_heads, targets_of_a_loner, targets_of_several,
+    unwanted_parts, wanted_targets,
+};
 pub use osd_objects::{caps_by_name, caps_by_place, caps_by_rights, caps_by_tag, faults_of_caps};
+pub use permitted::held_by_readers_and_writers;
 pub use releases::{
     clients_by_release, file_systems_by_release, masks_by_release, networks_by_release,
     paths_by_release, texts_by_release, users_by_release,

@@ -5,10 +5,14 @@ ghost use Rattle.std.specs.Prelude.{◌≡◌, [], ◌∷◌, ◌++◌, Some, No
 ghost use Rattle.capbits.specs.Sets.{caps_in, no_caps};
 ghost use Rattle.capbits.specs.declared.cap.Cap.TheVariants.{As, Fb, Fc, Fr, Fs, Fw, Fx, P};
 ghost use Rattle.capbits.specs.declared.refusal.Refusal.TheVariants as refusal;
+ghost use Rattle.capbits.specs.Refusal.{first_failing};
+ghost use Rattle.cap_arena.specs.Calls.{add_tests};
+ghost use Rattle.cap_arena.specs.Lists.{Lists, count};
 ghost use Rattle.captable.specs.Calls.{newer_in};
 ghost use Rattle.captable.specs.Table.{Table, entry_at};
 ghost use Rattle.captable.specs.declared.entry.Entry.{Entry};
 ghost use Rattle.captable.specs.declared.entry.Holder.{Holder};
+ghost use Rattle.captable.specs.declared.entry.Slot.{Slot};
 ghost use Rattle.worked_cases.specs.Entries.{all, entry, mixed, pin, reading};
 ghost use Rattle.worked_cases.specs.Tables.{ack_refusal, acks, asked, at, beside, due, found, gets, goes, is_asked, is_told, keeps, lost_twice, of_client, on};
 ghost use Rattle.worked_cases.specs.Tables.{one_regained, one_released, open_refusal, opens, order, permits, read_only, recalls, regained, release_refusal, releases};
@@ -87,11 +91,13 @@ pub fn due_entries()
     ensures of_no_other { due 2 (three_files ++ opens (at 2 2) ∷ is_asked (at 1 3) true ∷ []) ≡ [] }
 {}
 
-/// There are at most 65,536 entries, and who has one needs none.
+/// There are at most 65,536 entries, and as many nodes of them; who has an entry needs none.
 pub fn as_many_as_there_may_be()
     ensures no_more { (table : Table) (k : Holder) → entry_at table k ≡ None → length table.rows ≡ 65536 → open_refusal table k ≡ Some refusal.Limit }
     ensures one_more { (table : Table) (k : Holder) → entry_at table k ≡ None → length table.rows ≡ 65535 → table.made ≡ 65536 → open_refusal table k ≡ None }
     ensures has_one { (table : Table) (k : Holder) (e : Entry) → entry_at table k ≡ Some e → open_refusal table k ≡ None }
+    ensures no_more_nodes { (lists : Lists Slot) → count lists ≡ 65536 → first_failing (add_tests lists) ≡ Some refusal.Limit }
+    ensures one_more_node { (lists : Lists Slot) → count lists ≡ 65535 → first_failing (add_tests lists) ≡ None }
 {}
 
 /// What is kept beside an entry comes and goes with it, and is no part of it.

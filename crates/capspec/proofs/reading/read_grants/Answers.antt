@@ -1,7 +1,7 @@
 use Rattle.std.proofs.Common.{sym, ◌∙◌, inl}
 use Rattle.std.proofs.lemmas.List.{nil_from_length}
 use Rattle.capspec.specs.Faults.{IsFault}
-use Rattle.capspec.proofs.Granting.{IsAnswered, all_kept, empty_fault, grant_fault, has_more_grants, many_fault, only_fault, only_read, reads_grants}
+use Rattle.capspec.proofs.Granting.{IsAnswered, all_kept, empty_fault, first_within, grant_fault, has_more_grants, many_fault, only_fault, only_read, reads_grants, rest_within}
 use Rattle.capspec.proofs.reading.read_grants.Goals as goal
 
 pub from_gathered-requires : goal.from_gathered-requires
@@ -57,3 +57,15 @@ pub loop-preserved : goal.loop-preserved
 loop-preserved c =
     has_more_grants c.args.text.now c.loop.rest.now c.in-Ok.found.1.now c.in-Some.more.now c.in-Some.field-0-0.now c.loop.counter c.loop.grants c.gather-grants.result c.in-Ok.found.0 c.loop.invariant c.in-Ok.ensures.ok
     c.in-Some.ensures.cases.0 c.loop-test.true c.gather-grants.ensures
+
+-- where each fault stands
+
+pub in_text-requires : goal.in_text-requires
+in_text-requires c = first_within c.args.text.now _ _ _ c.at.result c.split_while.ensures c.at.ensures
+
+pub in_text-requires-in-Err : goal.in_text-requires-in-Err
+in_text-requires-in-Err c = rest_within c.args.text.now c.loop.rest.now c.loop.counter c.loop.grants c.in-Err.refusal.left c.loop.invariant c.in-Err.ensures.within
+
+pub in_text-requires-2 : goal.in_text-requires-2
+in_text-requires-2 c =
+    rest_within c.args.text.now c.loop.rest.now c.loop.counter c.loop.grants c.at-2.result.left c.loop.invariant (first_within c.loop.rest.now _ _ _ c.at-2.result c.split_while-2.ensures c.at-2.ensures)

@@ -1,11 +1,12 @@
-use Rattle.capstep.proofs.Noting.{notes-ended, notes-marked, notes-regranted}
+use Rattle.std.proofs.Common.{sym, ◌∙◌}
+use Rattle.capstep.proofs.Noting.{notes-ended, notes-regranted, notes-unseen}
 use Rattle.capstep.proofs.client.note_of.Goals as goal
 
-pub returns-in-Close : goal.returns-in-Close
-returns-in-Close c = notes-ended c.args.client c.args.change c.in-Close.is
+pub returns-then-is_end : goal.returns-then-is_end
+returns-then-is_end c = notes-ended c.args.client c.args.change (sym c.is_end.ensures ∙ c.if-is_end.true)
 
-pub returns-in-Mark : goal.returns-in-Mark
-returns-in-Mark c = notes-marked c.args.client c.args.change _ c.in-Mark.is
+pub returns-in_ok-of_regrant-in-Some : goal.returns-in_ok-of_regrant-in-Some
+returns-in_ok-of_regrant-in-Some c = rw c.in_ok-of_regrant-in-Some.ensures (notes-regranted c.args.client c.args.change _ (sym c.in-Some.ensures))
 
-pub returns-in_ok-of_regrant-in-Regrant : goal.returns-in_ok-of_regrant-in-Regrant
-returns-in_ok-of_regrant-in-Regrant c = rw c.in_ok-of_regrant-in-Regrant.ensures (notes-regranted c.args.client c.args.change c.in-Regrant.grants c.in-Regrant.is)
+pub returns-in-None : goal.returns-in-None
+returns-in-None c = notes-unseen c.args.client c.args.change (sym c.is_end.ensures ∙ c.if-is_end.false) (sym c.in-None.ensures)

@@ -3,14 +3,15 @@ use Rattle.std.specs.Prelude.{Err, Ok}
 use Rattle.step_model.specs.declared.event.Event.{Event}
 use Rattle.script_syntax.specs.declared.fault.LineFault.{LineFault as AKind}
 use Rattle.script_syntax.specs.declared.fault.ScriptFault.TheVariants as stops
-use Rattle.script_syntax.specs.Events.{client_of, said_in}
+use Rattle.script_syntax.specs.Events.{said_in}
+use Rattle.step_model.specs.Clients.{client_of}
 use Rattle.script_syntax.specs.Faults.{IsRefused}
 use Rattle.script_syntax.proofs.SaidLines.{has_said, one_fault, reads_said, tells_no_fault, tells_once}
 use Rattle.script_syntax.proofs.line.read_line.Goals as goal
 
 pub returns-in-Ok-clause-only : goal.returns-in-Ok-clause-only
 returns-in-Ok-clause-only c event reads =
-    rw c.client_of.ensures (inr (ap (λ (e : Event). Ok (Some (client_of e, e))) (tells_once (said_in c.args.text.now) c.in-Ok.event event c.in-Ok.ensures (reads_said c.args.text.now event (sym c.is_skipped.ensures ∙ c.if-is_skipped.false) reads))))
+    rw c.client.ensures (inr (ap (λ (e : Event). Ok (Some (client_of e, e))) (tells_once (said_in c.args.text.now) c.in-Ok.event event c.in-Ok.ensures (reads_said c.args.text.now event (sym c.is_skipped.ensures ∙ c.if-is_skipped.false) reads))))
 
 pub returns-in-Ok-clause-told : goal.returns-in-Ok-clause-told
 returns-in-Ok-clause-told c kind fault =

@@ -13,8 +13,8 @@ use Rattle.capcore.specs.declared.parts.CoreState.{CoreState}
 use Rattle.capcore.proofs.parts.CoreState.session_change.Goals as goal
 
 -- for want of memory all is as it was
-pub returns-in_err-apply_session_change-clause-whole : goal.returns-in_err-apply_session_change-clause-whole
-returns-in_err-apply_session_change-clause-whole c = rw c.in_err-apply_session_change.ensures.err (on_err _ c.requires.may.whole)
+pub returns-in_err-change_tested-clause-whole : goal.returns-in_err-change_tested-clause-whole
+returns-in_err-change_tested-clause-whole c = rw c.in_err-change_tested.ensures.err (on_err _ c.requires.may.whole)
 
 pub returns-clause-begun : goal.returns-clause-begun
 returns-clause-begun c =
@@ -31,7 +31,7 @@ returns-clause-begun c =
     let one = noted-few c.in_ok-inodes.field-0.note in
     let noted = ap length c.start.ensures.items in
     let is : plain left_scene ≡ (session_changed (state_of p) client change).scene =
-    ap plain c.drop_client_state.ensures.rest ∙ (λ i. record (plain p.scene) { sessions = c.in_ok-apply_session_change.ensures.ok i; table = c.drop_client_state.ensures.table i; locks = c.drop_client_state.ensures.locks i }) in
+    ap plain c.drop_client_state.ensures.rest ∙ (λ i. record (plain p.scene) { sessions = c.in_ok-change_tested.ensures.ok i; table = c.drop_client_state.ensures.table i; locks = c.drop_client_state.ensures.locks i }) in
     let fewer : length left_scene.locks.locks.queue ≤ length p.scene.locks.locks.queue = rw c.drop_client_state.ensures.locks (few-waiting ends p.scene.locks.locks client) in
     let few = few-messages ends p.messages.items client in
     let left = ap length c.drop_client_state.ensures.messages in
@@ -46,5 +46,5 @@ returns-clause-begun c =
     (omega (arith, few, left, fewer, c.drop_client_state.ensures.left, c.requires.may.whole.1))
     c.drop_client_state.ensures.room
     (subst (λ (s : KeptScene). AreChanges output.changes.items (view_of (state_of p)) (view s.tree s.sessions.sessions)) (sym c.drop_client_state.ensures.rest)
-    (subst (λ (t : SessionTable). AreChanges output.changes.items (view_of (state_of p)) (view p.scene.tree t.sessions)) (sym c.in_ok-apply_session_change.ensures.ok)
+    (subst (λ (t : SessionTable). AreChanges output.changes.items (view_of (state_of p)) (view p.scene.tree t.sessions)) (sym c.in_ok-change_tested.ensures.ok)
     (let notes = room.note in rw c.start.ensures.items (notes.lead p.scene.tree p.scene.sessions)))))
