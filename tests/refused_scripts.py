@@ -169,33 +169,33 @@ poll 2 9 => messages 0
 """
 
 # What readers see changes with nearly each event. Behind the answer stands the view: what each pass is told of whether client 1, 2, 3 and 4
-# may read and write inode 1, 2, 3 and 4, client by client. A letter says allowed, denied, or that there is no session, no inode, or
-# that it is gone. Clients come, two directories and a file are made, and the file is moved to where the third client may do nothing.
+# may read and write inode 1, 2, 3 and 4, client by client. A letter says allowed, or why not: path, no write or mode bits, no grants, no
+# session, no inode, or that it is gone. Clients come, two directories and a file are made, and the file is moved to where the third client may do nothing.
 # Grants and a mode change. A directory has a snapshot for a while and goes; where memory for grants that change in that while is refused,
 # the whole tree is copied, with the snapshot, and the directory has to go from that copy too. The file is unlinked while it is open, and
 # released; then clients go.
 PUBLISHED = """
 session 1 1000 1000 - allow rws => done => aaiiiiiissssssssssssssssssssssss
 session 2 1000 1000 - allow rw => done => aaiiiiiiaaiiiiiissssssssssssssss
-session 3 1000 1000 - allow rw path=/a => done => aaiiiiiiaaiiiiiiddiiiiiissssssss
-mkdir 1 1 a 0755 => ino 2 => aaaaiiiiaaaaiiiiddaaiiiissssssss
-mkdir 1 1 b 0755 => ino 3 => aaaaaaiiaaaaaaiiddaaddiissssssss
-create 1 2 x 0755 => ino 4 => aaaaaaaaaaaaaaaaddaaddaassssssss
-rename 1 4 3 x => done => aaaaaaaaaaaaaaaaddaaddddssssssss
-regrant 2 allow r => done => aaaaaaaaadadadadddaaddddssssssss
-regrant 2 none => done => aaaaaaaaddddddddddaaddddssssssss
-session 4 1000 1000 - allow rw uid=1000 => done => aaaaaaaaddddddddddaaddddadaaaaaa
-alter 1 4 chmod 0400 => done => aaaaaaaaddddddddddaaddddadaaaaad
-mksnap 1 2 s1 => done => aaaaaaaaddddddddddaaddddadaaaaad
-regrant 2 allow r => done => aaaaaaaaadadadadddaaddddadaaaaad
-rmsnap 1 2 s1 => done => aaaaaaaaadadadadddaaddddadaaaaad
-rmdir 1 2 => done => aaiiaaaaadiiadadddiiddddadiiaaad
-open 1 4 rw => caps 1 pFsxcrwb => aaiiaaaaadiiadadddiiddddadiiaaad
-unlink 1 4 => done => aaiiaaggadiiadggddiiddggadiiaagg
-release 1 4 pFsxcrwb => done => aaiiaaiiadiiadiiddiiddiiadiiaaii
-evict 3 => done => aaiiaaiiadiiadiissssssssadiiaaii
-unblock 3 => done => aaiiaaiiadiiadiissssssssadiiaaii
-close 2 => done => aaiiaaiissssssssssssssssadiiaaii
+session 3 1000 1000 - allow rw path=/a => done => aaiiiiiiaaiiiiiippiiiiiissssssss
+mkdir 1 1 a 0755 => ino 2 => aaaaiiiiaaaaiiiippaaiiiissssssss
+mkdir 1 1 b 0755 => ino 3 => aaaaaaiiaaaaaaiippaappiissssssss
+create 1 2 x 0755 => ino 4 => aaaaaaaaaaaaaaaappaappaassssssss
+rename 1 4 3 x => done => aaaaaaaaaaaaaaaappaappppssssssss
+regrant 2 allow r => done => aaaaaaaaawawawawppaappppssssssss
+regrant 2 none => done => aaaaaaaannnnnnnnppaappppssssssss
+session 4 1000 1000 - allow rw uid=1000 => done => aaaaaaaannnnnnnnppaappppamaaaaaa
+alter 1 4 chmod 0400 => done => aaaaaaaannnnnnnnppaappppamaaaaam
+mksnap 1 2 s1 => done => aaaaaaaannnnnnnnppaappppamaaaaam
+regrant 2 allow r => done => aaaaaaaaawawawawppaappppamaaaaam
+rmsnap 1 2 s1 => done => aaaaaaaaawawawawppaappppamaaaaam
+rmdir 1 2 => done => aaiiaaaaawiiawawppiippppamiiaaam
+open 1 4 rw => caps 1 pFsxcrwb => aaiiaaaaawiiawawppiippppamiiaaam
+unlink 1 4 => done => aaiiaaggawiiawggppiippggamiiaagg
+release 1 4 pFsxcrwb => done => aaiiaaiiawiiawiippiippiiamiiaaii
+evict 3 => done => aaiiaaiiawiiawiissssssssamiiaaii
+unblock 3 => done => aaiiaaiiawiiawiissssssssamiiaaii
+close 2 => done => aaiiaaiissssssssssssssssamiiaaii
 """
 
 # ---- short scripts, each on a server of its own: one client alone with a file, and what comes behind that

@@ -181,4 +181,5 @@ def rule_words(root):
 
 
 def fault_words(root):
-    return [it for it in re.findall(r'#\[error\("(\w+)"\)\]', source_of(root, "capspec", "fault")) if it != "NoMemory"]
+    """The kinds of a fault, each of which prints as its name."""
+    return [it for it in variants_of(source_of(root, "capspec", "fault"), "SpecFaultKind") if it != "NoMemory"]

@@ -17,10 +17,10 @@ const FILES: u64 = 100;
 const LISTENERS: u64 = 4;
 
 /// The lines by which an administrator makes the two directories between which the others are moved.
-const PLACES: &str = "session 1 0 0 - allow rwps\nmkdir 1 1 inside 0777\nmkdir 1 1 outside 0777";
+const PLACES: &str = "session 1 0 0 - allow rwps\nmkdir 1 1 inside 0777\nmkdir 1 1 outside 0777\n";
 
 /// The line that opens a client's session.
-const SESSION: &str = "session # # # - allow r path=/pub, allow rw path=/inside";
+const SESSION: &str = "session # # # - allow r path=/pub, allow rw path=/inside\n";
 
 /// The inodes of these two: they are made first.
 const INSIDE: u64 = 2;
@@ -45,14 +45,14 @@ pub(crate) fn move_about(core: &mut Core, job: &mut Job, count: u32) {
 // Makes the directories with their files, each of which three clients open to read.
 fn make_folders(job: &mut Job) {
     for place in 0..FOLDERS {
-        job.add("mkdir 1 # folder# 0777", &[INSIDE, place]);
+        job.add("mkdir 1 # folder# 0777\n", &[INSIDE, place]);
         make_files(job, folder_at(place));
     }
 }
 
 fn make_files(job: &mut Job, folder: u64) {
     for file in 0..FILES {
-        job.add("create 1 # file# 0666", &[folder, file]);
+        job.add("create 1 # file# 0666\n", &[folder, file]);
         open_file(job, folder.saturating_add(1).saturating_add(file), 3);
     }
 }
@@ -66,7 +66,7 @@ fn folder_at(place: u64) -> u64 {
 fn open_file(job: &mut Job, ino: u64, count: u64) {
     for _ in 0..count {
         let client = job.among(2, CLIENTS);
-        job.add("open # # r", &[client, ino]);
+        job.add("open # # r\n", &[client, ino]);
     }
 }
 
@@ -74,7 +74,7 @@ fn open_file(job: &mut Job, ino: u64, count: u64) {
 fn move_folder(core: &mut Core, job: &mut Job, place: u64, is_outside: bool) {
     let target = if is_outside { OUTSIDE } else { INSIDE };
     let ino = folder_at(place);
-    job.add("rename 1 # # folder#", &[ino, target, ino]);
+    job.add("rename 1 # # folder#\n", &[ino, target, ino]);
     listen_to_move(core, job);
     if !is_outside {
         open_files(job, ino.saturating_add(1));

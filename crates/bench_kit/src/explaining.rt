@@ -2,7 +2,8 @@
 //! lock that its calls take too, so that the one can be compared with the other.
 
 use crate::fault::Fault;
-use crate::lines::Transcript;
+use crate::lines::event_of;
+use crate::serving::call;
 use crate::work::{Asking, Way};
 use capbits::{ClientId, Ino, Mode, PassId};
 use capgrant::{Access, Verdict};
@@ -11,7 +12,7 @@ use inotree::Setting;
 use lockmachine::Change;
 use policy_view::{Question, Unknown};
 use snapshot::Server;
-use std::io::Write;
+use std::alloc::Global;
 use std::sync::atomic::{AtomicU64, Ordering};
 use std::sync::{Mutex, MutexGuard, Wait};
 use std::thread::{Threads, map_vec};
@@ -27,19 +28,16 @@ const STRIDE: u64 = 7919;
 const MODES: [u16; 2] = [0o700, 0o755];
 
 /// Has the last pass call what the lines of a script say, and then change modes until all others have asked their questions, each in a
-/// thread of its own. Returns how many questions were answered with yes; the transcript has the fault, if there was one.
-pub(crate) fn explain<L: Server + Send + Sync, T: Threads + Wait + Sync, W: Write>(
+/// thread of its own. Returns how many questions were answered with yes.
+pub(crate) fn explain<L: Server + Send + Sync, T: Threads + Wait + Sync>(
     rt: &T,
+    alloc: Global,
     server: &CapServer<NoGate, L>,
     mut passes: Vec<Pass<L>>,
     asking: Asking,
     lines: &[&[u8]],
-    transcript: &mut Transcript<'_, W>,
-) -> u64 {
-    call_lines(rt, server, passes.last_mut(), lines, transcript);
-    if transcript.has_failed() {
-        return 0;
-    }
+) -> Result<u64, Fault> {
+    call_lines(rt, alloc, server, passes.last_mut(), lines)?;
     let (done, lock) = (AtomicU64::new(0), Mutex::new(()));
     // It needs threads: where none can be made, nobody asks, and the last pass goes on.
     let work = &|pass: Pass<L>| {
@@ -50,24 +48,21 @@ pub(crate) fn explain<L: Server + Send + Sync, T: Threads + Wait + Sync, W: Writ
         }
     };
     match map_vec(rt, passes, work) {
-        Ok(sums) => total(sums.as_slice(), transcript),
-        Err(_) => {
-            transcript.fail(Fault::NoMemory);
-            0
-        }
+        Ok(sums) => total(sums.as_slice()),
+        Err(_) => Err(Fault::NoMemory),
     }
 }
 
 // The sum of what all passes came to, where none had a fault.
-fn total<W: Write>(sums: &[Result<u64, Fault>], transcript: &mut Transcript<'_, W>) -> u64 {
+fn total(sums: &[Result<u64, Fault>]) -> Result<u64, Fault> {
     let mut total: u64 = 0;
     for sum in sums {
         match sum {
             Ok(sum) => total = total.wrapping_add(*sum),
-            Err(fault) => transcript.fail(*fault),
+            Err(fault) => return Err(*fault),
         }
     }
-    total
+    Ok(total)
 }
 
 // Takes the lock, where it is to be taken.
@@ -94,24 +89,21 @@ fn inode_at(turn: u32, inodes: u32) -> Ino {
 
 // ---- the thread that calls
 
-fn call_lines<L: Server, T: Wait, W: Write>(
+fn call_lines<L: Server, T: Wait>(
     rt: &T,
+    alloc: Global,
     server: &CapServer<NoGate, L>,
     pass: Option<&mut Pass<L>>,
     lines: &[&[u8]],
-    transcript: &mut Transcript<'_, W>,
-) {
+) -> Result<(), Fault> {
     let Some(pass) = pass else {
-        return transcript.fail(Fault::Usage);
+        return Err(Fault::Usage);
     };
     for line in lines {
-        let Some(event) = transcript.event(line) else {
-            return;
-        };
-        if let Err(fault) = call(rt, server, pass, event) {
-            return transcript.fail(fault);
-        }
+        let (_, event) = event_of(alloc, line)?;
+        call(rt, server, pass, event)?;
     }
+    Ok(())
 }
 
 // Changes the mode of one inode after another until all others have asked.
@@ -146,19 +138,6 @@ fn mode_change(ino: Ino, turn: u32) -> Event {
         client: CLIENT,
         ino,
         change: Change::Set(Setting::Mode(mode)),
-    }
-}
-
-// Calls an event. What the server promises of an answer stays behind here.
-fn call<L: Server, T: Wait>(
-    rt: &T,
-    server: &CapServer<NoGate, L>,
-    pass: &mut Pass<L>,
-    event: Event,
-) -> Result<(), Fault> {
-    match server.call(rt, pass, event) {
-        Ok(_answer) => Ok(()),
-        Err(stop) => Err(Fault::from(stop)),
     }
 }
 

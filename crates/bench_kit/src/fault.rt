@@ -50,7 +50,7 @@ impl Fault {
     pub(crate) fn text(self) -> &'static str {
         match self {
             Fault::Usage =>
-                "wanted is one of: verdict N, parse N, explain READERS INODES N, locked READERS INODES N, retry, publish, a WORKLOAD with COUNT and SEED, or play FILE..",
+                "wanted is one of: verdict N, parse N, explain READERS INODES N, locked READERS INODES N, retry, publish [ROWS], a WORKLOAD with COUNT and SEED, or play FILE..",
             Fault::NoJob => "WORKLOAD, COUNT and SEED are wanted",
             Fault::NoFile => "no file is named",
             Fault::Text => "the text can't be used",

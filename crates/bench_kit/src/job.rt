@@ -1,8 +1,8 @@
 //! A job: what clients say, made from a seed, and a digest of all that they are answered.
 
 use crate::fault::Fault;
-use crate::lines::event_of;
-use capbits::{ClientId, PassId, print_number};
+use crate::lines::{apply, event_of};
+use capbits::{ClientId, print_number};
 use capcore::Core;
 use capexplain::reply_lines;
 use rand_core::Rng;
@@ -14,14 +14,12 @@ use std::mem::{replace, swap};
 use std::ops::Range;
 use step_model::{Message, Reply};
 
-const PASS: PassId = PassId(1);
-
 /// The stream of the generator.
 const STREAM: u64 = 54;
 
 /// The line by which a client asks for its messages. It is the last before the lines are played; each change that the client is told of then
 /// is acknowledged first of all when lines are played again.
-pub(crate) const POLL: &str = "poll # 64";
+pub(crate) const POLL: &str = "poll # 64\n";
 
 /// What was answered, as far as a client needs it.
 #[derive(Clone, Copy)]
@@ -77,10 +75,9 @@ impl Job {
 
     /// A number below the bound, or 0 where that is 0.
     pub(crate) fn below(&mut self, bound: u64) -> u64 {
-        match u64::from(self.random.next_u32()).checked_rem(bound) {
-            Some(number) => number,
-            None => 0,
-        }
+        u64::from(self.random.next_u32())
+            .checked_rem(bound)
+            .unwrap_or(0)
     }
 
     /// One of so many numbers, of which this is the first.
@@ -88,23 +85,24 @@ impl Job {
         self.below(count).saturating_add(first)
     }
 
-    /// Adds a line. Each `#` of it stands for the next of the numbers; numbers that are left over do not count.
-    pub(crate) fn add(&mut self, line: &str, numbers: &[u64]) {
-        self.write(line, numbers);
-        self.write("\n", &[]);
+    /// Puts a text behind the others, mostly a line with its line feed. Each `#` of it stands for the next of the numbers, or once more for the
+    /// last.
+    pub(crate) fn add(&mut self, text: &str, numbers: &[u64]) {
+        let last = *numbers.last().unwrap_or(&0);
+        self.fill(text, numbers, last);
     }
 
-    /// Adds a line for each number of a range, for which each `#` stands that is left over.
-    pub(crate) fn add_each(&mut self, line: &str, numbers: &[u64], range: Range<u64>) {
+    /// Adds a text for each number of a range, for which each `#` stands that is left over.
+    pub(crate) fn add_each(&mut self, text: &str, numbers: &[u64], range: Range<u64>) {
         for last in range {
-            self.fill(line, numbers, last);
-            self.write("\n", &[]);
+            self.fill(text, numbers, last);
         }
     }
 
-    /// Puts a text behind the others, as `add` does, without a line feed.
-    pub(crate) fn write(&mut self, text: &str, numbers: &[u64]) {
-        self.fill(text, numbers, 0);
+    fn fill(&mut self, text: &str, numbers: &[u64], last: u64) {
+        if fill(&mut self.text, text, numbers, last).is_err() {
+            self.fail(Fault::NoMemory);
+        }
     }
 
     /// Puts a value behind the others of a list.
@@ -132,7 +130,7 @@ impl Job {
         match heard {
             Ok(heard) => heard,
             Err(fault) => {
-                self.fail(fault);
+                self.fault = Some(fault);
                 Heard::NotDone
             }
         }
@@ -159,12 +157,6 @@ impl Job {
         match self.fault {
             None => Ok(replace(&mut self.text, Vec::new(self.answers.alloc))),
             Some(fault) => Err(fault),
-        }
-    }
-
-    fn fill(&mut self, line: &str, numbers: &[u64], last: u64) {
-        if fill(&mut self.text, line, numbers, last).is_err() {
-            self.fail(Fault::NoMemory);
         }
     }
 }
@@ -202,7 +194,7 @@ impl Answers {
 
     fn to_line(&mut self, core: &mut Core, line: &[u8]) -> Result<Heard, Fault> {
         let (client, event) = event_of(self.alloc, line)?;
-        let reply = core.apply(PASS, event)?;
+        let reply = apply(core, event)?;
         let heard = self.take(client, &reply);
         drop(reply);
         heard
@@ -239,7 +231,7 @@ impl Answers {
     }
 }
 
-// Puts a line behind a text, with the numbers in the places of its `#`, and behind them the last number.
+// Puts a text behind another, with the numbers in the places of its `#`, and behind them the last number.
 fn fill(text: &mut Vec<u8>, line: &str, numbers: &[u64], last: u64) -> Result<(), AllocError> {
     let mut numbers = numbers.iter();
     for byte in line.as_bytes() {

@@ -1,7 +1,6 @@
 //! What the streams of a run take before they fail.
 
 use crate::fault::Fault;
-use crate::words::meaning;
 use capbits::read_u32;
 use std::io::ErrorKind;
 
@@ -14,12 +13,12 @@ enum Stream {
     Faults,
 }
 
-// The words that name them.
+// The words that name them, with the space behind.
 const STREAMS: &[(&[u8], Stream)] = &[
-    (b"reads", Stream::Read(ErrorKind::BrokenPipe)),
-    (b"waits", Stream::Read(ErrorKind::WouldBlock)),
-    (b"room", Stream::Output),
-    (b"fault room", Stream::Faults),
+    (b"reads ", Stream::Read(ErrorKind::BrokenPipe)),
+    (b"waits ", Stream::Read(ErrorKind::WouldBlock)),
+    (b"room ", Stream::Output),
+    (b"fault room ", Stream::Faults),
 ];
 
 /// Reads of one byte each, and the one behind them, which fails.
@@ -54,7 +53,9 @@ impl Limits {
 
     /// Reads one more limit: which stream it is for, and a number. No stream has two.
     pub fn take(&mut self, text: &[u8]) -> Result<(), Fault> {
-        let (stream, count) = stream_and_count(text).ok_or(Fault::NotUnderstood)?;
+        let Some((stream, count)) = stream_and_count(text) else {
+            return Err(Fault::NotUnderstood);
+        };
         match stream {
             Stream::Read(fault) if self.reads.is_none() => self.reads = Some(Reads {
                 count,
@@ -68,10 +69,15 @@ impl Limits {
     }
 }
 
-// What stands before the last space, and the number behind it.
+// The stream that a text names, and the number behind that.
 fn stream_and_count(text: &[u8]) -> Option<(Stream, usize)> {
-    let end = text.iter().rposition(|byte| *byte == b' ')?;
-    let stream = meaning(STREAMS, &text[..end])?;
-    let count = read_u32(&text[end + 1..])?;
-    Some((stream, count as usize))
+    for (name, stream) in STREAMS {
+        if let Some(number) = text.strip_prefix(*name) {
+            return match read_u32(number) {
+                Some(count) => Some((*stream, count as usize)),
+                None => None,
+            };
+        }
+    }
+    None
 }

@@ -1,7 +1,8 @@
 //! Lines of a script and what is answered to them, where memory may be refused.
 
 use crate::fault::Fault;
-use capbits::ClientId;
+use capbits::{ClientId, PassId};
+use capcore::Core;
 use capexplain::{append_audit_line, reply_lines};
 use capstep::stop::Stop;
 use script_syntax::{ScriptFault, read_line};
@@ -11,6 +12,8 @@ use step_model::{Event, Reply, Row};
 
 /// How often something is tried that finds no memory: more often than memory is refused in a row.
 pub(crate) const TRIES: u32 = 16;
+
+const PASS: PassId = PassId(1);
 
 /// The lines of a script.
 pub(crate) fn lines_of(alloc: Global, script: &[u8]) -> Result<Vec<&[u8]>, Fault> {
@@ -27,6 +30,11 @@ pub(crate) fn event_of(alloc: Global, line: &[u8]) -> Result<(Option<ClientId>, 
         }
     }
     Err(Fault::NoMemory)
+}
+
+/// Has the core answer an event. What it promises of the reply stays behind here.
+pub(crate) fn apply(core: &mut Core, event: Event) -> Result<Reply, Stop> {
+    core.apply(PASS, event)
 }
 
 /// What was answered, as far as who asked has to know it.
@@ -92,7 +100,7 @@ impl<'w, W: Write> Transcript<'w, W> {
         Heard::Failed
     }
 
-    /// Writes that an event found no memory. That the history is full is a fault.
+    /// Writes that an event found no memory, or that the history is full, which stays so.
     pub(crate) fn tell_stop(&mut self, stop: Stop) -> Heard {
         match stop {
             Stop::NoMemory => {
@@ -100,8 +108,8 @@ impl<'w, W: Write> Transcript<'w, W> {
                 Heard::Stopped
             }
             Stop::Full => {
-                self.fail(Fault::Full);
-                Heard::Failed
+                self.write(b"full\n");
+                Heard::Answered
             }
         }
     }
@@ -128,11 +136,6 @@ impl<'w, W: Write> Transcript<'w, W> {
         if self.fault.is_none() {
             self.fault = Some(fault);
         }
-    }
-
-    /// Whether there was a fault.
-    pub(crate) fn has_failed(&self) -> bool {
-        self.fault.is_some()
     }
 
     /// The sum that the work comes to, or the first fault.

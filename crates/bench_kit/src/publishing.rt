@@ -3,9 +3,11 @@
 
 use crate::fault::Fault;
 use crate::lines::{Heard, TRIES, Transcript};
+use crate::serving::call;
 use capbits::{ClientId, Ino};
-use capgrant::{Access, Verdict};
+use capgrant::{Access, Rule, Verdict};
 use capserver::{Answer, CapServer, NoGate, Pass};
+use capstep::stop::Stop;
 use policy_view::{Question, Unknown};
 use snapshot::Server;
 use std::io::Write;
@@ -51,7 +53,10 @@ fn take_line<L: Server, T: Wait, W: Write>(
 ) {
     let mut line = line;
     for _ in 0..TRIES {
-        let heard = call(rt, server, caller, line, transcript);
+        let Some(event) = transcript.event(line) else {
+            return;
+        };
+        let heard = tell(call(rt, server, caller, event), transcript);
         see(server, caller, transcript);
         see(server, other, transcript);
         match heard {
@@ -63,25 +68,12 @@ fn take_line<L: Server, T: Wait, W: Write>(
     transcript.fail(Fault::InVain);
 }
 
-// Calls what a line says, and writes what is answered.
-fn call<L: Server, T: Wait, W: Write>(
-    rt: &T,
-    server: &CapServer<NoGate, L>,
-    caller: &mut Pass<L>,
-    line: &[u8],
-    transcript: &mut Transcript<'_, W>,
-) -> Heard {
-    let Some(event) = transcript.event(line) else {
-        return Heard::Failed;
-    };
-    match server.call(rt, caller, event) {
-        Ok(answer) => tell_answer(&answer, transcript),
-        Err(stop) => transcript.tell_stop(stop),
-    }
-}
-
 // Writes an answer, and behind it that it is not published yet.
-fn tell_answer<W: Write>(answer: &Answer, transcript: &mut Transcript<'_, W>) -> Heard {
+fn tell<W: Write>(answer: Result<Answer, Stop>, transcript: &mut Transcript<'_, W>) -> Heard {
+    let answer = match answer {
+        Ok(answer) => answer,
+        Err(stop) => return transcript.tell_stop(stop),
+    };
     let heard = transcript.tell(&answer.reply);
     if answer.fresh {
         return heard;
@@ -122,10 +114,21 @@ fn question_at(place: u32) -> Question {
 fn letter_of(answer: Result<Verdict, Unknown>) -> u8 {
     match answer {
         Ok(Verdict::Allowed { .. }) => b'a',
-        Ok(Verdict::Denied { .. }) => b'd',
+        Ok(Verdict::Denied { rules }) => letter_of_rule(rules.as_slice().first()),
         Err(Unknown::NoSession) => b's',
         Err(Unknown::NoIno) => b'i',
         Err(Unknown::Gone) => b'g',
         Err(Unknown::NoView) => b'v',
+    }
+}
+
+// Of the rule by which the first grant fails, where there is a grant.
+fn letter_of_rule(rule: Option<&Rule>) -> u8 {
+    match rule {
+        None => b'n',
+        Some(Rule::Path) => b'p',
+        Some(Rule::NoWrite) => b'w',
+        Some(Rule::ModeBits) => b'm',
+        Some(_) => b'd',
     }
 }

@@ -5,7 +5,7 @@ use crate::job::Job;
 use crate::jobs::Amount;
 use crate::lines::lines_of;
 use queries::{Question, Values};
-use std::alloc::Global;
+use std::alloc::{AllocError, Global};
 
 /// The file system of each question.
 const FS: &[u8] = b"cephfs";
@@ -43,7 +43,8 @@ pub(crate) fn ask_all(alloc: Global, amount: Amount) -> Result<u64, Fault> {
     write_texts(&mut job);
     let script = job.script()?;
     let texts = lines_of(alloc, script.as_slice())?;
-    ask_often(&mut job, texts.as_slice(), amount.count);
+    let mut values = first_values(alloc)?;
+    ask_often(&mut job, texts.as_slice(), &mut values, amount.count);
     job.digest()
 }
 
@@ -52,18 +53,18 @@ fn write_texts(job: &mut Job) {
     for _ in 0..TEXTS {
         write_grants(job);
         write_path(job);
-        job.write("\n", &[]);
+        job.add("\n", &[]);
     }
 }
 
 // One to sixteen grants, most of them few.
 fn write_grants(job: &mut Job) {
-    job.write("allow r path=/pub", &[]);
+    job.add("allow r path=/pub", &[]);
     let most = job.below(15);
     for _ in 0..job.below(most) {
         write_grant(job);
     }
-    job.write("\n", &[]);
+    job.add("\n", &[]);
 }
 
 fn write_grant(job: &mut Job) {
@@ -73,13 +74,13 @@ fn write_grant(job: &mut Job) {
         1 => ", allow rwp path=",
         _ => ", allow rw path=",
     };
-    job.write(front, &[]);
+    job.add(front, &[]);
     write_path(job);
     match kind {
-        2 => job.write(" root_squash", &[]),
+        2 => job.add(" root_squash", &[]),
         3 => {
             let user = job.among(FIRST_USER, USER_COUNT);
-            job.write(" uid=# gids=#,1001", &[user, user]);
+            job.add(" uid=# gids=#,1001", &[user, user]);
         }
         _ => {}
     }
@@ -88,17 +89,15 @@ fn write_grant(job: &mut Job) {
 fn write_path(job: &mut Job) {
     for _ in 0..job.among(1, 7) {
         let name = job.below(NAMES);
-        job.write("/directory#", &[name]);
+        job.add("/directory#", &[name]);
     }
 }
 
-fn ask_often(job: &mut Job, texts: &[&[u8]], count: u32) {
-    let mut values = no_values(job.alloc());
-    put(job, FS, &mut values.fs);
+fn ask_often(job: &mut Job, texts: &[&[u8]], values: &mut Values, count: u32) {
     for _ in 0..count {
-        choose_texts(job, texts, &mut values);
-        choose_words(job, &mut values);
-        let answer = answer(job.alloc(), &values);
+        choose_texts(job, texts, values);
+        choose_words(job, values);
+        let answer = answer(job.alloc(), values);
         job.take(answer);
     }
 }
@@ -108,11 +107,11 @@ fn answer(alloc: Global, values: &Values) -> Result<Vec<u8>, Fault> {
     Ok(Question::read(alloc, values)?.answer(alloc)?)
 }
 
-// Values without a byte.
-fn no_values(alloc: Global) -> Values {
-    Values {
+// Values without a byte, but for the file system.
+fn first_values(alloc: Global) -> Result<Values, AllocError> {
+    Ok(Values {
+        fs: Vec::from_slice(alloc, FS)?,
         grants: Vec::new(alloc),
-        fs: Vec::new(alloc),
         uid: Vec::new(alloc),
         gid: Vec::new(alloc),
         groups: Some(Vec::new(alloc)),
@@ -121,7 +120,7 @@ fn no_values(alloc: Global) -> Values {
         group: Vec::new(alloc),
         mode: Vec::new(alloc),
         access: Vec::new(alloc),
-    }
+    })
 }
 
 // The grants of a question, and its path.
@@ -153,14 +152,10 @@ fn choose(job: &mut Job, words: &[&[u8]], place: &mut Vec<u8>) {
 
 // The word of a number, in the place of another.
 fn put_word(job: &mut Job, words: &[&[u8]], number: u64, place: &mut Vec<u8>) {
-    if let Some(word) = words.get(number as usize) {
-        put(job, word, place);
-    }
-}
-
-fn put(job: &mut Job, text: &[u8], place: &mut Vec<u8>) {
     place.clear();
-    if place.extend_from_slice(text).is_err() {
+    if let Some(word) = words.get(number as usize)
+        && place.extend_from_slice(word).is_err()
+    {
         job.fail(Fault::NoMemory);
     }
 }

@@ -3,14 +3,11 @@
 
 use crate::digest::digest_of;
 use crate::fault::Fault;
-use crate::lines::{Heard, TRIES, Transcript};
-use capbits::PassId;
+use crate::lines::{Heard, TRIES, Transcript, apply};
 use capcore::Core;
 use capscript::file_system;
 use std::alloc::Global;
 use std::io::Write;
-
-const PASS: PassId = PassId(1);
 
 /// Plays the lines of a script, writes what is answered to each line and then the rows of the history, and returns the hash of the core in the
 /// end. No other function owns a core: what it keeps is carried through each way out of its owner.
@@ -57,12 +54,12 @@ fn take_line<W: Write>(core: &mut Core, line: &[u8], transcript: &mut Transcript
     transcript.fail(Fault::InVain);
 }
 
-// Asks the core, and writes what it answers. No other function does: what the core promises of a reply is dear to carry along.
+// Asks the core, and writes what it answers.
 fn ask<W: Write>(core: &mut Core, line: &[u8], transcript: &mut Transcript<'_, W>) -> Heard {
     let Some(event) = transcript.event(line) else {
         return Heard::Failed;
     };
-    match core.apply(PASS, event) {
+    match apply(core, event) {
         Ok(reply) => {
             let heard = transcript.tell(&reply);
             drop(reply);

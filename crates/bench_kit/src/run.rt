@@ -123,10 +123,7 @@ impl Run {
 // The status that a program can end with.
 fn status(text: &[u8]) -> Result<u8, Fault> {
     match text {
-        b"0" => Ok(0),
-        b"1" => Ok(1),
-        b"2" => Ok(2),
-        b"3" => Ok(3),
+        [digit @ b'0'..=b'3'] => Ok(*digit - b'0'),
         _ => Err(Fault::NotUnderstood),
     }
 }

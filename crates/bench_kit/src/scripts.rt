@@ -19,15 +19,15 @@ const FILES: u64 = 64;
 
 /// The lines with which a script that is run begins, those of one more file and of another one: one client makes the file and writes it,
 /// and another looks it up; the other opens the other file for a moment, and the first changes its mode.
-const INGEST: &str = "session 1 10 10 - allow rw\nsession 2 20 20 - allow r path=/pub, allow r";
+const INGEST: &str = "session 1 10 10 - allow rw\nsession 2 20 20 - allow r path=/pub, allow r\n";
 
 const UPLOAD: &str =
-    "create 1 # upload# 0644\nopen 1 # w\nflush 1 # size #\nlookup 2 # upload#\nrelease 1 # p";
+    "create 1 # upload# 0644\nopen 1 # w\nflush 1 # size #\nlookup 2 # upload#\nrelease 1 # p\n";
 
-const CHANGE: &str = "open 2 # r\nrelease 2 # p\nalter 1 # chmod 0640";
+const CHANGE: &str = "open 2 # r\nrelease 2 # p\nalter 1 # chmod 0640\n";
 
 /// The first lines of a client that is served.
-const CLIENT: &str = "session # 10 10 - allow rw\nmkdir # 1 home# 0755";
+const CLIENT: &str = "session # 10 10 - allow rw\nmkdir # 1 home# 0755\n";
 
 /// Runs a script of so many rounds, and returns the digest of its transcript.
 pub(crate) fn run_script(alloc: Global, amount: Amount) -> Result<u64, Fault> {
@@ -53,7 +53,7 @@ fn transcript(alloc: Global, script: &[u8]) -> Result<Vec<u8>, Fault> {
 pub fn served_script(alloc: Global, amount: Amount) -> Result<Vec<u8>, Fault> {
     let mut job = Job::new(alloc, amount.seed);
     add_clients(&mut job);
-    job.add("threads", &[]);
+    job.add("threads\n", &[]);
     for round in 0..u64::from(amount.count) {
         add_round(&mut job, round);
     }
@@ -80,7 +80,7 @@ fn digest_of(text: &[u8]) -> u64 {
 // A client fills a deep chain of directories with files, and looks at them; another opens what it finds there.
 fn ingest(mut job: Job, count: u32) -> Result<Vec<u8>, Fault> {
     job.add(INGEST, &[]);
-    job.add_each("mkdir 1 # level# 0755", &[], 1..DEPTH + 1);
+    job.add_each("mkdir 1 # level# 0755\n", &[], 1..DEPTH + 1);
     for round in 0..u64::from(count) {
         add_file(&mut job, round);
     }
@@ -96,15 +96,15 @@ fn add_file(job: &mut Job, round: u64) {
         UPLOAD,
         &[folder, round, made, made, round, folder, round, made],
     );
-    job.add(CHANGE, &[any, any, any]);
+    job.add(CHANGE, &[any]);
 }
 
 // The clients with their directories and files: the directory of client 1 is inode 2, and its files follow it.
 fn add_clients(job: &mut Job) {
     for client in 1..=THREADS {
-        job.add(CLIENT, &[client, client, client]);
+        job.add(CLIENT, &[client]);
         job.add_each(
-            "create # # file# 0644",
+            "create # # file# 0644\n",
             &[client, home_of(client)],
             0..FILES,
         );
@@ -130,12 +130,12 @@ fn add_line(job: &mut Job, client: u64, round: u64) {
     let file = job.below(FILES);
     let ino = home.saturating_add(1).saturating_add(file);
     let (line, ino, number) = match job.below(6) {
-        0 => ("open # # rw", ino, round),
-        1 => ("flush # # size #", ino, round),
-        2 => ("get # # A", ino, round),
-        3 => ("release # # p", ino, round),
-        4 => ("want # # pFscr", ino, round),
-        _ => ("lookup # # file#", home, file),
+        0 => ("open # # rw\n", ino, round),
+        1 => ("flush # # size #\n", ino, round),
+        2 => ("get # # A\n", ino, round),
+        3 => ("release # # p\n", ino, round),
+        4 => ("want # # pFscr\n", ino, round),
+        _ => ("lookup # # file#\n", home, file),
     };
     job.add(line, &[client, ino, number]);
 }

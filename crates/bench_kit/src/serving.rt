@@ -8,7 +8,8 @@ use crate::lines::Transcript;
 use crate::publishing::publish;
 use crate::work::ServerWork;
 use capscript::file_system;
-use capserver::{CapServer, NoGate, Opening};
+use capserver::{Answer, CapServer, NoGate, Opening, Pass};
+use capstep::stop::Stop;
 use snapshot::Server;
 use std::alloc::Global;
 use std::io::Write;
@@ -16,7 +17,7 @@ use std::marker::Brand;
 use std::sync::Wait;
 use std::sync::ledger::Blank;
 use std::thread::Threads;
-use step_model::Row;
+use step_model::{Event, Row};
 
 // What is done with a server, by the lines of a script.
 #[derive(Clone, Copy)]
@@ -35,7 +36,7 @@ pub(crate) fn serve<T: Threads + Wait + Sync, W: Write>(
     writer: &mut W,
 ) -> Result<u64, Fault> {
     let (fs, tree) = file_system(alloc)?;
-    let opening = Opening::new(alloc, fs, tree, u32::MAX)?;
+    let opening = Opening::new(alloc, fs, tree, max_rows_for(work))?;
     let scripted = ScriptedWork { work, lines };
     served::<Brand, T, W>(rt, alloc, opening, Blank::new(32), scripted, writer)
 }
@@ -43,8 +44,16 @@ pub(crate) fn serve<T: Threads + Wait + Sync, W: Write>(
 // How many passes there are: one calls, and the others ask alone.
 fn passes_for(work: ServerWork) -> u32 {
     match work {
-        ServerWork::Publish => 2,
+        ServerWork::Publish(_) => 2,
         ServerWork::Explain(asking) => asking.readers.saturating_add(1),
+    }
+}
+
+// How many rows the history takes.
+fn max_rows_for(work: ServerWork) -> u32 {
+    match work {
+        ServerWork::Publish(max_rows) => max_rows,
+        ServerWork::Explain(_) => u32::MAX,
     }
 }
 
@@ -67,13 +76,11 @@ fn served<L: Server + Send + Sync, T: Threads + Wait + Sync, W: Write>(
     )?;
     let mut transcript = Transcript::new(alloc, writer);
     let sum = match work {
-        ServerWork::Publish => {
+        ServerWork::Publish(_) => {
             publish(rt, &server, passes.as_mut_slice(), lines, &mut transcript);
             None
         }
-        ServerWork::Explain(asking) => {
-            Some(explain(rt, &server, passes, asking, lines, &mut transcript))
-        }
+        ServerWork::Explain(asking) => Some(explain(rt, alloc, &server, passes, asking, lines)),
     };
     let closed = server.close(rt, Vec::new(alloc));
     let sum = match sum {
@@ -81,11 +88,21 @@ fn served<L: Server + Send + Sync, T: Threads + Wait + Sync, W: Write>(
         None => tell_history(closed.core.history(), &mut transcript),
     };
     drop(closed);
-    transcript.end(sum)
+    sum
 }
 
 // Writes the rows of a history, and tells how many they are.
-fn tell_history<W: Write>(rows: &[Row], transcript: &mut Transcript<'_, W>) -> u64 {
+fn tell_history<W: Write>(rows: &[Row], transcript: &mut Transcript<'_, W>) -> Result<u64, Fault> {
     transcript.tell_rows(rows);
-    rows.len() as u64
+    transcript.end(rows.len() as u64)
+}
+
+/// Calls an event. What the server promises of an answer stays behind here.
+pub(crate) fn call<L: Server, T: Wait>(
+    rt: &T,
+    server: &CapServer<NoGate, L>,
+    pass: &mut Pass<L>,
+    event: Event,
+) -> Result<Answer, Stop> {
+    server.call(rt, pass, event)
 }

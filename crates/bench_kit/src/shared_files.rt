@@ -36,19 +36,19 @@ fn let_all_in(job: &mut Job) {
 fn make_all_files(job: &mut Job) {
     for number in 0..FOLDERS {
         let first = number * (FILES + 1) + FIRST;
-        job.add("mkdir 1 1 folder# 0755", &[number]);
-        job.add_each("create 1 # file# 0644", &[first - 1], 0..FILES);
+        job.add("mkdir 1 1 folder# 0755\n", &[number]);
+        job.add_each("create 1 # file# 0644\n", &[first - 1], 0..FILES);
     }
 }
 
 // Gives a client its session; every fifth may only read.
 fn let_in(job: &mut Job, client: u64) {
     let line = if client % 5 == 0 {
-        "session # # # - allow r"
+        "session # # # - allow r\n"
     } else {
-        "session # # # - allow rw"
+        "session # # # - allow rw\n"
     };
-    job.add(line, &[client, client, client]);
+    job.add(line, &[client]);
 }
 
 // One round: a client asks for something of a file, and one listens.
@@ -68,27 +68,27 @@ fn work(job: &mut Job) {
 
 fn use_of_file(dice: u64) -> &'static str {
     match dice {
-        0..450 => "open # # r",
-        450..550 => "open # # w",
-        550..650 => "open # # rw",
-        650..750 => "want # # pFscr",
-        750..900 => "release # # p",
-        900..930 => "get # # F",
-        930..960 => "alter # # size #",
-        _ => "alter # # chmod 0644",
+        0..450 => "open # # r\n",
+        450..550 => "open # # w\n",
+        550..650 => "open # # rw\n",
+        650..750 => "want # # pFscr\n",
+        750..900 => "release # # p\n",
+        900..930 => "get # # F\n",
+        930..960 => "alter # # size #\n",
+        _ => "alter # # chmod 0644\n",
     }
 }
 
 // What happens to sessions, and what the server does by itself.
 fn disturb(job: &mut Job, client: u64, dice: u64) {
     let lines = match dice {
-        990..993 => "stale #\nrenew #",
-        993..995 => "evict #\nunblock #",
+        990..993 => "stale #\nrenew #\n",
+        993..995 => "evict #\nunblock #\n",
         // For a moment it may only read.
-        995..998 => "regrant # allow r\nregrant # allow rw",
-        _ => "recall 100",
+        995..998 => "regrant # allow r\nregrant # allow rw\n",
+        _ => "recall 100\n",
     };
-    job.add(lines, &[client, client]);
+    job.add(lines, &[client]);
     if let 993..995 = dice {
         let_in(job, client);
     }

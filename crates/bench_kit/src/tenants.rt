@@ -12,13 +12,13 @@ const FOLDERS: u64 = 8;
 
 /// The lines that open a tenant's session, by grants of three kinds. Their numbers are the client, twice its user, the tenant's own, and
 /// twice the user again.
-const BY_PATH: &str = "session # # # - allow rw path=/tenant#";
+const BY_PATH: &str = "session # # # - allow rw path=/tenant#\n";
 
 const BY_USER: &str =
-    "session # # # 100,200 allow r path=/pub, allow rw path=/tenant# uid=# gids=#,100";
+    "session # # # 100,200 allow r path=/pub, allow rw path=/tenant# uid=# gids=#,100\n";
 
 const SQUASHED: &str =
-    "session # # # 100 allow r path=/pub, allow rw path=/scratch root_squash, allow rwps path=/tenant#";
+    "session # # # 100 allow r path=/pub, allow rw path=/scratch root_squash, allow rwps path=/tenant#\n";
 
 /// A tenant, with its directory, whose own directories follow it, and the files that it made.
 struct Tenant {
@@ -58,7 +58,7 @@ pub(crate) fn serve_tenants(core: &mut Core, job: &mut Job, count: u32) {
 }
 
 fn let_all_in(job: &mut Job) -> Vec<Tenant> {
-    job.add("session 1 0 0 - allow rwps", &[]);
+    job.add("session 1 0 0 - allow rwps\n", &[]);
     let mut tenants = Vec::new(job.alloc());
     for number in 0..TENANTS {
         let tenant = let_in(job, number);
@@ -77,9 +77,9 @@ fn let_in(job: &mut Job, number: u64) -> Tenant {
         1 => BY_USER,
         _ => SQUASHED,
     };
-    job.add("mkdir 1 1 tenant# 0777", &[number]);
+    job.add("mkdir 1 1 tenant# 0777\n", &[number]);
     job.add(session, &[client, user, user, number, user, user]);
-    job.add_each("mkdir # # folder# 0755", &[client, home], 0..FOLDERS);
+    job.add_each("mkdir # # folder# 0755\n", &[client, home], 0..FOLDERS);
     Tenant {
         client,
         home,
@@ -106,10 +106,10 @@ fn work(core: &mut Core, job: &mut Job, tenant: &mut Tenant, turn: u64) {
 fn make_file(core: &mut Core, job: &mut Job, tenant: &mut Tenant, name: u64) {
     let client = tenant.client;
     let folder = job.among(tenant.home.saturating_add(1), FOLDERS);
-    job.add("create # # file# 0644", &[client, folder, name]);
+    job.add("create # # file# 0644\n", &[client, folder, name]);
     if let Heard::Ino(ino) = job.play(core) {
         job.keep(&mut tenant.files, File { ino, folder, name });
-        job.add("open # # rw", &[client, ino]);
+        job.add("open # # rw\n", &[client, ino]);
     }
 }
 
@@ -117,15 +117,15 @@ fn make_file(core: &mut Core, job: &mut Job, tenant: &mut Tenant, name: u64) {
 fn use_file(job: &mut Job, client: u64, file: File, dice: u64) {
     let File { ino, folder, name } = file;
     let (line, ino) = match dice {
-        0..25 => ("lookup # # file#", folder),
-        25..45 => ("open # # r", ino),
-        45..50 => ("open # # rw", ino),
-        50..60 => ("want # # pAsLsXsFsr", ino),
-        60..70 => ("release # # p", ino),
+        0..25 => ("lookup # # file#\n", folder),
+        25..45 => ("open # # r\n", ino),
+        45..50 => ("open # # rw\n", ino),
+        50..60 => ("want # # pAsLsXsFsr\n", ino),
+        60..70 => ("release # # p\n", ino),
         70..80 => return change_file(job, client, ino, dice),
-        80..82 => ("get # # A", ino),
-        83 => ("open # # r", ino / 2),
-        _ => ("alter # # chmod 0700", 1),
+        80..82 => ("get # # A\n", ino),
+        83 => ("open # # r\n", ino / 2),
+        _ => ("alter # # chmod 0700\n", 1),
     };
     job.add(line, &[client, ino, name]);
 }
@@ -133,10 +133,10 @@ fn use_file(job: &mut Job, client: u64, file: File, dice: u64) {
 fn change_file(job: &mut Job, client: u64, ino: u64, dice: u64) {
     let value = job.below(1 << 20);
     let (line, number) = match dice % 4 {
-        0 => ("alter # # size #", value),
-        1 => ("alter # # times #", value),
-        2 => ("alter # # chmod 0664", value),
-        _ => ("alter # # setx user.mark# 0123abcd", value % 8),
+        0 => ("alter # # size #\n", value),
+        1 => ("alter # # times #\n", value),
+        2 => ("alter # # chmod 0664\n", value),
+        _ => ("alter # # setx user.mark# 0123abcd\n", value % 8),
     };
     job.add(line, &[client, ino, number]);
 }
@@ -145,7 +145,7 @@ fn change_file(job: &mut Job, client: u64, ino: u64, dice: u64) {
 fn move_file(core: &mut Core, job: &mut Job, tenant: &mut Tenant, place: usize, file: File) {
     let folder = job.among(tenant.home.saturating_add(1), FOLDERS);
     job.add(
-        "rename # # # file#",
+        "rename # # # file#\n",
         &[tenant.client, file.ino, folder, file.name],
     );
     if let Heard::Done = job.play(core) {

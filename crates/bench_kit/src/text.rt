@@ -15,35 +15,29 @@ pub fn push_line(bytes: &mut Vec<u8>, text: &[u8]) -> Result<(), Fault> {
     }
 }
 
-// Adds the bytes of a text.
+// Adds the bytes of a text. Behind a backslash stands a byte as an `x` and two digits.
 fn push_bytes(bytes: &mut Vec<u8>, text: &[u8]) -> Result<(), Fault> {
-    let mut rest = text;
-    for _ in 0..text.len() {
-        let Some((byte, behind)) = split_byte(rest)? else {
-            break;
+    let mut is_behind = false;
+    for part in text.split(|byte| *byte == b'\\') {
+        let plain = if is_behind {
+            push_digits(bytes, part)?
+        } else {
+            part
         };
-        bytes.push(byte)?;
-        rest = behind;
+        bytes.extend_from_slice(plain)?;
+        is_behind = true;
     }
     Ok(())
 }
 
-// The first byte of a text, and the text behind it. A byte can be written as a backslash, an `x` and two digits.
-fn split_byte(text: &[u8]) -> Result<Option<(u8, &[u8])>, Fault> {
-    let Some((first, behind)) = text.split_first() else {
-        return Ok(None);
+// Adds the byte that a text begins with as an `x` and two digits, and returns the text behind these.
+fn push_digits<'a>(bytes: &mut Vec<u8>, text: &'a [u8]) -> Result<&'a [u8], Fault> {
+    let [b'x', high, low, rest @ ..] = text else {
+        return Err(Fault::NotUnderstood);
     };
-    if *first != b'\\' {
-        return Ok(Some((*first, behind)));
-    }
-    match behind {
-        [b'x', high, low, rest @ ..] => {
-            let high = digit(*high)?;
-            let low = digit(*low)?;
-            Ok(Some((high << 4 | low, rest)))
-        }
-        _ => Err(Fault::NotUnderstood),
-    }
+    let (high, low) = (digit(*high)?, digit(*low)?);
+    bytes.push(high << 4 | low)?;
+    Ok(rest)
 }
 
 // The value of a hexadecimal digit in lower case.
@@ -60,9 +54,10 @@ pub fn read_words(alloc: Global, text: &[u8]) -> Result<Vec<Vec<u8>>, Fault> {
     let mut words = Vec::new(alloc);
     let mut rest = text;
     for _ in 0..text.len() {
-        let Some((word, behind)) = split_word(rest)? else {
+        if rest.is_empty() {
             break;
-        };
+        }
+        let (word, behind) = split_word(rest)?;
         let mut bytes = Vec::new(alloc);
         push_bytes(&mut bytes, word)?;
         words.push(bytes)?;
@@ -72,19 +67,14 @@ pub fn read_words(alloc: Global, text: &[u8]) -> Result<Vec<Vec<u8>>, Fault> {
 }
 
 // The first word, and the words behind it.
-fn split_word(text: &[u8]) -> Result<Option<(&[u8], &[u8])>, Fault> {
-    let Some((first, behind)) = text.split_first() else {
-        return Ok(None);
-    };
-    if *first != b'\'' {
-        let (word, behind) = split_at(text, b' ');
-        return Ok(Some((word, behind)));
-    }
-    let (word, behind) = split_at(behind, b'\'');
-    match behind.split_first() {
-        Some((b' ', more)) => Ok(Some((word, more))),
-        Some(_) => Err(Fault::NotUnderstood),
-        None => Ok(Some((word, behind))),
+fn split_word(text: &[u8]) -> Result<(&[u8], &[u8]), Fault> {
+    match text {
+        [b'\'', quoted @ ..] => match split_at(quoted, b'\'') {
+            (word, []) => Ok((word, &[])),
+            (word, [b' ', behind @ ..]) => Ok((word, behind)),
+            _ => Err(Fault::NotUnderstood),
+        },
+        _ => Ok(split_at(text, b' ')),
     }
 }
 

@@ -33,8 +33,8 @@ pub(crate) enum ScriptWork {
 /// What is done with a server.
 #[derive(Clone, Copy)]
 pub(crate) enum ServerWork {
-    /// One pass calls what a script says, and again what finds no memory; two ask what came of each call.
-    Publish,
+    /// One pass calls what a script says, and again what finds no memory; two ask what came of each call. The history takes so many rows.
+    Publish(u32),
     /// Threads ask questions on policy, while another thread calls events.
     Explain(Asking),
 }
@@ -62,15 +62,28 @@ pub(crate) enum Way {
 }
 
 /// The words that stand alone.
-const ALONE: &[(&[u8], ScriptWork)] = &[
-    (b"retry", ScriptWork::Retry),
-    (b"publish", ScriptWork::Serve(ServerWork::Publish)),
+const ALONE: &[(&[u8], Work)] = &[
+    (b"retry", Work::Script(ScriptWork::Retry)),
+    (
+        b"publish",
+        Work::Script(ScriptWork::Serve(ServerWork::Publish(u32::MAX))),
+    ),
 ];
 
-/// The words before one number: how often.
-const COUNTED: &[(&[u8], GrantWork)] = &[
-    (b"verdict", GrantWork::Verdict),
-    (b"parse", GrantWork::Parse),
+/// What a number says.
+#[derive(Clone, Copy)]
+enum Counted {
+    /// How often work on grants is done.
+    Times(GrantWork),
+    /// How many rows the history of a server takes, where one pass calls and two ask.
+    Rows,
+}
+
+/// The words before one number.
+const COUNTED: &[(&[u8], Counted)] = &[
+    (b"verdict", Counted::Times(GrantWork::Verdict)),
+    (b"parse", Counted::Times(GrantWork::Parse)),
+    (b"publish", Counted::Rows),
 ];
 
 /// The words before three numbers: how many threads, how many inodes, and how many questions of each.
@@ -79,8 +92,8 @@ const ASKED: &[(&[u8], Way)] = &[(b"explain", Way::Beside), (b"locked", Way::Loc
 /// What the words of a command line ask for; nothing where they are not understood.
 pub(crate) fn work_of(words: &[Vec<u8>]) -> Option<Work> {
     match words {
-        [work] => script_work(work.as_slice()),
-        [work, times] => grant_work(work.as_slice(), times.as_slice()),
+        [work] => meaning(ALONE, work.as_slice()),
+        [work, number] => counted_work(work.as_slice(), number.as_slice()),
         [way, readers, inodes, times] => {
             question_work(
                 way.as_slice(),
@@ -93,17 +106,13 @@ pub(crate) fn work_of(words: &[Vec<u8>]) -> Option<Work> {
     }
 }
 
-fn script_work(work: &[u8]) -> Option<Work> {
-    match meaning(ALONE, work) {
-        Some(work) => Some(Work::Script(work)),
-        None => None,
-    }
-}
-
-// So much work on grants. Options are matched at once: each `?` would be a way out for the proof.
-fn grant_work(work: &[u8], times: &[u8]) -> Option<Work> {
-    match (meaning(COUNTED, work), read_u32(times)) {
-        (Some(work), Some(times)) => Some(Work::Grants(work, times)),
+// Work with a number. Options are matched at once: each `?` would be a way out for the proof.
+fn counted_work(work: &[u8], number: &[u8]) -> Option<Work> {
+    match (meaning(COUNTED, work), read_u32(number)) {
+        (Some(Counted::Times(work)), Some(times)) => Some(Work::Grants(work, times)),
+        (Some(Counted::Rows), Some(max_rows)) => {
+            Some(Work::Script(ScriptWork::Serve(ServerWork::Publish(max_rows))))
+        }
         _ => None,
     }
 }

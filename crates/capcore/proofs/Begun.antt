@@ -1,9 +1,9 @@
 -- What an event that may move locks leaves by itself, and what its step comes to in the end.
 use Rattle.std.proofs.Common.{◌≡◌, ◌≤◌, ℕ, ◌+◌, ◌++◌, ◌==◌, Bool, Some, List, [], length, Result, OnErr, sym, ap, subst, ◌∙◌, arith, All}
 use Rattle.std.proofs.lemmas.List.Sums.{count_by-le-length, length-filter}
-use Rattle.capstep.proofs.EntryRequests.{Keeps}
-use Rattle.capstep.proofs.Knowing.{held_at}
-use Rattle.capstep.specs.Begun.{MayEndAt, among}
+use Rattle.capcore.proofs.EntryRequests.{Keeps}
+use Rattle.capcore.proofs.Knowing.{held_at}
+use Rattle.capcore.specs.Begun.{MayEndAt, among}
 use Rattle.capcore.proofs.Closing.{affects-ends, affects-one, affects-settles, ends-table, for_clients-all, for_clients-but_own, for_clients-own_numbers}
 use Rattle.capcore.proofs.Common.{Affected, Affects, AffectsOne, AreBelow, AreChanges, AreCounted, AreCountedIn, AreGiven, AreKnown, ArePermittedIn}
 use Rattle.capcore.proofs.Common.{ClientViews, CountedLocks, Direct, Ended, EndsWith, Entry, EntryRequest, Event, HasRoom, HaveOwnNumbers, HaveRoomFor, Holder}

@@ -1,7 +1,7 @@
 -- How many requests a step serves, and how often its locks move between two servings.
 use Rattle.std.proofs.Common.{◌≡◌, ◌++◌, ℕ, List, [], ◌∷◌, Option, Some, None, map, refl, subst, arith}
 use Rattle.lockmachine.proofs.Ending.{few}
-use Rattle.capstep.proofs.Moved.{served-count}
+use Rattle.capcore.proofs.Moved.{served-count}
 use Rattle.lockmachine.specs.Runs.{Runs}
 use Rattle.capcore.proofs.Common.{Alter, AreBounded, Event, Get, IsLockMap, Made, MakesAll, Rejection, Rename, Rmdir, Scene, Served, State, Unlink, child}
 use Rattle.capcore.proofs.Common.{direct, effect, effect_unless, ended_in, found, holder, judged, move_of, without_requests_of-kept}

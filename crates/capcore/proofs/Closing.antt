@@ -2,9 +2,9 @@
 use Rattle.std.proofs.Common.{◌≡◌, ◌≤◌, ◌<◌, ◌^◌, ◌-◌, ℕ, ◌+◌, ◌==◌, Bool, true, false, is_some, List, Contains, refl, sym, ap, subst, ◌∙◌, arith, IsTrue, All}
 use Rattle.std.proofs.lemmas.Bool.{eqb-true}
 use Rattle.std.proofs.lemmas.List.Elements.{All-contains, All-weaker}
-use Rattle.capstep.proofs.Forgotten.{all_rows}
+use Rattle.capcore.proofs.Forgotten.{all_rows}
 use Rattle.lockmachine.proofs.SameOutside.{outside-one, rest-outside}
-use Rattle.capstep.specs.Affected.{finished_entry}
+use Rattle.capcore.specs.Affected.{finished_entry}
 use Rattle.capcore.proofs.Common.{Affects, AffectsOne, ArePermittedIn, ClientViews, Ended, EndsWith, EntryRow, HaveOwnNumbers, Ino, IsAffectedEntry, IsLockMap}
 use Rattle.capcore.proofs.Common.{IsSound, IsSoundEntry, IsTable, MakesAll, MayEnd, MaySettle, Scene, SessionTable, SettlesWith, State, Ticket, but_for}
 use Rattle.capcore.proofs.Common.{earlier, entries_on, filter-contains, first_for, has_session, is_of_inode, is_sized, known_in, lock_at, moved-all, owed}

@@ -1,4 +1,4 @@
--- The names that proofs of this crate cite of the crates below, passed on from one place. Declares nothing.
+-- The names that proofs of whole steps cite of their pieces and of the crates below, passed on from one place. Declares nothing.
 pub use Rattle.capbits.proofs.Tests.{failing-front, pass-both, passed-both}
 pub use Rattle.capbits.specs.Caps.{Caps, has}
 pub use Rattle.capbits.specs.Refusal.{Test, first_failing}
@@ -41,34 +41,34 @@ pub use Rattle.sessiontab.specs.declared.change.SessionChange.{SessionChange}
 pub use Rattle.sessiontab.specs.Table.{SessionTable}
 pub use Rattle.sessiontab.specs.Tests.{new_session_tests, session_tests}
 pub use Rattle.sessiontab.specs.declared.session.Session.{Session}
-pub use Rattle.capstep.proofs.Among.{one-counts, one-inode}
-pub use Rattle.capstep.proofs.Begun.{room-for}
-pub use Rattle.capstep.proofs.EntryRequests.{AreBelow, all-left, request-table}
-pub use Rattle.capstep.proofs.SoundEnd.{sound-settles}
-pub use Rattle.capstep.proofs.Judged.{none-judged}
-pub use Rattle.capstep.proofs.Judging.{no_test, passed, rejection}
-pub use Rattle.capstep.proofs.Knowing.{HoldAlike, alike-less, alike-where, still-knows, still-there}
-pub use Rattle.capstep.proofs.LeftAlone.{found-contains, kept-finished, kept-sound, no_locks}
-pub use Rattle.capstep.proofs.ManyInodes.{table-where}
-pub use Rattle.capstep.proofs.Moved.{Waited, ended-waited, moved-all, sound-pinned}
-pub use Rattle.capstep.proofs.Rejecting.{no_moves, rejection-only, rejection-step}
-pub use Rattle.capstep.proofs.Revoking.{passed-front}
-pub use Rattle.capstep.proofs.SameOff.{row_elsewhere}
-pub use Rattle.capstep.proofs.ShownSteps.{apart_client, step-shown}
-pub use Rattle.capstep.proofs.Telling.{shown-given, shown-issued, shown-sound}
-pub use Rattle.capstep.specs.Affected.{Affects, AffectsOne, IsAffectedEntry, Knows, SettlesAt, finished_at, operation_by}
-pub use Rattle.capstep.specs.Answered.{IsAnswered}
-pub use Rattle.capstep.specs.Begun.{AreCountedIn, ArePermittedIn, HaveRoomFor, MayEnd, MaySettle}
-pub use Rattle.capstep.specs.EntryRequest.{entry_answer, entry_event}
-pub use Rattle.capstep.specs.Judged.{IsJudged}
-pub use Rattle.capstep.specs.Leaving.{LeavesEntries, with_parts}
-pub use Rattle.capstep.specs.Serves.{EndsWith, SettlesWith}
-pub use Rattle.capstep.specs.SessionChange.{session_changed}
-pub use Rattle.capstep.specs.declared.output.StepOutput.{StepOutput}
-pub use Rattle.capstep.specs.declared.entry_request.EntryRequest.{EntryRequest}
-pub use Rattle.capstep.specs.declared.entry_request.EntryRequest.TheVariants.{Ack, Release}
-pub use Rattle.capstep.specs.declared.step_reply.StepReply.{StepReply}
-pub use Rattle.capstep.specs.declared.settle.Affected.{Affected}
+pub use Rattle.capcore.proofs.Among.{one-counts, one-inode}
+pub use Rattle.capcore.proofs.Room.{room-for}
+pub use Rattle.capcore.proofs.EntryRequests.{AreBelow, all-left, request-table}
+pub use Rattle.capcore.proofs.SoundEnd.{sound-settles}
+pub use Rattle.capcore.proofs.Judged.{none-judged}
+pub use Rattle.capcore.proofs.Passed.{no_test, passed, rejection}
+pub use Rattle.capcore.proofs.Knowing.{HoldAlike, alike-less, alike-where, still-knows, still-there}
+pub use Rattle.capcore.proofs.LeftAlone.{found-contains, kept-finished, kept-sound, no_locks}
+pub use Rattle.capcore.proofs.ManyInodes.{table-where}
+pub use Rattle.capcore.proofs.Moved.{Waited, ended-waited, moved-all, sound-pinned}
+pub use Rattle.capcore.proofs.Rejecting.{no_moves, rejection-only, rejection-step}
+pub use Rattle.capcore.proofs.Revoking.{passed-front}
+pub use Rattle.capcore.proofs.SameOff.{row_elsewhere}
+pub use Rattle.capcore.proofs.ShownSteps.{apart_client, step-shown}
+pub use Rattle.capcore.proofs.Telling.{shown-given, shown-issued, shown-sound}
+pub use Rattle.capcore.specs.Affected.{Affects, AffectsOne, IsAffectedEntry, Knows, SettlesAt, finished_at, operation_by}
+pub use Rattle.capcore.specs.Answered.{IsAnswered}
+pub use Rattle.capcore.specs.Begun.{AreCountedIn, ArePermittedIn, HaveRoomFor, MayEnd, MaySettle}
+pub use Rattle.capcore.specs.EntryRequest.{entry_answer, entry_event}
+pub use Rattle.capcore.specs.Judged.{IsJudged}
+pub use Rattle.capcore.specs.Leaving.{LeavesEntries, with_parts}
+pub use Rattle.capcore.specs.Serves.{EndsWith, SettlesWith}
+pub use Rattle.capcore.specs.SessionChange.{session_changed}
+pub use Rattle.capcore.specs.declared.output.StepOutput.{StepOutput}
+pub use Rattle.capcore.specs.declared.entry_request.EntryRequest.{EntryRequest}
+pub use Rattle.capcore.specs.declared.entry_request.EntryRequest.TheVariants.{Ack, Release}
+pub use Rattle.capcore.specs.declared.step_reply.StepReply.{StepReply}
+pub use Rattle.capcore.specs.declared.settle.Affected.{Affected}
 pub use Rattle.capstep.proofs.Again.{rejection-before}
 pub use Rattle.capstep.specs.Known.{AreKnown, ClientViews, StillKnown, known_in, known_of}
 pub use Rattle.capstep.specs.Left.{dropped_by, locks_left, messages_left, table_left}

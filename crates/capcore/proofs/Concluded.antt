@@ -1,8 +1,8 @@
 -- The step of an event that affected some inodes, all together: it is a step of the rules, leaves the state sound, issues what is due
 -- and gives at most one number.
 use Rattle.std.proofs.Common.{◌≡◌, ℕ, ◌+◌, Bool, List, sym, subst}
-use Rattle.capstep.proofs.SizesOwed.{sizes-end, sizes-given, sizes-issues, sizes-sound}
-use Rattle.capstep.proofs.StayingSound.{given-affected}
+use Rattle.capcore.proofs.SizesOwed.{sizes-end, sizes-given, sizes-issues, sizes-sound}
+use Rattle.capcore.proofs.StayingSound.{given-affected}
 use Rattle.capcore.proofs.Common.{Affects, AreGiven, Caps, Ended, Event, Holder, IsLockMap, IsSound, IsTable, IsTree, IssuesExactly, Knows, Made, Reply, Scene}
 use Rattle.capcore.proofs.Common.{SettlesAt, State, Step, all_ended, direct, ended_in, finished_at, reply_of, shown, shown-given, shown-issued, shown-sound}
 use Rattle.capcore.proofs.Common.{sized_in, sizes_owed, state_at_end}

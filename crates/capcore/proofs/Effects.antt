@@ -3,7 +3,7 @@ use Rattle.std.proofs.Common.{◌≡◌, ℕ, ◌+◌, List, [], ◌∷◌, Opti
 use Rattle.std.specs.Option.{option_map}
 use Rattle.std.specs.FinMap as map
 use Rattle.capbits.specs.declared.mode.Mode.{Mode}
-use Rattle.capstep.proofs.Judging.{direct-rejection}
+use Rattle.capcore.proofs.Passed.{direct-rejection}
 use Rattle.step_model.specs.Direct.{made_event}
 use Rattle.capcore.proofs.Common.{ByTest, ClientId, Directory, Event, File, Ino, IsDirect, Kind, Need, Refusal, Rejection, Reply, Says, Snapshot, State, Test}
 use Rattle.capcore.proofs.Common.{Write, basic_tests, direct, effect_unless, first_failing, judged, need, new_inode_tests, new_snapshot_tests}

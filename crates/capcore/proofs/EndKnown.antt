@@ -3,9 +3,9 @@ use Rattle.std.proofs.Common.{◌≡◌, ℕ, Bool, true, false, Some, List, Con
 use Rattle.std.proofs.lemmas.Bool.{false_from_ne_true}
 use Rattle.captable.proofs.ByHolder.{row_found}
 use Rattle.captable.specs.Table.{entry_of}
-use Rattle.capstep.proofs.Knowing.{still-known}
-use Rattle.capstep.proofs.SizesOwed.{sizes-known}
-use Rattle.capstep.specs.Affected.{told_then}
+use Rattle.capcore.proofs.Knowing.{still-known}
+use Rattle.capcore.proofs.SizesOwed.{sizes-known}
+use Rattle.capcore.specs.Affected.{told_then}
 use Rattle.capstep.specs.Known.{KnownAnew}
 use Rattle.lockmachine.specs.Scene.{told_set}
 use Rattle.capcore.proofs.Common.{Affects, AreKnown, ClientViews, Ended, EndsWith, EntryRow, Ino, IsSound, IsTable, Knows, Scene, SettlesWith, State}

@@ -1,7 +1,7 @@
 -- What the calls of the step of an event about one entry come to.
 use Rattle.std.proofs.Common.{◌≡◌, false, [], List, refl, arith}
 use Rattle.captable.specs.Calls.{changed}
-use Rattle.capstep.proofs.EntryKept.{alike-changed}
+use Rattle.capcore.proofs.EntryKept.{alike-changed}
 use Rattle.lockmachine.proofs.CountsStay.{counted-held, held-change}
 use Rattle.capcore.proofs.Common.{Ack, AreCounted, ClientId, CountedLocks, Ended, EntryRequest, HoldAlike, Holder, Ino, Release, State, effect, entry_answer}
 use Rattle.capcore.proofs.Common.{entry_event, has_list, holder, reply_of, shown, with_told}

@@ -5,9 +5,9 @@ use Rattle.std.specs.FinMap as map
 use Rattle.inotree.proofs.OneInode.{exist-changed, presence-other}
 use Rattle.captable.proofs.Moves.{IsTable-touched}
 use Rattle.captable.specs.Calls.{touched}
-use Rattle.capstep.proofs.EntryRequests.{after-passed, before-passed}
+use Rattle.capcore.proofs.EntryRequests.{after-passed, before-passed}
 use Rattle.lockmachine.proofs.SameBut.{same-entries, same-trans, same-tree}
-use Rattle.capstep.proofs.OneChange.{alike_change, by_change}
+use Rattle.capcore.proofs.OneChange.{alike_change, by_change}
 use Rattle.capstep.specs.Served.{change_call_tests}
 use Rattle.step_model.specs.Changing.{tree_changed}
 use Rattle.lockmachine.specs.Elsewhere.{IsSameBut}

@@ -2,7 +2,7 @@
 use Rattle.std.proofs.Common.{◌≡◌, List, [], ◌∷◌, None, sym, subst}
 use Rattle.std.proofs.lemmas.Simd.{map-map}
 use Rattle.captable.proofs.Tables.{IsTable-changed, IsTable-empty, IsTable-rows}
-use Rattle.capstep.specs.declared.entry_request.EntryRequest.TheVariants.{Open, Want}
+use Rattle.capcore.specs.declared.entry_request.EntryRequest.TheVariants.{Open, Want}
 use Rattle.capcore.proofs.Bounded.{direct-keeps, found-keeps}
 use Rattle.capcore.proofs.Common.{Ack, Answer, Ended, Event, Gives, IsLockMap, IsRecorded, IsTable, IsTable-recalled, IsTable-without_client, Recorded}
 use Rattle.capcore.proofs.Common.{Release, Replays, Reply, Row, Scene, Shows, State, Step, after_messages, child, direct, effect, finished, first_messages}

@@ -1,4 +1,5 @@
 mod Common
+mod CommonPieces
 pub mod Counts
 pub mod Apart
 pub mod Bounded
@@ -31,3 +32,36 @@ pub mod SessionStep
 pub mod Granted
 pub mod ShownWords
 pub mod EndKnown
+pub mod AtEnd
+pub mod OneChange
+pub mod Judged
+pub mod Sweeping
+pub mod Passed
+pub mod Knowing
+pub mod EndsThere
+pub mod Noting
+pub mod Telling
+pub mod Among
+pub mod EntryRequests
+pub mod NobodyServed
+pub mod Placed
+pub mod ManyInodes
+pub mod Moved
+pub mod SoFar
+pub mod IssuedRows
+pub mod Forgotten
+pub mod SameOff
+pub mod EntryKept
+pub mod SameLocks
+pub mod SizesOwed
+pub mod Strays
+pub mod ShownSteps
+pub mod Rejecting
+pub mod FirstLocks
+pub mod Revoking
+pub mod SoundEnd
+pub mod Room
+pub mod Polling
+pub mod LeftAlone
+pub mod CountsKept
+pub mod StayingSound

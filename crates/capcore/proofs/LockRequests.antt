@@ -5,7 +5,7 @@ use Rattle.std.proofs.lemmas.List.Elements.{All-filter, All-push}
 use Rattle.std.specs.Option.{option_map}
 use Rattle.std.specs.FinMap as map
 use Rattle.capbits.proofs.Tests.{passed-if}
-use Rattle.capstep.proofs.EntryRequests.{basic-session, basic-there}
+use Rattle.capcore.proofs.EntryRequests.{basic-session, basic-there}
 use Rattle.lockmachine.proofs.Queue.{with_request-kept}
 use Rattle.lockmachine.proofs.SameBut.{same-request}
 use Rattle.capstep.specs.declared.operations.OperationRef.{OperationRef}

@@ -4,7 +4,7 @@ use Rattle.std.proofs.lemmas.Bool.{or_parts}
 use Rattle.std.specs.List.{list_any}
 use Rattle.std.specs.Option.{option_map}
 use Rattle.std.specs.FinMap as map
-use Rattle.capstep.proofs.Strays.{retained-gone, retained-here}
+use Rattle.capcore.proofs.Strays.{retained-gone, retained-here}
 use Rattle.step_model.specs.Finish.{is_in_use, issue}
 use Rattle.step_model.specs.Headline.{OtherLocksStay, is_of_lock_at}
 use Rattle.capcore.proofs.Common.{Answer, Began, Ended, Event, Gather, Gathered, LockId, LockMap, LockState, Made, Makes, MakesAll, Part, Reply, Scene, Served}

@@ -1,6 +1,6 @@
 -- A poll is a whole step: no lock moves, and nothing is left to do but to give the messages.
 use Rattle.std.proofs.Common.{◌≡◌, ℕ, Option, None, List, [], filter, sym, ap, subst, ◌∙◌, append-nil, arith}
-use Rattle.capstep.proofs.SoundEnd.{sound-ends}
+use Rattle.capcore.proofs.SoundEnd.{sound-ends}
 use Rattle.capcore.proofs.Common.{ClientId, Direct, Ended, Event, Gives, IsAnswered, IsSound, IsTable, IssuesExactly, Message, Rejection, Reply, Settles}
 use Rattle.capcore.proofs.Common.{State, Step, StepReply, Table, after_messages, all_ended, changed_where, direct, effect_unless, first_denied, first_failing}
 use Rattle.capcore.proofs.Common.{first_messages, is_left, is_of_client, judged, rejection_by, reply_of, session_tests, shown, shown-given, shown-issued}

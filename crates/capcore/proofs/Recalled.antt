@@ -1,8 +1,8 @@
 -- A recall is a whole step: it marks entries as asked for, by which nothing is judged, moved or issued.
 use Rattle.std.proofs.Common.{◌≡◌, ◌≤◌, ℕ, Bool, true, ◌||◌, List, [], take, refl, sym, subst, arith}
 use Rattle.std.proofs.lemmas.List.Elements.{All-map}
-use Rattle.capstep.proofs.SoundEnd.{same-finished}
-use Rattle.capstep.proofs.Telling.{as_sized, as_told, retold, retold-sound, retold_table}
+use Rattle.capcore.proofs.SoundEnd.{same-finished}
+use Rattle.capcore.proofs.Telling.{as_sized, as_told, retold, retold-sound, retold_table}
 use Rattle.capcore.proofs.Common.{AreGiven, ClientViews, EntryRow, Event, HoldAlike, Holder, IsAnswered, IsSound, IsTable, IsTable-recalled, Reply, State}
 use Rattle.capcore.proofs.Common.{StepReply, Table, alike-where, finished, is_among, recalled, with_table}
 use Rattle.capcore.proofs.Sounding.{later-given}

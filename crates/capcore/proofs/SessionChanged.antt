@@ -8,7 +8,7 @@ use Rattle.std.specs.FinMap as map
 use Rattle.dense_map.proofs.Maps.{remove-at}
 use Rattle.captable.proofs.ByInode.{entries_on-without_client}
 use Rattle.sessiontab.specs.Connected.{SessionMap, change_session}
-use Rattle.capstep.proofs.EntryRequests.{IsKeptEntry, kept-left, sound-kept}
+use Rattle.capcore.proofs.EntryRequests.{IsKeptEntry, kept-left, sound-kept}
 use Rattle.lockmachine.proofs.Finding.{fails_at, find_none}
 use Rattle.lockmachine.proofs.SameOutside.{outside-dropped, outside-itself, outside-then}
 use Rattle.step_model.specs.DueEndings.{is_to}

@@ -3,8 +3,8 @@ use Rattle.std.proofs.Common.{◌≡◌, ◌≤◌, ◌-◌, ℕ, ◌+◌, Bool,
 use Rattle.std.proofs.lemmas.List.Sums.{count_by-le-length, length-filter}
 use Rattle.std.specs.FinSet as set
 use Rattle.step_model.specs.NotedChanges.{HavePlaces}
-use Rattle.capstep.specs.SessionChange.{ReachesClient}
-use Rattle.capstep.specs.declared.settle.Affected.TheVariants.{Inodes}
+use Rattle.capcore.specs.SessionChange.{ReachesClient}
+use Rattle.capcore.specs.declared.settle.Affected.TheVariants.{Inodes}
 use Rattle.capcore.proofs.Begun.{begun-entries}
 use Rattle.capcore.proofs.Closing.{affects-settles}
 use Rattle.capcore.proofs.Common.{Affects, AreChanges, AreCountedIn, ArePermittedIn, ClientId, Direct, DueEndings, Ended, Entry, Event, HasRoom, HaveRoomFor}

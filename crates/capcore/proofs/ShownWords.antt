@@ -12,9 +12,10 @@ use Rattle.captable.proofs.Tables.{same-is}
 use Rattle.captable.specs.Calls.{acked, changed, has_pin, released, with_asked, with_entry, without, without_acked}
 use Rattle.captable.specs.Tests.{test_at}
 use Rattle.lockmachine.proofs.Told.{has-against, has-told, pin-takes_all}
-use Rattle.capstep.proofs.Placed.{told-permitted}
-use Rattle.capstep.proofs.Revoking.{pin-goes, revoked-found}
-use Rattle.capstep.proofs.ShownSteps.{apart-of, at, entry_at-entry_other}
+use Rattle.capstep.proofs.Opened.{apart-of}
+use Rattle.capcore.proofs.Placed.{told-permitted}
+use Rattle.capcore.proofs.Revoking.{pin-goes, revoked-found}
+use Rattle.capcore.proofs.ShownSteps.{at, entry_at-entry_other}
 use Rattle.step_model.specs.declared.event.OpenMode.{OpenMode}
 use Rattle.step_model.specs.Direct.{with_opening}
 use Rattle.step_model.specs.Headline.{holds, is_due}

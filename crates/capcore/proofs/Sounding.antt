@@ -4,7 +4,7 @@ use Rattle.std.proofs.lemmas.List.Elements.{All-nil, All-same}
 use Rattle.std.specs.List.{find}
 use Rattle.std.specs.Option.{option_map}
 use Rattle.std.specs.FinMap as map
-use Rattle.capstep.proofs.LeftAlone.{some_same}
+use Rattle.capcore.proofs.LeftAlone.{some_same}
 use Rattle.lockmachine.proofs.Idle.{InSync, idle}
 use Rattle.lockmachine.proofs.Rest.{at_rest}
 use Rattle.capcore.proofs.Common.{AreGiven, EntryRow, HasNoStray, InodeLocks, IsOpening, IsSound, IsSoundEntry, Node, Nodes, State, first_for, has_session}

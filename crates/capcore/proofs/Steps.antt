@@ -1,7 +1,7 @@
 -- A session, a lookup, a new inode or a snapshot by itself is a whole step: it leaves alone all that entries and requests depend on.
 use Rattle.std.proofs.Common.{◌≡◌, ℕ, ◌+◌, Bool, true, false, List, [], ◌++◌, Option, None, refl, sym, ap, subst, ◌∙◌, append-nil, arith}
-use Rattle.capstep.proofs.SoundEnd.{none-sized}
-use Rattle.capstep.specs.Affected.{affected_by, is_listing, session_changed_by}
+use Rattle.capcore.proofs.SoundEnd.{none-sized}
+use Rattle.capcore.specs.Affected.{affected_by, is_listing, session_changed_by}
 use Rattle.capcore.proofs.Bounded.{found-keeps}
 use Rattle.capcore.proofs.Common.{Answer, AreGiven, Awaits, Direct, Directory, Ended, Event, File, Gives, IsAnswered, IsDirect, IsSound, IsTable, IsTree}
 use Rattle.capcore.proofs.Common.{LeavesEntries, Rejection, Reply, Says, Settles, Shows, State, Step, StepReply, child, direct, effect, effect_unless}

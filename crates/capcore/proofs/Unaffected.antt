@@ -14,8 +14,8 @@ use Rattle.inotree.proofs.Elsewhere.{field-changed, not_next}
 use Rattle.inotree.specs.Calls.{changed, with_new}
 use Rattle.sessiontab.proofs.Elsewhere.{session-kept}
 use Rattle.sessiontab.specs.Calls.{with_session, without_blocked}
-use Rattle.capstep.proofs.Knowing.{known-alike}
-use Rattle.capstep.proofs.LeftAlone.{kept-known, none_if}
+use Rattle.capcore.proofs.Knowing.{known-alike}
+use Rattle.capcore.proofs.LeftAlone.{kept-known, none_if}
 use Rattle.lockmachine.proofs.CountsStay.{counted-born, counted-dropped}
 use Rattle.lockmachine.proofs.PolicyElsewhere.{permitted-changed, permitted-new, permitted-session, want-changed, want-new, want-session}
 use Rattle.lockmachine.specs.Locks.{without_ino}

@@ -2,3 +2,12 @@ pub mod Codes
 pub mod SameEvents
 pub mod Promised
 pub mod UnderWay
+pub mod Affected
+pub mod Answered
+pub mod Begun
+pub mod EntryRequest
+pub mod Judged
+pub mod Leaving
+pub mod Serves
+pub mod SessionChange
+pub mod Sweep

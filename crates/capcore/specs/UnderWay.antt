@@ -3,8 +3,8 @@ use Rattle.std.specs.Prelude.{◌≡◌, ◌≤◌, ◌+◌, ℕ, List, [], All,
 use Rattle.capbits.specs.declared.ids.ClientId.{ClientId}
 use Rattle.capbits.specs.declared.ids.Ino.{Ino}
 use Rattle.captable.specs.Table.{IsTable}
-use Rattle.capstep.specs.Affected.{Affects, Knows}
-use Rattle.capstep.specs.Begun.{AreCountedIn, ArePermittedIn, IsReady, among}
+use Rattle.capcore.specs.Affected.{Affects, Knows}
+use Rattle.capcore.specs.Begun.{AreCountedIn, ArePermittedIn, IsReady, among}
 use Rattle.capstep.specs.Known.{AreKnown, ClientViews, StillKnown, known_in}
 use Rattle.capstep.specs.declared.operations.OperationRef.{OperationRef}
 use Rattle.capstep.specs.declared.operations.OperationRef.TheVariants.{Alter, Get, Rename, Rmdir, Unlink}
@@ -19,10 +19,10 @@ use Rattle.step_model.specs.Noted.{view_of}
 use Rattle.step_model.specs.Sound.{AreGiven, IsSound, NumbersLeft}
 use Rattle.step_model.specs.State.{State}
 use Rattle.policy_view.specs.Changes.{AreChanges}
-use Rattle.capstep.specs.EntryRequest.{entry_answer, entry_event}
+use Rattle.capcore.specs.EntryRequest.{entry_answer, entry_event}
 use Rattle.lockmachine.specs.Locks.{IsLockMap}
 use Rattle.lockmachine.specs.Scene.{Scene, plain}
-use Rattle.capstep.specs.declared.output.StepOutput.{StepOutput}
+use Rattle.capcore.specs.declared.output.StepOutput.{StepOutput}
 use Rattle.step_model.specs.Direct as rules
 use Rattle.capcore.specs.declared.parts.ReplyDue.{ReplyDue}
 use Rattle.capcore.specs.declared.parts.ReplyDue.TheVariants.{Awaited, Done, Dropped, Requested}

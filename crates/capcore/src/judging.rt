@@ -7,14 +7,14 @@ ghost use Rattle.capstep.specs.Known.{AreKnown};
 ghost use Rattle.step_model.specs.Judge.{basic_tests, before, judged, rejection_of};
 ghost use Rattle.step_model.specs.Needs.{need};
 ghost use Rattle.lockmachine.specs.Scene.{plain};
-ghost use Rattle.capstep.specs.EntryRequest.{entry_event};
+ghost use Rattle.capcore.specs.EntryRequest.{entry_event};
 ghost use Rattle.step_model.specs.declared.event.Event.TheVariants as event;
 ghost use Rattle.capcore.specs.UnderWay.{event_of};
 
+use crate::entry_request::{EntryRequest, revoked_of};
 use crate::parts::LockEvent;
 use capbits::{Cap, CapSet, Part, Refusal};
 use capgrant::Access;
-use capstep::entry_request::{EntryRequest, revoked_of};
 use capstep::judge::{change_access, change_refusal, denial, operation_rejection};
 use captable::Holder;
 use inotree::Tree;

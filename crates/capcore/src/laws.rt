@@ -27,7 +27,7 @@ ghost use Rattle.step_model.specs.Sound.{IsSound};
 ghost use Rattle.step_model.specs.State.{State};
 ghost use Rattle.step_model.specs.Step.{Step, StepBy};
 ghost use Rattle.step_model.specs.declared.rejection.Rejection.{Rejection};
-ghost use Rattle.capstep.specs.Leaving.{LeavesEntries, with_parts};
+ghost use Rattle.capcore.specs.Leaving.{LeavesEntries, with_parts};
 ghost use Rattle.lockmachine.specs.Inodes.{StateMap};
 ghost use Rattle.lockmachine.specs.Locks.{IsLockMap, with_ino};
 ghost use Rattle.lockmachine.specs.Scene.{Scene};

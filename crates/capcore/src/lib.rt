@@ -3,20 +3,30 @@
 //! Public source: "Capabilities in CephFS" in the Ceph documentation.
 #![tactic(auto)]
 
+mod client;
+mod entry_request;
+mod finish;
 mod giving;
+mod held_below;
 mod judging;
 mod laws;
 mod moving;
+mod output;
 mod own_laws;
 mod parts;
+mod poll;
 mod recalling;
+mod serving_laws;
+mod settle;
 mod shown_laws;
+mod sizes;
+mod start;
 mod step;
 mod step_laws;
+mod step_reply;
 mod world;
 
 pub use capbits::Refusal;
-pub use capstep::serving_laws::{a_serving_changes_what_it_moves, a_serving_keeps_what_exists};
 pub use capstep::stop::Stop;
 pub use giving::{a_recall_leaves_all_but_the_marks, telling_leaves_all_but_what_was_told};
 pub use laws::{
@@ -29,6 +39,7 @@ pub use laws::{
 pub use lockmachine::Change;
 pub use own_laws::what_is_served_at_once_is_not_rejected;
 pub use policy_view::{View, ViewChange};
+pub use serving_laws::{a_serving_changes_what_it_moves, a_serving_keeps_what_exists};
 pub use step::Core;
 pub use step_laws::an_event_is_a_step_once_it_has_ended;
 pub use step_model::{

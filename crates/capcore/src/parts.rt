@@ -1,9 +1,9 @@
 //! The parts of the core that a step changes, the events that may move locks, and what such an event leaves.
 
+use crate::entry_request::EntryRequest;
+use crate::settle::Affected;
 use capbits::{ClientId, Ticket};
 use capstep::OperationRef;
-use capstep::entry_request::EntryRequest;
-use capstep::settle::Affected;
 use captable::Holder;
 use lockmachine::{Change, KeptScene};
 use sessiontab::SessionChange;

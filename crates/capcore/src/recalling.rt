@@ -1,13 +1,13 @@
 //! The step of a recall: clients are asked to release what they have not used for longest.
 ghost use Rattle.std.specs.Prelude.{◌≡◌, IfOk, OnErr, OnOk};
-ghost use Rattle.capstep.specs.Answered.{IsAnswered};
+ghost use Rattle.capcore.specs.Answered.{IsAnswered};
 ghost use Rattle.step_model.specs.Noted.{view_of};
 ghost use Rattle.policy_view.specs.Changes.{AreChanges};
 ghost use Rattle.step_model.specs.declared.event.Event.TheVariants as event;
 
+use crate::output::StepOutput;
+use crate::step_reply::StepReply;
 use crate::world::World;
-use capstep::output::StepOutput;
-use capstep::step_reply::StepReply;
 use std::alloc::AllocError;
 use step_model::{EndedList, Reply};
 

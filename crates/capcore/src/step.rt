@@ -8,11 +8,11 @@ ghost use Rattle.lockmachine.specs.Locks.{lock_at};
 ghost use Rattle.capstep.specs.declared.stop.Stop.TheVariants as stop_kind;
 ghost use Rattle.capcore.specs.Promised.{IsPromised};
 
+use crate::output::StepOutput;
 use crate::world::World;
 use capbits::{ClientId, Ino, Part, PassId};
 use capspec::FsName;
 use capstep::history::make_room;
-use capstep::output::StepOutput;
 use capstep::stop::Stop;
 use captable::Entry;
 use inotree::Tree;

@@ -9,7 +9,7 @@ use Rattle.std.proofs.lemmas.List.Concat.{flat_map-append}
 use Rattle.std.proofs.lemmas.List.Elements.{All-cons, All-nil}
 use Rattle.std.proofs.Math.Seq.{drop-append_seam, take-append_seam}
 use Rattle.capspec.specs.declared.grant.Grant.{Grant}
-use Rattle.capspec.specs.Bytes.{is_mark}
+use Rattle.byte_sets.specs.Sets.{is_mark}
 use Rattle.capspec.specs.Grants.{AreWordsOf, IsGrant, IsSaidOnce, Reads, fsname_in, gids_in, path_in}
 use Rattle.capspec.specs.Items.{IsItem, Item}
 use Rattle.capspec.specs.Items.Item.{FsName, Gids, Path, RootSquash, Uid}

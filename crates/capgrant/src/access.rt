@@ -30,15 +30,16 @@ impl fmt::Display for Access {
     ghost output = { λ access. Some (access_word access) };
 
     fn fmt<W: fmt::Write>(&self, f: &mut fmt::Formatter<W>) -> fmt::Result {
-        match self {
-            Access::Read => f.write_str("read"),
-            Access::Write => f.write_str("write"),
-            Access::SetVxattr => f.write_str("vxattr"),
-            Access::Snapshot => f.write_str("snapshot"),
-            Access::Chmod => f.write_str("chmod"),
-            Access::Chown(uid) => write!(f, "chown:{uid}"),
-            Access::Chgrp(gid) => write!(f, "chgrp:{gid}"),
-        }
+        let word = match self {
+            Access::Read => "read",
+            Access::Write => "write",
+            Access::SetVxattr => "vxattr",
+            Access::Snapshot => "snapshot",
+            Access::Chmod => "chmod",
+            Access::Chown(uid) => return write!(f, "chown:{uid}"),
+            Access::Chgrp(gid) => return write!(f, "chgrp:{gid}"),
+        };
+        f.write_str(word)
     }
 }
 

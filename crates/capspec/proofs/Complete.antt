@@ -8,12 +8,13 @@ use Rattle.std.proofs.lemmas.Bool.Decides.{nat_tests}
 use Rattle.std.proofs.lemmas.List.{append-nil}
 use Rattle.std.proofs.lemmas.List.Elements.{filter_map-append}
 use Rattle.std.proofs.lemmas.List.Folds.{list_all-append}
-use Rattle.capspec.specs.declared.bytes.ByteSet.TheVariants.{Plain, White}
+use Rattle.byte_sets.specs.declared.sets.ByteSet.TheVariants.{Plain, White}
 use Rattle.capspec.specs.declared.flags.Flags4.{Flags4}
 use Rattle.capspec.specs.declared.flags.Flags4.TheVariants.{R, Rw, Rwp, Rwps, Rws}
 use Rattle.capspec.specs.declared.grant.Grant.{Grant}
 use Rattle.capspec.specs.declared.items.Key.TheVariants as keys
-use Rattle.capspec.specs.Bytes.{begins, ends_grant, ends_word, is_in, is_mark, is_white}
+use Rattle.byte_sets.specs.Sets.{begins, is_in, is_mark, is_white}
+use Rattle.capspec.specs.Bytes.{ends_grant, ends_word}
 use Rattle.capspec.specs.Flags.{IsFlags}
 use Rattle.capspec.specs.Grants.{AreItemsOf, AreWordsOf, IsGap, IsGrant, IsSaidOnce, Reads, fsname_in, gids_in, path_in, root_squash_in, uid_in}
 use Rattle.capspec.specs.Items.{IsItem, Item, key_of}

@@ -10,8 +10,8 @@ use Rattle.std.proofs.lemmas.List.Sums.{count_by-le-length, length-filter}
 use Rattle.std.proofs.lemmas.List.Elements.{filter-append}
 use Rattle.std.proofs.Math.Seq.{take-append_seam}
 use Rattle.std.proofs.lemmas.Slice.Eq.{bytes_eq-Decides, starts_is}
-use Rattle.capspec.specs.Bytes.{is_in}
-use Rattle.capspec.specs.declared.bytes.ByteSet.TheVariants.{AllBut}
+use Rattle.byte_sets.specs.Sets.{is_in}
+use Rattle.byte_sets.specs.declared.sets.ByteSet.TheVariants.{AllBut}
 use Rattle.capspec.specs.Paths.{names_of, slashed}
 use Rattle.capspec.proofs.Fronts.{which}
 use Rattle.capspec.proofs.Paths.{has_bytes, is_slash, names_of-name, names_of-slashes}

@@ -2,9 +2,10 @@
 use Rattle.std.proofs.Common.{◌≡◌, ℕ, ◌⊎◌, Bool, true, false, cond, eqb, List, [], ◌∷◌, ◌++◌, refl, sym, ap, subst, ◌∙◌, inl, inr}
 use Rattle.std.specs.List.{list_all}
 use Rattle.std.proofs.lemmas.Bool.{and_parts, eqb-true, true≢false}
-use Rattle.capspec.specs.declared.bytes.ByteSet.{ByteSet}
-use Rattle.capspec.specs.declared.bytes.ByteSet.TheVariants.{Plain}
-use Rattle.capspec.specs.Bytes.{SplitsWhile, begins, ends_word, is_in}
+use Rattle.byte_sets.specs.declared.sets.ByteSet.{ByteSet}
+use Rattle.byte_sets.specs.declared.sets.ByteSet.TheVariants.{Plain}
+use Rattle.byte_sets.specs.Sets.{SplitsWhile, begins, is_in}
+use Rattle.capspec.specs.Bytes.{ends_word}
 use Rattle.capspec.specs.Words.{behind_word, front_while, plain_word, rest_while}
 
 pub front_is : (test : ℕ → Bool) (front rest : List ℕ) → list_all test front ≡ true → begins test rest ≡ false → front_while test (front ++ rest) ≡ front

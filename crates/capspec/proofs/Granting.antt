@@ -7,7 +7,7 @@ use Rattle.std.specs.Global.{Vec}
 use Rattle.std.specs.declared.alloc.AllocError.{AllocError}
 use Rattle.std.proofs.lemmas.Bool.{and_parts, eqb-true, not-true, true≢false}
 use Rattle.std.proofs.lemmas.List.{append-nil, append_cancel_left, nil_from_length}
-use Rattle.capspec.specs.declared.bytes.ByteSet.TheVariants.{Plain, White}
+use Rattle.byte_sets.specs.declared.sets.ByteSet.TheVariants.{Plain, White}
 use Rattle.capspec.specs.declared.draft.Draft.{Draft}
 use Rattle.capspec.specs.declared.fault.SpecFault.{SpecFault}
 use Rattle.capspec.specs.declared.fault.SpecFaultKind.{SpecFaultKind}
@@ -21,7 +21,8 @@ use Rattle.capspec.proofs.Fronts.{behind_is, front_parts, plain_is, rest_is, spl
 use Rattle.capspec.proofs.OneReading.{reads_no_fault, reads_once}
 use Rattle.capspec.specs.declared.flags.Flags4.TheVariants.{R, Rw, Rwp, Rwps, Rws}
 use Rattle.capspec.specs.declared.grant.Grant.{Grant}
-use Rattle.capspec.specs.Bytes.{SplitsWhile, ends_grant, ends_word, is_in, is_mark, is_white}
+use Rattle.byte_sets.specs.Sets.{SplitsWhile, is_in, is_mark, is_white}
+use Rattle.capspec.specs.Bytes.{ends_grant, ends_word}
 use Rattle.capspec.specs.Draft.{grant_of, no_items}
 use Rattle.capspec.specs.Flags.{IsFlags}
 use Rattle.capspec.specs.Grants.{AreNoneOrRead, IsGrant, Reads}

@@ -1,4 +1,3 @@
-pub mod Splits
 pub mod Paths
 pub mod Separating
 pub mod Taken

@@ -6,8 +6,8 @@ use Rattle.std.proofs.lemmas.Bool.{and_parts, lt-ltb}
 use Rattle.std.proofs.lemmas.Bool.Decides.{nat_tests}
 use Rattle.std.proofs.lemmas.List.Splits.{length-slice_split, slice_split-cons_no, slice_split-cons_yes}
 use Rattle.std.proofs.lemmas.List.Sums.{count_by-le-length, length-filter}
-use Rattle.capspec.specs.declared.bytes.ByteSet.TheVariants.{Only}
-use Rattle.capspec.specs.Bytes.{SplitsWhile}
+use Rattle.byte_sets.specs.declared.sets.ByteSet.TheVariants.{Only}
+use Rattle.byte_sets.specs.Sets.{SplitsWhile}
 use Rattle.capspec.specs.Paths.{are_few_and_short, names_of}
 use Rattle.capspec.proofs.Fronts.{which}
 use Rattle.capspec.proofs.Paths.{has_bytes, is_slash, names_of-slashes}

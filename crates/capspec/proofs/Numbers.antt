@@ -8,11 +8,11 @@ use Rattle.std.proofs.lemmas.Str.Parse.{digits_value-take-le}
 use Rattle.std.specs.Char.{digit_value}
 use Rattle.std.specs.List.{list_all}
 use Rattle.std.specs.Str.Parse.{AllDigits, digits_value}
-use Rattle.capspec.specs.Bytes.{begins}
+use Rattle.byte_sets.specs.Sets.{begins}
 use Rattle.capspec.specs.Items.{IsNumber}
 use Rattle.capspec.specs.Words.{front_while, is_digit, rest_while}
 use Rattle.capspec.proofs.Fronts.{front_is, rest_is}
-use Rattle.capspec.proofs.Splits.{begins-drop}
+use Rattle.byte_sets.proofs.Splits.{begins-drop}
 use Rattle.capspec.proofs.Taken.{no_digit}
 use Rattle.capspec.proofs.Valued.{all_digits}
 

@@ -7,8 +7,8 @@ use Rattle.std.proofs.lemmas.Bool.Decides.{nat_tests}
 use Rattle.std.proofs.lemmas.List.{append-nil}
 use Rattle.std.proofs.lemmas.List.Elements.{All-from_recursion}
 use Rattle.std.proofs.lemmas.List.Splits.{slice_split-cons_yes, slice_split_at, slice_split_none}
-use Rattle.capspec.specs.declared.bytes.ByteSet.TheVariants.{AllBut, Only}
-use Rattle.capspec.specs.Bytes.{SplitsWhile, begins, is_in}
+use Rattle.byte_sets.specs.declared.sets.ByteSet.TheVariants.{AllBut, Only}
+use Rattle.byte_sets.specs.Sets.{SplitsWhile, begins, is_in}
 use Rattle.capspec.specs.Paths.{names_of}
 
 abbrev pub is_slash : ℕ → Bool

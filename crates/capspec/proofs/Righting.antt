@@ -4,12 +4,13 @@ use Rattle.std.proofs.Common.{inl, inr}
 use Rattle.std.specs.Prelude.{MatchBool, codes, if◌then◌else◌}
 use Rattle.std.specs.List.{list_all}
 use Rattle.std.proofs.lemmas.Bool.{and_parts, true≢false}
-use Rattle.capspec.specs.declared.bytes.ByteSet.TheVariants.{AllBut}
+use Rattle.byte_sets.specs.declared.sets.ByteSet.TheVariants.{AllBut}
 use Rattle.capspec.specs.declared.fault.SpecFaultKind.{SpecFaultKind}
 use Rattle.capspec.specs.declared.fault.SpecFaultKind.TheVariants as kinds
 use Rattle.capspec.specs.declared.items.Key.{Key}
 use Rattle.capspec.specs.declared.items.Key.TheVariants as keys
-use Rattle.capspec.specs.Bytes.{ends_word, is_bare_path_byte, is_fs_name_byte, is_in}
+use Rattle.byte_sets.specs.Sets.{is_bare_path_byte, is_fs_name_byte, is_in}
+use Rattle.capspec.specs.Bytes.{ends_word}
 use Rattle.capspec.specs.Items.{IsBare, IsNumber, IsPath, IsQuotedBy, IsValue, Item, can_be_path, is_comma, key_of}
 use Rattle.capspec.specs.Items.Item.{FsName, Gids, Path, RootSquash, Uid}
 use Rattle.capspec.specs.Paths.{names_of}

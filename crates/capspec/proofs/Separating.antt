@@ -10,7 +10,8 @@ use Rattle.std.proofs.lemmas.List.Elements.{All-from_recursion}
 use Rattle.std.proofs.lemmas.List.Folds.{list_all-append}
 use Rattle.std.proofs.lemmas.List.Splits.{slice_split_at, slice_split_none}
 use Rattle.capspec.specs.declared.fault.SpecFaultKind.TheVariants as kinds
-use Rattle.capspec.specs.Bytes.{TakesWord, begins, ends_word}
+use Rattle.byte_sets.specs.Sets.{begins}
+use Rattle.capspec.specs.Bytes.{TakesWord, ends_word}
 use Rattle.capspec.specs.Separated.{AreSeparated}
 use Rattle.capspec.specs.Items.{IsNumber, IsValue, is_comma}
 use Rattle.capspec.specs.Items.Item.{Gids}

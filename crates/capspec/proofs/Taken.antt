@@ -10,11 +10,12 @@ use Rattle.std.proofs.lemmas.Bool.Decides.{nat_tests}
 use Rattle.std.proofs.lemmas.List.{nil_from_length}
 use Rattle.std.proofs.lemmas.Slice.Eq.{bytes_eq-Decides}
 use Rattle.std.proofs.lemmas.Str.{digit_value_digit}
-use Rattle.capspec.specs.declared.bytes.ByteSet.TheVariants.{AllBut, BarePath, Plain}
+use Rattle.byte_sets.specs.declared.sets.ByteSet.TheVariants.{AllBut, BarePath, Plain}
 use Rattle.capspec.specs.declared.fault.SpecFaultKind.{SpecFaultKind}
 use Rattle.capspec.specs.declared.fault.SpecFaultKind.TheVariants as kinds
 use Rattle.capspec.specs.declared.items.Key.TheVariants as keys
-use Rattle.capspec.specs.Bytes.{SplitsWhile, TakesWord, begins, ends_word, is_bare_path_byte, is_in, is_mark, is_white}
+use Rattle.byte_sets.specs.Sets.{SplitsWhile, begins, is_bare_path_byte, is_in, is_mark, is_white}
+use Rattle.capspec.specs.Bytes.{TakesWord, ends_word}
 use Rattle.capspec.specs.Items.{IsNumber, IsPath, IsPlainOrQuoted, IsQuotedBy, can_be_path, is_control}
 use Rattle.capspec.specs.Items.Item.{FsName, Gids, Path, RootSquash, Uid}
 use Rattle.capspec.specs.Names.{IsFsName}

@@ -8,8 +8,9 @@ use Rattle.capspec.specs.declared.grant.Grant.{Grant}
 use Rattle.capspec.specs.declared.items.Key.{Key}
 use Rattle.capspec.specs.declared.items.Key.TheVariants as keys
 use Rattle.capspec.specs.declared.reading.Refusal.{Refusal}
-use Rattle.capspec.specs.Bytes.{ends_word, is_in}
-use Rattle.capspec.specs.declared.bytes.ByteSet.TheVariants.{AllBut}
+use Rattle.byte_sets.specs.Sets.{is_in}
+use Rattle.capspec.specs.Bytes.{ends_word}
+use Rattle.byte_sets.specs.declared.sets.ByteSet.TheVariants.{AllBut}
 use Rattle.capspec.specs.Items.{Item}
 use Rattle.capspec.specs.Words.{IsWrongFirst, IsWrongGids, IsWrongItem, IsWrongOther, IsWrongPath, IsWrongQuoted, IsWrongSecond, IsWrongValue, front_while}
 use Rattle.capspec.specs.Words.{is_quote, next, plain_word, rest_while}

@@ -9,10 +9,11 @@ use Rattle.std.proofs.lemmas.Bool.{and_parts, eqb-true, not-true}
 use Rattle.std.proofs.lemmas.Bool.Decides.{nat_tests}
 use Rattle.std.proofs.lemmas.List.{append-nil}
 use Rattle.std.proofs.lemmas.Str.Parse.{digit_from_value}
-use Rattle.capspec.specs.declared.bytes.ByteSet.TheVariants.{AllBut, Plain}
+use Rattle.byte_sets.specs.declared.sets.ByteSet.TheVariants.{AllBut, Plain}
 use Rattle.capspec.specs.declared.items.Key.{Key}
 use Rattle.capspec.specs.declared.items.Key.TheVariants as keys
-use Rattle.capspec.specs.Bytes.{begins, ends_word, is_bare_path_byte, is_fs_name_byte, is_in, is_mark, is_white}
+use Rattle.byte_sets.specs.Sets.{begins, is_bare_path_byte, is_fs_name_byte, is_in, is_mark, is_white}
+use Rattle.capspec.specs.Bytes.{ends_word}
 use Rattle.capspec.specs.Items.{IsNumber, IsPath, IsQuotedBy, IsValue, Item, is_comma, key_of}
 use Rattle.capspec.specs.Items.Item.{FsName, Gids, Path, RootSquash, Uid}
 use Rattle.capspec.specs.Names.{IsFsName}

@@ -6,7 +6,7 @@ use Rattle.std.specs.Option.{option_map, option_to_list}
 use Rattle.std.proofs.lemmas.Bool.{not-false, true≢false}
 use Rattle.std.proofs.lemmas.List.{append-nil}
 use Rattle.std.proofs.lemmas.List.Elements.{filter_map-append}
-use Rattle.capspec.specs.declared.bytes.ByteSet.TheVariants.{White}
+use Rattle.byte_sets.specs.declared.sets.ByteSet.TheVariants.{White}
 use Rattle.capspec.specs.declared.draft.Draft.{Draft}
 use Rattle.capspec.specs.declared.fault.SpecFaultKind.{SpecFaultKind}
 use Rattle.capspec.specs.declared.fault.SpecFaultKind.TheVariants as kinds
@@ -17,7 +17,8 @@ use Rattle.capspec.specs.declared.reading.Refusal.{Refusal}
 use Rattle.capspec.specs.Words.{BeginsWithItem, IsWrongItem, next}
 use Rattle.capspec.specs.Faults.{ItemsGive, fault_at, gids_item, grant_end, grant_ends, is_said, next_item, stood, wrong_item}
 use Rattle.capspec.proofs.Fronts.{split_rest, which}
-use Rattle.capspec.specs.Bytes.{SplitsWhile, ends_grant, ends_word, is_mark, is_white}
+use Rattle.byte_sets.specs.Sets.{SplitsWhile, is_mark, is_white}
+use Rattle.capspec.specs.Bytes.{ends_grant, ends_word}
 use Rattle.capspec.specs.Draft.{Adds, AddsItem, grant_of, has, names_in, no_items}
 use Rattle.capspec.specs.Grants.{AreItemsOf, AreWordsOf, IsGap, IsSaidOnce, fsname_in, gids_in, path_in, root_squash_in, uid_in}
 use Rattle.capspec.specs.Items.{IsItem, Item, key_of}

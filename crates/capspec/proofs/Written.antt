@@ -10,7 +10,7 @@ use Rattle.std.proofs.lemmas.List.Elements.{filter_map-append}
 use Rattle.capspec.specs.declared.flags.Flags4.{Flags4}
 use Rattle.capspec.specs.declared.flags.Flags4.TheVariants.{R, Rw, Rwp, Rwps, Rws}
 use Rattle.capspec.specs.declared.grant.Grant.{Grant}
-use Rattle.capspec.specs.Bytes.{is_mark}
+use Rattle.byte_sets.specs.Sets.{is_mark}
 use Rattle.capspec.specs.Flags.{IsFlags, flags_text}
 use Rattle.capspec.specs.Grants.{AreItemsOf, AreNoneOrRead, AreWordsOf, IsGrant, IsSaidOnce, Reads, fsname_in, gids_in, path_in, root_squash_in, uid_in}
 use Rattle.capspec.specs.Items.{IsItem, IsNumber, Item, is_comma}

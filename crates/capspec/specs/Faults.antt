@@ -10,7 +10,8 @@ use Rattle.capspec.specs.declared.grant.Grant.{Grant}
 use Rattle.capspec.specs.declared.items.Key.{Key}
 use Rattle.capspec.specs.declared.items.Key.TheVariants as keys
 use Rattle.capspec.specs.declared.reading.Refusal.{Refusal}
-use Rattle.capspec.specs.Bytes.{ends_grant, is_white}
+use Rattle.byte_sets.specs.Sets.{is_white}
+use Rattle.capspec.specs.Bytes.{ends_grant}
 use Rattle.capspec.specs.Flags.{IsFlags}
 use Rattle.capspec.specs.Grants.{AreItemsOf, fsname_in, gids_in, path_in, root_squash_in, uid_in}
 use Rattle.capspec.specs.Items.{Item, key_of}

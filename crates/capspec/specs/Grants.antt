@@ -2,7 +2,7 @@
 use Rattle.std.specs.Prelude.{◌≡◌, ◌⊎◌, ℕ, ◌<◌, ◌≤◌, Option, Some, None, Bool, true, false, List, [], ◌∷◌, ◌++◌, length, codes, filter_map, IsTrue}
 use Rattle.std.specs.List.{list_all}
 use Rattle.capspec.specs.declared.grant.Grant.{Grant}
-use Rattle.capspec.specs.Bytes.{is_mark, is_white}
+use Rattle.byte_sets.specs.Sets.{is_mark, is_white}
 use Rattle.capspec.specs.Flags.{IsFlags}
 use Rattle.capspec.specs.Items.{IsItem, Item}
 use Rattle.capspec.specs.Separated.{AreSeparated}

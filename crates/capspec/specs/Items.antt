@@ -4,7 +4,7 @@ use Rattle.std.specs.List.{list_all, list_any}
 use Rattle.std.specs.Str.Parse.{IsNumeral, digits_value}
 use Rattle.capspec.specs.declared.items.Key.{Key}
 use Rattle.capspec.specs.declared.items.Key.TheVariants as keys
-use Rattle.capspec.specs.Bytes.{is_bare_path_byte}
+use Rattle.byte_sets.specs.Sets.{is_bare_path_byte}
 use Rattle.capspec.specs.Names.{IsFsName}
 use Rattle.capspec.specs.Paths.{are_few_and_short, names_of}
 use Rattle.capspec.specs.Separated.{AreSeparated}

@@ -1,13 +1,14 @@
 -- The words of a grant text, and what is wrong with one: each kind of fault beside its test, in the order of the tests.
 use Rattle.std.specs.Prelude.{◌≡◌, ◌≢◌, ◌⊎◌, ◌≤◌, ◌<◌, ℕ, Bool, false, not, ◌==◌, ◌||◌, ◌&&◌, List, [], ◌∷◌, ◌++◌, length, codes, IsTrue, IsFalse, MatchBool}
 use Rattle.std.specs.Prelude.{if◌then◌else◌}
-use Rattle.capspec.specs.declared.bytes.ByteSet.TheVariants.{AllBut, Plain, White}
+use Rattle.byte_sets.specs.declared.sets.ByteSet.TheVariants.{AllBut, Plain, White}
 use Rattle.capspec.specs.declared.fault.SpecFaultKind.{SpecFaultKind}
 use Rattle.capspec.specs.declared.fault.SpecFaultKind.TheVariants as kinds
 use Rattle.capspec.specs.declared.flags.Flags4.{Flags4}
 use Rattle.capspec.specs.declared.items.Key.{Key}
 use Rattle.capspec.specs.declared.items.Key.TheVariants as keys
-use Rattle.capspec.specs.Bytes.{TakesWord, begins, ends_word, is_in, is_within}
+use Rattle.byte_sets.specs.Sets.{begins, is_in, is_within}
+use Rattle.capspec.specs.Bytes.{TakesWord, ends_word}
 use Rattle.capspec.specs.Flags.{IsFlags, is_left_out}
 use Rattle.capspec.specs.Items.{IsItem, IsNumber, IsValue, Item, is_comma, key_of, key_text}
 use Rattle.capspec.specs.Separated.{AreSeparated}

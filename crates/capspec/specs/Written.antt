@@ -3,7 +3,7 @@ use Rattle.std.specs.Prelude.{â„•, Bool, true, false, Option, Some, None, not, â
 use Rattle.std.specs.Fmt.{decimal}
 use Rattle.std.specs.List.{join_by, list_all}
 use Rattle.capspec.specs.declared.grant.Grant.{Grant}
-use Rattle.capspec.specs.Bytes.{is_bare_path_byte}
+use Rattle.byte_sets.specs.Sets.{is_bare_path_byte}
 use Rattle.capspec.specs.Flags.{flags_text}
 use Rattle.capspec.specs.Paths.{slashed}
 

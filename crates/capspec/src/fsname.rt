@@ -1,7 +1,7 @@
 //! The name of a file system.
 
-use crate::bytes::{ByteSet, split_while};
 use arrayvec::ArrayVec;
+use byte_sets::{ByteSet, split_while};
 use std::marker::Model;
 
 /// The longest name of a file system, in bytes.

@@ -6,10 +6,11 @@ ghost use Rattle.capspec.specs.Draft.{AddsItem, AddsValue, has};
 ghost use Rattle.capspec.specs.Items.{key_text};
 ghost use Rattle.capspec.specs.Words.{IsKeyed, IsWrongItem, IsWrongOther, IsWrongValue, plain_word};
 
-use crate::bytes::{ByteSet, ends_word, split_while, strip};
+use crate::bytes::{ends_word, strip};
 use crate::draft::Draft;
 use crate::fault::SpecFaultKind;
 use crate::values::{read_fsname, read_gids, read_path, read_uid};
+use byte_sets::{ByteSet, split_while};
 
 /// What an item speaks of.
 #[derive(Clone, Copy, PartialEq, Eq)]

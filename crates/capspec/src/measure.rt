@@ -3,8 +3,8 @@
 ghost use Rattle.std.specs.Prelude.{◌≡◌, ◌==◌, ◌≤◌, length, count_by, IsTrue};
 ghost use Rattle.capspec.specs.Paths.{are_few_and_short, names_of};
 
-use crate::bytes::{ByteSet, split_while};
 use crate::path::{MAX_NAME, MAX_NAMES, has_few_short_names};
+use byte_sets::{ByteSet, split_while};
 
 // The longest text whose slashes a byte can count.
 const MAX_COUNT: usize = 255;

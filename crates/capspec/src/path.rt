@@ -4,8 +4,8 @@ ghost use Rattle.std.specs.Prelude.{◌≡◌, [], ◌∷◌, ◌++◌, IfOk, Ma
 ghost use Rattle.capspec.specs.Paths.{are_few_and_short, has_double_slash, names_of, slashed};
 ghost use Rattle.capspec.specs.Written.{can_be_bare, has_no_double_quote, path_text, written_path};
 
-use crate::bytes::{ByteSet, split_while};
 use crate::tree_path::TreePath;
+use byte_sets::{ByteSet, split_while};
 use std::alloc::{AllocError, Global};
 
 /// How many names the path of a grant may have.

@@ -11,12 +11,13 @@ ghost use Rattle.capspec.specs.Words.{IsWrongSecond};
 ghost use Rattle.capspec.specs.declared.flags.Flags4.{Flags4};
 ghost use Rattle.capspec.specs.declared.grant.Grant.{Grant};
 
-use crate::bytes::{ByteSet, ends_grant, ends_word, split_while, strip};
+use crate::bytes::{ends_grant, ends_word, strip};
 use crate::draft::Draft;
 use crate::fault::{SpecFault, SpecFaultKind};
 use crate::flags::{Flags4, is_left_out};
 use crate::grant::{Grant, Grants, MAX_GRANTS};
 use crate::items::read_item;
+use byte_sets::{ByteSet, split_while};
 use std::alloc::{AllocError, Global};
 
 /// A fault, and how many bytes are left of the text from its place on.

@@ -2,7 +2,8 @@
 
 ghost use Rattle.std.specs.Prelude.{◌≡◌, ◌∷◌, ℕ, IfOk, IfErr, IfSome, IfNone, IsTrue, IsFalse};
 ghost use Rattle.std.specs.List.{list_any};
-ghost use Rattle.capspec.specs.Bytes.{TakesWord, begins};
+ghost use Rattle.byte_sets.specs.Sets.{begins};
+ghost use Rattle.capspec.specs.Bytes.{TakesWord};
 ghost use Rattle.capspec.specs.Items.{IsNumber, IsPath, IsValue, can_be_path, is_control};
 ghost use Rattle.capspec.specs.Items.Item.{FsName as FsNameItem};
 ghost use Rattle.capspec.specs.Items.Item.{Gids as GidsItem};
@@ -11,11 +12,12 @@ ghost use Rattle.capspec.specs.declared.items.Key.TheVariants.{FsName as FsNameK
 ghost use Rattle.capspec.specs.declared.items.Key.TheVariants.{Uid as UidKey};
 ghost use Rattle.capspec.specs.declared.items.Key.TheVariants.{Gids as GidsKey};
 
-use crate::bytes::{ByteSet, ends_word, split_bare_path, split_while};
+use crate::bytes::ends_word;
 use crate::fault::SpecFaultKind;
 use crate::fsname::FsName;
 use crate::gids::Gids;
 use crate::measure::has_fit_names;
+use byte_sets::{ByteSet, split_bare_path, split_while};
 
 /// The name of a file system, or none for `*`, which stands for every one.
 pub(crate) fn read_fsname(text: &[u8]) -> Result<(Option<FsName>, &[u8]), SpecFaultKind>

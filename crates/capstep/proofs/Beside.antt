@@ -4,7 +4,7 @@ use Rattle.std.specs.List.{find}
 use Rattle.std.specs.Option.{option_map}
 use Rattle.captable.proofs.Searches.{find-filter_gone, find-filter_kept, find-map, find_passes}
 use Rattle.captable.specs.Kept.{AreBeside, KeptRow, KeptTable, is_kept_of, keeping, kept_without_client}
-use Rattle.capstep.proofs.CommonActs.{ClientId, ClientView, EntryRow, Holder, entry_at, entry_of, holders_of_rows, is_among, is_row_of, same, same-is}
+use Rattle.capstep.proofs.Common.{ClientId, ClientView, EntryRow, Holder, entry_at, entry_of, holders_of_rows, is_among, is_row_of, same, same-is}
 use Rattle.capstep.specs.Known.{ClientViews, sets_of}
 
 -- ---- who has an entry

@@ -4,7 +4,7 @@ use Rattle.std.proofs.lemmas.List.{length-take-le}
 use Rattle.std.specs.Prelude.{map as each}
 use Rattle.step_model.specs.declared.outcome.Ended.{Ended}
 use Rattle.step_model.specs.Serving.{dropped_of}
-use Rattle.capstep.proofs.CommonActs.{ClientId, Request, is_of_client}
+use Rattle.capstep.proofs.Common.{ClientId, Request, is_of_client}
 
 -- those of a client among these requests, dropped
 abbrev pub dropped_among : ClientId → List Request → List Ended

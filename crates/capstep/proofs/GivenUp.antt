@@ -4,7 +4,7 @@ use Rattle.std.proofs.Math.Bool.{and-true}
 use Rattle.std.specs.Cmp.{nat_eq_equiv}
 use Rattle.capbits.proofs.Emptiness.{is_empty-no_caps}
 use Rattle.capbits.specs.Caps.{has}
-use Rattle.capbits.specs.Sets.{covers, has-minus, has-none, has-of_part, is_empty, of_part, same_caps}
+use Rattle.capbits.specs.Sets.{covers, has-minus, has-none, has-of_part, of_part, same_caps}
 use Rattle.capbits.specs.declared.cap.Cap.{Cap}
 use Rattle.capbits.specs.declared.cap.Part.{Part}
 use Rattle.locktable.specs.Rows.{row_of}
@@ -17,7 +17,7 @@ use Rattle.captable.proofs.Tally.{tally, tally-first, tally-parted}
 use Rattle.captable.specs.Calls.{is_of_client, is_of_inode, without_client}
 use Rattle.lockmachine.specs.Counts.{IsCounted, LockId, given_up, has_outside, holders_outside}
 use Rattle.lockmachine.specs.Scene.{outside}
-use Rattle.capstep.proofs.CommonActs.{ClientId, EntryRow, Table, no_caps}
+use Rattle.capstep.proofs.Common.{ClientId, EntryRow, Table, no_caps}
 
 -- who holds nothing, holds nothing that a state does not allow
 pub nothing_outside : (part : Part) (state : StableState) (row : EntryRow) → row.entry.held ≡ no_caps → has_outside part state row ≡ false

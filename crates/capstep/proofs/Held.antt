@@ -4,7 +4,7 @@ use Rattle.std.proofs.Math.Bool.{and-not_self}
 use Rattle.capbits.proofs.Emptiness.{is_empty-no_caps}
 use Rattle.capbits.specs.Caps.{has}
 use Rattle.capbits.specs.Sets.{has-minus, has-none, is_empty, minus, same_caps}
-use Rattle.capstep.proofs.CommonActs.{Caps, Entry, no_caps, renumbered}
+use Rattle.capstep.proofs.Common.{Caps, Entry, no_caps, renumbered}
 
 pub or_inside : (h d : Bool) → (IsTrue d → IsTrue h) → (h || d) ≡ h
 or_inside h d e = grind arith

@@ -4,7 +4,7 @@ use Rattle.std.proofs.Math.Bool.{or-true}
 use Rattle.std.specs.Cmp.{eq_by_cmp_equiv, nat_cmp_total}
 use Rattle.std.specs.Ordering.{eq_by_cmp, nat_cmp}
 use Rattle.std.specs.FinSet as set
-use Rattle.capstep.proofs.CommonActs.{InoSet}
+use Rattle.capstep.proofs.Common.{InoSet}
 use Rattle.capstep.specs.Reach.{Widens}
 
 pub none-there : (k : ℕ) → set.contains (set.empty {R = nat_cmp}) k ≡ false

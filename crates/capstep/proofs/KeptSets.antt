@@ -10,8 +10,8 @@ use Rattle.captable.proofs.Searches.{find-map, find_passes}
 use Rattle.captable.specs.Calls.{entries_on}
 use Rattle.captable.specs.Many.{changed_where, remade}
 use Rattle.captable.specs.Table.{entry_of}
-use Rattle.capstep.proofs.CommonActs.{Caps, ClientView, Entry, EntryRow, Holder, Ino, Table, among-filter, entry_at, holders-filter, holders_of_rows, is_among}
-use Rattle.capstep.proofs.CommonActs.{is_row_of, no_caps, no_sets, row_of-entry, same, same-is, same_equiv}
+use Rattle.capstep.proofs.Common.{Caps, ClientView, Entry, EntryRow, Holder, Ino, Table, among-filter, entry_at, holders-filter, holders_of_rows, is_among}
+use Rattle.capstep.proofs.Common.{is_row_of, no_caps, no_sets, row_of-entry, same, same-is, same_equiv}
 use Rattle.capstep.specs.Known.{ClientViews, KnownAnew, known_anew, known_of, permitted_of, sets_of}
 
 -- ---- of the sets of a holder, one

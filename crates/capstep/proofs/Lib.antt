@@ -1,38 +1,4 @@
 mod Common
-pub mod Among
-pub mod AtEnd
-pub mod Begun
-pub mod CountsKept
-pub mod SoundEnd
-pub mod FirstLocks
-pub mod Forgotten
-pub mod IssuedRows
-pub mod Judging
-pub mod Judged
-pub mod LeftAlone
-pub mod ManyInodes
-pub mod Moved
-pub mod Noting
-pub mod EndsThere
-pub mod OneChange
-pub mod Placed
-pub mod Polling
-pub mod Revoking
-pub mod SameLocks
-pub mod SameOff
-pub mod StayingSound
-pub mod Strays
-pub mod Rejecting
-pub mod SizesOwed
-pub mod EntryRequests
-pub mod Telling
-pub mod Sweeping
-pub mod SoFar
-pub mod ShownSteps
-pub mod NobodyServed
-pub mod Knowing
-pub mod EntryKept
-mod CommonActs
 pub mod Again
 pub mod Memory
 pub mod InoSets
@@ -46,3 +12,4 @@ pub mod Onward
 pub mod Walking
 pub mod Beside
 pub mod GivenUp
+pub mod Opened

@@ -1,6 +1,6 @@
 -- Which requests take memory.
 use Rattle.std.proofs.Common.{◌≡◌, true, arith}
-use Rattle.capstep.proofs.CommonActs.{Operation, takes_memory}
+use Rattle.capstep.proofs.Common.{Operation, takes_memory}
 use Rattle.capstep.specs.Served.{is_rename}
 
 -- one that is to move an inode does, for the name

@@ -10,7 +10,7 @@ use Rattle.std.specs.List.{count_by, find}
 use Rattle.std.specs.Option.{option_or}
 use Rattle.capbits.specs.declared.ids.PassId.{PassId}
 use Rattle.step_model.specs.Numbers.{AreNumbered}
-use Rattle.capstep.proofs.CommonActs.{Row, rows_of}
+use Rattle.capstep.proofs.Common.{Row, rows_of}
 
 -- ---- the last element that passes a test
 

@@ -3,7 +3,7 @@ use Rattle.std.proofs.Common.{◌≡◌, Bool, true, false, cond, Option, Some, 
 use Rattle.std.specs.List.{AllByRecursion, IsDistinct}
 use Rattle.captable.specs.Calls.{newer_in}
 use Rattle.captable.specs.Walks.{first_holder}
-use Rattle.capstep.proofs.CommonActs.{EntryRow, Holder, holders_of_rows, is_row_of, same, same-is, same_equiv}
+use Rattle.capstep.proofs.Common.{EntryRow, Holder, holders_of_rows, is_row_of, same, same-is, same_equiv}
 
 -- the rows from the holder's on
 abbrev pub rows_on : List EntryRow → Holder → List EntryRow

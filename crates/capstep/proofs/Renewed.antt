@@ -16,11 +16,11 @@ use Rattle.inotree.specs.Tree.{is_within}
 use Rattle.inotree.specs.declared.node.Setting.TheVariants.{Gid, Mode, Size, Time, Uid}
 use Rattle.sessiontab.specs.Table.{SessionTable}
 use Rattle.lockmachine.proofs.PolicyElsewhere.{alike-itself, permitted-kept}
-use Rattle.step_model.specs.Changing.{tree_changed}
+use Rattle.step_model.specs.Changing.{tree_after, tree_changed}
 use Rattle.step_model.specs.NotedChanges.{sets_attr}
 use Rattle.lockmachine.specs.declared.request.Change.TheVariants.{RemoveXattr, Set, SetXattr}
-use Rattle.capstep.proofs.CommonActs.{ArePermitted, Caps, Change, ClientView, Entry, EntryRow, Holder, InoSet, IsAlike, Nodes, Outcome, Request, Scene, Table}
-use Rattle.capstep.proofs.CommonActs.{among-filter, entry_at, holders-filter, holders_of_rows, is_among, is_row_of, no_sets, permitted, row_of-entry, same}
+use Rattle.capstep.proofs.Common.{ArePermitted, Caps, Change, ClientView, Entry, EntryRow, Holder, InoSet, IsAlike, Nodes, Outcome, Request, Scene, Table}
+use Rattle.capstep.proofs.Common.{among-filter, entry_at, holders-filter, holders_of_rows, is_among, is_row_of, no_sets, permitted, row_of-entry, same}
 use Rattle.capstep.proofs.Beside.{entry-among}
 use Rattle.capstep.proofs.Walked.{second_true}
 use Rattle.capstep.specs.Known.{ClientViews, known_of, permitted_of}
@@ -187,3 +187,7 @@ module _ (tree : Nodes) (q : Request) (o : Outcome) (affected : InoSet) (s : Sce
         false_from_ne_true (is_within tree.nodes k.ino.0 q.ino.0) (λ below. true≢false (sym (covers moves row among below) ∙ off)) in
         served.alike k.ino.0 (off_within tree k.ino.0 q.ino.0 out) (λ _. out)
   ]
+
+-- where it ended otherwise than as done, the tree stayed
+pub unserved : (tree : Nodes) (q : Request) (o : Outcome) → o ≢ Outcome.Done → tree_after tree q o ≡ tree
+unserved tree q o other = grind arith

@@ -10,7 +10,7 @@ use Rattle.std.specs.Ordering.{eq_by_cmp, nat_cmp}
 use Rattle.std.specs.FinSet as set
 use Rattle.inotree.specs.Tree.{is_within}
 use Rattle.captable.specs.Calls.{is_of_inode}
-use Rattle.capstep.proofs.CommonActs.{EntryRow, Ino, InoSet, Nodes, Table}
+use Rattle.capstep.proofs.Common.{EntryRow, Ino, InoSet, Nodes, Table}
 use Rattle.capstep.proofs.InoSets.{at_more, none-there}
 use Rattle.capstep.specs.Reach.{AreWalked, CoversBelow, Widens}
 

@@ -10,7 +10,7 @@ use Rattle.captable.specs.Kept.{AreBeside, KeptTable, keeping, permitting, with_
 use Rattle.captable.specs.Table.{IsTable}
 use Rattle.captable.specs.Walks.{first_holder}
 use Rattle.capstep.proofs.Beside.{beside-entry, keeping-other, keeping-own}
-use Rattle.capstep.proofs.CommonActs.{Caps, ClientView, EntryRow, Holder, holders-filter, holders_of_rows, is_among, same, same-is, same_equiv}
+use Rattle.capstep.proofs.Common.{Caps, ClientView, EntryRow, Holder, holders-filter, holders_of_rows, is_among, same, same-is, same_equiv}
 use Rattle.capstep.proofs.KeptSets.{some-mapped}
 use Rattle.capstep.proofs.Onward.{Comes, onward, onward-first, onward-next}
 use Rattle.capstep.proofs.Renewed.{Along, along-begins, along-ends, along-more, among-passing, passing}

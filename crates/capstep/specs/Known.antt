@@ -9,6 +9,7 @@ use Rattle.captable.specs.declared.entry.Entry.{Entry}
 use Rattle.captable.specs.declared.entry.EntryRow.{EntryRow}
 use Rattle.captable.specs.declared.entry.Holder.{Holder}
 use Rattle.step_model.specs.Finish.{due}
+use Rattle.lockmachine.specs.Policy.{ArePermitted}
 use Rattle.lockmachine.specs.Scene.{Scene, told_set}
 
 -- what is kept of a holder, and nothing where nothing is
@@ -29,6 +30,11 @@ is_still_known None was now = IsSome now
 -- so it is of each entry of the new table
 abbrev pub StillKnown : Table → Table → ClientViews → ClientViews → Type 0
 StillKnown old new was now = (k : Holder) (e : Entry) → entry_at new k ≡ Some e → is_still_known (entry_at old k) (known_of was k) (known_of now k)
+
+-- what is known of each entry is kept still; and where it was kept what their clients are permitted, it is of a new one too
+pub record StillKept (s : Scene) (new : Table) (was now : ClientViews) : Type 0 where
+  pub known : StillKnown s.table new was now
+  pub permitted : ArePermitted was s.fs s.tree s.sessions s.table → ArePermitted now s.fs s.tree s.sessions new
 
 -- ---- who has all
 

@@ -1,12 +1,3 @@
-pub mod EntryRequest
-pub mod Affected
-pub mod SessionChange
-pub mod Leaving
-pub mod Answered
-pub mod Judged
-pub mod Begun
-pub mod Serves
-pub mod Sweep
 pub mod Operations
 pub mod Served
 pub mod Finishing

@@ -1,5 +1,5 @@
 //! Room in a history.
-ghost use Rattle.std.specs.Prelude.{◌≡◌, ◌+◌, ◌≤◌, ◌<◌, ◌↔◌, Err, length, IfOk, OnOk, vec_len, vec_capacity};
+ghost use Rattle.std.specs.Prelude.{◌≡◌, ◌+◌, ◌^◌, ◌≤◌, ◌<◌, ◌↔◌, Err, length, IfOk, OnOk, vec_len, vec_capacity};
 ghost use Rattle.step_model.specs.Numbers.{AreNumbered, rows_of};
 ghost use Rattle.capstep.specs.declared.stop.Stop.TheVariants as stop_kind;
 
@@ -20,8 +20,17 @@ pub fn make_room(rows: &mut Vec<Row>, max_rows: u32, pass: PassId) -> Result<u64
         return Err(Stop::Full);
     }
     rows.reserve(1)?;
+    Ok(next_number(rows.as_slice(), pass))
+}
+
+// The number of one row more among those of its pass, of which the last tells how many there are.
+fn next_number(rows: &[Row], pass: PassId) -> u64
+    requires numbered { AreNumbered rows.now }
+    requires few { length rows.now < 2 ^ 32 }
+    ensures { result ≡ rows_of pass rows.now + 1 }
+{
     match rows.iter().rev().find(|row| row.pass == pass) {
-        Some(row) => Ok(row.nth + 1),
-        None => Ok(1),
+        Some(row) => row.nth + 1,
+        None => 1,
     }
 }

@@ -1,5 +1,6 @@
 //! What clients are permitted is kept anew where the tree or the grants have changed.
 ghost use Rattle.std.specs.Prelude.{◌≡◌, ◌==◌, ◌&&◌};
+ghost use Rattle.std.specs.FinSet as set;
 ghost use Rattle.inotree.specs.Tree.{Nodes};
 ghost use Rattle.captable.specs.declared.entry.Holder.{Holder};
 ghost use Rattle.step_model.specs.Changing.{tree_changed};
@@ -28,29 +29,32 @@ pub fn renew_served(
     ensures rest { scene.new ≡ record scene.old { table = record scene.old.table { kept = scene.new.table.kept } } }
     ensures told { (k : Holder) → known_of scene.new.table.kept k ≡ known_of scene.old.table.kept k }
 {
+    let Outcome::Done = outcome else {
+        return;
+    };
     let policy = Policy {
         fs: &scene.fs,
         tree: &scene.tree,
         sessions: &scene.sessions,
     };
     let (table, own) = (&mut scene.table, request.ino);
-    match outcome {
-        Outcome::Done => match &request.operation {
-            Operation::Get(_) => {}
-            Operation::Alter(change) => renew_changed(&policy, table, own, change),
-            Operation::Unlink | Operation::Rmdir => renew_on(&policy, table, own),
-            Operation::Rename { .. } => {
-                let mut inos = affected.numbers();
-                'inodes: while let Some(ino) = inos.next() {
-                    renew_on(&policy, table, ino);
-                }
-            }
-        },
-        Outcome::Values(_)
-        | Outcome::Denied { .. }
-        | Outcome::Refused(_)
-        | Outcome::OutOfMemory
-        | Outcome::Dropped => {}
+    match &request.operation {
+        Operation::Get(_) => {}
+        Operation::Alter(change) => renew_changed(&policy, table, own, change),
+        Operation::Unlink | Operation::Rmdir => renew_on(&policy, table, own),
+        Operation::Rename { .. } => renew_on_each(&policy, table, affected),
+    }
+}
+
+// Keeps of each entry on one of these inodes what its client is permitted now.
+fn renew_on_each(policy: &Policy<'_>, table: &mut CapTable, inos: &NonEmptyInoSet)
+    ensures renews { Renews (λ k. set.contains inos.now k.ino.0 && has_entry table.old.entries k)
+        (permitted policy.now.fs.now policy.now.tree.now policy.now.sessions.now) table.old.kept table.new.kept }
+    ensures entries { table.new ≡ record table.old { kept = table.new.kept } }
+{
+    let mut walk = inos.numbers();
+    'inodes: while let Some(ino) = walk.next() {
+        renew_on(policy, table, ino);
     }
 }
 

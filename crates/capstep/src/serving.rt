@@ -1,5 +1,6 @@
 //! How a request that waited for a lock is served: it is judged again, and then its operation is carried out.
 ghost use Rattle.std.specs.Prelude.{◌≡◌, None, Some, true, false, IfOk, OnOk, OnErr};
+ghost use Rattle.std.specs.FinMap as map;
 ghost use Rattle.capbits.specs.Refusal.{first_failing};
 ghost use Rattle.captable.specs.Table.{Table};
 ghost use Rattle.step_model.specs.Changing.{tree_after, tree_changed, tree_with};
@@ -9,13 +10,14 @@ ghost use Rattle.lockmachine.specs.Scene.{scene as scene_of};
 ghost use Rattle.step_model.specs.Serving.{MayEndAs, judged_again, rejection_outcome, takes_memory, values_outcome};
 ghost use Rattle.lockmachine.specs.declared.request.Operation.TheVariants as operation_kind;
 ghost use Rattle.step_model.specs.Serving as words;
-ghost use Rattle.capstep.specs.Served.{call_tests, change_call_tests, is_rename};
+ghost use Rattle.step_model.specs.Settle.{Served as Serving, sized_by};
+ghost use Rattle.capstep.specs.Served.{call_tests, change_call_tests, changed_alone, is_rename};
 
 use crate::judge::operation_rejection;
 use crate::operations::operation_ref;
 use capbits::{Ino, Part};
 use captable::Holder;
-use inotree::{Node, Tree};
+use inotree::{Node, Setting, Tree};
 use lockmachine::{Change, KeptScene, Operation, Request};
 use std::alloc::{AllocError, Global};
 use step_model::{Outcome, PartValues, Rejection, copy_of_rules};
@@ -86,15 +88,7 @@ fn carry_out(
     ensures memory { OnErr result (takes_memory operation.now ≡ true) }
 {
     match operation {
-        Operation::Get(part) => {
-            // Tested before: the inode exists.
-            if let Some(node) = tree.node(ino) {
-                return Ok(Served {
-                    outcome: values_of(alloc, node, *part)?,
-                    for_history: values_of(alloc, node, *part)?,
-                });
-            }
-        }
+        Operation::Get(part) => return read(alloc, tree, ino, *part),
         Operation::Alter(change) => alter(tree, ino, change)?,
         Operation::Unlink => tree.unlink_tested(ino),
         Operation::Rmdir => tree.rmdir_tested(ino),
@@ -123,6 +117,24 @@ pub fn alter(tree: &mut Tree, ino: Ino, change: &Change) -> Result<(), AllocErro
         Change::RemoveXattr { name } => tree.remove_xattr_tested(ino, name.as_slice()),
     }
     Ok(())
+}
+
+// What is read of a part. Tested before: the inode exists.
+fn read(alloc: Global, tree: &Tree, ino: Ino, part: Part) -> Result<Served, AllocError>
+    ensures outcome { IfOk result (λ served. served.outcome ≡ values_outcome part (map.get tree.now.nodes ino.0)) }
+    ensures for_history { IfOk result (λ served. served.for_history ≡ served.outcome) }
+    ensures memory { OnErr result (takes_memory (operation_kind.Get part) ≡ true) }
+{
+    match tree.node(ino) {
+        Some(node) => Ok(Served {
+            outcome: values_of(alloc, node, part)?,
+            for_history: values_of(alloc, node, part)?,
+        }),
+        None => Ok(Served {
+            outcome: Outcome::Done,
+            for_history: Outcome::Done,
+        }),
+    }
 }
 
 // What the inode keeps of the part. A list of attributes is copied.
@@ -158,5 +170,18 @@ fn rejected(rejection: Rejection) -> Served
     Served {
         outcome,
         for_history,
+    }
+}
+
+/// The inode of the request, if it set the size; and the same, if it changed no other.
+pub fn changed_inodes(request: &Request, served: &Served) -> (Option<Ino>, Option<Ino>)
+    ensures sized { result.0 ≡ sized_by (Serving request.now served.now.outcome) }
+    ensures alone { result.1 ≡ changed_alone request.now }
+{
+    let own = Some(request.ino);
+    match (&request.operation, &served.outcome) {
+        (Operation::Rename { .. }, _) => (None, None),
+        (Operation::Alter(Change::Set(Setting::Size(_))), Outcome::Done) => (own, own),
+        _ => (None, own),
     }
 }

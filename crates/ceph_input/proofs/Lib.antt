@@ -2,3 +2,5 @@ pub mod KnownParts
 pub mod KeyringLines
 pub mod Listed
 pub mod ArrayText
+pub mod ItemByItem
+pub mod Unquoting

@@ -1,13 +1,14 @@
 //! Why an auth list gives no grants.
 
 use std::alloc::{AllocError, AllocFailed};
-use thiserror::Error;
+use std::error::Error;
+use std::fmt;
+use std::fmt::Display;
 
 /// Why a text is no auth list, or an auth list gives no grants of an entity.
-#[derive(Clone, Copy, Debug, PartialEq, Eq, Error)]
+#[derive(Clone, Copy, Debug, PartialEq, Eq)]
 pub enum AuthFault {
     /// The text is no JSON.
-    #[error("NotJson at line {line} column {column}")]
     NotJson {
         /// The line at which the JSON reader stopped, from 1.
         line: usize,
@@ -15,24 +16,37 @@ pub enum AuthFault {
         column: usize,
     },
     /// The JSON is no list, and is no object with a list at `auth_dump`.
-    #[error("NoList")]
     NoList,
     /// An item of the list is no entity: it has no text at `entity`, no object at `caps`, or something that is no text at `caps.mds`.
-    #[error("NotAnEntity {number}")]
     NotAnEntity {
         /// The number of the first such item, from 1.
         number: usize,
     },
     /// No entity of the list has the name.
-    #[error("NoEntity")]
     NoEntity,
     /// The first entity of the name has no grants for the MDS.
-    #[error("NoCaps")]
     NoCaps,
     /// No memory was left.
-    #[error("no memory")]
     NoMemory,
 }
+
+impl Display for AuthFault {
+    fn fmt<W: fmt::Write>(&self, f: &mut fmt::Formatter<W>) -> fmt::Result {
+        let text = match self {
+            AuthFault::NotJson { line, column } => {
+                return write!(f, "NotJson at line {line} column {column}");
+            }
+            AuthFault::NotAnEntity { number } => return write!(f, "NotAnEntity {number}"),
+            AuthFault::NoList => "NoList",
+            AuthFault::NoEntity => "NoEntity",
+            AuthFault::NoCaps => "NoCaps",
+            AuthFault::NoMemory => "no memory",
+        };
+        f.write_str(text)
+    }
+}
+
+impl Error for AuthFault {}
 
 impl From<AllocError> for AuthFault {
     ghost use Rattle.std.specs.Prelude.{◌≡◌};

@@ -1,5 +1,5 @@
 //! The command that tells what clients of a running cluster hold and may not.
-ghost use Rattle.std.specs.Prelude.{◌≡◌, ◌⊎◌, OnOk, IfOk, IfErr, IsFalse};
+ghost use Rattle.std.specs.Prelude.{◌≡◌, ◌⊎◌, OnOk, IfOk, IfErr, IsFalse, if◌then◌else◌};
 ghost use Rattle.script_syntax.specs.Watched.{has_ended, has_failed, inner_of};
 ghost use Rattle.cli_queries.specs.AuditArgs.{AnswersAuditArgs, StopsAuditArgs};
 
@@ -90,10 +90,15 @@ pub fn audit<R: Read, W: Write>(
     )?;
     let tree = read_tree(alloc, reader)?;
     let report = audit_report(alloc, audit_args.manner, &fs, &clients, &tree)?;
+    let status = found_status(report.found);
     let text = report.text.as_slice();
-    if report.found {
-        write_text(text, FOUND, writer)
-    } else {
-        write_text(text, DONE, writer)
-    }
+    write_text(text, status, writer)
+}
+
+// The status that tells whether anything was found or could not be judged.
+fn found_status(found: bool) -> u8
+    ensures told { result ≡ (if found then 3 else 0) }
+    ensures either { (result ≡ DONE) ⊎ (result ≡ FOUND) }
+{
+    if found { FOUND } else { DONE }
 }

@@ -158,17 +158,23 @@ fn parse_by<'a>(
 }
 
 fn capd<'a>(alloc: Global) -> Result<Command<'a>, AllocError> {
-    let mut command = Command::new(alloc, CAPD)
+    let commands = subcommands(alloc)?;
+    let command = Command::new(alloc, CAPD)
         .no_binary_name(true)
         .version(VERSION)
         .about("What CephFS clients may do, and why not")
         .after_help(STATUSES)
         .subcommand_required(true)
         .bin_name(CAPD)?;
+    command.subcommands(commands)
+}
+
+fn subcommands<'a>(alloc: Global) -> Result<Vec<Command<'a>>, AllocError> {
+    let mut commands = Vec::new(alloc);
     for usage in &COMMANDS {
-        command = command.subcommand(subcommand(alloc, usage)?)?;
+        commands.push(subcommand(alloc, usage)?)?;
     }
-    Ok(command)
+    Ok(commands)
 }
 
 fn subcommand<'a>(alloc: Global, usage: &Usage) -> Result<Command<'a>, AllocError> {
@@ -177,11 +183,19 @@ fn subcommand<'a>(alloc: Global, usage: &Usage) -> Result<Command<'a>, AllocErro
         usage.about,
         usage.example,
     );
-    let mut command = Command::new(alloc, name).about(about).after_help(example);
-    for word in usage.words {
-        command = command.arg(argument(alloc, word)?)?;
+    let arguments = arguments(alloc, usage.words)?;
+    Command::new(alloc, name)
+        .about(about)
+        .after_help(example)
+        .args(arguments)
+}
+
+fn arguments<'a>(alloc: Global, words: &[Word]) -> Result<Vec<Arg<'a>>, AllocError> {
+    let mut arguments = Vec::new(alloc);
+    for word in words {
+        arguments.push(argument(alloc, word)?)?;
     }
-    Ok(command)
+    Ok(arguments)
 }
 
 fn argument<'a>(alloc: Global, word: &Word) -> Result<Arg<'a>, AllocError> {
@@ -211,13 +225,14 @@ fn given<'a>(alloc: Global, word: &Word) -> Result<Arg<'a>, AllocError> {
         return Ok(argument.long(name).action(ArgAction::SetTrue));
     }
     let argument = argument.value_name(value).action(ArgAction::Set);
+    if let Kind::Bare = word.kind {
+        return Ok(argument.required(true));
+    }
+    let argument = argument.long(name);
     match word.kind {
-        Kind::Bare => Ok(argument.required(true)),
-        Kind::Needed => Ok(argument.long(name).required(true)),
-        Kind::Text => argument
-            .long(name)
-            .required_unless_present_any(&[KEYRING, AUTH]),
-        Kind::Usual => Ok(argument.long(name).default_value("cephfs")),
-        Kind::Optional | Kind::Flag => Ok(argument.long(name)),
+        Kind::Needed => Ok(argument.required(true)),
+        Kind::Text => argument.required_unless_present_any(&[KEYRING, AUTH]),
+        Kind::Usual => Ok(argument.default_value("cephfs")),
+        Kind::Bare | Kind::Optional | Kind::Flag => Ok(argument),
     }
 }

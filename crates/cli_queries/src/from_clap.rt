@@ -26,29 +26,9 @@ pub fn invoked(alloc: Global, matches: &ArgMatches<'_>) -> Result<Invocation, Er
     let matched = Matched { alloc, matches };
     match name {
         EXPLAIN => Ok(Invocation::Explain(matched.explain_args()?)),
-        GRANTS => Ok(Invocation::Grants {
-            text: matched.value(TEXT)?,
-            more: matched.says(MORE),
-        }),
-        COMPARE => Ok(Invocation::Compare {
-            old: matched.value(OLD)?,
-            new: matched.value(NEW)?,
-            shape: matched.shape(),
-        }),
-        LINT => Ok(Invocation::Lint {
-            text: matched.value(TEXT)?,
-            shape: matched.shape(),
-        }),
         WHO => Ok(Invocation::Who(matched.who_args()?)),
         AUDIT => Ok(Invocation::Audit(matched.audit_args()?)),
-        LOG => Ok(Invocation::Log(matched.option(Opt::Fs)?)),
-        RUN => Ok(Invocation::Run {
-            more: matched.says(MORE),
-        }),
-        SERVE => Ok(Invocation::Serve {
-            more: matched.says(MORE),
-        }),
-        _ => Err(ErrorKind::MissingSubcommand),
+        _ => matched.on_texts(name),
     }
 }
 
@@ -60,8 +40,43 @@ struct Matched<'m, 'a> {
 }
 
 impl Matched<'_, '_> {
-    ghost use Rattle.cli_queries.specs.Matched.{AreValues, IsAttr, IsAuditArgs, IsExplainArgs, IsFlag, IsForm, IsGiven, IsManner, IsOption, IsShape, IsSource};
+    ghost use Rattle.cli_queries.specs.Matched.{AreValues, AsksFor, IsAttr, IsAuditArgs, IsExplainArgs, IsFlag, IsForm, IsGiven, IsManner, IsOption, IsShape, IsSource};
     ghost use Rattle.cli_queries.specs.Matched.{IsTelling, IsValue, IsWhoArgs, words_of};
+
+    // What a command asks for that takes a few texts, or a script.
+    fn on_texts(&self, name: &str) -> Result<Invocation, ErrorKind>
+        ensures { IfOk result (AsksFor name.now (words_of self.now.matches.now)) }
+    {
+        match name {
+            GRANTS => Ok(Invocation::Grants {
+                text: self.value(TEXT)?,
+                more: self.says(MORE),
+            }),
+            COMPARE => Ok(Invocation::Compare {
+                old: self.value(OLD)?,
+                new: self.value(NEW)?,
+                shape: self.shape(),
+            }),
+            LINT => Ok(Invocation::Lint {
+                text: self.value(TEXT)?,
+                shape: self.shape(),
+            }),
+            LOG => Ok(Invocation::Log(self.option(Opt::Fs)?)),
+            _ => self.on_script(name),
+        }
+    }
+
+    // What a command asks for that takes a script.
+    fn on_script(&self, name: &str) -> Result<Invocation, ErrorKind>
+        ensures { IfOk result (AsksFor name.now (words_of self.now.matches.now)) }
+    {
+        let more = self.says(MORE);
+        match name {
+            RUN => Ok(Invocation::Run { more }),
+            SERVE => Ok(Invocation::Serve { more }),
+            _ => Err(ErrorKind::MissingSubcommand),
+        }
+    }
 
     fn explain_args(&self) -> Result<ExplainArgs, ErrorKind>
         ensures { IfOk result (IsExplainArgs (words_of self.now.matches.now)) }

@@ -1,7 +1,7 @@
 -- Whole texts: the grants that one means, or where it is first wrong.
 use Rattle.std.specs.Prelude.{ℕ, zero, suc, ◌+◌, ◌-◌, List, [], ◌∷◌, ◌++◌, length, codes, Option, Some, None, Result, Ok, Err, unwrap_or, option_map}
 use Rattle.std.specs.Prelude.{if◌then◌else◌}
-use Rattle.capspec.specs.Bytes.{is_mark}
+use Rattle.byte_sets.specs.Sets.{is_mark}
 use Rattle.capspec.specs.Words.{rest_while}
 use Rattle.osd_caps.specs.declared.bytes.ByteSet.TheVariants.{Blank, Network, Space}
 use Rattle.osd_caps.specs.declared.access.Access.{Access}

@@ -2,7 +2,7 @@
 use Rattle.std.specs.Prelude.{ℕ, Bool, not, ◌||◌, ◌==◌, List, [], ◌∷◌, length, drop, codes, nat_eq, Option, Some, None, option_map, if◌then◌else◌}
 use Rattle.std.specs.List.{starts_with}
 use Rattle.std.specs.Option.{option_or}
-use Rattle.capspec.specs.Bytes.{is_bare_path_byte, is_within}
+use Rattle.byte_sets.specs.Sets.{is_bare_path_byte, is_within}
 use Rattle.capspec.specs.Words.{front_while, is_quote, rest_while}
 use Rattle.osd_caps.specs.declared.bytes.ByteSet.{ByteSet}
 use Rattle.osd_caps.specs.declared.bytes.ByteSet.TheVariants.{AllBut, Bare, Blank, Network, Space}

@@ -1,7 +1,7 @@
 //! Sets of bytes, and the longest front of a text that one of them allows.
 ghost use Rattle.std.specs.Prelude.{◌≡◌, ◌≤◌, length, None, Some, MatchOption, IfSome};
 ghost use Rattle.capspec.specs.Words.{front_while, rest_while};
-ghost use Rattle.capspec.specs.Bytes.{is_bare_path_byte};
+ghost use Rattle.byte_sets.specs.Sets.{is_bare_path_byte};
 ghost use Rattle.osd_caps.specs.Words.{behind, if_any, is_in, is_network_byte, run_at};
 
 /// A set of bytes.

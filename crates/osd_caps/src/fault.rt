@@ -1,26 +1,28 @@
 //! Why an OSD caps text was refused.
 
 use std::alloc::AllocFailed;
+use std::fmt;
 use thiserror::Error;
 
-/// What is wrong with an OSD caps text.
+/// What is wrong with an OSD caps text. It prints as the name of its variant.
 #[derive(Clone, Copy, Debug, Error)]
 pub enum OsdFaultKind {
     /// A grant has to stand here, and neither `allow` nor `profile` does.
-    #[error("NotGrant")]
     NotGrant,
     /// What the grant allows has to stand here: `*`, `all`, some of the letters r, w and x, or calls of object classes.
-    #[error("NoAccess")]
     NoAccess,
     /// The name of a profile has to stand here.
-    #[error("NoProfile")]
     NoProfile,
     /// Behind a grant stands something that belongs to none.
-    #[error("LeftOver")]
     LeftOver,
     /// No memory was left for the grants.
-    #[error("NoMemory")]
     NoMemory,
+}
+
+impl fmt::Display for OsdFaultKind {
+    fn fmt<W: fmt::Write>(&self, f: &mut fmt::Formatter<W>) -> fmt::Result {
+        fmt::Debug::fmt(self, f)
+    }
 }
 
 /// A refused OSD caps text: what is wrong with it, and at which byte.

@@ -123,9 +123,13 @@ impl<'a> OsdCaps<'a> {
     ) -> bool
         ensures { result ≡ opens_object self.now pool.now namespace.now tags.now name.now right }
     {
-        self.grants()
-            .iter()
-            .any(|grant| grant.opens(pool, namespace, tags, name, right))
+        let grants = self.grants();
+        for grant in grants {
+            if grant.opens(pool, namespace, tags, name, right) {
+                return true;
+            }
+        }
+        false
     }
 
     /// Whether there is a name by which a client with these caps may read, or write, an object there, as `opens_object` says.
@@ -153,7 +157,10 @@ fn any_opens(
 ) -> bool
     ensures { result ≡ opens grants.now pool.now namespace.now tags.now right }
 {
-    grants
-        .iter()
-        .any(|grant| grant.opens_some(pool, namespace, tags, right))
+    for grant in grants {
+        if grant.opens_some(pool, namespace, tags, right) {
+            return true;
+        }
+    }
+    false
 }

@@ -57,11 +57,22 @@ fn read_step(text: &[u8]) -> Result<(OsdGrant<'_>, Option<&[u8]>), Refusal>
     ensures shorter { IfOk result (λ f. IfSome f.1 (λ next. length next.now < length text.now)) }
     ensures within { IfErr result (λ refusal. refusal.left ≤ length text.now) }
 {
-    let (grant, rest) = match read_grant(text) {
-        Ok(found) => found,
-        Err(refusal) => return Err(refusal),
-    };
-    match read_next(rest) {
+    match read_grant(text) {
+        Ok((grant, rest)) => with_next(grant, read_next(rest)),
+        Err(refusal) => Err(refusal),
+    }
+}
+
+// The same grant beside what follows it.
+fn with_next<'a>(
+    grant: OsdGrant<'a>,
+    next: Result<Option<&'a [u8]>, Refusal>,
+) -> Result<(OsdGrant<'a>, Option<&'a [u8]>), Refusal>
+    ensures { MatchResult result
+        (λ f. next.entry ≡ Ok f.1 × f.0 ≡ grant.entry)
+        (λ refusal. next.entry ≡ Err refusal) }
+{
+    match next {
         Ok(next) => Ok((grant, next)),
         Err(refusal) => Err(refusal),
     }
@@ -102,11 +113,11 @@ fn read_grant(text: &[u8]) -> Result<(OsdGrant<'_>, &[u8]), Refusal>
 {
     let first = skip(ByteSet::Blank, text);
     if let Some(rest) = behind(first, b"allow") {
-        return read_allow(rest);
-    }
-    match behind(first, b"profile") {
-        Some(rest) => read_profile(rest),
-        None => Err(Refusal::at(first, OsdFaultKind::NotGrant)),
+        read_allow(rest)
+    } else if let Some(rest) = behind(first, b"profile") {
+        read_profile(rest)
+    } else {
+        Err(Refusal::at(first, OsdFaultKind::NotGrant))
     }
 }
 

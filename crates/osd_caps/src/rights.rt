@@ -7,6 +7,18 @@ use crate::bytes::behind;
 use crate::calls::{behind_any, behind_calls};
 use crate::keys::{behind_spaces, behind_star};
 
+// To read and to write.
+const EVERYTHING: Rights = Rights {
+    reads: true,
+    writes: true,
+};
+
+// Neither of them.
+const NOTHING: Rights = Rights {
+    reads: false,
+    writes: false,
+};
+
 /// What a grant allows, and what follows.
 #[tactic(auto, unfolding(crate::specs::Accesses::rights_at))]
 pub(crate) fn read_rights(text: &[u8]) -> Option<(Rights, &[u8])>
@@ -14,20 +26,13 @@ pub(crate) fn read_rights(text: &[u8]) -> Option<(Rights, &[u8])>
     ensures shorter { IfSome result (λ f. length f.1.now ≤ length text.now) }
 {
     if let Some(found) = read_all(text) {
-        return Some(found);
-    }
-    if let Some(found) = read_spelled(text) {
-        return Some(found);
-    }
-    match behind_calls(text) {
-        Some(rest) => Some((
-            Rights {
-                reads: false,
-                writes: false,
-            },
-            rest,
-        )),
-        None => None,
+        Some(found)
+    } else if let Some(found) = read_spelled(text) {
+        Some(found)
+    } else if let Some(rest) = behind_calls(text) {
+        Some((NOTHING, rest))
+    } else {
+        None
     }
 }
 
@@ -41,13 +46,7 @@ fn read_all(text: &[u8]) -> Option<(Rights, &[u8])>
         return None;
     };
     match behind_star(star) {
-        Some(rest) => Some((
-            Rights {
-                reads: true,
-                writes: true,
-            },
-            rest,
-        )),
+        Some(rest) => Some((EVERYTHING, rest)),
         None => None,
     }
 }

@@ -125,7 +125,12 @@ impl Tag<'_> {
     fn fits_some(&self, tags: &[Application<'_>]) -> bool
         ensures { result ≡ list_any (fits_application self.now) tags.now }
     {
-        tags.iter().any(|application| self.fits(application))
+        for application in tags {
+            if self.fits(application) {
+                return true;
+            }
+        }
+        false
     }
 
     // Whether an application of the pool is the one that it names, with pairs that fit.
@@ -153,7 +158,12 @@ impl Tag<'_> {
     fn fits_some_pair(&self, pairs: &[Pair<'_>]) -> bool
         ensures { result ≡ list_any (fits_pair self.now) pairs.now }
     {
-        pairs.iter().any(|pair| self.fits_pair(pair))
+        for pair in pairs {
+            if self.fits_pair(pair) {
+                return true;
+            }
+        }
+        false
     }
 
     #[tactic(auto, unfolding(crate::specs::Opening::fits_pair))]

@@ -7,7 +7,7 @@ use Rattle.std.proofs.lemmas.List.Folds.{list_all-append}
 use Rattle.std.proofs.lemmas.Bool.{and_from}
 use Rattle.std.proofs.lemmas.List.{get_or_default}
 use Rattle.capspec.specs.declared.grant.Grant.{Grant}
-use Rattle.capspec.specs.Bytes.{is_fs_name_byte}
+use Rattle.byte_sets.specs.Sets.{is_fs_name_byte}
 use Rattle.policy_analysis.specs.Free.{IsLetter, NoneNames}
 
 letter : (b : ℕ) → IsLetter b → is_fs_name_byte b ≡ true

@@ -13,7 +13,8 @@ use Rattle.capspec.specs.declared.flags.Flags4.{Flags4}
 use Rattle.capspec.specs.declared.flags.Flags4.TheVariants.{R, Rw, Rwp, Rwps, Rws}
 use Rattle.capspec.specs.Flags.{IsFlags}
 use Rattle.capspec.specs.declared.grant.Grant.{Grant}
-use Rattle.capspec.specs.Bytes.{begins, ends_grant, is_mark, is_white}
+use Rattle.byte_sets.specs.Sets.{begins, is_mark, is_white}
+use Rattle.capspec.specs.Bytes.{ends_grant}
 use Rattle.capspec.specs.Grants.{IsGrant}
 use Rattle.capspec.specs.Separated.{AreSeparated}
 use Rattle.capspec.specs.Words.{goes_on, is_digit, next}

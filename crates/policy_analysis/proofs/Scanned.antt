@@ -2,7 +2,8 @@
 use Rattle.std.proofs.Common.{◌≡◌, ℕ, ◌<◌, true, false, List, [], ◌∷◌, ◌++◌, length, Some, None, Option, refl, sym, ap, ◌∙◌, append_assoc, arith}
 use Rattle.std.specs.Option.{option_or}
 use Rattle.std.proofs.lemmas.Bool.{true≢false}
-use Rattle.capspec.specs.Bytes.{ends_grant, is_white}
+use Rattle.byte_sets.specs.Sets.{is_white}
+use Rattle.capspec.specs.Bytes.{ends_grant}
 use Rattle.capspec.specs.Items.{Item}
 use Rattle.capspec.specs.Words.{next}
 use Rattle.capspec.proofs.Fronts.{rest_is, rest_stops}

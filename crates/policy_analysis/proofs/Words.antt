@@ -6,7 +6,8 @@ use Rattle.std.specs.List.{list_all, starts_with}
 use Rattle.std.proofs.lemmas.Bool.{and_parts, not-true, true≢false}
 use Rattle.std.proofs.lemmas.Bool.Decides.{nat_tests}
 use Rattle.std.proofs.lemmas.List.{append_cancel_left, length-drop}
-use Rattle.capspec.specs.Bytes.{begins, ends_grant, ends_word, is_bare_path_byte, is_fs_name_byte, is_mark, is_white}
+use Rattle.byte_sets.specs.Sets.{begins, is_bare_path_byte, is_fs_name_byte, is_mark, is_white}
+use Rattle.capspec.specs.Bytes.{ends_grant, ends_word}
 use Rattle.capspec.specs.Grants.{AreWordsOf, IsGap}
 use Rattle.capspec.specs.Items.{IsItem, IsNumber, IsPath, Item, can_be_path, is_comma}
 use Rattle.capspec.specs.Items.Item.{FsName, Gids, Path, RootSquash, Uid}

@@ -3,7 +3,7 @@ use Rattle.std.specs.Prelude.{◌≡◌, ℕ, ◌==◌, nat_le, Bool, true, fals
 use Rattle.std.specs.List.{list_all}
 use Rattle.std.specs.Option.{option_or}
 use Rattle.capspec.specs.declared.grant.Grant.{Grant}
-use Rattle.capspec.specs.Bytes.{is_mark}
+use Rattle.byte_sets.specs.Sets.{is_mark}
 use Rattle.capspec.specs.Grants.{IsGrant}
 use Rattle.capspec.specs.Items.{Item}
 use Rattle.capspec.specs.Items.Item.{FsName, Gids, Path, RootSquash, Uid}

@@ -2,7 +2,8 @@
 use Rattle.std.specs.Prelude.{◌≡◌, ℕ, ◌==◌, ◌&&◌, nat_eq, Bool, true, not, Option, Some, None, List, [], ◌∷◌, ◌++◌, drop, codes, IsTrue, IsFalse}
 use Rattle.std.specs.Prelude.{if◌then◌else◌}
 use Rattle.std.specs.List.{starts_with}
-use Rattle.capspec.specs.Bytes.{ends_grant, ends_word, is_white}
+use Rattle.byte_sets.specs.Sets.{is_white}
+use Rattle.capspec.specs.Bytes.{ends_grant, ends_word}
 use Rattle.capspec.specs.Grants.{AreWordsOf}
 use Rattle.capspec.specs.Items.{Item}
 use Rattle.capspec.specs.Words.{goes_on, next}

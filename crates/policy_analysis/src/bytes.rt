@@ -1,7 +1,8 @@
 //! What stands behind white space, words and quotes.
 
 ghost use Rattle.std.specs.Prelude.{◌≡◌, ◌≤◌, length};
-ghost use Rattle.capspec.specs.Bytes.{ends_grant, is_white};
+ghost use Rattle.byte_sets.specs.Sets.{is_white};
+ghost use Rattle.capspec.specs.Bytes.{ends_grant};
 ghost use Rattle.capspec.specs.Words.{next};
 ghost use Rattle.policy_analysis.specs.Scanning.{behind_quote, behind_word, can_end, has_spaces};
 

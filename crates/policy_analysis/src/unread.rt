@@ -2,7 +2,7 @@
 
 ghost use Rattle.std.specs.Prelude.{◌≡◌, List, [], IfOk};
 ghost use Rattle.capspec.specs.declared.grant.Grant.{Grant};
-ghost use Rattle.capspec.specs.Bytes.{is_mark};
+ghost use Rattle.byte_sets.specs.Sets.{is_mark};
 ghost use Rattle.capspec.specs.Grants.{Reads};
 ghost use Rattle.capspec.specs.Separated.{AreSeparated};
 ghost use Rattle.policy_analysis.specs.Scanning.{wrong_between};

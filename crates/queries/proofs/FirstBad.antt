@@ -1,6 +1,6 @@
 -- Each option in turn is the first bad one.
 use Rattle.std.proofs.Common.{◌≡◌, ℕ, List, ◌∷◌, ◌++◌, subst, refl, sym, ap, ◌∙◌, append_assoc}
-use Rattle.std.specs.Prelude.{◌≢◌, Result, Err, IfErr, All}
+use Rattle.std.specs.Prelude.{◌≢◌, Result, Ok, Err, IfErr, IsErrAnd, All}
 use Rattle.std.specs.List.{AllByRecursion}
 use Rattle.std.proofs.lemmas.List.Elements.{All-append, All-from_recursion}
 use Rattle.capspec.specs.declared.grant.Grant.{Grant}
@@ -30,6 +30,11 @@ first_bad v option before after good bad = record {
   good_before = All-from_recursion (IsGood v) before good;
   bad = bad;
 }
+
+-- an error that is handed on as it is
+pub handed_on : {T : Type 0} (r : Result T QuestionFault) (fault named : QuestionFault) → IsErrAnd r (λ told. told ≡ fault) → fault ≡ named → r ≡ Err named
+handed_on (Ok done) fault named told is = absurd told
+handed_on (Err same) fault named told is = rw (told, is) refl
 
 -- the error that names it, among the options that are read together
 pub names_one : {T : Type 0} (v : Values) (options : List Opt) (option : Opt) (r : Result T QuestionFault) → option ≢ Grants → IsFirstBad v options option → r ≡ Err (BadValue option) → IfErr r (IsBadAmong v options)

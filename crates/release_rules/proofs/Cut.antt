@@ -5,7 +5,7 @@ use Rattle.std.proofs.lemmas.List.{take-append-drop, take_all}
 use Rattle.std.specs.List.{list_all}
 use Rattle.capspec.specs.Words.{front_while, rest_while}
 use Rattle.capspec.proofs.Fronts.{front_is, rest_is}
-use Rattle.capspec.proofs.Splits.{begins-drop}
+use Rattle.byte_sets.proofs.Splits.{begins-drop}
 
 pub front_here : (test : ℕ → Bool) (text : List ℕ) (at : ℕ) → at < length text → list_all test (take at text) ≡ true → test (get_or text at 0) ≡ false → take at text ≡ front_while test text
 front_here test text at within all stops =

@@ -1,7 +1,7 @@
 -- What a release reads in a whole text.
 use Rattle.std.specs.Prelude.{ℕ, zero, suc, ◌-◌, Bool, true, false, not, ◌==◌, ◌&&◌, ◌||◌, Option, Some, None, is_none, is_some, option_map, option_and_then}
 use Rattle.std.specs.Prelude.{Result, Ok, Err, List, [], ◌∷◌, ◌++◌, length, drop, codes, bytes_eq, if◌then◌else◌}
-use Rattle.capspec.specs.Bytes.{begins, is_mark}
+use Rattle.byte_sets.specs.Sets.{begins, is_mark}
 use Rattle.capspec.specs.Words.{rest_while}
 use Rattle.release_rules.specs.declared.flags.Flags.{Flags}
 use Rattle.release_rules.specs.declared.grant.Grant.{Grant}

@@ -1,6 +1,6 @@
 -- The sets of bytes that a grant text is cut by.
 use Rattle.std.specs.Prelude.{Bool, ℕ}
-use Rattle.capspec.specs.Bytes.{is_bare_path_byte, is_fs_name_byte, is_white}
+use Rattle.byte_sets.specs.Sets.{is_bare_path_byte, is_fs_name_byte, is_white}
 use Rattle.capspec.specs.Words.{is_digit}
 use Rattle.release_rules.specs.declared.bytes.ByteSet.{ByteSet}
 use Rattle.release_rules.specs.declared.bytes.ByteSet.TheVariants.{AllBut, AnyWhite, BarePath, Digit, FsName, Network, Slash, Space, White}

@@ -1,7 +1,7 @@
 -- The pieces that an MDS cuts a grant text into, from the left. What it has taken it does not give back.
 use Rattle.std.specs.Prelude.{ℕ, ◌^◌, Bool, not, ◌==◌, ◌||◌, nat_le, Option, Some, None, option_and_then, List, length, take, drop, bytes_eq, if◌then◌else◌}
 use Rattle.std.specs.Str.Parse.{digits_value}
-use Rattle.capspec.specs.Bytes.{begins, is_white, is_within}
+use Rattle.byte_sets.specs.Sets.{begins, is_white, is_within}
 use Rattle.capspec.specs.Words.{front_while, is_digit, rest_while}
 
 -- something, and the text behind it

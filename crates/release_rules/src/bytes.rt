@@ -1,6 +1,6 @@
 //! Sets of bytes, and what the front of a text has of them.
 ghost use Rattle.std.specs.Prelude.{◌≡◌, option_map, option_copied};
-ghost use Rattle.capspec.specs.Bytes.{begins, is_fs_name_byte};
+ghost use Rattle.byte_sets.specs.Sets.{begins, is_fs_name_byte};
 ghost use Rattle.capspec.specs.Words.{front_while, rest_while};
 ghost use Rattle.release_rules.specs.Sets.{is_in};
 ghost use Rattle.release_rules.specs.Texts.{behind, behind_white, behind_word, is_network_byte, number_at, some_while};

@@ -197,6 +197,29 @@ poll_by (client_word ∷ max_word ∷ []) = do
   Says (events.Poll client max)
 poll_by arguments = Faulty faults.Count
 
+-- ---- which event it is, where the lines of several commands are alike
+
+abbrev pub named_event : Command → ClientId → Ino → List ℕ → Event
+named_event commands.Lookup = events.Lookup
+named_event commands.MakeSnapshot = events.MakeSnapshot
+named_event command = events.RemoveSnapshot
+
+abbrev pub new_inode_event : Command → ClientId → Ino → List ℕ → ℕ → Event
+new_inode_event commands.Create = events.Create
+new_inode_event command = events.Mkdir
+
+abbrev pub caps_event : Command → ClientId → Ino → Caps → Event
+caps_event commands.Want = events.Want
+caps_event command = events.Release
+
+abbrev pub change_event : Command → ClientId → Ino → Change → Event
+change_event commands.Alter = events.Alter
+change_event command = events.Flush
+
+abbrev pub inode_event : Command → ClientId → Ino → Event
+inode_event commands.Unlink = events.Unlink
+inode_event command = events.Rmdir
+
 -- a command with its arguments
 unfoldable pub said_with : Command → List (List ℕ) → Line
 said_with commands.Session arguments = session_by arguments

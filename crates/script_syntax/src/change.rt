@@ -50,7 +50,12 @@ fn takes(kind: ChangeWord, more: &[&[u8]]) -> bool
 fn is_one_word(part: &[u8]) -> bool
     ensures { result ≡ lines.is_one_word part.now }
 {
-    part.iter().all(|byte| *byte != b' ')
+    for byte in part {
+        if *byte == b' ' {
+            return false;
+        }
+    }
+    true
 }
 
 // Whether a change has as many words as it takes. What is no change takes any.

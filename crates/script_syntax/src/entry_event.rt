@@ -1,26 +1,13 @@
 //! The events of one entry, and of the messages to a client.
 ghost use Rattle.std.specs.Prelude.{MatchResult, map};
-ghost use Rattle.capbits.specs.Caps.{Caps};
-ghost use Rattle.capbits.specs.declared.ids.ClientId.{ClientId as AClient};
-ghost use Rattle.capbits.specs.declared.ids.Ino.{Ino as AnIno};
-ghost use Rattle.step_model.specs.declared.event.Event.{Event as AnEvent};
-ghost use Rattle.script_syntax.specs.Events.{Tells, ack_by, caps_by, open_by, poll_by};
+ghost use Rattle.script_syntax.specs.Events.{Tells, ack_by, caps_by, caps_event, open_by, poll_by};
 ghost use Rattle.script_syntax.specs.Faults.{IsRefused};
 
 use crate::fault::{LineFault, Refused};
 use crate::values::{
     read_cap_set, read_client, read_ino, read_long_number, read_number, read_open_mode,
 };
-use capbits::{CapSet, ClientId, Ino};
-use step_model::Event;
-
-// Caps on an inode, and whose they are.
-#[derive(Clone, Copy)]
-pub(crate) struct EntryCaps {
-    pub(crate) client: ClientId,
-    pub(crate) ino: Ino,
-    pub(crate) caps: CapSet,
-}
+use step_model::{Command, Event};
 
 // A client, an inode and what it is opened for.
 #[tactic(auto, using(crate::proofs::SaidLines::three))]
@@ -65,14 +52,11 @@ pub(crate) fn read_poll(arguments: &[&[u8]]) -> Result<Event, Refused>
     Ok(Event::Poll { client, max })
 }
 
-// A client, an inode and a set of caps, whichever event they are said for.
+// A client, an inode and a set of caps: what it wants, or gives back.
 #[tactic(auto, using(crate::proofs::SaidLines::three))]
-pub(crate) fn read_entry_caps(arguments: &[&[u8]]) -> Result<EntryCaps, Refused>
-    ensures { (event : AClient → AnIno → Caps → AnEvent)
-        → let said = caps_by event (map (λ word. word.now) arguments.now) in
-        MatchResult result
-        (λ entry. Tells said (event entry.client entry.ino entry.caps))
-        (IsRefused said) }
+pub(crate) fn read_entry_caps(command: Command, arguments: &[&[u8]]) -> Result<Event, Refused>
+    ensures { let said = caps_by (caps_event command) (map (λ word. word.now) arguments.now) in
+        MatchResult result (Tells said) (IsRefused said) }
 {
     let [client, ino, caps] = arguments else {
         return Err(Refused::Wrong(LineFault::Count));
@@ -80,5 +64,8 @@ pub(crate) fn read_entry_caps(arguments: &[&[u8]]) -> Result<EntryCaps, Refused>
     let client = read_client(client)?;
     let ino = read_ino(ino)?;
     let caps = read_cap_set(caps)?;
-    Ok(EntryCaps { client, ino, caps })
+    match command {
+        Command::Want => Ok(Event::Want { client, ino, caps }),
+        _ => Ok(Event::Release { client, ino, caps }),
+    }
 }

@@ -1,44 +1,23 @@
 //! The events that lines say.
-ghost use Rattle.std.specs.Prelude.{◌≡◌, ℕ, List, map, MatchResult};
-ghost use Rattle.capbits.specs.declared.ids.ClientId.{ClientId as AClient};
-ghost use Rattle.capbits.specs.declared.ids.Ino.{Ino as AnIno};
+ghost use Rattle.std.specs.Prelude.{◌≡◌, List, map, MatchResult};
 ghost use Rattle.capspec.specs.declared.grant.Grant.{Grant as AGrant};
 ghost use Rattle.step_model.specs.declared.event.Event.{Event as AnEvent};
-ghost use Rattle.script_syntax.specs.Events.{Tells, granting, named_by, new_inode_by, regrant_by, said_in, said_with, session_by};
+ghost use Rattle.script_syntax.specs.Events.{Tells, granting, named_by, named_event, new_inode_by, new_inode_event, regrant_by, said_in, said_with, session_by};
 ghost use Rattle.script_syntax.specs.Faults.{IsRefused};
 ghost use Rattle.script_syntax.specs.Words.{arguments_in};
 
-use crate::entry_event::{EntryCaps, read_ack, read_entry_caps, read_open, read_poll};
+use crate::entry_event::{read_ack, read_entry_caps, read_open, read_poll};
 use crate::fault::{LineFault, Refused};
-use crate::inode_event::{
-    InodeChange, InodeOf, read_get, read_inode, read_inode_change, read_rename,
-};
+use crate::inode_event::{read_get, read_inode, read_inode_change, read_rename};
 use crate::line::MAX_LINE;
-use crate::session_event::{read_only_client, read_recall};
+use crate::session_event::{read_of_client, read_recall};
 use crate::values::{read_client, read_groups, read_ino, read_number, read_permissions};
 use crate::words::{split_at_space, split_words};
-use capbits::{Caller, ClientId, Ino, Mode};
+use capbits::Caller;
 use capspec::{Grants, read_grants};
 use lockmachine::Bytes;
 use std::alloc::Global;
 use step_model::{Command, Event};
-
-// A name in a directory, and who asks for it.
-#[derive(Drop)]
-struct Named {
-    client: ClientId,
-    ino: Ino,
-    name: Bytes,
-}
-
-// A name in a directory for a new inode with a mode.
-#[derive(Drop)]
-struct NewInode {
-    client: ClientId,
-    dir: Ino,
-    name: Bytes,
-    mode: Mode,
-}
 
 // The event that a line says, if it is not skipped.
 pub(crate) fn read_event(alloc: Global, text: &[u8]) -> Result<Event, Refused>
@@ -69,100 +48,20 @@ fn read_arguments(
 {
     match command {
         Command::Session => read_session(alloc, arguments),
-        Command::OfClient(said) => {
-            let client = read_only_client(arguments)?;
-            Ok(said.event(client))
-        }
+        Command::OfClient(said) => read_of_client(said, arguments),
         Command::Regrant => read_regrant(alloc, text),
         Command::Recall => read_recall(arguments),
-        Command::Lookup => {
-            let Named { client, ino, name } = read_named(alloc, arguments)?;
-            Ok(Event::Lookup {
-                client,
-                dir: ino,
-                name,
-            })
+        Command::Lookup | Command::MakeSnapshot | Command::RemoveSnapshot => {
+            read_named(alloc, command, arguments)
         }
-        Command::Create => {
-            let NewInode {
-                client,
-                dir,
-                name,
-                mode,
-            } = read_new_inode(alloc, arguments)?;
-            Ok(Event::Create {
-                client,
-                dir,
-                name,
-                mode,
-            })
-        }
-        Command::Mkdir => {
-            let NewInode {
-                client,
-                dir,
-                name,
-                mode,
-            } = read_new_inode(alloc, arguments)?;
-            Ok(Event::Mkdir {
-                client,
-                dir,
-                name,
-                mode,
-            })
-        }
-        Command::MakeSnapshot => {
-            let Named { client, ino, name } = read_named(alloc, arguments)?;
-            Ok(Event::MakeSnapshot { client, ino, name })
-        }
-        Command::RemoveSnapshot => {
-            let Named { client, ino, name } = read_named(alloc, arguments)?;
-            Ok(Event::RemoveSnapshot { client, ino, name })
-        }
+        Command::Create | Command::Mkdir => read_new_inode(alloc, command, arguments),
         Command::Open => read_open(arguments),
-        Command::Want => {
-            let EntryCaps { client, ino, caps } = read_entry_caps(arguments)?;
-            Ok(Event::Want { client, ino, caps })
-        }
+        Command::Want | Command::Release => read_entry_caps(command, arguments),
         Command::Ack => read_ack(arguments),
-        Command::Release => {
-            let EntryCaps { client, ino, caps } = read_entry_caps(arguments)?;
-            Ok(Event::Release { client, ino, caps })
-        }
         Command::Get => read_get(arguments),
-        Command::Alter => {
-            let InodeChange {
-                client,
-                ino,
-                change,
-            } = read_inode_change(alloc, arguments)?;
-            Ok(Event::Alter {
-                client,
-                ino,
-                change,
-            })
-        }
-        Command::Unlink => {
-            let InodeOf { client, ino } = read_inode(arguments)?;
-            Ok(Event::Unlink { client, ino })
-        }
-        Command::Rmdir => {
-            let InodeOf { client, ino } = read_inode(arguments)?;
-            Ok(Event::Rmdir { client, ino })
-        }
+        Command::Alter | Command::Flush => read_inode_change(alloc, command, arguments),
+        Command::Unlink | Command::Rmdir => read_inode(command, arguments),
         Command::Rename => read_rename(alloc, arguments),
-        Command::Flush => {
-            let InodeChange {
-                client,
-                ino,
-                change,
-            } = read_inode_change(alloc, arguments)?;
-            Ok(Event::Flush {
-                client,
-                ino,
-                change,
-            })
-        }
         Command::Poll => read_poll(arguments),
     }
 }
@@ -205,14 +104,11 @@ fn read_regrant(alloc: Global, text: &[u8]) -> Result<Event, Refused>
     Ok(Event::Regrant { client, grants })
 }
 
-// A client, an inode and a name, whichever event they are said for.
+// A client, an inode and a name: a lookup, or a snapshot that is made or removed.
 #[tactic(auto, using(crate::proofs::SaidLines::three))]
-fn read_named(alloc: Global, arguments: &[&[u8]]) -> Result<Named, Refused>
-    ensures { (event : AClient → AnIno → List ℕ → AnEvent)
-        → let said = named_by event (map (λ word. word.now) arguments.now) in
-        MatchResult result
-        (λ named. Tells said (event named.client named.ino named.name))
-        (IsRefused said) }
+fn read_named(alloc: Global, command: Command, arguments: &[&[u8]]) -> Result<Event, Refused>
+    ensures { let said = named_by (named_event command) (map (λ word. word.now) arguments.now) in
+        MatchResult result (Tells said) (IsRefused said) }
 {
     let [client, ino, name] = arguments else {
         return Err(Refused::Wrong(LineFault::Count));
@@ -220,17 +116,22 @@ fn read_named(alloc: Global, arguments: &[&[u8]]) -> Result<Named, Refused>
     let client = read_client(client)?;
     let ino = read_ino(ino)?;
     let name = Bytes::read(alloc, name)?;
-    Ok(Named { client, ino, name })
+    match command {
+        Command::Lookup => Ok(Event::Lookup {
+            client,
+            dir: ino,
+            name,
+        }),
+        Command::MakeSnapshot => Ok(Event::MakeSnapshot { client, ino, name }),
+        _ => Ok(Event::RemoveSnapshot { client, ino, name }),
+    }
 }
 
-// A client, a directory, a name in it and a mode, whichever event they are said for.
+// A client, a directory, a name in it and a mode: a new file or directory.
 #[tactic(auto, using(crate::proofs::SaidLines::four))]
-fn read_new_inode(alloc: Global, arguments: &[&[u8]]) -> Result<NewInode, Refused>
-    ensures { (event : AClient → AnIno → List ℕ → ℕ → AnEvent)
-        → let said = new_inode_by event (map (λ word. word.now) arguments.now) in
-        MatchResult result
-        (λ new. Tells said (event new.client new.dir new.name new.mode))
-        (IsRefused said) }
+fn read_new_inode(alloc: Global, command: Command, arguments: &[&[u8]]) -> Result<Event, Refused>
+    ensures { let said = new_inode_by (new_inode_event command) (map (λ word. word.now) arguments.now) in
+        MatchResult result (Tells said) (IsRefused said) }
 {
     let [client, dir, name, mode] = arguments else {
         return Err(Refused::Wrong(LineFault::Count));
@@ -239,12 +140,20 @@ fn read_new_inode(alloc: Global, arguments: &[&[u8]]) -> Result<NewInode, Refuse
     let dir = read_ino(dir)?;
     let mode = read_permissions(mode)?;
     let name = Bytes::read(alloc, name)?;
-    Ok(NewInode {
-        client,
-        dir,
-        name,
-        mode,
-    })
+    match command {
+        Command::Create => Ok(Event::Create {
+            client,
+            dir,
+            name,
+            mode,
+        }),
+        _ => Ok(Event::Mkdir {
+            client,
+            dir,
+            name,
+            mode,
+        }),
+    }
 }
 
 // The grants that a text says, or none where it is `none`, whichever event they are said for.

@@ -9,31 +9,22 @@ use thiserror::Error;
 #[derive(Clone, Copy, PartialEq, Eq, Error)]
 pub enum LineFault {
     /// The first word is no command.
-    #[error("Command")]
     Command,
     /// The command wants fewer words or more of them, or the line is too long.
-    #[error("Count")]
     Count,
     /// A word is no number of its size, or no list of group numbers.
-    #[error("Number")]
     Number,
     /// A word spells no set of caps.
-    #[error("Caps")]
     Caps,
     /// A word is no mode of a file, or nothing that an inode is opened for.
-    #[error("Mode")]
     Mode,
     /// A word is no part of what an inode keeps.
-    #[error("Part")]
     Part,
     /// A word begins no change.
-    #[error("Change")]
     Change,
     /// A word writes no bytes.
-    #[error("Hex")]
     Hex,
     /// The rest of the line is no grant text.
-    #[error("Grants {0}")]
     Grants(SpecFault),
 }
 
@@ -41,13 +32,10 @@ pub enum LineFault {
 #[derive(Clone, Copy, PartialEq, Eq, Error)]
 pub enum ScriptFault {
     /// The script could not be read, or is too long.
-    #[error("read failed")]
     ReadFault,
     /// An answer could not be written.
-    #[error("write failed")]
     WriteFault,
     /// A line has a fault.
-    #[error("line {line}: {kind}")]
     LineFault {
         /// The number of the line, the first being 1. Skipped lines count.
         line: u64,
@@ -55,8 +43,36 @@ pub enum ScriptFault {
         kind: LineFault,
     },
     /// No memory was left.
-    #[error("no memory")]
     NoMemory,
+}
+
+impl fmt::Display for LineFault {
+    fn fmt<W: fmt::Write>(&self, f: &mut fmt::Formatter<W>) -> fmt::Result {
+        let word = match self {
+            LineFault::Command => "Command",
+            LineFault::Count => "Count",
+            LineFault::Number => "Number",
+            LineFault::Caps => "Caps",
+            LineFault::Mode => "Mode",
+            LineFault::Part => "Part",
+            LineFault::Change => "Change",
+            LineFault::Hex => "Hex",
+            LineFault::Grants(fault) => return write!(f, "Grants {fault}"),
+        };
+        f.write_str(word)
+    }
+}
+
+impl fmt::Display for ScriptFault {
+    fn fmt<W: fmt::Write>(&self, f: &mut fmt::Formatter<W>) -> fmt::Result {
+        let words = match self {
+            ScriptFault::ReadFault => "read failed",
+            ScriptFault::WriteFault => "write failed",
+            ScriptFault::LineFault { line, kind } => return write!(f, "line {line}: {kind}"),
+            ScriptFault::NoMemory => "no memory",
+        };
+        f.write_str(words)
+    }
 }
 
 // Faults print for programmers as they do for people, so that their words stand once.

@@ -51,7 +51,12 @@ fn is_hex(word: &[u8]) -> bool
 fn has_digits_alone(word: &[u8]) -> bool
     ensures { result ≡ list_all is_hex_digit word.now }
 {
-    word.iter().all(|byte| is_hex_digit(*byte))
+    for byte in word {
+        if !is_hex_digit(*byte) {
+            return false;
+        }
+    }
+    true
 }
 
 fn is_hex_digit(byte: u8) -> bool

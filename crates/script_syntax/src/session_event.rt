@@ -1,13 +1,12 @@
 //! The events that are about a client alone, or about none.
-ghost use Rattle.std.specs.Prelude.{◌≡◌, map, MatchResult};
-ghost use Rattle.script_syntax.specs.Events.{Tells, recall_by};
+ghost use Rattle.std.specs.Prelude.{map, MatchResult};
+ghost use Rattle.step_model.specs.Words.{client_event};
+ghost use Rattle.script_syntax.specs.Events.{Tells, client_by, recall_by};
 ghost use Rattle.script_syntax.specs.Faults.{IsRefused};
-ghost use Rattle.script_syntax.specs.Values.{only_client};
 
 use crate::fault::{LineFault, Refused};
 use crate::values::{read_client, read_number};
-use capbits::ClientId;
-use step_model::Event;
+use step_model::{ClientCommand, Event};
 
 // How many entries are asked for.
 pub(crate) fn read_recall(arguments: &[&[u8]]) -> Result<Event, Refused>
@@ -21,12 +20,14 @@ pub(crate) fn read_recall(arguments: &[&[u8]]) -> Result<Event, Refused>
     Ok(Event::Recall { count })
 }
 
-// A client alone.
-pub(crate) fn read_only_client(arguments: &[&[u8]]) -> Result<ClientId, LineFault>
-    ensures { result ≡ only_client (map (λ word. word.now) arguments.now) }
+// A client alone, and what is said of it.
+pub(crate) fn read_of_client(said: ClientCommand, arguments: &[&[u8]]) -> Result<Event, Refused>
+    ensures { let line = client_by (client_event said) (map (λ word. word.now) arguments.now) in
+        MatchResult result (Tells line) (IsRefused line) }
 {
     let [client] = arguments else {
-        return Err(LineFault::Count);
+        return Err(Refused::Wrong(LineFault::Count));
     };
-    read_client(client)
+    let client = read_client(client)?;
+    Ok(said.event(client))
 }

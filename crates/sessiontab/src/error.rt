@@ -9,7 +9,7 @@ use thiserror::Error;
 #[derive(Clone, Copy, Debug, Error)]
 pub enum SessionError {
     /// A test fails, which is the first that does.
-    #[error("{0}")]
+    #[error(transparent)]
     Refused(Refusal),
     /// Every test is passed, and there was no memory left.
     #[error("NoMemory")]

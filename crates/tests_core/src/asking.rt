@@ -105,19 +105,20 @@ pub fn core_of(rt: &(impl AllocGlobal + Abort), (max_rows, beside, text): Case) 
     core
 }
 
+// Each on a core of its own.
+fn play(rt: &(impl AllocGlobal + Abort), cases: &[Case]) {
+    for case in cases {
+        drop(core_of(rt, *case));
+    }
+}
+
 #[test]
 fn each_step_is_answered_by_the_rules(rt: HostRuntime) {
-    for cases in [
-        gathers::CASES,
-        histories::CASES,
-        moved_entries::CASES,
-        recalls::CASES,
-        sessions_end::CASES,
-        viewing::CASES,
-        waits::CASES,
-    ] {
-        for case in cases {
-            drop(core_of(&rt, *case));
-        }
-    }
+    play(&rt, gathers::CASES);
+    play(&rt, histories::CASES);
+    play(&rt, moved_entries::CASES);
+    play(&rt, recalls::CASES);
+    play(&rt, sessions_end::CASES);
+    play(&rt, viewing::CASES);
+    play(&rt, waits::CASES);
 }

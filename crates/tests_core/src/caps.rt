@@ -1,14 +1,21 @@
-//! The texts of sets of caps that are wrong, and where. What sets, numbers and texts belong together is a law of `worked_cases`.
+//! The texts of sets of caps that are wrong, and where; and what gives its vector back. What sets, numbers and texts belong together is a
+//! law of `worked_cases`.
 
 use crate::asserting::same;
-use crate::texts::shown;
+use arrayvec::ArrayVec;
 use capbits::{CapSet, CapText, read_caps, write_caps};
+use capgrant::{Rule, Rules};
 
 #[test]
-fn a_text_gives_its_vector_back(rt: HostRuntime) {
-    let text = write_caps(CapSet::empty());
-    let given = text.into_inner();
-    same(&rt, given.as_slice(), b"-", "no caps");
+fn a_text_and_a_list_give_their_vectors_back(rt: HostRuntime) {
+    let text = write_caps(CapSet::empty()).into_inner();
+    same(&rt, text.as_slice(), b"-", "no caps");
+    let mut rules = ArrayVec::new();
+    rules.push(Rule::Path);
+    rules.push(Rule::NoWrite);
+    let given = Rules::from(rules).into_inner();
+    let wanted: &[Rule] = &[Rule::Path, Rule::NoWrite];
+    same(&rt, given.as_slice(), wanted, "two rules");
 }
 
 // Texts, and where the fault of each is.
@@ -38,7 +45,4 @@ fn a_fault_is_where_no_spelling_goes_on(rt: HostRuntime) {
         let fault = CapText { at: *at };
         same(&rt, read_caps(text.as_bytes()), Err(fault), *text);
     }
-    let text = shown(&rt, rt.alloc(), CapText { at: 3 });
-    let wanted = "no set of capabilities, wrong at 3";
-    same(&rt, text.as_str(), wanted, "a fault at 3");
 }

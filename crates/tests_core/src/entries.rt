@@ -15,15 +15,15 @@ use crate::asserting::{made, same};
 use crate::texts::{caps, ino_of, number, sides, text_of, word};
 use cap_arena::AddError;
 use capbits::{CapSet, ClientId, Ino, Refusal};
-use captable::{CapTable, ClientView, Holder, Holders, Walk};
+use captable::{CapTable, ClientView, Holder, Walk};
 use std::alloc::Global;
 use std::process::Abort;
 
 // More than the entries of any list here that is looked at.
 const MANY: u32 = 9;
 
-/// Makes the entry where there is none. Answers why it can't be made.
-pub fn open(rt: &impl Abort, table: &mut CapTable, holder: Holder) -> Option<Refusal> {
+// Makes the entry where there is none. Answers why it can't be made.
+fn open(rt: &impl Abort, table: &mut CapTable, holder: Holder) -> Option<Refusal> {
     match table.open_entry(holder.client, holder.ino) {
         Ok(()) => None,
         Err(AddError::Refused(refusal)) => Some(refusal),
@@ -39,8 +39,8 @@ fn renumber(table: &mut CapTable, holder: Holder, before: CapSet, after: CapSet)
     }
 }
 
-/// The client and the inode that a line names behind its word.
-pub fn holder_of(line: &str) -> Holder {
+// The client and the inode that a line names behind its word.
+fn holder_of(line: &str) -> Holder {
     Holder {
         client: ClientId(number(line, 1)),
         ino: ino_of(line, 2),
@@ -140,6 +140,27 @@ mark 1 2
 due 1 => 1.2*
 ";
 
+// The calls that nothing else makes, of an entry that was left alone longer than the one behind it and holds nothing.
+fn others(rt: &impl Abort, table: &mut CapTable, (oldest, newer): (Holder, Holder)) {
+    let (client, ino, told) = (oldest.client, oldest.ino, caps("p"));
+    let order = (table.oldest(), table.newer(client, ino));
+    same(
+        rt,
+        order,
+        (Some(oldest), Some(newer)),
+        "the order of recall",
+    );
+    same(rt, table.lists().oldest().is_some(), true, "a node");
+    let permitted = caps("pFr");
+    table.keep(client, ino, ClientView { told, permitted });
+    table.issue(client, ino, told);
+    let kept = table.kept_permitted(client, ino);
+    let refusal = table.ack(client, ino, 0, told).err();
+    same(rt, (kept, refusal), (Some(permitted), None), "kept, taken");
+    let kept = table.kept_permitted(client, ino);
+    same(rt, kept, None, "kept no more");
+}
+
 #[test]
 fn a_walk_over_what_is_due_begins_behind_what_is_not(rt: HostRuntime) {
     let mut table = made(&rt, CapTable::new(rt.alloc()), "a table");
@@ -149,53 +170,8 @@ fn a_walk_over_what_is_due_begins_behind_what_is_not(rt: HostRuntime) {
             same(&rt, found.as_str(), wanted, line);
         }
     }
-}
-
-// ---- calls that nothing else makes
-
-const FIRST: Holder = Holder {
-    client: ClientId(1),
-    ino: Ino(2),
-};
-
-const SECOND: Holder = Holder {
-    client: ClientId(2),
-    ino: Ino(2),
-};
-
-// Sees that these two alone are to be recalled, in this order: by holders, by nodes and in a list, which is the same once it was a vector.
-fn are_in_order(rt: &impl Abort, table: &CapTable, holders: Holders) {
-    let again = Holders::from_vec(holders.into_vec());
-    same(rt, again.as_slice(), &[FIRST, SECOND], "a list");
-    same(rt, table.oldest(), Some(FIRST), "the oldest");
-    let next = table.newer(FIRST.client, FIRST.ino);
-    same(rt, next, Some(SECOND), "a newer one");
-    let key = table.lists().oldest().unwrap_or(usize::MAX);
-    let node = table.lists().get(key);
-    let client = node.map(|node| node.client);
-    same(rt, client, Some(FIRST.client), "a node");
-}
-
-// Keeps something beside the first entry, sees it, and has it go with the entry.
-fn is_kept(rt: &impl Abort, table: &mut CapTable) {
-    let (told, permitted) = (caps("p"), caps("pFr"));
-    let sets = ClientView { told, permitted };
-    table.keep(FIRST.client, FIRST.ino, sets);
-    let kept = table.kept_permitted(FIRST.client, FIRST.ino);
-    same(rt, kept, Some(permitted), "kept");
-    table.issue(FIRST.client, FIRST.ino, told);
-    let refusal = table.ack(FIRST.client, FIRST.ino, 0, told).err();
-    same(rt, refusal, None, "taken");
-    let kept = table.kept_permitted(FIRST.client, FIRST.ino);
-    same(rt, kept, None, "kept no more");
-}
-
-#[test]
-fn entries_are_named_and_kept_beside(rt: HostRuntime) {
-    let mut table = made(&rt, CapTable::new(rt.alloc()), "a table");
-    same(&rt, open(&rt, &mut table, FIRST), None, "the first");
-    same(&rt, open(&rt, &mut table, SECOND), None, "the second");
-    let holders = made(&rt, table.first_to_recall(MANY), "holders");
-    are_in_order(&rt, &table, holders);
-    is_kept(&rt, &mut table);
+    let left = [holder_of("of 1 4"), holder_of("of 1 2")];
+    let named = made(&rt, table.first_to_recall(MANY), "holders").into_vec();
+    same(&rt, named.as_slice(), &left, "holders");
+    others(&rt, &mut table, (left[0], left[1]));
 }

@@ -5,7 +5,7 @@ use crate::asking::Case;
 
 const MORE_THAN_TWO_ROWS: &str = "
 # A full history takes no more.
-7: session 1 10 10 - allow rw => done | opened 1 0 10:10 0 allow rw
+7: session 1 10 10 - allow rw => done | opened
 7: create 1 1  0644 => refused NameBad
 7: create 1 1 f 0644 => stop Full
 7: session 1 10 10 - allow rw => stop Full

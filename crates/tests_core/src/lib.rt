@@ -1,5 +1,5 @@
-//! Tests of the public calls of all that needs no server and no command: caps, grants, the tree, the table of caps, sessions and
-//! locks; the core and its scripts; and what an audit finds.
+//! Tests of the public calls of all that needs no command: caps, grants, the tree, the table of caps, sessions and locks; the core and its
+//! scripts; what an audit finds; and a server of many threads, of which `beside` sees what no script shows.
 //!
 //! They show what no answer of a command shows; all else is asked in the talks of `capbench`. They stand in a crate of their own,
 //! since a crate with tests is proved twice. The asserts stand in helpers without a contract, and so do the reads of values, since
@@ -11,7 +11,7 @@ mod asking;
 #[cfg(test)]
 mod asserting;
 #[cfg(test)]
-mod auditing;
+mod beside;
 #[cfg(test)]
 mod caps;
 #[cfg(test)]
@@ -31,27 +31,21 @@ mod histories;
 #[cfg(test)]
 mod library;
 #[cfg(test)]
-mod lock_moves;
-#[cfg(test)]
 mod looking;
 #[cfg(test)]
 mod moved_entries;
 #[cfg(test)]
 mod numbered_maps;
 #[cfg(test)]
-mod permitted;
-#[cfg(test)]
 mod recalls;
 #[cfg(test)]
-mod replies;
-#[cfg(test)]
 mod runs;
-#[cfg(test)]
-mod sessions;
 #[cfg(test)]
 mod sessions_end;
 #[cfg(test)]
 mod small_lists;
+#[cfg(test)]
+mod spelling;
 #[cfg(test)]
 mod steps;
 #[cfg(test)]

@@ -9,7 +9,7 @@ use Rattle.capspec.specs.Flags.{IsFlags}
 use Rattle.capspec.specs.declared.fault.SpecFaultKind.{SpecFaultKind}
 use Rattle.capspec.specs.declared.fault.SpecFaultKind.TheVariants as kinds
 use Rattle.capspec.specs.declared.grant.Grant.{Grant}
-use Rattle.capspec.specs.Bytes.{is_bare_path_byte, is_white}
+use Rattle.byte_sets.specs.Sets.{is_bare_path_byte, is_white}
 use Rattle.capspec.specs.Faults.{GrantGives, GrantsGive, IsFault, ItemsGive, fault_at, grant_ends, next_grant, next_item, right_grant, stood, wrong_first}
 use Rattle.capspec.specs.Faults.{wrong_grant, wrong_item, wrong_items, wrong_second}
 use Rattle.capspec.specs.Grants.{AreItemsOf}

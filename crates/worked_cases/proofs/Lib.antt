@@ -3,3 +3,9 @@ pub mod Faults
 pub mod Reading
 pub mod CapTexts
 pub mod Scenes
+pub mod SessionSteps
+pub mod Conflicting
+pub mod TreeMaps
+pub mod Nested
+pub mod ThreeLists
+pub mod ViewAnswers

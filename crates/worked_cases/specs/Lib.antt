@@ -9,3 +9,8 @@ pub mod Tables
 pub mod Releases
 pub mod OsdCaps
 pub mod LockMoves
+pub mod Sessions
+pub mod Holdings
+pub mod Trees
+pub mod Views
+pub mod KeptLists

@@ -1,4 +1,4 @@
-use Rattle.capstep.proofs.SoundEnd.{sound-finished}
+use Rattle.capcore.proofs.SoundEnd.{sound-finished}
 use Rattle.capcore.proofs.Common.{sound-settles}
 use Rattle.capcore.proofs.laws.a_sound_state_has_nothing_left_to_do.Goals as goal
 

@@ -1,5 +1,5 @@
 use Rattle.std.proofs.Common.{◌∙◌, sym}
-use Rattle.capspec.specs.declared.bytes.ByteSet.TheVariants.{BarePath}
+use Rattle.byte_sets.specs.declared.sets.ByteSet.TheVariants.{BarePath}
 use Rattle.capspec.proofs.Slashed.{split_all}
 use Rattle.capspec.proofs.path.can_be_bare.Goals as goal
 

@@ -1,5 +1,5 @@
 use Rattle.std.proofs.Common.{◌∙◌, sym}
-use Rattle.capspec.specs.declared.bytes.ByteSet.TheVariants.{AllBut}
+use Rattle.byte_sets.specs.declared.sets.ByteSet.TheVariants.{AllBut}
 use Rattle.capspec.proofs.Slashed.{split_all}
 use Rattle.capspec.proofs.path.has_no_double_quote.Goals as goal
 

@@ -1,6 +1,6 @@
 use Rattle.std.proofs.Common.{◌≡◌, ℕ, ◌+◌, ◌*◌, ◌<◌, ◌≤◌, ◌^◌, false, get_or, drop, sym, subst, ap, ◌∙◌, arith, rules}
 use Rattle.std.specs.Char.{digit_value}
-use Rattle.capspec.specs.Bytes.{begins}
+use Rattle.byte_sets.specs.Sets.{begins}
 use Rattle.capspec.specs.Words.{is_digit}
 use Rattle.capspec.proofs.Numbers.{Writes, ends_at_byte, ends_at_end, number_read, rest_at, too_large, writes_more}
 use Rattle.capspec.proofs.values.read_number.Goals as goal

@@ -9,7 +9,7 @@ use Rattle.captable.proofs.Changes.{left_found, same_found}
 use Rattle.captable.specs.Calls.{changed, issued}
 use Rattle.captable.specs.Kept.{KeptTable, telling}
 use Rattle.capstep.proofs.Beside.{keeping-other, keeping-own}
-use Rattle.capstep.proofs.CommonActs.{Caps, ClientView, Entry, EntryRow, Holder, Table, entry_at, no_caps, permitted, renumbered, same}
+use Rattle.capstep.proofs.Common.{Caps, ClientView, Entry, EntryRow, Holder, Table, entry_at, no_caps, permitted, renumbered, same}
 use Rattle.capstep.proofs.Held.{same-renumbered}
 use Rattle.capstep.proofs.KeptSets.{kept-one}
 use Rattle.capstep.proofs.Renewed.{kept-is}

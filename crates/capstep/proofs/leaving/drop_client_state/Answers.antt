@@ -5,7 +5,7 @@ use Rattle.captable.proofs.ByHolder.{entry_at-without_client}
 use Rattle.captable.specs.Kept.{KeptTable}
 use Rattle.lockmachine.specs.Counts.{AreCounted, CountedLocks}
 use Rattle.capstep.proofs.Beside.{gone-other, gone-own}
-use Rattle.capstep.proofs.CommonActs.{ClientId, Table, entry_at}
+use Rattle.capstep.proofs.Common.{ClientId, Table, entry_at}
 use Rattle.capstep.specs.Known.{sets_of}
 use Rattle.capstep.specs.Left.{table_left}
 use Rattle.sessiontab.specs.Changes.{is_end}

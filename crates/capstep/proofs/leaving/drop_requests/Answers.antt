@@ -1,7 +1,7 @@
 use Rattle.std.proofs.Common.{◌≡◌, ◌+◌, ◌≤◌, ◌++◌, List, filter, not, length, take, ap, ◌∙◌, arith, length-append}
 use Rattle.std.proofs.lemmas.List.{take_all}
 use Rattle.lockmachine.specs.Counts.{CountedLocks}
-use Rattle.capstep.proofs.CommonActs.{Request, is_of_client}
+use Rattle.capstep.proofs.Common.{Request, is_of_client}
 use Rattle.capstep.proofs.Dropped.{dropped-count, dropped-few, dropped_among}
 use Rattle.capstep.proofs.leaving.drop_requests.Goals as goal
 

@@ -2,7 +2,7 @@ use Rattle.std.proofs.Common.{◌-◌, List, refl, sym, ap, subst, ◌∙◌}
 use Rattle.lockmachine.specs.Counts.{IsCounted, count_of, given_up}
 use Rattle.lockmachine.specs.Locks.{LockMap, lock_at}
 use Rattle.captable.specs.Calls.{without_client}
-use Rattle.capstep.proofs.CommonActs.{Caps, EntryRow, no_caps}
+use Rattle.capstep.proofs.Common.{Caps, EntryRow, no_caps}
 use Rattle.capstep.proofs.GivenUp.{IsLeft, left-all, left-less, left-none}
 use Rattle.capstep.proofs.leaving.give_up_all.Goals as goal
 

@@ -1,5 +1,5 @@
 use Rattle.std.proofs.Common.{sym, subst, ◌∙◌, ◌==◌}
-use Rattle.capstep.proofs.CommonActs.{IsAlike, Nodes}
+use Rattle.capstep.proofs.Common.{IsAlike, Nodes}
 use Rattle.capstep.proofs.Renewed.{alike-unset, alike_change, other-number, permitted-on, permitted-still}
 use Rattle.capstep.proofs.renewing.renew_changed.Goals as goal
 

@@ -1,7 +1,7 @@
 use Rattle.std.proofs.Common.{◌≡◌, ◌==◌, Bool, Option, Some, subst, ap, ◌∙◌}
 use Rattle.std.proofs.lemmas.Bool.{eqb-true}
 use Rattle.captable.specs.Calls.{newer_in}
-use Rattle.capstep.proofs.CommonActs.{Caps, Holder, holders_of_rows, permitted}
+use Rattle.capstep.proofs.Common.{Caps, Holder, holders_of_rows, permitted}
 use Rattle.capstep.proofs.Renewed.{passing}
 use Rattle.capstep.proofs.Walking.{Walking, walking-begins, walking-ends, walking-more, walking-passes, walking-smaller}
 use Rattle.capstep.proofs.renewing.renew_client.Goals.{After-next_of-next}

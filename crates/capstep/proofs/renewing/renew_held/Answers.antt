@@ -6,7 +6,7 @@ use Rattle.inotree.proofs.Lent.{lent-where}
 use Rattle.inotree.specs.Tree.{path_of}
 use Rattle.captable.specs.Calls.{newer_in}
 use Rattle.lockmachine.specs.Policy.{permitted_to, subject_of}
-use Rattle.capstep.proofs.CommonActs.{Caps, Holder, holders_of_rows, permitted}
+use Rattle.capstep.proofs.Common.{Caps, Holder, holders_of_rows, permitted}
 use Rattle.capstep.proofs.Renewed.{passing}
 use Rattle.capstep.proofs.Walking.{Walking, walking-begins, walking-ends, walking-more, walking-passes, walking-smaller}
 use Rattle.capstep.proofs.renewing.renew_held.Goals.{After-next_on-next}

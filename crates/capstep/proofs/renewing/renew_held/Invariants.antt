@@ -1,5 +1,5 @@
 use Rattle.std.proofs.Common.{length, ◌==◌}
-use Rattle.capstep.proofs.CommonActs.{permitted}
+use Rattle.capstep.proofs.Common.{permitted}
 use Rattle.capstep.proofs.Onward.{onward}
 use Rattle.capstep.proofs.Renewed.{passing}
 use Rattle.capstep.proofs.Walking.{Walking}

@@ -1,5 +1,5 @@
 use Rattle.std.proofs.Common.{◌==◌, sym, refl, ◌∙◌}
-use Rattle.capstep.proofs.CommonActs.{permitted}
+use Rattle.capstep.proofs.Common.{permitted}
 use Rattle.capstep.proofs.Renewed.{renews-nobody}
 use Rattle.capstep.proofs.renewing.renew_on.Goals as goal
 

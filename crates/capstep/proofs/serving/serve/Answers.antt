@@ -1,8 +1,8 @@
 use Rattle.std.proofs.Common.{◌≡◌, Option, None, refl, sym, ap, ◌∙◌}
 use Rattle.lockmachine.specs.Scene.{plain, scene}
 use Rattle.capstep.proofs.Again.{calls-passed, ends-passed, ends-rejection, ends-without_memory, tree-passed}
-use Rattle.capstep.proofs.CommonActs.{Operation, Outcome, Rejection, Request, Scene, judged_again, operation_after, operation_before, operation_needs}
-use Rattle.capstep.proofs.CommonActs.{rejection_of, tree_after}
+use Rattle.capstep.proofs.Common.{Operation, Outcome, Rejection, Request, Scene, judged_again, operation_after, operation_before, operation_needs}
+use Rattle.capstep.proofs.Common.{rejection_of, tree_after}
 use Rattle.capstep.proofs.Memory.{rename-takes}
 use Rattle.capstep.proofs.serving.serve.Goals.{After-carry_out-arg-2-1, else-not-judged, then-not-judged+in_default}
 use Rattle.capstep.proofs.serving.serve.Goals as goal

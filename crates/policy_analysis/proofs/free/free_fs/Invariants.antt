@@ -2,7 +2,7 @@ use Rattle.std.proofs.Common.{◌≡◌, ℕ, ◌<◌, true, length, get_or}
 use Rattle.std.specs.Prelude.{◌≢◌, IfSome, slice_get}
 use Rattle.std.specs.List.{list_all}
 use Rattle.capspec.specs.declared.grant.Grant.{Grant}
-use Rattle.capspec.specs.Bytes.{is_fs_name_byte}
+use Rattle.byte_sets.specs.Sets.{is_fs_name_byte}
 use Rattle.policy_analysis.proofs.free.free_fs.Given as goal
 
 abbrev pub invariant-loop-place : goal.invariant-loop-place

@@ -1,5 +1,5 @@
 use Rattle.std.proofs.Common.{List, length}
-use Rattle.capspec.specs.Bytes.{is_mark}
+use Rattle.byte_sets.specs.Sets.{is_mark}
 use Rattle.capspec.specs.Separated.{AreSeparated}
 use Rattle.policy_analysis.specs.Ceph16Syntax.{Standing, Stands}
 use Rattle.policy_analysis.proofs.Grants.{AreLeft}

@@ -6,19 +6,19 @@ use Rattle.script_syntax.proofs.SaidLines.{four, missed, refused_by}
 use Rattle.script_syntax.proofs.event.read_new_inode.Goals as goal
 
 pub returns-in_err-client : goal.returns-in_err-client
-returns-in_err-client c = λ event.
+returns-in_err-client c =
     rw (four c.args.arguments.now (omega arith), sym c.in_err-client.ensures)
     (refused_by _ _ (Faulty c.in_err-client.field-0.0) (refusals.Wrong c.in_err-client.field-0.0) c.from_residual.ensures.1 refl)
 
 pub returns-in_err-dir : goal.returns-in_err-dir
-returns-in_err-dir c = λ event.
+returns-in_err-dir c =
     rw (four c.args.arguments.now (omega arith), sym c.in_ok-client.ensures, sym c.in_err-dir.ensures)
     (refused_by _ _ (Faulty c.in_err-dir.field-0.0) (refusals.Wrong c.in_err-dir.field-0.0) c.from_residual-in_err-dir.ensures.1 refl)
 
 pub returns-in_err-mode : goal.returns-in_err-mode
-returns-in_err-mode c = λ event.
+returns-in_err-mode c =
     rw (four c.args.arguments.now (omega arith), sym c.in_ok-client.ensures, sym c.in_ok-dir.ensures, sym c.in_err-mode.ensures)
     (refused_by _ _ (Faulty c.in_err-mode.field-0.0) (refusals.Wrong c.in_err-mode.field-0.0) c.from_residual-in_err-mode.ensures.1 refl)
 
 pub returns-in_err-name : goal.returns-in_err-name
-returns-in_err-name c = λ event. missed _ _ _ c.from_residual-in_err-name.ensures.1 (grind (arith, common_steps))
+returns-in_err-name c = missed _ _ _ c.from_residual-in_err-name.ensures.1 (grind (arith, common_steps))

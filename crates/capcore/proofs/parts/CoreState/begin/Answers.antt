@@ -1,8 +1,9 @@
 use Rattle.std.proofs.Common.{◌≡◌, length, refl, sym, ap, subst, arith}
-use Rattle.capstep.proofs.EntryKept.{others-have_all, request-less}
-use Rattle.capstep.proofs.EntryRequests.{affects-of_request, below-of_request, effect-affected, keeps-of_request}
-use Rattle.capstep.specs.Begun.{AreCountedIn}
-use Rattle.capstep.specs.EntryRequest.{StillKept, table_after}
+use Rattle.capcore.proofs.EntryKept.{others-have_all, request-less}
+use Rattle.capcore.proofs.EntryRequests.{affects-of_request, below-of_request, effect-affected, keeps-of_request}
+use Rattle.capcore.specs.Begun.{AreCountedIn}
+use Rattle.capstep.specs.Known.{StillKept}
+use Rattle.capcore.specs.EntryRequest.{table_after}
 use Rattle.capcore.proofs.Begun.{on_err, one-begun}
 use Rattle.capcore.proofs.Common.{Affected, Event, Holder, Scene, State, StepOutput, changes-still, effect, effect_unless, entry_event, none-judged, plain}
 use Rattle.capcore.proofs.Common.{request-table, room-for, view_of}

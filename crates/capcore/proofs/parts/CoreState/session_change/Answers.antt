@@ -1,6 +1,6 @@
 use Rattle.std.proofs.Common.{◌≡◌, ◌≤◌, ◌++◌, length, sym, ap, subst, ◌∙◌, arith}
 use Rattle.std.specs.Option.{option_map}
-use Rattle.capstep.specs.declared.settle.Affected.TheVariants.{Inodes}
+use Rattle.capcore.specs.declared.settle.Affected.TheVariants.{Inodes}
 use Rattle.capcore.proofs.Begun.{on_err}
 use Rattle.capcore.proofs.Common.{AreChanges, ClientView, KeptScene, SessionTable, StepOutput, dropped_by, is_end, none-judged, plain, room-for}
 use Rattle.capcore.proofs.Common.{session_changed, session_event, view, view_of}

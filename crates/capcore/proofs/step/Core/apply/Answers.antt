@@ -1,5 +1,5 @@
 use Rattle.std.proofs.Common.{◌≡◌, ◌+◌, ◌++◌, ◌∷◌, [], List, length, refl, ap, sym, subst, ◌∙◌}
-use Rattle.capstep.proofs.Placed.{all-revoked}
+use Rattle.capcore.proofs.Placed.{all-revoked}
 use Rattle.step_model.specs.History.{made_row}
 use Rattle.capcore.proofs.Apart.{held-apart}
 use Rattle.capcore.proofs.Bounded.{direct-order, moves-bounded}

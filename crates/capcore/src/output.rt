@@ -1,0 +1,118 @@
+//! What a step puts out besides its reply: the requests that it ends, and the changes that readers are to see.
+ghost use Rattle.std.specs.List.{filter_map};
+ghost use Rattle.std.specs.Prelude.{◌≡◌, ◌+◌, ◌≤◌, ◌<◌, ◌++◌, [], ◌∷◌, None, length, OnOk, vec_capacity};
+ghost use Rattle.capcore.specs.Begun.{HaveRoomFor};
+
+use capbits::{ClientId, Ino, Ticket};
+use capstep::serving::Served;
+use std::alloc::{AllocError, Global};
+use std::fmt;
+use step_model::{ChangeList, Ended};
+
+/// The requests that a step ends: once to be told to their clients, and once for the history; the inodes whose sizes they
+/// changed; what the step changes of what readers see; and the request that came with the step and was judged then, until one is
+/// served. Between steps the changes are those of the last; of the others the room alone is of use.
+pub struct StepOutput {
+    pub for_clients: Vec<Ended>,
+    pub for_history: Vec<Ended>,
+    pub sized: Vec<Ino>,
+    pub changes: ChangeList,
+    pub judged: Option<Ticket>,
+}
+
+// Not derived: so the proof of a function that drops one has a single call there.
+impl Drop for StepOutput {
+    fn drop(self) {
+        let StepOutput {
+            for_clients: _,
+            for_history: _,
+            sized: _,
+            changes: _,
+            judged: _,
+        } = self;
+    }
+}
+
+// Tells nothing of the room that is kept, of which an event that finds no memory may leave less.
+impl fmt::Debug for StepOutput {
+    fn fmt<W: fmt::Write>(&self, f: &mut fmt::Formatter<W>) -> fmt::Result {
+        f.debug_struct("StepOutput").finish_non_exhaustive()
+    }
+}
+
+impl StepOutput {
+    /// No request and no change, and no room.
+    pub fn new(alloc: Global) -> StepOutput
+        ensures changes { result.changes.items ≡ [] }
+    {
+        StepOutput {
+            for_clients: Vec::new(alloc),
+            for_history: Vec::new(alloc),
+            sized: Vec::new(alloc),
+            changes: ChangeList::new(alloc),
+            judged: None,
+        }
+    }
+
+    /// No request, and room for so many; and places for so many changes. What is listed of changes stays until it is cleared.
+    pub fn begin(&mut self, room: usize, places: usize) -> Result<(), AllocError>
+        ensures room { OnOk result (HaveRoomFor room self.new) }
+        ensures changes { self.new.changes.items ≡ self.old.changes.items }
+        ensures places { OnOk result (places ≤ self.new.changes.room) }
+        ensures judged { OnOk result (self.new.judged ≡ None) }
+    {
+        self.judged = None;
+        self.for_clients.clear();
+        self.for_history.clear();
+        self.sized.clear();
+        // Mostly nobody waits.
+        if room != 0 {
+            self.for_clients.reserve(room)?;
+            self.for_history.reserve(room)?;
+            self.sized.reserve(room)?;
+        }
+        self.changes.begin(places)
+    }
+
+    /// The allocator of the lists.
+    pub fn alloc(&self) -> Global {
+        *self.for_clients.allocator()
+    }
+
+    /// A client's request with this number ended so, and changed the size of this inode, if of any.
+    pub fn push(&mut self, client: ClientId, ticket: Ticket, served: Served, sized: Option<Ino>)
+        requires for_clients { length self.old.for_clients.items < vec_capacity self.old.for_clients }
+        requires for_history { length self.old.for_history.items < vec_capacity self.old.for_history }
+        requires sized { length self.old.sized.items < vec_capacity self.old.sized }
+        ensures for_clients { self.new.for_clients.items ≡ self.old.for_clients.items ++ record { client = client; ticket = ticket; outcome = served.outcome } ∷ [] }
+        ensures for_history { self.new.for_history.items ≡ self.old.for_history.items ++ record { client = client; ticket = ticket; outcome = served.for_history } ∷ [] }
+        ensures sized { self.new.sized.items ≡ self.old.sized.items ++ filter_map (λ ino. ino) (sized ∷ []) }
+        ensures room { (vec_capacity self.old.for_clients ≤ vec_capacity self.new.for_clients) × (vec_capacity self.old.for_history ≤ vec_capacity self.new.for_history)
+            × (vec_capacity self.old.sized ≤ vec_capacity self.new.sized) }
+        ensures changes { self.new.changes ≡ self.old.changes }
+        ensures judged { self.new.judged ≡ self.old.judged }
+    {
+        let Served {
+            outcome,
+            for_history,
+        } = served;
+        let for_clients = self.for_clients.push(Ended {
+            client,
+            ticket,
+            outcome,
+        });
+        let for_history = self.for_history.push(Ended {
+            client,
+            ticket,
+            outcome: for_history,
+        });
+        let (Ok(()), Ok(())) = (for_clients, for_history) else {
+            unreachable!()
+        };
+        if let Some(ino) = sized {
+            let Ok(()) = self.sized.push(ino) else {
+                unreachable!()
+            };
+        }
+    }
+}

@@ -1,0 +1,16 @@
+use Rattle.std.specs.Prelude.{refl}
+use Rattle.worked_cases.proofs.Scenes.{entries-more, none}
+use Rattle.worked_cases.proofs.TreeMaps.{get-found}
+use Rattle.worked_cases.proofs.trees.strays_are_gone.Goals as goal
+
+pub returns-clause-made_in : goal.returns-clause-made_in
+returns-clause-made_in c = simp (get-found, entries-more, none) refl
+
+pub returns-clause-moved_into : goal.returns-clause-moved_into
+returns-clause-moved_into c = simp (get-found, entries-more, none) refl
+
+pub returns-clause-size : goal.returns-clause-size
+returns-clause-size c = simp (get-found, entries-more, none) refl
+
+pub returns-clause-snapshot : goal.returns-clause-snapshot
+returns-clause-snapshot c = simp (get-found, entries-more, none) refl
