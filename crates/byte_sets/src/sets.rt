@@ -2,21 +2,29 @@
 
 ghost use Rattle.std.specs.Prelude.{◌≡◌, ◌≤◌, length, take, IsTrue};
 ghost use Rattle.std.specs.List.{list_all};
-ghost use Rattle.byte_sets.specs.Sets.{SplitsWhile, is_bare_path_byte, is_in};
+ghost use Rattle.byte_sets.specs.Sets.{SplitsWhile, is_bare_path_byte, is_in, is_network_byte};
 ghost use Rattle.byte_sets.specs.declared.sets.ByteSet.TheVariants.{BarePath};
 
 // How many bytes of a path are looked at at once.
 const BLOCK: usize = 16;
 
-/// A set of bytes that words of a grant text are made of.
+/// A set of bytes by which texts of capabilities are cut.
 #[derive(Clone, Copy)]
 pub enum ByteSet {
     /// A space, a tab or a line feed.
     White,
+    /// A space, a tab, a line feed, a vertical tab, a form feed or a carriage return.
+    AnyWhite,
+    /// A space or a tab.
+    Blank,
     /// What the name of a file system may have.
     FsName,
     /// What a path without quotes may have.
     BarePath,
+    /// What the address of a network may have.
+    Network,
+    /// A decimal digit.
+    Digit,
     /// What a word without quotes may have: all but white space, `,` and `;`.
     Plain,
     /// One byte alone.
@@ -37,8 +45,12 @@ impl ByteSet {
         let is_mark = matches!(byte, b',' | b';');
         match self {
             ByteSet::White => is_white,
+            ByteSet::AnyWhite => matches!(byte, b' ' | 9..=13),
+            ByteSet::Blank => matches!(byte, b' ' | b'\t'),
             ByteSet::FsName => byte != b'/' && is_bare_path_byte(byte),
             ByteSet::BarePath => is_bare_path_byte(byte),
+            ByteSet::Network => is_network_byte(byte),
+            ByteSet::Digit => byte.is_ascii_digit(),
             ByteSet::Plain => !(is_white || is_mark),
             ByteSet::Only(one) => byte == one,
             ByteSet::AllBut(one) => byte != one,
@@ -55,6 +67,13 @@ fn is_bare_path_byte(byte: u8) -> bool
     } else {
         byte.is_ascii_alphabetic() || byte == b'_'
     }
+}
+
+// A hexadecimal digit, or a mark of an address.
+fn is_network_byte(byte: u8) -> bool
+    ensures { result ≡ is_network_byte byte }
+{
+    matches!(byte, b'.'..=b':' | b'a'..=b'f' | b'A'..=b'F' | b'[' | b']')
 }
 
 /// Splits a text behind the longest front that has bytes of the set alone.

@@ -1,13 +1,10 @@
 -- What each call on the lists changes.
-use Rattle.std.specs.Prelude.{◌≡◌, ℕ, not, List, [], ◌∷◌, ◌++◌, Option, Some, None, Result, Ok, Err, nat_eq, nat_le, filter, if◌then◌else◌}
+use Rattle.std.specs.Prelude.{◌≡◌, ℕ, not, List, [], ◌∷◌, ◌++◌, Some, None, nat_eq, nat_le, filter, if◌then◌else◌}
 use Rattle.std.specs.Option.{option_map}
 use Rattle.capbits.specs.declared.ids.ClientId.{ClientId}
 use Rattle.capbits.specs.declared.ids.Ino.{Ino}
-use Rattle.capbits.specs.declared.refusal.Refusal.{Refusal}
 use Rattle.capbits.specs.declared.refusal.Refusal.TheVariants as refusal
 use Rattle.capbits.specs.Refusal.{Test, refused_if}
-use Rattle.cap_arena.specs.declared.error.AddError.{AddError}
-use Rattle.cap_arena.specs.declared.error.AddError.TheVariants.{NoMemory, Refused}
 use Rattle.cap_arena.specs.declared.nodes.Node.{Node}
 use Rattle.cap_arena.specs.Lists.{ListName, Lists, OfClient, OfInode, OfRecall, belongs, count, keys, node_at}
 
@@ -17,12 +14,6 @@ keys_without ks key = filter (λ k. not (nat_eq key k)) ks
 
 abbrev pub node : {T : Type 0} → ClientId → Ino → T → Node T
 node client ino value = record { client = client; ino = ino; value = value }
-
--- why nothing was added; want of memory is no refusal
-abbrev pub refusal_in : {K : Type 0} → Result K AddError → Option Refusal
-refusal_in (Ok key) = None
-refusal_in (Err (Refused why)) = Some why
-refusal_in (Err NoMemory) = None
 
 module _ {T : Type 0} where
   -- there may be one more node

@@ -11,15 +11,22 @@ module _ {T : Type 0} where
   abbrev pub linked_at : List (Option (Linked T)) → ℕ → Option (Linked T)
   linked_at slots key = slice_index_or slots key None
 
+  -- the node after one, and the one before it
+  abbrev pub next_key : List (Option (Linked T)) → Order → ℕ → Option ℕ
+  next_key slots o key = option_and_then (λ l. (joint_of o l).next) (linked_at slots key)
+
+  abbrev pub previous_key : List (Option (Linked T)) → Order → ℕ → Option ℕ
+  previous_key slots o key = option_and_then (λ l. (joint_of o l).previous) (linked_at slots key)
+
   -- where the place leads: from the beginning to the first node, and from a node to the one after it
   abbrev pub next_at : List (Option (Linked T)) → Ends → Order → Option ℕ → Option ℕ
   next_at slots ends o None = ends.first
-  next_at slots ends o (Some key) = option_and_then (λ l. (joint_of o l).next) (linked_at slots key)
+  next_at slots ends o (Some key) = next_key slots o key
 
   -- where the place leads backwards: from the end to the last node, and from a node to the one before it
   abbrev pub previous_at : List (Option (Linked T)) → Ends → Order → Option ℕ → Option ℕ
   previous_at slots ends o None = ends.last
-  previous_at slots ends o (Some key) = option_and_then (λ l. (joint_of o l).previous) (linked_at slots key)
+  previous_at slots ends o (Some key) = previous_key slots o key
 
   -- ---- writes of one link
 

@@ -1,7 +1,7 @@
 //! The links of one list, of whichever order. A place in a list is a node, by its key, or none: the beginning of the
 //! list, which is its end too.
 ghost use Rattle.std.specs.Prelude.{◌≡◌, ◌+◌, ◌≤◌, Some, None};
-ghost use Rattle.cap_arena.specs.Places.{appended_ends, facing_last, moved_ends, moved_slots, next_at, previous_at, unlinked, unlinked_ends, with_first_at};
+ghost use Rattle.cap_arena.specs.Places.{appended_ends, facing_last, moved_ends, moved_slots, next_key, previous_key, unlinked, unlinked_ends, with_first_at};
 ghost use Rattle.cap_arena.specs.Places.{with_last_at, with_next_at, with_previous_at};
 
 use crate::link::LinkWrites;
@@ -9,39 +9,24 @@ use crate::nodes::{Ends, Linked, Order};
 use slab::Slab;
 use std::sync::ledger::Ledger;
 
-// The place after this one.
-pub(crate) fn next_of<T>(
-    nodes: &Slab<Linked<T>>,
-    ends: &Ends,
-    order: Order,
-    place: Option<usize>,
-) -> Option<usize>
-    ensures { result ≡ next_at nodes.now.slots ends.now order place }
+// The node after this one.
+pub(crate) fn next_of<T>(nodes: &Slab<Linked<T>>, order: Order, key: usize) -> Option<usize>
+    ensures { result ≡ next_key nodes.now.slots order key }
 {
-    let Some(key) = place else {
-        return ends.first.key();
-    };
     match nodes.get(key) {
         Some(linked) => linked.joint(order).next.key(),
         None => None,
     }
 }
 
-// The place before this one.
-pub(crate) fn previous_of<T>(
-    nodes: &Slab<Linked<T>>,
-    ends: &Ends,
-    order: Order,
-    place: Option<usize>,
-) -> Option<usize>
-    ensures { result ≡ previous_at nodes.now.slots ends.now order place }
+// The node before this one, and the one after it.
+fn beside<T>(nodes: &Slab<Linked<T>>, order: Order, key: usize) -> (Option<usize>, Option<usize>)
+    ensures previous { result.0 ≡ previous_key nodes.now.slots order key }
+    ensures next { result.1 ≡ next_key nodes.now.slots order key }
 {
-    let Some(key) = place else {
-        return ends.last.key();
-    };
     match nodes.get(key) {
-        Some(linked) => linked.joint(order).previous.key(),
-        None => None,
+        Some(linked) => linked.joint(order).keys(),
+        None => (None, None),
     }
 }
 
@@ -118,8 +103,7 @@ pub(crate) fn unlink<T, L: Ledger>(
     ensures ends { ends.new ≡ unlinked_ends nodes.old.slots ends.old order key }
     ensures count { writes.new ≤ writes.old + 2 }
 {
-    let previous = previous_of(nodes, ends, order, Some(key));
-    let next = next_of(nodes, ends, order, Some(key));
+    let (previous, next) = beside(nodes, order, key);
     put_next(nodes, ends, order, previous, next, writes);
     put_previous(nodes, ends, order, next, previous, writes);
 }

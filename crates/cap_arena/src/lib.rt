@@ -3,7 +3,6 @@
 #![tactic(auto)]
 
 mod chain;
-mod error;
 mod heads;
 mod laws;
 mod link;
@@ -11,7 +10,6 @@ mod lists;
 mod moves;
 mod nodes;
 
-pub use error::AddError;
 pub use laws::the_order_of_recall_has_each_node;
 pub use link::{Link, LinkWrites};
 pub use lists::{MAX_NODES, TripleLists};

@@ -2,12 +2,11 @@
 ghost use Rattle.std.specs.Prelude.{◌≡◌, ◌+◌, ◌≤◌, Some, None, IsSome, IfOk, OnErr, IfSome, IfNone, slice_get, option_and_then};
 
 use crate::chain::{move_last, next_of};
-use crate::error::AddError;
 use crate::heads::{AllEnds, first_in};
 use crate::link::LinkWrites;
 use crate::moves::{put_value, take_in, take_out};
 use crate::nodes::{Ends, Linked, Node, Order};
-use capbits::{ClientId, Ino, Refusal};
+use capbits::{ChangeError, ClientId, Ino, Refusal};
 use dense_map::Numbered;
 use slab::Slab;
 use std::alloc::{AllocError, Global};
@@ -71,10 +70,10 @@ fn no_ends<L: Ledger>(blank: Blank) -> Ends
 }
 
 impl<T: Copy> TripleLists<T> {
-    ghost use Rattle.capbits.specs.Refusal.{first_failing};
+    ghost use Rattle.capbits.specs.Refusal.{first_failing, refusal_in};
     ghost use Rattle.cap_arena.specs.Walks.{key_after};
     ghost use Rattle.cap_arena.specs.Lists.{IsLists, OfClient, OfInode, OfRecall, count, empty, keys, node_at};
-    ghost use Rattle.cap_arena.specs.Calls.{Adds, Removes, Sets, Touches, add_tests, node, refusal_in};
+    ghost use Rattle.cap_arena.specs.Calls.{Adds, Removes, Sets, Touches, add_tests, node};
 
     /// No nodes.
     pub fn new(alloc: Global) -> Result<TripleLists<T>, AllocError>
@@ -108,7 +107,7 @@ impl<T: Copy> TripleLists<T> {
         ino: Ino,
         value: T,
         writes: &mut LinkWrites<L>,
-    ) -> Result<usize, AddError>
+    ) -> Result<usize, ChangeError>
         ensures refused { refusal_in result ≡ first_failing (add_tests self.old) }
         ensures ok { IfOk result (λ key. Adds self.old self.new key (node client ino value)) }
         ensures err { OnErr result (self.new ≡ self.old) }
@@ -117,7 +116,7 @@ impl<T: Copy> TripleLists<T> {
         ensures sound { IsLists self.new }
     {
         if let Some(refusal) = self.add_refusal() {
-            return Err(AddError::Refused(refusal));
+            return Err(ChangeError::Refused(refusal));
         }
         let key = self.add_tested(client, ino, value, writes)?;
         Ok(key)
@@ -176,7 +175,7 @@ impl<T: Copy> TripleLists<T> {
         ensures next { result ≡ option_and_then (λ node. key_after (keys self.now (OfInode node.ino)) key) (node_at self.now key) }
         ensures sound { IsLists self.now }
     {
-        next_of(&self.nodes, &self.ends.recall, Order::Inode, Some(key))
+        next_of(&self.nodes, Order::Inode, key)
     }
 
     /// The first node of the client.
@@ -192,7 +191,7 @@ impl<T: Copy> TripleLists<T> {
         ensures next { result ≡ option_and_then (λ node. key_after (keys self.now (OfClient node.client)) key) (node_at self.now key) }
         ensures sound { IsLists self.now }
     {
-        next_of(&self.nodes, &self.ends.recall, Order::Client, Some(key))
+        next_of(&self.nodes, Order::Client, key)
     }
 
     /// The first node in the order of recall.
@@ -208,7 +207,7 @@ impl<T: Copy> TripleLists<T> {
         ensures next { result ≡ key_after (keys self.now OfRecall) key }
         ensures sound { IsLists self.now }
     {
-        next_of(&self.nodes, &self.ends.recall, Order::Recall, Some(key))
+        next_of(&self.nodes, Order::Recall, key)
     }
 
     /// The node becomes the last one in the order of recall. Where no node has the key, nothing happens.

@@ -58,7 +58,10 @@ impl<T: fmt::Debug> fmt::Debug for Linked<T> {
 
 impl Joint {
     // The keys of the node before this one and of the one behind it.
-    fn keys(&self) -> (Option<usize>, Option<usize>) {
+    pub(crate) fn keys(&self) -> (Option<usize>, Option<usize>)
+        ensures previous { result.0 ≡ self.now.previous }
+        ensures next { result.1 ≡ self.now.next }
+    {
         (self.previous.key(), self.next.key())
     }
 

@@ -7,7 +7,8 @@ use Rattle.capbits.specs.declared.cap.Cap.TheVariants.{As, Ax, Fa, Fb, Fc, Fl, F
 use Rattle.capbits.specs.Caps.{Caps, all_caps, caps_where, has}
 use Rattle.capbits.specs.Sets.{all_in, has-none, is_empty, no_caps, same_cap, same_caps}
 
-in_all : (c : Cap) → IsTrue (list_any (same_cap c) all_caps)
+-- each cap is one of all
+pub in_all : (c : Cap) → IsTrue (list_any (same_cap c) all_caps)
 in_all P = refl
 in_all As = refl
 in_all Ax = refl

@@ -1,6 +1,8 @@
 -- Refusals: their names, and which of some tests answers.
-use Rattle.std.specs.Prelude.{ℕ, Bool, List, [], ◌∷◌, ◌++◌, Option, Some, None, codes, if◌then◌else◌}
+use Rattle.std.specs.Prelude.{ℕ, Bool, List, [], ◌∷◌, ◌++◌, Option, Some, None, Result, Ok, Err, codes, if◌then◌else◌}
 use Rattle.std.specs.Fmt.{decimal}
+use Rattle.capbits.specs.declared.change_error.ChangeError.{ChangeError}
+use Rattle.capbits.specs.declared.change_error.ChangeError.TheVariants as errors
 use Rattle.capbits.specs.declared.refusal.Refusal.{Refusal}
 use Rattle.capbits.specs.declared.refusal.Refusal.TheVariants as refusals
 
@@ -43,3 +45,9 @@ refused_if fails answer = record { fails = fails; answer = answer }
 abbrev pub first_failing : List Test → Option Refusal
 first_failing [] = None
 first_failing (t ∷ ts) = if t.fails then Some t.answer else first_failing ts
+
+-- why a call was refused; want of memory is no refusal
+abbrev pub refusal_in : {T : Type 0} → Result T ChangeError → Option Refusal
+refusal_in (Ok value) = None
+refusal_in (Err (errors.Refused why)) = Some why
+refusal_in (Err errors.NoMemory) = None

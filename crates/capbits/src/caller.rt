@@ -4,9 +4,9 @@ ghost use Rattle.std.specs.List.{list_any};
 ghost use Rattle.std.specs.Slice.Iter.{iter_rest};
 
 use arrayvec::ArrayVec;
-use std::error::Error;
 use std::marker::Model;
 use std::{fmt, slice};
+use thiserror::Error;
 
 /// How many groups a caller may have besides its first.
 pub const MAX_GROUPS: usize = 16;
@@ -26,7 +26,7 @@ impl Model for Groups {
 }
 
 /// The answer where a caller has `MAX_GROUPS` groups already.
-#[derive(Clone, Copy, Debug, PartialEq, Eq)]
+#[derive(Clone, Copy, Debug, PartialEq, Eq, Error)]
 pub struct TooManyGroups;
 
 impl fmt::Display for TooManyGroups {
@@ -36,8 +36,6 @@ impl fmt::Display for TooManyGroups {
         f.write_str("too many groups")
     }
 }
-
-impl Error for TooManyGroups {}
 
 impl Groups {
     /// No groups.

@@ -2,12 +2,12 @@
 ghost use Rattle.std.specs.Prelude.{Some};
 ghost use Rattle.capbits.specs.Refusal.{refusal_word};
 
-use std::error::Error;
 use std::fmt;
+use thiserror::Error;
 
 /// Why a request is refused, other than by policy: what it asks for was not done. Each prints as its name, and `OldSeq`
 /// with its number behind it, in decimal.
-#[derive(Clone, Copy, PartialEq, Eq, Debug)]
+#[derive(Clone, Copy, PartialEq, Eq, Debug, Error)]
 pub enum Refusal {
     /// The client is on the blocklist.
     Blocklisted,
@@ -95,5 +95,3 @@ impl fmt::Display for Refusal {
         f.write_str(name)
     }
 }
-
-impl Error for Refusal {}

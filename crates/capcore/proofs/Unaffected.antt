@@ -20,6 +20,10 @@ use Rattle.lockmachine.proofs.CountsStay.{counted-born, counted-dropped}
 use Rattle.lockmachine.proofs.PolicyElsewhere.{permitted-changed, permitted-new, permitted-session, want-changed, want-new, want-session}
 use Rattle.lockmachine.specs.Locks.{without_ino}
 use Rattle.lockmachine.specs.Counts as counting
+use Rattle.policy_view.proofs.Likeness.{like-unseen, shows-tree}
+use Rattle.policy_view.specs.Visible.{IsLike, Shows, visible_of}
+use Rattle.step_model.specs.Noted.{view_of}
+use Rattle.step_model.specs.NotedChanges.{view}
 use Rattle.capcore.proofs.Common.{AreCounted, AreCountedIn, Attr, ClientViews, CountMap, EntryRow, HoldAlike, InodeLocks, IsSound, IsTree, KeptScene, Kind}
 use Rattle.capcore.proofs.Common.{LeavesEntries, LockMap, Node, Nodes, Scene, SessionTable, State, StateMap, Table, first_failing, found-contains, in_sync}
 use Rattle.capcore.proofs.Common.{is_row_of, kept-sound, new_session_tests, no_locks, permitted, plain, row_of-entry, with_ino, with_parts}
@@ -64,6 +68,14 @@ module _ (s : State) (sound : IsSound s) where
   pub birth-leaves : (kind : Kind) (dir : ℕ) (name : List ℕ) (attr : Attr) → IsTree s.scene.tree
       → LeavesEntries s.scene (with_new s.scene.tree kind dir name attr) s.scene.sessions (with_ino s.scene.locks (s.scene.tree.last + 1)).states
   birth-leaves kind dir name attr tree = grind (arith, none_new, through, All-weaker, permitted-new, want-new, not_next, insert-other nat_cmp_total map.nat_cmp-IsAntisymmetric, map.get-insert {X = InodeLocks} nat_cmp_total, map.get-insert {X = Node} nat_cmp_total)
+
+-- ---- what no reader sees of an inode
+
+pub changed-unseen : (p : CoreState) (old : State) (f : Node → Node) (ino : ℕ) (tree : Nodes) → state_of p ≡ old → ((n : Node) → visible_of (f n) ≡ visible_of n) → tree ≡ changed f p.scene.tree ino
+    → Shows (view_of old) (view tree p.scene.sessions.sessions)
+changed-unseen p old f ino tree is same after =
+    subst (λ (s : State). Shows (view_of s) (view tree p.scene.sessions.sessions)) is
+    (shows-tree p.scene.tree tree p.scene.sessions.sessions (subst (IsLike p.scene.tree) (sym after) (like-unseen p.scene.tree f ino same)))
 
 -- ---- what is kept of entries
 

@@ -5,11 +5,11 @@ use Rattle.std.specs.List.{AllZip, flat_map}
 use Rattle.std.proofs.lemmas.List.Elements.{All-append, All-cons, All-head, All-nil, All-tail}
 use Rattle.std.proofs.lemmas.List.{map-append}
 use Rattle.serde_json.specs.Data.{Data, string}
-use Rattle.policy_analysis.specs.declared.key.Key.{Key}
-use Rattle.policy_analysis.specs.declared.key.Key.TheVariants.{FsName, Gids, Path, RootSquash, Uid}
+use Rattle.capspec.specs.declared.items.Key.{Key}
+use Rattle.capspec.specs.declared.items.Key.TheVariants.{FsName, Gids, Path, RootSquash, Uid}
 use Rattle.policy_analysis.specs.declared.unread.Unread.{Unread}
 use Rattle.policy_analysis.specs.declared.unread.Unread.TheVariants.{AnyFileSystem, Order, WhiteSpace}
-use Rattle.policy_analysis.specs.Ceph16Syntax.{name}
+use Rattle.capspec.specs.Items.{key_name as name}
 use Rattle.policy_analysis.specs.declared.finding.Finding.{Finding}
 use Rattle.policy_analysis.specs.declared.witness.Witness.{Witness}
 use Rattle.capexplain.specs.Found.{Found, SameFound, SameOfGrant, all_found, found_by, found_if}

@@ -8,11 +8,11 @@ use Rattle.std.proofs.lemmas.List.Concat.{flat_map-append}
 use Rattle.std.proofs.lemmas.List.Elements.{All-head, All-tail}
 use Rattle.policy_analysis.specs.declared.finding.Finding.{Finding}
 use Rattle.policy_analysis.specs.declared.witness.Witness.{Witness}
-use Rattle.policy_analysis.specs.declared.key.Key.{Key}
-use Rattle.policy_analysis.specs.declared.key.Key.TheVariants.{FsName, Gids, Path, RootSquash, Uid}
+use Rattle.capspec.specs.declared.items.Key.{Key}
+use Rattle.capspec.specs.declared.items.Key.TheVariants.{FsName, Gids, Path, RootSquash, Uid}
 use Rattle.policy_analysis.specs.declared.unread.Unread.{Unread}
 use Rattle.policy_analysis.specs.declared.unread.Unread.TheVariants.{AnyFileSystem, Order, WhiteSpace}
-use Rattle.policy_analysis.specs.Ceph16Syntax.{name}
+use Rattle.capspec.specs.Items.{key_name as name}
 use Rattle.capexplain.specs.Comparing.{found_line, witness_text}
 use Rattle.capexplain.specs.Found.{Found, HasLine, IsToldIf, SameFound, SameOfGrant, all_found, found_by, found_if}
 use Rattle.capexplain.specs.Found.Found.{covered, nothing, stands, undone, unread}

@@ -6,7 +6,7 @@ use Rattle.policy_analysis.specs.declared.finding.Finding.{Finding}
 use Rattle.policy_analysis.specs.declared.witness.Witness.{Witness}
 use Rattle.policy_analysis.specs.declared.unread.Unread.{Unread}
 use Rattle.policy_analysis.specs.declared.unread.Unread.TheVariants.{AnyFileSystem, Order, WhiteSpace}
-use Rattle.policy_analysis.specs.Ceph16Syntax.{name}
+use Rattle.capspec.specs.Items.{key_name as name}
 use Rattle.capexplain.specs.Found.{Found, SameOfGrant, all_found}
 use Rattle.capexplain.specs.Found.Found.{covered, nothing, stands, undone, unread}
 use Rattle.capexplain.specs.Values.{ReadsBack, Table, json_line, natural, object_of, with_all}

@@ -4,7 +4,7 @@ use Rattle.std.specs.Fmt.{decimal}
 use Rattle.policy_analysis.specs.declared.finding.Finding.{Finding}
 use Rattle.policy_analysis.specs.declared.unread.Unread.{Unread}
 use Rattle.policy_analysis.specs.declared.unread.Unread.TheVariants.{AnyFileSystem, Order, WhiteSpace}
-use Rattle.policy_analysis.specs.Ceph16Syntax.{name}
+use Rattle.capspec.specs.Items.{key_name as name}
 use Rattle.capexplain.specs.Comparing.{found_line}
 
 abbrev pub covered_text : List ℕ

@@ -13,7 +13,7 @@ mod rules;
 pub use access::{Access, Attr};
 pub use answer::Verdict;
 pub use class::Class;
-pub use policy::{permitted, permitted_by_kept, verdict};
+pub use policy::{caps_for, permitted, permitted_by_kept, readers_caps, verdict, writers_caps};
 pub use question::Question;
 pub use rule::Rule;
 pub use rules::Rules;

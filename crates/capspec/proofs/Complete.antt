@@ -158,7 +158,7 @@ flags_letter word tail Rwps (inl is) = rw is refl
 flags_letter word tail Rwps (inr (inl is)) = rw is refl
 flags_letter word tail Rwps (inr (inr is)) = rw is refl
 
-flags_plain : (word : List ℕ) (flags : Flags4) → IsFlags word flags → list_all (is_in Plain) word ≡ true
+pub flags_plain : (word : List ℕ) (flags : Flags4) → IsFlags word flags → list_all (is_in Plain) word ≡ true
 flags_plain word R is = rw is refl
 flags_plain word Rw is = rw is refl
 flags_plain word Rwp is = rw is refl

@@ -25,6 +25,14 @@ key_of (Uid uid) = keys.Uid
 key_of (Gids gids) = keys.Gids
 key_of RootSquash = keys.RootSquash
 
+-- the word by which an item has the key
+abbrev pub key_name : Key → List ℕ
+key_name keys.FsName = codes "fsname"
+key_name keys.Path = codes "path"
+key_name keys.Uid = codes "uid"
+key_name keys.Gids = codes "gids"
+key_name keys.RootSquash = codes "root_squash"
+
 -- how the word of an item with the key begins; that of `root_squash` is the whole word, as no value follows
 abbrev pub key_text : Key → List ℕ
 key_text keys.FsName = codes "fsname="

@@ -4,7 +4,7 @@ use std::fmt;
 use thiserror::Error;
 
 /// The test that a grant text failed first. It prints as its name.
-#[derive(Clone, Copy, Debug, PartialEq, Eq)]
+#[derive(Clone, Copy, Debug, PartialEq, Eq, Error)]
 pub enum SpecFaultKind {
     /// The text has nothing but white space.
     Empty,
@@ -37,8 +37,6 @@ impl fmt::Display for SpecFaultKind {
         fmt::Debug::fmt(self, f)
     }
 }
-
-impl std::error::Error for SpecFaultKind {}
 
 /// A refused grant text: what is wrong with it, and the byte at which the refused word begins.
 #[derive(Clone, Copy, Debug, PartialEq, Eq, Error)]

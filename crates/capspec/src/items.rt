@@ -3,7 +3,7 @@
 ghost use Rattle.std.specs.Prelude.{◌≡◌, ℕ, List, IsTrue, IfOk, IfErr, MatchOption};
 ghost use Rattle.capspec.specs.Bytes.{ends_word};
 ghost use Rattle.capspec.specs.Draft.{AddsItem, AddsValue, has};
-ghost use Rattle.capspec.specs.Items.{key_text};
+ghost use Rattle.capspec.specs.Items.{key_name, key_text};
 ghost use Rattle.capspec.specs.Words.{IsKeyed, IsWrongItem, IsWrongOther, IsWrongValue, plain_word};
 
 use crate::bytes::{ends_word, strip};
@@ -12,19 +12,37 @@ use crate::fault::SpecFaultKind;
 use crate::values::{read_fsname, read_gids, read_path, read_uid};
 use byte_sets::{ByteSet, split_while};
 
-/// What an item speaks of.
+/// What an item of a grant speaks of.
 #[derive(Clone, Copy, PartialEq, Eq)]
-pub(crate) enum Key {
+pub enum Key {
+    /// `fsname=NAME`
     FsName,
+    /// `path=PATH`
     Path,
+    /// `uid=N`
     Uid,
+    /// `gids=N,N`
     Gids,
+    /// `root_squash`
     RootSquash,
 }
 
 impl Key {
     // In the order in which a text is tried for them.
     const ALL: [Key; 5] = [Key::Path, Key::Uid, Key::Gids, Key::FsName, Key::RootSquash];
+
+    /// The word by which an item has this key.
+    pub fn name(self) -> &'static str
+        ensures { result.now ≡ key_name self }
+    {
+        match self {
+            Key::FsName => "fsname",
+            Key::Path => "path",
+            Key::Uid => "uid",
+            Key::Gids => "gids",
+            Key::RootSquash => "root_squash",
+        }
+    }
 
     // How the word of an item begins that has this key; that of `root_squash` is the whole word.
     fn text(self) -> &'static [u8]

@@ -28,6 +28,7 @@ pub use flags::Flags4;
 pub use fsname::FsName;
 pub use gids::Gids;
 pub use grant::{Grant, Grants};
+pub use items::Key;
 pub use kept::KeptGrants;
 pub use laws::{
     fault_where_nothing_reads, no_fault_where_it_reads, one_fault, one_list_of_grants,

@@ -8,7 +8,7 @@ use Rattle.captable.specs.declared.entry.ClientView.{ClientView}
 use Rattle.captable.specs.declared.entry.Slot.{Slot}
 use Rattle.captable.specs.Table.{Table, same}
 use Rattle.captable.specs.Kept.{KeptRow, KeptTable, is_kept_of, keeping, kept_more, kept_without, no_sets}
-use Rattle.captable.specs.Nodes.{by_number, has_number, holder_of, kept_by, kept_row_of, row_of, table_by, with_entry, with_sets}
+use Rattle.captable.specs.Nodes.{by_number, has_number, holder_of, kept_by, kept_row_of, node_with_entry, node_with_sets, row_of, table_by}
 use Rattle.captable.specs.Linked.{AreBelow}
 use Rattle.captable.proofs.NodesAt.{change_in, is_held_by, set_in}
 use Rattle.captable.proofs.Numbers.{by_number-filter, by_number-map, by_number-next, by_number-same, number-moved}
@@ -55,27 +55,27 @@ pub kept-entry : (ns : List (Node Slot)) (h : Holder) (x : Entry) (made : ℕ) �
 kept-entry ns h x made = ap (map kept_row_of) (by_number-map (set_in h x) (keeps_number h x) made ns) ∙ unmoved kept_row_of (set_in h x) same_sets (by_number made ns)
   where
     same_sets : (m : Node Slot) → kept_row_of (set_in h x m) ≡ kept_row_of m
-    same_sets m = elim (is_held_by h m) as (λ b. kept_row_of (cond b (with_entry x m) m) ≡ kept_row_of m) [ true ↦ refl | false ↦ refl ]
+    same_sets m = elim (is_held_by h m) as (λ b. kept_row_of (cond b (node_with_entry x m) m) ≡ kept_row_of m) [ true ↦ refl | false ↦ refl ]
 
 -- ---- other sets
 
 abbrev pub keep_in : Holder → ClientView → Node Slot → Node Slot
-keep_in h s = change_in h (with_sets s)
+keep_in h s = change_in h (node_with_sets s)
 
 pub sets-number : (h : Holder) (s : ClientView) (m : Node Slot) → (keep_in h s m).value.number ≡ m.value.number
-sets-number h s m = elim (is_held_by h m) as (λ b. (cond b (with_sets s m) m).value.number ≡ m.value.number) [ true ↦ refl | false ↦ refl ]
+sets-number h s m = elim (is_held_by h m) as (λ b. (cond b (node_with_sets s m) m).value.number ≡ m.value.number) [ true ↦ refl | false ↦ refl ]
 
 pub sets-rows : (h : Holder) (s : ClientView) (ns : List (Node Slot)) → map row_of (map (keep_in h s) ns) ≡ map row_of ns
 sets-rows h s ns = unmoved row_of (keep_in h s) same_row ns
   where
     same_row : (m : Node Slot) → row_of (keep_in h s m) ≡ row_of m
-    same_row m = elim (is_held_by h m) as (λ b. row_of (cond b (with_sets s m) m) ≡ row_of m) [ true ↦ refl | false ↦ refl ]
+    same_row m = elim (is_held_by h m) as (λ b. row_of (cond b (node_with_sets s m) m) ≡ row_of m) [ true ↦ refl | false ↦ refl ]
 
 sets-holders : (h : Holder) (s : ClientView) (ns : List (Node Slot)) → map holder_of (map (keep_in h s) ns) ≡ map holder_of ns
 sets-holders h s ns = unmoved holder_of (keep_in h s) same_holder ns
   where
     same_holder : (m : Node Slot) → holder_of (keep_in h s m) ≡ holder_of m
-    same_holder m = elim (is_held_by h m) as (λ b. holder_of (cond b (with_sets s m) m) ≡ holder_of m) [ true ↦ refl | false ↦ refl ]
+    same_holder m = elim (is_held_by h m) as (λ b. holder_of (cond b (node_with_sets s m) m) ≡ holder_of m) [ true ↦ refl | false ↦ refl ]
 
 pub sets-table : (ns : List (Node Slot)) (h : Holder) (s : ClientView) (made : ℕ) → table_by (map (keep_in h s) ns) made ≡ table_by ns made
 sets-table ns h s made =
@@ -89,4 +89,4 @@ sets-kept ns h s made =
     ∙ map-mapped kept_row_of (keep_in h s) (λ row. cond (is_kept_of h row) (record row { sets = s }) row) kept_row_of kept_row (by_number made ns)
   where
     kept_row : (m : Node Slot) → kept_row_of (keep_in h s m) ≡ cond (is_kept_of h (kept_row_of m)) (record (kept_row_of m) { sets = s }) (kept_row_of m)
-    kept_row m = elim (is_held_by h m) as (λ b. kept_row_of (cond b (with_sets s m) m) ≡ cond b (record (kept_row_of m) { sets = s }) (kept_row_of m)) [ true ↦ refl | false ↦ refl ]
+    kept_row m = elim (is_held_by h m) as (λ b. kept_row_of (cond b (node_with_sets s m) m) ≡ cond b (record (kept_row_of m) { sets = s }) (kept_row_of m)) [ true ↦ refl | false ↦ refl ]

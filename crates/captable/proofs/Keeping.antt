@@ -14,7 +14,7 @@ use Rattle.captable.specs.declared.entry.EntryRow.{EntryRow}
 use Rattle.captable.specs.declared.entry.Slot.{Slot}
 use Rattle.captable.specs.Table.{IsTable, is_row_of, same}
 use Rattle.captable.specs.Calls.{change_rows, changed, moved_last, new_entry, opened, touched, without}
-use Rattle.captable.specs.Nodes.{IsKeyOf, by_number, has_number, holder_of, is_key_of, nodes_at, nodes_in, row_of, table_by, with_entry, with_first}
+use Rattle.captable.specs.Nodes.{IsKeyOf, by_number, has_number, holder_of, is_key_of, node_with_entry, nodes_at, nodes_in, row_of, table_by, with_first}
 use Rattle.captable.specs.Linked.{AreBelow, IsLinked}
 use Rattle.captable.specs.Places.{number_at}
 use Rattle.captable.proofs.Tables.{same_equiv}
@@ -59,17 +59,17 @@ table-removed ns h made =
 -- ---- another entry
 
 pub keeps_number : (h : Holder) (x : Entry) (m : Node Slot) → (set_in h x m).value.number ≡ m.value.number
-keeps_number h x m = elim (is_held_by h m) as (λ b. (cond b (with_entry x m) m).value.number ≡ m.value.number) [ true ↦ refl | false ↦ refl ]
+keeps_number h x m = elim (is_held_by h m) as (λ b. (cond b (node_with_entry x m) m).value.number ≡ m.value.number) [ true ↦ refl | false ↦ refl ]
 
 keeps_holder : (h : Holder) (x : Entry) (m : Node Slot) → holder_of (set_in h x m) ≡ holder_of m
-keeps_holder h x m = elim (is_held_by h m) as (λ b. holder_of (cond b (with_entry x m) m) ≡ holder_of m) [ true ↦ refl | false ↦ refl ]
+keeps_holder h x m = elim (is_held_by h m) as (λ b. holder_of (cond b (node_with_entry x m) m) ≡ holder_of m) [ true ↦ refl | false ↦ refl ]
 
 -- a row of the holder, with the entry
 abbrev pub row_in : Holder → Entry → EntryRow → EntryRow
 row_in h x row = if_passing (λ _. x) (is_row_of h) row
 
 row-set : (h : Holder) (x : Entry) (m : Node Slot) → row_of (set_in h x m) ≡ row_in h x (row_of m)
-row-set h x m = elim (is_held_by h m) as (λ b. row_of (cond b (with_entry x m) m) ≡ cond b (record (row_of m) { entry = x }) (row_of m)) [ true ↦ refl | false ↦ refl ]
+row-set h x m = elim (is_held_by h m) as (λ b. row_of (cond b (node_with_entry x m) m) ≡ cond b (record (row_of m) { entry = x }) (row_of m)) [ true ↦ refl | false ↦ refl ]
 
 pub rows-set : (h : Holder) (x : Entry) (ns : List (Node Slot)) → map row_of (map (set_in h x) ns) ≡ map (row_in h x) (map row_of ns)
 rows-set h x ns = map-mapped row_of (set_in h x) (row_in h x) row_of (row-set h x) ns

@@ -17,7 +17,7 @@ use Rattle.captable.specs.Calls.{is_of_client, is_of_inode}
 use Rattle.captable.specs.Kept.{AreBeside, KeptRow, KeptTable, is_kept_of, keeping, kept_entry, kept_without, kept_without_client, no_sets, sets_beside}
 use Rattle.captable.specs.Walks.{first_holder}
 use Rattle.captable.specs.Nodes.{IsKeyOf, KeepsSets, both_of, by_number, has_number, holder_of, is_key_of, kept_by, kept_entry_of, kept_of, kept_row_of}
-use Rattle.captable.specs.Nodes.{nodes_at, nodes_in, row_of, table_by, table_of, with_first, with_sets}
+use Rattle.captable.specs.Nodes.{node_with_sets, nodes_at, nodes_in, row_of, table_by, table_of, with_first}
 use Rattle.captable.specs.Linked.{AreBelow, IsLinked}
 use Rattle.captable.specs.Places.{AreInOrder, number_at}
 use Rattle.captable.proofs.Beside.{keep_in, sets-kept, sets-number, sets-rows, sets-table}
@@ -196,7 +196,7 @@ module _ (t t' : Lists Slot) (made : ℕ) (h : Holder) (key : ℕ) (s : ClientVi
   nodes-now : (name : ListName) → nodes_in t' name ≡ map (keep_in h s) (nodes_in t name)
   nodes-now name =
       let o = held t made is h key found in
-      ap (nodes_at (node_at t')) (keeps.lists name) ∙ nodes-changed (node_at t) (node_at t') h key o.0 (with_sets s) o.1 keeps.nodes (keys t name)
+      ap (nodes_at (node_at t')) (keeps.lists name) ∙ nodes-changed (node_at t) (node_at t') h key o.0 (node_with_sets s) o.1 keeps.nodes (keys t name)
 
   pub table-kept : table_of t' made ≡ table_of t made
   table-kept = ap (λ ns. table_by ns made) (nodes-now OfRecall) ∙ sets-table (nodes_in t OfRecall) h s made
@@ -210,7 +210,7 @@ module _ (t t' : Lists Slot) (made : ℕ) (h : Holder) (key : ℕ) (s : ClientVi
   number-stays : (k : ℕ) → number_at t' k ≡ number_at t k
   number-stays k = ap (λ o. option_map_or (λ (node : Node Slot). node.value.number) o 0) (keeps.nodes k) ∙ by_test (nat_eq k key) (node_at t k)
     where
-      by_test : (b : Bool) (o : Option (Node Slot)) → option_map_or (λ (node : Node Slot). node.value.number) (cond b (option_map (with_sets s) o) o) 0 ≡ option_map_or (λ (node : Node Slot). node.value.number) o 0
+      by_test : (b : Bool) (o : Option (Node Slot)) → option_map_or (λ (node : Node Slot). node.value.number) (cond b (option_map (node_with_sets s) o) o) 0 ≡ option_map_or (λ (node : Node Slot). node.value.number) o 0
       by_test true None = refl
       by_test true (Some m) = refl
       by_test false o = refl

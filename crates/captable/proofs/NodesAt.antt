@@ -13,7 +13,7 @@ use Rattle.captable.specs.declared.entry.Entry.{Entry}
 use Rattle.captable.specs.declared.entry.Slot.{Slot}
 use Rattle.captable.specs.Table.{is_row_of, same}
 use Rattle.captable.specs.Calls.{newer_in}
-use Rattle.captable.specs.Nodes.{holder_of, nodes_at, row_of, with_entry, with_first}
+use Rattle.captable.specs.Nodes.{holder_of, node_with_entry, nodes_at, row_of, with_first}
 use Rattle.captable.specs.Walks.{IsPlaceIn}
 
 -- the node of a holder
@@ -176,7 +176,7 @@ change_in h g m = cond (is_held_by h m) (g m) m
 
 -- it has another entry
 abbrev pub set_in : Holder → Entry → Node Slot → Node Slot
-set_in h e = change_in h (with_entry e)
+set_in h e = change_in h (node_with_entry e)
 
 pub nodes-changed : (at at' : ℕ → Option (Node Slot)) (h : Holder) (key : ℕ) (n : Node Slot) (g : Node Slot → Node Slot) → IsHeld at h key n
     → ((k : ℕ) → at' k ≡ cond (nat_eq k key) (option_map g (at k)) (at k)) → (ks : List ℕ) → nodes_at at' ks ≡ map (change_in h g) (nodes_at at ks)
@@ -201,8 +201,8 @@ nodes-changed at at' h key n g held set (k ∷ ks) = by_node (at k) refl (nodes-
         ∙ sym (ap (λ o. map (change_in h g) (with_first o (nodes_at at ks))) e)
 
 pub nodes-set : (at at' : ℕ → Option (Node Slot)) (h : Holder) (key : ℕ) (n : Node Slot) (x : Entry) → IsHeld at h key n
-    → ((k : ℕ) → at' k ≡ cond (nat_eq k key) (option_map (with_entry x) (at k)) (at k)) → (ks : List ℕ) → nodes_at at' ks ≡ map (set_in h x) (nodes_at at ks)
-nodes-set at at' h key n x held set ks = nodes-changed at at' h key n (with_entry x) held set ks
+    → ((k : ℕ) → at' k ≡ cond (nat_eq k key) (option_map (node_with_entry x) (at k)) (at k)) → (ks : List ℕ) → nodes_at at' ks ≡ map (set_in h x) (nodes_at at ks)
+nodes-set at at' h key n x held set ks = nodes-changed at at' h key n (node_with_entry x) held set ks
 
 -- ---- a holder with no key
 

@@ -11,7 +11,7 @@ use Rattle.captable.specs.declared.entry.Entry.{Entry}
 use Rattle.captable.specs.declared.entry.ClientView.{ClientView}
 use Rattle.captable.specs.declared.entry.Slot.{Slot}
 use Rattle.captable.specs.Calls.{is_due_entry}
-use Rattle.captable.specs.Nodes.{KeepsSets, SetsEntry, with_entry, with_sets}
+use Rattle.captable.specs.Nodes.{KeepsSets, SetsEntry, node_with_entry, node_with_sets}
 use Rattle.captable.specs.Walks.{keys_from, keys_on}
 use Rattle.captable.specs.Places.{AreInOrder, NoneDueBeforeAny, NoneDueBefore, NoneDueIn, is_before, is_due_at, lowered, moved_on, number_at, same_client}
 use Rattle.captable.proofs.WalkOn.{keys-next, next-listed, of-list}
@@ -54,7 +54,7 @@ none_due-put places places' t client at updates own all q place e = by_test (sam
 
 module _ (t t' : Lists Slot) (key : ℕ) (x : Entry) (sets : SetsEntry t t' key x) (places : ClientId → Option (Option ℕ)) (all : NoneDueBeforeAny t places) where
   due-others : (k : ℕ) → nat_eq k key ≡ false → is_due_at t' k ≡ true → is_due_at t k ≡ true
-  due-others k other is = sym (ap due_of (sets.nodes k ∙ ap (λ b. cond b (option_map (with_entry x) (node_at t k)) (node_at t k)) other)) ∙ is
+  due-others k other is = sym (ap due_of (sets.nodes k ∙ ap (λ b. cond b (option_map (node_with_entry x) (node_at t k)) (node_at t k)) other)) ∙ is
 
   -- which is not due
   pub none_due-set : is_due_entry x ≡ false → NoneDueBeforeAny t' places
@@ -62,13 +62,13 @@ module _ (t t' : Lists Slot) (key : ℕ) (x : Entry) (sets : SetsEntry t t' key 
       subst (λ ks. NoneDueIn ks (is_due_at t') place) (sym (sets.lists (OfClient client)))
       (none_due-fewer (keys t (OfClient client)) (is_due_at t) (is_due_at t') place (λ k there is. was k is (nat_eq k key) refl) (all client place e))
     where
-      none : (o : Option (Node Slot)) → due_of (option_map (with_entry x) o) ≡ false
+      none : (o : Option (Node Slot)) → due_of (option_map (node_with_entry x) o) ≡ false
       none None = refl
       none (Some m) = not_due
 
       was : (k : ℕ) → is_due_at t' k ≡ true → (b : Bool) → nat_eq k key ≡ b → is_due_at t k ≡ true
       was k is true e =
-          let out : is_due_at t' k ≡ false = ap due_of (sets.nodes k ∙ ap (λ b. cond b (option_map (with_entry x) (node_at t k)) (node_at t k)) e) ∙ none (node_at t k) in
+          let out : is_due_at t' k ≡ false = ap due_of (sets.nodes k ∙ ap (λ b. cond b (option_map (node_with_entry x) (node_at t k)) (node_at t k)) e) ∙ none (node_at t k) in
           absurd (cc)
       was k is false e = due-others k e is
 
@@ -170,7 +170,7 @@ none_due-kept t t' key s keeps places all client place e =
     subst (λ ks. NoneDueIn ks (is_due_at t') place) (sym (keeps.lists (OfClient client)))
     (none_due-fewer (keys t (OfClient client)) (is_due_at t) (is_due_at t') place (λ k there is. sym (ap due_of (keeps.nodes k) ∙ by_test (nat_eq k key) (node_at t k)) ∙ is) (all client place e))
   where
-    by_test : (b : Bool) (o : Option (Node Slot)) → due_of (cond b (option_map (with_sets s) o) o) ≡ due_of o
+    by_test : (b : Bool) (o : Option (Node Slot)) → due_of (cond b (option_map (node_with_sets s) o) o) ≡ due_of o
     by_test true None = refl
     by_test true (Some m) = refl
     by_test false o = refl

@@ -9,7 +9,7 @@ use Rattle.captable.specs.declared.entry.EntryRow.{EntryRow}
 use Rattle.captable.specs.declared.entry.Slot.{Slot}
 use Rattle.captable.specs.Table.{IsTable, is_row_of}
 use Rattle.captable.specs.Calls.{changed, is_of_client, is_of_inode}
-use Rattle.captable.specs.Nodes.{IsKeyOf, SetsEntry, has_number, kept_by, kept_of, nodes_at, nodes_in, row_of, table_by, table_of, with_entry}
+use Rattle.captable.specs.Nodes.{IsKeyOf, SetsEntry, has_number, kept_by, kept_of, node_with_entry, nodes_at, nodes_in, row_of, table_by, table_of}
 use Rattle.captable.specs.Linked.{AreBelow, IsLinked}
 use Rattle.captable.specs.Places.{AreInOrder, number_at}
 use Rattle.captable.proofs.Orders.{order-same}
@@ -46,7 +46,7 @@ module _ (t t' : Lists Slot) (made : ℕ) (h : Holder) (key : ℕ) (x : Entry) (
   number-stays : (k : ℕ) → number_at t' k ≡ number_at t k
   number-stays k = ap (λ o. option_map_or (λ (node : Node Slot). node.value.number) o 0) (sets.nodes k) ∙ by_test (nat_eq k key) (node_at t k)
     where
-      by_test : (b : Bool) (o : Option (Node Slot)) → option_map_or (λ (node : Node Slot). node.value.number) (cond b (option_map (with_entry x) o) o) 0 ≡ option_map_or (λ (node : Node Slot). node.value.number) o 0
+      by_test : (b : Bool) (o : Option (Node Slot)) → option_map_or (λ (node : Node Slot). node.value.number) (cond b (option_map (node_with_entry x) o) o) 0 ≡ option_map_or (λ (node : Node Slot). node.value.number) o 0
       by_test true None = refl
       by_test true (Some m) = refl
       by_test false o = refl

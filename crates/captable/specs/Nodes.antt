@@ -23,8 +23,8 @@ holder_of node = holder node.client node.ino
 abbrev pub row_of : Node Slot → EntryRow
 row_of node = record { holder = holder_of node; entry = node.value.entry }
 
-abbrev pub with_entry : Entry → Node Slot → Node Slot
-with_entry entry node = record node { value = record node.value { entry = entry } }
+abbrev pub node_with_entry : Entry → Node Slot → Node Slot
+node_with_entry entry node = record node { value = record node.value { entry = entry } }
 
 -- what is kept beside its entry
 abbrev pub kept_row_of : Node Slot → KeptRow
@@ -34,8 +34,8 @@ kept_row_of node = record { holder = holder_of node; sets = node.value.sets }
 abbrev pub kept_entry_of : Node Slot → KeptEntry
 kept_entry_of node = record { row = row_of node; sets = node.value.sets }
 
-abbrev pub with_sets : ClientView → Node Slot → Node Slot
-with_sets sets node = record node { value = record node.value { sets = sets } }
+abbrev pub node_with_sets : ClientView → Node Slot → Node Slot
+node_with_sets sets node = record node { value = record node.value { sets = sets } }
 
 -- whether so many entries were made before it
 abbrev pub has_number : ℕ → Node Slot → Bool
@@ -93,12 +93,12 @@ both_of lists made = record { entries = table_of lists made; kept = kept_of list
 
 -- the node has this entry, and nothing else changes
 pub record SetsEntry (old new : Lists Slot) (key : ℕ) (entry : Entry) : Type 0 where
-  pub nodes : (k : ℕ) → node_at new k ≡ (if nat_eq k key then option_map (with_entry entry) (node_at old k) else node_at old k)
+  pub nodes : (k : ℕ) → node_at new k ≡ (if nat_eq k key then option_map (node_with_entry entry) (node_at old k) else node_at old k)
   pub lists : (name : ListName) → keys new name ≡ keys old name
 
 -- beside its entry stand these sets, and nothing else changes
 pub record KeepsSets (old new : Lists Slot) (key : ℕ) (sets : ClientView) : Type 0 where
-  pub nodes : (k : ℕ) → node_at new k ≡ (if nat_eq k key then option_map (with_sets sets) (node_at old k) else node_at old k)
+  pub nodes : (k : ℕ) → node_at new k ≡ (if nat_eq k key then option_map (node_with_sets sets) (node_at old k) else node_at old k)
   pub lists : (name : ListName) → keys new name ≡ keys old name
 
 -- ---- the lists that a table lends

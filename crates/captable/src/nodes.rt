@@ -127,15 +127,11 @@ pub(crate) fn set_entry(lists: &mut TripleLists<Slot>, key: usize, entry: Entry)
     ensures sound { IsLists lists.new }
 {
     if let Some(node) = lists.get(key) {
-        let Slot { sets, number, .. } = node.value;
-        lists.set(
-            key,
-            Slot {
-                entry,
-                sets,
-                number,
-            },
-        );
+        let value = Slot {
+            entry,
+            ..node.value
+        };
+        lists.set(key, value);
     }
 }
 
@@ -145,15 +141,8 @@ pub(crate) fn keep_sets(lists: &mut TripleLists<Slot>, key: usize, sets: ClientV
     ensures sound { IsLists lists.new }
 {
     if let Some(node) = lists.get(key) {
-        let Slot { entry, number, .. } = node.value;
-        lists.set(
-            key,
-            Slot {
-                entry,
-                sets,
-                number,
-            },
-        );
+        let value = Slot { sets, ..node.value };
+        lists.set(key, value);
     }
 }
 

@@ -13,8 +13,8 @@ use crate::polls::{
     set_place, skip_place,
 };
 use crate::walk::{KeptWalk, Walk};
-use cap_arena::{AddError, MAX_NODES, TripleLists};
-use capbits::{Cap, CapSet, ClientId, Ino, Refusal};
+use cap_arena::{MAX_NODES, TripleLists};
+use capbits::{Cap, CapSet, ChangeError, ClientId, Ino, Refusal};
 use dense_map::Numbered;
 use std::alloc::{AllocError, Global};
 use std::fmt;
@@ -87,12 +87,11 @@ impl CapTable {
     ghost use Rattle.std.specs.List.{fold, list_any};
     ghost use Rattle.std.specs.Result.{result_err};
     ghost use Rattle.cap_arena.specs.Lists.{IsLists};
-    ghost use Rattle.cap_arena.specs.Calls.{refusal_in};
     ghost use Rattle.captable.specs.Table.{IsTable, entry_at, holder, holders_of_rows};
     ghost use Rattle.captable.specs.Nodes.{AreLists};
     ghost use Rattle.captable.specs.Walks.{first_holder};
     ghost use Rattle.captable.specs.Many.{asking, changed_by};
-    ghost use Rattle.capbits.specs.Refusal.{first_failing};
+    ghost use Rattle.capbits.specs.Refusal.{first_failing, refusal_in};
     ghost use Rattle.captable.specs.Tests.{ack_tests, entry_test, open_entry_tests, open_tests, release_tests, test_at};
     ghost use Rattle.captable.specs.Edits.{edited, is_numbering, kept_as};
     ghost use Rattle.captable.specs.Calls.{entries_on, has_pin, is_due, is_of_client, is_of_inode, issued, newer_in, recalled, renumbered, touched, wanting};
@@ -226,7 +225,7 @@ impl CapTable {
     /// Makes the client's entry on the inode where it has none, last in both orders, which holds and wants nothing. It is
     /// refused as Limit where there are as many as there may be, or the last number was given. Where the client has an
     /// entry, nothing happens.
-    pub fn open_entry(&mut self, client: ClientId, ino: Ino) -> Result<(), AddError>
+    pub fn open_entry(&mut self, client: ClientId, ino: Ino) -> Result<(), ChangeError>
         ensures refused { refusal_in result ≡ first_failing (open_entry_tests self.old.entries (holder client ino)) }
         ensures ok { OnOk result (self.new ≡ words.with_entry self.old (holder client ino)) }
         ensures err { OnErr result (self.new ≡ self.old) }
@@ -235,10 +234,10 @@ impl CapTable {
             return Ok(());
         }
         if let Some(refusal) = self.open_refusal() {
-            return Err(AddError::Refused(refusal));
+            return Err(ChangeError::Refused(refusal));
         }
         if self.made() == u64::MAX {
-            return Err(AddError::Refused(Refusal::Limit));
+            return Err(ChangeError::Refused(Refusal::Limit));
         }
         self.open_entry_tested(client, ino)?;
         Ok(())

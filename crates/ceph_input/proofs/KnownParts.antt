@@ -9,8 +9,7 @@ use Rattle.serde_json.specs.Find.{as_array}
 use Rattle.serde_json.specs.Read.{read}
 use Rattle.ceph_input.specs.Auth.{json_of}
 use Rattle.ceph_input.specs.declared.cluster_fault.ClusterFault.{ClusterFault}
-use Rattle.ceph_input.specs.declared.cluster_fault.ClusterFault.TheVariants.{BadItem, NoList, NoMemory, NotJson}
-use Rattle.ceph_input.specs.Values.{IsFaultIn, IsNoJson}
+use Rattle.ceph_input.specs.declared.cluster_fault.ClusterFault.TheVariants.{NoList}
 
 -- it is no JSON
 pub none_read : (text : List ℕ) → (IsUtf8 text → read text ≡ None) → json_of text ≡ None
@@ -22,13 +21,6 @@ none_read text not_read = elim (cases_Bool (is_utf8 text)) [
 module _ {T : Type 0} (in_list : Items → Result T ClusterFault) where
   abbrev pub found : Option Data → Option (Result T ClusterFault)
   found json = option_map (λ d. unwrap_or (option_map in_list (as_array d)) (Err NoList)) json
-
-  -- so nothing is found in it
-  pub no_json : (json : Option Data) (fault : ClusterFault) → IsNoJson fault json → IsFaultIn fault (found json)
-  no_json json NoMemory why = tt
-  no_json json (NotJson line column) why = ap found why
-  no_json json NoList why = absurd why
-  no_json json (BadItem number) why = absurd why
 
   -- it is JSON and a list
   pub is_listed : (json : Option Data) (d : Data) (items : Items) → json ≡ Some d → as_array d ≡ Some items → found json ≡ Some (in_list items)

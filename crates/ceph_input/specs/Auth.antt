@@ -1,13 +1,14 @@
 -- The entities of an auth list, and the text of the grants that each has for the MDS.
-use Rattle.std.specs.Prelude.{◌≡◌, ℕ, ◌+◌, Bool, nat_eq, bytes_eq, if◌then◌else◌, List, [], ◌∷◌, ◌++◌, length, find, codes, Option, Some, None, is_some}
-use Rattle.std.specs.Prelude.{unwrap_or, ok_or, option_map, option_and_then, Result, Ok, Err}
+use Rattle.std.specs.Prelude.{◌≡◌, ℕ, Bool, nat_eq, bytes_eq, if◌then◌else◌, List, [], find, codes, Option, Some, None, is_some}
+use Rattle.std.specs.Prelude.{unwrap_or, ok_or, option_map, option_and_then, Result, Err}
 use Rattle.std.specs.List.{starts_with}
 use Rattle.std.specs.Str.{is_utf8}
-use Rattle.serde_json.specs.Data.{Data, Items, item, no_items}
+use Rattle.serde_json.specs.Data.{Data, Items}
 use Rattle.serde_json.specs.Read.{read}
 use Rattle.serde_json.specs.Find.{as_array, as_object, as_str, get}
 use Rattle.ceph_input.specs.declared.auth_fault.AuthFault.{AuthFault}
 use Rattle.ceph_input.specs.declared.auth_fault.AuthFault.TheVariants.{NoCaps, NoEntity, NoList, NoMemory, NotAnEntity, NotJson}
+use Rattle.ceph_input.specs.Each.{each_of}
 
 -- an entity: its name, and the text of its grants for the MDS, if it has one
 pub record Named : Type 0 where
@@ -40,8 +41,7 @@ entity_of d = option_and_then (λ name. option_map (named name) (option_and_then
 
 -- the entities that the items are, behind those before; or the number of the first that is none
 abbrev pub entities_of : List Named → Items → Result (List Named) AuthFault
-entities_of before no_items = Ok before
-entities_of before (item d ds) = unwrap_or (option_map (λ e. entities_of (before ++ e ∷ []) ds) (entity_of d)) (Err (NotAnEntity (length before + 1)))
+entities_of before items = each_of entity_of NotAnEntity before items
 
 -- the list at `auth_dump`, else the value itself, if it is one
 abbrev pub list_in : Data → Option Items

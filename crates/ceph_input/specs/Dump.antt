@@ -4,7 +4,7 @@ use Rattle.std.specs.Prelude.{ok_or, option_map, option_and_then, Result, Ok, Er
 use Rattle.std.specs.Ordering.{nat_cmp}
 use Rattle.std.specs.FinMap as map
 use Rattle.std.specs.FinMap.{FinMap}
-use Rattle.serde_json.specs.Data.{Data, Items, item, no_items}
+use Rattle.serde_json.specs.Data.{Data, Items}
 use Rattle.serde_json.specs.Find.{as_bool, get}
 use Rattle.ceph_input.specs.declared.array_fault.Expected.{Expected}
 use Rattle.ceph_input.specs.declared.array_fault.RowFault.TheVariants as row_faults
@@ -13,6 +13,7 @@ use Rattle.ceph_input.specs.Cutting.{Reading, rows_left}
 use Rattle.capspec.specs.Paths.{names_of}
 use Rattle.capgrant.specs.declared.access.Attr.{Attr}
 use Rattle.ceph_input.specs.Auth.{json_of}
+use Rattle.ceph_input.specs.Each.{with_each}
 use Rattle.ceph_input.specs.declared.tree_fault.TreeFault.{TreeFault}
 use Rattle.ceph_input.specs.declared.tree_fault.TreeFault.TheVariants as faults
 use Rattle.ceph_input.specs.Values.{id_at, items_at, number_at, text_at}
@@ -31,10 +32,13 @@ held client issued pending = record { client = client; issued = issued; pending 
 abbrev pub holder_of : Data → Option Held
 holder_of d = option_and_then (λ client. option_and_then (λ issued. option_map (held client issued) (text_at (codes "pending") d)) (text_at (codes "issued") d)) (number_at (codes "client_id") d)
 
+-- with the one who holds something by an item
+abbrev pub with_holder : List Held → Data → Option (List Held)
+with_holder before d = option_map (λ h. before ++ h ∷ []) (holder_of d)
+
 -- those who hold something by these items, behind those before; None where an item doesn't say it
 abbrev pub holders_from : List Held → Items → Option (List Held)
-holders_from before no_items = Some before
-holders_from before (item d ds) = option_and_then (λ h. holders_from (before ++ h ∷ []) ds) (holder_of d)
+holders_from before items = with_each with_holder before items
 
 abbrev pub holders_in : Data → Option (List Held)
 holders_in d = option_and_then (holders_from []) (items_at (codes "client_caps") d)
@@ -86,16 +90,14 @@ abbrev pub with_dentry : PathMap → Data → Option PathMap
 with_dentry paths d = if is_primary d && (is_below_root d && is_of_head d) then option_and_then (λ number. option_map (λ path. map.insert paths number (names_of path)) (text_at (codes "path") d)) (number_at (codes "inode") d) else Some paths
 
 abbrev pub with_dentries : PathMap → Items → Option PathMap
-with_dentries paths no_items = Some paths
-with_dentries paths (item d ds) = option_and_then (λ more. with_dentries more ds) (with_dentry paths d)
+with_dentries paths items = with_each with_dentry paths items
 
 -- with those of a fragment of a directory
 abbrev pub with_fragment : PathMap → Data → Option PathMap
 with_fragment paths d = option_and_then (with_dentries paths) (items_at (codes "dentries") d)
 
 abbrev pub with_fragments : PathMap → Items → Option PathMap
-with_fragments paths no_items = Some paths
-with_fragments paths (item d ds) = option_and_then (λ more. with_fragments more ds) (with_fragment paths d)
+with_fragments paths items = with_each with_fragment paths items
 
 -- with those of the directory that an inode is
 abbrev pub with_directory : PathMap → Data → Option PathMap

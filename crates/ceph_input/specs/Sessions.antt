@@ -1,8 +1,9 @@
 -- The sessions of a cluster's clients.
-use Rattle.std.specs.Prelude.{ℕ, ◌+◌, List, [], ◌∷◌, ◌++◌, length, codes, Option, unwrap_or, option_map, option_and_then, Result, Ok, Err}
-use Rattle.serde_json.specs.Data.{Data, Items, item, no_items}
+use Rattle.std.specs.Prelude.{ℕ, List, [], ◌++◌, codes, Option, unwrap_or, option_map, option_and_then, Result, Err}
+use Rattle.serde_json.specs.Data.{Data, Items}
 use Rattle.serde_json.specs.Find.{as_array, get}
 use Rattle.ceph_input.specs.Auth.{json_of}
+use Rattle.ceph_input.specs.Each.{each_of}
 use Rattle.ceph_input.specs.declared.cluster_fault.ClusterFault.{ClusterFault}
 use Rattle.ceph_input.specs.declared.cluster_fault.ClusterFault.TheVariants.{BadItem, NoList}
 use Rattle.ceph_input.specs.Values.{number_at, text_at}
@@ -29,8 +30,7 @@ session_of d = option_map (λ number. connected number (option_map client_name (
 
 -- the sessions that the items are, behind those before; or the number of the first that is none
 abbrev pub sessions_from : List Connected → Items → Result (List Connected) ClusterFault
-sessions_from before no_items = Ok before
-sessions_from before (item d ds) = unwrap_or (option_map (λ s. sessions_from (before ++ s ∷ []) ds) (session_of d)) (Err (BadItem (length before + 1)))
+sessions_from before items = each_of session_of BadItem before items
 
 -- the sessions that a JSON value lists
 abbrev pub sessions_in : Data → Result (List Connected) ClusterFault

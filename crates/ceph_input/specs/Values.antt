@@ -4,6 +4,8 @@ use Rattle.serde_json.specs.Data.{Data, Items, no_items}
 use Rattle.serde_json.specs.Find.{as_array, as_number, as_str, as_u64, get}
 use Rattle.ceph_input.specs.declared.cluster_fault.ClusterFault.{ClusterFault}
 use Rattle.ceph_input.specs.declared.cluster_fault.ClusterFault.TheVariants.{NoMemory, NotJson}
+use Rattle.ceph_input.specs.declared.values.NoJson.{NoJson}
+use Rattle.ceph_input.specs.declared.values.NoJson.TheVariants as no_json
 
 -- the text at a key
 abbrev pub text_at : List ℕ → Data → Option (List ℕ)
@@ -28,10 +30,9 @@ items_at key d = items_or_none (get key d)
 -- ---- faults
 
 -- the text is no JSON; want of memory is in no text
-abbrev pub IsNoJson : ClusterFault → Option Data → Type 0
-IsNoJson NoMemory json = Unit {0}
-IsNoJson (NotJson line column) json = json ≡ None
-IsNoJson fault json = ⊥
+abbrev pub IsNoJson : NoJson → Option Data → Type 0
+IsNoJson (no_json.At line column) json = json ≡ None
+IsNoJson no_json.NoMemory json = Unit {0}
 
 -- the fault is the one that is found in a text; None is found where it is no JSON
 abbrev pub IsFaultIn : {T : Type 0} → ClusterFault → Option (Result T ClusterFault) → Type 0

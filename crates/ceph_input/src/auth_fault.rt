@@ -1,12 +1,12 @@
 //! Why an auth list gives no grants.
 
 use std::alloc::{AllocError, AllocFailed};
-use std::error::Error;
 use std::fmt;
 use std::fmt::Display;
+use thiserror::Error;
 
 /// Why a text is no auth list, or an auth list gives no grants of an entity.
-#[derive(Clone, Copy, Debug, PartialEq, Eq)]
+#[derive(Clone, Copy, Debug, Error)]
 pub enum AuthFault {
     /// The text is no JSON.
     NotJson {
@@ -45,8 +45,6 @@ impl Display for AuthFault {
         f.write_str(text)
     }
 }
-
-impl Error for AuthFault {}
 
 impl From<AllocError> for AuthFault {
     ghost use Rattle.std.specs.Prelude.{◌≡◌};

@@ -3,11 +3,10 @@
 ghost use Rattle.std.specs.Prelude.{◌≡◌, MatchResult, Ok};
 ghost use Rattle.ceph_input.specs.Dump.{IsTreeFault, dump, with_item};
 
-use crate::cluster_fault::ClusterFault;
 use crate::cutter::RowCutter;
 use crate::tree::{Tree, add_inode};
 use crate::tree_fault::TreeFault;
-use crate::values::read_json;
+use crate::values::{NoJson, read_json};
 use std::alloc::{AllocError, Global};
 
 /// Reads the tree that a text lists, of which it holds one item at a time. Each item is an inode, with numbers at `ino`, `uid`, `gid` and
@@ -84,7 +83,7 @@ fn add_item(alloc: Global, tree: &mut Tree, byte: u64, text: &[u8]) -> Result<()
     let number = tree.inodes.len() + 1;
     let item = match read_json(alloc, text) {
         Ok(item) => item,
-        Err(ClusterFault::NotJson { line, column }) => {
+        Err(NoJson::At { line, column }) => {
             return Err(TreeFault::NotJson {
                 number,
                 byte,
@@ -92,7 +91,7 @@ fn add_item(alloc: Global, tree: &mut Tree, byte: u64, text: &[u8]) -> Result<()
                 column,
             });
         }
-        Err(_) => return Err(TreeFault::NoMemory),
+        Err(NoJson::NoMemory) => return Err(TreeFault::NoMemory),
     };
     if add_inode(alloc, &mut tree.inodes, &mut tree.paths, &item)? {
         Ok(())

@@ -2,11 +2,12 @@
 
 ghost use Rattle.std.specs.Prelude.{◌≡◌, [], Some, IfOk, IfErr, Ok, option_map};
 ghost use Rattle.serde_json.specs.View.{items_view, view};
-ghost use Rattle.ceph_input.specs.Auth.{IsFaultOf, auth_of, entities_of, entity_of, json_of, list_in, mds_in};
+ghost use Rattle.ceph_input.specs.Auth.{IsFaultOf, auth_of, entities_of, entity_of, list_in, mds_in};
 
 use crate::auth_fault::AuthFault;
 use crate::entity::Entity;
 use crate::list::AuthList;
+use crate::values::{NoJson, read_json};
 use serde_json::Value;
 use std::alloc::{AllocError, Global};
 
@@ -16,26 +17,15 @@ pub fn read_auth(alloc: Global, text: &[u8]) -> Result<AuthList, AuthFault>
     ensures ok { IfOk result (λ list. auth_of text.now ≡ Some (Ok list)) }
     ensures err { IfErr result (λ fault. IsFaultOf fault (auth_of text.now)) }
 {
-    let value = read_json(alloc, text)?;
+    let value = match read_json(alloc, text) {
+        Ok(value) => value,
+        Err(NoJson::At { line, column }) => return Err(AuthFault::NotJson { line, column }),
+        Err(NoJson::NoMemory) => return Err(AuthFault::NoMemory),
+    };
     let Some(items) = list_in(&value) else {
         return Err(AuthFault::NoList);
     };
     Ok(AuthList::of(read_entities(alloc, items.as_slice())?))
-}
-
-// The JSON that the text is.
-fn read_json(alloc: Global, text: &[u8]) -> Result<Value, AuthFault>
-    ensures ok { IfOk result (λ value. json_of text.now ≡ Some (view value)) }
-    ensures err { IfErr result (λ fault. IsFaultOf fault (auth_of text.now)) }
-{
-    match Value::from_slice(alloc, text) {
-        Ok(value) => Ok(value),
-        Err(error) if error.is_memory() => Err(AuthFault::NoMemory),
-        Err(error) => Err(AuthFault::NotJson {
-            line: error.line(),
-            column: error.column(),
-        }),
-    }
 }
 
 // The items of the list that it has.

@@ -6,7 +6,7 @@ ghost use Rattle.ceph_input.specs.Values.{IsFaultIn};
 ghost use Rattle.ceph_input.specs.Sessions.{client_name, entity_in, session_of, sessions_from, sessions_of};
 
 use crate::cluster_fault::ClusterFault;
-use crate::values::{number_at, read_json, text_at};
+use crate::values::{NoJson, number_at, read_json, text_at};
 use serde_json::Value;
 use std::alloc::{AllocError, Global};
 use std::marker::Model;
@@ -84,7 +84,11 @@ pub fn read_sessions(alloc: Global, text: &[u8]) -> Result<Vec<Session>, Cluster
     ensures ok { IfOk result (λ sessions. sessions_of text.now ≡ Some (Ok sessions.items)) }
     ensures err { IfErr result (λ fault. IsFaultIn fault (sessions_of text.now)) }
 {
-    let value = read_json(alloc, text)?;
+    let value = match read_json(alloc, text) {
+        Ok(value) => value,
+        Err(NoJson::At { line, column }) => return Err(ClusterFault::NotJson { line, column }),
+        Err(NoJson::NoMemory) => return Err(ClusterFault::NoMemory),
+    };
     let Some(items) = value.as_array() else {
         return Err(ClusterFault::NoList);
     };

@@ -5,19 +5,27 @@ ghost use Rattle.serde_json.specs.View.{items_view, view};
 ghost use Rattle.ceph_input.specs.Auth.{json_of};
 ghost use Rattle.ceph_input.specs.Values.{IsNoJson, id_at, items_at, number_at, text_at};
 
-use crate::cluster_fault::ClusterFault;
 use serde_json::Value;
 use std::alloc::Global;
 
+// Why a text gives no JSON.
+#[derive(Drop)]
+pub(crate) enum NoJson {
+    // It is none: the line at which the JSON reader stopped, from 1, and the byte of that line.
+    At { line: usize, column: usize },
+    // No memory was left.
+    NoMemory,
+}
+
 // The JSON that the text is.
-pub(crate) fn read_json(alloc: Global, text: &[u8]) -> Result<Value, ClusterFault>
+pub(crate) fn read_json(alloc: Global, text: &[u8]) -> Result<Value, NoJson>
     ensures ok { IfOk result (λ value. json_of text.now ≡ Some (view value)) }
-    ensures err { IfErr result (λ fault. IsNoJson fault (json_of text.now)) }
+    ensures err { IfErr result (λ why. IsNoJson why (json_of text.now)) }
 {
     match Value::from_slice(alloc, text) {
         Ok(value) => Ok(value),
-        Err(error) if error.is_memory() => Err(ClusterFault::NoMemory),
-        Err(error) => Err(ClusterFault::NotJson {
+        Err(error) if error.is_memory() => Err(NoJson::NoMemory),
+        Err(error) => Err(NoJson::At {
             line: error.line(),
             column: error.column(),
         }),

@@ -151,6 +151,16 @@ const PRINTS_JSON: Word = Word {
     bars: &[],
 };
 
+// In the place of further lines.
+const JSON_OR_MORE: Word = Word {
+    name: Name::Own(JSON),
+    value: "",
+    help: JSON_HELP,
+    kind: Kind::Flag,
+    needs: None,
+    bars: &[Name::Own(MORE)],
+};
+
 const EXPLAIN_WORDS: [Word; 16] = [
     Word {
         name: Name::Of(Opt::Grants),
@@ -264,14 +274,7 @@ const EXPLAIN_WORDS: [Word; 16] = [
         needs: None,
         bars: &[],
     },
-    Word {
-        name: Name::Own(JSON),
-        value: "",
-        help: JSON_HELP,
-        kind: Kind::Flag,
-        needs: None,
-        bars: &[Name::Own(MORE)],
-    },
+    JSON_OR_MORE,
     Word {
         name: Name::Own(QUIET),
         value: "",
@@ -401,14 +404,7 @@ const WHO_WORDS: [Word; 9] = [
         needs: None,
         bars: &[],
     },
-    Word {
-        name: Name::Own(JSON),
-        value: "",
-        help: JSON_HELP,
-        kind: Kind::Flag,
-        needs: None,
-        bars: &[Name::Own(MORE)],
-    },
+    JSON_OR_MORE,
 ];
 
 const AUDIT_WORDS: [Word; 6] = [
@@ -444,14 +440,7 @@ const AUDIT_WORDS: [Word; 6] = [
         needs: None,
         bars: &[],
     },
-    Word {
-        name: Name::Own(JSON),
-        value: "",
-        help: JSON_HELP,
-        kind: Kind::Flag,
-        needs: None,
-        bars: &[],
-    },
+    PRINTS_JSON,
     FILE_SYSTEM,
 ];
 

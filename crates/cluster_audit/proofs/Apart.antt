@@ -9,12 +9,12 @@ use Rattle.std.proofs.lemmas.List.Folds.{list_any_none}
 use Rattle.capbits.specs.declared.cap.Cap.{Cap}
 use Rattle.capbits.specs.Caps.{Caps, all_caps, has}
 use Rattle.capbits.specs.Sets.{has-meet, has-none, has-where, is_empty, meet, no_caps, same_cap, same_cap-eq, same_caps}
-use Rattle.capbits.proofs.Emptiness.{has-is_empty, is_empty-no_caps}
+use Rattle.capbits.proofs.Emptiness.{has-is_empty, in_all, is_empty-no_caps}
 use Rattle.locktable.specs.Conflicts.{AreApart, barred_by, conflict}
 use Rattle.policy_analysis.proofs.Lists.{found, none_passes}
 use Rattle.cluster_audit.specs.declared.conflict.Holding.{Holding}
 use Rattle.cluster_audit.specs.Conflicts.{conflict_of, conflicting_caps}
-use Rattle.cluster_audit.proofs.ConflictingCaps.{in_all, test}
+use Rattle.cluster_audit.proofs.ConflictingCaps.{test}
 
 either_way : (c d : Cap) → conflict c d ≡ conflict d c
 either_way c d = or_comm (list_any (same_cap d) (barred_by c)) (list_any (same_cap c) (barred_by d))

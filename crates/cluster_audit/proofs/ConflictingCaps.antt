@@ -7,31 +7,14 @@ use Rattle.std.proofs.lemmas.Bool.{and_left}
 use Rattle.std.proofs.lemmas.List.{take_more}
 use Rattle.std.proofs.lemmas.List.Elements.{filter_map-append}
 use Rattle.capbits.specs.declared.cap.Cap.{Cap}
-use Rattle.capbits.specs.declared.cap.Cap.TheVariants.{As, Ax, Fa, Fb, Fc, Fl, Fr, Fs, Fw, Fx, Ls, Lx, P, Xs, Xx}
 use Rattle.capbits.specs.Caps.{Caps, all_caps, has}
 use Rattle.capbits.specs.Sets.{all_in, caps_in, has-caps_in, has-where, same_cap, same_caps, union}
+use Rattle.capbits.proofs.Emptiness.{in_all}
 use Rattle.locktable.specs.Conflicts.{conflict}
 use Rattle.cluster_audit.specs.declared.conflict.Holding.{Holding}
 use Rattle.cluster_audit.specs.declared.conflict.Conflict.{Conflict}
 use Rattle.cluster_audit.specs.Conflicts.{conflict_of, conflicting, conflicting_caps}
 use Rattle.cluster_audit.proofs.Gathering.{IsGathered, all_of, no_more, one_more}
-
-pub in_all : (c : Cap) → list_any (same_cap c) all_caps ≡ true
-in_all P = refl
-in_all As = refl
-in_all Ax = refl
-in_all Ls = refl
-in_all Lx = refl
-in_all Xs = refl
-in_all Xx = refl
-in_all Fs = refl
-in_all Fx = refl
-in_all Fc = refl
-in_all Fr = refl
-in_all Fw = refl
-in_all Fb = refl
-in_all Fa = refl
-in_all Fl = refl
 
 same : Bool → Bool → Bool
 same true b = b

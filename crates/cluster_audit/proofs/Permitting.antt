@@ -7,11 +7,11 @@ use Rattle.capbits.specs.Caps.{has}
 use Rattle.capbits.specs.Sets.{has-caps_in, has-none, has-union, same_cap}
 use Rattle.capgrant.specs.Permitted.{caps_for, caps_if, for_either, for_readers, for_writers}
 
-pub if_has : (b : Bool) (cs : List Cap) (c : Cap) → has (caps_if b cs) c ≡ (b && list_any (same_cap c) cs)
+if_has : (b : Bool) (cs : List Cap) (c : Cap) → has (caps_if b cs) c ≡ (b && list_any (same_cap c) cs)
 if_has true cs c = has-caps_in cs c
 if_has false cs c = has-none c
 
-pub for_has : (r w : Bool) (c : Cap) → has (caps_for r w) c ≡ (((r || w) && list_any (same_cap c) for_either) || ((r && list_any (same_cap c) for_readers) || (w && list_any (same_cap c) for_writers)))
+for_has : (r w : Bool) (c : Cap) → has (caps_for r w) c ≡ (((r || w) && list_any (same_cap c) for_either) || ((r && list_any (same_cap c) for_readers) || (w && list_any (same_cap c) for_writers)))
 for_has r w c =
     has-union (caps_if (r || w) for_either) _ c
     ∙ ap (λ (b : Bool). has (caps_if (r || w) for_either) c || b) (has-union (caps_if r for_readers) (caps_if w for_writers) c)

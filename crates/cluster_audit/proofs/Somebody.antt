@@ -1,26 +1,24 @@
 -- What somebody is permitted, by whether somebody may read and whether somebody may write.
-use Rattle.std.proofs.Common.{◌≡◌, ℕ, Bool, true, false, ◌&&◌, ◌||◌, ◌⊎◌, inl, inr, List, ◌∷◌, ◌++◌, refl, sym, ap, subst, ◌∙◌, arith}
+use Rattle.std.proofs.Common.{◌≡◌, ℕ, Bool, true, false, ◌⊎◌, inl, inr, List, ◌∷◌, refl, sym, ap, subst, ◌∙◌, arith}
 use Rattle.std.specs.Prelude.{◌↔◌, All, Contains, IsTrue}
-use Rattle.std.specs.List.{list_any}
 use Rattle.std.proofs.lemmas.Bool.{both_ways}
 use Rattle.std.proofs.lemmas.List.Elements.{Contains-append_right}
-use Rattle.std.proofs.lemmas.List.Folds.{list_any-append, list_any_at, list_any_none}
+use Rattle.std.proofs.lemmas.List.Folds.{list_any_at, list_any_none}
 use Rattle.capbits.specs.declared.caller.Caller.{Caller}
 use Rattle.capbits.specs.declared.cap.Cap.{Cap}
 use Rattle.capbits.specs.Caps.{Caps, has}
-use Rattle.capbits.specs.Sets.{has-union, same_cap, union}
 use Rattle.capspec.specs.declared.grant.Grant.{Grant}
 use Rattle.capgrant.specs.declared.access.Access.{Access}
 use Rattle.capgrant.specs.declared.access.Access.TheVariants.{Read, Write}
 use Rattle.capgrant.specs.declared.rules.Rules.{Rules}
-use Rattle.capgrant.specs.Permitted.{caps_for, caps_if, for_either, for_readers, for_writers, permitted_of}
+use Rattle.capgrant.specs.Permitted.{caps_for, permitted_of}
 use Rattle.capgrant.specs.Verdict.{allows, granted}
 use Rattle.policy_analysis.specs.Callers.{AllowsNone, AllowsSome}
 use Rattle.policy_analysis.specs.declared.standing.Standing.{Standing}
 use Rattle.policy_analysis.specs.declared.standing.Standing.TheVariants.{Allowed, Denied, Depends}
 use Rattle.policy_analysis.specs.Standing.{AnswersOf, IsFirst}
 use Rattle.cluster_audit.specs.Callers.{Inode, IsPermittedToSome, SomebodyMay, asked, permitted_to, wanted_of}
-use Rattle.cluster_audit.proofs.Permitting.{by_one, by_read, by_write, for_has, if_has}
+use Rattle.cluster_audit.proofs.Permitting.{by_one, by_read, by_write}
 
 -- ---- of one access
 
@@ -48,29 +46,6 @@ must_deny i grants a (Depends n) answers none not = answers
 must_deny i grants a (Denied rules) answers none not = not rules refl
 
 -- ---- of both
-
--- what the code puts together
-same : (r w e a b : Bool) → (((r && (e || a)) || (w && e)) || (w && b)) ≡ (((r || w) && e) || ((r && a) || (w && b)))
-same true true true a b = refl
-same true true false true b = refl
-same true true false false b = refl
-same true false true a b = refl
-same true false false true b = refl
-same true false false false b = refl
-same false true true a b = refl
-same false true false a b = refl
-same false false e a b = refl
-
-pub put_together : (r w : Bool) (c : Cap) → has (union (union (caps_if r (for_either ++ for_readers)) (caps_if w for_either)) (caps_if w for_writers)) c ≡ has (caps_for r w) c
-put_together r w c =
-    has-union (union (caps_if r (for_either ++ for_readers)) (caps_if w for_either)) (caps_if w for_writers) c
-    ∙ ap (λ (b : Bool). b || has (caps_if w for_writers) c) (has-union (caps_if r (for_either ++ for_readers)) (caps_if w for_either) c)
-    ∙ ap (λ (b : Bool). (b || has (caps_if w for_either) c) || has (caps_if w for_writers) c) (if_has r (for_either ++ for_readers) c)
-    ∙ ap (λ (b : Bool). ((r && list_any (same_cap c) (for_either ++ for_readers)) || b) || has (caps_if w for_writers) c) (if_has w for_either c)
-    ∙ ap (λ (b : Bool). ((r && list_any (same_cap c) (for_either ++ for_readers)) || (w && list_any (same_cap c) for_either)) || b) (if_has w for_writers c)
-    ∙ ap (λ (b : Bool). ((r && b) || (w && list_any (same_cap c) for_either)) || (w && list_any (same_cap c) for_writers)) (list_any-append (same_cap c) for_either for_readers)
-    ∙ same r w (list_any (same_cap c) for_either) (list_any (same_cap c) for_readers) (list_any (same_cap c) for_writers)
-    ∙ sym (for_has r w c)
 
 -- whether somebody may is known for both
 module _ (i : Inode) (grants : List Grant) (reads writes : Bool)

@@ -5,14 +5,12 @@ ghost use Rattle.capbits.specs.declared.caller.Caller.{Caller as Who};
 ghost use Rattle.capbits.specs.declared.cap.Cap.{Cap};
 ghost use Rattle.capbits.specs.Caps.{has};
 ghost use Rattle.capbits.specs.Sets.{IsSubset};
-ghost use Rattle.capgrant.specs.Permitted.{caps_for, caps_if};
 ghost use Rattle.capgrant.specs.Verdict.{granted};
 ghost use Rattle.cluster_audit.specs.Callers.{IsPermittedToSome, SomebodyMay, asked, permitted_to};
 
-use crate::findings::{READERS, WRITERS};
 use crate::inode::Inode;
-use capbits::{Cap, CapSet};
-use capgrant::Access;
+use capbits::CapSet;
+use capgrant::{Access, caps_for};
 use capspec::Grants;
 use policy_analysis::Standing;
 
@@ -41,25 +39,5 @@ impl Inode<'_> {
             Standing::Allowed { .. } => true,
             _ => false,
         }
-    }
-}
-
-// What some caller is permitted, by whether some caller may read and whether some caller may write.
-fn caps_for(reads: bool, writes: bool) -> CapSet
-    ensures { (cap : Cap) → has result cap ≡ has (caps_for reads writes) cap }
-{
-    only_if(reads, &READERS)
-        .union(only_if(writes, &[Cap::P]))
-        .union(only_if(writes, &WRITERS))
-}
-
-// These caps, or none of them.
-fn only_if(condition: bool, caps: &[Cap]) -> CapSet
-    ensures { result ≡ caps_if condition caps.now }
-{
-    if condition {
-        CapSet::of(caps)
-    } else {
-        CapSet::empty()
     }
 }

@@ -13,7 +13,7 @@ use crate::callers::permitted_to_some;
 use crate::inode::Inode;
 use arrayvec::ArrayVec;
 use capbits::{Cap, CapSet};
-use capgrant::{Access, Rules};
+use capgrant::{Access, Rules, readers_caps, writers_caps};
 use capspec::Grants;
 use policy_analysis::Standing;
 
@@ -57,33 +57,18 @@ pub fn beyond(held: CapSet, grants: &Grants, inode: &Inode) -> Option<Finding>
     })
 }
 
-// The access that some of these caps need, to read before to write.
+// The access that some of these caps need, to read before to write. Either permits the pin.
 fn least_access(caps: CapSet) -> Option<Access>
     ensures { result ≡ least_access caps }
 {
-    if has_any(caps, &READERS) {
+    if caps.has(Cap::P) || has_any(caps, readers_caps()) {
         Some(Access::Read)
-    } else if has_any(caps, &WRITERS) {
+    } else if has_any(caps, writers_caps()) {
         Some(Access::Write)
     } else {
         None
     }
 }
-
-/// What leave to read permits; the pin, which leave to write permits too, is missing only where both are.
-pub(crate) const READERS: [Cap; 8] = [
-    Cap::P,
-    Cap::As,
-    Cap::Ls,
-    Cap::Xs,
-    Cap::Fs,
-    Cap::Fc,
-    Cap::Fr,
-    Cap::Fl,
-];
-
-/// What leave to write permits, beside the pin.
-pub(crate) const WRITERS: [Cap; 6] = [Cap::Ax, Cap::Lx, Cap::Xx, Cap::Fx, Cap::Fw, Cap::Fb];
 
 fn has_any(caps: CapSet, of: &[Cap]) -> bool
     ensures { result ≡ has_any caps of.now }

@@ -1,14 +1,10 @@
 -- The tests of the calls on a tree, each with its refusal where it fails.
 use Rattle.std.specs.Prelude.{ℕ, ◌-◌, ◌==◌, ◌&&◌, ◌||◌, Bool, true, false, not, nat_le, nat_lt, List, [], ◌∷◌, ◌++◌, length, Option, None, Some, is_some}
-use Rattle.std.specs.Prelude.{Result, Ok, Err}
 use Rattle.std.specs.Option.{option_map_or}
 use Rattle.std.specs.FinMap as map
 use Rattle.std.specs.FinSet as set
-use Rattle.capbits.specs.declared.refusal.Refusal.{Refusal}
 use Rattle.capbits.specs.declared.refusal.Refusal.TheVariants as refusal
 use Rattle.capbits.specs.Refusal.{Test, refused_if}
-use Rattle.inotree.specs.declared.error.TreeError.{TreeError}
-use Rattle.inotree.specs.declared.error.TreeError.TheVariants.{NoMemory, Refused}
 use Rattle.inotree.specs.declared.node.Node.{Node}
 use Rattle.inotree.specs.declared.node.Site.{Site}
 use Rattle.inotree.specs.declared.node.Site.TheVariants.{Root, Stray, Under}
@@ -170,9 +166,3 @@ snap_add_tests tree ino name = inode_tests tree ino ++ new_snapshot_tests tree i
 
 abbrev pub snap_remove_tests : Nodes → ℕ → List ℕ → List Test
 snap_remove_tests tree ino name = inode_tests tree ino ++ old_snapshot_tests tree ino name
-
--- why a call was refused; want of memory is no refusal
-abbrev pub refusal_in : {T : Type 0} → Result T TreeError → Option Refusal
-refusal_in (Ok value) = None
-refusal_in (Err (Refused why)) = Some why
-refusal_in (Err NoMemory) = None

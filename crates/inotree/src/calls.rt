@@ -2,16 +2,15 @@
 //! comment names them, and changes nothing then; want of memory comes last.
 ghost use Rattle.std.specs.Prelude.{◌≡◌, ◌+◌, IfOk, OnOk, OnErr};
 ghost use Rattle.std.specs.Result.{result_err};
-ghost use Rattle.capbits.specs.Refusal.{first_failing};
+ghost use Rattle.capbits.specs.Refusal.{first_failing, refusal_in};
 ghost use Rattle.inotree.specs.Inodes.{with_attribute, with_setting, with_snapshot, without_attribute, without_snapshot};
-ghost use Rattle.inotree.specs.Tests.{create_tests, refusal_in, remove_xattr_tests, rename_tests, rmdir_tests, set_tests, set_xattr_tests, snap_add_tests};
+ghost use Rattle.inotree.specs.Tests.{create_tests, remove_xattr_tests, rename_tests, rmdir_tests, set_tests, set_xattr_tests, snap_add_tests};
 ghost use Rattle.inotree.specs.Tests.{snap_remove_tests, unlink_tests};
 ghost use Rattle.inotree.specs.Calls.{changed, moved, unlinked, with_new};
 
-use crate::error::TreeError;
 use crate::node::Setting;
 use crate::tree::Tree;
-use capbits::{Ino, Refusal};
+use capbits::{ChangeError, Ino, Refusal};
 use capgrant::Attr;
 
 impl Tree {
@@ -68,14 +67,14 @@ impl Tree {
 
     /// Makes a file in a directory, with this owner, group and mode, and answers its number. It is refused as NoIno, Gone,
     /// NotDir, NameBad, Exists, TooDeep, or Limit.
-    pub fn create(&mut self, dir: Ino, name: &[u8], attr: Attr) -> Result<Ino, TreeError>
+    pub fn create(&mut self, dir: Ino, name: &[u8], attr: Attr) -> Result<Ino, ChangeError>
         ensures refused { refusal_in result ≡ first_failing (create_tests self.old dir.0 name.now) }
         ensures ok { OnOk result (self.new ≡ with_new self.old kinds.File dir.0 name.now attr) }
         ensures ino { IfOk result (λ ino. ino.0 ≡ self.old.last + 1) }
         ensures err { OnErr result (self.new ≡ self.old) }
     {
         if let Some(refusal) = self.create_refusal(dir, name) {
-            return Err(TreeError::Refused(refusal));
+            return Err(ChangeError::Refused(refusal));
         }
         let ino = self.create_tested(dir, name, attr)?;
         Ok(ino)
@@ -83,14 +82,14 @@ impl Tree {
 
     /// Makes a directory in a directory, with this owner, group and mode, and answers its number. It is refused as `create`
     /// is.
-    pub fn mkdir(&mut self, dir: Ino, name: &[u8], attr: Attr) -> Result<Ino, TreeError>
+    pub fn mkdir(&mut self, dir: Ino, name: &[u8], attr: Attr) -> Result<Ino, ChangeError>
         ensures refused { refusal_in result ≡ first_failing (create_tests self.old dir.0 name.now) }
         ensures ok { OnOk result (self.new ≡ with_new self.old kinds.Directory dir.0 name.now attr) }
         ensures ino { IfOk result (λ ino. ino.0 ≡ self.old.last + 1) }
         ensures err { OnErr result (self.new ≡ self.old) }
     {
         if let Some(refusal) = self.create_refusal(dir, name) {
-            return Err(TreeError::Refused(refusal));
+            return Err(ChangeError::Refused(refusal));
         }
         let ino = self.mkdir_tested(dir, name, attr)?;
         Ok(ino)
@@ -126,13 +125,13 @@ impl Tree {
 
     /// Moves an inode into a directory, under a name. It is refused as NoIno, Gone, or Root of the inode, as NoIno, or Gone
     /// of the directory, or as NotDir, NameBad, Exists, Loop, or TooDeep.
-    pub fn rename(&mut self, ino: Ino, dir: Ino, name: &[u8]) -> Result<(), TreeError>
+    pub fn rename(&mut self, ino: Ino, dir: Ino, name: &[u8]) -> Result<(), ChangeError>
         ensures refused { refusal_in result ≡ first_failing (rename_tests self.old ino.0 dir.0 name.now) }
         ensures ok { OnOk result (self.new ≡ moved self.old ino.0 dir.0 name.now) }
         ensures err { OnErr result (self.new ≡ self.old) }
     {
         if let Some(refusal) = self.rename_fault(ino, dir, name) {
-            return Err(TreeError::Refused(refusal));
+            return Err(ChangeError::Refused(refusal));
         }
         self.rename_tested(ino, dir, name)?;
         Ok(())
@@ -154,13 +153,13 @@ impl Tree {
 
     /// Gives an attribute of an inode a value, in place of the one that it may have. It is refused as NoIno, Gone, NameBad,
     /// or Limit: a value that is too long, or an attribute too many.
-    pub fn set_xattr(&mut self, ino: Ino, name: &[u8], value: &[u8]) -> Result<(), TreeError>
+    pub fn set_xattr(&mut self, ino: Ino, name: &[u8], value: &[u8]) -> Result<(), ChangeError>
         ensures refused { refusal_in result ≡ first_failing (set_xattr_tests self.old ino.0 name.now value.now) }
         ensures ok { OnOk result (self.new ≡ changed (with_attribute name.now value.now) self.old ino.0) }
         ensures err { OnErr result (self.new ≡ self.old) }
     {
         if let Some(refusal) = self.set_xattr_refusal(ino, name, value) {
-            return Err(TreeError::Refused(refusal));
+            return Err(ChangeError::Refused(refusal));
         }
         self.set_xattr_tested(ino, name, value)?;
         Ok(())
@@ -181,13 +180,13 @@ impl Tree {
     }
 
     /// Gives a directory a snapshot of this name. It is refused as NoIno, Gone, NotDir, NameBad, Exists, or Limit.
-    pub fn snap_add(&mut self, ino: Ino, name: &[u8]) -> Result<(), TreeError>
+    pub fn snap_add(&mut self, ino: Ino, name: &[u8]) -> Result<(), ChangeError>
         ensures refused { refusal_in result ≡ first_failing (snap_add_tests self.old ino.0 name.now) }
         ensures ok { OnOk result (self.new ≡ changed (with_snapshot name.now) self.old ino.0) }
         ensures err { OnErr result (self.new ≡ self.old) }
     {
         if let Some(refusal) = self.snap_add_refusal(ino, name) {
-            return Err(TreeError::Refused(refusal));
+            return Err(ChangeError::Refused(refusal));
         }
         self.snap_add_tested(ino, name)?;
         Ok(())

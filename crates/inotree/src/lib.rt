@@ -5,7 +5,6 @@
 
 mod attributes;
 mod calls;
-mod error;
 mod heights;
 mod index;
 mod ino_set;
@@ -19,7 +18,6 @@ mod snapshots;
 mod tree;
 
 pub use attributes::{Attributes, MAX_ATTRIBUTES, MAX_VALUE, Value};
-pub use error::TreeError;
 pub use ino_set::InoSet;
 pub use laws::{
     a_change_of_one_inode_leaves_the_others, a_change_that_may_be_made_keeps_the_tree,

@@ -1,9 +1,9 @@
 -- Whole texts: the grants that one means, or where it is first wrong.
 use Rattle.std.specs.Prelude.{ℕ, zero, suc, ◌+◌, ◌-◌, List, [], ◌∷◌, ◌++◌, length, codes, Option, Some, None, Result, Ok, Err, unwrap_or, option_map}
 use Rattle.std.specs.Prelude.{if◌then◌else◌}
-use Rattle.byte_sets.specs.Sets.{is_mark}
+use Rattle.byte_sets.specs.Sets.{is_in, is_mark}
 use Rattle.capspec.specs.Words.{rest_while}
-use Rattle.osd_caps.specs.declared.bytes.ByteSet.TheVariants.{Blank, Network, Space}
+use Rattle.byte_sets.specs.declared.sets.ByteSet.TheVariants.{AnyWhite, Blank, Network}
 use Rattle.osd_caps.specs.declared.access.Access.{Access}
 use Rattle.osd_caps.specs.declared.access.Access.TheVariants.{Allow, OfProfile}
 use Rattle.osd_caps.specs.declared.access.Rights.{Rights}
@@ -14,13 +14,13 @@ use Rattle.osd_caps.specs.declared.fault.Refusal.{Refusal}
 use Rattle.osd_caps.specs.declared.grant.OsdGrant.{OsdGrant}
 use Rattle.osd_caps.specs.declared.scope.NamespaceRule.{NamespaceRule}
 use Rattle.osd_caps.specs.declared.scope.Scope.{Scope}
-use Rattle.osd_caps.specs.Words.{◌>>=◌, is_in, behind, behind_spaced, behind_sign, run_at, word_at}
+use Rattle.osd_caps.specs.Words.{◌>>=◌, behind, behind_spaced, behind_sign, run_at, word_at}
 use Rattle.osd_caps.specs.Scopes.{place_at, scope_at}
 use Rattle.osd_caps.specs.Accesses.{profile_of, rights_at}
 
 -- the text behind its spaces, and behind its blanks
 abbrev pub past_spaces : List ℕ → List ℕ
-past_spaces text = rest_while (is_in Space) text
+past_spaces text = rest_while (is_in AnyWhite) text
 
 abbrev pub past_blanks : List ℕ → List ℕ
 past_blanks text = rest_while (is_in Blank) text

@@ -2,14 +2,15 @@
 use Rattle.std.specs.Prelude.{ℕ, ◌-◌, List, length, take, codes, nat_eq, bytes_eq, Option, Some, None, if◌then◌else◌}
 use Rattle.std.specs.List.{ends_with}
 use Rattle.capspec.specs.Words.{rest_while}
-use Rattle.osd_caps.specs.declared.bytes.ByteSet.TheVariants.{Space}
+use Rattle.byte_sets.specs.Sets.{is_in}
+use Rattle.byte_sets.specs.declared.sets.ByteSet.TheVariants.{AnyWhite}
 use Rattle.osd_caps.specs.declared.scope.NamespaceRule.{NamespaceRule}
 use Rattle.osd_caps.specs.declared.scope.NamespaceRule.TheVariants.{Exact, Prefix}
 use Rattle.osd_caps.specs.declared.scope.Scope.{Scope}
 use Rattle.osd_caps.specs.declared.scope.Tag.{Tag}
 use Rattle.osd_caps.specs.declared.scope.TagPart.{TagPart}
 use Rattle.osd_caps.specs.declared.scope.TagPart.TheVariants as parts
-use Rattle.osd_caps.specs.Words.{◌>>=◌, is_in, behind, behind_spaces, behind_spaced, behind_key, behind_star, string_at, word_at}
+use Rattle.osd_caps.specs.Words.{◌>>=◌, behind, behind_spaces, behind_spaced, behind_key, behind_star, string_at, word_at}
 
 -- what is read, if it stands there, and what follows: else the whole text
 abbrev pub optional : {A : Type 0} → List ℕ → Option (A × List ℕ) → Option A × List ℕ
@@ -61,8 +62,8 @@ tag_part_at text = tag_part_by text (behind_star text)
 -- the text behind `=`, which may have spaces round it
 unfoldable pub behind_equals : List ℕ → Option (List ℕ)
 behind_equals text = do
-  text ← behind (codes "=") (rest_while (is_in Space) text)
-  Some (rest_while (is_in Space) text)
+  text ← behind (codes "=") (rest_while (is_in AnyWhite) text)
+  Some (rest_while (is_in AnyWhite) text)
 
 -- `KEY=VALUE`
 unfoldable pub pair_at : List ℕ → Option (TagPart × TagPart × List ℕ)

@@ -3,7 +3,8 @@ ghost use Rattle.std.specs.Prelude.{◌≡◌, ◌≤◌, length, None, Some, Ma
 ghost use Rattle.osd_caps.specs.Scopes.{behind_equals};
 ghost use Rattle.osd_caps.specs.Words.{behind_key, behind_keyword, behind_sign, behind_spaced, behind_spaces, behind_star};
 
-use crate::bytes::{ByteSet, behind, skip, split_run};
+use crate::bytes::{behind, skip, split_run};
+use byte_sets::ByteSet;
 
 /// The text behind one space or more.
 #[tactic(auto, unfolding(crate::specs::Words::behind_spaces))]
@@ -11,7 +12,7 @@ pub(crate) fn behind_spaces(text: &[u8]) -> Option<&[u8]>
     ensures value { MatchOption result (behind_spaces text.now ≡ None) (λ rest. behind_spaces text.now ≡ Some rest.now) }
     ensures shorter { IfSome result (λ rest. length rest.now ≤ length text.now) }
 {
-    match split_run(ByteSet::Space, text) {
+    match split_run(ByteSet::AnyWhite, text) {
         Some((_, rest)) => Some(rest),
         None => None,
     }
@@ -71,8 +72,8 @@ pub(crate) fn behind_equals(text: &[u8]) -> Option<&[u8]>
     ensures value { MatchOption result (behind_equals text.now ≡ None) (λ rest. behind_equals text.now ≡ Some rest.now) }
     ensures shorter { IfSome result (λ rest. length rest.now ≤ length text.now) }
 {
-    match behind(skip(ByteSet::Space, text), b"=") {
-        Some(rest) => Some(skip(ByteSet::Space, rest)),
+    match behind(skip(ByteSet::AnyWhite, text), b"=") {
+        Some(rest) => Some(skip(ByteSet::AnyWhite, rest)),
         None => None,
     }
 }

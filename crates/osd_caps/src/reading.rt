@@ -8,7 +8,7 @@ ghost use Rattle.osd_caps.specs.declared.access.Access.TheVariants.{Allow};
 ghost use Rattle.osd_caps.specs.declared.fault.Refusal.{Refusal as Refused};
 
 use crate::access::{Access, Profile, Rights};
-use crate::bytes::{ByteSet, behind, skip, split_run};
+use crate::bytes::{behind, skip, split_run};
 use crate::fault::{OsdFault, OsdFaultKind, Refusal};
 use crate::grant::{OsdCaps, OsdGrant};
 use crate::keys::{behind_sign, behind_spaced};
@@ -16,6 +16,7 @@ use crate::rights::read_rights;
 use crate::scope::Scope;
 use crate::scopes::{read_place, read_scope};
 use crate::words::read_word;
+use byte_sets::ByteSet;
 use std::alloc::Global;
 
 /// Reads the text of a client's OSD caps: grants, with `,` or `;` between each two.
@@ -36,7 +37,7 @@ pub fn read_osd_caps(alloc: Global, text: &[u8]) -> Result<OsdCaps<'_>, OsdFault
     ensures err { IfErr result (λ fault. (fault ≡ no_memory) ⊎ ((refusal : Refused) × (caps_of text.now ≡ Err refusal) × (fault ≡ fault_in text.now refusal))) }
 {
     let mut grants = Vec::new(alloc);
-    let mut rest = skip(ByteSet::Space, text);
+    let mut rest = skip(ByteSet::AnyWhite, text);
     loop {
         let (grant, next) = match read_step(rest) {
             Ok(found) => found,
@@ -88,7 +89,7 @@ fn read_next(text: &[u8]) -> Result<Option<&[u8]>, Refusal>
     match text {
         [] => Ok(None),
         [b',' | b';', rest @ ..] => Ok(Some(rest)),
-        _ => read_end(skip(ByteSet::Space, text)),
+        _ => read_end(skip(ByteSet::AnyWhite, text)),
     }
 }
 
@@ -153,7 +154,7 @@ fn read_allow_behind<'a>(
 {
     match read_rights(text) {
         Some((rights, rest)) => Ok((allow(rights, scope), behind_grant(rest))),
-        None => Err(Refusal::at(skip(ByteSet::Space, text), OsdFaultKind::NoAccess)),
+        None => Err(Refusal::at(skip(ByteSet::AnyWhite, text), OsdFaultKind::NoAccess)),
     }
 }
 

@@ -2,7 +2,8 @@
 ghost use Rattle.std.specs.Prelude.{◌≡◌, ◌≤◌, length, None, Some, MatchOption, IfSome};
 ghost use Rattle.osd_caps.specs.Words.{quoted_at, string_at, word_at};
 
-use crate::bytes::{ByteSet, some_if_any, split_run, split_while};
+use crate::bytes::{some_if_any, split_run, split_while};
+use byte_sets::ByteSet;
 
 /// A name without quotes, or what stands between two of one quote, which may be nothing.
 #[tactic(auto, unfolding(crate::specs::Words::string_at))]
@@ -14,7 +15,7 @@ pub(crate) fn read_string(text: &[u8]) -> Option<(&[u8], &[u8])>
         [] => None,
         [b'"', inside @ ..] => read_quoted(b'"', inside),
         [b'\'', inside @ ..] => read_quoted(b'\'', inside),
-        _ => split_run(ByteSet::Bare, text),
+        _ => split_run(ByteSet::BarePath, text),
     }
 }
 

@@ -9,22 +9,19 @@ use Rattle.std.proofs.lemmas.Bool.{and_parts}
 use Rattle.std.proofs.lemmas.Bool.Decides.{nat_tests}
 use Rattle.std.proofs.lemmas.List.{append-nil}
 use Rattle.std.proofs.lemmas.List.Folds.{list_all-append}
-use Rattle.capspec.specs.declared.flags.Flags4.{Flags4}
-use Rattle.capspec.specs.declared.flags.Flags4.TheVariants.{R, Rw, Rwp, Rwps, Rws}
-use Rattle.capspec.specs.Flags.{IsFlags}
 use Rattle.capspec.specs.declared.grant.Grant.{Grant}
 use Rattle.byte_sets.specs.Sets.{begins, is_mark, is_white}
 use Rattle.capspec.specs.Bytes.{ends_grant}
 use Rattle.capspec.specs.Grants.{IsGrant}
 use Rattle.capspec.specs.Separated.{AreSeparated}
 use Rattle.capspec.specs.Words.{goes_on, is_digit, next}
-use Rattle.capspec.proofs.Complete.{blank_no_digit, flags_letter, grant_end_not_white, mark_not_white}
+use Rattle.capspec.proofs.Complete.{blank_no_digit, flags_letter, flags_plain, grant_end_not_white, mark_not_white}
 use Rattle.capspec.proofs.Fronts.{rest_is, which}
 use Rattle.policy_analysis.specs.declared.unread.Unread.{Unread}
 use Rattle.policy_analysis.specs.declared.unread.Unread.TheVariants.{WhiteSpace}
 use Rattle.policy_analysis.specs.Scanning.{Begins, HasItems, behind_word, can_end, has_spaces, wrong_between}
 use Rattle.policy_analysis.specs.Ceph16Syntax.{Standing, Stands, are_spaces, first_wrong, why, why_each, wrong_white}
-use Rattle.policy_analysis.proofs.Words.{behind_plain, gap_ends, is_plain, white_ends, words_end}
+use Rattle.policy_analysis.proofs.Words.{behind_plain, gap_ends, white_ends, words_end}
 
 -- ---- the front of a grant
 
@@ -35,15 +32,6 @@ end_ends (b ∷ bs) ends stops = rw (mark_not_white b ends, ends, stops) refl
 white_then : (white end : List ℕ) → list_all is_white white ≡ true → can_end end ≡ true → can_end (white ++ end) ≡ true
 white_then [] end blank ends = ends
 white_then (w ∷ ws) end blank ends = white_ends w (ws ++ end) (and_parts (is_white w) (list_all is_white ws) blank).0
-
-flags_plain : (word : List ℕ) (flags : Flags4) → IsFlags word flags → list_all is_plain word ≡ true
-flags_plain word R is = rw is refl
-flags_plain word Rw is = rw is refl
-flags_plain word Rwp is = rw is refl
-flags_plain word Rws is = rw is refl
-flags_plain word Rwps (inl is) = rw is refl
-flags_plain word Rwps (inr (inl is)) = rw is refl
-flags_plain word Rwps (inr (inr is)) = rw is refl
 
 -- behind the flags the items stand
 pub items_of : (text : List ℕ) (s : Standing) (end : List ℕ) → Begins text s end → HasItems (behind_word (next (behind_word (next text)))) s.items (s.after ++ end)

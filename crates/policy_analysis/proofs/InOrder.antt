@@ -9,13 +9,13 @@ use Rattle.policy_analysis.specs.Linting.{HasCephText}
 use Rattle.policy_analysis.proofs.CephTexts.{user_has_text}
 use Rattle.capspec.specs.declared.grant.Grant.{Grant}
 use Rattle.capspec.specs.Grants.{AreItemsOf, IsSaidOnce, fsname_in, gids_in, root_squash_in, uid_in}
-use Rattle.capspec.specs.Items.{Item}
+use Rattle.capspec.specs.Items.{Item, key_of}
 use Rattle.capspec.specs.Items.Item.{FsName, Gids, Path, RootSquash, Uid}
-use Rattle.policy_analysis.specs.declared.key.Key.{Key}
-use Rattle.policy_analysis.specs.declared.key.Key.TheVariants as keys
+use Rattle.capspec.specs.declared.items.Key.{Key}
+use Rattle.capspec.specs.declared.items.Key.TheVariants as keys
 use Rattle.policy_analysis.specs.declared.unread.Unread.{Unread}
 use Rattle.policy_analysis.specs.declared.unread.Unread.TheVariants.{WhiteSpace}
-use Rattle.policy_analysis.specs.Ceph16Syntax.{are_spaces, first_wrong, is_any_name, key_of, why, wrong_behind, wrong_white}
+use Rattle.policy_analysis.specs.Ceph16Syntax.{are_spaces, first_wrong, is_any_name, why, wrong_behind, wrong_white}
 
 -- ---- of two reasons none is there exactly if neither is
 

@@ -4,14 +4,14 @@ use Rattle.std.specs.Option.{option_or}
 use Rattle.std.proofs.lemmas.Bool.{true≢false}
 use Rattle.byte_sets.specs.Sets.{is_white}
 use Rattle.capspec.specs.Bytes.{ends_grant}
-use Rattle.capspec.specs.Items.{Item}
+use Rattle.capspec.specs.Items.{Item, key_of}
 use Rattle.capspec.specs.Words.{next}
 use Rattle.capspec.proofs.Fronts.{rest_is, rest_stops}
 use Rattle.capspec.proofs.Complete.{item_goes_on, item_letter}
-use Rattle.policy_analysis.specs.declared.key.Key.{Key}
+use Rattle.capspec.specs.declared.items.Key.{Key}
 use Rattle.policy_analysis.specs.declared.unread.Unread.{Unread}
 use Rattle.policy_analysis.specs.Scanning.{HasItems, behind_item, key_at, wrong_at}
-use Rattle.policy_analysis.specs.Ceph16Syntax.{first_wrong, key_of, wrong_behind}
+use Rattle.policy_analysis.specs.Ceph16Syntax.{first_wrong, wrong_behind}
 use Rattle.policy_analysis.proofs.Words.{behind_item_is, item_shorter, key_at_is, next_shorter, words_end, wrong_at_is}
 
 -- What is left of the items at the place where a loop over them stands: with what it found and the last key, their first reason is what is to be told.

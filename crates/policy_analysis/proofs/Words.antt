@@ -9,7 +9,7 @@ use Rattle.std.proofs.lemmas.List.{append_cancel_left, length-drop}
 use Rattle.byte_sets.specs.Sets.{begins, is_bare_path_byte, is_fs_name_byte, is_mark, is_white}
 use Rattle.capspec.specs.Bytes.{ends_grant, ends_word}
 use Rattle.capspec.specs.Grants.{AreWordsOf, IsGap}
-use Rattle.capspec.specs.Items.{IsItem, IsNumber, IsPath, Item, can_be_path, is_comma}
+use Rattle.capspec.specs.Items.{IsItem, IsNumber, IsPath, Item, can_be_path, is_comma, key_of}
 use Rattle.capspec.specs.Items.Item.{FsName, Gids, Path, RootSquash, Uid}
 use Rattle.capspec.specs.Names.{IsFsName}
 use Rattle.capspec.specs.Separated.{AreSeparated}
@@ -17,9 +17,9 @@ use Rattle.capspec.specs.Words.{gids_word, goes_on, is_digit, next}
 use Rattle.capspec.proofs.Fronts.{not_byte, which}
 use Rattle.capspec.proofs.Taken.{empty_unfit}
 use Rattle.capspec.proofs.Valued.{all_plain, bare_is_plain, digit_is_plain, fs_name_is_plain, gids_word_is, numeral_digits}
-use Rattle.policy_analysis.specs.declared.key.Key.{Key}
+use Rattle.capspec.specs.declared.items.Key.{Key}
 use Rattle.policy_analysis.specs.Scanning.{behind_item, behind_quote, behind_word, can_end, key_at, wrong_at}
-use Rattle.policy_analysis.specs.Ceph16Syntax.{key_of, wrong_behind}
+use Rattle.policy_analysis.specs.Ceph16Syntax.{wrong_behind}
 
 -- ---- where words end
 

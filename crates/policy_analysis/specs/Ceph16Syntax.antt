@@ -1,36 +1,21 @@
 -- How the grants of a text stand in it, and why Ceph 16 does not read one so.
-use Rattle.std.specs.Prelude.{◌≡◌, ℕ, ◌==◌, nat_le, Bool, true, false, Option, Some, None, List, [], ◌∷◌, ◌++◌, map, codes, if◌then◌else◌}
+use Rattle.std.specs.Prelude.{◌≡◌, ℕ, ◌==◌, nat_le, Bool, true, false, Option, Some, None, List, [], ◌∷◌, ◌++◌, map, if◌then◌else◌}
 use Rattle.std.specs.List.{list_all}
 use Rattle.std.specs.Option.{option_or}
 use Rattle.capspec.specs.declared.grant.Grant.{Grant}
+use Rattle.capspec.specs.declared.items.Key.{Key}
+use Rattle.capspec.specs.declared.items.Key.TheVariants as keys
 use Rattle.byte_sets.specs.Sets.{is_mark}
 use Rattle.capspec.specs.Grants.{IsGrant}
-use Rattle.capspec.specs.Items.{Item}
-use Rattle.capspec.specs.Items.Item.{FsName, Gids, Path, RootSquash, Uid}
+use Rattle.capspec.specs.Items.{Item, key_of}
+use Rattle.capspec.specs.Items.Item.{FsName}
 use Rattle.capspec.specs.Separated.{AreSeparated}
-use Rattle.policy_analysis.specs.declared.key.Key.{Key}
-use Rattle.policy_analysis.specs.declared.key.Key.TheVariants as keys
 use Rattle.policy_analysis.specs.declared.unread.Unread.{Unread}
 use Rattle.policy_analysis.specs.declared.unread.Unread.TheVariants.{AnyFileSystem, Order, WhiteSpace}
 
 -- ---- items
 
--- what an item speaks of
-abbrev pub key_of : Item → Key
-key_of (FsName name) = keys.FsName
-key_of (Path names) = keys.Path
-key_of (Uid uid) = keys.Uid
-key_of (Gids gids) = keys.Gids
-key_of RootSquash = keys.RootSquash
-
-abbrev pub name : Key → List ℕ
-name keys.FsName = codes "fsname"
-name keys.Path = codes "path"
-name keys.Uid = codes "uid"
-name keys.Gids = codes "gids"
-name keys.RootSquash = codes "root_squash"
-
--- its place in the order in which Ceph 16 reads items: [fsname] [path] [root_squash], or [path] [uid [gids]]
+-- the place of a key in the order in which Ceph 16 reads items: [fsname] [path] [root_squash], or [path] [uid [gids]]
 abbrev pub rank : Key → ℕ
 rank keys.FsName = 0
 rank keys.Path = 1

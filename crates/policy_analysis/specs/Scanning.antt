@@ -7,8 +7,8 @@ use Rattle.capspec.specs.Bytes.{ends_grant, ends_word}
 use Rattle.capspec.specs.Grants.{AreWordsOf}
 use Rattle.capspec.specs.Items.{Item}
 use Rattle.capspec.specs.Words.{goes_on, next}
-use Rattle.policy_analysis.specs.declared.key.Key.{Key}
-use Rattle.policy_analysis.specs.declared.key.Key.TheVariants as keys
+use Rattle.capspec.specs.declared.items.Key.{Key}
+use Rattle.capspec.specs.declared.items.Key.TheVariants as keys
 use Rattle.policy_analysis.specs.declared.unread.Unread.{Unread}
 use Rattle.policy_analysis.specs.declared.unread.Unread.TheVariants.{AnyFileSystem, WhiteSpace}
 use Rattle.policy_analysis.specs.Ceph16Syntax.{Standing, Stands, wrong_order}

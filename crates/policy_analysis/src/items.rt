@@ -4,11 +4,11 @@ ghost use Rattle.std.specs.Prelude.{◌≡◌, ◌≤◌, ◌++◌, ℕ, List, l
 ghost use Rattle.std.specs.Option.{option_or};
 ghost use Rattle.capspec.specs.Items.{Item};
 ghost use Rattle.policy_analysis.specs.Scanning.{Begins, HasItems, behind_item, key_at, wrong_at};
-ghost use Rattle.policy_analysis.specs.Ceph16Syntax.{Standing, first_wrong};
+ghost use Rattle.policy_analysis.specs.Ceph16Syntax.{Standing, first_wrong, rank};
 
 use crate::bytes::{behind_quote, behind_word, ends_grant, skip_white};
-use crate::key::Key;
 use crate::unread::Unread;
+use capspec::Key;
 
 /// Of the grant at the front of a text that reads, why Ceph 16 does not read its items as they stand, if nothing was wrong before
 /// them, and what follows them.
@@ -49,11 +49,24 @@ fn wrong_at(last: Option<Key>, text: &[u8]) -> Option<Unread>
     }
     let key = key_at(text);
     match last {
-        Some(last) if key.rank() <= last.rank() => Some(Unread::Order {
+        Some(last) if rank(key) <= rank(last) => Some(Unread::Order {
             first: key,
             second: last,
         }),
         _ => None,
+    }
+}
+
+// Its place in the order in which Ceph 16 reads items.
+fn rank(key: Key) -> u32
+    ensures { result ≡ rank key }
+{
+    match key {
+        Key::FsName => 0,
+        Key::Path => 1,
+        Key::Uid => 2,
+        Key::Gids => 3,
+        Key::RootSquash => 4,
     }
 }
 

@@ -17,7 +17,6 @@ mod dots;
 mod finding;
 mod free;
 mod items;
-mod key;
 mod left;
 mod otherwise;
 mod redundant;

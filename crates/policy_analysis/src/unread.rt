@@ -10,7 +10,7 @@ ghost use Rattle.policy_analysis.specs.Ceph16Syntax.{AreTold, Standing, Stands, 
 
 use crate::bytes::{has_spaces, skip_white};
 use crate::items::scan_grant;
-use crate::key::Key;
+use capspec::Key;
 use std::alloc::{AllocError, Global};
 
 /// Why Ceph 16 does not read a grant as it stands in its text: the first thing from the left.

@@ -1,4 +1,3 @@
-pub mod Cut
 pub mod Addresses
 pub mod Slashes
 pub mod Lists

@@ -2,10 +2,10 @@
 use Rattle.std.specs.Prelude.{ℕ, zero, suc, Bool, true, false, ◌==◌, Option, Some, None, option_map, option_and_then, List, [], ◌∷◌, ◌++◌, length, codes}
 use Rattle.std.specs.Prelude.{if◌then◌else◌}
 use Rattle.std.specs.Option.{option_or}
-use Rattle.byte_sets.specs.Sets.{is_bare_path_byte, is_fs_name_byte}
+use Rattle.byte_sets.specs.Sets.{is_bare_path_byte, is_fs_name_byte, is_network_byte}
 use Rattle.capspec.specs.Words.{front_while, rest_while}
 use Rattle.release_rules.specs.declared.flags.Flags.{Flags}
-use Rattle.release_rules.specs.Texts.{Found, behind, behind_white, behind_word, if_found, is_network_byte, is_not, number_at, some_while}
+use Rattle.release_rules.specs.Texts.{Found, behind, behind_white, behind_word, if_found, is_not, number_at, some_while}
 
 -- ---- flags
 

@@ -10,5 +10,4 @@ pub mod Verdicts
 pub mod Clients
 pub mod Texts
 pub mod Items
-pub mod Sets
 pub mod Reading

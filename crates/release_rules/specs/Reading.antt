@@ -1,13 +1,13 @@
 -- What a release reads in a whole text.
 use Rattle.std.specs.Prelude.{ℕ, zero, suc, ◌-◌, Bool, true, false, not, ◌==◌, ◌&&◌, ◌||◌, Option, Some, None, is_none, is_some, option_map, option_and_then}
 use Rattle.std.specs.Prelude.{Result, Ok, Err, List, [], ◌∷◌, ◌++◌, length, drop, codes, bytes_eq, if◌then◌else◌}
-use Rattle.byte_sets.specs.Sets.{begins, is_mark}
+use Rattle.byte_sets.specs.Sets.{begins, is_any_white, is_mark}
 use Rattle.capspec.specs.Words.{rest_while}
 use Rattle.release_rules.specs.declared.flags.Flags.{Flags}
 use Rattle.release_rules.specs.declared.grant.Grant.{Grant}
 use Rattle.release_rules.specs.declared.reading.Unread.{Unread}
 use Rattle.release_rules.specs.declared.release.Switches.{Switches}
-use Rattle.release_rules.specs.Texts.{Found, behind, behind_white, if_found, is_any_white, is_space, or_none}
+use Rattle.release_rules.specs.Texts.{Found, behind, behind_white, if_found, is_space, or_none}
 use Rattle.release_rules.specs.Items.{flags_at, fsname_at, gids_at, network_at, path_at, root_squash_at, uid_at}
 
 -- ---- one grant

@@ -1,23 +1,15 @@
 -- The pieces that an MDS cuts a grant text into, from the left. What it has taken it does not give back.
 use Rattle.std.specs.Prelude.{ℕ, ◌^◌, Bool, not, ◌==◌, ◌||◌, nat_le, Option, Some, None, option_and_then, List, length, take, drop, bytes_eq, if◌then◌else◌}
 use Rattle.std.specs.Str.Parse.{digits_value}
-use Rattle.byte_sets.specs.Sets.{begins, is_white, is_within}
+use Rattle.byte_sets.specs.Sets.{begins, is_white}
 use Rattle.capspec.specs.Words.{front_while, is_digit, rest_while}
 
 -- something, and the text behind it
 abbrev pub Found : Type 0 → Type 0
 Found A = Option (A × List ℕ)
 
--- what may stand round a whole text: a space, or a byte from 9 to 13
-abbrev pub is_any_white : ℕ → Bool
-is_any_white b = (b == 32) || is_within 9 13 b
-
 abbrev pub is_space : ℕ → Bool
 is_space b = b == 32
-
--- what the network of a grant may have: `.`, `/`, a digit, `:`, `[`, `]`, or a to f and A to F
-abbrev pub is_network_byte : ℕ → Bool
-is_network_byte b = is_within 46 58 b || is_within 97 102 b || is_within 65 70 b || (b == 91) || (b == 93)
 
 abbrev pub is_not : ℕ → ℕ → Bool
 is_not one b = not (b == one)

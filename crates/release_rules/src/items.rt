@@ -4,11 +4,10 @@ ghost use Rattle.release_rules.specs.Texts.{number_at, or_none};
 ghost use Rattle.release_rules.specs.Items.{flags_at, fsname_at, gids_at, letter_at, letters_at, network_at, next_number, numbers_of, path_at, path_value_at};
 ghost use Rattle.release_rules.specs.Items.{quoted_at, root_squash_at, uid_at};
 
-use crate::bytes::{
-    ByteSet, behind, behind_white, behind_word, number_at, some_while, split_while,
-};
+use crate::bytes::{behind, behind_white, behind_word, number_at, some_while, split_while};
 use crate::flags::Flags;
 use crate::grant::{GidList, Text};
+use byte_sets::ByteSet;
 use std::alloc::{AllocError, Global};
 
 // ---- flags

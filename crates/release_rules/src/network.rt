@@ -5,8 +5,9 @@ ghost use Rattle.std.specs.Str.Parse.{digits_value};
 ghost use Rattle.capspec.specs.Words.{is_digit};
 ghost use Rattle.release_rules.specs.Networks.{address_in, address_of, begins_as, bits_in, in_network, network_in, share_bits};
 
-use crate::bytes::{ByteSet, rest_while, split_while};
+use crate::bytes::{rest_while, split_while};
 use crate::grant::Text;
+use byte_sets::ByteSet;
 use capbits::read_u64;
 use std::net::IpAddr;
 

@@ -3,8 +3,9 @@ ghost use Rattle.std.specs.Prelude.{◌≡◌};
 ghost use Rattle.capspec.specs.Words.{rest_while};
 ghost use Rattle.release_rules.specs.Paths.{directory_of, lies_in, path_text, without_first_slashes, without_last_slashes};
 
-use crate::bytes::{ByteSet, rest_while};
+use crate::bytes::rest_while;
 use crate::release::Switches;
+use byte_sets::ByteSet;
 use capspec::TreePath;
 
 /// The path of a grant as a release compares it.
@@ -43,7 +44,7 @@ pub(crate) fn lies_in(directory: &[u8], path: &[u8]) -> bool
 pub(crate) fn without_first_slashes(text: &[u8]) -> &[u8]
     ensures { result.now ≡ without_first_slashes text.now }
 {
-    rest_while(ByteSet::Slash, text)
+    rest_while(ByteSet::Only(b'/'), text)
 }
 
 // The text without the slashes at its end.

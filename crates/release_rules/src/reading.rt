@@ -5,13 +5,14 @@ ghost use Rattle.release_rules.specs.Texts.{behind, behind_white};
 ghost use Rattle.release_rules.specs.Items.{flags_at};
 ghost use Rattle.release_rules.specs.Reading.{behind_separator, gids_if, grant_at, items_at, more_grants, next_grant, plain_allow, read_of, uid_if, whole};
 
-use crate::bytes::{ByteSet, begins, behind, behind_white, rest_while};
+use crate::bytes::{begins, behind, behind_white, rest_while};
 use crate::flags::Flags;
 use crate::grant::{GidList, Grant, Grants};
 use crate::items::{
     flags_at, fsname_at, gids_at, kept, network_at, path_at, root_squash_at, uid_at,
 };
 use crate::release::Switches;
+use byte_sets::ByteSet;
 use std::alloc::{AllocError, Global};
 
 /// A text that a release does not read.
@@ -142,8 +143,8 @@ fn next_grant(
 fn behind_separator(text: &[u8]) -> Option<&[u8]>
     ensures { option_copied result ≡ behind_separator text.now }
 {
-    match rest_while(ByteSet::Space, text) {
-        [b',' | b';', rest @ ..] => Some(rest_while(ByteSet::Space, rest)),
+    match rest_while(ByteSet::Only(b' '), text) {
+        [b',' | b';', rest @ ..] => Some(rest_while(ByteSet::Only(b' '), rest)),
         _ => None,
     }
 }

@@ -1,12 +1,9 @@
 -- The tests of what is asked of the sessions, each with what is answered where it fails.
-use Rattle.std.specs.Prelude.{ℕ, Bool, true, false, not, nat_le, if◌then◌else◌, Option, Some, None, List, [], ◌∷◌, Result, Ok, Err}
+use Rattle.std.specs.Prelude.{ℕ, Bool, true, false, not, nat_le, if◌then◌else◌, Option, Some, List, [], ◌∷◌}
 use Rattle.std.specs.FinMap as map
 use Rattle.std.specs.FinSet as set
-use Rattle.capbits.specs.declared.refusal.Refusal.{Refusal}
 use Rattle.capbits.specs.declared.refusal.Refusal.TheVariants as refusal
 use Rattle.capbits.specs.Refusal.{Test, refused_if}
-use Rattle.sessiontab.specs.declared.error.SessionError.{SessionError}
-use Rattle.sessiontab.specs.declared.error.SessionError.TheVariants.{NoMemory, Refused}
 use Rattle.sessiontab.specs.declared.session.Status.{Status}
 use Rattle.sessiontab.specs.declared.session.Status.TheVariants.{Open}
 use Rattle.sessiontab.specs.Table.{SessionTable}
@@ -48,9 +45,3 @@ evict_tests table client = connected_test table client ∷ refused_if (nat_le 10
 -- the client is on the blocklist
 abbrev pub blocked_test : SessionTable → ℕ → Test
 blocked_test table client = refused_if (not (set.contains table.blocked client)) refusal.NotBlocked
-
--- why a call was refused; want of memory is no refusal
-abbrev pub refusal_in : {T : Type 0} → Result T SessionError → Option Refusal
-refusal_in (Ok value) = None
-refusal_in (Err (Refused why)) = Some why
-refusal_in (Err NoMemory) = None

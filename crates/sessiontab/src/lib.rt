@@ -6,14 +6,12 @@
 mod blocklist;
 mod change;
 mod connected;
-mod error;
 mod laws;
 mod session;
 mod table;
 
 pub use change::SessionChange;
 pub use connected::Connected;
-pub use error::SessionError;
 pub use laws::a_new_session_leaves_the_others;
 pub use session::{NoSession, Session, Status};
 pub use table::{MAX_BLOCKED, MAX_SESSIONS, Sessions};

@@ -7,10 +7,9 @@ ghost use Rattle.std.specs.FinSet as set;
 
 use crate::blocklist::Blocklist;
 use crate::connected::Connected;
-use crate::error::SessionError;
 use crate::session::{NoSession, Session, Status};
 use arrayvec::ArrayVec;
-use capbits::{Caller, ClientId, Refusal};
+use capbits::{Caller, ChangeError, ClientId, Refusal};
 use capspec::{Grants, KeptGrants};
 use std::alloc::{AllocError, Global};
 use std::marker::Model;
@@ -53,9 +52,9 @@ impl Drop for Sessions {
 
 impl Sessions {
     ghost use Rattle.sessiontab.specs.Table.{IsSound};
-    ghost use Rattle.capbits.specs.Refusal.{first_failing};
+    ghost use Rattle.capbits.specs.Refusal.{first_failing, refusal_in};
     ghost use Rattle.sessiontab.specs.Calls.{has_session, status_of, with_evicted, with_grants, with_session, with_status, without_blocked, without_session};
-    ghost use Rattle.sessiontab.specs.Tests.{blocked_test, connected_test, evict_tests, mark_tests, new_session_tests, refusal_in, session_tests, stale_tests};
+    ghost use Rattle.sessiontab.specs.Tests.{blocked_test, connected_test, evict_tests, mark_tests, new_session_tests, session_tests, stale_tests};
     ghost use Rattle.sessiontab.specs.declared.session.Status.TheVariants.{Open, Stale};
 
     /// Nobody is connected, and nobody was thrown out.
@@ -162,13 +161,13 @@ impl Sessions {
         client: ClientId,
         caller: Caller,
         grants: Grants,
-    ) -> Result<(), SessionError>
+    ) -> Result<(), ChangeError>
         ensures refused { refusal_in result ≡ first_failing (new_session_tests self.old client.0) }
         ensures ok { OnOk result (self.new ≡ with_session self.old client.0 caller grants) }
         ensures err { OnErr result (self.new ≡ self.old) }
     {
         if let Some(refusal) = self.open_refusal(client) {
-            return Err(SessionError::Refused(refusal));
+            return Err(ChangeError::Refused(refusal));
         }
         self.open_session_tested(client, caller, grants)?;
         Ok(())
@@ -228,13 +227,13 @@ impl Sessions {
     }
 
     /// Throws a client out: ends its session, open or stale, and puts it on the blocklist. It is refused as NoSession, or as Limit.
-    pub fn evict(&mut self, client: ClientId) -> Result<(), SessionError>
+    pub fn evict(&mut self, client: ClientId) -> Result<(), ChangeError>
         ensures refused { refusal_in result ≡ first_failing (evict_tests self.old client.0) }
         ensures ok { OnOk result (self.new ≡ with_evicted self.old client.0) }
         ensures err { OnErr result (self.new ≡ self.old) }
     {
         if let Some(refusal) = self.evict_refusal(client) {
-            return Err(SessionError::Refused(refusal));
+            return Err(ChangeError::Refused(refusal));
         }
         self.evict_tested(client)?;
         Ok(())

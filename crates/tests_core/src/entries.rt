@@ -13,8 +13,7 @@
 
 use crate::asserting::{made, same};
 use crate::texts::{caps, ino_of, number, sides, text_of, word};
-use cap_arena::AddError;
-use capbits::{CapSet, ClientId, Ino, Refusal};
+use capbits::{CapSet, ChangeError, ClientId, Ino, Refusal};
 use captable::{CapTable, ClientView, Holder, Walk};
 use std::alloc::Global;
 use std::process::Abort;
@@ -26,8 +25,8 @@ const MANY: u32 = 9;
 fn open(rt: &impl Abort, table: &mut CapTable, holder: Holder) -> Option<Refusal> {
     match table.open_entry(holder.client, holder.ino) {
         Ok(()) => None,
-        Err(AddError::Refused(refusal)) => Some(refusal),
-        Err(AddError::NoMemory) => panic!(rt; "no memory: {holder:?}"),
+        Err(ChangeError::Refused(refusal)) => Some(refusal),
+        Err(ChangeError::NoMemory) => panic!(rt; "no memory: {holder:?}"),
     }
 }
 

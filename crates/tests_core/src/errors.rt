@@ -2,16 +2,14 @@
 
 use crate::asserting::same;
 use crate::texts::shown;
-use cap_arena::AddError;
-use capbits::{CapText, Refusal, TooManyGroups};
+use capbits::{CapText, ChangeError, Refusal, TooManyGroups};
 use capscript::ServeFault;
 use capspec::{SpecFault, SpecFaultKind};
 use capstep::stop::Stop;
-use inotree::TreeError;
 use osd_caps::{OsdFault, OsdFaultKind};
 use policy_view::Unknown;
 use script_syntax::{LineFault, ScriptFault};
-use sessiontab::{NoSession, SessionError};
+use sessiontab::NoSession;
 use std::alloc::Global;
 use std::error::Error;
 use std::process::Abort;
@@ -72,19 +70,11 @@ const REFUSALS: &[(Refusal, &str)] = &[
     (Refusal::Limit, "Limit"),
 ];
 
-const OF_THE_TREE: &[(TreeError, &str)] = &[
-    (TreeError::Refused(Refusal::NotEmpty), "NotEmpty"),
-    (TreeError::NoMemory, "NoMemory"),
-];
-
-const OF_THE_SESSIONS: &[(SessionError, &str)] = &[
-    (SessionError::Refused(Refusal::Blocklisted), "Blocklisted"),
-    (SessionError::NoMemory, "NoMemory"),
-];
-
-const OF_THE_ENTRIES: &[(AddError, &str)] = &[
-    (AddError::Refused(Refusal::Limit), "Limit"),
-    (AddError::NoMemory, "NoMemory"),
+const OF_CHANGES: &[(ChangeError, &str)] = &[
+    (ChangeError::Refused(Refusal::NotEmpty), "NotEmpty"),
+    (ChangeError::Refused(Refusal::Blocklisted), "Blocklisted"),
+    (ChangeError::Refused(Refusal::Limit), "Limit"),
+    (ChangeError::NoMemory, "NoMemory"),
 ];
 
 const UNKNOWN: &[(Unknown, &str)] = &[
@@ -100,9 +90,7 @@ const STOPS: &[(Stop, &str)] = &[(Stop::NoMemory, "NoMemory"), (Stop::Full, "Ful
 fn errors_of_the_server_print_their_names(rt: HostRuntime) {
     let alloc = rt.alloc();
     print(&rt, alloc, REFUSALS);
-    print(&rt, alloc, OF_THE_TREE);
-    print(&rt, alloc, OF_THE_SESSIONS);
-    print(&rt, alloc, OF_THE_ENTRIES);
+    print(&rt, alloc, OF_CHANGES);
     print(&rt, alloc, UNKNOWN);
     print(&rt, alloc, STOPS);
     print(&rt, alloc, &[(NoSession, "NoSession")]);

@@ -2,10 +2,11 @@ pub mod Unfolded
 pub mod Faults
 pub mod Reading
 pub mod CapTexts
+pub mod ByNumber
 pub mod Scenes
 pub mod SessionSteps
 pub mod Conflicting
-pub mod TreeMaps
+pub mod ByName
 pub mod Nested
 pub mod ThreeLists
 pub mod ViewAnswers

@@ -7,10 +7,9 @@ use Rattle.inotree.specs.Calls.{new_node}
 use Rattle.inotree.specs.Tree.{child, follow}
 use Rattle.inotree.specs.declared.node.Kind.TheVariants.{Directory}
 use Rattle.inotree.specs.declared.node.Node.{Node}
-use Rattle.worked_cases.proofs.Scenes.{entries-more, get-more, none}
-use Rattle.worked_cases.proofs.TreeMaps.{get-found}
 use Rattle.worked_cases.specs.Trees.{beside_a_stray, nested, root_alone, two_strays}
 use Rattle.worked_cases.specs.Verdicts.{owned}
+use Rattle.worked_cases.proofs.ByNumber.{entries-more, get-found, get-more, none}
 
 -- ---- two names that lead from the root
 

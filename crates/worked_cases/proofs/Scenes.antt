@@ -1,10 +1,11 @@
 -- What the maps of the scenes answer.
-use Rattle.std.specs.Prelude.{◌≡◌, ℕ, cond, Some, None, List, [], ◌∷◌, length, refl}
+use Rattle.std.specs.Prelude.{◌≡◌, ℕ, cond, Some, None, [], ◌∷◌}
 use Rattle.std.specs.Cmp.{nat_cmp_total}
-use Rattle.std.specs.FinMap.{FinMap, entries-insert, get-empty, get-insert, get-remove, len-empty, len-entries}
+use Rattle.std.specs.FinMap.{entries-insert, get-insert}
 use Rattle.std.specs.Ordering.{eq_by_cmp, nat_cmp}
 use Rattle.std.specs.FinMap as map
-use Rattle.std.proofs.Common.{arith, ap, sym, ◌∙◌}
+use Rattle.std.proofs.Common.{ap, ◌∙◌}
+use Rattle.worked_cases.proofs.ByNumber.{entries-more, get-more, get-none, none}
 use Rattle.worked_cases.specs.Scenes.{three_at, two_at}
 
 pub two-first : {X : Type 0} (a b : X) → map.get (two_at a b) 1 ≡ Some a
@@ -29,33 +30,12 @@ moved-first a b c d = get-insert nat_cmp_total _ 3 d 1 ∙ three-first a b c
 pub moved-third : {X : Type 0} (a b c d : X) → map.get (map.insert (three_at a b c) 3 d) 3 ≡ Some d
 moved-third a b c d = get-insert nat_cmp_total _ 3 d 3
 
-nothing : {X : Type 0} (xs : List X) → length xs ≡ 0 → xs ≡ []
-nothing [] e = refl
-nothing (x ∷ xs) e = absurd (omega (arith, e))
-
-pub none : (X : Type 0) → map.entries {X = X} {R = nat_cmp} map.empty ≡ []
-none X = nothing _ (sym (len-entries map.empty) ∙ len-empty nat_cmp X)
-
 pub two-entries : {X : Type 0} (a b : X) → map.entries (two_at a b) ≡ (1, a) ∷ (2, b) ∷ []
 two-entries {X} a b =
     entries-insert nat_cmp_total _ 2 b ∙ ap (map.put nat_cmp 2 b) (entries-insert nat_cmp_total _ 1 a ∙ ap (map.put nat_cmp 1 a) (none X))
 
 pub three-entries : {X : Type 0} (a b c : X) → map.entries (three_at a b c) ≡ (1, a) ∷ (2, b) ∷ (3, c) ∷ []
 three-entries {X} a b c = entries-insert nat_cmp_total _ 3 c ∙ ap (map.put nat_cmp 3 c) (two-entries a b)
-
--- ---- any keys
-
-pub get-none : {X : Type 0} (q : ℕ) → map.get {X = X} {R = nat_cmp} map.empty q ≡ None
-get-none q = get-empty nat_cmp q
-
-pub get-more : {X : Type 0} (m : FinMap nat_cmp X) (k : ℕ) (v : X) (q : ℕ) → map.get (map.insert m k v) q ≡ cond (eq_by_cmp nat_cmp q k) (Some v) (map.get m q)
-get-more m k v q = get-insert nat_cmp_total m k v q
-
-pub get-less : {X : Type 0} (m : FinMap nat_cmp X) (k q : ℕ) → map.get (map.remove m k) q ≡ cond (eq_by_cmp nat_cmp q k) None (map.get m q)
-get-less m k q = get-remove nat_cmp_total m k q
-
-pub entries-more : {X : Type 0} (m : FinMap nat_cmp X) (k : ℕ) (v : X) → map.entries (map.insert m k v) ≡ map.put nat_cmp k v (map.entries m)
-entries-more m k v = entries-insert nat_cmp_total m k v
 
 -- ---- the maps of the two files
 

@@ -24,10 +24,10 @@ use Rattle.policy_view.proofs.Answering.{here-path}
 use Rattle.policy_view.proofs.Likeness.{clients-unseen, like-settled, like-unseen, shows-sessions, shows-tree}
 use Rattle.policy_view.proofs.Telling.{changes-alike, changes-more, changes-none}
 use Rattle.step_model.specs.NotedChanges.{view}
-use Rattle.worked_cases.proofs.Scenes.{get-more}
 use Rattle.worked_cases.specs.Trees.{root_alone, with_file}
 use Rattle.worked_cases.specs.Verdicts.{owned}
 use Rattle.worked_cases.specs.Views.{answer, answered, is_ended, is_forgotten, is_settled, told}
+use Rattle.worked_cases.proofs.ByNumber.{get-more}
 
 -- an inode that is present has an owner, a group and a mode
 here-attr : (node : Option Node) → presence_at (option_map (λ n. n.site) node) ≡ Here → option_map (λ n. n.attr) node ≡ None → ⊥

@@ -1,31 +1,26 @@
-use Rattle.std.proofs.Common.{ℕ, ◌+◌, List, [], ◌∷◌, ◌++◌, length, drop, sym, ap, ◌∙◌}
+use Rattle.std.proofs.Common.{ℕ, ◌+◌, List, sym, ap, ◌∙◌}
 use Rattle.std.proofs.lemmas.List.{at_drop_all}
 use Rattle.std.proofs.lemmas.Result.{err_from_is_err_and}
-use Rattle.std.specs.Prelude.{Err, Option, Some, option_map, unwrap_or}
+use Rattle.std.specs.Prelude.{Err, Some}
 use Rattle.serde_json.specs.declared.value.Value.{Value}
 use Rattle.serde_json.specs.View.{items_view}
 use Rattle.ceph_input.specs.declared.auth_fault.AuthFault.TheVariants.{NotAnEntity}
-use Rattle.ceph_input.specs.Auth.{Named, entities_of}
-use Rattle.ceph_input.proofs.ItemByItem.{at_item}
+use Rattle.ceph_input.specs.Auth.{entities_of, entity_of}
+use Rattle.ceph_input.proofs.ItemByItem.{none_read, one_read}
 use Rattle.ceph_input.proofs.reading.read_entities.Goals as goal
 
 pub loop-item-preserved : goal.loop-item-preserved
 loop-item-preserved c =
     let l = c.loop-item in
-    let rest = items_view (drop (l.item-index + 1) c.args.items.now) in
-    ap (λ (entities : List Named). entities_of entities rest) c.in_ok-push.ensures.items
-    ∙ ap (λ (e : Option Named). unwrap_or (option_map (λ (e : Named). entities_of (l.entities.items ++ e ∷ []) rest) e) (Err (NotAnEntity (length l.entities.items + 1)))) (sym c.in-Some.is ∙ c.in_ok-entity.ensures)
-    ∙ sym (at_item (λ (vs : List Value). entities_of l.entities.items (items_view vs)) c.args.items.now l.item-index c.item-item.result c.item-item.is c.loop-item-test.true)
+    one_read c.args.items.now l.item-index c.item-item.result c.item-item.is c.loop-item-test.true entity_of NotAnEntity l.entities.items _ _ c.in_ok-push.ensures.items (sym c.in-Some.is ∙ c.in_ok-entity.ensures)
     ∙ l.invariant
 
 pub returns-in_default-clause-err : goal.returns-in_default-clause-err
 returns-in_default-clause-err c =
     let l = c.loop-item in
-    let rest = items_view (drop (l.item-index + 1) c.args.items.now) in
     ap Some (
     sym l.invariant
-    ∙ at_item (λ (vs : List Value). entities_of l.entities.items (items_view vs)) c.args.items.now l.item-index c.item-item.result c.item-item.is c.loop-item-test.true
-    ∙ ap (λ (e : Option Named). unwrap_or (option_map (λ (e : Named). entities_of (l.entities.items ++ e ∷ []) rest) e) (Err (NotAnEntity (length l.entities.items + 1)))) (sym (sym c.in_default.is ∙ c.in_ok-entity.ensures))
+    ∙ none_read c.args.items.now l.item-index c.item-item.result c.item-item.is c.loop-item-test.true entity_of NotAnEntity l.entities.items (sym c.in_default.is ∙ c.in_ok-entity.ensures)
     ∙ ap (λ (n : ℕ). Err (NotAnEntity (n + 1))) (sym (c.len.ensures ∙ l.entities.ok.0))
     )
 

@@ -1,31 +1,26 @@
-use Rattle.std.proofs.Common.{ℕ, ◌+◌, List, [], ◌∷◌, ◌++◌, length, drop, sym, ap, ◌∙◌}
+use Rattle.std.proofs.Common.{ℕ, ◌+◌, List, sym, ap, ◌∙◌}
 use Rattle.std.proofs.lemmas.List.{at_drop_all}
 use Rattle.std.proofs.lemmas.Result.{err_from_is_err_and}
-use Rattle.std.specs.Prelude.{Err, Option, Some, option_map, unwrap_or}
+use Rattle.std.specs.Prelude.{Err, Some}
 use Rattle.serde_json.specs.declared.value.Value.{Value}
 use Rattle.serde_json.specs.View.{items_view}
 use Rattle.ceph_input.specs.declared.cluster_fault.ClusterFault.TheVariants.{BadItem}
-use Rattle.ceph_input.specs.Sessions.{Connected, sessions_from}
-use Rattle.ceph_input.proofs.ItemByItem.{at_item}
+use Rattle.ceph_input.specs.Sessions.{sessions_from, session_of}
+use Rattle.ceph_input.proofs.ItemByItem.{none_read, one_read}
 use Rattle.ceph_input.proofs.session.read_each.Goals as goal
 
 pub loop-item-preserved : goal.loop-item-preserved
 loop-item-preserved c =
     let l = c.loop-item in
-    let rest = items_view (drop (l.item-index + 1) c.args.items.now) in
-    ap (λ (sessions : List Connected). sessions_from sessions rest) c.in_ok-push.ensures.items
-    ∙ ap (λ (s : Option Connected). unwrap_or (option_map (λ (s : Connected). sessions_from (l.sessions.items ++ s ∷ []) rest) s) (Err (BadItem (length l.sessions.items + 1)))) (sym c.in-Some.is ∙ c.in_ok-session.ensures)
-    ∙ sym (at_item (λ (vs : List Value). sessions_from l.sessions.items (items_view vs)) c.args.items.now l.item-index c.item-item.result c.item-item.is c.loop-item-test.true)
+    one_read c.args.items.now l.item-index c.item-item.result c.item-item.is c.loop-item-test.true session_of BadItem l.sessions.items _ _ c.in_ok-push.ensures.items (sym c.in-Some.is ∙ c.in_ok-session.ensures)
     ∙ l.invariant
 
 pub returns-in_default-clause-err : goal.returns-in_default-clause-err
 returns-in_default-clause-err c =
     let l = c.loop-item in
-    let rest = items_view (drop (l.item-index + 1) c.args.items.now) in
     ap Some (
     sym l.invariant
-    ∙ at_item (λ (vs : List Value). sessions_from l.sessions.items (items_view vs)) c.args.items.now l.item-index c.item-item.result c.item-item.is c.loop-item-test.true
-    ∙ ap (λ (s : Option Connected). unwrap_or (option_map (λ (s : Connected). sessions_from (l.sessions.items ++ s ∷ []) rest) s) (Err (BadItem (length l.sessions.items + 1)))) (sym (sym c.in_default.is ∙ c.in_ok-session.ensures))
+    ∙ none_read c.args.items.now l.item-index c.item-item.result c.item-item.is c.loop-item-test.true session_of BadItem l.sessions.items (sym c.in_default.is ∙ c.in_ok-session.ensures)
     ∙ ap (λ (n : ℕ). Err (BadItem (n + 1))) (sym (c.len.ensures ∙ l.sessions.ok.0))
     )
 

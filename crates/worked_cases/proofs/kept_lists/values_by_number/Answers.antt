@@ -1,6 +1,5 @@
 use Rattle.std.specs.Prelude.{refl}
-use Rattle.worked_cases.proofs.Scenes.{entries-more, get-less, get-more, get-none, none}
-use Rattle.worked_cases.proofs.TreeMaps.{count-less, count-nothing, count-put}
+use Rattle.worked_cases.proofs.ByNumber.{entries-more, get-less, get-more, get-none, len-less, len-more, len-none, none}
 use Rattle.worked_cases.proofs.kept_lists.values_by_number.Goals as goal
 
 pub returns-clause-in_their_order : goal.returns-clause-in_their_order
@@ -16,10 +15,10 @@ pub returns-clause-gone : goal.returns-clause-gone
 returns-clause-gone c = simp get-less refl
 
 pub returns-clause-two_are_left : goal.returns-clause-two_are_left
-returns-clause-two_are_left c = simp (count-less, count-put, count-nothing, get-more, get-none) refl
+returns-clause-two_are_left c = simp (len-less, len-more, len-none, get-more, get-none) refl
 
 pub returns-clause-not_gone_twice : goal.returns-clause-not_gone_twice
-returns-clause-not_gone_twice c = simp (count-less, count-put, count-nothing, get-less, get-more, get-none) refl
+returns-clause-not_gone_twice c = simp (len-less, len-more, len-none, get-less, get-more, get-none) refl
 
 pub returns-clause-another : goal.returns-clause-another
 returns-clause-another c = simp (entries-more, none) refl
@@ -28,4 +27,4 @@ pub returns-clause-another_goes : goal.returns-clause-another_goes
 returns-clause-another_goes c = simp (get-less, get-more) refl
 
 pub returns-clause-last_goes : goal.returns-clause-last_goes
-returns-clause-last_goes c = simp (count-less, count-put, count-nothing, get-more, get-none) refl
+returns-clause-last_goes c = simp (len-less, len-more, len-none, get-more, get-none) refl

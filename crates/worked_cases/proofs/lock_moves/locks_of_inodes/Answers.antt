@@ -1,5 +1,5 @@
 use Rattle.std.specs.Prelude.{refl}
-use Rattle.worked_cases.proofs.Scenes.{get-less, get-more, get-none}
+use Rattle.worked_cases.proofs.ByNumber.{get-less, get-more, get-none}
 use Rattle.worked_cases.proofs.Unfolded.{steps}
 use Rattle.worked_cases.proofs.lock_moves.locks_of_inodes.Goals as goal
 

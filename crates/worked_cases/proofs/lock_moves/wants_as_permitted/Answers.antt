@@ -1,5 +1,5 @@
 use Rattle.std.specs.Prelude.{refl}
-use Rattle.worked_cases.proofs.Scenes.{entries-more, get-more, get-none, none}
+use Rattle.worked_cases.proofs.ByNumber.{entries-more, get-more, get-none, none}
 use Rattle.worked_cases.proofs.Unfolded.{steps}
 use Rattle.worked_cases.proofs.lock_moves.wants_as_permitted.Goals as goal
 

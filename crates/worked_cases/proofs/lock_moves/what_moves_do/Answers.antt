@@ -1,5 +1,5 @@
 use Rattle.std.specs.Prelude.{refl}
-use Rattle.worked_cases.proofs.Scenes.{get-more}
+use Rattle.worked_cases.proofs.ByNumber.{get-more}
 use Rattle.worked_cases.proofs.lock_moves.what_moves_do.Goals as goal
 
 pub returns-clause-begins : goal.returns-clause-begins

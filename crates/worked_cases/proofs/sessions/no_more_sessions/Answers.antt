@@ -1,6 +1,5 @@
 use Rattle.std.specs.Prelude.{refl}
-use Rattle.worked_cases.proofs.Scenes.{get-less}
-use Rattle.worked_cases.proofs.SessionSteps.{blocked-more, len-less}
+use Rattle.worked_cases.proofs.ByNumber.{contains-more, get-less, len-less}
 use Rattle.worked_cases.proofs.sessions.no_more_sessions.Goals as goal
 
 pub returns-clause-one_more : goal.returns-clause-one_more
@@ -16,4 +15,4 @@ pub returns-clause-blocked : goal.returns-clause-blocked
 returns-clause-blocked c table client one full = simp (one, full) refl
 
 pub returns-clause-room_for_another : goal.returns-clause-room_for_another
-returns-clause-room_for_another c table s one none apart full = simp (one, none, apart, full, get-less, len-less, blocked-more) refl
+returns-clause-room_for_another c table s one none apart full = simp (one, none, apart, full, get-less, len-less, contains-more) refl

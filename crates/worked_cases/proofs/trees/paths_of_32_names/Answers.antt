@@ -1,7 +1,7 @@
 use Rattle.std.specs.Prelude.{refl}
 use Rattle.inotree.specs.Tree.{depth, is_within, lies_below, names_up, reaches}
+use Rattle.worked_cases.proofs.ByNumber.{entries-more, get-more, none}
 use Rattle.worked_cases.proofs.Nested.{entries-nested, get-nested, last-nested, nested_at, rows, rows_behind}
-use Rattle.worked_cases.proofs.Scenes.{entries-more, get-more, none}
 use Rattle.worked_cases.proofs.trees.paths_of_32_names.Goals as goal
 
 pub returns-clause-one_more : goal.returns-clause-one_more

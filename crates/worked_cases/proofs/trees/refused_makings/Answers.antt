@@ -1,7 +1,6 @@
 use Rattle.std.specs.Prelude.{refl}
 use Rattle.inotree.specs.Tree.{depth, names_up}
-use Rattle.worked_cases.proofs.Scenes.{entries-more, none}
-use Rattle.worked_cases.proofs.TreeMaps.{get-found, len-listed}
+use Rattle.worked_cases.proofs.ByNumber.{entries-more, get-found, len-listed, none}
 use Rattle.worked_cases.proofs.trees.refused_makings.Goals as goal
 
 pub returns-clause-first : goal.returns-clause-first

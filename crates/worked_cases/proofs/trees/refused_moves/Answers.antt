@@ -1,7 +1,6 @@
 use Rattle.std.specs.Prelude.{refl}
 use Rattle.inotree.specs.Tree.{depth, is_within, lies_below, names_up, reaches}
-use Rattle.worked_cases.proofs.Scenes.{entries-more, none}
-use Rattle.worked_cases.proofs.TreeMaps.{get-found}
+use Rattle.worked_cases.proofs.ByNumber.{entries-more, get-found, none}
 use Rattle.worked_cases.proofs.trees.refused_moves.Goals as goal
 
 pub returns-clause-below_itself : goal.returns-clause-below_itself

@@ -1,7 +1,7 @@
 use Rattle.std.specs.Prelude.{refl}
 use Rattle.inotree.specs.Tree.{reaches}
-use Rattle.worked_cases.proofs.Scenes.{entries-more, none}
-use Rattle.worked_cases.proofs.TreeMaps.{count-more, count-none, get-found, snapshot-none}
+use Rattle.worked_cases.proofs.ByNumber.{entries-more, get-found, none}
+use Rattle.worked_cases.proofs.ByName.{count-more, count-none, snapshot-none}
 use Rattle.worked_cases.proofs.trees.refused_removals.Goals as goal
 
 pub returns-clause-not_empty : goal.returns-clause-not_empty

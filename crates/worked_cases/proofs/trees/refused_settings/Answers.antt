@@ -1,6 +1,6 @@
 use Rattle.std.specs.Prelude.{refl}
-use Rattle.worked_cases.proofs.Scenes.{entries-more, none}
-use Rattle.worked_cases.proofs.TreeMaps.{count-none, get-found, snapshot-more, snapshot-none, value-count-none, value-more, value-none}
+use Rattle.worked_cases.proofs.ByNumber.{entries-more, get-found, none}
+use Rattle.worked_cases.proofs.ByName.{count-none, snapshot-more, snapshot-none, value-count-none, value-more, value-none}
 use Rattle.worked_cases.proofs.trees.refused_settings.Goals as goal
 
 pub returns-clause-size_of_a_directory : goal.returns-clause-size_of_a_directory

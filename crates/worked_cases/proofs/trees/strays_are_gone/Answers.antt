@@ -1,6 +1,5 @@
 use Rattle.std.specs.Prelude.{refl}
-use Rattle.worked_cases.proofs.Scenes.{entries-more, none}
-use Rattle.worked_cases.proofs.TreeMaps.{get-found}
+use Rattle.worked_cases.proofs.ByNumber.{entries-more, get-found, none}
 use Rattle.worked_cases.proofs.trees.strays_are_gone.Goals as goal
 
 pub returns-clause-made_in : goal.returns-clause-made_in

@@ -1,8 +1,7 @@
 use Rattle.std.specs.Prelude.{refl}
 use Rattle.inotree.specs.Tree.{names_up, path_of}
+use Rattle.worked_cases.proofs.ByNumber.{entries-more, get-found, none}
 use Rattle.worked_cases.proofs.Nested.{leads, leads_nowhere}
-use Rattle.worked_cases.proofs.Scenes.{entries-more, none}
-use Rattle.worked_cases.proofs.TreeMaps.{get-found}
 use Rattle.worked_cases.proofs.trees.where_inodes_stand.Goals as goal
 
 pub returns-clause-by_names : goal.returns-clause-by_names

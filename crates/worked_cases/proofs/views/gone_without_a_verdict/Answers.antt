@@ -1,6 +1,6 @@
 use Rattle.std.specs.Prelude.{refl}
 use Rattle.inotree.specs.Tree.{names_up, path_of}
-use Rattle.worked_cases.proofs.Scenes.{get-less, get-more, get-none}
+use Rattle.worked_cases.proofs.ByNumber.{get-less, get-more, get-none}
 use Rattle.worked_cases.proofs.Unfolded.{rules}
 use Rattle.worked_cases.proofs.views.gone_without_a_verdict.Goals as goal
 

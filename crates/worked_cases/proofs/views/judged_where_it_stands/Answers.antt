@@ -1,6 +1,6 @@
 use Rattle.std.specs.Prelude.{refl}
 use Rattle.inotree.specs.Tree.{names_up, path_of}
-use Rattle.worked_cases.proofs.Scenes.{get-more, get-none}
+use Rattle.worked_cases.proofs.ByNumber.{get-more, get-none}
 use Rattle.worked_cases.proofs.Unfolded.{rules}
 use Rattle.worked_cases.proofs.views.judged_where_it_stands.Goals as goal
 

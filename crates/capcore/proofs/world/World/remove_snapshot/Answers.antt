@@ -1,18 +1,20 @@
-use Rattle.std.proofs.Common.{ap, sym, subst, ◌∙◌, refl}
-use Rattle.policy_view.specs.Visible.{Shows}
-use Rattle.capcore.proofs.Common.{IsLike, Snapshot, State, first_failing, inode_tests, like-unseen, old_snapshot_tests, pass-both, plain, shows-tree, view}
-use Rattle.capcore.proofs.Common.{view_of, without_snapshot}
+use Rattle.std.proofs.Common.{◌≡◌, [], ◌∷◌, ap, sym, ◌∙◌, refl}
+use Rattle.capcore.proofs.Common.{Snapshot, basic_tests, first_failing, inode_tests, need, old_snapshot_tests, pass-both, plain, rejection_of, without_snapshot}
 use Rattle.capcore.proofs.Effects.{removing-rejection, snapshot-kept}
 use Rattle.capcore.proofs.Rejections.{access-at, inode-passed}
-use Rattle.capcore.proofs.Unaffected.{changed-whole}
+use Rattle.capcore.proofs.Unaffected.{changed-unseen, changed-whole}
 use Rattle.capcore.proofs.world.World.remove_snapshot.Goals as goal
 
+-- what the request is rejected by
+rejection-is : (c : goal.After-access_rejection) → rejection_of c.args.self.now.scene (basic_tests c.args.self.now.scene c.args.client c.args.ino.0) (need c.args.client c.args.ino.0 Snapshot ∷ []) [] ≡ c.access_rejection.result
+rejection-is c = access-at _ c.args.self.now c.args.client c.args.ino.0 Snapshot c.access_rejection.result c.self.view_is c.access_rejection.ensures
+
 pub returns-in-Some-clause-direct : goal.returns-in-Some-clause-direct
-returns-in-Some-clause-direct c = rw c.into_reply.ensures.reply (removing-rejection c.args.self.now c.args.client c.args.ino c.args.name.now c.in-Some.rejection (access-at _ c.args.self.now c.args.client c.args.ino.0 Snapshot c.access_rejection.result c.self.view_is c.access_rejection.ensures ∙ c.in-Some.is))
+returns-in-Some-clause-direct c = rw c.into_reply.ensures.reply (removing-rejection c.args.self.now c.args.client c.args.ino c.args.name.now c.in-Some.rejection (rejection-is c ∙ c.in-Some.is))
 
 pub returns-in-Some-old_snapshot_refusal-clause-direct : goal.returns-in-Some-old_snapshot_refusal-clause-direct
 returns-in-Some-old_snapshot_refusal-clause-direct c =
-    snapshot-kept c.args.self.now c.args.client c.args.ino c.args.name.now (access-at _ c.args.self.now c.args.client c.args.ino.0 Snapshot c.access_rejection.result c.self.view_is c.access_rejection.ensures ∙ c.in_default.is) c.in-Some-old_snapshot_refusal.refusal
+    snapshot-kept c.args.self.now c.args.client c.args.ino c.args.name.now (rejection-is c ∙ c.in_default.is) c.in-Some-old_snapshot_refusal.refusal
     (ap (λ s. first_failing (old_snapshot_tests s.scene.tree c.args.ino.0 c.args.name.now)) (sym c.self.view_is) ∙ sym c.old_snapshot_refusal.ensures ∙ c.in-Some-old_snapshot_refusal.is)
 
 pub snap_remove_tested-requires : goal.snap_remove_tested-requires
@@ -27,7 +29,4 @@ pub invariant_of-self : goal.invariant_of-self
 invariant_of-self c = rw c.snap_remove_tested.ensures (changed-whole c.self.inside.parts c.self.invariant (without_snapshot c.args.name.now) c.args.ino.0 (λ n. refl) (λ n. refl))
 
 pub returns-clause-seen : goal.returns-clause-seen
-returns-clause-seen c =
-    subst (λ (s : State). Shows (view_of s) (view c.snap_remove_tested.new.self c.self.inside.parts.scene.sessions.sessions)) c.self.view_is
-    (shows-tree c.self.inside.parts.scene.tree c.snap_remove_tested.new.self c.self.inside.parts.scene.sessions.sessions
-    (subst (IsLike c.self.inside.parts.scene.tree) (sym c.snap_remove_tested.ensures) (like-unseen c.self.inside.parts.scene.tree (without_snapshot c.args.name.now) c.args.ino.0 (λ n. refl))))
+returns-clause-seen c = changed-unseen c.self.inside.parts c.args.self.now (without_snapshot c.args.name.now) c.args.ino.0 c.snap_remove_tested.new.self c.self.view_is (λ n. refl) c.snap_remove_tested.ensures

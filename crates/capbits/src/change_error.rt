@@ -1,27 +1,27 @@
-//! Why a call on a tree was not carried out.
+//! Why a call that takes memory was not carried out.
 ghost use Rattle.std.specs.Prelude.{◌≡◌};
 
-use capbits::Refusal;
+use crate::refusal::Refusal;
 use std::alloc::AllocError;
 use thiserror::Error;
 
 /// Why a call that takes memory was not carried out. Nothing has changed. It prints as the name of the refusal, or as `NoMemory`.
 #[derive(Clone, Copy, Debug, Error)]
-pub enum TreeError {
+pub enum ChangeError {
     /// A test fails, which is the first that does.
-    #[error("{0}")]
+    #[error(transparent)]
     Refused(Refusal),
     /// Every test is passed, and there was no memory left.
     #[error("NoMemory")]
     NoMemory,
 }
 
-impl From<AllocError> for TreeError {
-    ghost use Rattle.inotree.specs.declared.error.TreeError.TheVariants as errors;
+impl From<AllocError> for ChangeError {
+    ghost use Rattle.capbits.specs.declared.change_error.ChangeError.TheVariants as errors;
 
     ghost from_gives = { λ _ error. error ≡ errors.NoMemory };
 
-    fn from(_no_memory: AllocError) -> TreeError {
-        TreeError::NoMemory
+    fn from(_no_memory: AllocError) -> ChangeError {
+        ChangeError::NoMemory
     }
 }

@@ -1,7 +1,0 @@
-use Rattle.std.proofs.Common.{◌≡◌, true, take}
-use Rattle.std.specs.List.{list_all}
-use Rattle.release_rules.specs.Sets.{is_in}
-use Rattle.release_rules.proofs.bytes.split_while.Given as goal
-
-abbrev pub invariant-loop-at : goal.invariant-loop-at
-invariant-loop-at l = list_all (is_in l.set) (take l.at l.text) ≡ true
