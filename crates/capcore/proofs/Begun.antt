@@ -1,6 +1,8 @@
 -- What an event that may move locks leaves by itself, and what its step comes to in the end.
 use Rattle.std.proofs.Common.{◌≡◌, ◌≤◌, ℕ, ◌+◌, ◌++◌, ◌==◌, Bool, Some, List, [], length, Result, OnErr, sym, ap, subst, ◌∙◌, arith, All}
 use Rattle.std.proofs.lemmas.List.Sums.{count_by-le-length, length-filter}
+use Rattle.step_model.proofs.Twice.{given-twice, recorded-twice}
+use Rattle.step_model.specs.Recorded.{twice}
 use Rattle.capcore.proofs.EntryRequests.{Keeps}
 use Rattle.capcore.proofs.Knowing.{held_at}
 use Rattle.capcore.specs.Begun.{MayEndAt, among}
@@ -155,17 +157,17 @@ module _ (p q : CoreState) (output : StepOutput) (e : Event) (effect : Applied) 
   same_state : closed ≡ by_the_rules
   same_state = grind (arith, others)
 
-  pub ended-answered : (step_reply : StepReply) (new : State) → step_reply.reply ≡ reply_of closed for_clients (answer_of effect.answer) → step_reply.for_history ≡ step_reply.reply
+  pub ended-answered : (step_reply : StepReply) (new : State) → step_reply.reply ≡ twice (reply_of closed for_clients (answer_of effect.answer))
       → step_reply.ended ≡ dropped_of effect.answer ++ earlier_of effect.answer for_clients → new ≡ shown (answer_of effect.answer) closed → IsAnswered before e step_reply new
-  ended-answered step_reply new replies for_history ended new-is =
+  ended-answered step_reply new replies ended new-is =
       let c =
       concluded ends.at (among effect.affected) (known_in q.scene.table.kept) before e settles.moves ends.settled may.whole.0 (subst (Affects (among effect.affected) before) begun.is begun.affects)
       (subst (λ (s : State). IsTable s.scene.table) begun.is begun.table) (subst (λ (s : State). IsLockMap s.scene.locks) begun.is order)
       (subst (λ (s : State). Knows (known_in q.scene.table.kept) before.scene s.scene.table) begun.is begun.knows) begun.gives
       (subst (λ (s : State). SettlesAt ends.at (among effect.affected) settles.moves s.scene ends.settled) begun.is settles.settles) ends.tree
-      (subst (λ (s : State). IsTable s.scene.table) same_state (ends-table (among effect.affected) q.scene.table.kept now (plain q.scene) last for_clients ends begun.table)) step_reply.reply new
-      (replies ∙ (λ i. reply_of (same_state i) (settles.ended_is i) (begun.answer i))) (new-is ∙ (λ i. shown (begun.answer i) (same_state i))) in
+      (subst (λ (s : State). IsTable s.scene.table) same_state (ends-table (among effect.affected) q.scene.table.kept now (plain q.scene) last for_clients ends begun.table)) step_reply.reply.given new
+      (given-twice step_reply.reply _ replies ∙ (λ i. reply_of (same_state i) (settles.ended_is i) (begun.answer i))) (new-is ∙ (λ i. shown (begun.answer i) (same_state i))) in
       let ends_so : all_ended before (direct before e) settles.moves ≡ step_reply.ended =
       (λ i. (sym begun.dropped) i ++ earlier p.scene.locks.locks.last ((sym settles.ended_is) i)) ∙ ap (λ ms. dropped_of effect.answer ++ ms) others ∙ sym ended in
-      let whole : IsConcluded before e step_reply.reply step_reply.ended new = subst (λ (ms : List Ended). IsConcluded before e step_reply.reply ms new) ends_so c in
-      record { step = whole.step; for_history = for_history; sound = whole.sound; issued = whole.issued; given = whole.given }
+      let whole : IsConcluded before e step_reply.reply.given step_reply.ended new = subst (λ (ms : List Ended). IsConcluded before e step_reply.reply.given ms new) ends_so c in
+      record { step = whole.step; recorded = recorded-twice step_reply.reply _ replies; sound = whole.sound; issued = whole.issued; given = whole.given }

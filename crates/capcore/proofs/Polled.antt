@@ -1,5 +1,7 @@
 -- A poll is a whole step: no lock moves, and nothing is left to do but to give the messages.
 use Rattle.std.proofs.Common.{◌≡◌, ℕ, Option, None, List, [], filter, sym, ap, subst, ◌∙◌, append-nil, arith}
+use Rattle.step_model.proofs.Twice.{given-twice, recorded-twice}
+use Rattle.step_model.specs.Recorded.{twice}
 use Rattle.capcore.proofs.SoundEnd.{sound-ends}
 use Rattle.capcore.proofs.Common.{ClientId, Direct, Ended, Event, Gives, IsAnswered, IsSound, IsTable, IssuesExactly, Message, Rejection, Reply, Settles}
 use Rattle.capcore.proofs.Common.{State, Step, StepReply, Table, after_messages, all_ended, changed_where, direct, effect_unless, first_denied, first_failing}
@@ -44,11 +46,11 @@ module _ (old : State) (sound : IsSound old) (table : IsTable old.scene.table) (
       nothing_left = λ i. record old { scene = sound-ends old sound table i; messages = append-nil old.messages i }
 
   pub poll-answered : (step_reply : StepReply) → first_failing (session_tests old.scene.sessions client.0) ≡ None
-      → step_reply.reply ≡ Reply.Messages (first_messages old client max) → step_reply.for_history ≡ step_reply.reply → step_reply.ended ≡ []
+      → step_reply.reply ≡ twice (Reply.Messages (first_messages old client max)) → step_reply.ended ≡ []
       → IsAnswered old (Event.Poll client max) step_reply (with_given old client (first_messages old client max))
-  poll-answered step_reply is answers for_history none = record {
-    step = subst (λ (ended : List Ended). Step old poll step_reply.reply ended new) (sym none) (subst (λ (r : Reply). Step old poll r [] new) (sym answers) (polled-step is));
-    for_history = for_history;
+  poll-answered step_reply is answers none = record {
+    step = subst (λ (ended : List Ended). Step old poll step_reply.reply.given ended new) (sym none) (subst (λ (r : Reply). Step old poll r [] new) (sym (given-twice step_reply.reply _ answers)) (polled-step is));
+    recorded = recorded-twice step_reply.reply _ answers;
     sound = shown-sound old (Gives client max) sound table;
     issued = subst (λ (s : State). IssuesExactly s.scene new.scene) (sym (same_state (judged old.scene poll))) (shown-issued old.scene old (Gives client max) table (has-due old sound));
     given = λ count given. later-given count new (shown-given count old (Gives client max) given);

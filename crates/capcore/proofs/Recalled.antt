@@ -1,6 +1,7 @@
 -- A recall is a whole step: it marks entries as asked for, by which nothing is judged, moved or issued.
 use Rattle.std.proofs.Common.{◌≡◌, ◌≤◌, ℕ, Bool, true, ◌||◌, List, [], take, refl, sym, subst, arith}
 use Rattle.std.proofs.lemmas.List.Elements.{All-map}
+use Rattle.step_model.specs.Recorded.{twice}
 use Rattle.capcore.proofs.SoundEnd.{same-finished}
 use Rattle.capcore.proofs.Telling.{as_sized, as_told, retold, retold-sound, retold_table}
 use Rattle.capcore.proofs.Common.{AreGiven, ClientViews, EntryRow, Event, HoldAlike, Holder, IsAnswered, IsSound, IsTable, IsTable-recalled, Reply, State}
@@ -33,15 +34,14 @@ module _ (old : State) (sound : IsSound old) (count : ℕ) where
   pub recalled-finished : IsTable old.scene.table → finished old.scene (with_table old (recalled old.scene.table count)).scene (with_table old (recalled old.scene.table count)).scene ≡ (with_table old (recalled old.scene.table count)).scene
   recalled-finished table = same-finished new recalled-sound (IsTable-recalled old.scene.table count table) old.scene (λ row inside. refl)
 
-  pub recall-answered : (step_reply : StepReply) → IsTable old.scene.table → step_reply.reply ≡ Reply.Recalled (take count old.scene.table.recall)
-      → step_reply.for_history ≡ Reply.Recalled (take count old.scene.table.recall) → step_reply.ended ≡ []
+  pub recall-answered : (step_reply : StepReply) → IsTable old.scene.table → step_reply.reply ≡ twice (Reply.Recalled (take count old.scene.table.recall)) → step_reply.ended ≡ []
       → IsAnswered old (Event.Recall count) step_reply (with_table old (recalled old.scene.table count))
-  recall-answered step_reply table answers for_history none =
+  recall-answered step_reply table answers none =
       direct-answered old new (Event.Recall count) refl (Reply.Recalled (take count old.scene.table.recall)) (record { answer_is = refl; state_is = refl })
       recalled-sound (recalled-finished table) step_reply
       (λ most given. later-given most new (
       subst (λ t. AreGiven most (with_table old t)) (sym (recalled-retold old.scene.table count))
-      (record { entries = All-map (λ row. row.entry.seq ≤ most) (retold as_told as_sized (asked_too named)) old.scene.table.rows given.entries; last = given.last; made = given.made }))) answers for_history none
+      (record { entries = All-map (λ row. row.entry.seq ≤ most) (retold as_told as_sized (asked_too named)) old.scene.table.rows given.entries; last = given.last; made = given.made }))) answers none
 
   -- each entry holds what it held
   pub recalled-kept : (sets : ClientViews) → AreKept sets old.scene → AreKept sets (with_table old (recalled old.scene.table count)).scene

@@ -1,6 +1,8 @@
 -- An event that is rejected is answered so; and which inode an event affects that waits for a lock.
 use Rattle.std.proofs.Common.{◌≡◌, ℕ, List, Option, Some, None, [], ◌∷◌, ◌++◌, refl, sym, ap, ◌∙◌, arith}
 use Rattle.std.specs.Option.{option_map}
+use Rattle.step_model.proofs.Twice.{given-twice, recorded-twice}
+use Rattle.step_model.specs.Recorded.{twice}
 use Rattle.capcore.proofs.Common.{Access, ByTest, ClientId, Event, IsAnswered, IsSound, IsTable, Need, Refusal, Rejection, Scene, State, StepReply, Test}
 use Rattle.capcore.proofs.Common.{basic_tests, failing-front, first_denied, first_failing, inode_tests, judged, need, no_test, passed-both, passed-front}
 use Rattle.capcore.proofs.Common.{rejection-step, rejection_by, rejection_of, rejection_reply, session_tests}
@@ -9,10 +11,15 @@ use Rattle.capcore.proofs.Sounding.{later-given}
 
 -- ---- what is rejected
 
+rejected-answered : (old : State) (e : Event) (rejection : Rejection) (step_reply : StepReply) → IsSound old → IsTable old.scene.table → judged old.scene e ≡ Some rejection
+    → step_reply.reply.given ≡ rejection_reply rejection → step_reply.reply.recorded ≡ step_reply.reply.given → step_reply.ended ≡ [] → IsAnswered old e step_reply old
+rejected-answered old e rejection step_reply sound table is answers recorded none = grind (arith, rejection-step, has-due, later-given)
+
 -- it is a step that changes nothing
 pub rejection-answered : (old : State) (e : Event) (rejection : Rejection) (step_reply : StepReply) → IsSound old → IsTable old.scene.table → judged old.scene e ≡ Some rejection
-    → step_reply.reply ≡ rejection_reply rejection → step_reply.for_history ≡ step_reply.reply → step_reply.ended ≡ [] → IsAnswered old e step_reply old
-rejection-answered old e rejection step_reply sound table is answers for_history none = grind (arith, rejection-step, has-due, later-given)
+    → step_reply.reply ≡ twice (rejection_reply rejection) → step_reply.ended ≡ [] → IsAnswered old e step_reply old
+rejection-answered old e rejection step_reply sound table is answers none =
+    rejected-answered old e rejection step_reply sound table is (given-twice step_reply.reply _ answers) (recorded-twice step_reply.reply _ answers) none
 
 -- what rejects an event by its parts, read before it was known which state they make up
 pub judged-at : (old now : State) (e : Event) (o : Option Rejection) → old ≡ now → o ≡ judged old.scene e → judged now.scene e ≡ o

@@ -1,5 +1,7 @@
 -- A session, a lookup, a new inode or a snapshot by itself is a whole step: it leaves alone all that entries and requests depend on.
 use Rattle.std.proofs.Common.{◌≡◌, ℕ, ◌+◌, Bool, true, false, List, [], ◌++◌, Option, None, refl, sym, ap, subst, ◌∙◌, append-nil, arith}
+use Rattle.step_model.proofs.Twice.{given-twice, recorded-twice}
+use Rattle.step_model.specs.Recorded.{twice}
 use Rattle.capcore.proofs.SoundEnd.{none-sized}
 use Rattle.capcore.specs.Affected.{affected_by, is_listing, session_changed_by}
 use Rattle.capcore.proofs.Bounded.{found-keeps}
@@ -48,10 +50,10 @@ module _ (old new : State) (e : Event) (still : session_changed_by e ≡ None) (
           ∙ subst (λ (s : State). finished old.scene s.scene s.scene ≡ s.scene) is.state_is finishes
 
   pub direct-answered : (says : StepReply) → ((count : ℕ) → AreGiven count old → AreGiven (count + 1) new)
-      → says.reply ≡ answer → says.for_history ≡ answer → says.ended ≡ [] → IsAnswered old e says new
-  direct-answered says given answers for_history none = record {
-    step = subst (λ (ended : List Ended). Step old e says.reply ended new) (sym none) (subst (λ (r : Reply). Step old e r [] new) (sym answers) whole_step);
-    for_history = for_history ∙ sym answers;
+      → says.reply ≡ twice answer → says.ended ≡ [] → IsAnswered old e says new
+  direct-answered says given answers none = record {
+    step = subst (λ (ended : List Ended). Step old e says.reply.given ended new) (sym none) (subst (λ (r : Reply). Step old e r [] new) (sym (given-twice says.reply answer answers)) whole_step);
+    recorded = recorded-twice says.reply answer answers;
     sound = sound;
     issued = issues-exactly old e answer new is sound;
     given = given;
@@ -103,9 +105,9 @@ module _ (old : State) (sound : IsSound old) (tree : IsTree old.scene.tree) wher
     left : IsLeft old new
     left = subst (IsLeft old) (sym is.state_is) (left_unless e alone (judged old.scene e) refl)
 
-    pub alone-answered : (says : StepReply) → IsTable old.scene.table → says.reply ≡ answer → says.for_history ≡ answer → says.ended ≡ [] → IsAnswered old e says new
-    alone-answered says table answers for_history none =
+    pub alone-answered : (says : StepReply) → IsTable old.scene.table → says.reply ≡ twice answer → says.ended ≡ [] → IsAnswered old e says new
+    alone-answered says table answers none =
         direct-answered old new e alone.2 answer is
         (subst IsSound (sym left.is) (kept-sound old sound new.scene.tree new.scene.sessions new.scene.locks.states left.leaves))
         (subst (λ (s : State). finished old.scene s.scene s.scene ≡ s.scene) (sym left.is) (kept-finished old sound new.scene.tree new.scene.sessions new.scene.locks.states left.leaves table)) says
-        (λ count given. later-given count new (subst (AreGiven count) (sym left.is) (record { entries = given.entries; last = given.last; made = given.made }))) answers for_history none
+        (λ count given. later-given count new (subst (AreGiven count) (sym left.is) (record { entries = given.entries; last = given.last; made = given.made }))) answers none

@@ -41,11 +41,11 @@ pub record MayEnd (known : ClientViews) (s : Scene) : Type 0 where
 
 -- no request has ended and no size was changed yet, and there is room for so many
 pub record HaveRoomFor (waiting : ℕ) (output : StepOutput) : Type 0 where
-  pub for_clients : output.for_clients.items ≡ []
-  pub for_history : output.for_history.items ≡ []
+  pub given : output.given.items ≡ []
+  pub recorded : output.recorded.items ≡ []
   pub sized : output.sized.items ≡ []
-  pub clients_room : waiting ≤ vec_capacity output.for_clients
-  pub history_room : waiting ≤ vec_capacity output.for_history
+  pub given_room : waiting ≤ vec_capacity output.given
+  pub recorded_room : waiting ≤ vec_capacity output.recorded
   pub sized_room : waiting ≤ vec_capacity output.sized
 
 -- there is a place for the change of each request that waits and of each inode; and where one entry alone was affected, the others

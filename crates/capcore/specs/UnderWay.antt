@@ -80,8 +80,8 @@ dropped_of answer = []
 
 -- of the requests that the step ends, those of earlier steps
 abbrev pub earlier_of : ReplyDue → List Ended → List Ended
-earlier_of (Awaited ticket) for_clients = but_for ticket for_clients
-earlier_of answer for_clients = for_clients
+earlier_of (Awaited ticket) ended = but_for ticket ended
+earlier_of answer ended = ended
 
 -- the last number of a request, before and after: the one that is awaited, is new
 abbrev pub IsNumbered : ReplyDue → ℕ → ℕ → Type 0

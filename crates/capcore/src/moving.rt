@@ -8,6 +8,7 @@ ghost use Rattle.capstep.specs.Known.{AreKnown};
 ghost use Rattle.step_model.specs.declared.outcome.Ended.{Ended as AnEnded};
 ghost use Rattle.step_model.specs.DueEndings.{HaveOwnNumbers, but_for, is_of_ticket};
 ghost use Rattle.step_model.specs.Direct.{awaited_as, reply_of, shown};
+ghost use Rattle.step_model.specs.Recorded.{twice};
 ghost use Rattle.step_model.specs.State.{State};
 ghost use Rattle.lockmachine.specs.Scene.{plain};
 ghost use Rattle.capcore.specs.SessionChange.{session_changed};
@@ -32,7 +33,7 @@ use lockmachine::{Change, KeptScene, Policy};
 use sessiontab::SessionChange;
 use std::alloc::AllocError;
 use std::mem::swap;
-use step_model::{Ended, EndedList, Reply, copy_of_reply};
+use step_model::{Ended, EndedList, Recorded, Reply, copy_of_reply};
 
 impl CoreState {
     // ---- the event by itself. For want of memory nothing changes, and what the last step changed stays listed
@@ -169,57 +170,61 @@ impl CoreState {
     // What the step says: clients are to be told of the requests that it ended, and the history keeps them; of those that were
     // dropped, which come first there, nobody is told.
     pub(crate) fn close(&mut self, answer: ReplyDue, output: &mut StepOutput) -> StepReply
-        requires differ { HaveOwnNumbers output.old.for_clients.items }
-        requires same { output.old.for_history.items ≡ output.old.for_clients.items }
-        requires room { length self.old.messages.items + length output.old.for_clients.items ≤ vec_capacity self.old.messages }
-        requires places { HasPlaces answer (length output.old.for_clients.items) }
+        requires differ { HaveOwnNumbers output.old.given.items }
+        requires recorded { output.old.recorded.items ≡ output.old.given.items }
+        requires room { length self.old.messages.items + length output.old.given.items ≤ vec_capacity self.old.messages }
+        requires places { HasPlaces answer (length output.old.given.items) }
         requires known { AreKnown self.old.scene.table.kept (plain self.old.scene) }
         ensures reply { (ms : List AnEnded) → let last : State = record { scene = plain self.old.scene; messages = ms } in
-            result.reply ≡ reply_of last output.old.for_clients.items (answer_of answer) }
+            result.reply ≡ twice (reply_of last output.old.given.items (answer_of answer)) }
         ensures shown { (ms : List AnEnded) → let last : State = record { scene = plain self.old.scene; messages = ms } in
             record { scene = plain self.new.scene; messages = ms } ≡ shown (answer_of answer) last }
-        ensures for_history { result.for_history ≡ result.reply }
-        ensures ended { result.ended ≡ dropped_of answer ++ earlier_of answer output.old.for_clients.items }
+        ensures ended { result.ended ≡ dropped_of answer ++ earlier_of answer output.old.given.items }
         ensures changes { output.new.changes ≡ output.old.changes }
-        ensures messages { self.new.messages.items ≡ self.old.messages.items ++ earlier_of answer output.old.for_clients.items }
+        ensures messages { self.new.messages.items ≡ self.old.messages.items ++ earlier_of answer output.old.given.items }
         ensures room { vec_capacity self.old.messages ≤ vec_capacity self.new.messages }
         ensures rest { self.new.scene ≡ record self.old.scene { table = record self.old.scene.table { entries = self.new.scene.table.entries } } }
     {
-        let (reply, for_history) = match answer {
-            ReplyDue::Done => (Reply::Done, Reply::Done),
+        let reply = match answer {
+            ReplyDue::Done => Recorded {
+                given: Reply::Done,
+                recorded: Reply::Done,
+            },
             ReplyDue::Dropped(mut dropped) => {
-                let Ok(()) = dropped.append(&mut output.for_history) else {
+                let Ok(()) = dropped.append(&mut output.recorded) else {
                     unreachable!()
                 };
-                output.for_history = dropped;
-                (Reply::Done, Reply::Done)
+                output.recorded = dropped;
+                Recorded {
+                    given: Reply::Done,
+                    recorded: Reply::Done,
+                }
             }
             ReplyDue::Requested(holder, request) => {
-                let reply = show_reply(&mut self.scene.table, holder, &request);
-                let for_history = copy_of_reply(&reply);
-                (reply, for_history)
+                let given = show_reply(&mut self.scene.table, holder, &request);
+                let recorded = copy_of_reply(&given);
+                Recorded { given, recorded }
             }
             ReplyDue::Awaited(ticket) => {
-                let reply = awaited(&mut output.for_clients, ticket);
-                let for_history = awaited(&mut output.for_history, ticket);
-                (reply, for_history)
+                let given = awaited(&mut output.given, ticket);
+                let recorded = awaited(&mut output.recorded, ticket);
+                Recorded { given, recorded }
             }
         };
         let mut ended = Vec::new(output.alloc());
         // Where none ended, the room stays.
-        if !output.for_history.is_empty() {
-            swap(&mut ended, &mut output.for_history);
+        if !output.recorded.is_empty() {
+            swap(&mut ended, &mut output.recorded);
             // The history keeps the list for good, but not the room for all who waited.
             ended.shrink_to_fit();
         }
-        if !output.for_clients.is_empty() {
-            let Ok(()) = self.messages.append(&mut output.for_clients) else {
+        if !output.given.is_empty() {
+            let Ok(()) = self.messages.append(&mut output.given) else {
                 unreachable!()
             };
         }
         StepReply {
             reply,
-            for_history,
             ended: EndedList::from(ended),
         }
     }

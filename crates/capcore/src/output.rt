@@ -4,17 +4,17 @@ ghost use Rattle.std.specs.Prelude.{◌≡◌, ◌+◌, ◌≤◌, ◌<◌, ◌+
 ghost use Rattle.capcore.specs.Begun.{HaveRoomFor};
 
 use capbits::{ClientId, Ino, Ticket};
-use capstep::serving::Served;
 use std::alloc::{AllocError, Global};
 use std::fmt;
-use step_model::{ChangeList, Ended};
+use step_model::{ChangeList, Ended, Outcome, Recorded};
 
-/// The requests that a step ends: once to be told to their clients, and once for the history; the inodes whose sizes they
-/// changed; what the step changes of what readers see; and the request that came with the step and was judged then, until one is
-/// served. Between steps the changes are those of the last; of the others the room alone is of use.
+/// The requests that a step ends: once to be given to their clients, and once recorded in the history, which takes the whole
+/// list; the inodes whose sizes they changed; what the step changes of what readers see; and the request that came with the step
+/// and was judged then, until one is served. Between steps the changes are those of the last; of the others the room alone is of
+/// use.
 pub struct StepOutput {
-    pub for_clients: Vec<Ended>,
-    pub for_history: Vec<Ended>,
+    pub given: Vec<Ended>,
+    pub recorded: Vec<Ended>,
     pub sized: Vec<Ino>,
     pub changes: ChangeList,
     pub judged: Option<Ticket>,
@@ -24,8 +24,8 @@ pub struct StepOutput {
 impl Drop for StepOutput {
     fn drop(self) {
         let StepOutput {
-            for_clients: _,
-            for_history: _,
+            given: _,
+            recorded: _,
             sized: _,
             changes: _,
             judged: _,
@@ -46,8 +46,8 @@ impl StepOutput {
         ensures changes { result.changes.items ≡ [] }
     {
         StepOutput {
-            for_clients: Vec::new(alloc),
-            for_history: Vec::new(alloc),
+            given: Vec::new(alloc),
+            recorded: Vec::new(alloc),
             sized: Vec::new(alloc),
             changes: ChangeList::new(alloc),
             judged: None,
@@ -62,13 +62,13 @@ impl StepOutput {
         ensures judged { OnOk result (self.new.judged ≡ None) }
     {
         self.judged = None;
-        self.for_clients.clear();
-        self.for_history.clear();
+        self.given.clear();
+        self.recorded.clear();
         self.sized.clear();
         // Mostly nobody waits.
         if room != 0 {
-            self.for_clients.reserve(room)?;
-            self.for_history.reserve(room)?;
+            self.given.reserve(room)?;
+            self.recorded.reserve(room)?;
             self.sized.reserve(room)?;
         }
         self.changes.begin(places)
@@ -76,37 +76,40 @@ impl StepOutput {
 
     /// The allocator of the lists.
     pub fn alloc(&self) -> Global {
-        *self.for_clients.allocator()
+        *self.given.allocator()
     }
 
     /// A client's request with this number ended so, and changed the size of this inode, if of any.
-    pub fn push(&mut self, client: ClientId, ticket: Ticket, served: Served, sized: Option<Ino>)
-        requires for_clients { length self.old.for_clients.items < vec_capacity self.old.for_clients }
-        requires for_history { length self.old.for_history.items < vec_capacity self.old.for_history }
+    pub fn push(
+        &mut self,
+        client: ClientId,
+        ticket: Ticket,
+        served: Recorded<Outcome>,
+        sized: Option<Ino>,
+    )
+        requires given { length self.old.given.items < vec_capacity self.old.given }
+        requires recorded { length self.old.recorded.items < vec_capacity self.old.recorded }
         requires sized { length self.old.sized.items < vec_capacity self.old.sized }
-        ensures for_clients { self.new.for_clients.items ≡ self.old.for_clients.items ++ record { client = client; ticket = ticket; outcome = served.outcome } ∷ [] }
-        ensures for_history { self.new.for_history.items ≡ self.old.for_history.items ++ record { client = client; ticket = ticket; outcome = served.for_history } ∷ [] }
+        ensures given { self.new.given.items ≡ self.old.given.items ++ record { client = client; ticket = ticket; outcome = served.given } ∷ [] }
+        ensures recorded { self.new.recorded.items ≡ self.old.recorded.items ++ record { client = client; ticket = ticket; outcome = served.recorded } ∷ [] }
         ensures sized { self.new.sized.items ≡ self.old.sized.items ++ filter_map (λ ino. ino) (sized ∷ []) }
-        ensures room { (vec_capacity self.old.for_clients ≤ vec_capacity self.new.for_clients) × (vec_capacity self.old.for_history ≤ vec_capacity self.new.for_history)
+        ensures room { (vec_capacity self.old.given ≤ vec_capacity self.new.given) × (vec_capacity self.old.recorded ≤ vec_capacity self.new.recorded)
             × (vec_capacity self.old.sized ≤ vec_capacity self.new.sized) }
         ensures changes { self.new.changes ≡ self.old.changes }
         ensures judged { self.new.judged ≡ self.old.judged }
     {
-        let Served {
-            outcome,
-            for_history,
-        } = served;
-        let for_clients = self.for_clients.push(Ended {
+        let Recorded { given, recorded } = served;
+        let given = self.given.push(Ended {
             client,
             ticket,
-            outcome,
+            outcome: given,
         });
-        let for_history = self.for_history.push(Ended {
+        let recorded = self.recorded.push(Ended {
             client,
             ticket,
-            outcome: for_history,
+            outcome: recorded,
         });
-        let (Ok(()), Ok(())) = (for_clients, for_history) else {
+        let (Ok(()), Ok(())) = (given, recorded) else {
             unreachable!()
         };
         if let Some(ino) = sized {

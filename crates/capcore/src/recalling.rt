@@ -9,7 +9,7 @@ use crate::output::StepOutput;
 use crate::step_reply::StepReply;
 use crate::world::World;
 use std::alloc::AllocError;
-use step_model::{EndedList, Reply};
+use step_model::{EndedList, Recorded, Reply};
 
 impl World {
     // A step that marks the first entries in the order of recall as asked to release caps, and names them. The order stays.
@@ -23,13 +23,15 @@ impl World {
         ensures err { OnErr result ((self.new ≡ self.old) × (output.new.changes.items ≡ output.old.changes.items)) }
     {
         let alloc = *self.parts.messages.allocator();
-        // The list once for the history and once for the reply, both before an entry is marked.
-        let for_history = self.parts.scene.table.first_to_recall(count)?;
+        // The list once for the history and once for the client, both before an entry is marked.
+        let recorded = self.parts.scene.table.first_to_recall(count)?;
         let named = self.parts.scene.table.recall(count)?;
         output.changes.clear();
         Ok(StepReply {
-            reply: Reply::Recalled(named),
-            for_history: Reply::Recalled(for_history),
+            reply: Recorded {
+                given: Reply::Recalled(named),
+                recorded: Reply::Recalled(recorded),
+            },
             ended: EndedList::new(alloc),
         })
     }

@@ -8,8 +8,7 @@ ghost use Rattle.captable.specs.declared.entry.Holder.{Holder};
 ghost use Rattle.sessiontab.specs.Table.{SessionTable};
 ghost use Rattle.step_model.specs.declared.outcome.Ended.{Ended};
 ghost use Rattle.step_model.specs.NotedChanges.{HavePlaces, LeadOn};
-ghost use Rattle.step_model.specs.Settle.{Served as Serving};
-ghost use Rattle.step_model.specs.Settle.{sized_in};
+ghost use Rattle.step_model.specs.Settle.{Served, sized_in};
 ghost use Rattle.lockmachine.specs.Counts.{AreCounted};
 ghost use Rattle.lockmachine.specs.Locks.{request_at};
 ghost use Rattle.lockmachine.specs.Scene.{plain};
@@ -47,12 +46,12 @@ pub enum Affected {
 pub fn end(scene: &mut KeptScene, affected: Affected, output: &mut StepOutput)
     requires ready { IsReady affected scene.old.table.kept (plain scene.old) output.old }
     requires counted { AreCountedIn scene.old }
-    ensures ends { EndsWith (among affected) scene.old.table.kept scene.new.table.kept (plain scene.old) (plain scene.new) output.new.for_clients.items }
-    ensures for_history { output.new.for_history.items ≡ output.new.for_clients.items }
+    ensures ends { EndsWith (among affected) scene.old.table.kept scene.new.table.kept (plain scene.old) (plain scene.new) output.new.given.items }
+    ensures recorded { output.new.recorded.items ≡ output.new.given.items }
     ensures lead { LeadOn output.old.changes.items output.new.changes.items scene.old.tree scene.new.tree }
     ensures counted { AreCountedIn scene.new }
     // As many waited as wait and have ended.
-    ensures count { length output.new.for_clients.items + length scene.new.locks.locks.queue ≡ length scene.old.locks.locks.queue }
+    ensures count { length output.new.given.items + length scene.new.locks.locks.queue ≡ length scene.old.locks.locks.queue }
 {
     match affected {
         Affected::Entry(holder) => {
@@ -61,7 +60,7 @@ pub fn end(scene: &mut KeptScene, affected: Affected, output: &mut StepOutput)
             settle(scene, &mut reached, output);
             // Most steps of such events serve nobody, by which the tree could have changed, and leave these locks as they were; by
             // the same locks and the same tree the others on the inode still have all that the end would give them.
-            if output.for_clients.is_empty()
+            if output.given.is_empty()
                 && reached.is_single()
                 && scene.locks.of_ino(holder.ino) == before
             {
@@ -86,10 +85,10 @@ fn settle(scene: &mut KeptScene, affected: &mut NonEmptyInoSet, output: &mut Ste
     requires places { HavePlaces output.old.changes scene.old.locks.locks affected.old }
     requires permitted { ArePermittedIn scene.old.table.kept (plain scene.old) }
     requires counted { AreCountedIn scene.old }
-    ensures settles { SettlesWith (set.contains affected.new) (set.contains affected.old) (plain scene.old) (plain scene.new) output.new.for_clients.items output.new.sized.items }
+    ensures settles { SettlesWith (set.contains affected.new) (set.contains affected.old) (plain scene.old) (plain scene.new) output.new.given.items output.new.sized.items }
     ensures tree { IsTree scene.old.tree }
-    ensures for_history { output.new.for_history.items ≡ output.new.for_clients.items }
-    ensures count { length output.new.for_clients.items + length scene.new.locks.locks.queue ≡ length scene.old.locks.locks.queue }
+    ensures recorded { output.new.recorded.items ≡ output.new.given.items }
+    ensures count { length output.new.given.items + length scene.new.locks.locks.queue ≡ length scene.old.locks.locks.queue }
     ensures lead { LeadOn output.old.changes.items output.new.changes.items scene.old.tree scene.new.tree }
     ensures places { HavePlaces output.new.changes scene.new.locks.locks affected.new }
     ensures told { (k : Holder) → known_of scene.new.table.kept k ≡ known_of scene.old.table.kept k }
@@ -207,23 +206,23 @@ fn serve_next(
     requires permitted { ArePermittedIn scene.old.table.kept (plain scene.old) }
     requires walked { AreWalked walked.old scene.old.tree scene.old.table.entries affected.old }
     requires waits { (q : Request) × (request_at scene.old.locks.locks ticket.0 ≡ Some q) }
-    requires for_clients { length output.old.for_clients.items < vec_capacity output.old.for_clients }
-    requires for_history { length output.old.for_history.items < vec_capacity output.old.for_history }
+    requires given { length output.old.given.items < vec_capacity output.old.given }
+    requires recorded { length output.old.recorded.items < vec_capacity output.old.recorded }
     requires sized { length output.old.sized.items < vec_capacity output.old.sized }
     requires place { length output.old.changes.items < output.old.changes.room }
     requires judged { IsJudged output.old.judged (plain scene.old) }
     ensures judged { output.new.judged ≡ None }
     ensures served { (ended : Ended) × Serves (plain scene.old) ticket ended (plain scene.new)
-        × (output.new.for_clients.items ≡ output.old.for_clients.items ++ ended ∷ [])
-        × (output.new.for_history.items ≡ output.old.for_history.items ++ ended ∷ [])
+        × (output.new.given.items ≡ output.old.given.items ++ ended ∷ [])
+        × (output.new.recorded.items ≡ output.old.recorded.items ++ ended ∷ [])
         × ((q : Request) → request_at scene.old.locks.locks ticket.0 ≡ Some q
-        → output.new.sized.items ≡ output.old.sized.items ++ sized_in (Serving q ended.outcome ∷ [])) }
+        → output.new.sized.items ≡ output.old.sized.items ++ sized_in (Served q ended.outcome ∷ [])) }
     ensures reached { (q : Request) → request_at scene.old.locks.locks ticket.0 ≡ Some q
         → Reaches q scene.old.tree scene.new.tree scene.old.table.entries affected.old affected.new }
     // By the tree of before.
     ensures walked { AreWalked walked.new scene.old.tree scene.old.table.entries affected.new }
     ensures changed { (q : Request) → request_at scene.old.locks.locks ticket.0 ≡ Some q → result ≡ changed_alone q }
-    ensures room { (vec_capacity output.old.for_clients ≤ vec_capacity output.new.for_clients) × (vec_capacity output.old.for_history ≤ vec_capacity output.new.for_history)
+    ensures room { (vec_capacity output.old.given ≤ vec_capacity output.new.given) × (vec_capacity output.old.recorded ≤ vec_capacity output.new.recorded)
         × (vec_capacity output.old.sized ≤ vec_capacity output.new.sized) }
     // At most one change is noted, and there is a place more for each inode that is affected besides.
     ensures lead { LeadOn output.old.changes.items output.new.changes.items scene.old.tree scene.new.tree }
@@ -241,10 +240,10 @@ fn serve_next(
     let (alloc, changes) = (output.alloc(), &mut output.changes);
     let room = add_held_below(scene, &request, walked, affected, changes);
     let served = serve(alloc, scene, &request, room.is_ok(), judged);
-    changes.note_served(&scene.tree, &request, &served.outcome);
-    renew_served(scene, &request, &served.outcome, affected);
+    changes.note_served(&scene.tree, &request, &served.given);
+    renew_served(scene, &request, &served.given, affected);
     let (client, ticket) = (request.client, request.ticket);
-    let (sized, changed) = changed_inodes(&request, &served);
+    let (sized, changed) = changed_inodes(&request, &served.given);
     // The request goes before its end is told, so that the proof has to follow it but once.
     drop(request);
     output.push(client, ticket, served, sized);

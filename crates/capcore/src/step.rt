@@ -89,13 +89,13 @@ impl Core {
             pass,
             nth,
             event,
-            reply: step_reply.for_history,
+            reply: step_reply.reply.recorded,
             ended: step_reply.ended,
         })
         else {
             unreachable!()
         };
-        Ok(step_reply.reply)
+        Ok(step_reply.reply.given)
     }
 
     /// The client's entry on the inode, where it has one.

@@ -1,15 +1,15 @@
 //! The reply of a step.
 ghost use Rattle.std.specs.Prelude.{◌≡◌, false, []};
+ghost use Rattle.step_model.specs.Recorded.{twice};
 ghost use Rattle.step_model.specs.Replies.{has_list};
 
 use std::alloc::Global;
-use step_model::{EndedList, Reply, copy_of_reply};
+use step_model::{EndedList, Recorded, Reply, copy_of_reply};
 
-/// The reply of a step, a copy of it for the history, and the requests of earlier steps that the step ended.
+/// The reply of a step, and the requests of earlier steps that the step ended.
 #[derive(Drop)]
 pub struct StepReply {
-    pub reply: Reply,
-    pub for_history: Reply,
+    pub reply: Recorded<Reply>,
     pub ended: EndedList,
 }
 
@@ -17,15 +17,16 @@ impl StepReply {
     /// A reply that has no list, of a step that ended no request.
     pub fn alone(alloc: Global, reply: Reply) -> StepReply
         requires { has_list reply ≡ false }
-        ensures reply { result.reply ≡ reply }
-        ensures for_history { result.for_history ≡ reply }
+        ensures reply { result.reply ≡ twice reply }
         ensures ended { result.ended ≡ [] }
     {
-        let for_history = copy_of_reply(&reply);
+        let recorded = copy_of_reply(&reply);
         let ended = EndedList::new(alloc);
         StepReply {
-            reply,
-            for_history,
+            reply: Recorded {
+                given: reply,
+                recorded,
+            },
             ended,
         }
     }

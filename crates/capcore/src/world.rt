@@ -44,7 +44,7 @@ use sessiontab::Sessions;
 use std::alloc::{AllocError, Global};
 use std::marker::Model;
 use step_model::due_endings::remove_given;
-use step_model::{ChangeList, EndedList, EndedTickets, Event, Reply, copy_of_messages};
+use step_model::{ChangeList, EndedList, EndedTickets, Event, Recorded, Reply, copy_of_messages};
 
 // The state that events change.
 #[derive(Debug)]
@@ -213,19 +213,21 @@ impl World {
             output.changes.clear();
             return Ok(StepReply::alone(*self.parts.messages.allocator(), Reply::Refused(refusal)));
         }
-        // The list once for the reply and once for the history, both before the client was told of anything.
+        // The list once for the client and once for the history, both before the client was told of anything.
         let alloc = *self.parts.messages.allocator();
         let ended = self.parts.messages.as_slice();
         let given = due_messages(alloc, ended, &self.parts.scene, client, max)?;
-        let for_history = copy_of_messages(alloc, given.as_slice())?;
+        let recorded = copy_of_messages(alloc, given.as_slice())?;
         let told = EndedTickets::of(alloc, given.as_slice())?;
         output.changes.clear();
         give(&mut self.parts.scene.table, client, given.as_slice());
         self.parts.scene.table.skip_not_due(client);
         remove_given(&mut self.parts.messages, client, &told);
         Ok(StepReply {
-            reply: Reply::Messages(given),
-            for_history: Reply::Messages(for_history),
+            reply: Recorded {
+                given: Reply::Messages(given),
+                recorded: Reply::Messages(recorded),
+            },
             ended: EndedList::new(alloc),
         })
     }

@@ -10,7 +10,8 @@ ghost use Rattle.lockmachine.specs.Scene.{scene as scene_of};
 ghost use Rattle.step_model.specs.Serving.{MayEndAs, judged_again, rejection_outcome, takes_memory, values_outcome};
 ghost use Rattle.lockmachine.specs.declared.request.Operation.TheVariants as operation_kind;
 ghost use Rattle.step_model.specs.Serving as words;
-ghost use Rattle.step_model.specs.Settle.{Served as Serving, sized_by};
+ghost use Rattle.step_model.specs.Recorded.{twice};
+ghost use Rattle.step_model.specs.Settle.{Served, sized_by};
 ghost use Rattle.capstep.specs.Served.{call_tests, change_call_tests, changed_alone, is_rename};
 
 use crate::judge::operation_rejection;
@@ -20,14 +21,7 @@ use captable::Holder;
 use inotree::{Node, Setting, Tree};
 use lockmachine::{Change, KeptScene, Operation, Request};
 use std::alloc::{AllocError, Global};
-use step_model::{Outcome, PartValues, Rejection, copy_of_rules};
-
-/// How a request ended, once for its client and once for the history.
-#[derive(Drop)]
-pub struct Served {
-    pub outcome: Outcome,
-    pub for_history: Outcome,
-}
+use step_model::{Outcome, PartValues, Recorded, Rejection, copy_of_rules};
 
 /// Serves a request: it ends by what rejects it now, or its operation is carried out. One that was judged on this tree when it
 /// came is not judged again. A request that moves its inode and found no room for what it reaches ends as out of memory, unless
@@ -38,13 +32,13 @@ pub fn serve(
     request: &Request,
     room: bool,
     judged: bool,
-) -> Served
+) -> Recorded<Outcome>
     requires room { room ≡ false → is_rename request.now.operation ≡ true }
     requires judged { judged ≡ true → judged_again (plain scene.old) request.now ≡ None }
     ensures ends { (table : Table) (locks : LockMap)
-        → MayEndAs (scene_of scene.old.fs scene.old.tree scene.old.sessions table locks) request.now result.outcome }
-    ensures for_history { result.for_history ≡ result.outcome }
-    ensures tree { scene.new.tree ≡ tree_after scene.old.tree request.now result.outcome }
+        → MayEndAs (scene_of scene.old.fs scene.old.tree scene.old.sessions table locks) request.now result.given }
+    ensures recorded { result.recorded ≡ result.given }
+    ensures tree { scene.new.tree ≡ tree_after scene.old.tree request.now result.given }
     ensures rest { scene.new ≡ record scene.old { tree = scene.new.tree } }
     ensures stays { room ≡ false → scene.new.tree ≡ scene.old.tree }
 {
@@ -56,16 +50,16 @@ pub fn serve(
         }
     }
     if !room {
-        return Served {
-            outcome: Outcome::OutOfMemory,
-            for_history: Outcome::OutOfMemory,
+        return Recorded {
+            given: Outcome::OutOfMemory,
+            recorded: Outcome::OutOfMemory,
         };
     }
     match carry_out(alloc, &mut scene.tree, request.ino, &request.operation) {
         Ok(served) => served,
-        Err(AllocError) => Served {
-            outcome: Outcome::OutOfMemory,
-            for_history: Outcome::OutOfMemory,
+        Err(AllocError) => Recorded {
+            given: Outcome::OutOfMemory,
+            recorded: Outcome::OutOfMemory,
         },
     }
 }
@@ -78,11 +72,10 @@ fn carry_out(
     tree: &mut Tree,
     ino: Ino,
     operation: &Operation,
-) -> Result<Served, AllocError>
+) -> Result<Recorded<Outcome>, AllocError>
     requires passed { first_failing (call_tests tree.old ino.0 operation.now) ≡ None }
     ensures outcome { IfOk result (λ served. (s : Scene) → s.tree ≡ tree.old
-        → served.outcome ≡ words.passed_as s ino.0 operation.now) }
-    ensures for_history { IfOk result (λ served. served.for_history ≡ served.outcome) }
+        → served ≡ twice (words.passed_as s ino.0 operation.now)) }
     ensures tree { OnOk result (tree.new ≡ tree_with tree.old ino.0 operation.now) }
     ensures err { OnErr result (tree.new ≡ tree.old) }
     ensures memory { OnErr result (takes_memory operation.now ≡ true) }
@@ -94,9 +87,9 @@ fn carry_out(
         Operation::Rmdir => tree.rmdir_tested(ino),
         Operation::Rename { dir, name } => tree.rename_tested(ino, *dir, name.as_slice())?,
     }
-    Ok(Served {
-        outcome: Outcome::Done,
-        for_history: Outcome::Done,
+    Ok(Recorded {
+        given: Outcome::Done,
+        recorded: Outcome::Done,
     })
 }
 
@@ -120,19 +113,23 @@ pub fn alter(tree: &mut Tree, ino: Ino, change: &Change) -> Result<(), AllocErro
 }
 
 // What is read of a part. Tested before: the inode exists.
-fn read(alloc: Global, tree: &Tree, ino: Ino, part: Part) -> Result<Served, AllocError>
-    ensures outcome { IfOk result (λ served. served.outcome ≡ values_outcome part (map.get tree.now.nodes ino.0)) }
-    ensures for_history { IfOk result (λ served. served.for_history ≡ served.outcome) }
+fn read(
+    alloc: Global,
+    tree: &Tree,
+    ino: Ino,
+    part: Part,
+) -> Result<Recorded<Outcome>, AllocError>
+    ensures outcome { IfOk result (λ served. served ≡ twice (values_outcome part (map.get tree.now.nodes ino.0))) }
     ensures memory { OnErr result (takes_memory (operation_kind.Get part) ≡ true) }
 {
     match tree.node(ino) {
-        Some(node) => Ok(Served {
-            outcome: values_of(alloc, node, part)?,
-            for_history: values_of(alloc, node, part)?,
+        Some(node) => Ok(Recorded {
+            given: values_of(alloc, node, part)?,
+            recorded: values_of(alloc, node, part)?,
         }),
-        None => Ok(Served {
-            outcome: Outcome::Done,
-            for_history: Outcome::Done,
+        None => Ok(Recorded {
+            given: Outcome::Done,
+            recorded: Outcome::Done,
         }),
     }
 }
@@ -154,32 +151,31 @@ fn values_of(alloc: Global, node: &Node, part: Part) -> Result<Outcome, AllocErr
 }
 
 // How a request ends that was rejected.
-fn rejected(rejection: Rejection) -> Served
-    ensures outcome { result.outcome ≡ rejection_outcome rejection }
-    ensures for_history { result.for_history ≡ rejection_outcome rejection }
+fn rejected(rejection: Rejection) -> Recorded<Outcome>
+    ensures { result ≡ twice (rejection_outcome rejection) }
 {
-    let (outcome, for_history) = match rejection {
+    match rejection {
         Rejection::ByPolicy { access, rules } => {
             let copy = copy_of_rules(&rules);
-            let outcome = Outcome::Denied { access, rules };
+            let given = Outcome::Denied { access, rules };
             let rules = copy;
-            (outcome, Outcome::Denied { access, rules })
+            let recorded = Outcome::Denied { access, rules };
+            Recorded { given, recorded }
         }
-        Rejection::ByTest(refusal) => (Outcome::Refused(refusal), Outcome::Refused(refusal)),
-    };
-    Served {
-        outcome,
-        for_history,
+        Rejection::ByTest(refusal) => Recorded {
+            given: Outcome::Refused(refusal),
+            recorded: Outcome::Refused(refusal),
+        },
     }
 }
 
 /// The inode of the request, if it set the size; and the same, if it changed no other.
-pub fn changed_inodes(request: &Request, served: &Served) -> (Option<Ino>, Option<Ino>)
-    ensures sized { result.0 ≡ sized_by (Serving request.now served.now.outcome) }
+pub fn changed_inodes(request: &Request, outcome: &Outcome) -> (Option<Ino>, Option<Ino>)
+    ensures sized { result.0 ≡ sized_by (Served request.now outcome.now) }
     ensures alone { result.1 ≡ changed_alone request.now }
 {
     let own = Some(request.ino);
-    match (&request.operation, &served.outcome) {
+    match (&request.operation, outcome) {
         (Operation::Rename { .. }, _) => (None, None),
         (Operation::Alter(Change::Set(Setting::Size(_))), Outcome::Done) => (own, own),
         _ => (None, own),

@@ -1,3 +1,4 @@
 pub mod EndNumbers
 pub mod Noting
 pub mod Taking
+pub mod Twice

@@ -1,4 +1,5 @@
 pub mod Replies
+pub mod Recorded
 pub mod DueEndings
 pub mod NotedChanges
 pub mod Changing

@@ -15,6 +15,7 @@ pub mod due_endings;
 mod ended_tickets;
 mod event;
 mod outcome;
+mod recorded;
 mod rejection;
 mod reply;
 mod row;
@@ -26,6 +27,7 @@ pub use copies::{copy_of_messages, copy_of_outcome, copy_of_reply, copy_of_rules
 pub use ended_tickets::EndedTickets;
 pub use event::{Event, OpenMode};
 pub use outcome::{Ended, Message, MessageList, Outcome, PartValues};
+pub use recorded::Recorded;
 pub use rejection::Rejection;
 pub use reply::Reply;
 pub use row::{EndedList, Row};

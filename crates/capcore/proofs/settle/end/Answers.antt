@@ -53,12 +53,12 @@ module _ (c : After-settle) where
   -- the locks settle, and the step ends
   ends_there : (sized : List Ino) → c.settle.new.output.sized.items ≡ sized → (sets : ClientViews) (last : Scene)
       → EndsAt (set.contains c.settle.new.affected) sized c.settle.new.scene.table.kept sets (plain c.settle.new.scene) last
-      → EndsWith (λ other. other == ino) c.args.scene.now.table.kept sets (plain c.args.scene.now) last c.settle.new.output.for_clients.items
+      → EndsWith (λ other. other == ino) c.args.scene.now.table.kept sets (plain c.args.scene.now) last c.settle.new.output.given.items
   ends_there sized are sets last ends =
       let settles = c.settle.ensures.settles in
-      subst (λ (from : ℕ → Bool). EndsWith from c.args.scene.now.table.kept sets (plain c.args.scene.now) last c.settle.new.output.for_clients.items) only
+      subst (λ (from : ℕ → Bool). EndsWith from c.args.scene.now.table.kept sets (plain c.args.scene.now) last c.settle.new.output.given.items) only
       (settled-ends (set.contains c.settle.new.affected) (set.contains c.of-reached.result) c.args.scene.now.table.kept c.settle.new.scene.table.kept sets (plain c.args.scene.now) (plain c.settle.new.scene) last
-      c.settle.new.output.for_clients.items c.settle.new.output.sized.items settles c.settle.ensures.tree c.settle.ensures.told c.settle.ensures.permitted
+      c.settle.new.output.given.items c.settle.new.output.sized.items settles c.settle.ensures.tree c.settle.ensures.told c.settle.ensures.permitted
       (subst (λ (sized : List Ino). EndsAt (set.contains c.settle.new.affected) sized c.settle.new.scene.table.kept sets (plain c.settle.new.scene) last) (sym are) ends))
 
   may_end : MayEnd c.settle.new.scene.table.kept (plain c.settle.new.scene)
@@ -68,9 +68,9 @@ pub finish_alone-requires-clause-others : goal.finish_alone-requires-clause-othe
 finish_alone-requires-clause-others c =
     let here = (goal.at.finish_alone-requires-clause-others c).After-settle in
     let ready = ready_was here in
-    let nobody : c.settle.new.output.for_clients.items ≡ [] = nil_from_length c.settle.new.output.for_clients.items (omega (arith, eqb-true (vec_len c.settle.new.output.for_clients) 0 (sym c.is_empty.ensures ∙ c.if-is_empty.true))) in
+    let nobody : c.settle.new.output.given.items ≡ [] = nil_from_length c.settle.new.output.given.items (omega (arith, eqb-true (vec_len c.settle.new.output.given) 0 (sym c.is_empty.ensures ∙ c.if-is_empty.true))) in
     let same = sym c.of_ino.ensures ∙ same-locks c.of_ino.result c.of_ino-before.result (sym c.eq.ensures ∙ c.if-eq.true) ∙ c.of_ino-before.ensures in
-    others-still (set.contains c.settle.new.affected) (set.contains c.of-reached.result) (plain c.args.scene.now) (plain c.settle.new.scene) c.settle.new.output.for_clients.items c.settle.new.output.sized.items
+    others-still (set.contains c.settle.new.affected) (set.contains c.of-reached.result) (plain c.args.scene.now) (plain c.settle.new.scene) c.settle.new.output.given.items c.settle.new.output.sized.items
     c.settle.ensures.settles nobody c.args.scene.now.table.kept c.settle.new.scene.table.kept c.in-Entry.holder c.settle.ensures.told same ready.at.1
 
 pub finish_alone-requires-clause-entries : goal.finish_alone-requires-clause-entries
@@ -88,8 +88,8 @@ finish-requires-clause-entries c = may_end (goal.at.finish-requires-clause-entri
 pub returns-then-eq-clause-ends : goal.returns-then-eq-clause-ends
 returns-then-eq-clause-ends c =
     let here = (goal.at.returns-then-eq-clause-ends c).After-settle in
-    let nobody : c.settle.new.output.for_clients.items ≡ [] = nil_from_length c.settle.new.output.for_clients.items (omega (arith, eqb-true (vec_len c.settle.new.output.for_clients) 0 (sym c.is_empty.ensures ∙ c.if-is_empty.true))) in
-    let none = served_none (set.contains c.settle.new.affected) (set.contains c.of-reached.result) (plain c.args.scene.now) (plain c.settle.new.scene) c.settle.new.output.for_clients.items c.settle.new.output.sized.items
+    let nobody : c.settle.new.output.given.items ≡ [] = nil_from_length c.settle.new.output.given.items (omega (arith, eqb-true (vec_len c.settle.new.output.given) 0 (sym c.is_empty.ensures ∙ c.if-is_empty.true))) in
+    let none = served_none (set.contains c.settle.new.affected) (set.contains c.of-reached.result) (plain c.args.scene.now) (plain c.settle.new.scene) c.settle.new.output.given.items c.settle.new.output.sized.items
     c.settle.ensures.settles nobody in
     rw c.in-Entry.is (ends_there here [] none.0 c.finish_alone.new.scene.table.kept (plain c.finish_alone.new.scene) c.finish_alone.ensures.ends)
 
@@ -103,7 +103,7 @@ returns-in-Entry-clause-ends c =
     let here = (goal.at.returns-in-Entry-clause-ends c).After-settle in
     rw c.in-Entry.is
     (subst (λ (for_clients : List Ended). EndsWith (λ other. other == ino here) c.args.scene.now.table.kept c.finish.new.scene.table.kept (plain c.args.scene.now) (plain c.finish.new.scene) for_clients)
-    (sym (ap (λ (e : StepOutput). e.for_clients.items) c.finish.ensures.rest))
+    (sym (ap (λ (e : StepOutput). e.given.items) c.finish.ensures.rest))
     (ends_there here c.settle.new.output.sized.items refl c.finish.new.scene.table.kept (plain c.finish.new.scene) c.finish.ensures.ends))
 
 pub returns-in-Entry-clause-lead : goal.returns-in-Entry-clause-lead
@@ -132,9 +132,9 @@ returns-clause-ends c =
     let settled : Scene = plain c.settle-in-Inodes.new.scene in
     rw c.in-Inodes.is
     (subst (λ (for_clients : List Ended). EndsWith (set.contains c.in-Inodes.inos) c.args.scene.now.table.kept c.finish-in-Inodes.new.scene.table.kept (plain c.args.scene.now) (plain c.finish-in-Inodes.new.scene) for_clients)
-    (sym (ap (λ (e : StepOutput). e.for_clients.items) c.finish-in-Inodes.ensures.rest))
+    (sym (ap (λ (e : StepOutput). e.given.items) c.finish-in-Inodes.ensures.rest))
     (settled-ends (set.contains c.settle-in-Inodes.new.affected) (set.contains c.in-Inodes.inos) c.args.scene.now.table.kept c.settle-in-Inodes.new.scene.table.kept c.finish-in-Inodes.new.scene.table.kept
-    (plain c.args.scene.now) settled (plain c.finish-in-Inodes.new.scene) c.settle-in-Inodes.new.output.for_clients.items c.settle-in-Inodes.new.output.sized.items
+    (plain c.args.scene.now) settled (plain c.finish-in-Inodes.new.scene) c.settle-in-Inodes.new.output.given.items c.settle-in-Inodes.new.output.sized.items
     c.settle-in-Inodes.ensures.settles c.settle-in-Inodes.ensures.tree c.settle-in-Inodes.ensures.told c.settle-in-Inodes.ensures.permitted c.finish-in-Inodes.ensures.ends))
 
 pub returns-clause-lead : goal.returns-clause-lead

@@ -24,7 +24,7 @@ serve-served-requires-clause-judged c = λ judged.
 pub returns-clause-served : goal.returns-clause-served
 returns-clause-served c =
     let request : Request = c.in-Some.request in
-    let outcome : Outcome = c.serve-served.result.outcome in
+    let outcome : Outcome = c.serve-served.result.given in
     let ended : Outcome → Ended = λ o. record { client = request.client; ticket = request.ticket; outcome = o } in
     let old = plain c.args.scene.now in
     let serves : Serves old c.args.ticket (ended outcome) (plain c.renew_served.new.scene) = record {
@@ -36,8 +36,8 @@ returns-clause-served c =
     } in (
       ended outcome,
       serves,
-      c.push.ensures.for_clients,
-      c.push.ensures.for_history ∙ ap (λ (o : Outcome). c.args.output.now.for_history.items ++ ended o ∷ []) c.serve-served.ensures.for_history,
+      c.push.ensures.given,
+      c.push.ensures.recorded ∙ ap (λ (o : Outcome). c.args.output.now.recorded.items ++ ended o ∷ []) c.serve-served.ensures.recorded,
       λ q there.
           let same : request ≡ q = (let both : Some request ≡ Some q = c.in-Some.ensures.request ∙ there in cc) in
           c.push.ensures.sized
@@ -54,7 +54,7 @@ pub returns-clause-permitted : goal.returns-clause-permitted
 returns-clause-permitted c =
     let old : Scene = plain c.args.scene.now in
     let request : Request = c.in-Some.request in
-    let outcome : Outcome = c.serve-served.result.outcome in
+    let outcome : Outcome = c.serve-served.result.given in
     let affected : InoSet = c.add_held_below-room.new.affected in
     let is = c.serve-served.ensures.rest in
     let after = c.serve-served.ensures.tree in

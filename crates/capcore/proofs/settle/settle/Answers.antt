@@ -55,19 +55,19 @@ servings-init c =
     let room = c.requires.room in
     record {
       so_far =
-          subst (λ (for_clients : List Ended). IsSoFar at c.args.affected.now first now for_clients c.args.output.now.sized.items) (sym c.requires.room.for_clients)
+          subst (λ (for_clients : List Ended). IsSoFar at c.args.affected.now first now for_clients c.args.output.now.sized.items) (sym c.requires.room.given)
           (subst (IsSoFar at c.args.affected.now first now []) (sym c.requires.room.sized) so);
       stands = stands-first c.args.affected.now now c.first-place.result (cursor-at_first c.args.affected.now now so.still c.end_gathers.ensures.ends) so.waits c.first-place.ensures;
       walked = none-walked c.new-walked.result c.args.scene.now.tree c.args.scene.now.table.entries c.args.affected.now c.new-walked.ensures;
       judged = still-judged c.args.output.now.judged first now.locks swept.queue c.requires.judged;
-      same = c.requires.room.for_history ∙ sym c.requires.room.for_clients;
+      same = c.requires.room.recorded ∙ sym c.requires.room.given;
       lead = leads-none c.args.output.now.changes.items c.args.scene.now.tree;
       places = omega (arith, queue, c.requires.places);
       known = λ k. refl;
       permitted = c.requires.permitted;
       counted = c.end_gathers.ensures.counted;
-      for_clients = omega (arith, queue, ap length room.for_clients, room.clients_room);
-      for_history = omega (arith, queue, ap length room.for_history, room.history_room);
+      given = omega (arith, queue, ap length room.given, room.given_room);
+      recorded = omega (arith, queue, ap length room.recorded, room.recorded_room);
       sized = omega (arith, queue, ap length room.sized, room.sized_room);
     }
 
@@ -93,8 +93,8 @@ module _ (c : In-Some) where
   mid = plain c.sweep.new.scene
 
   -- gathers began and ended
-  swept : IsSoFar (from c) c.servings.affected first mid c.servings.output.for_clients.items c.servings.output.sized.items
-  swept = so-far-swept (set.contains c.args.affected.now) c.servings.affected first now c.servings.output.for_clients.items c.servings.output.sized.items c.servings.invariant.so_far mid c.sweep.ensures.swept
+  swept : IsSoFar (from c) c.servings.affected first mid c.servings.output.given.items c.servings.output.sized.items
+  swept = so-far-swept (set.contains c.args.affected.now) c.servings.affected first now c.servings.output.given.items c.servings.output.sized.items c.servings.invariant.so_far mid c.sweep.ensures.swept
 
   -- the moves so far leave the requests in their order, and a tree
   order : IsLockMap mid.locks
@@ -142,11 +142,11 @@ serve_next-changed-requires-clause-judged c =
     let judged = c.servings.output.judged in
     subst (IsJudged judged) (sym is.is) (still-judged judged (plain c.servings.scene) c.sweep.new.scene.locks.locks is.queue c.servings.invariant.judged)
 
-pub serve_next-changed-requires-clause-for_clients : goal.serve_next-changed-requires-clause-for_clients
-serve_next-changed-requires-clause-for_clients c = let some = some_wait (goal.at.serve_next-changed-requires-clause-for_clients c).In-Some in omega (arith, some, c.servings.invariant.for_clients)
+pub serve_next-changed-requires-clause-given : goal.serve_next-changed-requires-clause-given
+serve_next-changed-requires-clause-given c = let some = some_wait (goal.at.serve_next-changed-requires-clause-given c).In-Some in omega (arith, some, c.servings.invariant.given)
 
-pub serve_next-changed-requires-clause-for_history : goal.serve_next-changed-requires-clause-for_history
-serve_next-changed-requires-clause-for_history c = let some = some_wait (goal.at.serve_next-changed-requires-clause-for_history c).In-Some in omega (arith, some, c.servings.invariant.for_history)
+pub serve_next-changed-requires-clause-recorded : goal.serve_next-changed-requires-clause-recorded
+serve_next-changed-requires-clause-recorded c = let some = some_wait (goal.at.serve_next-changed-requires-clause-recorded c).In-Some in omega (arith, some, c.servings.invariant.recorded)
 
 pub serve_next-changed-requires-clause-sized : goal.serve_next-changed-requires-clause-sized
 serve_next-changed-requires-clause-sized c = let some = some_wait (goal.at.serve_next-changed-requires-clause-sized c).In-Some in omega (arith, some, c.servings.invariant.sized)
@@ -170,13 +170,13 @@ module _ (c : After-serve_next-changed) where
   abbrev reaches : Reaches serves.request c.sweep.new.scene.tree c.serve_next-changed.new.scene.tree c.sweep.new.scene.table.entries c.servings.affected c.serve_next-changed.new.affected
   reaches = c.serve_next-changed.ensures.reached serves.request serves.waits
 
-  served : IsSoFar (from (before_serving c)) c.serve_next-changed.new.affected (first (before_serving c)) new (c.servings.output.for_clients.items ++ ended ∷ []) (c.servings.output.sized.items ++ sized_in (Served serves.request ended.outcome ∷ []))
+  served : IsSoFar (from (before_serving c)) c.serve_next-changed.new.affected (first (before_serving c)) new (c.servings.output.given.items ++ ended ∷ []) (c.servings.output.sized.items ++ sized_in (Served serves.request ended.outcome ∷ []))
   served =
-      so-far-served (from (before_serving c)) c.servings.affected (first (before_serving c)) (mid (before_serving c)) c.servings.output.for_clients.items c.servings.output.sized.items (swept (before_serving c))
+      so-far-served (from (before_serving c)) c.servings.affected (first (before_serving c)) (mid (before_serving c)) c.servings.output.given.items c.servings.output.sized.items (swept (before_serving c))
       c.in-Some.ticket ended new c.serve_next-changed.new.affected (order (before_serving c)) (tree (before_serving c)) (move (before_serving c)) serves reaches
 
-  one_more : length (c.servings.output.for_clients.items ++ ended ∷ []) ≡ length c.servings.output.for_clients.items + 1
-  one_more = length-append c.servings.output.for_clients.items (ended ∷ [])
+  one_more : length (c.servings.output.given.items ++ ended ∷ []) ≡ length c.servings.output.given.items + 1
+  one_more = length-append c.servings.output.given.items (ended ∷ [])
 
   one_less : length c.serve_next-changed.new.scene.locks.locks.queue + 1 ≡ length c.servings.scene.locks.locks.queue
   one_less =
@@ -199,21 +199,21 @@ Holds c next = invariant-servings (record {
 holds : (c : After-serve_next-changed) (next : SweepPlace) → GoesOnBehind c.sweep.new.place c.serve_next-changed.result c.serve_next-changed.new.affected next → Holds c next
 holds c next goes =
     let all = c.serve_next-changed.ensures.served in
-    let same : c.serve_next-changed.new.output.for_history.items ≡ c.serve_next-changed.new.output.for_clients.items = all.3 ∙ ap (λ ms. ms ++ ended c ∷ []) c.servings.invariant.same ∙ sym all.2 in
+    let same : c.serve_next-changed.new.output.recorded.items ≡ c.serve_next-changed.new.output.given.items = all.3 ∙ ap (λ ms. ms ++ ended c ∷ []) c.servings.invariant.same ∙ sym all.2 in
     let request = (serves c).request in
     let sizes : c.serve_next-changed.new.output.sized.items ≡ c.servings.output.sized.items ++ sized_in (Served request (ended c).outcome ∷ []) = all.4 request (serves c).waits in
     let few_sizes : length c.serve_next-changed.new.output.sized.items ≤ length c.servings.output.sized.items + 1 = few-sized c.servings.output.sized.items c.serve_next-changed.new.output.sized.items request (ended c).outcome sizes in
-    let more : length c.serve_next-changed.new.output.for_clients.items ≡ length c.servings.output.for_clients.items + 1 = ap length all.2 ∙ one_more c in
+    let more : length c.serve_next-changed.new.output.given.items ≡ length c.servings.output.given.items + 1 = ap length all.2 ∙ one_more c in
     let less = one_less c in
-    let history_more : length c.serve_next-changed.new.output.for_history.items ≡ length c.servings.output.for_history.items + 1 = ap length same ∙ more ∙ ap (λ (ms : List Ended). length ms + 1) (sym c.servings.invariant.same) in
+    let history_more : length c.serve_next-changed.new.output.recorded.items ≡ length c.servings.output.recorded.items + 1 = ap length same ∙ more ∙ ap (λ (ms : List Ended). length ms + 1) (sym c.servings.invariant.same) in
     let room = c.serve_next-changed.ensures.room in
     let is = stays (before_serving c) in
     record {
       so_far =
           subst (λ (for_clients : List Ended). IsSoFar (from (before_serving c)) c.serve_next-changed.new.affected (first (before_serving c)) (new c) for_clients c.serve_next-changed.new.output.sized.items) (sym all.2)
-          (subst (IsSoFar (from (before_serving c)) c.serve_next-changed.new.affected (first (before_serving c)) (new c) (c.servings.output.for_clients.items ++ ended c ∷ [])) (sym sizes) (served c));
+          (subst (IsSoFar (from (before_serving c)) c.serve_next-changed.new.affected (first (before_serving c)) (new c) (c.servings.output.given.items ++ ended c ∷ [])) (sym sizes) (served c));
       stands =
-          stands-behind (from (before_serving c)) c.servings.affected (first (before_serving c)) (mid (before_serving c)) c.servings.output.for_clients.items c.servings.output.sized.items (swept (before_serving c))
+          stands-behind (from (before_serving c)) c.servings.affected (first (before_serving c)) (mid (before_serving c)) c.servings.output.given.items c.servings.output.sized.items (swept (before_serving c))
           c.in-Some.ticket (ended c) (new c) c.serve_next-changed.new.affected (order (before_serving c)) (tree (before_serving c)) (move (before_serving c)) (serves c) (reaches c)
           c.sweep.new.place next c.serve_next-changed.result c.sweep.ensures.place (c.serve_next-changed.ensures.changed (serves c).request (serves c).waits) goes;
       walked =
@@ -228,8 +228,8 @@ holds c next goes =
       known = λ k. c.serve_next-changed.ensures.told k ∙ ap (λ (s : KeptScene). known_of s.table.kept k) c.sweep.ensures.rest ∙ c.servings.invariant.known k;
       permitted = c.serve_next-changed.ensures.permitted;
       counted = c.serve_next-changed.ensures.counted c.sweep.ensures.counted;
-      for_clients = omega (arith, more, less, room.0, c.servings.invariant.for_clients);
-      for_history = omega (arith, history_more, less, room.1, c.servings.invariant.for_history);
+      given = omega (arith, more, less, room.0, c.servings.invariant.given);
+      recorded = omega (arith, history_more, less, room.1, c.servings.invariant.recorded);
       sized = omega (arith, few_sizes, less, room.2, c.servings.invariant.sized);
     }
 
@@ -251,8 +251,8 @@ returns-clause-settles c =
     let first : Scene = plain c.args.scene.now in
     let now : Scene = plain c.servings.scene in
     let last : Scene = plain c.sweep.new.scene in
-    so-far-settled (set.contains c.args.affected.now) c.servings.affected first last c.servings.output.for_clients.items c.servings.output.sized.items
-    (so-far-swept (set.contains c.args.affected.now) c.servings.affected first now c.servings.output.for_clients.items c.servings.output.sized.items c.servings.invariant.so_far last c.sweep.ensures.swept)
+    so-far-settled (set.contains c.args.affected.now) c.servings.affected first last c.servings.output.given.items c.servings.output.sized.items
+    (so-far-swept (set.contains c.args.affected.now) c.servings.affected first now c.servings.output.given.items c.servings.output.sized.items c.servings.invariant.so_far last c.sweep.ensures.swept)
     (subst (GoesOn last) c.in_default.is c.sweep.ensures.next)
 
 pub returns-clause-lead : goal.returns-clause-lead

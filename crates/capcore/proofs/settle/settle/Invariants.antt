@@ -14,13 +14,13 @@ decreases-servings l = length l.scene.locks.locks.queue
 
 abbrev pub invariant-servings : goal.invariant-servings
 invariant-servings l = record {
-  so_far : IsSoFar (set.contains l.fn.affected) l.affected (plain l.fn.scene) (plain l.scene) l.output.for_clients.items l.output.sized.items;
+  so_far : IsSoFar (set.contains l.fn.affected) l.affected (plain l.fn.scene) (plain l.scene) l.output.given.items l.output.sized.items;
   stands : StandsAt (set.contains l.affected) l.place (plain l.scene);
   walked : AreWalked l.walked l.scene.tree l.scene.table.entries l.affected;
   judged : IsJudged l.output.judged (plain l.scene);
-  same : l.output.for_history.items ≡ l.output.for_clients.items;
-  for_clients : HasRoom l.output.for_clients l.scene.locks.locks;
-  for_history : HasRoom l.output.for_history l.scene.locks.locks;
+  same : l.output.recorded.items ≡ l.output.given.items;
+  given : HasRoom l.output.given l.scene.locks.locks;
+  recorded : HasRoom l.output.recorded l.scene.locks.locks;
   lead : LeadOn l.fn.output.changes.items l.output.changes.items l.fn.scene.tree l.scene.tree;
   places : HavePlaces l.output.changes l.scene.locks.locks l.affected;
   known : (k : Holder) → known_of l.scene.table.kept k ≡ known_of l.fn.scene.table.kept k;

@@ -1,5 +1,6 @@
 use Rattle.std.proofs.Common.{◌≡◌, Option, None, refl, sym, ap, ◌∙◌}
 use Rattle.lockmachine.specs.Scene.{plain, scene}
+use Rattle.step_model.proofs.Twice.{given-twice, recorded-twice}
 use Rattle.capstep.proofs.Again.{calls-passed, ends-passed, ends-rejection, ends-without_memory, tree-passed}
 use Rattle.capstep.proofs.Common.{Operation, Outcome, Rejection, Request, Scene, judged_again, operation_after, operation_before, operation_needs}
 use Rattle.capstep.proofs.Common.{rejection_of, tree_after}
@@ -21,8 +22,11 @@ free c = elim c.if-not-judged.branch [
 
 pub returns-in-Some-clause-ends : goal.returns-in-Some-clause-ends
 returns-in-Some-clause-ends c = λ table locks.
-    ends-rejection (scene c.args.scene.now.fs c.args.scene.now.tree c.args.scene.now.sessions table locks) c.args.request.now c.in-Some.rejection c.rejected.result.outcome
-    (sym (again (plain c.args.scene.now) c.args.request.now _ _ c.operation_ref-operation.ensures c.operation_rejection.ensures) ∙ c.in-Some.is) c.rejected.ensures.outcome
+    ends-rejection (scene c.args.scene.now.fs c.args.scene.now.tree c.args.scene.now.sessions table locks) c.args.request.now c.in-Some.rejection c.rejected.result.given
+    (sym (again (plain c.args.scene.now) c.args.request.now _ _ c.operation_ref-operation.ensures c.operation_rejection.ensures) ∙ c.in-Some.is) (given-twice c.rejected.result _ c.rejected.ensures)
+
+pub returns-in-Some-clause-recorded : goal.returns-in-Some-clause-recorded
+returns-in-Some-clause-recorded c = recorded-twice c.rejected.result _ c.rejected.ensures
 
 pub carry_out-requires : goal.carry_out-requires
 carry_out-requires c =
@@ -31,12 +35,15 @@ carry_out-requires c =
 pub returns-in-Ok-clause-ends : goal.returns-in-Ok-clause-ends
 returns-in-Ok-clause-ends c = λ table locks.
     let s : Scene = scene c.args.scene.now.fs c.args.scene.now.tree c.args.scene.now.sessions table locks in
-    ends-passed s c.args.request.now c.in-Ok.served.outcome (free (goal.at.returns-in-Ok-clause-ends c).After-carry_out-arg-2-1) (c.in-Ok.ensures.outcome s refl)
+    ends-passed s c.args.request.now c.in-Ok.served.given (free (goal.at.returns-in-Ok-clause-ends c).After-carry_out-arg-2-1) (given-twice c.in-Ok.served _ (c.in-Ok.ensures.outcome s refl))
+
+pub returns-in-Ok-clause-recorded : goal.returns-in-Ok-clause-recorded
+returns-in-Ok-clause-recorded c = recorded-twice c.in-Ok.served _ (c.in-Ok.ensures.outcome (plain c.args.scene.now) refl)
 
 pub returns-in-Ok-clause-tree : goal.returns-in-Ok-clause-tree
 returns-in-Ok-clause-tree c =
     let s : Scene = plain c.args.scene.now in
-    c.in-Ok.ensures.tree ∙ tree-passed s c.args.request.now ∙ ap (tree_after s.tree c.args.request.now) (sym (c.in-Ok.ensures.outcome s refl))
+    c.in-Ok.ensures.tree ∙ tree-passed s c.args.request.now ∙ ap (tree_after s.tree c.args.request.now) (sym (given-twice c.in-Ok.served _ (c.in-Ok.ensures.outcome s refl)))
 
 pub returns-then-not-room-clause-ends : goal.returns-then-not-room-clause-ends
 returns-then-not-room-clause-ends c = λ table locks.

@@ -25,13 +25,13 @@ answered_of : (c : In-Ok) → IsAnswered c.self.inside.world c.args.event c.in_o
 answered_of c = c.in_ok-step_reply.ensures.answered
 
 -- the step, with what is answered and with what the row keeps of it
-step_of : (c : In-Ok) → Step c.self.inside.world c.args.event c.in_ok-step_reply.step_reply.reply c.in_ok-step_reply.step_reply.ended c.step.new.self
+step_of : (c : In-Ok) → Step c.self.inside.world c.args.event c.in_ok-step_reply.step_reply.reply.given c.in_ok-step_reply.step_reply.ended c.step.new.self
 step_of c = let all = answered_of c in all.step
 
-step_for_history : (c : In-Ok) → Step c.self.inside.world c.args.event c.in_ok-step_reply.step_reply.for_history c.in_ok-step_reply.step_reply.ended c.step.new.self
-step_for_history c =
+recorded_step : (c : In-Ok) → Step c.self.inside.world c.args.event c.in_ok-step_reply.step_reply.reply.recorded c.in_ok-step_reply.step_reply.ended c.step.new.self
+recorded_step c =
     let all = answered_of c in
-    subst (λ (answer : Reply). Step c.self.inside.world c.args.event answer c.in_ok-step_reply.step_reply.ended c.step.new.self) (sym all.for_history) all.step
+    subst (λ (answer : Reply). Step c.self.inside.world c.args.event answer c.in_ok-step_reply.step_reply.ended c.step.new.self) (sym all.recorded) all.step
 
 -- the world has its entries and requests in order before the step
 kept_of : (c : In-Ok) → IsKept c.self.inside.world
@@ -43,12 +43,12 @@ next c = let all = answered_of c in all.sound
 
 -- its row, which comes last
 abbrev row_of : In-Ok → Row
-row_of c = record { pass = c.args.pass; nth = c.in_ok-nth.nth; event = c.args.event; reply = c.in_ok-step_reply.step_reply.for_history; ended = c.in_ok-step_reply.step_reply.ended }
+row_of c = record { pass = c.args.pass; nth = c.in_ok-nth.nth; event = c.args.event; reply = c.in_ok-step_reply.step_reply.reply.recorded; ended = c.in_ok-step_reply.step_reply.ended }
 
-row_is : (c : In-Ok) → row_of c ≡ made_row c.args.pass (rows_of c.args.pass c.self.inside.rows.items + 1) c.args.event c.in_ok-step_reply.step_reply.reply c.in_ok-step_reply.step_reply.ended
+row_is : (c : In-Ok) → row_of c ≡ made_row c.args.pass (rows_of c.args.pass c.self.inside.rows.items + 1) c.args.event c.in_ok-step_reply.step_reply.reply.given c.in_ok-step_reply.step_reply.ended
 row_is c =
     let all = answered_of c in
-    λ i. record { pass = c.args.pass; nth = c.in_ok-nth.ensures.number i; event = c.args.event; reply = all.for_history i; ended = c.in_ok-step_reply.step_reply.ended }
+    λ i. record { pass = c.args.pass; nth = c.in_ok-nth.ensures.number i; event = c.args.event; reply = all.recorded i; ended = c.in_ok-step_reply.step_reply.ended }
 
 added : (c : In-Ok) → c.push.new.self.items ≡ c.self.inside.rows.items ++ row_of c ∷ []
 added c = c.in-Ok.ensures.items ∙ ap (λ rows. rows ++ row_of c ∷ []) c.make_room.ensures.items
@@ -56,7 +56,7 @@ added c = c.in-Ok.ensures.items ∙ ap (λ rows. rows ++ row_of c ∷ []) c.make
 pub invariant_of-self-2 : goal.invariant_of-self-2
 invariant_of-self-2 c =
     let row : Row = row_of c in
-    let step : Step c.self.inside.world row.event row.reply row.ended c.step.new.self = step_for_history c in
+    let step : Step c.self.inside.world row.event row.reply row.ended c.step.new.self = recorded_step c in
     let all = answered_of c in
     rw (c.in-Ok.ensures.items, c.make_room.ensures.items)
     (more-recorded (recorded c.self.inside.world c.self.inside.rows.items c.self.inside.max_rows c.self.inside.output.changes.items) row c.step.new.self c.step.new.output.changes.items c.self.invariant step c.in_ok-nth.ensures.number c.in_ok-nth.ensures.room.0
@@ -65,7 +65,7 @@ invariant_of-self-2 c =
 shows_told : (c : In-Ok) → ShowsWhatIsTold (c.self.inside.rows.items ++ row_of c ∷ []) c.step.new.self.scene
 shows_told c =
     shows-told (c.self.inside.rows.items ++ row_of c ∷ []) c.step.new.self (next c)
-    (step-shown c.self.inside.world c.step.new.self c.self.inside.rows.items (row_of c) c.self.invariant.sound (kept_of c).0 c.self.invariant.shown (step_for_history c))
+    (step-shown c.self.inside.world c.step.new.self c.self.inside.rows.items (row_of c) c.self.invariant.sound (kept_of c).0 c.self.invariant.shown (recorded_step c))
 
 -- what the core was, and what it is with these rows
 abbrev before : In-Ok → Recorded
@@ -74,12 +74,12 @@ before c = recorded c.self.inside.world c.self.inside.rows.items c.self.inside.m
 abbrev after : In-Ok → List Row → Recorded
 after c rows = recorded c.step.new.self rows c.self.inside.max_rows c.step.new.output.changes.items
 
-promised : (c : In-Ok) → IsPromised (before c) c.args.pass c.args.event c.in_ok-step_reply.step_reply.reply (after c (c.self.inside.rows.items ++ row_of c ∷ []))
+promised : (c : In-Ok) → IsPromised (before c) c.args.pass c.args.event c.in_ok-step_reply.step_reply.reply.given (after c (c.self.inside.rows.items ++ row_of c ∷ []))
 promised c =
     let old : State = c.self.inside.world in
     let new : State = c.step.new.self in
     let event = c.args.event in
-    let reply : Reply = c.in_ok-step_reply.step_reply.reply in
+    let reply : Reply = c.in_ok-step_reply.step_reply.reply.given in
     let ended = c.in_ok-step_reply.step_reply.ended in
     let rows : List Row = c.self.inside.rows.items in
     let all = answered_of c in
@@ -106,11 +106,11 @@ promised c =
       sound = sound;
       at_rest = sound.at_rest;
       unchanged = rejection-unchanged old event reply ended new one c.self.invariant.sound locks table;
-      legal = λ first past. replays-more first rows old (row_of c) new past (step_for_history c);
+      legal = λ first past. replays-more first rows old (row_of c) new past (recorded_step c);
       changes = c.in_ok-step_reply.ensures.changes;
     }
 
 pub returns-clause-promised : goal.returns-clause-promised
 returns-clause-promised c =
-    subst (λ (t : Recorded). IsPromised t c.args.pass c.args.event c.in_ok-step_reply.step_reply.reply (after c c.push.new.self.items)) c.self.view_is
-    (subst (λ (rows : List Row). IsPromised (before c) c.args.pass c.args.event c.in_ok-step_reply.step_reply.reply (after c rows)) (sym (added c)) (promised c))
+    subst (λ (t : Recorded). IsPromised t c.args.pass c.args.event c.in_ok-step_reply.step_reply.reply.given (after c c.push.new.self.items)) c.self.view_is
+    (subst (λ (rows : List Row). IsPromised (before c) c.args.pass c.args.event c.in_ok-step_reply.step_reply.reply.given (after c rows)) (sym (added c)) (promised c))

@@ -1,6 +1,7 @@
 use Rattle.std.proofs.Common.{◌≡◌, ◌+◌, ◌++◌, List, length, sym, ap, subst, ◌∙◌, arith}
 use Rattle.std.proofs.lemmas.List.{length-append}
 use Rattle.step_model.specs.NotedChanges.{Noted}
+use Rattle.step_model.specs.Recorded.{twice}
 use Rattle.capcore.proofs.Begun.{ended-answered, ended-known, ended-numbers, few-earlier, fewer-places, shown-counted, shown-kept, shown-rest}
 use Rattle.capcore.proofs.Closing.{ends-sessions}
 use Rattle.capcore.proofs.Common.{AreChanges, AreCounted, ClientViews, Ended, Event, IsAnswered, IsLockMap, IsSound, IsTable, KeptScene, NumbersLeft, Scene}
@@ -19,7 +20,7 @@ returns-in-Some-clause-answered c =
     let s = c.args.self.now in
     rejection-answered s (event_of c.args.lock_event.now) c.in-Some.rejection c.alone.result (subst IsSound c.self.view_is c.self.invariant.0) c.requires.table
     (judged-at _ s (event_of c.args.lock_event.now) c.rejection.result c.self.view_is (c.rejection.ensures c.self.invariant.2.0) ∙ c.in-Some.is)
-    (c.alone.ensures.reply ∙ c.into_reply.ensures.reply) (c.alone.ensures.for_history ∙ sym c.alone.ensures.reply) c.alone.ensures.ended
+    (c.alone.ensures.reply ∙ ap twice c.into_reply.ensures.reply) c.alone.ensures.ended
 
 pub returns-in-Some-clause-changes : goal.returns-in-Some-clause-changes
 returns-in-Some-clause-changes c = changes-still c.clear.new.self.items (view_of c.args.self.now) c.clear.ensures.items
@@ -56,7 +57,7 @@ module _ (c : After-end) where
   output = c.begin.new.output
 
   abbrev for_clients : List Ended
-  for_clients = c.end.new.output.for_clients.items
+  for_clients = c.end.new.output.given.items
 
   abbrev e : Event
   e = event_of c.args.lock_event.now
@@ -84,7 +85,7 @@ close-requires g =
     let c = (goal.at.close-requires g).After-end in
     record {
       differ = ended-numbers (p c) (q c) (output c) (e c) (effect c) (may c) (begun c) (last c).scene.table.kept (plain (last c).scene) (for_clients c) c.end.ensures.ends;
-      same = c.end.ensures.for_history;
+      recorded = c.end.ensures.recorded;
       room = omega (arith, c.end.ensures.count, (begun c).room);
       places = fewer-places (effect c).answer (length (q c).scene.locks.locks.queue) (length (for_clients c)) (omega (arith, c.end.ensures.count)) (begun c).places;
       known = (kept c).0;
@@ -115,7 +116,7 @@ module _ (g : After-close) where
   whole : IsAnswered (state_of (p c)) (e c) g.close.result (state_of new)
   whole =
       ended-answered (p c) (q c) (output c) (e c) (effect c) (may c) (begun c) (last c).scene.table.kept (plain (last c).scene) (for_clients c) g.end.ensures.ends g.close.result (state_of new)
-      (g.close.ensures.reply left) g.close.ensures.for_history g.close.ensures.ended new_is
+      (g.close.ensures.reply left) g.close.ensures.ended new_is
 
 pub returns-clause-answered : goal.returns-clause-answered
 returns-clause-answered g = subst (λ (s : State). IsAnswered s (e (c g)) g.close.result (state_of (new g))) g.self.view_is (whole g)

@@ -1,5 +1,6 @@
 use Rattle.std.proofs.Common.{◌≡◌, ◌≤◌, [], List, length, filter, Some, refl, sym, ap, subst, ◌∙◌, arith}
 use Rattle.std.proofs.lemmas.List.Sums.{count_by-le-length, length-filter}
+use Rattle.step_model.proofs.Twice.{both-twice}
 use Rattle.capcore.proofs.Telling.{given-held}
 use Rattle.step_model.specs.DueEndings.{AreEndsOf}
 use Rattle.capcore.proofs.Common.{AreChanges, AreCounted, ByTest, Ended, Event, IsAnswered, IsSound, IsTable, KeptTable, Message, Reply, State, StepReply}
@@ -23,7 +24,7 @@ returns-in-Some-clause-answered c =
     ap (λ (w : State). first_failing (session_tests w.scene.sessions c.args.client.0)) (sym c.self.view_is) ∙ sym c.session_refusal.ensures ∙ c.in-Some.is in
     rejection-answered s (Event.Poll c.args.client c.args.max) (ByTest c.in-Some.refusal) c.alone.result sound c.requires.table
     (rejection-before s.scene (session_tests s.scene.sessions c.args.client.0) [] [] c.in-Some.refusal failed)
-    c.alone.ensures.reply (c.alone.ensures.for_history ∙ sym c.alone.ensures.reply) c.alone.ensures.ended
+    c.alone.ensures.reply c.alone.ensures.ended
 
 -- ---- an open session
 
@@ -37,13 +38,13 @@ module _ (c : After-drop-told) where
   new = record { scene = record old.scene { table = c.skip_not_due.new.self.entries }; messages = c.remove_given.new.due.items }
 
   abbrev step_reply : StepReply
-  step_reply = record { reply = Reply.Messages c.in_ok-given.given; for_history = Reply.Messages c.in_ok-for_history.for_history; ended = c.new.result }
+  step_reply = record { reply = record { given = Reply.Messages c.in_ok-given.given; recorded = Reply.Messages c.in_ok-recorded.recorded }; ended = c.new.result }
 
   first : c.in_ok-given.given ≡ first_messages old c.args.client c.args.max
   first = c.in_ok-given.ensures old refl refl c.self.invariant.2.0 (sym c.as_slice-ended.ensures.value)
 
-  same : c.in_ok-for_history.for_history ≡ c.in_ok-given.given
-  same = c.in_ok-for_history.ensures ∙ c.as_slice.ensures
+  same : c.in_ok-recorded.recorded ≡ first_messages old c.args.client c.args.max
+  same = c.in_ok-recorded.ensures ∙ c.as_slice.ensures ∙ first
 
   kept_items : c.remove_given.new.due.items ≡ filter (is_left c.args.client c.in_ok-given.given) old.messages
   kept_items =
@@ -65,7 +66,7 @@ module _ (c : After-drop-told) where
   whole =
       subst (IsAnswered old (Event.Poll c.args.client c.args.max) step_reply) left
       (poll-answered old c.self.invariant.0 (subst (λ (s : State). IsTable s.scene.table) (sym c.self.view_is) c.requires.table) c.args.client c.args.max step_reply (sym c.session_refusal.ensures ∙ c.in_default.is)
-      (ap Reply.Messages first) (ap Reply.Messages same) c.new.ensures)
+      (both-twice _ _ _ (ap Reply.Messages first) (ap Reply.Messages same)) c.new.ensures)
 
 pub invariant_of-self : goal.invariant_of-self
 invariant_of-self c =

@@ -1,4 +1,5 @@
 use Rattle.std.proofs.Common.{ap, subst, sym}
+use Rattle.step_model.proofs.Twice.{both-twice}
 use Rattle.capcore.proofs.Common.{AreChanges, Event, IsAnswered, KeptTable, Reply, State, StepReply, changes-still, plain, view_of, with_table}
 use Rattle.capcore.proofs.Counts.{recalled-counted}
 use Rattle.capcore.proofs.Recalled.{recall-answered, recalled-kept, recalled-sound}
@@ -16,12 +17,12 @@ module _ (c : After-new) where
   new = with_table old c.recall.new.self.entries
 
   abbrev step_reply : StepReply
-  step_reply = record { reply = Reply.Recalled c.in_ok-named.named; for_history = Reply.Recalled c.in_ok-for_history.for_history; ended = c.new.result }
+  step_reply = record { reply = record { given = Reply.Recalled c.in_ok-named.named; recorded = Reply.Recalled c.in_ok-recorded.recorded }; ended = c.new.result }
 
   whole : IsAnswered old (Event.Recall c.args.count) step_reply new
   whole =
       subst (λ t. IsAnswered old (Event.Recall c.args.count) step_reply (with_table old t)) (sym (ap (λ (t : KeptTable). t.entries) c.in_ok-named.ensures.ok))
-      (recall-answered old c.self.invariant.0 c.args.count step_reply c.first_to_recall.ensures.sound (ap Reply.Recalled c.in_ok-named.ensures.named) (ap Reply.Recalled c.in_ok-for_history.ensures.named) c.new.ensures)
+      (recall-answered old c.self.invariant.0 c.args.count step_reply c.first_to_recall.ensures.sound (both-twice _ _ _ (ap Reply.Recalled c.in_ok-named.ensures.named) (ap Reply.Recalled c.in_ok-recorded.ensures.named)) c.new.ensures)
 
 pub invariant_of-self : goal.invariant_of-self
 invariant_of-self c = rw c.in_err-named.ensures.err c.self.invariant
