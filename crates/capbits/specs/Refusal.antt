@@ -36,15 +36,15 @@ refusal_word refusals.Limit = codes "Limit"
 -- a test, and what is answered where it fails
 pub record Test : Type 0 where
   pub fails : Bool
-  pub answer : Refusal
+  pub refusal : Refusal
 
 abbrev pub refused_if : Bool → Refusal → Test
-refused_if fails answer = record { fails = fails; answer = answer }
+refused_if fails refusal = record { fails = fails; refusal = refusal }
 
 -- what the first test that fails answers
 abbrev pub first_failing : List Test → Option Refusal
 first_failing [] = None
-first_failing (t ∷ ts) = if t.fails then Some t.answer else first_failing ts
+first_failing (t ∷ ts) = if t.fails then Some t.refusal else first_failing ts
 
 -- why a call was refused; want of memory is no refusal
 abbrev pub refusal_in : {T : Type 0} → Result T ChangeError → Option Refusal

@@ -43,17 +43,17 @@ pub insert-widens : (old new : InoSet) (k : ℕ) → new ≡ set.insert old k �
 insert-widens old new k is q was = at_more k old new is q ∙ second_true (eq_by_cmp nat_cmp q k) (set.contains old q) was
 
 -- of the rows that were gone through, each is on an inode that is reached
-abbrev pub AreReached : InoSet → List EntryRow → List EntryRow → Type 0
-AreReached inos all left = (row : EntryRow) → Contains all row → (Contains left row) ⊎ (set.contains inos row.holder.ino.0 ≡ true)
+abbrev pub AreIncluded : InoSet → List EntryRow → List EntryRow → Type 0
+AreIncluded inos all left = (row : EntryRow) → Contains all row → (Contains left row) ⊎ (set.contains inos row.holder.ino.0 ≡ true)
 
-pub first-reached : (inos : InoSet) (all : List EntryRow) → AreReached inos all all
-first-reached inos all row inside = inl inside
+pub first-included : (inos : InoSet) (all : List EntryRow) → AreIncluded inos all all
+first-included inos all row inside = inl inside
 
-pub more-reached : (a b : InoSet) (all left rest : List EntryRow) (row : EntryRow) → left ≡ row ∷ rest → b ≡ set.insert a row.holder.ino.0 → AreReached a all left → AreReached b all rest
-more-reached a b all left rest row is more so_far = grind (arith, added, insert-widens)
+pub more-included : (a b : InoSet) (all left rest : List EntryRow) (row : EntryRow) → left ≡ row ∷ rest → b ≡ set.insert a row.holder.ino.0 → AreIncluded a all left → AreIncluded b all rest
+more-included a b all left rest row is more so_far = grind (arith, added, insert-widens)
 
-pub all-reached : (inos : InoSet) (all left : List EntryRow) → left ≡ [] → AreReached inos all left → (row : EntryRow) → Contains all row → set.contains inos row.holder.ino.0 ≡ true
-all-reached inos all left none so_far row inside = grind arith
+pub all-included : (inos : InoSet) (all left : List EntryRow) → left ≡ [] → AreIncluded inos all left → (row : EntryRow) → Contains all row → set.contains inos row.holder.ino.0 ≡ true
+all-included inos all left none so_far row inside = grind arith
 
 -- where there was memory for one more, it is among them
 pub among-tried : {A E : Type 0} (k : ℕ) (old new : InoSet) (r : Result A E) → OnOk r (new ≡ set.insert old k) → OnOk r (set.contains new k ≡ true)

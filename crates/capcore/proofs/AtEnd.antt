@@ -14,8 +14,8 @@ use Rattle.std.specs.Ordering.{eq_by_cmp, nat_cmp}
 use Rattle.std.specs.FinMap as map
 use Rattle.captable.proofs.Tables.{distinct-filter, holders-filter}
 use Rattle.sessiontab.specs.declared.table.TheConstants.{MAX_SESSIONS}
-use Rattle.capcore.proofs.CommonPieces.{Caps, EntryRow, Holder, Ino, InodeLocks, IsTable, Nodes, SessionTable, StateMap, Table, clients_of, due_under, entries_on}
-use Rattle.capcore.proofs.CommonPieces.{entry_by, entry_under, has_session, holder, holders_of_rows, is_of_inode, numbered_as, same, same_key, told_at}
+use Rattle.capcore.proofs.CommonPieces.{Caps, EntryRow, Holder, Ino, InodeLocks, IsTable, Nodes, SessionTable, StateMap, Table, clients_of, entries_on, issuable_under}
+use Rattle.capcore.proofs.CommonPieces.{entry_by, entry_under, has_session, holder, holders_of_rows, is_of_inode, numbered_as, pending_at, same, same_key}
 
 -- ---- keys of a map
 
@@ -92,4 +92,4 @@ few-entries t ino s is most connected =
 pub entry-alike : (known first : Holder → Caps) (fs : List ℕ) (tree : Nodes) (sessions : SessionTable) (locks : Option InodeLocks) (states : StateMap) (row : EntryRow)
     → known row.holder ≡ first row.holder → locks ≡ map.get states row.holder.ino.0 → entry_under known fs tree sessions locks row ≡ entry_by first fs tree sessions states row
 entry-alike known first fs tree sessions locks states row same_known is =
-    λ i. numbered_as (same_known i) (told_at fs tree sessions (is i) row) (due_under fs tree sessions (is i) row) row
+    λ i. numbered_as (same_known i) (pending_at fs tree sessions (is i) row) (issuable_under fs tree sessions (is i) row) row

@@ -9,14 +9,14 @@ use Rattle.capcore.specs.Begun.{MayEndAt, among}
 use Rattle.capcore.proofs.Closing.{affects-ends, affects-one, affects-settles, ends-table, for_clients-all, for_clients-but_own, for_clients-own_numbers}
 use Rattle.capcore.proofs.Common.{Affected, Affects, AffectsOne, AreBelow, AreChanges, AreCounted, AreCountedIn, AreGiven, AreKnown, ArePermittedIn}
 use Rattle.capcore.proofs.Common.{ClientViews, CountedLocks, Direct, Ended, EndsWith, Entry, EntryRequest, Event, HasRoom, HaveOwnNumbers, HaveRoomFor, Holder}
-use Rattle.capcore.proofs.Common.{IsAnswered, IsJudged, IsLockMap, IsSubset, IsTable, Knows, MayEnd, MaySettle, NumbersLeft, Scene, SettlesAt, SettlesWith}
-use Rattle.capcore.proofs.Common.{State, StepOutput, StepReply, StillKnown, all_ended, direct, earlier, entry_answer, entry_at, finished_at, known_in, plain}
+use Rattle.capcore.proofs.Common.{IsJudged, IsLockMap, IsReplied, IsSubset, IsTable, Knows, MayEnd, MaySettle, NumbersLeft, Scene, SettlesAt, SettlesWith}
+use Rattle.capcore.proofs.Common.{State, StepOutput, StepReply, StillKnown, all_ended, direct, earlier, entry_at, entry_reply, finished_at, known_in, plain}
 use Rattle.capcore.proofs.Common.{reply_of, shown, sized_in, sizes_owed, state_at_end, still-knows, view_of}
 use Rattle.capcore.proofs.Concluded.{IsConcluded, concluded}
 use Rattle.capcore.proofs.EndKnown.{ends-known}
 use Rattle.capcore.proofs.EntryWhole.{request-counted, show_reply-alike}
 use Rattle.capcore.proofs.Unaffected.{alike-kept}
-use Rattle.capcore.specs.UnderWay.{AreKept, GivesOne, HasBegun, HasPlaces, IsNumbered, MayBegin, answer_of, dropped_of, earlier_of, state_of}
+use Rattle.capcore.specs.UnderWay.{AreKept, GivesOne, HasBegun, HasPlaces, IsNumbered, MayBegin, direct_reply_of, dropped_of, earlier_of, state_of}
 use Rattle.capcore.specs.declared.parts.ReplyDue.{ReplyDue}
 use Rattle.capcore.specs.declared.parts.ReplyDue.TheVariants.{Awaited, Done, Dropped, Requested}
 use Rattle.capcore.specs.declared.parts.Applied.{Applied}
@@ -52,17 +52,17 @@ module _ (p q : CoreState) (output : StepOutput) (e : Event) (k : Holder) (may :
   one-gives : GivesOne old e
   one-gives count given = subst (λ (x : Direct). AreBelow count x.state) (sym by_itself) (below count given)
 
-  pub one-begun : (affected : Affected) (answer : ReplyDue) → among affected ≡ from → answer_of answer ≡ d.answer → dropped_of answer ≡ []
-      → IsNumbered answer p.scene.locks.locks.last q.scene.locks.locks.last → AffectsOne k.ino.0 old (plain q.scene) → IsTable q.scene.table.entries → StillKnown p.scene.table.entries q.scene.table.entries p.scene.table.kept q.scene.table.kept → ArePermittedIn q.scene.table.kept (plain q.scene)
+  pub one-begun : (affected : Affected) (reply_due : ReplyDue) → among affected ≡ from → direct_reply_of reply_due ≡ d.reply_due → dropped_of reply_due ≡ []
+      → IsNumbered reply_due p.scene.locks.locks.last q.scene.locks.locks.last → AffectsOne k.ino.0 old (plain q.scene) → IsTable q.scene.table.entries → StillKnown p.scene.table.entries q.scene.table.entries p.scene.table.kept q.scene.table.kept → ArePermittedIn q.scene.table.kept (plain q.scene)
       → ((j : Holder) (f : Entry) → entry_at q.scene.table.entries j ≡ Some f → IsSubset f.held (held_at p.scene.table.entries j)) → AreCountedIn q.scene → IsLockMap q.scene.locks.locks
-      → HaveRoomFor (length q.scene.locks.locks.queue) output → IsJudged output.judged (plain q.scene) → MayEndAt affected q.scene.table.kept (plain q.scene) output.changes → HasRoom q.messages q.scene.locks.locks → HasPlaces answer (length q.scene.locks.locks.queue)
-      → AreChanges output.changes.items (view_of old) (view_of (state_of q)) → HasBegun p e (record { affected = affected; answer = answer }) q output
-  one-begun affected answer same answers none number one table still permitted less counted order room judged at left_room places noted =
+      → HaveRoomFor (length q.scene.locks.locks.queue) output → IsJudged output.judged (plain q.scene) → MayEndAt affected q.scene.table.kept (plain q.scene) output.changes → HasRoom q.messages q.scene.locks.locks → HasPlaces reply_due (length q.scene.locks.locks.queue)
+      → AreChanges output.changes.items (view_of old) (view_of (state_of q)) → HasBegun p e (record { affected = affected; reply_due = reply_due }) q output
+  one-begun affected reply_due same answers none number one table still permitted less counted order room judged at left_room places noted =
       let affects : Affects from old (state_of q) =
       subst (λ (ms : List Ended). Affects from old (record { scene = plain q.scene; messages = ms })) (sym left) (affects-one k.ino.0 old (plain q.scene) may.whole.0 one) in
       record {
         is = one-state;
-        answer = answers ∙ sym (ap (λ (x : Direct). x.answer) by_itself);
+        reply_due = answers ∙ sym (ap (λ (x : Direct). x.reply_due) by_itself);
         dropped = none ∙ sym keeps.0 ∙ sym (ap (λ (x : Direct). x.dropped) by_itself);
         number = number;
         affects = subst (λ (at : ℕ → Bool). Affects at old (state_of q)) (sym same) affects;
@@ -86,21 +86,21 @@ module _ (p q : CoreState) (output : StepOutput) (e : Event) (k : Holder) (may :
 -- ---- what is shown
 
 -- it changes what is kept beside entries alone
-request-rest : (k : Holder) (request : EntryRequest) (s : State) → (shown (entry_answer k request) s).scene ≡ record s.scene { table = (shown (entry_answer k request) s).scene.table }
+request-rest : (k : Holder) (request : EntryRequest) (s : State) → (shown (entry_reply k request) s).scene ≡ record s.scene { table = (shown (entry_reply k request) s).scene.table }
 request-rest k request s = grind arith
 
-pub shown-rest : (a : ReplyDue) (s : State) → (shown (answer_of a) s).scene ≡ record s.scene { table = (shown (answer_of a) s).scene.table }
+pub shown-rest : (a : ReplyDue) (s : State) → (shown (direct_reply_of a) s).scene ≡ record s.scene { table = (shown (direct_reply_of a) s).scene.table }
 shown-rest a s = grind arith
 
-pub shown-kept : (a : ReplyDue) (s : State) (sets : ClientViews) → AreKept sets s.scene → AreKept sets (shown (answer_of a) s).scene
-shown-kept Done s sets kept = kept
-shown-kept (Dropped dropped) s sets kept = kept
-shown-kept (Requested k request) s sets kept =
-    subst (AreKept sets) (sym (request-rest k request s)) (alike-kept sets s.scene (shown (entry_answer k request) s).scene.table (show_reply-alike s k request) kept)
-shown-kept (Awaited ticket) s sets kept = kept
+pub shown-stays : (a : ReplyDue) (s : State) (sets : ClientViews) → AreKept sets s.scene → AreKept sets (shown (direct_reply_of a) s).scene
+shown-stays Done s sets kept = kept
+shown-stays (Dropped dropped) s sets kept = kept
+shown-stays (Requested k request) s sets kept =
+    subst (AreKept sets) (sym (request-rest k request s)) (alike-kept sets s.scene (shown (entry_reply k request) s).scene.table (show_reply-alike s k request) kept)
+shown-stays (Awaited ticket) s sets kept = kept
 
 -- and leaves what is held
-pub shown-counted : (a : ReplyDue) (s : State) (l : CountedLocks) → AreCounted s.scene.table l → AreCounted (shown (answer_of a) s).scene.table l
+pub shown-counted : (a : ReplyDue) (s : State) (l : CountedLocks) → AreCounted s.scene.table l → AreCounted (shown (direct_reply_of a) s).scene.table l
 shown-counted Done s l are = are
 shown-counted (Dropped dropped) s l are = are
 shown-counted (Requested k request) s l are = request-counted s k request l are
@@ -140,16 +140,16 @@ module _ (p q : CoreState) (output : StepOutput) (e : Event) (effect : Applied) 
   all : q.scene.locks.locks.last ≡ p.scene.locks.locks.last → earlier p.scene.locks.locks.last for_clients ≡ for_clients
   all same = subst (λ n. earlier n for_clients ≡ for_clients) same (for_clients-all ends.at (among effect.affected) (plain q.scene) ends.settled for_clients ends.sized settles order)
 
-  by_answer : (a : ReplyDue) → IsNumbered a p.scene.locks.locks.last q.scene.locks.locks.last → earlier p.scene.locks.locks.last for_clients ≡ earlier_of a for_clients
-  by_answer (Awaited ticket) (own, next) = for_clients-but_own ends.at (among effect.affected) (plain q.scene) ends.settled for_clients ends.sized settles order p.scene.locks.locks.last ticket own next
-  by_answer a same = all same
+  by_reply : (a : ReplyDue) → IsNumbered a p.scene.locks.locks.last q.scene.locks.locks.last → earlier p.scene.locks.locks.last for_clients ≡ earlier_of a for_clients
+  by_reply (Awaited ticket) (own, next) = for_clients-but_own ends.at (among effect.affected) (plain q.scene) ends.settled for_clients ends.sized settles order p.scene.locks.locks.last ticket own next
+  by_reply a same = all same
 
-  others : earlier p.scene.locks.locks.last for_clients ≡ earlier_of effect.answer for_clients
-  others = by_answer effect.answer begun.number
+  others : earlier p.scene.locks.locks.last for_clients ≡ earlier_of effect.reply_due for_clients
+  others = by_reply effect.reply_due begun.number
 
   -- the state at the end, but for what is shown
   abbrev pub closed : State
-  closed = record { scene = last; messages = q.messages.items ++ earlier_of effect.answer for_clients }
+  closed = record { scene = last; messages = q.messages.items ++ earlier_of effect.reply_due for_clients }
 
   abbrev by_the_rules : State
   by_the_rules = state_at_end before (direct before e).state settles.moves (finished_at ends.at (known_in q.scene.table.kept) (sizes_owed (sized_in settles.moves) ends.settled))
@@ -157,17 +157,17 @@ module _ (p q : CoreState) (output : StepOutput) (e : Event) (effect : Applied) 
   same_state : closed ≡ by_the_rules
   same_state = grind (arith, others)
 
-  pub ended-answered : (step_reply : StepReply) (new : State) → step_reply.reply ≡ twice (reply_of closed for_clients (answer_of effect.answer))
-      → step_reply.ended ≡ dropped_of effect.answer ++ earlier_of effect.answer for_clients → new ≡ shown (answer_of effect.answer) closed → IsAnswered before e step_reply new
-  ended-answered step_reply new replies ended new-is =
+  pub ended-replied : (step_reply : StepReply) (new : State) → step_reply.reply ≡ twice (reply_of closed for_clients (direct_reply_of effect.reply_due))
+      → step_reply.ended ≡ dropped_of effect.reply_due ++ earlier_of effect.reply_due for_clients → new ≡ shown (direct_reply_of effect.reply_due) closed → IsReplied before e step_reply new
+  ended-replied step_reply new replies ended new-is =
       let c =
       concluded ends.at (among effect.affected) (known_in q.scene.table.kept) before e settles.moves ends.settled may.whole.0 (subst (Affects (among effect.affected) before) begun.is begun.affects)
       (subst (λ (s : State). IsTable s.scene.table) begun.is begun.table) (subst (λ (s : State). IsLockMap s.scene.locks) begun.is order)
       (subst (λ (s : State). Knows (known_in q.scene.table.kept) before.scene s.scene.table) begun.is begun.knows) begun.gives
       (subst (λ (s : State). SettlesAt ends.at (among effect.affected) settles.moves s.scene ends.settled) begun.is settles.settles) ends.tree
       (subst (λ (s : State). IsTable s.scene.table) same_state (ends-table (among effect.affected) q.scene.table.kept now (plain q.scene) last for_clients ends begun.table)) step_reply.reply.given new
-      (given-twice step_reply.reply _ replies ∙ (λ i. reply_of (same_state i) (settles.ended_is i) (begun.answer i))) (new-is ∙ (λ i. shown (begun.answer i) (same_state i))) in
+      (given-twice step_reply.reply _ replies ∙ (λ i. reply_of (same_state i) (settles.ended_is i) (begun.reply_due i))) (new-is ∙ (λ i. shown (begun.reply_due i) (same_state i))) in
       let ends_so : all_ended before (direct before e) settles.moves ≡ step_reply.ended =
-      (λ i. (sym begun.dropped) i ++ earlier p.scene.locks.locks.last ((sym settles.ended_is) i)) ∙ ap (λ ms. dropped_of effect.answer ++ ms) others ∙ sym ended in
+      (λ i. (sym begun.dropped) i ++ earlier p.scene.locks.locks.last ((sym settles.ended_is) i)) ∙ ap (λ ms. dropped_of effect.reply_due ++ ms) others ∙ sym ended in
       let whole : IsConcluded before e step_reply.reply.given step_reply.ended new = subst (λ (ms : List Ended). IsConcluded before e step_reply.reply.given ms new) ends_so c in
       record { step = whole.step; recorded = recorded-twice step_reply.reply _ replies; sound = whole.sound; issued = whole.issued; given = whole.given }

@@ -4,7 +4,7 @@ use Rattle.lockmachine.proofs.Ending.{few}
 use Rattle.capcore.proofs.Moved.{served-count}
 use Rattle.lockmachine.specs.Runs.{Runs}
 use Rattle.capcore.proofs.Common.{Alter, AreBounded, Event, Get, IsLockMap, Made, MakesAll, Rejection, Rename, Rmdir, Scene, Served, State, Unlink, child}
-use Rattle.capcore.proofs.Common.{direct, effect, effect_unless, ended_in, found, holder, judged, move_of, without_requests_of-kept}
+use Rattle.capcore.proofs.Common.{direct, effect, effect_unless, ended_in, found, holder, judged, move_of, without_requests_of-stays}
 use Rattle.capcore.proofs.LockRequests.{order-of_operation}
 
 -- ---- the queue stays in order, whatever the event
@@ -16,8 +16,8 @@ found-keeps Fact s (Some ino) fact = fact
 
 -- who comes to wait, comes last
 effect-order : (old : State) (e : Event) → judged old.scene e ≡ None → IsLockMap old.scene.locks → IsLockMap (effect old e).state.scene.locks
-effect-order old (Event.CloseSession client) free order = without_requests_of-kept old.scene.locks client order
-effect-order old (Event.Evict client) free order = without_requests_of-kept old.scene.locks client order
+effect-order old (Event.CloseSession client) free order = without_requests_of-stays old.scene.locks client order
+effect-order old (Event.Evict client) free order = without_requests_of-stays old.scene.locks client order
 effect-order old (Event.Lookup client dir name) free order = found-keeps (λ (s : State). IsLockMap s.scene.locks) old (child old.scene.tree.nodes dir.0 name) order
 effect-order old (Event.Create client dir name mode) free order = record { rising = order.rising; given = order.given; room = order.room }
 effect-order old (Event.Mkdir client dir name mode) free order = record { rising = order.rising; given = order.given; room = order.room }

@@ -64,7 +64,7 @@ module _ (from : ℕ → Bool) (old affected : State) (sound : IsSound old) (aff
 
   -- so the locks may settle behind it and the step may end
   pub affects-settles : IsLockMap affected.scene.locks → MaySettle from affected.scene
-  affects-settles order = record { quiet = rest-outside from old.scene affected.scene sound.at_rest affects.same; order = order }
+  affects-settles order = record { resting = rest-outside from old.scene affected.scene sound.at_rest affects.same; order = order }
 
   pub affects-ends : (sets : ClientViews) (count : ℕ) → count < 2 ^ 32 → All (λ row. row.entry.seq ≤ count) rows → ArePermittedIn sets affected.scene → MayEnd sets affected.scene
   affects-ends sets count less given permitted = record {

@@ -48,7 +48,7 @@ pub use Rattle.capcore.proofs.SoundEnd.{sound-settles}
 pub use Rattle.capcore.proofs.Judged.{none-judged}
 pub use Rattle.capcore.proofs.Passed.{no_test, passed, rejection}
 pub use Rattle.capcore.proofs.Knowing.{HoldAlike, alike-less, alike-where, still-knows, still-there}
-pub use Rattle.capcore.proofs.LeftAlone.{found-contains, kept-finished, kept-sound, no_locks}
+pub use Rattle.capcore.proofs.LeftAlone.{found-contains, no_locks, stays-finished, stays-sound}
 pub use Rattle.capcore.proofs.ManyInodes.{table-where}
 pub use Rattle.capcore.proofs.Moved.{Waited, ended-waited, moved-all, sound-pinned}
 pub use Rattle.capcore.proofs.Rejecting.{no_moves, rejection-only, rejection-step}
@@ -57,11 +57,11 @@ pub use Rattle.capcore.proofs.SameOff.{row_elsewhere}
 pub use Rattle.capcore.proofs.ShownSteps.{apart_client, step-shown}
 pub use Rattle.capcore.proofs.Telling.{shown-given, shown-issued, shown-sound}
 pub use Rattle.capcore.specs.Affected.{Affects, AffectsOne, IsAffectedEntry, Knows, SettlesAt, finished_at, operation_by}
-pub use Rattle.capcore.specs.Answered.{IsAnswered}
+pub use Rattle.capcore.specs.Replied.{IsReplied}
 pub use Rattle.capcore.specs.Begun.{AreCountedIn, ArePermittedIn, HaveRoomFor, MayEnd, MaySettle}
-pub use Rattle.capcore.specs.EntryRequest.{entry_answer, entry_event}
+pub use Rattle.capcore.specs.EntryRequest.{entry_event, entry_reply}
 pub use Rattle.capcore.specs.Judged.{IsJudged}
-pub use Rattle.capcore.specs.Leaving.{LeavesEntries, with_parts}
+pub use Rattle.capcore.specs.Sparing.{SparesEntries, with_parts}
 pub use Rattle.capcore.specs.Serves.{EndsWith, SettlesWith}
 pub use Rattle.capcore.specs.SessionChange.{session_changed}
 pub use Rattle.capcore.specs.declared.output.StepOutput.{StepOutput}
@@ -84,7 +84,7 @@ pub use Rattle.step_model.specs.declared.row.Row.{Row}
 pub use Rattle.step_model.proofs.Noting.{changes-still}
 pub use Rattle.step_model.specs.DueEndings.{DueEndings, HasRoom, HaveOwnNumbers, but_for, is_left, is_of_ticket}
 pub use Rattle.step_model.specs.NotedChanges.{view}
-pub use Rattle.step_model.specs.Direct.{Answer, Awaits, Direct, Gives, IsDirect, Says, Shows, awaited_as, direct, effect, effect_unless, enqueues, found}
+pub use Rattle.step_model.specs.Direct.{Awaits, Direct, DirectReply, Gives, IsDirect, Says, Shows, awaited_as, direct, effect, effect_unless, enqueues, found}
 pub use Rattle.step_model.specs.Direct.{owned_by, reply_of, says, shown, with_birth, with_flush, with_scene, with_table}
 pub use Rattle.step_model.specs.Finish.{finished, is_sized, owed, sizes_owed}
 pub use Rattle.step_model.specs.Headline.{AreBounded, IssuesExactly, ServedDenied, is_rejection, move_of}
@@ -98,7 +98,7 @@ pub use Rattle.step_model.specs.Numbers.{rows_of}
 pub use Rattle.step_model.specs.Operations.{change_tests, exclusive, operation_after, operation_before, operation_needs}
 pub use Rattle.step_model.specs.Serving.{As_judged, MayEndAs, Without_memory, judged_again, outcome_unless}
 pub use Rattle.step_model.specs.Settle.{Began, Gathered, Made, Makes, MakesAll, Served, Settles, ended_in, sized_in}
-pub use Rattle.step_model.specs.Shown.{ShowsWhatIsTold}
+pub use Rattle.step_model.specs.Shown.{ShowsWhatIsPending}
 pub use Rattle.step_model.specs.Sound.{AreGiven, IsSound, IsSoundEntry, NumbersLeft}
 pub use Rattle.step_model.specs.State.{State}
 pub use Rattle.step_model.specs.Step.{Step, StepBy, all_ended, earlier, state_after, state_at_end}
@@ -111,11 +111,11 @@ pub use Rattle.policy_view.specs.declared.change.ViewChange.{ViewChange}
 pub use Rattle.lockmachine.proofs.Finding.{contains-filter, filter-contains}
 pub use Rattle.lockmachine.proofs.Moving.{is_at, with_lock-each}
 pub use Rattle.lockmachine.proofs.PolicyElsewhere.{alike-itself}
-pub use Rattle.lockmachine.proofs.Queue.{found_by_number, without_requests_of-kept}
+pub use Rattle.lockmachine.proofs.Queue.{found_by_number, without_requests_of-stays}
 pub use Rattle.lockmachine.specs.Counts.{AreCounted, CountedLocks}
 pub use Rattle.lockmachine.specs.Inodes.{CountMap, StateMap, in_sync, lock_in}
 pub use Rattle.lockmachine.specs.Locks.{IsLockMap, LockMap, lock_at, next_request, queue_tests, request_at, with_ino, with_lock, with_request}
-pub use Rattle.lockmachine.specs.Moves.{IsQuiet, LockId, coming_state, first_move, present_state}
+pub use Rattle.lockmachine.specs.Moves.{IsLockAtRest, LockId, coming_state, first_move, present_state}
 pub use Rattle.lockmachine.specs.Policy.{permitted}
 pub use Rattle.lockmachine.specs.Requests.{first_for, is_for, is_numbered, part_of_change}
 pub use Rattle.lockmachine.specs.declared.moves.Move.TheVariants.{Begin, End, Serve}

@@ -44,9 +44,9 @@ pub use Rattle.capstep.proofs.Held.{or_inside}
 pub use Rattle.capstep.proofs.KeptSets.{found-stays, kept-as, kept-nobody, kept-none, kept-not, kept-same, kept-then, was-there}
 pub use Rattle.capstep.proofs.Renewed.{found-contains}
 pub use Rattle.capstep.proofs.Walked.{second_true}
-pub use Rattle.capstep.specs.Finishing.{clients_of, entry_by, entry_under, numbered_as, told_at, told_by}
+pub use Rattle.capstep.specs.Finishing.{clients_of, entry_by, entry_under, numbered_as, pending_at, pending_by}
 pub use Rattle.capstep.specs.Known.{AreKnown, ClientViews, KnownAnew, OthersHaveAll, StillKnown, is_still_known, known_anew, known_in, known_of, permitted_of}
-pub use Rattle.capstep.specs.Reach.{AreWalked, Covers, Reaches, Widens}
+pub use Rattle.capstep.specs.AffectedInodes.{AreWalked, Covers, IsWidenedBy, Widens}
 pub use Rattle.capstep.specs.Served.{is_rename}
 pub use Rattle.step_model.specs.declared.event.Event.{Event}
 pub use Rattle.step_model.specs.declared.event.OpenMode.{OpenMode}
@@ -59,7 +59,7 @@ pub use Rattle.step_model.specs.Changing.{tree_after, tree_with}
 pub use Rattle.step_model.specs.DueEndings.{is_to}
 pub use Rattle.step_model.specs.NotedChanges.{LeadOn}
 pub use Rattle.step_model.specs.Direct.{Direct, Gives, Shows, direct, effect, effect_unless, opening_wants, reply_of, shown, with_scene}
-pub use Rattle.step_model.specs.Finish.{due, due_under, finished, forget, is_in_use, is_sized, issue, issue_row, number, number_row, owed, sizes_owed}
+pub use Rattle.step_model.specs.Finish.{finished, forget, is_in_use, is_sized, issuable, issuable_under, issue, issue_row, number, number_row, owed, sizes_owed}
 pub use Rattle.step_model.specs.Finish.{still_known}
 pub use Rattle.step_model.specs.Headline.{IsInPlace, IssuesExactly}
 pub use Rattle.step_model.specs.Judge.{judged, rejection_reply, revoked_of}
@@ -73,20 +73,20 @@ pub use Rattle.step_model.specs.declared.rejection.Rejection.{Rejection}
 pub use Rattle.lockmachine.proofs.CountsStay.{counted-held}
 pub use Rattle.lockmachine.proofs.Exact.{ends_not, settled}
 pub use Rattle.lockmachine.proofs.Finding.{contains-filter, filter-contains}
-pub use Rattle.lockmachine.proofs.PolicyElsewhere.{alike-itself, permitted-kept, wants-kept}
+pub use Rattle.lockmachine.proofs.PolicyElsewhere.{alike-itself, permitted-stays, wants-stay}
 pub use Rattle.lockmachine.proofs.Rest.{same_key}
-pub use Rattle.lockmachine.proofs.Told.{has-against, has-told, told-less}
-pub use Rattle.lockmachine.proofs.Waiting.{quiet-waits-at, served-at, waits-kept-at}
+pub use Rattle.lockmachine.proofs.Pending.{has-against, has-pending, pending-less}
+pub use Rattle.lockmachine.proofs.Waiting.{resting-waits-at, served-at, waits-stay-at}
 pub use Rattle.lockmachine.specs.Counts.{AreCounted, CountedLocks, has_outside}
 pub use Rattle.lockmachine.specs.Inodes.{StateMap, in_sync, lock_in}
 pub use Rattle.lockmachine.specs.Locks.{IsLockMap, LockMap, lock_at, request_at, without_request}
-pub use Rattle.lockmachine.specs.Moves.{IsAtRest, IsQuiet, LockId, first_move, is_open}
+pub use Rattle.lockmachine.specs.Moves.{IsAtRest, IsLockAtRest, LockId, first_move, is_open}
 pub use Rattle.lockmachine.specs.Policy.{ArePermitted, permitted}
 pub use Rattle.lockmachine.specs.Requests.{first_for, is_numbered, part_of_operation}
 pub use Rattle.lockmachine.specs.Revoked.{is_revoked}
 pub use Rattle.lockmachine.specs.Rows.{IsInRow, IsInRowOf}
 pub use Rattle.lockmachine.specs.Runs.{ChangesLocksOf}
-pub use Rattle.lockmachine.specs.Scene.{Scene, against, outside, plain, scene, told_set, wants}
+pub use Rattle.lockmachine.specs.Scene.{Scene, against, outside, pending_of, plain, scene, wants}
 pub use Rattle.lockmachine.specs.Cursors.{IsCursorAt, WaitAt, may_end_by}
 pub use Rattle.lockmachine.specs.Under.{allowed_under}
 pub use Rattle.lockmachine.specs.Wants.{effective_want}

@@ -10,8 +10,8 @@ use Rattle.capcore.proofs.EntryStep.{one-step}
 use Rattle.capcore.specs.UnderWay.{GivesOne}
 
 -- what is promised of a step
-pub record IsConcluded (old : State) (e : Event) (answer : Reply) (ended : List Ended) (new : State) : Type 0 where
-  pub step : Step old e answer ended new
+pub record IsConcluded (old : State) (e : Event) (reply : Reply) (ended : List Ended) (new : State) : Type 0 where
+  pub step : Step old e reply ended new
   pub sound : IsSound new
   pub issued : IssuesExactly (direct old e).state.scene new.scene
   pub given : (count : ℕ) → AreGiven count old → AreGiven (count + 1) new
@@ -26,21 +26,21 @@ module _ (at from : ℕ → Bool) (known : Holder → Caps) (old : State) (e : E
   abbrev pub last : State
   last = state_at_end old affected moves (finished_at at known (sizes_owed (sized_in moves) settled))
 
-  pub concluded : IsTable last.scene.table → (answer : Reply) (new : State) → answer ≡ reply_of last (ended_in moves) (direct old e).answer
-      → new ≡ shown (direct old e).answer last → IsConcluded old e answer (all_ended old (direct old e) moves) new
-  concluded last-table answer new answers is = record {
+  pub concluded : IsTable last.scene.table → (reply : Reply) (new : State) → reply ≡ reply_of last (ended_in moves) (direct old e).reply_due
+      → new ≡ shown (direct old e).reply_due last → IsConcluded old e reply (all_ended old (direct old e) moves) new
+  concluded last-table reply new answers is = record {
     step =
         one-step old e moves settled (finished_at at known (sizes_owed (sized_in moves) settled)) settles.settles
-        (sizes-end at from known old affected moves settled sound tree table affects knows settles) answer new answers is;
+        (sizes-end at from known old affected moves settled sound tree table affects knows settles) reply new answers is;
     sound =
         subst IsSound (sym is)
-        (shown-sound last (direct old e).answer (sizes-sound at from known old affected moves settled sound tree table affects knows settles order) last-table);
+        (shown-sound last (direct old e).reply_due (sizes-sound at from known old affected moves settled sound tree table affects knows settles order) last-table);
     issued =
         subst (λ (s : State). IssuesExactly affected.scene s.scene) (sym is)
-        (shown-issued affected.scene last (direct old e).answer last-table
+        (shown-issued affected.scene last (direct old e).reply_due last-table
         (sizes-issues at from known old affected moves settled sound tree table affects knows settles));
     given = λ count given. (let b = gives count given in
         subst (AreGiven (count + 1)) (sym is)
-        (shown-given (count + 1) last (direct old e).answer
+        (shown-given (count + 1) last (direct old e).reply_due
         (sizes-given at from known old affected moves settled sound tree table affects knows settles count (given-affected at from known count old affected moves settled settles b.0 b.1 b.2))));
   }

@@ -17,7 +17,7 @@ use Rattle.lockmachine.specs.Moves.{with_moved}
 use Rattle.lockmachine.specs.Requests.{is_of_client}
 use Rattle.lockmachine.specs.declared.moves.Move.TheVariants.{Settled}
 use Rattle.capcore.proofs.Bounded.{direct-order}
-use Rattle.capcore.proofs.Common.{Alter, Answer, As_judged, Awaits, Began, Begin, ClientId, Direct, End, Ended, Event, Gathered, Get, HaveOwnNumbers, Ino}
+use Rattle.capcore.proofs.Common.{Alter, As_judged, Awaits, Began, Begin, ClientId, Direct, DirectReply, End, Ended, Event, Gathered, Get, HaveOwnNumbers, Ino}
 use Rattle.capcore.proofs.Common.{IsLockMap, IsOpening, Made, Makes, MakesAll, MayEndAs, Nodes, Operation, Outcome, Rename, Replays, Reply, Request, Rmdir}
 use Rattle.capcore.proofs.Common.{Row, Scene, Serve, Served, State, Step, Ticket, Unlink, Waited, Without_memory, all_ended, awaited_as, child}
 use Rattle.capcore.proofs.Common.{contains-filter, direct, earlier, effect, ended-waited, ended_in, enqueues, filter-contains, finished, first_move, found}
@@ -79,7 +79,7 @@ settled-once s (m ∷ ms) (n ∷ ns) t u (mid, one, more) rests (mid', other, mo
 
 -- it was numbered before, or the step answers it
 abbrev Fits : State → Direct → Request → Type 0
-Fits old d q = (q.ticket.0 ≤ old.scene.locks.last) ⊎ (d.answer ≡ Awaits q.ticket)
+Fits old d q = (q.ticket.0 ≤ old.scene.locks.last) ⊎ (d.reply_due ≡ Awaits q.ticket)
 
 module _ (old : State) (order : IsLockMap old.scene.locks) where
   all-fit : (d : Direct) → All (Fits old d) old.scene.locks.queue
@@ -138,13 +138,13 @@ module _ (old : State) (e : Event) (order : IsLockMap old.scene.locks) where
   abbrev named : List Made → List Ended
   named moves = earlier old.scene.locks.last (ended_in moves)
 
-  module _ (moves : List Made) (answer : Reply) (dead : List Ended) (new : State) (by : StepBy old e moves answer dead new) where
+  module _ (moves : List Made) (reply : Reply) (dead : List Ended) (new : State) (by : StepBy old e moves reply dead new) where
     -- the row names each request that the moves ended, or it is the event's own
-    ended-where : (m : Ended) → Contains (ended_in moves) m → Contains (named moves) m ⊎ (d.answer ≡ Awaits m.ticket)
+    ended-where : (m : Ended) → Contains (ended_in moves) m → Contains (named moves) m ⊎ (d.reply_due ≡ Awaits m.ticket)
     ended-where m inside =
         let queue = d.state.scene.locks.queue in
         let waits = All-contains (Waited queue) (ended_in moves) m (ended-waited d.state.scene moves by.settled by.settles.made) inside in
-        elim (All-contains (Fits old d) queue waits.request (direct-fits old order e) waits.inside) as (λ _. Contains (named moves) m ⊎ (d.answer ≡ Awaits m.ticket)) [
+        elim (All-contains (Fits old d) queue waits.request (direct-fits old order e) waits.inside) as (λ _. Contains (named moves) m ⊎ (d.reply_due ≡ Awaits m.ticket)) [
           | inl less ↦ inl
               (filter-contains (λ (x : Ended). nat_le x.ticket.0 old.scene.locks.last) (ended_in moves) m inside
               (le-leb m.ticket.0 old.scene.locks.last (subst (λ (t : Ticket). t.0 ≤ old.scene.locks.last) (sym waits.ticket) less)))
@@ -155,31 +155,31 @@ module _ (old : State) (e : Event) (order : IsLockMap old.scene.locks) where
     have-own = own-numbers d.state.scene moves by.settled by.settles.made
 
     -- and then the answer is how it ended
-    ended-as : (m : Ended) → Contains (ended_in moves) m → d.answer ≡ Awaits m.ticket → answer ≡ awaited_as m.ticket (Some m)
+    ended-as : (m : Ended) → Contains (ended_in moves) m → d.reply_due ≡ Awaits m.ticket → reply ≡ awaited_as m.ticket (Some m)
     ended-as m inside awaits =
-        by.answer_is ∙ ap (reply_of (state_after old d moves by.settled) (ended_in moves)) awaits ∙ ap (awaited_as m.ticket) (found-own m (ended_in moves) have-own inside)
+        by.reply_is ∙ ap (reply_of (state_after old d moves by.settled) (ended_in moves)) awaits ∙ ap (awaited_as m.ticket) (found-own m (ended_in moves) have-own inside)
 
     -- where the answer and the row say that memory was found, each that was served found it
-    all-found : FoundMemory answer dead → (m : Ended) → Contains (ended_in moves) m → m.outcome ≢ Outcome.OutOfMemory
+    all-found : FoundMemory reply dead → (m : Ended) → Contains (ended_in moves) m → m.outcome ≢ Outcome.OutOfMemory
     all-found finds m inside =
         elim (ended-where m inside) as (λ _. m.outcome ≢ Outcome.OutOfMemory) [
           | inl kept ↦ All-contains (λ (x : Ended). x.outcome ≢ Outcome.OutOfMemory) dead m finds.each
               (subst (λ (xs : List Ended). Contains xs m) (sym by.ended_is) (Contains-append_right d.dropped (named moves) m kept))
-          | inr awaits ↦ λ bad. finds.answered (ended-as m inside awaits ∙ ap (λ (o : Outcome). unwrap_or (outcome_reply o) (Reply.Waiting m.ticket)) bad)
+          | inr awaits ↦ λ bad. finds.replied (ended-as m inside awaits ∙ ap (λ (o : Outcome). unwrap_or (outcome_reply o) (Reply.Waiting m.ticket)) bad)
         ]
 
   -- what found no memory in a step found none in one with the same row
-  short-too : (moves others : List Made) (answer : Reply) (dead : List Ended) (new other : State) → StepBy old e moves answer dead new → StepBy old e others answer dead other
+  short-too : (moves others : List Made) (reply : Reply) (dead : List Ended) (new other : State) → StepBy old e moves reply dead new → StepBy old e others reply dead other
       → (m n : Ended) → Contains (ended_in moves) m → Contains (ended_in others) n → m.ticket ≡ n.ticket → m.outcome ≡ Outcome.OutOfMemory → n.outcome ≡ Outcome.OutOfMemory
-  short-too moves others answer dead new other by by' m n inside inside' same bad =
-      elim (ended-where moves answer dead new by m inside) as (λ _. n.outcome ≡ Outcome.OutOfMemory) [
+  short-too moves others reply dead new other by by' m n inside inside' same bad =
+      elim (ended-where moves reply dead new by m inside) as (λ _. n.outcome ≡ Outcome.OutOfMemory) [
         | inl kept ↦ (let alike : named moves ≡ named others = append_cancel_left d.dropped (named moves) (named others) (sym by.ended_is ∙ by'.ended_is) in
             let there : Contains (ended_in others) m =
             contains-filter (λ (x : Ended). nat_le x.ticket.0 old.scene.locks.last) (ended_in others) m (subst (λ (xs : List Ended). Contains xs m) alike kept) in
-            ap (λ (x : Ended). x.outcome) (sym (own-one m n (ended_in others) (have-own others answer dead other by') there inside' same)) ∙ bad)
+            ap (λ (x : Ended). x.outcome) (sym (own-one m n (ended_in others) (have-own others reply dead other by') there inside' same)) ∙ bad)
         | inr awaits ↦ short-answer n.ticket n.outcome
-            (sym (ended-as others answer dead other by' n inside' (awaits ∙ ap Awaits same))
-            ∙ ended-as moves answer dead new by m inside awaits
+            (sym (ended-as others reply dead other by' n inside' (awaits ∙ ap Awaits same))
+            ∙ ended-as moves reply dead new by m inside awaits
             ∙ ap (λ (o : Outcome). unwrap_or (outcome_reply o) (Reply.Waiting m.ticket)) bad)
       ]
 
@@ -192,9 +192,9 @@ module _ (old : State) (e : Event) (order : IsLockMap old.scene.locks) where
       let ms : moves ≡ others = once.0 in
       let ends : by.settled ≡ by'.settled = once.1 in (
         ms,
-        by.answer_is ∙ (λ i. reply_of (state_after old d (ms i) (ends i)) (ended_in (ms i)) d.answer) ∙ sym by'.answer_is,
+        by.reply_is ∙ (λ i. reply_of (state_after old d (ms i) (ends i)) (ended_in (ms i)) d.reply_due) ∙ sym by'.reply_is,
         by.ended_is ∙ ap (all_ended old d) ms ∙ sym by'.ended_is,
-        by.new_is ∙ (λ i. shown d.answer (state_after old d (ms i) (ends i))) ∙ sym by'.new_is,
+        by.new_is ∙ (λ i. shown d.reply_due (state_after old d (ms i) (ends i))) ∙ sym by'.new_is,
       )
 
   -- where all find memory, it has one answer, ends the same requests and leads to the same state
@@ -206,17 +206,17 @@ module _ (old : State) (e : Event) (order : IsLockMap old.scene.locks) where
       (same.1, same.2, same.3)
 
   -- and where its row says the same, it has the same moves
-  pub row-once : (moves others : List Made) (answer : Reply) (dead : List Ended) (new other : State) → StepBy old e moves answer dead new → StepBy old e others answer dead other → (moves ≡ others) × (new ≡ other)
-  row-once moves others answer dead new other by by' =
+  pub row-once : (moves others : List Made) (reply : Reply) (dead : List Ended) (new other : State) → StepBy old e moves reply dead new → StepBy old e others reply dead other → (moves ≡ others) × (new ≡ other)
+  row-once moves others reply dead new other by by' =
       let same =
-      same-step moves others answer answer dead dead new other by by'
+      same-step moves others reply reply dead dead new other by by'
       (λ m n inside inside' number. (
-        short-too moves others answer dead new other by by' m n inside inside' number,
-        short-too others moves answer dead other new by' by n m inside' inside (sym number),
+        short-too moves others reply dead new other by by' m n inside inside' number,
+        short-too others moves reply dead other new by' by n m inside' inside (sym number),
       )) in
       (same.0, same.3)
 
-  shown-order : (a : Answer) (last : State) → IsLockMap last.scene.locks → IsLockMap (shown a last).scene.locks
+  shown-order : (a : DirectReply) (last : State) → IsLockMap last.scene.locks → IsLockMap (shown a last).scene.locks
   shown-order a last kept = grind arith
 
   -- and leaves the requests in order
@@ -224,7 +224,7 @@ module _ (old : State) (e : Event) (order : IsLockMap old.scene.locks) where
   step-order a xs new (moves, by) =
       let moved = (moved-all d.state.scene moves by.settled by.settles.made).order (direct-order old e order) in
       let kept : IsLockMap (finished old.scene d.state.scene (sizes_owed (sized_in moves) by.settled)).locks = record { rising = moved.rising; given = moved.given; room = moved.room } in
-      subst (λ (s : State). IsLockMap s.scene.locks) (sym by.new_is) (shown-order d.answer (state_after old d moves by.settled) kept)
+      subst (λ (s : State). IsLockMap s.scene.locks) (sym by.new_is) (shown-order d.reply_due (state_after old d moves by.settled) kept)
 
 -- ---- so the rows of a history lead to one state; and where no request finds no memory, its events say all that is in it
 

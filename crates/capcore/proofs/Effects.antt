@@ -21,8 +21,8 @@ module _ (old : State) (client : ClientId) (ino : Ino) (name : List ℕ) (free :
   pub snapshot-refused : (r : Refusal) → first_failing (new_snapshot_tests old.scene.tree ino.0 name) ≡ Some r → IsDirect old (Event.MakeSnapshot client ino name) (Reply.Refused r) old
   snapshot-refused r is = refused old (Event.MakeSnapshot client ino name) (basic_tests old.scene client ino.0) (new_snapshot_tests old.scene.tree ino.0 name) (need client ino.0 Snapshot ∷ []) refl free r is
 
-  pub snapshot-kept : (r : Refusal) → first_failing (old_snapshot_tests old.scene.tree ino.0 name) ≡ Some r → IsDirect old (Event.RemoveSnapshot client ino name) (Reply.Refused r) old
-  snapshot-kept r is = refused old (Event.RemoveSnapshot client ino name) (basic_tests old.scene client ino.0) (old_snapshot_tests old.scene.tree ino.0 name) (need client ino.0 Snapshot ∷ []) refl free r is
+  pub snapshot-stays : (r : Refusal) → first_failing (old_snapshot_tests old.scene.tree ino.0 name) ≡ Some r → IsDirect old (Event.RemoveSnapshot client ino name) (Reply.Refused r) old
+  snapshot-stays r is = refused old (Event.RemoveSnapshot client ino name) (basic_tests old.scene client ino.0) (old_snapshot_tests old.scene.tree ino.0 name) (need client ino.0 Snapshot ∷ []) refl free r is
 
 module _ (old : State) (client : ClientId) (dir : Ino) (name : List ℕ) (mode : Mode) (free : rejection_of old.scene (basic_tests old.scene client dir.0) (need client dir.0 Write ∷ []) [] ≡ None) where
   pub birth-refused : (kind : Kind) (r : Refusal) → first_failing (new_inode_tests old.scene.tree dir.0 name) ≡ Some r → IsDirect old (made_event kind client dir name mode) (Reply.Refused r) old
@@ -37,9 +37,9 @@ module _ (old : State) (client : ClientId) (dir : Ino) (name : List ℕ) (mode :
 lookup-still : (s : State) (client : ClientId) (dir : Ino) (name : List ℕ) (o : Option Rejection) → s ≡ (effect_unless s (Event.Lookup client dir name) o).state
 lookup-still s client dir name o = grind arith
 
-pub looked-up : (old : State) (client : ClientId) (dir : Ino) (name : List ℕ) (answer : Reply) → Says answer ≡ (direct old (Event.Lookup client dir name)).answer
-    → IsDirect old (Event.Lookup client dir name) answer old
-looked-up old client dir name answer says = record { answer_is = says; state_is = lookup-still old client dir name (judged old.scene (Event.Lookup client dir name)) }
+pub looked-up : (old : State) (client : ClientId) (dir : Ino) (name : List ℕ) (reply : Reply) → Says reply ≡ (direct old (Event.Lookup client dir name)).reply_due
+    → IsDirect old (Event.Lookup client dir name) reply old
+looked-up old client dir name reply says = record { reply_is = says; state_is = lookup-still old client dir name (judged old.scene (Event.Lookup client dir name)) }
 
 -- what rejects a request at the inode that it names rejects the event
 pub birth-rejection : (old : State) (kind : Kind) (client : ClientId) (dir : Ino) (name : List ℕ) (mode : Mode) (r : Rejection) → rejection_of old.scene (basic_tests old.scene client dir.0) (need client dir.0 Write ∷ []) [] ≡ Some r → IsDirect old (made_event kind client dir name mode) (rejection_reply r) old

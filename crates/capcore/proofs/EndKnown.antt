@@ -5,9 +5,9 @@ use Rattle.captable.proofs.ByHolder.{row_found}
 use Rattle.captable.specs.Table.{entry_of}
 use Rattle.capcore.proofs.Knowing.{still-known}
 use Rattle.capcore.proofs.SizesOwed.{sizes-known}
-use Rattle.capcore.specs.Affected.{told_then}
+use Rattle.capcore.specs.Affected.{pending_then}
 use Rattle.capstep.specs.Known.{KnownAnew}
-use Rattle.lockmachine.specs.Scene.{told_set}
+use Rattle.lockmachine.specs.Scene.{pending_of}
 use Rattle.capcore.proofs.Common.{Affects, AreKnown, ClientViews, Ended, EndsWith, EntryRow, Ino, IsSound, IsTable, Knows, Scene, SettlesWith, State}
 use Rattle.capcore.proofs.Common.{StillKnown, finished_at, known_in, known_of, row_elsewhere, sizes_owed}
 
@@ -18,7 +18,7 @@ module _ (before was now : ClientViews) (from : ℕ → Bool) (old affected : St
   settles = ends.settles
 
   -- elsewhere entries are as they were
-  elsewhere : (row : EntryRow) → Contains affected.scene.table.rows row → from row.holder.ino.0 ≡ false → known_of was row.holder ≡ Some (told_set old.scene row)
+  elsewhere : (row : EntryRow) → Contains affected.scene.table.rows row → from row.holder.ino.0 ≡ false → known_of was row.holder ≡ Some (pending_of old.scene row)
   elsewhere row inside off =
       let inside_old : Contains old.scene.table.rows row = row_elsewhere from old.scene.table affected.scene.table affects.same.entries row inside off in
       still-known before was old.scene affected.scene.table known still row.holder row.entry row.entry
@@ -32,4 +32,4 @@ module _ (before was now : ClientViews) (from : ℕ → Bool) (old affected : St
       subst (AreKnown now) (sym (ends.finished ∙ ap (λ (sized : List Ino). finished_at ends.at (known_in was) (sizes_owed sized ends.settled)) settles.sized_is))
       (sizes-known ends.at from (known_in was) old affected settles.moves ends.settled sound ends.tree table affects knows settles.settles was now
       (λ row inside off. elsewhere row inside (off_from row off))
-      (subst (λ (sized : List Ino). KnownAnew (λ k. ends.at k.ino.0) (told_then (sizes_owed sized ends.settled)) (sizes_owed sized ends.settled).table was now) settles.sized_is ends.kept))
+      (subst (λ (sized : List Ino). KnownAnew (λ k. ends.at k.ino.0) (pending_then (sizes_owed sized ends.settled)) (sizes_owed sized ends.settled).table was now) settles.sized_is ends.kept))

@@ -18,13 +18,13 @@ use Rattle.captable.specs.Tests.{open_tests}
 use Rattle.lockmachine.proofs.SameBut.{same-entries}
 use Rattle.step_model.specs.Direct.{with_table}
 use Rattle.step_model.specs.Judge.{after, basic_tests, before, needs, room_for}
-use Rattle.capcore.proofs.CommonPieces.{AreGiven, ClientId, Direct, Entry, EntryRow, Event, Holder, Ino, IsInRow, IsInRowOf, IsQuiet, IsSound, IsSoundEntry}
+use Rattle.capcore.proofs.CommonPieces.{AreGiven, ClientId, Direct, Entry, EntryRow, Event, Holder, Ino, IsInRow, IsInRowOf, IsLockAtRest, IsSound, IsSoundEntry}
 use Rattle.capcore.proofs.CommonPieces.{IsSubset, IsTable, LockState, OpenMode, P, Part, Scene, StableState, State, StateMap, Table, WaitAt, and_parts, change_rows}
 use Rattle.capcore.proofs.CommonPieces.{changed, effect, effective_want, entries_on, entries_on-changed, entries_on-without, entry_at, entry_of, first_failing}
 use Rattle.capcore.proofs.CommonPieces.{has-caps_in, has-meet, has-none, has-of_part, has-union, has_pin, has_session, holder, is_of_inode, is_open, is_row_of}
 use Rattle.capcore.proofs.CommonPieces.{judged, lock_at, lock_in, new_entry, opened, opening_wants, part_of_operation, permitted, revoked_of, row_found}
 use Rattle.capcore.proofs.CommonPieces.{row_of-entry, same_equiv, test_at, union, wanting, without, without_acked, without_released}
-use Rattle.capcore.proofs.EntryKept.{IsLess, IsMade, each-after}
+use Rattle.capcore.proofs.EntryStays.{IsLess, IsMade, each-after}
 use Rattle.capcore.proofs.Forgotten.{all_rows}
 use Rattle.capcore.proofs.Passed.{no_test}
 use Rattle.capcore.proofs.LeftAlone.{found-contains}
@@ -82,14 +82,14 @@ kept-row old sound row inside found = (
   λ part. placed-in_row old.scene row part (lock_at old.scene.locks row.holder.ino.0 part) (sound.in_place row part found),
 )
 
-pub sound-kept : (old : State) → IsSound old → IsTable old.scene.table → All (IsKeptEntry old.scene) old.scene.table.rows
-sound-kept old sound table =
+pub sound-stays : (old : State) → IsSound old → IsTable old.scene.table → All (IsKeptEntry old.scene) old.scene.table.rows
+sound-stays old sound table =
     all_rows (IsKeptEntry old.scene) old.scene.table.rows (λ row inside. kept-row old sound row inside (row_found old.scene.table row table inside))
 
 -- so all are left, where the same sessions, inodes and locks are there
 pub all-left : (old : State) (new : Scene) → IsSound old → IsTable old.scene.table → new.sessions ≡ old.scene.sessions → new.locks.states ≡ old.scene.locks.states
     → ((ino : ℕ) → map.contains_key new.tree.nodes ino ≡ map.contains_key old.scene.tree.nodes ino) → All (IsAffectedEntry new) old.scene.table.rows
-all-left old new sound table sessions states exist = grind (arith, kept-left, sound-kept)
+all-left old new sound table sessions states exist = grind (arith, kept-left, sound-stays)
 
 -- what becomes of it holds no more
 less-in_row : (row : EntryRow) (e : Entry) (part : Part) (o : Option LockState) → IsSubset e.held row.entry.held → IsInRowOf row part o → IsInRowOf (record row { entry = e }) part o
@@ -223,7 +223,7 @@ module _ (old : State) (k : Holder) (request : EntryRequest) (table : IsTable ol
       exist = λ other. refl;
       locked = sound.locked;
       waiting = sound.waiting;
-      at_lock = λ part none. subst (IsQuiet old.scene k.ino.0 part) none (sound.at_rest.each k.ino.0 part);
+      at_lock = λ part none. subst (IsLockAtRest old.scene k.ino.0 part) none (sound.at_rest.each k.ino.0 part);
       each = All-filter (is_of_inode (record { 0 = k.ino.0 })) (IsAffectedEntry next) next.table.rows (all_rows (IsAffectedEntry next) next.table.rows affected-row);
       calm = calm-row;
     }

@@ -9,15 +9,15 @@ module _ (old : State) (e : Event) (moves : List Made) (settled last : Scene) (s
   ended_at : state_after old (direct old e) moves settled ≡ state_at_end old (direct old e).state moves last
   ended_at = λ i. record { scene = ends i; messages = (direct old e).state.messages ++ earlier old.scene.locks.last (ended_in moves) }
 
-  pub one-step : (answer : Reply) (new : State) → answer ≡ reply_of (state_at_end old (direct old e).state moves last) (ended_in moves) (direct old e).answer
-      → new ≡ shown (direct old e).answer (state_at_end old (direct old e).state moves last) → Step old e answer (all_ended old (direct old e) moves) new
-  one-step answer new answers is = (
+  pub one-step : (reply : Reply) (new : State) → reply ≡ reply_of (state_at_end old (direct old e).state moves last) (ended_in moves) (direct old e).reply_due
+      → new ≡ shown (direct old e).reply_due (state_at_end old (direct old e).state moves last) → Step old e reply (all_ended old (direct old e) moves) new
+  one-step reply new answers is = (
     moves,
     record {
       settled = settled;
       settles = settles;
-      answer_is = answers ∙ sym (ap (λ (s : State). reply_of s (ended_in moves) (direct old e).answer) ended_at);
-      new_is = is ∙ sym (ap (shown (direct old e).answer) ended_at);
+      reply_is = answers ∙ sym (ap (λ (s : State). reply_of s (ended_in moves) (direct old e).reply_due) ended_at);
+      new_is = is ∙ sym (ap (shown (direct old e).reply_due) ended_at);
       ended_is = refl;
     },
   )

@@ -12,7 +12,7 @@ use Rattle.capstep.specs.Served.{change_call_tests}
 use Rattle.step_model.specs.Changing.{tree_changed}
 use Rattle.lockmachine.specs.Elsewhere.{IsSameBut}
 use Rattle.lockmachine.specs.declared.request.Change.{Change}
-use Rattle.capcore.proofs.Common.{AffectsOne, AreBelow, AreGiven, Event, Holder, IsAffectedEntry, IsQuiet, IsSound, IsTable, Nodes, Reply, Scene, State}
+use Rattle.capcore.proofs.Common.{AffectsOne, AreBelow, AreGiven, Event, Holder, IsAffectedEntry, IsLockAtRest, IsSound, IsTable, Nodes, Reply, Scene, State}
 use Rattle.capcore.proofs.Common.{all-left, caps_in, change_tests, direct, effect_unless, exclusive, first_failing, is_of_inode, judged, part_of_change}
 use Rattle.capcore.proofs.Common.{passed-both, presence, release_tests, says, sound-pinned, with_flush}
 
@@ -39,7 +39,7 @@ flush-affects old k change sound table = record {
   exist = λ other. exist_change old.scene.tree k.ino.0 change other;
   locked = λ other. sound.locked other ∙ sym (exist_change old.scene.tree k.ino.0 change other);
   waiting = sound.waiting;
-  at_lock = λ part none. subst (IsQuiet old.scene k.ino.0 part) none (sound.at_rest.each k.ino.0 part);
+  at_lock = λ part none. subst (IsLockAtRest old.scene k.ino.0 part) none (sound.at_rest.each k.ino.0 part);
   each =
       All-filter (is_of_inode (record { 0 = k.ino.0 })) (IsAffectedEntry (with_flush old k change).scene) old.scene.table.rows
       (all-left old (with_flush old k change).scene sound table refl refl (λ ino. exist_change old.scene.tree k.ino.0 change ino));

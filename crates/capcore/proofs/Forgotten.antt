@@ -7,8 +7,8 @@ use Rattle.std.specs.Option.{option_map}
 use Rattle.std.specs.FinMap as map
 use Rattle.lockmachine.specs.Scene.{target_by}
 use Rattle.lockmachine.specs.Wants.{Want, in_all}
-use Rattle.capcore.proofs.CommonPieces.{EntryRow, Gone, IsAtRest, IsInRow, IsQuiet, IsSound, IsSoundEntry, IsTree, LockState, Part, Scene, Stable, State, due}
-use Rattle.capcore.proofs.CommonPieces.{effective_want, first_for, has_session, is_in_use, is_of_inode, is_row_of, lock_at, lock_in, presence, wants-kept}
+use Rattle.capcore.proofs.CommonPieces.{EntryRow, Gone, IsAtRest, IsInRow, IsLockAtRest, IsSound, IsSoundEntry, IsTree, LockState, Part, Scene, Stable, State, issuable}
+use Rattle.capcore.proofs.CommonPieces.{effective_want, first_for, has_session, is_in_use, is_of_inode, is_row_of, lock_at, lock_in, presence, wants-stay}
 use Rattle.capcore.proofs.CommonPieces.{with_scene}
 use Rattle.capcore.proofs.LeftAlone.{found-contains}
 use Rattle.capcore.proofs.Placed.{placed}
@@ -18,9 +18,9 @@ use Rattle.capcore.specs.Affected.{forget_among, stays}
 -- ---- what is due
 
 -- by the same locks, of what is wanted as before, the same is due
-pub same-due : (s t : Scene) (row : EntryRow) → effective_want s.fs s.tree s.sessions row ≡ effective_want t.fs t.tree t.sessions row
-    → ((part : Part) → lock_at s.locks row.holder.ino.0 part ≡ lock_at t.locks row.holder.ino.0 part) → due s row ≡ due t row
-same-due s t row want locks = grind arith
+pub same-issuable : (s t : Scene) (row : EntryRow) → effective_want s.fs s.tree s.sessions row ≡ effective_want t.fs t.tree t.sessions row
+    → ((part : Part) → lock_at s.locks row.holder.ino.0 part ≡ lock_at t.locks row.holder.ino.0 part) → issuable s row ≡ issuable t row
+same-issuable s t row want locks = grind arith
 
 -- ---- states that are sound but for strays
 
@@ -36,9 +36,9 @@ nothing_on p (x ∷ xs) none = elim (p x) as (λ b. (b || list_any p xs) ≡ fal
   | false ↦ λ none. nothing_on p xs none
 ] none
 
-nobody_waits : (s : Scene) (ino : ℕ) (part : Part) (o : Option LockState) → list_any (is_of_inode (record { 0 = ino })) s.table.rows ≡ false → IsQuiet s ino part o
+nobody_waits : (s : Scene) (ino : ℕ) (part : Part) (o : Option LockState) → list_any (is_of_inode (record { 0 = ino })) s.table.rows ≡ false → IsLockAtRest s ino part o
     → first_for s.locks.queue ino part ≡ None
-nobody_waits s ino part o nobody quiet = grind (arith, nothing_on)
+nobody_waits s ino part o nobody resting = grind (arith, nothing_on)
 
 -- the state is sound, but that nobody need have an entry on those of these inodes that are strays
 pub record IsSoundBut (at : ℕ → Bool) (s : State) : Type 0 where
@@ -70,8 +70,8 @@ module _ (at : ℕ → Bool) (s : Scene) where
   want_left tree row kept = grind (arith, alike-retained, stays-kept)
 
   -- the same is due on an inode that is kept
-  pub due-left : IsTree s.tree → (row : EntryRow) → is_in_use s row.holder.ino.0 ≡ true → due left row ≡ due s row
-  due-left tree row kept = same-due left s row (want_left tree row kept) (λ part. same_lock row.holder.ino.0 part (stays-kept at s row.holder.ino.0 kept))
+  pub issuable-left : IsTree s.tree → (row : EntryRow) → is_in_use s row.holder.ino.0 ≡ true → issuable left row ≡ issuable s row
+  issuable-left tree row kept = same-issuable left s row (want_left tree row kept) (λ part. same_lock row.holder.ino.0 part (stays-kept at s row.holder.ino.0 kept))
 
 module _ (at : ℕ → Bool) (s : State) (sound : IsSoundBut at s) (tree : IsTree s.scene.tree) where
   abbrev after : Scene
@@ -83,26 +83,26 @@ module _ (at : ℕ → Bool) (s : State) (sound : IsSoundBut at s) (tree : IsTre
   row_stays : (row : EntryRow) → Contains s.scene.table.rows row → stay row.holder.ino.0 ≡ true
   row_stays row inside = stays-kept at s.scene row.holder.ino.0 (kept-held s.scene row inside)
 
-  quiet_left : (q : ℕ) (part : Part) (o : Option LockState) → IsQuiet s.scene q part o → IsQuiet after q part o
-  quiet_left q part (Some (Stable state)) quiet = (
+  resting_left : (q : ℕ) (part : Part) (o : Option LockState) → IsLockAtRest s.scene q part o → IsLockAtRest after q part o
+  resting_left q part (Some (Stable state)) resting = (
     ap (λ (ws : List Want). target_by s.scene.locks.queue (in_all ws) q part state)
-        (wants-kept s.scene after.tree s.scene.sessions q (all_rows _ s.scene.table.rows (λ row inside. want_left at s.scene tree row (kept-held s.scene row inside)))) ∙ quiet.0,
-    quiet.1,
+        (wants-stay s.scene after.tree s.scene.sessions q (all_rows _ s.scene.table.rows (λ row inside. want_left at s.scene tree row (kept-held s.scene row inside)))) ∙ resting.0,
+    resting.1,
   )
-  quiet_left q part o quiet = quiet
+  resting_left q part o resting = resting
 
   rest_left : IsAtRest after
   rest_left = record {
-    each = λ q part. elim (stay q) as (λ b. stay q ≡ b → IsQuiet after q part (lock_at after.locks q part)) [
-      | true ↦ λ e. subst (IsQuiet after q part) (sym (same_lock at s.scene q part e)) (quiet_left q part (lock_at s.scene.locks q part) (sound.at_rest.each q part))
-      | false ↦ λ e. subst (IsQuiet after q part) (sym (no_lock at s.scene q part e))
+    each = λ q part. elim (stay q) as (λ b. stay q ≡ b → IsLockAtRest after q part (lock_at after.locks q part)) [
+      | true ↦ λ e. subst (IsLockAtRest after q part) (sym (same_lock at s.scene q part e)) (resting_left q part (lock_at s.scene.locks q part) (sound.at_rest.each q part))
+      | false ↦ λ e. subst (IsLockAtRest after q part) (sym (no_lock at s.scene q part e))
           (nobody_waits s.scene q part (lock_at s.scene.locks q part) (goes at s.scene q e).2 (sound.at_rest.each q part))
     ] refl;
   }
 
   pub sound-forgotten : IsSound (with_scene s after)
   sound-forgotten = record {
-    entries = all_rows (IsSoundEntry after) s.scene.table.rows (λ row inside. grind (arith, All-contains, retained-here, row_stays, due-left, kept-held));
+    entries = all_rows (IsSoundEntry after) s.scene.table.rows (λ row inside. grind (arith, All-contains, retained-here, row_stays, issuable-left, kept-held));
     waiting = sound.waiting;
     messages = sound.messages;
     locked = λ q. grind (arith, retained);

@@ -8,7 +8,7 @@ use Rattle.captable.proofs.ByHolder.{entry_at-without_client}
 use Rattle.captable.specs.Known.{sets_of}
 use Rattle.sessiontab.specs.Calls.{with_status}
 use Rattle.sessiontab.specs.declared.session.Status.{Status}
-use Rattle.lockmachine.proofs.PolicyElsewhere.{permitted-kept}
+use Rattle.lockmachine.proofs.PolicyElsewhere.{permitted-stays}
 use Rattle.lockmachine.specs.Policy.{permitted_to, subject_of}
 use Rattle.capcore.proofs.Common.{ArePermittedIn, ClientId, ClientView, ClientViews, Entry, Holder, Node, Scene, Session, SessionChange, SessionTable, State, Table}
 use Rattle.capcore.proofs.Common.{alike-itself, apart_client, change-at, changed_sessions, entry_at, entry_at-without_client_other, is_end, new_grants, permitted}
@@ -70,7 +70,7 @@ module _ (sets : ClientViews) (old : State) (client : ClientId) (change : Sessio
   pub other-permitted : (k : Holder) (e : Entry) → entry_at now.table k ≡ Some e → (k.client.0 == client.0) ≡ false → permitted_of sets k ≡ Some (permitted now.fs now.tree now.sessions k)
   other-permitted k e there off =
       same-permitted k e there
-      (permitted-kept old.scene.fs old.scene.tree old.scene.tree old.scene.sessions (changed_sessions old.scene.sessions client.0 change) k (alike-itself old.scene.tree k.ino.0)
+      (permitted-stays old.scene.fs old.scene.tree old.scene.tree old.scene.sessions (changed_sessions old.scene.sessions client.0 change) k (alike-itself old.scene.tree k.ino.0)
       (session_changed-other old.scene.sessions client change k.client.0 (apart k.client.0 client.0 off)))
 
   -- as it is to each whose entry is left, where the client has no other grants

@@ -13,11 +13,11 @@ use Rattle.locktable.specs.Rows.{allowed_covers, allowed_of}
 use Rattle.sessiontab.specs.Calls.{status_of}
 use Rattle.sessiontab.specs.Tests.{is_open as is_open_status}
 use Rattle.lockmachine.specs.Under.{allowed_by}
-use Rattle.capcore.proofs.CommonPieces.{AreCounted, Cap, Caps, CountedLocks, Entry, EntryRow, Gather, Holder, IsAtRest, IsInRow, IsQuiet, LockMap, LockState, Nodes}
-use Rattle.capcore.proofs.CommonPieces.{P, Part, Scene, SessionTable, StableState, allowed_under, and_parts, caps_in, changed_where, due, effective_want, filter-map}
+use Rattle.capcore.proofs.CommonPieces.{AreCounted, Cap, Caps, CountedLocks, Entry, EntryRow, Gather, Holder, IsAtRest, IsInRow, IsLockAtRest, LockMap, LockState, Nodes}
+use Rattle.capcore.proofs.CommonPieces.{P, Part, Scene, SessionTable, StableState, allowed_under, and_parts, caps_in, changed_where, effective_want, filter-map, issuable}
 use Rattle.capcore.proofs.CommonPieces.{has-caps_in, has-meet, has-minus, has-none, has-of_part, has-union, has_outside, is_empty, is_of_inode, is_open, lock_at}
 use Rattle.capcore.proofs.CommonPieces.{meet, of_part, outside, permitted, remade, row_of, same_caps, second_true, union, wants}
-use Rattle.capcore.proofs.CountsKept.{counted-rows}
+use Rattle.capcore.proofs.CountsStay.{counted-rows}
 use Rattle.capcore.specs.Affected.{finished_entry}
 
 -- ---- what the locks allow of a part
@@ -52,11 +52,11 @@ ended_row known s row = remade (finished_entry known s) row
 
 module _ (known : Holder → Caps) (s : Scene) (row : EntryRow) where
   pub ended : (Q : Entry → Type 0) → ((seq revoke_seq : ℕ) → row.entry.seq ≤ seq → seq ≤ row.entry.seq + 1 → revoke_seq ≤ row.entry.revoke_seq ⊎ (revoke_seq ≡ seq)
-      → Q (record row.entry { held = union row.entry.held (due s row); seq = seq; revoke_seq = revoke_seq })) → Q (finished_entry known s row)
+      → Q (record row.entry { held = union row.entry.held (issuable s row); seq = seq; revoke_seq = revoke_seq })) → Q (finished_entry known s row)
   ended Q each = grind arith
 
-  pub held-ended : (finished_entry known s row).held ≡ union row.entry.held (due s row)
-  held-ended = ended (λ e. e.held ≡ union row.entry.held (due s row)) (λ seq revoke_seq least most revoked. refl)
+  pub held-ended : (finished_entry known s row).held ≡ union row.entry.held (issuable s row)
+  held-ended = ended (λ e. e.held ≡ union row.entry.held (issuable s row)) (λ seq revoke_seq least most revoked. refl)
 
   pub want-ended : (finished_entry known s row).want ≡ row.entry.want
   want-ended = ended (λ e. e.want ≡ row.entry.want) (λ seq revoke_seq least most revoked. refl)
@@ -77,38 +77,38 @@ module _ (known : Holder → Caps) (s : Scene) (row : EntryRow) where
   -- ---- what it holds
 
   pub holds-held : (c : Cap) → has row.entry.held c ≡ true → has (finished_entry known s row).held c ≡ true
-  holds-held c h = ap (λ caps. has caps c) held-ended ∙ has-union row.entry.held (due s row) c ∙ or_left _ _ h
+  holds-held c h = ap (λ caps. has caps c) held-ended ∙ has-union row.entry.held (issuable s row) c ∙ or_left _ _ h
 
-  pub holds-due : (c : Cap) → has (due s row) c ≡ true → has (finished_entry known s row).held c ≡ true
-  holds-due c h = ap (λ caps. has caps c) held-ended ∙ has-union row.entry.held (due s row) c ∙ second_true _ _ h
+  pub holds-issuable : (c : Cap) → has (issuable s row) c ≡ true → has (finished_entry known s row).held c ≡ true
+  holds-issuable c h = ap (λ caps. has caps c) held-ended ∙ has-union row.entry.held (issuable s row) c ∙ second_true _ _ h
 
   -- it holds the pin, where the pin was held or is wanted
   pub holds-pin : (has row.entry.held P || has (effective_want s.fs s.tree s.sessions row) P) ≡ true → has (finished_entry known s row).held P ≡ true
-  holds-pin h = grind (arith, holds-held, holds-due, has-meet, pin_allowed)
+  holds-pin h = grind (arith, holds-held, holds-issuable, has-meet, pin_allowed)
 
   -- what is due of a part is allowed by its lock
-  due_here : (part : Part) (c : Cap) → has (due s row) c ≡ true → covers c part ≡ true → has (allowed_part s row part) c ≡ true
-  due_here part c d cov = allowed_here s row part c cov (and_parts _ _ (sym (has-meet (effective_want s.fs s.tree s.sessions row) (allowed_to s row) c) ∙ d)).1
+  issuable_here : (part : Part) (c : Cap) → has (issuable s row) c ≡ true → covers c part ≡ true → has (allowed_part s row part) c ≡ true
+  issuable_here part c d cov = allowed_here s row part c cov (and_parts _ _ (sym (has-meet (effective_want s.fs s.tree s.sessions row) (allowed_to s row) c) ∙ d)).1
 
   -- what it holds of a part it held, or it is due
-  held_or_due : (part : Part) (c : Cap) → has (of_part part (finished_entry known s row).held) c ≡ true
+  held_or_issuable : (part : Part) (c : Cap) → has (of_part part (finished_entry known s row).held) c ≡ true
       → (has (of_part part row.entry.held) c ≡ true) ⊎ (has (allowed_part s row part) c ≡ true)
-  held_or_due part c h = grind (arith, and_parts, has-of_part, held-ended, has-union, due_here)
+  held_or_issuable part c h = grind (arith, and_parts, has-of_part, held-ended, has-union, issuable_here)
 
   -- it stays in the row of the lock
   pub in_row-ended : (part : Part) → IsInRow s row part → IsInRow s (ended_row known s row) part
   unfolding allowed_of
-  in_row-ended part was = grind (arith, held_or_due, and_parts, has-meet)
+  in_row-ended part was = grind (arith, held_or_issuable, and_parts, has-meet)
 
   -- what is outside of a gather's target stays so
   pub outside-ended : (part : Part) (from to : StableState) → lock_at s.locks row.holder.ino.0 part ≡ Some (Gather from to) → outside part to (ended_row known s row) ≡ outside part to row
   unfolding allowed_of
   outside-ended part from to lock = same_caps _ _ (λ c. simp (has-minus, has-of_part, held-ended, has-union)
-      (absorbed (has row.entry.held c) (has (due s row) c) (covers c part) (has (row_of part to row.holder.client) c) (inside c)))
+      (absorbed (has row.entry.held c) (has (issuable s row) c) (covers c part) (has (row_of part to row.holder.client) c) (inside c)))
     where
-      inside : (c : Cap) → has (due s row) c ≡ true → covers c part ≡ true → has (row_of part to row.holder.client) c ≡ true
+      inside : (c : Cap) → has (issuable s row) c ≡ true → covers c part ≡ true → has (row_of part to row.holder.client) c ≡ true
       inside c d cov =
-          let allowed : has (allowed_of part (Gather from to) row.holder.client) c ≡ true = ap (λ o. has (allowed_by part row o) c) (sym lock) ∙ due_here part c d cov in
+          let allowed : has (allowed_of part (Gather from to) row.holder.client) c ≡ true = ap (λ o. has (allowed_by part row o) c) (sym lock) ∙ issuable_here part c d cov in
           (and_parts (has (row_of part from row.holder.client) c) (has (row_of part to row.holder.client) c) (sym (has-meet (row_of part from row.holder.client) (row_of part to row.holder.client) c) ∙ allowed)).1
 
       absorbed : (h d v r : Bool) → (d ≡ true → v ≡ true → r ≡ true) → (((h || d) && v) && not r) ≡ ((h && v) && not r)
@@ -176,8 +176,8 @@ module _ (known : Holder → Caps) (s : Scene) (at : ℕ → Bool) where
 
   -- ---- rest
 
-  quiet-last : (i : ℕ) (part : Part) (o : Option LockState) → lock_at s.locks i part ≡ o → IsQuiet s i part o → IsQuiet issued_at i part o
-  quiet-last i part o is quiet = grind (arith, wants-last, open-last)
+  resting-last : (i : ℕ) (part : Part) (o : Option LockState) → lock_at s.locks i part ≡ o → IsLockAtRest s i part o → IsLockAtRest issued_at i part o
+  resting-last i part o is resting = grind (arith, wants-last, open-last)
 
   pub rest-issued : IsAtRest s → IsAtRest issued_at
-  rest-issued rest = record { each = λ i part. quiet-last i part (lock_at s.locks i part) refl (rest.each i part) }
+  rest-issued rest = record { each = λ i part. resting-last i part (lock_at s.locks i part) refl (rest.each i part) }

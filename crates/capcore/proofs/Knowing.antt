@@ -6,10 +6,10 @@ use Rattle.capbits.specs.Caps.{has}
 use Rattle.capbits.specs.Sets.{no_caps}
 use Rattle.capstep.proofs.KeptSets.{made-there}
 use Rattle.capcore.proofs.CommonPieces.{AreKnown, Caps, ClientViews, Entry, EntryRow, Holder, IsSubset, IsTable, Scene, StillKnown, Table, changed_where, entry_at}
-use Rattle.capcore.proofs.CommonPieces.{entry_of, has-against, has-meet, has-minus, has-none, has-told, is_revoked, is_still_known, known_in, known_of, meet, minus}
-use Rattle.capcore.proofs.CommonPieces.{remade, revoked_of, row_found, same_caps, told-less, told_set}
+use Rattle.capcore.proofs.CommonPieces.{entry_of, has-against, has-meet, has-minus, has-none, has-pending, is_revoked, is_still_known, known_in, known_of, meet, minus}
+use Rattle.capcore.proofs.CommonPieces.{pending-less, pending_of, remade, revoked_of, row_found, same_caps}
 use Rattle.capcore.proofs.Revoking.{revoked-found}
-use Rattle.capcore.proofs.ShownSteps.{told-held}
+use Rattle.capcore.proofs.ShownSteps.{pending-held}
 use Rattle.capcore.specs.Affected.{Knows}
 
 -- ---- as much or less is held
@@ -32,7 +32,7 @@ alike-less old new alike k e there c held =
 pub known-alike : (sets : ClientViews) (s : Scene) (new : Table) → HoldAlike s.table new → AreKnown sets s → AreKnown sets (record s { table = new })
 known-alike sets s new alike known k e there =
     let was = alike k e there in
-    known k was.0 was.1 ∙ ap Some (sym (told-held s k was.0 e was.2))
+    known k was.0 was.1 ∙ ap Some (sym (pending-held s k was.0 e was.2))
 
 -- so they do where all that pass a test are changed, but not what they hold
 pub alike-where : (passes : EntryRow → Bool) (g : EntryRow → Entry) (t : Table) → ((row : EntryRow) → (g row).held ≡ row.entry.held) → HoldAlike t (changed_where passes g t)
@@ -54,8 +54,8 @@ pub revoked-known : (sets : ClientViews) (s : Scene) (k : Holder) (e : Entry) �
 revoked-known sets s k e known there =
     ap (λ (o : Option Caps). minus e.held (unwrap_or o no_caps)) (known k e there)
     ∙ same_caps _ _ (λ c.
-    has-minus e.held (told_set s (record { holder = k; entry = e })) c
-    ∙ ap (λ b. has e.held c && not b) (has-told s (record { holder = k; entry = e }) c)
+    has-minus e.held (pending_of s (record { holder = k; entry = e })) c
+    ∙ ap (λ b. has e.held c && not b) (has-pending s (record { holder = k; entry = e }) c)
     ∙ rest_of (has e.held c) (is_revoked s k c)
     ∙ sym (has-against s (record { holder = k; entry = e }) c))
     ∙ sym (revoked-found s k e there)
@@ -73,7 +73,7 @@ still-there old new was now there same_kept k e here =
 
 module _ (was now : ClientViews) (old : Scene) (table : Table) (known : AreKnown was old) (still : StillKnown old.table table was now) where
   -- of an entry that was there, what was kept is kept
-  pub still-known : (k : Holder) (e f : Entry) → entry_at table k ≡ Some e → entry_at old.table k ≡ Some f → known_of now k ≡ Some (told_set old (record { holder = k; entry = f }))
+  pub still-known : (k : Holder) (e f : Entry) → entry_at table k ≡ Some e → entry_at old.table k ≡ Some f → known_of now k ≡ Some (pending_of old (record { holder = k; entry = f }))
   still-known k e f here there = subst (λ o. is_still_known o (known_of was k) (known_of now k)) there (still k e here) ∙ known k f there
 
   -- where nobody holds more, it is known of what is left
@@ -83,16 +83,16 @@ module _ (was now : ClientViews) (old : Scene) (table : Table) (known : AreKnown
       here : entry_at table row.holder ≡ Some row.entry
       here = ap entry_of (row_found table row is inside)
 
-      by_entry : (o : Option Entry) → entry_at old.table row.holder ≡ o → meet (known_in now row.holder) row.entry.held ≡ told_set old row
+      by_entry : (o : Option Entry) → entry_at old.table row.holder ≡ o → meet (known_in now row.holder) row.entry.held ≡ pending_of old row
       by_entry (Some e) there =
           let fewer : IsSubset row.entry.held e.held = λ c h. ap (λ (o : Option Entry). has (option_map_or (λ (x : Entry). x.held) o no_caps) c) (sym there) ∙ less row.holder row.entry here c h in
           ap (λ (o : Option Caps). meet (unwrap_or o no_caps) row.entry.held) (still-known row.holder row.entry e here there)
-          ∙ sym (told-less old (record { holder = row.holder; entry = e }) row.entry fewer)
+          ∙ sym (pending-less old (record { holder = row.holder; entry = e }) row.entry fewer)
       by_entry None none = same_caps _ _ (λ c.
           let out : has row.entry.held c ≡ false = false_from_ne_true (has row.entry.held c) (λ h. false≢true (
           sym (has-none c) ∙ ap (λ (o : Option Entry). has (option_map_or (λ (x : Entry). x.held) o no_caps) c) (sym none) ∙ less row.holder row.entry here c h)) in
           has-meet (known_in now row.holder) row.entry.held c ∙ and_right (has (known_in now row.holder) c) (has row.entry.held c) out
-          ∙ sym (has-told old row c ∙ ap (λ b. b && not (is_revoked old row.holder c)) out))
+          ∙ sym (has-pending old row c ∙ ap (λ b. b && not (is_revoked old row.holder c)) out))
 
 -- where the table stays, all is still known
 pub still-all : (was now : ClientViews) (s : Scene) → AreKnown was s → StillKnown s.table s.table was now → AreKnown now s

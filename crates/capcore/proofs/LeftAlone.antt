@@ -10,16 +10,16 @@ use Rattle.capbits.specs.Sets.{no_caps}
 use Rattle.locktable.specs.Targets.{target_of}
 use Rattle.locktable.specs.declared.targets.Head.TheVariants.{Empty}
 use Rattle.lockmachine.specs.Scene.{rows_on, wanted}
-use Rattle.capcore.proofs.CommonPieces.{AreKnown, ClientViews, EntryRow, IsInPlace, IsQuiet, IsSound, IsSoundEntry, IsTable, LockState, Node, Nodes, Part, Scene}
+use Rattle.capcore.proofs.CommonPieces.{AreKnown, ClientViews, EntryRow, IsInPlace, IsLockAtRest, IsSound, IsSoundEntry, IsTable, LockState, Node, Nodes, Part, Scene}
 use Rattle.capcore.proofs.CommonPieces.{SessionTable, Stable, StableState, State, StateMap, Sync, against, finished, first_for, has_session, in_sync, is_open}
-use Rattle.capcore.proofs.CommonPieces.{is_row_of, lock_at, lock_in, minus, row_of-entry, wants, wants-kept, with_scene}
+use Rattle.capcore.proofs.CommonPieces.{is_row_of, lock_at, lock_in, minus, row_of-entry, wants, wants-stay, with_scene}
 use Rattle.capcore.proofs.SoundEnd.{same-finished}
-use Rattle.capcore.specs.Leaving.{LeavesEntries, with_parts}
+use Rattle.capcore.specs.Sparing.{SparesEntries, with_parts}
 
 -- a quiet lock stays quiet where the same requests wait, clients want the same of its inode, and its gather is as open
-pub still_quiet : (old new : Scene) (ino : ℕ) (part : Part) → new.locks.queue ≡ old.locks.queue → wants new ino ≡ wants old ino
-    → ((goal : StableState) → is_open new ino part goal ≡ is_open old ino part goal) → (lock : Option LockState) → IsQuiet old ino part lock → IsQuiet new ino part lock
-still_quiet old new ino part queue wanted as_open lock quiet = grind arith
+pub still_resting : (old new : Scene) (ino : ℕ) (part : Part) → new.locks.queue ≡ old.locks.queue → wants new ino ≡ wants old ino
+    → ((goal : StableState) → is_open new ino part goal ≡ is_open old ino part goal) → (lock : Option LockState) → IsLockAtRest old ino part lock → IsLockAtRest new ino part lock
+still_resting old new ino part queue wanted as_open lock resting = grind arith
 
 -- ---- lists of rows
 
@@ -50,7 +50,7 @@ module _ (s : State) (sound : IsSound s) where
   no_locks ino out = none_if (map.get s.scene.locks.states ino) (sound.locked ino ∙ out)
 
   nobody_waits : (ino : ℕ) (part : Part) → map.contains_key s.scene.tree.nodes ino ≡ false → first_for s.scene.locks.queue ino part ≡ None
-  nobody_waits ino part out = subst (λ o. IsQuiet s.scene ino part (option_map (lock_in part) o)) (no_locks ino out) (sound.at_rest.each ino part)
+  nobody_waits ino part out = subst (λ o. IsLockAtRest s.scene ino part (option_map (lock_in part) o)) (no_locks ino out) (sound.at_rest.each ino part)
 
   sound_row : (row : EntryRow) → Contains s.scene.table.rows row → IsSoundEntry s.scene row
   sound_row row inside = All-contains (IsSoundEntry s.scene) s.scene.table.rows row sound.entries inside
@@ -60,26 +60,26 @@ module _ (s : State) (sound : IsSound s) where
 
 -- ---- what is left alone
 
-module _ (s : State) (sound : IsSound s) (tree : Nodes) (sessions : SessionTable) (states : StateMap) (leaves : LeavesEntries s.scene tree sessions states) where
+module _ (s : State) (sound : IsSound s) (tree : Nodes) (sessions : SessionTable) (states : StateMap) (spares : SparesEntries s.scene tree sessions states) where
   abbrev new : Scene
   new = with_parts s.scene tree sessions states
 
   same_locks : (row : EntryRow) → Contains s.scene.table.rows row → map.get states row.holder.ino.0 ≡ map.get s.scene.locks.states row.holder.ino.0
-  same_locks row inside = let entry = sound_row s sound row inside in leaves.locks row.holder.ino.0 entry.on_inode
+  same_locks row inside = let entry = sound_row s sound row inside in spares.locks row.holder.ino.0 entry.on_inode
 
   same_against : (row : EntryRow) → Contains s.scene.table.rows row → against new row ≡ against s.scene row
   same_against row inside = grind arith
 
-  entry_kept : (row : EntryRow) → Contains s.scene.table.rows row → IsSoundEntry new row
-  entry_kept row inside = grind arith
+  entry_stays : (row : EntryRow) → Contains s.scene.table.rows row → IsSoundEntry new row
+  entry_stays row inside = grind arith
 
   -- ---- locks
 
-  quiet_new : (ino : ℕ) (part : Part) → map.contains_key s.scene.tree.nodes ino ≡ false → (o : Option Node) → IsQuiet new ino part (option_map (lock_in part) (option_map (λ node. in_sync) o))
-  quiet_new ino part out o = grind (arith, nobody_waits, each_in_sync, no_rows, unwanted)
+  resting_new : (ino : ℕ) (part : Part) → map.contains_key s.scene.tree.nodes ino ≡ false → (o : Option Node) → IsLockAtRest new ino part (option_map (lock_in part) (option_map (λ node. in_sync) o))
+  resting_new ino part out o = grind (arith, nobody_waits, each_in_sync, no_rows, unwanted)
 
-  quiet_at : (ino : ℕ) (part : Part) (b : Bool) → map.contains_key s.scene.tree.nodes ino ≡ b → IsQuiet new ino part (option_map (lock_in part) (map.get states ino))
-  quiet_at ino part b here = grind (arith, wants-kept, quiet_new)
+  resting_at : (ino : ℕ) (part : Part) (b : Bool) → map.contains_key s.scene.tree.nodes ino ≡ b → IsLockAtRest new ino part (option_map (lock_in part) (map.get states ino))
+  resting_at ino part b here = grind (arith, wants-stay, resting_new)
 
   locked_at : (ino : ℕ) (b : Bool) → map.contains_key s.scene.tree.nodes ino ≡ b → map.contains_key states ino ≡ map.contains_key tree.nodes ino
   locked_at ino b here = grind arith
@@ -92,24 +92,24 @@ module _ (s : State) (sound : IsSound s) (tree : Nodes) (sessions : SessionTable
 
   -- ---- all together
 
-  pub kept-sound : IsSound (with_scene s (with_parts s.scene tree sessions states))
-  kept-sound = record {
-    entries = All-weaker (Contains s.scene.table.rows) (IsSoundEntry new) entry_kept s.scene.table.rows (All-contains_itself s.scene.table.rows);
-    waiting = All-weaker (λ q. IsTrue (has_session s.scene.sessions q.client.0)) (λ q. IsTrue (has_session sessions q.client.0)) (λ q. leaves.connected q.client.0) s.scene.locks.queue sound.waiting;
-    messages = All-weaker (λ m. IsTrue (has_session s.scene.sessions m.client.0)) (λ m. IsTrue (has_session sessions m.client.0)) (λ m. leaves.connected m.client.0) s.messages sound.messages;
+  pub stays-sound : IsSound (with_scene s (with_parts s.scene tree sessions states))
+  stays-sound = record {
+    entries = All-weaker (Contains s.scene.table.rows) (IsSoundEntry new) entry_stays s.scene.table.rows (All-contains_itself s.scene.table.rows);
+    waiting = All-weaker (λ q. IsTrue (has_session s.scene.sessions q.client.0)) (λ q. IsTrue (has_session sessions q.client.0)) (λ q. spares.connected q.client.0) s.scene.locks.queue sound.waiting;
+    messages = All-weaker (λ m. IsTrue (has_session s.scene.sessions m.client.0)) (λ m. IsTrue (has_session sessions m.client.0)) (λ m. spares.connected m.client.0) s.messages sound.messages;
     locked = λ ino. locked_at ino (map.contains_key s.scene.tree.nodes ino) refl;
-    strays = λ ino gone. sound.strays ino (leaves.strays ino gone);
+    strays = λ ino gone. sound.strays ino (spares.strays ino gone);
     in_place = λ row part found. in_place row part (found-contains (is_row_of row.holder) s.scene.table.rows row found) (sound.in_place row part found);
-    at_rest = record { each = λ ino part. quiet_at ino part (map.contains_key s.scene.tree.nodes ino) refl };
+    at_rest = record { each = λ ino part. resting_at ino part (map.contains_key s.scene.tree.nodes ino) refl };
   }
 
-  pub kept-finished : IsTable s.scene.table → finished s.scene (with_parts s.scene tree sessions states) (with_parts s.scene tree sessions states) ≡ with_parts s.scene tree sessions states
-  kept-finished table =
-      same-finished (with_scene s (with_parts s.scene tree sessions states)) kept-sound table s.scene (λ row inside. ap (minus row.entry.held) (sym (same_against row inside)))
+  pub stays-finished : IsTable s.scene.table → finished s.scene (with_parts s.scene tree sessions states) (with_parts s.scene tree sessions states) ≡ with_parts s.scene tree sessions states
+  stays-finished table =
+      same-finished (with_scene s (with_parts s.scene tree sessions states)) stays-sound table s.scene (λ row inside. ap (minus row.entry.held) (sym (same_against row inside)))
 
   -- what is known of each entry is known
-  pub kept-known : (sets : ClientViews) → AreKnown sets s.scene → AreKnown sets (with_parts s.scene tree sessions states)
-  kept-known sets known k e there =
+  pub stays-known : (sets : ClientViews) → AreKnown sets s.scene → AreKnown sets (with_parts s.scene tree sessions states)
+  stays-known sets known k e there =
       let row : EntryRow = record { holder = k; entry = e } in
       let inside : Contains s.scene.table.rows row = found-contains (is_row_of k) s.scene.table.rows row (row_of-entry s.scene.table k e there) in
       known k e there ∙ ap (λ caps. Some (minus e.held caps)) (sym (same_against row inside))

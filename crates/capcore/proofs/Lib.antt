@@ -9,7 +9,7 @@ pub mod Determined
 pub mod Effects
 pub mod Fresh
 pub mod Growing
-pub mod Kept
+pub mod ReplayStays
 pub mod OwnServed
 pub mod Polled
 pub mod Promised
@@ -51,7 +51,7 @@ pub mod SoFar
 pub mod IssuedRows
 pub mod Forgotten
 pub mod SameOff
-pub mod EntryKept
+pub mod EntryStays
 pub mod SameLocks
 pub mod SizesOwed
 pub mod Strays
@@ -63,5 +63,5 @@ pub mod SoundEnd
 pub mod Room
 pub mod Polling
 pub mod LeftAlone
-pub mod CountsKept
+pub mod CountsStay
 pub mod StayingSound

@@ -6,7 +6,7 @@ use Rattle.std.specs.Option.{option_map}
 use Rattle.std.specs.FinMap as map
 use Rattle.capbits.proofs.Tests.{passed-if}
 use Rattle.capcore.proofs.EntryRequests.{basic-session, basic-there}
-use Rattle.lockmachine.proofs.Queue.{with_request-kept}
+use Rattle.lockmachine.proofs.Queue.{with_request-stays}
 use Rattle.lockmachine.proofs.SameBut.{same-request}
 use Rattle.capstep.specs.declared.operations.OperationRef.{OperationRef}
 use Rattle.capcore.proofs.Common.{AffectsOne, AreBelow, AreGiven, ClientId, Event, Holder, Ino, InodeLocks, IsAffectedEntry, IsLockMap, IsSound, IsTable, Need}
@@ -98,7 +98,7 @@ below-of_operation count old k operation given = (given.entries, omega (arith, g
 
 pub order-of_operation : (s : Scene) (k : Holder) (operation : Operation) → IsLockMap s.locks
     → rejection_of s (arrival_tests s k.client k.ino.0 operation) (operation_needs s k.client k.ino.0 operation) (waiting_tests s k.ino.0 operation) ≡ None → IsLockMap (with_request s.locks k.client k.ino operation)
-order-of_operation s k operation order free = with_request-kept s.locks k.client k.ino operation order (enqueuing-room s k operation free)
+order-of_operation s k operation order free = with_request-stays s.locks k.client k.ino operation order (enqueuing-room s k operation free)
 
 -- one more may wait
 pub room-left : (s : Scene) (k : Holder) (operation : Operation)

@@ -10,7 +10,7 @@ use Rattle.capbits.specs.Caps.{has}
 use Rattle.lockmachine.proofs.Finding.{fails_at, find_none}
 use Rattle.lockmachine.proofs.InRows.{one_keeps}
 use Rattle.lockmachine.proofs.Moving.{with_lock-each}
-use Rattle.lockmachine.proofs.Queue.{moved-kept, taken_alone}
+use Rattle.lockmachine.proofs.Queue.{moved-stays, taken_alone}
 use Rattle.step_model.specs.Headline.{move_of}
 use Rattle.step_model.specs.Serving.{served}
 use Rattle.lockmachine.specs.Locks.{with_lock}
@@ -21,8 +21,8 @@ use Rattle.lockmachine.specs.declared.moves.Move.{Move}
 use Rattle.lockmachine.specs.declared.moves.Move.TheVariants.{Begin, End}
 use Rattle.capcore.proofs.CommonPieces.{A, Began, Ended, EntryRow, Gather, Gathered, IsInRow, IsLockMap, IsSound, IsSoundEntry, IsTree, LockId, LockMap, LockState}
 use Rattle.capcore.proofs.CommonPieces.{Made, Makes, MakesAll, Nodes, Operation, Outcome, P, Part, Request, Scene, Serve, Served, Stable, State, Table, WaitAt}
-use Rattle.capcore.proofs.CommonPieces.{contains-filter, ended_in, exist-changed, first_for, first_move, is_numbered, lock_at, lock_in, quiet-waits-at, served-at}
-use Rattle.capcore.proofs.CommonPieces.{tree_with, waits-kept-at, without_request}
+use Rattle.capcore.proofs.CommonPieces.{contains-filter, ended_in, exist-changed, first_for, first_move, is_numbered, lock_at, lock_in, resting-waits-at, served-at}
+use Rattle.capcore.proofs.CommonPieces.{tree_with, waits-stay-at, without_request}
 use Rattle.capcore.proofs.LeftAlone.{found-contains}
 use Rattle.capcore.proofs.OneChange.{by_operation, sound-after}
 
@@ -61,13 +61,13 @@ some-mapped f o = grind arith
 abbrev HasLock : LockMap → ℕ → Bool
 HasLock locks q = is_some (lock_at locks q A)
 
-lock-kept : (locks : LockMap) (ino : ℕ) (part : Part) (lock : LockState) (q : ℕ) → HasLock (with_lock locks ino part lock) q ≡ HasLock locks q
-lock-kept locks ino part lock q =
+lock-stays : (locks : LockMap) (ino : ℕ) (part : Part) (lock : LockState) (q : ℕ) → HasLock (with_lock locks ino part lock) q ≡ HasLock locks q
+lock-stays locks ino part lock q =
     with_lock-each locks ino part lock (λ b (at : LockId) o. is_some o ≡ is_some (lock_at locks at.0 at.1)) (some-mapped (λ _. lock) (lock_at locks ino part)) (λ at. refl) (q, A)
 
 lock-moved : (locks : LockMap) (step : Move) (q : ℕ) → HasLock (moved locks step) q ≡ HasLock locks q
-lock-moved locks (Begin ino part to) q = lock-kept locks ino.0 part (Gather (present_state (lock_at locks ino.0 part)) to) q
-lock-moved locks (End ino part) q = lock-kept locks ino.0 part (Stable (coming_state (lock_at locks ino.0 part))) q
+lock-moved locks (Begin ino part to) q = lock-stays locks ino.0 part (Gather (present_state (lock_at locks ino.0 part)) to) q
+lock-moved locks (End ino part) q = lock-stays locks ino.0 part (Stable (coming_state (lock_at locks ino.0 part))) q
 lock-moved locks step q = refl
 
 keys-moved : (locks : LockMap) (step : Move) (q : ℕ) → map.contains_key (moved locks step).states q ≡ map.contains_key locks.states q
@@ -105,7 +105,7 @@ moved-step s step first = record {
   states = keys-moved s.locks step;
   queue = queue-moved s.locks step;
   last = grind arith;
-  order = moved-kept s.locks step;
+  order = moved-stays s.locks step;
   in_rows = λ row part inside was. subst (λ (m : Move). IsInRow (with_moved s m) row part) first (one_keeps s row part inside was);
 }
 
@@ -207,12 +207,12 @@ nothing-served first [] settled order wait made = (refl, ap (λ (s : Scene). s.t
 nothing-served first (Served q o ∷ ms) settled order wait (mid, makes, rest) =
     let found = served-at none first q.ticket order wait makes.0 in absurd (true≢false (sym found.3))
 nothing-served first (m ∷ ms) settled order wait (mid, makes, rest) =
-    let later = nothing-served mid ms settled ((moved-made first m mid makes).order order) (waits-kept-at none first (move_of m ∷ []) mid (makes.0, refl, makes.1) wait) rest in
+    let later = nothing-served mid ms settled ((moved-made first m mid makes).order order) (waits-stay-at none first (move_of m ∷ []) mid (makes.0, refl, makes.1) wait) rest in
     (later.0, later.1 ∙ ap (λ (s : Scene). s.tree) makes.1)
 
 -- so it is of every sound state
 pub sound-waits : (s : State) → IsSound s → WaitAt none s.scene
-sound-waits s sound = quiet-waits-at none s.scene (record { each_other = λ other part off. sound.at_rest.each other part })
+sound-waits s sound = resting-waits-at none s.scene (record { each_other = λ other part off. sound.at_rest.each other part })
 
 -- and each entry of it holds its pin
 pub sound-pinned : (s : State) → IsSound s → (row : EntryRow) → Contains s.scene.table.rows row → has row.entry.held P ≡ false → ⊥

@@ -4,14 +4,14 @@ use Rattle.std.specs.List.{find}
 use Rattle.std.specs.Option.{unwrap_or}
 use Rattle.std.specs.FinMap as map
 use Rattle.capbits.specs.Sets.{no_caps}
-use Rattle.capstep.specs.Finishing.{told_under}
+use Rattle.capstep.specs.Finishing.{pending_under}
 use Rattle.capcore.proofs.CommonPieces.{Began, Caps, ClientViews, Ended, EntryRow, Gathered, Holder, Ino, IsSubset, IsTree, LockMap, Made, MakesAll, OthersHaveAll}
-use Rattle.capcore.proofs.CommonPieces.{Scene, Served, SessionTable, Table, changed_where, due_under, ended_in, has_session, is_row_of, is_sized, known_anew}
-use Rattle.capcore.proofs.CommonPieces.{known_in, known_of, owed, permitted, permitted-kept, permitted_of, row_of-entry, sized_in, sizes_owed, was-there}
+use Rattle.capcore.proofs.CommonPieces.{Scene, Served, SessionTable, Table, changed_where, ended_in, has_session, is_row_of, is_sized, issuable_under, known_anew}
+use Rattle.capcore.proofs.CommonPieces.{known_in, known_of, owed, permitted, permitted-stays, permitted_of, row_of-entry, sized_in, sizes_owed, was-there}
 use Rattle.capcore.proofs.LeftAlone.{found-contains}
 use Rattle.capcore.proofs.Moved.{tree-moved}
 use Rattle.capcore.proofs.Strays.{alike-retained, goes, kept-held, stays-kept}
-use Rattle.capcore.specs.Affected.{finished_at, finished_entry, forget_among, stays, told_then}
+use Rattle.capcore.specs.Affected.{finished_at, finished_entry, forget_among, pending_then, stays}
 use Rattle.capcore.specs.Begun.{ArePermittedIn, MayEnd}
 use Rattle.capcore.specs.Serves.{EndsAt, EndsWith, SettlesWith}
 
@@ -31,12 +31,12 @@ AreToldAlike was now = (k : Holder) → known_of now k ≡ known_of was k
 -- whoever has all there by some locks, has it by others that are the same at the inode
 still-all_there : (was now : ClientViews) (s : Scene) (then : LockMap) (k : Holder) → AreToldAlike was now → map.get then.states k.ino.0 ≡ map.get s.locks.states k.ino.0 → OthersHaveAll was s k
     → OthersHaveAll now (record s { locks = then }) k
-still-all_there was now s then k told same others j e on apart there =
+still-all_there was now s then k pending same others j e on apart there =
     let row : EntryRow = record { holder = j; entry = e } in
     let all = others j e on apart there in
     let here : map.get s.locks.states j.ino.0 ≡ map.get then.states j.ino.0 = ap (map.get s.locks.states) on ∙ sym same ∙ sym (ap (map.get then.states) on) in (
-      subst (λ (caps : Caps). IsSubset caps e.held) (λ i. due_under s.fs s.tree s.sessions (here i) row) all.0,
-      told j ∙ all.1 ∙ ap Some (λ i. told_under (permitted s.fs s.tree s.sessions j) (here i) row),
+      subst (λ (caps : Caps). IsSubset caps e.held) (λ i. issuable_under s.fs s.tree s.sessions (here i) row) all.0,
+      pending j ∙ all.1 ∙ ap Some (λ i. pending_under (permitted s.fs s.tree s.sessions j) (here i) row),
     )
 
 module _ (at from : ℕ → Bool) (first settled : Scene) (ended : List Ended) (sized : List Ino) (settles : SettlesWith at from first settled ended sized) (nobody : ended ≡ []) where
@@ -45,13 +45,13 @@ module _ (at from : ℕ → Bool) (first settled : Scene) (ended : List Ended) (
   served_none = let none = nobody-served first settles.moves settled settles.settles.settles.made (sym settles.ended_is ∙ nobody) in (settles.sized_is ∙ none.0, none.1)
 
   pub others-still : (was now : ClientViews) (k : Holder) → AreToldAlike was now → map.get settled.locks.states k.ino.0 ≡ map.get first.locks.states k.ino.0 → OthersHaveAll was first k → OthersHaveAll now settled k
-  others-still was now k told here others =
+  others-still was now k pending here others =
       let there = settles.settles in
       let same = there.same in
       let tree = served_none.1 in
       let whole : record first { locks = settled.locks } ≡ settled =
       λ i. record { fs = sym same.fs i; tree = sym tree i; sessions = sym same.sessions i; table = sym same.table i; locks = settled.locks } in
-      subst (λ (s : Scene). OthersHaveAll now s k) whole (still-all_there was now first settled.locks k told here others)
+      subst (λ (s : Scene). OthersHaveAll now s k) whole (still-all_there was now first settled.locks k pending here others)
 
 -- ---- the step
 
@@ -72,27 +72,27 @@ settled-may at from was now first settled ended sized settles permitted may =
 finished-permitted : (at : ℕ → Bool) (known : Holder → Caps) (sized : List Ino) (s : Scene) (was now : ClientViews) → IsTree s.tree → ((k : Holder) → permitted_of now k ≡ permitted_of was k)
     → ArePermittedIn was s → ArePermittedIn now (finished_at at known (sizes_owed sized s))
 finished-permitted at known sized s was now tree kept all k e here =
-    let told : Scene = sizes_owed sized s in
+    let pending : Scene = sizes_owed sized s in
     let passes : EntryRow → Bool = λ row. at row.holder.ino.0 in
-    let left : Scene = record told { table = changed_where passes (finished_entry known told) told.table } in
-    let before = was-there passes (finished_entry known told) told.table k e here in
+    let left : Scene = record pending { table = changed_where passes (finished_entry known pending) pending.table } in
+    let before = was-there passes (finished_entry known pending) pending.table k e here in
     let first = was-there (is_sized sized) owed s.table k before.0 before.1 in
     let inside : Contains left.table.rows (record { holder = k; entry = e }) = found-contains (is_row_of k) left.table.rows (record { holder = k; entry = e }) (row_of-entry left.table k e here) in
     kept k ∙ all k first.0 first.1
-    ∙ ap Some (sym (permitted-kept s.fs s.tree (forget_among at left).tree s.sessions s.sessions k
+    ∙ ap Some (sym (permitted-stays s.fs s.tree (forget_among at left).tree s.sessions s.sessions k
     (alike-retained s.tree (stays at left) tree (λ q gone. (goes at left q gone).1) k.ino.0 (stays-kept at left k.ino.0 (kept-held left (record { holder = k; entry = e }) inside))) refl))
 
 -- the locks settle and then the step ends
 pub settled-ends : (at from : ℕ → Bool) (was mid now : ClientViews) (first settled last : Scene) (ended : List Ended) (sized : List Ino)
     → SettlesWith at from first settled ended sized → IsTree first.tree → AreToldAlike was mid → ArePermittedIn mid settled → EndsAt at sized mid now settled last → EndsWith from was now first last ended
-settled-ends at from was mid now first settled last ended sized settles tree told permitted ends = record {
+settled-ends at from was mid now first settled last ended sized settles tree pending permitted ends = record {
   at = at;
   settled = settled;
   sized = sized;
   settles = settles;
   tree = sound;
-  finished = ends.finished ∙ (λ i. finished_at at (λ k. unwrap_or (told k i) no_caps) (sizes_owed sized settled));
-  kept = λ k. ends.kept k ∙ ap (known_anew (at k.ino.0) (told_then (sizes_owed sized settled)) (find (is_row_of k) (sizes_owed sized settled).table.rows)) (told k);
+  finished = ends.finished ∙ (λ i. finished_at at (λ k. unwrap_or (pending k i) no_caps) (sizes_owed sized settled));
+  kept = λ k. ends.kept k ∙ ap (known_anew (at k.ino.0) (pending_then (sizes_owed sized settled)) (find (is_row_of k) (sizes_owed sized settled).table.rows)) (pending k);
   permitted = subst (ArePermittedIn now) (sym ends.finished) (finished-permitted at (known_in mid) sized settled mid now sound ends.permitted permitted);
 }
   where

@@ -7,7 +7,7 @@ use Rattle.inotree.proofs.Moving.{changed-within, moved-alike, moved-tree, moved
 use Rattle.inotree.proofs.OneInode.{alike-unlinked, childless-empty, childless-file, presence-other, sound-attribute, sound-no-attribute, sound-rmdir}
 use Rattle.inotree.proofs.OneInode.{sound-setting, sound-unlink}
 use Rattle.inotree.specs.Calls.{changed}
-use Rattle.capstep.proofs.Again.{leaves-or-makes, passed-all}
+use Rattle.capstep.proofs.Again.{passed-all, stays-or-makes}
 use Rattle.step_model.specs.Changing.{tree_changed}
 use Rattle.step_model.specs.Operations.{change_tests, operation_after, operation_before, operation_needs}
 use Rattle.step_model.specs.Serving.{MayEndAs}
@@ -29,7 +29,7 @@ module _ (tree : Nodes) (ino : ℕ) (P : Nodes → Type 0) (same : P tree) (each
 
 module _ (s : Scene) (q : Request) (o : Outcome) (ends : MayEndAs s q o) where
   after_any : (P : Nodes → Type 0) → P s.tree → ((f : Node → Node) → P (changed f s.tree q.ino.0)) → P (tree_after s.tree q o)
-  after_any P same each = grind (arith, leaves-or-makes, by_operation)
+  after_any P same each = grind (arith, stays-or-makes, by_operation)
 
   pub exist-after : (ino : ℕ) → map.contains_key (tree_after s.tree q o).nodes ino ≡ map.contains_key s.tree.nodes ino
   exist-after ino = after_any (λ t. map.contains_key t.nodes ino ≡ map.contains_key s.tree.nodes ino) refl (λ f. exist-changed s.tree f q.ino.0 ino)
@@ -78,7 +78,7 @@ within-after tree q o other above below = grind (arith, within_operation)
 
 pub alike-apart : (s : Scene) (q : Request) (o : Outcome) (ino : ℕ) → IsTree s.tree → MayEndAs s q o → ino ≢ q.ino.0
     → (is_rename q.operation ≡ true → is_within s.tree.nodes ino q.ino.0 ≡ false) → IsAlike s.tree (tree_after s.tree q o) ino
-alike-apart s q o ino sound ends off below = elim (leaves-or-makes s q o ends) [
+alike-apart s q o ino sound ends off below = elim (stays-or-makes s q o ends) [
   | inl left ↦ subst (λ (t : Nodes). IsAlike s.tree t ino) left (alike-itself s.tree ino)
   | inr made ↦
       let passed = passed-all s (operation_before s q.ino.0 q.operation) (operation_needs s q.client q.ino.0 q.operation) (operation_after s q.ino.0 q.operation) made.0 in
@@ -86,7 +86,7 @@ alike-apart s q o ino sound ends off below = elim (leaves-or-makes s q o ends) [
 ]
 
 pub sound-after : (s : Scene) (q : Request) (o : Outcome) → IsTree s.tree → MayEndAs s q o → IsTree (tree_after s.tree q o)
-sound-after s q o sound ends = elim (leaves-or-makes s q o ends) [
+sound-after s q o sound ends = elim (stays-or-makes s q o ends) [
   | inl left ↦ subst IsTree left sound
   | inr made ↦
       let passed = passed-all s (operation_before s q.ino.0 q.operation) (operation_needs s q.client q.ino.0 q.operation) (operation_after s q.ino.0 q.operation) made.0 in

@@ -7,7 +7,7 @@ use Rattle.std.specs.FinMap as map
 use Rattle.capcore.proofs.Strays.{retained-gone, retained-here}
 use Rattle.step_model.specs.Finish.{is_in_use, issue}
 use Rattle.step_model.specs.Headline.{OtherLocksStay, is_of_lock_at}
-use Rattle.capcore.proofs.Common.{Answer, Began, Ended, Event, Gather, Gathered, LockId, LockMap, LockState, Made, Makes, MakesAll, Part, Reply, Scene, Served}
+use Rattle.capcore.proofs.Common.{Began, DirectReply, Ended, Event, Gather, Gathered, LockId, LockMap, LockState, Made, Makes, MakesAll, Part, Reply, Scene, Served}
 use Rattle.capcore.proofs.Common.{Stable, State, StepBy, coming_state, direct, is_at, lock_at, lock_in, present_state, shown, sized_in, sizes_owed}
 use Rattle.capcore.proofs.Common.{state_after, with_lock, with_lock-each}
 
@@ -36,7 +36,7 @@ all_stay s (m ∷ moves) t ino part (mid, one, made) off =
 -- ---- the end of the step
 
 -- what a client is told leaves the locks
-shown_locks : (a : Answer) (s : State) → (shown a s).scene.locks ≡ s.scene.locks
+shown_locks : (a : DirectReply) (s : State) → (shown a s).scene.locks ≡ s.scene.locks
 shown_locks a s = grind arith
 
 -- a lock that is there at the end was so once the locks had settled
@@ -45,11 +45,11 @@ lock_before : (s : Scene) (kept : ℕ → Bool) (ino : ℕ) (part : Part) (lock 
 lock_before s kept ino part lock there = grind (arith, retained-here, retained-gone)
 
 -- locks change by the moves of the step alone
-pub other-locks : (old : State) (e : Event) (moves : List Made) (answer : Reply) (ended : List Ended) (new : State) → StepBy old e moves answer ended new
+pub other-locks : (old : State) (e : Event) (moves : List Made) (reply : Reply) (ended : List Ended) (new : State) → StepBy old e moves reply ended new
     → OtherLocksStay new.scene.locks (direct old e).state.scene moves
-other-locks old e moves answer ended new by ino part lock off there =
+other-locks old e moves reply ended new by ino part lock off there =
     let last = state_after old (direct old e) moves by.settled in
     let at_end : lock_at last.scene.locks ino part ≡ Some lock =
-    sym (ap (λ (s : State). lock_at s.scene.locks ino part) by.new_is ∙ ap (λ (locks : LockMap). lock_at locks ino part) (shown_locks (direct old e).answer last)) ∙ there in
+    sym (ap (λ (s : State). lock_at s.scene.locks ino part) by.new_is ∙ ap (λ (locks : LockMap). lock_at locks ino part) (shown_locks (direct old e).reply_due last)) ∙ there in
     sym (all_stay (direct old e).state.scene moves by.settled ino part by.settles.made off)
     ∙ lock_before by.settled (is_in_use (issue (sizes_owed (sized_in moves) by.settled))) ino part lock at_end

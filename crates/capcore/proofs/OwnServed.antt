@@ -11,12 +11,12 @@ use Rattle.std.specs.Option.{option_map_or}
 use Rattle.capbits.specs.Sets.{and_parts}
 use Rattle.lockmachine.proofs.Exact.{begins_not, ends_not, serves_not, settled}
 use Rattle.lockmachine.proofs.Moving.{IsMove, first_is}
-use Rattle.lockmachine.proofs.Queue.{least_served, moved-kept}
+use Rattle.lockmachine.proofs.Queue.{least_served, moved-stays}
 use Rattle.lockmachine.proofs.Rest.{same_part_is}
 use Rattle.step_model.specs.Serving.{passed_as}
 use Rattle.lockmachine.specs.Moves.{IsAtRest, begun_locks, gathered_locks, is_first, is_servable, may_begin, may_end, may_serve}
 use Rattle.lockmachine.specs.Requests.{part_of_operation, part_place, same_part}
-use Rattle.capcore.proofs.Common.{As_judged, Began, Begin, ClientId, End, Gather, Gathered, Ino, IsLockMap, IsQuiet, LockId, LockMap, LockState, Made}
+use Rattle.capcore.proofs.Common.{As_judged, Began, Begin, ClientId, End, Gather, Gathered, Ino, IsLockAtRest, IsLockMap, LockId, LockMap, LockState, Made}
 use Rattle.capcore.proofs.Common.{MakesAll, MayEndAs, Operation, Outcome, Part, Rejection, Reply, Request, Scene, Serve, Served, Stable, Ticket}
 use Rattle.capcore.proofs.Common.{Without_memory, awaited_as, coming_state, ended_in, first_for, first_move, found_by_number, is_at, is_for, is_numbered}
 use Rattle.capcore.proofs.Common.{is_of_ticket, is_rejection, judged_again, lock_at, next_request, no_moves, outcome_reply, outcome_unless, present_state}
@@ -25,15 +25,15 @@ use Rattle.capcore.proofs.Common.{with_lock, with_lock-each, with_request}
 -- ---- how a request ends that nothing rejects
 
 module _ (ticket : Ticket) where
-  abbrev answered : Outcome → Reply
-  answered o = unwrap_or (outcome_reply o) (Reply.Waiting ticket)
+  abbrev replied : Outcome → Reply
+  replied o = unwrap_or (outcome_reply o) (Reply.Waiting ticket)
 
-  passed-unrejected : (s : Scene) (ino : ℕ) (operation : Operation) → is_rejection (answered (passed_as s ino operation)) ≡ false
+  passed-unrejected : (s : Scene) (ino : ℕ) (operation : Operation) → is_rejection (replied (passed_as s ino operation)) ≡ false
   passed-unrejected s ino operation = grind arith
 
   -- it is neither denied nor refused
-  unrejected : (s : Scene) (q : Request) (o : Outcome) → judged_again s q ≡ None → MayEndAs s q o → is_rejection (answered o) ≡ false
-  unrejected s q o free (As_judged) = ap (λ (j : Option Rejection). is_rejection (answered (outcome_unless s q j))) free ∙ passed-unrejected s q.ino.0 q.operation
+  unrejected : (s : Scene) (q : Request) (o : Outcome) → judged_again s q ≡ None → MayEndAs s q o → is_rejection (replied o) ≡ false
+  unrejected s q o free (As_judged) = ap (λ (j : Option Rejection). is_rejection (replied (outcome_unless s q j))) free ∙ passed-unrejected s q.ino.0 q.operation
   unrejected s q o free (Without_memory nothing takes) = refl
 
 -- ---- a request that has just come to wait
@@ -83,18 +83,18 @@ module _ (old : Scene) (client : ClientId) (inode : Ino) (operation : Operation)
   -- ---- every other lock is quiet
 
   module _ (locks : LockMap) (alone : IsAlone locks) where
-    quiet-other : (id : LockId) → is_at ino part id ≡ false → IsQuiet (now locks) id.0 id.1 (lock_at locks id.0 id.1)
-    quiet-other id off = grind (arith, first_elsewhere)
+    resting-other : (id : LockId) → is_at ino part id ≡ false → IsLockAtRest (now locks) id.0 id.1 (lock_at locks id.0 id.1)
+    resting-other id off = grind (arith, first_elsewhere)
 
     -- so what moves is its own
     only_here : (p : LockId → Bool) → ((id : LockId) → is_at ino part id ≡ false → p id ≡ false) → (id : LockId) → p id ≡ true → is_at ino part id ≡ true
     only_here p elsewhere id passes = true_from_ne_false (is_at ino part id) (λ e. true≢false (sym passes ∙ elsewhere id e))
 
     begins_here : (id : LockId) → may_begin (now locks) id ≡ true → is_at ino part id ≡ true
-    begins_here = only_here (may_begin (now locks)) (λ id off. begins_not (now locks) id (lock_at locks id.0 id.1) (quiet-other id off))
+    begins_here = only_here (may_begin (now locks)) (λ id off. begins_not (now locks) id (lock_at locks id.0 id.1) (resting-other id off))
 
     ends_here : (id : LockId) → may_end (now locks) id ≡ true → is_at ino part id ≡ true
-    ends_here = only_here (may_end (now locks)) (λ id off. ends_not (now locks) id (lock_at locks id.0 id.1) (quiet-other id off))
+    ends_here = only_here (may_end (now locks)) (λ id off. ends_not (now locks) id (lock_at locks id.0 id.1) (resting-other id off))
 
     -- and a move of it leaves it alone
     still_alone : (i : ℕ) (p : Part) (lock : LockState) → is_at ino part (i, p) ≡ true → IsLockMap (with_lock locks i p lock) → IsAlone (with_lock locks i p lock)
@@ -113,7 +113,7 @@ module _ (old : Scene) (client : ClientId) (inode : Ino) (operation : Operation)
     module _ (nobody : first_for old.locks.queue ino part ≡ None) where
       of_it : (r : Request) → may_serve locks r ≡ true → is_at ino part (r.ino.0, part_of_operation r.operation) ≡ true
       of_it r may = true_from_ne_false (is_at ino part (r.ino.0, part_of_operation r.operation))
-          (λ e. true≢false (sym may ∙ serves_not (now locks) r (lock_at locks r.ino.0 (part_of_operation r.operation)) (quiet-other (r.ino.0, part_of_operation r.operation) e)))
+          (λ e. true≢false (sym may ∙ serves_not (now locks) r (lock_at locks r.ino.0 (part_of_operation r.operation)) (resting-other (r.ino.0, part_of_operation r.operation) e)))
 
       its_number : (r : Request) → may_serve locks r ≡ true → q.ticket.0 ≡ r.ticket.0
       its_number r may =
@@ -141,12 +141,12 @@ module _ (old : Scene) (client : ClientId) (inode : Ino) (operation : Operation)
     not-rejection locks (Began i p to ∷ moves) last alone (mid, (first, is), made) =
         let may = subst (IsMove (now locks)) first (first_is (now locks)) in
         not-rejection (begun_locks locks i.0 p to) moves last
-        (still_alone locks alone i.0 p (Gather (present_state (lock_at locks i.0 p)) to) (begins_here locks alone (i.0, p) may.0) (moved-kept locks (Begin i p to) alone.order))
+        (still_alone locks alone i.0 p (Gather (present_state (lock_at locks i.0 p)) to) (begins_here locks alone (i.0, p) may.0) (moved-stays locks (Begin i p to) alone.order))
         (subst (λ (s : Scene). MakesAll s moves last) is made)
     not-rejection locks (Gathered i p ∷ moves) last alone (mid, (first, is), made) =
         let may = subst (IsMove (now locks)) first (first_is (now locks)) in
         not-rejection (gathered_locks locks i.0 p) moves last
-        (still_alone locks alone i.0 p (Stable (coming_state (lock_at locks i.0 p))) (ends_here locks alone (i.0, p) may) (moved-kept locks (End i p) alone.order))
+        (still_alone locks alone i.0 p (Stable (coming_state (lock_at locks i.0 p))) (ends_here locks alone (i.0, p) may) (moved-stays locks (End i p) alone.order))
         (subst (λ (s : Scene). MakesAll s moves last) is made)
     not-rejection locks (Served r o ∷ moves) last alone (mid, (first, found, may, is), made) =
         let inside : Contains locks.queue q = subst (λ rs. Contains rs q) (sym alone.same_queue) (Contains-push old.locks.queue q) in
@@ -163,21 +163,21 @@ module _ (old : Scene) (client : ClientId) (inode : Ino) (operation : Operation)
     alone-first = record { same_queue = refl; others = λ id off. refl; order = order }
 
     -- behind an open gather it waits on, and nothing moves
-    rests-on : IsQuiet (now waiting) ino part (lock_at waiting ino part) → IsAtRest (now waiting)
+    rests-on : IsLockAtRest (now waiting) ino part (lock_at waiting ino part) → IsAtRest (now waiting)
     rests-on here = record {
-      each = λ i p. elim (is_at ino part (i, p)) as (λ b. is_at ino part (i, p) ≡ b → IsQuiet (now waiting) i p (lock_at waiting i p)) [
+      each = λ i p. elim (is_at ino part (i, p)) as (λ b. is_at ino part (i, p) ≡ b → IsLockAtRest (now waiting) i p (lock_at waiting i p)) [
         | true ↦ λ e. (let same = its_lock i p e in
-            subst (λ (id : LockId). IsQuiet (now waiting) id.0 id.1 (lock_at waiting id.0 id.1)) (λ k. (sym same.0 k, sym same.1 k)) here)
-        | false ↦ λ off. quiet-other waiting alone-first (i, p) off
+            subst (λ (id : LockId). IsLockAtRest (now waiting) id.0 id.1 (lock_at waiting id.0 id.1)) (λ k. (sym same.0 k, sym same.1 k)) here)
+        | false ↦ λ off. resting-other waiting alone-first (i, p) off
       ] refl;
     }
 
     pub own-not_rejected : (moves : List Made) (last : Scene) → judged_again old q ≡ None → MakesAll (now waiting) moves last → NotRejected moves
     own-not_rejected moves last free made = by_lock (lock_at old.locks ino part) refl (rest.each ino part)
       where
-        by_lock : (o : Option LockState) → lock_at old.locks ino part ≡ o → IsQuiet old ino part o → NotRejected moves
-        by_lock None is quiet = not-rejection free quiet waiting moves last alone-first made
-        by_lock (Some (Stable state)) is quiet = not-rejection free quiet.1 waiting moves last alone-first made
-        by_lock (Some (Gather from to)) is quiet =
-            let none = no_moves (now waiting) moves last (settled (now waiting) (rests-on (subst (IsQuiet (now waiting) ino part) (sym is) quiet))) made in
+        by_lock : (o : Option LockState) → lock_at old.locks ino part ≡ o → IsLockAtRest old ino part o → NotRejected moves
+        by_lock None is resting = not-rejection free resting waiting moves last alone-first made
+        by_lock (Some (Stable state)) is resting = not-rejection free resting.1 waiting moves last alone-first made
+        by_lock (Some (Gather from to)) is resting =
+            let none = no_moves (now waiting) moves last (settled (now waiting) (rests-on (subst (IsLockAtRest (now waiting) ino part) (sym is) resting))) made in
             subst NotRejected (sym none.0) refl

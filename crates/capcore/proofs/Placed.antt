@@ -9,7 +9,7 @@ use Rattle.step_model.specs.Headline.{AreRevoked, IsRevoked}
 use Rattle.lockmachine.specs.Scene.{against_lock, against_locks, against_part, against_policy}
 use Rattle.capcore.proofs.CommonPieces.{Cap, EntryRow, Gather, IsInPlace, IsInRow, IsInRowOf, LockState, Part, Scene, StableState, against, filter-contains}
 use Rattle.capcore.proofs.CommonPieces.{has-is_empty, has-minus, has-union, is_empty, is_of_inode, lock_at, of_part, outside, permitted, row_of, second_true}
-use Rattle.capcore.proofs.CommonPieces.{told_set}
+use Rattle.capcore.proofs.CommonPieces.{pending_of}
 
 -- a row that passes two tests is found by both
 pub any_found : (p q : EntryRow → Bool) (rows : List EntryRow) (row : EntryRow) → Contains rows row → p row ≡ true → q row ≡ true → list_any q (filter p rows) ≡ true
@@ -51,5 +51,5 @@ pub all-revoked : (s : Scene) → AreRevoked s
 all-revoked s row cap found = revoked-lost s row cap
 
 -- so what a client is to know that it holds is permitted
-pub told-permitted : (s : Scene) (row : EntryRow) (cap : Cap) → has (told_set s row) cap ≡ true → has (permitted s.fs s.tree s.sessions row.holder) cap ≡ true
-told-permitted s row cap told = grind (arith, has-minus, revoked-lost)
+pub pending-permitted : (s : Scene) (row : EntryRow) (cap : Cap) → has (pending_of s row) cap ≡ true → has (permitted s.fs s.tree s.sessions row.holder) cap ≡ true
+pending-permitted s row cap pending = grind (arith, has-minus, revoked-lost)

@@ -3,11 +3,11 @@ use Rattle.std.proofs.Common.{◌≡◌, ℕ, Option, None, List, [], filter, sy
 use Rattle.step_model.proofs.Twice.{given-twice, recorded-twice}
 use Rattle.step_model.specs.Recorded.{twice}
 use Rattle.capcore.proofs.SoundEnd.{sound-ends}
-use Rattle.capcore.proofs.Common.{ClientId, Direct, Ended, Event, Gives, IsAnswered, IsSound, IsTable, IssuesExactly, Message, Rejection, Reply, Settles}
+use Rattle.capcore.proofs.Common.{ClientId, Direct, Ended, Event, Gives, IsReplied, IsSound, IsTable, IssuesExactly, Message, Rejection, Reply, Settles}
 use Rattle.capcore.proofs.Common.{State, Step, StepReply, Table, after_messages, all_ended, changed_where, direct, effect_unless, first_denied, first_failing}
 use Rattle.capcore.proofs.Common.{first_messages, is_left, is_of_client, judged, rejection_by, reply_of, session_tests, shown, shown-given, shown-issued}
 use Rattle.capcore.proofs.Common.{shown-sound, sound-settles, state_after, with_given}
-use Rattle.capcore.proofs.Promised.{has-due}
+use Rattle.capcore.proofs.Promised.{has-issuable}
 use Rattle.capcore.proofs.Sounding.{later-given}
 
 module _ (old : State) (sound : IsSound old) (table : IsTable old.scene.table) (client : ClientId) (max : ℕ) where
@@ -30,14 +30,14 @@ module _ (old : State) (sound : IsSound old) (table : IsTable old.scene.table) (
     record {
       settled = old.scene;
       settles = subst (λ (d : Direct). Settles d.state.scene [] old.scene) (sym by_itself) (sound-settles old sound);
-      answer_is = sym (ap (λ (d : Direct). reply_of (state_after old d [] old.scene) [] d.answer) by_itself ∙ ap (λ (s : State). Reply.Messages (first_messages s client max)) nothing_left);
-      new_is = sym (ap (λ (d : Direct). shown d.answer (state_after old d [] old.scene)) by_itself ∙ ap (shown (Gives client max)) nothing_left);
+      reply_is = sym (ap (λ (d : Direct). reply_of (state_after old d [] old.scene) [] d.reply_due) by_itself ∙ ap (λ (s : State). Reply.Messages (first_messages s client max)) nothing_left);
+      new_is = sym (ap (λ (d : Direct). shown d.reply_due (state_after old d [] old.scene)) by_itself ∙ ap (shown (Gives client max)) nothing_left);
       ended_is = ap (λ (d : Direct). all_ended old d []) (sym by_itself);
     },
   )
     where
       here : Direct
-      here = record { state = old; answer = Gives client max; dropped = [] }
+      here = record { state = old; reply_due = Gives client max; dropped = [] }
 
       by_itself : direct old poll ≡ here
       by_itself = ap (λ o. effect_unless old poll (rejection_by old.scene o (first_denied old.scene []) (first_failing []))) is
@@ -47,12 +47,12 @@ module _ (old : State) (sound : IsSound old) (table : IsTable old.scene.table) (
 
   pub poll-answered : (step_reply : StepReply) → first_failing (session_tests old.scene.sessions client.0) ≡ None
       → step_reply.reply ≡ twice (Reply.Messages (first_messages old client max)) → step_reply.ended ≡ []
-      → IsAnswered old (Event.Poll client max) step_reply (with_given old client (first_messages old client max))
+      → IsReplied old (Event.Poll client max) step_reply (with_given old client (first_messages old client max))
   poll-answered step_reply is answers none = record {
     step = subst (λ (ended : List Ended). Step old poll step_reply.reply.given ended new) (sym none) (subst (λ (r : Reply). Step old poll r [] new) (sym (given-twice step_reply.reply _ answers)) (polled-step is));
     recorded = recorded-twice step_reply.reply _ answers;
     sound = shown-sound old (Gives client max) sound table;
-    issued = subst (λ (s : State). IssuesExactly s.scene new.scene) (sym (same_state (judged old.scene poll))) (shown-issued old.scene old (Gives client max) table (has-due old sound));
+    issued = subst (λ (s : State). IssuesExactly s.scene new.scene) (sym (same_state (judged old.scene poll))) (shown-issued old.scene old (Gives client max) table (has-issuable old sound));
     given = λ count given. later-given count new (shown-given count old (Gives client max) given);
   }
 

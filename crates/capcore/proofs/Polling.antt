@@ -12,7 +12,7 @@ use Rattle.capbits.specs.Sets.{no_caps}
 use Rattle.step_model.specs.Messages.{size_message}
 use Rattle.capcore.proofs.CommonPieces.{AreKnown, Caps, ClientId, ClientViews, Ended, Entry, EntryRow, Ino, IsTable, Message, Scene, State, Table, after_messages}
 use Rattle.capcore.proofs.CommonPieces.{changed, changed_where, end_messages, entry_at, entry_of, first_messages, fold-changed_by, holder, is_among, is_caps_of}
-use Rattle.capcore.proofs.CommonPieces.{is_due, is_of_client, is_recall_of, is_size_of, known_in, remade, row_found, row_messages, told_set, with_asked}
+use Rattle.capcore.proofs.CommonPieces.{is_due, is_of_client, is_recall_of, is_size_of, known_in, pending_of, remade, row_found, row_messages, with_asked}
 use Rattle.capcore.proofs.CommonPieces.{with_size_due, with_told}
 use Rattle.capcore.proofs.Telling.{asked_given, given_table, retold, size_given, told_given}
 
@@ -68,7 +68,7 @@ due-rows s (row ∷ rows) = by_test (is_due row) refl (due-rows s rows)
         let p = or_parts (nat_lt row.entry.told_seq row.entry.seq) (row.entry.size_due || row.entry.asked) e in
         let q = or_parts row.entry.size_due row.entry.asked p.1 in
         let none : row_messages s row ≡ [] =
-        λ i. cond (p.0 i) (Message.Caps row.holder.ino row.entry.seq (told_set s row) ∷ []) []
+        λ i. cond (p.0 i) (Message.Caps row.holder.ino row.entry.seq (pending_of s row) ∷ []) []
         ++ cond (q.0 i) (size_message row.holder.ino (finite.get s.tree.nodes row.holder.ino.0)) [] ++ cond (q.1 i) (Message.Recall row.holder.ino ∷ []) [] in
         rest ∙ ap (λ ms. ms ++ due_of s rows) (sym none)
 
@@ -87,7 +87,7 @@ listed-first s client max t ended rows listed of table messages is =
     is ∙ ap (λ ms. take max (end_messages client ended ++ ms)) (sym (due-rows s.scene rows) ∙ ap (due_of s.scene) of ∙ due-rows s.scene (filter (is_of_client client) t.rows)) ∙ sym (first-due s client max t ended table messages)
 
 -- of an entry of the table it is known what its client is to know
-pub known-row : (sets : ClientViews) (s : Scene) (t : Table) → s.table ≡ t → IsTable t → AreKnown sets s → (row : EntryRow) → Contains t.rows row → known_in sets row.holder ≡ told_set s row
+pub known-row : (sets : ClientViews) (s : Scene) (t : Table) → s.table ≡ t → IsTable t → AreKnown sets s → (row : EntryRow) → Contains t.rows row → known_in sets row.holder ≡ pending_of s row
 known-row sets s t same_table is known row inside =
     ap (λ (o : Option Caps). unwrap_or o no_caps) (known row.holder row.entry (ap (λ (u : Table). entry_at u row.holder) same_table ∙ ap entry_of (row_found t row is inside)))
 

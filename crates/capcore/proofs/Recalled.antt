@@ -4,7 +4,7 @@ use Rattle.std.proofs.lemmas.List.Elements.{All-map}
 use Rattle.step_model.specs.Recorded.{twice}
 use Rattle.capcore.proofs.SoundEnd.{same-finished}
 use Rattle.capcore.proofs.Telling.{as_sized, as_told, retold, retold-sound, retold_table}
-use Rattle.capcore.proofs.Common.{AreGiven, ClientViews, EntryRow, Event, HoldAlike, Holder, IsAnswered, IsSound, IsTable, IsTable-recalled, Reply, State}
+use Rattle.capcore.proofs.Common.{AreGiven, ClientViews, EntryRow, Event, HoldAlike, Holder, IsReplied, IsSound, IsTable, IsTable-recalled, Reply, State}
 use Rattle.capcore.proofs.Common.{StepReply, Table, alike-where, finished, is_among, recalled, with_table}
 use Rattle.capcore.proofs.Sounding.{later-given}
 use Rattle.capcore.proofs.Steps.{direct-answered}
@@ -35,17 +35,17 @@ module _ (old : State) (sound : IsSound old) (count : ℕ) where
   recalled-finished table = same-finished new recalled-sound (IsTable-recalled old.scene.table count table) old.scene (λ row inside. refl)
 
   pub recall-answered : (step_reply : StepReply) → IsTable old.scene.table → step_reply.reply ≡ twice (Reply.Recalled (take count old.scene.table.recall)) → step_reply.ended ≡ []
-      → IsAnswered old (Event.Recall count) step_reply (with_table old (recalled old.scene.table count))
+      → IsReplied old (Event.Recall count) step_reply (with_table old (recalled old.scene.table count))
   recall-answered step_reply table answers none =
-      direct-answered old new (Event.Recall count) refl (Reply.Recalled (take count old.scene.table.recall)) (record { answer_is = refl; state_is = refl })
+      direct-answered old new (Event.Recall count) refl (Reply.Recalled (take count old.scene.table.recall)) (record { reply_is = refl; state_is = refl })
       recalled-sound (recalled-finished table) step_reply
       (λ most given. later-given most new (
       subst (λ t. AreGiven most (with_table old t)) (sym (recalled-retold old.scene.table count))
       (record { entries = All-map (λ row. row.entry.seq ≤ most) (retold as_told as_sized (asked_too named)) old.scene.table.rows given.entries; last = given.last; made = given.made }))) answers none
 
   -- each entry holds what it held
-  pub recalled-kept : (sets : ClientViews) → AreKept sets old.scene → AreKept sets (with_table old (recalled old.scene.table count)).scene
-  recalled-kept sets kept =
+  pub recalled-stays : (sets : ClientViews) → AreKept sets old.scene → AreKept sets (with_table old (recalled old.scene.table count)).scene
+  recalled-stays sets kept =
       alike-kept sets old.scene (recalled old.scene.table count)
       (subst (HoldAlike old.scene.table) (sym (recalled-retold old.scene.table count))
       (alike-where (λ row. true) (λ row. (retold as_told as_sized (asked_too named) row).entry) old.scene.table (λ row. refl))) kept

@@ -12,8 +12,8 @@ rejection-step old e rejection sound table is = (
   record {
     settled = old.scene;
     settles = subst (λ (d : Direct). Settles d.state.scene [] old.scene) (sym by_itself) (sound-settles old sound);
-    new_is = sym (ap (λ (d : Direct). shown d.answer (state_after old d [] old.scene)) by_itself ∙ (λ i. record old { scene = sound-ends old sound table i; messages = append-nil old.messages i }));
-    answer_is = ap (λ (d : Direct). reply_of (state_after old d [] old.scene) [] d.answer) (sym by_itself);
+    new_is = sym (ap (λ (d : Direct). shown d.reply_due (state_after old d [] old.scene)) by_itself ∙ (λ i. record old { scene = sound-ends old sound table i; messages = append-nil old.messages i }));
+    reply_is = ap (λ (d : Direct). reply_of (state_after old d [] old.scene) [] d.reply_due) (sym by_itself);
     ended_is = ap (λ (d : Direct). all_ended old d []) (sym by_itself);
   },
 )
@@ -31,13 +31,13 @@ pub no_moves : (old : Scene) (moves : List Made) (new : Scene) → first_move ol
 no_moves old [] new still made = (refl, made)
 no_moves old (m ∷ ms) new still made = absurd (no_move old made.0 m still made.1)
 
-pub rejection-only : (old new : State) (e : Event) (rejection : Rejection) (answer : Reply) (ended : List Ended) → IsSound old → IsTable old.scene.table → judged old.scene e ≡ Some rejection
-    → Step old e answer ended new → (answer ≡ rejection_reply rejection) × (ended ≡ []) × (new ≡ old)
-rejection-only old new e rejection answer ended sound table is (moves, step) = (
-  step.answer_is ∙ ap (λ (d : Direct). reply_of (state_after old d moves step.settled) (ended_in moves) d.answer) by_itself,
+pub rejection-only : (old new : State) (e : Event) (rejection : Rejection) (reply : Reply) (ended : List Ended) → IsSound old → IsTable old.scene.table → judged old.scene e ≡ Some rejection
+    → Step old e reply ended new → (reply ≡ rejection_reply rejection) × (ended ≡ []) × (new ≡ old)
+rejection-only old new e rejection reply ended sound table is (moves, step) = (
+  step.reply_is ∙ ap (λ (d : Direct). reply_of (state_after old d moves step.settled) (ended_in moves) d.reply_due) by_itself,
   step.ended_is ∙ ap (λ (d : Direct). all_ended old d moves) by_itself ∙ ap (all_ended old here) none.0,
   step.new_is
-      ∙ ap (λ (d : Direct). shown d.answer (state_after old d moves step.settled)) by_itself
+      ∙ ap (λ (d : Direct). shown d.reply_due (state_after old d moves step.settled)) by_itself
       ∙ ap (λ (ms : List Made). state_after old here ms step.settled) none.0
       ∙ ap (state_after old here []) none.1
       ∙ (λ i. record old { scene = sound-ends old sound table i; messages = append-nil old.messages i }),

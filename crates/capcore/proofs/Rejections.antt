@@ -3,22 +3,22 @@ use Rattle.std.proofs.Common.{◌≡◌, ℕ, List, Option, Some, None, [], ◌�
 use Rattle.std.specs.Option.{option_map}
 use Rattle.step_model.proofs.Twice.{given-twice, recorded-twice}
 use Rattle.step_model.specs.Recorded.{twice}
-use Rattle.capcore.proofs.Common.{Access, ByTest, ClientId, Event, IsAnswered, IsSound, IsTable, Need, Refusal, Rejection, Scene, State, StepReply, Test}
+use Rattle.capcore.proofs.Common.{Access, ByTest, ClientId, Event, IsReplied, IsSound, IsTable, Need, Refusal, Rejection, Scene, State, StepReply, Test}
 use Rattle.capcore.proofs.Common.{basic_tests, failing-front, first_denied, first_failing, inode_tests, judged, need, no_test, passed-both, passed-front}
 use Rattle.capcore.proofs.Common.{rejection-step, rejection_by, rejection_of, rejection_reply, session_tests}
-use Rattle.capcore.proofs.Promised.{has-due}
+use Rattle.capcore.proofs.Promised.{has-issuable}
 use Rattle.capcore.proofs.Sounding.{later-given}
 
 -- ---- what is rejected
 
 rejected-answered : (old : State) (e : Event) (rejection : Rejection) (step_reply : StepReply) → IsSound old → IsTable old.scene.table → judged old.scene e ≡ Some rejection
-    → step_reply.reply.given ≡ rejection_reply rejection → step_reply.reply.recorded ≡ step_reply.reply.given → step_reply.ended ≡ [] → IsAnswered old e step_reply old
-rejected-answered old e rejection step_reply sound table is answers recorded none = grind (arith, rejection-step, has-due, later-given)
+    → step_reply.reply.given ≡ rejection_reply rejection → step_reply.reply.recorded ≡ step_reply.reply.given → step_reply.ended ≡ [] → IsReplied old e step_reply old
+rejected-answered old e rejection step_reply sound table is answers recorded none = grind (arith, rejection-step, has-issuable, later-given)
 
 -- it is a step that changes nothing
-pub rejection-answered : (old : State) (e : Event) (rejection : Rejection) (step_reply : StepReply) → IsSound old → IsTable old.scene.table → judged old.scene e ≡ Some rejection
-    → step_reply.reply ≡ twice (rejection_reply rejection) → step_reply.ended ≡ [] → IsAnswered old e step_reply old
-rejection-answered old e rejection step_reply sound table is answers none =
+pub rejection-replied : (old : State) (e : Event) (rejection : Rejection) (step_reply : StepReply) → IsSound old → IsTable old.scene.table → judged old.scene e ≡ Some rejection
+    → step_reply.reply ≡ twice (rejection_reply rejection) → step_reply.ended ≡ [] → IsReplied old e step_reply old
+rejection-replied old e rejection step_reply sound table is answers none =
     rejected-answered old e rejection step_reply sound table is (given-twice step_reply.reply _ answers) (recorded-twice step_reply.reply _ answers) none
 
 -- what rejects an event by its parts, read before it was known which state they make up

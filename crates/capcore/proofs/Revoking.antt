@@ -33,5 +33,5 @@ pin-goes s k = by_row (find (is_row_of k) s.table.rows)
 pub passed-front : (one more : List Test) → first_failing one ≡ None → first_failing (one ++ more) ≡ first_failing more
 passed-front [] more none = refl
 passed-front (t ∷ ts) more none =
-    let front = passed-if t.fails t.answer (first_failing ts) none in
-    ap (λ b. if b then Some t.answer else first_failing (ts ++ more)) front.0 ∙ passed-front ts more front.1
+    let front = passed-if t.fails t.refusal (first_failing ts) none in
+    ap (λ b. if b then Some t.refusal else first_failing (ts ++ more)) front.0 ∙ passed-front ts more front.1

@@ -8,13 +8,13 @@ use Rattle.std.specs.FinMap as map
 use Rattle.dense_map.proofs.Maps.{remove-at}
 use Rattle.captable.proofs.ByInode.{entries_on-without_client}
 use Rattle.sessiontab.specs.Connected.{SessionMap, change_session}
-use Rattle.capcore.proofs.EntryRequests.{IsKeptEntry, kept-left, sound-kept}
+use Rattle.capcore.proofs.EntryRequests.{IsKeptEntry, kept-left, sound-stays}
 use Rattle.lockmachine.proofs.Finding.{fails_at, find_none}
 use Rattle.lockmachine.proofs.SameOutside.{outside-dropped, outside-itself, outside-then}
 use Rattle.step_model.specs.DueEndings.{is_to}
 use Rattle.lockmachine.specs.Elsewhere.{IsSameOutside}
 use Rattle.lockmachine.specs.Requests.{is_of_client as is_asked_by}
-use Rattle.capcore.proofs.Common.{Affects, ClientId, Direct, EntryRow, Ino, IsAffectedEntry, IsQuiet, IsSound, IsTable, IsTable-without_client, LockMap, Part}
+use Rattle.capcore.proofs.Common.{Affects, ClientId, Direct, EntryRow, Ino, IsAffectedEntry, IsLockAtRest, IsSound, IsTable, IsTable-without_client, LockMap, Part}
 use Rattle.capcore.proofs.Common.{Reply, Request, Says, Scene, Session, SessionChange, SessionTable, State, StateMap, Table, alike-itself, change-at}
 use Rattle.capcore.proofs.Common.{changed_sessions, contains-filter, direct, dropped_by, effect, effect_unless, entries_on, first_for, has_session, is_end}
 use Rattle.capcore.proofs.Common.{is_for, is_of_client, is_of_inode, judged, lock_at, locks_left, messages_left, session_changed, session_event, sound-pinned}
@@ -24,7 +24,7 @@ use Rattle.capcore.proofs.EndedIn.{all_pass}
 -- ---- the event
 
 abbrev pub session_direct : State → ClientId → SessionChange → Direct
-session_direct old client change = record { state = session_changed old client change; answer = Says Reply.Done; dropped = dropped_by (is_end change) old.scene.locks client }
+session_direct old client change = record { state = session_changed old client change; reply_due = Says Reply.Done; dropped = dropped_by (is_end change) old.scene.locks client }
 
 effect-session_changed : (old : State) (client : ClientId) (change : SessionChange) → effect old (session_event client change) ≡ session_direct old client change
 effect-session_changed old client change = grind arith
@@ -146,9 +146,9 @@ module _ (old : State) (client : ClientId) (change : SessionChange) (sound : IsS
     left-entries : (b : Bool) → is_end change ≡ b → All (IsAffectedEntry first) (table_left b old.scene.table client).rows
     left-entries false is =
         All-weaker (IsKeptEntry old.scene) (IsAffectedEntry first) (λ row kept. one-left row (has_by false is row.holder.client.0 (λ e. absurd (true≢false (sym e)))) kept) old.scene.table.rows
-        (sound-kept old sound table)
+        (sound-stays old sound table)
     left-entries true is =
-        left-ended (is_of_client client) (IsKeptEntry old.scene) (IsAffectedEntry first) old.scene.table.rows (sound-kept old sound table)
+        left-ended (is_of_client client) (IsKeptEntry old.scene) (IsAffectedEntry first) old.scene.table.rows (sound-stays old sound table)
         (λ row off kept. one-left row (has_by true is row.holder.client.0 (λ e. off)) kept)
 
     -- each was there
@@ -166,7 +166,7 @@ module _ (old : State) (client : ClientId) (change : SessionChange) (sound : IsS
       messages = left-messages (is_end change) refl;
       at_lock = λ ino part on none.
           left-none (is_end change) ino part
-          (subst (IsQuiet old.scene ino part) (sym (left-lock (is_end change) ino part) ∙ none) (sound.at_rest.each ino part));
+          (subst (IsLockAtRest old.scene ino part) (sym (left-lock (is_end change) ino part) ∙ none) (sound.at_rest.each ino part));
       each = λ row inside on. All-contains (IsAffectedEntry first) first.table.rows row (left-entries (is_end change) refl) inside;
       calm = λ row inside none. absurd (sound-pinned old sound row (was-row (is_end change) row inside) none);
     }

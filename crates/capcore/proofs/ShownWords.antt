@@ -11,24 +11,24 @@ use Rattle.captable.proofs.ByHolder.{entry_at-released, entry_at-released_other}
 use Rattle.captable.proofs.Tables.{same-is}
 use Rattle.captable.specs.Calls.{acked, changed, has_pin, released, with_asked, with_entry, without, without_acked}
 use Rattle.captable.specs.Tests.{test_at}
-use Rattle.lockmachine.proofs.Told.{has-against, has-told, pin-takes_all}
+use Rattle.lockmachine.proofs.Pending.{has-against, has-pending, pin-takes_all}
 use Rattle.capstep.proofs.Opened.{apart-of}
-use Rattle.capcore.proofs.Placed.{told-permitted}
+use Rattle.capcore.proofs.Placed.{pending-permitted}
 use Rattle.capcore.proofs.Revoking.{pin-goes, revoked-found}
 use Rattle.capcore.proofs.ShownSteps.{at, entry_at-entry_other}
 use Rattle.step_model.specs.declared.event.OpenMode.{OpenMode}
 use Rattle.step_model.specs.Direct.{with_opening}
-use Rattle.step_model.specs.Headline.{holds, is_due}
+use Rattle.step_model.specs.Headline.{holds, is_issuable}
 use Rattle.step_model.specs.Shown.{AreShown, ShowsOnlyPermitted, TakesOnlySo, TakesUnshown, may_take, shown_of}
 use Rattle.lockmachine.specs.Revoked.{is_revoked}
 use Rattle.lockmachine.specs.Scene.{against}
 use Rattle.capcore.proofs.Common.{Ack, Cap, Caps, ClientId, Direct, Entry, EntryRow, Event, Holder, Ino, IsSound, IsSoundEntry, IssuesExactly, Rejection, Row}
-use Rattle.capcore.proofs.Common.{Scene, ShowsWhatIsTold, State, Table, apart_client, child, direct, effect, effect_unless, entry_at}
+use Rattle.capcore.proofs.Common.{Scene, ShowsWhatIsPending, State, Table, apart_client, child, direct, effect, effect_unless, entry_at}
 use Rattle.capcore.proofs.Common.{entry_at-without_client_other, found, found-contains, has, holder, is_among, is_row_of, judged, recalled, revoked_of}
 use Rattle.capcore.proofs.Common.{row_of-entry, same, without_client}
 
-pub shows-told : (rows : List Row) (s : State) → IsSound s → AreShown rows s.scene → ShowsWhatIsTold rows s.scene
-shows-told rows s sound was k e there none_due =
+pub shows-pending : (rows : List Row) (s : State) → IsSound s → AreShown rows s.scene → ShowsWhatIsPending rows s.scene
+shows-pending rows s sound was k e there none_due =
     let row : EntryRow = record { holder = k; entry = e } in
     let inside : Contains s.scene.table.rows row = found-contains (is_row_of k) s.scene.table.rows row (row_of-entry s.scene.table k e there) in
     let entry = All-contains (IsSoundEntry s.scene) s.scene.table.rows row sound.entries inside in
@@ -38,9 +38,9 @@ shows-told rows s sound was k e there none_due =
     is.current (omega (arith, below, above))
 
 -- so what was shown is permitted
-pub shows-permitted : (rows : List Row) (s : Scene) → ShowsWhatIsTold rows s → ShowsOnlyPermitted rows s
+pub shows-permitted : (rows : List Row) (s : Scene) → ShowsWhatIsPending rows s → ShowsOnlyPermitted rows s
 shows-permitted rows s shows k e cap there none_due was =
-    told-permitted s (record { holder = k; entry = e }) cap (ap (λ (caps : Caps). has caps cap) (sym (shows k e there none_due)) ∙ was)
+    pending-permitted s (record { holder = k; entry = e }) cap (ap (λ (caps : Caps). has caps cap) (sym (shows k e there none_due)) ∙ was)
 
 -- ---- an acknowledgement
 
@@ -90,7 +90,7 @@ module _ (rows : List Row) (old : State) (sound : IsSound old) (was : AreShown r
     taken_unshown cap held gone =
         let is = was k e there in
         not_shown (has (shown_of k rows) cap) (has e.held cap) (is_revoked old.scene k cap)
-        (λ h. sym (has-told old.scene (at k e) cap) ∙ is.none_lost was_told cap h)
+        (λ h. sym (has-pending old.scene (at k e) cap) ∙ is.none_lost was_told cap h)
         (sym (has-against old.scene (at k e) cap) ∙ revoked_is cap held gone)
 
   takes-unshown : (cap : Cap) → holds old.scene k cap ≡ true → holds (direct old ack).state.scene k cap ≡ false → has (shown_of k rows) cap ≡ false
@@ -201,7 +201,7 @@ pub takes-only_so : (old : State) (e : Event) (new : Scene) → IssuesExactly (d
 takes-only_so old e new issued k cap held gone = by_judged (judged old.scene e) refl
   where
     gone_first : holds (direct old e).state.scene k cap ≡ false
-    gone_first = (or_parts (holds (direct old e).state.scene k cap) (is_due new k cap) (sym (issued k cap) ∙ gone)).0
+    gone_first = (or_parts (holds (direct old e).state.scene k cap) (is_issuable new k cap) (sym (issued k cap) ∙ gone)).0
 
     by_judged : (o : Option Rejection) → judged old.scene e ≡ o → may_take e k cap ≡ true
     by_judged (Some x) is =

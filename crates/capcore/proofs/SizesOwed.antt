@@ -10,13 +10,13 @@ use Rattle.capbits.specs.Caps.{has}
 use Rattle.capcore.proofs.CommonPieces.{AreGiven, AreKnown, Caps, ClientViews, Entry, EntryRow, Fc, Holder, Ino, IsLockMap, IsSound, IsTable, IsTree, IssuesExactly}
 use Rattle.capcore.proofs.CommonPieces.{KnownAnew, Made, Scene, State, Table, changed_where, find-map, finished, forget, is_gone, is_in_use, is_of_inode, is_row_of}
 use Rattle.capcore.proofs.CommonPieces.{is_sized, issue, issue_row, known_of, meet, number, number_row, owed, presence, remade, renumbered, row_found, sized_in}
-use Rattle.capcore.proofs.CommonPieces.{sizes_owed, state_at_end, still_known, told_set, with_size_due}
+use Rattle.capcore.proofs.CommonPieces.{pending_of, sizes_owed, state_at_end, still_known, with_size_due}
 use Rattle.capcore.proofs.EndsThere.{affected-ends, affected-issues, affected-known, settled-table}
 use Rattle.capcore.proofs.SoundEnd.{each-alike}
 use Rattle.capcore.proofs.Knowing.{alike-where, known-alike}
 use Rattle.capcore.proofs.StayingSound.{sound-affected}
 use Rattle.capcore.proofs.Telling.{any-map_same, as_asked, as_told, retold, retold-issued, retold-sound, retold_table}
-use Rattle.capcore.specs.Affected.{Affects, Knows, SettlesAt, finished_at, finished_entry, forget_among, stays, told_then}
+use Rattle.capcore.specs.Affected.{Affects, Knows, SettlesAt, finished_at, finished_entry, forget_among, pending_then, stays}
 
 -- no number changes
 pub owed-numbers : (passes : EntryRow → Bool) (Q : ℕ → Type 0) (t : Table) → All (λ row. Q row.entry.seq) t.rows → All (λ row. Q row.entry.seq) (changed_where passes owed t).rows
@@ -82,7 +82,7 @@ module _ (sized : List Ino) (t : Table) where
         renumbers : map (number_row old first (forget (issue s))) (map sized_row (issue s).table.rows) ≡ map sized_row (map (number_row old first (forget (issue s))) (issue s).table.rows)
         renumbers =
             map-map (number_row old first (forget (issue s))) sized_row (issue s).table.rows
-            ∙ (λ i. let one : EntryRow → EntryRow = λ row. record row { entry = numbered (still_known old (find (is_row_of row.holder) first.table.rows)) (told_set (forget (issue s)) row) row i } in
+            ∙ (λ i. let one : EntryRow → EntryRow = λ row. record row { entry = numbered (still_known old (find (is_row_of row.holder) first.table.rows)) (pending_of (forget (issue s)) row) row i } in
             map one (issue s).table.rows)
             ∙ sym (map-map sized_row (number_row old first (forget (issue s))) (issue s).table.rows)
 
@@ -102,7 +102,7 @@ module _ (sized : List Ino) (t : Table) where
         same_stays q = ap (λ b. not (at q) || b) (same_kept (record s { table = changed_where (λ row. at row.holder.ino.0) (finished_entry known s) s.table }) q)
 
         ended_row : (row : EntryRow) (b : Bool) → cond b (remade (finished_entry known s) (sized_row row)) (sized_row row) ≡ sized_row (cond b (remade (finished_entry known s) row) row)
-        ended_row row true = ap (λ (e : Entry). record row { entry = e }) (numbered (meet (known row.holder) row.entry.held) (told_then s row) (issue_row s row))
+        ended_row row true = ap (λ (e : Entry). record row { entry = e }) (numbered (meet (known row.holder) row.entry.held) (pending_then s row) (issue_row s row))
         ended_row row false = refl
 
         ended : map (λ row. cond (at row.holder.ino.0) (remade (finished_entry known s) row) row) (map sized_row s.table.rows)
@@ -113,12 +113,12 @@ module _ (sized : List Ino) (t : Table) where
 
     -- ---- what is kept of entries
 
-    told_owed : (row : EntryRow) (b h : Bool) → told_then s (cond b (record row { entry = cond h (with_size_due true row.entry) row.entry }) row) ≡ told_then s row
+    told_owed : (row : EntryRow) (b h : Bool) → pending_then s (cond b (record row { entry = cond h (with_size_due true row.entry) row.entry }) row) ≡ pending_then s row
     told_owed row b h = grind arith
 
     -- it is the same, whether sizes are to be told or not
-    pub sizes-kept : (among : Holder → Bool) (was now : ClientViews) → KnownAnew among (told_then (sizes_owed sized s)) (sizes_owed sized s).table was now
-        → KnownAnew among (told_then s) s.table was now
+    pub sizes-kept : (among : Holder → Bool) (was now : ClientViews) → KnownAnew among (pending_then (sizes_owed sized s)) (sizes_owed sized s).table was now
+        → KnownAnew among (pending_then s) s.table was now
     sizes-kept among was now kept = grind (arith, find-map, told_owed)
 
 -- ---- of an event
@@ -161,8 +161,8 @@ module _ (at from : ℕ → Bool) (known : Holder → Caps) (old affected : Stat
       })
 
   pub sizes-known : (was sets : ClientViews)
-      → ((row : EntryRow) → Contains affected.scene.table.rows row → at row.holder.ino.0 ≡ false → known_of was row.holder ≡ Some (told_set old.scene row))
-      → KnownAnew (λ k. at k.ino.0) (told_then (sizes_owed (sized_in moves) settled)) (sizes_owed (sized_in moves) settled).table was sets
+      → ((row : EntryRow) → Contains affected.scene.table.rows row → at row.holder.ino.0 ≡ false → known_of was row.holder ≡ Some (pending_of old.scene row))
+      → KnownAnew (λ k. at k.ino.0) (pending_then (sizes_owed (sized_in moves) settled)) (sizes_owed (sized_in moves) settled).table was sets
       → AreKnown sets (finished_at at known (sizes_owed (sized_in moves) settled))
   sizes-known was sets off_known kept =
       let ends = affected-known at from known old affected moves settled sound tree table affects knows settles was sets off_known

@@ -12,17 +12,17 @@ use Rattle.lockmachine.proofs.Exact.{begins_not}
 use Rattle.lockmachine.proofs.SameBut.{begin-alike, first-moved}
 use Rattle.lockmachine.proofs.Cursors.{ends-cursor, served-ends}
 use Rattle.lockmachine.proofs.Waiting.{waits-less-at, waits-wider}
-use Rattle.lockmachine.specs.Moves.{IsQuietOutside, is_servable, may_begin}
+use Rattle.lockmachine.specs.Moves.{IsAtRestOutside, is_servable, may_begin}
 use Rattle.lockmachine.specs.Cursors.{NobodyElsewhere, NothingEnds}
 use Rattle.capcore.proofs.Among.{none-besides}
 use Rattle.capcore.proofs.CommonPieces.{Began, Ended, EntryRow, Gathered, Ino, InoSet, IsAlike, IsCursorAt, IsLockMap, IsTree, Made, Makes, MakesAll, Nodes, Part}
-use Rattle.capcore.proofs.CommonPieces.{Reaches, Request, Scene, Serve, Served, Settled, Ticket, WaitAt, Widens, alike-itself, contains-filter, ended_by, ended_in}
+use Rattle.capcore.proofs.CommonPieces.{IsWidenedBy, Request, Scene, Serve, Served, Settled, Ticket, WaitAt, Widens, alike-itself, contains-filter, ended_by, ended_in}
 use Rattle.capcore.proofs.CommonPieces.{ends_not, entries_on, first_for, first_move, is_numbered, is_of_inode, is_rename, is_within, lock_at, part_of_operation}
-use Rattle.capcore.proofs.CommonPieces.{quiet-waits-at, request_at, served-at, sized_by, sized_in, tree_after, without_request}
+use Rattle.capcore.proofs.CommonPieces.{request_at, resting-waits-at, served-at, sized_by, sized_in, tree_after, without_request}
 use Rattle.capcore.proofs.Moved.{makes-append, one-less}
 use Rattle.capcore.proofs.OneChange.{alike-apart, presence-after}
 use Rattle.capcore.proofs.SameOff.{off-refl, off-trans, off-wider}
-use Rattle.capcore.proofs.Sweeping.{still-kept}
+use Rattle.capcore.proofs.Sweeping.{still-stays}
 use Rattle.capcore.specs.Affected.{IsSameOff}
 use Rattle.capcore.specs.Serves.{Serves, SettlesWith}
 use Rattle.capstep.specs.Served.{changed_alone}
@@ -45,8 +45,8 @@ pub record IsSoFar (from : ℕ → Bool) (affected : InoSet) (first now : Scene)
 
 -- ---- at first
 
-pub so-far-begins : (affected : InoSet) (first : Scene) → IsQuietOutside (set.contains affected) first → IsSoFar (set.contains affected) affected first first [] []
-so-far-begins affected first quiet = record {
+pub so-far-begins : (affected : InoSet) (first : Scene) → IsAtRestOutside (set.contains affected) first → IsSoFar (set.contains affected) affected first first [] []
+so-far-begins affected first resting = record {
   moves = [];
   made = refl;
   ended_is = refl;
@@ -55,10 +55,10 @@ so-far-begins affected first quiet = record {
   same = off-refl (set.contains affected) first;
   states = λ other off. refl;
   still = record {
-    ends = λ other part off. ends_not first (other, part) (lock_at first.locks other part) (quiet.each_other other part off);
-    begins = λ other part off. begins_not first (other, part) (lock_at first.locks other part) (quiet.each_other other part off);
+    ends = λ other part off. ends_not first (other, part) (lock_at first.locks other part) (resting.each_other other part off);
+    begins = λ other part off. begins_not first (other, part) (lock_at first.locks other part) (resting.each_other other part off);
   };
-  waits = quiet-waits-at (set.contains affected) first quiet;
+  waits = resting-waits-at (set.contains affected) first resting;
   count = omega arith;
 }
 
@@ -120,7 +120,7 @@ module _ (from : ℕ → Bool) (affected : InoSet) (first now : Scene) (for_clie
     by_left P is = subst P (sym swept.is) is
 
     pub so-far-swept : IsSoFar from affected first new for_clients sized
-    so-far-swept = grind (arith, makes-append, append-nil, filter_map-append, none-sized, by_left, off-trans, swept_off, still-kept)
+    so-far-swept = grind (arith, makes-append, append-nil, filter_map-append, none-sized, by_left, off-trans, swept_off, still-stays)
 
   -- and where no move applies, it has settled
   pub so-far-settled : first_move now ≡ Settled → SettlesWith (set.contains affected) from first now for_clients sized
@@ -129,7 +129,7 @@ module _ (from : ℕ → Bool) (affected : InoSet) (first now : Scene) (for_clie
   -- ---- a request was served
 
   module _ (ticket : Ticket) (ended : Ended) (new : Scene) (kept : InoSet) (order : IsLockMap now.locks) (tree : IsTree now.tree) (move : first_move now ≡ Serve ticket)
-      (serves : Serves now ticket ended new) (reaches : Reaches serves.request now.tree new.tree now.table affected kept) where
+      (serves : Serves now ticket ended new) (widened : IsWidenedBy serves.request now.tree new.tree now.table affected kept) where
     abbrev q : Request
     q = serves.request
 
@@ -165,7 +165,7 @@ module _ (from : ℕ → Bool) (affected : InoSet) (first now : Scene) (for_clie
     -- ---- which inodes it affects
 
     abbrev more : Widens affected kept
-    more = reaches.widens
+    more = widened.widens
 
     wider : (other : ℕ) → set.contains kept other ≡ false → set.contains affected other ≡ false
     wider other off = false_from_ne_true (set.contains affected other) (λ was. true≢false (sym (more other was) ∙ off))
@@ -177,7 +177,7 @@ module _ (from : ℕ → Bool) (affected : InoSet) (first now : Scene) (for_clie
     -- ---- what it leaves as it was
 
     row_alike : (row : EntryRow) → Contains now.table.rows row → set.contains kept row.holder.ino.0 ≡ false → IsAlike now.tree (tree_after now.tree q ended.outcome) row.holder.ino.0
-    row_alike row among off = elim reaches.covers [
+    row_alike row among off = elim widened.covers [
       | inl left ↦ subst (λ (t : Nodes). IsAlike now.tree t row.holder.ino.0) (sym (sym (ap (λ (s : Scene). s.tree) is_after) ∙ left)) (alike-itself now.tree row.holder.ino.0)
       | inr covers ↦ alike-apart now q ended.outcome row.holder.ino.0 tree serves.may (another row.holder.ino.0 off) (λ moves.
           false_from_ne_true (is_within now.tree.nodes row.holder.ino.0 q.ino.0) (λ below. true≢false (sym (covers moves row among below) ∙ off)))

@@ -9,9 +9,9 @@ use Rattle.std.specs.Ordering.{nat_cmp}
 use Rattle.std.specs.FinMap as finite
 use Rattle.capbits.specs.Caps.{has}
 use Rattle.inotree.specs.declared.node.Presence.{Presence}
-use Rattle.capcore.proofs.CommonPieces.{Entry, EntryRow, Gone, IsSound, IsSoundEntry, IsSubset, IsTable, Scene, Settles, State, due, finished, forget, has-union}
+use Rattle.capcore.proofs.CommonPieces.{Entry, EntryRow, Gone, IsSound, IsSoundEntry, IsSubset, IsTable, Scene, Settles, State, finished, forget, has-union, issuable}
 use Rattle.capcore.proofs.CommonPieces.{is_gone, is_row_of, issue, issue_row, number, number_row, or_inside, row_found, same_caps, settled, sizes_owed, still_known}
-use Rattle.capcore.proofs.CommonPieces.{told_set, union}
+use Rattle.capcore.proofs.CommonPieces.{pending_of, union}
 
 -- ---- lists of rows that stay
 
@@ -31,15 +31,15 @@ none-sized s = ap (with_rows s) (map-id s.table.rows)
 -- ---- issue
 
 -- who has all that is due gains nothing
-pub same-issue_row : (s : Scene) (row : EntryRow) → IsSubset (due s row) row.entry.held → issue_row s row ≡ row
+pub same-issue_row : (s : Scene) (row : EntryRow) → IsSubset (issuable s row) row.entry.held → issue_row s row ≡ row
 same-issue_row s row all =
-    let held : union row.entry.held (due s row) ≡ row.entry.held = same_caps _ _ (λ c. has-union row.entry.held (due s row) c ∙ or_inside (has row.entry.held c) (has (due s row) c) (all c)) in
+    let held : union row.entry.held (issuable s row) ≡ row.entry.held = same_caps _ _ (λ c. has-union row.entry.held (issuable s row) c ∙ or_inside (has row.entry.held c) (has (issuable s row) c) (all c)) in
     λ i. record row { entry = record row.entry { held = held i } }
 
 -- ---- numbers
 
-same-number_row : (old s : Scene) (row : EntryRow) → find (is_row_of row.holder) s.table.rows ≡ Some row → told_set old row ≡ told_set s row → number_row old s s row ≡ row
-same-number_row old s row found told = ap (λ (e : Entry). record row { entry = e }) (same-renumbered _ _ row.entry (ap (still_known old) found ∙ told))
+same-number_row : (old s : Scene) (row : EntryRow) → find (is_row_of row.holder) s.table.rows ≡ Some row → pending_of old row ≡ pending_of s row → number_row old s s row ≡ row
+same-number_row old s row found pending = ap (λ (e : Entry). record row { entry = e }) (same-renumbered _ _ row.entry (ap (still_known old) found ∙ pending))
 
 -- ---- strays
 
@@ -55,20 +55,20 @@ same_kept m p all = finite.same_map nat_cmp_total finite.nat_cmp-IsAntisymmetric
 module _ (s : State) (sound : IsSound s) (table : IsTable s.scene.table) where
   same-issue : issue s.scene ≡ s.scene
   unfolding with_rows
-  same-issue = ap (with_rows s.scene) (each-alike (issue_row s.scene) (λ row. row) s.scene.table.rows (λ row inside. same-issue_row s.scene row (has_due row inside)) ∙ map-id s.scene.table.rows)
+  same-issue = ap (with_rows s.scene) (each-alike (issue_row s.scene) (λ row. row) s.scene.table.rows (λ row inside. same-issue_row s.scene row (has_issuable row inside)) ∙ map-id s.scene.table.rows)
     where
-      has_due : (row : EntryRow) → Contains s.scene.table.rows row → IsSubset (due s.scene row) row.entry.held
-      has_due row inside = let entry = All-contains (IsSoundEntry s.scene) s.scene.table.rows row sound.entries inside in entry.has_due
+      has_issuable : (row : EntryRow) → Contains s.scene.table.rows row → IsSubset (issuable s.scene row) row.entry.held
+      has_issuable row inside = let entry = All-contains (IsSoundEntry s.scene) s.scene.table.rows row sound.entries inside in entry.has_issuable
 
   same-forget : forget s.scene ≡ s.scene
   same-forget = grind (arith, same_kept)
 
   -- where the clients are to know what they were to know on an older scene
-  module _ (old : Scene) (told : (row : EntryRow) → Contains s.scene.table.rows row → told_set old row ≡ told_set s.scene row) where
+  module _ (old : Scene) (pending : (row : EntryRow) → Contains s.scene.table.rows row → pending_of old row ≡ pending_of s.scene row) where
     same-number : number old s.scene s.scene ≡ s.scene
     unfolding with_rows
     same-number = ap (with_rows s.scene)
-        (each-alike (number_row old s.scene s.scene) (λ row. row) s.scene.table.rows (λ row inside. same-number_row old s.scene row (row_found s.scene.table row table inside) (told row inside)) ∙ map-id s.scene.table.rows)
+        (each-alike (number_row old s.scene s.scene) (λ row. row) s.scene.table.rows (λ row inside. same-number_row old s.scene row (row_found s.scene.table row table inside) (pending row inside)) ∙ map-id s.scene.table.rows)
 
     pub same-finished : finished old s.scene s.scene ≡ s.scene
     same-finished = ap (λ t. number old s.scene (forget t)) same-issue ∙ ap (number old s.scene) same-forget ∙ same-number

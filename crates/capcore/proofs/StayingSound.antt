@@ -8,12 +8,12 @@ use Rattle.capbits.specs.Caps.{has}
 use Rattle.lockmachine.proofs.Rest.{at_rest}
 use Rattle.step_model.specs.Step.{earlier}
 use Rattle.capcore.proofs.CommonPieces.{AreGiven, Caps, ClientId, EntryRow, Gone, Holder, IsAtRest, IsInRow, IsLockMap, IsSound, IsSoundEntry, IsSubset, IsTable}
-use Rattle.capcore.proofs.CommonPieces.{IsTree, Made, P, Part, Scene, SessionTable, State, Table, allowed_under, due, ended_in, find-filter_kept, has_session}
+use Rattle.capcore.proofs.CommonPieces.{IsTree, Made, P, Part, Scene, SessionTable, State, Table, allowed_under, ended_in, find-filter_kept, has_session, issuable}
 use Rattle.capcore.proofs.CommonPieces.{is_of_inode, is_row_of, meet, presence, row_found, same-is, state_at_end}
-use Rattle.capcore.proofs.EndsThere.{off_due}
+use Rattle.capcore.proofs.EndsThere.{off_issuable}
 use Rattle.capcore.proofs.EntryRequests.{IsKeptEntry, kept-left, kept-row}
 use Rattle.capcore.proofs.Forgotten.{all_rows, sound-forgotten}
-use Rattle.capcore.proofs.IssuedRows.{by_place, effective-ended, ended_row, holds-due, holds-pin, in_row-ended, issued_at, last_row, of_inode-last, on_it}
+use Rattle.capcore.proofs.IssuedRows.{by_place, effective-ended, ended_row, holds-issuable, holds-pin, in_row-ended, issued_at, last_row, of_inode-last, on_it}
 use Rattle.capcore.proofs.IssuedRows.{rest-issued, revoked-ended, seq-ended, told-ended, want-ended}
 use Rattle.capcore.proofs.Moved.{IsMoved, Waited, all-waiting, ended-waited, moved-all, nobody-moved, nothing-served}
 use Rattle.capcore.proofs.SameOff.{IsSameFrom, any_elsewhere, from-first, not-among, row_elsewhere}
@@ -89,13 +89,13 @@ module _ (at from : ℕ → Bool) (known : Holder → Caps) (old affected : Stat
       on_inode = moved.nodes row.holder.ino.0 ∙ entry.on_inode;
       holds_pin = holds-pin known settled row (grind arith);
       wants_pin = ap (λ caps. has caps P) (want-ended known settled row) ∙ entry.wants_pin;
-      has_due = λ c is_due. holds-due known settled row c (ap (λ caps. has caps c) (sym due_as_before) ∙ is_due);
+      has_issuable = λ c is_issuable. holds-issuable known settled row c (ap (λ caps. has caps c) (sym issuable_as_before) ∙ is_issuable);
       told = told-ended known settled row entry.told;
       revoked = revoked-ended known settled row entry.revoked;
     }
       where
-        due_as_before : due last (ended_row known settled row) ≡ due settled row
-        due_as_before = λ i. meet (effective-ended known settled row settled.fs settled.tree settled.sessions i) (allowed_under (map.get settled.locks.states row.holder.ino.0) row)
+        issuable_as_before : issuable last (ended_row known settled row) ≡ issuable settled row
+        issuable_as_before = λ i. meet (effective-ended known settled row settled.fs settled.tree settled.sessions i) (allowed_under (map.get settled.locks.states row.holder.ino.0) row)
 
     settled_table : IsTable settled.table
     settled_table = subst IsTable (sym moved.table) table
@@ -112,7 +112,7 @@ module _ (at from : ℕ → Bool) (known : Holder → Caps) (old affected : Stat
           on_inode = there_still row.holder.ino.0 ∙ was.on_inode;
           holds_pin = was.holds_pin;
           wants_pin = was.wants_pin;
-          has_due = subst (λ caps. IsSubset caps row.entry.held) (sym (off_due at known old settled sound settled_table same tree knows_then row inside off)) was.has_due;
+          has_issuable = subst (λ caps. IsSubset caps row.entry.held) (sym (off_issuable at known old settled sound settled_table same tree knows_then row inside off)) was.has_issuable;
           told = was.told;
           revoked = was.revoked;
         }

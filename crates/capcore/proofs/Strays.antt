@@ -9,7 +9,7 @@ use Rattle.std.specs.Ordering.{nat_cmp}
 use Rattle.std.specs.FinMap as map
 use Rattle.std.specs.FinSet as set
 use Rattle.dense_map.proofs.Maps.{remove-here, remove-other, same_or_other}
-use Rattle.inotree.proofs.Elsewhere.{path_of-kept}
+use Rattle.inotree.proofs.Elsewhere.{path_of-stays}
 use Rattle.inotree.specs.Tree.{IsUnder}
 use Rattle.inotree.specs.declared.node.Presence.TheVariants.{Here}
 use Rattle.capcore.proofs.CommonPieces.{EntryRow, Gone, InoSet, IsAlike, IsListOf, IsTree, Node, Nodes, Scene, is_in_use, is_of_inode, presence}
@@ -49,7 +49,7 @@ goes at s q out = grind arith
 pub alike-retained : (tree : Nodes) (p : ℕ → Bool) → IsTree tree → ((q : ℕ) → p q ≡ false → presence tree.nodes q ≡ Gone) → (ino : ℕ) → p ino ≡ true
     → IsAlike tree (record tree { nodes = map.retain_keys tree.nodes p }) ino
 alike-retained tree p sound strays ino here = record {
-  path = path_of-kept tree.nodes (map.retain_keys tree.nodes p) (λ i. p i ≡ true) (λ i is. ap (option_map (λ (n : Node). n.site)) (retained-here tree.nodes p i is)) above ino here;
+  path = path_of-stays tree.nodes (map.retain_keys tree.nodes p) (λ i. p i ≡ true) (λ i is. ap (option_map (λ (n : Node). n.site)) (retained-here tree.nodes p i is)) above ino here;
   attr = ap (option_map (λ (n : Node). n.attr)) (retained-here tree.nodes p ino here);
 }
   where

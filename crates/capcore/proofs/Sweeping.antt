@@ -13,7 +13,7 @@ use Rattle.lockmachine.proofs.Cursors.{cursor-passes, cursor-rests}
 use Rattle.lockmachine.specs.Runs.{MoveLittle}
 use Rattle.lockmachine.specs.Cursors.{IsDoneAt}
 use Rattle.capcore.proofs.CommonPieces.{A, ChangesLocksOf, F, Ino, InoSet, InodeLocks, IsCursorAt, IsNext, L, LockMap, Part, Scene, Settled, Table, WaitAt, X}
-use Rattle.capcore.proofs.CommonPieces.{ended_by, ended_in, first_move, lock_at, lock_in, may_end_by, same_key, waits-kept-at}
+use Rattle.capcore.proofs.CommonPieces.{ended_by, ended_in, first_move, lock_at, lock_in, may_end_by, same_key, waits-stay-at}
 use Rattle.capcore.proofs.Moved.{as_made, makes-append}
 use Rattle.capcore.specs.Sweep.{AreStill, IsSwept}
 
@@ -37,9 +37,9 @@ locks_by_parts old new ino same = by_parts (map.get new.states ino) (map.get old
 -- ---- where nothing moves
 
 -- inodes whose locks are as they were are still, as long as the queue is the same
-pub still-kept : (at : ℕ → Bool) (s : Scene) (locks : LockMap) → AreStill at s → locks.queue ≡ s.locks.queue
+pub still-stays : (at : ℕ → Bool) (s : Scene) (locks : LockMap) → AreStill at s → locks.queue ≡ s.locks.queue
     → ((other : ℕ) → at other ≡ false → map.get locks.states other ≡ map.get s.locks.states other) → AreStill at (record s { locks = locks })
-still-kept at s locks still queue same = grind arith
+still-stays at s locks still queue same = grind arith
 
 -- ---- from inode to inode
 
@@ -67,7 +67,7 @@ swept-on at first now is here affected locks (steps, few, runs) changes =
       is = ap (λ (s : Scene). record s { locks = locks }) is.is;
       states = λ other off. same-elsewhere at now.locks locks here affected changes other off ∙ is.states other off;
       queue = changes.queue ∙ is.queue;
-      waits = waits-kept-at at now steps (record now { locks = locks }) runs is.waits;
+      waits = waits-stay-at at now steps (record now { locks = locks }) runs is.waits;
     }
 
 -- ---- gathers that end before any other move
@@ -86,7 +86,7 @@ ends-passed at t first old new here elsewhere same lower changes done other part
 -- an inode is done, and it is the next one's turn
 pub next-cursor : (inos : InoSet) (s : Scene) (here : ℕ) (next : Ino) → AreStill (set.contains inos) s → IsCursorAt s here → IsDoneAt s here → IsNext inos (here + 1) (Some next) → IsCursorAt s next.0
 next-cursor inos s here next still cursor done is =
-    cursor-passes s here next.0 cursor done (omega (arith, is.reached)) (λ other part above below. still.begins other part (is.least other (omega (arith, above)) below))
+    cursor-passes s here next.0 cursor done (omega (arith, is.not_below)) (λ other part above below. still.begins other part (is.least other (omega (arith, above)) below))
 
 -- the last is done, and no move applies
 pub last-cursor : (inos : InoSet) (s : Scene) (here : ℕ) → AreStill (set.contains inos) s → IsCursorAt s here → IsDoneAt s here → IsNext inos (here + 1) None → first_move s ≡ Settled
@@ -121,4 +121,4 @@ fewer a b less (x ∷ xs) among = elim (eq_by_cmp nat_cmp b x) as (λ e. eq_by_c
 
 -- with each that is done, there are fewer
 pub fewer_behind : (inos : InoSet) (here : ℕ) (next : Ino) → IsNext inos (here + 1) (Some next) → behind inos next.0 < behind inos here
-fewer_behind inos here next is = fewer here next.0 (omega (arith, is.reached)) (set.items inos) (sym (set.contains-items inos next.0) ∙ is.has)
+fewer_behind inos here next is = fewer here next.0 (omega (arith, is.not_below)) (set.items inos) (sym (set.contains-items inos next.0) ∙ is.has)

@@ -6,13 +6,13 @@ use Rattle.std.proofs.lemmas.Simd.{map-map}
 use Rattle.std.specs.List.{AllByRecursion, IsDistinct, find, list_any}
 use Rattle.std.specs.Option.{option_map}
 use Rattle.step_model.specs.DueEndings.{is_end_of}
-use Rattle.step_model.specs.Direct.{Answer}
+use Rattle.step_model.specs.Direct.{DirectReply}
 use Rattle.capcore.proofs.CommonPieces.{AreGiven, ClientId, Ended, Entry, EntryRow, Gives, Holder, Ino, IsInPlace, IsSound, IsSoundEntry, IsTable, IssuesExactly}
 use Rattle.capcore.proofs.CommonPieces.{LockState, Message, Part, Scene, Shows, StableState, State, Table, after_messages, change_rows, changed, changed_where}
 use Rattle.capcore.proofs.CommonPieces.{filter-map, find-map, first_messages, fold-changed_by, has_session, is_among, is_caps_of, is_of_client, is_of_inode, is_open}
 use Rattle.capcore.proofs.CommonPieces.{is_recall_of, is_row_of, is_size_of, is_to, lock_at, remade, same, shown, sized_if, told_if, unasked_if, wants, with_scene}
 use Rattle.capcore.proofs.CommonPieces.{with_told}
-use Rattle.capcore.proofs.LeftAlone.{still_quiet}
+use Rattle.capcore.proofs.LeftAlone.{still_resting}
 
 -- ---- lists that are mapped
 
@@ -65,7 +65,7 @@ module _ (s : State) (told_as : EntryRow → ℕ) (size_as asked_as : EntryRow �
     locked = sound.locked;
     strays = λ ino gone. any-map_same (is_of_inode (record { 0 = ino })) to (λ row. refl) s.scene.table.rows ∙ sound.strays ino gone;
     in_place = λ row part found. grind (arith, same_found, place_kept);
-    at_rest = record { each = λ ino part. still_quiet s.scene new ino part refl (same_wants ino) (same_open ino part) (lock_at s.scene.locks ino part) (sound.at_rest.each ino part) };
+    at_rest = record { each = λ ino part. still_resting s.scene new ino part refl (same_wants ino) (same_open ino part) (lock_at s.scene.locks ino part) (sound.at_rest.each ino part) };
   }
 
   pub retold-issued : (first : Scene) → IssuesExactly first s.scene → IssuesExactly first (record s.scene { table = retold_table told_as size_as asked_as s.scene.table })
@@ -129,7 +129,7 @@ given_table client given t = grind arith
 
 -- ---- each answer
 
-pub shown-sound : (s : State) (answer : Answer) → IsSound s → IsTable s.scene.table → IsSound (shown answer s)
+pub shown-sound : (s : State) (reply_due : DirectReply) → IsSound s → IsTable s.scene.table → IsSound (shown reply_due s)
 shown-sound s (Shows k) sound table =
     subst (λ t. IsSound (with_scene s (record s.scene { table = t }))) (sym (shown_table s.scene.table k table))
     (retold-sound s (told_where (named k)) as_sized as_asked s.messages sound.messages (λ row below. told_below (named k row) row.entry.seq row.entry.told_seq below) sound)
@@ -140,10 +140,10 @@ shown-sound s (Gives client max) sound table =
     (retold-sound s (told_given client given) (size_given client given) (asked_given client given) (filter due s.messages)
     (All-filter due (λ m. IsTrue (has_session s.scene.sessions m.client.0)) s.messages sound.messages)
     (λ row below. told_below (is_of_client client row && list_any (is_caps_of row.holder.ino) given) row.entry.seq row.entry.told_seq below) sound)
-shown-sound s answer sound table = sound
+shown-sound s reply_due sound table = sound
 
-pub shown-issued : (first : Scene) (s : State) (answer : Answer) → IsTable s.scene.table → IssuesExactly first s.scene → IssuesExactly first (shown answer s).scene
-shown-issued first s answer table issued = grind (arith, shown_table, retold-issued, given_table)
+pub shown-issued : (first : Scene) (s : State) (reply_due : DirectReply) → IsTable s.scene.table → IssuesExactly first s.scene → IssuesExactly first (shown reply_due s).scene
+shown-issued first s reply_due table issued = grind (arith, shown_table, retold-issued, given_table)
 
 -- ---- numbers
 
@@ -162,5 +162,5 @@ module _ (count : ℕ) where
   given-where client given t all =
       subst (λ (t : Table). All IsGiven t.rows) (sym (given_table client given t)) (All-map IsGiven (retold (told_given client given) (size_given client given) (asked_given client given)) t.rows all)
 
-  pub shown-given : (s : State) (answer : Answer) → AreGiven count s → AreGiven count (shown answer s)
-  shown-given s answer given = grind (arith, All-from_recursion, given-change, recursion_from_All, given-where)
+  pub shown-given : (s : State) (reply_due : DirectReply) → AreGiven count s → AreGiven count (shown reply_due s)
+  shown-given s reply_due given = grind (arith, All-from_recursion, given-change, recursion_from_All, given-where)

@@ -12,10 +12,10 @@ use Rattle.capspec.specs.declared.grant.Grant.{Grant}
 use Rattle.dense_map.proofs.Maps.{insert-other}
 use Rattle.inotree.proofs.Elsewhere.{field-changed, not_next}
 use Rattle.inotree.specs.Calls.{changed, with_new}
-use Rattle.sessiontab.proofs.Elsewhere.{session-kept}
+use Rattle.sessiontab.proofs.Elsewhere.{session-stays}
 use Rattle.sessiontab.specs.Calls.{with_session, without_blocked}
 use Rattle.capcore.proofs.Knowing.{known-alike}
-use Rattle.capcore.proofs.LeftAlone.{kept-known, none_if}
+use Rattle.capcore.proofs.LeftAlone.{none_if, stays-known}
 use Rattle.lockmachine.proofs.CountsStay.{counted-born, counted-dropped}
 use Rattle.lockmachine.proofs.PolicyElsewhere.{permitted-changed, permitted-new, permitted-session, want-changed, want-new, want-session}
 use Rattle.lockmachine.specs.Locks.{without_ino}
@@ -25,8 +25,8 @@ use Rattle.policy_view.specs.Visible.{IsLike, Shows, visible_of}
 use Rattle.step_model.specs.Noted.{view_of}
 use Rattle.step_model.specs.NotedChanges.{view}
 use Rattle.capcore.proofs.Common.{AreCounted, AreCountedIn, Attr, ClientViews, CountMap, EntryRow, HoldAlike, InodeLocks, IsSound, IsTree, KeptScene, Kind}
-use Rattle.capcore.proofs.Common.{LeavesEntries, LockMap, Node, Nodes, Scene, SessionTable, State, StateMap, Table, first_failing, found-contains, in_sync}
-use Rattle.capcore.proofs.Common.{is_row_of, kept-sound, new_session_tests, no_locks, permitted, plain, row_of-entry, with_ino, with_parts}
+use Rattle.capcore.proofs.Common.{LockMap, Node, Nodes, Scene, SessionTable, SparesEntries, State, StateMap, Table, first_failing, found-contains, in_sync}
+use Rattle.capcore.proofs.Common.{is_row_of, new_session_tests, no_locks, permitted, plain, row_of-entry, stays-sound, with_ino, with_parts}
 use Rattle.capcore.specs.UnderWay.{AreKept, IsWhole, state_of}
 use Rattle.capcore.specs.declared.parts.CoreState.{CoreState}
 
@@ -46,28 +46,28 @@ module _ (s : State) (sound : IsSound s) where
   SameMay tree sessions row = permitted s.scene.fs tree sessions row.holder ≡ permitted s.scene.fs s.scene.tree s.scene.sessions row.holder
 
   -- whoever is on the blocklist
-  blocked-leaves : (blocked : FinSet nat_cmp) → LeavesEntries s.scene s.scene.tree (record s.scene.sessions { blocked = blocked }) s.scene.locks.states
-  blocked-leaves blocked = grind arith
+  blocked-spares : (blocked : FinSet nat_cmp) → SparesEntries s.scene s.scene.tree (record s.scene.sessions { blocked = blocked }) s.scene.locks.states
+  blocked-spares blocked = grind arith
 
-  pub nothing-leaves : LeavesEntries s.scene s.scene.tree s.scene.sessions s.scene.locks.states
-  nothing-leaves = blocked-leaves s.scene.sessions.blocked
+  pub nothing-spares : SparesEntries s.scene s.scene.tree s.scene.sessions s.scene.locks.states
+  nothing-spares = blocked-spares s.scene.sessions.blocked
 
-  pub unblocked-leaves : (client : ℕ) → LeavesEntries s.scene s.scene.tree (without_blocked s.scene.sessions client) s.scene.locks.states
-  unblocked-leaves client = blocked-leaves (set.remove s.scene.sessions.blocked client)
+  pub unblocked-spares : (client : ℕ) → SparesEntries s.scene s.scene.tree (without_blocked s.scene.sessions client) s.scene.locks.states
+  unblocked-spares client = blocked-spares (set.remove s.scene.sessions.blocked client)
 
-  pub session-leaves : (client : ℕ) (caller : Caller) (grants : List Grant) → first_failing (new_session_tests s.scene.sessions client) ≡ None
-      → LeavesEntries s.scene s.scene.tree (with_session s.scene.sessions client caller grants) s.scene.locks.states
-  session-leaves client caller grants passed = grind (arith, session-kept, All-weaker, permitted-session, want-session)
+  pub session-spares : (client : ℕ) (caller : Caller) (grants : List Grant) → first_failing (new_session_tests s.scene.sessions client) ≡ None
+      → SparesEntries s.scene s.scene.tree (with_session s.scene.sessions client caller grants) s.scene.locks.states
+  session-spares client caller grants passed = grind (arith, session-stays, All-weaker, permitted-session, want-session)
 
   -- an inode changes, and stays where it stands and whose it is
-  pub changed-leaves : (f : Node → Node) (ino : ℕ) → ((n : Node) → (f n).site ≡ n.site) → ((n : Node) → (f n).attr ≡ n.attr)
-      → LeavesEntries s.scene (changed f s.scene.tree ino) s.scene.sessions s.scene.locks.states
-  changed-leaves f ino site attr = grind (arith, none_new, field-changed, All-weaker, permitted-changed, want-changed)
+  pub changed-spares : (f : Node → Node) (ino : ℕ) → ((n : Node) → (f n).site ≡ n.site) → ((n : Node) → (f n).attr ≡ n.attr)
+      → SparesEntries s.scene (changed f s.scene.tree ino) s.scene.sessions s.scene.locks.states
+  changed-spares f ino site attr = grind (arith, none_new, field-changed, All-weaker, permitted-changed, want-changed)
 
   -- a new inode, with its locks
-  pub birth-leaves : (kind : Kind) (dir : ℕ) (name : List ℕ) (attr : Attr) → IsTree s.scene.tree
-      → LeavesEntries s.scene (with_new s.scene.tree kind dir name attr) s.scene.sessions (with_ino s.scene.locks (s.scene.tree.last + 1)).states
-  birth-leaves kind dir name attr tree = grind (arith, none_new, through, All-weaker, permitted-new, want-new, not_next, insert-other nat_cmp_total map.nat_cmp-IsAntisymmetric, map.get-insert {X = InodeLocks} nat_cmp_total, map.get-insert {X = Node} nat_cmp_total)
+  pub birth-spares : (kind : Kind) (dir : ℕ) (name : List ℕ) (attr : Attr) → IsTree s.scene.tree
+      → SparesEntries s.scene (with_new s.scene.tree kind dir name attr) s.scene.sessions (with_ino s.scene.locks (s.scene.tree.last + 1)).states
+  birth-spares kind dir name attr tree = grind (arith, none_new, through, All-weaker, permitted-new, want-new, not_next, insert-other nat_cmp_total map.nat_cmp-IsAntisymmetric, map.get-insert {X = InodeLocks} nat_cmp_total, map.get-insert {X = Node} nat_cmp_total)
 
 -- ---- what no reader sees of an inode
 
@@ -94,17 +94,17 @@ module _ (p : CoreState) (whole : IsWhole p) where
   abbrev beside : Nodes → SessionTable → StateMap → CountMap → CoreState
   beside tree sessions states counts = record p { scene = kept_scene (with_parts (plain p.scene) tree sessions states) p.scene.table.kept counts }
 
-  left-whole : (tree : Nodes) (sessions : SessionTable) (states : StateMap) (counts : CountMap) → LeavesEntries (plain p.scene) tree sessions states
+  left-whole : (tree : Nodes) (sessions : SessionTable) (states : StateMap) (counts : CountMap) → SparesEntries (plain p.scene) tree sessions states
       → AreCountedIn (beside tree sessions states counts).scene → IsWhole (beside tree sessions states counts)
-  left-whole tree sessions states counts leaves counted = (
-    kept-sound (state_of p) whole.0 tree sessions states leaves,
+  left-whole tree sessions states counts spares counted = (
+    stays-sound (state_of p) whole.0 tree sessions states spares,
     whole.1,
     (
-      kept-known (state_of p) whole.0 tree sessions states leaves p.scene.table.kept whole.2.0,
+      stays-known (state_of p) whole.0 tree sessions states spares p.scene.table.kept whole.2.0,
       λ k e there.
           let row : EntryRow = record { holder = k; entry = e } in
           let inside : Contains p.scene.table.entries.rows row = found-contains (is_row_of k) p.scene.table.entries.rows row (row_of-entry p.scene.table.entries k e there) in
-          whole.2.1 k e there ∙ ap Some (sym (All-contains (SameMay (state_of p) whole.0 tree sessions) p.scene.table.entries.rows row leaves.permits inside)),
+          whole.2.1 k e there ∙ ap Some (sym (All-contains (SameMay (state_of p) whole.0 tree sessions) p.scene.table.entries.rows row spares.permits inside)),
     ),
     counted,
   )
@@ -112,21 +112,21 @@ module _ (p : CoreState) (whole : IsWhole p) where
   pub session-whole : (client : ℕ) (caller : Caller) (grants : List Grant) → first_failing (new_session_tests p.scene.sessions client) ≡ None
       → IsWhole (record p { scene = record p.scene { sessions = with_session p.scene.sessions client caller grants } })
   session-whole client caller grants passed =
-      left-whole p.scene.tree (with_session p.scene.sessions client caller grants) p.scene.locks.locks.states p.scene.locks.counts (session-leaves (state_of p) whole.0 client caller grants passed) whole.3
+      left-whole p.scene.tree (with_session p.scene.sessions client caller grants) p.scene.locks.locks.states p.scene.locks.counts (session-spares (state_of p) whole.0 client caller grants passed) whole.3
 
   pub unblocked-whole : (client : ℕ) → IsWhole (record p { scene = record p.scene { sessions = without_blocked p.scene.sessions client } })
-  unblocked-whole client = left-whole p.scene.tree (without_blocked p.scene.sessions client) p.scene.locks.locks.states p.scene.locks.counts (unblocked-leaves (state_of p) whole.0 client) whole.3
+  unblocked-whole client = left-whole p.scene.tree (without_blocked p.scene.sessions client) p.scene.locks.locks.states p.scene.locks.counts (unblocked-spares (state_of p) whole.0 client) whole.3
 
   pub changed-whole : (f : Node → Node) (ino : ℕ) → ((n : Node) → (f n).site ≡ n.site) → ((n : Node) → (f n).attr ≡ n.attr)
       → IsWhole (record p { scene = record p.scene { tree = changed f p.scene.tree ino } })
   changed-whole f ino site attr =
-      left-whole (changed f p.scene.tree ino) p.scene.sessions p.scene.locks.locks.states p.scene.locks.counts (changed-leaves (state_of p) whole.0 f ino site attr) whole.3
+      left-whole (changed f p.scene.tree ino) p.scene.sessions p.scene.locks.locks.states p.scene.locks.counts (changed-spares (state_of p) whole.0 f ino site attr) whole.3
 
   pub birth-whole : (kind : Kind) (dir : ℕ) (name : List ℕ) (attr : Attr) → IsTree p.scene.tree
       → IsWhole (record p { scene = record p.scene { tree = with_new p.scene.tree kind dir name attr; locks = counting.with_ino p.scene.locks (p.scene.tree.last + 1) } })
   birth-whole kind dir name attr tree =
       let locks = counting.with_ino p.scene.locks (p.scene.tree.last + 1) in
-      left-whole (with_new p.scene.tree kind dir name attr) p.scene.sessions locks.locks.states locks.counts (birth-leaves (state_of p) whole.0 kind dir name attr tree)
+      left-whole (with_new p.scene.tree kind dir name attr) p.scene.sessions locks.locks.states locks.counts (birth-spares (state_of p) whole.0 kind dir name attr tree)
       (counted-born p.scene.table.entries p.scene.locks (p.scene.tree.last + 1) whole.3)
 
   -- locks that were added for a new inode, and are dropped again

@@ -19,7 +19,7 @@ use Rattle.captable.specs.declared.entry.Holder.{Holder}
 use Rattle.sessiontab.specs.Calls.{has_session}
 use Rattle.step_model.specs.Clients.{session_change}
 use Rattle.step_model.specs.declared.event.Event.{Event}
-use Rattle.step_model.specs.Finish.{due, is_in_use, issue_row}
+use Rattle.step_model.specs.Finish.{is_in_use, issuable, issue_row}
 use Rattle.step_model.specs.Settle.{Made, Settles}
 use Rattle.step_model.specs.State.{State}
 use Rattle.capstep.specs.Finishing.{numbered_as}
@@ -27,7 +27,7 @@ use Rattle.lockmachine.specs.Elsewhere.{IsSameBut, IsSameOutside}
 use Rattle.lockmachine.specs.Locks.{lock_at, without_ino}
 use Rattle.lockmachine.specs.Requests.{first_for}
 use Rattle.lockmachine.specs.Rows.{IsInRow}
-use Rattle.lockmachine.specs.Scene.{Scene, told_set}
+use Rattle.lockmachine.specs.Scene.{Scene, pending_of}
 use Rattle.lockmachine.specs.Cursors.{WaitAt}
 use Rattle.lockmachine.specs.Wants.{effective_want}
 use Rattle.lockmachine.specs.declared.request.Operation.{Operation}
@@ -159,16 +159,16 @@ pub record SettlesAt (at from : ℕ → Bool) (moves : List Made) (first settled
 
 -- what was known of these entries when the event came, so far as they still hold it
 abbrev pub Knows : (Holder → Caps) → Scene → Table → Type 0
-Knows known old table = (row : EntryRow) → Contains table.rows row → meet (known row.holder) row.entry.held ≡ told_set old row
+Knows known old table = (row : EntryRow) → Contains table.rows row → meet (known row.holder) row.entry.held ≡ pending_of old row
 
 -- what the entry's client is to know of at the end
-abbrev pub told_then : Scene → EntryRow → Caps
-told_then settled row = told_set settled (issue_row settled row)
+abbrev pub pending_then : Scene → EntryRow → Caps
+pending_then settled row = pending_of settled (issue_row settled row)
 
 -- the entry at the end: it gains what is due, and has a new number if its client is to know of another set than was known when
 -- the event came, so far as it still held that right after the event
 abbrev pub finished_entry : (Holder → Caps) → Scene → EntryRow → Entry
-finished_entry known settled row = numbered_as (known row.holder) (told_then settled row) (due settled row) row
+finished_entry known settled row = numbered_as (known row.holder) (pending_then settled row) (issuable settled row) row
 
 -- the inode goes with its locks, if it is a stray that nobody has an entry on
 abbrev pub forget_at : ℕ → Scene → Scene

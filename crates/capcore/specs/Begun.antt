@@ -6,7 +6,7 @@ use Rattle.step_model.specs.NotedChanges.{HavePlaces, Noted}
 use Rattle.capstep.specs.Known.{ClientViews, OthersHaveAll}
 use Rattle.lockmachine.specs.Counts.{AreCounted}
 use Rattle.lockmachine.specs.Locks.{IsLockMap}
-use Rattle.lockmachine.specs.Moves.{IsQuietOutside}
+use Rattle.lockmachine.specs.Moves.{IsAtRestOutside}
 use Rattle.lockmachine.specs.Policy.{ArePermitted}
 use Rattle.lockmachine.specs.Scene.{Scene}
 use Rattle.lockmachine.specs.declared.scene.KeptScene.{KeptScene}
@@ -22,7 +22,7 @@ among (Inodes inos) = set.contains inos
 
 -- the event was about these inodes: the locks of all others are quiet, and requests wait in order
 pub record MaySettle (from : ℕ → Bool) (s : Scene) : Type 0 where
-  pub quiet : IsQuietOutside from s
+  pub resting : IsAtRestOutside from s
   pub order : IsLockMap s.locks
 
 -- of each entry it is kept what its client is permitted

@@ -9,7 +9,7 @@ use Rattle.captable.specs.Tests.{ack_tests, entry_test, release_tests}
 use Rattle.captable.specs.declared.entry.Holder.{Holder}
 use Rattle.step_model.specs.declared.event.Event.{Event}
 use Rattle.step_model.specs.declared.reply.Reply.{Reply}
-use Rattle.step_model.specs.Direct.{Answer, Says, Shows, with_opening, with_wanted}
+use Rattle.step_model.specs.Direct.{DirectReply, Says, Shows, with_opening, with_wanted}
 use Rattle.step_model.specs.Judge.{revoked_of, room_for}
 use Rattle.lockmachine.specs.Scene.{Scene}
 use Rattle.capcore.specs.declared.entry_request.EntryRequest.{EntryRequest}
@@ -37,8 +37,8 @@ table_after s k (Ack seq) = acked s.table k (revoked_of s k)
 table_after s k (Release caps) = released s.table k caps
 
 -- the answer to the request
-abbrev pub entry_answer : Holder → EntryRequest → Answer
-entry_answer k (Open mode) = Shows k
-entry_answer k (Want caps) = Shows k
-entry_answer k (Ack seq) = Says Reply.Done
-entry_answer k (Release caps) = Says Reply.Done
+abbrev pub entry_reply : Holder → EntryRequest → DirectReply
+entry_reply k (Open mode) = Shows k
+entry_reply k (Want caps) = Shows k
+entry_reply k (Ack seq) = Says Reply.Done
+entry_reply k (Release caps) = Says Reply.Done

@@ -3,11 +3,11 @@ pub mod SameEvents
 pub mod Promised
 pub mod UnderWay
 pub mod Affected
-pub mod Answered
+pub mod Replied
 pub mod Begun
 pub mod EntryRequest
 pub mod Judged
-pub mod Leaving
+pub mod Sparing
 pub mod Serves
 pub mod SessionChange
 pub mod Sweep

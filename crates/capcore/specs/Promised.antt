@@ -9,18 +9,18 @@ use Rattle.step_model.specs.Headline.{AreBounded, AreInPlace, AreRevoked, Denied
 use Rattle.step_model.specs.Headline.{is_rejection}
 use Rattle.step_model.specs.History.{IsNext, Recorded, Replays}
 use Rattle.step_model.specs.Noted.{view_of}
-use Rattle.step_model.specs.Shown.{ShowsOnlyPermitted, ShowsWhatIsTold, TakesOnlySo, TakesUnshown}
+use Rattle.step_model.specs.Shown.{ShowsOnlyPermitted, ShowsWhatIsPending, TakesOnlySo, TakesUnshown}
 use Rattle.step_model.specs.Sound.{IsSound}
 use Rattle.step_model.specs.State.{State}
 use Rattle.policy_view.specs.Changes.{AreChanges}
 use Rattle.lockmachine.specs.Moves.{IsAtRest}
 
-pub record IsPromised (old : Recorded) (pass : PassId) (event : Event) (answer : Reply) (new : Recorded) : Type 0 where
+pub record IsPromised (old : Recorded) (pass : PassId) (event : Event) (reply : Reply) (new : Recorded) : Type 0 where
   -- one step of the rules, and one row. What is said of moves below is said of those that make this step
-  pub next : IsNext old pass event answer new
+  pub next : IsNext old pass event reply new
   -- a request is denied exactly if it passes the tests that stand before policy and an access that it needs has no grant, and each
   -- denial names the first such access and the rule by which each grant fails
-  pub denied : DeniedExactly old.state.scene event answer
+  pub denied : DeniedExactly old.state.scene event reply
   -- so are the requests that wait, when they are served. At most as many are served as wait, and between two of them each lock begins
   -- at most one gather and ends at most two
   pub served_denied : ServedDenied (begun old.state event) next.moves
@@ -37,7 +37,7 @@ pub record IsPromised (old : Recorded) (pass : PassId) (event : Event) (answer :
   pub apart : NoneConflict new.state.scene
   -- Where no message is due for an entry, its client was last shown just what it is to know, and that is permitted. What an
   -- acknowledgement takes was missing from what was shown; and nothing else takes what is held, but a release and the end of a session.
-  pub shown : ShowsWhatIsTold new.rows new.state.scene
+  pub shown : ShowsWhatIsPending new.rows new.state.scene
   pub shown_permitted : ShowsOnlyPermitted new.rows new.state.scene
   pub unshown : TakesUnshown old.rows old.state.scene event (begun old.state event)
   pub only_so : TakesOnlySo old.state.scene event new.state.scene
@@ -45,7 +45,7 @@ pub record IsPromised (old : Recorded) (pass : PassId) (event : Event) (answer :
   pub sound : IsSound new.state
   -- locks are at rest, and a denial or a refusal changes nothing but the history
   pub at_rest : IsAtRest new.state.scene
-  pub unchanged : IsTrue (is_rejection answer) → new.state ≡ old.state
+  pub unchanged : IsTrue (is_rejection reply) → new.state ≡ old.state
   -- wherever the history began, it goes on from there
   pub legal : (first : State) → Replays first old.rows old.state → Replays first new.rows new.state
   -- what it says that it changed leads readers from what they saw to what there is to see

@@ -8,8 +8,8 @@ use Rattle.step_model.specs.declared.reply.Reply.{Reply}
 use Rattle.step_model.specs.declared.row.Row.{Row}
 
 -- neither the request of this answer nor one of those that ended found no memory
-pub record FoundMemory (answer : Reply) (ended : List Ended) : Type 0 where
-  pub answered : answer ≢ Reply.OutOfMemory
+pub record FoundMemory (reply : Reply) (ended : List Ended) : Type 0 where
+  pub replied : reply ≢ Reply.OutOfMemory
   pub each : All (λ m. m.outcome ≢ Outcome.OutOfMemory) ended
 
 -- so it is of each row

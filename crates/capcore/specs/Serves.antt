@@ -13,7 +13,7 @@ use Rattle.capstep.specs.Known.{ClientViews, KnownAnew, known_in, permitted_of}
 use Rattle.lockmachine.specs.Locks.{request_at, without_request}
 use Rattle.lockmachine.specs.Scene.{Scene}
 use Rattle.lockmachine.specs.declared.request.Request.{Request}
-use Rattle.capcore.specs.Affected.{SettlesAt, finished_at, told_then}
+use Rattle.capcore.specs.Affected.{SettlesAt, finished_at, pending_then}
 use Rattle.capcore.specs.Begun.{ArePermittedIn}
 
 -- the request with this number is served, ends so and waits no more
@@ -35,7 +35,7 @@ pub record SettlesWith (at from : ℕ → Bool) (first settled : Scene) (ended :
 -- the locks have settled and the sizes of these inodes changed: the step ends at those that it affected. What is permitted is kept
 pub record EndsAt (at : ℕ → Bool) (sized : List Ino) (was now : ClientViews) (settled last : Scene) : Type 0 where
   pub finished : last ≡ finished_at at (known_in was) (sizes_owed sized settled)
-  pub kept : KnownAnew (λ k. at k.ino.0) (told_then (sizes_owed sized settled)) (sizes_owed sized settled).table was now
+  pub kept : KnownAnew (λ k. at k.ino.0) (pending_then (sizes_owed sized settled)) (sizes_owed sized settled).table was now
   pub permitted : (k : Holder) → permitted_of now k ≡ permitted_of was k
 
 -- the event was about these inodes: the locks settle, these requests end, and the step ends at the inodes that it affected. What
@@ -47,5 +47,5 @@ pub record EndsWith (from : ℕ → Bool) (was now : ClientViews) (first last : 
   pub settles : SettlesWith at from first settled ended sized
   pub tree : IsTree settled.tree
   pub finished : last ≡ finished_at at (known_in was) (sizes_owed sized settled)
-  pub kept : KnownAnew (λ k. at k.ino.0) (told_then (sizes_owed sized settled)) (sizes_owed sized settled).table was now
+  pub kept : KnownAnew (λ k. at k.ino.0) (pending_then (sizes_owed sized settled)) (sizes_owed sized settled).table was now
   pub permitted : ArePermittedIn now last

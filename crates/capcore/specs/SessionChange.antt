@@ -38,6 +38,6 @@ session_changed s client change = record {
 -- ---- where the client is
 
 -- each inode that the client has an entry on or waits for is one of these
-pub record ReachesClient (client : ClientId) (table : Table) (locks : LockMap) (inos : InoSet) : Type 0 where
+pub record HasInodesOf (client : ClientId) (table : Table) (locks : LockMap) (inos : InoSet) : Type 0 where
   pub entries : (row : EntryRow) → Contains table.rows row → is_of_client client row ≡ true → set.contains inos row.holder.ino.0 ≡ true
   pub requests : (q : Request) → Contains locks.queue q → is_asked_by client q ≡ true → set.contains inos q.ino.0 ≡ true

@@ -19,7 +19,7 @@ use Rattle.step_model.specs.Noted.{view_of}
 use Rattle.step_model.specs.Sound.{AreGiven, IsSound, NumbersLeft}
 use Rattle.step_model.specs.State.{State}
 use Rattle.policy_view.specs.Changes.{AreChanges}
-use Rattle.capcore.specs.EntryRequest.{entry_answer, entry_event}
+use Rattle.capcore.specs.EntryRequest.{entry_event, entry_reply}
 use Rattle.lockmachine.specs.Locks.{IsLockMap}
 use Rattle.lockmachine.specs.Scene.{Scene, plain}
 use Rattle.capcore.specs.declared.output.StepOutput.{StepOutput}
@@ -69,29 +69,29 @@ pub record MayBegin (p : CoreState) (e : Event) : Type 0 where
 
 -- ---- what it leaves by itself
 
-abbrev pub answer_of : ReplyDue → rules.Answer
-answer_of (Requested k request) = entry_answer k request
-answer_of (Awaited ticket) = rules.Awaits ticket
-answer_of answer = rules.Says Reply.Done
+abbrev pub direct_reply_of : ReplyDue → rules.DirectReply
+direct_reply_of (Requested k request) = entry_reply k request
+direct_reply_of (Awaited ticket) = rules.Awaits ticket
+direct_reply_of reply_due = rules.Says Reply.Done
 
 abbrev pub dropped_of : ReplyDue → List Ended
 dropped_of (Dropped dropped) = dropped.items
-dropped_of answer = []
+dropped_of reply_due = []
 
 -- of the requests that the step ends, those of earlier steps
 abbrev pub earlier_of : ReplyDue → List Ended → List Ended
 earlier_of (Awaited ticket) ended = but_for ticket ended
-earlier_of answer ended = ended
+earlier_of reply_due ended = ended
 
 -- the last number of a request, before and after: the one that is awaited, is new
 abbrev pub IsNumbered : ReplyDue → ℕ → ℕ → Type 0
 IsNumbered (Awaited ticket) was now = (ticket.0 ≡ was + 1) × (now ≡ was + 1)
-IsNumbered answer was now = now ≡ was
+IsNumbered reply_due was now = now ≡ was
 
 -- where requests were dropped, there is room for so many beside them
 abbrev pub HasPlaces : ReplyDue → ℕ → Type 0
 HasPlaces (Dropped dropped) waiting = length dropped.items + waiting ≤ vec_capacity dropped
-HasPlaces answer waiting = Unit
+HasPlaces reply_due waiting = Unit
 
 -- it gives at most one number
 abbrev pub GivesOne : State → Event → Type 0
@@ -104,9 +104,9 @@ GivesOne old e =
 
 pub record HasBegun (p : CoreState) (e : Event) (applied : Applied) (q : CoreState) (output : StepOutput) : Type 0 where
   pub is : state_of q ≡ (direct (state_of p) e).state
-  pub answer : answer_of applied.answer ≡ (direct (state_of p) e).answer
-  pub dropped : dropped_of applied.answer ≡ (direct (state_of p) e).dropped
-  pub number : IsNumbered applied.answer p.scene.locks.locks.last q.scene.locks.locks.last
+  pub reply_due : direct_reply_of applied.reply_due ≡ (direct (state_of p) e).reply_due
+  pub dropped : dropped_of applied.reply_due ≡ (direct (state_of p) e).dropped
+  pub number : IsNumbered applied.reply_due p.scene.locks.locks.last q.scene.locks.locks.last
   pub affects : Affects (among applied.affected) (state_of p) (state_of q)
   pub table : IsTable q.scene.table.entries
   pub gives : GivesOne (state_of p) e
@@ -116,5 +116,5 @@ pub record HasBegun (p : CoreState) (e : Event) (applied : Applied) (q : CoreSta
   pub ready : IsReady applied.affected q.scene.table.kept (plain q.scene) output
   pub counted : AreCountedIn q.scene
   pub room : HasRoom q.messages q.scene.locks.locks
-  pub places : HasPlaces applied.answer (length q.scene.locks.locks.queue)
+  pub places : HasPlaces applied.reply_due (length q.scene.locks.locks.queue)
   pub noted : AreChanges output.changes.items (view_of (state_of p)) (view_of (state_of q))

@@ -5,9 +5,9 @@ ghost use Rattle.captable.specs.Calls.{is_of_client};
 ghost use Rattle.captable.specs.declared.entry.EntryRow.{EntryRow};
 ghost use Rattle.lockmachine.specs.Requests.{is_of_client as is_asked_by};
 ghost use Rattle.lockmachine.specs.declared.request.Request.{Request};
-ghost use Rattle.capstep.specs.Reach.{Widens};
+ghost use Rattle.capstep.specs.AffectedInodes.{Widens};
 ghost use Rattle.capcore.specs.Begun.{HaveRoomFor};
-ghost use Rattle.capcore.specs.SessionChange.{Notes, ReachesClient};
+ghost use Rattle.capcore.specs.SessionChange.{HasInodesOf, Notes};
 
 use crate::output::StepOutput;
 use capbits::{ClientId, Ino};
@@ -40,7 +40,7 @@ impl Room {
         change: SessionChange,
         output: &mut StepOutput,
     ) -> Result<Room, AllocError>
-        ensures reaches { IfOk result (λ room. ReachesClient client table.now.entries locks.now.locks room.inodes) }
+        ensures has_inodes { IfOk result (λ room. HasInodesOf client table.now.entries locks.now.locks room.inodes) }
         ensures room { OnOk result (HaveRoomFor (length locks.now.locks.queue) output.new) }
         ensures dropped { IfOk result (λ room. (room.dropped.items ≡ []) × (length locks.now.locks.queue ≤ vec_capacity room.dropped)) }
         ensures places { IfOk result (λ room. length locks.now.locks.queue + set.len room.inodes + 1 ≤ output.new.changes.room) }
@@ -49,7 +49,7 @@ impl Room {
         // What the last step changed stays listed.
         ensures changes { output.new.changes.items ≡ output.old.changes.items }
     {
-        let inodes = reached(alloc, table, locks, client)?;
+        let inodes = inodes_of_client(alloc, table, locks, client)?;
         let waiting = locks.waiting();
         output.begin(waiting, waiting + inodes.len() + 1)?;
         let note = note_of(client, change)?;
@@ -64,17 +64,17 @@ impl Room {
 
 // The root and all inodes where the client is: what settles is not empty, and the client may be at no inode; the root is always
 // there.
-fn reached(
+fn inodes_of_client(
     alloc: Global,
     table: &CapTable,
     locks: &Locks,
     client: ClientId,
 ) -> Result<NonEmptyInoSet, AllocError>
-    ensures { IfOk result (λ inodes. ReachesClient client table.now.entries locks.now.locks inodes) }
+    ensures { IfOk result (λ inodes. HasInodesOf client table.now.entries locks.now.locks inodes) }
 {
     let mut inodes = NonEmptyInoSet::of(alloc, ROOT);
-    reach_entries(table, client, &mut inodes)?;
-    reach_requests(locks, client, &mut inodes)?;
+    include_entries(table, client, &mut inodes)?;
+    include_requests(locks, client, &mut inodes)?;
     Ok(inodes)
 }
 
@@ -92,7 +92,7 @@ fn note_of(client: ClientId, change: SessionChange) -> Result<Option<ViewChange>
 }
 
 // Adds each inode that the client has an entry on.
-fn reach_entries(
+fn include_entries(
     table: &CapTable,
     client: ClientId,
     inodes: &mut NonEmptyInoSet,
@@ -108,13 +108,13 @@ fn reach_entries(
 }
 
 // Adds each inode that the client waits for.
-fn reach_requests(
+fn include_requests(
     locks: &Locks,
     client: ClientId,
     inodes: &mut NonEmptyInoSet,
 ) -> Result<(), AllocError>
     ensures widens { Widens inodes.old inodes.new }
-    ensures reaches { OnOk result ((q : Request) → Contains locks.now.locks.queue q → is_asked_by client q ≡ true
+    ensures has_inodes { OnOk result ((q : Request) → Contains locks.now.locks.queue q → is_asked_by client q ≡ true
         → set.contains inodes.new q.ino.0 ≡ true) }
 {
     for request in locks.requests() {
@@ -128,7 +128,7 @@ fn reach_requests(
 // Adds the inode. By itself, so that what a set keeps is proved apart from the walk.
 fn add_inode(ino: Ino, inodes: &mut NonEmptyInoSet) -> Result<(), AllocError>
     ensures widens { Widens inodes.old inodes.new }
-    ensures reaches { OnOk result (set.contains inodes.new ino.0 ≡ true) }
+    ensures has_inodes { OnOk result (set.contains inodes.new ino.0 ≡ true) }
 {
     inodes.insert(ino)
 }

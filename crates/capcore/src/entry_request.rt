@@ -41,17 +41,17 @@ pub fn revoked_of(table: &CapTable, holder: Holder) -> CapSet
     ensures { (s : Scene) → s.table ≡ table.now.entries → AreKnown table.now.kept s → result ≡ revoked_of s holder }
 {
     match table.find(holder.client, holder.ino) {
-        Some(entry) => entry.held.minus(told_to(table, holder)),
+        Some(entry) => entry.held.minus(pending_for(table, holder)),
         None => CapSet::empty(),
     }
 }
 
 /// What the holder's client is to know of, as it is kept beside its entry; nothing where it has none.
-pub(crate) fn told_to(table: &CapTable, holder: Holder) -> CapSet
+pub(crate) fn pending_for(table: &CapTable, holder: Holder) -> CapSet
     ensures { result ≡ known_in table.now.kept holder }
 {
     match table.kept(holder.client, holder.ino) {
-        Some(kept) => kept.told,
+        Some(kept) => kept.pending,
         None => CapSet::empty(),
     }
 }
@@ -145,9 +145,9 @@ fn opening_wants(mode: OpenMode) -> CapSet
 /// The reply to the request at the end of the step; the entry is marked as told of what an opening or a want shows.
 pub fn show_reply(table: &mut CapTable, holder: Holder, request: &EntryRequest) -> Reply
     ensures reply { (s : State) → s.scene.table ≡ table.old.entries → AreKnown table.old.kept s.scene
-        → result ≡ reply_of s [] (words.entry_answer holder request.now) }
+        → result ≡ reply_of s [] (words.entry_reply holder request.now) }
     ensures told { (s : State) → s.scene.table ≡ table.old.entries
-        → with_table s table.new.entries ≡ shown (words.entry_answer holder request.now) s }
+        → with_table s table.new.entries ≡ shown (words.entry_reply holder request.now) s }
     ensures rest { table.new ≡ record table.old { entries = table.new.entries } }
 {
     match request {
@@ -155,7 +155,7 @@ pub fn show_reply(table: &mut CapTable, holder: Holder, request: &EntryRequest) 
             match table.tell(holder.client, holder.ino) {
                 Some(entry) => Reply::Opened {
                     seq: entry.seq,
-                    caps: told_to(table, holder),
+                    caps: pending_for(table, holder),
                 },
                 None => Reply::Done,
             }

@@ -92,7 +92,7 @@ fn finish_affected(
     requires entries { MayEnd table.old.kept (scene_by policy.now table.old.entries locks.now.locks) }
     ensures table { table.new.entries
         ≡ changed_where (words.is_on affected.now) (words.entry_by (known_in table.old.kept) policy.now.fs.now policy.now.tree.now policy.now.sessions.now locks.now.locks.states) table.old.entries }
-    ensures known { KnownAnew (λ k. set.contains affected.now k.ino.0) (words.told_by policy.now.fs.now policy.now.tree.now policy.now.sessions.now locks.now.locks.states)
+    ensures known { KnownAnew (λ k. set.contains affected.now k.ino.0) (words.pending_by policy.now.fs.now policy.now.tree.now policy.now.sessions.now locks.now.locks.states)
         table.old.entries table.old.kept table.new.kept }
     ensures permitted { (k : Holder) → permitted_of table.new.kept k ≡ permitted_of table.old.kept k }
 {
@@ -131,7 +131,7 @@ fn finish_entries(policy: &Policy<'_>, table: &mut CapTable, ino: Ino, locks: &O
     requires permitted { ArePermitted table.old.kept policy.now.fs.now policy.now.tree.now policy.now.sessions.now table.old.entries }
     ensures table { table.new.entries
         ≡ changed_where (is_of_inode ino) (words.entry_under (known_in table.old.kept) policy.now.fs.now policy.now.tree.now policy.now.sessions.now locks.now) table.old.entries }
-    ensures known { KnownAnew (λ k. k.ino.0 == ino.0) (words.told_at policy.now.fs.now policy.now.tree.now policy.now.sessions.now locks.now)
+    ensures known { KnownAnew (λ k. k.ino.0 == ino.0) (words.pending_at policy.now.fs.now policy.now.tree.now policy.now.sessions.now locks.now)
         table.old.entries table.old.kept table.new.kept }
     ensures permitted { (k : Holder) → permitted_of table.new.kept k ≡ permitted_of table.old.kept k }
 {

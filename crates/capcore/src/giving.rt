@@ -3,7 +3,7 @@
 ghost use Rattle.std.specs.Prelude.{◌≡◌, ℕ};
 ghost use Rattle.captable.specs.Calls.{recalled};
 ghost use Rattle.captable.specs.Table.{IsTable};
-ghost use Rattle.step_model.specs.Direct.{Answer, shown, with_table};
+ghost use Rattle.step_model.specs.Direct.{DirectReply, shown, with_table};
 ghost use Rattle.step_model.specs.Finish.{finished};
 ghost use Rattle.step_model.specs.Headline.{IssuesExactly};
 ghost use Rattle.step_model.specs.Sound.{AreGiven, IsSound};
@@ -11,16 +11,16 @@ ghost use Rattle.step_model.specs.State.{State};
 ghost use Rattle.lockmachine.specs.Scene.{Scene};
 
 /// What a client is told at the end of a step leaves a sound state sound, nothing to do and all that is held as it was.
-pub fn telling_leaves_all_but_what_was_told()
-    ensures sound { (s : State) (answer : Answer) → IsSound s → IsTable s.scene.table → IsSound (shown answer s) }
-    ensures given { (count : ℕ) (s : State) (answer : Answer) → AreGiven count s → AreGiven count (shown answer s) }
-    ensures issued { (first : Scene) (s : State) (answer : Answer) → IsTable s.scene.table → IssuesExactly first s.scene
-        → IssuesExactly first (shown answer s).scene }
+pub fn telling_changes_only_what_was_told()
+    ensures sound { (s : State) (reply_due : DirectReply) → IsSound s → IsTable s.scene.table → IsSound (shown reply_due s) }
+    ensures given { (count : ℕ) (s : State) (reply_due : DirectReply) → AreGiven count s → AreGiven count (shown reply_due s) }
+    ensures issued { (first : Scene) (s : State) (reply_due : DirectReply) → IsTable s.scene.table → IssuesExactly first s.scene
+        → IssuesExactly first (shown reply_due s).scene }
 {}
 
 /// A recall marks entries whose clients are asked to release, and leaves a sound state sound; no client is to know of anything else
 /// than before, and nothing is to be issued, forgotten or numbered.
-pub fn a_recall_leaves_all_but_the_marks()
+pub fn a_recall_changes_only_the_marks()
     ensures sound { (s : State) (n : ℕ) → IsSound s → IsSound (with_table s (recalled s.scene.table n)) }
     ensures finished { (s : State) (n : ℕ) → IsSound s → IsTable s.scene.table
         → let new = with_table s (recalled s.scene.table n) in finished s.scene new.scene new.scene ≡ new.scene }

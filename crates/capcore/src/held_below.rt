@@ -3,7 +3,7 @@ ghost use Rattle.std.specs.List.{list_any};
 ghost use Rattle.std.specs.Prelude.{◌≡◌, ◌≤◌, ◌+◌, true, Contains, OnOk, OnErr};
 ghost use Rattle.std.specs.FinSet as set;
 ghost use Rattle.captable.specs.Calls.{is_of_inode};
-ghost use Rattle.capstep.specs.Reach.{AreWalked, Covers, Widens};
+ghost use Rattle.capstep.specs.AffectedInodes.{AreWalked, Covers, Widens};
 ghost use Rattle.capstep.specs.Served.{is_rename};
 
 use capbits::Ino;

@@ -27,7 +27,7 @@ ghost use Rattle.step_model.specs.Sound.{IsSound};
 ghost use Rattle.step_model.specs.State.{State};
 ghost use Rattle.step_model.specs.Step.{Step, StepBy};
 ghost use Rattle.step_model.specs.declared.rejection.Rejection.{Rejection};
-ghost use Rattle.capcore.specs.Leaving.{LeavesEntries, with_parts};
+ghost use Rattle.capcore.specs.Sparing.{SparesEntries, with_parts};
 ghost use Rattle.lockmachine.specs.Inodes.{StateMap};
 ghost use Rattle.lockmachine.specs.Locks.{IsLockMap, with_ino};
 ghost use Rattle.lockmachine.specs.Scene.{Scene};
@@ -52,7 +52,7 @@ pub fn a_sound_state_has_nothing_left_to_do()
 
 /// The moves of a step leave all that is held, and all else of the entries: so who caches the data of a file once the locks have
 /// settled, cached it whenever one of these moves changed its size.
-pub fn moves_leave_what_is_held()
+pub fn moves_change_nothing_held()
     ensures { (first settled : Scene) (moves : List Made) → MakesAll first moves settled → settled.table ≡ first.table }
 {}
 
@@ -61,38 +61,38 @@ pub fn moves_leave_what_is_held()
 pub fn a_rejection_changes_nothing()
     ensures step { (old : State) (e : Event) (rejection : Rejection) → IsSound old → IsTable old.scene.table
         → judged old.scene e ≡ Some rejection → Step old e (rejection_reply rejection) [] old }
-    ensures only { (old new : State) (e : Event) (rejection : Rejection) (answer : Reply) (ended : List Ended)
+    ensures only { (old new : State) (e : Event) (rejection : Rejection) (reply : Reply) (ended : List Ended)
         → IsSound old → IsTable old.scene.table → judged old.scene e ≡ Some rejection
-        → Step old e answer ended new → (answer ≡ rejection_reply rejection) × (ended ≡ []) × (new ≡ old) }
+        → Step old e reply ended new → (reply ≡ rejection_reply rejection) × (ended ≡ []) × (new ≡ old) }
 {}
 
 /// After an event that leaves alone all that entries and requests depend on, a state that was sound is sound, no move
 /// applies, and nothing is to be issued, forgotten or numbered.
-pub fn what_leaves_entries_alone_leaves_nothing_to_do()
+pub fn what_spares_entries_has_nothing_to_do()
     ensures sound { (s : State) (tree : Nodes) (sessions : SessionTable) (states : StateMap) → IsSound s
-        → LeavesEntries s.scene tree sessions states → IsSound (with_scene s (with_parts s.scene tree sessions states)) }
+        → SparesEntries s.scene tree sessions states → IsSound (with_scene s (with_parts s.scene tree sessions states)) }
     ensures settles { (s : State) (tree : Nodes) (sessions : SessionTable) (states : StateMap) → IsSound s
-        → LeavesEntries s.scene tree sessions states
+        → SparesEntries s.scene tree sessions states
         → Settles (with_parts s.scene tree sessions states) [] (with_parts s.scene tree sessions states) }
     ensures finished { (s : State) (tree : Nodes) (sessions : SessionTable) (states : StateMap) → IsSound s
-        → LeavesEntries s.scene tree sessions states → IsTable s.scene.table
+        → SparesEntries s.scene tree sessions states → IsTable s.scene.table
         → finished s.scene (with_parts s.scene tree sessions states) (with_parts s.scene tree sessions states)
         ≡ with_parts s.scene tree sessions states }
 {}
 
 /// A new session, a client that comes off the blocklist, a new inode, and a snapshot that comes or goes are such events.
-pub fn sessions_inodes_and_snapshots_leave_entries_alone()
+pub fn sessions_inodes_and_snapshots_spare_entries()
     ensures session { (s : State) (client : ℕ) (caller : Caller) (grants : List Grant) → IsSound s
         → first_failing (new_session_tests s.scene.sessions client) ≡ None
-        → LeavesEntries s.scene s.scene.tree (with_session s.scene.sessions client caller grants) s.scene.locks.states }
+        → SparesEntries s.scene s.scene.tree (with_session s.scene.sessions client caller grants) s.scene.locks.states }
     ensures unblocked { (s : State) (client : ℕ) → IsSound s
-        → LeavesEntries s.scene s.scene.tree (without_blocked s.scene.sessions client) s.scene.locks.states }
+        → SparesEntries s.scene s.scene.tree (without_blocked s.scene.sessions client) s.scene.locks.states }
     ensures inode { (s : State) (kind : Kind) (dir : ℕ) (name : List ℕ) (attr : Attr) → IsSound s
-        → IsTree s.scene.tree → LeavesEntries s.scene (with_new s.scene.tree kind dir name attr) s.scene.sessions
+        → IsTree s.scene.tree → SparesEntries s.scene (with_new s.scene.tree kind dir name attr) s.scene.sessions
         (with_ino s.scene.locks (s.scene.tree.last + 1)).states }
     ensures snapshot { (s : State) (f : Node → Node) (ino : ℕ) → IsSound s
         → ((n : Node) → (f n).site ≡ n.site) → ((n : Node) → (f n).attr ≡ n.attr)
-        → LeavesEntries s.scene (changed f s.scene.tree ino) s.scene.sessions s.scene.locks.states }
+        → SparesEntries s.scene (changed f s.scene.tree ino) s.scene.sessions s.scene.locks.states }
 {}
 
 /// Whatever moves are made, each request that is served is denied exactly if it passes the tests that stand before policy
@@ -112,11 +112,11 @@ pub fn a_settling_serves_at_most_who_waits()
 /// A row says all of its step: two steps from one state that have the same event, the same answer and the same requests of
 /// earlier steps that they ended are made by the same moves, and lead to the same state.
 pub fn a_row_fixes_its_step()
-    ensures moves { (old new other : State) (e : Event) (answer : Reply) (ended : List Ended) (moves others : List Made)
-        → IsLockMap old.scene.locks → StepBy old e moves answer ended new → StepBy old e others answer ended other
+    ensures moves { (old new other : State) (e : Event) (reply : Reply) (ended : List Ended) (moves others : List Made)
+        → IsLockMap old.scene.locks → StepBy old e moves reply ended new → StepBy old e others reply ended other
         → moves ≡ others }
-    ensures state { (old new other : State) (e : Event) (answer : Reply) (ended : List Ended) → IsLockMap old.scene.locks
-        → Step old e answer ended new → Step old e answer ended other → new ≡ other }
+    ensures state { (old new other : State) (e : Event) (reply : Reply) (ended : List Ended) → IsLockMap old.scene.locks
+        → Step old e reply ended new → Step old e reply ended other → new ≡ other }
 {}
 
 /// So the rows of a history lead to one state alone, from its opening and from any state on the way.

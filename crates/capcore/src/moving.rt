@@ -14,7 +14,7 @@ ghost use Rattle.lockmachine.specs.Scene.{plain};
 ghost use Rattle.capcore.specs.SessionChange.{session_changed};
 ghost use Rattle.step_model.specs.Clients.{session_event};
 ghost use Rattle.step_model.specs.declared.event.Event.TheVariants as event;
-ghost use Rattle.capcore.specs.UnderWay.{HasBegun, HasPlaces, IsWhole, MayBegin, answer_of, dropped_of, earlier_of, event_of, operation_event, state_of};
+ghost use Rattle.capcore.specs.UnderWay.{HasBegun, HasPlaces, IsWhole, MayBegin, direct_reply_of, dropped_of, earlier_of, event_of, operation_event, state_of};
 
 use crate::client::Room;
 use crate::entry_request::{apply_request, show_reply};
@@ -23,7 +23,7 @@ use crate::parts::{Applied, CoreState, LockEvent, ReplyDue};
 use crate::settle::Affected;
 use crate::step_reply::StepReply;
 use capbits::{ClientId, Ticket};
-use capstep::leaving::drop_client_state;
+use capstep::session_end::drop_client_state;
 use capstep::renewing::{renew_changed, renew_client};
 use capstep::serving::alter;
 use capstep::{OperationRef, copy_of_operation};
@@ -58,7 +58,7 @@ impl CoreState {
                 output.changes.clear();
                 Ok(Applied {
                     affected: Affected::Entry(*holder),
-                    answer: ReplyDue::Requested(*holder, *request),
+                    reply_due: ReplyDue::Requested(*holder, *request),
                 })
             }
             LockEvent::OfLock(holder, operation) => self.lock_request(*holder, *operation, output),
@@ -94,7 +94,7 @@ impl CoreState {
         output.judged = Some(ticket);
         Ok(Applied {
             affected: Affected::Inodes(NonEmptyInoSet::of(alloc, holder.ino)),
-            answer: ReplyDue::Awaited(ticket),
+            reply_due: ReplyDue::Awaited(ticket),
         })
     }
 
@@ -126,7 +126,7 @@ impl CoreState {
         self.scene.table.touch(holder.client, ino);
         Ok(Applied {
             affected: Affected::Inodes(NonEmptyInoSet::of(output.alloc(), ino)),
-            answer: ReplyDue::Done,
+            reply_due: ReplyDue::Done,
         })
     }
 
@@ -161,7 +161,7 @@ impl CoreState {
         renew_granted(&mut self.scene, client, change);
         Ok(Applied {
             affected: Affected::Inodes(inodes),
-            answer: ReplyDue::Dropped(dropped),
+            reply_due: ReplyDue::Dropped(dropped),
         })
     }
 
@@ -169,23 +169,23 @@ impl CoreState {
 
     // What the step says: clients are to be told of the requests that it ended, and the history keeps them; of those that were
     // dropped, which come first there, nobody is told.
-    pub(crate) fn close(&mut self, answer: ReplyDue, output: &mut StepOutput) -> StepReply
+    pub(crate) fn close(&mut self, reply_due: ReplyDue, output: &mut StepOutput) -> StepReply
         requires differ { HaveOwnNumbers output.old.given.items }
         requires recorded { output.old.recorded.items ≡ output.old.given.items }
         requires room { length self.old.messages.items + length output.old.given.items ≤ vec_capacity self.old.messages }
-        requires places { HasPlaces answer (length output.old.given.items) }
+        requires places { HasPlaces reply_due (length output.old.given.items) }
         requires known { AreKnown self.old.scene.table.kept (plain self.old.scene) }
         ensures reply { (ms : List AnEnded) → let last : State = record { scene = plain self.old.scene; messages = ms } in
-            result.reply ≡ twice (reply_of last output.old.given.items (answer_of answer)) }
+            result.reply ≡ twice (reply_of last output.old.given.items (direct_reply_of reply_due)) }
         ensures shown { (ms : List AnEnded) → let last : State = record { scene = plain self.old.scene; messages = ms } in
-            record { scene = plain self.new.scene; messages = ms } ≡ shown (answer_of answer) last }
-        ensures ended { result.ended ≡ dropped_of answer ++ earlier_of answer output.old.given.items }
+            record { scene = plain self.new.scene; messages = ms } ≡ shown (direct_reply_of reply_due) last }
+        ensures ended { result.ended ≡ dropped_of reply_due ++ earlier_of reply_due output.old.given.items }
         ensures changes { output.new.changes ≡ output.old.changes }
-        ensures messages { self.new.messages.items ≡ self.old.messages.items ++ earlier_of answer output.old.given.items }
+        ensures messages { self.new.messages.items ≡ self.old.messages.items ++ earlier_of reply_due output.old.given.items }
         ensures room { vec_capacity self.old.messages ≤ vec_capacity self.new.messages }
         ensures rest { self.new.scene ≡ record self.old.scene { table = record self.old.scene.table { entries = self.new.scene.table.entries } } }
     {
-        let reply = match answer {
+        let reply = match reply_due {
             ReplyDue::Done => Recorded {
                 given: Reply::Done,
                 recorded: Reply::Done,
@@ -251,7 +251,7 @@ fn renew_granted(scene: &mut KeptScene, client: ClientId, change: SessionChange)
     ensures permitted { (old : State) → plain scene.old ≡ (session_changed old client change.entry).scene
         → ArePermittedIn scene.old.table.kept (record old.scene { table = scene.old.table.entries }) → ArePermittedIn scene.new.table.kept (plain scene.old) }
     ensures rest { scene.new ≡ record scene.old { table = record scene.old.table { kept = scene.new.table.kept } } }
-    ensures told { (k : Holder) → known_of scene.new.table.kept k ≡ known_of scene.old.table.kept k }
+    ensures pending { (k : Holder) → known_of scene.new.table.kept k ≡ known_of scene.old.table.kept k }
 {
     // Policy reads no status; and where the session ended, no entry of the client is left.
     if let Some(_grants) = change.new_grants() {

@@ -41,7 +41,7 @@ pub(crate) enum LockEvent<'a> {
 #[derive(Drop)]
 pub(crate) struct Applied {
     pub(crate) affected: Affected,
-    pub(crate) answer: ReplyDue,
+    pub(crate) reply_due: ReplyDue,
 }
 
 // Which reply is due at the end of the step.

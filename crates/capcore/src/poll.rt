@@ -6,9 +6,9 @@ ghost use Rattle.captable.specs.Table.{IsTable};
 ghost use Rattle.step_model.specs.Messages.{after_messages, caps_messages, end_messages, first_messages, row_messages, size_messages};
 ghost use Rattle.step_model.specs.State.{State};
 ghost use Rattle.capstep.specs.Known.{AreKnown, known_in};
-ghost use Rattle.lockmachine.specs.Scene.{Scene, told_set};
+ghost use Rattle.lockmachine.specs.Scene.{Scene, pending_of};
 
-use crate::entry_request::told_to;
+use crate::entry_request::pending_for;
 use capbits::ClientId;
 use captable::{CapTable, EntryRow};
 use inotree::Tree;
@@ -88,7 +88,7 @@ fn add_due(
 ) -> Result<(), AllocError>
     requires room { length list.old ≤ max }
     ensures ok { OnOk result ((s : Scene) → s.tree ≡ scene.now.tree
-        → (nat_lt row.now.entry.told_seq row.now.entry.seq ≡ true → known_in scene.now.table.kept row.now.holder ≡ told_set s row.now)
+        → (nat_lt row.now.entry.told_seq row.now.entry.seq ≡ true → known_in scene.now.table.kept row.now.holder ≡ pending_of s row.now)
         → list.new ≡ take max (list.old ++ row_messages s row.now)) }
 {
     let ino = row.holder.ino;
@@ -109,14 +109,14 @@ fn add_caps(
 ) -> Result<(), AllocError>
     requires room { length list.old ≤ max }
     ensures ok { OnOk result ((s : Scene)
-        → (nat_lt row.now.entry.told_seq row.now.entry.seq ≡ true → known_in table.now.kept row.now.holder ≡ told_set s row.now)
+        → (nat_lt row.now.entry.told_seq row.now.entry.seq ≡ true → known_in table.now.kept row.now.holder ≡ pending_of s row.now)
         → list.new ≡ take max (list.old ++ caps_messages s row.now)) }
     ensures few { OnOk result (length list.new ≤ max) }
 {
     let ino = row.holder.ino;
     if row.entry.told_seq < row.entry.seq {
         let seq = row.entry.seq;
-        let caps = told_to(table, row.holder);
+        let caps = pending_for(table, row.holder);
         add(list, max, Message::Caps { ino, seq, caps })?;
     }
     Ok(())

@@ -1,6 +1,6 @@
 //! The step of a recall: clients are asked to release what they have not used for longest.
 ghost use Rattle.std.specs.Prelude.{◌≡◌, IfOk, OnErr, OnOk};
-ghost use Rattle.capcore.specs.Answered.{IsAnswered};
+ghost use Rattle.capcore.specs.Replied.{IsReplied};
 ghost use Rattle.step_model.specs.Noted.{view_of};
 ghost use Rattle.policy_view.specs.Changes.{AreChanges};
 ghost use Rattle.step_model.specs.declared.event.Event.TheVariants as event;
@@ -18,7 +18,7 @@ impl World {
         count: u32,
         output: &mut StepOutput,
     ) -> Result<StepReply, AllocError>
-        ensures answered { IfOk result (λ step_reply. IsAnswered self.old (event.Recall count) step_reply self.new) }
+        ensures replied { IfOk result (λ step_reply. IsReplied self.old (event.Recall count) step_reply self.new) }
         ensures changes { OnOk result (AreChanges output.new.changes.items (view_of self.old) (view_of self.new)) }
         ensures err { OnErr result ((self.new ≡ self.old) × (output.new.changes.items ≡ output.old.changes.items)) }
     {

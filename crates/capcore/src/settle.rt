@@ -15,7 +15,7 @@ ghost use Rattle.lockmachine.specs.Scene.{plain};
 ghost use Rattle.lockmachine.specs.Scene.{scene as scene_of};
 ghost use Rattle.lockmachine.specs.Cursors.{WaitAt, may_end_by};
 ghost use Rattle.lockmachine.specs.declared.request.Request.{Request};
-ghost use Rattle.capstep.specs.Reach.{AreWalked, Reaches};
+ghost use Rattle.capstep.specs.AffectedInodes.{AreWalked, IsWidenedBy};
 ghost use Rattle.capstep.specs.Served.{changed_alone};
 ghost use Rattle.capcore.specs.Begun.{AreCountedIn, ArePermittedIn, HaveRoomFor, IsReady, MaySettle, among};
 ghost use Rattle.capcore.specs.Judged.{IsJudged};
@@ -56,17 +56,17 @@ pub fn end(scene: &mut KeptScene, affected: Affected, output: &mut StepOutput)
     match affected {
         Affected::Entry(holder) => {
             let before = scene.locks.of_ino(holder.ino);
-            let mut reached = NonEmptyInoSet::of(output.alloc(), holder.ino);
-            settle(scene, &mut reached, output);
+            let mut included = NonEmptyInoSet::of(output.alloc(), holder.ino);
+            settle(scene, &mut included, output);
             // Most steps of such events serve nobody, by which the tree could have changed, and leave these locks as they were; by
             // the same locks and the same tree the others on the inode still have all that the end would give them.
             if output.given.is_empty()
-                && reached.is_single()
+                && included.is_single()
                 && scene.locks.of_ino(holder.ino) == before
             {
-                finish_alone(scene, holder, &reached, &mut output.changes);
+                finish_alone(scene, holder, &included, &mut output.changes);
             } else {
-                finish(scene, &reached, output);
+                finish(scene, &included, output);
             }
         }
         Affected::Inodes(mut inos) => {
@@ -91,7 +91,7 @@ fn settle(scene: &mut KeptScene, affected: &mut NonEmptyInoSet, output: &mut Ste
     ensures count { length output.new.given.items + length scene.new.locks.locks.queue ≡ length scene.old.locks.locks.queue }
     ensures lead { LeadOn output.old.changes.items output.new.changes.items scene.old.tree scene.new.tree }
     ensures places { HavePlaces output.new.changes scene.new.locks.locks affected.new }
-    ensures told { (k : Holder) → known_of scene.new.table.kept k ≡ known_of scene.old.table.kept k }
+    ensures pending { (k : Holder) → known_of scene.new.table.kept k ≡ known_of scene.old.table.kept k }
     ensures permitted { ArePermittedIn scene.new.table.kept (plain scene.new) }
     ensures counted { AreCountedIn scene.new }
 {
@@ -217,8 +217,8 @@ fn serve_next(
         × (output.new.recorded.items ≡ output.old.recorded.items ++ ended ∷ [])
         × ((q : Request) → request_at scene.old.locks.locks ticket.0 ≡ Some q
         → output.new.sized.items ≡ output.old.sized.items ++ sized_in (Served q ended.outcome ∷ [])) }
-    ensures reached { (q : Request) → request_at scene.old.locks.locks ticket.0 ≡ Some q
-        → Reaches q scene.old.tree scene.new.tree scene.old.table.entries affected.old affected.new }
+    ensures included { (q : Request) → request_at scene.old.locks.locks ticket.0 ≡ Some q
+        → IsWidenedBy q scene.old.tree scene.new.tree scene.old.table.entries affected.old affected.new }
     // By the tree of before.
     ensures walked { AreWalked walked.new scene.old.tree scene.old.table.entries affected.new }
     ensures changed { (q : Request) → request_at scene.old.locks.locks ticket.0 ≡ Some q → result ≡ changed_alone q }
@@ -228,7 +228,7 @@ fn serve_next(
     ensures lead { LeadOn output.old.changes.items output.new.changes.items scene.old.tree scene.new.tree }
     ensures noted { length output.new.changes.items ≤ length output.old.changes.items + 1 }
     ensures places { output.old.changes.room + set.len affected.new ≤ output.new.changes.room + set.len affected.old }
-    ensures told { (k : Holder) → known_of scene.new.table.kept k ≡ known_of scene.old.table.kept k }
+    ensures pending { (k : Holder) → known_of scene.new.table.kept k ≡ known_of scene.old.table.kept k }
     ensures permitted { ArePermittedIn scene.new.table.kept (plain scene.new) }
     ensures counted { AreCountedIn scene.old → AreCountedIn scene.new }
 {

@@ -6,7 +6,7 @@ ghost use Rattle.step_model.specs.declared.event.Event.{Event};
 ghost use Rattle.step_model.specs.declared.row.Row.{Row};
 ghost use Rattle.step_model.specs.Direct.{direct};
 ghost use Rattle.step_model.specs.Headline.{IssuesExactly};
-ghost use Rattle.step_model.specs.Shown.{AreShown, ShowsWhatIsTold, TakesOnlySo, TakesUnshown};
+ghost use Rattle.step_model.specs.Shown.{AreShown, ShowsWhatIsPending, TakesOnlySo, TakesUnshown};
 ghost use Rattle.step_model.specs.Sound.{IsSound};
 ghost use Rattle.step_model.specs.State.{State};
 ghost use Rattle.step_model.specs.Step.{Step};
@@ -20,8 +20,8 @@ pub fn a_step_shows_what_it_tells()
 
 /// So where no message is due for an entry, its client was last shown just what it is to know; what an acknowledgement takes was
 /// missing from what was shown; and else a release and the end of a session alone take what is held.
-pub fn what_was_shown_is_what_is_told()
-    ensures shows { (rows : List Row) (s : State) → IsSound s → AreShown rows s.scene → ShowsWhatIsTold rows s.scene }
+pub fn what_was_shown_is_what_is_pending()
+    ensures shows { (rows : List Row) (s : State) → IsSound s → AreShown rows s.scene → ShowsWhatIsPending rows s.scene }
     ensures takes { (rows : List Row) (old : State) (e : Event) → IsSound old → AreShown rows old.scene
         → TakesUnshown rows old.scene e (direct old e).state.scene }
     ensures takes_only_so { (old : State) (e : Event) (new : Scene) → IssuesExactly (direct old e).state.scene new

@@ -78,7 +78,7 @@ impl Core {
     /// Takes one event, called by a pass: makes the step, adds its row to the history and says what is answered.
     pub fn apply(&mut self, pass: PassId, event: Event) -> Result<Reply, Stop>
         // A step of the rules with its row, and all else that holds of an event that is answered.
-        ensures promised { IfOk result (λ answer. IsPromised self.old pass event answer self.new) }
+        ensures promised { IfOk result (λ reply. IsPromised self.old pass event reply self.new) }
         // Else nothing has changed. The history is full exactly where it has as many rows as it may have.
         ensures full { (result ≡ Err stop_kind.Full) ↔ (length self.old.rows ≡ self.old.max_rows) }
         ensures err { OnErr result (self.new ≡ self.old) }

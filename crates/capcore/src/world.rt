@@ -9,7 +9,7 @@ ghost use Rattle.captable.specs.Table.{IsTable, Table};
 ghost use Rattle.sessiontab.specs.Calls.{with_session};
 ghost use Rattle.sessiontab.specs.Tests.{new_session_tests};
 ghost use Rattle.capcore.specs.Affected.{affected_by, is_listing, session_changed_by};
-ghost use Rattle.capcore.specs.Answered.{IsAnswered};
+ghost use Rattle.capcore.specs.Replied.{IsReplied};
 ghost use Rattle.step_model.specs.declared.outcome.Ended.{Ended as AnEnded};
 ghost use Rattle.step_model.specs.Direct.{IsDirect, Says, direct, made_event, owned_by, with_birth, with_sessions};
 ghost use Rattle.step_model.specs.History.{HasNoStray, IsOpening};
@@ -106,7 +106,7 @@ impl World {
         requires numbers { NumbersLeft self.old }
         requires table { IsTable self.old.scene.table }
         requires locks { IsLockMap self.old.scene.locks }
-        ensures answered { IfOk result (λ step_reply. IsAnswered self.old event.now step_reply self.new) }
+        ensures replied { IfOk result (λ step_reply. IsReplied self.old event.now step_reply self.new) }
         ensures changes { OnOk result (AreChanges output.new.changes.items (view_of self.old) (view_of self.new)) }
         ensures err { OnErr result ((self.new ≡ self.old) × (output.new.changes.items ≡ output.old.changes.items)) }
     {
@@ -164,7 +164,7 @@ impl World {
         requires lists { is_listing event.now ≡ false }
         requires changes_session { session_changed_by event.now ≡ None }
         requires table { IsTable self.old.scene.table }
-        ensures answered { IfOk result (λ step_reply. IsAnswered self.old event.now step_reply self.new) }
+        ensures replied { IfOk result (λ step_reply. IsReplied self.old event.now step_reply self.new) }
         ensures changes { OnOk result (AreChanges output.new.changes.items (view_of self.old) (view_of self.new)) }
         ensures err { OnErr result ((self.new ≡ self.old) × (output.new.changes.items ≡ output.old.changes.items)) }
     {
@@ -184,7 +184,7 @@ impl World {
         requires numbers { NumbersLeft self.old }
         requires table { IsTable self.old.scene.table }
         requires locks { IsLockMap self.old.scene.locks }
-        ensures answered { IfOk result (λ step_reply. IsAnswered self.old (event_of lock_event.now) step_reply self.new) }
+        ensures replied { IfOk result (λ step_reply. IsReplied self.old (event_of lock_event.now) step_reply self.new) }
         ensures changes { OnOk result (AreChanges output.new.changes.items (view_of self.old) (view_of self.new)) }
         ensures err { OnErr result ((self.new ≡ self.old) × (output.new.changes.items ≡ output.old.changes.items)) }
     {
@@ -192,9 +192,9 @@ impl World {
             output.changes.clear();
             return Ok(StepReply::alone(*self.parts.messages.allocator(), rejection.into_reply()));
         }
-        let Applied { affected, answer } = self.parts.begin(lock_event, output)?;
+        let Applied { affected, reply_due } = self.parts.begin(lock_event, output)?;
         end(&mut self.parts.scene, affected, output);
-        Ok(self.parts.close(answer, output))
+        Ok(self.parts.close(reply_due, output))
     }
 
     // A step that gives a client the first messages that are due to it.
@@ -205,7 +205,7 @@ impl World {
         output: &mut StepOutput,
     ) -> Result<StepReply, AllocError>
         requires table { IsTable self.old.scene.table }
-        ensures answered { IfOk result (λ step_reply. IsAnswered self.old (event.Poll client max) step_reply self.new) }
+        ensures replied { IfOk result (λ step_reply. IsReplied self.old (event.Poll client max) step_reply self.new) }
         ensures changes { OnOk result (AreChanges output.new.changes.items (view_of self.old) (view_of self.new)) }
         ensures err { OnErr result ((self.new ≡ self.old) × (output.new.changes.items ≡ output.old.changes.items)) }
     {
@@ -442,7 +442,7 @@ fn lookup(
 ) -> Reply
     ensures { (table : Table) (locks : LockMap) (messages : List AnEnded) →
         let s : State = record { scene = scene fs.now tree.now sessions.now table locks; messages = messages } in
-        Says result ≡ (direct s (event.Lookup client dir name.now)).answer }
+        Says result ≡ (direct s (event.Lookup client dir name.now)).reply_due }
 {
     if let Some(refusal) = basic_refusal(sessions, tree, Holder { client, ino: dir }) {
         return Reply::Refused(refusal);

@@ -12,7 +12,7 @@ use Rattle.policy_analysis.specs.declared.differences.Difference.{Difference}
 use Rattle.policy_analysis.specs.declared.differences.Difference.TheVariants.{LargeUid, OtherFileSystem}
 use Rattle.policy_analysis.specs.declared.differences.Otherwise.{Otherwise}
 use Rattle.policy_analysis.specs.Differences.{allows_there, answered_otherwise, by_bits, has_flag, is_large, of_access, on_its_fs, only_if, otherwise_at}
-use Rattle.policy_analysis.specs.Differences.{said_of, why_allowed, why_denied}
+use Rattle.policy_analysis.specs.Differences.{otherwise_of, why_allowed, why_denied}
 use Rattle.policy_analysis.specs.Left.{is_for_all, left_by, left_to_client}
 use Rattle.policy_analysis.proofs.DifferenceReasons.{each_has_one}
 use Rattle.capexplain.specs.Lines.{HasGrant}
@@ -70,7 +70,7 @@ abbrev IsPlaced : Otherwise → Type 0
 IsPlaced other = (other.grant < 2 ^ 32) × OfGrant other.by_grant × OfAccess other.by_access
 
 module _ (q : Question) (grants : List Grant) (few : length grants < 2 ^ 32) where
-  found : (why : ℕ → Grant → Otherwise) → ((n : ℕ) (g : Grant) → n < 2 ^ 32 → IsPlaced (why n g)) → (i : ℕ) (g : Option Grant) (other : Otherwise) → i < length grants → said_of why i g ≡ Some other → IsPlaced other
+  found : (why : ℕ → Grant → Otherwise) → ((n : ℕ) (g : Grant) → n < 2 ^ 32 → IsPlaced (why n g)) → (i : ℕ) (g : Option Grant) (other : Otherwise) → i < length grants → otherwise_of why i g ≡ Some other → IsPlaced other
   found why placed i None other inside same = absurd (let e : None ≡ Some other = same in cc)
   found why placed i (Some g) other inside same = let is : why (i + 1) g ≡ other = cc in subst IsPlaced is (placed (i + 1) g (omega (arith, inside, few)))
 

@@ -14,7 +14,7 @@ use Rattle.policy_analysis.specs.declared.witness.Witness.{Witness}
 use Rattle.capexplain.specs.Comparing.{comparison, found_line, witness_text}
 use Rattle.capexplain.specs.EventTexts.{groups_text}
 use Rattle.capexplain.specs.Explaining.{path_text}
-use Rattle.capexplain.specs.Lines.{IsTold, SameIf, TellTheSame}
+use Rattle.capexplain.specs.Lines.{IsReported, SameIf, TellTheSame}
 use Rattle.capexplain.specs.PartTexts.{mode_text}
 use Rattle.capexplain.specs.Quoting.{quoted}
 use Rattle.capexplain.proofs.Answered.{parted}
@@ -140,21 +140,21 @@ end_of w s = codes "grant " ++ (decimal w.grant ++ 10 ∷ s)
 laid_out : (w : Witness) (s : List ℕ) → (witness_text w ++ codes "\n") ++ s ≡ access_word w.access ++ 32 ∷ (quoted (path_text w.path.now) ++ 32 ∷ (codes "fs " ++ (w.fs ++ 32 ∷ asker_of w (owner_of w (end_of w s)))))
 laid_out w s = simp append_assoc
 
-one_asker : (v w : Witness) (s t : List ℕ) → IsTold v → IsTold w → asker_of v s ≡ asker_of w t → (v.caller ≡ w.caller) × (s ≡ t)
-one_asker v w s t told too same =
-    let uid = number (codes "uid ") v.caller.uid w.caller.uid (32 ∷ (codes "gid " ++ (decimal v.caller.gid ++ 32 ∷ (codes "groups " ++ (groups_text v.caller.groups ++ 32 ∷ s))))) (32 ∷ (codes "gid " ++ (decimal w.caller.gid ++ 32 ∷ (codes "groups " ++ (groups_text w.caller.groups ++ 32 ∷ t))))) told.uid too.uid refl refl same in
-    let gid = number (codes " gid ") v.caller.gid w.caller.gid (32 ∷ (codes "groups " ++ (groups_text v.caller.groups ++ 32 ∷ s))) (32 ∷ (codes "groups " ++ (groups_text w.caller.groups ++ 32 ∷ t))) told.gid too.gid refl refl uid.1 in
-    let all = groups v.caller.groups w.caller.groups s t told.groups too.groups (append_cancel_left (codes " groups ") (groups_text v.caller.groups ++ 32 ∷ s) (groups_text w.caller.groups ++ 32 ∷ t) gid.1) in
+one_asker : (v w : Witness) (s t : List ℕ) → IsReported v → IsReported w → asker_of v s ≡ asker_of w t → (v.caller ≡ w.caller) × (s ≡ t)
+one_asker v w s t reported too same =
+    let uid = number (codes "uid ") v.caller.uid w.caller.uid (32 ∷ (codes "gid " ++ (decimal v.caller.gid ++ 32 ∷ (codes "groups " ++ (groups_text v.caller.groups ++ 32 ∷ s))))) (32 ∷ (codes "gid " ++ (decimal w.caller.gid ++ 32 ∷ (codes "groups " ++ (groups_text w.caller.groups ++ 32 ∷ t))))) reported.uid too.uid refl refl same in
+    let gid = number (codes " gid ") v.caller.gid w.caller.gid (32 ∷ (codes "groups " ++ (groups_text v.caller.groups ++ 32 ∷ s))) (32 ∷ (codes "groups " ++ (groups_text w.caller.groups ++ 32 ∷ t))) reported.gid too.gid refl refl uid.1 in
+    let all = groups v.caller.groups w.caller.groups s t reported.groups too.groups (append_cancel_left (codes " groups ") (groups_text v.caller.groups ++ 32 ∷ s) (groups_text w.caller.groups ++ 32 ∷ t) gid.1) in
     let one : v.caller.uid ≡ w.caller.uid = uid.0 in
     let two : v.caller.gid ≡ w.caller.gid = gid.0 in
     let three : v.caller.groups ≡ w.caller.groups = all.0 in
     (λ i. record { uid = one i; gid = two i; groups = three i }, all.1)
 
-one_owner : (v w : Witness) (s t : List ℕ) → IsTold v → IsTold w → owner_of v s ≡ owner_of w t → (v.attr ≡ w.attr) × (s ≡ t)
-one_owner v w s t told too same =
-    let uid = number (codes "owner ") v.attr.uid w.attr.uid (32 ∷ (codes "group " ++ (decimal v.attr.gid ++ 32 ∷ (codes "mode " ++ (mode_text v.attr.mode ++ 32 ∷ s))))) (32 ∷ (codes "group " ++ (decimal w.attr.gid ++ 32 ∷ (codes "mode " ++ (mode_text w.attr.mode ++ 32 ∷ t))))) told.owner too.owner refl refl same in
-    let gid = number (codes " group ") v.attr.gid w.attr.gid (32 ∷ (codes "mode " ++ (mode_text v.attr.mode ++ 32 ∷ s))) (32 ∷ (codes "mode " ++ (mode_text w.attr.mode ++ 32 ∷ t))) told.group too.group refl refl uid.1 in
-    let bits = mode v.attr.mode w.attr.mode (32 ∷ s) (32 ∷ t) told.mode too.mode (append_cancel_left (codes " mode ") (mode_text v.attr.mode ++ 32 ∷ s) (mode_text w.attr.mode ++ 32 ∷ t) gid.1) in
+one_owner : (v w : Witness) (s t : List ℕ) → IsReported v → IsReported w → owner_of v s ≡ owner_of w t → (v.attr ≡ w.attr) × (s ≡ t)
+one_owner v w s t reported too same =
+    let uid = number (codes "owner ") v.attr.uid w.attr.uid (32 ∷ (codes "group " ++ (decimal v.attr.gid ++ 32 ∷ (codes "mode " ++ (mode_text v.attr.mode ++ 32 ∷ s))))) (32 ∷ (codes "group " ++ (decimal w.attr.gid ++ 32 ∷ (codes "mode " ++ (mode_text w.attr.mode ++ 32 ∷ t))))) reported.owner too.owner refl refl same in
+    let gid = number (codes " group ") v.attr.gid w.attr.gid (32 ∷ (codes "mode " ++ (mode_text v.attr.mode ++ 32 ∷ s))) (32 ∷ (codes "mode " ++ (mode_text w.attr.mode ++ 32 ∷ t))) reported.group too.group refl refl uid.1 in
+    let bits = mode v.attr.mode w.attr.mode (32 ∷ s) (32 ∷ t) reported.mode too.mode (append_cancel_left (codes " mode ") (mode_text v.attr.mode ++ 32 ∷ s) (mode_text w.attr.mode ++ 32 ∷ t) gid.1) in
     let one : v.attr.uid ≡ w.attr.uid = uid.0 in
     let two : v.attr.gid ≡ w.attr.gid = gid.0 in
     let three : v.attr.mode ≡ w.attr.mode = bits.0 in
@@ -162,37 +162,37 @@ one_owner v w s t told too same =
     let rest : s ≡ t = cc in
     (λ i. record { uid = one i; gid = two i; mode = three i }, rest)
 
-one_end : (v w : Witness) (s t : List ℕ) → IsTold v → IsTold w → end_of v s ≡ end_of w t → (v.grant ≡ w.grant) × (s ≡ t)
-one_end v w s t told too same =
-    let grant = number (codes "grant ") v.grant w.grant (10 ∷ s) (10 ∷ t) told.grant too.grant refl refl same in
+one_end : (v w : Witness) (s t : List ℕ) → IsReported v → IsReported w → end_of v s ≡ end_of w t → (v.grant ≡ w.grant) × (s ≡ t)
+one_end v w s t reported too same =
+    let grant = number (codes "grant ") v.grant w.grant (10 ∷ s) (10 ∷ t) reported.grant too.grant refl refl same in
     let tails : 10 ∷ s ≡ 10 ∷ t = grant.1 in
     let rest : s ≡ t = cc in
     (grant.0, rest)
 
-pub one_witness : (v w : Witness) (s t : List ℕ) → IsTold v → IsTold w → (witness_text v ++ codes "\n") ++ s ≡ (witness_text w ++ codes "\n") ++ t → TellTheSame v w × (s ≡ t)
-one_witness v w s t told too same =
-    let asked = parted v.access w.access (path_text v.path.now) (path_text w.path.now) (codes "fs " ++ (v.fs ++ 32 ∷ asker_of v (owner_of v (end_of v s)))) (codes "fs " ++ (w.fs ++ 32 ∷ asker_of w (owner_of w (end_of w t)))) told.access too.access
+pub one_witness : (v w : Witness) (s t : List ℕ) → IsReported v → IsReported w → (witness_text v ++ codes "\n") ++ s ≡ (witness_text w ++ codes "\n") ++ t → TellTheSame v w × (s ≡ t)
+one_witness v w s t reported too same =
+    let asked = parted v.access w.access (path_text v.path.now) (path_text w.path.now) (codes "fs " ++ (v.fs ++ 32 ∷ asker_of v (owner_of v (end_of v s)))) (codes "fs " ++ (w.fs ++ 32 ∷ asker_of w (owner_of w (end_of w t)))) reported.access too.access
     (sym (laid_out v s) ∙ same ∙ laid_out w t) in
-    let fs = bare v.fs w.fs (asker_of v (owner_of v (end_of v s))) (asker_of w (owner_of w (end_of w t))) told.fs too.fs (append_cancel_left (codes "fs ") (v.fs ++ 32 ∷ asker_of v (owner_of v (end_of v s))) (w.fs ++ 32 ∷ asker_of w (owner_of w (end_of w t))) asked.2) in
-    let asker = one_asker v w (owner_of v (end_of v s)) (owner_of w (end_of w t)) told too fs.1 in
-    let owner = one_owner v w (end_of v s) (end_of w t) told too asker.1 in
-    let end = one_end v w s t told too owner.1 in
+    let fs = bare v.fs w.fs (asker_of v (owner_of v (end_of v s))) (asker_of w (owner_of w (end_of w t))) reported.fs too.fs (append_cancel_left (codes "fs ") (v.fs ++ 32 ∷ asker_of v (owner_of v (end_of v s))) (w.fs ++ 32 ∷ asker_of w (owner_of w (end_of w t))) asked.2) in
+    let asker = one_asker v w (owner_of v (end_of v s)) (owner_of w (end_of w t)) reported too fs.1 in
+    let owner = one_owner v w (end_of v s) (end_of w t) reported too asker.1 in
+    let end = one_end v w s t reported too owner.1 in
     ((asked.0, asked.1, fs.0, asker.0, owner.0, end.0), end.1)
 
 -- ---- both lines
 
-one_loss : (l m : Option Witness) → IfSome l IsTold → IfSome m IsTold → found_line (codes "lost: ") l ≡ found_line (codes "lost: ") m → SameIf l m
-one_loss None None told too same = tt
-one_loss None (Some w) told too same = clash 0 108 (omega arith) (ap first_byte same)
-one_loss (Some v) None told too same = clash 0 108 (omega arith) (sym (ap first_byte same))
-one_loss (Some v) (Some w) told too same =
+one_loss : (l m : Option Witness) → IfSome l IsReported → IfSome m IsReported → found_line (codes "lost: ") l ≡ found_line (codes "lost: ") m → SameIf l m
+one_loss None None reported too same = tt
+one_loss None (Some w) reported too same = clash 0 108 (omega arith) (ap first_byte same)
+one_loss (Some v) None reported too same = clash 0 108 (omega arith) (sym (ap first_byte same))
+one_loss (Some v) (Some w) reported too same =
     let behind = append_cancel_left (codes "lost: ") (witness_text v ++ codes "\n") (witness_text w ++ codes "\n") same in
-    (one_witness v w [] [] told too (ap (λ (r : List ℕ). r ++ []) behind)).0
+    (one_witness v w [] [] reported too (ap (λ (r : List ℕ). r ++ []) behind)).0
 
 gained_line : (w : Witness) (l : Option Witness) → comparison (Some w) l ≡ codes "gained: " ++ ((witness_text w ++ codes "\n") ++ found_line (codes "lost: ") l)
 gained_line w l = refl
 
-pub one_comparison : (g h l m : Option Witness) → IfSome g IsTold → IfSome h IsTold → IfSome l IsTold → IfSome m IsTold → comparison g l ≡ comparison h m → SameIf g h × SameIf l m
+pub one_comparison : (g h l m : Option Witness) → IfSome g IsReported → IfSome h IsReported → IfSome l IsReported → IfSome m IsReported → comparison g l ≡ comparison h m → SameIf g h × SameIf l m
 one_comparison None None None None a b c d same = (tt, tt)
 one_comparison None None None (Some w) a b c d same = clash 108 116 (omega arith) (sym (ap first_byte same))
 one_comparison None None (Some v) None a b c d same = clash 108 116 (omega arith) (ap first_byte same)

@@ -14,9 +14,9 @@ use Rattle.policy_analysis.specs.declared.unread.Unread.{Unread}
 use Rattle.policy_analysis.specs.declared.unread.Unread.TheVariants.{AnyFileSystem, Order, WhiteSpace}
 use Rattle.capspec.specs.Items.{key_name as name}
 use Rattle.capexplain.specs.Comparing.{found_line, witness_text}
-use Rattle.capexplain.specs.Found.{Found, HasLine, IsToldIf, SameFound, SameOfGrant, all_found, found_by, found_if}
+use Rattle.capexplain.specs.Found.{Found, HasLine, IsReportedIf, SameFound, SameOfGrant, all_found, found_by, found_if}
 use Rattle.capexplain.specs.Found.Found.{covered, nothing, stands, undone, unread}
-use Rattle.capexplain.specs.Linting.{covered_text, finding_lines, nothing_text, said_if, stands_line, unread_text}
+use Rattle.capexplain.specs.Linting.{covered_text, finding_lines, nothing_text, reported_if, stands_line, unread_text}
 use Rattle.capexplain.proofs.Answered.{number_and}
 use Rattle.capexplain.proofs.Compared.{one_witness}
 use Rattle.capexplain.proofs.Quoted.{clash, first_byte}
@@ -24,10 +24,10 @@ use Rattle.capexplain.proofs.Quoted.{clash, first_byte}
 -- ---- a line for each thing
 
 abbrev pub line_of : ℕ → Found → List ℕ
-line_of grant covered = said_if true grant covered_text
-line_of grant nothing = said_if true grant nothing_text
-line_of grant (undone w) = said_if true grant (codes ": ") ++ found_line (codes "root_squash undone, ") (Some w)
-line_of grant unread = said_if true grant unread_text
+line_of grant covered = reported_if true grant covered_text
+line_of grant nothing = reported_if true grant nothing_text
+line_of grant (undone w) = reported_if true grant (codes ": ") ++ found_line (codes "root_squash undone, ") (Some w)
+line_of grant unread = reported_if true grant unread_text
 line_of grant (stands why) = stands_line grant (Some why)
 
 abbrev pub thing_line : ℕ × Found → List ℕ
@@ -64,9 +64,9 @@ module _ (line : ℕ × Found → List ℕ) (grant : ℕ) where
       (both (found_by undone w) (found_if c unread ++ found_by stands why) _ _ (by_value undone w)
       (both (found_if c unread) (found_by stands why) _ _ (by_test c unread) (by_value stands why))))
 
-question : (grant : ℕ) (w : Option Witness) (rest : List ℕ) → if_some thing_line grant undone w ++ rest ≡ said_if (is_some w) grant (codes ": ") ++ (found_line (codes "root_squash undone, ") w ++ rest)
+question : (grant : ℕ) (w : Option Witness) (rest : List ℕ) → if_some thing_line grant undone w ++ rest ≡ reported_if (is_some w) grant (codes ": ") ++ (found_line (codes "root_squash undone, ") w ++ rest)
 question grant None rest = refl
-question grant (Some w) rest = append_assoc (said_if true grant (codes ": ")) (found_line (codes "root_squash undone, ") (Some w)) rest
+question grant (Some w) rest = append_assoc (reported_if true grant (codes ": ")) (found_line (codes "root_squash undone, ") (Some w)) rest
 
 reason_line : (grant : ℕ) (why : Option Unread) → if_some thing_line grant stands why ≡ stands_line grant why
 reason_line grant None = refl
@@ -74,11 +74,11 @@ reason_line grant (Some why) = refl
 
 pub all_lines : (f : Finding) (why : Option Unread) → flat_map thing_line (all_found f why) ≡ finding_lines f why
 all_lines f why =
-    let front : List ℕ → List ℕ = λ rest. said_if f.is_redundant f.grant covered_text ++ (said_if f.allows_nothing f.grant nothing_text ++ rest) in
-    let no_text : List ℕ = said_if (not f.has_ceph_text) f.grant unread_text in
+    let front : List ℕ → List ℕ = λ rest. reported_if f.is_redundant f.grant covered_text ++ (reported_if f.allows_nothing f.grant nothing_text ++ rest) in
+    let no_text : List ℕ = reported_if (not f.has_ceph_text) f.grant unread_text in
     in_order thing_line f.grant f.is_redundant f.allows_nothing (not f.has_ceph_text) f.undoing why
     ∙ ap front (question f.grant f.undoing (no_text ++ if_some thing_line f.grant stands why))
-    ∙ ap (λ (rest : List ℕ). front (said_if (is_some f.undoing) f.grant (codes ": ") ++ (found_line (codes "root_squash undone, ") f.undoing ++ (no_text ++ rest)))) (reason_line f.grant why)
+    ∙ ap (λ (rest : List ℕ). front (reported_if (is_some f.undoing) f.grant (codes ": ") ++ (found_line (codes "root_squash undone, ") f.undoing ++ (no_text ++ rest)))) (reason_line f.grant why)
 
 -- ---- how a line begins
 
@@ -98,11 +98,11 @@ said (stands why) = codes "not read by Ceph 16 as it stands, which takes " ++ re
 abbrev behind_number : ℕ → List ℕ → List ℕ
 behind_number grant more = codes "grant " ++ (decimal grant ++ 58 ∷ 32 ∷ more)
 
-one_text : (grant : ℕ) (text s : List ℕ) → said_if true grant text ++ s ≡ codes "grant " ++ (decimal grant ++ (text ++ s))
+one_text : (grant : ℕ) (text s : List ℕ) → reported_if true grant text ++ s ≡ codes "grant " ++ (decimal grant ++ (text ++ s))
 one_text grant text s = ap (λ (r : List ℕ). codes "grant " ++ r) (append_assoc (decimal grant) text s)
 
-two_texts : (grant : ℕ) (text more s : List ℕ) → (said_if true grant text ++ more) ++ s ≡ codes "grant " ++ (decimal grant ++ (text ++ (more ++ s)))
-two_texts grant text more s = append_assoc (said_if true grant text) more s ∙ one_text grant text (more ++ s)
+two_texts : (grant : ℕ) (text more s : List ℕ) → (reported_if true grant text ++ more) ++ s ≡ codes "grant " ++ (decimal grant ++ (text ++ (more ++ s)))
+two_texts grant text more s = append_assoc (reported_if true grant text) more s ∙ one_text grant text (more ++ s)
 
 laid_out : (grant : ℕ) (found : Found) (s : List ℕ) → line_of grant found ++ s ≡ behind_number grant (said found ++ s)
 laid_out grant covered s = one_text grant covered_text s
@@ -189,31 +189,31 @@ has_tag (undone w) s = refl
 has_tag unread s = refl
 has_tag (stands why) s = refl
 
-one_said : (x y : Found) (s t : List ℕ) → IsToldIf x → IsToldIf y → said x ++ s ≡ said y ++ t → SameFound x y × (s ≡ t)
-one_said covered covered s t told too same = (tt, append_cancel_left (said covered) s t same)
-one_said nothing nothing s t told too same = (tt, append_cancel_left (said nothing) s t same)
-one_said (undone v) (undone w) s t told too same =
-    one_witness v w s t told too (append_cancel_left (codes "root_squash undone, ") ((witness_text v ++ codes "\n") ++ s) ((witness_text w ++ codes "\n") ++ t) same)
-one_said unread unread s t told too same = (tt, append_cancel_left (said unread) s t same)
-one_said (stands why) (stands other) s t told too same =
+one_said : (x y : Found) (s t : List ℕ) → IsReportedIf x → IsReportedIf y → said x ++ s ≡ said y ++ t → SameFound x y × (s ≡ t)
+one_said covered covered s t reported too same = (tt, append_cancel_left (said covered) s t same)
+one_said nothing nothing s t reported too same = (tt, append_cancel_left (said nothing) s t same)
+one_said (undone v) (undone w) s t reported too same =
+    one_witness v w s t reported too (append_cancel_left (codes "root_squash undone, ") ((witness_text v ++ codes "\n") ++ s) ((witness_text w ++ codes "\n") ++ t) same)
+one_said unread unread s t reported too same = (tt, append_cancel_left (said unread) s t same)
+one_said (stands why) (stands other) s t reported too same =
     one_reason why other s t (append_cancel_left (codes "not read by Ceph 16 as it stands, which takes ") (reason why ++ s) (reason other ++ t) same)
-one_said x y s t told too same = absurd (let e : tag x ≡ tag y = sym (has_tag x s) ∙ ap tag_at same ∙ has_tag y t in omega (arith, e))
+one_said x y s t reported too same = absurd (let e : tag x ≡ tag y = sym (has_tag x s) ∙ ap tag_at same ∙ has_tag y t in omega (arith, e))
 
 pub one_thing : (x y : ℕ × Found) (s t : List ℕ) → HasLine x → HasLine y → thing_line x ++ s ≡ thing_line y ++ t → SameOfGrant x y × (s ≡ t)
-one_thing x y s t told too same =
-    let grant = number_and 58 32 x.0 y.0 (said x.1 ++ s) (said y.1 ++ t) refl refl (omega (arith, told.0)) (omega (arith, too.0))
+one_thing x y s t reported too same =
+    let grant = number_and 58 32 x.0 y.0 (said x.1 ++ s) (said y.1 ++ t) refl refl (omega (arith, reported.0)) (omega (arith, too.0))
     (append_cancel_left (codes "grant ") _ _ (sym (laid_out x.0 x.1 s) ∙ same ∙ laid_out y.0 y.1 t)) in
-    let found = one_said x.1 y.1 s t told.1 too.1 grant.1 in
+    let found = one_said x.1 y.1 s t reported.1 too.1 grant.1 in
     ((grant.0, found.0), found.1)
 
 pub one_list : (xs ys : List (ℕ × Found)) → All HasLine xs → All HasLine ys → flat_map thing_line xs ≡ flat_map thing_line ys → AllZip SameOfGrant xs ys
-one_list [] [] told too same = tt
-one_list [] (y ∷ ys) told too same = clash 0 103 (omega arith) (ap first_byte same ∙ begins y (flat_map thing_line ys))
-one_list (x ∷ xs) [] told too same = clash 0 103 (omega arith) (sym (ap first_byte same) ∙ begins x (flat_map thing_line xs))
-one_list (x ∷ xs) (y ∷ ys) told too same =
-    let both = one_thing x y (flat_map thing_line xs) (flat_map thing_line ys) (All-head HasLine x xs told) (All-head HasLine y ys too) same in
-    (both.0, one_list xs ys (All-tail HasLine x xs told) (All-tail HasLine y ys too) both.1)
+one_list [] [] reported too same = tt
+one_list [] (y ∷ ys) reported too same = clash 0 103 (omega arith) (ap first_byte same ∙ begins y (flat_map thing_line ys))
+one_list (x ∷ xs) [] reported too same = clash 0 103 (omega arith) (sym (ap first_byte same) ∙ begins x (flat_map thing_line xs))
+one_list (x ∷ xs) (y ∷ ys) reported too same =
+    let both = one_thing x y (flat_map thing_line xs) (flat_map thing_line ys) (All-head HasLine x xs reported) (All-head HasLine y ys too) same in
+    (both.0, one_list xs ys (All-tail HasLine x xs reported) (All-tail HasLine y ys too) both.1)
 
 pub one_finding : (f g : Finding) (why other : Option Unread) → All HasLine (all_found f why) → All HasLine (all_found g other) → finding_lines f why ≡ finding_lines g other
     → AllZip SameOfGrant (all_found f why) (all_found g other)
-one_finding f g why other told too same = one_list (all_found f why) (all_found g other) told too (all_lines f why ∙ same ∙ sym (all_lines g other))
+one_finding f g why other reported too same = one_list (all_found f why) (all_found g other) reported too (all_lines f why ∙ same ∙ sym (all_lines g other))

@@ -14,7 +14,7 @@ use Rattle.policy_analysis.specs.declared.differences.Otherwise.{Otherwise}
 use Rattle.capexplain.specs.Explaining.{path_text}
 use Rattle.capexplain.specs.Lines.{answer_line}
 use Rattle.capexplain.specs.PartTexts.{mode_text}
-use Rattle.capexplain.specs.Remarked.{HasReason, IsRemarked, LeaveAlike, is_of_grant}
+use Rattle.capexplain.specs.Remarked.{AreLeftAlike, HasReason, IsRemarked, is_of_grant}
 use Rattle.capexplain.specs.Remarks.{difference_line, difference_text, inode_text, left_line, otherwise_lines, remarked_text, there_text}
 use Rattle.capexplain.proofs.Answered.{number_and, number_to, one_answer_to}
 use Rattle.capexplain.proofs.Compared.{mode}
@@ -152,7 +152,7 @@ one_owner a b s t small also same =
     (λ i. record { uid = one i; gid = two i; mode = three i }, bits.1)
 
 one_left : (a b : Attr) (left also : Option ℕ) (s t : List ℕ) → IsSmall a → IsSmall b → IfSome left (λ grant. grant < 2 ^ 32) → IfSome also (λ grant. grant < 2 ^ 32) → (first_byte s ≡ 110 → ⊥) → (first_byte t ≡ 110 → ⊥)
-    → left_line a left ++ s ≡ left_line b also ++ t → LeaveAlike a left b also × (s ≡ t)
+    → left_line a left ++ s ≡ left_line b also ++ t → AreLeftAlike a left b also × (s ≡ t)
 one_left a b None None s t p q small too unlike likewise same = (tt, same)
 one_left a b None (Some h) s t p q small too unlike likewise same = absurd (unlike (ap first_byte (same ∙ laid_out b h t)))
 one_left a b (Some g) None s t p q small too unlike likewise same = absurd (likewise (ap first_byte (sym same ∙ laid_out a g s)))
@@ -183,7 +183,7 @@ in_lines q v left other s =
 
 -- what the two texts tell
 abbrev pub TellAlike : Question → Question → Verdict → Verdict → Option ℕ → Option ℕ → Option Otherwise → Option Otherwise → Type 0
-TellAlike q r v w left also other further = (q.access ≡ r.access) × (path_text q.path ≡ path_text r.path) × (v ≡ w) × LeaveAlike q.attr left r.attr also × (other ≡ further)
+TellAlike q r v w left also other further = (q.access ≡ r.access) × (path_text q.path ≡ path_text r.path) × (v ≡ w) × AreLeftAlike q.attr left r.attr also × (other ≡ further)
 
 pub one_remark_to : (q r : Question) (v w : Verdict) (left also : Option ℕ) (other further : Option Otherwise) (s t : List ℕ) → IsRemarked q v left other → IsRemarked r w also further → IsOther s → IsOther t
     → remarked_text q v left other ++ s ≡ remarked_text r w also further ++ t → TellAlike q r v w left also other further × (s ≡ t)

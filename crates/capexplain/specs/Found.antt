@@ -4,7 +4,7 @@ use Rattle.std.specs.List.{AllZip}
 use Rattle.policy_analysis.specs.declared.finding.Finding.{Finding}
 use Rattle.policy_analysis.specs.declared.witness.Witness.{Witness}
 use Rattle.policy_analysis.specs.declared.unread.Unread.{Unread}
-use Rattle.capexplain.specs.Lines.{IsTold, TellTheSame}
+use Rattle.capexplain.specs.Lines.{IsReported, TellTheSame}
 use Rattle.capexplain.specs.Linting.{finding_lines}
 
 -- the others cover it; it allows nothing; this question undoes its root_squash; Ceph 16 reads no text of it, or not the one that stands
@@ -32,13 +32,13 @@ all_found f why =
 -- ---- one finding for a line
 
 -- the question of one that has one can be told
-abbrev pub IsToldIf : Found → Type 0
-IsToldIf (undone w) = IsTold w
-IsToldIf found = Unit {0}
+abbrev pub IsReportedIf : Found → Type 0
+IsReportedIf (undone w) = IsReported w
+IsReportedIf found = Unit {0}
 
 -- the same, and the number of the grant has 32 bits
 abbrev pub HasLine : ℕ × Found → Type 0
-HasLine x = (x.0 < 2 ^ 32) × IsToldIf x.1
+HasLine x = (x.0 < 2 ^ 32) × IsReportedIf x.1
 
 -- the two are the same; of questions it is enough that they tell the same
 abbrev pub SameFound : Found → Found → Type 0

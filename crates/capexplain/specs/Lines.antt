@@ -46,7 +46,7 @@ OneUnread = (c d : List ℕ) (f g : SpecFault) → f.at < 2 ^ 64 → g.at < 2 ^ 
 -- ---- comparisons
 
 -- its numbers have 32 bits and its mode 12, and the name of its file system stands without quotes, as each does
-pub record IsTold (w : Witness) : Type 0 where
+pub record IsReported (w : Witness) : Type 0 where
   pub access : HasNumber w.access
   pub fs : list_all is_plain w.fs ≡ true
   pub uid : w.caller.uid < 2 ^ 32
@@ -68,4 +68,4 @@ SameIf v w = ⊥
 
 -- lines of a comparison that are the same tell the same gain and the same loss
 abbrev pub OneComparison : Type 0
-OneComparison = (g h l m : Option Witness) → IfSome g IsTold → IfSome h IsTold → IfSome l IsTold → IfSome m IsTold → comparison g l ≡ comparison h m → SameIf g h × SameIf l m
+OneComparison = (g h l m : Option Witness) → IfSome g IsReported → IfSome h IsReported → IfSome l IsReported → IfSome m IsReported → comparison g l ≡ comparison h m → SameIf g h × SameIf l m

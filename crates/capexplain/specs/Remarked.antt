@@ -49,12 +49,12 @@ abbrev pub EachIsRemarked : Type 0
 EachIsRemarked = (q : Question) (grants : List Grant) → HasNumbers q grants → IsRemarked q (verdict_of q grants) (left_to_client q grants) (answered_otherwise q grants)
 
 -- the same grant leaves the same inode to the client, or none does
-abbrev pub LeaveAlike : Attr → Option ℕ → Attr → Option ℕ → Type 0
-LeaveAlike attr None another None = Unit {0}
-LeaveAlike attr (Some grant) another (Some other) = (attr ≡ another) × (grant ≡ other)
-LeaveAlike attr left another also = ⊥
+abbrev pub AreLeftAlike : Attr → Option ℕ → Attr → Option ℕ → Type 0
+AreLeftAlike attr None another None = Unit {0}
+AreLeftAlike attr (Some grant) another (Some other) = (attr ≡ another) × (grant ≡ other)
+AreLeftAlike attr left another also = ⊥
 
 -- texts that are the same tell the same answer, and the same beside it; of paths the text counts
 abbrev pub OneRemark : Type 0
 OneRemark = (q r : Question) (v w : Verdict) (left also : Option ℕ) (other further : Option Otherwise) → IsRemarked q v left other → IsRemarked r w also further
-    → remarked_text q v left other ≡ remarked_text r w also further → (q.access ≡ r.access) × (path_text q.path ≡ path_text r.path) × (v ≡ w) × LeaveAlike q.attr left r.attr also × (other ≡ further)
+    → remarked_text q v left other ≡ remarked_text r w also further → (q.access ≡ r.access) × (path_text q.path ≡ path_text r.path) × (v ≡ w) × AreLeftAlike q.attr left r.attr also × (other ≡ further)

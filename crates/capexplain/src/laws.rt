@@ -13,7 +13,7 @@ ghost use Rattle.capexplain.specs.Standing.{standing_line, unread_line};
 
 /// No two texts are shown the same by `print_quoted`; and where a space stands behind, as behind a path in a line, no text can be taken
 /// for another with a part of what follows, or for a part of another.
-pub fn one_text_for_what_is_shown()
+pub fn one_text_for_what_is_quoted()
     ensures alone { (xs ys : List ℕ) → quoted xs ≡ quoted ys → xs ≡ ys }
     ensures before_a_space { (xs ys s t : List ℕ)
         → quoted xs ++ (codes " " ++ s) ≡ quoted ys ++ (codes " " ++ t) → (xs ≡ ys) × (s ≡ t) }

@@ -36,7 +36,7 @@ pub use explain_more::remarked_lines;
 pub use explain_object::answer_object;
 pub use explain_text::{explain_line, print_failures, print_path};
 pub use history_text::{append_audit_line, audit_line};
-pub use laws::{one_answer_for_a_line, one_text_for_what_is_shown};
+pub use laws::{one_answer_for_a_line, one_text_for_what_is_quoted};
 pub use lint_object::print_finding_object;
 pub use lint_text::print_finding;
 pub use quoting::{print_quoted, print_quoted_path};

@@ -1,7 +1,7 @@
 //! The lines that say what is found of a grant.
 
 ghost use Rattle.std.specs.Prelude.{◌≡◌, ◌++◌, OnOk};
-ghost use Rattle.capexplain.specs.Linting.{finding_lines, said_if, stands_line};
+ghost use Rattle.capexplain.specs.Linting.{finding_lines, reported_if, stands_line};
 
 use crate::compare_text::print_found;
 use capbits::{print, print_numbered, print_str};
@@ -42,7 +42,7 @@ pub fn print_finding(
 
 // Appends this of the grant, where the test is passed.
 fn print_if(text: &mut Vec<u8>, test: bool, grant: u32, more: &str) -> Result<(), AllocError>
-    ensures { OnOk result (text.new.items ≡ text.old.items ++ said_if test grant more.now) }
+    ensures { OnOk result (text.new.items ≡ text.old.items ++ reported_if test grant more.now) }
 {
     if test {
         print_numbered(text, "grant ", grant as u64)?;

@@ -25,9 +25,9 @@ use Rattle.capffi.specs.declared.trouble.Trouble.{Trouble}
 use Rattle.capffi.specs.declared.trouble.Trouble.TheVariants as troubles
 use Rattle.capffi.proofs.Bare.{names_back}
 use Rattle.capffi.specs.Blocks.{IsBlock, bare_names, flags_of, grant_of, grants_in, path_names, unless_zero}
-use Rattle.capffi.specs.ByBlock.{IsBlockTrouble, IsNumberTrouble, IsSaid, IsSaidOf, IsSaidOn}
+use Rattle.capffi.specs.ByBlock.{IsBlockJudged, IsBlockJudgedOf, IsBlockJudgedOn, IsBlockTrouble, IsNumberTrouble}
 use Rattle.capffi.specs.Texts.{IsPut}
-use Rattle.capffi.specs.Filling.{AreEntriesOf, CanBeSaid, IsEntryOf, IsNoneOrSome, IsPutInBlock, Says, block_text, fs_text, text_of, texts_of}
+use Rattle.capffi.specs.Filling.{AreEntriesOf, CanBeWritten, IsEntryOf, IsNoneOrSome, IsPutInBlock, Says, block_text, fs_text, text_of, texts_of}
 
 -- ---- a block can say each grant of a text
 
@@ -40,7 +40,7 @@ all_said says P each words (item ∷ items) are =
       | inr (x, some) ↦ rw some (each are.1 item x are.5 some, all_said says P each are.2 items are.6)
     ]
 
-field_has : {A : Type 0} (P : A → Type 0) (default : A) (said : List A) (field : A) → P default → AllByRecursion P said → IsSaidOnce default said field → P field
+field_has : {A : Type 0} (P : A → Type 0) (default : A) (found : List A) (field : A) → P default → AllByRecursion P found → IsSaidOnce default found field → P field
 field_has P default [] field has all is = subst P (sym is) has
 field_has P default (s ∷ []) field has all is = subst P (sym is) all.0
 field_has P default (s ∷ t ∷ more) field has all is = absurd is
@@ -75,19 +75,19 @@ fsname_item word (Uid uid) name is says = absurd (cc)
 fsname_item word (Gids gids) name is says = absurd (cc)
 fsname_item word RootSquash name is says = absurd (cc)
 
-grant_can : (text : List ℕ) (g : Grant) → IsGrant text g → CanBeSaid g
+grant_can : (text : List ℕ) (g : Grant) → IsGrant text g → CanBeWritten g
 grant_can text g is = record {
   path = field_has HasNames [] (filter_map path_in is.items) g.path refl (all_said path_in HasNames path_item is.words is.items is.are_words) is.are_items.path;
   fsname = field_has IsNoneOrSome None (filter_map fsname_in is.items) g.fsname tt (all_said fsname_in IsNoneOrSome fsname_item is.words is.items is.are_words) is.are_items.fsname;
   gids = field_has AreFew [] (filter_map gids_in is.items) g.gids (omega arith) (all_said gids_in AreFew gids_item is.words is.items is.are_words) is.are_items.gids;
 }
 
-all_can : (text : List ℕ) (grants : List Grant) → AreSeparated is_mark IsGrant text grants → All CanBeSaid grants
+all_can : (text : List ℕ) (grants : List Grant) → AreSeparated is_mark IsGrant text grants → All CanBeWritten grants
 all_can text [] row = absurd row
-all_can text (g ∷ []) row = All-cons CanBeSaid g [] (grant_can text g row) (All-nil CanBeSaid)
-all_can text (g ∷ h ∷ more) row = All-cons CanBeSaid g (h ∷ more) (grant_can row.0 g row.5) (all_can row.1 (h ∷ more) row.6)
+all_can text (g ∷ []) row = All-cons CanBeWritten g [] (grant_can text g row) (All-nil CanBeWritten)
+all_can text (g ∷ h ∷ more) row = All-cons CanBeWritten g (h ∷ more) (grant_can row.0 g row.5) (all_can row.1 (h ∷ more) row.6)
 
-pub read_can : (text : List ℕ) (grants : List Grant) → Reads text grants → All CanBeSaid grants
+pub read_can : (text : List ℕ) (grants : List Grant) → Reads text grants → All CanBeWritten grants
 read_can text grants reads = all_can text grants reads.are_grants
 
 -- ---- entries say their grants
@@ -110,18 +110,18 @@ front xs ys n is = rw is (take-append_seam xs ys)
 back : (xs ys : List ℕ) (n : ℕ) → n ≡ length xs → drop n (xs ++ ys) ≡ ys
 back xs ys n is = rw is (drop-append_seam xs ys)
 
-pub said : (entries : List Entry) (grants : List Grant) (more : List ℕ) → AreEntriesOf entries grants → grants_in entries (texts_of grants ++ more) ≡ grants
-said [] [] more are = refl
-said [] (g ∷ grants) more are = absurd are
-said (e ∷ entries) [] more are = absurd are
-said (e ∷ entries) (g ∷ grants) more are =
+pub found : (entries : List Entry) (grants : List Grant) (more : List ℕ) → AreEntriesOf entries grants → grants_in entries (texts_of grants ++ more) ≡ grants
+found [] [] more are = refl
+found [] (g ∷ grants) more are = absurd are
+found (e ∷ entries) [] more are = absurd are
+found (e ∷ entries) (g ∷ grants) more are =
     let rest : List ℕ = texts_of grants ++ more in
     let all : texts_of (g ∷ grants) ++ more ≡ slashed g.path ++ (fs_text g.fsname ++ rest) = simp append_assoc in
     let path : take e.path_len (slashed g.path ++ (fs_text g.fsname ++ rest)) ≡ slashed g.path = front (slashed g.path) (fs_text g.fsname ++ rest) e.path_len are.0.path_len in
     let behind_path : drop e.path_len (slashed g.path ++ (fs_text g.fsname ++ rest)) ≡ fs_text g.fsname ++ rest = back (slashed g.path) (fs_text g.fsname ++ rest) e.path_len are.0.path_len in
     let fs : take e.fs_len (fs_text g.fsname ++ rest) ≡ fs_text g.fsname = front (fs_text g.fsname) rest e.fs_len are.0.fs_len in
     let last : drop e.fs_len (fs_text g.fsname ++ rest) ≡ rest = back (fs_text g.fsname) rest e.fs_len are.0.fs_len in
-    rw (all, path, behind_path, fs, last) (rw (are.0.grant, said entries grants more are.1) refl)
+    rw (all, path, behind_path, fs, last) (rw (are.0.grant, found entries grants more are.1) refl)
 
 -- ---- an entry says its grant
 
@@ -132,7 +132,7 @@ fs_means (Some (b ∷ bs)) n some is =
     let more : eqb n 0 ≡ false = ne_eqb n 0 (λ (e : n ≡ 0). omega (arith, is, e)) in
     rw more refl
 
-pub entry_means : (e : Entry) (g : Grant) → CanBeSaid g → flags_of e.flags ≡ g.flags → e.fs_len ≡ length (fs_text g.fsname) → unless_zero e.has_uid e.uid ≡ g.uid → take e.gid_count e.gids ≡ g.gids → not (e.root_squash == 0) ≡ g.root_squash → grant_of e (slashed g.path) (fs_text g.fsname) ≡ g
+pub entry_means : (e : Entry) (g : Grant) → CanBeWritten g → flags_of e.flags ≡ g.flags → e.fs_len ≡ length (fs_text g.fsname) → unless_zero e.has_uid e.uid ≡ g.uid → take e.gid_count e.gids ≡ g.gids → not (e.root_squash == 0) ≡ g.root_squash → grant_of e (slashed g.path) (fs_text g.fsname) ≡ g
 entry_means e g can flags fs uid gids squash = rw (flags, fs_means g.fsname e.fs_len can.fsname fs, can.path, uid, gids, squash) refl
 
 -- ---- one grant more
@@ -150,8 +150,8 @@ entries_more entries grants i e g within is are more = subst (AreEntriesOf (entr
 
 -- ---- what was put says the grants
 
-pub no_room : (form before after : List ℕ) (len told : ℕ) → IsPut form before after len told → (told == 0) ≡ false → told ≡ 11
-no_room form before after len told put other = elim put.1 [
+pub no_room : (form before after : List ℕ) (len reported : ℕ) → IsPut form before after len reported → (reported == 0) ≡ false → reported ≡ 11
+no_room form before after len reported put other = elim put.1 [
   | inl fits ↦ absurd (let no : (0 == 0) ≡ false = rw fits.1 at other in cc)
   | inr short ↦ short.1
 ]
@@ -166,13 +166,13 @@ says ready new before after fs grants few fs_len text are fits front_is version 
     record {
       is_block = (version, omega (arith, count, as_many ready.entries.items grants are, few), omega (arith, text_len, ap length front_is, length-take (length ready.text.items) after));
       is_fs = ap (take new.fs_len) parts ∙ front fs (texts_of grants ++ rest) new.fs_len fs_is;
-      are_grants = rw (entries, parts, back fs (texts_of grants ++ rest) new.fs_len fs_is) (said ready.entries.items grants rest are);
+      are_grants = rw (entries, parts, back fs (texts_of grants ++ rest) new.fs_len fs_is) (found ready.entries.items grants rest are);
     }
 
-pub filled : (ready : Ready) (old new : Block) (before after fs : List ℕ) (grants : List Grant) (len told : ℕ) → length grants ≤ 16 → ready.fs_len ≡ length fs → ready.text.items ≡ block_text fs grants → AreEntriesOf ready.entries.items grants → IsPutInBlock ready old new before after len told
-    → IsPut (block_text fs grants) before after len told × (((told ≡ 0) × Says new after fs grants) ⊎ ((told ≡ 11) × (new ≡ old)))
-filled ready old new before after fs grants len told few fs_len text are put = (
-  subst (λ (t : List ℕ). IsPut t before after len told) text put.0,
+pub filled : (ready : Ready) (old new : Block) (before after fs : List ℕ) (grants : List Grant) (len reported : ℕ) → length grants ≤ 16 → ready.fs_len ≡ length fs → ready.text.items ≡ block_text fs grants → AreEntriesOf ready.entries.items grants → IsPutInBlock ready old new before after len reported
+    → IsPut (block_text fs grants) before after len reported × (((reported ≡ 0) × Says new after fs grants) ⊎ ((reported ≡ 11) × (new ≡ old)))
+filled ready old new before after fs grants len reported few fs_len text are put = (
+  subst (λ (t : List ℕ). IsPut t before after len reported) text put.0,
   elim put.1 [
     | inl done ↦ elim put.0.1 [
       | inl fits ↦ inl (done.0, says ready new before after fs grants few fs_len text are fits.0 fits.2.front done.1 done.2 done.3 done.4 done.5)
@@ -198,13 +198,13 @@ number_trouble block text path groups q troubles.State whole few fit is = absurd
 number_trouble block text path groups q troubles.Head whole few fit is = absurd is
 number_trouble block text path groups q troubles.Caps whole few fit is = absurd is
 
-said_on : (block : Block) (text : List ℕ) (path : List (List ℕ)) (groups : List ℕ) (q : Question) (told : Result Verdict Trouble) → IsBlock block text → length groups ≤ 16 → IsTrue (are_few_and_short path) → IsSaidOf block text path groups q told → IsSaidOn block text path groups q told
+said_on : (block : Block) (text : List ℕ) (path : List (List ℕ)) (groups : List ℕ) (q : Question) (reported : Result Verdict Trouble) → IsBlock block text → length groups ≤ 16 → IsTrue (are_few_and_short path) → IsBlockJudgedOf block text path groups q reported → IsBlockJudgedOn block text path groups q reported
 said_on block text path groups q (Ok verdict) whole few fit is = (whole, few, fit, is)
 said_on block text path groups q (Err trouble) whole few fit is = number_trouble block text path groups q trouble whole few fit is
 
-pub said_of_text : (block : Block) (text path groups bare : List ℕ) (q : Question) (told : Result Verdict Trouble) → IsBlock block text → length groups ≤ 16 → IsTrue (are_few_and_short (names_of path)) → bare_names bare ≡ names_of path → IsSaidOf block text (bare_names bare) groups q told → IsSaid block text path groups q told
-said_of_text block text path groups bare q told whole few fit same is =
-    said_on block text (names_of path) groups q told whole few fit (subst (λ (names : List (List ℕ)). IsSaidOf block text names groups q told) same is)
+pub said_of_text : (block : Block) (text path groups bare : List ℕ) (q : Question) (reported : Result Verdict Trouble) → IsBlock block text → length groups ≤ 16 → IsTrue (are_few_and_short (names_of path)) → bare_names bare ≡ names_of path → IsBlockJudgedOf block text (bare_names bare) groups q reported → IsBlockJudged block text path groups q reported
+said_of_text block text path groups bare q reported whole few fit same is =
+    said_on block text (names_of path) groups q reported whole few fit (subst (λ (names : List (List ℕ)). IsBlockJudgedOf block text names groups q reported) same is)
 
 -- what stands behind the first slash of a path that was read has its names
 pub names_of_read : (path bytes bare : List ℕ) (names : List (List ℕ)) → names ≡ names_of path → bytes ≡ slashed names → bare ≡ drop 1 bytes → bare_names bare ≡ names

@@ -126,7 +126,7 @@ root_above (b ∷ c ∷ dir) to short = absurd (omega (arith, short))
 
 -- what tells whether two texts are the same is their comparison
 pub same_is : (r : Bool) (xs ys : List ℕ) → (IsTrue r ↔ (xs ≡ ys)) → r ≡ bytes_eq xs ys
-same_is r xs ys told = same_from_decides r (bytes_eq xs ys) told (bytes_eq-Decides xs ys)
+same_is r xs ys reported = same_from_decides r (bytes_eq xs ys) reported (bytes_eq-Decides xs ys)
 
 pub other_length : (xs ys : List ℕ) → length xs ≢ length ys → false ≡ bytes_eq xs ys
 other_length xs ys other = elim (which (bytes_eq xs ys)) [
@@ -146,13 +146,13 @@ further_same k m xs ys before same =
 
 -- the last piece of two texts is the same where all behind its place is
 pub last_piece : (xs ys : List ℕ) (back : Bool) (k m : ℕ) → length xs ≡ length ys → length ys ≤ m → (back && bytes_eq (drop m xs) (drop m ys)) ≡ bytes_eq (drop k xs) (drop k ys) → back ≡ bytes_eq (drop k xs) (drop k ys)
-last_piece xs ys back k m same past told =
+last_piece xs ys back k m same past reported =
     let end : bytes_eq (drop m xs) (drop m ys) ≡ true = rw (drop_all m xs (omega (arith, same, past)), drop_all m ys past) refl in
-    sym (and-true back) ∙ ap (λ (t : Bool). back && t) (sym end) ∙ told
+    sym (and-true back) ∙ ap (λ (t : Bool). back && t) (sym end) ∙ reported
 
 -- where it is the same, the first tells of the whole
 pub first_piece : (xs ys : List ℕ) (front : Bool) (k m : ℕ) → k ≤ m → bytes_eq (drop k xs) (drop k ys) ≡ true → (front && bytes_eq (drop m xs) (drop m ys)) ≡ bytes_eq xs ys → front ≡ bytes_eq xs ys
-first_piece xs ys front k m before same told = sym (and-true front) ∙ ap (λ (t : Bool). front && t) (sym (further_same k m xs ys before same)) ∙ told
+first_piece xs ys front k m before same reported = sym (and-true front) ∙ ap (λ (t : Bool). front && t) (sym (further_same k m xs ys before same)) ∙ reported
 
 pub other_end : (xs ys : List ℕ) (k : ℕ) → bytes_eq (drop k xs) (drop k ys) ≡ false → false ≡ bytes_eq xs ys
 other_end xs ys k other = elim (which (bytes_eq xs ys)) [
@@ -163,4 +163,4 @@ other_end xs ys k other = elim (which (bytes_eq xs ys)) [
 ]
 
 pub all_bytes : (xs ys : List ℕ) (r : Bool) → length xs ≡ length ys → (r && bytes_eq (drop (0 + length ys) xs) (drop (0 + length ys) ys)) ≡ bytes_eq (drop 0 xs) (drop 0 ys) → r ≡ bytes_eq xs ys
-all_bytes xs ys r same told = last_piece xs ys r 0 (0 + length ys) same (omega arith) told
+all_bytes xs ys r same reported = last_piece xs ys r 0 (0 + length ys) same (omega arith) reported

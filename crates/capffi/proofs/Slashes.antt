@@ -72,10 +72,10 @@ count_further k m path first =
     omega (arith, ap (count_by is_slash) same, sum_by-take-drop one (drop k path) (m - k))
 
 -- a part of a path is counted up to a place, and another from a place before that on, up to the last byte
-pub counted_twice : (path : List ℕ) (reached last front back : ℕ) → last ≤ reached → length path ≤ last + 64 → count_by is_slash path ≤ front + count_by is_slash (drop reached path) → count_by is_slash (drop last path) ≤ back + count_by is_slash (drop (last + 63) path) → count_by is_slash path ≤ (front + back) + 1
-counted_twice path reached last front back before ends one_part other =
+pub counted_twice : (path : List ℕ) (passed_by last front back : ℕ) → last ≤ passed_by → length path ≤ last + 64 → count_by is_slash path ≤ front + count_by is_slash (drop passed_by path) → count_by is_slash (drop last path) ≤ back + count_by is_slash (drop (last + 63) path) → count_by is_slash path ≤ (front + back) + 1
+counted_twice path passed_by last front back before ends one_part other =
     let end : count_by is_slash (drop (last + 63) path) ≤ 1 = omega (arith, count_by-le-length is_slash (drop (last + 63) path), length-drop (last + 63) path, ends) in
-    omega (arith, count_further last reached path before, one_part, other, end)
+    omega (arith, count_further last passed_by path before, one_part, other, end)
 
 -- ---- a piece at each end
 

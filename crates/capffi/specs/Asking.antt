@@ -77,9 +77,9 @@ IsVerdict grants fs path groups q verdict =
 
 -- the verdict on a question, or why there is none
 abbrev pub IsJudged : List ℕ → List ℕ → List ℕ → List ℕ → Question → Result Verdict Trouble → Type 0
-IsJudged grants fs path groups q said = MatchResult said (IsVerdict grants fs path groups q) (IsVerdictTrouble grants fs path groups q)
+IsJudged grants fs path groups q found = MatchResult found (IsVerdict grants fs path groups q) (IsVerdictTrouble grants fs path groups q)
 
 -- the caps that are permitted, or why none are told
 abbrev pub IsPermitted : List ℕ → List ℕ → List ℕ → List ℕ → Question → Result Caps Trouble → Type 0
-IsPermitted grants fs path groups q said =
-    MatchResult said (λ caps. (asked : Asked) × Means grants fs path groups q asked × (caps ≡ permitted_on asked)) (IsTrouble grants fs path groups q)
+IsPermitted grants fs path groups q found =
+    MatchResult found (λ caps. (asked : Asked) × Means grants fs path groups q asked × (caps ≡ permitted_on asked)) (IsTrouble grants fs path groups q)

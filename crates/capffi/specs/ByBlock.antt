@@ -35,8 +35,8 @@ IsNumberTrouble q troubles.Access = (q.mode ≤ 4095) × (access_of q.access q.n
 IsNumberTrouble q trouble = ⊥
 
 -- what is said of the names of a path
-abbrev pub IsSaidOf : Block → List ℕ → List (List ℕ) → List ℕ → Question → Result Verdict Trouble → Type 0
-IsSaidOf block text path groups q said = MatchResult said (IsVerdictOf block text path groups q) (IsNumberTrouble q)
+abbrev pub IsBlockJudgedOf : Block → List ℕ → List (List ℕ) → List ℕ → Question → Result Verdict Trouble → Type 0
+IsBlockJudgedOf block text path groups q found = MatchResult found (IsVerdictOf block text path groups q) (IsNumberTrouble q)
 
 -- the first of the values that means nothing is told: the block, the groups, the path, or one of the numbers
 abbrev pub IsBlockTrouble : Block → List ℕ → List (List ℕ) → List ℕ → Question → Trouble → Type 0
@@ -47,19 +47,19 @@ IsBlockTrouble block text path groups q troubles.Memory = Unit {0}
 IsBlockTrouble block text path groups q trouble = IsBlock block text × (length groups ≤ 16) × IsTrue (are_few_and_short path) × IsNumberTrouble q trouble
 
 -- what is said of the names of a path that may be too many or too long, or why there is no verdict
-abbrev pub IsSaidOn : Block → List ℕ → List (List ℕ) → List ℕ → Question → Result Verdict Trouble → Type 0
-IsSaidOn block text path groups q said =
-    MatchResult said
+abbrev pub IsBlockJudgedOn : Block → List ℕ → List (List ℕ) → List ℕ → Question → Result Verdict Trouble → Type 0
+IsBlockJudgedOn block text path groups q found =
+    MatchResult found
     (λ verdict. IsBlock block text × (length groups ≤ 16) × IsTrue (are_few_and_short path) × IsVerdictOf block text path groups q verdict)
     (IsBlockTrouble block text path groups q)
 
 -- the same of a path's text, of which nothing but its names counts
-abbrev pub IsSaid : Block → List ℕ → List ℕ → List ℕ → Question → Result Verdict Trouble → Type 0
-IsSaid block text path groups q said = IsSaidOn block text (names_of path) groups q said
+abbrev pub IsBlockJudged : Block → List ℕ → List ℕ → List ℕ → Question → Result Verdict Trouble → Type 0
+IsBlockJudged block text path groups q found = IsBlockJudgedOn block text (names_of path) groups q found
 
 -- the numbers are those of the verdict, whatever the groups of the caller
 abbrev pub IsFast : Block → List ℕ → List ℕ → Question → Answer → Type 0
-IsFast block text path q answered = (groups : List ℕ) → length groups ≤ 16 → (verdict : Verdict) × IsSaid block text path groups q (Ok verdict) × (answered ≡ answer_of verdict)
+IsFast block text path q answered = (groups : List ℕ) → length groups ≤ 16 → (verdict : Verdict) × IsBlockJudged block text path groups q (Ok verdict) × (answered ≡ answer_of verdict)
 
 -- the same of the names of a path that are neither too many nor too long
 abbrev pub IsFastOf : Block → List ℕ → List (List ℕ) → Question → Answer → Type 0
@@ -67,11 +67,11 @@ IsFastOf block text path q answered = (groups : List ℕ) → (verdict : Verdict
 
 -- 17 says that the answer was written, a number from 1 to 16 that the grant of this number allows, and 0 nothing
 abbrev pub Tells : (Answer → Type 0) → Answer → Answer → ℕ → Type 0
-Tells Is before after told =
-    ((told ≡ 0) × (after ≡ before)) ⊎ ((told ≡ 17) × Is after) ⊎ ((1 ≤ told) × (told ≤ 16) × (after ≡ before) × Is (answer_of (Allowed told)))
+Tells Is before after reported =
+    ((reported ≡ 0) × (after ≡ before)) ⊎ ((reported ≡ 17) × Is after) ⊎ ((1 ≤ reported) × (reported ≤ 16) × (after ≡ before) × Is (answer_of (Allowed reported)))
 
 abbrev pub TellsFast : Block → List ℕ → List ℕ → Question → Answer → Answer → ℕ → Type 0
-TellsFast block text path q before after told = Tells (IsFast block text path q) before after told
+TellsFast block text path q before after reported = Tells (IsFast block text path q) before after reported
 
 -- the answer of a grant that is alone, by the number of the rule that it fails by, or 0 where it allows
 abbrev pub alone : ℕ → Answer

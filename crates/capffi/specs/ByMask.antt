@@ -30,21 +30,21 @@ verdict_on block text path groups c access =
 -- an access was told as denied
 abbrev pub is_denied : Option MaskVerdict → Bool
 is_denied None = false
-is_denied (Some told) = not (is_allowed told.verdict)
+is_denied (Some reported) = not (is_allowed reported.verdict)
 
 -- the next access is judged, unless one before it was denied
 abbrev pub mask_verdict_next : (Access → Verdict) → Option MaskVerdict → Access → Option MaskVerdict
-mask_verdict_next judge told access = if is_denied told then told else Some (record { access = access; verdict = judge access })
+mask_verdict_next judge reported access = if is_denied reported then reported else Some (record { access = access; verdict = judge access })
 
 -- the first of the accesses that is denied, or else the last, with its verdict
 abbrev pub mask_verdict_of : (Access → Verdict) → List Access → Option MaskVerdict
 mask_verdict_of judge accesses = fold (mask_verdict_next judge) None accesses
 
 -- what is said of the names of a path
-abbrev pub IsSaidOfMask : Block → List ℕ → List (List ℕ) → List ℕ → Check → Result MaskVerdict Trouble → Type 0
-IsSaidOfMask block text path groups c said =
-    MatchResult said
-    (λ told. IsTrue (is_known c.mask) × (Some told ≡ mask_verdict_of (verdict_on block text path groups c) (accesses_of c)))
+abbrev pub IsMaskJudgedOf : Block → List ℕ → List (List ℕ) → List ℕ → Check → Result MaskVerdict Trouble → Type 0
+IsMaskJudgedOf block text path groups c found =
+    MatchResult found
+    (λ reported. IsTrue (is_known c.mask) × (Some reported ≡ mask_verdict_of (verdict_on block text path groups c) (accesses_of c)))
     (λ trouble. (trouble ≡ troubles.Access) × (IsFalse (is_known c.mask) ⊎ (accesses_of c ≡ [])))
 
 -- the first of the values that means nothing is told: the block, the path, or a mask that has another bit or asks for nothing
@@ -56,27 +56,27 @@ IsMaskTrouble block text path c troubles.Memory = Unit {0}
 IsMaskTrouble block text path c trouble = ⊥
 
 -- what is said of the names of a path that may be too many or too long, or why there is no verdict
-abbrev pub IsSaidOnMask : Block → List ℕ → List (List ℕ) → List ℕ → Check → Result MaskVerdict Trouble → Type 0
-IsSaidOnMask block text path groups c said =
-    MatchResult said
-    (λ told. IsBlock block text × IsTrue (are_few_and_short path) × IsTrue (is_known c.mask) × (Some told ≡ mask_verdict_of (verdict_on block text path groups c) (accesses_of c)))
+abbrev pub IsMaskJudgedOn : Block → List ℕ → List (List ℕ) → List ℕ → Check → Result MaskVerdict Trouble → Type 0
+IsMaskJudgedOn block text path groups c found =
+    MatchResult found
+    (λ reported. IsBlock block text × IsTrue (are_few_and_short path) × IsTrue (is_known c.mask) × (Some reported ≡ mask_verdict_of (verdict_on block text path groups c) (accesses_of c)))
     (IsMaskTrouble block text path c)
 
 -- the same of a path's text, of which nothing but its names counts
-abbrev pub IsSaidToMask : Block → List ℕ → List ℕ → List ℕ → Check → Result MaskVerdict Trouble → Type 0
-IsSaidToMask block text path groups c said = IsSaidOnMask block text (names_of path) groups c said
+abbrev pub IsMaskJudged : Block → List ℕ → List ℕ → List ℕ → Check → Result MaskVerdict Trouble → Type 0
+IsMaskJudged block text path groups c found = IsMaskJudgedOn block text (names_of path) groups c found
 
 -- the numbers are those of what is told of the one access of the mask, whatever the groups of the caller
 abbrev pub IsFastToMask : Block → List ℕ → List ℕ → Check → Answer → Type 0
 IsFastToMask block text path c answered =
-    (groups : List ℕ) → (told : MaskVerdict) × (accesses_of c ≡ told.access ∷ []) × IsSaidToMask block text path groups c (Ok told) × (answered ≡ answer_of told.verdict)
+    (groups : List ℕ) → (reported : MaskVerdict) × (accesses_of c ≡ reported.access ∷ []) × IsMaskJudged block text path groups c (Ok reported) × (answered ≡ answer_of reported.verdict)
 
 -- the numbers are those of the verdict on an access, whatever the groups of the caller
 abbrev pub IsFastOn : Block → List ℕ → List (List ℕ) → Check → Access → Answer → Type 0
 IsFastOn block text path c access answered = (groups : List ℕ) → answered ≡ answer_of (verdict_on block text path groups c access)
 
 abbrev pub TellsFastToMask : Block → List ℕ → List ℕ → Check → Answer → Answer → ℕ → Type 0
-TellsFastToMask block text path c before after told = Tells (IsFastToMask block text path c) before after told
+TellsFastToMask block text path c before after reported = Tells (IsFastToMask block text path c) before after reported
 
 -- the number of an access
 abbrev pub access_number : Access → ℕ
@@ -90,18 +90,18 @@ access_number (Chgrp gid) = 6
 
 -- the numbers of what is said
 abbrev pub mask_status : Result MaskVerdict Trouble → ℕ
-mask_status (Ok told) = 0
+mask_status (Ok reported) = 0
 mask_status (Err trouble) = status_of trouble
 
 abbrev pub mask_answer : Result MaskVerdict Trouble → Answer
-mask_answer (Ok told) = answer_of told.verdict
+mask_answer (Ok reported) = answer_of reported.verdict
 mask_answer (Err trouble) = no_answer
 
 abbrev pub mask_access : Result MaskVerdict Trouble → ℕ
-mask_access (Ok told) = access_number told.access
+mask_access (Ok reported) = access_number reported.access
 mask_access (Err trouble) = 0
 
 -- the status, the answer and the number of its access are those of what the grants of the block say to the mask
 abbrev pub TellsMask : Block → List ℕ → List ℕ → List ℕ → Check → ℕ → Answer → ℕ → Type 0
-TellsMask block text path groups c told answered access =
-    (said : Result MaskVerdict Trouble) × IsSaidToMask block text path groups c said × (told ≡ mask_status said) × (answered ≡ mask_answer said) × (access ≡ mask_access said)
+TellsMask block text path groups c reported answered access =
+    (found : Result MaskVerdict Trouble) × IsMaskJudged block text path groups c found × (reported ≡ mask_status found) × (answered ≡ mask_answer found) × (access ≡ mask_access found)

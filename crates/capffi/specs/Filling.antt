@@ -36,7 +36,7 @@ IsNoneOrSome None = Unit {0}
 IsNoneOrSome (Some name) = 0 < length name
 
 -- a block can say the grant
-pub record CanBeSaid (g : Grant) : Type 0 where
+pub record CanBeWritten (g : Grant) : Type 0 where
   pub path : path_names (slashed g.path) ≡ g.path
   pub fsname : IsNoneOrSome g.fsname
   pub gids : length g.gids ≤ 16
@@ -72,13 +72,13 @@ pub record Says (block : Block) (text fs : List ℕ) (grants : List Grant) : Typ
 
 -- the text was put, and with it the block; or there was no room, and both are as they were
 abbrev pub IsPutInBlock : Ready → Block → Block → List ℕ → List ℕ → ℕ → ℕ → Type 0
-IsPutInBlock ready old new before after len told =
-    IsPut ready.text.items before after len told
-    × (((told ≡ 0) × (new.version ≡ 1) × (new.count ≡ length ready.entries.items) × (new.text_len ≡ length ready.text.items) × (new.fs_len ≡ ready.fs_len) × (take new.count new.entries ≡ ready.entries.items))
-    ⊎ ((told ≡ 11) × (new ≡ old)))
+IsPutInBlock ready old new before after len reported =
+    IsPut ready.text.items before after len reported
+    × (((reported ≡ 0) × (new.version ≡ 1) × (new.count ≡ length ready.entries.items) × (new.text_len ≡ length ready.text.items) × (new.fs_len ≡ ready.fs_len) × (take new.count new.entries ≡ ready.entries.items))
+    ⊎ ((reported ≡ 11) × (new ≡ old)))
 
 -- the grants of the text on the file system were put into the block, or there was no room; or there are none, and all is as it was
 abbrev pub IsFilled : List ℕ → List ℕ → Block → Block → List ℕ → List ℕ → ℕ → ℕ → Result (List Grant) Trouble → Type 0
-IsFilled text fs old new before after len told (Ok grants) =
-    Reads text grants × IsFsName fs × IsPut (block_text fs grants) before after len told × (((told ≡ 0) × Says new after fs grants) ⊎ ((told ≡ 11) × (new ≡ old)))
-IsFilled text fs old new before after len told (Err trouble) = IsReadTrouble text fs trouble × (told ≡ status_of trouble) × (len ≡ 0) × (after ≡ before) × (new ≡ old)
+IsFilled text fs old new before after len reported (Ok grants) =
+    Reads text grants × IsFsName fs × IsPut (block_text fs grants) before after len reported × (((reported ≡ 0) × Says new after fs grants) ⊎ ((reported ≡ 11) × (new ≡ old)))
+IsFilled text fs old new before after len reported (Err trouble) = IsReadTrouble text fs trouble × (reported ≡ status_of trouble) × (len ≡ 0) × (after ≡ before) × (new ≡ old)

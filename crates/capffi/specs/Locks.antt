@@ -119,4 +119,4 @@ IsTargetTrouble part state w trouble = ⊥
 
 -- the target, or why none is told
 abbrev pub IsTargetOf : ℕ → StableState → Wants → Result TableState Trouble → Type 0
-IsTargetOf part state w said = MatchResult said (IsTarget part state w) (IsTargetTrouble part state w)
+IsTargetOf part state w found = MatchResult found (IsTarget part state w) (IsTargetTrouble part state w)

@@ -34,7 +34,7 @@ pub(crate) fn allowed(grant: u32) -> Answer
 /// allows by the number 1, and a denial, which is put into `answer`, by 17.
 #[inline(always)]
 pub(crate) fn tell_alone(rule: u8, answer: &mut Answer) -> u32
-    ensures { Tells (λ told. told ≡ alone rule) answer.old answer.new result }
+    ensures { Tells (λ reported. reported ≡ alone rule) answer.old answer.new result }
 {
     if rule == 0 {
         return 1;

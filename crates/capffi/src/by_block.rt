@@ -2,7 +2,7 @@
 ghost use Rattle.std.specs.Prelude.{◌≡◌, ◌≤◌, ◌↔◌, ℕ, List, length, IsTrue, IfSome};
 ghost use Rattle.capspec.specs.Paths.{names_of};
 ghost use Rattle.capffi.specs.Blocks.{IsBlock, bare_names};
-ghost use Rattle.capffi.specs.ByBlock.{IsFast, IsFastOf, IsSaid, IsSaidOf, Tells, TellsFast, alone};
+ghost use Rattle.capffi.specs.ByBlock.{IsBlockJudged, IsBlockJudgedOf, IsFast, IsFastOf, Tells, TellsFast, alone};
 ghost use Rattle.capgrant.specs.Question.{question as asked};
 
 use crate::answering::tell_alone;
@@ -120,7 +120,7 @@ pub(crate) fn judge_by(
     groups: &[u32],
     question: &Question,
 ) -> Result<Verdict, Trouble>
-    ensures { IsSaid block.now text.now path.now groups.now question.now result }
+    ensures { IsBlockJudged block.now text.now path.now groups.now question.now result }
 {
     if !is_block(block, text) {
         return Err(Trouble::Block);
@@ -147,7 +147,7 @@ fn judge_other(
 ) -> Result<Verdict, Trouble>
     requires whole { IsBlock block.now text.now }
     requires few { length groups.now ≤ 16 }
-    ensures { IsSaid block.now text.now path.now groups.now question.now result }
+    ensures { IsBlockJudged block.now text.now path.now groups.now question.now result }
 {
     match TreePath::read(alloc, path) {
         Ok(Some(path)) => judge_plain(block, text, bare_text(&path), groups, question),
@@ -242,7 +242,7 @@ fn judge_plain(
     question: &Question,
 ) -> Result<Verdict, Trouble>
     requires { IsBlock block.now text.now }
-    ensures { IsSaidOf block.now text.now (bare_names path.now) groups.now question.now result }
+    ensures { IsBlockJudgedOf block.now text.now (bare_names path.now) groups.now question.now result }
 {
     let Some(mode) = read_mode(question.mode) else {
         return Err(Trouble::Mode);

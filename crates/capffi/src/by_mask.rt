@@ -4,7 +4,7 @@ ghost use Rattle.capgrant.specs.Masks.{is_known, asked_if};
 ghost use Rattle.capgrant.specs.Question.{question};
 ghost use Rattle.capffi.specs.Blocks.{IsBlock, bare_names};
 ghost use Rattle.capffi.specs.ByBlock.{Tells, alone};
-ghost use Rattle.capffi.specs.ByMask.{IsFastOn, IsFastToMask, IsSaidOfMask, IsSaidToMask, TellsFastToMask, access_number, accesses_of, is_denied};
+ghost use Rattle.capffi.specs.ByMask.{IsFastOn, IsFastToMask, IsMaskJudged, IsMaskJudgedOf, TellsFastToMask, access_number, accesses_of, is_denied};
 ghost use Rattle.capffi.specs.ByMask.{mask_verdict_next, mask_verdict_of, verdict_on};
 
 use crate::answering::tell_alone;
@@ -156,7 +156,7 @@ pub(crate) fn judge_mask(
     groups: &[u32],
     check: &Check,
 ) -> Result<MaskVerdict, Trouble>
-    ensures { IsSaidToMask block.now text.now path.now groups.now check.now result }
+    ensures { IsMaskJudged block.now text.now path.now groups.now check.now result }
 {
     if !is_block(block, text) {
         return Err(Trouble::Block);
@@ -179,7 +179,7 @@ fn judge_other(
     check: &Check,
 ) -> Result<MaskVerdict, Trouble>
     requires { IsBlock block.now text.now }
-    ensures { IsSaidToMask block.now text.now path.now groups.now check.now result }
+    ensures { IsMaskJudged block.now text.now path.now groups.now check.now result }
 {
     match TreePath::read(alloc, path) {
         Ok(Some(path)) => judge_bare(block, text, bare_text(&path), groups, check),
@@ -198,7 +198,7 @@ fn judge_bare(
     check: &Check,
 ) -> Result<MaskVerdict, Trouble>
     requires { IsBlock block.now text.now }
-    ensures { IsSaidOfMask block.now text.now (bare_names path.now) groups.now check.now result }
+    ensures { IsMaskJudgedOf block.now text.now (bare_names path.now) groups.now check.now result }
 {
     if !is_known(check.mask) {
         return Err(Trouble::Access);
@@ -210,8 +210,8 @@ fn judge_bare(
         groups,
         check,
     };
-    match asker.told() {
-        Some(told) => Ok(told),
+    match asker.reported() {
+        Some(reported) => Ok(reported),
         None => Err(Trouble::Access),
     }
 }
@@ -219,7 +219,7 @@ fn judge_bare(
 impl Asker<'_> {
     // What is told of the accesses of the mask. Of one alone it is the verdict.
     #[tactic(auto, using(crate::proofs::Masks::one_mask_verdict))]
-    fn told(&self) -> Option<MaskVerdict>
+    fn reported(&self) -> Option<MaskVerdict>
         requires { IsBlock self.now.block.now self.now.text.now }
         ensures { result ≡ mask_verdict_of (verdict_on self.now.block.now self.now.text.now (bare_names self.now.path.now) self.now.groups.now self.now.check.now) (accesses_of self.now.check.now) }
     {
@@ -247,16 +247,16 @@ impl Asker<'_> {
 
     // What is told with one access more, where the mask has its bit.
     #[tactic(auto, using(crate::proofs::Masks::not_asked, crate::proofs::Masks::not_judged, crate::proofs::Masks::judged))]
-    fn ask(&self, told: Option<MaskVerdict>, bit: u32, access: Access) -> Option<MaskVerdict>
+    fn ask(&self, reported: Option<MaskVerdict>, bit: u32, access: Access) -> Option<MaskVerdict>
         requires whole { IsBlock self.now.block.now self.now.text.now }
         requires some { 0 < bit }
-        ensures { result ≡ fold (mask_verdict_next (verdict_on self.now.block.now self.now.text.now (bare_names self.now.path.now) self.now.groups.now self.now.check.now)) told (asked_if self.now.check.now.mask bit access) }
+        ensures { result ≡ fold (mask_verdict_next (verdict_on self.now.block.now self.now.text.now (bare_names self.now.path.now) self.now.groups.now self.now.check.now)) reported (asked_if self.now.check.now.mask bit access) }
     {
         if self.check.mask / bit % 2 != 1 {
-            return told;
+            return reported;
         }
-        if is_denied(&told) {
-            return told;
+        if is_denied(&reported) {
+            return reported;
         }
         Some(MaskVerdict {
             access,
@@ -315,11 +315,11 @@ fn mode_of(mode: u32) -> Mode
 
 // Whether an access was denied.
 #[inline(always)]
-fn is_denied(told: &Option<MaskVerdict>) -> bool
-    ensures { result ≡ is_denied told.now }
+fn is_denied(reported: &Option<MaskVerdict>) -> bool
+    ensures { result ≡ is_denied reported.now }
 {
-    match told {
-        Some(told) => matches!(&told.verdict, Verdict::Denied { .. }),
+    match reported {
+        Some(reported) => matches!(&reported.verdict, Verdict::Denied { .. }),
         None => false,
     }
 }

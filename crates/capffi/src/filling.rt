@@ -2,7 +2,7 @@
 ghost use Rattle.std.specs.Prelude.{◌≡◌, ◌==◌, ◌≤◌, ◌++◌, not, length, take, All, MatchResult, IfOk};
 ghost use Rattle.capspec.specs.Grants.{Reads};
 ghost use Rattle.capffi.specs.Blocks.{flags_of, unless_zero};
-ghost use Rattle.capffi.specs.Filling.{AreEntriesOf, CanBeSaid, IsEntryOf, IsPutInBlock, IsReadTrouble, IsReady, fs_text, texts_of};
+ghost use Rattle.capffi.specs.Filling.{AreEntriesOf, CanBeWritten, IsEntryOf, IsPutInBlock, IsReadTrouble, IsReady, fs_text, texts_of};
 
 use crate::asking::read_text;
 use crate::block::{BLOCK_VERSION, Block, Entry};
@@ -38,7 +38,7 @@ pub(crate) fn prepare(alloc: Global, text: &[u8], fs: &[u8]) -> Result<Ready, Tr
 // The entries of grants, and their texts behind the name of the file system.
 #[tactic(auto, using(crate::proofs::Filled::text_more, crate::proofs::Filled::entries_more))]
 fn gather(alloc: Global, grants: &[Grant], fs: &[u8]) -> Result<Ready, AllocError>
-    requires { All CanBeSaid grants.now }
+    requires { All CanBeWritten grants.now }
     ensures { IfOk result (λ ready. (ready.fs_len ≡ length fs.now) × (ready.text.items ≡ fs.now ++ texts_of grants.now) × AreEntriesOf ready.entries.items grants.now) }
 {
     let mut entries = Vec::new(alloc);
@@ -84,7 +84,7 @@ fn put_entries(entries: &[Entry], room: &mut [Entry])
 // The entry of a grant.
 #[tactic(auto, using(crate::proofs::Filled::entry_means))]
 fn entry_of(grant: &Grant) -> Entry
-    requires { CanBeSaid grant.now }
+    requires { CanBeWritten grant.now }
     ensures { IsEntryOf result grant.now }
 {
     let gids = grant.gids.as_slice();

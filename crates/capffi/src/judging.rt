@@ -81,7 +81,7 @@ impl Case<'_> {
     #[inline(always)]
     pub(crate) fn fast_verdict(&self, entries: &[Entry], text: &[u8], answer: &mut Answer) -> u32
         requires { length entries.now ≤ 16 }
-        ensures { Tells (λ told. (groups : List ℕ) → told ≡ answer_of (verdict_of (with_groups self.now groups) (grants_in entries.now text.now))) answer.old answer.new result }
+        ensures { Tells (λ reported. (groups : List ℕ) → reported ≡ answer_of (verdict_of (with_groups self.now groups) (grants_in entries.now text.now))) answer.old answer.new result }
     {
         let mut rules = [0; MAX_ENTRIES];
         let mut rest = text;

@@ -162,15 +162,15 @@ pub extern "C" fn capffi_verdict_by(
     groups: &[u32],
     question: &Question,
 ) -> BlockVerdict
-    ensures told { TellsVerdictBy block.now text.now path.now groups.now question.now result.status result.answer }
+    ensures reported { TellsVerdictBy block.now text.now path.now groups.now question.now result.status result.answer }
 
     // So the path may have a slash in front or none.
     ensures either_form { (other : List ℕ) → names_of other ≡ names_of path.now → TellsVerdictBy block.now text.now other groups.now question.now result.status result.answer }
 {
     match judge_by(alloc, block, text, path, groups, question) {
-        Ok(said) => BlockVerdict {
+        Ok(found) => BlockVerdict {
             status: OK,
-            answer: answer_of(&said),
+            answer: answer_of(&found),
         },
         Err(trouble) => BlockVerdict {
             status: trouble.status(),
@@ -205,14 +205,14 @@ pub extern "C" fn capffi_verdict_mask(
     groups: &[u32],
     check: &Check,
 ) -> CheckVerdict
-    ensures told { TellsMask block.now text.now path.now groups.now check.now result.status result.answer result.access }
+    ensures reported { TellsMask block.now text.now path.now groups.now check.now result.status result.answer result.access }
     ensures either_form { (other : List ℕ) → names_of other ≡ names_of path.now → TellsMask block.now text.now other groups.now check.now result.status result.answer result.access }
 {
     match judge_mask(alloc, block, text, path, groups, check) {
-        Ok(told) => CheckVerdict {
+        Ok(reported) => CheckVerdict {
             status: OK,
-            access: access_number(told.access),
-            answer: answer_of(&told.verdict),
+            access: access_number(reported.access),
+            answer: answer_of(&reported.verdict),
         },
         Err(trouble) => CheckVerdict {
             status: trouble.status(),

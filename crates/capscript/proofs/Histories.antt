@@ -90,7 +90,7 @@ runs_skipped first now before line ran skipped = record {
 pub runs_more : (first now next : Recorded) (before : List (List ℕ)) (line text : List ℕ) (event : Event) → Runs first before now → Reads line event → Answers now event next text → Runs first (before ++ line ∷ []) next
 runs_more first now next before line text event ran reads answered =
     let is = answered.next in
-    let row : Row = record { pass = record { 0 = 1 }; nth = rows_of (record { 0 = 1 }) now.rows + 1; event = event; reply = answered.answer; ended = is.ended } in
+    let row : Row = record { pass = record { 0 = 1 }; nth = rows_of (record { 0 = 1 }) now.rows + 1; event = event; reply = answered.reply; ended = is.ended } in
     record {
       replays = rw is.rows (replays-more first.state now.rows now.state row next.state ran.replays (is.moves, is.step));
       numbered = rw is.rows (numbered-snoc now.rows row ran.numbered refl);
@@ -102,8 +102,8 @@ runs_more first now next before line text event ran reads answered =
 pub texts_more : (now next : Recorded) (event : Event) (text : List ℕ) → Answers now event next text → replies_text next.rows ≡ replies_text now.rows ++ text
 texts_more now next event text answered =
     let is = answered.next in
-    let row : Row = record { pass = record { 0 = 1 }; nth = rows_of (record { 0 = 1 }) now.rows + 1; event = event; reply = answered.answer; ended = is.ended } in
-    ap replies_text is.rows ∙ flat_map-append (λ (r : Row). reply_text r.reply) now.rows (row ∷ []) ∙ ap (λ (t : List ℕ). replies_text now.rows ++ t) (append-nil (reply_text answered.answer) ∙ sym answered.text_is)
+    let row : Row = record { pass = record { 0 = 1 }; nth = rows_of (record { 0 = 1 }) now.rows + 1; event = event; reply = answered.reply; ended = is.ended } in
+    ap replies_text is.rows ∙ flat_map-append (λ (r : Row). reply_text r.reply) now.rows (row ∷ []) ∙ ap (λ (t : List ℕ). replies_text now.rows ++ t) (append-nil (reply_text answered.reply) ∙ sym answered.text_is)
 
 pub transcript_of : (first now : Recorded) (before : List (List ℕ)) → IsOpening fs_name (first_tree root_attr) first.state → Runs first before now → IsTranscript before (replies_text now.rows)
 transcript_of first now before opens ran = record {
@@ -191,10 +191,10 @@ stopped T first now next script rest line text after number old mid new stops.Wr
 stopped T first now next script rest line text after number old mid new stops.ReadFault opens so cut why appended = absurd why
 
 -- the same, by the answer that tells of it
-pub stopped_by : (T : Type 0) (first now next : Recorded) (script rest line : List ℕ) (after : List (List ℕ)) (number : ℕ) (old mid new : Option (List ℕ)) (fault : ScriptFault) (result : Result T ScriptFault) → IsErrAnd result (λ told. told ≡ fault)
+pub stopped_by : (T : Type 0) (first now next : Recorded) (script rest line : List ℕ) (after : List (List ℕ)) (number : ℕ) (old mid new : Option (List ℕ)) (fault : ScriptFault) (result : Result T ScriptFault) → IsErrAnd result (λ reported. reported ≡ fault)
     → IsOpening fs_name (first_tree root_attr) first.state → SoFar first now script rest number old mid → lines rest ≡ line ∷ after → (text : List ℕ) × StopsIn now number line fault next text × Appends mid new text → (t : List ℕ) × Answered (lines script) result t × Appends old new t
-stopped_by T first now next script rest line after number old mid new fault (Ok done) told opens so cut why = absurd told
-stopped_by T first now next script rest line after number old mid new fault (Err same) told opens so cut why = rw told (stopped T first now next script rest line why.0 after number old mid new fault opens so cut why.1 why.2)
+stopped_by T first now next script rest line after number old mid new fault (Ok done) reported opens so cut why = absurd reported
+stopped_by T first now next script rest line after number old mid new fault (Err same) reported opens so cut why = rw reported (stopped T first now next script rest line why.0 after number old mid new fault opens so cut why.1 why.2)
 
 -- the last line
 pub last_line : (T : Type 0) (first now next : Recorded) (script rest line : List ℕ) (number : ℕ) (old mid new : Option (List ℕ)) (result : Result T ScriptFault) → IsOpening fs_name (first_tree root_attr) first.state → SoFar first now script rest number old mid → lines rest ≡ line ∷ []
@@ -218,18 +218,18 @@ abbrev pub IsEarly : Bool → ScriptFault → Type 0
 IsEarly ended fault = (fault ≡ stops.ReadFault) ⊎ ((fault ≡ stops.NoMemory) × IsFalse ended)
 
 -- then nothing was written
-nothing_ran : (T : Type 0) (script : List ℕ) (ended : Bool) (known : Option (List ℕ)) (fault : ScriptFault) (result : Result T ScriptFault) → IsErrAnd result (λ told. told ≡ fault) → IsEarly ended fault → (t : List ℕ) × Ran script ended result t × Appends known known t
-nothing_ran T script ended known fault (Ok done) told why = absurd told
-nothing_ran T script ended known fault (Err same) told (inl read) = ([], rw (told, read) refl, none_appended known)
-nothing_ran T script ended known fault (Err same) told (inr missed) = ([], rw (told, missed.0, missed.1) refl, none_appended known)
+nothing_ran : (T : Type 0) (script : List ℕ) (ended : Bool) (known : Option (List ℕ)) (fault : ScriptFault) (result : Result T ScriptFault) → IsErrAnd result (λ reported. reported ≡ fault) → IsEarly ended fault → (t : List ℕ) × Ran script ended result t × Appends known known t
+nothing_ran T script ended known fault (Ok done) reported why = absurd reported
+nothing_ran T script ended known fault (Err same) reported (inl read) = ([], rw (reported, read) refl, none_appended known)
+nothing_ran T script ended known fault (Err same) reported (inr missed) = ([], rw (reported, missed.0, missed.1) refl, none_appended known)
 
 pub early_fault : {T : Type 0} (result : Result T ScriptFault) (fault : ScriptFault) (ended : Bool) → result ≡ Err fault → (result ≡ Err stops.ReadFault) ⊎ (result ≡ Err stops.NoMemory) → (result ≡ Err stops.NoMemory → IsFalse ended) → IsEarly ended fault
 early_fault result fault ended same (inl is) unseen = inl (cc)
 early_fault result fault ended same (inr is) unseen = inr (cc, unseen is)
 
-pub known_ran : (T : Type 0) (remaining known : Option (List ℕ)) (ended : Bool) (fault : ScriptFault) (result : Result T ScriptFault) → IsErrAnd result (λ told. told ≡ fault) → IsEarly ended fault → IfSome remaining (λ script. (t : List ℕ) × Ran script ended result t × Appends known known t)
-known_ran T None known ended fault result told why = tt
-known_ran T (Some script) known ended fault result told why = nothing_ran T script ended known fault result told why
+pub known_ran : (T : Type 0) (remaining known : Option (List ℕ)) (ended : Bool) (fault : ScriptFault) (result : Result T ScriptFault) → IsErrAnd result (λ reported. reported ≡ fault) → IsEarly ended fault → IfSome remaining (λ script. (t : List ℕ) × Ran script ended result t × Appends known known t)
+known_ran T None known ended fault result reported why = tt
+known_ran T (Some script) known ended fault result reported why = nothing_ran T script ended known fault result reported why
 
 -- ---- behind the end
 
@@ -269,10 +269,10 @@ read_said None line client event said is = absurd (cc)
 read_said (Some pair) line client event said is = let same : pair ≡ (client, event) = cc in subst (λ (p : Option ClientId × Event). Reads line p.1) same said
 
 -- no event was answered: the line's own stop
-pub stopped_unread : {T : Type 0} (now : Recorded) (number : ℕ) (line : List ℕ) (known : Option (List ℕ)) (fault : ScriptFault) (result : Result T ScriptFault) → IsErrAnd result (λ told. told ≡ fault) → IsStop number line fault
-    → IfErr result (λ told. (text : List ℕ) × StopsIn now number line told now text × Appends known known text)
-stopped_unread now number line known fault (Ok done) told stop = tt
-stopped_unread now number line known (stops.LineFault at kind) (Err same) told stop = ([], rw told (stop.0, stop.1, refl), none_appended known)
-stopped_unread now number line known stops.NoMemory (Err same) told stop = ([], rw told (stop.0, stop.1, refl), none_appended known)
-stopped_unread now number line known stops.ReadFault (Err same) told stop = absurd stop
-stopped_unread now number line known stops.WriteFault (Err same) told stop = absurd stop
+pub stopped_unread : {T : Type 0} (now : Recorded) (number : ℕ) (line : List ℕ) (known : Option (List ℕ)) (fault : ScriptFault) (result : Result T ScriptFault) → IsErrAnd result (λ reported. reported ≡ fault) → IsStop number line fault
+    → IfErr result (λ reported. (text : List ℕ) × StopsIn now number line reported now text × Appends known known text)
+stopped_unread now number line known fault (Ok done) reported stop = tt
+stopped_unread now number line known (stops.LineFault at kind) (Err same) reported stop = ([], rw reported (stop.0, stop.1, refl), none_appended known)
+stopped_unread now number line known stops.NoMemory (Err same) reported stop = ([], rw reported (stop.0, stop.1, refl), none_appended known)
+stopped_unread now number line known stops.ReadFault (Err same) reported stop = absurd stop
+stopped_unread now number line known stops.WriteFault (Err same) reported stop = absurd stop

@@ -45,12 +45,12 @@ IsOfClient (Grants said text) = (grants : List Grant) → IsSome (client_of (sai
 IsOfClient (Names said word) = (caps : Caps) → IsSome (client_of (said caps))
 IsOfClient (Faulty fault) = Unit {0}
 
-told : (line : Line) (event : Event) → IsOfClient line → Tells line event → IsSome (client_of event)
-told Nothing event of tells = absurd tells
-told (Says said) event of tells = rw tells of
-told (Grants said text) event of tells = rw tells.2 (of tells.0)
-told (Names said word) event of tells = rw tells.2 (of tells.0)
-told (Faulty fault) event of tells = absurd tells
+reported : (line : Line) (event : Event) → IsOfClient line → Tells line event → IsSome (client_of event)
+reported Nothing event of tells = absurd tells
+reported (Says said) event of tells = rw tells of
+reported (Grants said text) event of tells = rw tells.2 (of tells.0)
+reported (Names said word) event of tells = rw tells.2 (of tells.0)
+reported (Faulty fault) event of tells = absurd tells
 
 -- ---- words that are read one by one
 
@@ -210,4 +210,4 @@ begins_otherwise text plain =
 
 -- behind the line `threads` what a plain line says is about a client
 pub has_client : (text : List ℕ) (event : Event) → sort_of true text ≡ Plain → Reads text event → client_of event ≢ None
-has_client text event plain reads none = true≢false (sym (subst IsSome none (told (line_says text) event (of_client text (begins_otherwise text plain)) reads)))
+has_client text event plain reads none = true≢false (sym (subst IsSome none (reported (line_says text) event (of_client text (begins_otherwise text plain)) reads)))

@@ -22,6 +22,6 @@ pub stopped_at : (now : Work) (script rest text : List ℕ) (more : List (List �
 stopped_at now script rest text more number fault so is at = so.stops fault (subst (λ (ls : List (List ℕ)). StopsAt now number ls fault) (sym is) (inl at))
 
 -- a fault that was handed on
-pub handed_on : (T : Type 0) (P : ServeFault → Type 0) (fault : ServeFault) (result : Result T ServeFault) → IsErrAnd result (λ told. told ≡ fault) → P fault → IfErr result P
-handed_on T P fault (Ok done) told why = absurd told
-handed_on T P fault (Err found) told why = subst P (sym told) why
+pub handed_on : (T : Type 0) (P : ServeFault → Type 0) (fault : ServeFault) (result : Result T ServeFault) → IsErrAnd result (λ reported. reported ≡ fault) → P fault → IfErr result P
+handed_on T P fault (Ok done) reported why = absurd reported
+handed_on T P fault (Err found) reported why = subst P (sym reported) why

@@ -96,9 +96,9 @@ first_pass = record { 0 = 1 }
 
 -- the event is the next of the history, and this is the text of its answer
 pub record Answers (old : Recorded) (event : Event) (new : Recorded) (text : List ℕ) : Type 0 where
-  pub answer : Reply
-  pub next : IsNext old first_pass event answer new
-  pub text_is : text ≡ reply_text answer
+  pub reply : Reply
+  pub next : IsNext old first_pass event reply new
+  pub text_is : text ≡ reply_text reply
 
 -- ---- one line
 

@@ -41,7 +41,7 @@ pub fn run<R: Read, W: Write>(
         × Ran script (has_ended reader.new) result text
         × Appends (W.contents (inner_of writer.old)) (W.contents (inner_of writer.new)) text) }
     // A read that failed is told, and then nothing was written.
-    ensures read_told { IsTrue (has_failed reader.new) → result ≡ Err stops.ReadFault }
+    ensures read_failed { IsTrue (has_failed reader.new) → result ≡ Err stops.ReadFault }
     // A script that is too long is not run, and nothing is written; memory may run out on the way to its end.
     ensures long { IfSome (R.remaining (inner_of reader.old)) (λ script. longest_script < length script
         → ((result ≡ Err stops.ReadFault) ⊎ (result ≡ Err stops.NoMemory))

@@ -3,7 +3,7 @@ ghost use Rattle.std.specs.Prelude.{◌≡◌, ◌≢◌, ◌<◌, Err, None, []
 ghost use mathlib.Core.List.{IsPrefix};
 ghost use Rattle.left_right.specs.Sides.{view as place_view};
 ghost use Rattle.policy_view.specs.declared.answer.Unknown.TheVariants as unknown;
-ghost use Rattle.snapshot.specs.Places.{HasSeen, IsPublished, IsTold};
+ghost use Rattle.snapshot.specs.Places.{HasSeen, IsOriginKnown, IsPublished};
 ghost use Rattle.snapshot.specs.Rows.{Legal};
 ghost use Rattle.capserver.specs.Answers.{IsAnswered};
 
@@ -32,7 +32,7 @@ impl<L: Server> Model for Reader<L> {
     ghost use Rattle.std.specs.Prelude.{◌≡◌, List, MatchOption};
     ghost use Rattle.left_right.specs.Sides.{view as place_view};
     ghost use Rattle.step_model.specs.declared.row.Row.{Row};
-    ghost use Rattle.snapshot.specs.Places.{IsTold};
+    ghost use Rattle.snapshot.specs.Places.{IsOriginKnown};
     ghost use Rattle.snapshot.specs.Rows.{Legal, rows_code};
 
     ghost Value = { List Row };
@@ -41,7 +41,7 @@ impl<L: Server> Model for Reader<L> {
 
     ghost view = { λ w. w.known };
 
-    ghost invariant = { λ w. MatchOption w.place ⊥ (λ r. ((place_view r.place).known ≡ w.known) × IsTold L.opening L.history (place_view r.place)) × Legal L.opening w.known };
+    ghost invariant = { λ w. MatchOption w.place ⊥ (λ r. ((place_view r.place).known ≡ w.known) × IsOriginKnown L.opening L.history (place_view r.place)) × Legal L.opening w.known };
 }
 
 impl<L: Server> Reader<L> {
@@ -111,9 +111,9 @@ fn begin_reading<L: Server>(
     place: &mut Option<PublishedReader>,
     known: &Beginning<L>,
 ) -> Option<PublishedReading>
-    requires { MatchOption place.old ⊥ (λ reader. ((place_view reader.place).known ≡ known.now) × IsTold L.opening L.history (place_view reader.place)) }
+    requires { MatchOption place.old ⊥ (λ reader. ((place_view reader.place).known ≡ known.now) × IsOriginKnown L.opening L.history (place_view reader.place)) }
     ensures saw { IfSome result (λ reading. HasSeen L.opening L.history known.now reading.part.value (place_view reading.place)) }
-    ensures none { result ≡ None → MatchOption place.new ⊥ (λ reader. ((place_view reader.place).known ≡ known.now) × IsTold L.opening L.history (place_view reader.place)) }
+    ensures none { result ≡ None → MatchOption place.new ⊥ (λ reader. ((place_view reader.place).known ≡ known.now) × IsOriginKnown L.opening L.history (place_view reader.place)) }
 {
     let Some(reader) = place.take() else {
         unreachable!()
@@ -134,9 +134,9 @@ fn end_reading<L: Server>(
 ) -> Beginning<L>
     requires published { IsPublished L.opening L.history reading.part.value }
     requires known { (place_view reading.place).known ≡ reading.part.value.rows.seen.log }
-    requires told { IsTold L.opening L.history (place_view reading.place) }
+    requires origin_known { IsOriginKnown L.opening L.history (place_view reading.place) }
     ensures known { result ≡ reading.part.value.rows.seen.log }
-    ensures place { MatchOption place.new ⊥ (λ reader. ((place_view reader.place).known ≡ result) × IsTold L.opening L.history (place_view reader.place)) }
+    ensures place { MatchOption place.new ⊥ (λ reader. ((place_view reader.place).known ≡ result) × IsOriginKnown L.opening L.history (place_view reader.place)) }
 {
     let value = reading.get();
     let known = Beginning::of(&value.rows.seen, value.rows.count);

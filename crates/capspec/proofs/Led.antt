@@ -17,9 +17,9 @@ use Rattle.capspec.proofs.Sharing.{fits}
 abbrev lent : List (List ℕ) → List (Bor (List ℕ))
 lent names = map (λ n. record { ref_ptr = (0, 0); now = n }) names
 
-told : (names : List (List ℕ)) → map (λ (n : Bor (List ℕ)). n.now) (lent names) ≡ names
-told [] = refl
-told (n ∷ names) = ap (λ (ns : List (List ℕ)). n ∷ ns) (told names)
+reported : (names : List (List ℕ)) → map (λ (n : Bor (List ℕ)). n.now) (lent names) ≡ names
+reported [] = refl
+reported (n ∷ names) = ap (λ (ns : List (List ℕ)). n ∷ ns) (reported names)
 
 -- fewer of the names stand in front of more
 split : (names : List (List ℕ)) (k m : ℕ) → k ≤ m → slashed (take m names) ≡ slashed (take k names) ++ slashed (drop k (take m names))
@@ -75,10 +75,10 @@ led text is count counted names b shared_prefix r holds_if if_holds =
       ]
       | inr enough ↦
           let few : count ≤ length names = omega (arith, enough) in
-          let taken : map (λ (n : Bor (List ℕ)). n.now) (take count (lent names)) ≡ take count names = sym (take-map (λ (n : Bor (List ℕ)). n.now) count (lent names)) ∙ ap (take count) (told names) in
+          let taken : map (λ (n : Bor (List ℕ)). n.now) (take count (lent names)) ≡ take count names = sym (take-map (λ (n : Bor (List ℕ)). n.now) count (lent names)) ∙ ap (take count) (reported names) in
           leads text is count counted (lent names) (let same : length (lent names) ≡ length names = length-map names _ in omega (arith, few, same)) r (
             λ holds. whole names text b shared_prefix count (holds_if holds).0 (holds_if holds).1 ∙ ap slashed (sym taken),
             λ e. (let same : text ≡ slashed (take count names) = e ∙ ap slashed taken in if_holds (same_count names text b shared_prefix count few same) (same_size names text b shared_prefix count few same)),
           )
-          ∙ ap (λ (ns : List (List ℕ)). starts_with bytes_eq ns (names_of text)) (told names)
+          ∙ ap (λ (ns : List (List ℕ)). starts_with bytes_eq ns (names_of text)) (reported names)
     ]

@@ -10,7 +10,7 @@ pub mod Righting
 pub mod Determined
 pub mod Complete
 pub mod OneReading
-pub mod Told
+pub mod Reported
 pub mod Slashed
 pub mod Written
 pub mod Joining

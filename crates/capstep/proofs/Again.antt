@@ -91,12 +91,12 @@ pub tree-passed : (s : Scene) (q : Request) → tree_with s.tree q.ino.0 q.opera
 tree-passed s q = passed_tree s q q.operation refl
 
 -- a serving leaves the tree, or makes the change that nothing rejects
-pub leaves-or-makes : (s : Scene) (q : Request) (o : Outcome) → MayEndAs s q o →
+pub stays-or-makes : (s : Scene) (q : Request) (o : Outcome) → MayEndAs s q o →
     (s.tree ≡ tree_after s.tree q o) ⊎ ((judged_again s q ≡ None) × (tree_with s.tree q.ino.0 q.operation ≡ tree_after s.tree q o))
-leaves-or-makes s q o (As_judged) = by_rejection (judged_again s q) refl
+stays-or-makes s q o (As_judged) = by_rejection (judged_again s q) refl
   where
     by_rejection : (rejection : Option Rejection) → judged_again s q ≡ rejection →
         (s.tree ≡ tree_after s.tree q (outcome_unless s q (judged_again s q))) ⊎ ((judged_again s q ≡ None) × (tree_with s.tree q.ino.0 q.operation ≡ tree_after s.tree q (outcome_unless s q (judged_again s q))))
     by_rejection None is = inr (is, tree-passed s q ∙ ap (λ rejection. tree_after s.tree q (outcome_unless s q rejection)) (sym is))
     by_rejection (Some rejection) is = inl (tree-rejection s.tree q rejection (outcome_unless s q (judged_again s q)) (ap (outcome_unless s q) is))
-leaves-or-makes s q o (Without_memory free takes) = inl refl
+stays-or-makes s q o (Without_memory free takes) = inl refl

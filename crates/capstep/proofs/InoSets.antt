@@ -5,7 +5,7 @@ use Rattle.std.specs.Cmp.{eq_by_cmp_equiv, nat_cmp_total}
 use Rattle.std.specs.Ordering.{eq_by_cmp, nat_cmp}
 use Rattle.std.specs.FinSet as set
 use Rattle.capstep.proofs.Common.{InoSet}
-use Rattle.capstep.specs.Reach.{Widens}
+use Rattle.capstep.specs.AffectedInodes.{Widens}
 
 pub none-there : (k : ℕ) → set.contains (set.empty {R = nat_cmp}) k ≡ false
 none-there k = set.contains-empty nat_cmp k

@@ -20,9 +20,9 @@ pub some-mapped : {A B : Type 0} (f : A → B) (o : Option A) → is_some (optio
 some-mapped f None = refl
 some-mapped f (Some x) = refl
 
-pub told-or : (o : Option ClientView) → (unwrap_or o no_sets).told ≡ unwrap_or (option_map (λ (s : ClientView). s.told) o) no_caps
-told-or None = refl
-told-or (Some s) = refl
+pub pending-or : (o : Option ClientView) → (unwrap_or o no_sets).pending ≡ unwrap_or (option_map (λ (s : ClientView). s.pending) o) no_caps
+pending-or None = refl
+pending-or (Some s) = refl
 
 -- another holder
 pub other-holder : (j k : Holder) → same j k ≡ false → j ≢ k
@@ -32,17 +32,17 @@ other-holder j k off is = true≢false (sym (same_equiv.refl j) ∙ ap (same j) 
 
 module _ (f : EntryRow → Caps) (t : Table) (was : ClientViews) (h : Holder) where
   -- where it has an entry, and what is told of it is kept anew
-  module _ (now : ClientViews) (e : Entry) (s : ClientView) (there : entry_at t h ≡ Some e) (first : sets_of was h ≡ Some s) (own : sets_of now h ≡ Some (record s { told = f (record { holder = h; entry = e }) }))
+  module _ (now : ClientViews) (e : Entry) (s : ClientView) (there : entry_at t h ≡ Some e) (first : sets_of was h ≡ Some s) (own : sets_of now h ≡ Some (record s { pending = f (record { holder = h; entry = e }) }))
       (others : (k : Holder) → k ≢ h → sets_of now k ≡ sets_of was k) where
     abbrev Ends : Holder → Bool → Type 0
     Ends k b = (known_of now k ≡ known_anew b f (find (is_row_of k) t.rows) (known_of was k)) × (permitted_of now k ≡ permitted_of was k)
 
     ends : (k : Holder) (b : Bool) → same k h ≡ b → Ends k b
     ends k true on = subst (λ q. Ends q true) (sym (same-is k h on)) (
-      ap (option_map (λ (s : ClientView). s.told)) own ∙ sym (ap (λ o. known_anew true f o (known_of was h)) (row_of-entry t h e there)),
+      ap (option_map (λ (s : ClientView). s.pending)) own ∙ sym (ap (λ o. known_anew true f o (known_of was h)) (row_of-entry t h e there)),
       ap (option_map (λ (s : ClientView). s.permitted)) own ∙ ap (option_map (λ (s : ClientView). s.permitted)) (sym first),
     )
-    ends k false off = let is = others k (other-holder k h off) in (ap (option_map (λ (s : ClientView). s.told)) is, ap (option_map (λ (s : ClientView). s.permitted)) is)
+    ends k false off = let is = others k (other-holder k h off) in (ap (option_map (λ (s : ClientView). s.pending)) is, ap (option_map (λ (s : ClientView). s.permitted)) is)
 
     pub kept-one : KnownAnew (λ k. same k h) f t was now × ((k : Holder) → permitted_of now k ≡ permitted_of was k)
     kept-one = (λ k. (ends k (same k h) refl).0, λ k. (ends k (same k h) refl).1)

@@ -15,7 +15,7 @@ use Rattle.inotree.specs.Inodes.{with_attribute, with_setting, without_attribute
 use Rattle.inotree.specs.Tree.{is_within}
 use Rattle.inotree.specs.declared.node.Setting.TheVariants.{Gid, Mode, Size, Time, Uid}
 use Rattle.sessiontab.specs.Table.{SessionTable}
-use Rattle.lockmachine.proofs.PolicyElsewhere.{alike-itself, permitted-kept}
+use Rattle.lockmachine.proofs.PolicyElsewhere.{alike-itself, permitted-stays}
 use Rattle.step_model.specs.Changing.{tree_after, tree_changed}
 use Rattle.step_model.specs.NotedChanges.{sets_attr}
 use Rattle.lockmachine.specs.declared.request.Change.TheVariants.{RemoveXattr, Set, SetXattr}
@@ -40,14 +40,14 @@ pub record Along (may : Holder → Caps) (all left : Holder → Bool) (was now :
   pub inside : (k : Holder) → left k ≡ true → all k ≡ true
   pub anew : (k : Holder) → all k ≡ true → left k ≡ false → permitted_of now k ≡ Some (may k)
   pub others : (k : Holder) → all k ≡ false → permitted_of now k ≡ permitted_of was k
-  pub told : (k : Holder) → known_of now k ≡ known_of was k
+  pub pending : (k : Holder) → known_of now k ≡ known_of was k
 
 pub along-begins : (may : Holder → Caps) (all left : Holder → Bool) (sets : ClientViews) → ((k : Holder) → all k ≡ left k) → Along may all left sets sets
 along-begins may all left sets are = record {
   inside = λ k among. are k ∙ among;
   anew = λ k among none. absurd (true≢false (sym among ∙ are k ∙ none));
   others = λ k none. refl;
-  told = λ k. refl;
+  pending = λ k. refl;
 }
 
 pub along-more : (may : Holder → Caps) (all left one rest : Holder → Bool) (was mid now : ClientViews) → Along may all left was mid → Renews one may mid now
@@ -56,7 +56,7 @@ along-more may all left one rest was mid now along then parts = record {
   inside = λ k among. along.inside k (parts k ∙ second_true (one k) (rest k) among);
   anew = λ k among none. by_one k among none (one k) refl;
   others = λ k off. then.others k (false_from_ne_true (one k) (λ is. true≢false (sym (along.inside k (parts k ∙ ap (λ b. b || rest k) is)) ∙ off))) ∙ along.others k off;
-  told = λ k. then.told k ∙ along.told k;
+  pending = λ k. then.pending k ∙ along.pending k;
 }
   where
     by_one : (k : Holder) → all k ≡ true → rest k ≡ false → (b : Bool) → one k ≡ b → permitted_of now k ≡ Some (may k)
@@ -65,7 +65,7 @@ along-more may all left one rest was mid now along then parts = record {
         then.others k off ∙ along.anew k among (parts k ∙ (λ i. off i || none i))
 
 pub along-ends : (may : Holder → Caps) (all left : Holder → Bool) (was now : ClientViews) → Along may all left was now → ((k : Holder) → left k ≡ false) → Renews all may was now
-along-ends may all left was now along none = record { anew = λ k among. along.anew k among (none k); others = along.others; told = along.told }
+along-ends may all left was now along none = record { anew = λ k among. along.anew k among (none k); others = along.others; pending = along.pending }
 
 -- ---- who has an entry
 
@@ -84,7 +84,7 @@ pub renews-nobody : (passes : Holder → Bool) (may : Holder → Caps) (t : Tabl
 renews-nobody passes may t sets none = record {
   anew = λ k on. absurd (true≢false (sym on ∙ sym (among-passing passes t k) ∙ ap (λ (rows : List EntryRow). is_among (holders_of_rows rows) k) (none_pass (λ row. passes row.holder) t.rows none)));
   others = λ k off. refl;
-  told = λ k. refl;
+  pending = λ k. refl;
 }
   where
     none_pass : (p : EntryRow → Bool) (rows : List EntryRow) → list_any p rows ≡ false → filter p rows ≡ []
@@ -143,11 +143,11 @@ module _ (fs : List ℕ) (old new : Nodes) (before after : SessionTable) (t : Ta
 pub permitted-on : (fs : List ℕ) (old new : Nodes) (sessions : SessionTable) (t : Table) (was now : ClientViews) (at : ℕ → Bool) → Renews (λ k. at k.ino.0 && has_entry t k) (permitted fs new sessions) was now
     → ((k : Holder) (e : Entry) → entry_at t k ≡ Some e → at k.ino.0 ≡ false → IsAlike old new k.ino.0) → ArePermitted was fs old sessions t → ArePermitted now fs new sessions t
 permitted-on fs old new sessions t was now at renews alike =
-    permitted-anew fs old new sessions sessions t was now (λ k. at k.ino.0) renews (λ k e there off. permitted-kept fs old new sessions sessions k (alike k e there off) refl)
+    permitted-anew fs old new sessions sessions t was now (λ k. at k.ino.0) renews (λ k e there off. permitted-stays fs old new sessions sessions k (alike k e there off) refl)
 
 -- nothing changed anywhere
 pub permitted-still : (fs : List ℕ) (old new : Nodes) (sessions : SessionTable) (t : Table) (sets : ClientViews) → ((ino : ℕ) → IsAlike old new ino) → ArePermitted sets fs old sessions t → ArePermitted sets fs new sessions t
-permitted-still fs old new sessions t sets alike are k e there = are k e there ∙ ap Some (sym (permitted-kept fs old new sessions sessions k (alike k.ino.0) refl))
+permitted-still fs old new sessions t sets alike are k e there = are k e there ∙ ap Some (sym (permitted-stays fs old new sessions sessions k (alike k.ino.0) refl))
 
 -- policy looks at the owner, the group and the mode alone
 pub alike-unset : (tree : Nodes) (ino other : ℕ) (change : Change) → sets_attr change ≡ false → IsAlike tree (tree_changed tree ino change) other

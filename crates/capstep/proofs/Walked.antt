@@ -12,7 +12,7 @@ use Rattle.inotree.specs.Tree.{is_within}
 use Rattle.captable.specs.Calls.{is_of_inode}
 use Rattle.capstep.proofs.Common.{EntryRow, Ino, InoSet, Nodes, Table}
 use Rattle.capstep.proofs.InoSets.{at_more, none-there}
-use Rattle.capstep.specs.Reach.{AreWalked, CoversBelow, Widens}
+use Rattle.capstep.specs.AffectedInodes.{AreWalked, CoversBelow, Widens}
 
 pub second_true : (a b : Bool) → b ≡ true → (a || b) ≡ true
 second_true a b e = grind arith

@@ -27,9 +27,9 @@ permitting-some : (o : Option ClientView) (caps : Caps) → is_some o ≡ true �
 permitting-some None caps some = absurd (true≢false (sym some))
 permitting-some (Some s) caps some = refl
 
-permitting-told : (o : Option ClientView) (caps : Caps) → option_map (λ (s : ClientView). s.told) (option_map (permitting caps) o) ≡ option_map (λ (s : ClientView). s.told) o
-permitting-told None caps = refl
-permitting-told (Some s) caps = refl
+permitting-pending : (o : Option ClientView) (caps : Caps) → option_map (λ (s : ClientView). s.pending) (option_map (permitting caps) o) ≡ option_map (λ (s : ClientView). s.pending) o
+permitting-pending None caps = refl
+permitting-pending (Some s) caps = refl
 
 module _ (passes : Holder → Bool) (may : Holder → Caps) (was : KeptTable) where
   abbrev rows : List EntryRow
@@ -68,7 +68,7 @@ module _ (passes : Holder → Bool) (may : Holder → Caps) (was : KeptTable) wh
 
     some_kept : is_some (sets_of mid.kept own) ≡ true
     some_kept =
-        sym (some-mapped (λ (s : ClientView). s.told) (sets_of mid.kept own)) ∙ ap is_some (walking.kept.told own) ∙ some-mapped (λ (s : ClientView). s.told) (sets_of was.kept own)
+        sym (some-mapped (λ (s : ClientView). s.pending) (sets_of mid.kept own)) ∙ ap is_some (walking.kept.pending own) ∙ some-mapped (λ (s : ClientView). s.pending) (sets_of was.kept own)
         ∙ beside-entry was own beside ∙ inside.1
 
     module _ (caps : Caps) (now : KeptTable) (is : now ≡ with_kept mid own (permitting caps)) where
@@ -81,17 +81,17 @@ module _ (passes : Holder → Bool) (may : Holder → Caps) (was : KeptTable) wh
       other_now : (k : Holder) → same k own ≡ false → sets_of now.kept k ≡ sets_of mid.kept k
       other_now k off = ap (λ (kept : ClientViews). sets_of kept k) kept_now ∙ keeping-other mid.kept own (permitting caps) k (same_equiv.symm own k ∙ off)
 
-      same_told : (k : Holder) (b : Bool) → same k own ≡ b → known_of now.kept k ≡ known_of mid.kept k
-      same_told k true on =
-          subst (λ h. known_of now.kept h ≡ known_of mid.kept h) (sym (same-is k own on)) (ap (option_map (λ (s : ClientView). s.told)) own_now ∙ permitting-told (sets_of mid.kept own) caps)
-      same_told k false off = ap (option_map (λ (s : ClientView). s.told)) (other_now k off)
+      same_pending : (k : Holder) (b : Bool) → same k own ≡ b → known_of now.kept k ≡ known_of mid.kept k
+      same_pending k true on =
+          subst (λ h. known_of now.kept h ≡ known_of mid.kept h) (sym (same-is k own on)) (ap (option_map (λ (s : ClientView). s.pending)) own_now ∙ permitting-pending (sets_of mid.kept own) caps)
+      same_pending k false off = ap (option_map (λ (s : ClientView). s.pending)) (other_now k off)
 
       renews : caps ≡ may own → Renews (λ k. same k own) may mid.kept now.kept
       renews are = record {
         anew = λ k on. subst (λ h. permitted_of now.kept h ≡ Some (may h)) (sym (same-is k own on))
             (ap (option_map (λ (s : ClientView). s.permitted)) own_now ∙ permitting-some (sets_of mid.kept own) caps some_kept ∙ ap Some are);
         others = λ k off. ap (option_map (λ (s : ClientView). s.permitted)) (other_now k off);
-        told = λ k. same_told k (same k own) refl;
+        pending = λ k. same_pending k (same k own) refl;
       }
 
       pub walking-more : caps ≡ may own → (at : Option Holder) → at ≡ newer_in (holders_of_rows (passing passes now.entries)) own → Walking passes may was now at

@@ -1,6 +1,6 @@
 -- What an entry becomes at the end of a step, by the locks of its inode alone.
-pub use Rattle.step_model.specs.Finish.{due_under}
-pub use Rattle.lockmachine.specs.Under.{told_under}
+pub use Rattle.step_model.specs.Finish.{issuable_under}
+pub use Rattle.lockmachine.specs.Under.{pending_under}
 use Rattle.std.specs.Prelude.{Bool, List, Option, ℕ}
 use Rattle.std.specs.Prelude.{map as each}
 use Rattle.std.specs.FinMap as map
@@ -25,21 +25,21 @@ clients_of rows = each (λ row. row.holder.client.0) rows
 -- the entry, once this was issued: it has a new number if its client is told of another set than was known, so far as it still
 -- held that
 abbrev pub numbered_as : Caps → Caps → Caps → EntryRow → Entry
-numbered_as known told due row = renumbered (meet known row.entry.held) told (issued due row.entry)
+numbered_as known pending issuable row = renumbered (meet known row.entry.held) pending (issued issuable row.entry)
 
 -- what its client is to know of at the end, where its inode has these locks
-abbrev pub told_at : List ℕ → Nodes → SessionTable → Option InodeLocks → EntryRow → Caps
-told_at fs tree sessions locks row =
-    told_under (permitted fs tree sessions row.holder) locks (record row { entry = issued (due_under fs tree sessions locks row) row.entry })
+abbrev pub pending_at : List ℕ → Nodes → SessionTable → Option InodeLocks → EntryRow → Caps
+pending_at fs tree sessions locks row =
+    pending_under (permitted fs tree sessions row.holder) locks (record row { entry = issued (issuable_under fs tree sessions locks row) row.entry })
 
 -- the entry at the end, where this was known of entries
 abbrev pub entry_under : (Holder → Caps) → List ℕ → Nodes → SessionTable → Option InodeLocks → EntryRow → Entry
 entry_under known fs tree sessions locks row =
-    numbered_as (known row.holder) (told_at fs tree sessions locks row) (due_under fs tree sessions locks row) row
+    numbered_as (known row.holder) (pending_at fs tree sessions locks row) (issuable_under fs tree sessions locks row) row
 
 -- both by the locks of all inodes
-abbrev pub told_by : List ℕ → Nodes → SessionTable → StateMap → EntryRow → Caps
-told_by fs tree sessions states row = told_at fs tree sessions (map.get states row.holder.ino.0) row
+abbrev pub pending_by : List ℕ → Nodes → SessionTable → StateMap → EntryRow → Caps
+pending_by fs tree sessions states row = pending_at fs tree sessions (map.get states row.holder.ino.0) row
 
 abbrev pub entry_by : (Holder → Caps) → List ℕ → Nodes → SessionTable → StateMap → EntryRow → Entry
 entry_by known fs tree sessions states row = entry_under known fs tree sessions (map.get states row.holder.ino.0) row

@@ -8,9 +8,9 @@ use Rattle.captable.specs.Table.{Table, entry_at, is_row_of, same}
 use Rattle.captable.specs.declared.entry.Entry.{Entry}
 use Rattle.captable.specs.declared.entry.EntryRow.{EntryRow}
 use Rattle.captable.specs.declared.entry.Holder.{Holder}
-use Rattle.step_model.specs.Finish.{due}
+use Rattle.step_model.specs.Finish.{issuable}
 use Rattle.lockmachine.specs.Policy.{ArePermitted}
-use Rattle.lockmachine.specs.Scene.{Scene, told_set}
+use Rattle.lockmachine.specs.Scene.{Scene, pending_of}
 
 -- what is kept of a holder, and nothing where nothing is
 abbrev pub known_in : ClientViews → Holder → Caps
@@ -18,7 +18,7 @@ known_in sets k = unwrap_or (known_of sets k) no_caps
 
 -- of each entry it is kept, and it is what its client is to know of. What is kept of others counts for nothing
 abbrev pub AreKnown : ClientViews → Scene → Type 0
-AreKnown sets s = (k : Holder) (e : Entry) → entry_at s.table k ≡ Some e → known_of sets k ≡ Some (told_set s (record { holder = k; entry = e }))
+AreKnown sets s = (k : Holder) (e : Entry) → entry_at s.table k ≡ Some e → known_of sets k ≡ Some (pending_of s (record { holder = k; entry = e }))
 
 -- ---- as an event leaves it
 
@@ -40,7 +40,7 @@ pub record StillKept (s : Scene) (new : Table) (was now : ClientViews) : Type 0 
 
 -- all that is due to the entry is held, and what is kept of it is what its client is to know of: the end of a step leaves it so
 abbrev pub HasAll : ClientViews → Scene → EntryRow → Type 0
-HasAll sets s row = IsSubset (due s row) row.entry.held × (known_of sets row.holder ≡ Some (told_set s row))
+HasAll sets s row = IsSubset (issuable s row) row.entry.held × (known_of sets row.holder ≡ Some (pending_of s row))
 
 -- so it is of each entry on the holder's inode but its own
 abbrev pub OthersHaveAll : ClientViews → Scene → Holder → Type 0

@@ -2,6 +2,6 @@ pub mod Operations
 pub mod Served
 pub mod Finishing
 pub mod Known
-pub mod Reach
+pub mod AffectedInodes
 pub mod Left
 pub mod Renewing

@@ -11,7 +11,7 @@ use Rattle.step_model.specs.Changing.{tree_after}
 use Rattle.lockmachine.specs.declared.request.Request.{Request}
 use Rattle.lockmachine.specs.Scene.{Scene}
 use Rattle.capstep.specs.Known.{ClientViews, known_of, permitted_of}
-use Rattle.capstep.specs.Reach.{Covers}
+use Rattle.capstep.specs.AffectedInodes.{Covers}
 use Rattle.capstep.specs.Served.{is_rename}
 
 -- the holder has an entry
@@ -23,7 +23,7 @@ has_entry table k = is_some (entry_at table k)
 pub record Renews (among : Holder → Bool) (may : Holder → Caps) (was now : ClientViews) : Type 0 where
   pub anew : (k : Holder) → among k ≡ true → permitted_of now k ≡ Some (may k)
   pub others : (k : Holder) → among k ≡ false → permitted_of now k ≡ permitted_of was k
-  pub told : (k : Holder) → known_of now k ≡ known_of was k
+  pub pending : (k : Holder) → known_of now k ≡ known_of was k
 
 -- from this tree the request was served, and ended so: each inode but its own is alike, unless it was to move that and the other lies
 -- below; and what it moved is covered, or the tree stayed as it was

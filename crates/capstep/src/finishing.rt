@@ -8,7 +8,7 @@ ghost use Rattle.capstep.specs.Known.{KnownAnew, known_in, permitted_of};
 ghost use Rattle.capstep.specs.Finishing as words;
 
 use captable::{CapTable, Entry, EntryRow};
-use lockmachine::{InodeLocks, Policy, allowed_under, told_under, want_of_permitted};
+use lockmachine::{InodeLocks, Policy, allowed_under, pending_under, want_of_permitted};
 
 /// Ends the step for one entry, which is there, by what it is known to be permitted and the locks of its inode: issues due caps,
 /// raises `seq` if the told set changed, and notes the told set. `place` is a guess at where the entry stands in the table.
@@ -25,7 +25,7 @@ pub fn finish_row(
     requires number { row.entry.seq < 2 ^ 64 - 1 }
     ensures table { table.new.entries
         ≡ changed_by (words.entry_under (known_in table.old.kept) policy.now.fs.now policy.now.tree.now policy.now.sessions.now locks.now) table.old.entries row.holder }
-    ensures known { KnownAnew (λ k. same k row.holder) (words.told_at policy.now.fs.now policy.now.tree.now policy.now.sessions.now locks.now)
+    ensures known { KnownAnew (λ k. same k row.holder) (words.pending_at policy.now.fs.now policy.now.tree.now policy.now.sessions.now locks.now)
         table.old.entries table.old.kept table.new.kept }
     ensures permitted { (k : Holder) → permitted_of table.new.kept k ≡ permitted_of table.old.kept k }
 {
@@ -33,21 +33,21 @@ pub fn finish_row(
     let kept = table.kept_near(holder.client, holder.ino, place);
     // Due is what its client wants, is permitted of that, and the locks allow.
     let wanted = want_of_permitted(policy.sessions, row, kept.permitted);
-    let due = wanted.meet(allowed_under(&row, locks));
-    let held = entry.held.union(due);
+    let issuable = wanted.meet(allowed_under(&row, locks));
+    let held = entry.held.union(issuable);
     let issued = Entry { held, ..entry };
     let ended = EntryRow {
         holder,
         entry: issued,
     };
-    let told = told_under(&ended, kept.permitted, locks);
+    let pending = pending_under(&ended, kept.permitted, locks);
     // Most told sets of an inode stay as they are, and so do most entries.
-    if told != kept.told {
-        table.keep_told(holder.client, holder.ino, told);
+    if pending != kept.pending {
+        table.keep_pending(holder.client, holder.ino, pending);
     }
-    let before = kept.told.meet(entry.held);
-    if held == entry.held && told == before {
+    let before = kept.pending.meet(entry.held);
+    if held == entry.held && pending == before {
         return;
     }
-    table.issue_numbered(holder.client, holder.ino, due, before, told);
+    table.issue_numbered(holder.client, holder.ino, issuable, before, pending);
 }

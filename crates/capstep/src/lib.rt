@@ -7,7 +7,7 @@
 pub mod finishing;
 pub mod history;
 pub mod judge;
-pub mod leaving;
+pub mod session_end;
 pub mod opening;
 mod operations;
 pub mod renewing;

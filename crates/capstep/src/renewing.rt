@@ -27,7 +27,7 @@ pub fn renew_served(
         → ArePermitted scene.old.table.kept scene.old.fs tree scene.old.sessions scene.old.table.entries
         → ArePermitted scene.new.table.kept scene.old.fs scene.old.tree scene.old.sessions scene.old.table.entries }
     ensures rest { scene.new ≡ record scene.old { table = record scene.old.table { kept = scene.new.table.kept } } }
-    ensures told { (k : Holder) → known_of scene.new.table.kept k ≡ known_of scene.old.table.kept k }
+    ensures pending { (k : Holder) → known_of scene.new.table.kept k ≡ known_of scene.old.table.kept k }
 {
     let Outcome::Done = outcome else {
         return;
@@ -63,7 +63,7 @@ pub fn renew_changed(policy: &Policy<'_>, table: &mut CapTable, ino: Ino, change
     ensures permitted { (tree : Nodes) → policy.now.tree.now ≡ tree_changed tree ino.0 change.now
         → ArePermitted table.old.kept policy.now.fs.now tree policy.now.sessions.now table.old.entries
         → ArePermitted table.new.kept policy.now.fs.now policy.now.tree.now policy.now.sessions.now table.old.entries }
-    ensures told { (k : Holder) → known_of table.new.kept k ≡ known_of table.old.kept k }
+    ensures pending { (k : Holder) → known_of table.new.kept k ≡ known_of table.old.kept k }
     ensures entries { table.new ≡ record table.old { kept = table.new.kept } }
 {
     // Of what a change may set, policy reads the owner, the group and the mode alone.

@@ -215,8 +215,8 @@ module _ (t t' : Lists Slot) (made : ℕ) (h : Holder) (key : ℕ) (s : ClientVi
       by_test true (Some m) = refl
       by_test false o = refl
 
-  pub IsLinked-kept : IsLists t' → IsLinked t' made
-  IsLinked-kept sound =
+  pub IsLinked-stays : IsLists t' → IsLinked t' made
+  IsLinked-stays sound =
       record {
         sound = sound;
         table = subst IsTable (sym table-kept) is.table;

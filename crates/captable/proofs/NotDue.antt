@@ -165,8 +165,8 @@ none_due-touched t t' key touches places all client place e =
 
 -- ---- other sets beside an entry
 
-pub none_due-kept : (t t' : Lists Slot) (key : ℕ) (s : ClientView) → KeepsSets t t' key s → (places : ClientId → Option (Option ℕ)) → NoneDueBeforeAny t places → NoneDueBeforeAny t' places
-none_due-kept t t' key s keeps places all client place e =
+pub none_due-stays : (t t' : Lists Slot) (key : ℕ) (s : ClientView) → KeepsSets t t' key s → (places : ClientId → Option (Option ℕ)) → NoneDueBeforeAny t places → NoneDueBeforeAny t' places
+none_due-stays t t' key s keeps places all client place e =
     subst (λ ks. NoneDueIn ks (is_due_at t') place) (sym (keeps.lists (OfClient client)))
     (none_due-fewer (keys t (OfClient client)) (is_due_at t) (is_due_at t') place (λ k there is. sym (ap due_of (keeps.nodes k) ∙ by_test (nat_eq k key) (node_at t k)) ∙ is) (all client place e))
   where

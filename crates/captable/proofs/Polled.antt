@@ -40,8 +40,8 @@ module _ {V : Type 0} (part : Poll → V) (m : Polls) (client : ClientId) where
       ap (λ n. part_of part n q) is ∙ ap (option_map part) (change-at m client.0 q.0 f) ∙ mapped (same_client client q) f g does (map.get m q.0)
 
   -- a part that stays
-  pub part-kept : (f : Poll → Poll) → ((poll : Poll) → part (f poll) ≡ part poll) → (n : Polls) → n ≡ change_at f m client.0 → (q : ClientId) → part_of part n q ≡ part_of part m q
-  part-kept f does n is q = part-changed f (λ v. v) does n is q ∙ same (same_client client q) (part_of part m q)
+  pub part-stays : (f : Poll → Poll) → ((poll : Poll) → part (f poll) ≡ part poll) → (n : Polls) → n ≡ change_at f m client.0 → (q : ClientId) → part_of part n q ≡ part_of part m q
+  part-stays f does n is q = part-changed f (λ v. v) does n is q ∙ same (same_client client q) (part_of part m q)
     where
       same : (b : Bool) (o : Option V) → cond b (option_map (λ v. v) o) o ≡ o
       same true None = refl
@@ -106,15 +106,15 @@ module _ (m : Polls) (client : ClientId) (n : Polls) where
       → (q : ClientId) → places_of n q ≡ cond (same_client client q) (option_map g (places_of m q)) (places_of m q)
   places-changed g is = part-changed (λ poll. poll.place) m client (λ poll. record poll { place = g poll.place }) g (λ poll. refl) n is
 
-  pub counts-kept : (g : Option ℕ → Option ℕ) → n ≡ change_at (λ poll. record poll { place = g poll.place }) m client.0 → (q : ClientId) → counts_of n q ≡ counts_of m q
-  counts-kept g is = part-kept (λ poll. poll.due) m client (λ poll. record poll { place = g poll.place }) (λ poll. refl) n is
+  pub counts-stay : (g : Option ℕ → Option ℕ) → n ≡ change_at (λ poll. record poll { place = g poll.place }) m client.0 → (q : ClientId) → counts_of n q ≡ counts_of m q
+  counts-stay g is = part-stays (λ poll. poll.due) m client (λ poll. record poll { place = g poll.place }) (λ poll. refl) n is
 
   pub counts-changed : (g : ℕ → ℕ) → n ≡ change_at (λ poll. record poll { due = g poll.due }) m client.0
       → (q : ClientId) → counts_of n q ≡ cond (same_client client q) (option_map g (counts_of m q)) (counts_of m q)
   counts-changed g is = part-changed (λ poll. poll.due) m client (λ poll. record poll { due = g poll.due }) g (λ poll. refl) n is
 
-  pub places-kept : (g : ℕ → ℕ) → n ≡ change_at (λ poll. record poll { due = g poll.due }) m client.0 → (q : ClientId) → places_of n q ≡ places_of m q
-  places-kept g is = part-kept (λ poll. poll.place) m client (λ poll. record poll { due = g poll.due }) (λ poll. refl) n is
+  pub places-stay : (g : ℕ → ℕ) → n ≡ change_at (λ poll. record poll { due = g poll.due }) m client.0 → (q : ClientId) → places_of n q ≡ places_of m q
+  places-stay g is = part-stays (λ poll. poll.place) m client (λ poll. record poll { due = g poll.due }) (λ poll. refl) n is
 
 -- who has a count has a place
 pub counts-placed : (t : Lists Slot) (m : Polls) → ArePlaced t (places_of m) → ArePlaced t (counts_of m)

@@ -159,8 +159,8 @@ among-filter p (h ∷ hs) q =
     ] refl
 
 -- those that pass a test
-pub IsTable-kept : (t : Table) (p : Holder → Bool) → IsTable t → IsTable (record t { rows = filter (λ row. p row.holder) t.rows; recall = filter p t.recall })
-IsTable-kept t p is =
+pub IsTable-stays : (t : Table) (p : Holder → Bool) → IsTable t → IsTable (record t { rows = filter (λ row. p row.holder) t.rows; recall = filter p t.recall })
+IsTable-stays t p is =
     let e = holders-filter p t.rows in
     record {
       one_row = rw e (distinct-filter p (holders_of_rows t.rows) is.one_row);
@@ -170,10 +170,10 @@ IsTable-kept t p is =
     }
 
 pub IsTable-without : (t : Table) (k : Holder) → IsTable t → IsTable (without t k)
-IsTable-without t k is = IsTable-kept t (λ h. not (same k h)) is
+IsTable-without t k is = IsTable-stays t (λ h. not (same k h)) is
 
 pub IsTable-without_client : (t : Table) (client : ClientId) → IsTable t → IsTable (without_client t client)
-IsTable-without_client t client is = IsTable-kept t (λ h. not (h.client.0 == client.0)) is
+IsTable-without_client t client is = IsTable-stays t (λ h. not (h.client.0 == client.0)) is
 
 pub IsTable-recalled : (t : Table) (n : ℕ) → IsTable t → IsTable (recalled t n)
 IsTable-recalled t n is = IsTable-asked t (take n t.recall) is

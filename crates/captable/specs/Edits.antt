@@ -4,7 +4,7 @@ use Rattle.captable.specs.declared.entry.Edit.{Edit}
 use Rattle.captable.specs.declared.entry.Edit.TheVariants.{Ack, Ask, Issue, IssueNumbered, OweSize, Release, Renumber, Tell, Want}
 use Rattle.captable.specs.declared.entry.Entry.{Entry}
 use Rattle.captable.specs.declared.entry.Keeping.{Keeping}
-use Rattle.captable.specs.declared.entry.Keeping.TheVariants.{Both, Permitted, Told}
+use Rattle.captable.specs.declared.entry.Keeping.TheVariants.{Both, Pending, Permitted}
 use Rattle.captable.specs.declared.entry.ClientView.{ClientView}
 use Rattle.captable.specs.Kept.{permitting, telling}
 use Rattle.captable.specs.Calls.{issued, renumbered, wanting, with_asked, with_size_due, with_told, without_acked, without_released}
@@ -30,5 +30,5 @@ is_numbering _ = false
 -- what becomes of the sets beside it
 abbrev pub kept_as : Keeping → ClientView → ClientView
 kept_as (Both sets) = λ _. sets
-kept_as (Told caps) = telling caps
+kept_as (Pending caps) = telling caps
 kept_as (Permitted caps) = permitting caps

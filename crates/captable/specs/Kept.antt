@@ -34,15 +34,15 @@ abbrev pub sets_beside : List KeptRow → Holder → Option ClientView
 sets_beside kept k = option_map (λ (row : KeptRow). row.sets) (find (is_kept_of k) kept)
 
 -- what its client is to know of, and what it is permitted
-abbrev pub told_beside : List KeptRow → Holder → Option Caps
-told_beside kept k = option_map (λ (sets : ClientView). sets.told) (sets_beside kept k)
+abbrev pub pending_beside : List KeptRow → Holder → Option Caps
+pending_beside kept k = option_map (λ (sets : ClientView). sets.pending) (sets_beside kept k)
 
 abbrev pub permitted_beside : List KeptRow → Holder → Option Caps
 permitted_beside kept k = option_map (λ (sets : ClientView). sets.permitted) (sets_beside kept k)
 
 -- nothing is kept yet
 abbrev pub no_sets : ClientView
-no_sets = record { told = no_caps; permitted = no_caps }
+no_sets = record { pending = no_caps; permitted = no_caps }
 
 -- an entry, with what is kept beside it
 abbrev pub kept_entry : List KeptRow → EntryRow → KeptEntry
@@ -108,4 +108,4 @@ abbrev pub permitting : Caps → ClientView → ClientView
 permitting caps sets = record sets { permitted = caps }
 
 abbrev pub telling : Caps → ClientView → ClientView
-telling caps sets = record sets { told = caps }
+telling caps sets = record sets { pending = caps }

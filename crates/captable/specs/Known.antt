@@ -4,7 +4,7 @@ use Rattle.std.specs.Prelude.{List, Option}
 use Rattle.capbits.specs.Caps.{Caps}
 use Rattle.captable.specs.declared.entry.Holder.{Holder}
 use Rattle.captable.specs.declared.entry.ClientView.{ClientView}
-use Rattle.captable.specs.Kept.{KeptRow, permitted_beside, sets_beside, told_beside}
+use Rattle.captable.specs.Kept.{KeptRow, pending_beside, permitted_beside, sets_beside}
 
 -- what is kept of each holder that has an entry
 abbrev pub ClientViews : Type 0
@@ -16,7 +16,7 @@ sets_of kept k = sets_beside kept k
 
 -- what the client is to know of, and what it is permitted, where something is kept of the holder
 abbrev pub known_of : ClientViews → Holder → Option Caps
-known_of kept k = told_beside kept k
+known_of kept k = pending_beside kept k
 
 abbrev pub permitted_of : ClientViews → Holder → Option Caps
 permitted_of kept k = permitted_beside kept k

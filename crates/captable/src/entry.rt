@@ -47,7 +47,7 @@ pub struct EntryRow {
 #[derive(Clone, Copy, Debug)]
 pub struct ClientView {
     /// The set that its client is to know of.
-    pub told: CapSet,
+    pub pending: CapSet,
     /// What its client is permitted to hold.
     pub permitted: CapSet,
 }
@@ -107,7 +107,7 @@ pub(crate) enum Keeping {
     // Both sets.
     Both(ClientView),
     // What the client is to know of.
-    Told(CapSet),
+    Pending(CapSet),
     // What it is permitted to hold.
     Permitted(CapSet),
 }
@@ -118,7 +118,7 @@ impl ClientView {
         ensures { result ≡ no_sets }
     {
         ClientView {
-            told: CapSet::empty(),
+            pending: CapSet::empty(),
             permitted: CapSet::empty(),
         }
     }
@@ -129,7 +129,7 @@ impl ClientView {
     {
         match keeping {
             Keeping::Both(sets) => sets,
-            Keeping::Told(told) => ClientView { told, ..self },
+            Keeping::Pending(pending) => ClientView { pending, ..self },
             Keeping::Permitted(permitted) => ClientView { permitted, ..self },
         }
     }

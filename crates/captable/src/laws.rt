@@ -89,7 +89,7 @@ pub fn a_table_stays_a_table()
 pub fn numbers_say_what_was_shown()
     ensures numbered { (shown before after : Caps) (e : Entry) → e.told_seq ≤ e.seq → IsShown shown before e
         → IsShown shown after (renumbered before after e) }
-    ensures less { (shown told caps : Caps) (e f : Entry) → f.seq ≡ e.seq → f.revoke_seq ≡ e.revoke_seq
-        → f.told_seq ≡ e.told_seq → IsShown shown told e → IsShown (minus shown caps) (minus told caps) f }
+    ensures less { (shown pending caps : Caps) (e f : Entry) → f.seq ≡ e.seq → f.revoke_seq ≡ e.revoke_seq
+        → f.told_seq ≡ e.told_seq → IsShown shown pending e → IsShown (minus shown caps) (minus pending caps) f }
     ensures told { (now : Caps) (e : Entry) → IsShown now now (with_told e) }
 {}

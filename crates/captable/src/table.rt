@@ -473,10 +473,10 @@ impl CapTable {
 
     /// Keeps this beside the client's entry on the inode, from now on, as what it is to know of. Where it has no entry, nothing
     /// happens. It takes no memory.
-    pub fn keep_told(&mut self, client: ClientId, ino: Ino, told: CapSet)
-        ensures { self.new ≡ words.with_kept self.old (holder client ino) (telling told) }
+    pub fn keep_pending(&mut self, client: ClientId, ino: Ino, pending: CapSet)
+        ensures { self.new ≡ words.with_kept self.old (holder client ino) (telling pending) }
     {
-        self.keep_as(Holder { client, ino }, Keeping::Told(told));
+        self.keep_as(Holder { client, ino }, Keeping::Pending(pending));
     }
 
     /// Keeps these sets beside the client's entry on the inode from now on. Where it has no entry, nothing happens. It takes no

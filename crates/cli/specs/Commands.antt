@@ -42,7 +42,7 @@ Answers (invocations.Serve more) input status old new = (status ≡ 0) × IfSome
 -- failed read is told of nothing else but a script that is too long, and then nothing was written.
 pub record RunStops (stop : ScriptFault) (input : Option (List ℕ)) (ended unread unwritten : Bool) (old new : Option (List ℕ)) : Type 0 where
   pub ran : IfSome input (λ script. (text : List ℕ) × Ran {T = ⊤} script ended (Err stop) text × Appends old new text)
-  pub read_told : IsTrue unread → stop ≡ stops.ReadFault
+  pub read_failed : IsTrue unread → stop ≡ stops.ReadFault
   pub read : stop ≡ stops.ReadFault → (IsTrue unread ⊎ IfSome input (λ script. longest_script < length script)) × Appends old new []
   pub long : IfSome input (λ script. longest_script < length script → ((stop ≡ stops.ReadFault) ⊎ (stop ≡ stops.NoMemory)) × Appends old new [])
   pub written : (stop ≡ stops.WriteFault) ↔ IsTrue unwritten
@@ -50,7 +50,7 @@ pub record RunStops (stop : ScriptFault) (input : Option (List ℕ)) (ended unre
 -- The serving stopped so, and this was written. A read or a write that failed is told; unless it was a write that failed, nothing was written.
 pub record ServeStops (stop : ServeFault) (input : Option (List ℕ)) (unread unwritten : Bool) (old new : Option (List ℕ)) : Type 0 where
   pub served : IfSome input (λ script. (text : List ℕ) × IsWritten {T = ⊤} (lines script) (Err stop) text × Appends old new text)
-  pub read_told : IsTrue unread → stop ≡ ServeScript stops.ReadFault
+  pub read_failed : IsTrue unread → stop ≡ ServeScript stops.ReadFault
   pub read : stop ≡ ServeScript stops.ReadFault → IsTrue unread ⊎ IfSome input (λ script. longest_script < length script)
   pub long : IfSome input (λ script. longest_script < length script → (stop ≡ ServeScript stops.ReadFault) ⊎ (stop ≡ ServeScript stops.NoMemory))
   pub written : (stop ≡ ServeScript stops.WriteFault) ↔ IsTrue unwritten
@@ -58,19 +58,19 @@ pub record ServeStops (stop : ServeFault) (input : Option (List ℕ)) (unread un
 
 -- what is told is a fault of an answer, of which this holds
 abbrev pub TellsOfAnswer : (AnswerFault → Type 0) → Fault → Type 0
-TellsOfAnswer P (Answer told) = P told
+TellsOfAnswer P (Answer reported) = P reported
 TellsOfAnswer P (Script stop) = ⊥
 TellsOfAnswer P (Serve stop) = ⊥
 
 -- why there is no whole answer, by whether the input was read to its end, whether a read failed and whether a write did
 abbrev pub Stops : Invocation → Fault → Option (List ℕ) → Bool → Bool → Bool → Option (List ℕ) → Option (List ℕ) → Type 0
-Stops (invocations.Explain explain_args) fault input ended unread unwritten old new = TellsOfAnswer (λ told. StopsExplainArgs explain_args told input unread unwritten old new) fault
-Stops (invocations.Grants text more) fault input ended unread unwritten old new = TellsOfAnswer (λ told. StopsBefore (IsFaultOfText text.items) told unwritten old new) fault
-Stops (invocations.Compare before after shape) fault input ended unread unwritten old new = TellsOfAnswer (λ told. StopsComparing before.items after.items told unwritten old new) fault
-Stops (invocations.Lint text shape) fault input ended unread unwritten old new = TellsOfAnswer (λ told. StopsBefore (IsFaultOfText text.items) told unwritten old new) fault
-Stops (invocations.Who who_args) fault input ended unread unwritten old new = TellsOfAnswer (λ told. StopsWhoArgs who_args told input unread unwritten old new) fault
-Stops (invocations.Audit audit_args) fault input ended unread unwritten old new = TellsOfAnswer (λ told. StopsAuditArgs audit_args told input unread unwritten old new) fault
-Stops (invocations.Log fs) fault input ended unread unwritten old new = TellsOfAnswer (λ told. StopsLog fs.items told input unread unwritten old new) fault
+Stops (invocations.Explain explain_args) fault input ended unread unwritten old new = TellsOfAnswer (λ reported. StopsExplainArgs explain_args reported input unread unwritten old new) fault
+Stops (invocations.Grants text more) fault input ended unread unwritten old new = TellsOfAnswer (λ reported. StopsBefore (IsFaultOfText text.items) reported unwritten old new) fault
+Stops (invocations.Compare before after shape) fault input ended unread unwritten old new = TellsOfAnswer (λ reported. StopsComparing before.items after.items reported unwritten old new) fault
+Stops (invocations.Lint text shape) fault input ended unread unwritten old new = TellsOfAnswer (λ reported. StopsBefore (IsFaultOfText text.items) reported unwritten old new) fault
+Stops (invocations.Who who_args) fault input ended unread unwritten old new = TellsOfAnswer (λ reported. StopsWhoArgs who_args reported input unread unwritten old new) fault
+Stops (invocations.Audit audit_args) fault input ended unread unwritten old new = TellsOfAnswer (λ reported. StopsAuditArgs audit_args reported input unread unwritten old new) fault
+Stops (invocations.Log fs) fault input ended unread unwritten old new = TellsOfAnswer (λ reported. StopsLog fs.items reported input unread unwritten old new) fault
 Stops (invocations.Run more) fault input ended unread unwritten old new = (stop : ScriptFault) × (fault ≡ Script stop) × RunStops stop input ended unread unwritten old new
 Stops (invocations.Serve more) fault input ended unread unwritten old new = (stop : ServeFault) × (fault ≡ Serve stop) × ServeStops stop input unread unwritten old new
 

@@ -48,7 +48,7 @@ pub fn serve<T: Threads + Wait + Sync, R: Read, W: Write>(
     ensures err { OnErr result ((result ≡ Err (faults.Script stops.WriteFault))
         ⊎ Keeps (W.contents (inner_of writer.old)) (W.contents (inner_of writer.new))) }
     // A read that failed is told. ReadFault comes only of that and of a script that is too long.
-    ensures read_told { IsTrue (has_failed reader.new) → result ≡ Err (faults.Script stops.ReadFault) }
+    ensures read_failed { IsTrue (has_failed reader.new) → result ≡ Err (faults.Script stops.ReadFault) }
     ensures read { result ≡ Err (faults.Script stops.ReadFault)
         → IsTrue (has_failed reader.new)
         ⊎ IfSome (R.remaining (inner_of reader.old)) (λ script. longest_script < length script) }
@@ -56,7 +56,7 @@ pub fn serve<T: Threads + Wait + Sync, R: Read, W: Write>(
     ensures long { IfSome (R.remaining (inner_of reader.old)) (λ script. longest_script < length script
         → (result ≡ Err (faults.Script stops.ReadFault)) ⊎ (result ≡ Err (faults.Script stops.NoMemory))) }
     // A write that failed is told, and only that.
-    ensures write_told { (result ≡ Err (faults.Script stops.WriteFault)) ↔ IsTrue (has_failed writer.new) }
+    ensures write_failed { (result ≡ Err (faults.Script stops.WriteFault)) ↔ IsTrue (has_failed writer.new) }
 {
     match read_script(alloc, reader) {
         Ok(script) => serve_whole(rt, alloc, script, writer),
@@ -79,7 +79,7 @@ fn serve_whole<T: Threads + Wait + Sync, W: Write>(
     ensures err { OnErr result ((result ≡ Err (faults.Script stops.WriteFault))
         ⊎ Keeps (W.contents (inner_of writer.old)) (W.contents (inner_of writer.new))) }
     ensures read { result ≢ Err (faults.Script stops.ReadFault) }
-    ensures write_told { (result ≡ Err (faults.Script stops.WriteFault)) ↔ IsTrue (has_failed writer.new) }
+    ensures write_failed { (result ≡ Err (faults.Script stops.WriteFault)) ↔ IsTrue (has_failed writer.new) }
 {
     let text = serve_text(rt, alloc, script.as_slice())?;
     write_text(writer, text.as_slice())?;

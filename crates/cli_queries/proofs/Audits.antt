@@ -8,16 +8,16 @@ use Rattle.cluster_audit.specs.Audited.{AreClients, IsReport, Roster, clients_of
 use Rattle.cli_queries.specs.declared.audit_args.AuditArgs.{AuditArgs}
 use Rattle.cli_queries.specs.AuditArgs.{AnswersAuditArgs}
 
-pub audit_told : {E : Type 0} (audit_args : AuditArgs) (fs bytes auth sessions text written : List ℕ) (known : Roster) (tree : Dump) (found : Bool) (status : ℕ) (input old new : Option (List ℕ)) (failed : Bool) (answer : Result ℕ E)
+pub audit_reported : {E : Type 0} (audit_args : AuditArgs) (fs bytes auth sessions text written : List ℕ) (known : Roster) (tree : Dump) (found : Bool) (status : ℕ) (input old new : Option (List ℕ)) (failed : Bool) (answer : Result ℕ E)
     → bytes ≡ audit_args.fs.items → IsFsName bytes → fs ≡ bytes → auth ≡ audit_args.auth.items → sessions ≡ audit_args.sessions.items → AreClients auth sessions known → IfSome input (λ read. tree_of read ≡ Ok tree)
-    → IsReport fs (clients_of audit_args.manner known) tree text found → status ≡ (if found then 3 else 0) → written ≡ text → IfOk answer (λ told. told ≡ status) → OnOk answer (IsFalse failed × Appends old new written) → IfOk answer (λ told. AnswersAuditArgs audit_args input told old new)
-audit_told audit_args fs bytes auth sessions text written known tree found status input old new failed (Ok told) name named file list others are is audit which what says wrote = record {
+    → IsReport fs (clients_of audit_args.manner known) tree text found → status ≡ (if found then 3 else 0) → written ≡ text → IfOk answer (λ reported. reported ≡ status) → OnOk answer (IsFalse failed × Appends old new written) → IfOk answer (λ reported. AnswersAuditArgs audit_args input reported old new)
+audit_reported audit_args fs bytes auth sessions text written known tree found status input old new failed (Ok reported) name named file list others are is audit which what says wrote = record {
   known = known;
   tree = tree;
   named = subst IsFsName name named;
   are_clients = subst (λ (a : List ℕ). AreClients a audit_args.sessions.items known) list (subst (λ (s : List ℕ). AreClients auth s known) others are);
   is_tree = is;
-  told = (
+  reported = (
     text,
     found,
     subst (λ (f : List ℕ). IsReport f (clients_of audit_args.manner known) tree text found) (file ∙ name) audit,
@@ -25,4 +25,4 @@ audit_told audit_args fs bytes auth sessions text written known tree found statu
     subst (λ (t : List ℕ). Appends old new t) what wrote.1,
   );
 }
-audit_told audit_args fs bytes auth sessions text written known tree found status input old new failed (Err fault) name named file list others are is audit which what says wrote = tt
+audit_reported audit_args fs bytes auth sessions text written known tree found status input old new failed (Err fault) name named file list others are is audit which what says wrote = tt

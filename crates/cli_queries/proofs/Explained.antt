@@ -13,14 +13,14 @@ use Rattle.cli_queries.specs.ExplainArgs.{IsAnswered, IsGrantsText, with_grants}
 module _ (explain_args : ExplainArgs) (grants : Vec ℕ) (input old new : Option (List ℕ)) (text : IsGrantsText explain_args.source explain_args.values.grants.items input grants.items) where
   pub answered : (answer : Result ℕ AnswerFault) → IfOk answer (λ status. (asked : Question) × AsksFor (with_grants explain_args.values grants) asked × IsAnswered explain_args.form asked status old new)
       → IfOk answer (λ status. AnswersExplainArgs explain_args input status old new)
-  answered (Ok status) told = record {
+  answered (Ok status) reported = record {
     grants = grants;
-    asked = told.0;
+    asked = reported.0;
     text = text;
-    asks = told.1;
-    answered = told.2;
+    asks = reported.1;
+    answered = reported.2;
   }
-  answered (Err fault) told = tt
+  answered (Err fault) reported = tt
 
   pub stopped : (unread unwritten : Bool) (answer : Result ℕ AnswerFault) → IsFalse unread → IfErr answer (λ fault. StopsBefore (IsFaultIn (with_grants explain_args.values grants)) fault unwritten old new)
       → IfErr answer (λ fault. StopsExplainArgs explain_args fault input unread unwritten old new)

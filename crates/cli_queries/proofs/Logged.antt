@@ -4,15 +4,15 @@ use Rattle.std.specs.Io.KnownBytes.{Appends, Consumes, IsAtEnd}
 use Rattle.std.specs.Prelude.{Err, IsFalse, Ok, OnOk, Result}
 use Rattle.capspec.specs.Names.{IsFsName}
 use Rattle.script_syntax.specs.Lines.{longest_script}
-use Rattle.queries.specs.Told.{IsToldOf}
+use Rattle.queries.specs.Reported.{IsReportOf}
 use Rattle.cli_queries.specs.Logging.{AnswersLog}
 use Rattle.cli_queries.proofs.WhoAnswered.{all_of}
 
-pub log_told : {T E : Type 0} (fs log read lines text : List ℕ) (input left old new : Option (List ℕ)) (failed : Bool) (answer : Result T E) → IsFsName fs → Consumes input left log → IsAtEnd left → length log ≤ longest_script
-    → read ≡ log → IsToldOf fs read lines → text ≡ lines → OnOk answer (IsFalse failed × Appends old new text) → OnOk answer (AnswersLog fs input old new)
-log_told fs log read lines text input left old new failed (Ok x) named taken end short same told written wrote = record {
+pub log_reported : {T E : Type 0} (fs log read lines text : List ℕ) (input left old new : Option (List ℕ)) (failed : Bool) (answer : Result T E) → IsFsName fs → Consumes input left log → IsAtEnd left → length log ≤ longest_script
+    → read ≡ log → IsReportOf fs read lines → text ≡ lines → OnOk answer (IsFalse failed × Appends old new text) → OnOk answer (AnswersLog fs input old new)
+log_reported fs log read lines text input left old new failed (Ok x) named taken end short same reported written wrote = record {
   named = named;
-  told = all_of (λ (all : List ℕ). (length all ≤ longest_script) × ((lines : List ℕ) × IsToldOf fs all lines × Appends old new lines)) input left log taken end
-      (short, (lines, subst (λ (all : List ℕ). IsToldOf fs all lines) same told, subst (λ (bytes : List ℕ). Appends old new bytes) written wrote.1));
+  reported = all_of (λ (all : List ℕ). (length all ≤ longest_script) × ((lines : List ℕ) × IsReportOf fs all lines × Appends old new lines)) input left log taken end
+      (short, (lines, subst (λ (all : List ℕ). IsReportOf fs all lines) same reported, subst (λ (bytes : List ℕ). Appends old new bytes) written wrote.1));
 }
-log_told fs log read lines text input left old new failed (Err e) named taken end short same told written wrote = tt
+log_reported fs log read lines text input left old new failed (Err e) named taken end short same reported written wrote = tt

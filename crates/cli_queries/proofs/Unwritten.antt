@@ -38,8 +38,8 @@ all_good v q asks =
 -- values that ask no question
 pub refused_question : {T : Type 0} (v : Values) (known : Option (List ℕ)) (failed : Bool) (found : QuestionFault) (answer : Result T AnswerFault) → IsFaultIn v found → IsErrAnd answer (λ fault. fault ≡ fault_of found)
     → IfErr answer (λ fault. StopsBefore (IsFaultIn v) fault failed known known)
-refused_question v known failed found (Ok x) why told = tt
-refused_question v known failed found (Err fault) why told = inr ((found, told, why), unchanged known)
+refused_question v known failed found (Ok x) why reported = tt
+refused_question v known failed found (Err fault) why reported = inr ((found, reported, why), unchanged known)
 
 -- no memory for the line of a question
 pub missed_unwritten : {T : Type 0} (v : Values) (q : Question) (known : Option (List ℕ)) (failed : Bool) (answer : Result T AnswerFault) → AsksFor v q → IsErrAnd answer (λ fault. fault ≡ NoMemory) → IfErr answer (λ fault. StopsBefore (IsFaultIn v) fault failed known known)

@@ -19,6 +19,6 @@ all_of P (Some xs) (Some ys) all taken end holds = subst P (sym (taken ∙ ap (�
 
 pub list_refused : {T : Type 0} (who_args : WhoArgs) (input left known : Option (List ℕ)) (auth : List ℕ) (unread unwritten : Bool) (found : AuthFault) (answer : Result T AnswerFault) → Consumes input left auth → IsAtEnd left → IsFaultOf found (auth_of auth)
     → IsErrAnd answer (λ fault. fault ≡ auth_fault_of found) → IfErr answer (λ fault. StopsWhoArgs who_args fault input unread unwritten known known)
-list_refused who_args input left known auth unread unwritten found (Ok x) taken end why told = tt
-list_refused who_args input left known auth unread unwritten found (Err fault) taken end why told =
-    inr (inr (inr (found, told, all_of (λ all. IsFaultOf found (auth_of all)) input left auth taken end why)), unchanged known)
+list_refused who_args input left known auth unread unwritten found (Ok x) taken end why reported = tt
+list_refused who_args input left known auth unread unwritten found (Err fault) taken end why reported =
+    inr (inr (inr (found, reported, all_of (λ all. IsFaultOf found (auth_of all)) input left auth taken end why)), unchanged known)

@@ -28,7 +28,7 @@ pub record AnswersAuditArgs (audit_args : AuditArgs) (input : Option (List ℕ))
   pub named : IsFsName audit_args.fs.items
   pub are_clients : AreClientsOf audit_args known
   pub is_tree : IfSome input (λ text. tree_of text ≡ Ok tree)
-  pub told : IsCheckedBy audit_args known tree status old new
+  pub reported : IsCheckedBy audit_args known tree status old new
 
 -- no file system has the name, the auth list or the sessions are none, behind these the tree is not read, or memory was missing
 abbrev pub IsFaultOfAudit : AuditArgs → AnswerFault → Option (List ℕ) → Bool → Type 0

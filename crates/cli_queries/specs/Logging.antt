@@ -5,7 +5,7 @@ use Rattle.capspec.specs.Names.{IsFsName}
 use Rattle.script_syntax.specs.Lines.{longest_script}
 use Rattle.queries.specs.declared.fault.QuestionFault.TheVariants.{BadValue}
 use Rattle.queries.specs.declared.options.Opt.TheVariants.{Fs}
-use Rattle.queries.specs.Told.{IsToldOf}
+use Rattle.queries.specs.Reported.{IsReportOf}
 use Rattle.cli_queries.specs.declared.fault.AnswerFault.{AnswerFault}
 use Rattle.cli_queries.specs.declared.fault.AnswerFault.TheVariants.{NoMemory, Question, WriteFailed}
 use Rattle.cli_queries.specs.ExplainArgs.{IsUnreadInput}
@@ -13,7 +13,7 @@ use Rattle.cli_queries.specs.ExplainArgs.{IsUnreadInput}
 -- the lines that tell of the log that was to be read were written, on the file system of this name
 pub record AnswersLog (fs : List ℕ) (input old new : Option (List ℕ)) : Type 0 where
   pub named : IsFsName fs
-  pub told : IfSome input (λ log. (length log ≤ longest_script) × ((lines : List ℕ) × IsToldOf fs log lines × Appends old new lines))
+  pub reported : IfSome input (λ log. (length log ≤ longest_script) × ((lines : List ℕ) × IsReportOf fs log lines × Appends old new lines))
 
 -- no file system has the name, the input can't be read, or memory was missing
 abbrev pub IsFaultOfLog : List ℕ → AnswerFault → Option (List ℕ) → Bool → Type 0

@@ -18,7 +18,7 @@ use Rattle.cli_queries.specs.ExplainArgs.{IsUnreadInput}
 pub record AnswersWhoArgs (who_args : WhoArgs) (input old new : Option (List ℕ)) : Type 0 where
   pub attempt : Attempt
   pub asks : IsAttempt who_args.values attempt
-  pub told : IfSome input (λ auth. (length auth ≤ longest_script) × ((lines : List ℕ) × AnswersWho who_args.telling (wanted_by attempt) attempt.attr auth lines × Appends old new lines))
+  pub reported : IfSome input (λ auth. (length auth ≤ longest_script) × ((lines : List ℕ) × AnswersWho who_args.telling (wanted_by attempt) attempt.attr auth lines × Appends old new lines))
 
 -- what is told is the fault of the auth list that was read
 abbrev pub TellsOfAuth : Option (List ℕ) → AnswerFault → Type 0

@@ -75,7 +75,7 @@ pub fn audit<R: Read, W: Write>(
     requires writer_clear { IsFalse (has_failed writer.old) }
     ensures status { IfOk result (λ status. (status ≡ DONE) ⊎ (status ≡ FOUND)) }
     ensures ok { OnOk result (IsFalse (has_failed reader.new) × IsFalse (has_failed writer.new)) }
-    ensures told { IfOk result (λ status. AnswersAuditArgs audit_args.now (R.remaining (inner_of reader.old)) status
+    ensures reported { IfOk result (λ status. AnswersAuditArgs audit_args.now (R.remaining (inner_of reader.old)) status
         (W.contents (inner_of writer.old)) (W.contents (inner_of writer.new))) }
     ensures err { IfErr result (λ fault. StopsAuditArgs audit_args.now fault (R.remaining (inner_of reader.old))
         (has_failed reader.new) (has_failed writer.new) (W.contents (inner_of writer.old)) (W.contents (inner_of writer.new))) }
@@ -97,7 +97,7 @@ pub fn audit<R: Read, W: Write>(
 
 // The status that tells whether anything was found or could not be judged.
 fn found_status(found: bool) -> u8
-    ensures told { result ≡ (if found then 3 else 0) }
+    ensures reported { result ≡ (if found then 3 else 0) }
     ensures either { (result ≡ DONE) ⊎ (result ≡ FOUND) }
 {
     if found { FOUND } else { DONE }

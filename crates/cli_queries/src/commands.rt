@@ -169,7 +169,7 @@ pub(crate) fn write_text<W: Write>(
     writer: &mut Watched<W>,
 ) -> Result<u8, AnswerFault>
     requires { IsFalse (has_failed writer.old) }
-    ensures status { IfOk result (λ told. told ≡ status) }
+    ensures status { IfOk result (λ reported. reported ≡ status) }
     ensures ok { OnOk result (IsFalse (has_failed writer.new)
         × Appends (W.contents (inner_of writer.old)) (W.contents (inner_of writer.new)) text.now) }
     ensures err { IfErr result (λ fault. (fault ≡ faults.WriteFailed) × IsTrue (has_failed writer.new)) }

@@ -24,7 +24,7 @@ pub fn log<R: Read, W: Write>(
     requires writer_clear { IsFalse (has_failed writer.old) }
     ensures status { IfOk result (λ status. status ≡ DONE) }
     ensures ok { OnOk result (IsFalse (has_failed reader.new) × IsFalse (has_failed writer.new)) }
-    ensures told { OnOk result (AnswersLog fs.now (R.remaining (inner_of reader.old))
+    ensures reported { OnOk result (AnswersLog fs.now (R.remaining (inner_of reader.old))
         (W.contents (inner_of writer.old)) (W.contents (inner_of writer.new))) }
     ensures err { IfErr result (λ fault. StopsLog fs.now fault (R.remaining (inner_of reader.old))
         (has_failed reader.new) (has_failed writer.new) (W.contents (inner_of writer.old)) (W.contents (inner_of writer.new))) }

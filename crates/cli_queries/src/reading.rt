@@ -39,12 +39,12 @@ pub fn read_words(alloc: Global, words: &[Vec<u8>]) -> Result<Invocation, NoComm
 {
     match parse(alloc, words) {
         Ok(invocation) => Ok(invocation),
-        Err(error) => Err(said_by(alloc, &error)),
+        Err(error) => Err(no_command_of(alloc, &error)),
     }
 }
 
 // Help without a byte would be none.
-fn said_by(alloc: Global, error: &clap::Error) -> NoCommand
+fn no_command_of(alloc: Global, error: &clap::Error) -> NoCommand
     ensures { SaysSomething result }
 {
     if error.kind() == ErrorKind::OutOfMemory {

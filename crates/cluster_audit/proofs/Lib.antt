@@ -1,4 +1,4 @@
-pub mod Said
+pub mod Reports
 pub mod Saying
 pub mod Noting
 pub mod Giving

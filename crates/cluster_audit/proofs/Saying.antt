@@ -7,7 +7,7 @@ use Rattle.capgrant.specs.declared.access.Attr.{Attr}
 use Rattle.ceph_input.specs.Auth.{Named}
 use Rattle.ceph_input.specs.Dump.{Held, Listed, PathMap}
 use Rattle.cluster_audit.specs.Callers.{Inode, inode}
-use Rattle.cluster_audit.specs.Audited.{AreSaid, Clients, IsJudged, SaysOf, SaysOfInode, name_of, pathless_of}
+use Rattle.cluster_audit.specs.Audited.{AreReports, Clients, IsJudged, SaysOf, SaysOfInode, name_of, pathless_of}
 use Rattle.cluster_audit.specs.Shaped.{unlisted_in, unnamed_in}
 
 pub unnamed : (known : Clients) (number : ℕ) (i : Inode) (h : Held) → name_of known.sessions h.client ≡ None → SaysOf known number i h [] (unnamed_in known.manner.shape h.client)
@@ -25,10 +25,10 @@ module _ (fs : List ℕ) (known : Clients) (paths : PathMap) (it : Listed) where
   without_path none = rw none (refl, refl)
 
   pub at_path : (number : ℕ) (path names : List (List ℕ)) (attr : Attr) (holders : List Held) → number ≡ it.number → map.get paths it.number ≡ Some path → names ≡ path → attr ≡ it.attr → holders ≡ it.holders
-      → (found unknown : List ℕ) → AreSaid (SaysOf known number (inode fs names attr)) holders found unknown → SaysOfInode fs known paths it found unknown
-  at_path number path names attr holders is_number leads are_names is_attr are_holders found unknown said =
+      → (found unknown : List ℕ) → AreReports (SaysOf known number (inode fs names attr)) holders found unknown → SaysOfInode fs known paths it found unknown
+  at_path number path names attr holders is_number leads are_names is_attr are_holders found unknown reports =
       rw leads (
-      subst (λ (p : List (List ℕ)). AreSaid (SaysOf known it.number (inode fs p it.attr)) it.holders found unknown) are_names
-      (subst (λ (a : Attr). AreSaid (SaysOf known it.number (inode fs names a)) it.holders found unknown) is_attr
-      (subst (λ (hs : List Held). AreSaid (SaysOf known it.number (inode fs names attr)) hs found unknown) are_holders
-      (subst (λ (n : ℕ). AreSaid (SaysOf known n (inode fs names attr)) holders found unknown) is_number said))))
+      subst (λ (p : List (List ℕ)). AreReports (SaysOf known it.number (inode fs p it.attr)) it.holders found unknown) are_names
+      (subst (λ (a : Attr). AreReports (SaysOf known it.number (inode fs names a)) it.holders found unknown) is_attr
+      (subst (λ (hs : List Held). AreReports (SaysOf known it.number (inode fs names attr)) hs found unknown) are_holders
+      (subst (λ (n : ℕ). AreReports (SaysOf known n (inode fs names attr)) holders found unknown) is_number reports))))

@@ -20,8 +20,8 @@ use Rattle.capexplain.proofs.Quoted.{bare, before_a_line_feed, before_a_space, b
 use Rattle.cluster_audit.specs.declared.notes.Detail.TheVariants.{Each, Groups}
 use Rattle.cluster_audit.specs.declared.summary.Counts.{Counts}
 use Rattle.cluster_audit.specs.Lines.{holder_text, on_inode, place_text, revoked_text, who_text, why_text}
-use Rattle.cluster_audit.specs.Told.{AllTellTheSame, AreCounts, HasNumbers, IsOneClient, IsOneInode, Line, TellTheSame, line_text}
-use Rattle.cluster_audit.specs.Told as told
+use Rattle.cluster_audit.specs.Reported.{AllTellTheSame, AreCounts, HasNumbers, IsOneClient, IsOneInode, Line, TellTheSame, line_text}
+use Rattle.cluster_audit.specs.Reported as reported
 use Rattle.cluster_audit.proofs.Words.{before_why, is_digit, no_number, number, one_caps, one_revoked, one_why}
 use Rattle.cluster_audit.proofs.Spaces.{behind, past_quoted}
 use Rattle.cluster_audit.proofs.Openings.{kind_of, none, of_bad_caps, of_conflict_text, of_group, of_held, of_nothing, of_pathless, of_summary, of_unlisted}
@@ -54,17 +54,17 @@ abbrev from_beyond_caps : Caps → Finding → List ℕ → List ℕ
 from_beyond_caps x f s = revoked_text (minus f.caps x) ++ (codes ": " ++ from_why f s)
 
 abbrev laid : Line → List ℕ → List ℕ
-laid (told.held k p c n i x f) s = place_text p c n ++ (codes " holds " ++ (text_of i ++ (codes ", may not " ++ (text_of f.caps ++ from_beyond_caps x f s))))
-laid (told.group c f n) s = why_text f.missing f.rules ++ 32 ∷ (quoted c ++ (codes ": " ++ (decimal n ++ 10 ∷ s)))
-laid (told.conflict m p a b c) s = on_inode Each m p ++ (holder_text Each c.one.client a ++ 32 ∷ holds c (holder_text Each c.other.client b ++ 10 ∷ s))
-laid (told.conflict_group a b c n) s = holder_text Groups c.one.client a ++ 32 ∷ holds c (holder_text Groups c.other.client b ++ (codes ": " ++ (decimal n ++ 10 ∷ s)))
-laid (told.unnamed n) s = codes "client " ++ (decimal n ++ (codes ": no session names it\n" ++ s))
-laid (told.unlisted c) s = quoted c ++ (codes ": no entry in the auth list\n" ++ s)
-laid (told.unread c f) s = quoted c ++ (codes ": grants: " ++ (fault_word f.kind ++ (codes " at " ++ (decimal f.at ++ 10 ∷ s))))
-laid (told.bad_caps k p c n) s = place_text p c n ++ (codes " holds what is not known\n" ++ s)
-laid (told.pathless k c n i) s = codes "inode " ++ (decimal k ++ (codes ": no path: " ++ (who_text c n ++ (codes " holds " ++ (quoted i ++ 10 ∷ s)))))
-laid told.nothing s = codes "nothing found\n" ++ s
-laid (told.summary n) s = codes "inodes " ++ (decimal n.inodes ++ from_entries n s)
+laid (reported.held k p c n i x f) s = place_text p c n ++ (codes " holds " ++ (text_of i ++ (codes ", may not " ++ (text_of f.caps ++ from_beyond_caps x f s))))
+laid (reported.group c f n) s = why_text f.missing f.rules ++ 32 ∷ (quoted c ++ (codes ": " ++ (decimal n ++ 10 ∷ s)))
+laid (reported.conflict m p a b c) s = on_inode Each m p ++ (holder_text Each c.one.client a ++ 32 ∷ holds c (holder_text Each c.other.client b ++ 10 ∷ s))
+laid (reported.conflict_group a b c n) s = holder_text Groups c.one.client a ++ 32 ∷ holds c (holder_text Groups c.other.client b ++ (codes ": " ++ (decimal n ++ 10 ∷ s)))
+laid (reported.unnamed n) s = codes "client " ++ (decimal n ++ (codes ": no session names it\n" ++ s))
+laid (reported.unlisted c) s = quoted c ++ (codes ": no entry in the auth list\n" ++ s)
+laid (reported.unread c f) s = quoted c ++ (codes ": grants: " ++ (fault_word f.kind ++ (codes " at " ++ (decimal f.at ++ 10 ∷ s))))
+laid (reported.bad_caps k p c n) s = place_text p c n ++ (codes " holds what is not known\n" ++ s)
+laid (reported.pathless k c n i) s = codes "inode " ++ (decimal k ++ (codes ": no path: " ++ (who_text c n ++ (codes " holds " ++ (quoted i ++ 10 ∷ s)))))
+laid reported.nothing s = codes "nothing found\n" ++ s
+laid (reported.summary n) s = codes "inodes " ++ (decimal n.inodes ++ from_entries n s)
 
 held_apart : (p i m r w s : List ℕ) → (p ++ ((codes " holds " ++ (i ++ (codes ", may not " ++ (m ++ (r ++ (codes ": " ++ w)))))) ++ codes "\n")) ++ s ≡ p ++ (codes " holds " ++ (i ++ (codes ", may not " ++ (m ++ (r ++ (codes ": " ++ (w ++ 10 ∷ s)))))))
 held_apart p i m r w s = simp append_assoc
@@ -94,52 +94,52 @@ summary_apart : (a b c d e f s : List ℕ)
 summary_apart a b c d e f s = simp append_assoc
 
 laid_out : (l : Line) (s : List ℕ) → line_text l ++ s ≡ laid l s
-laid_out (told.held k p c n i x f) s = held_apart (place_text p c n) (text_of i) (text_of f.caps) (revoked_text (minus f.caps x)) (why_text f.missing f.rules) s
-laid_out (told.group c f n) s = group_apart (why_text f.missing f.rules) (quoted c) (decimal n) s
-laid_out (told.conflict m p a b c) s = conflict_apart (on_inode Each m p) (holder_text Each c.one.client a) (text_of c.one.caps) (text_of c.other.caps) (holder_text Each c.other.client b) s
-laid_out (told.conflict_group a b c n) s = conflict_groups_apart (holder_text Groups c.one.client a) (text_of c.one.caps) (text_of c.other.caps) (holder_text Groups c.other.client b) (decimal n) s
-laid_out (told.unnamed n) s = unnamed_apart (decimal n) s
-laid_out (told.unlisted c) s = append_assoc (quoted c) (codes ": no entry in the auth list\n") s
-laid_out (told.unread c f) s = unread_apart (quoted c) (fault_word f.kind) (decimal f.at) s
-laid_out (told.bad_caps k p c n) s = append_assoc (place_text p c n) (codes " holds what is not known\n") s
-laid_out (told.pathless k c n i) s = pathless_apart (decimal k) (who_text c n) (quoted i) s
-laid_out told.nothing s = refl
-laid_out (told.summary n) s = summary_apart (decimal n.inodes) (decimal n.entries) (decimal n.sessions) (decimal n.held_beyond) (decimal n.conflicts) (decimal n.not_judged) s
+laid_out (reported.held k p c n i x f) s = held_apart (place_text p c n) (text_of i) (text_of f.caps) (revoked_text (minus f.caps x)) (why_text f.missing f.rules) s
+laid_out (reported.group c f n) s = group_apart (why_text f.missing f.rules) (quoted c) (decimal n) s
+laid_out (reported.conflict m p a b c) s = conflict_apart (on_inode Each m p) (holder_text Each c.one.client a) (text_of c.one.caps) (text_of c.other.caps) (holder_text Each c.other.client b) s
+laid_out (reported.conflict_group a b c n) s = conflict_groups_apart (holder_text Groups c.one.client a) (text_of c.one.caps) (text_of c.other.caps) (holder_text Groups c.other.client b) (decimal n) s
+laid_out (reported.unnamed n) s = unnamed_apart (decimal n) s
+laid_out (reported.unlisted c) s = append_assoc (quoted c) (codes ": no entry in the auth list\n") s
+laid_out (reported.unread c f) s = unread_apart (quoted c) (fault_word f.kind) (decimal f.at) s
+laid_out (reported.bad_caps k p c n) s = append_assoc (place_text p c n) (codes " holds what is not known\n") s
+laid_out (reported.pathless k c n i) s = pathless_apart (decimal k) (who_text c n) (quoted i) s
+laid_out reported.nothing s = refl
+laid_out (reported.summary n) s = summary_apart (decimal n.inodes) (decimal n.entries) (decimal n.sessions) (decimal n.held_beyond) (decimal n.conflicts) (decimal n.not_judged) s
 
 -- ---- kinds
 
 abbrev pub kind : Line → ℕ
-kind (told.held k p c n i x f) = 1
-kind (told.group c f n) = 2
-kind (told.conflict m p a b c) = 3
-kind (told.conflict_group a b c n) = 4
-kind (told.unnamed n) = 5
-kind (told.unlisted c) = 6
-kind (told.unread c f) = 7
-kind (told.bad_caps k p c n) = 8
-kind (told.pathless k c n i) = 9
-kind told.nothing = 10
-kind (told.summary n) = 11
+kind (reported.held k p c n i x f) = 1
+kind (reported.group c f n) = 2
+kind (reported.conflict m p a b c) = 3
+kind (reported.conflict_group a b c n) = 4
+kind (reported.unnamed n) = 5
+kind (reported.unlisted c) = 6
+kind (reported.unread c f) = 7
+kind (reported.bad_caps k p c n) = 8
+kind (reported.pathless k c n i) = 9
+kind reported.nothing = 10
+kind (reported.summary n) = 11
 
 some_kind : (l : Line) → 0 < kind l
-some_kind told.nothing = omega arith
+some_kind reported.nothing = omega arith
 some_kind l = omega arith
 
 kind_is : (l : Line) (s : List ℕ) → HasNumbers l → kind_of (laid l s) ≡ kind l
-kind_is (told.held k p c n i x f) s small = of_held p c n i (text_of f.caps ++ from_beyond_caps x f s) small
-kind_is (told.group c f n) s small = of_group f.missing f.rules (quoted c ++ (codes ": " ++ (decimal n ++ 10 ∷ s)))
-kind_is (told.conflict m None a b c) s small =
+kind_is (reported.held k p c n i x f) s small = of_held p c n i (text_of f.caps ++ from_beyond_caps x f s) small
+kind_is (reported.group c f n) s small = of_group f.missing f.rules (quoted c ++ (codes ": " ++ (decimal n ++ 10 ∷ s)))
+kind_is (reported.conflict m None a b c) s small =
     let rest : List ℕ = 32 ∷ holds c (holder_text Each c.other.client b ++ 10 ∷ s) in
     ap (λ (w : List ℕ). kind_of (codes "inode " ++ w)) (append_assoc (decimal m) (codes " ") (holder_text Each c.one.client a ++ rest)) ∙ on_number m c.one.client a rest small.0 small.1
-kind_is (told.conflict m (Some p) a b c) s small = on_path p m c.one.client a c.one.caps (text_of c.other.caps ++ (codes " of " ++ (holder_text Each c.other.client b ++ 10 ∷ s))) small.1
-kind_is (told.conflict_group a b c n) s small = of_conflict_text c.one.client a c.one.caps (text_of c.other.caps ++ (codes " of " ++ (holder_text Groups c.other.client b ++ (codes ": " ++ (decimal n ++ 10 ∷ s))))) small.1
-kind_is (told.unnamed n) s small = of_unnamed n s small
-kind_is (told.unlisted c) s small = of_unlisted c s
-kind_is (told.unread c f) s small = of_unread c f.kind (decimal f.at ++ 10 ∷ s)
-kind_is (told.bad_caps k p c n) s small = of_bad_caps p c n s small
-kind_is (told.pathless k c n i) s small = of_pathless k (who_text c n ++ (codes " holds " ++ (quoted i ++ 10 ∷ s))) small.0
-kind_is told.nothing s small = of_nothing s
-kind_is (told.summary n) s small = of_summary n.inodes (from_entries n s) small.inodes
+kind_is (reported.conflict m (Some p) a b c) s small = on_path p m c.one.client a c.one.caps (text_of c.other.caps ++ (codes " of " ++ (holder_text Each c.other.client b ++ 10 ∷ s))) small.1
+kind_is (reported.conflict_group a b c n) s small = of_conflict_text c.one.client a c.one.caps (text_of c.other.caps ++ (codes " of " ++ (holder_text Groups c.other.client b ++ (codes ": " ++ (decimal n ++ 10 ∷ s))))) small.1
+kind_is (reported.unnamed n) s small = of_unnamed n s small
+kind_is (reported.unlisted c) s small = of_unlisted c s
+kind_is (reported.unread c f) s small = of_unread c f.kind (decimal f.at ++ 10 ∷ s)
+kind_is (reported.bad_caps k p c n) s small = of_bad_caps p c n s small
+kind_is (reported.pathless k c n i) s small = of_pathless k (who_text c n ++ (codes " holds " ++ (quoted i ++ 10 ∷ s))) small.0
+kind_is reported.nothing s small = of_nothing s
+kind_is (reported.summary n) s small = of_summary n.inodes (from_entries n s) small.inodes
 
 -- ---- parts of lines
 
@@ -229,8 +229,8 @@ one_beside c d s t same =
 
 -- ---- two lines of one kind
 
-one_held : (p q : List (List ℕ)) (c d : List ℕ) (m n : ℕ) (i j x y : Caps) (f g : Finding) (s t : List ℕ) → m < 2 ^ 64 → n < 2 ^ 64 → laid (told.held 0 p c m i x f) s ≡ laid (told.held 0 q d n j y g) t
-    → TellTheSame (told.held 0 p c m i x f) (told.held 0 q d n j y g) × (s ≡ t)
+one_held : (p q : List (List ℕ)) (c d : List ℕ) (m n : ℕ) (i j x y : Caps) (f g : Finding) (s t : List ℕ) → m < 2 ^ 64 → n < 2 ^ 64 → laid (reported.held 0 p c m i x f) s ≡ laid (reported.held 0 q d n j y g) t
+    → TellTheSame (reported.held 0 p c m i x f) (reported.held 0 q d n j y g) × (s ≡ t)
 one_held p q c d m n i j x y f g s t small also same =
     let u : List ℕ = text_of f.caps ++ from_beyond_caps x f s in
     let v : List ℕ = text_of g.caps ++ from_beyond_caps y g t in
@@ -241,7 +241,7 @@ one_held p q c d m n i j x y f g s t small also same =
     let why = one_why f.missing g.missing f.rules g.rules (10 ∷ s) (10 ∷ t) (omega arith) (omega arith) (append_cancel_left (codes " ") (from_why f s) (from_why g t) revoked.1) in
     ((place.0, place.1, place.2, issued.0, beyond.0, revoked.0, why.0), append_cancel_left (codes "\n") s t why.1)
 
-one_group : (c d : List ℕ) (f g : Finding) (m n : ℕ) (s t : List ℕ) → m < 2 ^ 64 → n < 2 ^ 64 → laid (told.group c f m) s ≡ laid (told.group d g n) t → TellTheSame (told.group c f m) (told.group d g n) × (s ≡ t)
+one_group : (c d : List ℕ) (f g : Finding) (m n : ℕ) (s t : List ℕ) → m < 2 ^ 64 → n < 2 ^ 64 → laid (reported.group c f m) s ≡ laid (reported.group d g n) t → TellTheSame (reported.group c f m) (reported.group d g n) × (s ≡ t)
 one_group c d f g m n s t small also same =
     let u : List ℕ = quoted c ++ (codes ": " ++ (decimal m ++ 10 ∷ s)) in
     let v : List ℕ = quoted d ++ (codes ": " ++ (decimal n ++ 10 ∷ t)) in
@@ -250,8 +250,8 @@ one_group c d f g m n s t small also same =
     let count = last_number m n s t small also name.1 in
     ((why.0, name.0, count.0), count.1)
 
-one_conflict : (m n : ℕ) (p q : Option (List (List ℕ))) (a b x y : Option (List ℕ)) (c d : Conflict) (s t : List ℕ) → HasNumbers (told.conflict m p a b c) → HasNumbers (told.conflict n q x y d)
-    → laid (told.conflict m p a b c) s ≡ laid (told.conflict n q x y d) t → TellTheSame (told.conflict m p a b c) (told.conflict n q x y d) × (s ≡ t)
+one_conflict : (m n : ℕ) (p q : Option (List (List ℕ))) (a b x y : Option (List ℕ)) (c d : Conflict) (s t : List ℕ) → HasNumbers (reported.conflict m p a b c) → HasNumbers (reported.conflict n q x y d)
+    → laid (reported.conflict m p a b c) s ≡ laid (reported.conflict n q x y d) t → TellTheSame (reported.conflict m p a b c) (reported.conflict n q x y d) × (s ≡ t)
 one_conflict m n p q a b x y c d s t small also same =
     let u : List ℕ = holder_text Each c.other.client b ++ 10 ∷ s in
     let v : List ℕ = holder_text Each d.other.client y ++ 10 ∷ t in
@@ -266,8 +266,8 @@ one_conflict m n p q a b x y c d s t small also same =
     let both : c ≡ d = λ i. record { one = record { client = one_number i; caps = one_has i }; other = record { client = other_number i; caps = other_has i } } in
     ((inode.0, one.1, other.1, both), append_cancel_left (codes "\n") s t other.2)
 
-one_conflict_group : (a b x y : Option (List ℕ)) (c d : Conflict) (m n : ℕ) (s t : List ℕ) → HasNumbers (told.conflict_group a b c m) → HasNumbers (told.conflict_group x y d n)
-    → laid (told.conflict_group a b c m) s ≡ laid (told.conflict_group x y d n) t → TellTheSame (told.conflict_group a b c m) (told.conflict_group x y d n) × (s ≡ t)
+one_conflict_group : (a b x y : Option (List ℕ)) (c d : Conflict) (m n : ℕ) (s t : List ℕ) → HasNumbers (reported.conflict_group a b c m) → HasNumbers (reported.conflict_group x y d n)
+    → laid (reported.conflict_group a b c m) s ≡ laid (reported.conflict_group x y d n) t → TellTheSame (reported.conflict_group a b c m) (reported.conflict_group x y d n) × (s ≡ t)
 one_conflict_group a b x y c d m n s t small also same =
     let u : List ℕ = holder_text Groups c.other.client b ++ (codes ": " ++ (decimal m ++ 10 ∷ s)) in
     let v : List ℕ = holder_text Groups d.other.client y ++ (codes ": " ++ (decimal n ++ 10 ∷ t)) in
@@ -276,17 +276,17 @@ one_conflict_group a b x y c d m n s t small also same =
     let other = one_last c.other.client d.other.client m n b y s t small.2 also.2 small.0 also.0 caps.2 in
     ((one.0, caps.0, caps.1, other.0, other.1), other.2)
 
-one_unnamed : (m n : ℕ) (s t : List ℕ) → m < 2 ^ 64 → n < 2 ^ 64 → laid (told.unnamed m) s ≡ laid (told.unnamed n) t → (m ≡ n) × (s ≡ t)
+one_unnamed : (m n : ℕ) (s t : List ℕ) → m < 2 ^ 64 → n < 2 ^ 64 → laid (reported.unnamed m) s ≡ laid (reported.unnamed n) t → (m ≡ n) × (s ≡ t)
 one_unnamed m n s t small also same =
     let both = behind_word (codes "client ") m n (codes ": no session names it\n" ++ s) (codes ": no session names it\n" ++ t) small also refl refl same in
     (both.0, append_cancel_left (codes ": no session names it\n") s t both.1)
 
-one_unlisted : (c d s t : List ℕ) → laid (told.unlisted c) s ≡ laid (told.unlisted d) t → (c ≡ d) × (s ≡ t)
+one_unlisted : (c d s t : List ℕ) → laid (reported.unlisted c) s ≡ laid (reported.unlisted d) t → (c ≡ d) × (s ≡ t)
 one_unlisted c d s t same =
     let both = before_word (codes ":") c d (codes "no entry in the auth list\n" ++ s) (codes "no entry in the auth list\n" ++ t) refl same in
     (both.0, append_cancel_left (codes "no entry in the auth list\n") s t both.1)
 
-one_unread : (c d : List ℕ) (f g : SpecFault) (s t : List ℕ) → f.at < 2 ^ 64 → g.at < 2 ^ 64 → laid (told.unread c f) s ≡ laid (told.unread d g) t → TellTheSame (told.unread c f) (told.unread d g) × (s ≡ t)
+one_unread : (c d : List ℕ) (f g : SpecFault) (s t : List ℕ) → f.at < 2 ^ 64 → g.at < 2 ^ 64 → laid (reported.unread c f) s ≡ laid (reported.unread d g) t → TellTheSame (reported.unread c f) (reported.unread d g) × (s ≡ t)
 one_unread c d f g s t small also same =
     let u : List ℕ = codes "at " ++ (decimal f.at ++ 10 ∷ s) in
     let v : List ℕ = codes "at " ++ (decimal g.at ++ 10 ∷ t) in
@@ -298,14 +298,14 @@ one_unread c d f g s t small also same =
     let line : unread_line [] f ≡ unread_line [] g = λ i. quoted [] ++ (codes ": grants: " ++ (one_word i ++ (codes " at " ++ (decimal (one_at i) ++ codes "\n")))) in
     ((name.0, (one_fault [] [] f g small also line).1), place.1)
 
-one_bad_caps : (p q : List (List ℕ)) (c d : List ℕ) (m n : ℕ) (s t : List ℕ) → m < 2 ^ 64 → n < 2 ^ 64 → laid (told.bad_caps 0 p c m) s ≡ laid (told.bad_caps 0 q d n) t
-    → TellTheSame (told.bad_caps 0 p c m) (told.bad_caps 0 q d n) × (s ≡ t)
+one_bad_caps : (p q : List (List ℕ)) (c d : List ℕ) (m n : ℕ) (s t : List ℕ) → m < 2 ^ 64 → n < 2 ^ 64 → laid (reported.bad_caps 0 p c m) s ≡ laid (reported.bad_caps 0 q d n) t
+    → TellTheSame (reported.bad_caps 0 p c m) (reported.bad_caps 0 q d n) × (s ≡ t)
 one_bad_caps p q c d m n s t small also same =
     let place = one_place p q c d m n (codes " holds what is not known\n" ++ s) (codes " holds what is not known\n" ++ t) small also refl refl same in
     ((place.0, place.1, place.2), append_cancel_left (codes " holds what is not known\n") s t place.3)
 
-one_pathless : (k l : ℕ) (c d : List ℕ) (m n : ℕ) (i j s t : List ℕ) → HasNumbers (told.pathless k c m i) → HasNumbers (told.pathless l d n j) → laid (told.pathless k c m i) s ≡ laid (told.pathless l d n j) t
-    → TellTheSame (told.pathless k c m i) (told.pathless l d n j) × (s ≡ t)
+one_pathless : (k l : ℕ) (c d : List ℕ) (m n : ℕ) (i j s t : List ℕ) → HasNumbers (reported.pathless k c m i) → HasNumbers (reported.pathless l d n j) → laid (reported.pathless k c m i) s ≡ laid (reported.pathless l d n j) t
+    → TellTheSame (reported.pathless k c m i) (reported.pathless l d n j) × (s ≡ t)
 one_pathless k l c d m n i j s t small also same =
     let u : List ℕ = codes " holds " ++ (quoted i ++ 10 ∷ s) in
     let v : List ℕ = codes " holds " ++ (quoted j ++ 10 ∷ t) in
@@ -316,7 +316,7 @@ one_pathless k l c d m n i j s t small also same =
     let issued = before_a_line_feed i j s t (append_cancel_left (codes " holds ") (quoted i ++ 10 ∷ s) (quoted j ++ 10 ∷ t) who.2) in
     ((inode.0, name, who.0, issued.0), issued.1)
 
-one_summary : (m n : Counts) (s t : List ℕ) → AreCounts m → AreCounts n → laid (told.summary m) s ≡ laid (told.summary n) t → (m ≡ n) × (s ≡ t)
+one_summary : (m n : Counts) (s t : List ℕ) → AreCounts m → AreCounts n → laid (reported.summary m) s ≡ laid (reported.summary n) t → (m ≡ n) × (s ≡ t)
 one_summary m n s t small also same =
     let a = behind_word (codes "inodes ") m.inodes n.inodes (from_entries m s) (from_entries n t) small.inodes also.inodes refl refl same in
     let b = behind_word (codes ", entries ") m.entries n.entries (from_sessions m s) (from_sessions n t) small.entries also.entries refl refl a.1 in
@@ -337,17 +337,17 @@ one_summary m n s t small also same =
 -- ---- two lines
 
 of_kind : (a b : Line) (s t : List ℕ) → kind a ≡ kind b → HasNumbers a → HasNumbers b → laid a s ≡ laid b t → TellTheSame a b × (s ≡ t)
-of_kind (told.held k p c m i x f) (told.held l q d n j y g) s t e small also same = one_held p q c d m n i j x y f g s t small also same
-of_kind (told.group c f m) (told.group d g n) s t e small also same = one_group c d f g m n s t small also same
-of_kind (told.conflict m p a b c) (told.conflict n q x y d) s t e small also same = one_conflict m n p q a b x y c d s t small also same
-of_kind (told.conflict_group a b c m) (told.conflict_group x y d n) s t e small also same = one_conflict_group a b x y c d m n s t small also same
-of_kind (told.unnamed m) (told.unnamed n) s t e small also same = one_unnamed m n s t small also same
-of_kind (told.unlisted c) (told.unlisted d) s t e small also same = one_unlisted c d s t same
-of_kind (told.unread c f) (told.unread d g) s t e small also same = one_unread c d f g s t small also same
-of_kind (told.bad_caps k p c m) (told.bad_caps l q d n) s t e small also same = one_bad_caps p q c d m n s t small also same
-of_kind (told.pathless k c m i) (told.pathless l d n j) s t e small also same = one_pathless k l c d m n i j s t small also same
-of_kind told.nothing told.nothing s t e small also same = (tt, append_cancel_left (codes "nothing found\n") s t same)
-of_kind (told.summary m) (told.summary n) s t e small also same = one_summary m n s t small also same
+of_kind (reported.held k p c m i x f) (reported.held l q d n j y g) s t e small also same = one_held p q c d m n i j x y f g s t small also same
+of_kind (reported.group c f m) (reported.group d g n) s t e small also same = one_group c d f g m n s t small also same
+of_kind (reported.conflict m p a b c) (reported.conflict n q x y d) s t e small also same = one_conflict m n p q a b x y c d s t small also same
+of_kind (reported.conflict_group a b c m) (reported.conflict_group x y d n) s t e small also same = one_conflict_group a b x y c d m n s t small also same
+of_kind (reported.unnamed m) (reported.unnamed n) s t e small also same = one_unnamed m n s t small also same
+of_kind (reported.unlisted c) (reported.unlisted d) s t e small also same = one_unlisted c d s t same
+of_kind (reported.unread c f) (reported.unread d g) s t e small also same = one_unread c d f g s t small also same
+of_kind (reported.bad_caps k p c m) (reported.bad_caps l q d n) s t e small also same = one_bad_caps p q c d m n s t small also same
+of_kind (reported.pathless k c m i) (reported.pathless l d n j) s t e small also same = one_pathless k l c d m n i j s t small also same
+of_kind reported.nothing reported.nothing s t e small also same = (tt, append_cancel_left (codes "nothing found\n") s t same)
+of_kind (reported.summary m) (reported.summary n) s t e small also same = one_summary m n s t small also same
 of_kind a b s t e small also same = absurd (eqb-false (kind a) (kind b) refl e)
 
 one_and_more : (a b : Line) (s t : List ℕ) → HasNumbers a → HasNumbers b → line_text a ++ s ≡ line_text b ++ t → TellTheSame a b × (s ≡ t)

@@ -32,8 +32,8 @@ use Rattle.cluster_audit.specs.declared.notes.Detail.TheVariants.{Groups}
 use Rattle.cluster_audit.specs.declared.summary.Counts.{Counts}
 use Rattle.cluster_audit.specs.Instead.{HasBytes, TellMore, value_of}
 use Rattle.cluster_audit.specs.Objects.{access_value, caps_or_null, caps_value, path_value, session_value, why_value}
-use Rattle.cluster_audit.specs.Told.{IsOneClient, IsOneInode, Line, TellTheSame, reasons}
-use Rattle.cluster_audit.specs.Told as told
+use Rattle.cluster_audit.specs.Reported.{IsOneClient, IsOneInode, Line, TellTheSame, reasons}
+use Rattle.cluster_audit.specs.Reported as reported
 use Rattle.cluster_audit.proofs.Tells.{kind}
 use Rattle.cluster_audit.proofs.Words.{are_letters, is_letter}
 
@@ -139,7 +139,7 @@ kind_in d = by_word (text_in (value_at (codes "kind") d)) (text_in (value_at (co
 
 kind_is : (l : Line) → kind_in (data_of (value_of l)) ≡ kind l
 unfolding kind_in
-kind_is (told.held k p c n i x f) = refl
+kind_is (reported.held k p c n i x f) = refl
 kind_is l = refl
 
 -- ---- two objects of one kind
@@ -153,8 +153,8 @@ number_at key value = number_in (at_key key value)
 abbrev at_each : List ℕ → Option Data → Data
 at_each key value = value_at key (at_key (codes "each") value)
 
-one_held : (k l : ℕ) (p q : List (List ℕ)) (c d : List ℕ) (m n : ℕ) (i j x y : Caps) (f g : Finding) → HasBytes (told.held k p c m i x f) → HasBytes (told.held l q d n j y g)
-    → value_of (told.held k p c m i x f) ≡ value_of (told.held l q d n j y g) → TellTheSame (told.held k p c m i x f) (told.held l q d n j y g) × TellMore (told.held k p c m i x f) (told.held l q d n j y g)
+one_held : (k l : ℕ) (p q : List (List ℕ)) (c d : List ℕ) (m n : ℕ) (i j x y : Caps) (f g : Finding) → HasBytes (reported.held k p c m i x f) → HasBytes (reported.held l q d n j y g)
+    → value_of (reported.held k p c m i x f) ≡ value_of (reported.held l q d n j y g) → TellTheSame (reported.held k p c m i x f) (reported.held l q d n j y g) × TellMore (reported.held k p c m i x f) (reported.held l q d n j y g)
 one_held k l p q c d m n i j x y f g fit fits same = (
   (
     one_spelling (path_text p) (path_text q) fit.0 fits.0 (ap (at_key (codes "path")) same),
@@ -168,15 +168,15 @@ one_held k l p q c d m n i j x y f g fit fits same = (
   (ap (number_at (codes "inode")) same, one_missing f.missing g.missing fit.2 fits.2 (ap (at_key (codes "missing")) same)),
 )
 
-one_group : (c d : List ℕ) (f g : Finding) (m n : ℕ) → IsBytes c → IsBytes d → value_of (told.group c f m) ≡ value_of (told.group d g n) → TellTheSame (told.group c f m) (told.group d g n)
+one_group : (c d : List ℕ) (f g : Finding) (m n : ℕ) → IsBytes c → IsBytes d → value_of (reported.group c f m) ≡ value_of (reported.group d g n) → TellTheSame (reported.group c f m) (reported.group d g n)
 one_group c d f g m n fit fits same = (
   one_why f.missing g.missing f.rules g.rules (ap (at_each (codes "rules")) same),
   one_spelling c d fit fits (ap (at_each (codes "client")) same),
   ap (number_at (codes "count")) same,
 )
 
-one_conflict : (m n : ℕ) (p q : Option (List (List ℕ))) (a b x y : Option (List ℕ)) (c d : Conflict) → HasBytes (told.conflict m p a b c) → HasBytes (told.conflict n q x y d)
-    → value_of (told.conflict m p a b c) ≡ value_of (told.conflict n q x y d) → TellTheSame (told.conflict m p a b c) (told.conflict n q x y d) × (m ≡ n)
+one_conflict : (m n : ℕ) (p q : Option (List (List ℕ))) (a b x y : Option (List ℕ)) (c d : Conflict) → HasBytes (reported.conflict m p a b c) → HasBytes (reported.conflict n q x y d)
+    → value_of (reported.conflict m p a b c) ≡ value_of (reported.conflict n q x y d) → TellTheSame (reported.conflict m p a b c) (reported.conflict n q x y d) × (m ≡ n)
 one_conflict m n p q a b x y c d fit fits same =
     let number : m ≡ n = ap (number_at (codes "inode")) same in
     let one_number : c.one.client ≡ d.one.client = ap (number_at (codes "session")) same in
@@ -193,8 +193,8 @@ one_conflict m n p q a b x y c d fit fits same =
       number,
     )
 
-one_conflict_group : (a b x y : Option (List ℕ)) (c d : Conflict) (m n : ℕ) → HasBytes (told.conflict_group a b c m) → HasBytes (told.conflict_group x y d n) → value_of (told.conflict_group a b c m) ≡ value_of (told.conflict_group x y d n)
-    → TellTheSame (told.conflict_group a b c m) (told.conflict_group x y d n)
+one_conflict_group : (a b x y : Option (List ℕ)) (c d : Conflict) (m n : ℕ) → HasBytes (reported.conflict_group a b c m) → HasBytes (reported.conflict_group x y d n) → value_of (reported.conflict_group a b c m) ≡ value_of (reported.conflict_group x y d n)
+    → TellTheSame (reported.conflict_group a b c m) (reported.conflict_group x y d n)
 one_conflict_group a b x y c d m n fit fits same = (
   one_client c.one.client d.one.client a x fit.0 fits.0 (ap (at_each (codes "client")) same) (ap (at_each (codes "session")) same),
   one_set c.one.caps d.one.caps (ap (at_each (codes "caps")) same),
@@ -203,14 +203,14 @@ one_conflict_group a b x y c d m n fit fits same = (
   ap (number_at (codes "count")) same,
 )
 
-one_unread : (c d : List ℕ) (f g : SpecFault) → IsBytes c → IsBytes d → value_of (told.unread c f) ≡ value_of (told.unread d g) → TellTheSame (told.unread c f) (told.unread d g)
+one_unread : (c d : List ℕ) (f g : SpecFault) → IsBytes c → IsBytes d → value_of (reported.unread c f) ≡ value_of (reported.unread d g) → TellTheSame (reported.unread c f) (reported.unread d g)
 one_unread c d f g fit fits same =
     let kind : f.kind ≡ g.kind = one_kind f.kind g.kind (ap (λ (v : Option Data). text_in (at_key (codes "fault") v)) same) in
     let place : f.at ≡ g.at = ap (number_at (codes "at")) same in
     (one_spelling c d fit fits (ap (at_key (codes "client")) same), λ i. record { kind = kind i; at = place i })
 
-one_bad_caps : (k l : ℕ) (p q : List (List ℕ)) (c d : List ℕ) (m n : ℕ) → HasBytes (told.bad_caps k p c m) → HasBytes (told.bad_caps l q d n) → value_of (told.bad_caps k p c m) ≡ value_of (told.bad_caps l q d n)
-    → TellTheSame (told.bad_caps k p c m) (told.bad_caps l q d n) × (k ≡ l)
+one_bad_caps : (k l : ℕ) (p q : List (List ℕ)) (c d : List ℕ) (m n : ℕ) → HasBytes (reported.bad_caps k p c m) → HasBytes (reported.bad_caps l q d n) → value_of (reported.bad_caps k p c m) ≡ value_of (reported.bad_caps l q d n)
+    → TellTheSame (reported.bad_caps k p c m) (reported.bad_caps l q d n) × (k ≡ l)
 one_bad_caps k l p q c d m n fit fits same = (
   (
     one_spelling (path_text p) (path_text q) fit.0 fits.0 (ap (at_key (codes "path")) same),
@@ -220,8 +220,8 @@ one_bad_caps k l p q c d m n fit fits same = (
   ap (number_at (codes "inode")) same,
 )
 
-one_pathless : (k l : ℕ) (c d : List ℕ) (m n : ℕ) (i j : List ℕ) → HasBytes (told.pathless k c m i) → HasBytes (told.pathless l d n j) → value_of (told.pathless k c m i) ≡ value_of (told.pathless l d n j)
-    → TellTheSame (told.pathless k c m i) (told.pathless l d n j)
+one_pathless : (k l : ℕ) (c d : List ℕ) (m n : ℕ) (i j : List ℕ) → HasBytes (reported.pathless k c m i) → HasBytes (reported.pathless l d n j) → value_of (reported.pathless k c m i) ≡ value_of (reported.pathless l d n j)
+    → TellTheSame (reported.pathless k c m i) (reported.pathless l d n j)
 one_pathless k l c d m n i j fit fits same = (
   ap (number_at (codes "inode")) same,
   one_spelling c d fit.0 fits.0 (ap (at_key (codes "client")) same),
@@ -229,7 +229,7 @@ one_pathless k l c d m n i j fit fits same = (
   one_spelling i j fit.1 fits.1 (ap (at_key (codes "holds")) same),
 )
 
-one_summary : (m n : Counts) → value_of (told.summary m) ≡ value_of (told.summary n) → m ≡ n
+one_summary : (m n : Counts) → value_of (reported.summary m) ≡ value_of (reported.summary n) → m ≡ n
 one_summary m n same =
     let inodes : m.inodes ≡ n.inodes = ap (number_at (codes "inodes")) same in
     let entries : m.entries ≡ n.entries = ap (number_at (codes "entries")) same in
@@ -242,17 +242,17 @@ one_summary m n same =
 -- ---- two objects
 
 of_kind : (a b : Line) → kind a ≡ kind b → HasBytes a → HasBytes b → value_of a ≡ value_of b → TellTheSame a b × TellMore a b
-of_kind (told.held k p c m i x f) (told.held l q d n j y g) e fit fits same = one_held k l p q c d m n i j x y f g fit fits same
-of_kind (told.group c f m) (told.group d g n) e fit fits same = (one_group c d f g m n fit fits same, tt)
-of_kind (told.conflict m p a b c) (told.conflict n q x y d) e fit fits same = one_conflict m n p q a b x y c d fit fits same
-of_kind (told.conflict_group a b c m) (told.conflict_group x y d n) e fit fits same = (one_conflict_group a b x y c d m n fit fits same, tt)
-of_kind (told.unnamed m) (told.unnamed n) e fit fits same = (ap (number_at (codes "session")) same, tt)
-of_kind (told.unlisted c) (told.unlisted d) e fit fits same = (one_spelling c d fit fits (ap (at_key (codes "client")) same), tt)
-of_kind (told.unread c f) (told.unread d g) e fit fits same = (one_unread c d f g fit fits same, tt)
-of_kind (told.bad_caps k p c m) (told.bad_caps l q d n) e fit fits same = one_bad_caps k l p q c d m n fit fits same
-of_kind (told.pathless k c m i) (told.pathless l d n j) e fit fits same = (one_pathless k l c d m n i j fit fits same, tt)
-of_kind told.nothing told.nothing e fit fits same = (tt, tt)
-of_kind (told.summary m) (told.summary n) e fit fits same = (one_summary m n same, tt)
+of_kind (reported.held k p c m i x f) (reported.held l q d n j y g) e fit fits same = one_held k l p q c d m n i j x y f g fit fits same
+of_kind (reported.group c f m) (reported.group d g n) e fit fits same = (one_group c d f g m n fit fits same, tt)
+of_kind (reported.conflict m p a b c) (reported.conflict n q x y d) e fit fits same = one_conflict m n p q a b x y c d fit fits same
+of_kind (reported.conflict_group a b c m) (reported.conflict_group x y d n) e fit fits same = (one_conflict_group a b x y c d m n fit fits same, tt)
+of_kind (reported.unnamed m) (reported.unnamed n) e fit fits same = (ap (number_at (codes "session")) same, tt)
+of_kind (reported.unlisted c) (reported.unlisted d) e fit fits same = (one_spelling c d fit fits (ap (at_key (codes "client")) same), tt)
+of_kind (reported.unread c f) (reported.unread d g) e fit fits same = (one_unread c d f g fit fits same, tt)
+of_kind (reported.bad_caps k p c m) (reported.bad_caps l q d n) e fit fits same = one_bad_caps k l p q c d m n fit fits same
+of_kind (reported.pathless k c m i) (reported.pathless l d n j) e fit fits same = (one_pathless k l c d m n i j fit fits same, tt)
+of_kind reported.nothing reported.nothing e fit fits same = (tt, tt)
+of_kind (reported.summary m) (reported.summary n) e fit fits same = (one_summary m n same, tt)
 of_kind a b e fit fits same = absurd (eqb-false (kind a) (kind b) refl e)
 
 pub one_object : (a b : Line) → HasBytes a → HasBytes b → value_of a ≡ value_of b → TellTheSame a b × TellMore a b

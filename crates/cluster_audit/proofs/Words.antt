@@ -23,7 +23,7 @@ use Rattle.capexplain.specs.Explaining.{failure_text, failures_text}
 use Rattle.capexplain.proofs.Answered.{one_failure}
 use Rattle.capexplain.proofs.Quoted.{clash, first_byte}
 use Rattle.cluster_audit.specs.Lines.{revoked_text, why_text}
-use Rattle.cluster_audit.specs.Told.{reasons}
+use Rattle.cluster_audit.specs.Reported.{reasons}
 
 -- a dash is no letter, but stands for no caps
 abbrev pub is_letter : ℕ → Bool

@@ -65,13 +65,13 @@ name_of sessions number = option_and_then (λ s. s.client) (session_of sessions 
 -- ---- what is said of one who holds something
 
 -- all of it is permitted to somebody, and nothing is said; else a line tells what is not
-abbrev pub IsToldBeyond : Manner → ℕ → Inode → List ℕ → ℕ → List Grant → Caps → Caps → List ℕ → Type 0
-IsToldBeyond m number i client session grants issued pending found = (((cap : Cap) → IsTrue (has issued cap) → IsPermittedToSome i grants cap) × (found ≡ []))
+abbrev pub IsReportedBeyond : Manner → ℕ → Inode → List ℕ → ℕ → List Grant → Caps → Caps → List ℕ → Type 0
+IsReportedBeyond m number i client session grants issued pending found = (((cap : Cap) → IsTrue (has issued cap) → IsPermittedToSome i grants cap) × (found ≡ []))
     ⊎ ((f : Finding) × IsBeyond issued grants i f × (found ≡ found_in m number i.path client session issued pending f))
 
 -- what is known to be held is judged by these grants; else a line says that it is not known
 abbrev pub IsJudged : Manner → ℕ → Inode → List ℕ → List Grant → Held → List ℕ → List ℕ → Type 0
-IsJudged m number i client grants h found unknown = ((issued : Caps) × (pending : Caps) × (h.issued ≡ text_of issued) × (h.pending ≡ text_of pending) × IsToldBeyond m number i client h.client grants issued pending found × (unknown ≡ []))
+IsJudged m number i client grants h found unknown = ((issued : Caps) × (pending : Caps) × (h.issued ≡ text_of issued) × (h.pending ≡ text_of pending) × IsReportedBeyond m number i client h.client grants issued pending found × (unknown ≡ []))
     ⊎ (((issued pending : Caps) → h.issued ≡ text_of issued → h.pending ≡ text_of pending → ⊥) × (found ≡ []) × (unknown ≡ bad_caps_in m.shape number i.path client h.client))
 
 -- the grants are those that the text means; else a line tells its first fault
@@ -105,9 +105,9 @@ abbrev pub Adds : (List ℕ → List ℕ → Type 0) → Notes → Notes → Typ
 Adds P old new = (found : List ℕ) × (unknown : List ℕ) × (new.found.items ≡ old.found.items ++ found) × (new.unknown.items ≡ old.unknown.items ++ unknown) × P found unknown
 
 -- each says something in turn, of what is found and of what is not known
-pub data AreSaid {X : Type 0} (Says : X → List ℕ → List ℕ → Type 0) : List X → List ℕ → List ℕ → Type 0 where
-  no_more : AreSaid Says [] [] []
-  one_more : {x : X} {xs : List X} (found unknown founds unknowns : List ℕ) → Says x found unknown → AreSaid Says xs founds unknowns → AreSaid Says (x ∷ xs) (found ++ founds) (unknown ++ unknowns)
+pub data AreReports {X : Type 0} (Says : X → List ℕ → List ℕ → Type 0) : List X → List ℕ → List ℕ → Type 0 where
+  no_more : AreReports Says [] [] []
+  one_more : {x : X} {xs : List X} (found unknown founds unknowns : List ℕ) → Says x found unknown → AreReports Says xs founds unknowns → AreReports Says (x ∷ xs) (found ++ founds) (unknown ++ unknowns)
 
 -- of one who holds something of the inode of this number, to which no path leads, and whose name may be known
 abbrev pub pathless_text : Shape → ℕ → Held → Option (List ℕ) → List ℕ
@@ -120,7 +120,7 @@ pathless_of shape sessions number h = pathless_text shape number h (name_of sess
 -- of an inode: of each who holds something of it, on the path that leads to it; or that none does
 abbrev pub SaysAt : List ℕ → Clients → Listed → Option (List (List ℕ)) → List ℕ → List ℕ → Type 0
 SaysAt fs known it None found unknown = (found ≡ []) × (unknown ≡ flat_map (pathless_of known.manner.shape known.sessions it.number) it.holders)
-SaysAt fs known it (Some path) found unknown = AreSaid (SaysOf known it.number (inode fs path it.attr)) it.holders found unknown
+SaysAt fs known it (Some path) found unknown = AreReports (SaysOf known it.number (inode fs path it.attr)) it.holders found unknown
 
 abbrev pub SaysOfInode : List ℕ → Clients → PathMap → Listed → List ℕ → List ℕ → Type 0
 SaysOfInode fs known paths it found unknown = SaysAt fs known it (map.get paths it.number) found unknown
@@ -153,17 +153,17 @@ SaysOfPairs m sessions paths it text = (holdings : List Holding) × Give Holds i
 -- ---- the audit
 
 -- lines in order, or lines that are alike counted
-abbrev pub AreShown : Detail → Shape → List ℕ → List ℕ → Type 0
-AreShown Each shape text shown = AreInOrder text shown
-AreShown Groups shape text shown = AreCounted shape text shown
+abbrev pub AreListed : Detail → Shape → List ℕ → List ℕ → Type 0
+AreListed Each shape text listed = AreInOrder text listed
+AreListed Groups shape text listed = AreCounted shape text listed
 
 -- what is found beyond grants and in conflict, in order or counted, and behind it, in order, what is not known
 abbrev pub AreLines : Manner → List ℕ → List ℕ → List ℕ → List ℕ → Type 0
-AreLines m beyond conflicts unknown lines = (first : List ℕ) × (last : List ℕ) × AreShown m.detail m.shape (beyond ++ conflicts) first × AreInOrder unknown last × (lines ≡ first ++ last)
+AreLines m beyond conflicts unknown lines = (first : List ℕ) × (last : List ℕ) × AreListed m.detail m.shape (beyond ++ conflicts) first × AreInOrder unknown last × (lines ≡ first ++ last)
 
 -- these lines are told, or that nothing is found where there are none, and behind them the last one
-abbrev pub IsTold : Shape → List ℕ → List ℕ → List ℕ → Bool → Type 0
-IsTold shape lines last text found = (found ≡ not (length lines == 0)) × (text ≡ (if found then lines else nothing_in shape) ++ last)
+abbrev pub IsReported : Shape → List ℕ → List ℕ → List ℕ → Bool → Type 0
+IsReported shape lines last text found = (found ≡ not (length lines == 0)) × (text ≡ (if found then lines else nothing_in shape) ++ last)
 
 -- what is told of the inodes of a tree
 pub record IsReport (fs : List ℕ) (known : Clients) (seen : Dump) (text : List ℕ) (found : Bool) : Type 0 where
@@ -171,10 +171,10 @@ pub record IsReport (fs : List ℕ) (known : Clients) (seen : Dump) (text : List
   pub conflicts : List ℕ
   pub unknown : List ℕ
   pub lines : List ℕ
-  pub said : AreSaid (SaysOfInode fs known seen.paths) seen.inodes beyond unknown
+  pub reports : AreReports (SaysOfInode fs known seen.paths) seen.inodes beyond unknown
   pub paired : Give (SaysOfPairs known.manner known.sessions seen.paths) seen.inodes conflicts
   pub ordered : AreLines known.manner beyond conflicts unknown lines
-  pub told : IsTold known.manner.shape lines (counts_in known.manner.shape (counts_of known.sessions seen.inodes beyond conflicts unknown)) text found
+  pub reported : IsReported known.manner.shape lines (counts_in known.manner.shape (counts_of known.sessions seen.inodes beyond conflicts unknown)) text found
 
 -- ---- the texts
 

@@ -1,7 +1,7 @@
 pub mod Lines
 pub mod Objects
 pub mod Shaped
-pub mod Told
+pub mod Reported
 pub mod Instead
 pub mod Order
 pub mod Summary

@@ -34,4 +34,4 @@ pub record AreCounted (shape : Shape) (text counted : List ℕ) : Type 0 where
   pub kinds : List (Vec ℕ)
   pub left : List ℕ
   pub cut_again : lines ordered ≡ map (λ line. line.items) kinds ++ left ∷ []
-  pub told : counted ≡ flat_map (counted_line shape all) kinds
+  pub reported : counted ≡ flat_map (counted_line shape all) kinds

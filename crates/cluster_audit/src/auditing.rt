@@ -1,7 +1,7 @@
 //! From the clients and the tree of a cluster to what is held and may not be.
 ghost use Rattle.std.specs.Prelude.{IfOk, OnOk};
 ghost use Rattle.ceph_input.specs.Dump.{dump};
-ghost use Rattle.cluster_audit.specs.Audited.{Adds, AreLines, AreSaid, IsReport, IsTold, SaysOf, SaysOfInode, clients_of};
+ghost use Rattle.cluster_audit.specs.Audited.{Adds, AreLines, AreReports, IsReport, IsReported, SaysOf, SaysOfInode, clients_of};
 
 use crate::clients::ClusterClients;
 use crate::holders::{note_holder, print_pathless_holders};
@@ -68,7 +68,7 @@ fn all_lines(
 
 // These lines, or that nothing is found where there are none, and the last line.
 fn report_of(shape: Shape, mut lines: Vec<u8>, last: &[u8]) -> Result<Report, AllocError>
-    ensures { IfOk result (λ report. IsTold shape lines.items last.now report.text.items report.found) }
+    ensures { IfOk result (λ report. IsReported shape lines.items last.now report.text.items report.found) }
 {
     let found = !lines.is_empty();
     if !found {
@@ -87,7 +87,7 @@ fn note_inodes(
     inodes: &[TreeInode],
     paths: &Numbered<TreePath>,
 ) -> Result<Notes, AllocError>
-    ensures { IfOk result (λ notes. AreSaid (SaysOfInode fs.now (clients_of manner clients.now) paths.now) inodes.now notes.found.items notes.unknown.items) }
+    ensures { IfOk result (λ notes. AreReports (SaysOfInode fs.now (clients_of manner clients.now) paths.now) inodes.now notes.found.items notes.unknown.items) }
 {
     let mut notes = Notes::none(alloc);
     for inode in inodes {
@@ -141,7 +141,7 @@ fn note_holders(
     inode: &Inode,
     holders: &[Holder],
 ) -> Result<(), AllocError>
-    ensures { OnOk result (Adds (AreSaid (SaysOf (clients_of manner clients.now) number inode.now) holders.now) notes.old notes.new) }
+    ensures { OnOk result (Adds (AreReports (SaysOf (clients_of manner clients.now) number inode.now) holders.now) notes.old notes.new) }
 {
     for holder in holders {
         note_holder(manner, notes, clients, number, inode, holder)?;

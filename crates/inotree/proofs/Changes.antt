@@ -22,13 +22,13 @@ use Rattle.inotree.specs.Inodes.{InodeMap, with_setting, with_site}
 use Rattle.inotree.specs.Index.{NameIndex, slot_cmp}
 use Rattle.inotree.specs.Heights.{AreConsistent, HeightMap, HeightsRise, HeightsRiseBut, SameBut}
 use Rattle.inotree.specs.Tree.{AllHaveGoodNames, Climbs, HasGoodNames, IsChildless, IsIndexed, IsTree, IsUnder, depth, dir_at, is_directory, is_directory_kind}
-use Rattle.inotree.specs.Tree.{is_within, kind_of, lies_below, parent, presence, presence_at, reaches, site_of}
+use Rattle.inotree.specs.Tree.{descends, is_within, kind_of, lies_below, parent, presence, presence_at, site_of}
 use Rattle.inotree.specs.Calls.{first_tree, new_node}
 use Rattle.dense_map.proofs.Maps.{change-is, change-none, insert-here, insert-other, remove-here, remove-other}
 use Rattle.inotree.proofs.Inner.{good_none, moved_good, put_inner, some_same}
 use Rattle.inotree.proofs.Named.{node_of}
 use Rattle.inotree.proofs.Shape.{climb_keep, climb_on, climb_split, index-forgotten, index-unlinked, same_ino, slot, tree-buried}
-use Rattle.inotree.proofs.Growing.{depth-climb, index-added, index-moved, index-same, off_here, off_next, reach_up, tree-same, tree-sited}
+use Rattle.inotree.proofs.Growing.{depth-climb, descend_up, index-added, index-moved, index-same, off_here, off_next, tree-same, tree-sited}
 use Rattle.inotree.proofs.Rising.{all-rise, rise-moved, rise-same, rise-sited}
 use Rattle.inotree.proofs.Walks.{is_within-is}
 
@@ -185,17 +185,17 @@ consistent-added m last d a kind attr index old new t consistent dir_kind dir_he
     let off : e ≡ k → ⊥ = λ same. avoid i b (subst (λ y. IsUnder m i y b) same v) in
     let was = t.parents i e b v in
     (ap is_directory_kind (kinds e off) ∙ was.0, ap presence_at (other e off) ∙ was.1) in
-    let reached : (i : ℕ) → presence n i ≡ Here → (up : List (List ℕ)) × (length up ≤ 32) × Climbs n i up 1 = λ i h. elim (same_ino i k) [
+    let to_root : (i : ℕ) → presence n i ≡ Here → (up : List (List ℕ)) × (length up ≤ 32) × Climbs n i up 1 = λ i h. elim (same_ino i k) [
       | inl same ↦
-          let r = t.reached d dir_here in
+          let r = t.to_root d dir_here in
           let long : depth m d ≡ length r.0 = depth-climb m r.0 d t.root r.1 r.2 in
           (a ∷ r.0, omega arith, (d, subst (λ y. IsUnder n y d a) (sym same) now, climb_keep m n k other avoid d r.0 1 dir_off r.2))
-      | inr off ↦ let r = t.reached i (sym (ap presence_at (other i off)) ∙ h) in (r.0, r.1, climb_keep m n k other avoid i r.0 1 off r.2)
+      | inr off ↦ let r = t.to_root i (sym (ap presence_at (other i off)) ∙ h) in (r.0, r.1, climb_keep m n k other avoid i r.0 1 off r.2)
     ] in
     let nowhere : (e : ℕ) (b : List ℕ) → IsUnder m k e b → ⊥ = λ e b v. cc in
     let free_under : (j : ℕ) → IsUnder m j d a → ⊥ = λ j u. let got = ix.taken j d a u in cc in
     let inner : AllHaveGoodNames n = put_inner m k (new_node kind d a attr) t.inner_names (good_none _ refl refl) in (
-      tree-sited m n last k k d a t other kinds fresh now was_no_root dir_kind dir_here dir_off good free_under dir_still reached inner,
+      tree-sited m n last k k d a t other kinds fresh now was_no_root dir_kind dir_here dir_off good free_under dir_still to_root inner,
       index-added m n last k k d a t other kinds fresh now was_no_root dir_kind dir_here dir_off good free_under index ix free nowhere,
       ap presence_at now,
       rise-sited m n old new k other kinds same_but avoid consistent.1,
@@ -209,7 +209,7 @@ climb_off m n k other (a ∷ up) i c top fits out climb =
 
 -- an inode moves, with whatever index there is
 pub moves : (m : InodeMap) (last k d e : ℕ) (a b : List ℕ) → IsTree (record { nodes = m; last = last })
-    → IsUnder m k e b → is_directory m d ≡ true → presence m d ≡ Here → is_bad_name a ≡ false → ((j : ℕ) → IsUnder m j d a → ⊥) → is_within m d k ≡ false → reaches (32 - depth m d) m k ≡ false
+    → IsUnder m k e b → is_directory m d ≡ true → presence m d ≡ Here → is_bad_name a ≡ false → ((j : ℕ) → IsUnder m j d a → ⊥) → is_within m d k ≡ false → descends (32 - depth m d) m k ≡ false
     → IsTree (record { nodes = change_at (with_site (Under (record { 0 = d }) a)) m k; last = last })
     × ((index : NameIndex) → IsIndexed m index → map.get index (slot d a) ≡ None → IsIndexed (change_at (with_site (Under (record { 0 = d }) a)) m k) (map.remove (map.insert index (slot d a) k) (slot e b)))
 moves m last k d e a b t was dir_kind dir_here good free apart shallow =
@@ -237,29 +237,29 @@ moves m last k d e a b t was dir_kind dir_here good free apart shallow =
       | inl same ↦ subst (λ y. presence m y ≡ Here) (sym same) (ap presence_at was)
       | inr off ↦ sym (ap presence_at (other i off)) ∙ h
     ] in
-    let top = t.reached d dir_here in
+    let top = t.to_root d dir_here in
     let long : depth m d ≡ length top.0 = depth-climb m top.0 d t.root top.1 top.2 in
     let above : Climbs n d top.0 1 = climb_off m n k other top.0 d 32 1 top.1 out top.2 in
-    let reached : (i : ℕ) → presence n i ≡ Here → (up : List (List ℕ)) × (length up ≤ 32) × Climbs n i up 1 = λ i h.
-    let r = t.reached i (was_here i h) in
+    let to_root : (i : ℕ) → presence n i ≡ Here → (up : List (List ℕ)) × (length up ≤ 32) × Climbs n i up 1 = λ i h.
+    let r = t.to_root i (was_here i h) in
     elim (climb_split m n k other i r.0 1 r.2) [
       | inl still ↦ (r.0, r.1, still)
       | inr found ↦
           let short : length found.0 < 32 - depth m d = short_of m i found.0 k (32 - depth m d) shallow found.1 in
           (found.0 ++ a ∷ top.0, omega (arith, length-append found.0 (a ∷ top.0)), climb_on n i found.0 k (a ∷ top.0) 1 found.2 (d, now, above))
     ] in (
-      tree-sited m n last last k d a t other kinds fresh now was_no_root dir_kind dir_here dir_off good free dir_still reached (changed_inner m last k node.0 (with_site site) node.1 t.inner_names (moved_good site node.0)),
+      tree-sited m n last last k d a t other kinds fresh now was_no_root dir_kind dir_here dir_off good free dir_still to_root (changed_inner m last k node.0 (with_site site) node.1 t.inner_names (moved_good site node.0)),
       λ index ix no_name. index-moved m n last last k d a t other kinds fresh now was_no_root dir_kind dir_here dir_off good free index ix no_name e b was,
     ) where
-      short_of : (m : InodeMap) (i : ℕ) (below : List (List ℕ)) (k c : ℕ) → reaches c m k ≡ false → Climbs m i below k → length below < c
+      short_of : (m : InodeMap) (i : ℕ) (below : List (List ℕ)) (k c : ℕ) → descends c m k ≡ false → Climbs m i below k → length below < c
       short_of m i below k c shallow climb = elim (cases_lt (length below) c) [
         | inl less ↦ less
-        | inr le ↦ let deep : reaches c m k ≡ true = reach_up c m i below k le climb in cc
+        | inr le ↦ let deep : descends c m k ≡ true = descend_up c m i below k le climb in cc
       ]
 
 -- an inode moves
 pub consistent-moved : (m : InodeMap) (last k d e : ℕ) (a b : List ℕ) (index : NameIndex) (heights : HeightMap) → IsTree (record { nodes = m; last = last }) → AreConsistent m index heights
-    → IsUnder m k e b → is_directory m d ≡ true → presence m d ≡ Here → is_bad_name a ≡ false → map.get index (slot d a) ≡ None → is_within m d k ≡ false → reaches (32 - depth m d) m k ≡ false
+    → IsUnder m k e b → is_directory m d ≡ true → presence m d ≡ Here → is_bad_name a ≡ false → map.get index (slot d a) ≡ None → is_within m d k ≡ false → descends (32 - depth m d) m k ≡ false
     → IsRaisable (change_at (with_site (Under (record { 0 = d }) a)) m k) last (map.remove (map.insert index (slot d a) k) (slot e b)) heights k
 consistent-moved m last k d e a b index heights t both was dir_kind dir_here good free apart shallow =
     let site : Site = Under (record { 0 = d }) a in
@@ -326,7 +326,7 @@ consistent-first attr heights =
         siblings = λ i j d a u v. absurd (nowhere i d a u);
         names = λ i d a u. absurd (nowhere i d a u);
         inner_names = put_inner map.empty 1 root (λ i y got. let absent = map.get-empty {X = Node} nat_cmp i in cc) (good_none root refl refl);
-        reached = λ i h. elim (same_ino i 1) [
+        to_root = λ i h. elim (same_ino i 1) [
           | inl same ↦ ([], omega arith, same)
           | inr off ↦ let v : presence n i ≡ NoIno = ap (λ o. presence_at (option_map (λ (n : Node). n.site) o)) (none i off) in cc
         ];

@@ -26,14 +26,14 @@ module _ (m n : InodeMap) (P : ℕ → Type 0) (same : (i : ℕ) → P i → sit
   step k i rest kept (Some Stray) is = refl
   step k i rest kept (Some (Under dir name)) is = ap (λ names. name ∷ names) (rest dir.0 (above i dir.0 name kept is))
 
-  names_up-kept : (k i : ℕ) → P i → names_up k n i ≡ names_up k m i
+  names_up-stays : (k i : ℕ) → P i → names_up k n i ≡ names_up k m i
   unfolding names_up
-  names_up-kept zero i kept = refl
-  names_up-kept (suc k) i kept = ap (λ s. upward s [] (λ dir name. name ∷ names_up k n dir)) (same i kept) ∙ step k i (names_up-kept k) kept (site_of m i) refl
+  names_up-stays zero i kept = refl
+  names_up-stays (suc k) i kept = ap (λ s. upward s [] (λ dir name. name ∷ names_up k n dir)) (same i kept) ∙ step k i (names_up-stays k) kept (site_of m i) refl
 
-  pub path_of-kept : (i : ℕ) → P i → path_of n i ≡ path_of m i
+  pub path_of-stays : (i : ℕ) → P i → path_of n i ≡ path_of m i
   unfolding path_of
-  path_of-kept i kept = ap (λ s. path_at (presence_at s) (names_up 32 n i)) (same i kept) ∙ ap (path_at (presence m i)) (names_up-kept 32 i kept)
+  path_of-stays i kept = ap (λ s. path_at (presence_at s) (names_up 32 n i)) (same i kept) ∙ ap (path_at (presence m i)) (names_up-stays 32 i kept)
 
 -- ---- one inode changes, and stays where it stands
 
@@ -52,7 +52,7 @@ field-changed {A} f field same m k i = by_old (map.get m k) refl
 
 pub alike-changed : (tree : Nodes) (f : Node → Node) (k : ℕ) → ((x : Node) → (f x).site ≡ x.site) → ((x : Node) → (f x).attr ≡ x.attr) → (ino : ℕ) → IsAlike tree (changed f tree k) ino
 alike-changed tree f k site attr ino = record {
-  path = path_of-kept tree.nodes (change_at f tree.nodes k) (λ i. Unit {0}) (λ i kept. field-changed f (λ n. n.site) site tree.nodes k i) (λ i d a kept under. tt) ino tt;
+  path = path_of-stays tree.nodes (change_at f tree.nodes k) (λ i. Unit {0}) (λ i kept. field-changed f (λ n. n.site) site tree.nodes k i) (λ i d a kept under. tt) ino tt;
   attr = field-changed f (λ n. n.attr) attr tree.nodes k ino;
 }
 
@@ -61,7 +61,7 @@ alike-changed tree f k site attr ino = record {
 pub alike-other : (old new : Nodes) (k : ℕ) → ((i : ℕ) → (i ≡ k → ⊥) → map.get new.nodes i ≡ map.get old.nodes i) → ((i : ℕ) (a : List ℕ) → IsUnder old.nodes i k a → ⊥)
     → (ino : ℕ) → (ino ≡ k → ⊥) → IsAlike old new ino
 alike-other old new k other empty ino off = record {
-  path = path_of-kept old.nodes new.nodes (λ i. i ≡ k → ⊥) (λ i off. ap (option_map (λ (n : Node). n.site)) (other i off))
+  path = path_of-stays old.nodes new.nodes (λ i. i ≡ k → ⊥) (λ i off. ap (option_map (λ (n : Node). n.site)) (other i off))
       (λ i d a off under is. empty i a (subst (λ x. IsUnder old.nodes i x a) is under)) ino off;
   attr = ap (option_map (λ (n : Node). n.attr)) (other ino off);
 }

@@ -5,14 +5,14 @@ use Rattle.std.specs.Option.{option_or}
 use Rattle.capbits.specs.declared.refusal.Refusal.{Refusal}
 use Rattle.capbits.specs.Refusal.{Test, first_failing}
 
-or_if : (fails : Bool) (answer : Refusal) (one whole more : Option Refusal) → option_or one more ≡ whole → option_or (if fails then Some answer else one) more ≡ (if fails then Some answer else whole)
-or_if true answer one whole more same = refl
-or_if false answer one whole more same = same
+or_if : (fails : Bool) (refusal : Refusal) (one whole more : Option Refusal) → option_or one more ≡ whole → option_or (if fails then Some refusal else one) more ≡ (if fails then Some refusal else whole)
+or_if true refusal one whole more same = refl
+or_if false refusal one whole more same = same
 
 -- the answer of one part, or else of the other
 first-of : (one more : List Test) → option_or (first_failing one) (first_failing more) ≡ first_failing (one ++ more)
 first-of [] more = refl
-first-of (t ∷ ts) more = or_if t.fails t.answer (first_failing ts) (first_failing (ts ++ more)) (first_failing more) (first-of ts more)
+first-of (t ∷ ts) more = or_if t.fails t.refusal (first_failing ts) (first_failing (ts ++ more)) (first_failing more) (first-of ts more)
 
 pub first-both : (one more : List Test) (a b both : Option Refusal) → both ≡ option_or a b → a ≡ first_failing one → b ≡ first_failing more → both ≡ first_failing (one ++ more)
 first-both one more a b both is of_one of_more = is ∙ (λ i. option_or (of_one i) (of_more i)) ∙ first-of one more

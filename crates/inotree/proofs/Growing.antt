@@ -11,7 +11,7 @@ use Rattle.inotree.specs.Names.{is_bad_name}
 use Rattle.inotree.specs.Inodes.{InodeMap}
 use Rattle.inotree.specs.Index.{NameIndex}
 use Rattle.inotree.specs.Tree.{AllHaveGoodNames, Climbs, IsIndexed, IsTree, IsUnder, depth, is_directory, is_directory_kind, is_in, kind_of, lies_below}
-use Rattle.inotree.specs.Tree.{names_up, presence, presence_at, reaches, site_of, upward}
+use Rattle.inotree.specs.Tree.{descends, names_up, presence, presence_at, site_of, upward}
 use Rattle.dense_map.proofs.Found.{and_true, any_found}
 use Rattle.dense_map.proofs.Maps.{insert-here, insert-other, remove-here, remove-other, same_or_other}
 use Rattle.inotree.proofs.Named.{node_of}
@@ -58,15 +58,15 @@ last_step m j a (b ∷ up) k c =
     (r.0, r.1, a ∷ r.2, r.3, (c.0, c.1, r.4), ap suc r.5)
 
 -- what climbs so far, reaches so far down
-pub reach_up : (c : ℕ) (m : InodeMap) (j : ℕ) (below : List (List ℕ)) (k : ℕ) → c ≤ length below → Climbs m j below k → reaches c m k ≡ true
-unfolding reaches
-reach_up zero m j below k le climb = refl
-reach_up (suc c) m j [] k le climb = absurd (omega arith)
-reach_up (suc c) m j (a ∷ below) k le climb =
+pub descend_up : (c : ℕ) (m : InodeMap) (j : ℕ) (below : List (List ℕ)) (k : ℕ) → c ≤ length below → Climbs m j below k → descends c m k ≡ true
+unfolding descends
+descend_up zero m j below k le climb = refl
+descend_up (suc c) m j [] k le climb = absurd (omega arith)
+descend_up (suc c) m j (a ∷ below) k le climb =
     let r = last_step m j a below k climb in
-    let deeper : reaches c m r.0 ≡ true = reach_up c m j r.2 r.0 (omega (arith, r.5)) r.4 in
+    let deeper : descends c m r.0 ≡ true = descend_up c m j r.2 r.0 (omega (arith, r.5)) r.4 in
     let node = node_of m r.0 _ r.3 in
-    any_found nat_cmp_total map.nat_cmp-IsAntisymmetric (λ (e : ℕ × Node). is_in k e.1.site && reaches c m e.0) m r.0 node.0 node.1
+    any_found nat_cmp_total map.nat_cmp-IsAntisymmetric (λ (e : ℕ × Node). is_in k e.1.site && descends c m e.0) m r.0 node.0 node.1
     (and_true _ _ (ap (is_in k) node.2 ∙ same_test k k refl) deeper)
 
 -- An inode gets this name in this directory, where the name is free.
@@ -102,7 +102,7 @@ module _ (m n : InodeMap) (last next k d : ℕ) (a : List ℕ) (t : IsTree (reco
         free j (subst (λ y. IsUnder m j y a) dirs (subst (λ y. IsUnder m j e y) names his))
 
   module _ (dir_still : (i e : ℕ) (b : List ℕ) → IsUnder m i e b → (is_directory n e ≡ true) × (presence n e ≡ Here))
-      (reached : (i : ℕ) → presence n i ≡ Here → (up : List (List ℕ)) × (length up ≤ 32) × Climbs n i up 1)
+      (to_root : (i : ℕ) → presence n i ≡ Here → (up : List (List ℕ)) × (length up ≤ 32) × Climbs n i up 1)
       (inner : AllHaveGoodNames n) where
     pub tree-sited : IsTree (record { nodes = n; last = next })
     tree-sited = record {
@@ -126,7 +126,7 @@ module _ (m n : InodeMap) (last next k d : ℕ) (a : List ℕ) (t : IsTree (reco
         | inr off ↦ t.names i e b (stays i e b u off)
       ];
       inner_names = inner;
-      reached = reached;
+      to_root = to_root;
       given = fresh;
     }
 
@@ -221,7 +221,7 @@ module _ (m n : InodeMap) (last : ℕ) (t : IsTree (record { nodes = m; last = l
     siblings = λ i j d a u v. t.siblings i j d a (sym (sites i) ∙ u) (sym (sites j) ∙ v);
     names = λ i d a u. t.names i d a (sym (sites i) ∙ u);
     inner_names = inner;
-    reached = λ i h. let r = t.reached i (sym (ap presence_at (sites i)) ∙ h) in (r.0, r.1, still_climbs i r.0 1 r.2);
+    to_root = λ i h. let r = t.to_root i (sym (ap presence_at (sites i)) ∙ h) in (r.0, r.1, still_climbs i r.0 1 r.2);
     given = fresh;
   }
 

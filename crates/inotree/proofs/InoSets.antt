@@ -50,15 +50,15 @@ from_lt a b is = ranked a b Less (sym is)
 -- a number lies within the bound exactly if it is at least another
 pub record Begins (low : Bound ℕ) (from : ℕ) : Type 0 where
   pub inside : (k : ℕ) → from ≤ k → IsInRange nat_cmp low Unbounded k
-  pub reached : (k : ℕ) → IsInRange nat_cmp low Unbounded k → from ≤ k
+  pub not_below : (k : ℕ) → IsInRange nat_cmp low Unbounded k → from ≤ k
 
 pub begins-at : (from : ℕ) → Begins (Included from) from
-begins-at from = record { inside = λ k h. (not_gt from k h, tt); reached = λ k in_range. le_from_not_gt from k in_range.0 }
+begins-at from = record { inside = λ k h. (not_gt from k h, tt); not_below = λ k in_range. le_from_not_gt from k in_range.0 }
 
 pub begins-behind : (from : ℕ) → Begins (Excluded from) (from + 1)
 begins-behind from = record {
   inside = λ k h. (lt from k (omega (arith, h)), tt);
-  reached = λ k in_range. (let less = from_lt from k in_range.0 in omega (arith, less));
+  not_below = λ k in_range. (let less = from_lt from k in_range.0 in omega (arith, less));
 }
 
 module _ (s : BTreeSet ℕ) (inos : InoSet) (is : set.from_list {R = nat_cmp} s.keys ≡ inos) (low : Bound ℕ) (from : ℕ) (begins : Begins low from) where
@@ -73,7 +73,7 @@ module _ (s : BTreeSet ℕ) (inos : InoSet) (is : set.from_list {R = nat_cmp} s.
   pub least-from : (e : ℕ) (rest : List ℕ) → IsKeyRangeOf nat_cmp low Unbounded s (e ∷ rest) → IsLeastFrom inos from e
   least-from e rest range = record {
     has = at_key e ∙ range.1.1;
-    reached = begins.reached e range.1.0;
+    not_below = begins.not_below e range.1.0;
     least = λ k h less. at_key k ∙ nothing k h less (btree.contains nat_cmp s k) refl;
   }
     where
@@ -107,7 +107,7 @@ module _ (others : InoSet) (one : ℕ) (inos : InoSet) (is : set.insert others o
   pub least-other : (from e : ℕ) → (one < from) ⊎ (e ≤ one) → IsLeastFrom others from e → IsLeastFrom inos from e
   least-other from e before next = record {
     has = other_there e next.has;
-    reached = next.reached;
+    not_below = next.not_below;
     least = λ k h less. neither k (λ same. not_one k h less same before) (next.least k h less);
   }
     where
@@ -117,9 +117,9 @@ module _ (others : InoSet) (one : ℕ) (inos : InoSet) (is : set.insert others o
 
   -- else the one is
   pub least-one : (from : ℕ) → from ≤ one → ((k : ℕ) → from ≤ k → k < one → set.contains others k ≡ false) → IsLeastFrom inos from one
-  least-one from reached none = record {
+  least-one from not_below none = record {
     has = at-beside one ∙ ap (λ b. b || set.contains others one) (itself one);
-    reached = reached;
+    not_below = not_below;
     least = λ k h less. neither k (λ same. omega (arith, less, same)) (none k h less);
   }
 

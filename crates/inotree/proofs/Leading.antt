@@ -40,6 +40,6 @@ module _ (t : Nodes) (tree : IsTree t) where
   unfolding path_of
   path_leads i names e =
       let h = at_here i (presence t.nodes i) (names_up 32 t.nodes i) names e in
-      let r = tree.reached i h.0 in
+      let r = tree.to_root i h.0 in
       let up : names_up 32 t.nodes i ≡ r.0 = climb-names t.nodes r.0 i 32 tree.root r.1 r.2 in
       ap (follow t.nodes (Some 1)) (sym h.1 ∙ ap reverse up) ∙ follow-climb r.0 [] i 1 r.2

@@ -14,7 +14,7 @@ pub mod Naming
 pub mod OneInode
 pub mod Order
 pub mod Passing
-pub mod Reaching
+pub mod Descending
 pub mod Results
 pub mod Rising
 pub mod Shape

@@ -15,13 +15,13 @@ use Rattle.std.specs.List.{list_any}
 use Rattle.capbits.specs.Maps.{change_at}
 use Rattle.inotree.specs.declared.index.Slot.{Slot}
 use Rattle.inotree.specs.Inodes.{InodeMap}
-use Rattle.inotree.specs.Index.{NameIndex, index_reaches, names_in}
+use Rattle.inotree.specs.Index.{NameIndex, index_descends, names_in}
 use Rattle.inotree.specs.Heights.{AreAllKnown, AreNoHigher, HeightMap, HeightsRise, IsHigher, bound, height}
 use Rattle.inotree.specs.Tree.{IsIndexed, IsUnder, is_directory}
 use Rattle.dense_map.proofs.Found.{and_true, any-filter, any-map, any_found}
 use Rattle.dense_map.proofs.Maps.{change-is, change-none, insert-here}
-use Rattle.inotree.proofs.Reaching.{reaches-step, reaches-zero}
-use Rattle.inotree.proofs.Reaching.{any_found as reached_one}
+use Rattle.inotree.proofs.Descending.{descends-step, descends-zero}
+use Rattle.inotree.proofs.Descending.{any_found as root_one}
 use Rattle.inotree.proofs.Rising.{height_dir, inserted_same}
 use Rattle.inotree.proofs.Shape.{same_ino}
 use Rattle.inotree.proofs.Slots.{slot_same, slot_total}
@@ -164,15 +164,15 @@ turn_few most below k steps is less few = go (is_lt (nat_cmp (below + 1) most)) 
   go false e = let second : k ≡ below + 1 = is ∙ ap (λ t. cond t most (below + 1)) e in omega (arith, second, few)
 
 -- where nothing lies so many steps below a directory, nothing lies one less below what stands in it
-pub none_reached : (steps : ℕ) (index : NameIndex) (dir : ℕ) (before rest : List (Slot × ℕ)) (e : Slot × ℕ) → (steps ≡ 0 → ⊥) → names_in dir index ≡ before ++ e ∷ rest
-    → index_reaches steps index dir ≡ false → index_reaches (steps - 1) index e.1 ≡ false
-none_reached steps index dir before rest e some parts none = go (index_reaches (steps - 1) index e.1) refl where
-  go : (b : Bool) → index_reaches (steps - 1) index e.1 ≡ b → b ≡ false
+pub none_descends : (steps : ℕ) (index : NameIndex) (dir : ℕ) (before rest : List (Slot × ℕ)) (e : Slot × ℕ) → (steps ≡ 0 → ⊥) → names_in dir index ≡ before ++ e ∷ rest
+    → index_descends steps index dir ≡ false → index_descends (steps - 1) index e.1 ≡ false
+none_descends steps index dir before rest e some parts none = go (index_descends (steps - 1) index e.1) refl where
+  go : (b : Bool) → index_descends (steps - 1) index e.1 ≡ b → b ≡ false
   go false is = refl
   go true is =
-      let below : Slot × ℕ → Bool = λ e. index_reaches (steps - 1) index e.1 in
-      let reached : index_reaches steps index dir ≡ true = reaches-step steps index dir some ∙ ap (list_any below) parts ∙ reached_one below before rest e is in
-      sym reached ∙ none
+      let below : Slot × ℕ → Bool = λ e. index_descends (steps - 1) index e.1 in
+      let descended : index_descends steps index dir ≡ true = descends-step steps index dir some ∙ ap (list_any below) parts ∙ root_one below before rest e is in
+      sym descended ∙ none
 
 -- and with that it is set to less
 module _ (m : InodeMap) (heights : HeightMap) (dir most steps : ℕ) (known : AreAllKnown m heights) (less : most < height m heights dir) (few : most < steps) where
@@ -190,6 +190,6 @@ module _ (m : InodeMap) (heights : HeightMap) (dir most steps : ℕ) (known : Ar
         omega (arith, now, few)
 
 -- below a file lies nothing
-pub file_few : (m : InodeMap) (heights : HeightMap) (index : NameIndex) (ino steps : ℕ) → is_directory m ino ≡ false → index_reaches steps index ino ≡ false → height m heights ino < steps
-file_few m heights index ino zero file none = let reached : index_reaches 0 index ino ≡ true = reaches-zero 0 index ino refl in absurd (cc)
+pub file_few : (m : InodeMap) (heights : HeightMap) (index : NameIndex) (ino steps : ℕ) → is_directory m ino ≡ false → index_descends steps index ino ≡ false → height m heights ino < steps
+file_few m heights index ino zero file none = let descended : index_descends 0 index ino ≡ true = descends-zero 0 index ino refl in absurd (cc)
 file_few m heights index ino (suc n) file none = subst (λ b. (if b then bound heights ino else 0) < suc n) (sym file) (omega arith)

@@ -12,8 +12,8 @@ use Rattle.inotree.specs.declared.node.Site.{Site}
 use Rattle.inotree.specs.declared.node.Site.TheVariants.{Root, Stray, Under}
 use Rattle.inotree.specs.declared.node.Presence.TheVariants.{Here, NoIno}
 use Rattle.inotree.specs.Inodes.{InodeMap}
-use Rattle.inotree.specs.Index.{AreInodes, NameIndex, index_reaches}
-use Rattle.inotree.specs.Tree.{IsIndexed, IsTree, IsUnder, StandInDirectories, child, first_where, is_at, is_directory, is_in, presence, presence_at, reaches}
+use Rattle.inotree.specs.Index.{AreInodes, NameIndex, index_descends}
+use Rattle.inotree.specs.Tree.{IsIndexed, IsTree, IsUnder, StandInDirectories, child, descends, first_where, is_at, is_directory, is_in, presence, presence_at}
 use Rattle.inotree.specs.Tree.{site_of}
 use Rattle.dense_map.proofs.Found.{all_map, and_true, any-filter, any_found, any_some, both_true, found, same_bool}
 use Rattle.dense_map.proofs.Maps.{tied, tied_here}
@@ -78,25 +78,25 @@ module _ (m : InodeMap) (index : NameIndex) (x : IsIndexed m index) where
         let some : list_any (λ (e : ℕ × Node). is_at d a e.1.site) (map.entries m) ≡ true = any_found nat_cmp_total map.nat_cmp-IsAntisymmetric (λ e. is_at d a e.1.site) m i n.0 n.1 (ap (is_at d a) n.2 ∙ under_at d a) in
         cc
 
-  pub reaches-index : (n i : ℕ) → reaches n m i ≡ index_reaches n index i
-  unfolding reaches index_reaches
-  reaches-index zero i = refl
-  reaches-index (suc n) i =
-      let below : ℕ × Node → Bool = λ e. is_in i e.1.site && reaches n m e.0 in
-      let named : Slot × ℕ → Bool = λ e. (e.0.dir == i) && index_reaches n index e.1 in
+  pub descends-index : (n i : ℕ) → descends n m i ≡ index_descends n index i
+  unfolding descends index_descends
+  descends-index zero i = refl
+  descends-index (suc n) i =
+      let below : ℕ × Node → Bool = λ e. is_in i e.1.site && descends n m e.0 in
+      let named : Slot × ℕ → Bool = λ e. (e.0.dir == i) && index_descends n index e.1 in
       same_bool _ _
       (λ h.
       let e = any_some below (map.entries m) (found nat_cmp_total map.nat_cmp-IsAntisymmetric m) h in
       let parts = both_true _ _ e.2 in
       let s = in_under i e.0.1.site parts.0 in
       let u : IsUnder m e.0.0 i s.0 = ap (option_map (λ (n : Node). n.site)) e.1 ∙ ap Some s.1 in
-      any-filter (λ e. index_reaches n index e.1) (λ e. e.0.dir == i) (map.entries index)
-      ∙ any_found slot_total slot_same named index (record { dir = i; name = s.0 }) e.0.0 (x.taken e.0.0 i s.0 u) (and_true _ _ (same_test i i refl) (sym (reaches-index n e.0.0) ∙ parts.1)))
+      any-filter (λ e. index_descends n index e.1) (λ e. e.0.dir == i) (map.entries index)
+      ∙ any_found slot_total slot_same named index (record { dir = i; name = s.0 }) e.0.0 (x.taken e.0.0 i s.0 u) (and_true _ _ (same_test i i refl) (sym (descends-index n e.0.0) ∙ parts.1)))
       (λ h.
-      let e = any_some named (map.entries index) (found slot_total slot_same index) (sym (any-filter (λ e. index_reaches n index e.1) (λ e. e.0.dir == i) (map.entries index)) ∙ h) in
+      let e = any_some named (map.entries index) (found slot_total slot_same index) (sym (any-filter (λ e. index_descends n index e.1) (λ e. e.0.dir == i) (map.entries index)) ∙ h) in
       let parts = both_true _ _ e.2 in
       let node = node_of m e.0.1 _ (x.real e.0.1 e.0.0.dir e.0.0.name e.1) in
-      any_found nat_cmp_total map.nat_cmp-IsAntisymmetric below m e.0.1 node.0 node.1 (and_true _ _ (ap (is_in i) node.2 ∙ parts.0) (reaches-index n e.0.1 ∙ parts.1)))
+      any_found nat_cmp_total map.nat_cmp-IsAntisymmetric below m e.0.1 node.0 node.1 (and_true _ _ (ap (is_in i) node.2 ∙ parts.0) (descends-index n e.0.1 ∙ parts.1)))
 
   -- the directories of the index are inodes of the tree
   pub index_inodes : (last : ℕ) → IsTree (record { nodes = m; last = last }) → last < 2 ^ 64 → AreInodes index

@@ -14,14 +14,14 @@ use Rattle.inotree.specs.declared.node.Site.TheVariants.{Root, Stray}
 use Rattle.inotree.specs.Names.{is_bad_attribute}
 use Rattle.capbits.specs.Maps.{change_at}
 use Rattle.inotree.specs.Inodes.{InodeMap, with_attribute, with_setting, with_site, without_attribute}
-use Rattle.inotree.specs.Tree.{HasGoodNames, IsChildless, IsTree, Nodes, is_directory, path_of, presence, presence_at, reaches, site_of}
+use Rattle.inotree.specs.Tree.{HasGoodNames, IsChildless, IsTree, Nodes, descends, is_directory, path_of, presence, presence_at, site_of}
 use Rattle.inotree.specs.Calls.{changed, unlinked}
 use Rattle.inotree.specs.Alike.{IsAlike}
 use Rattle.inotree.specs.Tests.{childless_test, detach_tests, directory_test, empty_test, file_test, inode_tests, is_root_site, new_attribute_tests}
 use Rattle.inotree.specs.Tests.{rmdir_tests, root_test, test_at, unlink_tests}
-use Rattle.inotree.proofs.Below.{childless-reaches}
+use Rattle.inotree.proofs.Below.{childless-descends}
 use Rattle.inotree.proofs.Changes.{setting_kind, setting_site, tree-changed, tree-unlinked}
-use Rattle.inotree.proofs.Elsewhere.{alike-other, field-changed, path_of-kept}
+use Rattle.inotree.proofs.Elsewhere.{alike-other, field-changed, path_of-stays}
 use Rattle.inotree.proofs.Inner.{attribute_good, no_attribute_good, setting_good}
 use Rattle.dense_map.proofs.Maps.{change-none, insert-other}
 use Rattle.inotree.proofs.Passing.{childless_empty, childless_file, here}
@@ -56,7 +56,7 @@ module _ (f : Node → Node) (site : (n : Node) → (f n).site ≡ n.site) where
 
   pub path-changed : (tree : Nodes) (ino other : ℕ) → path_of (changed f tree ino).nodes other ≡ path_of tree.nodes other
   path-changed tree ino other =
-      path_of-kept tree.nodes (change_at f tree.nodes ino) (λ i. Unit {0}) (λ i kept. field-changed f (λ n. n.site) site tree.nodes ino i) (λ i d a kept under. tt) other tt
+      path_of-stays tree.nodes (change_at f tree.nodes ino) (λ i. Unit {0}) (λ i kept. field-changed f (λ n. n.site) site tree.nodes ino i) (λ i d a kept under. tt) other tt
 
   pub alike-but : (tree : Nodes) (ino other : ℕ) → (other ≡ ino → ⊥) → IsAlike tree (changed f tree ino) other
   alike-but tree ino other off = record {
@@ -74,11 +74,11 @@ pub childless-file : (tree : Nodes) (ino : ℕ) → IsTree tree → first_failin
 childless-file tree ino sound passed = childless_file tree.nodes tree.last ino sound (passed-if (is_directory tree.nodes ino) refusal.IsDir _ passed).0
 
 -- nor has an empty directory
-shallow-empty : (tree : Nodes) (ino : ℕ) → first_failing (directory_test tree ino ∷ empty_test tree ino ∷ []) ≡ None → reaches 1 tree.nodes ino ≡ false
+shallow-empty : (tree : Nodes) (ino : ℕ) → first_failing (directory_test tree ino ∷ empty_test tree ino ∷ []) ≡ None → descends 1 tree.nodes ino ≡ false
 shallow-empty tree ino passed =
     let dir = passed-if (not (is_directory tree.nodes ino)) refusal.NotDir _ passed in
-    let empty = passed-if (reaches 1 tree.nodes ino || test_at (λ n. nat_lt 0 (set.len n.snapshots)) tree ino) refusal.NotEmpty _ dir.1 in
-    (or_parts (reaches 1 tree.nodes ino) _ empty.0).0
+    let empty = passed-if (descends 1 tree.nodes ino || test_at (λ n. nat_lt 0 (set.len n.snapshots)) tree ino) refusal.NotEmpty _ dir.1 in
+    (or_parts (descends 1 tree.nodes ino) _ empty.0).0
 
 pub childless-empty : (tree : Nodes) (ino : ℕ) → first_failing (directory_test tree ino ∷ empty_test tree ino ∷ []) ≡ None → IsChildless tree.nodes ino
 childless-empty tree ino passed = childless_empty tree.nodes ino (shallow-empty tree ino passed)
@@ -115,18 +115,18 @@ sound-unlinked tree ino sound passed childless = sound-any tree (with_site Stray
     no_root is = let no = (passed-if (is_root_site (site_of tree.nodes ino)) refusal.Root _ passed).0 in let yes = ap is_root_site is in cc
 
 -- the tests of what leaves its site, as they are made: of the inode and the root first
-leaving : (tree : Nodes) (ino : ℕ) → first_failing (inode_tests tree ino ++ root_test tree ino ∷ []) ≡ None → first_failing (root_test tree ino ∷ []) ≡ None
-leaving tree ino passed = (here tree ino _ passed).1
+source_passing : (tree : Nodes) (ino : ℕ) → first_failing (inode_tests tree ino ++ root_test tree ino ∷ []) ≡ None → first_failing (root_test tree ino ∷ []) ≡ None
+source_passing tree ino passed = (here tree ino _ passed).1
 
 -- so what may be unlinked or removed may be detached
-detaching : (tree : Nodes) (ino : ℕ) → first_failing (inode_tests tree ino ++ root_test tree ino ∷ []) ≡ None → reaches 1 tree.nodes ino ≡ false → first_failing (detach_tests tree ino) ≡ None
+detaching : (tree : Nodes) (ino : ℕ) → first_failing (inode_tests tree ino ++ root_test tree ino ∷ []) ≡ None → descends 1 tree.nodes ino ≡ false → first_failing (detach_tests tree ino) ≡ None
 detaching tree ino front shallow =
     pass-both (inode_tests tree ino ++ root_test tree ino ∷ []) (childless_test tree ino ∷ []) front (ap (λ b. first_failing (refused_if b refusal.NotEmpty ∷ [])) shallow)
 
 pub detach-unlink : (tree : Nodes) (ino : ℕ) → IsTree tree → first_failing (unlink_tests tree ino) ≡ None → first_failing (detach_tests tree ino) ≡ None
 detach-unlink tree ino sound passed =
     let parts = passed-both (inode_tests tree ino ++ root_test tree ino ∷ []) (file_test tree ino ∷ []) passed in
-    detaching tree ino parts.0 (childless-reaches tree.nodes ino (childless-file tree ino sound parts.1))
+    detaching tree ino parts.0 (childless-descends tree.nodes ino (childless-file tree ino sound parts.1))
 
 pub detach-rmdir : (tree : Nodes) (ino : ℕ) → first_failing (rmdir_tests tree ino) ≡ None → first_failing (detach_tests tree ino) ≡ None
 detach-rmdir tree ino passed =
@@ -134,8 +134,8 @@ detach-rmdir tree ino passed =
     detaching tree ino parts.0 (shallow-empty tree ino parts.1)
 
 pub sound-unlink : (tree : Nodes) (ino : ℕ) → IsTree tree → first_failing (inode_tests tree ino ++ root_test tree ino ∷ []) ≡ None → first_failing (file_test tree ino ∷ []) ≡ None → IsTree (unlinked tree ino)
-sound-unlink tree ino sound passed file = sound-unlinked tree ino sound (leaving tree ino passed) (childless-file tree ino sound file)
+sound-unlink tree ino sound passed file = sound-unlinked tree ino sound (source_passing tree ino passed) (childless-file tree ino sound file)
 
 pub sound-rmdir : (tree : Nodes) (ino : ℕ) → IsTree tree → first_failing (inode_tests tree ino ++ root_test tree ino ∷ []) ≡ None → first_failing (directory_test tree ino ∷ empty_test tree ino ∷ []) ≡ None
     → IsTree (unlinked tree ino)
-sound-rmdir tree ino sound passed empty = sound-unlinked tree ino sound (leaving tree ino passed) (childless-empty tree ino empty)
+sound-rmdir tree ino sound passed empty = sound-unlinked tree ino sound (source_passing tree ino passed) (childless-empty tree ino empty)

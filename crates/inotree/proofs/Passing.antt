@@ -20,10 +20,10 @@ use Rattle.inotree.specs.declared.node.Presence.TheVariants.{Gone, Here, NoIno}
 use Rattle.inotree.specs.Names.{is_bad_attribute, is_bad_name}
 use Rattle.inotree.specs.Inodes.{InodeMap}
 use Rattle.inotree.specs.Index.{NameIndex}
-use Rattle.inotree.specs.Tree.{IsChildless, IsIndexed, IsTree, Nodes, child, depth, is_directory, is_within, presence, presence_at, reaches, site_of, slot_at}
+use Rattle.inotree.specs.Tree.{IsChildless, IsIndexed, IsTree, Nodes, child, depth, descends, is_directory, is_within, presence, presence_at, site_of, slot_at}
 use Rattle.inotree.specs.Tests.{create_tests, detach_tests, is_gone, is_no_ino, is_root_site, remove_xattr_tests, rename_tests, set_xattr_tests}
 use Rattle.inotree.specs.Tests.{snap_add_tests, snap_remove_tests, test_at}
-use Rattle.inotree.proofs.Growing.{reach_up}
+use Rattle.inotree.proofs.Growing.{descend_up}
 use Rattle.inotree.proofs.Inner.{long_name, no_long_attribute, no_long_snapshot}
 use Rattle.inotree.proofs.Named.{child-index}
 
@@ -111,26 +111,26 @@ stands (Some Stray) at root = cc
 stands (Some (Under dir name)) at root = (record { dir = dir.0; name = name }, refl)
 
 -- so does one that may leave its site
-leaves : (t : Nodes) (i : ℕ) (rest : Option Refusal) →
+source_passes : (t : Nodes) (i : ℕ) (rest : Option Refusal) →
     (if is_no_ino (presence t.nodes i) then Some refusal.NoIno else if is_gone (presence t.nodes i) then Some refusal.Gone else if is_root_site (site_of t.nodes i) then Some refusal.Root else rest) ≡ None →
     ((slot : Slot) × (slot_at (site_of t.nodes i) ≡ Some slot)) × (rest ≡ None)
-leaves t i rest passed =
+source_passes t i rest passed =
     let at = here t i _ passed in
     let root = passed-if (is_root_site (site_of t.nodes i)) refusal.Root rest at.1 in
     (stands (site_of t.nodes i) at.0 root.0, root.1)
 
-pub passed-detach : (t : Nodes) (i : ℕ) → first_failing (detach_tests t i) ≡ None → ((slot : Slot) × (slot_at (site_of t.nodes i) ≡ Some slot)) × (reaches 1 t.nodes i ≡ false)
+pub passed-detach : (t : Nodes) (i : ℕ) → first_failing (detach_tests t i) ≡ None → ((slot : Slot) × (slot_at (site_of t.nodes i) ≡ Some slot)) × (descends 1 t.nodes i ≡ false)
 passed-detach t i passed =
-    let p = leaves t i _ passed in
-    (p.0, (passed-if (reaches 1 t.nodes i) refusal.NotEmpty _ p.1).0)
+    let p = source_passes t i _ passed in
+    (p.0, (passed-if (descends 1 t.nodes i) refusal.NotEmpty _ p.1).0)
 
 pub passed-rename : (t : Nodes) (i d : ℕ) (a : List ℕ) → first_failing (rename_tests t i d a) ≡ None →
-    ((slot : Slot) × (slot_at (site_of t.nodes i) ≡ Some slot)) × IsFreeSite t.nodes d a × (is_within t.nodes d i ≡ false) × (reaches (32 - depth t.nodes d) t.nodes i ≡ false)
+    ((slot : Slot) × (slot_at (site_of t.nodes i) ≡ Some slot)) × IsFreeSite t.nodes d a × (is_within t.nodes d i ≡ false) × (descends (32 - depth t.nodes d) t.nodes i ≡ false)
 passed-rename t i d a passed =
-    let p = leaves t i _ passed in
+    let p = source_passes t i _ passed in
     let q = free_site t d a _ p.1 in
     let loop = passed-if (is_within t.nodes d i) refusal.Loop _ q.1 in
-    let deep = passed-if (reaches (32 - depth t.nodes d) t.nodes i) refusal.TooDeep _ loop.1 in
+    let deep = passed-if (descends (32 - depth t.nodes d) t.nodes i) refusal.TooDeep _ loop.1 in
     (p.0, q.0, loop.0, deep.0)
 
 pub passed-set_xattr : (t : Nodes) (i : ℕ) (a v : List ℕ) → first_failing (set_xattr_tests t i a v) ≡ None → is_bad_attribute a ≡ false
@@ -159,8 +159,8 @@ short_snapshot t tree i a passed =
 pub childless_file : (m : InodeMap) (last k : ℕ) → IsTree (record { nodes = m; last = last }) → is_directory m k ≡ false → IsChildless m k
 childless_file m last k t file i b u = let dir = (t.parents i k b u).0 in cc
 
-pub childless_empty : (m : InodeMap) (k : ℕ) → reaches 1 m k ≡ false → IsChildless m k
-childless_empty m k none i b u = let some : reaches 1 m k ≡ true = reach_up 1 m i (b ∷ []) k (omega arith) (k, u, refl) in cc
+pub childless_empty : (m : InodeMap) (k : ℕ) → descends 1 m k ≡ false → IsChildless m k
+childless_empty m k none i b u = let some : descends 1 m k ≡ true = descend_up 1 m i (b ∷ []) k (omega arith) (k, u, refl) in cc
 
 -- a name that is too long is no child's
 pub long_child : (m : InodeMap) (last : ℕ) (index : NameIndex) → IsTree (record { nodes = m; last = last }) → IsIndexed m index → (d : ℕ) (a : List ℕ) → 255 < length a → child m d a ≡ None

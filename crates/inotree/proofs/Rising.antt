@@ -9,7 +9,7 @@ use Rattle.inotree.specs.declared.index.Slot.{Slot}
 use Rattle.inotree.specs.declared.node.Site.{Site}
 use Rattle.inotree.specs.declared.node.Site.TheVariants.{Root, Stray, Under}
 use Rattle.inotree.specs.Inodes.{InodeMap}
-use Rattle.inotree.specs.Index.{NameIndex, index_reaches}
+use Rattle.inotree.specs.Index.{NameIndex, index_descends}
 use Rattle.inotree.specs.Heights.{AreBounds, HeightMap, HeightsRise, HeightsRiseBut, IsHigher, SameBut, bound, height}
 use Rattle.inotree.specs.Tree.{Climbs, IsChildless, IsIndexed, IsTree, IsUnder, Nodes, dir_at, is_directory, is_directory_kind, kind_of, parent, site_of}
 use Rattle.dense_map.proofs.Found.{any-filter, any_some, both_true, found}
@@ -61,10 +61,10 @@ lower_too i d less low = omega (arith, less, low)
 
 module _ (m : InodeMap) (index : NameIndex) (heights : HeightMap) (x : IsIndexed m index) (rise : HeightsRise m heights) where
   pub are-bounds : AreBounds m heights index
-  unfolding index_reaches
+  unfolding index_descends
   are-bounds zero i e low = omega arith
   are-bounds (suc n) i e low =
-      let at = any_some (λ (e : Slot × ℕ). (e.0.dir == i) && index_reaches n index e.1) (map.entries index) (found slot_total slot_same index) (sym (any-filter (λ (e : Slot × ℕ). index_reaches n index e.1) (λ e. e.0.dir == i) (map.entries index)) ∙ e) in
+      let at = any_some (λ (e : Slot × ℕ). (e.0.dir == i) && index_descends n index e.1) (map.entries index) (found slot_total slot_same index) (sym (any-filter (λ (e : Slot × ℕ). index_descends n index e.1) (λ e. e.0.dir == i) (map.entries index)) ∙ e) in
       let parts = both_true _ _ at.2 in
       let dir : at.0.0.dir ≡ i = test_same at.0.0.dir i parts.0 in
       let u : IsUnder m at.0.1 i at.0.0.name = subst (λ d. IsUnder m at.0.1 d at.0.0.name) dir (x.real at.0.1 at.0.0.dir at.0.0.name at.1) in

@@ -85,9 +85,9 @@ module _ (m n : InodeMap) (last k : ℕ) (t : IsTree (record { nodes = m; last =
     siblings = λ i j d a u v. t.siblings i j d a (stays i d a u).1 (stays j d a v).1;
     names = λ i d a u. t.names i d a (stays i d a u).1;
     inner_names = inner;
-    reached = λ i h. elim (same_ino i k) [
+    to_root = λ i h. elim (same_ino i k) [
       | inl same ↦ absurd (not_here (subst (λ y. presence n y ≡ Here) same h))
-      | inr off ↦ let r = t.reached i (sym (ap presence_at (other i off)) ∙ h) in (r.0, r.1, climb_keep m n k other childless i r.0 1 off r.2)
+      | inr off ↦ let r = t.to_root i (sym (ap presence_at (other i off)) ∙ h) in (r.0, r.1, climb_keep m n k other childless i r.0 1 off r.2)
     ];
     given = fresh;
   }

@@ -55,7 +55,7 @@ no_longer m (a ∷ up) (b ∷ full) i above root c t =
 pub climb_fits : (t : Nodes) → IsTree t → (up : List (List ℕ)) (i above : ℕ) → Climbs t.nodes i up above → length up ≤ 32
 climb_fits t tree [] i above c = omega arith
 climb_fits t tree (a ∷ up) i above c =
-    let full = tree.reached i (under_here t.nodes i c.0 a c.1) in
+    let full = tree.to_root i (under_here t.nodes i c.0 a c.1) in
     let short : length (a ∷ up) ≤ length full.0 = no_longer t.nodes (a ∷ up) full.0 i above tree.root c full.2 in
     omega (arith, short, full.1)
 

@@ -5,7 +5,7 @@ use Rattle.std.specs.FinMap as map
 use Rattle.std.specs.FinMap.{FinMap}
 use Rattle.std.specs.Ordering.{nat_cmp}
 use Rattle.inotree.specs.Inodes.{InodeMap}
-use Rattle.inotree.specs.Index.{NameIndex, index_reaches}
+use Rattle.inotree.specs.Index.{NameIndex, index_descends}
 use Rattle.inotree.specs.Tree.{IsIndexed, IsTree, IsUnder, is_directory}
 
 -- a number of steps for each directory
@@ -38,7 +38,7 @@ HeightsRiseBut nodes heights but = (ino dir : ℕ) (name : List ℕ) → IsUnder
 
 -- where its height is known, a directory is at least as high as any way down from it by the index is long
 abbrev pub AreBounds : InodeMap → HeightMap → NameIndex → Type 0
-AreBounds nodes heights index = (steps ino : ℕ) → index_reaches steps index ino ≡ true → height nodes heights ino < 32 → steps ≤ height nodes heights ino
+AreBounds nodes heights index = (steps ino : ℕ) → index_descends steps index ino ≡ true → height nodes heights ino < 32 → steps ≤ height nodes heights ino
 
 -- the inodes of some tree
 abbrev pub AreOfTree : InodeMap → Type 0
@@ -58,7 +58,7 @@ AreAllKnown nodes heights = (ino : ℕ) → height nodes heights ino < 32
 
 -- where all are known, and nothing lies so many steps below an inode, its height says so
 abbrev pub IsLowered : InodeMap → NameIndex → ℕ → ℕ → HeightMap → HeightMap → Type 0
-IsLowered nodes index ino steps old new = AreAllKnown nodes old → index_reaches steps index ino ≡ false → height nodes new ino < steps
+IsLowered nodes index ino steps old new = AreAllKnown nodes old → index_descends steps index ino ≡ false → height nodes new ino < steps
 
 -- the index and the heights fit these inodes
 abbrev pub AreConsistent : InodeMap → NameIndex → HeightMap → Type 0

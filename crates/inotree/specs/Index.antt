@@ -32,9 +32,9 @@ abbrev pub AreInodes : NameIndex → Type 0
 AreInodes index = AllByRecursion (λ e. e.0.dir < 2 ^ 64) (map.entries index)
 
 -- something lies so many steps below
-unfoldable pub index_reaches : ℕ → NameIndex → ℕ → Bool
-index_reaches zero index dir = true
-index_reaches (suc n) index dir = list_any (λ e. index_reaches n index e.1) (names_in dir index)
+unfoldable pub index_descends : ℕ → NameIndex → ℕ → Bool
+index_descends zero index dir = true
+index_descends (suc n) index dir = list_any (λ e. index_descends n index e.1) (names_in dir index)
 
 -- the inode, and what lies at most so many steps below it
 unfoldable pub gathered : ℕ → NameIndex → ℕ → List Ino

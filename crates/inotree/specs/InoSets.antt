@@ -17,7 +17,7 @@ pub record IsListOf (inos : InoSet) (numbers : List ℕ) : Type 0 where
 -- the inode is one of them and has a number of at least this one, and none between is one
 pub record IsLeastFrom (inos : InoSet) (from ino : ℕ) : Type 0 where
   pub has : set.contains inos ino ≡ true
-  pub reached : from ≤ ino
+  pub not_below : from ≤ ino
   pub least : (k : ℕ) → from ≤ k → k < ino → set.contains inos k ≡ false
 
 -- the least of them that has a number of at least this one, if there is one

@@ -13,7 +13,7 @@ use Rattle.inotree.specs.declared.node.Presence.TheVariants as presence_kind
 use Rattle.inotree.specs.declared.node.Setting.{Setting}
 use Rattle.inotree.specs.declared.node.Setting.TheVariants.{Gid, Mode, Size, Time, Uid}
 use Rattle.inotree.specs.Names.{is_bad_attribute, is_bad_name}
-use Rattle.inotree.specs.Tree.{Nodes, child, depth, is_directory, is_within, presence, reaches, site_of}
+use Rattle.inotree.specs.Tree.{Nodes, child, depth, descends, is_directory, is_within, presence, site_of}
 
 -- ---- of an inode
 
@@ -63,11 +63,11 @@ test_at test tree ino = option_map_or test (map.get tree.nodes ino) false
 
 -- nothing stands in the inode
 abbrev pub childless_test : Nodes → ℕ → Test
-childless_test tree ino = refused_if (reaches 1 tree.nodes ino) refusal.NotEmpty
+childless_test tree ino = refused_if (descends 1 tree.nodes ino) refusal.NotEmpty
 
 -- the directory is empty
 abbrev pub empty_test : Nodes → ℕ → Test
-empty_test tree ino = refused_if (reaches 1 tree.nodes ino || test_at (λ n. nat_lt 0 (set.len n.snapshots)) tree ino) refusal.NotEmpty
+empty_test tree ino = refused_if (descends 1 tree.nodes ino || test_at (λ n. nat_lt 0 (set.len n.snapshots)) tree ino) refusal.NotEmpty
 
 -- ---- of names in a directory
 
@@ -94,7 +94,7 @@ new_inode_tests tree dir name = directory_test tree dir ∷ name_tests tree dir 
 abbrev pub move_tests : Nodes → ℕ → ℕ → List Test
 move_tests tree ino dir =
     refused_if (is_within tree.nodes dir ino) refusal.Loop
-    ∷ refused_if (reaches (32 - depth tree.nodes dir) tree.nodes ino) refusal.TooDeep
+    ∷ refused_if (descends (32 - depth tree.nodes dir) tree.nodes ino) refusal.TooDeep
     ∷ []
 
 -- the inode may stand in the directory, under the name

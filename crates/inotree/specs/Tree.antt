@@ -102,9 +102,9 @@ abbrev pub child : InodeMap → ℕ → List ℕ → Option ℕ
 child nodes dir name = first_where (λ n. is_at dir name n.site) (map.entries nodes)
 
 -- something lies so many steps below an inode
-unfoldable pub reaches : ℕ → InodeMap → ℕ → Bool
-reaches zero nodes ino = true
-reaches (suc n) nodes ino = list_any (λ e. is_in ino e.1.site && reaches n nodes e.0) (map.entries nodes)
+unfoldable pub descends : ℕ → InodeMap → ℕ → Bool
+descends zero nodes ino = true
+descends (suc n) nodes ino = list_any (λ e. is_in ino e.1.site && descends n nodes e.0) (map.entries nodes)
 
 -- what is made of an inode's directory and name, where it has them
 abbrev pub upward : {A : Type 0} → Option Site → A → (ℕ → List ℕ → A) → A
@@ -176,7 +176,7 @@ pub record IsTree (tree : Nodes) : Type 0 where
   -- so are those of attributes and of snapshots
   pub inner_names : AllHaveGoodNames tree.nodes
   -- the root is reached in at most 32 steps
-  pub reached : (ino : ℕ) → presence tree.nodes ino ≡ Here → (up : List (List ℕ)) × (length up ≤ 32) × Climbs tree.nodes ino up 1
+  pub to_root : (ino : ℕ) → presence tree.nodes ino ≡ Here → (up : List (List ℕ)) × (length up ≤ 32) × Climbs tree.nodes ino up 1
   -- no inode has a number above the last
   pub given : (ino : ℕ) → tree.last < ino → map.get tree.nodes ino ≡ None
 

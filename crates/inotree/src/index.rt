@@ -1,7 +1,7 @@
 //! The names of the tree: which inode each directory has under each name.
 ghost use Rattle.std.specs.Prelude.{◌≡◌, ◌++◌, IfOk, OnOk, OnErr};
 ghost use Rattle.std.specs.FinMap as map;
-ghost use Rattle.inotree.specs.Index.{AreInodes, gathered, index_reaches, names_in};
+ghost use Rattle.inotree.specs.Index.{AreInodes, gathered, index_descends, names_in};
 ghost use Rattle.inotree.specs.Tree.{StandInDirectories};
 ghost use Rattle.inotree.specs.Heights.{AreBounds};
 
@@ -136,10 +136,10 @@ impl Index {
     }
 
     // Whether something lies so many steps below one of these inodes.
-    pub(crate) fn reaches(&self, inodes: &Inodes, heights: &Heights, ino: u64, steps: usize) -> bool
+    pub(crate) fn descends(&self, inodes: &Inodes, heights: &Heights, ino: u64, steps: usize) -> bool
         requires names { AreInodes self.now }
         requires bounds { AreBounds inodes.now heights.now self.now }
-        ensures { result ≡ index_reaches steps self.now ino }
+        ensures { result ≡ index_descends steps self.now ino }
     {
         if steps == 0 {
             return true;
@@ -150,7 +150,7 @@ impl Index {
             return false;
         }
         for (_, child) in self.names_in(ino) {
-            if self.reaches(inodes, heights, *child, steps - 1) {
+            if self.descends(inodes, heights, *child, steps - 1) {
                 return true;
             }
         }

@@ -20,9 +20,9 @@ mod tree;
 pub use attributes::{Attributes, MAX_ATTRIBUTES, MAX_VALUE, Value};
 pub use ino_set::InoSet;
 pub use laws::{
-    a_change_of_one_inode_leaves_the_others, a_change_that_may_be_made_keeps_the_tree,
-    a_move_leaves_what_is_not_below, an_inode_without_children_leaves_the_others, names_lead_up,
-    what_is_made_or_kept_leaves_the_others,
+    a_change_of_one_inode_changes_no_other, a_change_that_may_be_made_keeps_the_tree,
+    a_move_changes_only_what_is_below, an_inode_without_children_changes_no_other, names_lead_up,
+    what_is_made_or_set_changes_no_other,
 };
 pub use name::{MAX_NAME, Name, is_bad_attribute, is_bad_name};
 pub use names::{MAX_NAMES, Names};

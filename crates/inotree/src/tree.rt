@@ -7,7 +7,7 @@ ghost use Rattle.std.specs.FinMap as map;
 ghost use Rattle.capspec.specs.Paths.{is_name};
 ghost use Rattle.inotree.specs.Inodes.{with_attr, with_attribute, with_setting, with_snapshot, without_attribute, without_snapshot};
 ghost use Rattle.capbits.specs.Refusal.{first_failing};
-ghost use Rattle.inotree.specs.Tree.{IsTree, child, depth, follow, is_directory, is_within, parent, path_of, presence, reaches};
+ghost use Rattle.inotree.specs.Tree.{IsTree, child, depth, descends, follow, is_directory, is_within, parent, path_of, presence};
 ghost use Rattle.inotree.specs.Tests.{childless_test, create_tests, detach_tests, directory_test, empty_test, exists_test, file_test, inode_tests, name_tests};
 ghost use Rattle.inotree.specs.Tests.{new_attribute_tests, new_inode_tests, new_site_tests, new_snapshot_tests, old_attribute_tests, old_snapshot_tests};
 ghost use Rattle.inotree.specs.Tests.{remove_xattr_tests, rename_tests, rmdir_tests, root_test, set_tests, set_xattr_tests, setting_tests, snap_add_tests};
@@ -254,12 +254,12 @@ impl Tree {
     }
 
     // Whether something lies so many steps below an inode.
-    fn reaches(&self, ino: Ino, steps: usize) -> bool
-        ensures { result ≡ reaches steps self.now.nodes ino.0 }
+    fn descends(&self, ino: Ino, steps: usize) -> bool
+        ensures { result ≡ descends steps self.now.nodes ino.0 }
     {
         let _last = self.last;
         self.names
-            .reaches(&self.inodes, &self.heights, ino.0, steps)
+            .descends(&self.inodes, &self.heights, ino.0, steps)
     }
 
     // ---- what would be refused
@@ -309,7 +309,7 @@ impl Tree {
     pub fn childless_refusal(&self, ino: Ino) -> Option<Refusal>
         ensures { result ≡ first_failing (childless_test self.now ino.0 ∷ []) }
     {
-        if self.reaches(ino, 1) {
+        if self.descends(ino, 1) {
             return Some(Refusal::NotEmpty);
         }
         None
@@ -322,7 +322,7 @@ impl Tree {
         let Some(node) = self.directory(ino) else {
             return Some(Refusal::NotDir);
         };
-        if self.reaches(ino, 1) || node.snapshots.len() > 0 {
+        if self.descends(ino, 1) || node.snapshots.len() > 0 {
             return Some(Refusal::NotEmpty);
         }
         None
@@ -370,7 +370,7 @@ impl Tree {
         if self.inodes.is_within(dir.0, ino.0) {
             return Some(Refusal::Loop);
         }
-        if self.reaches(ino, MAX_NAMES - self.depth(dir)) {
+        if self.descends(ino, MAX_NAMES - self.depth(dir)) {
             return Some(Refusal::TooDeep);
         }
         None

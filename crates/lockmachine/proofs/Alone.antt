@@ -99,10 +99,10 @@ nobody-kept ino old new changes nobody q inside away =
     ∙ ap (λ o. is_first old.queue q && is_served_in o (head_of_operation q.client q.operation)) (changes.others q.ino.0 part (eqb-false q.ino.0 ino away))
     ∙ nobody q (subst (λ (qs : List Request). Contains qs q) changes.queue inside) away
 
-pub suffices-kept : (scope : QueueScope) (ino : ℕ) (old new : LockMap) → ChangesLocksOf ino old new → Suffices scope old ino → Suffices scope new ino
-suffices-kept Everybody ino old new changes is = is
-suffices-kept Here ino old new changes is = nobody-kept ino old new changes is
-suffices-kept Nobody ino old new changes is = (nobody-kept ino old new changes is.0, ap (list_any (waits_for ino)) changes.queue ∙ is.1)
+pub suffices-stays : (scope : QueueScope) (ino : ℕ) (old new : LockMap) → ChangesLocksOf ino old new → Suffices scope old ino → Suffices scope new ino
+suffices-stays Everybody ino old new changes is = is
+suffices-stays Here ino old new changes is = nobody-kept ino old new changes is
+suffices-stays Nobody ino old new changes is = (nobody-kept ino old new changes is.0, ap (list_any (waits_for ino)) changes.queue ∙ is.1)
 
 -- who waits elsewhere is held up
 pub nobody-held : (s : Scene) (ino : ℕ) → WaitAt (λ other. other == ino) s → NobodyElsewhere s.locks ino

@@ -203,8 +203,8 @@ contains-alike xs ys alike w inside =
     let p : Waiter → Bool = is_at (lock_of w) in
     contains-filter p ys w (subst (λ (zs : List Waiter). Contains zs w) (alike (lock_of w)) (filter-contains p xs w inside (nat_eq_equiv.refl (lock_of w))))
 
-any-kept : (p : Waiter → Bool) (xs ys : List Waiter) → StandAlike xs ys → list_any p xs ≡ true → list_any p ys ≡ true
-any-kept p xs ys alike any =
+any-stays : (p : Waiter → Bool) (xs ys : List Waiter) → StandAlike xs ys → list_any p xs ≡ true → list_any p ys ≡ true
+any-stays p xs ys alike any =
     let one = Any-from_list_any p xs any in
     let there = contains-alike xs ys alike one.1 (one.0, one.2, one.3) in
     list_any-from_Any p ys (there.0, one.1, there.1, there.2, one.4)
@@ -222,7 +222,7 @@ same_bool false false to from = refl
 pub any-waiter : (queue : List Request) (ws : List Waiter) → StandAlike ws (map waiter_of queue) → (ino : ℕ) → list_any (is_at_inode ino) ws ≡ list_any (waits_for ino) queue
 any-waiter queue ws alike ino =
     same_bool (list_any (is_at_inode ino) ws) (list_any (is_at_inode ino) (map waiter_of queue))
-    (any-kept (is_at_inode ino) ws (map waiter_of queue) alike) (any-kept (is_at_inode ino) (map waiter_of queue) ws (λ lock. sym (alike lock)))
+    (any-stays (is_at_inode ino) ws (map waiter_of queue) alike) (any-stays (is_at_inode ino) (map waiter_of queue) ws (λ lock. sym (alike lock)))
     ∙ any-mapped (is_at_inode ino) waiter_of queue
 
 -- as many wait

@@ -75,17 +75,17 @@ end-same-but ino old new same other part off = end-alike other old new (same-at 
 pub begin-same-but : (ino : ℕ) (old new : Scene) → IsSameBut ino old new → (other : ℕ) (part : Part) → other ≢ ino → may_begin new (other, part) ≡ may_begin old (other, part)
 begin-same-but ino old new same other part off = begin-alike other old new (same-at ino old new same other off) part
 
-pub end-kept : (ino : ℕ) (s : Scene) (new : LockMap) → ChangesLocksOf ino s.locks new → (other : ℕ) (part : Part) → other ≢ ino
+pub end-stays : (ino : ℕ) (s : Scene) (new : LockMap) → ChangesLocksOf ino s.locks new → (other : ℕ) (part : Part) → other ≢ ino
     → may_end (record s { locks = new }) (other, part) ≡ may_end s (other, part)
-end-kept ino s new changes = end-same-but ino s (record s { locks = new }) (same-locks ino s new changes)
+end-stays ino s new changes = end-same-but ino s (record s { locks = new }) (same-locks ino s new changes)
 
-pub begin-kept : (ino : ℕ) (s : Scene) (new : LockMap) → ChangesLocksOf ino s.locks new → (other : ℕ) (part : Part) → other ≢ ino
+pub begin-stays : (ino : ℕ) (s : Scene) (new : LockMap) → ChangesLocksOf ino s.locks new → (other : ℕ) (part : Part) → other ≢ ino
     → may_begin (record s { locks = new }) (other, part) ≡ may_begin s (other, part)
-begin-kept ino s new changes = begin-same-but ino s (record s { locks = new }) (same-locks ino s new changes)
+begin-stays ino s new changes = begin-same-but ino s (record s { locks = new }) (same-locks ino s new changes)
 
 -- moves at the inode leave it its turn
-pub cursor-kept : (ino : ℕ) (s : Scene) (new : LockMap) → ChangesLocksOf ino s.locks new → IsCursorAt s ino → IsCursorAt (record s { locks = new }) ino
-cursor-kept ino s new changes cursor = record {
-  ends = λ other part off. end-kept ino s new changes other part off ∙ cursor.ends other part off;
-  begins = λ other part less. (let off : other ≢ ino = omega arith in begin-kept ino s new changes other part off ∙ cursor.begins other part less);
+pub cursor-stays : (ino : ℕ) (s : Scene) (new : LockMap) → ChangesLocksOf ino s.locks new → IsCursorAt s ino → IsCursorAt (record s { locks = new }) ino
+cursor-stays ino s new changes cursor = record {
+  ends = λ other part off. end-stays ino s new changes other part off ∙ cursor.ends other part off;
+  begins = λ other part less. (let off : other ≢ ino = omega arith in begin-stays ino s new changes other part off ∙ cursor.begins other part less);
 }

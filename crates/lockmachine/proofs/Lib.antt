@@ -17,7 +17,7 @@ pub mod SameAt
 pub mod SameOutside
 pub mod Waiting
 pub mod SameBut
-pub mod Told
+pub mod Pending
 pub mod Cursors
 pub mod Alone
 pub mod ByLock

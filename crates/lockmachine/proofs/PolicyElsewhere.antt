@@ -21,7 +21,7 @@ use Rattle.sessiontab.specs.declared.session.Session.{Session}
 use Rattle.sessiontab.specs.Table.{SessionTable}
 use Rattle.sessiontab.specs.Calls.{has_session, status_of, with_session}
 use Rattle.sessiontab.specs.Tests.{is_open, new_session_tests}
-use Rattle.sessiontab.proofs.Elsewhere.{session-kept}
+use Rattle.sessiontab.proofs.Elsewhere.{session-stays}
 use Rattle.captable.specs.declared.entry.Holder.{Holder}
 use Rattle.captable.specs.declared.entry.EntryRow.{EntryRow}
 use Rattle.captable.specs.Calls.{is_of_inode}
@@ -42,16 +42,16 @@ subject_alike (Some s) (Some p) (Some x) (Some y) attr =
 -- ---- the inode is alike, and the session is the same
 
 module _ (fs : List ℕ) (old new : Nodes) (before after : SessionTable) where
-  pub permitted-kept : (k : Holder) → IsAlike old new k.ino.0 → map.get after.sessions k.client.0 ≡ map.get before.sessions k.client.0 → permitted fs new after k ≡ permitted fs old before k
-  permitted-kept k alike session =
+  pub permitted-stays : (k : Holder) → IsAlike old new k.ino.0 → map.get after.sessions k.client.0 ≡ map.get before.sessions k.client.0 → permitted fs new after k ≡ permitted fs old before k
+  permitted-stays k alike session =
       ap (λ o. permitted_to fs (subject_of o (path_of new.nodes k.ino.0) (map.get new.nodes k.ino.0))) session
       ∙ ap (λ p. permitted_to fs (subject_of (map.get before.sessions k.client.0) p (map.get new.nodes k.ino.0))) alike.path
       ∙ ap (permitted_to fs) (subject_alike (map.get before.sessions k.client.0) (path_of old.nodes k.ino.0) (map.get old.nodes k.ino.0) (map.get new.nodes k.ino.0) alike.attr)
 
-  pub want-kept : (row : EntryRow) → IsAlike old new row.holder.ino.0 → map.get after.sessions row.holder.client.0 ≡ map.get before.sessions row.holder.client.0 → effective_want fs new after row ≡ effective_want fs old before row
-  want-kept row alike session =
+  pub want-stays : (row : EntryRow) → IsAlike old new row.holder.ino.0 → map.get after.sessions row.holder.client.0 ≡ map.get before.sessions row.holder.client.0 → effective_want fs new after row ≡ effective_want fs old before row
+  want-stays row alike session =
       ap (λ (o : Option Session). if is_open (option_map (λ s. s.status) o) then meet row.entry.want (permitted fs new after row.holder) else no_caps) session
-      ∙ ap (λ (caps : Caps). if is_open (status_of before row.holder.client.0) then meet row.entry.want caps else no_caps) (permitted-kept row.holder alike session)
+      ∙ ap (λ (caps : Caps). if is_open (status_of before row.holder.client.0) then meet row.entry.want caps else no_caps) (permitted-stays row.holder alike session)
 
 -- ---- all wants on an inode
 
@@ -64,9 +64,9 @@ each_same f g p (x ∷ xs) all =
       | false ↦ rest
     ]
 
-pub wants-kept : (s : Scene) (new : Nodes) (after : SessionTable) (ino : ℕ) → All (λ row. effective_want s.fs new after row ≡ effective_want s.fs s.tree s.sessions row) s.table.rows
+pub wants-stay : (s : Scene) (new : Nodes) (after : SessionTable) (ino : ℕ) → All (λ row. effective_want s.fs new after row ≡ effective_want s.fs s.tree s.sessions row) s.table.rows
     → wants (record s { tree = new; sessions = after }) ino ≡ wants s ino
-wants-kept s new after ino all =
+wants-stay s new after ino all =
     each_same (want_of s.fs s.tree s.sessions) (want_of s.fs new after) (is_of_inode (record { 0 = ino })) s.table.rows (λ k d lt i. ((slice_index_or s.table.rows k d).holder.client, all k d lt i))
 
 -- ---- a new inode, of which the holder's is none
@@ -74,21 +74,21 @@ wants-kept s new after ino all =
 pub permitted-new : (fs : List ℕ) (tree : Nodes) (sessions : SessionTable) → IsTree tree → (kind : Kind) (dir : ℕ) (name : List ℕ) (attr : Attr) (k : Holder)
     → map.contains_key tree.nodes k.ino.0 ≡ true → permitted fs (with_new tree kind dir name attr) sessions k ≡ permitted fs tree sessions k
 permitted-new fs tree sessions sound kind dir name attr k there =
-    permitted-kept fs tree (with_new tree kind dir name attr) sessions sessions k (alike-new tree kind dir name attr k.ino.0 sound (not_next tree k.ino.0 sound there)) refl
+    permitted-stays fs tree (with_new tree kind dir name attr) sessions sessions k (alike-new tree kind dir name attr k.ino.0 sound (not_next tree k.ino.0 sound there)) refl
 
 pub want-new : (fs : List ℕ) (tree : Nodes) (sessions : SessionTable) → IsTree tree → (kind : Kind) (dir : ℕ) (name : List ℕ) (attr : Attr) (row : EntryRow)
     → map.contains_key tree.nodes row.holder.ino.0 ≡ true → effective_want fs (with_new tree kind dir name attr) sessions row ≡ effective_want fs tree sessions row
 want-new fs tree sessions sound kind dir name attr row there =
-    want-kept fs tree (with_new tree kind dir name attr) sessions sessions row (alike-new tree kind dir name attr row.holder.ino.0 sound (not_next tree row.holder.ino.0 sound there)) refl
+    want-stays fs tree (with_new tree kind dir name attr) sessions sessions row (alike-new tree kind dir name attr row.holder.ino.0 sound (not_next tree row.holder.ino.0 sound there)) refl
 
 -- ---- a change of an inode that policy does not read, as of a snapshot
 
 module _ (fs : List ℕ) (tree : Nodes) (sessions : SessionTable) (f : Node → Node) (ino : ℕ) (site : (n : Node) → (f n).site ≡ n.site) (attr : (n : Node) → (f n).attr ≡ n.attr) where
   pub permitted-changed : (k : Holder) → permitted fs (changed f tree ino) sessions k ≡ permitted fs tree sessions k
-  permitted-changed k = permitted-kept fs tree (changed f tree ino) sessions sessions k (alike-changed tree f ino site attr k.ino.0) refl
+  permitted-changed k = permitted-stays fs tree (changed f tree ino) sessions sessions k (alike-changed tree f ino site attr k.ino.0) refl
 
   pub want-changed : (row : EntryRow) → effective_want fs (changed f tree ino) sessions row ≡ effective_want fs tree sessions row
-  want-changed row = want-kept fs tree (changed f tree ino) sessions sessions row (alike-changed tree f ino site attr row.holder.ino.0) refl
+  want-changed row = want-stays fs tree (changed f tree ino) sessions sessions row (alike-changed tree f ino site attr row.holder.ino.0) refl
 
 -- ---- a new session, where the holder's client has one
 
@@ -98,8 +98,8 @@ alike-itself tree ino = record { path = refl; attr = refl }
 module _ (fs : List ℕ) (tree : Nodes) (sessions : SessionTable) (client : ℕ) (caller : Caller) (grants : List Grant) (passed : first_failing (new_session_tests sessions client) ≡ None) where
   pub permitted-session : (k : Holder) → has_session sessions k.client.0 ≡ true → permitted fs tree (with_session sessions client caller grants) k ≡ permitted fs tree sessions k
   permitted-session k there =
-      permitted-kept fs tree tree sessions (with_session sessions client caller grants) k (alike-itself tree k.ino.0) (session-kept sessions client caller grants k.client.0 passed there)
+      permitted-stays fs tree tree sessions (with_session sessions client caller grants) k (alike-itself tree k.ino.0) (session-stays sessions client caller grants k.client.0 passed there)
 
   pub want-session : (row : EntryRow) → has_session sessions row.holder.client.0 ≡ true → effective_want fs tree (with_session sessions client caller grants) row ≡ effective_want fs tree sessions row
   want-session row there =
-      want-kept fs tree tree sessions (with_session sessions client caller grants) row (alike-itself tree row.holder.ino.0) (session-kept sessions client caller grants row.holder.client.0 passed there)
+      want-stays fs tree tree sessions (with_session sessions client caller grants) row (alike-itself tree row.holder.ino.0) (session-stays sessions client caller grants row.holder.client.0 passed there)

@@ -199,8 +199,8 @@ oldest-least locks client ticket order oldest q inside own = by_found (find (is_
 -- ---- what keeps the order
 
 -- some of the requests are left
-fewer-kept : (locks : LockMap) (p : Request → Bool) → IsLockMap locks → IsLockMap (record locks { queue = filter p locks.queue })
-fewer-kept locks p is = record {
+fewer-stays : (locks : LockMap) (p : Request → Bool) → IsLockMap locks → IsLockMap (record locks { queue = filter p locks.queue })
+fewer-stays locks p is = record {
   rising = AllPairs-filter (λ earlier later. earlier.ticket.0 < later.ticket.0) p locks.queue is.rising;
   given = All-filter p (λ q. (1 ≤ q.ticket.0) × (q.ticket.0 ≤ locks.last)) locks.queue is.given;
   room =
@@ -210,20 +210,20 @@ fewer-kept locks p is = record {
       omega arith;
 }
 
-pub without_request-kept : (locks : LockMap) (ticket : ℕ) → IsLockMap locks → IsLockMap (without_request locks ticket)
-without_request-kept locks ticket = fewer-kept locks (λ q. not (is_numbered ticket q))
+pub without_request-stays : (locks : LockMap) (ticket : ℕ) → IsLockMap locks → IsLockMap (without_request locks ticket)
+without_request-stays locks ticket = fewer-stays locks (λ q. not (is_numbered ticket q))
 
-pub without_requests_of-kept : (locks : LockMap) (client : ClientId) → IsLockMap locks → IsLockMap (without_requests_of locks client)
-without_requests_of-kept locks client = fewer-kept locks (λ q. not (is_of_client client q))
+pub without_requests_of-stays : (locks : LockMap) (client : ClientId) → IsLockMap locks → IsLockMap (without_requests_of locks client)
+without_requests_of-stays locks client = fewer-stays locks (λ q. not (is_of_client client q))
 
-pub moved-kept : (locks : LockMap) (step : Move) → IsLockMap locks → IsLockMap (moved locks step)
-moved-kept locks (Begin ino part to) is = record { rising = is.rising; given = is.given; room = is.room }
-moved-kept locks (End ino part) is = record { rising = is.rising; given = is.given; room = is.room }
-moved-kept locks (Serve ticket) is = without_request-kept locks ticket.0 is
-moved-kept locks Settled is = is
+pub moved-stays : (locks : LockMap) (step : Move) → IsLockMap locks → IsLockMap (moved locks step)
+moved-stays locks (Begin ino part to) is = record { rising = is.rising; given = is.given; room = is.room }
+moved-stays locks (End ino part) is = record { rising = is.rising; given = is.given; room = is.room }
+moved-stays locks (Serve ticket) is = without_request-stays locks ticket.0 is
+moved-stays locks Settled is = is
 
-pub with_request-kept : (locks : LockMap) (client : ClientId) (ino : Ino) (operation : Operation) → IsLockMap locks → length locks.queue < 1024 → IsLockMap (with_request locks client ino operation)
-with_request-kept locks client ino operation is room = record {
+pub with_request-stays : (locks : LockMap) (client : ClientId) (ino : Ino) (operation : Operation) → IsLockMap locks → length locks.queue < 1024 → IsLockMap (with_request locks client ino operation)
+with_request-stays locks client ino operation is room = record {
   rising = all_pairs_push (λ earlier later. earlier.ticket.0 < later.ticket.0) locks.queue (next_request locks client ino operation) is.rising (λ k d inside. (let g = is.given k d inside in omega (arith, g.1)));
   given = All-push (λ q. (1 ≤ q.ticket.0) × (q.ticket.0 ≤ locks.last + 1)) locks.queue (next_request locks client ino operation)
       (All-weaker (λ q. (1 ≤ q.ticket.0) × (q.ticket.0 ≤ locks.last)) (λ q. (1 ≤ q.ticket.0) × (q.ticket.0 ≤ locks.last + 1)) (λ q g. (g.0, omega (arith, g.1))) locks.queue is.given)

@@ -26,7 +26,7 @@ use Rattle.lockmachine.specs.Requests.{first_for, head_of_operation, is_for, is_
 use Rattle.lockmachine.specs.Inodes.{lock_in}
 use Rattle.lockmachine.specs.Locks.{lock_at}
 use Rattle.lockmachine.specs.Scene.{Scene, loner, target, wanted}
-use Rattle.lockmachine.specs.Moves.{IsAtRest, IsQuiet, LockId, WaitAtLocks, first_move, is_open, is_served_in, lock_ids, lock_ids_of, may_begin, may_end}
+use Rattle.lockmachine.specs.Moves.{IsAtRest, IsLockAtRest, LockId, WaitAtLocks, first_move, is_open, is_served_in, lock_ids, lock_ids_of, may_begin, may_end}
 use Rattle.lockmachine.specs.Moves.{may_serve, same_state}
 use Rattle.lockmachine.specs.Cursors.{begin_or_rest, end_or_serve, serve_or_begin}
 use Rattle.lockmachine.proofs.FirstMove.{first-found}
@@ -167,21 +167,21 @@ module _ (s : Scene) (ino : ℕ) (part : Part) (state : StableState) (stable : l
       absurd (both_ways _ (unserved q is) (subst (λ st. is_served st first ≡ true) there served))
 
 module _ (s : Scene) (n : NoMove s) (ino : ℕ) (part : Part) (among : list_any (eq_by_cmp nat_cmp ino) (map.keys s.locks.states) ≡ true) where
-  quiet_lock : (lock : LockState) → lock_at s.locks ino part ≡ Some lock → IsQuiet s ino part (Some lock)
-  quiet_lock (Stable state) is =
+  resting_lock : (lock : LockState) → lock_at s.locks ino part ≡ Some lock → IsLockAtRest s ino part (Some lock)
+  resting_lock (Stable state) is =
       let no : may_begin s (ino, part) ≡ false = none_at (may_begin s) (map.keys s.locks.states) n.begins ino among part in
       let stays : not (same_state (target s ino part state) state) ≡ false = rw is at no in
       let here : target s ino part state ≡ state = same_state_is _ state (not_false _ stays) in
       (here, no_queue s ino part state is n.serves (first_for s.locks.queue ino part) refl here)
-  quiet_lock (Gather from to) is =
+  resting_lock (Gather from to) is =
       let no : may_end s (ino, part) ≡ false = none_at (may_end s) (map.keys s.locks.states) n.ends ino among part in
       let gathers : not (is_open s ino part to) ≡ false = rw is at no in
       not_false (is_open s ino part to) gathers
 
-quiet : (s : Scene) (wait : WaitAtLocks s) (n : NoMove s) (ino : ℕ) (part : Part) (o : Option InodeLocks) → map.get s.locks.states ino ≡ o → IsQuiet s ino part (option_map (lock_in part) o)
-quiet s wait n ino part None is = wait ino part (ap (option_map (lock_in part)) is)
-quiet s wait n ino part (Some locks) is =
-    quiet_lock s n ino part (sym (map.contains_key-keys s.locks.states ino) ∙ ap is_some is) (lock_in part locks) (ap (option_map (lock_in part)) is)
+resting : (s : Scene) (wait : WaitAtLocks s) (n : NoMove s) (ino : ℕ) (part : Part) (o : Option InodeLocks) → map.get s.locks.states ino ≡ o → IsLockAtRest s ino part (option_map (lock_in part) o)
+resting s wait n ino part None is = wait ino part (ap (option_map (lock_in part)) is)
+resting s wait n ino part (Some locks) is =
+    resting_lock s n ino part (sym (map.contains_key-keys s.locks.states ino) ∙ ap is_some is) (lock_in part locks) (ap (option_map (lock_in part)) is)
 
 pub at_rest : (s : Scene) → WaitAtLocks s → first_move s ≡ Settled → IsAtRest s
-at_rest s wait is = record { each = λ ino part. quiet s wait (no_move s is) ino part (map.get s.locks.states ino) refl }
+at_rest s wait is = record { each = λ ino part. resting s wait (no_move s is) ino part (map.get s.locks.states ino) refl }

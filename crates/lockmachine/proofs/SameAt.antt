@@ -19,9 +19,9 @@ use Rattle.lockmachine.specs.Requests.{first_for, head_of}
 use Rattle.lockmachine.specs.Locks.{lock_at}
 use Rattle.lockmachine.specs.Wants.{Want, in_all, want_of}
 use Rattle.lockmachine.specs.Scene.{Scene, loner, outside, target, target_by, wanted, wanted_in_all, wants}
-use Rattle.lockmachine.specs.Moves.{IsQuiet, may_begin, may_begin_in, may_end, may_end_in, same_state}
+use Rattle.lockmachine.specs.Moves.{IsLockAtRest, may_begin, may_begin_in, may_end, may_end_in, same_state}
 use Rattle.lockmachine.specs.Elsewhere.{IsSameAt, IsSameOutside}
-use Rattle.lockmachine.proofs.PolicyElsewhere.{want-kept}
+use Rattle.lockmachine.proofs.PolicyElsewhere.{want-stays}
 
 -- of one inode the entries, their clients' sessions, the locks and who waits first for each are as they were, and so are its path,
 -- its owner, its group and its mode
@@ -70,7 +70,7 @@ module _ (ino : ℕ) (old new : Scene) (same : IsSameThere ino old new) where
   want_same : (row : EntryRow) → Contains old.table.rows row → row.holder.ino.0 ≡ ino → want_of old.fs new.tree new.sessions row ≡ want_of old.fs old.tree old.sessions row
   want_same row inside here =
       let alike = subst (IsAlike old.tree new.tree) (sym here) same.alike in
-      let counts = want-kept old.fs old.tree new.tree old.sessions new.sessions row alike (same.sessions row inside here) in
+      let counts = want-stays old.fs old.tree new.tree old.sessions new.sessions row alike (same.sessions row inside here) in
       λ k. (row.holder.client, counts k)
 
   wants_same : wants new ino ≡ wants old ino
@@ -89,10 +89,10 @@ module _ (ino : ℕ) (old new : Scene) (same : IsSameThere ino old new) where
       → list_any (λ row. not (is_empty (outside part to row))) (entries_on new.table (record { 0 = ino })) ≡ list_any (λ row. not (is_empty (outside part to row))) (entries_on old.table (record { 0 = ino }))
   open_same part to = ap (list_any (λ row. not (is_empty (outside part to row)))) same.entries
 
-  quiet_in : (part : Part) (o : Option LockState) → IsQuiet old ino part o → IsQuiet new ino part o
-  quiet_in part None quiet = same.waiting part ∙ quiet
-  quiet_in part (Some (Stable state)) quiet = (target_same part state ∙ quiet.0, same.waiting part ∙ quiet.1)
-  quiet_in part (Some (Gather from to)) quiet = open_same part to ∙ quiet
+  resting_in : (part : Part) (o : Option LockState) → IsLockAtRest old ino part o → IsLockAtRest new ino part o
+  resting_in part None resting = same.waiting part ∙ resting
+  resting_in part (Some (Stable state)) resting = (target_same part state ∙ resting.0, same.waiting part ∙ resting.1)
+  resting_in part (Some (Gather from to)) resting = open_same part to ∙ resting
 
   begin_in : (part : Part) (o : Option LockState)
       → may_begin_in new.locks.queue (wanted_in_all new ino) (ino, part) o ≡ may_begin_in old.locks.queue (wanted_in_all old ino) (ino, part) o
@@ -112,5 +112,5 @@ module _ (ino : ℕ) (old new : Scene) (same : IsSameThere ino old new) where
   pub end-there : (part : Part) → may_end new (ino, part) ≡ may_end old (ino, part)
   end-there part = ap (may_end_in new.table (ino, part)) (same.locks part) ∙ end_in part (lock_at old.locks ino part)
 
-  pub quiet-there : (part : Part) → IsQuiet old ino part (lock_at old.locks ino part) → IsQuiet new ino part (lock_at new.locks ino part)
-  quiet-there part quiet = subst (IsQuiet new ino part) (sym (same.locks part)) (quiet_in part (lock_at old.locks ino part) quiet)
+  pub resting-there : (part : Part) → IsLockAtRest old ino part (lock_at old.locks ino part) → IsLockAtRest new ino part (lock_at new.locks ino part)
+  resting-there part resting = subst (IsLockAtRest new ino part) (sym (same.locks part)) (resting_in part (lock_at old.locks ino part) resting)

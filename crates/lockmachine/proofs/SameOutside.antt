@@ -16,11 +16,11 @@ use Rattle.lockmachine.specs.declared.request.Request.{Request}
 use Rattle.lockmachine.specs.Requests.{is_for, is_of_client, part_of_operation, same_part}
 use Rattle.lockmachine.specs.Locks.{without_requests_of}
 use Rattle.lockmachine.specs.Scene.{Scene}
-use Rattle.lockmachine.specs.Moves.{IsAtRest, IsQuietOutside}
+use Rattle.lockmachine.specs.Moves.{IsAtRest, IsAtRestOutside}
 use Rattle.lockmachine.specs.Elsewhere.{IsSameBut, IsSameOutside}
 use Rattle.lockmachine.proofs.Finding.{contains-filter, filter-contains}
 use Rattle.lockmachine.proofs.PolicyElsewhere.{alike-itself}
-use Rattle.lockmachine.proofs.SameAt.{outside-there, quiet-there}
+use Rattle.lockmachine.proofs.SameAt.{outside-there, resting-there}
 
 -- ---- what leaves them so
 
@@ -100,10 +100,10 @@ outside-dropped at s client waited = record {
 
 -- ---- what is quiet stays quiet there
 
-pub quiet-outside : (at : ℕ → Bool) (old new : Scene) → IsQuietOutside at old → IsSameOutside at old new → IsQuietOutside at new
-quiet-outside at old new quiet same = record {
-  each_other = λ other part off. quiet-there other old new (outside-there at old new same other off) part (quiet.each_other other part off);
+pub resting-outside : (at : ℕ → Bool) (old new : Scene) → IsAtRestOutside at old → IsSameOutside at old new → IsAtRestOutside at new
+resting-outside at old new resting same = record {
+  each_other = λ other part off. resting-there other old new (outside-there at old new same other off) part (resting.each_other other part off);
 }
 
-pub rest-outside : (at : ℕ → Bool) (old new : Scene) → IsAtRest old → IsSameOutside at old new → IsQuietOutside at new
-rest-outside at old new rest same = quiet-outside at old new (record { each_other = λ other part off. rest.each other part }) same
+pub rest-outside : (at : ℕ → Bool) (old new : Scene) → IsAtRest old → IsSameOutside at old new → IsAtRestOutside at new
+rest-outside at old new rest same = resting-outside at old new (record { each_other = λ other part off. rest.each other part }) same

@@ -16,7 +16,7 @@ use Rattle.lockmachine.specs.Runs.{ChangesLocksOf, Runs, is_begin_of, is_end_of,
 use Rattle.lockmachine.specs.Cursors.{IsCursorAt, IsNextAt}
 use Rattle.lockmachine.proofs.Moving.{IsMove, first_is, with_lock-each}
 use Rattle.lockmachine.proofs.Ending.{begins_left, ends_left, locks_of, one_left, runs-then}
-use Rattle.lockmachine.proofs.Cursors.{cursor-kept}
+use Rattle.lockmachine.proofs.Cursors.{cursor-stays}
 
 -- ---- the moves that are left at the inode
 
@@ -97,8 +97,8 @@ of_one t ino (End i p) at =
 of_one t ino (Serve ticket) at = absurd at
 of_one t ino Settled at = absurd at
 
-elsewhere_kept : (t : LockMap) (ino : ℕ) (p : Part) (lock : LockState) (other : ℕ) (part : Part) → other ≢ ino → lock_at (with_lock t ino p lock) other part ≡ lock_at t other part
-elsewhere_kept t ino p lock other part =
+elsewhere_stays : (t : LockMap) (ino : ℕ) (p : Part) (lock : LockState) (other : ℕ) (part : Part) → other ≢ ino → lock_at (with_lock t ino p lock) other part ≡ lock_at t other part
+elsewhere_stays t ino p lock other part =
     with_lock-each t ino p lock (λ b (at : LockId) o. at.0 ≢ ino → o ≡ lock_at t at.0 at.1) (λ off. absurd (off refl)) (λ at off. refl) (other, part)
 
 pub runs_more : (a : Scene) (steps : List Move) (b : Scene) (step : Move) → Runs a steps b → first_move b ≡ step → IsTrue (is_of_lock step) → Runs a (steps ++ step ∷ []) (with_moved b step)
@@ -117,7 +117,7 @@ pub record OneMore (first now new : Scene) (ino : ℕ) : Type 0 where
 
 -- one lock of the inode in another state
 pub one_changed : (t : LockMap) (ino : ℕ) (part : Part) (lock : LockState) → ChangesLocksOf ino t (with_lock t ino part lock)
-one_changed t ino part lock = record { others = elsewhere_kept t ino part lock; queue = refl; last = refl }
+one_changed t ino part lock = record { others = elsewhere_stays t ino part lock; queue = refl; last = refl }
 
 pub one_more : (first now : Scene) (ino : ℕ) (step : Move) (new : LockMap) → SoFar first now ino → IsNextAt now ino step → step ≢ Settled → ((ticket : Ticket) → step ≢ Serve ticket) → new ≡ moved now.locks step
     → OneMore first now (record now { locks = new }) ino
@@ -125,13 +125,13 @@ one_more first now ino step new so next unsettled unserved new_is =
     let at = first_at now ino step next unsettled unserved in
     let move = subst (IsMove now) at.first (first_is now) in
     let one = of_one now.locks ino step at.here in
-    let kept = elsewhere_kept now.locks ino one.part one.lock in
+    let kept = elsewhere_stays now.locks ino one.part one.lock in
     subst (λ (t : LockMap). OneMore first now (record now { locks = t }) ino) (sym (new_is ∙ one.is))
     (record {
       so_far = record {
         steps = so.steps ++ step ∷ [];
         runs = subst (λ (t : LockMap). Runs first (so.steps ++ step ∷ []) (record now { locks = t })) one.is (runs_more first so.steps now step so.runs at.first at.of_lock);
-        cursor = cursor-kept ino now (with_lock now.locks ino one.part one.lock) (one_changed now.locks ino one.part one.lock) so.cursor;
+        cursor = cursor-stays ino now (with_lock now.locks ino one.part one.lock) (one_changed now.locks ino one.part one.lock) so.cursor;
         elsewhere = record { others = λ other part n. kept other part n ∙ so.elsewhere.others other part n; queue = so.elsewhere.queue; last = so.elsewhere.last };
       };
       fewer = subst (λ (t : LockMap). moves_left (record now { locks = t }) ino < moves_left now ino) one.is (fewer now ino step move at.of_lock at.here);

@@ -17,7 +17,7 @@ use Rattle.lockmachine.specs.declared.moves.Move.TheVariants.{Begin, End, Serve,
 use Rattle.lockmachine.specs.Requests.{first_for, head_of_operation, is_for, is_numbered, part_of_operation, same_part}
 use Rattle.lockmachine.specs.Locks.{IsLockMap, LockMap, lock_at, request_at, without_request}
 use Rattle.lockmachine.specs.Scene.{Scene, wanted_in_all}
-use Rattle.lockmachine.specs.Moves.{IsQuiet, IsQuietOutside, LockId, coming_state, first_move, is_open, is_served_in, may_begin_in, may_end_in, may_serve}
+use Rattle.lockmachine.specs.Moves.{IsAtRestOutside, IsLockAtRest, LockId, coming_state, first_move, is_open, is_served_in, may_begin_in, may_end_in, may_serve}
 use Rattle.lockmachine.specs.Moves.{moved, present_state, with_moved}
 use Rattle.lockmachine.specs.Runs.{Runs, is_of_lock}
 use Rattle.lockmachine.specs.Cursors.{IsHeldUp, WaitAt}
@@ -37,14 +37,14 @@ for_itself q = rw (nat_eq_equiv.refl q.ino.0) (itself (part_of_operation q.opera
     itself : (part : Part) → same_part part part ≡ true
     itself part = nat_eq_equiv.refl _
 
-pub quiet-waits-at : (at : ℕ → Bool) (s : Scene) → IsQuietOutside at s → WaitAt at s
-quiet-waits-at at s quiet q inside off =
+pub resting-waits-at : (at : ℕ → Bool) (s : Scene) → IsAtRestOutside at s → WaitAt at s
+resting-waits-at at s resting q inside off =
     let part = part_of_operation q.operation in
     let first = some_first (is_for q.ino.0 part) s.locks.queue q inside (for_itself q) in
-    held first (lock_at s.locks q.ino.0 part) refl (quiet.each_other q.ino.0 part off)
+    held first (lock_at s.locks q.ino.0 part) refl (resting.each_other q.ino.0 part off)
   where
     held : first_for s.locks.queue q.ino.0 (part_of_operation q.operation) ≢ None → (o : Option LockState) → lock_at s.locks q.ino.0 (part_of_operation q.operation) ≡ o
-        → IsQuiet s q.ino.0 (part_of_operation q.operation) o → IsHeldUp s q
+        → IsLockAtRest s q.ino.0 (part_of_operation q.operation) o → IsHeldUp s q
     held first None is none = absurd (first none)
     held first (Some (Stable state)) is stays = absurd (first stays.1)
     held first (Some (Gather from to)) is stays = record { from = from; to = to; gathers = is; is_held = stays }
@@ -103,10 +103,10 @@ held-moved s step is of_lock q held = record {
   is_held = held.is_held;
 }
 
-pub waits-kept-at : (at : ℕ → Bool) (old : Scene) (steps : List Move) (new : Scene) → Runs old steps new → WaitAt at old → WaitAt at new
-waits-kept-at at old [] new is wait = subst (WaitAt at) (sym is) wait
-waits-kept-at at old (step ∷ steps) new (first, of_lock, rest) wait =
-    waits-kept-at at (with_moved old step) steps new rest (λ q inside off.
+pub waits-stay-at : (at : ℕ → Bool) (old : Scene) (steps : List Move) (new : Scene) → Runs old steps new → WaitAt at old → WaitAt at new
+waits-stay-at at old [] new is wait = subst (WaitAt at) (sym is) wait
+waits-stay-at at old (step ∷ steps) new (first, of_lock, rest) wait =
+    waits-stay-at at (with_moved old step) steps new rest (λ q inside off.
     (let was : Contains old.locks.queue q = subst (λ (qs : List Request). Contains qs q) (queue-moved old.locks step of_lock).0 inside in
     held-moved old step (subst (IsMove old) first (first_is old)) of_lock q (wait q was off)))
 

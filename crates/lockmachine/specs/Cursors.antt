@@ -81,9 +81,9 @@ IsNextAt s ino (Serve ticket) = first_move s ≡ Serve ticket
 IsNextAt s ino Settled = IsDoneAt s ino
 
 -- and once its locks are done: the request that is to be served, or none
-abbrev pub IsDue : Scene → ℕ → Option Ticket → Type 0
-IsDue s ino None = IsDoneAt s ino
-IsDue s ino (Some ticket) = first_move s ≡ Serve ticket
+abbrev pub IsServable : Scene → ℕ → Option Ticket → Type 0
+IsServable s ino None = IsDoneAt s ino
+IsServable s ino (Some ticket) = first_move s ≡ Serve ticket
 
 -- ---- who waits elsewhere
 

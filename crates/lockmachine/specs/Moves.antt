@@ -145,19 +145,19 @@ with_moved s step = record s { locks = moved s.locks step }
 
 -- the lock is stable at its target and nobody waits for it; or it gathers, and some caps are still to be
 -- acknowledged or released; where there is no lock, nobody waits
-abbrev pub IsQuiet : Scene → ℕ → Part → Option LockState → Type 0
-IsQuiet s ino part None = first_for s.locks.queue ino part ≡ None
-IsQuiet s ino part (Some (Stable state)) = (target s ino part state ≡ state) × (first_for s.locks.queue ino part ≡ None)
-IsQuiet s ino part (Some (Gather from to)) = is_open s ino part to ≡ true
+abbrev pub IsLockAtRest : Scene → ℕ → Part → Option LockState → Type 0
+IsLockAtRest s ino part None = first_for s.locks.queue ino part ≡ None
+IsLockAtRest s ino part (Some (Stable state)) = (target s ino part state ≡ state) × (first_for s.locks.queue ino part ≡ None)
+IsLockAtRest s ino part (Some (Gather from to)) = is_open s ino part to ≡ true
 
 -- each lock is quiet
 pub record IsAtRest (s : Scene) : Type 0 where
-  pub each : (ino : ℕ) (part : Part) → IsQuiet s ino part (lock_at s.locks ino part)
+  pub each : (ino : ℕ) (part : Part) → IsLockAtRest s ino part (lock_at s.locks ino part)
 
 -- who waits, waits for a lock that is there
 abbrev pub WaitAtLocks : Scene → Type 0
 WaitAtLocks s = (ino : ℕ) (part : Part) → lock_at s.locks ino part ≡ None → first_for s.locks.queue ino part ≡ None
 
 -- each lock of an inode that is not among these is quiet
-pub record IsQuietOutside (at : ℕ → Bool) (s : Scene) : Type 0 where
-  pub each_other : (other : ℕ) (part : Part) → at other ≡ false → IsQuiet s other part (lock_at s.locks other part)
+pub record IsAtRestOutside (at : ℕ → Bool) (s : Scene) : Type 0 where
+  pub each_other : (other : ℕ) (part : Part) → at other ≡ false → IsLockAtRest s other part (lock_at s.locks other part)

@@ -31,8 +31,8 @@ against_under locks row =
     (union (against_lock L row (lock_under locks L)) (union (against_lock X row (lock_under locks X)) (against_lock F row (lock_under locks F))))
 
 -- what its client is to know that it holds, where it is permitted these caps
-abbrev pub told_under : Caps → Option InodeLocks → EntryRow → Caps
-told_under permitted locks row = minus row.entry.held (union (against_under locks row) (minus row.entry.held permitted))
+abbrev pub pending_under : Caps → Option InodeLocks → EntryRow → Caps
+pending_under permitted locks row = minus row.entry.held (union (against_under locks row) (minus row.entry.held permitted))
 
 -- what a lock lets its client hold of the part
 abbrev pub allowed_by : Part → EntryRow → Option LockState → Caps

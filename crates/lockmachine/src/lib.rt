@@ -31,6 +31,6 @@ pub use policy::{Policy, verdict_on};
 pub use request::{Change, Operation, Request};
 pub use scene::KeptScene;
 pub use states::InodeLocks;
-pub use under::{allowed_under, told_under};
+pub use under::{allowed_under, pending_under};
 pub use waiters::MAX_WAITING;
 pub use wants::{Wants, effective_want, permitted, permitted_on, want_of_permitted, wants_on};

@@ -25,7 +25,7 @@ ghost use Rattle.lockmachine.specs.Moves as moves;
 ghost use Rattle.lockmachine.specs.Moves.{LockId, first_move, handed, moved};
 ghost use Rattle.lockmachine.specs.Runs.{ChangesLocksOf, EndLittle, MoveLittle};
 ghost use Rattle.lockmachine.specs.Cursors as turns;
-ghost use Rattle.lockmachine.specs.Cursors.{IsCursorAt, IsDue, IsNextAt, NobodyElsewhere, Suffices};
+ghost use Rattle.lockmachine.specs.Cursors.{IsCursorAt, IsNextAt, IsServable, NobodyElsewhere, Suffices};
 
 use crate::held::{has_outside, holders_outside};
 use crate::lock::{ends_by_count, is_off_target};
@@ -647,7 +647,7 @@ impl Locks {
         // Each lock begins at most one gather and ends at most two.
         ensures moves { MoveLittle (scene_by policy.now table.now.entries self.old.locks)
             (scene_by policy.now table.now.entries self.new.locks) }
-        ensures due { IsDue (scene_by policy.now table.now.entries self.new.locks) ino.0 result }
+        ensures servable { IsServable (scene_by policy.now table.now.entries self.new.locks) ino.0 result }
         ensures cursor { IsCursorAt (scene_by policy.now table.now.entries self.new.locks) ino.0 }
         ensures elsewhere { ChangesLocksOf ino.0 self.old.locks self.new.locks }
         ensures counted { AreCounted table.now.entries self.new }

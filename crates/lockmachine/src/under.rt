@@ -8,8 +8,8 @@ use captable::EntryRow;
 use locktable::{LockState, allowed};
 
 /// What the client is to know that it holds, under these locks of the inode and where it is permitted these caps.
-pub fn told_under(row: &EntryRow, permitted: CapSet, locks: &Option<InodeLocks>) -> CapSet
-    ensures { result ≡ words.told_under permitted locks.now row.now }
+pub fn pending_under(row: &EntryRow, permitted: CapSet, locks: &Option<InodeLocks>) -> CapSet
+    ensures { result ≡ words.pending_under permitted locks.now row.now }
 {
     let lost = row.entry.held.minus(permitted);
     let revoked = against_under(row, locks).union(lost);

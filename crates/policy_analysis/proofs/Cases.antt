@@ -16,7 +16,7 @@ use Rattle.capgrant.specs.Class.{has_bit, needed_bit}
 use Rattle.capgrant.specs.Question.{Question, class_of, contains, is_owner, listed_gids}
 use Rattle.capgrant.specs.Failing.{fails_mode_bits, fails_not_own_group, fails_not_owner, fails_uid, is_some_and}
 use Rattle.capgrant.specs.Verdict.{granted}
-use Rattle.policy_analysis.specs.Asking.{GainsNone, GainsNoneOfAll, IsSettingFor, NoneAsGroup, NoneAsOther, NoneAsOwner, NoneAsStranger, Setting, another}
+use Rattle.policy_analysis.specs.Asking.{GainsNone, GainsNoneOfAll, IsSettingFor, NoneAsGroup, NoneAsNonOwner, NoneAsOther, NoneAsOwner, Setting, another}
 use Rattle.policy_analysis.specs.Asking.{asked, attr_of, by_mode, is_gained, with_group}
 use Rattle.policy_analysis.proofs.Passing.{Passes, PassesAttr}
 use Rattle.policy_analysis.proofs.Narrowing.{IsAlike, StandsFor, covered}
@@ -125,8 +125,8 @@ mode_not_needed q h by = and_right (is_some h.uid) (is_some_and (λ bit. not (ha
 -- ---- a grant without a uid
 
 -- a question with no mode bit about the inode of another is allowed by no grant with a uid
-stranger_refused : (q : Question) (h : Grant) → is_owner q ≡ false → q.attr.mode ≡ 0 → PassesAttr q h → h.uid ≡ None
-stranger_refused q h other none passes = none_of_is_some h.uid (false_from_ne_true (is_some h.uid) (λ some. by_case some (is_by_mode q.access) refl))
+non_owner_refused : (q : Question) (h : Grant) → is_owner q ≡ false → q.attr.mode ≡ 0 → PassesAttr q h → h.uid ≡ None
+non_owner_refused q h other none passes = none_of_is_some h.uid (false_from_ne_true (is_some h.uid) (λ some. by_case some (is_by_mode q.access) refl))
   where
     lacks : is_some h.uid ≡ true → (is_some h.uid ≡ false) ⊎ (has_bit q.attr.mode (bit_for (is_read q.access) (class_of q h)) ≡ true) → ⊥
     lacks some (inl out) = both_ways (is_some h.uid) out some
@@ -136,9 +136,9 @@ stranger_refused q h other none passes = none_of_is_some h.uid (false_from_ne_tr
     by_case some true by = lacks some (class_has q h by passes.mode_bits)
     by_case some false by = both_ways (is_owner q) other (owner_needed q h some (else_changes q.access by) passes.not_owner).0
 
-pub as_stranger : (s : Setting) (g : Grant) (q : Question) (c : Caller) (own : ℕ) → IsSettingFor s g → Passes q g → StandsFor s g q c → g.uid ≡ None → NoneAsStranger s c own → granted q s.old ≡ true
-unfolding NoneAsStranger
-as_stranger s g q c own fits passes like none nothing =
+pub as_non_owner : (s : Setting) (g : Grant) (q : Question) (c : Caller) (own : ℕ) → IsSettingFor s g → Passes q g → StandsFor s g q c → g.uid ≡ None → NoneAsNonOwner s c own → granted q s.old ≡ true
+unfolding NoneAsNonOwner
+as_non_owner s g q c own fits passes like none nothing =
     covered s g q c (attr_of (another c.uid) s.nobody 0) (kin q.access c.uid own) fits passes like (kin_alike q.access c.uid own)
     (no_uid_passes (asked s c (attr_of (another c.uid) s.nobody 0) (kin q.access c.uid own)) g none)
     (no_uid (asked s c (attr_of (another c.uid) s.nobody 0) (kin q.access c.uid own)) g none)
@@ -147,7 +147,7 @@ as_stranger s g q c own fits passes like none nothing =
   where
     each : (h : Grant) → PassesAttr (asked s c (attr_of (another c.uid) s.nobody 0) (kin q.access c.uid own)) h → (fails_uid (asked s c (attr_of (another c.uid) s.nobody 0) (kin q.access c.uid own)) h ≡ false → fails_uid q h ≡ false) × PassesAttr q h
     each h attr =
-        let unnamed : h.uid ≡ None = stranger_refused (asked s c (attr_of (another c.uid) s.nobody 0) (kin q.access c.uid own)) h (is_another c.uid) refl attr in
+        let unnamed : h.uid ≡ None = non_owner_refused (asked s c (attr_of (another c.uid) s.nobody 0) (kin q.access c.uid own)) h (is_another c.uid) refl attr in
         ((λ passed. no_uid_passes q h unnamed), no_uid q h unnamed)
 
 -- ---- a grant with a uid, by the class of the caller
@@ -192,8 +192,8 @@ module _ (s : Setting) (g : Grant) (q : Question) (c : Caller) (u : ℕ) (fits :
       by_case (inr listed) = listed
 
   -- an old grant that allows the owner that much allows the question
-  owner_kept : (own : ℕ) → is_owner q ≡ true → ((n : ℕ) → new_group q.access ≡ Some n → own ≡ n) → (h : Grant) → PassesAttr (asked s c (attr_of c.uid s.nobody 0o600) (kin q.access c.uid own)) h → PassesAttr q h
-  owner_kept own is same_group h attr = by_case (is_by_mode q.access) refl
+  owner_stays : (own : ℕ) → is_owner q ≡ true → ((n : ℕ) → new_group q.access ≡ Some n → own ≡ n) → (h : Grant) → PassesAttr (asked s c (attr_of c.uid s.nobody 0o600) (kin q.access c.uid own)) h → PassesAttr q h
+  owner_stays own is same_group h attr = by_case (is_by_mode q.access) refl
     where
       by_group : (o : Option ℕ) → new_group q.access ≡ o → fails_not_own_group q h ≡ false
       by_group None none = no_group_passes q h none
@@ -217,7 +217,7 @@ module _ (s : Setting) (g : Grant) (q : Question) (c : Caller) (u : ℕ) (fits :
       covered s g q c (attr_of c.uid s.nobody 0o600) (kin q.access c.uid own) fits passes like (kin_alike q.access c.uid own)
       (own_uid (attr_of c.uid s.nobody 0o600) (kin q.access c.uid own))
       (owner_attr q.access own (λ n given. ((group n given).0, (group n given).1, (listed_parts q.caller g n (given_group n given)).0)))
-      (λ k d less attr. (same_uid (asked s c (attr_of c.uid s.nobody 0o600) (kin q.access c.uid own)) q (get_or s.old k d) same, owner_kept own is (λ n given. (group n given).0) (get_or s.old k d) attr))
+      (λ k d less attr. (same_uid (asked s c (attr_of c.uid s.nobody 0o600) (kin q.access c.uid own)) q (get_or s.old k d) same, owner_stays own is (λ n given. (group n given).0) (get_or s.old k d) attr))
       (none_of_all s c (attr_of c.uid s.nobody 0o600) own q.access nothing)
 
   -- one of the group: an old grant that lists it finds the caller in that class, and one that does not finds no bit

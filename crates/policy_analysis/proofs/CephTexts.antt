@@ -40,11 +40,11 @@ no_system (Some p) (Some u) None = (refl, refl)
 no_system (Some p) (Some u) (Some gs) = (refl, refl)
 
 -- and what the second says of the user
-abbrev said_of : Option ℕ → List (Option ℕ)
-said_of None = []
-said_of (Some u) = Some u ∷ []
+abbrev otherwise_of : Option ℕ → List (Option ℕ)
+otherwise_of None = []
+otherwise_of (Some u) = Some u ∷ []
 
-says_uid : (path : Option (List (List ℕ))) (uid : Option ℕ) (gids : Option (List ℕ)) → filter_map uid_in (item_of Path path ++ (item_of Uid uid ++ item_of Gids gids)) ≡ said_of uid
+says_uid : (path : Option (List (List ℕ))) (uid : Option ℕ) (gids : Option (List ℕ)) → filter_map uid_in (item_of Path path ++ (item_of Uid uid ++ item_of Gids gids)) ≡ otherwise_of uid
 says_uid None None None = refl
 says_uid None None (Some gs) = refl
 says_uid None (Some u) None = refl
@@ -111,8 +111,8 @@ pub no_user_no_gids : (g : Grant) → g.uid ≡ None → HasCephText g → g.gid
 no_user_no_gids g uid (items, inl order, are) = (for_file_system g items order are).1
 no_user_no_gids g uid (items, inr order, are) = by_uid order.1 refl
   where
-    said : (o : Option ℕ) → order.1 ≡ o → filter_map uid_in items ≡ said_of o
-    said o is = ap (filter_map uid_in) order.3 ∙ says_uid order.0 order.1 order.2 ∙ ap said_of is
+    said : (o : Option ℕ) → order.1 ≡ o → filter_map uid_in items ≡ otherwise_of o
+    said o is = ap (filter_map uid_in) order.3 ∙ says_uid order.0 order.1 order.2 ∙ ap otherwise_of is
 
     by_uid : (o : Option ℕ) → order.1 ≡ o → g.gids ≡ []
     by_uid None is = unsaid [] g.gids (filter_map gids_in items) (are.gids_with_uid (said None is)) are.gids

@@ -12,14 +12,14 @@ use Rattle.capgrant.specs.Question.{Question, contains, is_owner, listed_gids}
 use Rattle.capgrant.specs.Failing.{fails_uid}
 use Rattle.capgrant.specs.Verdict.{granted}
 use Rattle.policy_analysis.specs.Comparing.{is_root}
-use Rattle.policy_analysis.specs.Asking.{CoversGrant, IsSettingFor, NoneAsOther, NoneAsOthers, NoneAsOthersOf, NoneAsStranger, NoneBy, NoneFor, Setting}
+use Rattle.policy_analysis.specs.Asking.{CoversGrant, IsSettingFor, NoneAsNonOwner, NoneAsOther, NoneAsOthers, NoneAsOthersOf, NoneBy, NoneFor, Setting}
 use Rattle.policy_analysis.specs.Asking.{caller_of, gid_for, uid_for, with_group}
 use Rattle.policy_analysis.proofs.Lists.{found, holds_of, none_passes}
 use Rattle.policy_analysis.proofs.Passing.{Passes, passes_all}
 use Rattle.policy_analysis.proofs.Rules.{gids_passed, is_listed, listed_gid}
 use Rattle.policy_analysis.proofs.Narrowing.{StandsFor}
 use Rattle.policy_analysis.proofs.Attr.{else_changes, gids_with, is_by_mode, listed_from, listed_parts, uid_of}
-use Rattle.policy_analysis.proofs.Cases.{as_group, as_other, as_owner, as_stranger, given_group, owner_needed, some_uid}
+use Rattle.policy_analysis.proofs.Cases.{as_group, as_non_owner, as_other, as_owner, given_group, owner_needed, some_uid}
 
 -- ---- who asks
 
@@ -120,12 +120,12 @@ module _ (s : Setting) (g : Grant) (root : Bool) (base : Caller) (fits : IsSetti
     -- a grant without a uid
     without_uid : g.uid ≡ None → granted q s.old ≡ true
     unfolding NoneFor
-    without_uid unnamed = as_stranger s g q a_choice.0 a_choice.1 fits passes a_choice.2 unnamed (MatchOption-at_none (NoneAsStranger s a_choice.0 a_choice.1) (λ uid. NoneBy s a_choice.0 a_choice.1) unnamed a_choice.3)
+    without_uid unnamed = as_non_owner s g q a_choice.0 a_choice.1 fits passes a_choice.2 unnamed (MatchOption-at_none (NoneAsNonOwner s a_choice.0 a_choice.1) (λ uid. NoneBy s a_choice.0 a_choice.1) unnamed a_choice.3)
 
     module _ (u : ℕ) (some : g.uid ≡ Some u) (same : base.uid ≡ q.caller.uid) where
       nothing_by : (c : Caller) (own : ℕ) → NoneFor s g c own → NoneBy s c own
       unfolding NoneFor
-      nothing_by c own nothing = MatchOption-at_some (NoneAsStranger s c own) (λ uid. NoneBy s c own) u some nothing
+      nothing_by c own nothing = MatchOption-at_some (NoneAsNonOwner s c own) (λ uid. NoneBy s c own) u some nothing
 
       -- a class of the group, or a change of it, that goes by one of the question's gids that the grant lists
       by_owner : is_owner q ≡ true → granted q s.old ≡ true

@@ -15,7 +15,7 @@ use Rattle.capgrant.specs.Verdict.{allows}
 use Rattle.policy_analysis.specs.declared.differences.Difference.{Difference}
 use Rattle.policy_analysis.specs.declared.differences.Otherwise.{Otherwise}
 use Rattle.policy_analysis.specs.Differences.{allows_there, answered_otherwise, by_bits, has_flag, has_reason, is_large, of_access, on_its_fs, only_if}
-use Rattle.policy_analysis.specs.Differences.{otherwise_at, said_of, why_allowed, why_denied}
+use Rattle.policy_analysis.specs.Differences.{otherwise_at, otherwise_of, why_allowed, why_denied}
 
 -- ---- of one grant
 
@@ -71,14 +71,14 @@ by_places q grants other None None is_here is_there same = absurd (let e : None 
 by_places q grants other (Some i) (Some j) is_here is_there same = absurd (let e : None ≡ Some other = same in cc)
 by_places q grants other None (Some j) is_here is_there same = by_grant (slice_get grants j) refl same
   where
-    by_grant : (found : Option Grant) → slice_get grants j ≡ found → said_of (why_allowed q) j found ≡ Some other → has_reason other ≡ true
+    by_grant : (found : Option Grant) → slice_get grants j ≡ found → otherwise_of (why_allowed q) j found ≡ Some other → has_reason other ≡ true
     by_grant None at said = absurd (let e : None ≡ Some other = said in cc)
     by_grant (Some g) at said =
         let is : why_allowed q (j + 1) g ≡ other = cc in
         sym (ap has_reason is) ∙ allowed_by q (j + 1) g (other_fails (allows_there q) (allows q) grants j g is_there is_here at)
 by_places q grants other (Some i) None is_here is_there same = by_grant (slice_get grants i) refl same
   where
-    by_grant : (found : Option Grant) → slice_get grants i ≡ found → said_of (why_denied q) i found ≡ Some other → has_reason other ≡ true
+    by_grant : (found : Option Grant) → slice_get grants i ≡ found → otherwise_of (why_denied q) i found ≡ Some other → has_reason other ≡ true
     by_grant None at said = absurd (let e : None ≡ Some other = said in cc)
     by_grant (Some g) at said =
         let is : why_denied q (i + 1) g ≡ other = cc in

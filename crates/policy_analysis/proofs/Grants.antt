@@ -20,7 +20,7 @@ use Rattle.capspec.proofs.Fronts.{rest_is, which}
 use Rattle.policy_analysis.specs.declared.unread.Unread.{Unread}
 use Rattle.policy_analysis.specs.declared.unread.Unread.TheVariants.{WhiteSpace}
 use Rattle.policy_analysis.specs.Scanning.{Begins, HasItems, behind_word, can_end, has_spaces, wrong_between}
-use Rattle.policy_analysis.specs.Ceph16Syntax.{Standing, Stands, are_spaces, first_wrong, why, why_each, wrong_white}
+use Rattle.policy_analysis.specs.Ceph16Syntax.{GrantText, Stands, are_spaces, first_wrong, why, why_each, wrong_white}
 use Rattle.policy_analysis.proofs.Words.{behind_plain, gap_ends, white_ends, words_end}
 
 -- ---- the front of a grant
@@ -34,7 +34,7 @@ white_then [] end blank ends = ends
 white_then (w ∷ ws) end blank ends = white_ends w (ws ++ end) (and_parts (is_white w) (list_all is_white ws) blank).0
 
 -- behind the flags the items stand
-pub items_of : (text : List ℕ) (s : Standing) (end : List ℕ) → Begins text s end → HasItems (behind_word (next (behind_word (next text)))) s.items (s.after ++ end)
+pub items_of : (text : List ℕ) (s : GrantText) (end : List ℕ) → Begins text s end → HasItems (behind_word (next (behind_word (next text)))) s.items (s.after ++ end)
 items_of text s end begin =
     let is : IsGrant begin.piece s.grant = begin.stands.0 in
     let tail : List ℕ = is.after ++ end in
@@ -62,18 +62,18 @@ items_of text s end begin =
 -- ---- what follows a grant
 
 -- the grants behind its end
-abbrev pub Follow : List ℕ → List Standing → Type 0
+abbrev pub Follow : List ℕ → List GrantText → Type 0
 Follow [] more = more ≡ []
 Follow (mark ∷ rest) more = AreSeparated is_mark Stands rest more
 
 -- a grant begins with `allow`
-piece_begins : (piece end : List ℕ) (s : Standing) → Stands piece s → (tail : List ℕ) × (piece ++ end ≡ s.before ++ (codes "allow" ++ tail)) × (list_all is_white s.before ≡ true)
+piece_begins : (piece end : List ℕ) (s : GrantText) → Stands piece s → (tail : List ℕ) × (piece ++ end ≡ s.before ++ (codes "allow" ++ tail)) × (list_all is_white s.before ≡ true)
 piece_begins piece end s is =
     let tail : List ℕ = is.0.gap ++ (is.0.flags ++ (is.0.words ++ (is.0.after ++ end))) in
     let whole : piece ++ end ≡ is.0.before ++ (codes "allow" ++ tail) = ap (λ (t : List ℕ). t ++ end) is.0.parts ∙ simp append_assoc in
     (tail, rw is.1 whole, rw is.1 is.0.blank_before)
 
-row_begins : (text : List ℕ) (s : Standing) (more : List Standing) → AreSeparated is_mark Stands text (s ∷ more) → (tail : List ℕ) × (text ≡ s.before ++ (codes "allow" ++ tail)) × (list_all is_white s.before ≡ true)
+row_begins : (text : List ℕ) (s : GrantText) (more : List GrantText) → AreSeparated is_mark Stands text (s ∷ more) → (tail : List ℕ) × (text ≡ s.before ++ (codes "allow" ++ tail)) × (list_all is_white s.before ≡ true)
 row_begins text s [] row =
     let here = piece_begins text [] s row in
     (here.0, sym (append-nil text) ∙ here.1, here.2)
@@ -81,12 +81,12 @@ row_begins text s (t ∷ more) row =
     let here = piece_begins row.0 (row.2 ∷ row.1) s row.5 in
     (here.0, row.3 ∙ here.1, here.2)
 
-row_no_digit : (text : List ℕ) (s : Standing) (more : List Standing) → AreSeparated is_mark Stands text (s ∷ more) → begins is_digit text ≡ false
+row_no_digit : (text : List ℕ) (s : GrantText) (more : List GrantText) → AreSeparated is_mark Stands text (s ∷ more) → begins is_digit text ≡ false
 row_no_digit text s more row =
     let here = row_begins text s more row in
     ap (begins is_digit) here.1 ∙ blank_no_digit s.before (codes "allow" ++ here.0) here.2 refl
 
-first_of : (text : List ℕ) (s : Standing) (more : List Standing) → AreSeparated is_mark Stands text (s ∷ more) → (end : List ℕ) × Begins text s end × Follow end more
+first_of : (text : List ℕ) (s : GrantText) (more : List GrantText) → AreSeparated is_mark Stands text (s ∷ more) → (end : List ℕ) × Begins text s end × Follow end more
 first_of text s [] row = ([], record { piece = text; parts = sym (append-nil text); stands = row; ends = refl; stops = refl }, refl)
 first_of text s (t ∷ more) row = (row.2 ∷ row.1, record { piece = row.0; parts = row.3; stands = row.5; ends = row.4; stops = rw (row_no_digit row.1 t more row.6) (and-false (eqb row.2 44)) }, row.6)
 
@@ -108,33 +108,33 @@ has_spaces_is (w ∷ ws) rest blank none =
 -- ---- the loop over the grants
 
 -- What is left of the grants at a place of a loop over them: what was told, and what is to be told of these, is what is to be told of all.
-pub record AreLeft (rest : List ℕ) (before : Option Unread) (told : List (Option Unread)) (standings : List Standing) : Type 0 where
+pub record AreLeft (rest : List ℕ) (before : Option Unread) (reported : List (Option Unread)) (texts_of_grants : List GrantText) : Type 0 where
   pub around : List ℕ
-  pub left : List Standing
+  pub left : List GrantText
   pub row : AreSeparated is_mark Stands rest left
   pub white : before ≡ wrong_white around
-  pub same : told ++ why_each around left ≡ why_each [] standings
+  pub same : reported ++ why_each around left ≡ why_each [] texts_of_grants
 
 -- what a scan of the next of them gives
 abbrev pub IsScan : List ℕ → Option Unread → Option Unread → List ℕ → Type 0
-IsScan rest before found behind = (s : Standing) (end : List ℕ) → Begins rest s end → (found ≡ option_or before (first_wrong None s.items)) × (behind ≡ s.after ++ end)
+IsScan rest before found behind = (s : GrantText) (end : List ℕ) → Begins rest s end → (found ≡ option_or before (first_wrong None s.items)) × (behind ≡ s.after ++ end)
 
-module _ (rest : List ℕ) (before : Option Unread) (told : List (Option Unread)) (standings : List Standing) (found : Option Unread) (behind : List ℕ) (scan : IsScan rest before found behind) where
-  why_is : (around : List ℕ) (s : Standing) (end : List ℕ) → before ≡ wrong_white around → Begins rest s end → found ≡ why around s.items
+module _ (rest : List ℕ) (before : Option Unread) (reported : List (Option Unread)) (texts_of_grants : List GrantText) (found : Option Unread) (behind : List ℕ) (scan : IsScan rest before found behind) where
+  why_is : (around : List ℕ) (s : GrantText) (end : List ℕ) → before ≡ wrong_white around → Begins rest s end → found ≡ why around s.items
   why_is around s end white begin = rw ((scan s end begin).0, white) refl
 
-  next_is : (s : Standing) (end : List ℕ) → Begins rest s end → (next behind ≡ end) × (list_all is_white s.after ≡ true)
+  next_is : (s : GrantText) (end : List ℕ) → Begins rest s end → (next behind ≡ end) × (list_all is_white s.after ≡ true)
   next_is s end begin =
       let blank : list_all is_white s.after ≡ true = ap (list_all is_white) begin.stands.3 ∙ begin.stands.0.blank_after in
       (ap next (scan s end begin).1 ∙ rest_is is_white s.after end blank (grant_end_not_white end begin.ends), blank)
 
-  all_of : (around : List ℕ) (left : List Standing) → AreSeparated is_mark Stands rest left → before ≡ wrong_white around → told ++ why_each around left ≡ why_each [] standings → next behind ≡ []
-      → told ++ found ∷ [] ≡ why_each [] standings
+  all_of : (around : List ℕ) (left : List GrantText) → AreSeparated is_mark Stands rest left → before ≡ wrong_white around → reported ++ why_each around left ≡ why_each [] texts_of_grants → next behind ≡ []
+      → reported ++ found ∷ [] ≡ why_each [] texts_of_grants
   unfolding first_of
   all_of around [] row white same none = absurd row
   all_of around (s ∷ []) row white same none =
       let first = first_of rest s [] row in
-      ap (λ (w : Option Unread). told ++ w ∷ []) (why_is around s first.0 white first.1) ∙ same
+      ap (λ (w : Option Unread). reported ++ w ∷ []) (why_is around s first.0 white first.1) ∙ same
   all_of around (s ∷ t ∷ more) row white same none =
       let begin = (first_of rest s (t ∷ more) row).1 in
       absurd (never (sym none ∙ (next_is s (row.2 ∷ row.1) begin).0))
@@ -142,12 +142,12 @@ module _ (rest : List ℕ) (before : Option Unread) (told : List (Option Unread)
       never : [] ≡ row.2 ∷ row.1 → ⊥
       never e = cc
 
-  pub told_all : AreLeft rest before told standings → next behind ≡ [] → told ++ found ∷ [] ≡ why_each [] standings
-  told_all is none = all_of is.around is.left is.row is.white is.same none
+  pub reported_all : AreLeft rest before reported texts_of_grants → next behind ≡ [] → reported ++ found ∷ [] ≡ why_each [] texts_of_grants
+  reported_all is none = all_of is.around is.left is.row is.white is.same none
 
   module _ (mark : ℕ) (more : List ℕ) (goes_on : next behind ≡ mark ∷ more) where
-    more_of : (around : List ℕ) (left : List Standing) → AreSeparated is_mark Stands rest left → before ≡ wrong_white around → told ++ why_each around left ≡ why_each [] standings
-        → AreLeft more (wrong_between behind more) (told ++ found ∷ []) standings
+    more_of : (around : List ℕ) (left : List GrantText) → AreSeparated is_mark Stands rest left → before ≡ wrong_white around → reported ++ why_each around left ≡ why_each [] texts_of_grants
+        → AreLeft more (wrong_between behind more) (reported ++ found ∷ []) texts_of_grants
     unfolding first_of
     more_of around [] row white same = absurd row
     more_of around (s ∷ []) row white same =
@@ -156,36 +156,36 @@ module _ (rest : List ℕ) (before : Option Unread) (told : List (Option Unread)
       where
         never : [] ≡ mark ∷ more → ⊥
         never e = cc
-    more_of around (s ∷ t ∷ standings_left) row white same =
-        let begin = (first_of rest s (t ∷ standings_left) row).1 in
+    more_of around (s ∷ t ∷ texts_left) row white same =
+        let begin = (first_of rest s (t ∷ texts_left) row).1 in
         let at = next_is s (row.2 ∷ row.1) begin in
         let here : row.1 ≡ more = ap (drop 1) (sym at.0 ∙ goes_on) in
-        let begins_there = row_begins row.1 t standings_left row.6 in
+        let begins_there = row_begins row.1 t texts_left row.6 in
         let after : has_spaces behind ≡ are_spaces s.after = ap has_spaces (scan s (row.2 ∷ row.1) begin).1 ∙ has_spaces_is s.after (row.2 ∷ row.1) at.1 (mark_not_white row.2 row.4) in
         let ahead : has_spaces more ≡ are_spaces t.before = ap has_spaces (sym here ∙ begins_there.1) ∙ has_spaces_is t.before (codes "allow" ++ begins_there.0) begins_there.2 refl in
         record {
           around = s.after ++ t.before;
-          left = t ∷ standings_left;
-          row = subst (λ (text : List ℕ). AreSeparated is_mark Stands text (t ∷ standings_left)) here row.6;
+          left = t ∷ texts_left;
+          row = subst (λ (text : List ℕ). AreSeparated is_mark Stands text (t ∷ texts_left)) here row.6;
           white = rw (after, ahead) (ap (λ (all : Bool). if all then None else Some WhiteSpace) (sym (list_all-append (λ b. eqb b 32) s.after t.before)));
-          same = append_assoc told (found ∷ []) (why_each (s.after ++ t.before) (t ∷ standings_left))
-              ∙ ap (λ (w : Option Unread). told ++ w ∷ why_each (s.after ++ t.before) (t ∷ standings_left)) (why_is around s (row.2 ∷ row.1) white begin) ∙ same;
+          same = append_assoc reported (found ∷ []) (why_each (s.after ++ t.before) (t ∷ texts_left))
+              ∙ ap (λ (w : Option Unread). reported ++ w ∷ why_each (s.after ++ t.before) (t ∷ texts_left)) (why_is around s (row.2 ∷ row.1) white begin) ∙ same;
         }
 
-    pub told_more : AreLeft rest before told standings → AreLeft more (wrong_between behind more) (told ++ found ∷ []) standings
-    told_more is = more_of is.around is.left is.row is.white is.same
+    pub reported_more : AreLeft rest before reported texts_of_grants → AreLeft more (wrong_between behind more) (reported ++ found ∷ []) texts_of_grants
+    reported_more is = more_of is.around is.left is.row is.white is.same
 
 -- ---- how the grants of a text that reads stand
 
-join : (text : List ℕ) (g h : Grant) (more : List Grant) (row : AreSeparated is_mark IsGrant text (g ∷ h ∷ more)) (standings : List Standing) → AreSeparated is_mark Stands row.1 standings → map (λ s. s.grant) standings ≡ h ∷ more
-    → (all : List Standing) × AreSeparated is_mark Stands text all × (map (λ s. s.grant) all ≡ g ∷ h ∷ more)
+join : (text : List ℕ) (g h : Grant) (more : List Grant) (row : AreSeparated is_mark IsGrant text (g ∷ h ∷ more)) (texts_of_grants : List GrantText) → AreSeparated is_mark Stands row.1 texts_of_grants → map (λ s. s.grant) texts_of_grants ≡ h ∷ more
+    → (all : List GrantText) × AreSeparated is_mark Stands text all × (map (λ s. s.grant) all ≡ g ∷ h ∷ more)
 join text g h more row [] stand same = absurd stand
-join text g h more row (t ∷ standings) stand same =
-    (record { grant = g; before = row.5.before; items = row.5.items; after = row.5.after } ∷ t ∷ standings, (row.0, row.1, row.2, row.3, row.4, (row.5, refl, refl, refl), stand), ap (λ (gs : List Grant). g ∷ gs) same)
+join text g h more row (t ∷ texts_of_grants) stand same =
+    (record { grant = g; before = row.5.before; items = row.5.items; after = row.5.after } ∷ t ∷ texts_of_grants, (row.0, row.1, row.2, row.3, row.4, (row.5, refl, refl, refl), stand), ap (λ (gs : List Grant). g ∷ gs) same)
 
-pub standings_of : (text : List ℕ) (grants : List Grant) → AreSeparated is_mark IsGrant text grants → (standings : List Standing) × AreSeparated is_mark Stands text standings × (map (λ s. s.grant) standings ≡ grants)
-standings_of text [] row = absurd row
-standings_of text (g ∷ []) row = (record { grant = g; before = row.before; items = row.items; after = row.after } ∷ [], (row, refl, refl, refl), refl)
-standings_of text (g ∷ h ∷ more) row =
-    let rest = standings_of row.1 (h ∷ more) row.6 in
+pub grant_texts_of : (text : List ℕ) (grants : List Grant) → AreSeparated is_mark IsGrant text grants → (texts_of_grants : List GrantText) × AreSeparated is_mark Stands text texts_of_grants × (map (λ s. s.grant) texts_of_grants ≡ grants)
+grant_texts_of text [] row = absurd row
+grant_texts_of text (g ∷ []) row = (record { grant = g; before = row.before; items = row.items; after = row.after } ∷ [], (row, refl, refl, refl), refl)
+grant_texts_of text (g ∷ h ∷ more) row =
+    let rest = grant_texts_of row.1 (h ∷ more) row.6 in
     join text g h more row rest.0 rest.1 rest.2

@@ -217,29 +217,29 @@ in_order g items text are none = by_uid g.uid refl
 
 -- ---- and the other way round
 
-system_told : (name : Option (List ℕ)) (path : Option (List (List ℕ))) (squash : Bool) → first_wrong None (item_of (λ n. FsName (Some n)) name ++ (item_of Path path ++ squash_items squash)) ≡ None
-system_told None None true = refl
-system_told None None false = refl
-system_told None (Some p) true = refl
-system_told None (Some p) false = refl
-system_told (Some n) None true = refl
-system_told (Some n) None false = refl
-system_told (Some n) (Some p) true = refl
-system_told (Some n) (Some p) false = refl
+system_reported : (name : Option (List ℕ)) (path : Option (List (List ℕ))) (squash : Bool) → first_wrong None (item_of (λ n. FsName (Some n)) name ++ (item_of Path path ++ squash_items squash)) ≡ None
+system_reported None None true = refl
+system_reported None None false = refl
+system_reported None (Some p) true = refl
+system_reported None (Some p) false = refl
+system_reported (Some n) None true = refl
+system_reported (Some n) None false = refl
+system_reported (Some n) (Some p) true = refl
+system_reported (Some n) (Some p) false = refl
 
-user_told : (path : Option (List (List ℕ))) (uid : Option ℕ) (gids : Option (List ℕ)) → first_wrong None (item_of Path path ++ (item_of Uid uid ++ item_of Gids gids)) ≡ None
-user_told None None None = refl
-user_told None None (Some gs) = refl
-user_told None (Some u) None = refl
-user_told None (Some u) (Some gs) = refl
-user_told (Some p) None None = refl
-user_told (Some p) None (Some gs) = refl
-user_told (Some p) (Some u) None = refl
-user_told (Some p) (Some u) (Some gs) = refl
+user_reported : (path : Option (List (List ℕ))) (uid : Option ℕ) (gids : Option (List ℕ)) → first_wrong None (item_of Path path ++ (item_of Uid uid ++ item_of Gids gids)) ≡ None
+user_reported None None None = refl
+user_reported None None (Some gs) = refl
+user_reported None (Some u) None = refl
+user_reported None (Some u) (Some gs) = refl
+user_reported (Some p) None None = refl
+user_reported (Some p) None (Some gs) = refl
+user_reported (Some p) (Some u) None = refl
+user_reported (Some p) (Some u) (Some gs) = refl
 
-order_told : (items : List Item) → IsInCephOrder items → first_wrong None items ≡ None
-order_told items (inl order) = ap (first_wrong None) order.3 ∙ system_told order.0 order.1 order.2
-order_told items (inr order) = ap (first_wrong None) order.3 ∙ user_told order.0 order.1 order.2
+order_reported : (items : List Item) → IsInCephOrder items → first_wrong None items ≡ None
+order_reported items (inl order) = ap (first_wrong None) order.3 ∙ system_reported order.0 order.1 order.2
+order_reported items (inr order) = ap (first_wrong None) order.3 ∙ user_reported order.0 order.1 order.2
 
 -- ---- with the white space
 
@@ -256,4 +256,4 @@ none_where_read g items around text are = (there, back)
         (in_order g items text are both.1, only_spaces (are_spaces around) both.0)
 
     back : IsInCephOrder items × IsTrue (are_spaces around) → why around items ≡ None
-    back is = rw is.1 (order_told items is.0)
+    back is = rw is.1 (order_reported items is.0)

@@ -12,7 +12,7 @@ pub mod Cases
 pub mod Covering
 pub mod AskedFor
 pub mod Witnesses
-pub mod Leaving
+pub mod Omitting
 pub mod Squashed
 pub mod CephTexts
 pub mod Undoing
@@ -30,4 +30,4 @@ pub mod Anyway
 pub mod Firsts
 pub mod Reasons
 pub mod Answers
-pub mod Told
+pub mod Reported

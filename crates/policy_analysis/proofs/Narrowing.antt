@@ -18,7 +18,7 @@ use Rattle.policy_analysis.specs.Comparing.{is_root}
 use Rattle.policy_analysis.specs.Asking.{IsSettingFor, Setting, asked, is_gained}
 use Rattle.policy_analysis.proofs.Lists.{passes_other}
 use Rattle.policy_analysis.proofs.Passing.{Passes, PassesAttr, PassesBase, allowed, passes_all}
-use Rattle.policy_analysis.proofs.Rules.{fs_for_each, fs_kept, fs_named, gids_kept, gids_pass, path_itself, path_kept, same_no_p, same_no_s, same_no_write}
+use Rattle.policy_analysis.proofs.Rules.{fs_for_each, fs_named, fs_stays, gids_pass, gids_stay, path_itself, path_stays, same_no_p, same_no_s, same_no_write}
 use Rattle.policy_analysis.proofs.Rules.{same_root_squash}
 
 -- the caller stands for the one of the question: as much root, in no more listed groups, and in one that the grant lists
@@ -36,7 +36,7 @@ pub record IsAlike (a' a : Access) : Type 0 where
 module _ (s : Setting) (g : Grant) (q : Question) (c : Caller) (attr : Attr) (a : Access) (fits : IsSettingFor s g) (passes : Passes q g) (like : StandsFor s g q c) (alike : IsAlike a q.access) where
   file_system : (h : Grant) → (h.fsname ≢ Some s.fs) ⊎ (s.fs ≡ q.fs) → fails_fsname (asked s c attr a) h ≡ false → fails_fsname q h ≡ false
   unfolding fails_fsname
-  file_system h either e = fs_kept h.fsname s.fs q.fs either e
+  file_system h either e = fs_stays h.fsname s.fs q.fs either e
 
   own_file_system : fails_fsname (asked s c attr a) g ≡ false
   unfolding fails_fsname
@@ -51,22 +51,22 @@ module _ (s : Setting) (g : Grant) (q : Question) (c : Caller) (attr : Attr) (a 
   path h e =
       let own : starts_with bytes_eq q.path g.path ≡ true = not-false (starts_with bytes_eq q.path g.path) passes.base.path in
       let below : starts_with bytes_eq s.path h.path ≡ true = not-false (starts_with bytes_eq s.path h.path) e in
-      not_from_true (starts_with bytes_eq q.path h.path) (path_kept q.path g.path h.path own (rw fits.path at below))
+      not_from_true (starts_with bytes_eq q.path h.path) (path_stays q.path g.path h.path own (rw fits.path at below))
 
   own_path : fails_path (asked s c attr a) g ≡ false
   unfolding fails_path
   own_path = not_from_true (starts_with bytes_eq s.path g.path) (path_itself s.path g.path fits.path)
 
   gids : (h : Grant) → contains h.gids s.nobody ≡ false → fails_gids (asked s c attr a) h ≡ false → fails_gids q h ≡ false
-  gids h nobody e = gids_kept (asked s c attr a) q h (λ n of listed. by_case n (like.gids n of) listed) e
+  gids h nobody e = gids_stay (asked s c attr a) q h (λ n of listed. by_case n (like.gids n of) listed) e
     where
       by_case : (n : ℕ) → (contains (gids_of q.caller) n ≡ true) ⊎ (n ≡ s.nobody) → contains h.gids n ≡ true → contains (gids_of q.caller) n ≡ true
       by_case n (inl of) listed = of
       by_case n (inr is) listed = absurd (both_ways (contains h.gids n) (ap (contains h.gids) is ∙ nobody) listed)
 
   -- what an old grant passes by the changed question it passes by the question
-  pub base_kept : (h : Grant) → (h.fsname ≢ Some s.fs) ⊎ (s.fs ≡ q.fs) → contains h.gids s.nobody ≡ false → (fails_uid (asked s c attr a) h ≡ false → fails_uid q h ≡ false) → PassesBase (asked s c attr a) h → PassesBase q h
-  base_kept h either nobody uid base = record {
+  pub base_stays : (h : Grant) → (h.fsname ≢ Some s.fs) ⊎ (s.fs ≡ q.fs) → contains h.gids s.nobody ≡ false → (fails_uid (asked s c attr a) h ≡ false → fails_uid q h ≡ false) → PassesBase (asked s c attr a) h → PassesBase q h
+  base_stays h either nobody uid base = record {
     fsname = file_system h either base.fsname;
     uid = uid base.uid;
     gids = gids h nobody base.gids;
@@ -101,7 +101,7 @@ module _ (s : Setting) (g : Grant) (q : Question) (c : Caller) (attr : Attr) (a 
       kept h either nobody attrs e =
           let p = passes_all (asked s c attr a) h e in
           let both = attrs p.attr in
-          allowed q h (base_kept h either nobody both.0 p.base) both.1
+          allowed q h (base_stays h either nobody both.0 p.base) both.1
 
       by_old : (b : Bool) → granted (asked s c attr a) s.old ≡ b → granted q s.old ≡ true
       by_old true is = passes_other (allows (asked s c attr a)) (allows q) s.old (λ k d less. kept (get_or s.old k d) (each_file_system k d less) (fits.old k d less) (each k d less)) is

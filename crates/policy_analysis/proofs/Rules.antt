@@ -20,10 +20,10 @@ use Rattle.policy_analysis.proofs.Lists.{among_passes, passes_among}
 
 -- ---- the file system
 
-pub fs_kept : (name : Option (List ℕ)) (fs' fs : List ℕ) → (name ≢ Some fs') ⊎ (fs' ≡ fs) → is_some_and (λ n. not (bytes_eq n fs')) name ≡ false → is_some_and (λ n. not (bytes_eq n fs)) name ≡ false
-fs_kept None fs' fs either passes = refl
-fs_kept (Some n) fs' fs (inl other) passes = absurd (other (ap Some ((bytes_eq-Decides n fs').0 (not-false (bytes_eq n fs') passes))))
-fs_kept (Some n) fs' fs (inr same) passes = ap (λ (f : List ℕ). not (bytes_eq n f)) (sym same) ∙ passes
+pub fs_stays : (name : Option (List ℕ)) (fs' fs : List ℕ) → (name ≢ Some fs') ⊎ (fs' ≡ fs) → is_some_and (λ n. not (bytes_eq n fs')) name ≡ false → is_some_and (λ n. not (bytes_eq n fs)) name ≡ false
+fs_stays None fs' fs either passes = refl
+fs_stays (Some n) fs' fs (inl other) passes = absurd (other (ap Some ((bytes_eq-Decides n fs').0 (not-false (bytes_eq n fs') passes))))
+fs_stays (Some n) fs' fs (inr same) passes = ap (λ (f : List ℕ). not (bytes_eq n f)) (sym same) ∙ passes
 
 pub fs_named : (X : Type 0) (name : Option (List ℕ)) (fs : List ℕ) → MatchOption name X (λ n. fs ≡ n) → is_some_and (λ n. not (bytes_eq n fs)) name ≡ false
 fs_named X None fs named = refl
@@ -41,9 +41,9 @@ listed_gid c h some = passes_among (contains h.gids) (gids_of c) (not-false (lis
 pub is_listed : (c : Caller) (h : Grant) (n : ℕ) → contains (gids_of c) n ≡ true → contains h.gids n ≡ true → (length (listed_gids c h) == 0) ≡ false
 is_listed c h n of listed = length_listed c h ∙ not_from_true (list_any (contains h.gids) (gids_of c)) (among_passes (contains h.gids) (gids_of c) n of listed)
 
-pub gids_kept : (q' q : Question) (h : Grant) → ((n : ℕ) → contains (gids_of q'.caller) n ≡ true → contains h.gids n ≡ true → contains (gids_of q.caller) n ≡ true) → fails_gids q' h ≡ false → fails_gids q h ≡ false
+pub gids_stay : (q' q : Question) (h : Grant) → ((n : ℕ) → contains (gids_of q'.caller) n ≡ true → contains h.gids n ≡ true → contains (gids_of q.caller) n ≡ true) → fails_gids q' h ≡ false → fails_gids q h ≡ false
 unfolding fails_gids
-gids_kept q' q h fewer passes = by_case (and_cases (not (length h.gids == 0)) (length (listed_gids q'.caller h) == 0) passes)
+gids_stay q' q h fewer passes = by_case (and_cases (not (length h.gids == 0)) (length (listed_gids q'.caller h) == 0) passes)
   where
     by_case : (not (length h.gids == 0) ≡ false) ⊎ ((length (listed_gids q'.caller h) == 0) ≡ false) → (not (length h.gids == 0) && (length (listed_gids q.caller h) == 0)) ≡ false
     by_case (inl none) = and_left (not (length h.gids == 0)) (length (listed_gids q.caller h) == 0) none
@@ -72,8 +72,8 @@ below path dir is = (_, (starts_is bytes_eq-Decides path dir (starts_with bytes_
 pub above : (path dir rest : List (List ℕ)) → path ≡ dir ++ rest → starts_with bytes_eq path dir ≡ true
 above path dir rest is = (starts_is bytes_eq-Decides path dir (starts_with bytes_eq path dir) refl).1 rest is
 
-pub path_kept : (path dir other : List (List ℕ)) → starts_with bytes_eq path dir ≡ true → starts_with bytes_eq dir other ≡ true → starts_with bytes_eq path other ≡ true
-path_kept path dir other one two =
+pub path_stays : (path dir other : List (List ℕ)) → starts_with bytes_eq path dir ≡ true → starts_with bytes_eq dir other ≡ true → starts_with bytes_eq path other ≡ true
+path_stays path dir other one two =
     let a = below path dir one in
     let b = below dir other two in
     above path other (b.0 ++ a.0) (a.1 ∙ ap (λ (d : List (List ℕ)). d ++ a.0) b.1 ∙ append_assoc other b.0 a.0)

@@ -15,10 +15,10 @@ use Rattle.policy_analysis.specs.Ceph16Syntax.{first_wrong, wrong_behind}
 use Rattle.policy_analysis.proofs.Words.{behind_item_is, item_shorter, key_at_is, next_shorter, words_end, wrong_at_is}
 
 -- What is left of the items at the place where a loop over them stands: with what it found and the last key, their first reason is what is to be told.
-pub record IsLeft (rest : List ℕ) (last : Option Key) (found told : Option Unread) (tail : List ℕ) : Type 0 where
+pub record IsLeft (rest : List ℕ) (last : Option Key) (found reported : Option Unread) (tail : List ℕ) : Type 0 where
   pub left : List Item
   pub has : HasItems rest left tail
-  pub same : option_or found (first_wrong last left) ≡ told
+  pub same : option_or found (first_wrong last left) ≡ reported
 
 -- the text from the first of them on
 here : (rest : List ℕ) (item : Item) (left : List Item) (tail : List ℕ) (has : HasItems rest (item ∷ left) tail) → next rest ≡ has.are_words.1 ++ (has.are_words.2 ++ tail)
@@ -41,8 +41,8 @@ at_end : (rest : List ℕ) (left : List Item) (tail : List ℕ) → HasItems res
 at_end rest [] tail has ends = (refl, has.parts ∙ ap (λ (t : List ℕ). t ++ tail) has.are_words)
 at_end rest (item ∷ left) tail has ends = absurd (true≢false (sym ends ∙ ap ends_grant (here rest item left tail has) ∙ item_goes_on has.are_words.1 (has.are_words.2 ++ tail) item has.are_words.5))
 
-pub found_all : (rest : List ℕ) (last : Option Key) (found told : Option Unread) (tail : List ℕ) → IsLeft rest last found told tail → ends_grant (next rest) ≡ true → (found ≡ told) × (rest ≡ tail)
-found_all rest last found told tail is ends =
+pub found_all : (rest : List ℕ) (last : Option Key) (found reported : Option Unread) (tail : List ℕ) → IsLeft rest last found reported tail → ends_grant (next rest) ≡ true → (found ≡ reported) × (rest ≡ tail)
+found_all rest last found reported tail is ends =
     let end = at_end rest is.left tail is.has ends in
     (sym (or_none found) ∙ ap (λ (left : List Item). option_or found (first_wrong last left)) (sym end.0) ∙ is.same, end.1)
 
@@ -63,9 +63,9 @@ behind_one rest item left tail has =
       grant_ends = has.grant_ends;
     }
 
-module _ (rest : List ℕ) (last : Option Key) (found told : Option Unread) (tail : List ℕ) (goes_on : ends_grant (next rest) ≡ false) where
-  one_less : (left : List Item) → HasItems rest left tail → option_or found (first_wrong last left) ≡ told
-      → IsLeft (behind_item (next rest)) (Some (key_at (next rest))) (option_or found (wrong_at last (next rest))) told tail
+module _ (rest : List ℕ) (last : Option Key) (found reported : Option Unread) (tail : List ℕ) (goes_on : ends_grant (next rest) ≡ false) where
+  one_less : (left : List Item) → HasItems rest left tail → option_or found (first_wrong last left) ≡ reported
+      → IsLeft (behind_item (next rest)) (Some (key_at (next rest))) (option_or found (wrong_at last (next rest))) reported tail
   one_less [] has same =
       let at : rest ≡ tail = has.parts ∙ ap (λ (t : List ℕ). t ++ tail) has.are_words in
       absurd (true≢false (sym has.grant_ends ∙ ap (λ (t : List ℕ). ends_grant (next t)) (sym at) ∙ goes_on))
@@ -82,7 +82,7 @@ module _ (rest : List ℕ) (last : Option Key) (found told : Option Unread) (tai
             ∙ or_assoc found (wrong_behind last item) (first_wrong (Some (key_of item)) left) ∙ same;
       }
 
-  pub left_behind : IsLeft rest last found told tail → IsLeft (behind_item (next rest)) (Some (key_at (next rest))) (option_or found (wrong_at last (next rest))) told tail
+  pub left_behind : IsLeft rest last found reported tail → IsLeft (behind_item (next rest)) (Some (key_at (next rest))) (option_or found (wrong_at last (next rest))) reported tail
   left_behind is = one_less is.left is.has is.same
 
 pub rest_shorter : (rest : List ℕ) → ends_grant (next rest) ≡ false → length (behind_item (next rest)) < length rest

@@ -51,9 +51,9 @@ not_root true true b e = e
 not_root true false b e = refl
 not_root false a b e = refl
 
-root_kept : (x : Bool) (uid : Option ℕ) (n m k : ℕ) → is_some_and (λ u. not (u == n)) uid ≡ false → (x && ((n == 0) || (m == 0))) ≡ false → (k == 0) ≡ false → (x && ((unwrap_or uid 1 == 0) || (k == 0))) ≡ false
-root_kept x None n m k passes squash above = rw above (and_right x false refl)
-root_kept x (Some u) n m k passes squash above =
+root_stays : (x : Bool) (uid : Option ℕ) (n m k : ℕ) → is_some_and (λ u. not (u == n)) uid ≡ false → (x && ((n == 0) || (m == 0))) ≡ false → (k == 0) ≡ false → (x && ((unwrap_or uid 1 == 0) || (k == 0))) ≡ false
+root_stays x None n m k passes squash above = rw above (and_right x false refl)
+root_stays x (Some u) n m k passes squash above =
     let same : u ≡ n = same_user (Some u) n refl passes in
     rw above (not_root x (u == 0) (m == 0) (ap (λ (v : ℕ). x && ((v == 0) || (m == 0))) same ∙ squash))
 
@@ -89,7 +89,7 @@ allows_too w attr g c groups listed group mode e =
       gids = gids_pass (asked w attr (asker attr g groups)) g listed;
       path = p.base.path;
       no_write = p.base.no_write;
-      root_squash = root_kept (not (is_read w.access) && g.root_squash) g.uid c.uid c.gid (beside attr.gid) p.base.uid p.base.root_squash (beside_is_not_root attr.gid);
+      root_squash = root_stays (not (is_read w.access) && g.root_squash) g.uid c.uid c.gid (beside attr.gid) p.base.uid p.base.root_squash (beside_is_not_root attr.gid);
       no_p = p.base.no_p;
       no_s = p.base.no_s;
     }) (record {

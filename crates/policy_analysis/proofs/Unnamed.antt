@@ -36,8 +36,8 @@ looks_at_none q g allows' none attr =
     allowed asked g (same_base q g attr (passes_all q g allows').base) (no_uid asked g (none_of g.uid none))
 
 -- another's inode of mode 0, which a grant with a uid denies
-abbrev strange : Question → Question
-strange q = record q { attr = record { uid = another q.caller.uid; gid = 0; mode = 0 } }
+abbrev unowned : Question → Question
+unowned q = record q { attr = record { uid = another q.caller.uid; gid = 0; mode = 0 } }
 
 no_bit : (read : Bool) (class : Class) → has_bit 0 (bit_for read class) ≡ false
 no_bit true Owner = refl
@@ -47,18 +47,18 @@ no_bit false Owner = refl
 no_bit false Group = refl
 no_bit false Other = refl
 
-by_bits_denied : (q : Question) (g : Grant) → is_by_mode q.access ≡ true → is_some g.uid ≡ true → fails_mode_bits (strange q) g ≡ true
+by_bits_denied : (q : Question) (g : Grant) → is_by_mode q.access ≡ true → is_some g.uid ≡ true → fails_mode_bits (unowned q) g ≡ true
 by_bits_denied q g by some =
-    let bit = bit_for (is_read q.access) (class_of (strange q) g) in
-    mode_says (strange q) g by ∙ and_from (is_some g.uid) (not (has_bit 0 bit)) some (ap not (no_bit (is_read q.access) (class_of (strange q) g)))
+    let bit = bit_for (is_read q.access) (class_of (unowned q) g) in
+    mode_says (unowned q) g by ∙ and_from (is_some g.uid) (not (has_bit 0 bit)) some (ap not (no_bit (is_read q.access) (class_of (unowned q) g)))
 
-by_owner_denied : (q : Question) (g : Grant) → changes_attr q.access ≡ true → is_some g.uid ≡ true → fails_not_owner (strange q) g ≡ true
+by_owner_denied : (q : Question) (g : Grant) → changes_attr q.access ≡ true → is_some g.uid ≡ true → fails_not_owner (unowned q) g ≡ true
 unfolding fails_not_owner
 by_owner_denied q g changes some =
     let gives = is_some_and (λ uid. not (uid == q.caller.uid)) (new_owner q.access) in
-    and_from (is_some g.uid && changes_attr q.access) (not (is_owner (strange q)) || gives) (and_from (is_some g.uid) (changes_attr q.access) some changes) (ap (λ (b : Bool). not b || gives) (is_another q.caller.uid))
+    and_from (is_some g.uid && changes_attr q.access) (not (is_owner (unowned q)) || gives) (and_from (is_some g.uid) (changes_attr q.access) some changes) (ap (λ (b : Bool). not b || gives) (is_another q.caller.uid))
 
-denied : (q : Question) (g : Grant) → is_some g.uid ≡ true → PassesAttr (strange q) g → false ≡ true
+denied : (q : Question) (g : Grant) → is_some g.uid ≡ true → PassesAttr (unowned q) g → false ≡ true
 denied q g some passes = by_case (is_by_mode q.access) refl
   where
     by_case : (b : Bool) → is_by_mode q.access ≡ b → false ≡ true
@@ -70,4 +70,4 @@ names_none q g all = by_uid (is_none g.uid) refl
   where
     by_uid : (b : Bool) → is_none g.uid ≡ b → b ≡ true
     by_uid true is = refl
-    by_uid false is = denied q g (some_of g.uid is) (passes_all (strange q) g (all (strange q).attr)).attr
+    by_uid false is = denied q g (some_of g.uid is) (passes_all (unowned q) g (all (unowned q).attr)).attr

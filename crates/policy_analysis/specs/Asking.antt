@@ -77,8 +77,8 @@ pub record GainsNoneOfAll (s : Setting) (caller : Caller) (attr : Attr) (own : �
   pub owner : GainsNone s caller attr (by_owner caller.uid own)
 
 -- nothing is gained by a caller as stranger, to whom no mode bit allows anything
-unfoldable pub NoneAsStranger : Setting → Caller → ℕ → Type 0
-NoneAsStranger s caller own = GainsNoneOfAll s caller (attr_of (another caller.uid) s.nobody 0) own
+unfoldable pub NoneAsNonOwner : Setting → Caller → ℕ → Type 0
+NoneAsNonOwner s caller own = GainsNoneOfAll s caller (attr_of (another caller.uid) s.nobody 0) own
 
 -- as the owner
 unfoldable pub NoneAsOwner : Setting → Caller → ℕ → Type 0
@@ -122,4 +122,4 @@ pub record IsSettingFor (s : Setting) (g : Grant) : Type 0 where
 
 -- the same, where the grant has a uid; else nothing is gained as stranger
 unfoldable pub NoneFor : Setting → Grant → Caller → ℕ → Type 0
-NoneFor s g caller own = MatchOption g.uid (NoneAsStranger s caller own) (λ uid. NoneBy s caller own)
+NoneFor s g caller own = MatchOption g.uid (NoneAsNonOwner s caller own) (λ uid. NoneBy s caller own)

@@ -45,14 +45,14 @@ first_wrong last (item ∷ items) = option_or (wrong_behind last item) (first_wr
 -- ---- grants
 
 -- How a grant stands in its text: the white space before and behind it, and its items in the order in which they stand.
-pub record Standing : Type 0 where
+pub record GrantText : Type 0 where
   pub grant : Grant
   pub before : List ℕ
   pub items : List Item
   pub after : List ℕ
 
 -- the text is that of a grant that stands so
-abbrev pub Stands : List ℕ → Standing → Type 0
+abbrev pub Stands : List ℕ → GrantText → Type 0
 Stands text s = (is : IsGrant text s.grant) × (s.before ≡ is.before) × (s.items ≡ is.items) × (s.after ≡ is.after)
 
 abbrev pub are_spaces : List ℕ → Bool
@@ -67,14 +67,14 @@ abbrev pub why : List ℕ → List Item → Option Unread
 why around items = option_or (wrong_white around) (first_wrong None items)
 
 -- the same of each grant, in their order; around: what stands round the separator before the first of them
-abbrev pub why_each : List ℕ → List Standing → List (Option Unread)
+abbrev pub why_each : List ℕ → List GrantText → List (Option Unread)
 why_each around [] = []
 why_each around (s ∷ []) = why around s.items ∷ []
 why_each around (s ∷ next ∷ more) = why around s.items ∷ why_each (s.after ++ next.before) (next ∷ more)
 
 -- What is told of the grants that a text means. White space at its ends counts for nothing.
-pub record AreTold (text : List ℕ) (grants : List Grant) (told : List (Option Unread)) : Type 0 where
-  pub standings : List Standing
-  pub stand : AreSeparated is_mark Stands text standings
-  pub of_grants : map (λ s. s.grant) standings ≡ grants
-  pub told_are : told ≡ why_each [] standings
+pub record AreReported (text : List ℕ) (grants : List Grant) (reported : List (Option Unread)) : Type 0 where
+  pub texts_of_grants : List GrantText
+  pub stand : AreSeparated is_mark Stands text texts_of_grants
+  pub of_grants : map (λ s. s.grant) texts_of_grants ≡ grants
+  pub reported_are : reported ≡ why_each [] texts_of_grants

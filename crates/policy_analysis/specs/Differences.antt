@@ -68,14 +68,14 @@ why_denied q number g = record {
   by_access = only_if (not (has_flag q g && allows (by_bits (on_its_fs q g)) g)) (of_access q.access);
 }
 
-abbrev pub said_of : (ℕ → Grant → Otherwise) → ℕ → Option Grant → Option Otherwise
-said_of why place None = None
-said_of why place (Some g) = Some (why (place + 1) g)
+abbrev pub otherwise_of : (ℕ → Grant → Otherwise) → ℕ → Option Grant → Option Otherwise
+otherwise_of why place None = None
+otherwise_of why place (Some g) = Some (why (place + 1) g)
 
 -- by the places of the first grants that allow, here and there
 abbrev pub otherwise_at : Question → List Grant → Option ℕ → Option ℕ → Option Otherwise
-otherwise_at q grants None (Some there) = said_of (why_allowed q) there (slice_get grants there)
-otherwise_at q grants (Some here) None = said_of (why_denied q) here (slice_get grants here)
+otherwise_at q grants None (Some there) = otherwise_of (why_allowed q) there (slice_get grants there)
+otherwise_at q grants (Some here) None = otherwise_of (why_denied q) here (slice_get grants here)
 otherwise_at q grants here there = None
 
 -- what the MDS answers, where it allows what is denied here, or denies what is allowed here

@@ -11,7 +11,7 @@ use Rattle.capspec.specs.declared.items.Key.{Key}
 use Rattle.capspec.specs.declared.items.Key.TheVariants as keys
 use Rattle.policy_analysis.specs.declared.unread.Unread.{Unread}
 use Rattle.policy_analysis.specs.declared.unread.Unread.TheVariants.{AnyFileSystem, WhiteSpace}
-use Rattle.policy_analysis.specs.Ceph16Syntax.{Standing, Stands, wrong_order}
+use Rattle.policy_analysis.specs.Ceph16Syntax.{GrantText, Stands, wrong_order}
 
 -- a word can end here; a comma with a digit behind it belongs to a gids item
 abbrev pub can_end : List ℕ → Bool
@@ -60,7 +60,7 @@ pub record HasItems (text : List ℕ) (items : List Item) (tail : List ℕ) : Ty
   pub grant_ends : IsTrue (ends_grant (next tail))
 
 -- A grant that stands so is at the front of the text, and the end follows.
-pub record Begins (text : List ℕ) (s : Standing) (end : List ℕ) : Type 0 where
+pub record Begins (text : List ℕ) (s : GrantText) (end : List ℕ) : Type 0 where
   pub piece : List ℕ
   pub parts : text ≡ piece ++ end
   pub stands : Stands piece s

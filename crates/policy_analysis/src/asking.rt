@@ -86,7 +86,7 @@ impl Setting<'_> {
     ghost use Rattle.capgrant.specs.Question.{contains};
     ghost use Rattle.policy_analysis.specs.Comparing.{is_root};
     ghost use Rattle.policy_analysis.specs.Asking.{CoversGrant, GainsNone, GainsNoneOfAll, IsFound, IsSettingFor, NoneAsGroup, NoneAsOther, NoneAsOthers};
-    ghost use Rattle.policy_analysis.specs.Asking.{NoneAsOthersOf, NoneAsOwner, NoneAsStranger, NoneBy, NoneFor, asked, is_gained};
+    ghost use Rattle.policy_analysis.specs.Asking.{NoneAsNonOwner, NoneAsOthersOf, NoneAsOwner, NoneBy, NoneFor, asked, is_gained};
 
     /// Asks for all that the grant allows to root, or to callers who are not root.
     pub(crate) fn ask_for(&self, grant: &Grant, root: bool) -> Option<Found>
@@ -119,7 +119,7 @@ impl Setting<'_> {
         ensures found { IfSome result (IsFound self.now (is_root caller.now)) }
     {
         if grant.uid.is_none() {
-            return self.ask_as_stranger(caller, own);
+            return self.ask_as_non_owner(caller, own);
         }
         if let Some(found) = self.ask_as_owner(caller, own) {
             return Some(found);
@@ -131,9 +131,9 @@ impl Setting<'_> {
     }
 
     // Of an inode of another owner, with no mode bit: a grant with a uid denies it.
-    #[tactic(auto, unfolding(crate::specs::Asking::NoneAsStranger))]
-    fn ask_as_stranger(&self, caller: &Caller, own: u32) -> Option<Found>
-        ensures none { IfNone result (NoneAsStranger self.now caller.now own) }
+    #[tactic(auto, unfolding(crate::specs::Asking::NoneAsNonOwner))]
+    fn ask_as_non_owner(&self, caller: &Caller, own: u32) -> Option<Found>
+        ensures none { IfNone result (NoneAsNonOwner self.now caller.now own) }
         ensures found { IfSome result (IsFound self.now (is_root caller.now)) }
     {
         let attr = Attr {

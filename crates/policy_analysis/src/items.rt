@@ -4,7 +4,7 @@ ghost use Rattle.std.specs.Prelude.{◌≡◌, ◌≤◌, ◌++◌, ℕ, List, l
 ghost use Rattle.std.specs.Option.{option_or};
 ghost use Rattle.capspec.specs.Items.{Item};
 ghost use Rattle.policy_analysis.specs.Scanning.{Begins, HasItems, behind_item, key_at, wrong_at};
-ghost use Rattle.policy_analysis.specs.Ceph16Syntax.{Standing, first_wrong, rank};
+ghost use Rattle.policy_analysis.specs.Ceph16Syntax.{GrantText, first_wrong, rank};
 
 use crate::bytes::{behind_quote, behind_word, ends_grant, skip_white};
 use crate::unread::Unread;
@@ -13,7 +13,7 @@ use capspec::Key;
 /// Of the grant at the front of a text that reads, why Ceph 16 does not read its items as they stand, if nothing was wrong before
 /// them, and what follows them.
 pub(crate) fn scan_grant(before: Option<Unread>, text: &[u8]) -> (Option<Unread>, &[u8])
-    ensures told { (s : Standing) (end : List ℕ) → Begins text.now s end → (result.0 ≡ option_or before (first_wrong None s.items)) × (result.1.now ≡ s.after ++ end) }
+    ensures reported { (s : GrantText) (end : List ℕ) → Begins text.now s end → (result.0 ≡ option_or before (first_wrong None s.items)) × (result.1.now ≡ s.after ++ end) }
     ensures within { length result.1.now ≤ length text.now }
 {
     let flags = skip_white(behind_word(skip_white(text)));
@@ -23,7 +23,7 @@ pub(crate) fn scan_grant(before: Option<Unread>, text: &[u8]) -> (Option<Unread>
 // Of the items behind the flags of a grant, why Ceph 16 does not read them as they stand, if nothing was wrong before them, and what
 // follows the grant.
 fn scan_items(before: Option<Unread>, text: &[u8]) -> (Option<Unread>, &[u8])
-    ensures told { (items : List Item) (tail : List ℕ) → HasItems text.now items tail → (result.0 ≡ option_or before (first_wrong None items)) × (result.1.now ≡ tail) }
+    ensures reported { (items : List Item) (tail : List ℕ) → HasItems text.now items tail → (result.0 ≡ option_or before (first_wrong None items)) × (result.1.now ≡ tail) }
     ensures within { length result.1.now ≤ length text.now }
 {
     let mut found = before;

@@ -6,7 +6,7 @@ ghost use Rattle.byte_sets.specs.Sets.{is_mark};
 ghost use Rattle.capspec.specs.Grants.{Reads};
 ghost use Rattle.capspec.specs.Separated.{AreSeparated};
 ghost use Rattle.policy_analysis.specs.Scanning.{wrong_between};
-ghost use Rattle.policy_analysis.specs.Ceph16Syntax.{AreTold, Standing, Stands, why_each};
+ghost use Rattle.policy_analysis.specs.Ceph16Syntax.{AreReported, GrantText, Stands, why_each};
 
 use crate::bytes::{has_spaces, skip_white};
 use crate::items::scan_grant;
@@ -32,18 +32,18 @@ pub enum Unread {
 /// Of each grant of a text, in their order, why Ceph 16 does not read it as it stands; None where that holds nothing against it.
 /// Whether Ceph 16 reads what the grant says in any text is another question.
 pub fn unread_grants(alloc: Global, text: &[u8]) -> Result<Vec<Option<Unread>>, AllocError>
-    ensures told { (grants : List Grant) → Reads text.now grants → IfOk result (λ told. AreTold text.now grants told.items) }
+    ensures reported { (grants : List Grant) → Reads text.now grants → IfOk result (λ reported. AreReported text.now grants reported.items) }
     // However the text is divided into grants.
-    ensures exact { (standings : List Standing) → AreSeparated is_mark Stands text.now standings → IfOk result (λ told. told.items ≡ why_each [] standings) }
+    ensures exact { (texts_of_grants : List GrantText) → AreSeparated is_mark Stands text.now texts_of_grants → IfOk result (λ reported. reported.items ≡ why_each [] texts_of_grants) }
 {
-    let mut told = Vec::new(alloc);
+    let mut reported = Vec::new(alloc);
     let mut before = None;
     let mut rest = text;
     loop {
         let (found, behind) = scan_grant(before, rest);
-        told.push(found)?;
+        reported.push(found)?;
         let Some((_, more)) = skip_white(behind).split_first() else {
-            return Ok(told);
+            return Ok(reported);
         };
         before = wrong_between(behind, more);
         rest = more;

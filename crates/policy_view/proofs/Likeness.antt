@@ -12,7 +12,7 @@ use Rattle.inotree.specs.Alike.{attr_of}
 use Rattle.inotree.specs.Inodes.{InodeMap, with_attr, with_site}
 use Rattle.inotree.specs.Tree.{Nodes, path_of, presence, presence_at}
 use Rattle.inotree.specs.Calls.{changed, new_node}
-use Rattle.inotree.proofs.Elsewhere.{path_of-kept}
+use Rattle.inotree.proofs.Elsewhere.{path_of-stays}
 use Rattle.sessiontab.specs.declared.session.Session.{Session}
 use Rattle.sessiontab.specs.declared.session.Status.TheVariants.{Open}
 use Rattle.sessiontab.specs.Connected.{SessionMap, change_session}
@@ -79,10 +79,10 @@ clients-by a b (change.Regranted client grants) same = record {
   each = alike-change nat_cmp_total map.nat_cmp-IsAntisymmetric connected_client_of (λ session. record session { grants = grants }) (λ connected_client. record connected_client { grants = grants }) (λ session. refl) a b client.0 same.each;
 }
 
-pub shows_by : (shown real : View) (c : ViewChange) → Shows shown real → Shows (view_by shown c) (view_by real c)
-shows_by shown real c shows = record {
-  tree = like_by shown.tree real.tree c shows.tree;
-  sessions = clients-by shown.sessions real.sessions c shows.sessions;
+pub shows_by : (copied real : View) (c : ViewChange) → Shows copied real → Shows (view_by copied c) (view_by real c)
+shows_by copied real c shows = record {
+  tree = like_by copied.tree real.tree c shows.tree;
+  sessions = clients-by copied.sessions real.sessions c shows.sessions;
 }
 
 -- ---- a change of which nothing is seen
@@ -113,11 +113,11 @@ like-settled tree f ino attr kind site now = record {
 
 -- ---- one half of a view is alike, and the other the same
 
-pub shows-tree : (shown real : Nodes) (sessions : SessionMap) → IsLike shown real → Shows (record { tree = shown; sessions = sessions }) (record { tree = real; sessions = sessions })
-shows-tree shown real sessions like = record { tree = like; sessions = record { each = λ client. refl } }
+pub shows-tree : (copied real : Nodes) (sessions : SessionMap) → IsLike copied real → Shows (record { tree = copied; sessions = sessions }) (record { tree = real; sessions = sessions })
+shows-tree copied real sessions like = record { tree = like; sessions = record { each = λ client. refl } }
 
-pub shows-sessions : (tree : Nodes) (shown real : SessionMap) → AreSameClients shown real → Shows (record { tree = tree; sessions = shown }) (record { tree = tree; sessions = real })
-shows-sessions tree shown real same = record { tree = record { last = refl; each = λ ino. refl }; sessions = same }
+pub shows-sessions : (tree : Nodes) (copied real : SessionMap) → AreSameClients copied real → Shows (record { tree = tree; sessions = copied }) (record { tree = tree; sessions = real })
+shows-sessions tree copied real same = record { tree = record { last = refl; each = λ ino. refl }; sessions = same }
 
 -- ---- what is read of an inode
 
@@ -130,7 +130,7 @@ like-field : {A : Type 0} (of_visible : Visible → A) (a b : Nodes) → IsLike 
 like-field of_visible a b like i = field_seen of_visible (map.get a.nodes i) ∙ ap (option_map of_visible) (like.each i) ∙ sym (field_seen of_visible (map.get b.nodes i))
 
 pub like-path : (a b : Nodes) (i : ℕ) → IsLike a b → path_of a.nodes i ≡ path_of b.nodes i
-like-path a b i like = path_of-kept b.nodes a.nodes (λ j. Unit {0}) (λ j kept. like-field (λ s. s.site) a b like j) (λ j d name kept under. tt) i tt
+like-path a b i like = path_of-stays b.nodes a.nodes (λ j. Unit {0}) (λ j kept. like-field (λ s. s.site) a b like j) (λ j d name kept under. tt) i tt
 
 pub like-presence : (a b : Nodes) (i : ℕ) → IsLike a b → presence a.nodes i ≡ presence b.nodes i
 like-presence a b i like = ap presence_at (like-field (λ s. s.site) a b like i)

@@ -46,4 +46,4 @@ view_by view c = record { tree = tree_by view.tree c; sessions = connected_clien
 
 -- the changes, made one after the other, lead from whatever shows the old view to what shows the new one
 pub record AreChanges (changes : List ViewChange) (old new : View) : Type 0 where
-  pub lead : (shown : View) → Shows shown old → Shows (fold view_by shown changes) new
+  pub lead : (copied : View) → Shows copied old → Shows (fold view_by copied changes) new

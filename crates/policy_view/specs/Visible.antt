@@ -39,15 +39,15 @@ abbrev pub connected_client : SessionMap → ℕ → Option ConnectedClient
 connected_client sessions client = option_map connected_client_of (map.get sessions client)
 
 -- both trees have the same inodes, of which the same is seen, and gave the same number last
-pub record IsLike (shown real : Nodes) : Type 0 where
-  pub last : shown.last ≡ real.last
-  pub each : (ino : ℕ) → seen shown ino ≡ seen real ino
+pub record IsLike (copied real : Nodes) : Type 0 where
+  pub last : copied.last ≡ real.last
+  pub each : (ino : ℕ) → seen copied ino ≡ seen real ino
 
 -- the same clients are connected in both, of which the same is seen
-pub record AreSameClients (shown real : SessionMap) : Type 0 where
-  pub each : (client : ℕ) → connected_client shown client ≡ connected_client real client
+pub record AreSameClients (copied real : SessionMap) : Type 0 where
+  pub each : (client : ℕ) → connected_client copied client ≡ connected_client real client
 
 -- who sees the one sees the other
-pub record Shows (shown real : View) : Type 0 where
-  pub tree : IsLike shown.tree real.tree
-  pub sessions : AreSameClients shown.sessions real.sessions
+pub record Shows (copied real : View) : Type 0 where
+  pub tree : IsLike copied.tree real.tree
+  pub sessions : AreSameClients copied.sessions real.sessions

@@ -18,11 +18,11 @@ use std::alloc::AllocError;
 // ---- of the tree
 
 // Makes a change of the tree. Those of the sessions leave it.
-pub(crate) fn follow_tree(tree: &mut Tree, told: &ViewChange) -> Result<(), AllocError>
-    ensures ok { OnOk result (tree.new ≡ tree_by tree.old told.now) }
+pub(crate) fn follow_tree(tree: &mut Tree, view_change: &ViewChange) -> Result<(), AllocError>
+    ensures ok { OnOk result (tree.new ≡ tree_by tree.old view_change.now) }
     ensures err { OnErr result (tree.new ≡ tree.old) }
 {
-    match told {
+    match view_change {
         ViewChange::Born {
             ino,
             dir,
@@ -141,11 +141,11 @@ fn settled(tree: &mut Tree, ino: Ino, attr: Attr) -> Result<(), AllocError>
 // ---- of the sessions
 
 // Makes a change of the sessions. Those of the tree leave them.
-pub(crate) fn follow_session(sessions: &mut Connected, told: &ViewChange) -> Result<(), AllocError>
-    ensures ok { OnOk result (sessions.new ≡ connected_clients_by sessions.old told.now) }
+pub(crate) fn follow_session(sessions: &mut Connected, view_change: &ViewChange) -> Result<(), AllocError>
+    ensures ok { OnOk result (sessions.new ≡ connected_clients_by sessions.old view_change.now) }
     ensures err { OnErr result (sessions.new ≡ sessions.old) }
 {
-    match told {
+    match view_change {
         ViewChange::Opened {
             client,
             caller,

@@ -21,23 +21,23 @@ ghost use Rattle.policy_view.specs.Visible.{AreSameClients, IsLike, Shows, conne
 /// Views that show the same do so after a change of both. Each shows itself, and what is shown by one that another shows is
 /// shown by that other one.
 pub fn views_alike_stay_alike()
-    ensures stay { (shown real : View) (change : ViewChange) → Shows shown real → Shows (view_by shown change) (view_by real change) }
+    ensures stay { (copied real : View) (change : ViewChange) → Shows copied real → Shows (view_by copied change) (view_by real change) }
     ensures itself { (view : View) → Shows view view }
-    ensures through { (shown middle real : View) → Shows shown middle → Shows middle real → Shows shown real }
+    ensures through { (copied middle real : View) → Shows copied middle → Shows middle real → Shows copied real }
 {}
 
 /// In views that show the same, each inode has the same path, the same presence, and the same owner, group and mode; and a
 /// question has the same answer.
 pub fn views_alike_answer_alike()
-    ensures paths { (shown real : Nodes) (ino : ℕ) → IsLike shown real → path_of shown.nodes ino ≡ path_of real.nodes ino }
-    ensures presences { (shown real : Nodes) (ino : ℕ) → IsLike shown real → presence shown.nodes ino ≡ presence real.nodes ino }
-    ensures attrs { (shown real : Nodes) (ino : ℕ) → IsLike shown real → attr_of shown.nodes ino ≡ attr_of real.nodes ino }
-    ensures answers { (fs : List ℕ) (shown real : View) (asked : Question) (answer : Result Verdict Unknown) → Shows shown real
-        → IsAnswer fs shown asked answer → IsAnswer fs real asked answer }
+    ensures paths { (copied real : Nodes) (ino : ℕ) → IsLike copied real → path_of copied.nodes ino ≡ path_of real.nodes ino }
+    ensures presences { (copied real : Nodes) (ino : ℕ) → IsLike copied real → presence copied.nodes ino ≡ presence real.nodes ino }
+    ensures attrs { (copied real : Nodes) (ino : ℕ) → IsLike copied real → attr_of copied.nodes ino ≡ attr_of real.nodes ino }
+    ensures answers { (fs : List ℕ) (copied real : View) (asked : Question) (answer : Result Verdict Unknown) → Shows copied real
+        → IsAnswer fs copied asked answer → IsAnswer fs real asked answer }
 {}
 
 /// No changes lead from a view to itself; one more leads on to the view after it; and they lead to all that shows the same.
-pub fn changes_are_told_one_after_another()
+pub fn changes_are_followed_one_after_another()
     ensures none { (view : View) → AreChanges [] view view }
     ensures more { (changes : List ViewChange) (old new : View) (change : ViewChange) → AreChanges changes old new
         → AreChanges (changes ++ change ∷ []) old (view_by new change) }
@@ -47,7 +47,7 @@ pub fn changes_are_told_one_after_another()
 
 /// A change of an inode or of a session of which readers see nothing leaves the view one that shows the same. And whatever
 /// sets the owner, the group or the mode of an inode is told by what they are then.
-pub fn what_no_reader_sees_leaves_views_alike()
+pub fn what_no_reader_sees_keeps_views_alike()
     ensures inodes { (tree : Nodes) (f : Node → Node) (ino : ℕ) → ((node : Node) → visible_of (f node) ≡ visible_of node)
         → IsLike tree (changed f tree ino) }
     ensures sessions { (sessions : SessionMap) (f : Session → Session) (client : ℕ)

@@ -13,7 +13,7 @@ mod view;
 pub use answer::{Question, Unknown};
 pub use change::ViewChange;
 pub use laws::{
-    changes_are_told_one_after_another, views_alike_answer_alike, views_alike_stay_alike,
-    what_no_reader_sees_leaves_views_alike,
+    changes_are_followed_one_after_another, views_alike_answer_alike, views_alike_stay_alike,
+    what_no_reader_sees_keeps_views_alike,
 };
 pub use view::View;

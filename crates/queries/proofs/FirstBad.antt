@@ -32,9 +32,9 @@ first_bad v option before after good bad = record {
 }
 
 -- an error that is handed on as it is
-pub handed_on : {T : Type 0} (r : Result T QuestionFault) (fault named : QuestionFault) → IsErrAnd r (λ told. told ≡ fault) → fault ≡ named → r ≡ Err named
-handed_on (Ok done) fault named told is = absurd told
-handed_on (Err same) fault named told is = rw (told, is) refl
+pub handed_on : {T : Type 0} (r : Result T QuestionFault) (fault named : QuestionFault) → IsErrAnd r (λ reported. reported ≡ fault) → fault ≡ named → r ≡ Err named
+handed_on (Ok done) fault named reported is = absurd reported
+handed_on (Err same) fault named reported is = rw (reported, is) refl
 
 -- the error that names it, among the options that are read together
 pub names_one : {T : Type 0} (v : Values) (options : List Opt) (option : Opt) (r : Result T QuestionFault) → option ≢ Grants → IsFirstBad v options option → r ≡ Err (BadValue option) → IfErr r (IsBadAmong v options)

@@ -23,7 +23,7 @@ use Rattle.queries.specs.Checks.{CheckTexts, InodeTexts, behind_space, check_of,
 use Rattle.queries.specs.declared.mask.Mask.{Mask}
 use Rattle.capgrant.specs.Masks.{asked_if}
 use Rattle.queries.specs.Masks.{IsMaskOf, accesses_of}
-use Rattle.queries.specs.Told.{passed_if, passed_in, with_access}
+use Rattle.queries.specs.Reported.{passed_if, passed_in, with_access}
 
 -- ---- the lines of a log
 

@@ -38,17 +38,17 @@ use Rattle.queries.specs.Question.{AsksFor, IsFaultIn, verdict_on}
 use Rattle.queries.specs.Remarks.{asked_of, full_text}
 use Rattle.script_syntax.specs.Lines.{lines, longest_script}
 use Rattle.queries.specs.Checks.{CheckTexts, check_of, check_text}
-use Rattle.queries.specs.Items.{HasLines, IsTellable, SameOfLine, SameTold, Told, lines_of, told_in, told_lines}
-use Rattle.queries.specs.Items.Told.{answered, bad, formless, refused, unknown}
+use Rattle.queries.specs.Items.{HasLines, IsTellable, Reported, SameOfLine, SameReported, lines_of, reported_in, reported_lines}
+use Rattle.queries.specs.Items.Reported.{answered, bad, formless, refused, unknown}
 use Rattle.queries.specs.Masks.{accesses_of}
-use Rattle.queries.specs.Told.{AreTold, AreValues, IsAnswered, IsFaulty, IsToldOf, Says, SaysFault, SaysIf, SaysOf, answer_lines, passed_in, passed_line}
-use Rattle.queries.specs.Told.{with_access}
+use Rattle.queries.specs.Reported.{AreReported, AreValues, IsAnswered, IsFaulty, IsReportOf, Says, SaysFault, SaysIf, SaysOf, answer_lines, passed_in, passed_line}
+use Rattle.queries.specs.Reported.{with_access}
 use Rattle.queries.proofs.Fitting.{AreShort, HasFew, all_asked, few_lines, few_passed_in, fits, more_than, near_fault, short_check, short_grants, short_lines}
 
 -- ---- how the lines begin
 
 -- behind the number
-abbrev said : Told → List ℕ
+abbrev said : Reported → List ℕ
 said (answered q) = full_text q
 said formless = codes "a check that is not as Ceph 16 writes it\n"
 said (unknown mask) = codes "unknown mask " ++ (quoted mask ++ codes "\n")
@@ -61,7 +61,7 @@ behind_number number more = decimal number ++ 58 ∷ 32 ∷ more
 bare_number : (number : ℕ) → number < 2 ^ 64 → quoted (decimal number) ≡ decimal number
 bare_number number small = let plain = plain_number number small in rw plain refl
 
-laid_out : (number : ℕ) (told : Told) (s : List ℕ) → number < 2 ^ 64 → lines_of number told ++ s ≡ behind_number number (said told ++ s)
+laid_out : (number : ℕ) (reported : Reported) (s : List ℕ) → number < 2 ^ 64 → lines_of number reported ++ s ≡ behind_number number (said reported ++ s)
 laid_out number (answered q) s small = append_assoc (decimal number) (codes ": " ++ full_text q) s
 laid_out number formless s small = append_assoc (decimal number) (codes ": " ++ said formless) s
 laid_out number (unknown mask) s small = append_assoc (decimal number) (codes ": " ++ said (unknown mask)) s
@@ -76,16 +76,16 @@ low_number =
     (λ n ds large all s. let is : (ds ++ (48 + n % 10) ∷ []) ++ s ≡ ds ++ ((48 + n % 10) ∷ s) = append_assoc ds ((48 + n % 10) ∷ []) s in omega (arith, ap first_byte is, all ((48 + n % 10) ∷ s)))
 
 -- nothing that is told, and no count at the end, begins as what is said beside an answer
-others : (xs : List (ℕ × Told)) (passed : ℕ) → All HasLines xs → IsOther (told_in xs passed)
-others [] passed told = omega arith
-others (x ∷ xs) passed told =
-    let here = All-head HasLines x xs told in
-    let is : told_in (x ∷ xs) passed ≡ behind_number x.0 (said x.1 ++ told_in xs passed) = append_assoc (told_lines x) (flat_map told_lines xs) (passed_line passed) ∙ laid_out x.0 x.1 (told_in xs passed) here.0 in
-    omega (arith, ap first_byte is, low_number x.0 here.0 (58 ∷ 32 ∷ (said x.1 ++ told_in xs passed)))
+others : (xs : List (ℕ × Reported)) (passed : ℕ) → All HasLines xs → IsOther (reported_in xs passed)
+others [] passed reported = omega arith
+others (x ∷ xs) passed reported =
+    let here = All-head HasLines x xs reported in
+    let is : reported_in (x ∷ xs) passed ≡ behind_number x.0 (said x.1 ++ reported_in xs passed) = append_assoc (reported_lines x) (flat_map reported_lines xs) (passed_line passed) ∙ laid_out x.0 x.1 (reported_in xs passed) here.0 in
+    omega (arith, ap first_byte is, low_number x.0 here.0 (58 ∷ 32 ∷ (said x.1 ++ reported_in xs passed)))
 
 -- ---- the kinds of things
 
-abbrev tag : Told → ℕ
+abbrev tag : Reported → ℕ
 tag (answered q) = 0
 tag formless = 1
 tag (unknown mask) = 2
@@ -101,7 +101,7 @@ of_answer : (q : Asked) (v : Verdict) (left : Option ℕ) (other : Option Otherw
 of_answer q (Allowed grant) left other s = refl
 of_answer q (Denied rules) left other s = refl
 
-has_tag : (told : Told) (s : List ℕ) → tag_at (said told ++ s) ≡ tag told
+has_tag : (reported : Reported) (s : List ℕ) → tag_at (said reported ++ s) ≡ tag reported
 has_tag (answered q) s = of_answer (asked_of q) (verdict_on q) (left_to_client (asked_of q) q.grants) (answered_otherwise (asked_of q) q.grants) s
 has_tag formless s = refl
 has_tag (unknown mask) s = refl
@@ -150,7 +150,7 @@ one_option o p s t same =
     (sym (append_assoc (option_name o) (codes "\n") s) ∙ append_cancel_left (codes "bad value of --") _ _ same ∙ append_assoc (option_name p) (codes "\n") t) in
     (sym (has_name o).0 ∙ ap option_of both.0 ∙ (has_name p).0, both.1)
 
-one_said : (x y : Told) (s t : List ℕ) → IsTellable x → IsTellable y → IsOther s → IsOther t → said x ++ s ≡ said y ++ t → SameTold x y × (s ≡ t)
+one_said : (x y : Reported) (s t : List ℕ) → IsTellable x → IsTellable y → IsOther s → IsOther t → said x ++ s ≡ said y ++ t → SameReported x y × (s ≡ t)
 one_said (answered q) (answered r) s t p o low too same =
     one_remark_to (asked_of q) (asked_of r) (verdict_on q) (verdict_on r) (left_to_client (asked_of q) q.grants) (left_to_client (asked_of r) r.grants) (answered_otherwise (asked_of q) q.grants) (answered_otherwise (asked_of r) r.grants) s t
     (is_remarked (asked_of q) q.grants p) (is_remarked (asked_of r) r.grants o) low too same
@@ -161,11 +161,11 @@ one_said (refused fault) (refused other) s t p o low too same = one_fault fault 
 one_said (bad option) (bad other) s t p o low too same = one_option option other s t same
 one_said x y s t p o low too same = absurd (let e : tag x ≡ tag y = sym (has_tag x s) ∙ ap tag_at same ∙ has_tag y t in omega (arith, e))
 
-one_thing : (x y : ℕ × Told) (s t : List ℕ) → HasLines x → HasLines y → IsOther s → IsOther t → told_lines x ++ s ≡ told_lines y ++ t → SameOfLine x y × (s ≡ t)
+one_thing : (x y : ℕ × Reported) (s t : List ℕ) → HasLines x → HasLines y → IsOther s → IsOther t → reported_lines x ++ s ≡ reported_lines y ++ t → SameOfLine x y × (s ≡ t)
 one_thing x y s t p o low too same =
     let number = number_and 58 32 x.0 y.0 (said x.1 ++ s) (said y.1 ++ t) refl refl p.0 o.0 (sym (laid_out x.0 x.1 s p.0) ∙ same ∙ laid_out y.0 y.1 t o.0) in
-    let told = one_said x.1 y.1 s t p.1 o.1 low too number.1 in
-    ((number.0, told.0), told.1)
+    let reported = one_said x.1 y.1 s t p.1 o.1 low too number.1 in
+    ((number.0, reported.0), reported.1)
 
 -- ---- whole logs
 
@@ -173,41 +173,41 @@ one_count : (m n : ℕ) → m < 2 ^ 64 → n < 2 ^ 64 → passed_line m ≡ pass
 one_count m n small also same = (number_to 10 m n [] [] refl small also (append_cancel_left (codes "lines that are no check of policy: ") (decimal m ++ codes "\n") (decimal n ++ codes "\n") same)).0
 
 -- the count begins as no number does
-no_thing : {A : Type 0} (y : ℕ × Told) (m : ℕ) (rest : List ℕ) → HasLines y → passed_line m ≡ told_lines y ++ rest → A
-no_thing y m rest told same =
-    absurd (omega (arith, ap first_byte (same ∙ laid_out y.0 y.1 rest told.0), low_number y.0 told.0 (58 ∷ 32 ∷ (said y.1 ++ rest))))
+no_thing : {A : Type 0} (y : ℕ × Reported) (m : ℕ) (rest : List ℕ) → HasLines y → passed_line m ≡ reported_lines y ++ rest → A
+no_thing y m rest reported same =
+    absurd (omega (arith, ap first_byte (same ∙ laid_out y.0 y.1 rest reported.0), low_number y.0 reported.0 (58 ∷ 32 ∷ (said y.1 ++ rest))))
 
-pub one_log : (xs ys : List (ℕ × Told)) (m n : ℕ) → All HasLines xs → All HasLines ys → m < 2 ^ 64 → n < 2 ^ 64 → told_in xs m ≡ told_in ys n → AllZip SameOfLine xs ys × (m ≡ n)
+pub one_log : (xs ys : List (ℕ × Reported)) (m n : ℕ) → All HasLines xs → All HasLines ys → m < 2 ^ 64 → n < 2 ^ 64 → reported_in xs m ≡ reported_in ys n → AllZip SameOfLine xs ys × (m ≡ n)
 one_log [] [] m n p o small also same = (tt, one_count m n small also same)
-one_log [] (y ∷ ys) m n p o small also same = no_thing y m (told_in ys n) (All-head HasLines y ys o) (same ∙ append_assoc (told_lines y) (flat_map told_lines ys) (passed_line n))
-one_log (x ∷ xs) [] m n p o small also same = no_thing x n (told_in xs m) (All-head HasLines x xs p) (sym same ∙ append_assoc (told_lines x) (flat_map told_lines xs) (passed_line m))
+one_log [] (y ∷ ys) m n p o small also same = no_thing y m (reported_in ys n) (All-head HasLines y ys o) (same ∙ append_assoc (reported_lines y) (flat_map reported_lines ys) (passed_line n))
+one_log (x ∷ xs) [] m n p o small also same = no_thing x n (reported_in xs m) (All-head HasLines x xs p) (sym same ∙ append_assoc (reported_lines x) (flat_map reported_lines xs) (passed_line m))
 one_log (x ∷ xs) (y ∷ ys) m n p o small also same =
     let first = All-tail HasLines x xs p in
     let other = All-tail HasLines y ys o in
-    let both = one_thing x y (told_in xs m) (told_in ys n) (All-head HasLines x xs p) (All-head HasLines y ys o) (others xs m first) (others ys n other)
-    (sym (append_assoc (told_lines x) (flat_map told_lines xs) (passed_line m)) ∙ same ∙ append_assoc (told_lines y) (flat_map told_lines ys) (passed_line n)) in
+    let both = one_thing x y (reported_in xs m) (reported_in ys n) (All-head HasLines x xs p) (All-head HasLines y ys o) (others xs m first) (others ys n other)
+    (sym (append_assoc (reported_lines x) (flat_map reported_lines xs) (passed_line m)) ∙ same ∙ append_assoc (reported_lines y) (flat_map reported_lines ys) (passed_line n)) in
     let more = one_log xs ys m n first other small also both.1 in
     ((both.0, more.0), more.1)
 
 -- ---- what is told of a log
 
 abbrev AreLines : List ℕ → Type 0
-AreLines text = (xs : List (ℕ × Told)) × All HasLines xs × (text ≡ flat_map told_lines xs)
+AreLines text = (xs : List (ℕ × Reported)) × All HasLines xs × (text ≡ flat_map reported_lines xs)
 
 module _ (number : ℕ) (small : number < 2 ^ 64) where
   none : (text : List ℕ) → text ≡ [] → AreLines text
   none text is = ([], All-nil HasLines, is)
 
-  one : (told : Told) (text : List ℕ) → IsTellable told → text ≡ lines_of number told → AreLines text
-  one told text fits is = ((number, told) ∷ [], All-cons HasLines (number, told) [] (small, fits) (All-nil HasLines), is ∙ sym (append-nil (lines_of number told)))
+  one : (reported : Reported) (text : List ℕ) → IsTellable reported → text ≡ lines_of number reported → AreLines text
+  one reported text fits is = ((number, reported) ∷ [], All-cons HasLines (number, reported) [] (small, fits) (All-nil HasLines), is ∙ sym (append-nil (lines_of number reported)))
 
   of_accesses : (v : Values) (q : Question) → AsksFor v q → (accesses : List Access) → All HasNumber accesses → AreLines (flat_map (answer_lines number q) accesses)
   of_accesses v q asks [] numbers = none [] refl
   of_accesses v q asks (access ∷ accesses) numbers =
-      let told : Told = answered (with_access q access) in
+      let reported : Reported = answered (with_access q access) in
       let more = of_accesses v q asks accesses (All-tail HasNumber access accesses numbers) in (
-        (number, told) ∷ more.0,
-        All-cons HasLines (number, told) more.0 (small, fits v q access asks (All-head HasNumber access accesses numbers)) more.1,
+        (number, reported) ∷ more.0,
+        All-cons HasLines (number, reported) more.0 (small, fits v q access asks (All-head HasNumber access accesses numbers)) more.1,
         ap (λ (r : List ℕ). answer_lines number q access ++ r) more.2,
       )
 
@@ -218,8 +218,8 @@ module _ (number : ℕ) (small : number < 2 ^ 64) where
 
   of_values : (fs : List ℕ) (check : CheckTexts) (v : Values) (text : List ℕ) → length check.grants < 2 ^ 64 → AreValues fs check v → IsAnswered number check v text ⊎ IsFaulty number v text → AreLines text
   of_values fs check v text short values (inl says) =
-      let told = of_accesses v says.question says.asks (accesses_of says.mask) (all_asked check says.mask says.is_mask) in
-      (told.0, told.1, says.more_is ∙ told.2)
+      let reported = of_accesses v says.question says.asks (accesses_of says.mask) (all_asked check says.mask says.is_mask) in
+      (reported.0, reported.1, says.more_is ∙ reported.2)
   of_values fs check v text short values (inr says) = of_fault check v says.fault text values.grants short says.first says.says
 
   of_check : (fs : List ℕ) (check : CheckTexts) (text : List ℕ) → length check.grants < 2 ^ 64 → Says fs number check text → AreLines text
@@ -242,14 +242,14 @@ of_line : (fs : List ℕ) (number most : ℕ) (behind : Option (List ℕ)) (text
 of_line fs number most None text small short few says = none number small text says
 of_line fs number most (Some behind) text small short few says = of_form number small fs (check_of behind) text (short_check_of most behind few short) says
 
-of_lines : (fs : List ℕ) (number most : ℕ) (log : List (List ℕ)) (text : List ℕ) → number + length log < 2 ^ 64 → most < 2 ^ 63 → AreShort most log → AreTold fs number log text → AreLines text
-of_lines fs number most [] text small short few told = ([], All-nil HasLines, told)
-of_lines fs number most (line ∷ log) text small short few told =
-    let first = of_line fs number most (check_text line) told.0 (omega (arith, small)) short (more_than (length line) most (check_text line) few.0 (short_check line)) told.2 in
-    let more = of_lines fs (number + 1) most log told.1 (omega (arith, small)) short few.1 told.3 in
-    (first.0 ++ more.0, All-append HasLines first.0 more.0 first.1 more.1, told.4 ∙ ap (λ (r : List ℕ). r ++ told.1) first.2 ∙ ap (λ (r : List ℕ). flat_map told_lines first.0 ++ r) more.2 ∙ sym (flat_map-append told_lines first.0 more.0))
+of_lines : (fs : List ℕ) (number most : ℕ) (log : List (List ℕ)) (text : List ℕ) → number + length log < 2 ^ 64 → most < 2 ^ 63 → AreShort most log → AreReported fs number log text → AreLines text
+of_lines fs number most [] text small short few reported = ([], All-nil HasLines, reported)
+of_lines fs number most (line ∷ log) text small short few reported =
+    let first = of_line fs number most (check_text line) reported.0 (omega (arith, small)) short (more_than (length line) most (check_text line) few.0 (short_check line)) reported.2 in
+    let more = of_lines fs (number + 1) most log reported.1 (omega (arith, small)) short few.1 reported.3 in
+    (first.0 ++ more.0, All-append HasLines first.0 more.0 first.1 more.1, reported.4 ∙ ap (λ (r : List ℕ). r ++ reported.1) first.2 ∙ ap (λ (r : List ℕ). flat_map reported_lines first.0 ++ r) more.2 ∙ sym (flat_map-append reported_lines first.0 more.0))
 
-pub each_has_its_lines : (fs log told : List ℕ) → length log ≤ longest_script → IsToldOf fs log told → (xs : List (ℕ × Told)) × All HasLines xs × (passed_in (lines log) < 2 ^ 64) × (told ≡ told_in xs (passed_in (lines log)))
-each_has_its_lines fs log told short says =
+pub each_has_its_lines : (fs log reported : List ℕ) → length log ≤ longest_script → IsReportOf fs log reported → (xs : List (ℕ × Reported)) × All HasLines xs × (passed_in (lines log) < 2 ^ 64) × (reported ≡ reported_in xs (passed_in (lines log)))
+each_has_its_lines fs log reported short says =
     let front = of_lines fs 1 (length log) (lines log) says.0 (omega (arith, short, few_lines log)) (omega (arith, short)) (short_lines log) says.1 in
     (front.0, front.1, omega (arith, short, few_lines log, few_passed_in (lines log)), says.2 ∙ ap (λ (r : List ℕ). r ++ passed_line (passed_in (lines log))) front.2)

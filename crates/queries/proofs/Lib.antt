@@ -3,7 +3,7 @@ pub mod FirstBad
 pub mod Spelling
 pub mod TextFault
 pub mod ClientLines
-pub mod ClientsTold
+pub mod ClientsReported
 pub mod Looked
 pub mod Linted
 pub mod Cuts

@@ -3,7 +3,7 @@ use Rattle.std.proofs.Common.{◌≡◌, ℕ, suc, ◌+◌, ◌<◌, ◌≤◌, 
 use Rattle.std.proofs.lemmas.List.{append-nil, drop_all, drop_more}
 use Rattle.capspec.specs.declared.grant.Grant.{Grant}
 use Rattle.policy_analysis.specs.declared.unread.Unread.{Unread}
-use Rattle.policy_analysis.specs.Ceph16Syntax.{AreTold, Standing, why_each}
+use Rattle.policy_analysis.specs.Ceph16Syntax.{AreReported, GrantText, why_each}
 use Rattle.policy_analysis.specs.declared.finding.Finding.{Finding}
 use Rattle.capexplain.specs.declared.shape.Shape.{Shape}
 use Rattle.queries.specs.Linting.{found_of, lint_in}
@@ -23,16 +23,16 @@ one_more shape findings unread i f default text after inside same is before now 
     ∙ ap (λ (t : List ℕ). text ++ t) (sym (ap (λ (fs : List Finding). lint_in shape fs (drop i unread)) here ∙ ap (lint_in shape (f ∷ drop (i + 1) findings)) there))
     ∙ before
 
-pub all_told : (shape : Shape) (findings : List Finding) (unread : List (Option Unread)) (i : ℕ) (text : List ℕ) → length findings ≤ i → IsSoFar shape findings unread i text → text ≡ lint_in shape findings unread
-all_told shape findings unread i text end before =
+pub all_reported : (shape : Shape) (findings : List Finding) (unread : List (Option Unread)) (i : ℕ) (text : List ℕ) → length findings ≤ i → IsSoFar shape findings unread i text → text ≡ lint_in shape findings unread
+all_reported shape findings unread i text end before =
     sym (append-nil text) ∙ ap (λ (fs : List Finding). text ++ lint_in shape fs (drop i unread)) (sym (drop_all i findings end)) ∙ before
 
 -- ---- as many as there are grants
 
-each_one : (around : List ℕ) (standings : List Standing) → length (why_each around standings) ≡ length (map (λ s. s.grant) standings)
+each_one : (around : List ℕ) (texts_of_grants : List GrantText) → length (why_each around texts_of_grants) ≡ length (map (λ s. s.grant) texts_of_grants)
 each_one around [] = refl
 each_one around (s ∷ []) = refl
 each_one around (s ∷ t ∷ more) = ap (λ (n : ℕ). suc n) (each_one (s.after ++ t.before) (t ∷ more))
 
-pub one_each : (text : List ℕ) (grants : List Grant) (unread : List (Option Unread)) → AreTold text grants unread → length unread ≡ length grants
-one_each text grants unread told = ap length told.told_are ∙ each_one [] told.standings ∙ ap length told.of_grants
+pub one_each : (text : List ℕ) (grants : List Grant) (unread : List (Option Unread)) → AreReported text grants unread → length unread ≡ length grants
+one_each text grants unread reported = ap length reported.reported_are ∙ each_one [] reported.texts_of_grants ∙ ap length reported.of_grants

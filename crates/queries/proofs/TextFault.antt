@@ -6,7 +6,7 @@ use Rattle.capspec.specs.declared.fault.SpecFaultKind.TheVariants as kinds
 use Rattle.capspec.specs.declared.grant.Grant.{Grant}
 use Rattle.capspec.specs.Faults.{IsFault, IsNoMemory}
 use Rattle.capspec.specs.Grants.{Reads}
-use Rattle.capspec.proofs.Told.{fault_told}
+use Rattle.capspec.proofs.Reported.{fault_told}
 use Rattle.queries.specs.declared.fault.QuestionFault.{QuestionFault}
 use Rattle.queries.specs.declared.fault.QuestionFault.TheVariants.{BadValue, Grants, NoMemory}
 use Rattle.queries.specs.Fault.{IsFaultOf, IsFaultOfText}

@@ -4,7 +4,7 @@ use Rattle.std.specs.Fmt.{decimal}
 use Rattle.std.specs.List.{AllZip, flat_map}
 use Rattle.capspec.specs.declared.fault.SpecFault.{SpecFault}
 use Rattle.capexplain.specs.Explaining.{path_text}
-use Rattle.capexplain.specs.Remarked.{HasNumbers, LeaveAlike}
+use Rattle.capexplain.specs.Remarked.{AreLeftAlike, HasNumbers}
 use Rattle.capexplain.specs.Standing.{unread_line}
 use Rattle.policy_analysis.specs.Left.{left_to_client}
 use Rattle.policy_analysis.specs.Differences.{answered_otherwise}
@@ -14,67 +14,67 @@ use Rattle.queries.specs.Options.{option_name}
 use Rattle.queries.specs.Question.{verdict_on}
 use Rattle.queries.specs.Remarks.{asked_of}
 use Rattle.script_syntax.specs.Lines.{lines, longest_script}
-use Rattle.queries.specs.Told.{IsToldOf, answer_lines, formless_line, passed_in, passed_line, unknown_line}
+use Rattle.queries.specs.Reported.{IsReportOf, answer_lines, formless_line, passed_in, passed_line, unknown_line}
 
 -- the answer to a question of a check; that it has another form; an unknown mask; what is wrong with its grants, or with another part
-pub data Told : Type 0 where
-  answered : Question → Told
-  formless : Told
-  unknown : List ℕ → Told
-  refused : SpecFault → Told
-  bad : Opt → Told
+pub data Reported : Type 0 where
+  answered : Question → Reported
+  formless : Reported
+  unknown : List ℕ → Reported
+  refused : SpecFault → Reported
+  bad : Opt → Reported
 
 -- its lines, behind the number
-abbrev pub lines_of : ℕ → Told → List ℕ
+abbrev pub lines_of : ℕ → Reported → List ℕ
 lines_of number (answered q) = answer_lines number q q.access
 lines_of number formless = formless_line number
 lines_of number (unknown mask) = unknown_line number mask
 lines_of number (refused fault) = unread_line (decimal number) fault
 lines_of number (bad option) = decimal number ++ (codes ": bad value of --" ++ (option_name option ++ codes "\n"))
 
-abbrev pub told_lines : ℕ × Told → List ℕ
-told_lines told = lines_of told.0 told.1
+abbrev pub reported_lines : ℕ × Reported → List ℕ
+reported_lines reported = lines_of reported.0 reported.1
 
 -- a whole log: these things, and how many lines were passed over
-abbrev pub told_in : List (ℕ × Told) → ℕ → List ℕ
-told_in all passed = flat_map told_lines all ++ passed_line passed
+abbrev pub reported_in : List (ℕ × Reported) → ℕ → List ℕ
+reported_in all passed = flat_map reported_lines all ++ passed_line passed
 
 -- ---- one thing for its lines
 
 -- its numbers fit
-abbrev pub IsTellable : Told → Type 0
+abbrev pub IsTellable : Reported → Type 0
 IsTellable (answered q) = HasNumbers (asked_of q) q.grants
 IsTellable (refused fault) = fault.at < 2 ^ 64
-IsTellable told = Unit {0}
+IsTellable reported = Unit {0}
 
-abbrev pub HasLines : ℕ × Told → Type 0
-HasLines told = (told.0 < 2 ^ 64) × IsTellable told.1
+abbrev pub HasLines : ℕ × Reported → Type 0
+HasLines reported = (reported.0 < 2 ^ 64) × IsTellable reported.1
 
 -- the same access is asked for at the same path, and the same is said to that and beside it
 abbrev pub AnswerAlike : Question → Question → Type 0
 AnswerAlike q r =
     (q.access ≡ r.access) × (path_text q.path ≡ path_text r.path) × (verdict_on q ≡ verdict_on r)
-    × LeaveAlike q.attr (left_to_client (asked_of q) q.grants) r.attr (left_to_client (asked_of r) r.grants)
+    × AreLeftAlike q.attr (left_to_client (asked_of q) q.grants) r.attr (left_to_client (asked_of r) r.grants)
     × (answered_otherwise (asked_of q) q.grants ≡ answered_otherwise (asked_of r) r.grants)
 
-abbrev pub SameTold : Told → Told → Type 0
-SameTold (answered q) (answered r) = AnswerAlike q r
-SameTold formless formless = Unit {0}
-SameTold (unknown mask) (unknown other) = mask ≡ other
-SameTold (refused fault) (refused other) = fault ≡ other
-SameTold (bad option) (bad other) = option ≡ other
-SameTold told other = ⊥
+abbrev pub SameReported : Reported → Reported → Type 0
+SameReported (answered q) (answered r) = AnswerAlike q r
+SameReported formless formless = Unit {0}
+SameReported (unknown mask) (unknown other) = mask ≡ other
+SameReported (refused fault) (refused other) = fault ≡ other
+SameReported (bad option) (bad other) = option ≡ other
+SameReported reported other = ⊥
 
 -- and of the same line
-abbrev pub SameOfLine : ℕ × Told → ℕ × Told → Type 0
-SameOfLine x y = (x.0 ≡ y.0) × SameTold x.1 y.1
+abbrev pub SameOfLine : ℕ × Reported → ℕ × Reported → Type 0
+SameOfLine x y = (x.0 ≡ y.0) × SameReported x.1 y.1
 
 -- texts that are the same tell the same, one thing after the other, and as many lines that were passed over
 abbrev pub OneLog : Type 0
-OneLog = (xs ys : List (ℕ × Told)) (m n : ℕ) → All HasLines xs → All HasLines ys → m < 2 ^ 64 → n < 2 ^ 64
-    → told_in xs m ≡ told_in ys n → AllZip SameOfLine xs ys × (m ≡ n)
+OneLog = (xs ys : List (ℕ × Reported)) (m n : ℕ) → All HasLines xs → All HasLines ys → m < 2 ^ 64 → n < 2 ^ 64
+    → reported_in xs m ≡ reported_in ys n → AllZip SameOfLine xs ys × (m ≡ n)
 
 -- what is told of a log that is not too long is such things
 abbrev pub EachHasItsLines : Type 0
-EachHasItsLines = (fs log told : List ℕ) → length log ≤ longest_script → IsToldOf fs log told
-    → (xs : List (ℕ × Told)) × All HasLines xs × (passed_in (lines log) < 2 ^ 64) × (told ≡ told_in xs (passed_in (lines log)))
+EachHasItsLines = (fs log reported : List ℕ) → length log ≤ longest_script → IsReportOf fs log reported
+    → (xs : List (ℕ × Reported)) × All HasLines xs × (passed_in (lines log) < 2 ^ 64) × (reported ≡ reported_in xs (passed_in (lines log)))

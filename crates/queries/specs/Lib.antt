@@ -7,8 +7,8 @@ pub mod Comparing
 pub mod Linting
 pub mod Attempts
 pub mod Clients
-pub mod ClientsTold
+pub mod ClientsReported
 pub mod Checks
 pub mod Masks
-pub mod Told
+pub mod Reported
 pub mod Items

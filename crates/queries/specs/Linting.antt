@@ -4,7 +4,7 @@ use Rattle.std.specs.List.{AllZip}
 use Rattle.capspec.specs.declared.grant.Grant.{Grant}
 use Rattle.capspec.specs.Grants.{Reads}
 use Rattle.policy_analysis.specs.declared.unread.Unread.{Unread}
-use Rattle.policy_analysis.specs.Ceph16Syntax.{AreTold}
+use Rattle.policy_analysis.specs.Ceph16Syntax.{AreReported}
 use Rattle.policy_analysis.specs.declared.finding.Finding.{Finding}
 use Rattle.policy_analysis.specs.Findings.{AreFindings}
 use Rattle.capexplain.specs.Found.{Found, HasLine, SameOfGrant, all_found}
@@ -36,7 +36,7 @@ pub record IsLintOf (shape : Shape) (text lines : List ℕ) : Type 0 where
   pub unread : List (Option Unread)
   pub means : Reads text grants
   pub found : AreFindings grants findings
-  pub told : AreTold text grants unread
+  pub reported : AreReported text grants unread
   pub lines_are : lines ≡ lint_in shape findings unread
 
 -- ---- one list of findings for a text

@@ -1,6 +1,6 @@
 //! Laws of texts. No program needs to call them.
 
-ghost use Rattle.queries.specs.ClientsTold.{EachHasItsLines, OneText};
+ghost use Rattle.queries.specs.ClientsReported.{EachHasItsLines, OneText};
 ghost use Rattle.queries.specs.Linting.{OneLint, SaysSomething};
 
 /// Where other things are found in two texts of grants, other lines are printed of them, or other objects; and never the line that says
@@ -13,7 +13,7 @@ pub fn one_text_for_what_is_found()
 /// What `who` prints of clients, if not objects, is one line after the other, each of a client: what is said to what is asked, what is
 /// wrong with its grants, or where the MDS of Ceph 16 answers otherwise. Where other things are said, or of other clients, other lines
 /// are printed; so no name can forge an answer.
-pub fn one_text_for_what_is_said()
+pub fn one_text_for_an_answer()
     ensures things { EachHasItsLines }
-    ensures said { OneText }
+    ensures one_text { OneText }
 {}

@@ -3,7 +3,7 @@ ghost use Rattle.std.specs.Prelude.{◌≡◌, ◌++◌, ◌≤◌, ℕ, List, l
 ghost use Rattle.std.specs.List.{flat_map};
 ghost use Rattle.script_syntax.specs.Lines.{longest_script};
 ghost use Rattle.queries.specs.Checks.{texts_of};
-ghost use Rattle.queries.specs.Told.{IsTold, IsToldOf, Says, SaysFault, answer_lines, passed_line, passed_over, unknown_line};
+ghost use Rattle.queries.specs.Reported.{IsReportOf, IsReported, Says, SaysFault, answer_lines, passed_line, passed_over, unknown_line};
 
 use crate::check::{Check, check_text, read_check};
 use crate::fault::QuestionFault;
@@ -21,35 +21,35 @@ use std::alloc::{AllocError, Global};
 /// line counts those that are no checks. Only memory can be missing.
 pub fn log_lines(alloc: Global, fs: &[u8], log: &[u8]) -> Result<Vec<u8>, AllocError>
     requires short { length log.now ≤ longest_script }
-    ensures { IfOk result (λ told. IsToldOf fs.now log.now told.items) }
+    ensures { IfOk result (λ reported. IsReportOf fs.now log.now reported.items) }
 {
-    let mut told = Vec::new(alloc);
+    let mut reported = Vec::new(alloc);
     let mut rest = log;
     let mut number = 1;
     let mut passed = 0;
     while let Some((line, behind)) = split_line(rest) {
-        passed += print_line(&mut told, number, fs, line)?;
+        passed += print_line(&mut reported, number, fs, line)?;
         rest = behind;
         number += 1;
     }
-    passed += print_line(&mut told, number, fs, rest)?;
-    print_passed(&mut told, passed)?;
-    Ok(told)
+    passed += print_line(&mut reported, number, fs, rest)?;
+    print_passed(&mut reported, passed)?;
+    Ok(reported)
 }
 
 // How many lines are no checks.
-fn print_passed(told: &mut Vec<u8>, passed: u64) -> Result<(), AllocError>
-    ensures { OnOk result (told.new.items ≡ told.old.items ++ passed_line passed) }
+fn print_passed(reported: &mut Vec<u8>, passed: u64) -> Result<(), AllocError>
+    ensures { OnOk result (reported.new.items ≡ reported.old.items ++ passed_line passed) }
 {
     print(
-        told,
+        reported,
         format_args!("lines that are no check of policy: {passed}\n"),
     )
 }
 
 // Appends what is told of a line, and answers 1 for one that is passed over, and else 0.
-fn print_line(told: &mut Vec<u8>, number: u64, fs: &[u8], line: &[u8]) -> Result<u64, AllocError>
-    ensures told { OnOk result ((more : List ℕ) × (told.new.items ≡ told.old.items ++ more) × IsTold fs.now number line.now more) }
+fn print_line(reported: &mut Vec<u8>, number: u64, fs: &[u8], line: &[u8]) -> Result<u64, AllocError>
+    ensures reported { OnOk result ((more : List ℕ) × (reported.new.items ≡ reported.old.items ++ more) × IsReported fs.now number line.now more) }
     ensures passed { IfOk result (λ passed. passed ≡ passed_over line.now) }
     ensures few { IfOk result (λ passed. passed ≤ 1) }
 {
@@ -57,9 +57,9 @@ fn print_line(told: &mut Vec<u8>, number: u64, fs: &[u8], line: &[u8]) -> Result
         return Ok(if line.is_empty() { 0 } else { 1 });
     };
     match read_check(text) {
-        Some(check) => print_check(told, number, fs, &check)?,
+        Some(check) => print_check(reported, number, fs, &check)?,
         None => print(
-            told,
+            reported,
             format_args!("{number}: a check that is not as Ceph 16 writes it\n"),
         )?,
     }
@@ -68,71 +68,71 @@ fn print_line(told: &mut Vec<u8>, number: u64, fs: &[u8], line: &[u8]) -> Result
 
 // Appends the answers to what a check asks, or why it can't be read.
 fn print_check(
-    told: &mut Vec<u8>,
+    reported: &mut Vec<u8>,
     number: u64,
     fs: &[u8],
     check: &Check<'_>,
 ) -> Result<(), AllocError>
-    ensures { OnOk result ((more : List ℕ) × (told.new.items ≡ told.old.items ++ more) × Says fs.now number (texts_of check.now) more) }
+    ensures { OnOk result ((more : List ℕ) × (reported.new.items ≡ reported.old.items ++ more) × Says fs.now number (texts_of check.now) more) }
 {
     let Some(mask) = read_mask(check) else {
-        return print_unknown(told, number, check.mask);
+        return print_unknown(reported, number, check.mask);
     };
-    let alloc = *told.allocator();
+    let alloc = *reported.allocator();
     let asked = accesses(alloc, mask)?;
     let mut values = no_values(alloc);
     fill(&mut values, fs, check)?;
     match Question::read(alloc, &values) {
-        Ok(question) => print_answers(told, number, question, asked.as_slice()),
-        Err(fault) => print_fault(told, number, fault),
+        Ok(question) => print_answers(reported, number, question, asked.as_slice()),
+        Err(fault) => print_fault(reported, number, fault),
     }
 }
 
 // A mask that asks for something else.
-fn print_unknown(told: &mut Vec<u8>, number: u64, mask: &[u8]) -> Result<(), AllocError>
-    ensures { OnOk result (told.new.items ≡ told.old.items ++ unknown_line number mask.now) }
+fn print_unknown(reported: &mut Vec<u8>, number: u64, mask: &[u8]) -> Result<(), AllocError>
+    ensures { OnOk result (reported.new.items ≡ reported.old.items ++ unknown_line number mask.now) }
 {
-    print(told, format_args!("{number}: unknown mask "))?;
-    print_quoted(told, mask)?;
-    Ok(told.push(b'\n')?)
+    print(reported, format_args!("{number}: unknown mask "))?;
+    print_quoted(reported, mask)?;
+    Ok(reported.push(b'\n')?)
 }
 
 // The answers to the question, by each of these accesses in the place of its own.
 fn print_answers(
-    told: &mut Vec<u8>,
+    reported: &mut Vec<u8>,
     number: u64,
     mut question: Question,
     accesses: &[Access],
 ) -> Result<(), AllocError>
-    ensures { OnOk result (told.new.items ≡ told.old.items ++ flat_map (answer_lines number question) accesses.now) }
+    ensures { OnOk result (reported.new.items ≡ reported.old.items ++ flat_map (answer_lines number question) accesses.now) }
 {
     for access in accesses {
         question.access = *access;
-        print_answer(told, number, &question)?;
+        print_answer(reported, number, &question)?;
     }
     Ok(())
 }
 
-fn print_answer(told: &mut Vec<u8>, number: u64, question: &Question) -> Result<(), AllocError>
-    ensures { OnOk result (told.new.items ≡ told.old.items ++ answer_lines number question.now question.now.access) }
+fn print_answer(reported: &mut Vec<u8>, number: u64, question: &Question) -> Result<(), AllocError>
+    ensures { OnOk result (reported.new.items ≡ reported.old.items ++ answer_lines number question.now question.now.access) }
 {
-    print(told, format_args!("{number}: "))?;
-    let lines = question.full_answer(*told.allocator())?;
-    told.extend_from_slice(lines.as_slice())
+    print(reported, format_args!("{number}: "))?;
+    let lines = question.full_answer(*reported.allocator())?;
+    reported.extend_from_slice(lines.as_slice())
 }
 
 // Why the values of a check ask nothing.
-fn print_fault(told: &mut Vec<u8>, number: u64, fault: QuestionFault) -> Result<(), AllocError>
-    ensures { OnOk result ((more : List ℕ) × (told.new.items ≡ told.old.items ++ more) × SaysFault number fault more) }
+fn print_fault(reported: &mut Vec<u8>, number: u64, fault: QuestionFault) -> Result<(), AllocError>
+    ensures { OnOk result ((more : List ℕ) × (reported.new.items ≡ reported.old.items ++ more) × SaysFault number fault more) }
 {
     match fault {
         QuestionFault::Grants(refused) => {
-            let mut digits = Vec::new(*told.allocator());
+            let mut digits = Vec::new(*reported.allocator());
             print_number(&mut digits, number)?;
-            print_unread(told, digits.as_slice(), &refused)
+            print_unread(reported, digits.as_slice(), &refused)
         }
         QuestionFault::BadValue(option) => {
-            print(told, format_args!("{number}: bad value of --{option}\n"))
+            print(reported, format_args!("{number}: bad value of --{option}\n"))
         }
         QuestionFault::NoMemory => Err(AllocError),
     }

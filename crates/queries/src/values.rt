@@ -1,7 +1,7 @@
 //! The values that a check has for a question.
 ghost use Rattle.std.specs.Prelude.{◌≡◌, None, OnOk};
 ghost use Rattle.queries.specs.Checks.{texts_of};
-ghost use Rattle.queries.specs.Told.{AreValues};
+ghost use Rattle.queries.specs.Reported.{AreValues};
 
 use crate::check::Check;
 use crate::question::Values;

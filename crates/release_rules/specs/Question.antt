@@ -18,14 +18,14 @@ pub record Question : Type 0 where
   pub address : Option Address
 
 -- the number stands before any greater one
-abbrev pub is_reached : ℕ → List ℕ → Bool
-is_reached n [] = false
-is_reached n (x ∷ xs) = if nat_lt n x then false else ((x == n) || is_reached n xs)
+abbrev pub is_in_groups : ℕ → List ℕ → Bool
+is_in_groups n [] = false
+is_in_groups n (x ∷ xs) = if nat_lt n x then false else ((x == n) || is_in_groups n xs)
 
 -- The group is one by which the caller acts under the grant: the grant lists it, and it is the caller's first, or one of the others. An MDS goes
 -- through these beside the listed ones, which it has sorted, and passes over one that comes behind a greater one.
 unfoldable pub is_own_group : Caller → Grant → ℕ → Bool
-is_own_group caller g gid = contains g.gids gid && ((caller.gid == gid) || is_reached gid caller.groups)
+is_own_group caller g gid = contains g.gids gid && ((caller.gid == gid) || is_in_groups gid caller.groups)
 
 -- the caller owns the inode
 abbrev pub is_owner : Question → Bool

@@ -178,12 +178,12 @@ pub(crate) fn network_at(text: &[u8]) -> Option<(&[u8], &[u8])>
 }
 
 /// What was found, in memory of its own, and what is left of the text.
-pub(crate) fn kept<'a>(
+pub(crate) fn owned<'a>(
     alloc: Global,
     found: Option<(&'a [u8], &'a [u8])>,
     text: &'a [u8],
 ) -> Result<(Option<Text>, &'a [u8]), AllocError>
-    ensures { IfOk result (λ kept. (kept.0, kept.1.now) ≡ or_none (option_map (λ found. (found.0.now, found.1.now)) found.entry) text.now) }
+    ensures { IfOk result (λ owned. (owned.0, owned.1.now) ≡ or_none (option_map (λ found. (found.0.now, found.1.now)) found.entry) text.now) }
 {
     match found {
         Some((value, rest)) => Ok((Some(Text::of(alloc, value)?), rest)),

@@ -3,7 +3,7 @@ ghost use Rattle.std.specs.Prelude.{◌≡◌};
 ghost use Rattle.std.specs.List.{list_any};
 ghost use Rattle.capbits.specs.Caller.{gids_of};
 ghost use Rattle.capgrant.specs.Question.{contains};
-ghost use Rattle.release_rules.specs.Question.{is_own_group, is_reached};
+ghost use Rattle.release_rules.specs.Question.{is_in_groups, is_own_group};
 ghost use Rattle.release_rules.specs.Failing.{is_for_other_fs, is_root, is_user, user_of};
 
 use crate::asked::Asked;
@@ -364,12 +364,12 @@ fn is_own_group(caller: &Caller, grant: &Grant, gid: u32) -> bool
     ensures { result ≡ is_own_group caller.now grant.now gid }
 {
     grant.gids.as_slice().contains(&gid)
-        && (caller.gid == gid || is_reached(gid, caller.groups.as_slice()))
+        && (caller.gid == gid || is_in_groups(gid, caller.groups.as_slice()))
 }
 
 // Whether a number stands before any greater one.
-fn is_reached(number: u32, numbers: &[u32]) -> bool
-    ensures { result ≡ is_reached number numbers.now }
+fn is_in_groups(number: u32, numbers: &[u32]) -> bool
+    ensures { result ≡ is_in_groups number numbers.now }
 {
     for other in numbers {
         if number < *other {

@@ -9,7 +9,7 @@ use crate::bytes::{begins, behind, behind_white, rest_while};
 use crate::flags::Flags;
 use crate::grant::{GidList, Grant, Grants};
 use crate::items::{
-    flags_at, fsname_at, gids_at, kept, network_at, path_at, root_squash_at, uid_at,
+    flags_at, fsname_at, gids_at, owned, network_at, path_at, root_squash_at, uid_at,
 };
 use crate::release::Switches;
 use byte_sets::ByteSet;
@@ -180,14 +180,14 @@ fn items_at(
 ) -> Result<(Grant, &[u8]), AllocError>
     ensures { IfOk result (λ found. (found.0, found.1.now) ≡ items_at switches flags text.now) }
 {
-    let (fsname, text) = kept(alloc, fsname_at(text), text)?;
-    let (path, text) = kept(alloc, path_at(text), text)?;
+    let (fsname, text) = owned(alloc, fsname_at(text), text)?;
+    let (path, text) = owned(alloc, path_at(text), text)?;
     let (root_squash, text) = root_squash_at(text);
     let takes_uid = !switches.has_two_orders || (fsname.is_none() && !root_squash);
     let (uid, text) = uid_if(takes_uid, text);
     let takes_gids = !switches.has_two_orders || uid.is_some();
     let (gids, text) = gids_if(alloc, takes_gids, text)?;
-    let (network, rest) = kept(alloc, network_at(text), text)?;
+    let (network, rest) = owned(alloc, network_at(text), text)?;
     let grant = Grant {
         flags,
         fsname,

@@ -96,10 +96,10 @@ pub has_pushed : {T E P Q : Type 0} (pushed : Result T E) → is_err pushed ≡ 
 has_pushed (Ok done) good ok room = (ok, room refl)
 has_pushed (Err refused) good ok room = absurd (false≢true (sym good))
 
-pub bad_number : (answer : Result (List ℕ) LineFault) (text : List ℕ) (k : ℕ) (digits : List ℕ) (fault : LineFault) → IsErrAnd answer (λ told. told ≡ fault) → false ≡ bytes_eq text (codes "-") → k < length (between_commas text) → digits ≡ get_or (between_commas text) k digits → Err fault ≡ number_in digits
+pub bad_number : (answer : Result (List ℕ) LineFault) (text : List ℕ) (k : ℕ) (digits : List ℕ) (fault : LineFault) → IsErrAnd answer (λ reported. reported ≡ fault) → false ≡ bytes_eq text (codes "-") → k < length (between_commas text) → digits ≡ get_or (between_commas text) k digits → Err fault ≡ number_in digits
     → answer ≡ groups_in text
-bad_number (Ok gids) text k digits fault told other inside same unread = absurd told
-bad_number (Err is) text k digits fault told other inside same unread = ap Err told ∙ sym (one_is_none text k digits fault inside same unread) ∙ sym (listed text other)
+bad_number (Ok gids) text k digits fault reported other inside same unread = absurd reported
+bad_number (Err is) text k digits fault reported other inside same unread = ap Err reported ∙ sym (one_is_none text k digits fault inside same unread) ∙ sym (listed text other)
 
 pub too_many : (text : List ℕ) → false ≡ bytes_eq text (codes "-") → 16 < length (between_commas text) → Err Number ≡ groups_in text
 too_many text other many = elim (numbers_or_none (between_commas text)) [

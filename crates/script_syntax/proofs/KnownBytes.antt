@@ -14,11 +14,11 @@ consumes_more (Some a) None new xs ys first second = absurd first
 consumes_more (Some a) (Some b) None xs ys first second = absurd second
 consumes_more (Some a) (Some b) (Some c) xs ys first second = first ∙ ap (λ (t : List ℕ). xs ++ t) second ∙ sym (append_assoc xs ys c)
 
-pub consumes_kept : (old mid new : Option (List ℕ)) (xs : List ℕ) → Consumes old mid xs → Keeps mid new → Consumes old new xs
-consumes_kept None mid new xs first kept = tt
-consumes_kept (Some a) None new xs first kept = absurd first
-consumes_kept (Some a) (Some b) None xs first kept = absurd kept
-consumes_kept (Some a) (Some b) (Some c) xs first kept = first ∙ ap (λ (t : List ℕ). xs ++ t) (sym kept)
+pub consumes_stay : (old mid new : Option (List ℕ)) (xs : List ℕ) → Consumes old mid xs → Keeps mid new → Consumes old new xs
+consumes_stay None mid new xs first kept = tt
+consumes_stay (Some a) None new xs first kept = absurd first
+consumes_stay (Some a) (Some b) None xs first kept = absurd kept
+consumes_stay (Some a) (Some b) (Some c) xs first kept = first ∙ ap (λ (t : List ℕ). xs ++ t) (sym kept)
 
 -- what was consumed is no longer than what there was
 pub consumed_is_there : (old new : Option (List ℕ)) (xs : List ℕ) (most : ℕ) → Consumes old new xs → most < length xs → IfSome old (λ all. most < length all)
@@ -36,11 +36,11 @@ appends_more (Some a) None new xs ys first second = absurd first
 appends_more (Some a) (Some b) None xs ys first second = absurd second
 appends_more (Some a) (Some b) (Some c) xs ys first second = second ∙ ap (λ (t : List ℕ). t ++ ys) first ∙ append_assoc a xs ys
 
-pub appends_kept : (old mid new : Option (List ℕ)) (xs : List ℕ) → Appends old mid xs → Keeps mid new → Appends old new xs
-appends_kept None mid new xs first kept = tt
-appends_kept (Some a) None new xs first kept = absurd first
-appends_kept (Some a) (Some b) None xs first kept = absurd kept
-appends_kept (Some a) (Some b) (Some c) xs first kept = kept ∙ first
+pub appends_stay : (old mid new : Option (List ℕ)) (xs : List ℕ) → Appends old mid xs → Keeps mid new → Appends old new xs
+appends_stay None mid new xs first kept = tt
+appends_stay (Some a) None new xs first kept = absurd first
+appends_stay (Some a) (Some b) None xs first kept = absurd kept
+appends_stay (Some a) (Some b) (Some c) xs first kept = kept ∙ first
 
 -- the same bytes
 pub appends_same : (old new : Option (List ℕ)) (xs ys : List ℕ) → xs ≡ ys → Appends old new xs → Appends old new ys

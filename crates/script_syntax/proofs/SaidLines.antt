@@ -11,7 +11,7 @@ use Rattle.capspec.specs.Faults.{IsFault, IsNoMemory}
 use Rattle.capspec.specs.Grants.{Reads as MeansGrants}
 use Rattle.capspec.proofs.OneReading.{one_fault as one_grant_fault}
 use Rattle.capspec.proofs.OneReading.{reads_no_fault, reads_once}
-use Rattle.capspec.proofs.Told.{fault_told}
+use Rattle.capspec.proofs.Reported.{fault_told}
 use Rattle.step_model.specs.declared.event.Event.{Event}
 use Rattle.step_model.specs.declared.event.Event.TheVariants as events
 use Rattle.script_syntax.specs.declared.fault.LineFault.{LineFault}
@@ -44,8 +44,8 @@ event_said (Names said word) says = (said says.0, (says.0, says.1, refl))
 event_said (Faulty fault) says = absurd says
 
 pub missed : {A : Type 0} (answer : Result A Refused) (IsRight : A → Type 0) (line : Line) → IsErrAnd answer (λ refused. refused ≡ refusals.NoMemory) → SaysAny line → MatchResult answer IsRight (IsRefused line)
-missed (Ok done) IsRight line told says = absurd told
-missed (Err refused) IsRight line told says = rw told (event_said line says)
+missed (Ok done) IsRight line reported says = absurd reported
+missed (Err refused) IsRight line reported says = rw reported (event_said line says)
 
 -- ---- grants
 

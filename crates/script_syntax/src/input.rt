@@ -31,7 +31,7 @@ pub fn read_script<R: Read>(alloc: Global, reader: &mut Watched<R>) -> Result<Ve
         × Consumes (R.remaining (inner_of reader.old)) (R.remaining (inner_of reader.new)) taken
         × (length taken ≤ longest_script + 1) }
     // A read that failed is told.
-    ensures told { IsTrue (has_failed reader.new) → result ≡ Err stops.ReadFault }
+    ensures reported { IsTrue (has_failed reader.new) → result ≡ Err stops.ReadFault }
     // A script that is too long is never read; memory may run out on the way to its end.
     ensures long { IfSome (R.remaining (inner_of reader.old)) (λ script. longest_script < length script
         → (result ≡ Err stops.ReadFault) ⊎ (result ≡ Err stops.NoMemory)) }
@@ -69,7 +69,7 @@ pub fn write_text<W: Write>(writer: &mut Watched<W>, text: &[u8]) -> Result<(), 
         × Appends (W.contents (inner_of writer.old)) (W.contents (inner_of writer.new)) taken) }
     ensures kind { OnErr result (result ≡ Err stops.WriteFault) }
     // A write that failed is told, and only that.
-    ensures told { (result ≡ Err stops.WriteFault) ↔ IsTrue (has_failed writer.new) }
+    ensures reported { (result ≡ Err stops.WriteFault) ↔ IsTrue (has_failed writer.new) }
 {
     let mut rest = text;
     while !rest.is_empty() {

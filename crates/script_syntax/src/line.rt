@@ -48,7 +48,7 @@ pub fn read_line(
     // Which fault it is.
     ensures err { IfErr result (IsStop line text.now) }
     // A fault of the line is told, whatever memory there is.
-    ensures told { (kind : AKind) → HasFault text.now kind
+    ensures reported { (kind : AKind) → HasFault text.now kind
         → result ≡ Err (stops.LineFault line kind) }
 {
     if is_skipped(text) {

@@ -22,5 +22,5 @@ module _ (table : SessionTable) (client : ℕ) (caller : Caller) (grants : List 
   session-other off = map.get-insert nat_cmp_total table.sessions client _ other ∙ by_test (eq_by_cmp nat_cmp other client) refl off (Some _)
 
   -- and so each that was there, where the client may have a new one
-  pub session-kept : first_failing (new_session_tests table client) ≡ None → has_session table other ≡ true → map.get (with_session table client caller grants).sessions other ≡ map.get table.sessions other
-  session-kept passed there = session-other (λ is. let none = not_connected table client passed in let had = subst (λ c. has_session table c ≡ true) is there in cc)
+  pub session-stays : first_failing (new_session_tests table client) ≡ None → has_session table other ≡ true → map.get (with_session table client caller grants).sessions other ≡ map.get table.sessions other
+  session-stays passed there = session-other (λ is. let none = not_connected table client passed in let had = subst (λ c. has_session table c ≡ true) is there in cc)

@@ -71,7 +71,7 @@ impl Blocklist {
     pub(crate) fn remove(&mut self, client: ClientId) -> bool
         ensures had { result ≡ set.contains self.old client.0 }
         ensures out { self.new ≡ set.remove self.old client.0 }
-        ensures kept { OnFalse result (self.new ≡ self.old) }
+        ensures unchanged { OnFalse result (self.new ≡ self.old) }
     {
         self.clients.remove(&client.0)
     }

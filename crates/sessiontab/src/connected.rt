@@ -93,7 +93,7 @@ impl Connected {
     pub fn remove(&mut self, client: ClientId) -> bool
         ensures had { result ≡ map.contains_key self.old client.0 }
         ensures ended { self.new ≡ map.remove self.old client.0 }
-        ensures kept { OnFalse result (self.new ≡ self.old) }
+        ensures unchanged { OnFalse result (self.new ≡ self.old) }
     {
         match self.get(client) {
             Some(_session) => {

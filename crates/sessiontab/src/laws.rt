@@ -11,7 +11,7 @@ ghost use Rattle.sessiontab.specs.Tests.{new_session_tests};
 
 /// A new session leaves that of every other client, and so each session that is there, where its client may have a new
 /// one.
-pub fn a_new_session_leaves_the_others()
+pub fn a_new_session_changes_no_other()
     ensures others { (t : SessionTable) (client : ℕ) (caller : Caller) (grants : List Grant) (other : ℕ) → other ≢ client
         → map.get (with_session t client caller grants).sessions other ≡ map.get t.sessions other }
     ensures connected { (t : SessionTable) (client : ℕ) (caller : Caller) (grants : List Grant) (other : ℕ)

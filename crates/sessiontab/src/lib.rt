@@ -12,6 +12,6 @@ mod table;
 
 pub use change::SessionChange;
 pub use connected::Connected;
-pub use laws::a_new_session_leaves_the_others;
+pub use laws::a_new_session_changes_no_other;
 pub use session::{NoSession, Session, Status};
 pub use table::{MAX_BLOCKED, MAX_SESSIONS, Sessions};

@@ -17,7 +17,7 @@ use Rattle.snapshot.specs.declared.value.Published.{Published}
 use Rattle.snapshot.specs.declared.value.Stage.{Stage}
 use Rattle.snapshot.specs.declared.value.Stage.TheVariants as stage
 use Rattle.step_model.specs.Noted.{view_of}
-use Rattle.snapshot.specs.Places.{HasSeen, IsOf, IsPublished, IsTold, Keeps, Saw}
+use Rattle.snapshot.specs.Places.{HasSeen, IsOf, IsOriginKnown, IsPublished, Keeps, Saw}
 use Rattle.snapshot.specs.Publishing.{IsReady, IsStaging, publishing}
 use Rattle.snapshot.specs.Value.{staged, staged_all}
 use Rattle.policy_view.proofs.Likeness.{shows-refl}
@@ -35,13 +35,13 @@ same_origin : (value : Published) (stages : List Stage) → (staged_all value st
 same_origin value [] = refl
 same_origin value (next ∷ stages) = same_origin (staged value next) stages ∙ staged_origin value next
 
-pub publishes : (opening : State) (book : Book) (seat : ℕ) (place : Place) (value next : Published) (stages : List Stage) (rows : List Row) (lost : Bool) → IsTold opening book place
+pub publishes : (opening : State) (book : Book) (seat : ℕ) (place : Place) (value next : Published) (stages : List Stage) (rows : List Row) (lost : Bool) → IsOriginKnown opening book place
     → IsPrefix value.rows.seen.log rows → (staged_all value stages).rows.seen.book ≡ book → (staged_all value stages).rows.seen.log ≡ rows → IsReady opening (publishing value stages rows lost) → next ≡ staged_all value stages
     → TurnsAt Keeps seat place value next (λ v x y w. Saw opening book v y w)
-publishes opening book seat place value next stages rows lost told begins book_is rows_are ready is places keeps at =
+publishes opening book seat place value next stages rows lost origin_known begins book_is rows_are ready is places keeps at =
     let log : next.rows.seen.log ≡ rows = ap (λ (v : Published). v.rows.seen.log) is ∙ rows_are in
     let same : next.origin ≡ value.origin = ap (λ (v : Published). v.origin) is ∙ same_origin value stages in
-    let mine : IsOf opening book value.origin = is_of_value opening book value place told (keeps.known seat place at) in
+    let mine : IsOf opening book value.origin = is_of_value opening book value place origin_known (keeps.known seat place at) in
     turns opening book seat place value next
     (record {
       is_of = subst (IsOf opening book) (sym same) mine;
@@ -118,25 +118,25 @@ staging_after book value next stages left rows lost (Err refused) held whole is 
 
 -- ---- of which server the publisher's place knows to be
 
-pub told_same : (opening : State) (book : Book) (place after : Place) → IsTold opening book place → after.origin ≡ place.origin → IsTold opening book after
-told_same opening book place after told same = record { origin = told.origin; told = same ∙ told.told; is_of = told.is_of }
+pub origin_same : (opening : State) (book : Book) (place after : Place) → IsOriginKnown opening book place → after.origin ≡ place.origin → IsOriginKnown opening book after
+origin_same opening book place after origin_known same = record { origin = origin_known.origin; origin_known = same ∙ origin_known.origin_known; is_of = origin_known.is_of }
 
-pub first_told : (opening : State) (book : Book) (place after : Place) (origin : Origin) → IsOf opening book origin → after ≡ record place { origin = Some origin } → IsTold opening book after
-first_told opening book place after origin is told = record { origin = origin; told = ap (λ (p : Place). p.origin) told; is_of = is }
+pub first_origin : (opening : State) (book : Book) (place after : Place) (origin : Origin) → IsOf opening book origin → after ≡ record place { origin = Some origin } → IsOriginKnown opening book after
+first_origin opening book place after origin is origin_known = record { origin = origin; origin_known = ap (λ (p : Place). p.origin) origin_known; is_of = is }
 
 -- and goes on to know, whatever comes of publishing
-pub told_after : {A B : Type 0} (opening : State) (book : Book) (place after : Place) (value : Published) (done : Result A B) → IsTold opening book place
-    → MatchResult done (λ _. Saw opening book place value after) (λ _. after ≡ place) → IsTold opening book after
-told_after opening book place after value (Ok none) told saw = told_same opening book place after told (ap (λ (p : Place). p.origin) saw.after_is)
-told_after opening book place after value (Err refused) told same = told_same opening book place after told (ap (λ (p : Place). p.origin) same)
+pub origin_after : {A B : Type 0} (opening : State) (book : Book) (place after : Place) (value : Published) (done : Result A B) → IsOriginKnown opening book place
+    → MatchResult done (λ _. Saw opening book place value after) (λ _. after ≡ place) → IsOriginKnown opening book after
+origin_after opening book place after value (Ok none) origin_known saw = origin_same opening book place after origin_known (ap (λ (p : Place). p.origin) saw.after_is)
+origin_after opening book place after value (Err refused) origin_known same = origin_same opening book place after origin_known (ap (λ (p : Place). p.origin) same)
 
 -- who entered a place that was told has seen what is published
-pub has_seen : (opening : State) (book : Book) (known : List Row) (before after : Place) (value : Published) → IsTold opening book before → before.known ≡ known → Saw opening book before value after → HasSeen opening book known value after
-has_seen opening book known before after value told is saw = record {
+pub has_seen : (opening : State) (book : Book) (known : List Row) (before after : Place) (value : Published) → IsOriginKnown opening book before → before.known ≡ known → Saw opening book before value after → HasSeen opening book known value after
+has_seen opening book known before after value origin_known is saw = record {
   value_is = saw.value_is;
   begins = subst (λ (rows : List Row). IsPrefix rows value.rows.seen.log) is saw.begins;
   known_is = ap (λ (p : Place). p.known) saw.after_is;
-  told = told_same opening book before after told (ap (λ (p : Place). p.origin) saw.after_is);
+  origin_known = origin_same opening book before after origin_known (ap (λ (p : Place). p.origin) saw.after_is);
 }
 
 -- what is so of the value in a place, of what was taken out of it

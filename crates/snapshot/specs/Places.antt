@@ -34,7 +34,7 @@ pub record IsPublished (opening : State) (book : Book) (value : Published) : Typ
 -- what a place knows begins the rows, and who was told of a server was told of this one
 pub record Knows (value : Published) (place : Place) : Type 0 where
   pub begins : IsPrefix place.known value.rows.seen.log
-  pub told : IfSome place.origin (λ origin. origin ≡ value.origin)
+  pub origin_known : IfSome place.origin (λ origin. origin ≡ value.origin)
 
 -- it is published rightly, and each place knows it so
 pub record Keeps (value : Published) (places : List Place) : Type 0 where
@@ -43,9 +43,9 @@ pub record Keeps (value : Published) (places : List Place) : Type 0 where
   pub known : (seat : ℕ) (place : Place) → get_elem? places seat ≡ some place → Knows value place
 
 -- the place was told that it is of this server
-pub record IsTold (opening : State) (book : Book) (place : Place) : Type 0 where
+pub record IsOriginKnown (opening : State) (book : Book) (place : Place) : Type 0 where
   pub origin : Origin
-  pub told : place.origin ≡ Some origin
+  pub origin_known : place.origin ≡ Some origin
   pub is_of : IsOf opening book origin
 
 -- who entered sees what is published, of which all is known then, and which begins with what was known before
@@ -59,4 +59,4 @@ pub record HasSeen (opening : State) (book : Book) (known : List Row) (value : P
   pub value_is : IsPublished opening book value
   pub begins : IsPrefix known value.rows.seen.log
   pub known_is : place.known ≡ value.rows.seen.log
-  pub told : IsTold opening book place
+  pub origin_known : IsOriginKnown opening book place

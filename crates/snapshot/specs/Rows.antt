@@ -27,7 +27,7 @@ words_of rows away = replicate rows (0, true) ++ replicate away (0, false)
 abbrev pub cells_of : ℕ → ℕ → List Cell
 cells_of rows away = (2 * rows + away, true) ∷ (0, true) ∷ words_of rows away
 
-pub record IsKept (cells : List Cell) (log : List Row) : Type 0 where
+pub record IsStored (cells : List Cell) (log : List Row) : Type 0 where
   pub away : ℕ
   pub cells_are : cells ≡ cells_of (length log) away
 

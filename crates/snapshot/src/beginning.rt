@@ -14,9 +14,9 @@ pub struct Law;
 impl Rule<Row, u64> for Law {
     ghost use Rattle.std.specs.Prelude.{[]};
     ghost use base.Fml.{ftrue};
-    ghost use Rattle.snapshot.specs.Rows.{IsKept};
+    ghost use Rattle.snapshot.specs.Rows.{IsStored};
 
-    ghost holds = { λ cells log. IsKept cells log };
+    ghost holds = { λ cells log. IsStored cells log };
 
     ghost first = { [] };
 

@@ -72,8 +72,8 @@ impl Pair {
             rows,
             writer,
         } = self;
-        let (writer, told) = writer.publish_as::<Begins, R>(rt);
-        match told {
+        let (writer, origin_known) = writer.publish_as::<Begins, R>(rt);
+        match origin_known {
             Ok(()) => Ok(Publisher::of(alloc, rows.named::<L>(), writer)),
             Err(refused) => {
                 writer.take(rt);

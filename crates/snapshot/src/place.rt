@@ -108,7 +108,7 @@ pub struct Hears;
 impl Join<Place> for Hears {
     ghost use Rattle.std.specs.Prelude.{[], None};
 
-    ghost both = { λ place told. record place { origin = told.origin } };
+    ghost both = { λ place other. record place { origin = other.origin } };
 
     ghost spent = { record { known = []; origin = None } };
 }

@@ -3,7 +3,7 @@ ghost use Rattle.std.specs.Prelude.{◌≡◌, ◌≤◌, true, false, None, [],
 ghost use mathlib.Core.List.{IsPrefix};
 ghost use Rattle.left_right.specs.Sides.{view as place_view};
 ghost use Rattle.policy_view.specs.Changes.{view_by};
-ghost use Rattle.snapshot.specs.Places.{IsTold};
+ghost use Rattle.snapshot.specs.Places.{IsOriginKnown};
 ghost use Rattle.snapshot.specs.Publishing.{IsReady, IsStaging, publishing};
 ghost use Rattle.snapshot.specs.Rows.{Legal};
 
@@ -34,7 +34,7 @@ pub struct Publisher<L: Server> {
 impl<L: Server> Model for Publisher<L> {
     ghost use Rattle.std.specs.Prelude.{drop};
     ghost use Rattle.left_right.specs.Sides.{view as place_view};
-    ghost use Rattle.snapshot.specs.Places.{IsTold};
+    ghost use Rattle.snapshot.specs.Places.{IsOriginKnown};
     ghost use Rattle.snapshot.specs.Publishing.{IsStaging, Publishing, publishing, publishing_code};
 
     ghost Value = { Publishing };
@@ -43,14 +43,14 @@ impl<L: Server> Model for Publisher<L> {
 
     ghost view = { λ p. publishing p.writer.desk.shown.value (drop p.writer.behind p.writer.log.items) p.recorder p.lost };
 
-    ghost invariant = { λ p. IsStaging L.history p.writer.desk.shown.value (drop p.writer.behind p.writer.log.items) p.recorder p.lost × IsTold L.opening L.history (place_view p.writer.desk.place) };
+    ghost invariant = { λ p. IsStaging L.history p.writer.desk.shown.value (drop p.writer.behind p.writer.log.items) p.recorder p.lost × IsOriginKnown L.opening L.history (place_view p.writer.desk.place) };
 }
 
 impl<L: Server> Publisher<L> {
     // Who publishes what this book has, at a pair that was told of which server it is.
     pub(crate) fn of(alloc: Global, recorder: Recorder<L>, writer: PublishedWriter) -> Publisher<L>
         requires staging { IsStaging L.history writer.desk.shown.value (drop writer.behind writer.log.items) recorder false }
-        requires told { IsTold L.opening L.history (place_view writer.desk.place) }
+        requires origin_known { IsOriginKnown L.opening L.history (place_view writer.desk.place) }
         ensures { result ≡ publishing writer.desk.shown.value (drop writer.behind writer.log.items) recorder false }
     {
         Publisher {
@@ -72,7 +72,7 @@ impl<L: Server> Publisher<L> {
     pub fn reader(&mut self) -> Result<PublishedReader, AllocError>
         ensures same { self.new ≡ self.old }
         ensures none { IfOk result (λ reader. (place_view reader.place).known ≡ []) }
-        ensures told { IfOk result (λ reader. IsTold L.opening L.history (place_view reader.place)) }
+        ensures origin_known { IfOk result (λ reader. IsOriginKnown L.opening L.history (place_view reader.place)) }
     {
         let mut reader = self.writer.factory().reader()?;
         reader.learn::<Hears>(self.writer.tell::<Tells>());

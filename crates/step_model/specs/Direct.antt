@@ -35,7 +35,7 @@ use Rattle.step_model.specs.declared.reply.Reply.{Reply}
 use Rattle.step_model.specs.Changing.{tree_changed}
 use Rattle.step_model.specs.DueEndings.{is_of_ticket, is_to}
 use Rattle.lockmachine.specs.Locks.{requests_of, with_ino, with_request, without_requests_of}
-use Rattle.lockmachine.specs.Scene.{Scene, told_set}
+use Rattle.lockmachine.specs.Scene.{Scene, pending_of}
 use Rattle.lockmachine.specs.declared.request.Change.{Change}
 use Rattle.lockmachine.specs.declared.request.Operation.{Operation}
 use Rattle.lockmachine.specs.declared.request.Operation.TheVariants.{Alter, Get, Rename, Rmdir, Unlink}
@@ -54,16 +54,16 @@ with_scene s scene = record s { scene = scene }
 -- what is answered: this reply, whatever the step still does; or what an entry's client is to know at the end of the step;
 -- or the first messages, at most so many, that are due to a client then; or how the request with this number ended in the
 -- step, if it did
-pub data Answer : Type 0 where
-  Says : Reply → Answer
-  Shows : Holder → Answer
-  Gives : ClientId → ℕ → Answer
-  Awaits : Ticket → Answer
+pub data DirectReply : Type 0 where
+  Says : Reply → DirectReply
+  Shows : Holder → DirectReply
+  Gives : ClientId → ℕ → DirectReply
+  Awaits : Ticket → DirectReply
 
 -- the number of the entry's last change, and what its client is to know; an entry that was opened is there
 abbrev pub opened_as : Scene → Option EntryRow → Reply
 opened_as last None = Reply.Done
-opened_as last (Some row) = Reply.Opened row.entry.seq (told_set last row)
+opened_as last (Some row) = Reply.Opened row.entry.seq (pending_of last row)
 
 -- the answer to a request, where it is among those that ended; else it waits
 abbrev pub awaited_as : Ticket → Option Ended → Reply
@@ -71,27 +71,27 @@ awaited_as ticket None = Reply.Waiting ticket
 awaited_as ticket (Some m) = unwrap_or (outcome_reply m.outcome) (Reply.Waiting ticket)
 
 -- what is answered at the end, in the last state, by what the moves ended
-abbrev pub reply_of : State → List Ended → Answer → Reply
-reply_of last ended (Says answer) = answer
+abbrev pub reply_of : State → List Ended → DirectReply → Reply
+reply_of last ended (Says reply) = reply
 reply_of last ended (Shows k) = opened_as last.scene (find (is_row_of k) last.scene.table.rows)
 reply_of last ended (Gives client max) = Reply.Messages (first_messages last client max)
 reply_of last ended (Awaits ticket) = awaited_as ticket (find (is_of_ticket ticket) ended)
 
 -- what is shown or given, the client was told of
-abbrev pub shown : Answer → State → State
+abbrev pub shown : DirectReply → State → State
 shown (Shows k) last = with_scene last (record last.scene { table = changed_entry last.scene.table k with_told })
 shown (Gives client max) last = with_given last client (first_messages last client max)
-shown answer last = last
+shown reply last = last
 
 -- the state after an event, the answer, and the requests that the event itself ended
 pub record Direct : Type 0 where
   pub state : State
-  pub answer : Answer
+  pub reply_due : DirectReply
   pub dropped : List Ended
 
 -- this state and this answer, and no request ended
 abbrev pub says : State → Reply → Direct
-says s answer = record { state = s; answer = Says answer; dropped = [] }
+says s reply = record { state = s; reply_due = Says reply; dropped = [] }
 
 abbrev pub with_tree : State → Nodes → State
 with_tree s tree = with_scene s (record s.scene { tree = tree })
@@ -145,7 +145,7 @@ with_table s table = with_scene s (record s.scene { table = table })
 
 -- what was done is shown to the entry's client
 abbrev pub shows : State → Holder → Direct
-shows s k = record { state = s; answer = Shows k; dropped = [] }
+shows s k = record { state = s; reply_due = Shows k; dropped = [] }
 
 -- ---- of what may wait for a lock
 
@@ -153,7 +153,7 @@ shows s k = record { state = s; answer = Shows k; dropped = [] }
 abbrev pub enqueues : State → ClientId → Ino → Operation → Direct
 enqueues s client ino operation = record {
   state = with_scene s (record s.scene { locks = with_request s.scene.locks client ino operation });
-  answer = Awaits (record { 0 = s.scene.locks.last + 1 });
+  reply_due = Awaits (record { 0 = s.scene.locks.last + 1 });
   dropped = [];
 }
 
@@ -182,7 +182,7 @@ without s client sessions = record {
 abbrev pub ends : State → ClientId → SessionTable → Direct
 ends s client sessions = record {
   state = without s client sessions;
-  answer = Says Reply.Done;
+  reply_due = Says Reply.Done;
   dropped = each dropped_of (requests_of s.scene.locks client);
 }
 
@@ -216,7 +216,7 @@ effect s (Event.Unlink client ino) = enqueues s client ino Unlink
 effect s (Event.Rmdir client ino) = enqueues s client ino Rmdir
 effect s (Event.Rename client ino dir name) = enqueues s client ino (Rename dir name)
 effect s (Event.Flush client ino change) = says (with_flush s (holder client ino) change) Reply.Done
-effect s (Event.Poll client max) = record { state = s; answer = Gives client max; dropped = [] }
+effect s (Event.Poll client max) = record { state = s; reply_due = Gives client max; dropped = [] }
 -- all others change a session
 effect s e = option_map_or (λ of. changes s of.0 of.1) (session_change e) (says s Reply.Done)
 
@@ -234,8 +234,8 @@ begun s e = (direct s e).state.scene
 
 -- the event answers this, whatever the step still does, and leads by itself to this state. An event whose answer is read off
 -- at the end of the step has no such answer
-pub record IsDirect (old : State) (e : Event) (answer : Reply) (new : State) : Type 0 where
-  pub answer_is : Says answer ≡ (direct old e).answer
+pub record IsDirect (old : State) (e : Event) (reply : Reply) (new : State) : Type 0 where
+  pub reply_is : Says reply ≡ (direct old e).reply_due
   pub state_is : new ≡ (direct old e).state
 
 -- the event that makes an inode of this kind

@@ -16,7 +16,7 @@ use Rattle.captable.specs.Table.{is_row_of}
 use Rattle.captable.specs.declared.entry.Entry.{Entry}
 use Rattle.captable.specs.declared.entry.EntryRow.{EntryRow}
 use Rattle.sessiontab.specs.Table.{SessionTable}
-use Rattle.lockmachine.specs.Scene.{Scene, told_set}
+use Rattle.lockmachine.specs.Scene.{Scene, pending_of}
 use Rattle.lockmachine.specs.Under.{allowed_under}
 use Rattle.lockmachine.specs.Wants.{effective_want}
 use Rattle.lockmachine.specs.declared.states.InodeLocks.{InodeLocks}
@@ -39,16 +39,16 @@ sizes_owed sized s = record s { table = changed_where (is_sized sized) owed s.ta
 -- ---- issue
 
 -- what the entry's client effectively wants, and these locks of its inode allow
-abbrev pub due_under : List ℕ → Nodes → SessionTable → Option InodeLocks → EntryRow → Caps
-due_under fs tree sessions locks row = meet (effective_want fs tree sessions row) (allowed_under locks row)
+abbrev pub issuable_under : List ℕ → Nodes → SessionTable → Option InodeLocks → EntryRow → Caps
+issuable_under fs tree sessions locks row = meet (effective_want fs tree sessions row) (allowed_under locks row)
 
 -- and by the locks of the scene
-abbrev pub due : Scene → EntryRow → Caps
-due s row = due_under s.fs s.tree s.sessions (finite.get s.locks.states row.holder.ino.0) row
+abbrev pub issuable : Scene → EntryRow → Caps
+issuable s row = issuable_under s.fs s.tree s.sessions (finite.get s.locks.states row.holder.ino.0) row
 
 -- the entry gains it
 abbrev pub issue_row : Scene → EntryRow → EntryRow
-issue_row s row = record row { entry = issued (due s row) row.entry }
+issue_row s row = record row { entry = issued (issuable s row) row.entry }
 
 -- and so does each
 abbrev pub issue : Scene → Scene
@@ -71,12 +71,12 @@ forget s = record s {
 
 -- what its client knew and still holds: what this row, which stands behind the event, holds and was not being revoked before it
 abbrev pub still_known : Scene → Option EntryRow → Caps
-still_known before row = option_map_or (told_set before) row no_caps
+still_known before row = option_map_or (pending_of before) row no_caps
 
 -- the entry, renumbered where its client is to know another set in the last scene
 abbrev pub number_row : Scene → Scene → Scene → EntryRow → EntryRow
 number_row before behind last row =
-    record row { entry = renumbered (still_known before (find (is_row_of row.holder) behind.table.rows)) (told_set last row) row.entry }
+    record row { entry = renumbered (still_known before (find (is_row_of row.holder) behind.table.rows)) (pending_of last row) row.entry }
 
 -- of each entry
 abbrev pub number : Scene → Scene → Scene → Scene

@@ -30,7 +30,7 @@ use Rattle.lockmachine.specs.Scene.{Scene, against}
 use Rattle.lockmachine.specs.declared.moves.Move.{Move}
 use Rattle.lockmachine.specs.declared.moves.Move.TheVariants.{Begin, End, Serve}
 use Rattle.lockmachine.specs.declared.request.Request.{Request}
-use Rattle.step_model.specs.Finish.{due}
+use Rattle.step_model.specs.Finish.{issuable}
 use Rattle.step_model.specs.Judge.{before, first_denied, needs}
 use Rattle.step_model.specs.Needs.{Need}
 use Rattle.step_model.specs.Operations.{operation_before, operation_needs}
@@ -47,7 +47,7 @@ denial s tests needed =
 -- the access and the rules of an answer that is a denial
 abbrev pub denied_in : Reply → Option (Access × List Rule)
 denied_in (Reply.Denied access rules) = Some (access, rules)
-denied_in answer = None
+denied_in reply = None
 
 -- and of an outcome that is one
 abbrev pub denied_as : Outcome → Option (Access × List Rule)
@@ -57,7 +57,7 @@ denied_as outcome = None
 -- an event is denied exactly if it passes the tests that stand before policy and an access that it needs has no grant; and the
 -- denial names the first such access, and the rule by which each grant fails first
 abbrev pub DeniedExactly : Scene → Event → Reply → Type 0
-DeniedExactly s e answer = denied_in answer ≡ denial s (before s e) (needs s e)
+DeniedExactly s e reply = denied_in reply ≡ denial s (before s e) (needs s e)
 
 -- so is each request that these moves serve, on the scene in which it is served
 abbrev pub ServedDenied : Scene → List Made → Type 0
@@ -70,7 +70,7 @@ ServedDenied first moves =
 abbrev pub is_rejection : Reply → Bool
 is_rejection (Reply.Denied access rules) = true
 is_rejection (Reply.Refused refusal) = true
-is_rejection answer = false
+is_rejection reply = false
 
 -- ---- the moves of a step
 
@@ -104,12 +104,12 @@ abbrev pub holds : Scene → Holder → Cap → Bool
 holds s k cap = option_map_or (λ row. has row.entry.held cap) (find (is_row_of k) s.table.rows) false
 
 -- the client effectively wants it, and the locks allow it
-abbrev pub is_due : Scene → Holder → Cap → Bool
-is_due s k cap = option_map_or (λ row. has (due s row) cap) (find (is_row_of k) s.table.rows) false
+abbrev pub is_issuable : Scene → Holder → Cap → Bool
+is_issuable s k cap = option_map_or (λ row. has (issuable s row) cap) (find (is_row_of k) s.table.rows) false
 
 -- what is held at the end is what was held after the event, and what is wanted, permitted and allowed at the end
 abbrev pub IssuesExactly : Scene → Scene → Type 0
-IssuesExactly first last = (k : Holder) (cap : Cap) → holds last k cap ≡ (holds first k cap || is_due last k cap)
+IssuesExactly first last = (k : Holder) (cap : Cap) → holds last k cap ≡ (holds first k cap || is_issuable last k cap)
 
 -- what the entry holds of the part is in the row of this state
 abbrev pub IsInRow : EntryRow → Part → StableState → Type 0
@@ -138,7 +138,7 @@ AreInPlace s =
 
 -- what is held and is not permitted, by the grants of now and where the inode stands now, is being revoked. This holds by the
 -- definition of "being revoked" (`against`) in every scene: no step could break it. What refuses a wrong step is what its client
--- was shown (`ShowsWhatIsTold`, `ShowsOnlyPermitted`)
+-- was shown (`ShowsWhatIsPending`, `ShowsOnlyPermitted`)
 abbrev pub AreRevoked : Scene → Type 0
 AreRevoked s =
     (row : EntryRow) (cap : Cap) → find (is_row_of row.holder) s.table.rows ≡ Some row → IsTrue (has row.entry.held cap) →

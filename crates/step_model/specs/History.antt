@@ -63,14 +63,14 @@ pub record IsLegal (first : State) (rows : List Row) (last : State) : Type 0 whe
 -- ---- one more row
 
 abbrev pub made_row : PassId → ℕ → Event → Reply → List Ended → Row
-made_row pass nth e answer ended = record { pass = pass; nth = nth; event = e; reply = answer; ended = ended }
+made_row pass nth e reply ended = record { pass = pass; nth = nth; event = e; reply = reply; ended = ended }
 
 -- the event is one step, by these moves, and adds its row, which says which requests of earlier steps it ended
-pub record IsNext (old : Recorded) (pass : PassId) (e : Event) (answer : Reply) (new : Recorded) : Type 0 where
+pub record IsNext (old : Recorded) (pass : PassId) (e : Event) (reply : Reply) (new : Recorded) : Type 0 where
   pub moves : List Made
   pub ended : List Ended
-  pub step : StepBy old.state e moves answer ended new.state
-  pub rows : new.rows ≡ old.rows ++ made_row pass (rows_of pass old.rows + 1) e answer ended ∷ []
+  pub step : StepBy old.state e moves reply ended new.state
+  pub rows : new.rows ≡ old.rows ++ made_row pass (rows_of pass old.rows + 1) e reply ended ∷ []
   pub max_rows : new.max_rows ≡ old.max_rows
 
 -- ---- what every core keeps

@@ -12,14 +12,14 @@ use Rattle.captable.specs.declared.entry.EntryRow.{EntryRow}
 use Rattle.step_model.specs.declared.outcome.Ended.{Ended}
 use Rattle.step_model.specs.declared.outcome.Message.{Message}
 use Rattle.step_model.specs.DueEndings.{is_left, is_to}
-use Rattle.lockmachine.specs.Scene.{Scene, told_set}
+use Rattle.lockmachine.specs.Scene.{Scene, pending_of}
 use Rattle.step_model.specs.State.{State}
 
 -- what the client is to know that it holds has changed since it was told
 abbrev pub caps_messages : Scene → EntryRow → List Message
 caps_messages s row =
     if nat_lt row.entry.told_seq row.entry.seq
-    then Message.Caps row.holder.ino row.entry.seq (told_set s row) ∷ []
+    then Message.Caps row.holder.ino row.entry.seq (pending_of s row) ∷ []
     else []
 
 -- the size that the inode has now; an inode that somebody has an entry on is there

@@ -15,7 +15,7 @@ use Rattle.step_model.specs.declared.outcome.Message.{Message}
 use Rattle.step_model.specs.declared.reply.Reply.{Reply}
 use Rattle.step_model.specs.declared.row.Row.{Row}
 use Rattle.lockmachine.specs.Policy.{permitted}
-use Rattle.lockmachine.specs.Scene.{Scene, told_set}
+use Rattle.lockmachine.specs.Scene.{Scene, pending_of}
 use Rattle.step_model.specs.Headline.{holds}
 
 -- ---- by rows alone
@@ -28,25 +28,25 @@ shown_in ino was m = was
 -- an opening and a want show what they answer
 abbrev pub shown_opened : Caps → Reply → Caps
 shown_opened was (Reply.Opened seq caps) = caps
-shown_opened was answer = was
+shown_opened was reply = was
 
 -- what is released is shown no more
 abbrev pub shown_less : Caps → Caps → Reply → Caps
 shown_less caps was Reply.Done = minus was caps
-shown_less caps was answer = was
+shown_less caps was reply = was
 
 -- a poll shows what its messages say
 abbrev pub shown_given : Ino → Caps → Reply → Caps
 shown_given ino was (Reply.Messages messages) = fold (shown_in ino) was messages
-shown_given ino was answer = was
+shown_given ino was reply = was
 
 -- what the holder was last shown, after an event with this answer. An event of another holder shows it nothing
 abbrev pub shown_by : Holder → Caps → Event → Reply → Caps
-shown_by k was (Event.Open client ino mode) answer = if same k (holder client ino) then shown_opened was answer else was
-shown_by k was (Event.Want client ino caps) answer = if same k (holder client ino) then shown_opened was answer else was
-shown_by k was (Event.Release client ino caps) answer = if same k (holder client ino) then shown_less caps was answer else was
-shown_by k was (Event.Poll client max) answer = if k.client.0 == client.0 then shown_given k.ino was answer else was
-shown_by k was e answer = was
+shown_by k was (Event.Open client ino mode) reply = if same k (holder client ino) then shown_opened was reply else was
+shown_by k was (Event.Want client ino caps) reply = if same k (holder client ino) then shown_opened was reply else was
+shown_by k was (Event.Release client ino caps) reply = if same k (holder client ino) then shown_less caps was reply else was
+shown_by k was (Event.Poll client max) reply = if k.client.0 == client.0 then shown_given k.ino was reply else was
+shown_by k was e reply = was
 
 -- and after a history. Each entry begins with an opening, whose answer shows the first set; so this is what was shown since then
 abbrev pub shown_of : Holder → List Row → Caps
@@ -56,15 +56,15 @@ shown_of k rows = fold (λ was row. shown_by k was row.event row.reply) no_caps 
 
 -- of each entry they say what they should
 abbrev pub AreShown : List Row → Scene → Type 0
-AreShown rows s = (k : Holder) (e : Entry) → entry_at s.table k ≡ Some e → IsShown (shown_of k rows) (told_set s (record { holder = k; entry = e })) e
+AreShown rows s = (k : Holder) (e : Entry) → entry_at s.table k ≡ Some e → IsShown (shown_of k rows) (pending_of s (record { holder = k; entry = e })) e
 
 -- ---- in the words of users
 
 -- where no message is due that says what the client is to know, it was shown just that
-abbrev pub ShowsWhatIsTold : List Row → Scene → Type 0
-ShowsWhatIsTold rows s =
+abbrev pub ShowsWhatIsPending : List Row → Scene → Type 0
+ShowsWhatIsPending rows s =
     (k : Holder) (e : Entry) → entry_at s.table k ≡ Some e → IsFalse (nat_lt e.told_seq e.seq) →
-    shown_of k rows ≡ told_set s (record { holder = k; entry = e })
+    shown_of k rows ≡ pending_of s (record { holder = k; entry = e })
 
 -- and what it was shown is permitted, by the grants of now and where the inode stands now: so what is held and is not permitted
 -- was not shown, or a message that says so is due

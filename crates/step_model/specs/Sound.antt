@@ -13,7 +13,7 @@ use Rattle.captable.specs.declared.entry.EntryRow.{EntryRow}
 use Rattle.sessiontab.specs.Calls.{has_session}
 use Rattle.lockmachine.specs.Moves.{IsAtRest}
 use Rattle.lockmachine.specs.Scene.{Scene}
-use Rattle.step_model.specs.Finish.{due}
+use Rattle.step_model.specs.Finish.{issuable}
 use Rattle.step_model.specs.Headline.{AreInPlace}
 use Rattle.step_model.specs.State.{State}
 
@@ -24,7 +24,7 @@ pub record IsSoundEntry (s : Scene) (row : EntryRow) : Type 0 where
   -- the pin is held and wanted, and what is due is held
   pub holds_pin : IsTrue (has row.entry.held P)
   pub wants_pin : IsTrue (has row.entry.want P)
-  pub has_due : IsSubset (due s row) row.entry.held
+  pub has_issuable : IsSubset (issuable s row) row.entry.held
   -- neither the change of which its client was told last nor the one that revoked something last comes after the last of all
   pub told : row.entry.told_seq ≤ row.entry.seq
   pub revoked : row.entry.revoke_seq ≤ row.entry.seq

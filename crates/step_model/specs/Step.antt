@@ -27,13 +27,13 @@ abbrev pub state_after : State → Direct → List Made → Scene → State
 state_after old d moves settled = state_at_end old d.state moves (finished old.scene d.state.scene (sizes_owed (sized_in moves) settled))
 
 -- a step by these moves
-pub record StepBy (old : State) (e : Event) (moves : List Made) (answer : Reply) (ended : List Ended) (new : State) : Type 0 where
+pub record StepBy (old : State) (e : Event) (moves : List Made) (reply : Reply) (ended : List Ended) (new : State) : Type 0 where
   pub settled : Scene
   pub settles : Settles (direct old e).state.scene moves settled
-  pub answer_is : answer ≡ reply_of (state_after old (direct old e) moves settled) (ended_in moves) (direct old e).answer
-  pub new_is : new ≡ shown (direct old e).answer (state_after old (direct old e) moves settled)
+  pub reply_is : reply ≡ reply_of (state_after old (direct old e) moves settled) (ended_in moves) (direct old e).reply_due
+  pub new_is : new ≡ shown (direct old e).reply_due (state_after old (direct old e) moves settled)
   pub ended_is : ended ≡ all_ended old (direct old e) moves
 
 -- the event leads from the old state to the new, with this answer, and ends these requests of earlier steps
 abbrev pub Step : State → Event → Reply → List Ended → State → Type 0
-Step old e answer ended new = (moves : List Made) × StepBy old e moves answer ended new
+Step old e reply ended new = (moves : List Made) × StepBy old e moves reply ended new

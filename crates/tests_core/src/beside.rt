@@ -117,9 +117,9 @@ fn ask<G: Gate, L: Server>(server: &CapServer<G, L>, pass: &mut Pass<L>, ino: u6
 
 // What came of it: of a question on the root and of one on the first file, while the call that makes that is held, and how many calls are
 // at the gate then; of the two calls; and of questions on both files, when these have ended.
-type Told = ([&'static str; 2], u64, [&'static str; 2], [&'static str; 2]);
+type Answers = ([&'static str; 2], u64, [&'static str; 2], [&'static str; 2]);
 
-const TOLD: Told = (
+const ANSWERS: Answers = (
     ["allowed", "no inode"],
     1,
     ["fresh", "fresh"],
@@ -152,20 +152,20 @@ fn ask_meanwhile<L: Server>(
     for _ in 0..A_WHILE {
         yield_now();
     }
-    let told = [ask(server, &mut pass, 1), ask(server, &mut pass, 2)];
+    let answers = [ask(server, &mut pass, 1), ask(server, &mut pass, 2)];
     let entered = signs.entered.load(Ordering::SeqCst);
     signs.open.store(1, Ordering::SeqCst);
-    (pass, told, entered)
+    (pass, answers, entered)
 }
 
 // Lets two passes call and the third one ask.
-fn told_beside<L: Server + Send + Sync, R: Threads + Wait + Sync>(
+fn answers_beside<L: Server + Send + Sync, R: Threads + Wait + Sync>(
     rt: &R,
     alloc: Global,
     server: &CapServer<Hold<'_>, L>,
     signs: &Signs,
     (one, two, three): (Pass<L>, Pass<L>, Pass<L>),
-) -> Told {
+) -> Answers {
     let (asked, made) = join(
         rt,
         move || ask_meanwhile(server, signs, three),
@@ -177,9 +177,9 @@ fn told_beside<L: Server + Send + Sync, R: Threads + Wait + Sync>(
             )
         },
     );
-    let (mut three, told, entered) = asked;
+    let (mut three, answers, entered) = asked;
     let afterwards = [ask(server, &mut three, 2), ask(server, &mut three, 3)];
-    (told, entered, [made.0, made.1], afterwards)
+    (answers, entered, [made.0, made.1], afterwards)
 }
 
 // Opens a session, closes the gate, and sees what comes of calls and questions beside each other.
@@ -197,8 +197,8 @@ fn see_beside<L: Server + Send + Sync, R: Abort + AllocGlobal + Threads + Wait +
     same(rt, opened, "fresh", "session");
     signs.entered.store(0, Ordering::SeqCst);
     signs.open.store(0, Ordering::SeqCst);
-    let told = told_beside(rt, alloc, server, signs, (one, two, three));
-    same(rt, told, TOLD, "beside a held call");
+    let answers = answers_beside(rt, alloc, server, signs, (one, two, three));
+    same(rt, answers, ANSWERS, "beside a held call");
     same(rt, signs.late.load(Ordering::SeqCst), 0, "late");
 }
 

@@ -141,7 +141,7 @@ due 1 => 1.2*
 
 // The calls that nothing else makes, of an entry that was left alone longer than the one behind it and holds nothing.
 fn others(rt: &impl Abort, table: &mut CapTable, (oldest, newer): (Holder, Holder)) {
-    let (client, ino, told) = (oldest.client, oldest.ino, caps("p"));
+    let (client, ino, pending) = (oldest.client, oldest.ino, caps("p"));
     let order = (table.oldest(), table.newer(client, ino));
     same(
         rt,
@@ -151,10 +151,10 @@ fn others(rt: &impl Abort, table: &mut CapTable, (oldest, newer): (Holder, Holde
     );
     same(rt, table.lists().oldest().is_some(), true, "a node");
     let permitted = caps("pFr");
-    table.keep(client, ino, ClientView { told, permitted });
-    table.issue(client, ino, told);
+    table.keep(client, ino, ClientView { pending, permitted });
+    table.issue(client, ino, pending);
     let kept = table.kept_permitted(client, ino);
-    let refusal = table.ack(client, ino, 0, told).err();
+    let refusal = table.ack(client, ino, 0, pending).err();
     same(rt, (kept, refusal), (Some(permitted), None), "kept, taken");
     let kept = table.kept_permitted(client, ino);
     same(rt, kept, None, "kept no more");

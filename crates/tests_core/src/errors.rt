@@ -1,7 +1,7 @@
 //! The errors of public calls: what each prints, and that `?` hands it on as the error of a program.
 
 use crate::asserting::same;
-use crate::texts::shown;
+use crate::texts::printed;
 use capbits::{CapText, ChangeError, Refusal, TooManyGroups};
 use capscript::ServeFault;
 use capspec::{SpecFault, SpecFaultKind};
@@ -22,12 +22,12 @@ fn handed_on<E: Error>(error: E) -> anyhow::Result<()> {
 }
 
 fn prints<E: Error + Copy>(rt: &impl Abort, alloc: Global, error: E, wanted: &str) {
-    let text = shown(rt, alloc, error);
+    let text = printed(rt, alloc, error);
     same(rt, text.as_str(), wanted, wanted);
     match handed_on(error) {
         Ok(()) => panic!(rt; "no error: {wanted}"),
         Err(told) => {
-            let text = shown(rt, alloc, told);
+            let text = printed(rt, alloc, told);
             same(rt, text.as_str(), wanted, ("as a program's", wanted));
         }
     }

@@ -147,7 +147,7 @@ fn run_in_room(
 }
 
 #[test]
-fn a_write_that_fails_leaves_a_beginning(rt: HostRuntime) {
+fn a_write_that_fails_writes_a_beginning(rt: HostRuntime) {
     let wanted = ALL_KINDS_ANSWERED.as_bytes();
     for room in 0..=wanted.len() {
         for fails in [false, true] {

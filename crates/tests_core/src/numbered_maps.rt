@@ -28,7 +28,7 @@ const GOING: &[(u64, &str)] = &[
 ];
 
 #[test]
-fn values_are_shown_by_number(rt: HostRuntime) {
+fn values_are_printed_by_number(rt: HostRuntime) {
     let mut map = Numbered::new(rt.alloc());
     for (number, value, line) in COMING {
         made(&rt, map.insert(*number, *value), *number);

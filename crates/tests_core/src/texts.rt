@@ -9,7 +9,7 @@ use std::fmt::{Debug, Display};
 use std::process::Abort;
 
 /// What a value prints.
-pub fn shown(rt: &impl Abort, alloc: Global, value: impl Display + Drop) -> String {
+pub fn printed(rt: &impl Abort, alloc: Global, value: impl Display + Drop) -> String {
     made(rt, format!(in alloc; "{value}"), "a text")
 }
 

@@ -27,7 +27,7 @@ fn keeps(rt: &impl Abort, tree: &mut Tree) {
 }
 
 // Moves the file up, and unlinks it.
-fn leaves(rt: &impl Abort, tree: &mut Tree) {
+fn moves_and_unlinks(rt: &impl Abort, tree: &mut Tree) {
     let fault = tree.rename_fault(Ino(3), Ino(2), b"f");
     same(rt, fault, Some(Refusal::Exists), "where it is");
     made(rt, tree.rename(Ino(3), Ino(1), b"g"), "another place");
@@ -41,6 +41,6 @@ fn a_tree_finds_memory(rt: HostRuntime) {
     let mut tree = made(&rt, Tree::new(rt.alloc(), attr_of(&rt, ATTR)), "a tree");
     grow(&rt, &mut tree);
     keeps(&rt, &mut tree);
-    leaves(&rt, &mut tree);
+    moves_and_unlinks(&rt, &mut tree);
     drop(tree);
 }

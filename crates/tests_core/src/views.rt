@@ -156,7 +156,7 @@ const CASES: [(&str, &str); 3] = [
 ];
 
 #[test]
-fn a_view_follows_what_it_is_told(rt: HostRuntime) {
+fn a_view_follows_its_changes(rt: HostRuntime) {
     for (asks, changes) in CASES {
         runs(&rt, asks, changes);
     }

@@ -26,7 +26,7 @@ use Rattle.policy_view.proofs.Telling.{changes-alike, changes-more, changes-none
 use Rattle.step_model.specs.NotedChanges.{view}
 use Rattle.worked_cases.specs.Trees.{root_alone, with_file}
 use Rattle.worked_cases.specs.Verdicts.{owned}
-use Rattle.worked_cases.specs.Views.{answer, answered, is_ended, is_forgotten, is_settled, told}
+use Rattle.worked_cases.specs.Views.{answer, answered, is_ended, is_forgotten, is_settled, view_after}
 use Rattle.worked_cases.proofs.ByNumber.{get-more}
 
 -- an inode that is present has an owner, a group and a mode
@@ -80,11 +80,11 @@ two old a b = changes-more (a ∷ []) old (view_by old a) b (one old a)
 
 -- a client goes, and takes four strays along
 pub client_goes : (old : View) → AreChanges (is_ended 1 ∷ is_forgotten 2 ∷ is_forgotten 3 ∷ is_forgotten 4 ∷ is_forgotten 6 ∷ []) old
-    (told old (is_ended 1 ∷ is_forgotten 2 ∷ is_forgotten 3 ∷ is_forgotten 4 ∷ is_forgotten 6 ∷ []))
+    (view_after old (is_ended 1 ∷ is_forgotten 2 ∷ is_forgotten 3 ∷ is_forgotten 4 ∷ is_forgotten 6 ∷ []))
 client_goes old =
-    changes-more (is_ended 1 ∷ is_forgotten 2 ∷ is_forgotten 3 ∷ is_forgotten 4 ∷ []) old (told old (is_ended 1 ∷ is_forgotten 2 ∷ is_forgotten 3 ∷ is_forgotten 4 ∷ [])) (is_forgotten 6)
-    (changes-more (is_ended 1 ∷ is_forgotten 2 ∷ is_forgotten 3 ∷ []) old (told old (is_ended 1 ∷ is_forgotten 2 ∷ is_forgotten 3 ∷ [])) (is_forgotten 4)
-    (changes-more (is_ended 1 ∷ is_forgotten 2 ∷ []) old (told old (is_ended 1 ∷ is_forgotten 2 ∷ [])) (is_forgotten 3) (two old (is_ended 1) (is_forgotten 2))))
+    changes-more (is_ended 1 ∷ is_forgotten 2 ∷ is_forgotten 3 ∷ is_forgotten 4 ∷ []) old (view_after old (is_ended 1 ∷ is_forgotten 2 ∷ is_forgotten 3 ∷ is_forgotten 4 ∷ [])) (is_forgotten 6)
+    (changes-more (is_ended 1 ∷ is_forgotten 2 ∷ is_forgotten 3 ∷ []) old (view_after old (is_ended 1 ∷ is_forgotten 2 ∷ is_forgotten 3 ∷ [])) (is_forgotten 4)
+    (changes-more (is_ended 1 ∷ is_forgotten 2 ∷ []) old (view_after old (is_ended 1 ∷ is_forgotten 2 ∷ [])) (is_forgotten 3) (two old (is_ended 1) (is_forgotten 2))))
 
 -- an inode is settled in the mode that it was given
 mode_then : attr_of (changed (with_setting (Mode 0o600)) (with_file root_alone 1 (codes "g")) 2).nodes 2 ≡ Some (owned 1 1 0o600)

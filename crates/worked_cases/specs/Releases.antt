@@ -33,11 +33,11 @@ answered answer (Ok grants) = Ok (answer grants)
 answered answer (Err unread) = Err unread.at
 
 -- as much of a verdict as an MDS shows
-abbrev pub shown : Verdict → List ℕ
-shown CannotMount = codes "cannot mount"
-shown (Allowed grant) = codes "allowed"
-shown (DependsOnAddress grant) = codes "depends"
-shown (Denied rules) = codes "denied"
+abbrev pub verdict_codes : Verdict → List ℕ
+verdict_codes CannotMount = codes "cannot mount"
+verdict_codes (Allowed grant) = codes "allowed"
+verdict_codes (DependsOnAddress grant) = codes "depends"
+verdict_codes (Denied rules) = codes "denied"
 
 -- how many grants each reads in a text
 abbrev pub reads : List ℕ → List (Result ℕ ℕ)
@@ -45,7 +45,7 @@ reads text = by_each (λ switches. answered length (read_of switches text))
 
 -- what the MDS of each shows
 abbrev pub says : List ℕ → Question → List (Result (List ℕ) ℕ)
-says text q = by_each (λ switches. answered (λ grants. shown (verdict_of switches q grants)) (read_of switches text))
+says text q = by_each (λ switches. answered (λ grants. verdict_codes (verdict_of switches q grants)) (read_of switches text))
 
 -- the whole verdict by the rules of the newest
 abbrev pub newest_says : List ℕ → Question → Result Verdict ℕ

@@ -69,7 +69,7 @@ abbrev pub permits : Holder → Caps → Step
 permits k caps table = with_kept table k (permitting caps)
 
 abbrev pub keeps : Holder → Caps → Caps → Step
-keeps k told permitted table = with_kept table k (λ _. record { told = told; permitted = permitted })
+keeps k pending permitted table = with_kept table k (λ _. record { pending = pending; permitted = permitted })
 
 -- ---- what is then there
 
@@ -80,7 +80,7 @@ abbrev pub beside : List Step → Holder → Option ClientView
 beside steps k = sets_beside (after steps).kept k
 
 abbrev pub view : Caps → Caps → ClientView
-view told permitted = record { told = told; permitted = permitted }
+view pending permitted = record { pending = pending; permitted = permitted }
 
 -- the order of recall; the entries on an inode, of a client, and those of a client's that are due, in the order of making
 abbrev pub order : List Step → List Holder

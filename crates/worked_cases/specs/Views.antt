@@ -92,12 +92,12 @@ nobody = record { tree = root_alone; sessions = map.empty }
 abbrev pub with_snapshot_kept : View
 with_snapshot_kept = record nobody { tree = changed (with_snapshot (codes "s")) (with_directory root_alone 1 (codes "d")) 2 }
 
-abbrev pub told : View → List ViewChange → View
-told view changes = fold view_by view changes
+abbrev pub view_after : View → List ViewChange → View
+view_after view changes = fold view_by view changes
 
 -- one client may do all, and a third one in `a`; a directory `a`, 2, with a file `x`, 4, and a directory `b`, 3
 abbrev pub two_directories : View
-two_directories = told nobody (
+two_directories = view_after nobody (
     is_opened 1 10 (allow Rw ∷ [])
     ∷ is_opened 3 30 (record (allow Rw) { path = codes "a" ∷ [] } ∷ [])
     ∷ made_directory 2 1 (codes "a")
@@ -107,39 +107,39 @@ two_directories = told nobody (
 
 -- the file is moved into the other directory, and that one with it into the first
 abbrev pub file_moved : View
-file_moved = told two_directories (is_moved 4 3 (codes "y") ∷ [])
+file_moved = view_after two_directories (is_moved 4 3 (codes "y") ∷ [])
 
 abbrev pub all_moved : View
-all_moved = told file_moved (is_moved 3 2 (codes "c") ∷ [])
+all_moved = view_after file_moved (is_moved 3 2 (codes "c") ∷ [])
 
 -- a client may do all; a file `f`, 2
 abbrev pub one_file_seen : View
-one_file_seen = told nobody (is_opened 1 10 (allow Rw ∷ []) ∷ made_file 2 1 (codes "f") ∷ [])
+one_file_seen = view_after nobody (is_opened 1 10 (allow Rw ∷ []) ∷ made_file 2 1 (codes "f") ∷ [])
 
 -- the file becomes a stray; is forgotten; there is another, 3, and the client goes; and comes again, to read
 abbrev pub file_removed : View
-file_removed = told one_file_seen (is_removed 2 ∷ [])
+file_removed = view_after one_file_seen (is_removed 2 ∷ [])
 
 abbrev pub file_forgotten : View
-file_forgotten = told file_removed (is_forgotten 2 ∷ [])
+file_forgotten = view_after file_removed (is_forgotten 2 ∷ [])
 
 abbrev pub client_gone : View
-client_gone = told file_forgotten (made_file 3 1 (codes "f") ∷ is_ended 1 ∷ [])
+client_gone = view_after file_forgotten (made_file 3 1 (codes "f") ∷ is_ended 1 ∷ [])
 
 abbrev pub client_reads : View
-client_reads = told client_gone (is_opened 1 10 (allow R ∷ []) ∷ [])
+client_reads = view_after client_gone (is_opened 1 10 (allow R ∷ []) ∷ [])
 
 -- a client may do what the mode bits let user 10 do; a file `f`, 2, with this owner, group and mode
 abbrev pub by_mode_bits : Attr → View
-by_mode_bits attr = told nobody (is_opened 1 10 (record (allow Rw) { uid = Some 10 } ∷ []) ∷ made_file 2 1 (codes "f") ∷ is_settled 2 attr ∷ [])
+by_mode_bits attr = view_after nobody (is_opened 1 10 (record (allow Rw) { uid = Some 10 } ∷ []) ∷ made_file 2 1 (codes "f") ∷ is_settled 2 attr ∷ [])
 
 -- of two clients that may do all, the first may then read; then it may do all, and take snapshots
 abbrev pub first_reads : View
-first_reads = told nobody (is_opened 1 10 (allow Rw ∷ []) ∷ is_opened 2 20 (allow Rw ∷ []) ∷ is_regranted 1 (allow R ∷ []) ∷ is_regranted 9 (allow Rw ∷ []) ∷ [])
+first_reads = view_after nobody (is_opened 1 10 (allow Rw ∷ []) ∷ is_opened 2 20 (allow Rw ∷ []) ∷ is_regranted 1 (allow R ∷ []) ∷ is_regranted 9 (allow Rw ∷ []) ∷ [])
 
 abbrev pub first_keeps_snapshots : View
-first_keeps_snapshots = told first_reads (is_regranted 1 (allow Rws ∷ []) ∷ [])
+first_keeps_snapshots = view_after first_reads (is_regranted 1 (allow Rws ∷ []) ∷ [])
 
 -- a directory that had a snapshot is gone, and there is another one, 3
 abbrev pub without_snapshot_kept : View
-without_snapshot_kept = told with_snapshot_kept (is_opened 1 10 (allow Rw ∷ []) ∷ is_removed 2 ∷ is_forgotten 2 ∷ made_directory 3 1 (codes "d") ∷ [])
+without_snapshot_kept = view_after with_snapshot_kept (is_opened 1 10 (allow Rw ∷ []) ∷ is_removed 2 ∷ is_forgotten 2 ∷ made_directory 3 1 (codes "d") ∷ [])

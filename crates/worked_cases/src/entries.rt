@@ -11,7 +11,7 @@ ghost use Rattle.locktable.specs.declared.states.LockState.TheVariants.{Gather, 
 ghost use Rattle.captable.specs.Table.{holder};
 ghost use Rattle.captable.specs.Calls.{acked, renumbered};
 ghost use Rattle.lockmachine.specs.Lock.{may_end_in};
-ghost use Rattle.lockmachine.specs.Under.{against_under, allowed_under, told_under};
+ghost use Rattle.lockmachine.specs.Under.{against_under, allowed_under, pending_under};
 ghost use Rattle.worked_cases.specs.Clients.{first};
 ghost use Rattle.worked_cases.specs.Entries.{ack, all, entry, file, mixed, of_first, of_second, pin, reading, table, under};
 
@@ -21,7 +21,7 @@ pub fn beside_another()
     ensures second_may_hold { text_of (allowed_under (under (Gather (Excl first) Mix)) (of_second (entry no_caps reading 0 0 0))) ≡ codes "pAsLsXs" }
     ensures first_may_hold { text_of (allowed_under (under (Gather (Excl first) Mix)) (of_first (entry all all 1 0 1))) ≡ codes "pAsLsXsFrw" }
     ensures is_revoked { text_of (against_under (under (Gather (Excl first) Mix)) (of_first (entry all all 1 0 1))) ≡ codes "Fsxcb" }
-    ensures first_is_to_know { text_of (told_under all (under (Gather (Excl first) Mix)) (of_first (entry all all 1 0 1))) ≡ codes "pFrw" }
+    ensures first_is_to_know { text_of (pending_under all (under (Gather (Excl first) Mix)) (of_first (entry all all 1 0 1))) ≡ codes "pFrw" }
     ensures gather_is_open { may_end_in (table (of_first (entry all all 1 0 1) ∷ of_second (entry pin reading 1 0 0) ∷ [])) (2, F) (Some (Gather (Excl first) Mix)) ≡ false }
 {}
 
@@ -48,7 +48,7 @@ pub fn acknowledged()
 
 /// A client that is permitted nothing any more is to know that it holds nothing, and its acknowledgement ends its entry.
 pub fn without_grants()
-    ensures nothing_is_to_know { text_of (told_under no_caps (under (Stable (Excl first))) (of_first (entry all all 1 0 1))) ≡ codes "-" }
+    ensures nothing_is_to_know { text_of (pending_under no_caps (under (Stable (Excl first))) (of_first (entry all all 1 0 1))) ≡ codes "-" }
     ensures is_renumbered { renumbered all no_caps (entry all all 1 0 1) ≡ entry all all 2 2 1 }
     ensures passes { ack (of_first (entry all all 2 2 2) ∷ []) 2 all ≡ None }
     ensures takes { (acked (table (of_first (entry all all 2 2 2) ∷ of_second (entry pin reading 1 0 1) ∷ [])) (holder first file) all).rows ≡ of_second (entry pin reading 1 0 1) ∷ [] }

@@ -72,7 +72,7 @@ pub fn judged_by_the_last_of_each()
 
 /// What readers are told of an inode that is made, moved, unlinked, forgotten or settled. Of sizes, times, attributes and snapshots
 /// they are told nothing.
-pub fn told_of_inodes()
+pub fn changes_of_inodes()
     ensures file { (attr : Attr) (table : SessionTable) → AreChanges (is_made 2 1 (codes "f") attr false ∷ []) (view root_alone table.sessions)
         (view (with_new root_alone File 1 (codes "f") attr) table.sessions) }
     ensures directory { (attr : Attr) (table : SessionTable) → AreChanges (is_made 2 1 (codes "a") attr true ∷ []) (view root_alone table.sessions)
@@ -96,7 +96,7 @@ pub fn told_of_inodes()
 
 /// What readers are told of a client that comes, has other grants, or goes, and takes its strays along. Of whether it is stale or
 /// blocked they are told nothing.
-pub fn told_of_clients()
+pub fn changes_of_clients()
     ensures comes { (tree : Nodes) (table : SessionTable) → AreChanges (is_opened 1 10 (allow Rws ∷ []) ∷ []) (view tree table.sessions)
         (view tree (with_session table 1 (caller 10 10) (allow Rws ∷ [])).sessions) }
     ensures other_grants { (tree : Nodes) (table : SessionTable) → AreChanges (is_regranted 2 (allow R ∷ []) ∷ []) (view tree table.sessions)

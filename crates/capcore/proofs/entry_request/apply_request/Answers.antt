@@ -7,8 +7,8 @@ use Rattle.step_model.specs.Direct.{with_want}
 use Rattle.capcore.proofs.CommonPieces.{AreCounted, Caps, ClientViews, Entry, Holder, KeptScene, KeptTable, OpenMode, P, Scene, Table, acked, changed, counted-held}
 use Rattle.capcore.proofs.CommonPieces.{entry_at, first_failing, has_pin, opening_wants, plain, revoked_of, same_found, test_at, touched, union, wanting, with_entry}
 use Rattle.capcore.proofs.CommonPieces.{without, without_acked, without_released}
-use Rattle.capcore.proofs.CountsKept.{counted-entry, counted-less}
-use Rattle.capcore.proofs.EntryKept.{kept-changed, kept-less}
+use Rattle.capcore.proofs.CountsStay.{counted-entry, counted-less}
+use Rattle.capcore.proofs.EntryStays.{kept-changed, kept-less}
 use Rattle.capcore.proofs.Revoking.{pin-goes}
 use Rattle.capcore.proofs.entry_request.apply_request.Goals.{in-Open+in_ok-before-in-Open, in-Want}
 use Rattle.capcore.specs.Begun.{AreCountedIn}

@@ -2,7 +2,7 @@ use Rattle.std.proofs.Common.{◌≡◌, cond, not, true, false, Bool, Some, Non
 use Rattle.capbits.specs.Caps.{has}
 use Rattle.capbits.specs.Sets.{no_caps}
 use Rattle.capcore.proofs.CommonPieces.{Caps, Entry, Holder, P, Table, and_parts, entry_at, has-minus, minus}
-use Rattle.capcore.proofs.CountsKept.{idle-changed, idle-without, less-changed, less-without, none-changed, none-without}
+use Rattle.capcore.proofs.CountsStay.{idle-changed, idle-without, less-changed, less-without, none-changed, none-without}
 use Rattle.capcore.proofs.entry_request.give_up.Goals.{After-left_of-left}
 use Rattle.capcore.proofs.entry_request.give_up.Goals as goal
 

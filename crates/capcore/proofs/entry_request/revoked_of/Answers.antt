@@ -9,7 +9,7 @@ returns-in-Some c =
     let k : Holder = c.args.holder in
     let found : entry_at c.args.table.now.entries k ≡ Some c.in-Some.entry = cc in
     λ s table known.
-    c.minus.ensures ∙ ap (minus c.in-Some.entry.held) c.told_to.ensures
+    c.minus.ensures ∙ ap (minus c.in-Some.entry.held) c.pending_for.ensures
     ∙ revoked-known c.args.table.now.kept s k c.in-Some.entry known (ap (λ t. entry_at t k) table ∙ found)
 
 pub returns-in-None : goal.returns-in-None

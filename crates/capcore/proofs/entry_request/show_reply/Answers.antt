@@ -8,7 +8,7 @@ returns-in-Some-clause-reply c = λ s table known.
     let there : entry_at c.args.table.now.entries k ≡ Some c.in-Some.entry = cc in
     let found : entry_at s.scene.table k ≡ Some c.in-Some.entry = ap (λ (t : Table). entry_at t k) table ∙ there in
     let row = row_of-entry s.scene.table k c.in-Some.entry found in
-    let told = known k c.in-Some.entry found in
+    let pending = known k c.in-Some.entry found in
     let shows = c.in-Open.is in
     grind arith
 

@@ -8,7 +8,7 @@ use Rattle.capcore.proofs.IssuedRows.{counted-issued}
 use Rattle.capcore.proofs.ManyInodes.{holders-stay}
 use Rattle.capcore.proofs.SizesOwed.{owed-numbers}
 use Rattle.capcore.proofs.finish.finish.Goals.{After-owe_sizes}
-use Rattle.capcore.specs.Affected.{finished_at, forget_among, told_then}
+use Rattle.capcore.specs.Affected.{finished_at, forget_among, pending_then}
 use Rattle.capcore.specs.Begun.{MayEnd}
 use Rattle.capcore.specs.Serves.{EndsAt}
 use Rattle.capcore.proofs.finish.finish.Goals as goal
@@ -46,7 +46,7 @@ returns-clause-ends g =
           g.forget_affected.ensures.left
           ∙ ap (λ (t : Table). forget_among at (after t)) g.finish_affected.ensures.table
           ∙ ap (λ (t : KeptTable). finished_at at (known_in t.kept) (after t.entries)) (owes c);
-      kept = subst (λ (t : KeptTable). KnownAnew (λ k. at k.ino.0) (told_then (after t.entries)) t.entries t.kept g.finish_affected.new.table.kept) (owes c) g.finish_affected.ensures.known;
+      kept = subst (λ (t : KeptTable). KnownAnew (λ k. at k.ino.0) (pending_then (after t.entries)) t.entries t.kept g.finish_affected.new.table.kept) (owes c) g.finish_affected.ensures.known;
       permitted = λ k. g.finish_affected.ensures.permitted k ∙ ap (λ (t : KeptTable). permitted_of t.kept k) (owes c);
     })
 

@@ -7,14 +7,14 @@ use Rattle.std.specs.FinMap as map
 use Rattle.capbits.specs.Sets.{no_caps}
 use Rattle.capcore.proofs.AtEnd.{entry-alike}
 use Rattle.capcore.proofs.CommonPieces.{ArePermitted, Caps, Entry, EntryRow, InoSet, InodeLocks, IsListOf, Table, entries_on, entry_by, entry_under, has_session}
-use Rattle.capcore.proofs.CommonPieces.{is_of_inode, kept-as, known_in, told_at, told_by, was-there}
+use Rattle.capcore.proofs.CommonPieces.{is_of_inode, kept-as, known_in, pending_at, pending_by, was-there}
 use Rattle.capcore.proofs.ManyInodes.{IsFinishing, all-finished, entries_on-stay, holders-stay, next-apart, next-finished, none-finished, on, same_number}
 use Rattle.capcore.proofs.finish.finish_affected.Goals as goal
 
 pub inodes-init : goal.inodes-init
 inodes-init c =
     let g : EntryRow → Entry = entry_by (known_in c.args.table.now.kept) c.args.policy.now.fs.now c.args.policy.now.tree.now c.args.policy.now.sessions.now c.args.locks.now.locks.states in
-    let f : EntryRow → Caps = told_by c.args.policy.now.fs.now c.args.policy.now.tree.now c.args.policy.now.sessions.now c.args.locks.now.locks.states in
+    let f : EntryRow → Caps = pending_by c.args.policy.now.fs.now c.args.policy.now.tree.now c.args.policy.now.sessions.now c.args.locks.now.locks.states in
     record { so_far = none-finished g f c.args.table.now.entries c.args.table.now.kept c.numbers-walk.result; permitted = λ k. refl }
 
 pub finish_entries-requires : goal.finish_entries-requires
@@ -42,7 +42,7 @@ pub inodes-preserved : goal.inodes-preserved
 inodes-preserved c =
     let t : Table = c.args.table.now.entries in
     let g : EntryRow → Entry = entry_by (known_in c.args.table.now.kept) c.args.policy.now.fs.now c.args.policy.now.tree.now c.args.policy.now.sessions.now c.args.locks.now.locks.states in
-    let f : EntryRow → Caps = told_by c.args.policy.now.fs.now c.args.policy.now.tree.now c.args.policy.now.sessions.now c.args.locks.now.locks.states in
+    let f : EntryRow → Caps = pending_by c.args.policy.now.fs.now c.args.policy.now.tree.now c.args.policy.now.sessions.now c.args.locks.now.locks.states in
     let k : ℕ = c.in-Some.ino.0 in
     let ks : List ℕ = c.next.new.self in
     let rest : c.inodes.walk ≡ k ∷ ks = c.in-Some.ensures.some in
@@ -58,8 +58,8 @@ inodes-preserved c =
           (λ row is kept.
           entry-alike (known_in c.inodes.table.kept) (known_in c.args.table.now.kept) c.args.policy.now.fs.now c.args.policy.now.tree.now c.args.policy.now.sessions.now c.of_ino-now.result c.args.locks.now.locks.states row
           (ap (λ (o : Option Caps). unwrap_or o no_caps) kept) (c.of_ino-now.ensures ∙ sym (ap (map.get c.args.locks.now.locks.states) (eqb-true row.holder.ino.0 k is))))
-          (kept-as (λ q. q.ino.0 == k) (told_at c.args.policy.now.fs.now c.args.policy.now.tree.now c.args.policy.now.sessions.now c.of_ino-now.result) f c.inodes.table.entries c.inodes.table.kept c.finish_entries.new.table.kept
-          (λ row is. ap (λ (o : Option InodeLocks). told_at c.args.policy.now.fs.now c.args.policy.now.tree.now c.args.policy.now.sessions.now o row) (c.of_ino-now.ensures ∙ sym (ap (map.get c.args.locks.now.locks.states) (eqb-true row.holder.ino.0 k is))))
+          (kept-as (λ q. q.ino.0 == k) (pending_at c.args.policy.now.fs.now c.args.policy.now.tree.now c.args.policy.now.sessions.now c.of_ino-now.result) f c.inodes.table.entries c.inodes.table.kept c.finish_entries.new.table.kept
+          (λ row is. ap (λ (o : Option InodeLocks). pending_at c.args.policy.now.fs.now c.args.policy.now.tree.now c.args.policy.now.sessions.now o row) (c.of_ino-now.ensures ∙ sym (ap (map.get c.args.locks.now.locks.states) (eqb-true row.holder.ino.0 k is))))
           c.finish_entries.ensures.known);
       permitted = λ q. c.finish_entries.ensures.permitted q ∙ c.inodes.invariant.permitted q;
     }
@@ -67,7 +67,7 @@ inodes-preserved c =
 pub returns : goal.returns
 returns c =
     let g : EntryRow → Entry = entry_by (known_in c.args.table.now.kept) c.args.policy.now.fs.now c.args.policy.now.tree.now c.args.policy.now.sessions.now c.args.locks.now.locks.states in
-    let f : EntryRow → Caps = told_by c.args.policy.now.fs.now c.args.policy.now.tree.now c.args.policy.now.sessions.now c.args.locks.now.locks.states in
+    let f : EntryRow → Caps = pending_by c.args.policy.now.fs.now c.args.policy.now.tree.now c.args.policy.now.sessions.now c.args.locks.now.locks.states in
     let inos : InoSet = c.args.affected.now in
     let all : List ℕ = c.numbers-walk.result in
     let lists : IsListOf inos all = c.numbers-walk.ensures.list in

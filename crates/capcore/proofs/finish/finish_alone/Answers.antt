@@ -12,11 +12,11 @@ use Rattle.capstep.specs.Known.{HasAll}
 use Rattle.capcore.proofs.CommonPieces.{AreCounted, Caps, ClientViews, Entry, EntryRow, Holder, InodeLocks, IsTable, KeptScene, KeptTable, KnownAnew, OthersHaveAll}
 use Rattle.capcore.proofs.CommonPieces.{Scene, Table, changed_by, changed_where, entry_at, entry_of, entry_under, find_passes, found-contains, is_row_of, kept-as}
 use Rattle.capcore.proofs.CommonPieces.{kept-none, known_anew, known_in, known_of, meet, none_found, permitted_of, plain, remade, renumbered, row_found}
-use Rattle.capcore.proofs.CommonPieces.{row_of-entry, same, same-is, same_equiv, told-less, told_at, told_set}
+use Rattle.capcore.proofs.CommonPieces.{pending-less, pending_at, pending_of, row_of-entry, same, same-is, same_equiv}
 use Rattle.capcore.proofs.SoundEnd.{each-alike, none-sized, same-issue_row, same-renumbered}
 use Rattle.capcore.proofs.IssuedRows.{counted-issued}
 use Rattle.capcore.proofs.finish.finish_alone.Goals.{After-forget_affected, in-Some, in_default}
-use Rattle.capcore.specs.Affected.{finished_at, finished_entry, forget_among, told_then}
+use Rattle.capcore.specs.Affected.{finished_at, finished_entry, forget_among, pending_then}
 use Rattle.capcore.specs.Begun.{AreCountedIn}
 use Rattle.capcore.specs.Serves.{EndsAt}
 use Rattle.capcore.proofs.finish.finish_alone.Goals as goal
@@ -27,16 +27,16 @@ use Rattle.capcore.proofs.finish.finish_alone.Goals as goal
 
 module _ (sets : ClientViews) (s : Scene) (row : EntryRow) (all : HasAll sets s row) where
   -- at the end its client is to know of what it is to know of already
-  told-alike : told_then s row ≡ told_set s row
-  told-alike = ap (told_set s) (same-issue_row s row all.0)
+  pending-alike : pending_then s row ≡ pending_of s row
+  pending-alike = ap (pending_of s) (same-issue_row s row all.0)
 
   -- it stays
   entry-stays : finished_entry (known_in sets) s row ≡ row.entry
   entry-stays =
-      let before : meet (known_in sets row.holder) row.entry.held ≡ told_set s row =
-      ap (λ (o : Option Caps). meet (unwrap_or o no_caps) row.entry.held) all.1 ∙ sym (told-less s row row.entry (λ c held. held)) in
-      ap (λ (r : EntryRow). renumbered (meet (known_in sets row.holder) row.entry.held) (told_then s row) r.entry) (same-issue_row s row all.0)
-      ∙ same-renumbered (meet (known_in sets row.holder) row.entry.held) (told_then s row) row.entry (before ∙ sym told-alike)
+      let before : meet (known_in sets row.holder) row.entry.held ≡ pending_of s row =
+      ap (λ (o : Option Caps). meet (unwrap_or o no_caps) row.entry.held) all.1 ∙ sym (pending-less s row row.entry (λ c held. held)) in
+      ap (λ (r : EntryRow). renumbered (meet (known_in sets row.holder) row.entry.held) (pending_then s row) r.entry) (same-issue_row s row all.0)
+      ∙ same-renumbered (meet (known_in sets row.holder) row.entry.held) (pending_then s row) row.entry (before ∙ sym pending-alike)
 
 -- ---- the entries of an inode
 
@@ -67,11 +67,11 @@ module _ (sets : ClientViews) (s : Scene) (k : Holder) (others : OthersHaveAll s
       ∙ each-alike (λ row. cond (is_row_of k row) (remade last row) row) (λ row. cond (row.holder.ino.0 == k.ino.0) (remade last row) row) s.table.rows row-alike)
 
   -- and to keep anew what the holder's client is to know of, is to keep it of all
-  alone-kept : (now : ClientViews) → KnownAnew (λ j. same j k) (told_then s) s.table sets now → KnownAnew (λ j. j.ino.0 == k.ino.0) (told_then s) s.table sets now
+  alone-kept : (now : ClientViews) → KnownAnew (λ j. same j k) (pending_then s) s.table sets now → KnownAnew (λ j. j.ino.0 == k.ino.0) (pending_then s) s.table sets now
   alone-kept now kept j = kept j ∙ by_tests (same j k) refl (j.ino.0 == k.ino.0) refl (find (is_row_of j) s.table.rows) refl
     where
       by_tests : (a : Bool) → same j k ≡ a → (b : Bool) → (j.ino.0 == k.ino.0) ≡ b → (o : Option EntryRow) → find (is_row_of j) s.table.rows ≡ o
-          → known_anew a (told_then s) o (known_of sets j) ≡ known_anew b (told_then s) o (known_of sets j)
+          → known_anew a (pending_then s) o (known_of sets j) ≡ known_anew b (pending_then s) o (known_of sets j)
       by_tests true is true on o found = refl
       by_tests true is false off o found = absurd (true≢false (sym (on-inode j is) ∙ off))
       by_tests false apart false off o found = refl
@@ -79,7 +79,7 @@ module _ (sets : ClientViews) (s : Scene) (k : Holder) (others : OthersHaveAll s
       by_tests false apart true on (Some row) found =
           let mine : j ≡ row.holder = same-is j row.holder (find_passes (is_row_of j) s.table.rows row found) in
           let all = has-all row (ap (λ h. find (is_row_of h) s.table.rows) (sym mine) ∙ found) (ap (λ (h : Holder). h.ino.0 == k.ino.0) (sym mine) ∙ on) (ap (λ h. same h k) (sym mine) ∙ apart) in
-          ap (known_of sets) mine ∙ all.1 ∙ ap Some (sym (told-alike sets s row all))
+          ap (known_of sets) mine ∙ all.1 ∙ ap Some (sym (pending-alike sets s row all))
 
 pub finish_row-requires : goal.finish_row-requires
 finish_row-requires c =
@@ -113,7 +113,7 @@ module _ (c : After-forget_affected) where
   record EndsOne (now : KeptScene) : Type 0 where
     pub rest : now ≡ record c.args.scene.now { table = now.table }
     pub changed : now.table.entries ≡ changed_by g t k
-    pub kept : KnownAnew (λ j. same j k) (told_then settled) t was now.table.kept
+    pub kept : KnownAnew (λ j. same j k) (pending_then settled) t was now.table.kept
     pub permitted : (j : Holder) → permitted_of now.table.kept j ≡ permitted_of was j
 
   one : EndsOne c.match-find.scene
@@ -122,13 +122,13 @@ module _ (c : After-forget_affected) where
         subst EndsOne (sym w.scene-is) (record {
           rest = refl;
           changed = w.finish_row.ensures.table ∙ ap (λ (o : Option InodeLocks). changed_by (entry_under (known_in was) settled.fs settled.tree settled.sessions o) t k) here;
-          kept = kept-as (λ j. same j k) (told_at settled.fs settled.tree settled.sessions w.of_ino-now.result) (told_then settled) t was w.finish_row.new.table.kept
-              (λ row mine. ap (λ (o : Option InodeLocks). told_at settled.fs settled.tree settled.sessions o row) (here ∙ sym (ap (λ (h : Holder). map.get settled.locks.states h.ino.0) (same-is row.holder k mine))))
+          kept = kept-as (λ j. same j k) (pending_at settled.fs settled.tree settled.sessions w.of_ino-now.result) (pending_then settled) t was w.finish_row.new.table.kept
+              (λ row mine. ap (λ (o : Option InodeLocks). pending_at settled.fs settled.tree settled.sessions o row) (here ∙ sym (ap (λ (h : Holder). map.get settled.locks.states h.ino.0) (same-is row.holder k mine))))
               w.finish_row.ensures.known;
           permitted = w.finish_row.ensures.permitted;
         }))
     | in_default w ↦ (let none : entry_at t k ≡ None = cc in
-        subst EndsOne (sym w.scene-is) (record { rest = refl; changed = none_found t k (λ e. g (record { holder = k; entry = e })) none; kept = kept-none (told_then settled) t was k none; permitted = λ j. refl }))
+        subst EndsOne (sym w.scene-is) (record { rest = refl; changed = none_found t k (λ e. g (record { holder = k; entry = e })) none; kept = kept-none (pending_then settled) t was k none; permitted = λ j. refl }))
   ]
 
   -- and with it all on its inode have
@@ -146,7 +146,7 @@ returns-clause-ends c =
           ∙ (λ i. forget_among (λ other. other == (k c).ino.0) (record (settled c) { table = all_changed c i }))
           ∙ ap (finished_at (λ other. other == (k c).ino.0) (known_in (was c))) (sym (none-sized (settled c)));
       kept =
-          subst (λ (s : Scene). KnownAnew (λ j. j.ino.0 == (k c).ino.0) (told_then s) s.table (was c) c.match-find.scene.table.kept) (sym (none-sized (settled c)))
+          subst (λ (s : Scene). KnownAnew (λ j. j.ino.0 == (k c).ino.0) (pending_then s) s.table (was c) c.match-find.scene.table.kept) (sym (none-sized (settled c)))
           (alone-kept (was c) (settled c) (k c) c.requires.others c.find.ensures.sound c.match-find.scene.table.kept ended.kept);
       permitted = ended.permitted;
     }))

@@ -11,10 +11,10 @@ use Rattle.std.specs.Option.{unwrap_or}
 use Rattle.capbits.specs.Sets.{no_caps}
 use Rattle.capstep.proofs.KeptSets.{kept-on, not-yet}
 use Rattle.capcore.proofs.AtEnd.{distinct-on, named, named-clients}
-use Rattle.capcore.proofs.CommonPieces.{Caps, ClientViews, Entry, EntryRow, Holder, KnownAnew, Table, changed, changed_by, changed_where, due_under, entries_on}
+use Rattle.capcore.proofs.CommonPieces.{Caps, ClientViews, Entry, EntryRow, Holder, KnownAnew, Table, changed, changed_by, changed_where, entries_on, issuable_under}
 use Rattle.capcore.proofs.CommonPieces.{entry_at, entry_of, entry_under, filter-contains, fold-changed_by, fold-on_inode, found-contains, found-stays, holder}
 use Rattle.capcore.proofs.CommonPieces.{holders_of_rows, is_among, is_of_inode, is_row_of, kept-nobody, kept-none, kept-not, kept-same, kept-then, known_in}
-use Rattle.capcore.proofs.CommonPieces.{none_found, numbered_as, permitted_of, row_of-entry, same, same-is, told_at}
+use Rattle.capcore.proofs.CommonPieces.{none_found, numbered_as, pending_at, permitted_of, row_of-entry, same, same-is}
 use Rattle.capcore.proofs.finish.finish_entries.Goals.{After-is_empty, in-Some, in_default}
 use Rattle.capcore.proofs.finish.finish_entries.Goals as goal
 
@@ -28,7 +28,7 @@ module _ (c : After-is_empty) where
   made sets = entry_under (known_in sets) c.args.policy.now.fs.now c.args.policy.now.tree.now c.args.policy.now.sessions.now c.args.locks.now
 
   abbrev says : EntryRow → Caps
-  says = told_at c.args.policy.now.fs.now c.args.policy.now.tree.now c.args.policy.now.sessions.now c.args.locks.now
+  says = pending_at c.args.policy.now.fs.now c.args.policy.now.tree.now c.args.policy.now.sessions.now c.args.locks.now
 
   all : ks ≡ holders_of_rows (entries_on c.args.table.now.entries c.args.ino)
   all = ap (named c.args.ino) (c.as_slice-numbers.ensures.value ∙ c.clients_on-clients.ensures.clients) ∙ named-clients c.args.ino c.args.table.now.entries.rows
@@ -82,7 +82,7 @@ module _ (c : After-is_empty) where
       alike : (e : Entry) → made mid (record { holder = next; entry = e }) ≡ g (record { holder = next; entry = e })
       alike e =
           let row : EntryRow = record { holder = next; entry = e } in
-          ap (λ (o : Option Caps). numbered_as (unwrap_or o no_caps) (says row) (due_under c.args.policy.now.fs.now c.args.policy.now.tree.now c.args.policy.now.sessions.now c.args.locks.now row) row)
+          ap (λ (o : Option Caps). numbered_as (unwrap_or o no_caps) (says row) (issuable_under c.args.policy.now.fs.now c.args.policy.now.tree.now c.args.policy.now.sessions.now c.args.locks.now row) row)
           (kept-not (is_among (take i ks)) says t was mid known next named_before)
 
       one_more : (v : Table) (now : ClientViews) → v ≡ changed_by (made mid) u next → KnownAnew (λ j. same j next) says u mid now

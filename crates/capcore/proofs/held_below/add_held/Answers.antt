@@ -6,7 +6,7 @@ use Rattle.capcore.proofs.CommonPieces.{EntryRow, Ino, InoSet}
 use Rattle.capstep.proofs.InoSets.{added, few-tried, widens-tried}
 use Rattle.capstep.proofs.Walked.{IsAdded, added-more}
 use Rattle.capcore.proofs.held_below.add_held.Goals.{else-is_held, then-is_held+in_ok-add_place+in_ok-insert}
-use Rattle.capstep.specs.Reach.{Widens}
+use Rattle.capstep.specs.AffectedInodes.{Widens}
 use Rattle.capcore.proofs.held_below.add_held.Goals as goal
 
 pub loop-ino-preserved : goal.loop-ino-preserved

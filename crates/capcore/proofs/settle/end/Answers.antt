@@ -23,9 +23,9 @@ pub settle-requires : goal.settle-requires
 settle-requires c =
     let ready = entry_ready (goal.at.settle-requires c).In-Entry in
     let may = ready.entries in
-    let one = ap (λ (inos : InoSet). set.len inos) c.of-reached.ensures ∙ one-counts c.in-Entry.holder.ino.0 in
+    let one = ap (λ (inos : InoSet). set.len inos) c.of-included.ensures ∙ one-counts c.in-Entry.holder.ino.0 in
     record {
-      settles = subst (λ (from : ℕ → Bool). MaySettle from (plain c.args.scene.now)) (sym (ap set.contains c.of-reached.ensures ∙ one-inode c.in-Entry.holder.ino.0)) ready.settles;
+      settles = subst (λ (from : ℕ → Bool). MaySettle from (plain c.args.scene.now)) (sym (ap set.contains c.of-included.ensures ∙ one-inode c.in-Entry.holder.ino.0)) ready.settles;
       judged = ready.judged;
       room = ready.room;
       places = omega (arith, one, ready.at.0);
@@ -37,8 +37,8 @@ module _ (c : After-settle) where
   abbrev ino : ℕ
   ino = c.in-Entry.holder.ino.0
 
-  only : set.contains c.of-reached.result ≡ (λ other. other == ino)
-  only = ap set.contains c.of-reached.ensures ∙ one-inode ino
+  only : set.contains c.of-included.result ≡ (λ other. other == ino)
+  only = ap set.contains c.of-included.ensures ∙ one-inode ino
 
   ready_was : IsReady (Entry c.in-Entry.holder) c.args.scene.now.table.kept (plain c.args.scene.now) c.args.output.now
   ready_was = subst (λ (a : Affected). IsReady a c.args.scene.now.table.kept (plain c.args.scene.now) c.args.output.now) c.in-Entry.is c.requires.ready
@@ -57,8 +57,8 @@ module _ (c : After-settle) where
   ends_there sized are sets last ends =
       let settles = c.settle.ensures.settles in
       subst (λ (from : ℕ → Bool). EndsWith from c.args.scene.now.table.kept sets (plain c.args.scene.now) last c.settle.new.output.given.items) only
-      (settled-ends (set.contains c.settle.new.affected) (set.contains c.of-reached.result) c.args.scene.now.table.kept c.settle.new.scene.table.kept sets (plain c.args.scene.now) (plain c.settle.new.scene) last
-      c.settle.new.output.given.items c.settle.new.output.sized.items settles c.settle.ensures.tree c.settle.ensures.told c.settle.ensures.permitted
+      (settled-ends (set.contains c.settle.new.affected) (set.contains c.of-included.result) c.args.scene.now.table.kept c.settle.new.scene.table.kept sets (plain c.args.scene.now) (plain c.settle.new.scene) last
+      c.settle.new.output.given.items c.settle.new.output.sized.items settles c.settle.ensures.tree c.settle.ensures.pending c.settle.ensures.permitted
       (subst (λ (sized : List Ino). EndsAt (set.contains c.settle.new.affected) sized c.settle.new.scene.table.kept sets (plain c.settle.new.scene) last) (sym are) ends))
 
   may_end : MayEnd c.settle.new.scene.table.kept (plain c.settle.new.scene)
@@ -70,8 +70,8 @@ finish_alone-requires-clause-others c =
     let ready = ready_was here in
     let nobody : c.settle.new.output.given.items ≡ [] = nil_from_length c.settle.new.output.given.items (omega (arith, eqb-true (vec_len c.settle.new.output.given) 0 (sym c.is_empty.ensures ∙ c.if-is_empty.true))) in
     let same = sym c.of_ino.ensures ∙ same-locks c.of_ino.result c.of_ino-before.result (sym c.eq.ensures ∙ c.if-eq.true) ∙ c.of_ino-before.ensures in
-    others-still (set.contains c.settle.new.affected) (set.contains c.of-reached.result) (plain c.args.scene.now) (plain c.settle.new.scene) c.settle.new.output.given.items c.settle.new.output.sized.items
-    c.settle.ensures.settles nobody c.args.scene.now.table.kept c.settle.new.scene.table.kept c.in-Entry.holder c.settle.ensures.told same ready.at.1
+    others-still (set.contains c.settle.new.affected) (set.contains c.of-included.result) (plain c.args.scene.now) (plain c.settle.new.scene) c.settle.new.output.given.items c.settle.new.output.sized.items
+    c.settle.ensures.settles nobody c.args.scene.now.table.kept c.settle.new.scene.table.kept c.in-Entry.holder c.settle.ensures.pending same ready.at.1
 
 pub finish_alone-requires-clause-entries : goal.finish_alone-requires-clause-entries
 finish_alone-requires-clause-entries c = may_end (goal.at.finish_alone-requires-clause-entries c).After-settle
@@ -89,7 +89,7 @@ pub returns-then-eq-clause-ends : goal.returns-then-eq-clause-ends
 returns-then-eq-clause-ends c =
     let here = (goal.at.returns-then-eq-clause-ends c).After-settle in
     let nobody : c.settle.new.output.given.items ≡ [] = nil_from_length c.settle.new.output.given.items (omega (arith, eqb-true (vec_len c.settle.new.output.given) 0 (sym c.is_empty.ensures ∙ c.if-is_empty.true))) in
-    let none = served_none (set.contains c.settle.new.affected) (set.contains c.of-reached.result) (plain c.args.scene.now) (plain c.settle.new.scene) c.settle.new.output.given.items c.settle.new.output.sized.items
+    let none = served_none (set.contains c.settle.new.affected) (set.contains c.of-included.result) (plain c.args.scene.now) (plain c.settle.new.scene) c.settle.new.output.given.items c.settle.new.output.sized.items
     c.settle.ensures.settles nobody in
     rw c.in-Entry.is (ends_there here [] none.0 c.finish_alone.new.scene.table.kept (plain c.finish_alone.new.scene) c.finish_alone.ensures.ends)
 
@@ -135,7 +135,7 @@ returns-clause-ends c =
     (sym (ap (λ (e : StepOutput). e.given.items) c.finish-in-Inodes.ensures.rest))
     (settled-ends (set.contains c.settle-in-Inodes.new.affected) (set.contains c.in-Inodes.inos) c.args.scene.now.table.kept c.settle-in-Inodes.new.scene.table.kept c.finish-in-Inodes.new.scene.table.kept
     (plain c.args.scene.now) settled (plain c.finish-in-Inodes.new.scene) c.settle-in-Inodes.new.output.given.items c.settle-in-Inodes.new.output.sized.items
-    c.settle-in-Inodes.ensures.settles c.settle-in-Inodes.ensures.tree c.settle-in-Inodes.ensures.told c.settle-in-Inodes.ensures.permitted c.finish-in-Inodes.ensures.ends))
+    c.settle-in-Inodes.ensures.settles c.settle-in-Inodes.ensures.tree c.settle-in-Inodes.ensures.pending c.settle-in-Inodes.ensures.permitted c.finish-in-Inodes.ensures.ends))
 
 pub returns-clause-lead : goal.returns-clause-lead
 returns-clause-lead c =

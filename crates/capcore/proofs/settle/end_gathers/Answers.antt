@@ -4,7 +4,7 @@ use Rattle.std.specs.FinMap as map
 use Rattle.std.specs.FinSet as set
 use Rattle.lockmachine.proofs.Ending.{ends-little}
 use Rattle.capcore.proofs.CommonPieces.{AreCounted, IsNext, Nodes, Part, SessionTable, WaitAt, may_end_by, scene}
-use Rattle.capcore.proofs.CountsKept.{counted-at}
+use Rattle.capcore.proofs.CountsStay.{counted-at}
 use Rattle.capcore.proofs.Sweeping.{ends-passed, fewer_behind, same-elsewhere, swept-begins, swept-on}
 use Rattle.capcore.proofs.settle.end_gathers.Goals.{After-end_gathers_at}
 use Rattle.capcore.specs.Sweep.{IsSwept}

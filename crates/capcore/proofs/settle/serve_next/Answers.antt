@@ -74,5 +74,5 @@ returns-clause-counted c = λ all.
     subst AreCountedIn (sym c.renew_served.ensures.rest)
     (subst AreCountedIn (sym c.serve-served.ensures.rest) (subst (AreCounted c.args.scene.now.table.entries) (sym c.apply_move.ensures.locks) all))
 
-pub returns-clause-told : goal.returns-clause-told
-returns-clause-told c = λ k. c.renew_served.ensures.told k ∙ ap (λ (s : KeptScene). known_of s.table.kept k) c.serve-served.ensures.rest
+pub returns-clause-pending : goal.returns-clause-pending
+returns-clause-pending c = λ k. c.renew_served.ensures.pending k ∙ ap (λ (s : KeptScene). known_of s.table.kept k) c.serve-served.ensures.rest

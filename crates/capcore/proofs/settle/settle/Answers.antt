@@ -5,7 +5,7 @@ use Rattle.std.specs.List.{filter_map}
 use Rattle.std.specs.FinSet as set
 use Rattle.capstep.proofs.Walked.{none-walked}
 use Rattle.step_model.specs.Settle.{is_done, sets_size}
-use Rattle.capcore.proofs.CommonPieces.{AreWalked, Covers, Ended, Ino, InoSet, IsLockMap, IsTree, KeptScene, LeadOn, Nodes, Outcome, Reaches, Request, Scene, Serve}
+use Rattle.capcore.proofs.CommonPieces.{AreWalked, Covers, Ended, Ino, InoSet, IsLockMap, IsTree, IsWidenedBy, KeptScene, LeadOn, Nodes, Outcome, Request, Scene, Serve}
 use Rattle.capcore.proofs.CommonPieces.{Served, Table, ends_not, first_move, known_of, leads-none, leads-then, lock_at, plain, request_at, served-at, sized_in}
 use Rattle.capcore.proofs.CommonPieces.{tree_after}
 use Rattle.capcore.proofs.Judged.{none-judged, still-judged}
@@ -26,8 +26,8 @@ use Rattle.capcore.proofs.settle.settle.Goals as goal
 
 -- when a request was served, what was walked over is affected still: the serving left the tree, or moved nothing but what is affected
 walked-served : (tree after : Nodes) (q : Request) (o : Outcome) (table : Table) (walked was affected : InoSet) → after ≡ tree_after tree q o
-    → Reaches q tree after table was affected → AreWalked walked tree table affected → AreWalked walked after table affected
-walked-served tree after q o table walked was affected is reaches all = elim reaches.covers [
+    → IsWidenedBy q tree after table was affected → AreWalked walked tree table affected → AreWalked walked after table affected
+walked-served tree after q o table walked was affected is widened all = elim widened.covers [
   | inl same ↦ subst (λ (t : Nodes). AreWalked walked t table affected) (sym same) all
   | inr covers ↦ subst (λ (t : Nodes). AreWalked walked t table affected) (sym is) (by_move covers)
 ]
@@ -41,14 +41,14 @@ walked-served tree after q o table walked was affected is reaches all = elim rea
 pub end_gathers-requires : goal.end_gathers-requires
 end_gathers-requires c =
     let first : Scene = plain c.args.scene.now in
-    record { counted = c.requires.counted; elsewhere = λ other part off. ends_not first (other, part) (lock_at first.locks other part) (c.requires.settles.quiet.each_other other part off) }
+    record { counted = c.requires.counted; elsewhere = λ other part off. ends_not first (other, part) (lock_at first.locks other part) (c.requires.settles.resting.each_other other part off) }
 
 pub servings-init : goal.servings-init
 servings-init c =
     let first : Scene = plain c.args.scene.now in
     let now : Scene = record (plain c.args.scene.now) { locks = c.end_gathers.new.locks.locks } in
     let at : ℕ → Bool = set.contains c.args.affected.now in
-    let begun = so-far-begins c.args.affected.now first c.requires.settles.quiet in
+    let begun = so-far-begins c.args.affected.now first c.requires.settles.resting in
     let swept : IsSwept at first now = c.end_gathers.ensures.swept first.fs first.tree first.sessions begun.waits in
     let so : IsSoFar at c.args.affected.now first now [] [] = so-far-swept at c.args.affected.now first first [] [] begun now swept in
     let queue : length c.end_gathers.new.locks.locks.queue ≡ length c.args.scene.now.locks.locks.queue = ap length swept.queue in
@@ -167,13 +167,13 @@ module _ (c : After-serve_next-changed) where
   abbrev serves : Serves (mid (before_serving c)) c.in-Some.ticket ended new
   serves = c.serve_next-changed.ensures.served.1
 
-  abbrev reaches : Reaches serves.request c.sweep.new.scene.tree c.serve_next-changed.new.scene.tree c.sweep.new.scene.table.entries c.servings.affected c.serve_next-changed.new.affected
-  reaches = c.serve_next-changed.ensures.reached serves.request serves.waits
+  abbrev widened : IsWidenedBy serves.request c.sweep.new.scene.tree c.serve_next-changed.new.scene.tree c.sweep.new.scene.table.entries c.servings.affected c.serve_next-changed.new.affected
+  widened = c.serve_next-changed.ensures.included serves.request serves.waits
 
   served : IsSoFar (from (before_serving c)) c.serve_next-changed.new.affected (first (before_serving c)) new (c.servings.output.given.items ++ ended ∷ []) (c.servings.output.sized.items ++ sized_in (Served serves.request ended.outcome ∷ []))
   served =
       so-far-served (from (before_serving c)) c.servings.affected (first (before_serving c)) (mid (before_serving c)) c.servings.output.given.items c.servings.output.sized.items (swept (before_serving c))
-      c.in-Some.ticket ended new c.serve_next-changed.new.affected (order (before_serving c)) (tree (before_serving c)) (move (before_serving c)) serves reaches
+      c.in-Some.ticket ended new c.serve_next-changed.new.affected (order (before_serving c)) (tree (before_serving c)) (move (before_serving c)) serves widened
 
   one_more : length (c.servings.output.given.items ++ ended ∷ []) ≡ length c.servings.output.given.items + 1
   one_more = length-append c.servings.output.given.items (ended ∷ [])
@@ -214,18 +214,18 @@ holds c next goes =
           (subst (IsSoFar (from (before_serving c)) c.serve_next-changed.new.affected (first (before_serving c)) (new c) (c.servings.output.given.items ++ ended c ∷ [])) (sym sizes) (served c));
       stands =
           stands-behind (from (before_serving c)) c.servings.affected (first (before_serving c)) (mid (before_serving c)) c.servings.output.given.items c.servings.output.sized.items (swept (before_serving c))
-          c.in-Some.ticket (ended c) (new c) c.serve_next-changed.new.affected (order (before_serving c)) (tree (before_serving c)) (move (before_serving c)) (serves c) (reaches c)
+          c.in-Some.ticket (ended c) (new c) c.serve_next-changed.new.affected (order (before_serving c)) (tree (before_serving c)) (move (before_serving c)) (serves c) (widened c)
           c.sweep.new.place next c.serve_next-changed.result c.sweep.ensures.place (c.serve_next-changed.ensures.changed (serves c).request (serves c).waits) goes;
       walked =
           subst (λ (t : Table). AreWalked c.serve_next-changed.new.walked (new c).tree t c.serve_next-changed.new.affected) (sym (ap (λ (s : Scene). s.table) (serves c).is))
           (walked-served c.sweep.new.scene.tree (new c).tree request (ended c).outcome c.sweep.new.scene.table.entries c.serve_next-changed.new.walked c.servings.affected c.serve_next-changed.new.affected
-          (ap (λ (s : Scene). s.tree) (serves c).is) (reaches c) c.serve_next-changed.ensures.walked);
+          (ap (λ (s : Scene). s.tree) (serves c).is) (widened c) c.serve_next-changed.ensures.walked);
       judged = none-judged c.serve_next-changed.new.output.judged (new c) c.serve_next-changed.ensures.judged;
       same = same;
       lead = leads-then c.args.output.now.changes.items c.servings.output.changes.items c.serve_next-changed.new.output.changes.items c.args.scene.now.tree c.sweep.new.scene.tree (new c).tree
           (subst (λ (s : Scene). LeadOn c.args.output.now.changes.items c.servings.output.changes.items c.args.scene.now.tree s.tree) (sym is) c.servings.invariant.lead) c.serve_next-changed.ensures.lead;
       places = omega (arith, less, c.serve_next-changed.ensures.noted, c.serve_next-changed.ensures.places, c.servings.invariant.places);
-      known = λ k. c.serve_next-changed.ensures.told k ∙ ap (λ (s : KeptScene). known_of s.table.kept k) c.sweep.ensures.rest ∙ c.servings.invariant.known k;
+      known = λ k. c.serve_next-changed.ensures.pending k ∙ ap (λ (s : KeptScene). known_of s.table.kept k) c.sweep.ensures.rest ∙ c.servings.invariant.known k;
       permitted = c.serve_next-changed.ensures.permitted;
       counted = c.serve_next-changed.ensures.counted c.sweep.ensures.counted;
       given = omega (arith, more, less, room.0, c.servings.invariant.given);
@@ -263,8 +263,8 @@ returns-clause-lead c =
 pub returns-clause-permitted : goal.returns-clause-permitted
 returns-clause-permitted c = subst (λ (s : KeptScene). ArePermittedIn s.table.kept (plain s)) (sym c.sweep.ensures.rest) c.servings.invariant.permitted
 
-pub returns-clause-told : goal.returns-clause-told
-returns-clause-told c = λ k. ap (λ (s : KeptScene). known_of s.table.kept k) c.sweep.ensures.rest ∙ c.servings.invariant.known k
+pub returns-clause-pending : goal.returns-clause-pending
+returns-clause-pending c = λ k. ap (λ (s : KeptScene). known_of s.table.kept k) c.sweep.ensures.rest ∙ c.servings.invariant.known k
 
 pub returns-clause-places : goal.returns-clause-places
 returns-clause-places c =

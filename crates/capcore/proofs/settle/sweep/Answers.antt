@@ -1,9 +1,9 @@
 use Rattle.std.proofs.Common.{◌≡◌, ◌+◌, Some, sym, ap, subst}
 use Rattle.std.specs.FinSet as set
 use Rattle.lockmachine.proofs.Alone.{nobody-done, nobody-kept}
-use Rattle.lockmachine.specs.Cursors.{IsDue}
+use Rattle.lockmachine.specs.Cursors.{IsServable}
 use Rattle.capcore.proofs.CommonPieces.{IsNext, KeptScene, Scene, plain}
-use Rattle.capcore.proofs.Sweeping.{fewer_behind, last-cursor, next-cursor, still-kept, swept-on}
+use Rattle.capcore.proofs.Sweeping.{fewer_behind, last-cursor, next-cursor, still-stays, swept-on}
 use Rattle.capcore.proofs.settle.sweep.Goals.{After-advance_at}
 use Rattle.capcore.specs.Begun.{ArePermittedIn}
 use Rattle.capcore.specs.Sweep.{AreStill, IsSwept, StandsAt}
@@ -30,7 +30,7 @@ module _ (c : After-advance_at) where
   still : AreStill (set.contains c.args.affected.now) new
   still =
       let is = more in
-      subst (AreStill (set.contains c.args.affected.now)) (sym is.is) (still-kept (set.contains c.args.affected.now) first new.locks c.requires.still is.queue is.states)
+      subst (AreStill (set.contains c.args.affected.now)) (sym is.is) (still-stays (set.contains c.args.affected.now) first new.locks c.requires.still is.queue is.states)
 
   -- the locks alone change
   rest : after ≡ record c.args.scene.now { locks = c.advance_at.new.self }
@@ -63,7 +63,7 @@ pub inodes-preserved : goal.inodes-preserved
 inodes-preserved c =
     let here = (goal.at.inodes-preserved c).After-advance_at in
     let next : IsNext c.args.affected.now (c.inodes.place.at.0 + 1) (Some c.in-Some-after.at) = subst (IsNext c.args.affected.now (c.inodes.place.at.0 + 1)) c.in-Some-after.is c.after.ensures in
-    let done = subst (IsDue (new here) c.inodes.place.at.0) c.in_default.is c.advance_at.ensures.due in
+    let done = subst (IsServable (new here) c.inodes.place.at.0) c.in_default.is c.advance_at.ensures.servable in
     record {
       rest = rest here;
       counted = c.advance_at.ensures.counted;
@@ -85,7 +85,7 @@ pub returns-in-None-clause-next : goal.returns-in-None-clause-next
 returns-in-None-clause-next c =
     let here = (goal.at.returns-in-None-clause-next c).After-advance_at in
     let beyond = subst (IsNext c.args.affected.now (c.inodes.place.at.0 + 1)) c.in-None.is c.after.ensures in
-    let done = subst (IsDue (new here) c.inodes.place.at.0) c.in_default.is c.advance_at.ensures.due in
+    let done = subst (IsServable (new here) c.inodes.place.at.0) c.in_default.is c.advance_at.ensures.servable in
     last-cursor c.args.affected.now (new here) c.inodes.place.at.0 (still here) c.advance_at.ensures.cursor done beyond
 
 pub advance_at-requires : goal.advance_at-requires

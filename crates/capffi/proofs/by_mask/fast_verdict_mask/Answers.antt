@@ -1,7 +1,7 @@
 use Rattle.std.proofs.Common.{List, subst, ℕ}
 use Rattle.std.specs.Prelude.{Ok}
 use Rattle.capffi.specs.declared.passed.Answer.{Answer}
-use Rattle.capffi.specs.ByMask.{IsFastToMask, IsSaidOnMask}
+use Rattle.capffi.specs.ByMask.{IsFastToMask, IsMaskJudgedOn}
 use Rattle.capffi.proofs.Telling.{tells_more}
 use Rattle.capffi.proofs.by_mask.fast_verdict_mask.Goals as goal
 
@@ -13,6 +13,6 @@ returns c =
     let found = is groups in (
       found.0,
       found.1,
-      subst (λ (names : List (List ℕ)). IsSaidOnMask c.args.block.now c.args.text.now names groups c.args.check.now (Ok found.0)) c.without_slash-bare.ensures found.2,
+      subst (λ (names : List (List ℕ)). IsMaskJudgedOn c.args.block.now c.args.text.now names groups c.args.check.now (Ok found.0)) c.without_slash-bare.ensures found.2,
       found.3,
     )) c.fast_bare.ensures

@@ -7,7 +7,7 @@ use Rattle.capscript.proofs.running.answer_event.Goals as goal
 pub returns-in-Ok-reply_lines-clause-ok : goal.returns-in-Ok-reply_lines-clause-ok
 returns-in-Ok-reply_lines-clause-ok g c = on_ok c.write_text.result c.write_text.ensures.ok (λ wrote. (
   c.in-Ok-reply_lines.text.items,
-  record { answer = c.in-Ok.reply; next = c.in-Ok.ensures.promised.next; text_is = c.in-Ok-reply_lines.ensures },
+  record { reply = c.in-Ok.reply; next = c.in-Ok.ensures.promised.next; text_is = c.in-Ok-reply_lines.ensures },
   subst (λ (text : List ℕ). Appends (g.W.Write.contents (inner_of c.args.writer.now)) (g.W.Write.contents (inner_of c.write_text.new.writer)) text) c.as_slice.ensures.value wrote,
 ))
 
@@ -18,4 +18,4 @@ where_err (Err x) e is h = h
 pub returns-in-Ok-reply_lines-clause-part : goal.returns-in-Ok-reply_lines-clause-part
 returns-in-Ok-reply_lines-clause-part g c is =
     let front = where_err c.write_text.result _ is c.write_text.ensures.err in
-    (front.0, front.1, record { answer = c.in-Ok.reply; next = c.in-Ok.ensures.promised.next; text_is = sym front.2 ∙ c.as_slice.ensures.value ∙ c.in-Ok-reply_lines.ensures }, front.3)
+    (front.0, front.1, record { reply = c.in-Ok.reply; next = c.in-Ok.ensures.promised.next; text_is = sym front.2 ∙ c.as_slice.ensures.value ∙ c.in-Ok-reply_lines.ensures }, front.3)

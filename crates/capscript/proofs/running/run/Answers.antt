@@ -17,10 +17,10 @@ never_long None old new read script result is long = tt
 never_long (Some all) old new read script result is long = λ more. absurd (elim (long more) [ inl stop ↦ cc | inr stop ↦ cc ])
 
 never_told : {S P : Type 0} (read : Result S ScriptFault) (script : S) → read ≡ Ok script → read ≡ Err stops.ReadFault → P
-never_told read script is told = absurd (cc)
+never_told read script is reported = absurd (cc)
 
 same_stop : {S T : Type 0} (read : Result S ScriptFault) (result : Result T ScriptFault) (fault stop : ScriptFault) → read ≡ Err fault → result ≡ Err fault → read ≡ Err stop → result ≡ Err stop
-same_stop read result fault stop was is told = let same : fault ≡ stop = cc in cc
+same_stop read result fault stop was is reported = let same : fault ≡ stop = cc in cc
 
 -- and where none was read, and nothing was written
 long_told : {S T : Type 0} (known written : Option (List ℕ)) (read : Result S ScriptFault) (result : Result T ScriptFault) (fault : ScriptFault) → read ≡ Err fault → result ≡ Err fault → IfSome known (λ all. longest_script < length all → (read ≡ Err stops.ReadFault) ⊎ (read ≡ Err stops.NoMemory))
@@ -30,9 +30,9 @@ long_told (Some all) written read result fault was is long = λ more.
     (elim (long more) [ inl stop ↦ inl (same_stop read result fault stops.ReadFault was is stop) | inr stop ↦ inr (same_stop read result fault stops.NoMemory was is stop) ], none_appended written)
 
 -- memory was missed for the core
-missed : {S T : Type 0} (core : Result S ScriptFault) (result : Result T ScriptFault) (fault : ScriptFault) → core ≡ Err fault → core ≡ Err stops.NoMemory → IsErrAnd result (λ told. told ≡ fault) → result ≡ Err stops.NoMemory
-missed core (Ok done) fault was none told = absurd told
-missed core (Err same) fault was none told = let same_fault : same ≡ fault = told in same_stop core (Err same) fault stops.NoMemory was (cc) none
+missed : {S T : Type 0} (core : Result S ScriptFault) (result : Result T ScriptFault) (fault : ScriptFault) → core ≡ Err fault → core ≡ Err stops.NoMemory → IsErrAnd result (λ reported. reported ≡ fault) → result ≡ Err stops.NoMemory
+missed core (Ok done) fault was none reported = absurd reported
+missed core (Err same) fault was none reported = let same_fault : same ≡ fault = reported in same_stop core (Err same) fault stops.NoMemory was (cc) none
 
 missed_long : {T : Type 0} (known written : Option (List ℕ)) (result : Result T ScriptFault) → result ≡ Err stops.NoMemory → IfSome known (λ all. longest_script < length all → ((result ≡ Err stops.ReadFault) ⊎ (result ≡ Err stops.NoMemory)) × Appends written written [])
 missed_long None written result is = tt
@@ -49,8 +49,8 @@ returns-in_err-core-clause-ran g c =
     known_ran _ (g.R.Read.remaining (inner_of c.args.reader.now)) (g.W.Write.contents (inner_of c.args.writer.now)) (has_ended c.args.reader.now) c.in_err-core.field-0.0 c.from_residual.result c.from_residual.ensures.1
     (early_fault (Err c.in_err-core.field-0.0) c.in_err-core.field-0.0 (has_ended c.args.reader.now) refl (inr c.in_err-core.ensures.err) (λ is. c.requires.reader_unended))
 
-pub returns-in_err-core-clause-read_told : goal.returns-in_err-core-clause-read_told
-returns-in_err-core-clause-read_told g c = λ set. absurd (false≢true (sym c.requires.reader_clear ∙ set))
+pub returns-in_err-core-clause-read_failed : goal.returns-in_err-core-clause-read_failed
+returns-in_err-core-clause-read_failed g c = λ set. absurd (false≢true (sym c.requires.reader_clear ∙ set))
 
 pub returns-in_err-core-clause-long : goal.returns-in_err-core-clause-long
 returns-in_err-core-clause-long g c =
@@ -72,8 +72,8 @@ returns-in-Ok-clause-ran g c =
     whole_ran (g.R.Read.remaining (inner_of c.args.reader.now)) (g.R.Read.remaining (inner_of c.read_script.new.reader)) (g.W.Write.contents (inner_of c.args.writer.now)) (g.W.Write.contents (inner_of c.answer_script.new.writer))
     c.in-Ok.script.items (has_ended c.read_script.new.reader) c.answer_script.result r.ok r.end r.seen a.read a.ran
 
-pub returns-in-Ok-clause-read_told : goal.returns-in-Ok-clause-read_told
-returns-in-Ok-clause-read_told g c = λ set. never_told (Ok c.in-Ok.script) c.in-Ok.script refl (c.in-Ok.ensures.told set)
+pub returns-in-Ok-clause-read_failed : goal.returns-in-Ok-clause-read_failed
+returns-in-Ok-clause-read_failed g c = λ set. never_told (Ok c.in-Ok.script) c.in-Ok.script refl (c.in-Ok.ensures.reported set)
 
 pub returns-in-Ok-clause-long : goal.returns-in-Ok-clause-long
 returns-in-Ok-clause-long g c =
@@ -88,8 +88,8 @@ returns-in-Ok-clause-written g c = c.answer_script.ensures.written
 pub returns-in-Ok-clause-taken : goal.returns-in-Ok-clause-taken
 returns-in-Ok-clause-taken g c = c.in-Ok.ensures.taken
 
-pub returns-in-Err-clause-read_told : goal.returns-in-Err-clause-read_told
-returns-in-Err-clause-read_told g c = λ set. same_stop (Err c.in-Err.fault) (Err c.in-Err.fault) c.in-Err.fault stops.ReadFault refl refl (c.in-Err.ensures.told set)
+pub returns-in-Err-clause-read_failed : goal.returns-in-Err-clause-read_failed
+returns-in-Err-clause-read_failed g c = λ set. same_stop (Err c.in-Err.fault) (Err c.in-Err.fault) c.in-Err.fault stops.ReadFault refl refl (c.in-Err.ensures.reported set)
 
 pub returns-in-Err-clause-long : goal.returns-in-Err-clause-long
 returns-in-Err-clause-long g c =

@@ -1,7 +1,7 @@
 use Rattle.std.proofs.Common.{◌≡◌, ◌∙◌}
 use Rattle.left_right.specs.Sides.{view as place_view}
-use Rattle.snapshot.specs.Places.{IsTold}
-use Rattle.snapshot.proofs.Publishing.{has_seen, held_of, told_same}
+use Rattle.snapshot.specs.Places.{IsOriginKnown}
+use Rattle.snapshot.proofs.Publishing.{has_seen, held_of, origin_same}
 use Rattle.snapshot.proofs.Seeing.{looks}
 use Rattle.capserver.proofs.reader.begin_reading.Goals as goal
 
@@ -16,4 +16,4 @@ returns-in-Ok-clause-saw g c =
 pub returns-in-Err-clause-none : goal.returns-in-Err-clause-none
 returns-in-Err-clause-none g c none =
     let held = held_of c.args.place.now c.take.result c.in-Some.reader _ c.requires c.take.ensures.value c.in-Some.is in
-    ((λ i. (c.in-Err.ensures.1 i).known) ∙ held.0, told_same g.L.Server.opening g.L.Server.history (place_view c.in-Some.reader.place) _ held.1 (λ i. (c.in-Err.ensures.1 i).origin))
+    ((λ i. (c.in-Err.ensures.1 i).known) ∙ held.0, origin_same g.L.Server.opening g.L.Server.history (place_view c.in-Some.reader.place) _ held.1 (λ i. (c.in-Err.ensures.1 i).origin))

@@ -22,11 +22,11 @@ same_set : (a b : Caps) → (bits_of a == bits_of b) ≡ true → a ≡ b
 same_set a b is = bits_of-injective a b (true_eq _ _ is)
 
 -- by what is permitted, and by the locks
-abbrev due_of : After-meet-before → EntryRow → Caps
-due_of c = words.due_under c.args.policy.now.fs.now c.args.policy.now.tree.now c.args.policy.now.sessions.now c.args.locks.now
+abbrev issuable_of : After-meet-before → EntryRow → Caps
+issuable_of c = words.issuable_under c.args.policy.now.fs.now c.args.policy.now.tree.now c.args.policy.now.sessions.now c.args.locks.now
 
-abbrev told_of : After-meet-before → EntryRow → Caps
-told_of c = words.told_at c.args.policy.now.fs.now c.args.policy.now.tree.now c.args.policy.now.sessions.now c.args.locks.now
+abbrev pending_now : After-meet-before → EntryRow → Caps
+pending_now c = words.pending_at c.args.policy.now.fs.now c.args.policy.now.tree.now c.args.policy.now.sessions.now c.args.locks.now
 
 abbrev made_of : After-meet-before → EntryRow → Entry
 made_of c = words.entry_under (known_in c.args.table.now.kept) c.args.policy.now.fs.now c.args.policy.now.tree.now c.args.policy.now.sessions.now c.args.locks.now
@@ -38,51 +38,51 @@ was c =
     let is = kept-is (sets_of c.args.table.now.kept c.args.row.holder) (permitted c.args.policy.now.fs.now c.args.policy.now.tree.now c.args.policy.now.sessions.now c.args.row.holder) c.requires.permitted in
     (is.0 ∙ ap Some (sym c.kept_near-kept.ensures), ap (λ (s : ClientView). s.permitted) c.kept_near-kept.ensures ∙ is.1)
 
-due : (c : After-meet-before) → c.meet-due.result ≡ due_of c c.args.row
-due c = let may = (was c).1 in cc
+issuable : (c : After-meet-before) → c.meet-issuable.result ≡ issuable_of c c.args.row
+issuable c = let may = (was c).1 in cc
 
-told : (c : After-meet-before) → c.told_under-told.result ≡ told_of c c.args.row
-told c =
-    let held = c.union-held.ensures ∙ ap (union c.args.row.entry.held) (due c) in
-    c.told_under-told.ensures ∙ (λ i. words.told_under ((was c).1 i) c.args.locks.now (record c.args.row { entry = record c.args.row.entry { held = held i } }))
+pending : (c : After-meet-before) → c.pending_under-pending.result ≡ pending_now c c.args.row
+pending c =
+    let held = c.union-held.ensures ∙ ap (union c.args.row.entry.held) (issuable c) in
+    c.pending_under-pending.ensures ∙ (λ i. words.pending_under ((was c).1 i) c.args.locks.now (record c.args.row { entry = record c.args.row.entry { held = held i } }))
 
 -- the entry with all that is due, numbered
-made : (c : After-meet-before) → renumbered c.meet-before.result c.told_under-told.result (issued c.meet-due.result c.args.row.entry) ≡ made_of c c.args.row
+made : (c : After-meet-before) → renumbered c.meet-before.result c.pending_under-pending.result (issued c.meet-issuable.result c.args.row.entry) ≡ made_of c c.args.row
 made c =
-    let before = c.meet-before.ensures ∙ ap (λ (o : Option ClientView). meet (unwrap_or (option_map (λ (s : ClientView). s.told) o) no_caps) c.args.row.entry.held) (sym (was c).0) in
-    λ i. renumbered (before i) (told c i) (issued (due c i) c.args.row.entry)
+    let before = c.meet-before.ensures ∙ ap (λ (o : Option ClientView). meet (unwrap_or (option_map (λ (s : ClientView). s.pending) o) no_caps) c.args.row.entry.held) (sym (was c).0) in
+    λ i. renumbered (before i) (pending c i) (issued (issuable c i) c.args.row.entry)
 
 -- what is kept at the end, beside the same entries
 same_entries : (c : After-meet-before) → c.if-ne.table.entries ≡ c.args.table.now.entries
 same_entries c = elim c.if-ne.branch [
-  | then-ne w ↦ ap (λ (t : KeptTable). t.entries) (w.table-is ∙ w.keep_told.ensures)
+  | then-ne w ↦ ap (λ (t : KeptTable). t.entries) (w.table-is ∙ w.keep_pending.ensures)
   | else-ne w ↦ ap (λ (t : KeptTable). t.entries) w.table-is
 ]
 
-kept : (c : After-meet-before) → (sets_of c.if-ne.table.kept c.args.row.holder ≡ Some (record c.kept_near-kept.result { told = c.told_under-told.result }))
+kept : (c : After-meet-before) → (sets_of c.if-ne.table.kept c.args.row.holder ≡ Some (record c.kept_near-kept.result { pending = c.pending_under-pending.result }))
     × ((k : Holder) → k ≢ c.args.row.holder → sets_of c.if-ne.table.kept k ≡ sets_of c.args.table.now.kept k)
 kept c = elim c.if-ne.branch [
   | then-ne w ↦ (
       let h : Holder = c.args.row.holder in
-      let is = w.table-is ∙ w.keep_told.ensures in (
-        ap (λ (t : KeptTable). sets_of t.kept h) is ∙ keeping-own c.args.table.now.kept h (telling c.told_under-told.result) ∙ ap (option_map (telling c.told_under-told.result)) (was c).0,
-        λ k apart. ap (λ (t : KeptTable). sets_of t.kept k) is ∙ keeping-other c.args.table.now.kept h (telling c.told_under-told.result) k (same-apart h k (λ same_holder. apart (sym same_holder))),
+      let is = w.table-is ∙ w.keep_pending.ensures in (
+        ap (λ (t : KeptTable). sets_of t.kept h) is ∙ keeping-own c.args.table.now.kept h (telling c.pending_under-pending.result) ∙ ap (option_map (telling c.pending_under-pending.result)) (was c).0,
+        λ k apart. ap (λ (t : KeptTable). sets_of t.kept k) is ∙ keeping-other c.args.table.now.kept h (telling c.pending_under-pending.result) k (same-apart h k (λ same_holder. apart (sym same_holder))),
       )
       )
   | else-ne w ↦ (
     ap (λ (t : KeptTable). sets_of t.kept c.args.row.holder) w.table-is ∙ (was c).0
-        ∙ (λ i. Some (record c.kept_near-kept.result { told = sym (same_set c.told_under-told.result c.kept_near-kept.result.told (not-false _ (sym c.ne.ensures ∙ w.if-ne.false))) i })),
+        ∙ (λ i. Some (record c.kept_near-kept.result { pending = sym (same_set c.pending_under-pending.result c.kept_near-kept.result.pending (not-false _ (sym c.ne.ensures ∙ w.if-ne.false))) i })),
     λ k apart. ap (λ (t : KeptTable). sets_of t.kept k) w.table-is,
   )
 ]
 
 abbrev KeptAnew : After-meet-before → ClientViews → Type 0
-KeptAnew c sets = KnownAnew (λ k. same k c.args.row.holder) (told_of c) c.args.table.now.entries c.args.table.now.kept sets × ((k : Holder) → permitted_of sets k ≡ permitted_of c.args.table.now.kept k)
+KeptAnew c sets = KnownAnew (λ k. same k c.args.row.holder) (pending_now c) c.args.table.now.entries c.args.table.now.kept sets × ((k : Holder) → permitted_of sets k ≡ permitted_of c.args.table.now.kept k)
 
 known : (c : After-meet-before) → KeptAnew c c.if-ne.table.kept
 known c =
-    kept-one (told_of c) c.args.table.now.entries c.args.table.now.kept c.args.row.holder c.if-ne.table.kept c.args.row.entry c.kept_near-kept.result c.requires.there (was c).0
-    ((kept c).0 ∙ (λ i. Some (record c.kept_near-kept.result { told = told c i }))) (kept c).1
+    kept-one (pending_now c) c.args.table.now.entries c.args.table.now.kept c.args.row.holder c.if-ne.table.kept c.args.row.entry c.kept_near-kept.result c.requires.there (was c).0
+    ((kept c).0 ∙ (λ i. Some (record c.kept_near-kept.result { pending = pending c i }))) (kept c).1
 
 pub issue_numbered-requires : goal.issue_numbered-requires
 issue_numbered-requires g =
@@ -93,11 +93,11 @@ pub returns-then-eq-2 : goal.returns-then-eq-2
 returns-then-eq-2 g =
     let c = (goal.at.returns-then-eq-2 g).After-meet-before in
     let e : Entry = c.args.row.entry in
-    let held : union e.held c.meet-due.result ≡ e.held = sym c.union-held.ensures ∙ same_set c.union-held.result e.held (sym g.eq.ensures ∙ g.if-eq.true) in
-    let told_same : c.told_under-told.result ≡ c.meet-before.result = same_set c.told_under-told.result c.meet-before.result (sym g.eq-then-eq.ensures ∙ g.if-eq-2.true) in
+    let held : union e.held c.meet-issuable.result ≡ e.held = sym c.union-held.ensures ∙ same_set c.union-held.result e.held (sym g.eq.ensures ∙ g.if-eq.true) in
+    let pending_same : c.pending_under-pending.result ≡ c.meet-before.result = same_set c.pending_under-pending.result c.meet-before.result (sym g.eq-then-eq.ensures ∙ g.if-eq-2.true) in
     record {
       table = same_entries c ∙ left_found c.args.table.now.entries c.args.row.holder e (λ e. made_of c (record { holder = c.args.row.holder; entry = e })) c.requires.there
-          (sym (made c) ∙ same-renumbered c.meet-before.result c.told_under-told.result (issued c.meet-due.result e) (sym told_same) ∙ (λ i. record e { held = held i }));
+          (sym (made c) ∙ same-renumbered c.meet-before.result c.pending_under-pending.result (issued c.meet-issuable.result e) (sym pending_same) ∙ (λ i. record e { held = held i }));
       known = (known c).0;
       permitted = (known c).1;
     }
@@ -106,7 +106,7 @@ pub returns : goal.returns
 returns g =
     let c = (goal.at.returns g).After-meet-before in
     let h : Holder = c.args.row.holder in
-    let numbered = λ (e : Entry). renumbered c.meet-before.result c.told_under-told.result (issued c.meet-due.result e) in
+    let numbered = λ (e : Entry). renumbered c.meet-before.result c.pending_under-pending.result (issued c.meet-issuable.result e) in
     let anew = subst (KeptAnew c) (sym (ap (λ (t : KeptTable). t.kept) g.issue_numbered.ensures)) (known c) in
     record {
       table = ap (λ (t : KeptTable). t.entries) g.issue_numbered.ensures ∙ ap (λ (t : Table). changed t h numbered) (same_entries c)

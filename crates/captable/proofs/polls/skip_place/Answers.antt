@@ -5,7 +5,7 @@ use Rattle.captable.specs.declared.polls.Poll.{Poll}
 use Rattle.captable.specs.Places.{is_due_at, place_of, same_client}
 use Rattle.captable.specs.Polls.{places_of}
 use Rattle.captable.proofs.Placed.{still}
-use Rattle.captable.proofs.Polled.{counts-kept, places-changed}
+use Rattle.captable.proofs.Polled.{counts-stay, places-changed}
 use Rattle.captable.proofs.NotDue.{none_due-put}
 use Rattle.captable.proofs.polls.skip_place.Goals as goal
 
@@ -39,4 +39,4 @@ returns-in-Some-clause-others c = λ q.
     ap is_some (places-changed m c.args.client n (λ _. first) c.set_place.ensures q) ∙ still (λ _. first) (same_client c.args.client q) (places_of m q)
 
 pub returns-in-Some-clause-counts : goal.returns-in-Some-clause-counts
-returns-in-Some-clause-counts c = λ q. counts-kept c.args.polls.now c.args.client c.set_place.new.polls (λ _. c.first_due-first.result) c.set_place.ensures q
+returns-in-Some-clause-counts c = λ q. counts-stay c.args.polls.now c.args.client c.set_place.new.polls (λ _. c.first_due-first.result) c.set_place.ensures q

@@ -26,6 +26,6 @@ returns-in-Err-clause-err g c = elim c.match-invocation.branch [
       rw (w.in-Audit.is, w.reader-is, w.writer-is) (IfErr-at_err stops (sym w.answered-is ∙ c.in-Err.is) w.audit-answered.ensures.err)
   | in-Log w ↦
       let stops = λ (fs : List ℕ) (fault : AnswerFault). StopsLog fs fault (g.R.Read.remaining (inner_of c.args.reader.now)) (has_failed w.log-answered.new.reader) (has_failed w.log-answered.new.writer) (g.W.Write.contents (inner_of c.args.writer.now)) (g.W.Write.contents (inner_of w.log-answered.new.writer)) in
-      let told = subst (λ (fs : List ℕ). IfErr w.log-answered.result (stops fs)) w.as_slice-in-Log.ensures.value w.log-answered.ensures.err in
-      rw (w.in-Log.is, w.reader-is, w.writer-is) (IfErr-at_err (stops w.in-Log.fs.items) (sym w.answered-is ∙ c.in-Err.is) told)
+      let reported = subst (λ (fs : List ℕ). IfErr w.log-answered.result (stops fs)) w.as_slice-in-Log.ensures.value w.log-answered.ensures.err in
+      rw (w.in-Log.is, w.reader-is, w.writer-is) (IfErr-at_err (stops w.in-Log.fs.items) (sym w.answered-is ∙ c.in-Err.is) reported)
 ]

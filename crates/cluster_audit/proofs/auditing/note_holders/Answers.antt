@@ -1,7 +1,7 @@
 use Rattle.std.proofs.Common.{refl}
 use Rattle.cluster_audit.specs.Audited.{SaysOf, clients_of}
 use Rattle.cluster_audit.proofs.Noting.{nothing_added}
-use Rattle.cluster_audit.proofs.Said.{IsBegun, none_yet, one_added, all_added}
+use Rattle.cluster_audit.proofs.Reports.{IsBegun, none_yet, one_added, all_added}
 use Rattle.cluster_audit.proofs.auditing.note_holders.Goals as goal
 
 pub loop-holder-init : goal.loop-holder-init

@@ -1,5 +1,5 @@
 use Rattle.cluster_audit.specs.Audited.{Adds, SaysOf, clients_of}
-use Rattle.cluster_audit.proofs.Said.{IsBegun}
+use Rattle.cluster_audit.proofs.Reports.{IsBegun}
 use Rattle.cluster_audit.proofs.auditing.note_holders.Given as goal
 
 abbrev pub invariant-loop-holder : goal.invariant-loop-holder

@@ -1,5 +1,5 @@
 use Rattle.cluster_audit.specs.Audited.{SaysOfInode, clients_of}
-use Rattle.cluster_audit.proofs.Said.{one_noted, all_said}
+use Rattle.cluster_audit.proofs.Reports.{one_noted, all_said}
 use Rattle.cluster_audit.proofs.auditing.note_inodes.Goals as goal
 
 pub loop-inode-preserved : goal.loop-inode-preserved

@@ -1,5 +1,5 @@
 use Rattle.cluster_audit.specs.Audited.{SaysOfInode, clients_of}
-use Rattle.cluster_audit.proofs.Said.{IsBegun}
+use Rattle.cluster_audit.proofs.Reports.{IsBegun}
 use Rattle.cluster_audit.proofs.auditing.note_inodes.Given as goal
 
 abbrev pub invariant-loop-inode : goal.invariant-loop-inode

@@ -15,7 +15,7 @@ returns-in_default c =
     on_ok_weaker c.print_bad_caps.result
     (λ more. unknown_added (IsJudged m number i client c.args.grants.now c.args.entry.now.holder.now) c.args.notes.now (record { found = c.args.notes.now.found; unknown = c.print_bad_caps.new.text }) (bad_caps_in m.shape number i.path client c.args.entry.now.holder.now.client) refl
     (more ∙ ap (λ (at : Inode). c.args.notes.now.unknown.items ++ bad_caps_in m.shape number at.path client c.client-session.result) c.inode.view_is ∙ ap (λ (n : ℕ). c.args.notes.now.unknown.items ++ bad_caps_in m.shape number i.path client n) c.client-session.ensures)
-    (inr ((λ issued pending is told. c.in_default.not-Ok issued (c.read_caps.ensures.each_text issued (c.issued.ensures ∙ is))), refl, refl)))
+    (inr ((λ issued pending is reported. c.in_default.not-Ok issued (c.read_caps.ensures.each_text issued (c.issued.ensures ∙ is))), refl, refl)))
     c.print_bad_caps.ensures
 
 pub returns-in_default-read_caps : goal.returns-in_default-read_caps
@@ -27,7 +27,7 @@ returns-in_default-read_caps c =
     on_ok_weaker c.print_bad_caps-in_default-read_caps.result
     (λ more. unknown_added (IsJudged m number i client c.args.grants.now c.args.entry.now.holder.now) c.args.notes.now (record { found = c.args.notes.now.found; unknown = c.print_bad_caps-in_default-read_caps.new.text }) (bad_caps_in m.shape number i.path client c.args.entry.now.holder.now.client) refl
     (more ∙ ap (λ (at : Inode). c.args.notes.now.unknown.items ++ bad_caps_in m.shape number at.path client c.client-session.result) c.inode.view_is ∙ ap (λ (n : ℕ). c.args.notes.now.unknown.items ++ bad_caps_in m.shape number i.path client n) c.client-session.ensures)
-    (inr ((λ issued pending is told. c.in_default-read_caps.not-Ok pending (c.read_caps-2.ensures.each_text pending (c.pending.ensures ∙ told))), refl, refl)))
+    (inr ((λ issued pending is reported. c.in_default-read_caps.not-Ok pending (c.read_caps-2.ensures.each_text pending (c.pending.ensures ∙ reported))), refl, refl)))
     c.print_bad_caps-in_default-read_caps.ensures
 
 pub returns-in-None : goal.returns-in-None

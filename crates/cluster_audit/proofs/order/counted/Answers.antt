@@ -16,6 +16,6 @@ returns c =
       kinds = c.as_slice-3.result.now;
       left = c.in_ok-kinds._left.now;
       cut_again = search rules;
-      told = is;
+      reported = is;
     })
     c.counts.ensures

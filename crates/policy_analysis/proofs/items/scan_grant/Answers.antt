@@ -9,8 +9,8 @@ use Rattle.policy_analysis.proofs.items.scan_grant.Goals as goal
 items_at : (c : goal.After-scan_items) → c.behind_word-2.result.now ≡ behind_word (next (behind_word (next c.args.text.now)))
 items_at c = c.behind_word-2.ensures ∙ ap behind_word c.skip_white-flags.ensures ∙ ap (λ t. behind_word (next t)) (c.behind_word.ensures ∙ ap behind_word c.skip_white.ensures)
 
-pub returns-clause-told : goal.returns-clause-told
-returns-clause-told c s end begins = c.scan_items.ensures.told s.items (s.after ++ end) (rw (items_at c) (items_of c.args.text.now s end begins))
+pub returns-clause-reported : goal.returns-clause-reported
+returns-clause-reported c s end begins = c.scan_items.ensures.reported s.items (s.after ++ end) (rw (items_at c) (items_of c.args.text.now s end begins))
 
 pub returns-clause-within : goal.returns-clause-within
 returns-clause-within c =

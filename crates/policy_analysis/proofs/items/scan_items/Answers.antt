@@ -7,8 +7,8 @@ use Rattle.policy_analysis.proofs.items.scan_items.Goals as goal
 pub loop-item-init : goal.loop-item-init
 loop-item-init c = (left_all c.args.text.now c.args.before, omega arith)
 
-pub returns-then-ends_grant-clause-told : goal.returns-then-ends_grant-clause-told
-returns-then-ends_grant-clause-told c items tail has =
+pub returns-then-ends_grant-clause-reported : goal.returns-then-ends_grant-clause-reported
+returns-then-ends_grant-clause-reported c items tail has =
     found_all c.loop-item.rest.now c.loop-item.last c.loop-item.found _ tail (c.loop-item.invariant.0 items tail has) (ap ends_grant (sym c.skip_white-item.ensures) ∙ sym c.ends_grant.ensures ∙ c.if-ends_grant.true)
 
 goes_on : (c : goal.After-behind_item-rest) → ends_grant (next c.loop-item.rest.now) ≡ false

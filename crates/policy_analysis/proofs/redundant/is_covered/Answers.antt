@@ -1,7 +1,7 @@
 use Rattle.std.proofs.Common.{List, subst, sym, ◌∙◌}
 use Rattle.capspec.specs.declared.grant.Grant.{Grant}
 use Rattle.policy_analysis.specs.Comparing.{Covers}
-use Rattle.policy_analysis.proofs.Leaving.{not_covered}
+use Rattle.policy_analysis.proofs.Omitting.{not_covered}
 use Rattle.policy_analysis.proofs.redundant.is_covered.Goals as goal
 
 pub returns-clause-no : goal.returns-clause-no

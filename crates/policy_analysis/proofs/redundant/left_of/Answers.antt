@@ -1,5 +1,5 @@
 use Rattle.std.proofs.Common.{rules, ◌∷◌}
-use Rattle.policy_analysis.proofs.Leaving.{grant_goes, grant_stays}
+use Rattle.policy_analysis.proofs.Omitting.{grant_goes, grant_stays}
 use Rattle.policy_analysis.proofs.redundant.left_of.Goals as goal
 use Rattle.policy_analysis.proofs.redundant.left_of.Goals.{else-not-is_among, then-not-is_among+in_ok-copy+in_ok-push}
 

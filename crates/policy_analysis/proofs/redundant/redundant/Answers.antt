@@ -1,5 +1,5 @@
 use Rattle.std.proofs.Common.{rules, ◌+◌, ◌-◌, length, arith}
-use Rattle.policy_analysis.proofs.Leaving.{kept, none_above, taken}
+use Rattle.policy_analysis.proofs.Omitting.{kept, none_above, taken}
 use Rattle.policy_analysis.proofs.redundant.redundant.Goals as goal
 use Rattle.policy_analysis.proofs.redundant.redundant.Goals.{else-branch, then-branch+in_ok-push}
 

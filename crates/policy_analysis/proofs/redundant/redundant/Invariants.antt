@@ -1,5 +1,5 @@
 use Rattle.std.proofs.Common.{◌-◌, length}
-use Rattle.policy_analysis.proofs.Leaving.{AreRedundantAbove}
+use Rattle.policy_analysis.proofs.Omitting.{AreRedundantAbove}
 use Rattle.policy_analysis.proofs.redundant.redundant.Given as goal
 
 abbrev pub invariant-loop-done : goal.invariant-loop-done

@@ -12,4 +12,4 @@ pub returns-clause-attrs : goal.returns-clause-attrs
 returns-clause-attrs c = like-attr
 
 pub returns-clause-answers : goal.returns-clause-answers
-returns-clause-answers c = λ fs shown real asked answer shows is. like-answer fs shown real asked shows answer is
+returns-clause-answers c = λ fs copied real asked answer shows is. like-answer fs copied real asked shows answer is

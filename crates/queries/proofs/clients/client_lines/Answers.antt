@@ -14,8 +14,8 @@ loop-entity-preserved c =
     let text = c.loop-entity.lines.items in
     elim c.if-is_client.branch [
       | then-is_client+in_ok-print_client k ↦
-          let told = k.in_ok-print_client.ensures in
-          one_line telling w attr es i e text c.loop-entity-test.true c.entity-item.is c.loop-entity.invariant told.0 _ (sym c.is_client.ensures ∙ k.if-is_client.true) told.2 (ap (λ v. v.items) k.lines-is ∙ told.1)
+          let reported = k.in_ok-print_client.ensures in
+          one_line telling w attr es i e text c.loop-entity-test.true c.entity-item.is c.loop-entity.invariant reported.0 _ (sym c.is_client.ensures ∙ k.if-is_client.true) reported.2 (ap (λ v. v.items) k.lines-is ∙ reported.1)
       | else-is_client k ↦ no_line telling w attr es i e text c.loop-entity-test.true c.entity-item.is c.loop-entity.invariant _ (sym c.is_client.ensures ∙ k.if-is_client.false) (ap (λ v. v.items) k.lines-is)
     ]
 

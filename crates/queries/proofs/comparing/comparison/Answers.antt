@@ -6,8 +6,8 @@ use Rattle.capexplain.specs.declared.shape.Shape.{Shape}
 use Rattle.queries.specs.Comparing.{Compares, IsGain, comparison_in}
 use Rattle.queries.proofs.comparing.comparison.Goals as goal
 
-told : (shape : Shape) (before after : List Grant) (gain loss : Option Witness) (lines : List ℕ) → IsGain before after gain → IsGain after before loss → lines ≡ comparison_in shape gain loss → Compares shape before after lines
-told shape before after gain loss lines gained lost is = record {
+reported : (shape : Shape) (before after : List Grant) (gain loss : Option Witness) (lines : List ℕ) → IsGain before after gain → IsGain after before loss → lines ≡ comparison_in shape gain loss → Compares shape before after lines
+reported shape before after gain loss lines gained lost is = record {
   gain = gain;
   loss = loss;
   gained = gained;
@@ -23,7 +23,7 @@ returns-in-Lines c =
     let after = c.args.after.now in
     let gained : IsGain before after gain = search rules in
     let lost : IsGain after before loss = search rules in
-    IfOk-weaker c.comparison_lines.result _ _ (λ lines is. told c.args.shape before after gain loss lines.items gained lost (is ∙ ap (λ shape. comparison_in shape gain loss) (sym c.in-Lines.is))) c.comparison_lines.ensures
+    IfOk-weaker c.comparison_lines.result _ _ (λ lines is. reported c.args.shape before after gain loss lines.items gained lost (is ∙ ap (λ shape. comparison_in shape gain loss) (sym c.in-Lines.is))) c.comparison_lines.ensures
 
 pub returns : goal.returns
 returns c =
@@ -33,4 +33,4 @@ returns c =
     let after = c.args.after.now in
     let gained : IsGain before after gain = search rules in
     let lost : IsGain after before loss = search rules in
-    IfOk-weaker c.change_objects.result _ _ (λ lines is. told c.args.shape before after gain loss lines.items gained lost (is ∙ ap (λ shape. comparison_in shape gain loss) (sym c.in-Objects.is))) c.change_objects.ensures
+    IfOk-weaker c.change_objects.result _ _ (λ lines is. reported c.args.shape before after gain loss lines.items gained lost (is ∙ ap (λ shape. comparison_in shape gain loss) (sym c.in-Objects.is))) c.change_objects.ensures

@@ -1,4 +1,4 @@
-use Rattle.queries.proofs.Looked.{all_told, one_more}
+use Rattle.queries.proofs.Looked.{all_reported, one_more}
 use Rattle.queries.proofs.linting.lines_of.Goals as goal
 
 pub loop-place-preserved : goal.loop-place-preserved
@@ -7,4 +7,4 @@ loop-place-preserved c =
     c.loop-place.invariant c.in_ok-print_found.ensures
 
 pub returns : goal.returns
-returns c = all_told c.args.shape c.args.findings.now c.args.unread.now c.loop-place.place c.loop-place.lines.items c.loop-place-test.false c.loop-place.invariant
+returns c = all_reported c.args.shape c.args.findings.now c.args.unread.now c.loop-place.place c.loop-place.lines.items c.loop-place-test.false c.loop-place.invariant

@@ -5,8 +5,8 @@ use Rattle.queries.proofs.linting.lint_text.Goals as goal
 
 pub lines_of-requires : goal.lines_of-requires
 lines_of-requires c =
-    let told = c.in_ok-unread.ensures.told c.in_ok-grants.grants c.in_ok-grants.ensures.ok in
-    rw (c.as_slice-2.ensures.value, c.as_slice.ensures.value) (one_each c.args.text.now c.in_ok-grants.grants c.in_ok-unread.unread.items told ∙ sym c.in_ok-findings.ensures.one_each)
+    let reported = c.in_ok-unread.ensures.reported c.in_ok-grants.grants c.in_ok-grants.ensures.ok in
+    rw (c.as_slice-2.ensures.value, c.as_slice.ensures.value) (one_each c.args.text.now c.in_ok-grants.grants c.in_ok-unread.unread.items reported ∙ sym c.in_ok-findings.ensures.one_each)
 
 pub returns-in_err-grants-clause-err : goal.returns-in_err-grants-clause-err
 returns-in_err-grants-clause-err c = refused_text c.args.text.now c.in_err-grants.field-0.0 c.from_residual.result (search rules) c.from_residual.ensures.1

@@ -1,7 +1,7 @@
 use Rattle.std.proofs.Common.{inl, inr, ap, ◌∙◌}
 use Rattle.std.specs.Prelude.{Err, Ok, OnOk, Result}
 use Rattle.std.specs.List.{flat_map}
-use Rattle.queries.specs.Told.{answer_lines}
+use Rattle.queries.specs.Reported.{answer_lines}
 use Rattle.queries.proofs.log_text.print_check.Goals as goal
 
 on_ok : {T E P Q : Type 0} (r : Result T E) → OnOk r P → (P → Q) → OnOk r Q
@@ -11,9 +11,9 @@ on_ok (Err e) given then = tt
 pub returns-in-Ok : goal.returns-in-Ok
 returns-in-Ok c =
     let answers = flat_map (answer_lines c.args.number c.in-Ok.question) in
-    on_ok c.print_answers.result c.print_answers.ensures (λ told. (
+    on_ok c.print_answers.result c.print_answers.ensures (λ reported. (
       answers c.as_slice.result.now,
-      told,
+      reported,
       inr (
         c.fill.new.values,
         c.in_ok-fill.ensures,
@@ -29,16 +29,16 @@ returns-in-Ok c =
 
 pub returns : goal.returns
 returns c =
-    on_ok c.print_fault.result c.print_fault.ensures (λ told. (
-      told.0,
-      told.1,
+    on_ok c.print_fault.result c.print_fault.ensures (λ reported. (
+      reported.0,
+      reported.1,
       inr (
         c.fill.new.values,
         c.in_ok-fill.ensures,
         inr (record {
           fault = c.in-Err.fault;
           first = c.in-Err.ensures.err;
-          says = told.2;
+          says = reported.2;
         }),
       ),
     ))

@@ -11,4 +11,4 @@ pub returns : goal.returns
 returns c =
     c.in_ok-push.ensures.items
     ∙ ap (λ (t : List ℕ). t ++ codes "\n") (c.in_ok-print_quoted.ensures ∙ ap (λ (t : List ℕ). t ++ quoted c.args.mask.now) c.in_ok-print.ensures)
-    ∙ in_a_row c.args.told.now.items (decimal c.args.number) (codes ": unknown mask ") (quoted c.args.mask.now) (codes "\n")
+    ∙ in_a_row c.args.reported.now.items (decimal c.args.number) (codes ": unknown mask ") (quoted c.args.mask.now) (codes "\n")

@@ -2,7 +2,7 @@ use Rattle.std.proofs.Common.{◌≡◌, ℕ, refl, arith, ap, inr, ◌++◌, �
 use Rattle.std.proofs.lemmas.Bool.{false≢true}
 use Rattle.std.proofs.lemmas.List.{length-take}
 use Rattle.script_syntax.specs.Watched.{inner_of}
-use Rattle.script_syntax.proofs.KnownBytes.{consumed_is_there, consumes_kept, consumes_more, consumes_nothing, front_of, none_consumed}
+use Rattle.script_syntax.proofs.KnownBytes.{consumed_is_there, consumes_more, consumes_nothing, consumes_stay, front_of, none_consumed}
 use Rattle.script_syntax.proofs.Flags.{still_clear}
 use Rattle.script_syntax.proofs.input.read_script.Goals as goal
 
@@ -18,7 +18,7 @@ loop-buffer-init g c = record {
 pub returns-in-Err-clause-taken : goal.returns-in-Err-clause-taken
 returns-in-Err-clause-taken g c =
     let known = g.R.Read.remaining in
-    (c.loop-buffer.script.items, consumes_kept (known (inner_of c.args.reader.now)) (known (inner_of c.loop-buffer.reader)) (known (inner_of c.read.new.self)) c.loop-buffer.script.items c.loop-buffer.invariant.taken c.in-Err.ensures.bytes, c.loop-buffer.invariant.few)
+    (c.loop-buffer.script.items, consumes_stay (known (inner_of c.args.reader.now)) (known (inner_of c.loop-buffer.reader)) (known (inner_of c.read.new.self)) c.loop-buffer.script.items c.loop-buffer.invariant.taken c.in-Err.ensures.bytes, c.loop-buffer.invariant.few)
 
 pub returns-then-taken-eq0-clause-ok : goal.returns-then-taken-eq0-clause-ok
 returns-then-taken-eq0-clause-ok g c =

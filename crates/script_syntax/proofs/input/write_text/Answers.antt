@@ -2,7 +2,7 @@ use Rattle.std.proofs.Common.{◌≡◌, ℕ, List, [], ◌++◌, refl, inl, inr
 use Rattle.std.proofs.lemmas.List.{append-nil, take-append-drop, take_rest}
 use Rattle.std.proofs.lemmas.Bool.{eqb-true, false≢true}
 use Rattle.script_syntax.specs.Watched.{inner_of}
-use Rattle.script_syntax.proofs.KnownBytes.{appends_kept, appends_more, appends_same, empty_list, none_appended}
+use Rattle.script_syntax.proofs.KnownBytes.{appends_more, appends_same, appends_stay, empty_list, none_appended}
 use Rattle.script_syntax.proofs.Flags.{still_clear}
 use Rattle.script_syntax.proofs.input.write_text.Goals as goal
 
@@ -30,7 +30,7 @@ pub returns-in-Err-clause-err : goal.returns-in-Err-clause-err
 returns-in-Err-clause-err g c =
     let known = g.W.Write.contents in
     let before = c.loop-rest.invariant.took in
-    (before.0, c.loop-rest.rest.now, before.1, appends_kept (known (inner_of c.args.writer.now)) (known (inner_of c.loop-rest.writer)) (known (inner_of c.write.new.self)) before.0 before.2 c.in-Err.ensures.bytes)
+    (before.0, c.loop-rest.rest.now, before.1, appends_stay (known (inner_of c.args.writer.now)) (known (inner_of c.loop-rest.writer)) (known (inner_of c.write.new.self)) before.0 before.2 c.in-Err.ensures.bytes)
 
 pub returns-then-taken-eq0-clause-err : goal.returns-then-taken-eq0-clause-err
 returns-then-taken-eq0-clause-err g c =

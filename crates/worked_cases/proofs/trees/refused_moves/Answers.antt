@@ -1,5 +1,5 @@
 use Rattle.std.specs.Prelude.{refl}
-use Rattle.inotree.specs.Tree.{depth, is_within, lies_below, names_up, reaches}
+use Rattle.inotree.specs.Tree.{depth, descends, is_within, lies_below, names_up}
 use Rattle.worked_cases.proofs.ByNumber.{entries-more, get-found, none}
 use Rattle.worked_cases.proofs.trees.refused_moves.Goals as goal
 
@@ -29,5 +29,5 @@ pub returns-clause-into_itself : goal.returns-clause-into_itself
 returns-clause-into_itself c = simp (get-found, entries-more, none) refl
 
 pub returns-clause-up : goal.returns-clause-up
-unfolding is_within lies_below depth names_up reaches
+unfolding is_within lies_below depth names_up descends
 returns-clause-up c = simp (get-found, entries-more, none) refl

@@ -1,11 +1,11 @@
 use Rattle.std.specs.Prelude.{refl}
-use Rattle.inotree.specs.Tree.{reaches}
+use Rattle.inotree.specs.Tree.{descends}
 use Rattle.worked_cases.proofs.ByNumber.{entries-more, get-found, none}
 use Rattle.worked_cases.proofs.ByName.{count-more, count-none, snapshot-none}
 use Rattle.worked_cases.proofs.trees.refused_removals.Goals as goal
 
 pub returns-clause-not_empty : goal.returns-clause-not_empty
-unfolding reaches
+unfolding descends
 returns-clause-not_empty c = simp (get-found, entries-more, none) refl
 
 pub returns-clause-root : goal.returns-clause-root
@@ -15,11 +15,11 @@ pub returns-clause-file : goal.returns-clause-file
 returns-clause-file c = simp (get-found, entries-more, none) refl
 
 pub returns-clause-has_a_snapshot : goal.returns-clause-has_a_snapshot
-unfolding reaches
+unfolding descends
 returns-clause-has_a_snapshot c = simp (get-found, entries-more, none, count-none, count-more, snapshot-none) refl
 
 pub returns-clause-empty : goal.returns-clause-empty
-unfolding reaches
+unfolding descends
 returns-clause-empty c = simp (get-found, entries-more, none, count-none) refl
 
 pub returns-clause-again : goal.returns-clause-again

@@ -41,7 +41,7 @@ returns-clause-begun c =
     one-begun p q output e k may (says (with_flush (state_of p) k change) Reply.Done) by_itself (refl, refl) (λ count given. below-of_flush count (state_of p) k change given) is refl
     (Affected.Inodes c.of.result) Done (ap set.contains c.of.ensures ∙ one-inode k.ino.0) refl refl refl (subst (AffectsOne k.ino.0 (state_of p)) (sym is) (flush-affects (state_of p) k change may.whole.0 may.table))
     (subst IsTable (sym entries) (flush-table (state_of p) k change may.table))
-    (still-there p.scene.table.entries table.entries p.scene.table.kept q.scene.table.kept (λ j f there. ap is_some (alike j f there).1) (λ j f there. ap (λ known. known_of known j) sets ∙ c.renew_changed.ensures.told j))
+    (still-there p.scene.table.entries table.entries p.scene.table.kept q.scene.table.kept (λ j f there. ap is_some (alike j f there).1) (λ j f there. ap (λ known. known_of known j) sets ∙ c.renew_changed.ensures.pending j))
     (λ j f there. let was = alike j f there in ap (λ known. permitted_of known j) sets ∙ c.renew_changed.ensures.permitted p.scene.tree c.in_ok-alter.ensures.ok may.whole.2.1 j was.0 was.1) (alike-less p.scene.table.entries table.entries alike)
     (subst (λ (t : Table). AreCounted t p.scene.locks) (sym entries) may.whole.3) may.order
     (room-for c.begin.new.self output.changes output.judged c.waiting-waiting.result (length p.scene.locks.locks.queue) begun.room (omega (arith, c.waiting-waiting.ensures.waiting)))

@@ -27,7 +27,7 @@ returns-clause-begun c =
     let kept = c.renew_granted.new.scene.table.kept in
     let q : CoreState = record { scene = record left_scene { table = record left_scene.table { kept = kept } }; messages = c.drop_client_state.new.messages } in
     let output : StepOutput = record c.new.new.output { changes = c.start.new.self } in
-    let effect : Applied = record { affected = Inodes c.in_ok-inodes.field-0.inodes; answer = Dropped c.drop_client_state.new.dropped } in
+    let effect : Applied = record { affected = Inodes c.in_ok-inodes.field-0.inodes; reply_due = Dropped c.drop_client_state.new.dropped } in
     let one = noted-few c.in_ok-inodes.field-0.note in
     let noted = ap length c.start.ensures.items in
     let is : plain left_scene ≡ (session_changed (state_of p) client change).scene =
@@ -36,8 +36,8 @@ returns-clause-begun c =
     let few = few-messages ends p.messages.items client in
     let left = ap length c.drop_client_state.ensures.messages in
     subst (λ (s : KeptScene). HasBegun p (session_event client change) effect (record q { scene = s }) output) (sym c.renew_granted.ensures.rest)
-    (change-begun p q output client change c.requires.may is c.drop_client_state.ensures.messages c.in_ok-inodes.field-0.inodes room.reaches
-    (λ k f there. c.renew_granted.ensures.told k ∙ ap (option_map (λ (sets : ClientView). sets.told)) (c.drop_client_state.ensures.known k f there)) (c.renew_granted.ensures.permitted (state_of p) is
+    (change-begun p q output client change c.requires.may is c.drop_client_state.ensures.messages c.in_ok-inodes.field-0.inodes room.has_inodes
+    (λ k f there. c.renew_granted.ensures.pending k ∙ ap (option_map (λ (sets : ClientView). sets.pending)) (c.drop_client_state.ensures.known k f there)) (c.renew_granted.ensures.permitted (state_of p) is
     (left-permitted p.scene.table.kept left_scene.table.kept (plain p.scene) ends client left_scene.table.entries c.drop_client_state.ensures.table c.drop_client_state.ensures.known c.requires.may.whole.2.1))
     (c.drop_client_state.ensures.counted c.requires.may.whole.3)
     c.drop_client_state.new.dropped (c.drop_client_state.ensures.dropped ∙ ap (λ ms. ms ++ dropped_by ends p.scene.locks.locks client) room.dropped.0)

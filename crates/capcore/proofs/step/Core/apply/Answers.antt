@@ -3,26 +3,26 @@ use Rattle.capcore.proofs.Placed.{all-revoked}
 use Rattle.step_model.specs.History.{made_row}
 use Rattle.capcore.proofs.Apart.{held-apart}
 use Rattle.capcore.proofs.Bounded.{direct-order, moves-bounded}
-use Rattle.capcore.proofs.Common.{IsAnswered, IsSound, Recorded, Reply, Row, Scene, ShowsWhatIsTold, State, Step, direct, recorded, rows_of, step-shown}
+use Rattle.capcore.proofs.Common.{IsReplied, IsSound, Recorded, Reply, Row, Scene, ShowsWhatIsPending, State, Step, direct, recorded, rows_of, step-shown}
 use Rattle.capcore.proofs.Growing.{more-recorded, replays-more}
-use Rattle.capcore.proofs.Kept.{IsKept, recorded-kept}
+use Rattle.capcore.proofs.ReplayStays.{IsKept, recorded-stays}
 use Rattle.capcore.proofs.OtherLocks.{other-locks}
 use Rattle.capcore.proofs.Promised.{denied-exactly, rejection-unchanged}
 use Rattle.capcore.proofs.Servings.{served-denied}
-use Rattle.capcore.proofs.ShownWords.{all-takes_unshown, shows-permitted, shows-told, takes-only_so}
+use Rattle.capcore.proofs.ShownWords.{all-takes_unshown, shows-pending, shows-permitted, takes-only_so}
 use Rattle.capcore.proofs.step.Core.apply.Goals.{In-Ok}
 use Rattle.capcore.specs.Promised.{IsPromised}
 use Rattle.capcore.proofs.step.Core.apply.Goals as goal
 
 pub step-requires-clause-table : goal.step-requires-clause-table
-step-requires-clause-table c = (recorded-kept _ c.self.invariant).0
+step-requires-clause-table c = (recorded-stays _ c.self.invariant).0
 
 pub step-requires-clause-locks : goal.step-requires-clause-locks
-step-requires-clause-locks c = (recorded-kept _ c.self.invariant).1
+step-requires-clause-locks c = (recorded-stays _ c.self.invariant).1
 
 -- what the step says and leaves
-answered_of : (c : In-Ok) → IsAnswered c.self.inside.world c.args.event c.in_ok-step_reply.step_reply c.step.new.self
-answered_of c = c.in_ok-step_reply.ensures.answered
+answered_of : (c : In-Ok) → IsReplied c.self.inside.world c.args.event c.in_ok-step_reply.step_reply c.step.new.self
+answered_of c = c.in_ok-step_reply.ensures.replied
 
 -- the step, with what is answered and with what the row keeps of it
 step_of : (c : In-Ok) → Step c.self.inside.world c.args.event c.in_ok-step_reply.step_reply.reply.given c.in_ok-step_reply.step_reply.ended c.step.new.self
@@ -31,11 +31,11 @@ step_of c = let all = answered_of c in all.step
 recorded_step : (c : In-Ok) → Step c.self.inside.world c.args.event c.in_ok-step_reply.step_reply.reply.recorded c.in_ok-step_reply.step_reply.ended c.step.new.self
 recorded_step c =
     let all = answered_of c in
-    subst (λ (answer : Reply). Step c.self.inside.world c.args.event answer c.in_ok-step_reply.step_reply.ended c.step.new.self) (sym all.recorded) all.step
+    subst (λ (reply : Reply). Step c.self.inside.world c.args.event reply c.in_ok-step_reply.step_reply.ended c.step.new.self) (sym all.recorded) all.step
 
 -- the world has its entries and requests in order before the step
 kept_of : (c : In-Ok) → IsKept c.self.inside.world
-kept_of c = recorded-kept _ c.self.invariant
+kept_of c = recorded-stays _ c.self.invariant
 
 -- and is sound after it
 next : (c : In-Ok) → IsSound c.step.new.self
@@ -62,9 +62,9 @@ invariant_of-self-2 c =
     (more-recorded (recorded c.self.inside.world c.self.inside.rows.items c.self.inside.max_rows c.self.inside.output.changes.items) row c.step.new.self c.step.new.output.changes.items c.self.invariant step c.in_ok-nth.ensures.number c.in_ok-nth.ensures.room.0
     (kept_of c).0 all.sound (all.given (length c.self.inside.rows.items) c.self.invariant.given))
 
-shows_told : (c : In-Ok) → ShowsWhatIsTold (c.self.inside.rows.items ++ row_of c ∷ []) c.step.new.self.scene
+shows_told : (c : In-Ok) → ShowsWhatIsPending (c.self.inside.rows.items ++ row_of c ∷ []) c.step.new.self.scene
 shows_told c =
-    shows-told (c.self.inside.rows.items ++ row_of c ∷ []) c.step.new.self (next c)
+    shows-pending (c.self.inside.rows.items ++ row_of c ∷ []) c.step.new.self (next c)
     (step-shown c.self.inside.world c.step.new.self c.self.inside.rows.items (row_of c) c.self.invariant.sound (kept_of c).0 c.self.invariant.shown (recorded_step c))
 
 -- what the core was, and what it is with these rows

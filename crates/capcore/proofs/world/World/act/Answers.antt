@@ -15,8 +15,8 @@ returns-in-Lookup-clause-direct c =
     subst (λ (e : Event). IsDirect s e c.lookup.result s) (sym c.in-Lookup.is)
     (looked-up s client dir c.in-Lookup.name c.lookup.result
     (c.lookup.ensures c.self.inside.parts.scene.table.entries c.self.inside.parts.scene.locks.locks c.self.inside.parts.messages.items
-    ∙ ap (λ (w : State). (direct w (Event.Lookup client dir c.as_slice.result.now)).answer) c.self.view_is
-    ∙ ap (λ name. (direct s (Event.Lookup client dir name)).answer) c.as_slice.ensures))
+    ∙ ap (λ (w : State). (direct w (Event.Lookup client dir c.as_slice.result.now)).reply_due) c.self.view_is
+    ∙ ap (λ name. (direct s (Event.Lookup client dir name)).reply_due) c.as_slice.ensures))
 
 pub returns-in-Lookup-clause-changes : goal.returns-in-Lookup-clause-changes
 returns-in-Lookup-clause-changes c = changes-still c.clear-in-Lookup.new.self.items (view_of c.args.self.now) c.clear-in-Lookup.ensures.items

@@ -2,23 +2,23 @@ use Rattle.std.proofs.Common.{◌≡◌, ◌+◌, ◌++◌, List, length, sym, a
 use Rattle.std.proofs.lemmas.List.{length-append}
 use Rattle.step_model.specs.NotedChanges.{Noted}
 use Rattle.step_model.specs.Recorded.{twice}
-use Rattle.capcore.proofs.Begun.{ended-answered, ended-known, ended-numbers, few-earlier, fewer-places, shown-counted, shown-kept, shown-rest}
+use Rattle.capcore.proofs.Begun.{ended-known, ended-numbers, ended-replied, few-earlier, fewer-places, shown-counted, shown-rest, shown-stays}
 use Rattle.capcore.proofs.Closing.{ends-sessions}
-use Rattle.capcore.proofs.Common.{AreChanges, AreCounted, ClientViews, Ended, Event, IsAnswered, IsLockMap, IsSound, IsTable, KeptScene, NumbersLeft, Scene}
+use Rattle.capcore.proofs.Common.{AreChanges, AreCounted, ClientViews, Ended, Event, IsLockMap, IsReplied, IsSound, IsTable, KeptScene, NumbersLeft, Scene}
 use Rattle.capcore.proofs.Common.{SessionTable, State, StepOutput, Table, changes-still, plain, shown, view, view_of}
-use Rattle.capcore.proofs.Rejections.{judged-at, rejection-answered}
+use Rattle.capcore.proofs.Rejections.{judged-at, rejection-replied}
 use Rattle.capcore.proofs.world.World.move_locks.Goals.{After-close, After-end}
-use Rattle.capcore.specs.UnderWay.{AreKept, HasBegun, MayBegin, answer_of, earlier_of, event_of, state_of}
+use Rattle.capcore.specs.UnderWay.{AreKept, HasBegun, MayBegin, direct_reply_of, earlier_of, event_of, state_of}
 use Rattle.capcore.specs.declared.parts.Applied.{Applied}
 use Rattle.capcore.specs.declared.parts.CoreState.{CoreState}
 use Rattle.capcore.proofs.world.World.move_locks.Goals as goal
 
 -- ---- an event that is rejected
 
-pub returns-in-Some-clause-answered : goal.returns-in-Some-clause-answered
-returns-in-Some-clause-answered c =
+pub returns-in-Some-clause-replied : goal.returns-in-Some-clause-replied
+returns-in-Some-clause-replied c =
     let s = c.args.self.now in
-    rejection-answered s (event_of c.args.lock_event.now) c.in-Some.rejection c.alone.result (subst IsSound c.self.view_is c.self.invariant.0) c.requires.table
+    rejection-replied s (event_of c.args.lock_event.now) c.in-Some.rejection c.alone.result (subst IsSound c.self.view_is c.self.invariant.0) c.requires.table
     (judged-at _ s (event_of c.args.lock_event.now) c.rejection.result c.self.view_is (c.rejection.ensures c.self.invariant.2.0) ∙ c.in-Some.is)
     (c.alone.ensures.reply ∙ ap twice c.into_reply.ensures.reply) c.alone.ensures.ended
 
@@ -87,19 +87,19 @@ close-requires g =
       differ = ended-numbers (p c) (q c) (output c) (e c) (effect c) (may c) (begun c) (last c).scene.table.kept (plain (last c).scene) (for_clients c) c.end.ensures.ends;
       recorded = c.end.ensures.recorded;
       room = omega (arith, c.end.ensures.count, (begun c).room);
-      places = fewer-places (effect c).answer (length (q c).scene.locks.locks.queue) (length (for_clients c)) (omega (arith, c.end.ensures.count)) (begun c).places;
+      places = fewer-places (effect c).reply_due (length (q c).scene.locks.locks.queue) (length (for_clients c)) (omega (arith, c.end.ensures.count)) (begun c).places;
       known = (kept c).0;
     }
 
 module _ (g : After-close) where
   abbrev c : After-end
-  c = (goal.at.returns-clause-answered g).After-end
+  c = (goal.at.returns-clause-replied g).After-end
 
   abbrev new : CoreState
   new = g.close.new.self
 
   abbrev left : List Ended
-  left = (q c).messages.items ++ earlier_of (effect c).answer (for_clients c)
+  left = (q c).messages.items ++ earlier_of (effect c).reply_due (for_clients c)
 
   abbrev closed : State
   closed = record { scene = plain (last c).scene; messages = left }
@@ -107,34 +107,34 @@ module _ (g : After-close) where
   items : new.messages.items ≡ left
   items = g.close.ensures.messages
 
-  new_is : state_of new ≡ shown (answer_of (effect c).answer) closed
+  new_is : state_of new ≡ shown (direct_reply_of (effect c).reply_due) closed
   new_is = (λ i. record { scene = plain new.scene; messages = items i }) ∙ g.close.ensures.shown left
 
-  rest : plain new.scene ≡ record (plain (last c).scene) { table = (shown (answer_of (effect c).answer) closed).scene.table }
-  rest = ap (λ (s : State). s.scene) new_is ∙ shown-rest (effect c).answer closed
+  rest : plain new.scene ≡ record (plain (last c).scene) { table = (shown (direct_reply_of (effect c).reply_due) closed).scene.table }
+  rest = ap (λ (s : State). s.scene) new_is ∙ shown-rest (effect c).reply_due closed
 
-  whole : IsAnswered (state_of (p c)) (e c) g.close.result (state_of new)
+  whole : IsReplied (state_of (p c)) (e c) g.close.result (state_of new)
   whole =
-      ended-answered (p c) (q c) (output c) (e c) (effect c) (may c) (begun c) (last c).scene.table.kept (plain (last c).scene) (for_clients c) g.end.ensures.ends g.close.result (state_of new)
+      ended-replied (p c) (q c) (output c) (e c) (effect c) (may c) (begun c) (last c).scene.table.kept (plain (last c).scene) (for_clients c) g.end.ensures.ends g.close.result (state_of new)
       (g.close.ensures.reply left) g.close.ensures.ended new_is
 
-pub returns-clause-answered : goal.returns-clause-answered
-returns-clause-answered g = subst (λ (s : State). IsAnswered s (e (c g)) g.close.result (state_of (new g))) g.self.view_is (whole g)
+pub returns-clause-replied : goal.returns-clause-replied
+returns-clause-replied g = subst (λ (s : State). IsReplied s (e (c g)) g.close.result (state_of (new g))) g.self.view_is (whole g)
 
 pub invariant_of-self-2 : goal.invariant_of-self-2
 invariant_of-self-2 g =
     let w = whole g in
-    let items = ap length (items g) ∙ length-append (q (c g)).messages.items (earlier_of (effect (c g)).answer (for_clients (c g))) in
-    let few = few-earlier (effect (c g)).answer (for_clients (c g)) in
+    let items = ap length (items g) ∙ length-append (q (c g)).messages.items (earlier_of (effect (c g)).reply_due (for_clients (c g))) in
+    let few = few-earlier (effect (c g)).reply_due (for_clients (c g)) in
     let queue = ap (λ (s : Scene). length s.locks.queue) (rest g) in (
       w.sound,
       omega (arith, items, few, queue, g.close.ensures.room, g.end.ensures.count, (begun (c g)).room),
       subst (λ (s : Scene). AreKept (new g).scene.table.kept s) (sym (ap (λ (s : State). s.scene) (new_is g)))
-          (subst (λ (sets : ClientViews). AreKept sets (shown (answer_of (effect (c g)).answer) (closed g)).scene) (sym (ap (λ (s : KeptScene). s.table.kept) g.close.ensures.rest))
-          (shown-kept (effect (c g)).answer (closed g) (last (c g)).scene.table.kept (kept (c g)))),
+          (subst (λ (sets : ClientViews). AreKept sets (shown (direct_reply_of (effect (c g)).reply_due) (closed g)).scene) (sym (ap (λ (s : KeptScene). s.table.kept) g.close.ensures.rest))
+          (shown-stays (effect (c g)).reply_due (closed g) (last (c g)).scene.table.kept (kept (c g)))),
       subst (AreCounted (new g).scene.table.entries) (sym (ap (λ (s : KeptScene). s.locks) g.close.ensures.rest))
           (subst (λ (t : Table). AreCounted t (last (c g)).scene.locks) (sym (ap (λ (s : State). s.scene.table) (new_is g)))
-          (shown-counted (effect (c g)).answer (closed g) (last (c g)).scene.locks g.end.ensures.counted)),
+          (shown-counted (effect (c g)).reply_due (closed g) (last (c g)).scene.locks g.end.ensures.counted)),
     )
 
 pub returns-clause-changes : goal.returns-clause-changes

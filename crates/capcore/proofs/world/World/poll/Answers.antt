@@ -3,12 +3,12 @@ use Rattle.std.proofs.lemmas.List.Sums.{count_by-le-length, length-filter}
 use Rattle.step_model.proofs.Twice.{both-twice}
 use Rattle.capcore.proofs.Telling.{given-held}
 use Rattle.step_model.specs.DueEndings.{AreEndsOf}
-use Rattle.capcore.proofs.Common.{AreChanges, AreCounted, ByTest, Ended, Event, IsAnswered, IsSound, IsTable, KeptTable, Message, Reply, State, StepReply}
+use Rattle.capcore.proofs.Common.{AreChanges, AreCounted, ByTest, Ended, Event, IsReplied, IsSound, IsTable, KeptTable, Message, Reply, State, StepReply}
 use Rattle.capcore.proofs.Common.{after_messages, alike-where, changed_where, changes-still, first_failing, first_messages, is_left, is_of_client, plain}
 use Rattle.capcore.proofs.Common.{rejection-before, session_tests, view_of, with_given}
 use Rattle.capcore.proofs.Counts.{counted-where}
 use Rattle.capcore.proofs.Polled.{poll-answered, polled-new}
-use Rattle.capcore.proofs.Rejections.{rejection-answered}
+use Rattle.capcore.proofs.Rejections.{rejection-replied}
 use Rattle.capcore.proofs.Unaffected.{alike-kept}
 use Rattle.capcore.proofs.world.World.poll.Goals.{After-drop-told}
 use Rattle.capcore.specs.UnderWay.{AreKept}
@@ -16,13 +16,13 @@ use Rattle.capcore.proofs.world.World.poll.Goals as goal
 
 -- ---- no open session
 
-pub returns-in-Some-clause-answered : goal.returns-in-Some-clause-answered
-returns-in-Some-clause-answered c =
+pub returns-in-Some-clause-replied : goal.returns-in-Some-clause-replied
+returns-in-Some-clause-replied c =
     let s = c.args.self.now in
     let sound : IsSound s = subst IsSound c.self.view_is c.self.invariant.0 in
     let failed : first_failing (session_tests s.scene.sessions c.args.client.0) ≡ Some c.in-Some.refusal =
     ap (λ (w : State). first_failing (session_tests w.scene.sessions c.args.client.0)) (sym c.self.view_is) ∙ sym c.session_refusal.ensures ∙ c.in-Some.is in
-    rejection-answered s (Event.Poll c.args.client c.args.max) (ByTest c.in-Some.refusal) c.alone.result sound c.requires.table
+    rejection-replied s (Event.Poll c.args.client c.args.max) (ByTest c.in-Some.refusal) c.alone.result sound c.requires.table
     (rejection-before s.scene (session_tests s.scene.sessions c.args.client.0) [] [] c.in-Some.refusal failed)
     c.alone.ensures.reply c.alone.ensures.ended
 
@@ -62,9 +62,9 @@ module _ (c : After-drop-told) where
   left : with_given old c.args.client (first_messages old c.args.client c.args.max) ≡ new
   left = polled-new old c.self.invariant.0 (subst (λ (s : State). IsTable s.scene.table) (sym c.self.view_is) c.requires.table) c.args.client c.args.max c.in_ok-given.given c.skip_not_due.new.self.entries c.remove_given.new.due.items first told kept_items
 
-  whole : IsAnswered old (Event.Poll c.args.client c.args.max) step_reply new
+  whole : IsReplied old (Event.Poll c.args.client c.args.max) step_reply new
   whole =
-      subst (IsAnswered old (Event.Poll c.args.client c.args.max) step_reply) left
+      subst (IsReplied old (Event.Poll c.args.client c.args.max) step_reply) left
       (poll-answered old c.self.invariant.0 (subst (λ (s : State). IsTable s.scene.table) (sym c.self.view_is) c.requires.table) c.args.client c.args.max step_reply (sym c.session_refusal.ensures ∙ c.in_default.is)
       (both-twice _ _ _ (ap Reply.Messages first) (ap Reply.Messages same)) c.new.ensures)
 
@@ -84,9 +84,9 @@ invariant_of-self c =
           (counted-where (after_messages c.in_ok-given.given) (given-held c.in_ok-given.given) (is_of_client c.args.client) (old c).scene.table c.self.inside.parts.scene.locks c.self.invariant.3),
     )
 
-pub returns-clause-answered : goal.returns-clause-answered
-returns-clause-answered c =
-    subst (λ (s : State). IsAnswered s (Event.Poll c.args.client c.args.max) (step_reply c) (new c)) c.self.view_is (whole c)
+pub returns-clause-replied : goal.returns-clause-replied
+returns-clause-replied c =
+    subst (λ (s : State). IsReplied s (Event.Poll c.args.client c.args.max) (step_reply c) (new c)) c.self.view_is (whole c)
 
 pub returns-in-Some-clause-changes : goal.returns-in-Some-clause-changes
 returns-in-Some-clause-changes c = changes-still c.clear.new.self.items (view_of c.args.self.now) c.clear.ensures.items

@@ -1,6 +1,6 @@
 use Rattle.std.proofs.Common.{◌≡◌, [], ◌∷◌, ap, sym, ◌∙◌, refl}
 use Rattle.capcore.proofs.Common.{Snapshot, basic_tests, first_failing, inode_tests, need, old_snapshot_tests, pass-both, plain, rejection_of, without_snapshot}
-use Rattle.capcore.proofs.Effects.{removing-rejection, snapshot-kept}
+use Rattle.capcore.proofs.Effects.{removing-rejection, snapshot-stays}
 use Rattle.capcore.proofs.Rejections.{access-at, inode-passed}
 use Rattle.capcore.proofs.Unaffected.{changed-unseen, changed-whole}
 use Rattle.capcore.proofs.world.World.remove_snapshot.Goals as goal
@@ -14,7 +14,7 @@ returns-in-Some-clause-direct c = rw c.into_reply.ensures.reply (removing-reject
 
 pub returns-in-Some-old_snapshot_refusal-clause-direct : goal.returns-in-Some-old_snapshot_refusal-clause-direct
 returns-in-Some-old_snapshot_refusal-clause-direct c =
-    snapshot-kept c.args.self.now c.args.client c.args.ino c.args.name.now (rejection-is c ∙ c.in_default.is) c.in-Some-old_snapshot_refusal.refusal
+    snapshot-stays c.args.self.now c.args.client c.args.ino c.args.name.now (rejection-is c ∙ c.in_default.is) c.in-Some-old_snapshot_refusal.refusal
     (ap (λ s. first_failing (old_snapshot_tests s.scene.tree c.args.ino.0 c.args.name.now)) (sym c.self.view_is) ∙ sym c.old_snapshot_refusal.ensures ∙ c.in-Some-old_snapshot_refusal.is)
 
 pub snap_remove_tested-requires : goal.snap_remove_tested-requires

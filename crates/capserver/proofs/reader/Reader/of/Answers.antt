@@ -10,4 +10,4 @@ pub invariant_of-result : goal.invariant_of-result
 invariant_of-result g c =
     let o = g.L.Server.opening in
     let none : c.again-known.result ≡ [] = c.again-known.ensures ∙ c.rows.ensures ∙ ap (λ (p : Publishing). p.rows) c.in_ok-place.ensures.same ∙ c.requires in
-    ((c.in_ok-place.ensures.none ∙ sym none, c.in_ok-place.ensures.told), subst (Legal o) (sym none) (record { last = o; is_legal = legal_none o }))
+    ((c.in_ok-place.ensures.none ∙ sym none, c.in_ok-place.ensures.origin_known), subst (Legal o) (sym none) (record { last = o; is_legal = legal_none o }))

@@ -20,7 +20,7 @@ use Rattle.captable.proofs.Counting.{count-fits, counted-same}
 use Rattle.captable.proofs.Counted.{counted-put}
 use Rattle.captable.proofs.Keeping.{held}
 use Rattle.captable.proofs.Placed.{placed-alike, placed-same, placed-set, none_due-same}
-use Rattle.captable.proofs.Polled.{counts-changed, counts-kept, counts-placed, if_part, places-changed, places-kept}
+use Rattle.captable.proofs.Polled.{counts-changed, counts-placed, counts-stay, if_part, places-changed, places-stay}
 use Rattle.captable.proofs.NotDue.{none_due-due, none_due-set}
 use Rattle.captable.proofs.Reading.{entry-found, entry-none, node-there}
 use Rattle.captable.proofs.Setting.{IsLinked-put, kept-put, table-put}
@@ -76,14 +76,14 @@ invariant_of-self c =
     let sets : SetsEntry t c.set_entry.new.lists key x = c.set_entry.ensures.there (node-there t made c.self.invariant.0 h key found) in
     let linked : IsLinked c.set_entry.new.lists made = IsLinked-put t c.set_entry.new.lists made h key x c.self.invariant.0 found sets c.set_entry.ensures.sound in
     let o = held t made c.self.invariant.0 h key found in
-    let same_places = places-kept m h.client n (recounted c.is_due.result c.is_due-is.result) c.count_again.ensures in
+    let same_places = places-stay m h.client n (recounted c.is_due.result c.is_due-is.result) c.count_again.ensures in
     let places = places-changed n h.client l (lowered c.set_entry.new.lists key) c.lower_place.ensures in (
       linked,
       none_due-due t c.set_entry.new.lists key x sets (places_of n) (none_due-same t (places_of m) (places_of n) same_places c.self.invariant.1) c.self.invariant.0.sound linked.ordered
           h.client o.0 o.1.there (ap (λ (q : Holder). q.client) o.2) (places_of l) places,
       placed-set t c.set_entry.new.lists key x sets h.client (lowered c.set_entry.new.lists key) (places_of n) (places_of l) places
           (placed-same t (places_of m) (places_of n) same_places c.self.invariant.2),
-      counted-same (table_of c.set_entry.new.lists made).rows (counts_of n) (counts_of l) (counts-kept n h.client l (lowered c.set_entry.new.lists key) c.lower_place.ensures)
+      counted-same (table_of c.set_entry.new.lists made).rows (counts_of n) (counts_of l) (counts-stay n h.client l (lowered c.set_entry.new.lists key) c.lower_place.ensures)
           (counted-put t c.set_entry.new.lists made h key c.self.invariant.0 found o.0 o.1.there o.2 (counts_of m) (counts_of n) c.is_due.result c.is_due-is.result
           (c.is_due.ensures ∙ due_there t key c.in-Some.node c.in-Some.ensures.node) (counts-placed t m c.self.invariant.2)
           (counts-changed m h.client n (recounted c.is_due.result c.is_due-is.result) c.count_again.ensures)
@@ -102,7 +102,7 @@ invariant_of-self-else-is c =
     let found : IsKeyOf t h key = c.in_ok-key.ensures.found in
     let sets : SetsEntry t c.set_entry.new.lists key x = c.set_entry.ensures.there (node-there t made c.self.invariant.0 h key found) in
     let o = held t made c.self.invariant.0 h key found in
-    let same_places = places-kept m h.client n (recounted c.is_due.result c.is_due-is.result) c.count_again.ensures in (
+    let same_places = places-stay m h.client n (recounted c.is_due.result c.is_due-is.result) c.count_again.ensures in (
       IsLinked-put t c.set_entry.new.lists made h key x c.self.invariant.0 found sets c.set_entry.ensures.sound,
       none_due-set t c.set_entry.new.lists key x sets (places_of n) (none_due-same t (places_of m) (places_of n) same_places c.self.invariant.1) (sym c.is_due-is.ensures ∙ c.if-is.false),
       placed-alike t c.set_entry.new.lists (places_of m) (places_of n) (λ q. sets.lists (OfClient q)) (λ q. ap is_some (same_places q)) c.self.invariant.2,

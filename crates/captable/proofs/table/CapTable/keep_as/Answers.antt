@@ -6,9 +6,9 @@ use Rattle.captable.specs.Nodes.{IsKeyOf, KeepsSets, both_of, kept_of}
 use Rattle.captable.specs.Polls.{AreCounted, counts_of, places_of}
 use Rattle.captable.specs.Table.{Table}
 use Rattle.captable.proofs.Beside.{entries_are, kept_are, two}
-use Rattle.captable.proofs.Kept.{IsLinked-kept, are_beside, found-kept, keeping-nobody, kept-once, sets-found, sets-put, table-kept}
+use Rattle.captable.proofs.Kept.{IsLinked-stays, are_beside, found-kept, keeping-nobody, kept-once, sets-found, sets-put, table-kept}
 use Rattle.captable.proofs.Placed.{placed-alike}
-use Rattle.captable.proofs.NotDue.{none_due-kept}
+use Rattle.captable.proofs.NotDue.{none_due-stays}
 use Rattle.captable.proofs.Reading.{node-there}
 use Rattle.captable.proofs.table.CapTable.keep_as.Goals as goal
 
@@ -25,8 +25,8 @@ invariant_of-self c =
     let s = c.kept-sets.result in
     let m = c.self.inside.polls in
     let found : IsKeyOf t c.args.holder key = c.in-Some.ensures.found in (
-      IsLinked-kept t t' made c.args.holder key s c.self.invariant.0 found (keeps c) c.keep_sets.ensures.sound,
-      none_due-kept t t' key s (keeps c) (places_of m) c.self.invariant.1,
+      IsLinked-stays t t' made c.args.holder key s c.self.invariant.0 found (keeps c) c.keep_sets.ensures.sound,
+      none_due-stays t t' key s (keeps c) (places_of m) c.self.invariant.1,
       placed-alike t t' (places_of m) (places_of m) (λ q. (keeps c).lists (OfClient q)) (λ q. refl) c.self.invariant.2,
       subst (λ (u : Table). AreCounted u.rows (counts_of m)) (sym (table-kept t t' made c.args.holder key s c.self.invariant.0 found (keeps c))) c.self.invariant.3,
     )

@@ -20,7 +20,7 @@ use Rattle.captable.proofs.Absent.{without-none}
 use Rattle.captable.proofs.Reading.{entry-none, node-there}
 use Rattle.captable.proofs.Keeping.{held, is_in}
 use Rattle.captable.proofs.Placed.{placed-removed, none_due-ended}
-use Rattle.captable.proofs.Polled.{counts-changed, counts-kept, counts-placed, if_part, part-ended, places-changed, places-kept}
+use Rattle.captable.proofs.Polled.{counts-changed, counts-placed, counts-stay, if_part, part-ended, places-changed, places-stay}
 use Rattle.captable.proofs.NotDue.{none_due-removed}
 use Rattle.captable.proofs.WalkOn.{next-of-client}
 use Rattle.captable.proofs.Removing.{IsLinked-left, kept-left, table-left}
@@ -38,7 +38,7 @@ count_again-requires c =
     let n = c.move_place.new.polls in
     record {
       fits = if_part (λ poll. poll.due) (λ n. n < 18446744073709551615) (map.get n client.0)
-          (subst (λ o. IfSome o (λ n. n < 18446744073709551615)) (sym (counts-kept m client n (moved_on c.in-Some.key c.next_of_client-next.result) c.move_place.ensures client))
+          (subst (λ o. IfSome o (λ n. n < 18446744073709551615)) (sym (counts-stay m client n (moved_on c.in-Some.key c.next_of_client-next.result) c.move_place.ensures client))
           (count-fits (table_of c.self.inside.lists c.self.inside.made).rows (counts_of m) c.self.invariant.0.table.room c.self.invariant.3 client));
     }
 
@@ -59,8 +59,8 @@ invariant_of-self c =
     let next = moved_on c.in-Some.key c.next_of_client-next.result in
     let count = recounted c.is_due_at-was.result false in
     let first = slice_get (keys left (OfClient client)) 0 in
-    let same_places = places-kept n client again count c.count_again.ensures in
-    let same_counts = counts-kept m client n next c.move_place.ensures in
+    let same_places = places-stay n client again count c.count_again.ensures in
+    let same_counts = counts-stay m client n next c.move_place.ensures in
     let moves = λ (q : ClientId). same_places q ∙ places-changed m client n next c.move_place.ensures q in
     let recounts = λ (q : ClientId). counts-changed n client again count c.count_again.ensures q
     ∙ ap (λ o. cond (same_client client q) (option_map count o) o) (same_counts q) in

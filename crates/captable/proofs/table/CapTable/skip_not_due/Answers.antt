@@ -4,7 +4,7 @@ use Rattle.captable.specs.Polls.{counts_of, due_count, places_of}
 use Rattle.captable.specs.Nodes.{table_of}
 use Rattle.captable.proofs.Counting.{counted-same, none_due-uncounted}
 use Rattle.captable.proofs.Placed.{placed-alike, still}
-use Rattle.captable.proofs.Polled.{counts-kept, places-changed}
+use Rattle.captable.proofs.Polled.{counts-stay, places-changed}
 use Rattle.captable.proofs.NotDue.{none_due-put}
 use Rattle.captable.proofs.table.CapTable.skip_not_due.Goals as goal
 
@@ -20,7 +20,7 @@ invariant_of-self c =
       c.self.invariant.0,
       none_due-put (places_of m) (places_of n) t client None places (none_due-uncounted t client rows (c.self.invariant.0.clients client) none) c.self.invariant.1,
       placed-alike t t (places_of m) (places_of n) (λ q. refl) (λ q. ap is_some (places q) ∙ still (λ _. None) (same_client client q) (places_of m q)) c.self.invariant.2,
-      counted-same rows (counts_of m) (counts_of n) (counts-kept m client n (λ _. None) c.set_place.ensures) c.self.invariant.3,
+      counted-same rows (counts_of m) (counts_of n) (counts-stay m client n (λ _. None) c.set_place.ensures) c.self.invariant.3,
     )
 
 pub invariant_of-self-else-count_of-eq0 : goal.invariant_of-self-else-count_of-eq0

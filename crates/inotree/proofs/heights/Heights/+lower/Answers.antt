@@ -3,9 +3,9 @@ use Rattle.std.specs.Map.Iter.{deref_pair}
 use Rattle.std.proofs.lemmas.Map.Iter.{iter_end, rest_more, rest_so_far}
 use Rattle.inotree.specs.Inodes.{InodeMap}
 use Rattle.inotree.specs.Heights.{height}
-use Rattle.inotree.specs.Index.{index_reaches}
-use Rattle.inotree.proofs.Lowering.{all_known, lowered, none_higher, none_left, none_reached, set_few, still_lower, turn_few}
-use Rattle.inotree.proofs.Reaching.{reaches-zero}
+use Rattle.inotree.specs.Index.{index_descends}
+use Rattle.inotree.proofs.Lowering.{all_known, lowered, none_descends, none_higher, none_left, set_few, still_lower, turn_few}
+use Rattle.inotree.proofs.Descending.{descends-zero}
 use Rattle.inotree.proofs.heights.Heights.+lower.Goals as goal
 
 pub loop-child-preserved : goal.loop-child-preserved
@@ -18,13 +18,13 @@ loop-child-preserved t c =
       λ known none.
           let start = c.into_iter-child-iterator.ensures.into_iter_gives ∙ c.names_in-child-items.ensures in
           let parts = sym start ∙ rest_so_far deref_pair c.loop-child.yielded _ _ c.loop-child.yielded_by ∙ ap (λ rest. map deref_pair c.loop-child.yielded ++ rest) (rest_more deref_pair _ _ _ _ c.in-Some.is c.next.ensures.steps) in
-          let low = c.lower.ensures.lowered (all_known m c.args.self.now c.loop-child.self c.loop-child.invariant.1 known) (none_reached c.args.steps c.args.names.now c.args.dir _ _ _ c.if-steps-eq0.false parts none) in
+          let low = c.lower.ensures.lowered (all_known m c.args.self.now c.loop-child.self c.loop-child.invariant.1 known) (none_descends c.args.steps c.args.names.now c.args.dir _ _ _ c.if-steps-eq0.false parts none) in
           turn_few c.loop-child.most c.of-below.result c.max-most.result c.args.steps c.max-most.ensures (c.loop-child.invariant.3 known none) (subst (λ n. n < c.args.steps - 1) (sym c.of-below.ensures) low),
     )
 
 pub returns-then-steps-eq0-clause-lowered : goal.returns-then-steps-eq0-clause-lowered
 returns-then-steps-eq0-clause-lowered t c = λ known none.
-    let reached : index_reaches c.args.steps c.args.names.now c.args.dir ≡ true = reaches-zero _ _ _ c.if-steps-eq0.true in absurd (cc)
+    let descended : index_descends c.args.steps c.args.names.now c.args.dir ≡ true = descends-zero _ _ _ c.if-steps-eq0.true in absurd (cc)
 
 pub returns-clause-rise : goal.returns-clause-rise
 returns-clause-rise t c =

@@ -6,7 +6,7 @@ use Rattle.inotree.proofs.Rising.{all-rise, climb_last, climb_next, parent_under
 use Rattle.inotree.proofs.heights.Heights.raise_above.Goals as goal
 
 pub loop-init : goal.loop-init
-loop-init c = let r = c.requires.tree.1.reached c.args.ino c.requires.here in ((r.0, omega (arith, r.1), r.2), c.requires.rise)
+loop-init c = let r = c.requires.tree.1.to_root c.args.ino c.requires.here in ((r.0, omega (arith, r.1), r.2), c.requires.rise)
 
 pub returns-in_default : goal.returns-in_default
 returns-in_default c =

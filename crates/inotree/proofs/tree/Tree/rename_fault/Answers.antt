@@ -10,17 +10,17 @@ returns-in-Some c =
     let t = c.args.self.now in
     let i = c.args.ino.0 in
     let d = c.args.dir.0 in
-    let leaves : List Test = inode_tests t i ++ root_test t i ∷ [] in
-    let before : c.or-before.result ≡ first_failing (leaves ++ inode_tests t d) = first-both leaves (inode_tests t d) _ _ _ c.or-before.ensures
+    let source_tests : List Test = inode_tests t i ++ root_test t i ∷ [] in
+    let before : c.or-before.result ≡ first_failing (source_tests ++ inode_tests t d) = first-both source_tests (inode_tests t d) _ _ _ c.or-before.ensures
     (first-both (inode_tests t i) (root_test t i ∷ []) _ _ _ c.or.ensures c.inode_refusal-here.ensures c.root_refusal.ensures) c.inode_refusal.ensures in
-    sym (failing-front (leaves ++ inode_tests t d) (new_site_tests t i d c.args.name.now) c.in-Some.refusal (sym before ∙ c.in-Some.is))
+    sym (failing-front (source_tests ++ inode_tests t d) (new_site_tests t i d c.args.name.now) c.in-Some.refusal (sym before ∙ c.in-Some.is))
 
 pub returns : goal.returns
 returns c =
     let t = c.args.self.now in
     let i = c.args.ino.0 in
     let d = c.args.dir.0 in
-    let leaves : List Test = inode_tests t i ++ root_test t i ∷ [] in
-    let before : c.or-before.result ≡ first_failing (leaves ++ inode_tests t d) = first-both leaves (inode_tests t d) _ _ _ c.or-before.ensures
+    let source_tests : List Test = inode_tests t i ++ root_test t i ∷ [] in
+    let before : c.or-before.result ≡ first_failing (source_tests ++ inode_tests t d) = first-both source_tests (inode_tests t d) _ _ _ c.or-before.ensures
     (first-both (inode_tests t i) (root_test t i ∷ []) _ _ _ c.or.ensures c.inode_refusal-here.ensures c.root_refusal.ensures) c.inode_refusal.ensures in
-    c.new_site_refusal.ensures ∙ first-last (leaves ++ inode_tests t d) (new_site_tests t i d c.args.name.now) (sym before ∙ c.in_default.is)
+    c.new_site_refusal.ensures ∙ first-last (source_tests ++ inode_tests t d) (new_site_tests t i d c.args.name.now) (sym before ∙ c.in_default.is)

@@ -1,5 +1,5 @@
 use Rattle.lockmachine.specs.Scene.{scene_by}
-use Rattle.lockmachine.proofs.Alone.{suffices-kept}
+use Rattle.lockmachine.proofs.Alone.{suffices-stays}
 use Rattle.lockmachine.proofs.Ending.{few}
 use Rattle.lockmachine.proofs.Settling.{one_more}
 use Rattle.lockmachine.proofs.locks.Locks.advance_at.Goals as goal
@@ -21,4 +21,4 @@ pub returns-in-Serve-clause-moves : goal.returns-in-Serve-clause-moves
 returns-in-Serve-clause-moves c = (c.moves.invariant.0.steps, few _ _ _ c.moves.invariant.0.runs, c.moves.invariant.0.runs)
 
 pub next_move_by-requires-clause-scope : goal.next_move_by-requires-clause-scope
-next_move_by-requires-clause-scope c = suffices-kept c.queue_scope_at-scope.result c.args.ino.0 c.args.self.now.locks c.moves.self.locks c.moves.invariant.0.elsewhere c.queue_scope_at-scope.ensures
+next_move_by-requires-clause-scope c = suffices-stays c.queue_scope_at-scope.result c.args.ino.0 c.args.self.now.locks c.moves.self.locks c.moves.invariant.0.elsewhere c.queue_scope_at-scope.ensures

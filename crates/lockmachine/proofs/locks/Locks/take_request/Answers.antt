@@ -8,7 +8,7 @@ use Rattle.lockmachine.specs.Counts.{CountedLocks}
 use Rattle.lockmachine.specs.Locks.{IsLockMap, LockMap, request_at, without_request}
 use Rattle.lockmachine.specs.Waiters.{StandAlike, waiter_of}
 use Rattle.lockmachine.proofs.ByLock.{kept}
-use Rattle.lockmachine.proofs.Queue.{none_taken, taken, without_request-kept}
+use Rattle.lockmachine.proofs.Queue.{none_taken, taken, without_request-stays}
 use Rattle.lockmachine.proofs.Counted.{locks_are}
 use Rattle.lockmachine.proofs.locks.Locks.take_request.Goals as goal
 
@@ -41,7 +41,7 @@ invariant_of-self c =
     let both = taken c.self.inside.queue.items c.args.ticket.0 c.in_ok-place.place c.remove.result c.self.invariant.0.rising at c.remove.ensures.value in
     let left : c.remove.new.self.items ≡ filter (λ q. not (is_numbered c.args.ticket.0 q)) c.self.inside.queue.items = c.remove.ensures.items ∙ both.1 in (
       subst (λ (qs : List Request). IsLockMap (record { states = c.self.inside.states.states; queue = qs; last = c.self.inside.last })) (sym left)
-          (without_request-kept old c.args.ticket.0 c.self.invariant.0),
+          (without_request-stays old c.args.ticket.0 c.self.invariant.0),
       omega (arith, c.self.invariant.1, c.remove.ensures.capacity),
       subst (λ (ws : List Waiter). StandAlike ws (map waiter_of c.remove.new.self.items)) (sym c.take_out.ensures)
           (subst (λ (qs : List Request). StandAlike (filter (λ w. not (w.ticket.0 == c.args.ticket.0)) c.self.inside.waiters) (map waiter_of qs)) (sym left)

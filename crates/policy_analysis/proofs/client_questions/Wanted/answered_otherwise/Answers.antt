@@ -2,7 +2,7 @@ use Rattle.std.proofs.Common.{true, false, subst, sym, ap, ◌∙◌}
 use Rattle.capgrant.specs.Question.{Question}
 use Rattle.policy_analysis.specs.Differences.{answered_otherwise}
 use Rattle.policy_analysis.specs.Otherwise.{AnswersOtherwise}
-use Rattle.policy_analysis.proofs.Told.{of_both, of_one}
+use Rattle.policy_analysis.proofs.Reported.{of_both, of_one}
 use Rattle.policy_analysis.proofs.client_questions.Wanted.answered_otherwise.Goals as goal
 
 pub returns-in-Some-None : goal.returns-in-Some-None

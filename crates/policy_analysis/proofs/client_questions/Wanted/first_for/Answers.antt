@@ -4,7 +4,7 @@ use Rattle.capgrant.specs.declared.access.Attr.{Attr}
 use Rattle.policy_analysis.specs.Callers.{allows_one}
 use Rattle.policy_analysis.specs.Otherwise.{AllowsNoneBy, AllowsThis}
 use Rattle.policy_analysis.proofs.Firsts.{none_passes, one_fails, one_passes}
-use Rattle.policy_analysis.proofs.Told.{allows_this, none_by}
+use Rattle.policy_analysis.proofs.Reported.{allows_this, none_by}
 use Rattle.policy_analysis.proofs.client_questions.Wanted.first_for.Goals as goal
 
 pub returns-in-Some : goal.returns-in-Some

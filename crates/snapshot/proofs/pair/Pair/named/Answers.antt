@@ -4,7 +4,7 @@ use Rattle.left_right.specs.Sides.{view as place_view}
 use Rattle.snapshot.specs.declared.value.Published.{Published}
 use Rattle.snapshot.specs.Places.{IsOf}
 use Rattle.snapshot.specs.Value.{staged_all}
-use Rattle.snapshot.proofs.Publishing.{first_told, staging_first, unstaged, view_first}
+use Rattle.snapshot.proofs.Publishing.{first_origin, staging_first, unstaged, view_first}
 use Rattle.snapshot.proofs.Seeing.{begins}
 use Rattle.snapshot.proofs.pair.Pair.named.Goals as goal
 
@@ -13,13 +13,13 @@ publish_as-writer-requires g c next is =
     let value = c.args.self.writer.desk.shown.value in
     begins _ _ value next (unstaged value next _ is c.args.self.unstaged)
 
-pub of-requires-clause-told : goal.of-requires-clause-told
-of-requires-clause-told g c =
+pub of-requires-clause-origin_known : goal.of-requires-clause-origin_known
+of-requires-clause-origin_known g c =
     let value = c.args.self.writer.desk.shown.value in
     let shown = MatchResult-at_ok _ _ c.in-Ok.field-0 c.in-Ok.is c.publish_as-writer.ensures.values in
-    let told = MatchResult-at_ok _ _ c.in-Ok.field-0 c.in-Ok.is c.publish_as-writer.ensures.rule in
+    let origin_known = MatchResult-at_ok _ _ c.in-Ok.field-0 c.in-Ok.is c.publish_as-writer.ensures.rule in
     let same = unstaged value c.publish_as-writer.result.0.desk.shown.value _ shown.0 c.args.self.unstaged in
-    first_told g.L.Server.opening g.L.Server.history (place_view c.args.self.writer.desk.place) (place_view c.publish_as-writer.result.0.desk.place) c.publish_as-writer.result.0.desk.shown.value.origin (subst (λ (v : Published). IsOf g.L.Server.opening g.L.Server.history v.origin) (sym same) c.requires) told
+    first_origin g.L.Server.opening g.L.Server.history (place_view c.args.self.writer.desk.place) (place_view c.publish_as-writer.result.0.desk.place) c.publish_as-writer.result.0.desk.shown.value.origin (subst (λ (v : Published). IsOf g.L.Server.opening g.L.Server.history v.origin) (sym same) c.requires) origin_known
 
 pub of-requires-clause-staging : goal.of-requires-clause-staging
 of-requires-clause-staging g c =

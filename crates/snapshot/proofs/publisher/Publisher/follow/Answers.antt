@@ -3,7 +3,7 @@ use mathlib.Core.List.{IsPrefix}
 use Rattle.snapshot.specs.Publishing.{Publishing}
 use Rattle.snapshot.proofs.Beginnings.{prefix_self}
 use Rattle.left_right.specs.Sides.{view as place_view}
-use Rattle.snapshot.proofs.Publishing.{staging_more, told_same}
+use Rattle.snapshot.proofs.Publishing.{origin_same, staging_more}
 use Rattle.snapshot.proofs.publisher.Publisher.follow.Goals.{else-stage_changes, then-stage_changes}
 use Rattle.snapshot.proofs.publisher.Publisher.follow.Goals as goal
 
@@ -22,13 +22,13 @@ invariant_of-self g c =
           rw w.self-inside-is (
             staging_more g.L.Server.history value after.desk.shown.value stages (drop after.behind after.log.items) before.recorder made.new.recorder c.args.history.now before.lost lost c.self.invariant.0
                 (λ i. ((made.ensures.desk ∙ c.stage_changes.ensures.desk) i).shown.value) made.ensures.more (λ there. made.ensures.whole (cc (there, w.lost-is))) (λ there. made.ensures.log (cc (there, w.lost-is))) (λ there. made.ensures.book (cc (there, w.lost-is))),
-            told_same g.L.Server.opening g.L.Server.history _ _ c.self.invariant.1 (λ i. (place_view ((made.ensures.desk ∙ c.stage_changes.ensures.desk) i).place).origin),
+            origin_same g.L.Server.opening g.L.Server.history _ _ c.self.invariant.1 (λ i. (place_view ((made.ensures.desk ∙ c.stage_changes.ensures.desk) i).place).origin),
           )
       | else-stage_changes w ↦
           rw w.self-inside-is (
             staging_more g.L.Server.history value mid.desk.shown.value stages (drop mid.behind mid.log.items) before.recorder before.recorder c.args.history.now before.lost lost c.self.invariant.0
                 (λ i. (c.stage_changes.ensures.desk i).shown.value) (prefix_self before.recorder) (λ there. absurd (cc (there, w.lost-is, w.if-stage_changes.false))) (λ there. absurd (cc (there, w.lost-is, w.if-stage_changes.false))) (λ there. absurd (cc (there, w.lost-is, w.if-stage_changes.false))),
-            told_same g.L.Server.opening g.L.Server.history _ _ c.self.invariant.1 (λ i. (place_view (c.stage_changes.ensures.desk i).place).origin),
+            origin_same g.L.Server.opening g.L.Server.history _ _ c.self.invariant.1 (λ i. (place_view (c.stage_changes.ensures.desk i).place).origin),
           )
     ]
 

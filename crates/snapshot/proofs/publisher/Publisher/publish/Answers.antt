@@ -1,6 +1,6 @@
 use Rattle.std.proofs.Common.{sym, subst, ap, ◌∙◌, drop}
 use Rattle.snapshot.specs.Publishing.{IsReady, Publishing}
-use Rattle.snapshot.proofs.Publishing.{publishes, staging_after, told_after}
+use Rattle.snapshot.proofs.Publishing.{origin_after, publishes, staging_after}
 use Rattle.snapshot.proofs.publisher.Publisher.publish.Goals as goal
 
 pub publish_as-writer-requires : goal.publish_as-writer-requires
@@ -18,5 +18,5 @@ invariant_of-publisher g c =
     let writer = c.self.inside.writer in
     let after = c.publish_as-writer.result.0 in (
       staging_after g.L.Server.history writer.desk.shown.value after.desk.shown.value (drop writer.behind writer.log.items) (drop after.behind after.log.items) c.self.inside.recorder c.self.inside.lost c.publish_as-writer.result.1 c.self.invariant.0 c.if-self.false c.publish_as-writer.ensures.values,
-      told_after g.L.Server.opening g.L.Server.history _ _ after.desk.shown.value c.publish_as-writer.result.1 c.self.invariant.1 c.publish_as-writer.ensures.rule,
+      origin_after g.L.Server.opening g.L.Server.history _ _ after.desk.shown.value c.publish_as-writer.result.1 c.self.invariant.1 c.publish_as-writer.ensures.rule,
     )

@@ -1,8 +1,0 @@
-use Rattle.queries.proofs.Items.{each_has_its_lines, one_log}
-use Rattle.queries.proofs.log_laws.one_text_for_what_is_told.Goals as goal
-
-pub returns-clause-things : goal.returns-clause-things
-returns-clause-things c = each_has_its_lines
-
-pub returns-clause-told : goal.returns-clause-told
-returns-clause-told c = one_log
