@@ -9,11 +9,11 @@ use crate::lines::lines_of;
 use crate::retry::retry;
 use crate::serving::serve;
 use crate::work::{ScriptWork, Work, work_of};
-use script_syntax::{Watched, read_script};
 use std::alloc::Global;
 use std::io::{Read, Write};
 use std::sync::Wait;
 use std::thread::Threads;
+use texts::{Watched, read_script};
 
 /// The work was done.
 pub const DONE: u8 = 0;

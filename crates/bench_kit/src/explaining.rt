@@ -8,15 +8,15 @@ use crate::work::{Asking, Way};
 use capbits::{ClientId, Ino, Mode, PassId};
 use capgrant::{Access, Verdict};
 use capserver::{CapServer, NoGate, Pass};
+use capstep::Event;
 use inotree::Setting;
 use lockmachine::Change;
 use policy_view::{Question, Unknown};
 use snapshot::Server;
 use std::alloc::Global;
-use std::sync::atomic::{AtomicU64, Ordering};
 use std::sync::{Mutex, MutexGuard, Wait};
+use std::sync::atomic::{AtomicU64, Ordering};
 use std::thread::{Threads, map_vec};
-use step_model::Event;
 
 /// Who asks, and who changes modes.
 const CLIENT: ClientId = ClientId(1);

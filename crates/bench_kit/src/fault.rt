@@ -5,8 +5,8 @@ use capserver::StartFault;
 use capspec::{SpecFault, SpecFaultKind};
 use capstep::stop::Stop;
 use queries::QuestionFault;
-use script_syntax::ScriptFault;
 use std::alloc::{AllocError, AllocFailed};
+use texts::ScriptFault;
 
 /// Why a piece of work gave no sum, a job no digest, or why a talk can't be played.
 #[derive(Clone, Copy)]

@@ -5,14 +5,14 @@ use crate::lines::{apply, event_of};
 use capbits::{ClientId, print_number};
 use capcore::Core;
 use capexplain::reply_lines;
+use capstep::{Message, Reply};
 use rand_core::Rng;
 use rand_pcg::Pcg32;
-use script_syntax::split_line;
 use std::alloc::{AllocError, Global};
 use std::hash::{DefaultHasher, Hasher};
 use std::mem::{replace, swap};
 use std::ops::Range;
-use step_model::{Message, Reply};
+use texts::split_line;
 
 /// The stream of the generator.
 const STREAM: u64 = 54;

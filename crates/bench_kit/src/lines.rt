@@ -3,12 +3,12 @@
 use crate::fault::Fault;
 use capbits::{ClientId, PassId};
 use capcore::Core;
-use capexplain::{append_audit_line, reply_lines};
+use capexplain::{append_audit_line, read_line, reply_lines};
+use capstep::{Event, Reply, Row};
 use capstep::stop::Stop;
-use script_syntax::{ScriptFault, read_line};
 use std::alloc::{AllocError, Global};
 use std::io::Write;
-use step_model::{Event, Reply, Row};
+use texts::ScriptFault;
 
 /// How often something is tried that finds no memory: more often than memory is refused in a row.
 pub(crate) const TRIES: u32 = 16;

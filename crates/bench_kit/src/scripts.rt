@@ -4,9 +4,9 @@ use crate::fault::Fault;
 use crate::job::Job;
 use crate::jobs::Amount;
 use capscript::run;
-use script_syntax::Watched;
 use std::alloc::Global;
 use std::hash::{DefaultHasher, Hasher};
+use texts::Watched;
 
 /// How many directories stand in each other.
 const DEPTH: u64 = 28;

@@ -9,6 +9,7 @@ use crate::publishing::publish;
 use crate::work::ServerWork;
 use capscript::file_system;
 use capserver::{Answer, CapServer, NoGate, Opening, Pass};
+use capstep::{Event, Row};
 use capstep::stop::Stop;
 use snapshot::Server;
 use std::alloc::Global;
@@ -17,7 +18,6 @@ use std::marker::Brand;
 use std::sync::Wait;
 use std::sync::ledger::Blank;
 use std::thread::Threads;
-use step_model::{Event, Row};
 
 // What is done with a server, by the lines of a script.
 #[derive(Clone, Copy)]

@@ -6,7 +6,7 @@ use Rattle.std.specs.FinMap as map
 use Rattle.std.specs.FinMap.{nat_cmp-IsAntisymmetric}
 use Rattle.capbits.specs.declared.ids.ClientId.{ClientId}
 use Rattle.capbits.specs.declared.ids.Ino.{Ino}
-use Rattle.dense_map.proofs.Maps.{insert-at, insert-here, put_back, remove-at}
+use Rattle.capbits.proofs.Maps.{insert-at, insert-here, put_back, remove-at}
 use Rattle.cap_arena.specs.declared.nodes.Ends.{Ends}
 use Rattle.cap_arena.specs.Heads.{Heads, ends_at, ends_or_none, kept, kept_if, no_ends, with_room, without_room}
 use Rattle.cap_arena.specs.Lists.{KeepsNoEmpty, ListName, OfClient, OfInode, OfRecall}

@@ -9,7 +9,7 @@ ghost use Rattle.cap_arena.specs.Places.{appended_ends, unlinked, unlinked_ends,
 use crate::chain::{append, unlink};
 use crate::link::LinkWrites;
 use crate::nodes::{Ends, Linked, Order};
-use dense_map::Numbered;
+use capbits::Numbered;
 use slab::Slab;
 use std::alloc::AllocError;
 use std::marker::Model;

@@ -6,11 +6,10 @@ use crate::heads::{AllEnds, first_in};
 use crate::link::LinkWrites;
 use crate::moves::{put_value, take_in, take_out};
 use crate::nodes::{Ends, Linked, Node, Order};
-use capbits::{ChangeError, ClientId, Ino, Refusal};
-use dense_map::Numbered;
+use capbits::{ChangeError, ClientId, Ino, Numbered, Refusal};
 use slab::Slab;
-use std::alloc::{AllocError, Global};
 use std::fmt;
+use std::alloc::{AllocError, Global};
 use std::marker::{Brand, Model};
 use std::sync::ledger::{Blank, Ledger};
 

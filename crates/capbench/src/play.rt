@@ -2,12 +2,12 @@
 
 use crate::work;
 use bench_kit::{Fault, Outcome, Output, Page, Place, Program, Run, read_talks, report};
-use script_syntax::Watched;
 use std::fs;
 use std::fs::Files;
 use std::io::Write;
 use std::sync::Wait;
 use std::thread::Threads;
+use texts::Watched;
 
 /// Plays the files of these names, up to the first that has a fault, and returns the status: 0 where all talks agree, else 1. A line is written
 /// for each talk, and for one that differs what was wanted and what came.

@@ -2,11 +2,11 @@
 
 use bench_kit::{Amount, Fault, history_digest, served_script, tell};
 use cli::serve;
-use script_syntax::Watched;
 use std::alloc::Global;
 use std::io::{Read, Write};
 use std::sync::Wait;
 use std::thread::Threads;
+use texts::Watched;
 
 /// Does what the words ask for, and returns the status. Of all jobs only `serve` is done here: it takes a server.
 pub fn dispatch(

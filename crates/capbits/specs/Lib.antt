@@ -6,3 +6,5 @@ pub mod Text
 pub mod Caller
 pub mod Refusal
 pub mod Maps
+pub mod Lends
+pub mod Rows

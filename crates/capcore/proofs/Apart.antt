@@ -8,7 +8,7 @@ use Rattle.capbits.specs.Sets.{covers, has-none, has-of_part, of_part, same_cap}
 use Rattle.captable.proofs.Searches.{find_passes}
 use Rattle.locktable.specs.Conflicts.{barred_by, conflict, rows_apart}
 use Rattle.locktable.specs.Rows.{row_of}
-use Rattle.step_model.specs.Headline.{AreInPlace, IsInPlace, NoneConflict}
+use Rattle.capstep.specs.Headline.{AreInPlace, IsInPlace, NoneConflict}
 use Rattle.capcore.proofs.Common.{Cap, ClientId, EntryRow, Holder, Ino, IsSound, IsSubset, LockState, Part, Scene, State, has, is_row_of, lock_at}
 use Rattle.capcore.proofs.Common.{present_state, same}
 

@@ -1,8 +1,8 @@
 -- What an event that may move locks leaves by itself, and what its step comes to in the end.
 use Rattle.std.proofs.Common.{◌≡◌, ◌≤◌, ℕ, ◌+◌, ◌++◌, ◌==◌, Bool, Some, List, [], length, Result, OnErr, sym, ap, subst, ◌∙◌, arith, All}
 use Rattle.std.proofs.lemmas.List.Sums.{count_by-le-length, length-filter}
-use Rattle.step_model.proofs.Twice.{given-twice, recorded-twice}
-use Rattle.step_model.specs.Recorded.{twice}
+use Rattle.capstep.proofs.Twice.{given-twice, recorded-twice}
+use Rattle.capstep.specs.Recorded.{twice}
 use Rattle.capcore.proofs.EntryRequests.{Keeps}
 use Rattle.capcore.proofs.Knowing.{held_at}
 use Rattle.capcore.specs.Begun.{MayEndAt, among}

@@ -13,7 +13,7 @@ pub use Rattle.capgrant.specs.declared.access.Access.{Access}
 pub use Rattle.capgrant.specs.declared.access.Access.TheVariants.{Snapshot, Write}
 pub use Rattle.capgrant.specs.declared.access.Attr.{Attr}
 pub use Rattle.capgrant.specs.declared.rule.Rule.{Rule}
-pub use Rattle.dense_map.proofs.Maps.{change-at}
+pub use Rattle.capbits.proofs.Maps.{change-at}
 pub use Rattle.inotree.specs.InoSets.{InoSet}
 pub use Rattle.inotree.specs.Inodes.{with_snapshot, without_snapshot}
 pub use Rattle.inotree.specs.Tests.{create_tests, inode_tests, new_inode_tests, new_snapshot_tests, old_snapshot_tests}
@@ -72,38 +72,38 @@ pub use Rattle.capcore.specs.declared.settle.Affected.{Affected}
 pub use Rattle.capstep.proofs.Again.{rejection-before}
 pub use Rattle.capstep.specs.Known.{AreKnown, ClientViews, StillKnown, known_in, known_of}
 pub use Rattle.capstep.specs.Left.{dropped_by, locks_left, messages_left, table_left}
-pub use Rattle.capstep.specs.Operations.{operation_of}
-pub use Rattle.step_model.specs.Replies.{has_list, outcome_reply}
-pub use Rattle.step_model.specs.Clients.{session_event}
-pub use Rattle.step_model.specs.declared.event.Event.{Event}
-pub use Rattle.step_model.specs.declared.outcome.Ended.{Ended}
-pub use Rattle.step_model.specs.declared.outcome.Message.{Message}
-pub use Rattle.step_model.specs.declared.outcome.Outcome.{Outcome}
-pub use Rattle.step_model.specs.declared.reply.Reply.{Reply}
-pub use Rattle.step_model.specs.declared.row.Row.{Row}
-pub use Rattle.step_model.proofs.Noting.{changes-still}
-pub use Rattle.step_model.specs.DueEndings.{DueEndings, HasRoom, HaveOwnNumbers, but_for, is_left, is_of_ticket}
-pub use Rattle.step_model.specs.NotedChanges.{view}
-pub use Rattle.step_model.specs.Direct.{Awaits, Direct, DirectReply, Gives, IsDirect, Says, Shows, awaited_as, direct, effect, effect_unless, enqueues, found}
-pub use Rattle.step_model.specs.Direct.{owned_by, reply_of, says, shown, with_birth, with_flush, with_scene, with_table}
-pub use Rattle.step_model.specs.Finish.{finished, is_sized, owed, sizes_owed}
-pub use Rattle.step_model.specs.Headline.{AreBounded, IssuesExactly, ServedDenied, is_rejection, move_of}
-pub use Rattle.step_model.specs.History.{HasNoStray, IsOpening, IsRecorded, Recorded, Replays, recorded}
-pub use Rattle.step_model.specs.Judge.{after, arrival_tests, basic_tests, before, first_denied, judged, needs, rejection_by, rejection_of, rejection_reply}
-pub use Rattle.step_model.specs.Judge.{revoked_of, waiting_tests}
-pub use Rattle.step_model.specs.Messages.{after_messages, first_messages, with_given}
-pub use Rattle.step_model.specs.Needs.{Need, need}
-pub use Rattle.step_model.specs.Noted.{view_of}
-pub use Rattle.step_model.specs.Numbers.{rows_of}
-pub use Rattle.step_model.specs.Operations.{change_tests, exclusive, operation_after, operation_before, operation_needs}
-pub use Rattle.step_model.specs.Serving.{As_judged, MayEndAs, Without_memory, judged_again, outcome_unless}
-pub use Rattle.step_model.specs.Settle.{Began, Gathered, Made, Makes, MakesAll, Served, Settles, ended_in, sized_in}
-pub use Rattle.step_model.specs.Shown.{ShowsWhatIsPending}
-pub use Rattle.step_model.specs.Sound.{AreGiven, IsSound, IsSoundEntry, NumbersLeft}
-pub use Rattle.step_model.specs.State.{State}
-pub use Rattle.step_model.specs.Step.{Step, StepBy, all_ended, earlier, state_after, state_at_end}
-pub use Rattle.step_model.specs.declared.rejection.Rejection.{Rejection}
-pub use Rattle.step_model.specs.declared.rejection.Rejection.TheVariants.{ByTest}
+pub use Rattle.capstep.specs.OperationRefs.{operation_of}
+pub use Rattle.capstep.specs.Replies.{has_list, outcome_reply}
+pub use Rattle.capstep.specs.Clients.{session_event}
+pub use Rattle.capstep.specs.declared.event.Event.{Event}
+pub use Rattle.capstep.specs.declared.outcome.Ended.{Ended}
+pub use Rattle.capstep.specs.declared.outcome.Message.{Message}
+pub use Rattle.capstep.specs.declared.outcome.Outcome.{Outcome}
+pub use Rattle.capstep.specs.declared.reply.Reply.{Reply}
+pub use Rattle.capstep.specs.declared.row.Row.{Row}
+pub use Rattle.capstep.proofs.Noting.{changes-still}
+pub use Rattle.capstep.specs.DueEndings.{DueEndings, HasRoom, HaveOwnNumbers, but_for, is_left, is_of_ticket}
+pub use Rattle.capstep.specs.NotedChanges.{view}
+pub use Rattle.capstep.specs.Direct.{Awaits, Direct, DirectReply, Gives, IsDirect, Says, Shows, awaited_as, direct, effect, effect_unless, enqueues, found}
+pub use Rattle.capstep.specs.Direct.{owned_by, reply_of, says, shown, with_birth, with_flush, with_scene, with_table}
+pub use Rattle.capstep.specs.Finish.{finished, is_sized, owed, sizes_owed}
+pub use Rattle.capstep.specs.Headline.{AreBounded, IssuesExactly, ServedDenied, is_rejection, move_of}
+pub use Rattle.capstep.specs.History.{HasNoStray, IsOpening, IsRecorded, Recorded, Replays, recorded}
+pub use Rattle.capstep.specs.Judge.{after, arrival_tests, basic_tests, before, first_denied, judged, needs, rejection_by, rejection_of, rejection_reply}
+pub use Rattle.capstep.specs.Judge.{revoked_of, waiting_tests}
+pub use Rattle.capstep.specs.Messages.{after_messages, first_messages, with_given}
+pub use Rattle.capstep.specs.Needs.{Need, need}
+pub use Rattle.capstep.specs.Noted.{view_of}
+pub use Rattle.capstep.specs.Numbers.{rows_of}
+pub use Rattle.capstep.specs.Operations.{change_tests, exclusive, operation_after, operation_before, operation_needs}
+pub use Rattle.capstep.specs.Serving.{As_judged, MayEndAs, Without_memory, judged_again, outcome_unless}
+pub use Rattle.capstep.specs.Settle.{Began, Gathered, Made, Makes, MakesAll, Served, Settles, ended_in, sized_in}
+pub use Rattle.capstep.specs.Shown.{ShowsWhatIsPending}
+pub use Rattle.capstep.specs.Sound.{AreGiven, IsSound, IsSoundEntry, NumbersLeft}
+pub use Rattle.capstep.specs.State.{State}
+pub use Rattle.capstep.specs.Step.{Step, StepBy, all_ended, earlier, state_after, state_at_end}
+pub use Rattle.capstep.specs.declared.rejection.Rejection.{Rejection}
+pub use Rattle.capstep.specs.declared.rejection.Rejection.TheVariants.{ByTest}
 pub use Rattle.policy_view.proofs.Likeness.{like-unseen, shows-tree}
 pub use Rattle.policy_view.specs.Changes.{AreChanges}
 pub use Rattle.policy_view.specs.Visible.{IsLike}

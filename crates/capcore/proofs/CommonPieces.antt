@@ -48,28 +48,28 @@ pub use Rattle.capstep.specs.Finishing.{clients_of, entry_by, entry_under, numbe
 pub use Rattle.capstep.specs.Known.{AreKnown, ClientViews, KnownAnew, OthersHaveAll, StillKnown, is_still_known, known_anew, known_in, known_of, permitted_of}
 pub use Rattle.capstep.specs.AffectedInodes.{AreWalked, Covers, IsWidenedBy, Widens}
 pub use Rattle.capstep.specs.Served.{is_rename}
-pub use Rattle.step_model.specs.declared.event.Event.{Event}
-pub use Rattle.step_model.specs.declared.event.OpenMode.{OpenMode}
-pub use Rattle.step_model.specs.declared.outcome.Ended.{Ended}
-pub use Rattle.step_model.specs.declared.outcome.Message.{Message}
-pub use Rattle.step_model.specs.declared.outcome.Outcome.{Outcome}
-pub use Rattle.step_model.specs.declared.reply.Reply.{Reply}
-pub use Rattle.step_model.proofs.Noting.{leads-none, leads-then}
-pub use Rattle.step_model.specs.Changing.{tree_after, tree_with}
-pub use Rattle.step_model.specs.DueEndings.{is_to}
-pub use Rattle.step_model.specs.NotedChanges.{LeadOn}
-pub use Rattle.step_model.specs.Direct.{Direct, Gives, Shows, direct, effect, effect_unless, opening_wants, reply_of, shown, with_scene}
-pub use Rattle.step_model.specs.Finish.{finished, forget, is_in_use, is_sized, issuable, issuable_under, issue, issue_row, number, number_row, owed, sizes_owed}
-pub use Rattle.step_model.specs.Finish.{still_known}
-pub use Rattle.step_model.specs.Headline.{IsInPlace, IssuesExactly}
-pub use Rattle.step_model.specs.Judge.{judged, rejection_reply, revoked_of}
-pub use Rattle.step_model.specs.Messages.{after_messages, end_messages, first_messages, is_caps_of, is_recall_of, is_size_of, row_messages, sized_if, told_if}
-pub use Rattle.step_model.specs.Messages.{unasked_if}
-pub use Rattle.step_model.specs.Settle.{Began, Gathered, Made, Makes, MakesAll, Served, Settles, ended_by, ended_in, sized_by, sized_in}
-pub use Rattle.step_model.specs.Sound.{AreGiven, IsSound, IsSoundEntry}
-pub use Rattle.step_model.specs.State.{State}
-pub use Rattle.step_model.specs.Step.{Step, state_after, state_at_end}
-pub use Rattle.step_model.specs.declared.rejection.Rejection.{Rejection}
+pub use Rattle.capstep.specs.declared.event.Event.{Event}
+pub use Rattle.capstep.specs.declared.event.OpenMode.{OpenMode}
+pub use Rattle.capstep.specs.declared.outcome.Ended.{Ended}
+pub use Rattle.capstep.specs.declared.outcome.Message.{Message}
+pub use Rattle.capstep.specs.declared.outcome.Outcome.{Outcome}
+pub use Rattle.capstep.specs.declared.reply.Reply.{Reply}
+pub use Rattle.capstep.proofs.Noting.{leads-none, leads-then}
+pub use Rattle.capstep.specs.Changing.{tree_after, tree_with}
+pub use Rattle.capstep.specs.DueEndings.{is_to}
+pub use Rattle.capstep.specs.NotedChanges.{LeadOn}
+pub use Rattle.capstep.specs.Direct.{Direct, Gives, Shows, direct, effect, effect_unless, opening_wants, reply_of, shown, with_scene}
+pub use Rattle.capstep.specs.Finish.{finished, forget, is_in_use, is_sized, issuable, issuable_under, issue, issue_row, number, number_row, owed, sizes_owed}
+pub use Rattle.capstep.specs.Finish.{still_known}
+pub use Rattle.capstep.specs.Headline.{IsInPlace, IssuesExactly}
+pub use Rattle.capstep.specs.Judge.{judged, rejection_reply, revoked_of}
+pub use Rattle.capstep.specs.Messages.{after_messages, end_messages, first_messages, is_caps_of, is_recall_of, is_size_of, row_messages, sized_if, told_if}
+pub use Rattle.capstep.specs.Messages.{unasked_if}
+pub use Rattle.capstep.specs.Settle.{Began, Gathered, Made, Makes, MakesAll, Served, Settles, ended_by, ended_in, sized_by, sized_in}
+pub use Rattle.capstep.specs.Sound.{AreGiven, IsSound, IsSoundEntry}
+pub use Rattle.capstep.specs.State.{State}
+pub use Rattle.capstep.specs.Step.{Step, state_after, state_at_end}
+pub use Rattle.capstep.specs.declared.rejection.Rejection.{Rejection}
 pub use Rattle.lockmachine.proofs.CountsStay.{counted-held}
 pub use Rattle.lockmachine.proofs.Exact.{ends_not, settled}
 pub use Rattle.lockmachine.proofs.Finding.{contains-filter, filter-contains}

@@ -9,10 +9,10 @@ use Rattle.std.proofs.lemmas.Option.{same_Some}
 use Rattle.std.specs.Cmp.{nat_eq_equiv}
 use Rattle.std.specs.List.{find}
 use Rattle.capbits.specs.declared.ids.PassId.{PassId}
-use Rattle.step_model.proofs.Taking.{own-head, own-tail}
-use Rattle.step_model.specs.Numbers.{AreNumbered}
-use Rattle.step_model.specs.Serving.{served}
-use Rattle.step_model.specs.Step.{StepBy}
+use Rattle.capstep.proofs.Taking.{own-head, own-tail}
+use Rattle.capstep.specs.Numbers.{AreNumbered}
+use Rattle.capstep.specs.Serving.{served}
+use Rattle.capstep.specs.Step.{StepBy}
 use Rattle.lockmachine.specs.Moves.{with_moved}
 use Rattle.lockmachine.specs.Requests.{is_of_client}
 use Rattle.lockmachine.specs.declared.moves.Move.TheVariants.{Settled}

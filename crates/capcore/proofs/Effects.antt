@@ -4,7 +4,7 @@ use Rattle.std.specs.Option.{option_map}
 use Rattle.std.specs.FinMap as map
 use Rattle.capbits.specs.declared.mode.Mode.{Mode}
 use Rattle.capcore.proofs.Passed.{direct-rejection}
-use Rattle.step_model.specs.Direct.{made_event}
+use Rattle.capstep.specs.Direct.{made_event}
 use Rattle.capcore.proofs.Common.{ByTest, ClientId, Directory, Event, File, Ino, IsDirect, Kind, Need, Refusal, Rejection, Reply, Says, Snapshot, State, Test}
 use Rattle.capcore.proofs.Common.{Write, basic_tests, direct, effect_unless, first_failing, judged, need, new_inode_tests, new_snapshot_tests}
 use Rattle.capcore.proofs.Common.{old_snapshot_tests, owned_by, passed, rejection, rejection_of, rejection_reply, with_birth}

@@ -16,14 +16,15 @@ use Rattle.captable.proofs.Moves.{IsTable-touched}
 use Rattle.captable.proofs.Tables.{IsTable-changed, IsTable-opened, IsTable-without}
 use Rattle.captable.specs.Tests.{open_tests}
 use Rattle.lockmachine.proofs.SameBut.{same-entries}
-use Rattle.step_model.specs.Direct.{with_table}
-use Rattle.step_model.specs.Judge.{after, basic_tests, before, needs, room_for}
-use Rattle.capcore.proofs.CommonPieces.{AreGiven, ClientId, Direct, Entry, EntryRow, Event, Holder, Ino, IsInRow, IsInRowOf, IsLockAtRest, IsSound, IsSoundEntry}
-use Rattle.capcore.proofs.CommonPieces.{IsSubset, IsTable, LockState, OpenMode, P, Part, Scene, StableState, State, StateMap, Table, WaitAt, and_parts, change_rows}
-use Rattle.capcore.proofs.CommonPieces.{changed, effect, effective_want, entries_on, entries_on-changed, entries_on-without, entry_at, entry_of, first_failing}
-use Rattle.capcore.proofs.CommonPieces.{has-caps_in, has-meet, has-none, has-of_part, has-union, has_pin, has_session, holder, is_of_inode, is_open, is_row_of}
-use Rattle.capcore.proofs.CommonPieces.{judged, lock_at, lock_in, new_entry, opened, opening_wants, part_of_operation, permitted, revoked_of, row_found}
-use Rattle.capcore.proofs.CommonPieces.{row_of-entry, same_equiv, test_at, union, wanting, without, without_acked, without_released}
+use Rattle.capstep.specs.Direct.{with_table}
+use Rattle.capstep.specs.Judge.{after, basic_tests, before, needs, room_for}
+use Rattle.capcore.proofs.CommonPieces.{AreGiven, ClientId, Direct, Entry, EntryRow, Event, Holder, Ino, IsInRow, IsInRowOf, IsLockAtRest, IsSound}
+use Rattle.capcore.proofs.CommonPieces.{IsSoundEntry, IsSubset, IsTable, LockState, OpenMode, P, Part, Scene, StableState, State, StateMap, Table, WaitAt}
+use Rattle.capcore.proofs.CommonPieces.{and_parts, change_rows, changed, effect, effective_want, entries_on, entries_on-changed, entries_on-without, entry_at}
+use Rattle.capcore.proofs.CommonPieces.{entry_of, first_failing, has-caps_in, has-meet, has-none, has-of_part, has-union, has_pin, has_session, holder}
+use Rattle.capcore.proofs.CommonPieces.{is_of_inode, is_open, is_row_of, judged, lock_at, lock_in, new_entry, opened, opening_wants, part_of_operation}
+use Rattle.capcore.proofs.CommonPieces.{permitted, revoked_of, row_found, row_of-entry, same_equiv, test_at, union, wanting, without, without_acked}
+use Rattle.capcore.proofs.CommonPieces.{without_released}
 use Rattle.capcore.proofs.EntryStays.{IsLess, IsMade, each-after}
 use Rattle.capcore.proofs.Forgotten.{all_rows}
 use Rattle.capcore.proofs.Passed.{no_test}

@@ -9,7 +9,7 @@ use Rattle.capcore.proofs.EntryRequests.{after-passed, before-passed}
 use Rattle.lockmachine.proofs.SameBut.{same-entries, same-trans, same-tree}
 use Rattle.capcore.proofs.OneChange.{alike_change, by_change}
 use Rattle.capstep.specs.Served.{change_call_tests}
-use Rattle.step_model.specs.Changing.{tree_changed}
+use Rattle.capstep.specs.Changing.{tree_changed}
 use Rattle.lockmachine.specs.Elsewhere.{IsSameBut}
 use Rattle.lockmachine.specs.declared.request.Change.{Change}
 use Rattle.capcore.proofs.Common.{AffectsOne, AreBelow, AreGiven, Event, Holder, IsAffectedEntry, IsLockAtRest, IsSound, IsTable, Nodes, Reply, Scene, State}

@@ -11,18 +11,18 @@ use Rattle.lockmachine.proofs.Finding.{fails_at, find_none}
 use Rattle.lockmachine.proofs.InRows.{one_keeps}
 use Rattle.lockmachine.proofs.Moving.{with_lock-each}
 use Rattle.lockmachine.proofs.Queue.{moved-stays, taken_alone}
-use Rattle.step_model.specs.Headline.{move_of}
-use Rattle.step_model.specs.Serving.{served}
+use Rattle.capstep.specs.Headline.{move_of}
+use Rattle.capstep.specs.Serving.{served}
 use Rattle.lockmachine.specs.Locks.{with_lock}
 use Rattle.lockmachine.specs.Moves.{coming_state, moved, present_state, with_moved}
 use Rattle.lockmachine.specs.Requests.{is_for}
 use Rattle.lockmachine.specs.Runs.{Runs}
 use Rattle.lockmachine.specs.declared.moves.Move.{Move}
 use Rattle.lockmachine.specs.declared.moves.Move.TheVariants.{Begin, End}
-use Rattle.capcore.proofs.CommonPieces.{A, Began, Ended, EntryRow, Gather, Gathered, IsInRow, IsLockMap, IsSound, IsSoundEntry, IsTree, LockId, LockMap, LockState}
-use Rattle.capcore.proofs.CommonPieces.{Made, Makes, MakesAll, Nodes, Operation, Outcome, P, Part, Request, Scene, Serve, Served, Stable, State, Table, WaitAt}
-use Rattle.capcore.proofs.CommonPieces.{contains-filter, ended_in, exist-changed, first_for, first_move, is_numbered, lock_at, lock_in, resting-waits-at, served-at}
-use Rattle.capcore.proofs.CommonPieces.{tree_with, waits-stay-at, without_request}
+use Rattle.capcore.proofs.CommonPieces.{A, Began, Ended, EntryRow, Gather, Gathered, IsInRow, IsLockMap, IsSound, IsSoundEntry, IsTree, LockId, LockMap}
+use Rattle.capcore.proofs.CommonPieces.{LockState, Made, Makes, MakesAll, Nodes, Operation, Outcome, P, Part, Request, Scene, Serve, Served, Stable, State}
+use Rattle.capcore.proofs.CommonPieces.{Table, WaitAt, contains-filter, ended_in, exist-changed, first_for, first_move, is_numbered, lock_at, lock_in}
+use Rattle.capcore.proofs.CommonPieces.{resting-waits-at, served-at, tree_with, waits-stay-at, without_request}
 use Rattle.capcore.proofs.LeftAlone.{found-contains}
 use Rattle.capcore.proofs.OneChange.{by_operation, sound-after}
 

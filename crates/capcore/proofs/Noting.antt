@@ -2,19 +2,19 @@
 use Rattle.std.proofs.Common.{◌≡◌, ℕ, true, false, None, Some, [], ◌∷◌, List, refl, sym, subst, arith}
 use Rattle.std.specs.FinMap as map
 use Rattle.capspec.specs.declared.grant.Grant.{Grant}
-use Rattle.dense_map.proofs.Maps.{change-at}
+use Rattle.capbits.proofs.Maps.{change-at}
 use Rattle.inotree.specs.Tree.{Nodes}
 use Rattle.sessiontab.specs.Calls.{with_grants}
 use Rattle.sessiontab.specs.Changes.{changed_sessions, is_end, new_grants}
 use Rattle.sessiontab.specs.Connected.{SessionMap, change_session}
 use Rattle.sessiontab.specs.declared.change.SessionChange.{SessionChange}
 use Rattle.sessiontab.specs.declared.session.Status.{Status}
-use Rattle.step_model.proofs.Noting.{changes-one, changes-unseen}
+use Rattle.capstep.proofs.Noting.{changes-one, changes-unseen}
 use Rattle.policy_view.proofs.Likeness.{clients-unseen, shows-sessions}
 use Rattle.policy_view.specs.Changes.{AreChanges}
 use Rattle.policy_view.specs.Visible.{Shows, connected_client}
 use Rattle.policy_view.specs.declared.change.ViewChange.{ViewChange}
-use Rattle.step_model.specs.NotedChanges.{view}
+use Rattle.capstep.specs.NotedChanges.{view}
 use Rattle.capcore.proofs.CommonPieces.{ClientId, SessionTable}
 use Rattle.capcore.specs.SessionChange.{Notes}
 

@@ -8,14 +8,14 @@ use Rattle.inotree.proofs.OneInode.{alike-unlinked, childless-empty, childless-f
 use Rattle.inotree.proofs.OneInode.{sound-setting, sound-unlink}
 use Rattle.inotree.specs.Calls.{changed}
 use Rattle.capstep.proofs.Again.{passed-all, stays-or-makes}
-use Rattle.step_model.specs.Changing.{tree_changed}
-use Rattle.step_model.specs.Operations.{change_tests, operation_after, operation_before, operation_needs}
-use Rattle.step_model.specs.Serving.{MayEndAs}
+use Rattle.capstep.specs.Changing.{tree_changed}
+use Rattle.capstep.specs.Operations.{change_tests, operation_after, operation_before, operation_needs}
+use Rattle.capstep.specs.Serving.{MayEndAs}
 use Rattle.lockmachine.specs.declared.request.Change.{Change}
 use Rattle.lockmachine.specs.declared.request.Change.TheVariants.{RemoveXattr, Set, SetXattr}
 use Rattle.lockmachine.specs.declared.request.Operation.TheVariants.{Alter, Get, Rename, Rmdir, Unlink}
-use Rattle.capcore.proofs.CommonPieces.{IsAlike, IsTree, Node, Nodes, Operation, Outcome, Request, Scene, alike-itself, exist-changed, first_failing, is_rename}
-use Rattle.capcore.proofs.CommonPieces.{is_within, presence, tree_after, tree_with}
+use Rattle.capcore.proofs.CommonPieces.{IsAlike, IsTree, Node, Nodes, Operation, Outcome, Request, Scene, alike-itself, exist-changed, first_failing}
+use Rattle.capcore.proofs.CommonPieces.{is_rename, is_within, presence, tree_after, tree_with}
 
 -- ---- whatever the operation
 

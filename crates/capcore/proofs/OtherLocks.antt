@@ -5,10 +5,10 @@ use Rattle.std.specs.List.{list_any}
 use Rattle.std.specs.Option.{option_map}
 use Rattle.std.specs.FinMap as map
 use Rattle.capcore.proofs.Strays.{retained-gone, retained-here}
-use Rattle.step_model.specs.Finish.{is_in_use, issue}
-use Rattle.step_model.specs.Headline.{OtherLocksStay, is_of_lock_at}
-use Rattle.capcore.proofs.Common.{Began, DirectReply, Ended, Event, Gather, Gathered, LockId, LockMap, LockState, Made, Makes, MakesAll, Part, Reply, Scene, Served}
-use Rattle.capcore.proofs.Common.{Stable, State, StepBy, coming_state, direct, is_at, lock_at, lock_in, present_state, shown, sized_in, sizes_owed}
+use Rattle.capstep.specs.Finish.{is_in_use, issue}
+use Rattle.capstep.specs.Headline.{OtherLocksStay, is_of_lock_at}
+use Rattle.capcore.proofs.Common.{Began, DirectReply, Ended, Event, Gather, Gathered, LockId, LockMap, LockState, Made, Makes, MakesAll, Part, Reply, Scene}
+use Rattle.capcore.proofs.Common.{Served, Stable, State, StepBy, coming_state, direct, is_at, lock_at, lock_in, present_state, shown, sized_in, sizes_owed}
 use Rattle.capcore.proofs.Common.{state_after, with_lock, with_lock-each}
 
 -- ---- the moves

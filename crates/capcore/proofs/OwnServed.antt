@@ -13,7 +13,7 @@ use Rattle.lockmachine.proofs.Exact.{begins_not, ends_not, serves_not, settled}
 use Rattle.lockmachine.proofs.Moving.{IsMove, first_is}
 use Rattle.lockmachine.proofs.Queue.{least_served, moved-stays}
 use Rattle.lockmachine.proofs.Rest.{same_part_is}
-use Rattle.step_model.specs.Serving.{passed_as}
+use Rattle.capstep.specs.Serving.{passed_as}
 use Rattle.lockmachine.specs.Moves.{IsAtRest, begun_locks, gathered_locks, is_first, is_servable, may_begin, may_end, may_serve}
 use Rattle.lockmachine.specs.Requests.{part_of_operation, part_place, same_part}
 use Rattle.capcore.proofs.Common.{As_judged, Began, Begin, ClientId, End, Gather, Gathered, Ino, IsLockAtRest, IsLockMap, LockId, LockMap, LockState, Made}

@@ -2,10 +2,10 @@
 use Rattle.std.proofs.Common.{◌≡◌, List, [], Option, Some, None, arith}
 use Rattle.std.specs.Option.{option_map}
 use Rattle.capbits.specs.declared.refusal.Refusal.{Refusal}
-use Rattle.step_model.specs.Direct.{IsDirect}
-use Rattle.step_model.specs.Judge.{first_denied, rejection_by, rejection_of}
-use Rattle.step_model.specs.Needs.{Need}
-use Rattle.step_model.specs.declared.rejection.Rejection.TheVariants.{ByTest}
+use Rattle.capstep.specs.Direct.{IsDirect}
+use Rattle.capstep.specs.Judge.{first_denied, rejection_by, rejection_of}
+use Rattle.capstep.specs.Needs.{Need}
+use Rattle.capstep.specs.declared.rejection.Rejection.TheVariants.{ByTest}
 use Rattle.capcore.proofs.CommonPieces.{Event, Rejection, Scene, State, Test, first_failing, judged, rejection_reply}
 
 rejection_by-rejection : (s : Scene) (o : Option Refusal) (d : Option Need) (l : Option Refusal) (r : Rejection) → rejection_by s o d None ≡ Some r → rejection_by s o d l ≡ Some r

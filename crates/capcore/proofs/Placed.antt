@@ -5,11 +5,11 @@ use Rattle.std.proofs.lemmas.List.Folds.{list_any_at}
 use Rattle.std.specs.Cmp.{nat_eq_equiv}
 use Rattle.std.specs.List.{list_any}
 use Rattle.capbits.specs.Caps.{has}
-use Rattle.step_model.specs.Headline.{AreRevoked, IsRevoked}
+use Rattle.capstep.specs.Headline.{AreRevoked, IsRevoked}
 use Rattle.lockmachine.specs.Scene.{against_lock, against_locks, against_part, against_policy}
 use Rattle.capcore.proofs.CommonPieces.{Cap, EntryRow, Gather, IsInPlace, IsInRow, IsInRowOf, LockState, Part, Scene, StableState, against, filter-contains}
-use Rattle.capcore.proofs.CommonPieces.{has-is_empty, has-minus, has-union, is_empty, is_of_inode, lock_at, of_part, outside, permitted, row_of, second_true}
-use Rattle.capcore.proofs.CommonPieces.{pending_of}
+use Rattle.capcore.proofs.CommonPieces.{has-is_empty, has-minus, has-union, is_empty, is_of_inode, lock_at, of_part, outside, pending_of, permitted, row_of}
+use Rattle.capcore.proofs.CommonPieces.{second_true}
 
 -- a row that passes two tests is found by both
 pub any_found : (p q : EntryRow → Bool) (rows : List EntryRow) (row : EntryRow) → Contains rows row → p row ≡ true → q row ≡ true → list_any q (filter p rows) ≡ true

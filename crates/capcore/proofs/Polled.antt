@@ -1,10 +1,10 @@
 -- A poll is a whole step: no lock moves, and nothing is left to do but to give the messages.
 use Rattle.std.proofs.Common.{◌≡◌, ℕ, Option, None, List, [], filter, sym, ap, subst, ◌∙◌, append-nil, arith}
-use Rattle.step_model.proofs.Twice.{given-twice, recorded-twice}
-use Rattle.step_model.specs.Recorded.{twice}
+use Rattle.capstep.proofs.Twice.{given-twice, recorded-twice}
+use Rattle.capstep.specs.Recorded.{twice}
 use Rattle.capcore.proofs.SoundEnd.{sound-ends}
-use Rattle.capcore.proofs.Common.{ClientId, Direct, Ended, Event, Gives, IsReplied, IsSound, IsTable, IssuesExactly, Message, Rejection, Reply, Settles}
-use Rattle.capcore.proofs.Common.{State, Step, StepReply, Table, after_messages, all_ended, changed_where, direct, effect_unless, first_denied, first_failing}
+use Rattle.capcore.proofs.Common.{ClientId, Direct, Ended, Event, Gives, IsReplied, IsSound, IsTable, IssuesExactly, Message, Rejection, Reply, Settles, State}
+use Rattle.capcore.proofs.Common.{Step, StepReply, Table, after_messages, all_ended, changed_where, direct, effect_unless, first_denied, first_failing}
 use Rattle.capcore.proofs.Common.{first_messages, is_left, is_of_client, judged, rejection_by, reply_of, session_tests, shown, shown-given, shown-issued}
 use Rattle.capcore.proofs.Common.{shown-sound, sound-settles, state_after, with_given}
 use Rattle.capcore.proofs.Promised.{has-issuable}

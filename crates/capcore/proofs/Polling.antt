@@ -9,11 +9,11 @@ use Rattle.std.specs.List.{IsDistinct, flat_map, list_any}
 use Rattle.std.specs.Option.{unwrap_or}
 use Rattle.std.specs.FinMap as finite
 use Rattle.capbits.specs.Sets.{no_caps}
-use Rattle.step_model.specs.Messages.{size_message}
-use Rattle.capcore.proofs.CommonPieces.{AreKnown, Caps, ClientId, ClientViews, Ended, Entry, EntryRow, Ino, IsTable, Message, Scene, State, Table, after_messages}
-use Rattle.capcore.proofs.CommonPieces.{changed, changed_where, end_messages, entry_at, entry_of, first_messages, fold-changed_by, holder, is_among, is_caps_of}
-use Rattle.capcore.proofs.CommonPieces.{is_due, is_of_client, is_recall_of, is_size_of, known_in, pending_of, remade, row_found, row_messages, with_asked}
-use Rattle.capcore.proofs.CommonPieces.{with_size_due, with_told}
+use Rattle.capstep.specs.Messages.{size_message}
+use Rattle.capcore.proofs.CommonPieces.{AreKnown, Caps, ClientId, ClientViews, Ended, Entry, EntryRow, Ino, IsTable, Message, Scene, State, Table}
+use Rattle.capcore.proofs.CommonPieces.{after_messages, changed, changed_where, end_messages, entry_at, entry_of, first_messages, fold-changed_by, holder}
+use Rattle.capcore.proofs.CommonPieces.{is_among, is_caps_of, is_due, is_of_client, is_recall_of, is_size_of, known_in, pending_of, remade, row_found}
+use Rattle.capcore.proofs.CommonPieces.{row_messages, with_asked, with_size_due, with_told}
 use Rattle.capcore.proofs.Telling.{asked_given, given_table, retold, size_given, told_given}
 
 -- ---- the first of a list

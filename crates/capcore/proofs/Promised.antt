@@ -3,8 +3,8 @@ use Rattle.std.proofs.Common.{◌≡◌, Bool, true, false, ◌||◌, List, Opti
 use Rattle.std.proofs.lemmas.List.Elements.{All-contains}
 use Rattle.std.specs.List.{find}
 use Rattle.std.specs.Option.{option_map_or}
-use Rattle.step_model.specs.Finish.{issuable}
-use Rattle.step_model.specs.Headline.{DeniedExactly, denied_in}
+use Rattle.capstep.specs.Finish.{issuable}
+use Rattle.capstep.specs.Headline.{DeniedExactly, denied_in}
 use Rattle.capcore.proofs.Common.{Direct, Ended, EntryRow, Event, Holder, IsDirect, IsLockMap, IsSound, IsSoundEntry, IsTable, IssuesExactly, Made, MakesAll}
 use Rattle.capcore.proofs.Common.{Operation, Rejection, Reply, Scene, State, Step, after, before, direct, effect, effect_unless, ended_in, found}
 use Rattle.capcore.proofs.Common.{found-contains, has, is_rejection, is_row_of, judged, needs, operation_by, rejection-only, rejection_reply, reply_of}

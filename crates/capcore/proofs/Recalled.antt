@@ -1,7 +1,7 @@
 -- A recall is a whole step: it marks entries as asked for, by which nothing is judged, moved or issued.
 use Rattle.std.proofs.Common.{◌≡◌, ◌≤◌, ℕ, Bool, true, ◌||◌, List, [], take, refl, sym, subst, arith}
 use Rattle.std.proofs.lemmas.List.Elements.{All-map}
-use Rattle.step_model.specs.Recorded.{twice}
+use Rattle.capstep.specs.Recorded.{twice}
 use Rattle.capcore.proofs.SoundEnd.{same-finished}
 use Rattle.capcore.proofs.Telling.{as_sized, as_told, retold, retold-sound, retold_table}
 use Rattle.capcore.proofs.Common.{AreGiven, ClientViews, EntryRow, Event, HoldAlike, Holder, IsReplied, IsSound, IsTable, IsTable-recalled, Reply, State}

@@ -1,7 +1,7 @@
 -- In a sound state an event that is rejected has one step alone, which changes nothing.
 use Rattle.std.proofs.Common.{◌≡◌, Some, List, [], ◌∷◌, refl, sym, ap, subst, ◌∙◌, append-nil, arith}
-use Rattle.step_model.specs.Direct.{says}
-use Rattle.step_model.specs.Step.{all_ended}
+use Rattle.capstep.specs.Direct.{says}
+use Rattle.capstep.specs.Step.{all_ended}
 use Rattle.capcore.proofs.CommonPieces.{Direct, Ended, Event, IsSound, IsTable, Made, Makes, MakesAll, Rejection, Reply, Scene, Settled, Settles, State, Step}
 use Rattle.capcore.proofs.CommonPieces.{direct, effect_unless, ended_in, first_move, judged, rejection_reply, reply_of, settled, shown, state_after}
 use Rattle.capcore.proofs.SoundEnd.{sound-ends, sound-settles}

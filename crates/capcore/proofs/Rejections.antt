@@ -1,8 +1,8 @@
 -- An event that is rejected is answered so; and which inode an event affects that waits for a lock.
 use Rattle.std.proofs.Common.{◌≡◌, ℕ, List, Option, Some, None, [], ◌∷◌, ◌++◌, refl, sym, ap, ◌∙◌, arith}
 use Rattle.std.specs.Option.{option_map}
-use Rattle.step_model.proofs.Twice.{given-twice, recorded-twice}
-use Rattle.step_model.specs.Recorded.{twice}
+use Rattle.capstep.proofs.Twice.{given-twice, recorded-twice}
+use Rattle.capstep.specs.Recorded.{twice}
 use Rattle.capcore.proofs.Common.{Access, ByTest, ClientId, Event, IsReplied, IsSound, IsTable, Need, Refusal, Rejection, Scene, State, StepReply, Test}
 use Rattle.capcore.proofs.Common.{basic_tests, failing-front, first_denied, first_failing, inode_tests, judged, need, no_test, passed-both, passed-front}
 use Rattle.capcore.proofs.Common.{rejection-step, rejection_by, rejection_of, rejection_reply, session_tests}

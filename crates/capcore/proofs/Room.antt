@@ -1,6 +1,6 @@
 -- Room for the requests that a step ends.
 use Rattle.std.proofs.Common.{◌≤◌, ℕ, Option, arith}
-use Rattle.step_model.specs.NotedChanges.{Noted}
+use Rattle.capstep.specs.NotedChanges.{Noted}
 use Rattle.capcore.proofs.CommonPieces.{Ticket}
 use Rattle.capcore.specs.Begun.{HaveRoomFor}
 use Rattle.capcore.specs.declared.output.StepOutput.{StepOutput}

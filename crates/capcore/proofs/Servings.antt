@@ -1,7 +1,7 @@
 -- Requests that are served among the moves of a step.
 use Rattle.std.proofs.Common.{◌≡◌, List, [], ◌∷◌, ◌++◌, Option, Some, None, is_some, if◌then◌else◌, refl, sym, subst, arith, ◌∙◌, ap}
 use Rattle.std.specs.Option.{option_map}
-use Rattle.step_model.specs.Headline.{denial, denied_as}
+use Rattle.capstep.specs.Headline.{denial, denied_as}
 use Rattle.lockmachine.specs.Policy.{failures}
 use Rattle.capcore.proofs.Common.{Access, As_judged, Made, Makes, MakesAll, MayEndAs, Need, Outcome, Refusal, Rejection, Request, Rule, Scene, Served}
 use Rattle.capcore.proofs.Common.{ServedDenied, Test, Without_memory, first_denied, first_failing, judged_again, operation_after, operation_before}

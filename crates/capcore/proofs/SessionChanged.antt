@@ -5,17 +5,17 @@ use Rattle.std.proofs.lemmas.Bool.{eqb-false, eqb-true, false_from_ne_true, ne_e
 use Rattle.std.proofs.lemmas.List.Elements.{All-contains, All-contains_itself, All-filter, All-weaker, filter_passes}
 use Rattle.std.specs.Option.{option_map}
 use Rattle.std.specs.FinMap as map
-use Rattle.dense_map.proofs.Maps.{remove-at}
+use Rattle.capbits.proofs.Maps.{remove-at}
 use Rattle.captable.proofs.ByInode.{entries_on-without_client}
 use Rattle.sessiontab.specs.Connected.{SessionMap, change_session}
 use Rattle.capcore.proofs.EntryRequests.{IsKeptEntry, kept-left, sound-stays}
 use Rattle.lockmachine.proofs.Finding.{fails_at, find_none}
 use Rattle.lockmachine.proofs.SameOutside.{outside-dropped, outside-itself, outside-then}
-use Rattle.step_model.specs.DueEndings.{is_to}
+use Rattle.capstep.specs.DueEndings.{is_to}
 use Rattle.lockmachine.specs.Elsewhere.{IsSameOutside}
 use Rattle.lockmachine.specs.Requests.{is_of_client as is_asked_by}
-use Rattle.capcore.proofs.Common.{Affects, ClientId, Direct, EntryRow, Ino, IsAffectedEntry, IsLockAtRest, IsSound, IsTable, IsTable-without_client, LockMap, Part}
-use Rattle.capcore.proofs.Common.{Reply, Request, Says, Scene, Session, SessionChange, SessionTable, State, StateMap, Table, alike-itself, change-at}
+use Rattle.capcore.proofs.Common.{Affects, ClientId, Direct, EntryRow, Ino, IsAffectedEntry, IsLockAtRest, IsSound, IsTable, IsTable-without_client, LockMap}
+use Rattle.capcore.proofs.Common.{Part, Reply, Request, Says, Scene, Session, SessionChange, SessionTable, State, StateMap, Table, alike-itself, change-at}
 use Rattle.capcore.proofs.Common.{changed_sessions, contains-filter, direct, dropped_by, effect, effect_unless, entries_on, first_for, has_session, is_end}
 use Rattle.capcore.proofs.Common.{is_for, is_of_client, is_of_inode, judged, lock_at, locks_left, messages_left, session_changed, session_event, sound-pinned}
 use Rattle.capcore.proofs.Common.{table_left, without_client}

@@ -2,7 +2,7 @@
 use Rattle.std.proofs.Common.{◌≡◌, ◌≤◌, ◌-◌, ℕ, ◌+◌, Bool, Option, Some, is_some, option_to_list, List, length, refl, sym, ap, subst, ◌∙◌, arith, vec_capacity}
 use Rattle.std.proofs.lemmas.List.Sums.{count_by-le-length, length-filter}
 use Rattle.std.specs.FinSet as set
-use Rattle.step_model.specs.NotedChanges.{HavePlaces}
+use Rattle.capstep.specs.NotedChanges.{HavePlaces}
 use Rattle.capcore.specs.SessionChange.{HasInodesOf}
 use Rattle.capcore.specs.declared.settle.Affected.TheVariants.{Inodes}
 use Rattle.capcore.proofs.Begun.{begun-entries}

@@ -15,18 +15,19 @@ use Rattle.captable.proofs.Shown.{shown-less, shown-numbered, shown-told}
 use Rattle.captable.specs.Calls.{recalled, released, without_client}
 use Rattle.captable.specs.Shown.{IsShown}
 use Rattle.lockmachine.proofs.Exact.{settled as at_rest_settled}
-use Rattle.step_model.specs.declared.row.Row.{Row}
-use Rattle.step_model.specs.Direct.{found, opened_as, with_opening, with_wanted}
-use Rattle.step_model.specs.Messages.{end_message, messages_to}
-use Rattle.step_model.specs.Shown.{AreShown, shown_by, shown_in, shown_of, shown_opened}
-use Rattle.capcore.proofs.CommonPieces.{Caps, ClientId, Direct, Ended, Entry, EntryRow, Event, Fc, Gives, Holder, Ino, IsSound, IsTable, Made, Message, OpenMode, P}
-use Rattle.capcore.proofs.CommonPieces.{Rejection, Reply, Scene, Settles, Shows, State, Step, Table, acked, after_messages, against, changed, contains-filter}
-use Rattle.capcore.proofs.CommonPieces.{direct, effect, effect_unless, end_messages, ended_in, entry_at, entry_at-opened_other, entry_at-without, entry_of, find-map}
-use Rattle.capcore.proofs.CommonPieces.{first_messages, forget, has-against, has-minus, has-pending, has_pin, holder, is_among, is_caps_of, is_of_client, is_recall_of}
-use Rattle.capcore.proofs.CommonPieces.{is_revoked, is_row_of, is_size_of, is_sized, is_to, issue, issue_row, judged, minus, no_entry, number_row, opened, owed}
-use Rattle.capcore.proofs.CommonPieces.{rejection_reply, remade, renumbered, reply_of, revoked_of, row_found, row_messages, row_of-entry, same, same-is, same_caps}
-use Rattle.capcore.proofs.CommonPieces.{pending_of, same_holder, shown, sized_if, sized_in, sizes_owed, state_after, still_known, test_at, told_if}
-use Rattle.capcore.proofs.CommonPieces.{touched, unasked_if, with_asked, with_entry, with_size_due, with_told, without, without_acked, without_released}
+use Rattle.capstep.specs.declared.row.Row.{Row}
+use Rattle.capstep.specs.Direct.{found, opened_as, with_opening, with_wanted}
+use Rattle.capstep.specs.Messages.{end_message, messages_to}
+use Rattle.capstep.specs.Shown.{AreShown, shown_by, shown_in, shown_of, shown_opened}
+use Rattle.capcore.proofs.CommonPieces.{Caps, ClientId, Direct, Ended, Entry, EntryRow, Event, Fc, Gives, Holder, Ino, IsSound, IsTable, Made, Message}
+use Rattle.capcore.proofs.CommonPieces.{OpenMode, P, Rejection, Reply, Scene, Settles, Shows, State, Step, Table, acked, after_messages, against, changed}
+use Rattle.capcore.proofs.CommonPieces.{contains-filter, direct, effect, effect_unless, end_messages, ended_in, entry_at, entry_at-opened_other}
+use Rattle.capcore.proofs.CommonPieces.{entry_at-without, entry_of, find-map, first_messages, forget, has-against, has-minus, has-pending, has_pin, holder}
+use Rattle.capcore.proofs.CommonPieces.{is_among, is_caps_of, is_of_client, is_recall_of, is_revoked, is_row_of, is_size_of, is_sized, is_to, issue, issue_row}
+use Rattle.capcore.proofs.CommonPieces.{judged, minus, no_entry, number_row, opened, owed, pending_of, rejection_reply, remade, renumbered, reply_of}
+use Rattle.capcore.proofs.CommonPieces.{revoked_of, row_found, row_messages, row_of-entry, same, same-is, same_caps, same_holder, shown, sized_if, sized_in}
+use Rattle.capcore.proofs.CommonPieces.{sizes_owed, state_after, still_known, test_at, told_if, touched, unasked_if, with_asked, with_entry, with_size_due}
+use Rattle.capcore.proofs.CommonPieces.{with_told, without, without_acked, without_released}
 use Rattle.capstep.proofs.Opened.{apart-of}
 use Rattle.capcore.proofs.EndsThere.{held-renumbered}
 use Rattle.capcore.proofs.SoundEnd.{sound-ends}

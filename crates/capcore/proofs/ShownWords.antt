@@ -16,10 +16,10 @@ use Rattle.capstep.proofs.Opened.{apart-of}
 use Rattle.capcore.proofs.Placed.{pending-permitted}
 use Rattle.capcore.proofs.Revoking.{pin-goes, revoked-found}
 use Rattle.capcore.proofs.ShownSteps.{at, entry_at-entry_other}
-use Rattle.step_model.specs.declared.event.OpenMode.{OpenMode}
-use Rattle.step_model.specs.Direct.{with_opening}
-use Rattle.step_model.specs.Headline.{holds, is_issuable}
-use Rattle.step_model.specs.Shown.{AreShown, ShowsOnlyPermitted, TakesOnlySo, TakesUnshown, may_take, shown_of}
+use Rattle.capstep.specs.declared.event.OpenMode.{OpenMode}
+use Rattle.capstep.specs.Direct.{with_opening}
+use Rattle.capstep.specs.Headline.{holds, is_issuable}
+use Rattle.capstep.specs.Shown.{AreShown, ShowsOnlyPermitted, TakesOnlySo, TakesUnshown, may_take, shown_of}
 use Rattle.lockmachine.specs.Revoked.{is_revoked}
 use Rattle.lockmachine.specs.Scene.{against}
 use Rattle.capcore.proofs.Common.{Ack, Cap, Caps, ClientId, Direct, Entry, EntryRow, Event, Holder, Ino, IsSound, IsSoundEntry, IssuesExactly, Rejection, Row}

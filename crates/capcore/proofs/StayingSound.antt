@@ -6,10 +6,10 @@ use Rattle.std.specs.List.{list_any}
 use Rattle.std.specs.FinMap as map
 use Rattle.capbits.specs.Caps.{has}
 use Rattle.lockmachine.proofs.Rest.{at_rest}
-use Rattle.step_model.specs.Step.{earlier}
-use Rattle.capcore.proofs.CommonPieces.{AreGiven, Caps, ClientId, EntryRow, Gone, Holder, IsAtRest, IsInRow, IsLockMap, IsSound, IsSoundEntry, IsSubset, IsTable}
-use Rattle.capcore.proofs.CommonPieces.{IsTree, Made, P, Part, Scene, SessionTable, State, Table, allowed_under, ended_in, find-filter_kept, has_session, issuable}
-use Rattle.capcore.proofs.CommonPieces.{is_of_inode, is_row_of, meet, presence, row_found, same-is, state_at_end}
+use Rattle.capstep.specs.Step.{earlier}
+use Rattle.capcore.proofs.CommonPieces.{AreGiven, Caps, ClientId, EntryRow, Gone, Holder, IsAtRest, IsInRow, IsLockMap, IsSound, IsSoundEntry, IsSubset}
+use Rattle.capcore.proofs.CommonPieces.{IsTable, IsTree, Made, P, Part, Scene, SessionTable, State, Table, allowed_under, ended_in, find-filter_kept}
+use Rattle.capcore.proofs.CommonPieces.{has_session, is_of_inode, is_row_of, issuable, meet, presence, row_found, same-is, state_at_end}
 use Rattle.capcore.proofs.EndsThere.{off_issuable}
 use Rattle.capcore.proofs.EntryRequests.{IsKeptEntry, kept-left, kept-row}
 use Rattle.capcore.proofs.Forgotten.{all_rows, sound-forgotten}

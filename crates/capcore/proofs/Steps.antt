@@ -1,14 +1,14 @@
 -- A session, a lookup, a new inode or a snapshot by itself is a whole step: it leaves alone all that entries and requests depend on.
 use Rattle.std.proofs.Common.{◌≡◌, ℕ, ◌+◌, Bool, true, false, List, [], ◌++◌, Option, None, refl, sym, ap, subst, ◌∙◌, append-nil, arith}
-use Rattle.step_model.proofs.Twice.{given-twice, recorded-twice}
-use Rattle.step_model.specs.Recorded.{twice}
+use Rattle.capstep.proofs.Twice.{given-twice, recorded-twice}
+use Rattle.capstep.specs.Recorded.{twice}
 use Rattle.capcore.proofs.SoundEnd.{none-sized}
 use Rattle.capcore.specs.Affected.{affected_by, is_listing, session_changed_by}
 use Rattle.capcore.proofs.Bounded.{found-keeps}
 use Rattle.capcore.proofs.Common.{AreGiven, Awaits, Direct, DirectReply, Directory, Ended, Event, File, Gives, IsDirect, IsReplied, IsSound, IsTable, IsTree}
 use Rattle.capcore.proofs.Common.{Rejection, Reply, Says, Settles, Shows, SparesEntries, State, Step, StepReply, child, direct, effect, effect_unless}
-use Rattle.capcore.proofs.Common.{finished, first_failing, has_list, judged, new_session_tests, no_test, reply_of, shown, stays-finished, stays-sound}
-use Rattle.capcore.proofs.Common.{sizes_owed, sound-settles, state_after, with_parts, with_scene, with_snapshot, without_snapshot}
+use Rattle.capcore.proofs.Common.{finished, first_failing, has_list, judged, new_session_tests, no_test, reply_of, shown, sizes_owed, sound-settles}
+use Rattle.capcore.proofs.Common.{state_after, stays-finished, stays-sound, with_parts, with_scene, with_snapshot, without_snapshot}
 use Rattle.capcore.proofs.Promised.{issues-exactly}
 use Rattle.capcore.proofs.Sounding.{later-given}
 use Rattle.capcore.proofs.Unaffected.{birth-spares, changed-spares, nothing-spares, session-spares, unblocked-spares}

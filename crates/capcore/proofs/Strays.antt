@@ -8,7 +8,7 @@ use Rattle.std.specs.Option.{option_map}
 use Rattle.std.specs.Ordering.{nat_cmp}
 use Rattle.std.specs.FinMap as map
 use Rattle.std.specs.FinSet as set
-use Rattle.dense_map.proofs.Maps.{remove-here, remove-other, same_or_other}
+use Rattle.capbits.proofs.Maps.{remove-here, remove-other, same_or_other}
 use Rattle.inotree.proofs.Elsewhere.{path_of-stays}
 use Rattle.inotree.specs.Tree.{IsUnder}
 use Rattle.inotree.specs.declared.node.Presence.TheVariants.{Here}

@@ -5,13 +5,13 @@ use Rattle.std.proofs.lemmas.List.Elements.{All-filter, All-from_recursion, All-
 use Rattle.std.proofs.lemmas.Simd.{map-map}
 use Rattle.std.specs.List.{AllByRecursion, IsDistinct, find, list_any}
 use Rattle.std.specs.Option.{option_map}
-use Rattle.step_model.specs.DueEndings.{is_end_of}
-use Rattle.step_model.specs.Direct.{DirectReply}
-use Rattle.capcore.proofs.CommonPieces.{AreGiven, ClientId, Ended, Entry, EntryRow, Gives, Holder, Ino, IsInPlace, IsSound, IsSoundEntry, IsTable, IssuesExactly}
-use Rattle.capcore.proofs.CommonPieces.{LockState, Message, Part, Scene, Shows, StableState, State, Table, after_messages, change_rows, changed, changed_where}
-use Rattle.capcore.proofs.CommonPieces.{filter-map, find-map, first_messages, fold-changed_by, has_session, is_among, is_caps_of, is_of_client, is_of_inode, is_open}
-use Rattle.capcore.proofs.CommonPieces.{is_recall_of, is_row_of, is_size_of, is_to, lock_at, remade, same, shown, sized_if, told_if, unasked_if, wants, with_scene}
-use Rattle.capcore.proofs.CommonPieces.{with_told}
+use Rattle.capstep.specs.DueEndings.{is_end_of}
+use Rattle.capstep.specs.Direct.{DirectReply}
+use Rattle.capcore.proofs.CommonPieces.{AreGiven, ClientId, Ended, Entry, EntryRow, Gives, Holder, Ino, IsInPlace, IsSound, IsSoundEntry, IsTable}
+use Rattle.capcore.proofs.CommonPieces.{IssuesExactly, LockState, Message, Part, Scene, Shows, StableState, State, Table, after_messages, change_rows, changed}
+use Rattle.capcore.proofs.CommonPieces.{changed_where, filter-map, find-map, first_messages, fold-changed_by, has_session, is_among, is_caps_of, is_of_client}
+use Rattle.capcore.proofs.CommonPieces.{is_of_inode, is_open, is_recall_of, is_row_of, is_size_of, is_to, lock_at, remade, same, shown, sized_if, told_if}
+use Rattle.capcore.proofs.CommonPieces.{unasked_if, wants, with_scene, with_told}
 use Rattle.capcore.proofs.LeftAlone.{still_resting}
 
 -- ---- lists that are mapped

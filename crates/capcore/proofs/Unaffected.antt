@@ -9,7 +9,7 @@ use Rattle.std.specs.FinMap as map
 use Rattle.std.specs.FinSet as set
 use Rattle.capbits.specs.declared.caller.Caller.{Caller}
 use Rattle.capspec.specs.declared.grant.Grant.{Grant}
-use Rattle.dense_map.proofs.Maps.{insert-other}
+use Rattle.capbits.proofs.Maps.{insert-other}
 use Rattle.inotree.proofs.Elsewhere.{field-changed, not_next}
 use Rattle.inotree.specs.Calls.{changed, with_new}
 use Rattle.sessiontab.proofs.Elsewhere.{session-stays}
@@ -22,8 +22,8 @@ use Rattle.lockmachine.specs.Locks.{without_ino}
 use Rattle.lockmachine.specs.Counts as counting
 use Rattle.policy_view.proofs.Likeness.{like-unseen, shows-tree}
 use Rattle.policy_view.specs.Visible.{IsLike, Shows, visible_of}
-use Rattle.step_model.specs.Noted.{view_of}
-use Rattle.step_model.specs.NotedChanges.{view}
+use Rattle.capstep.specs.Noted.{view_of}
+use Rattle.capstep.specs.NotedChanges.{view}
 use Rattle.capcore.proofs.Common.{AreCounted, AreCountedIn, Attr, ClientViews, CountMap, EntryRow, HoldAlike, InodeLocks, IsSound, IsTree, KeptScene, Kind}
 use Rattle.capcore.proofs.Common.{LockMap, Node, Nodes, Scene, SessionTable, SparesEntries, State, StateMap, Table, first_failing, found-contains, in_sync}
 use Rattle.capcore.proofs.Common.{is_row_of, new_session_tests, no_locks, permitted, plain, row_of-entry, stays-sound, with_ino, with_parts}

@@ -3,7 +3,7 @@ use Rattle.std.proofs.Common.{◌≡◌, ℕ, ◌+◌, None, ap, arith}
 use Rattle.std.specs.Cmp.{nat_cmp_total}
 use Rattle.std.specs.Option.{is_some}
 use Rattle.std.specs.FinMap as map
-use Rattle.dense_map.proofs.Maps.{put_back}
+use Rattle.capbits.proofs.Maps.{put_back}
 use Rattle.lockmachine.specs.Locks.{without_ino}
 use Rattle.capcore.proofs.Common.{IsSound, IsTree, LockMap, State, StateMap, in_sync, no_locks, with_ino}
 

@@ -17,11 +17,11 @@ use Rattle.captable.specs.declared.entry.Entry.{Entry}
 use Rattle.captable.specs.declared.entry.EntryRow.{EntryRow}
 use Rattle.captable.specs.declared.entry.Holder.{Holder}
 use Rattle.sessiontab.specs.Calls.{has_session}
-use Rattle.step_model.specs.Clients.{session_change}
-use Rattle.step_model.specs.declared.event.Event.{Event}
-use Rattle.step_model.specs.Finish.{is_in_use, issuable, issue_row}
-use Rattle.step_model.specs.Settle.{Made, Settles}
-use Rattle.step_model.specs.State.{State}
+use Rattle.capstep.specs.Clients.{session_change}
+use Rattle.capstep.specs.declared.event.Event.{Event}
+use Rattle.capstep.specs.Finish.{is_in_use, issuable, issue_row}
+use Rattle.capstep.specs.Settle.{Made, Settles}
+use Rattle.capstep.specs.State.{State}
 use Rattle.capstep.specs.Finishing.{numbered_as}
 use Rattle.lockmachine.specs.Elsewhere.{IsSameBut, IsSameOutside}
 use Rattle.lockmachine.specs.Locks.{lock_at, without_ino}

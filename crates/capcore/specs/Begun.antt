@@ -2,7 +2,7 @@
 use Rattle.std.specs.Prelude.{◌≡◌, ◌≤◌, ◌<◌, ◌^◌, ◌-◌, ◌+◌, ◌==◌, ℕ, Bool, [], All, IsTrue, length, vec_capacity}
 use Rattle.std.specs.FinSet as set
 use Rattle.sessiontab.specs.Calls.{has_session}
-use Rattle.step_model.specs.NotedChanges.{HavePlaces, Noted}
+use Rattle.capstep.specs.NotedChanges.{HavePlaces, Noted}
 use Rattle.capstep.specs.Known.{ClientViews, OthersHaveAll}
 use Rattle.lockmachine.specs.Counts.{AreCounted}
 use Rattle.lockmachine.specs.Locks.{IsLockMap}

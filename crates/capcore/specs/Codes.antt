@@ -5,17 +5,17 @@ use Rattle.inotree.specs.Tree.{Nodes, nodes_code}
 use Rattle.captable.specs.Table.{Table}
 use Rattle.captable.specs.Codes as entries
 use Rattle.sessiontab.specs.Table.{SessionTable, table_code}
-use Rattle.step_model.specs.declared.outcome.Ended.{Ended}
-use Rattle.step_model.specs.declared.row.Row.{Row}
-use Rattle.step_model.specs.History.{Recorded, recorded}
-use Rattle.step_model.specs.State.{State}
+use Rattle.capstep.specs.declared.outcome.Ended.{Ended}
+use Rattle.capstep.specs.declared.row.Row.{Row}
+use Rattle.capstep.specs.History.{Recorded, recorded}
+use Rattle.capstep.specs.State.{State}
 use Rattle.policy_view.specs.declared.change.ViewChange.{ViewChange}
 use Rattle.lockmachine.specs.Codes.{lock_map_code}
 use Rattle.lockmachine.specs.Locks.{LockMap}
 use Rattle.lockmachine.specs.Scene.{Scene}
 use Rattle.policy_view.specs.contracts.change.ViewChange as view_change
-use Rattle.step_model.specs.contracts.outcome.Ended as ended
-use Rattle.step_model.specs.contracts.row.Row as history_row
+use Rattle.capstep.specs.contracts.outcome.Ended as ended
+use Rattle.capstep.specs.contracts.row.Row as history_row
 
 -- a state as its parts
 abbrev pub scene_code : Coded Scene

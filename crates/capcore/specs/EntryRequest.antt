@@ -7,10 +7,10 @@ use Rattle.captable.specs.Calls.{acked, released}
 use Rattle.captable.specs.Table.{Table}
 use Rattle.captable.specs.Tests.{ack_tests, entry_test, release_tests}
 use Rattle.captable.specs.declared.entry.Holder.{Holder}
-use Rattle.step_model.specs.declared.event.Event.{Event}
-use Rattle.step_model.specs.declared.reply.Reply.{Reply}
-use Rattle.step_model.specs.Direct.{DirectReply, Says, Shows, with_opening, with_wanted}
-use Rattle.step_model.specs.Judge.{revoked_of, room_for}
+use Rattle.capstep.specs.declared.event.Event.{Event}
+use Rattle.capstep.specs.declared.reply.Reply.{Reply}
+use Rattle.capstep.specs.Direct.{DirectReply, Says, Shows, with_opening, with_wanted}
+use Rattle.capstep.specs.Judge.{revoked_of, room_for}
 use Rattle.lockmachine.specs.Scene.{Scene}
 use Rattle.capcore.specs.declared.entry_request.EntryRequest.{EntryRequest}
 use Rattle.capcore.specs.declared.entry_request.EntryRequest.TheVariants.{Ack, Open, Release, Want}

@@ -1,7 +1,7 @@
 -- A request that was judged when it came.
 use Rattle.std.specs.Prelude.{◌≡◌, Option, None, Some}
 use Rattle.capbits.specs.declared.ids.Ticket.{Ticket}
-use Rattle.step_model.specs.Serving.{judged_again}
+use Rattle.capstep.specs.Serving.{judged_again}
 use Rattle.lockmachine.specs.Locks.{request_at}
 use Rattle.lockmachine.specs.Scene.{Scene}
 use Rattle.lockmachine.specs.declared.request.Request.{Request}

@@ -2,16 +2,15 @@
 -- under its lock: both name this record, so that neither can promise less.
 use Rattle.std.specs.Prelude.{◌≡◌, IsTrue}
 use Rattle.capbits.specs.declared.ids.PassId.{PassId}
-use Rattle.step_model.specs.declared.event.Event.{Event}
-use Rattle.step_model.specs.declared.reply.Reply.{Reply}
-use Rattle.step_model.specs.Direct.{begun}
-use Rattle.step_model.specs.Headline.{AreBounded, AreInPlace, AreRevoked, DeniedExactly, IssuesExactly, NoneConflict, OtherLocksStay, ServedDenied}
-use Rattle.step_model.specs.Headline.{is_rejection}
-use Rattle.step_model.specs.History.{IsNext, Recorded, Replays}
-use Rattle.step_model.specs.Noted.{view_of}
-use Rattle.step_model.specs.Shown.{ShowsOnlyPermitted, ShowsWhatIsPending, TakesOnlySo, TakesUnshown}
-use Rattle.step_model.specs.Sound.{IsSound}
-use Rattle.step_model.specs.State.{State}
+use Rattle.capstep.specs.declared.event.Event.{Event}
+use Rattle.capstep.specs.declared.reply.Reply.{Reply}
+use Rattle.capstep.specs.Direct.{begun}
+use Rattle.capstep.specs.Headline.{AreBounded, AreInPlace, AreRevoked, DeniedExactly, IssuesExactly, NoneConflict, OtherLocksStay, ServedDenied, is_rejection}
+use Rattle.capstep.specs.History.{IsNext, Recorded, Replays}
+use Rattle.capstep.specs.Noted.{view_of}
+use Rattle.capstep.specs.Shown.{ShowsOnlyPermitted, ShowsWhatIsPending, TakesOnlySo, TakesUnshown}
+use Rattle.capstep.specs.Sound.{IsSound}
+use Rattle.capstep.specs.State.{State}
 use Rattle.policy_view.specs.Changes.{AreChanges}
 use Rattle.lockmachine.specs.Moves.{IsAtRest}
 

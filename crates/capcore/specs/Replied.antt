@@ -1,11 +1,11 @@
 -- What a step says, and what it leaves.
 use Rattle.std.specs.Prelude.{◌≡◌, ℕ, ◌+◌}
-use Rattle.step_model.specs.declared.event.Event.{Event}
-use Rattle.step_model.specs.Direct.{direct}
-use Rattle.step_model.specs.Headline.{IssuesExactly}
-use Rattle.step_model.specs.Sound.{AreGiven, IsSound}
-use Rattle.step_model.specs.State.{State}
-use Rattle.step_model.specs.Step.{Step}
+use Rattle.capstep.specs.declared.event.Event.{Event}
+use Rattle.capstep.specs.Direct.{direct}
+use Rattle.capstep.specs.Headline.{IssuesExactly}
+use Rattle.capstep.specs.Sound.{AreGiven, IsSound}
+use Rattle.capstep.specs.State.{State}
+use Rattle.capstep.specs.Step.{Step}
 use Rattle.capcore.specs.declared.step_reply.StepReply.{StepReply}
 
 -- it is a step, with this answer and these requests of earlier steps that it ended; the state stays sound, what is issued is

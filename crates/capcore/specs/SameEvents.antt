@@ -1,11 +1,11 @@
 -- Where no request finds no memory, events alone say what is answered and where they lead.
 use Rattle.std.specs.Prelude.{◌≢◌, List, All, map}
 use Rattle.capbits.specs.declared.ids.PassId.{PassId}
-use Rattle.step_model.specs.declared.event.Event.{Event}
-use Rattle.step_model.specs.declared.outcome.Ended.{Ended}
-use Rattle.step_model.specs.declared.outcome.Outcome.{Outcome}
-use Rattle.step_model.specs.declared.reply.Reply.{Reply}
-use Rattle.step_model.specs.declared.row.Row.{Row}
+use Rattle.capstep.specs.declared.event.Event.{Event}
+use Rattle.capstep.specs.declared.outcome.Ended.{Ended}
+use Rattle.capstep.specs.declared.outcome.Outcome.{Outcome}
+use Rattle.capstep.specs.declared.reply.Reply.{Reply}
+use Rattle.capstep.specs.declared.row.Row.{Row}
 
 -- neither the request of this answer nor one of those that ended found no memory
 pub record FoundMemory (reply : Reply) (ended : List Ended) : Type 0 where

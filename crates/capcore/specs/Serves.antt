@@ -4,11 +4,11 @@ use Rattle.capbits.specs.declared.ids.Ino.{Ino}
 use Rattle.capbits.specs.declared.ids.Ticket.{Ticket}
 use Rattle.inotree.specs.Tree.{IsTree}
 use Rattle.captable.specs.declared.entry.Holder.{Holder}
-use Rattle.step_model.specs.declared.outcome.Ended.{Ended}
-use Rattle.step_model.specs.Changing.{tree_after}
-use Rattle.step_model.specs.Finish.{sizes_owed}
-use Rattle.step_model.specs.Serving.{MayEndAs}
-use Rattle.step_model.specs.Settle.{Made, ended_in, sized_in}
+use Rattle.capstep.specs.declared.outcome.Ended.{Ended}
+use Rattle.capstep.specs.Changing.{tree_after}
+use Rattle.capstep.specs.Finish.{sizes_owed}
+use Rattle.capstep.specs.Serving.{MayEndAs}
+use Rattle.capstep.specs.Settle.{Made, ended_in, sized_in}
 use Rattle.capstep.specs.Known.{ClientViews, KnownAnew, known_in, permitted_of}
 use Rattle.lockmachine.specs.Locks.{request_at, without_request}
 use Rattle.lockmachine.specs.Scene.{Scene}

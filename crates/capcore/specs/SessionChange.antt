@@ -10,8 +10,8 @@ use Rattle.captable.specs.declared.entry.EntryRow.{EntryRow}
 use Rattle.sessiontab.specs.Changes.{changed_sessions, is_end}
 use Rattle.sessiontab.specs.Table.{SessionTable}
 use Rattle.sessiontab.specs.declared.change.SessionChange.{SessionChange}
-use Rattle.step_model.specs.NotedChanges.{view}
-use Rattle.step_model.specs.State.{State}
+use Rattle.capstep.specs.NotedChanges.{view}
+use Rattle.capstep.specs.State.{State}
 use Rattle.policy_view.specs.Changes.{AreChanges}
 use Rattle.policy_view.specs.declared.change.ViewChange.{ViewChange}
 use Rattle.capstep.specs.Left.{locks_left, messages_left, table_left}

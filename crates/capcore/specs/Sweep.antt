@@ -5,7 +5,7 @@ use Rattle.std.specs.FinSet as set
 use Rattle.capbits.specs.declared.cap.Part.{Part}
 use Rattle.capbits.specs.declared.ids.Ticket.{Ticket}
 use Rattle.inotree.specs.InoSets.{InoSet, IsLeastFrom}
-use Rattle.step_model.specs.Settle.{Made, MakesAll, ended_in}
+use Rattle.capstep.specs.Settle.{Made, MakesAll, ended_in}
 use Rattle.lockmachine.specs.Moves.{first_move, may_begin, may_end}
 use Rattle.lockmachine.specs.Scene.{Scene}
 use Rattle.lockmachine.specs.Cursors.{IsCursorAt, NobodyElsewhere, WaitAt}

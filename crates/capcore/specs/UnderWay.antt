@@ -8,22 +8,22 @@ use Rattle.capcore.specs.Begun.{AreCountedIn, ArePermittedIn, IsReady, among}
 use Rattle.capstep.specs.Known.{AreKnown, ClientViews, StillKnown, known_in}
 use Rattle.capstep.specs.declared.operations.OperationRef.{OperationRef}
 use Rattle.capstep.specs.declared.operations.OperationRef.TheVariants.{Alter, Get, Rename, Rmdir, Unlink}
-use Rattle.step_model.specs.Clients.{session_event}
-use Rattle.step_model.specs.declared.event.Event.{Event}
-use Rattle.step_model.specs.declared.outcome.Ended.{Ended}
-use Rattle.step_model.specs.declared.reply.Reply.{Reply}
-use Rattle.step_model.specs.DueEndings.{HasRoom, but_for}
-use Rattle.step_model.specs.Direct.{direct}
-use Rattle.step_model.specs.Judge.{judged}
-use Rattle.step_model.specs.Noted.{view_of}
-use Rattle.step_model.specs.Sound.{AreGiven, IsSound, NumbersLeft}
-use Rattle.step_model.specs.State.{State}
+use Rattle.capstep.specs.Clients.{session_event}
+use Rattle.capstep.specs.declared.event.Event.{Event}
+use Rattle.capstep.specs.declared.outcome.Ended.{Ended}
+use Rattle.capstep.specs.declared.reply.Reply.{Reply}
+use Rattle.capstep.specs.DueEndings.{HasRoom, but_for}
+use Rattle.capstep.specs.Direct.{direct}
+use Rattle.capstep.specs.Judge.{judged}
+use Rattle.capstep.specs.Noted.{view_of}
+use Rattle.capstep.specs.Sound.{AreGiven, IsSound, NumbersLeft}
+use Rattle.capstep.specs.State.{State}
 use Rattle.policy_view.specs.Changes.{AreChanges}
 use Rattle.capcore.specs.EntryRequest.{entry_event, entry_reply}
 use Rattle.lockmachine.specs.Locks.{IsLockMap}
 use Rattle.lockmachine.specs.Scene.{Scene, plain}
 use Rattle.capcore.specs.declared.output.StepOutput.{StepOutput}
-use Rattle.step_model.specs.Direct as rules
+use Rattle.capstep.specs.Direct as rules
 use Rattle.capcore.specs.declared.parts.ReplyDue.{ReplyDue}
 use Rattle.capcore.specs.declared.parts.ReplyDue.TheVariants.{Awaited, Done, Dropped, Requested}
 use Rattle.capcore.specs.declared.parts.Applied.{Applied}

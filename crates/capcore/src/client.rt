@@ -11,13 +11,13 @@ ghost use Rattle.capcore.specs.SessionChange.{HasInodesOf, Notes};
 
 use crate::output::StepOutput;
 use capbits::{ClientId, Ino};
+use capstep::Ended;
 use captable::CapTable;
 use inotree::{NonEmptyInoSet, ROOT};
 use lockmachine::Locks;
 use policy_view::ViewChange;
 use sessiontab::SessionChange;
 use std::alloc::{AllocError, Global};
-use step_model::Ended;
 
 /// What the step takes, made before anything changes.
 #[derive(Drop)]

@@ -6,22 +6,22 @@ ghost use Rattle.capbits.specs.Sets.{minus, no_caps};
 ghost use Rattle.capbits.specs.declared.cap.Cap.TheVariants.{P};
 ghost use Rattle.captable.specs.Calls.{changed, without};
 ghost use Rattle.captable.specs.declared.entry.Entry.{Entry};
-ghost use Rattle.step_model.specs.Direct.{reply_of, shown, with_table};
-ghost use Rattle.step_model.specs.Judge.{revoked_of};
-ghost use Rattle.step_model.specs.State.{State};
+ghost use Rattle.capstep.specs.Direct.{reply_of, shown, with_table};
+ghost use Rattle.capstep.specs.Judge.{revoked_of};
+ghost use Rattle.capstep.specs.State.{State};
 ghost use Rattle.capstep.specs.Known.{AreKnown, StillKept, known_in};
 ghost use Rattle.lockmachine.specs.Counts.{AreCounted};
 ghost use Rattle.lockmachine.specs.Scene.{Scene, plain};
-ghost use Rattle.step_model.specs.Direct as effects;
+ghost use Rattle.capstep.specs.Direct as effects;
 ghost use Rattle.capcore.specs.Begun.{AreCountedIn};
 ghost use Rattle.capcore.specs.EntryRequest as words;
 
 use capbits::{Cap, CapSet};
+use capstep::{OpenMode, Reply};
 use capstep::opening::find_or_open;
 use captable::{CapTable, EntryRow, Holder};
 use lockmachine::{KeptScene, Locks};
 use std::alloc::AllocError;
-use step_model::{OpenMode, Reply};
 
 /// A request of a client on its entry on an inode.
 #[derive(Clone, Copy)]

@@ -7,7 +7,7 @@ ghost use Rattle.captable.specs.Many.{changed_where};
 ghost use Rattle.captable.specs.Table.{IsTable};
 ghost use Rattle.captable.specs.declared.entry.Holder.{Holder};
 ghost use Rattle.sessiontab.specs.Calls.{has_session};
-ghost use Rattle.step_model.specs.NotedChanges.{LeadOn};
+ghost use Rattle.capstep.specs.NotedChanges.{LeadOn};
 ghost use Rattle.capstep.specs.Known.{KnownAnew, OthersHaveAll, known_in};
 ghost use Rattle.lockmachine.specs.Policy.{ArePermitted};
 ghost use Rattle.lockmachine.specs.Scene.{plain, scene_by};
@@ -20,13 +20,13 @@ use crate::output::StepOutput;
 use crate::sizes::owe_sizes;
 use arrayvec::ArrayVec;
 use capbits::{ClientId, Ino};
+use capstep::ChangeList;
 use capstep::finishing::finish_row;
 use captable::{CapTable, EntryRow, Holder};
 use inotree::{NonEmptyInoSet, Presence};
 use lockmachine::{InodeLocks, KeptScene, Locks, Policy};
 use policy_view::ViewChange;
 use sessiontab::{MAX_SESSIONS, Sessions};
-use step_model::ChangeList;
 
 // ---- at the affected inodes
 

@@ -3,11 +3,11 @@
 ghost use Rattle.std.specs.Prelude.{◌≡◌, ℕ};
 ghost use Rattle.captable.specs.Calls.{recalled};
 ghost use Rattle.captable.specs.Table.{IsTable};
-ghost use Rattle.step_model.specs.Direct.{DirectReply, shown, with_table};
-ghost use Rattle.step_model.specs.Finish.{finished};
-ghost use Rattle.step_model.specs.Headline.{IssuesExactly};
-ghost use Rattle.step_model.specs.Sound.{AreGiven, IsSound};
-ghost use Rattle.step_model.specs.State.{State};
+ghost use Rattle.capstep.specs.Direct.{DirectReply, shown, with_table};
+ghost use Rattle.capstep.specs.Finish.{finished};
+ghost use Rattle.capstep.specs.Headline.{IssuesExactly};
+ghost use Rattle.capstep.specs.Sound.{AreGiven, IsSound};
+ghost use Rattle.capstep.specs.State.{State};
 ghost use Rattle.lockmachine.specs.Scene.{Scene};
 
 /// What a client is told at the end of a step leaves a sound state sound, nothing to do and all that is held as it was.

@@ -7,11 +7,11 @@ ghost use Rattle.capstep.specs.AffectedInodes.{AreWalked, Covers, Widens};
 ghost use Rattle.capstep.specs.Served.{is_rename};
 
 use capbits::Ino;
+use capstep::ChangeList;
 use captable::CapTable;
 use inotree::{InoSet, NonEmptyInoSet};
 use lockmachine::{KeptScene, Operation, Request};
 use std::alloc::AllocError;
-use step_model::ChangeList;
 
 /// If the request moves its inode, adds every inode at or below it that somebody has an entry on, with a place for the change of
 /// each. What renames of this step have walked over is affected, and stays so.

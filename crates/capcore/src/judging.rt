@@ -4,23 +4,23 @@ ghost use Rattle.capbits.specs.Refusal.{first_failing};
 ghost use Rattle.inotree.specs.Tests.{exists_test, inode_tests};
 ghost use Rattle.sessiontab.specs.Tests.{connected_test, session_tests};
 ghost use Rattle.capstep.specs.Known.{AreKnown};
-ghost use Rattle.step_model.specs.Judge.{basic_tests, before, judged, rejection_of};
-ghost use Rattle.step_model.specs.Needs.{need};
+ghost use Rattle.capstep.specs.Judge.{basic_tests, before, judged, rejection_of};
+ghost use Rattle.capstep.specs.Needs.{need};
 ghost use Rattle.lockmachine.specs.Scene.{plain};
 ghost use Rattle.capcore.specs.EntryRequest.{entry_event};
-ghost use Rattle.step_model.specs.declared.event.Event.TheVariants as event;
+ghost use Rattle.capstep.specs.declared.event.Event.TheVariants as event;
 ghost use Rattle.capcore.specs.UnderWay.{event_of};
 
 use crate::entry_request::{EntryRequest, revoked_of};
 use crate::parts::LockEvent;
 use capbits::{Cap, CapSet, Part, Refusal};
 use capgrant::Access;
+use capstep::{OpenMode, Rejection};
 use capstep::judge::{change_access, change_refusal, denial, operation_rejection};
 use captable::Holder;
 use inotree::Tree;
 use lockmachine::{Change, KeptScene};
 use sessiontab::Sessions;
-use step_model::{OpenMode, Rejection};
 
 // What rejects an event.
 pub(crate) fn rejection(scene: &KeptScene, lock_event: &LockEvent) -> Option<Rejection>

@@ -5,15 +5,15 @@ ghost use Rattle.captable.specs.Known.{known_of};
 ghost use Rattle.captable.specs.declared.entry.Holder.{Holder};
 ghost use Rattle.capcore.specs.Begun.{ArePermittedIn};
 ghost use Rattle.capstep.specs.Known.{AreKnown};
-ghost use Rattle.step_model.specs.declared.outcome.Ended.{Ended as AnEnded};
-ghost use Rattle.step_model.specs.DueEndings.{HaveOwnNumbers, but_for, is_of_ticket};
-ghost use Rattle.step_model.specs.Direct.{awaited_as, reply_of, shown};
-ghost use Rattle.step_model.specs.Recorded.{twice};
-ghost use Rattle.step_model.specs.State.{State};
+ghost use Rattle.capstep.specs.declared.outcome.Ended.{Ended as AnEnded};
+ghost use Rattle.capstep.specs.DueEndings.{HaveOwnNumbers, but_for, is_of_ticket};
+ghost use Rattle.capstep.specs.Direct.{awaited_as, reply_of, shown};
+ghost use Rattle.capstep.specs.Recorded.{twice};
+ghost use Rattle.capstep.specs.State.{State};
 ghost use Rattle.lockmachine.specs.Scene.{plain};
 ghost use Rattle.capcore.specs.SessionChange.{session_changed};
-ghost use Rattle.step_model.specs.Clients.{session_event};
-ghost use Rattle.step_model.specs.declared.event.Event.TheVariants as event;
+ghost use Rattle.capstep.specs.Clients.{session_event};
+ghost use Rattle.capstep.specs.declared.event.Event.TheVariants as event;
 ghost use Rattle.capcore.specs.UnderWay.{HasBegun, HasPlaces, IsWhole, MayBegin, direct_reply_of, dropped_of, earlier_of, event_of, operation_event, state_of};
 
 use crate::client::Room;
@@ -23,17 +23,16 @@ use crate::parts::{Applied, CoreState, LockEvent, ReplyDue};
 use crate::settle::Affected;
 use crate::step_reply::StepReply;
 use capbits::{ClientId, Ticket};
-use capstep::session_end::drop_client_state;
+use capstep::{Ended, EndedList, OperationRef, Recorded, Reply, copy_of_operation, copy_of_reply};
 use capstep::renewing::{renew_changed, renew_client};
 use capstep::serving::alter;
-use capstep::{OperationRef, copy_of_operation};
+use capstep::session_end::drop_client_state;
 use captable::Holder;
 use inotree::NonEmptyInoSet;
 use lockmachine::{Change, KeptScene, Policy};
 use sessiontab::SessionChange;
 use std::alloc::AllocError;
 use std::mem::swap;
-use step_model::{Ended, EndedList, Recorded, Reply, copy_of_reply};
 
 impl CoreState {
     // ---- the event by itself. For want of memory nothing changes, and what the last step changed stays listed

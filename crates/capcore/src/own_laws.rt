@@ -3,12 +3,12 @@
 ghost use Rattle.std.specs.Prelude.{◌≡◌, ◌+◌, false, List, None};
 ghost use Rattle.capbits.specs.declared.ids.ClientId.{ClientId};
 ghost use Rattle.capbits.specs.declared.ids.Ino.{Ino};
-ghost use Rattle.step_model.specs.Direct.{Awaits, reply_of};
-ghost use Rattle.step_model.specs.Headline.{is_rejection};
-ghost use Rattle.step_model.specs.Serving.{judged_again};
-ghost use Rattle.step_model.specs.Settle.{Made, MakesAll, ended_in};
-ghost use Rattle.step_model.specs.Sound.{IsSound};
-ghost use Rattle.step_model.specs.State.{State};
+ghost use Rattle.capstep.specs.Direct.{Awaits, reply_of};
+ghost use Rattle.capstep.specs.Headline.{is_rejection};
+ghost use Rattle.capstep.specs.Serving.{judged_again};
+ghost use Rattle.capstep.specs.Settle.{Made, MakesAll, ended_in};
+ghost use Rattle.capstep.specs.Sound.{IsSound};
+ghost use Rattle.capstep.specs.State.{State};
 ghost use Rattle.lockmachine.specs.Locks.{IsLockMap, next_request, with_request};
 ghost use Rattle.lockmachine.specs.declared.request.Operation.{Operation};
 ghost use Rattle.lockmachine.specs.Scene.{Scene};

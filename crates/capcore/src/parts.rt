@@ -3,11 +3,10 @@
 use crate::entry_request::EntryRequest;
 use crate::settle::Affected;
 use capbits::{ClientId, Ticket};
-use capstep::OperationRef;
+use capstep::{Ended, OperationRef};
 use captable::Holder;
 use lockmachine::{Change, KeptScene};
 use sessiontab::SessionChange;
-use step_model::Ended;
 
 // Tree, sessions, entries and locks, with what is kept beside entries and locks, and what clients are still to be told.
 #[derive(Debug)]

@@ -3,18 +3,18 @@ ghost use Rattle.std.specs.Prelude.{◌≡◌, ◌≤◌, ◌-◌, ◌++◌, [],
 ghost use Rattle.captable.specs.Calls.{is_due, is_of_client};
 ghost use Rattle.captable.specs.Many.{changed_where};
 ghost use Rattle.captable.specs.Table.{IsTable};
-ghost use Rattle.step_model.specs.Messages.{after_messages, caps_messages, end_messages, first_messages, row_messages, size_messages};
-ghost use Rattle.step_model.specs.State.{State};
+ghost use Rattle.capstep.specs.Messages.{after_messages, caps_messages, end_messages, first_messages, row_messages, size_messages};
+ghost use Rattle.capstep.specs.State.{State};
 ghost use Rattle.capstep.specs.Known.{AreKnown, known_in};
 ghost use Rattle.lockmachine.specs.Scene.{Scene, pending_of};
 
 use crate::entry_request::pending_for;
 use capbits::ClientId;
+use capstep::{Ended, Message, MessageList, copy_of_outcome};
 use captable::{CapTable, EntryRow};
 use inotree::Tree;
 use lockmachine::KeptScene;
 use std::alloc::{AllocError, Global};
-use step_model::{Ended, Message, MessageList, copy_of_outcome};
 
 /// The first messages that are due to a client, at most so many, where these requests have ended.
 pub fn due_messages(

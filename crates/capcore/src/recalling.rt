@@ -1,15 +1,15 @@
 //! The step of a recall: clients are asked to release what they have not used for longest.
 ghost use Rattle.std.specs.Prelude.{◌≡◌, IfOk, OnErr, OnOk};
 ghost use Rattle.capcore.specs.Replied.{IsReplied};
-ghost use Rattle.step_model.specs.Noted.{view_of};
+ghost use Rattle.capstep.specs.Noted.{view_of};
 ghost use Rattle.policy_view.specs.Changes.{AreChanges};
-ghost use Rattle.step_model.specs.declared.event.Event.TheVariants as event;
+ghost use Rattle.capstep.specs.declared.event.Event.TheVariants as event;
 
 use crate::output::StepOutput;
 use crate::step_reply::StepReply;
 use crate::world::World;
+use capstep::{EndedList, Recorded, Reply};
 use std::alloc::AllocError;
-use step_model::{EndedList, Recorded, Reply};
 
 impl World {
     // A step that marks the first entries in the order of recall as asked to release caps, and names them. The order stays.

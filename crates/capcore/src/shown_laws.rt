@@ -2,14 +2,14 @@
 
 ghost use Rattle.std.specs.Prelude.{◌++◌, [], ◌∷◌, List};
 ghost use Rattle.captable.specs.Table.{IsTable};
-ghost use Rattle.step_model.specs.declared.event.Event.{Event};
-ghost use Rattle.step_model.specs.declared.row.Row.{Row};
-ghost use Rattle.step_model.specs.Direct.{direct};
-ghost use Rattle.step_model.specs.Headline.{IssuesExactly};
-ghost use Rattle.step_model.specs.Shown.{AreShown, ShowsWhatIsPending, TakesOnlySo, TakesUnshown};
-ghost use Rattle.step_model.specs.Sound.{IsSound};
-ghost use Rattle.step_model.specs.State.{State};
-ghost use Rattle.step_model.specs.Step.{Step};
+ghost use Rattle.capstep.specs.declared.event.Event.{Event};
+ghost use Rattle.capstep.specs.declared.row.Row.{Row};
+ghost use Rattle.capstep.specs.Direct.{direct};
+ghost use Rattle.capstep.specs.Headline.{IssuesExactly};
+ghost use Rattle.capstep.specs.Shown.{AreShown, ShowsWhatIsPending, TakesOnlySo, TakesUnshown};
+ghost use Rattle.capstep.specs.Sound.{IsSound};
+ghost use Rattle.capstep.specs.State.{State};
+ghost use Rattle.capstep.specs.Step.{Step};
 ghost use Rattle.lockmachine.specs.Scene.{Scene};
 
 /// Where the numbers of entries say what clients were last shown, they say it after one step more.

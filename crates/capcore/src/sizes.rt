@@ -3,7 +3,7 @@ ghost use Rattle.std.specs.Prelude.{◌≡◌, All, IsTrue};
 ghost use Rattle.captable.specs.Calls.{is_of_inode};
 ghost use Rattle.captable.specs.Many.{changed_by, changed_where};
 ghost use Rattle.sessiontab.specs.Calls.{has_session};
-ghost use Rattle.step_model.specs.Finish.{is_sized, owed};
+ghost use Rattle.capstep.specs.Finish.{is_sized, owed};
 
 use crate::finish::clients_on;
 use capbits::{Cap, ClientId, Ino};

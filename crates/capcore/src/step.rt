@@ -3,7 +3,7 @@ ghost use Rattle.std.specs.Option.{option_copied};
 ghost use Rattle.std.specs.Prelude.{◌≡◌, ◌↔◌, ◌<◌, [], length, Err, IfOk, OnErr};
 ghost use Rattle.std.specs.FinMap as map;
 ghost use Rattle.captable.specs.Table.{entry_at, holder};
-ghost use Rattle.step_model.specs.History.{HasNoStray, IsOpening, IsRecorded};
+ghost use Rattle.capstep.specs.History.{HasNoStray, IsOpening, IsRecorded};
 ghost use Rattle.lockmachine.specs.Locks.{lock_at};
 ghost use Rattle.capstep.specs.declared.stop.Stop.TheVariants as stop_kind;
 ghost use Rattle.capcore.specs.Promised.{IsPromised};
@@ -12,6 +12,7 @@ use crate::output::StepOutput;
 use crate::world::World;
 use capbits::{ClientId, Ino, Part, PassId};
 use capspec::FsName;
+use capstep::{Event, Reply, Row};
 use capstep::history::make_room;
 use capstep::stop::Stop;
 use captable::Entry;
@@ -21,7 +22,6 @@ use policy_view::ViewChange;
 use sessiontab::{Session, Sessions};
 use std::alloc::{AllocError, Global};
 use std::marker::Model;
-use step_model::{Event, Reply, Row};
 
 /// The state of a metadata server's policy, with the history that led to it.
 #[derive(Debug)]
@@ -34,7 +34,7 @@ pub struct Core {
 }
 
 impl Model for Core {
-    ghost use Rattle.step_model.specs.History.{IsRecorded, Recorded, recorded};
+    ghost use Rattle.capstep.specs.History.{IsRecorded, Recorded, recorded};
     ghost use Rattle.capcore.specs.Codes.{recorded_code};
 
     ghost Value = { Recorded };

@@ -1,13 +1,13 @@
 //! How an event becomes a step. No program needs to call this law.
 
 ghost use Rattle.std.specs.Prelude.{◌≡◌, List};
-ghost use Rattle.step_model.specs.declared.event.Event.{Event};
-ghost use Rattle.step_model.specs.declared.reply.Reply.{Reply};
-ghost use Rattle.step_model.specs.Direct.{direct, reply_of, shown};
-ghost use Rattle.step_model.specs.Finish.{finished, sizes_owed};
-ghost use Rattle.step_model.specs.Settle.{Made, Settles, ended_in, sized_in};
-ghost use Rattle.step_model.specs.State.{State};
-ghost use Rattle.step_model.specs.Step.{Step, all_ended, state_at_end};
+ghost use Rattle.capstep.specs.declared.event.Event.{Event};
+ghost use Rattle.capstep.specs.declared.reply.Reply.{Reply};
+ghost use Rattle.capstep.specs.Direct.{direct, reply_of, shown};
+ghost use Rattle.capstep.specs.Finish.{finished, sizes_owed};
+ghost use Rattle.capstep.specs.Settle.{Made, Settles, ended_in, sized_in};
+ghost use Rattle.capstep.specs.State.{State};
+ghost use Rattle.capstep.specs.Step.{Step, all_ended, state_at_end};
 ghost use Rattle.lockmachine.specs.Scene.{Scene};
 
 /// An event is a whole step, once the locks have settled, the step has ended and its client was told what is answered. The

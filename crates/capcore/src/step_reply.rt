@@ -1,10 +1,10 @@
 //! The reply of a step.
 ghost use Rattle.std.specs.Prelude.{◌≡◌, false, []};
-ghost use Rattle.step_model.specs.Recorded.{twice};
-ghost use Rattle.step_model.specs.Replies.{has_list};
+ghost use Rattle.capstep.specs.Recorded.{twice};
+ghost use Rattle.capstep.specs.Replies.{has_list};
 
+use capstep::{EndedList, Recorded, Reply, copy_of_reply};
 use std::alloc::Global;
-use step_model::{EndedList, Recorded, Reply, copy_of_reply};
 
 /// The reply of a step, and the requests of earlier steps that the step ended.
 #[derive(Drop)]

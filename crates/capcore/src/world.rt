@@ -10,17 +10,17 @@ ghost use Rattle.sessiontab.specs.Calls.{with_session};
 ghost use Rattle.sessiontab.specs.Tests.{new_session_tests};
 ghost use Rattle.capcore.specs.Affected.{affected_by, is_listing, session_changed_by};
 ghost use Rattle.capcore.specs.Replied.{IsReplied};
-ghost use Rattle.step_model.specs.declared.outcome.Ended.{Ended as AnEnded};
-ghost use Rattle.step_model.specs.Direct.{IsDirect, Says, direct, made_event, owned_by, with_birth, with_sessions};
-ghost use Rattle.step_model.specs.History.{HasNoStray, IsOpening};
-ghost use Rattle.step_model.specs.Noted.{view_of};
-ghost use Rattle.step_model.specs.Sound.{NumbersLeft};
-ghost use Rattle.step_model.specs.State.{State};
+ghost use Rattle.capstep.specs.declared.outcome.Ended.{Ended as AnEnded};
+ghost use Rattle.capstep.specs.Direct.{IsDirect, Says, direct, made_event, owned_by, with_birth, with_sessions};
+ghost use Rattle.capstep.specs.History.{HasNoStray, IsOpening};
+ghost use Rattle.capstep.specs.Noted.{view_of};
+ghost use Rattle.capstep.specs.Sound.{NumbersLeft};
+ghost use Rattle.capstep.specs.State.{State};
 ghost use Rattle.policy_view.specs.Changes.{AreChanges};
 ghost use Rattle.policy_view.specs.Visible.{Shows};
 ghost use Rattle.lockmachine.specs.Locks.{IsLockMap, LockMap};
 ghost use Rattle.lockmachine.specs.Scene.{scene};
-ghost use Rattle.step_model.specs.declared.event.Event.TheVariants as event;
+ghost use Rattle.capstep.specs.declared.event.Event.TheVariants as event;
 ghost use Rattle.capcore.specs.UnderWay.{event_of};
 
 use crate::entry_request::EntryRequest;
@@ -34,7 +34,8 @@ use crate::step_reply::StepReply;
 use capbits::{Caller, ClientId, Ino, Mode, Refusal};
 use capgrant::{Access, Attr};
 use capspec::{FsName, Grants};
-use capstep::OperationRef;
+use capstep::{ChangeList, EndedList, EndedTickets, Event, OperationRef, Recorded, Reply, copy_of_messages};
+use capstep::due_endings::remove_given;
 use capstep::judge::denial;
 use captable::{CapTable, Holder};
 use inotree::{Kind, Tree};
@@ -43,8 +44,6 @@ use policy_view::ViewChange;
 use sessiontab::Sessions;
 use std::alloc::{AllocError, Global};
 use std::marker::Model;
-use step_model::due_endings::remove_given;
-use step_model::{ChangeList, EndedList, EndedTickets, Event, Recorded, Reply, copy_of_messages};
 
 // The state that events change.
 #[derive(Debug)]
@@ -60,7 +59,7 @@ impl Drop for World {
 }
 
 impl Model for World {
-    ghost use Rattle.step_model.specs.State.{State};
+    ghost use Rattle.capstep.specs.State.{State};
     ghost use Rattle.capcore.specs.Codes.{state_code};
     ghost use Rattle.capcore.specs.UnderWay.{IsWhole, state_of};
 

@@ -5,8 +5,8 @@
 
 use cli::dispatch;
 use cli_queries::{AnswerFault, report, words};
-use script_syntax::Watched;
 use std::process::ExitCode;
+use texts::Watched;
 
 fn main(rt: HostRuntime) -> ExitCode {
     let (mut reader, mut writer) = (Watched::new(rt.stdin()), Watched::new(rt.stdout()));

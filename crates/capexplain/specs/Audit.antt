@@ -2,8 +2,8 @@
 use Rattle.std.specs.Prelude.{ℕ, List, ◌++◌, codes}
 use Rattle.std.specs.Fmt.{decimal}
 use Rattle.std.specs.List.{flat_map}
-use Rattle.step_model.specs.declared.row.Row.{Row}
-use Rattle.step_model.specs.declared.outcome.Ended.{Ended}
+use Rattle.capstep.specs.declared.row.Row.{Row}
+use Rattle.capstep.specs.declared.outcome.Ended.{Ended}
 use Rattle.capexplain.specs.EventTexts.{event_text}
 use Rattle.capexplain.specs.Replies.{outcome_text, reply_line}
 

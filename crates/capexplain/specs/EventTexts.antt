@@ -1,7 +1,6 @@
 -- The texts of events: the lines that say them.
 use Rattle.std.specs.Prelude.{ℕ, List, [], ◌∷◌, ◌++◌, Option, Some, None, codes}
 use Rattle.std.specs.Fmt.{decimal}
-use Rattle.std.specs.List.{join_by}
 use Rattle.capbits.specs.declared.ids.ClientId.{ClientId}
 use Rattle.capbits.specs.declared.ids.Ino.{Ino}
 use Rattle.capbits.specs.Text.{text_of}
@@ -11,20 +10,15 @@ use Rattle.inotree.specs.declared.node.Setting.{Setting}
 use Rattle.inotree.specs.declared.node.Setting.TheVariants.{Gid, Mode, Size, Time, Uid}
 use Rattle.lockmachine.specs.declared.request.Change.{Change}
 use Rattle.lockmachine.specs.declared.request.Change.TheVariants.{RemoveXattr, Set, SetXattr}
-use Rattle.step_model.specs.declared.event.Event.{Event}
-use Rattle.step_model.specs.declared.event.Event.TheVariants as event
-use Rattle.step_model.specs.declared.change_word.ChangeWord.{ChangeWord}
-use Rattle.step_model.specs.declared.change_word.ChangeWord.TheVariants as words
-use Rattle.capexplain.specs.PartTexts.{hex_text, mode_text}
-use Rattle.step_model.specs.Clients.{client_of}
-use Rattle.step_model.specs.Words.{change_word, command_of, command_word, open_word, part_word}
+use Rattle.capstep.specs.declared.event.Event.{Event}
+use Rattle.capstep.specs.declared.event.Event.TheVariants as event
+use Rattle.capstep.specs.declared.change_word.ChangeWord.{ChangeWord}
+use Rattle.capstep.specs.declared.change_word.ChangeWord.TheVariants as words
+use Rattle.texts.specs.PartTexts.{groups_text, hex_text, mode_text}
+use Rattle.capstep.specs.Clients.{client_of}
+use Rattle.capstep.specs.Words.{change_word, command_of, command_word, open_word, part_word}
 
 -- ---- parts of lines
-
--- joined by commas; a dash for none
-abbrev pub groups_text : List ℕ → List ℕ
-groups_text [] = codes "-"
-groups_text (gid ∷ gids) = join_by decimal (codes ",") (gid ∷ gids)
 
 -- in their written form; `none` for none
 abbrev pub grants_text : List Grant → List ℕ

@@ -10,13 +10,13 @@ use Rattle.capgrant.specs.Access.{access_word}
 use Rattle.capgrant.specs.Rule.{rule_number}
 use Rattle.capbits.specs.Refusal.{refusal_word}
 use Rattle.captable.specs.declared.entry.Holder.{Holder}
-use Rattle.step_model.specs.declared.outcome.Message.{Message}
-use Rattle.step_model.specs.declared.outcome.Message.TheVariants as messages
-use Rattle.step_model.specs.declared.outcome.Outcome.{Outcome}
-use Rattle.step_model.specs.declared.reply.Reply.{Reply}
-use Rattle.step_model.specs.declared.reply.Reply.TheVariants.{Denied, Done, Ino, Messages, Opened, OutOfMemory, Recalled, Refused, Values, Waiting}
-use Rattle.step_model.specs.Replies.{outcome_reply}
-use Rattle.capexplain.specs.PartTexts.{values_text}
+use Rattle.capstep.specs.declared.outcome.Message.{Message}
+use Rattle.capstep.specs.declared.outcome.Message.TheVariants as messages
+use Rattle.capstep.specs.declared.outcome.Outcome.{Outcome}
+use Rattle.capstep.specs.declared.reply.Reply.{Reply}
+use Rattle.capstep.specs.declared.reply.Reply.TheVariants.{Denied, Done, Ino, Messages, Opened, OutOfMemory, Recalled, Refused, Values, Waiting}
+use Rattle.capstep.specs.Replies.{outcome_reply}
+use Rattle.capexplain.specs.ValueTexts.{values_text}
 
 -- the number of a grant, and that of the rule by which it fails
 abbrev pub rule_text : ℕ × Rule → List ℕ

@@ -3,20 +3,17 @@ ghost use Rattle.std.specs.Prelude.{◌≡◌, ◌++◌, codes, IfOk, OnOk};
 ghost use Rattle.std.specs.Fmt.{decimal};
 ghost use Rattle.std.specs.List.{flat_map};
 ghost use Rattle.capbits.specs.Text.{text_of};
-ghost use Rattle.capexplain.specs.EventTexts.{arguments_text, change_text, client_text, event_text, grants_text, groups_text, named_text, numbered_text, setting_text};
-ghost use Rattle.capexplain.specs.PartTexts.{mode_text};
-ghost use Rattle.step_model.specs.Words.{open_word, part_word};
+ghost use Rattle.capexplain.specs.EventTexts.{arguments_text, change_text, client_text, event_text, grants_text, named_text, numbered_text, setting_text};
+ghost use Rattle.texts.specs.PartTexts.{mode_text};
+ghost use Rattle.capstep.specs.Words.{open_word, part_word};
 
-use crate::part_text::{print_bytes, print_mode};
-use capbits::{
-    Caller, CapSet, ClientId, Groups, Ino, Mode, Part, print_caps, print_number, print_numbered,
-    print_str,
-};
+use capbits::{Caller, CapSet, ClientId, Ino, Mode, Part, print_caps, print_number, print_numbered, print_str};
 use capspec::{Grants, write_grants};
+use capstep::{ChangeWord, Command, Event, OpenMode};
 use inotree::Setting;
 use lockmachine::{Bytes, Change};
 use std::alloc::{AllocError, Global};
-use step_model::{ChangeWord, Command, Event, OpenMode};
+use texts::{print_bytes, print_groups, print_mode};
 
 /// The line of a script that says the event, without its line feed: grants in their written form or `none`, modes as four octal
 /// digits, numbers without leading zeros. Only memory can be missing.
@@ -149,20 +146,6 @@ fn print_regrant(text: &mut Vec<u8>, client: ClientId, grants: &Grants) -> Resul
     print_numbered(text, " ", u64::from(client.0))?;
     print_str(text, " ")?;
     print_grants(text, grants)
-}
-
-// The groups, joined by commas; a dash for none.
-pub(crate) fn print_groups(text: &mut Vec<u8>, groups: &Groups) -> Result<(), AllocError>
-    ensures { OnOk result (text.new.items ≡ text.old.items ++ groups_text groups.now) }
-{
-    let Some((first, more)) = groups.as_slice().split_first() else {
-        return print_str(text, "-");
-    };
-    print_number(text, u64::from(*first))?;
-    for gid in more {
-        print_numbered(text, ",", u64::from(*gid))?;
-    }
-    Ok(())
 }
 
 // The grants in their written form; `none` for none.

@@ -7,8 +7,8 @@ use crate::event_text::print_event;
 use crate::message_text::{print_outcome, print_ticket};
 use crate::reply_text::print_reply;
 use capbits::{print_number, print_numbered, print_str};
+use capstep::{Ended, Row};
 use std::alloc::{AllocError, Global};
-use step_model::{Ended, Row};
 
 // How many bytes most lines have at the most. A list for one grows but once.
 const USUAL_LINE: usize = 80;

@@ -4,11 +4,11 @@ ghost use Rattle.std.specs.List.{flat_map};
 ghost use Rattle.capbits.specs.Text.{text_of};
 ghost use Rattle.capexplain.specs.Replies.{message_line, message_text, outcome_text};
 
-use crate::part_text::print_values;
 use crate::reply_text::print_denial;
+use crate::value_text::print_values;
 use capbits::{CapSet, Ino, Ticket, print, print_caps, print_numbered, print_str};
+use capstep::{Message, Outcome};
 use std::alloc::AllocError;
-use step_model::{Message, Outcome};
 
 // A line for each message.
 pub(crate) fn print_messages(text: &mut Vec<u8>, messages: &[Message]) -> Result<(), AllocError>

@@ -4,12 +4,12 @@ ghost use Rattle.capbits.specs.Text.{text_of};
 ghost use Rattle.capexplain.specs.Replies.{denial_text, holder_text, holders_text, reply_line, reply_text, rule_text, rules_text};
 
 use crate::message_text::print_messages;
-use crate::part_text::print_values;
+use crate::value_text::print_values;
 use capbits::{CapSet, print, print_caps, print_number, print_numbered, print_str};
 use capgrant::{Access, Rule, Rules};
+use capstep::Reply;
 use captable::Holder;
 use std::alloc::{AllocError, Global};
-use step_model::Reply;
 
 // How many bytes most replies have at the most. A list for one grows but once.
 const USUAL_LINE: usize = 64;

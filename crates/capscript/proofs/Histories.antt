@@ -7,22 +7,22 @@ use Rattle.std.specs.List.{AllByRecursion}
 use Rattle.std.proofs.lemmas.List.{append-nil, map-append}
 use Rattle.std.proofs.lemmas.List.Concat.{flat_map-append}
 use Rattle.inotree.specs.Calls.{first_tree}
-use Rattle.step_model.specs.declared.event.Event.{Event}
-use Rattle.step_model.specs.declared.row.Row.{Row}
-use Rattle.step_model.specs.Numbers.{AreNumbered, rows_of}
-use Rattle.step_model.specs.History.{IsOpening, Recorded, Replays}
+use Rattle.capstep.specs.declared.event.Event.{Event}
+use Rattle.capstep.specs.declared.row.Row.{Row}
+use Rattle.capstep.specs.Numbers.{AreNumbered, rows_of}
+use Rattle.capstep.specs.History.{IsOpening, Recorded, Replays}
 use Rattle.capbits.specs.declared.ids.ClientId.{ClientId}
-use Rattle.script_syntax.specs.Events.{Reads}
-use Rattle.script_syntax.specs.Faults.{IsStop}
-use Rattle.script_syntax.specs.declared.fault.ScriptFault.{ScriptFault}
-use Rattle.script_syntax.specs.declared.fault.ScriptFault.TheVariants as stops
-use Rattle.script_syntax.specs.Lines.{is_skipped, lines}
+use Rattle.capexplain.specs.Events.{Reads}
+use Rattle.capexplain.specs.Faults.{IsStop}
+use Rattle.texts.specs.declared.fault.ScriptFault.{ScriptFault}
+use Rattle.texts.specs.declared.fault.ScriptFault.TheVariants as stops
+use Rattle.texts.specs.ScriptLines.{is_skipped, lines}
 use Rattle.capexplain.specs.Replies.{reply_text}
 use Rattle.capscript.specs.Transcript.{Answered, Answers, AnswersLine, IsTranscript, LinesSay, Ran, StopsIn, fs_name, replies_text, root_attr}
 use Rattle.capcore.proofs.Growing.{replays-more}
 use Rattle.capstep.proofs.Numbered.{numbered-nil, numbered-snoc}
-use Rattle.script_syntax.proofs.SaidLines.{not_skipped}
-use Rattle.script_syntax.proofs.KnownBytes.{appends_more, appends_same, none_appended}
+use Rattle.capexplain.proofs.SaidLines.{not_skipped}
+use Rattle.texts.proofs.KnownBytes.{appends_more, appends_same, none_appended}
 
 -- ---- lines
 

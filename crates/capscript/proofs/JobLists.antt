@@ -6,7 +6,7 @@ use Rattle.std.specs.List.{position, position_or_len}
 use Rattle.std.proofs.lemmas.Bool.{ltb-false}
 use Rattle.lockmachine.proofs.Positions.{at_position}
 use Rattle.capbits.specs.declared.ids.ClientId.{ClientId}
-use Rattle.step_model.specs.declared.event.Event.{Event}
+use Rattle.capstep.specs.declared.event.Event.{Event}
 use Rattle.capscript.specs.declared.plan.Job.{Job}
 use Rattle.capscript.specs.Jobs.{Calls, calls_by, calls_of, is_known, with_event}
 

@@ -9,28 +9,28 @@ use Rattle.capbits.specs.declared.ids.ClientId.{ClientId}
 use Rattle.capbits.specs.declared.ids.Ino.{Ino}
 use Rattle.capspec.specs.declared.grant.Grant.{Grant}
 use Rattle.inotree.specs.declared.node.Setting.TheVariants.{Gid, Mode, Size, Time, Uid}
-use Rattle.step_model.specs.declared.event.Event.{Event}
-use Rattle.step_model.specs.declared.event.Event.TheVariants as events
+use Rattle.capstep.specs.declared.event.Event.{Event}
+use Rattle.capstep.specs.declared.event.Event.TheVariants as events
 use Rattle.lockmachine.specs.declared.request.Change.{Change}
 use Rattle.lockmachine.specs.declared.request.Change.TheVariants.{RemoveXattr, Set, SetXattr}
-use Rattle.step_model.specs.declared.change_word.ChangeWord.{ChangeWord}
-use Rattle.step_model.specs.declared.change_word.ChangeWord.TheVariants as kinds
-use Rattle.step_model.specs.Clients.{client_of}
-use Rattle.step_model.specs.Words.{client_event, command_by, command_word}
-use Rattle.step_model.specs.Words.{commands as all_commands}
-use Rattle.step_model.specs.declared.command.ClientCommand.{ClientCommand}
-use Rattle.step_model.specs.declared.command.Command.{Command}
-use Rattle.step_model.specs.declared.command.Command.TheVariants as commands
-use Rattle.script_syntax.specs.declared.fault.LineFault.{LineFault}
-use Rattle.script_syntax.specs.declared.fault.LineFault.TheVariants as faults
-use Rattle.script_syntax.specs.Changes.{change_kind, is_counted}
-use Rattle.script_syntax.specs.Events.{Line, ◌>>=◌, named_by, new_inode_by, granting, session_by, regrant_by, client_by, open_by, caps_by, ack_by}
-use Rattle.script_syntax.specs.Events.{get_by, inode_by, rename_by, says_kind, says_change, says_inode_change, change_by, poll_by, said_with, said_by, said_in}
-use Rattle.script_syntax.specs.Events.{line_says, Tells, Reads}
-use Rattle.script_syntax.specs.Events.Line.{Faulty, Grants, Names, Nothing, Says}
-use Rattle.script_syntax.specs.Lines.{is_skipped, longest_line}
-use Rattle.script_syntax.specs.Values.{bytes_in, client_in, groups_in, ino_in, mode_in, number_below, number_in, only_client, open_mode_in, part_in, seq_in}
-use Rattle.script_syntax.specs.Words.{six_parts, spaced, words}
+use Rattle.capstep.specs.declared.change_word.ChangeWord.{ChangeWord}
+use Rattle.capstep.specs.declared.change_word.ChangeWord.TheVariants as kinds
+use Rattle.capstep.specs.Clients.{client_of}
+use Rattle.capstep.specs.Words.{client_event, command_by, command_word}
+use Rattle.capstep.specs.Words.{commands as all_commands}
+use Rattle.capstep.specs.declared.command.ClientCommand.{ClientCommand}
+use Rattle.capstep.specs.declared.command.Command.{Command}
+use Rattle.capstep.specs.declared.command.Command.TheVariants as commands
+use Rattle.texts.specs.declared.fault.LineFault.{LineFault}
+use Rattle.texts.specs.declared.fault.LineFault.TheVariants as faults
+use Rattle.capexplain.specs.Changes.{change_kind, is_counted}
+use Rattle.capexplain.specs.Events.{Line, ◌>>=◌, named_by, new_inode_by, granting, session_by, regrant_by, client_by, open_by, caps_by, ack_by, get_by}
+use Rattle.capexplain.specs.Events.{inode_by, rename_by, says_kind, says_change, says_inode_change, change_by, poll_by, said_with, said_by, said_in, line_says}
+use Rattle.capexplain.specs.Events.{Tells, Reads}
+use Rattle.capexplain.specs.Events.Line.{Faulty, Grants, Names, Nothing, Says}
+use Rattle.texts.specs.ScriptLines.{is_skipped, longest_line}
+use Rattle.capexplain.specs.Values.{bytes_in, client_in, groups_in, ino_in, mode_in, number_below, number_in, only_client, open_mode_in, part_in, seq_in}
+use Rattle.capexplain.specs.Words.{six_parts, spaced, words}
 use Rattle.capscript.specs.Jobs.{begins_with, first_of, sort_of}
 use Rattle.capscript.specs.Jobs.Sort.{Nobodys, Plain}
 

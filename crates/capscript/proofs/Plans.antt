@@ -1,7 +1,7 @@
 -- Plans that grow line by line.
 use Rattle.std.proofs.Common.{◌≡◌, ℕ, ◌+◌, ◌≤◌, ◌<◌, List, ◌∷◌, length, sym, subst, arith, inl, inr}
 use Rattle.std.specs.Prelude.{Err, IfErr, IsErrAnd, Ok, Result}
-use Rattle.script_syntax.specs.Lines.{lines}
+use Rattle.texts.specs.ScriptLines.{lines}
 use Rattle.capscript.specs.declared.serve_fault.ServeFault.{ServeFault}
 use Rattle.capscript.specs.Jobs.{IsFaultAt, StopsAt, Takes, TakesAll, Work, no_work}
 

@@ -3,15 +3,15 @@ use Rattle.std.specs.Prelude.{◌≡◌, ◌≢◌, ◌⊎◌, ◌+◌, ◌≤�
 use Rattle.std.specs.Prelude.{IsTrue, IsFalse}
 use Rattle.std.specs.List.{list_any, sum_by}
 use Rattle.capbits.specs.declared.ids.ClientId.{ClientId}
-use Rattle.step_model.specs.declared.event.Event.{Event}
-use Rattle.script_syntax.specs.declared.fault.LineFault.{LineFault}
-use Rattle.script_syntax.specs.declared.fault.LineFault.TheVariants as kinds
-use Rattle.script_syntax.specs.declared.fault.ScriptFault.TheVariants as stops
-use Rattle.step_model.specs.Clients.{client_of}
-use Rattle.script_syntax.specs.Events.{Reads}
-use Rattle.script_syntax.specs.Faults.{HasFault}
-use Rattle.script_syntax.specs.Lines.{is_skipped}
-use Rattle.script_syntax.specs.Words.{words}
+use Rattle.capstep.specs.declared.event.Event.{Event}
+use Rattle.texts.specs.declared.fault.LineFault.{LineFault}
+use Rattle.texts.specs.declared.fault.LineFault.TheVariants as kinds
+use Rattle.texts.specs.declared.fault.ScriptFault.TheVariants as stops
+use Rattle.capstep.specs.Clients.{client_of}
+use Rattle.capexplain.specs.Events.{Reads}
+use Rattle.capexplain.specs.Faults.{HasFault}
+use Rattle.texts.specs.ScriptLines.{is_skipped}
+use Rattle.capexplain.specs.Words.{words}
 use Rattle.capscript.specs.declared.serve_fault.ServeFault.{ServeFault}
 use Rattle.capscript.specs.declared.serve_fault.ServeFault.TheVariants.{Clients, HistoryFull, NoThread, Script}
 use Rattle.capscript.specs.declared.plan.Job.{Job}

@@ -1,7 +1,7 @@
 -- How a call that was not answered is told.
 use Rattle.capstep.specs.declared.stop.Stop.{Stop}
 use Rattle.capstep.specs.declared.stop.Stop.TheVariants as stopped
-use Rattle.script_syntax.specs.declared.fault.ScriptFault.TheVariants as stops
+use Rattle.texts.specs.declared.fault.ScriptFault.TheVariants as stops
 use Rattle.capscript.specs.declared.serve_fault.ServeFault.{ServeFault}
 use Rattle.capscript.specs.declared.serve_fault.ServeFault.TheVariants.{HistoryFull, Script}
 

@@ -4,17 +4,17 @@ use Rattle.std.specs.List.{AllByRecursion, flat_map}
 use Rattle.capbits.specs.declared.ids.PassId.{PassId}
 use Rattle.capgrant.specs.declared.access.Attr.{Attr}
 use Rattle.inotree.specs.Calls.{first_tree}
-use Rattle.step_model.specs.declared.event.Event.{Event}
-use Rattle.step_model.specs.declared.row.Row.{Row}
-use Rattle.step_model.specs.declared.reply.Reply.{Reply}
-use Rattle.step_model.specs.History.{IsLegal, IsNext, IsOpening, Recorded}
-use Rattle.step_model.specs.State.{State}
-use Rattle.script_syntax.specs.declared.fault.LineFault.{LineFault}
-use Rattle.script_syntax.specs.declared.fault.ScriptFault.{ScriptFault}
-use Rattle.script_syntax.specs.declared.fault.ScriptFault.TheVariants as stops
-use Rattle.script_syntax.specs.Events.{Reads}
-use Rattle.script_syntax.specs.Faults.{HasFault}
-use Rattle.script_syntax.specs.Lines.{is_skipped, lines}
+use Rattle.capstep.specs.declared.event.Event.{Event}
+use Rattle.capstep.specs.declared.row.Row.{Row}
+use Rattle.capstep.specs.declared.reply.Reply.{Reply}
+use Rattle.capstep.specs.History.{IsLegal, IsNext, IsOpening, Recorded}
+use Rattle.capstep.specs.State.{State}
+use Rattle.texts.specs.declared.fault.LineFault.{LineFault}
+use Rattle.texts.specs.declared.fault.ScriptFault.{ScriptFault}
+use Rattle.texts.specs.declared.fault.ScriptFault.TheVariants as stops
+use Rattle.capexplain.specs.Events.{Reads}
+use Rattle.capexplain.specs.Faults.{HasFault}
+use Rattle.texts.specs.ScriptLines.{is_skipped, lines}
 use Rattle.capexplain.specs.Replies.{reply_text}
 
 -- The lines say these events, in order: each line that is not skipped says one.

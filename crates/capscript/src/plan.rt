@@ -1,8 +1,8 @@
 //! What the lines of a script call, and for whom.
 ghost use Rattle.std.specs.Prelude.{◌≡◌, ◌==◌, ◌≤◌, ◌⊎◌, [], ◌∷◌, length, vec_len, Some, None, OnOk, OnErr, IfOk, IfErr, Err, IsFalse};
 ghost use Rattle.std.specs.List.{position};
-ghost use Rattle.script_syntax.specs.Lines.{lines, longest_script};
-ghost use Rattle.script_syntax.specs.declared.fault.ScriptFault.TheVariants as stops;
+ghost use Rattle.texts.specs.ScriptLines.{lines, longest_script};
+ghost use Rattle.texts.specs.declared.fault.ScriptFault.TheVariants as stops;
 ghost use Rattle.capscript.specs.declared.serve_fault.ServeFault.TheVariants as faults;
 ghost use Rattle.capscript.specs.Jobs.{IsFaultAt, IsFaultBy, StopsAt, Takes, TakesAll, TakesEvent, calls_by, calls_of, first_word, is_known, no_work, sort_of};
 ghost use Rattle.capscript.specs.Jobs.{with_event, work_of};
@@ -10,9 +10,10 @@ ghost use Rattle.capscript.specs.Jobs.Sort.{Plain};
 
 use crate::serve_fault::ServeFault;
 use capbits::ClientId;
-use script_syntax::{LineFault, read_line, split_at_space, split_line};
+use capexplain::{read_line, split_at_space};
+use capstep::Event;
 use std::alloc::{AllocError, Global};
-use step_model::Event;
+use texts::{LineFault, split_line};
 
 /// How many clients may have lines behind the line `threads`: each has a pass of its own, beside that of the lines before.
 pub const MAX_CLIENTS: usize = 31;

@@ -2,23 +2,23 @@
 ghost use Rattle.std.specs.Prelude.{◌≡◌, ◌≢◌, ◌⊎◌, ◌↔◌, ◌<◌, ◌≤◌, ◌+◌, ◌++◌, ℕ, List, [], length, IsTrue, IsFalse, IfOk, IfErr, IfSome, OnOk, OnErr, Err};
 ghost use Rattle.std.specs.Io.KnownBytes.{Appends, Consumes};
 ghost use Rattle.inotree.specs.Calls.{first_tree};
-ghost use Rattle.step_model.specs.History.{HasNoStray, IsOpening};
-ghost use Rattle.script_syntax.specs.declared.fault.ScriptFault.TheVariants as stops;
-ghost use Rattle.script_syntax.specs.Lines.{lines, longest_script};
+ghost use Rattle.capstep.specs.History.{HasNoStray, IsOpening};
+ghost use Rattle.texts.specs.declared.fault.ScriptFault.TheVariants as stops;
+ghost use Rattle.texts.specs.ScriptLines.{lines, longest_script};
 ghost use Rattle.capscript.specs.Transcript.{Answered, Answers, AnswersLine, Ran, StopsIn, fs_name, root_attr};
-ghost use Rattle.script_syntax.specs.Watched.{has_ended, has_failed, inner_of};
+ghost use Rattle.texts.specs.Watched.{has_ended, has_failed, inner_of};
 
 use capbits::{Mode, PassId};
 use capcore::Core;
-use capexplain::reply_lines;
+use capexplain::{read_line, reply_lines};
 use capgrant::Attr;
 use capspec::FsName;
+use capstep::Event;
 use capstep::stop::Stop;
 use inotree::Tree;
-use script_syntax::{ScriptFault, Watched, read_line, read_script, split_line, write_text};
 use std::alloc::{AllocError, Global};
 use std::io::{Read, Write};
-use step_model::Event;
+use texts::{ScriptFault, Watched, read_script, split_line, write_text};
 
 /// The name of the file system that a script runs on.
 const FS_NAME: &[u8] = b"cephfs";

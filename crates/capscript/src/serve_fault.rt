@@ -1,11 +1,11 @@
 //! Why a script was not served.
 ghost use Rattle.std.specs.Prelude.{◌≡◌};
-ghost use Rattle.script_syntax.specs.declared.fault.ScriptFault.TheVariants as stops;
+ghost use Rattle.texts.specs.declared.fault.ScriptFault.TheVariants as stops;
 ghost use Rattle.capscript.specs.declared.serve_fault.ServeFault.TheVariants as faults;
 
 use capstep::stop::Stop;
-use script_syntax::{LineFault, ScriptFault};
 use std::alloc::{AllocError, AllocFailed};
+use texts::{LineFault, ScriptFault};
 use thiserror::Error;
 
 /// Why a script was not served to its end.
@@ -64,7 +64,7 @@ impl From<Stop> for ServeFault {
 
 impl From<AllocError> for ServeFault {
     ghost use Rattle.std.specs.Prelude.{◌≡◌};
-    ghost use Rattle.script_syntax.specs.declared.fault.ScriptFault.TheVariants as stops;
+    ghost use Rattle.texts.specs.declared.fault.ScriptFault.TheVariants as stops;
     ghost use Rattle.capscript.specs.declared.serve_fault.ServeFault.TheVariants as faults;
 
     ghost from_gives = { λ _ fault. fault ≡ faults.Script stops.NoMemory };
@@ -76,7 +76,7 @@ impl From<AllocError> for ServeFault {
 
 impl<T: Drop> From<AllocFailed<T>> for ServeFault {
     ghost use Rattle.std.specs.Prelude.{◌≡◌};
-    ghost use Rattle.script_syntax.specs.declared.fault.ScriptFault.TheVariants as stops;
+    ghost use Rattle.texts.specs.declared.fault.ScriptFault.TheVariants as stops;
     ghost use Rattle.capscript.specs.declared.serve_fault.ServeFault.TheVariants as faults;
 
     ghost from_gives = { λ _ fault. fault ≡ faults.Script stops.NoMemory };

@@ -2,8 +2,8 @@
 use Rattle.std.proofs.Common.{◌≡◌, ℕ, List, Result, Ok, Err, sym, subst}
 use Rattle.logbook.specs.Pages.{Book}
 use Rattle.capgrant.specs.declared.answer.Verdict.{Verdict}
-use Rattle.step_model.specs.declared.row.Row.{Row}
-use Rattle.step_model.specs.State.{State}
+use Rattle.capstep.specs.declared.row.Row.{Row}
+use Rattle.capstep.specs.State.{State}
 use Rattle.policy_view.specs.declared.answer.Question.{Question}
 use Rattle.policy_view.specs.declared.answer.Unknown.{Unknown}
 use Rattle.policy_view.specs.declared.answer.Unknown.TheVariants as unknown
@@ -11,7 +11,7 @@ use Rattle.policy_view.specs.declared.view.View.{View}
 use Rattle.policy_view.specs.Answers.{IsAnswer}
 use Rattle.policy_view.specs.Visible.{Shows}
 use Rattle.snapshot.specs.declared.value.Published.{Published}
-use Rattle.step_model.specs.Noted.{view_of}
+use Rattle.capstep.specs.Noted.{view_of}
 use Rattle.snapshot.specs.Places.{IsPublished}
 use Rattle.capserver.specs.Answers.{IsAnswered}
 

@@ -8,13 +8,13 @@ use Rattle.policy_view.specs.declared.view.View.{View}
 use Rattle.policy_view.specs.Changes.{AreChanges, view_by}
 use Rattle.policy_view.specs.Visible.{Shows}
 use Rattle.policy_view.proofs.Likeness.{shows-refl}
-use Rattle.step_model.specs.declared.event.Event.{Event}
-use Rattle.step_model.specs.declared.reply.Reply.{Reply}
-use Rattle.step_model.specs.declared.row.Row.{Row}
-use Rattle.step_model.specs.Numbers.{AreNumbered, rows_of}
-use Rattle.step_model.specs.History.{IsLegal, IsNext, IsRecorded, Recorded, Replays, made_row}
-use Rattle.step_model.specs.State.{State}
-use Rattle.step_model.specs.Noted.{view_of}
+use Rattle.capstep.specs.declared.event.Event.{Event}
+use Rattle.capstep.specs.declared.reply.Reply.{Reply}
+use Rattle.capstep.specs.declared.row.Row.{Row}
+use Rattle.capstep.specs.Numbers.{AreNumbered, rows_of}
+use Rattle.capstep.specs.History.{IsLegal, IsNext, IsRecorded, Recorded, Replays, made_row}
+use Rattle.capstep.specs.State.{State}
+use Rattle.capstep.specs.Noted.{view_of}
 use Rattle.snapshot.specs.Publishing.{IsReady, Publishing, first_of}
 use Rattle.snapshot.specs.Rows.{Legal}
 use Rattle.snapshot.proofs.Beginnings.{prefix_length, prefix_more, prefix_trans}

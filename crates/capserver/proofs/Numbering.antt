@@ -1,7 +1,7 @@
 -- Passes one by one.
 use Rattle.std.proofs.Common.{◌≡◌, ℕ, zero, suc, ◌+◌, ◌<◌, ◌≤◌, List, [], ◌∷◌, ◌++◌, length, take, get_or, ap, subst, ◌∙◌, arith}
 use mathlib.Core.List.{IsPrefix}
-use Rattle.step_model.specs.declared.row.Row.{Row}
+use Rattle.capstep.specs.declared.row.Row.{Row}
 use Rattle.snapshot.proofs.Beginnings.{prefix_trans}
 use Rattle.capserver.specs.Passes.{AllBegin, AllNew, PassState, pass_state}
 

@@ -1,12 +1,12 @@
 -- What a question is answered by what is published.
 use Rattle.std.specs.Prelude.{List, Result}
 use Rattle.capgrant.specs.declared.answer.Verdict.{Verdict}
-use Rattle.step_model.specs.declared.row.Row.{Row}
-use Rattle.step_model.specs.State.{State}
+use Rattle.capstep.specs.declared.row.Row.{Row}
+use Rattle.capstep.specs.State.{State}
 use Rattle.policy_view.specs.declared.answer.Question.{Question}
 use Rattle.policy_view.specs.declared.answer.Unknown.{Unknown}
 use Rattle.policy_view.specs.Answers.{IsAnswer}
-use Rattle.step_model.specs.Noted.{view_of}
+use Rattle.capstep.specs.Noted.{view_of}
 use Rattle.snapshot.specs.Rows.{Legal}
 
 -- the rows that are known are legal, and the answer is that of the state to which they lead

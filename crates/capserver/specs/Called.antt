@@ -1,11 +1,11 @@
 -- What a call says of the core when the lock is free again: not which state it found, but that there is one.
 use Rattle.std.specs.Prelude.{ℕ}
 use Rattle.capbits.specs.declared.ids.PassId.{PassId}
-use Rattle.step_model.specs.History.{Recorded}
+use Rattle.capstep.specs.History.{Recorded}
 use Rattle.capcore.specs.Promised.{IsPromised}
-use Rattle.step_model.specs.State.{State}
-use Rattle.step_model.specs.declared.event.Event.{Event}
-use Rattle.step_model.specs.declared.reply.Reply.{Reply}
+use Rattle.capstep.specs.State.{State}
+use Rattle.capstep.specs.declared.event.Event.{Event}
+use Rattle.capstep.specs.declared.reply.Reply.{Reply}
 use Rattle.capserver.specs.Held.{IsLed}
 
 -- from some state, to which a history leads from the opening, an event of this pass is answered so, with all that is promised of one

@@ -1,11 +1,11 @@
 -- What a fresh call leaves.
 use Rattle.std.specs.Prelude.{◌≡◌, ℕ, ◌<◌, List, [], ◌∷◌, ◌++◌, length}
 use mathlib.Core.List.{IsPrefix}
-use Rattle.step_model.specs.History.{made_row}
-use Rattle.step_model.specs.declared.event.Event.{Event}
-use Rattle.step_model.specs.declared.row.Row.{Row}
-use Rattle.step_model.specs.declared.outcome.Ended.{Ended}
-use Rattle.step_model.specs.declared.reply.Reply.{Reply}
+use Rattle.capstep.specs.History.{made_row}
+use Rattle.capstep.specs.declared.event.Event.{Event}
+use Rattle.capstep.specs.declared.row.Row.{Row}
+use Rattle.capstep.specs.declared.outcome.Ended.{Ended}
+use Rattle.capstep.specs.declared.reply.Reply.{Reply}
 use Rattle.capserver.specs.Passes.{PassState, pass_id}
 
 -- what the pass knew is a proper beginning of what it knows, and that ends with a row of the pass, of this event and this reply

@@ -1,10 +1,10 @@
 -- What stands under the lock.
 use Rattle.std.specs.Prelude.{◌≡◌, ◌≤◌, ℕ, false, length}
 use mathlib.Core.List.{IsPrefix}
-use Rattle.step_model.specs.State.{State}
-use Rattle.step_model.specs.History.{Recorded, Replays}
+use Rattle.capstep.specs.State.{State}
+use Rattle.capstep.specs.History.{Recorded, Replays}
 use Rattle.policy_view.specs.Visible.{Shows}
-use Rattle.step_model.specs.Noted.{view_of}
+use Rattle.capstep.specs.Noted.{view_of}
 use Rattle.snapshot.specs.Publishing.{Publishing}
 
 -- the history leads from the opening state to that of the core, and takes as many rows as the opening said

@@ -2,7 +2,7 @@
 use Rattle.std.specs.Prelude.{refl, ℕ}
 use Rattle.std.specs.Coded.{Coded, code_by, coded_ℕ, coded×}
 use Rattle.logbook.specs.Pages.{Book, book_coded}
-use Rattle.step_model.specs.State.{State}
+use Rattle.capstep.specs.State.{State}
 use Rattle.capcore.specs.Codes.{state_code}
 
 -- the state that the core opens with, how many rows its history takes at most, the book for them, and the one for the number of passes

@@ -3,7 +3,7 @@ use Rattle.std.specs.Prelude.{◌≡◌, ◌<◌, ◌≤◌, ◌⊎◌, ℕ, ◌
 use Rattle.std.specs.Coded.{Coded, code_by, coded_ℕ, coded×}
 use mathlib.Core.List.{IsPrefix}
 use Rattle.capbits.specs.declared.ids.PassId.{PassId}
-use Rattle.step_model.specs.declared.row.Row.{Row}
+use Rattle.capstep.specs.declared.row.Row.{Row}
 use Rattle.capserver.specs.declared.passes.StartFault.{StartFault}
 use Rattle.capserver.specs.declared.passes.StartFault.TheVariants.{BadCount, NoMemory, NoReader}
 use Rattle.snapshot.specs.Rows.{rows_code}

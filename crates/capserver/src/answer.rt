@@ -4,8 +4,8 @@ ghost use mathlib.Core.List.{IsPrefix};
 ghost use Rattle.snapshot.specs.Rows.{Legal};
 
 use crate::pass::Pass;
+use capstep::Reply;
 use snapshot::{Beginning, Server};
-use step_model::Reply;
 
 /// What a call answers.
 pub struct Answer {

@@ -6,10 +6,10 @@ ghost use Rattle.capserver.specs.Passes.{pass_id};
 
 use crate::pass::Pass;
 use capcore::Core;
+use capstep::{Event, Reply};
 use capstep::stop::Stop;
 use snapshot::Server;
 use std::sync::ledger::Book;
-use step_model::{Event, Reply};
 
 /// Makes an event, called by a pass, and counts the call in the pass and in the book. It promises what the core promises of an event,
 /// by the pass's number.

@@ -15,6 +15,7 @@ mod server;
 
 pub use answer::Answer;
 pub use capcore::Core;
+pub use capstep::{Event, Reply, Row};
 pub use capstep::stop::Stop;
 pub use gate::{Gate, NoGate};
 pub use locked::Locked;
@@ -24,4 +25,3 @@ pub use passes::StartFault;
 pub use policy_view::{Question, Unknown};
 pub use server::{CapServer, Closed};
 pub use snapshot::{MAX_PASSES, Server};
-pub use step_model::{Event, Reply, Row};

@@ -1,7 +1,7 @@
 //! What stands under the lock.
 ghost use Rattle.std.specs.Prelude.{◌≡◌, ◌≤◌, ◌+◌, ◌↔◌, [], false, Err, Some, length, IsTrue, IfOk, IfSome, OnOk, OnErr};
 ghost use mathlib.Core.List.{IsPrefix};
-ghost use Rattle.step_model.specs.History.{IsLegal};
+ghost use Rattle.capstep.specs.History.{IsLegal};
 ghost use Rattle.capcore.specs.Promised.{IsPromised};
 ghost use Rattle.capstep.specs.declared.stop.Stop.TheVariants as stop_kind;
 ghost use Rattle.snapshot.specs.Publishing.{first_of};
@@ -15,13 +15,13 @@ use crate::event::make;
 use crate::gate::Gate;
 use crate::pass::Pass;
 use capcore::Core;
+use capstep::{Event, Reply};
 use capstep::stop::Stop;
 use snapshot::{Beginning, Publisher, Recorder, Server, Tally};
 use std::marker::Model;
 use std::mem::replace;
 use std::sync::Wait;
 use std::sync::ledger::{Book, Share};
-use step_model::{Event, Reply};
 
 /// The core, with the book that counts the calls of all passes and who publishes. To contracts it is the core. It keeps that the
 /// history leads from the server's opening state to the present one, is numbered and takes as many rows as the opening said, that the
@@ -39,8 +39,8 @@ pub struct Locked<L: Server> {
 
 impl<L: Server> Model for Locked<L> {
     ghost use Rattle.std.specs.Prelude.{◌≡◌, ◌+◌, MatchOption};
-    ghost use Rattle.step_model.specs.History.{Recorded};
-    ghost use Rattle.step_model.specs.Numbers.{AreNumbered};
+    ghost use Rattle.capstep.specs.History.{Recorded};
+    ghost use Rattle.capstep.specs.Numbers.{AreNumbered};
     ghost use Rattle.capcore.specs.Codes.{recorded_code};
     ghost use Rattle.capserver.specs.Held.{IsHeld, IsLed};
 

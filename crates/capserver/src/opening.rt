@@ -1,6 +1,6 @@
 //! A core before its server starts.
 ghost use Rattle.std.specs.Prelude.{◌≡◌, ◌≤◌, [], IfOk};
-ghost use Rattle.step_model.specs.History.{HasNoStray, IsOpening};
+ghost use Rattle.capstep.specs.History.{HasNoStray, IsOpening};
 ghost use Rattle.snapshot.specs.Pairs.{origin_of};
 ghost use Rattle.snapshot.specs.Places.{IsOf};
 

@@ -31,7 +31,7 @@ impl<L: Server> Drop for Reader<L> {
 impl<L: Server> Model for Reader<L> {
     ghost use Rattle.std.specs.Prelude.{◌≡◌, List, MatchOption};
     ghost use Rattle.left_right.specs.Sides.{view as place_view};
-    ghost use Rattle.step_model.specs.declared.row.Row.{Row};
+    ghost use Rattle.capstep.specs.declared.row.Row.{Row};
     ghost use Rattle.snapshot.specs.Places.{IsOriginKnown};
     ghost use Rattle.snapshot.specs.Rows.{Legal, rows_code};
 

@@ -2,7 +2,7 @@
 ghost use Rattle.std.specs.Prelude.{◌≡◌, ◌≢◌, ◌≤◌, ◌<◌, ◌+◌, Err, length, IsTrue, IfOk, IfErr, OnOk, OnErr, vec_len};
 ghost use Rattle.std.specs.List.{sum_by};
 ghost use mathlib.Core.List.{IsPrefix};
-ghost use Rattle.step_model.specs.History.{IsLegal};
+ghost use Rattle.capstep.specs.History.{IsLegal};
 ghost use Rattle.policy_view.specs.declared.answer.Unknown.TheVariants as unknown;
 ghost use Rattle.capserver.specs.Answers.{IsAnswered};
 ghost use Rattle.snapshot.specs.Rows.{Legal};
@@ -20,14 +20,14 @@ use crate::passes::{StartFault, check_all_against, make_passes, merge_all};
 use capcore::Core;
 use capgrant::Verdict;
 use capspec::FsName;
+use capstep::Event;
 use capstep::stop::Stop;
 use policy_view::{Question, Unknown};
 use snapshot::{MAX_PASSES, Server, Tally};
 use std::alloc::Global;
 use std::marker::Model;
-use std::sync::ledger::Blank;
 use std::sync::{Mutex, MutexGuard, Wait};
-use step_model::Event;
+use std::sync::ledger::Blank;
 
 /// A core that many threads call, each through a pass of its own. To contracts it is the number of its passes.
 pub struct CapServer<G: Gate, L: Server> {

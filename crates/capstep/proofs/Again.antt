@@ -5,10 +5,10 @@ use Rattle.capbits.proofs.Tests.{pass-both}
 use Rattle.capbits.specs.Refusal.{Test}
 use Rattle.capbits.specs.declared.cap.Part.{Part}
 use Rattle.inotree.specs.declared.node.Node.{Node}
-use Rattle.step_model.specs.Judge.{first_denied, rejection_by}
-use Rattle.step_model.specs.Operations.{change_tests}
-use Rattle.step_model.specs.Serving.{As_judged, MayEndAs, Without_memory, outcome_unless, passed_as, rejection_outcome, values_outcome}
-use Rattle.step_model.specs.declared.rejection.Rejection.TheVariants.{ByTest}
+use Rattle.capstep.specs.Judge.{first_denied, rejection_by}
+use Rattle.capstep.specs.Operations.{change_tests}
+use Rattle.capstep.specs.Serving.{As_judged, MayEndAs, Without_memory, outcome_unless, passed_as, rejection_outcome, values_outcome}
+use Rattle.capstep.specs.declared.rejection.Rejection.TheVariants.{ByTest}
 use Rattle.capstep.proofs.Common.{Access, Alter, Change, ClientId, Need, Nodes, Operation, Outcome, Refusal, Rejection, Request, Scene, denial_of}
 use Rattle.capstep.proofs.Common.{first_failing, judged_again, need, operation_after, operation_before, rejection_of, takes_memory, tree_after, tree_with}
 use Rattle.capstep.specs.Served.{call_tests, change_call_tests}

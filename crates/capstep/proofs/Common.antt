@@ -18,15 +18,15 @@ pub use Rattle.captable.specs.declared.entry.Entry.{Entry}
 pub use Rattle.captable.specs.declared.entry.EntryRow.{EntryRow}
 pub use Rattle.captable.specs.declared.entry.Holder.{Holder}
 pub use Rattle.captable.specs.declared.entry.ClientView.{ClientView}
-pub use Rattle.step_model.specs.Judge.{denial_of, rejection_of}
-pub use Rattle.step_model.specs.Needs.{Need, need}
-pub use Rattle.step_model.specs.Numbers.{rows_of}
-pub use Rattle.step_model.specs.Operations.{operation_after, operation_before, operation_needs}
-pub use Rattle.step_model.specs.Serving.{judged_again, takes_memory}
-pub use Rattle.step_model.specs.declared.rejection.Rejection.{Rejection}
-pub use Rattle.step_model.specs.declared.outcome.Outcome.{Outcome}
-pub use Rattle.step_model.specs.declared.row.Row.{Row}
-pub use Rattle.step_model.specs.Changing.{tree_after, tree_with}
+pub use Rattle.capstep.specs.Judge.{denial_of, rejection_of}
+pub use Rattle.capstep.specs.Needs.{Need, need}
+pub use Rattle.capstep.specs.Numbers.{rows_of}
+pub use Rattle.capstep.specs.Operations.{operation_after, operation_before, operation_needs}
+pub use Rattle.capstep.specs.Serving.{judged_again, takes_memory}
+pub use Rattle.capstep.specs.declared.rejection.Rejection.{Rejection}
+pub use Rattle.capstep.specs.declared.outcome.Outcome.{Outcome}
+pub use Rattle.capstep.specs.declared.row.Row.{Row}
+pub use Rattle.capstep.specs.Changing.{tree_after, tree_with}
 pub use Rattle.lockmachine.specs.Policy.{ArePermitted, permitted}
 pub use Rattle.lockmachine.specs.Requests.{is_of_client}
 pub use Rattle.lockmachine.specs.declared.request.Change.{Change}

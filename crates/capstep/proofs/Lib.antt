@@ -1,3 +1,7 @@
+pub mod EndNumbers
+pub mod Noting
+pub mod Taking
+pub mod Twice
 mod Common
 pub mod Again
 pub mod Memory

@@ -9,7 +9,7 @@ use Rattle.std.proofs.lemmas.Option.{same_Some}
 use Rattle.std.specs.List.{count_by, find}
 use Rattle.std.specs.Option.{option_or}
 use Rattle.capbits.specs.declared.ids.PassId.{PassId}
-use Rattle.step_model.specs.Numbers.{AreNumbered}
+use Rattle.capstep.specs.Numbers.{AreNumbered}
 use Rattle.capstep.proofs.Common.{Row, rows_of}
 
 -- ---- the last element that passes a test

@@ -16,8 +16,8 @@ use Rattle.inotree.specs.Tree.{is_within}
 use Rattle.inotree.specs.declared.node.Setting.TheVariants.{Gid, Mode, Size, Time, Uid}
 use Rattle.sessiontab.specs.Table.{SessionTable}
 use Rattle.lockmachine.proofs.PolicyElsewhere.{alike-itself, permitted-stays}
-use Rattle.step_model.specs.Changing.{tree_after, tree_changed}
-use Rattle.step_model.specs.NotedChanges.{sets_attr}
+use Rattle.capstep.specs.Changing.{tree_after, tree_changed}
+use Rattle.capstep.specs.NotedChanges.{sets_attr}
 use Rattle.lockmachine.specs.declared.request.Change.TheVariants.{RemoveXattr, Set, SetXattr}
 use Rattle.capstep.proofs.Common.{ArePermitted, Caps, Change, ClientView, Entry, EntryRow, Holder, InoSet, IsAlike, Nodes, Outcome, Request, Scene, Table}
 use Rattle.capstep.proofs.Common.{among-filter, entry_at, holders-filter, holders_of_rows, is_among, is_row_of, no_sets, permitted, row_of-entry, same}

@@ -1,5 +1,5 @@
 -- What an entry becomes at the end of a step, by the locks of its inode alone.
-pub use Rattle.step_model.specs.Finish.{issuable_under}
+pub use Rattle.capstep.specs.Finish.{issuable_under}
 pub use Rattle.lockmachine.specs.Under.{pending_under}
 use Rattle.std.specs.Prelude.{Bool, List, Option, ℕ}
 use Rattle.std.specs.Prelude.{map as each}

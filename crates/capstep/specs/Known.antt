@@ -8,7 +8,7 @@ use Rattle.captable.specs.Table.{Table, entry_at, is_row_of, same}
 use Rattle.captable.specs.declared.entry.Entry.{Entry}
 use Rattle.captable.specs.declared.entry.EntryRow.{EntryRow}
 use Rattle.captable.specs.declared.entry.Holder.{Holder}
-use Rattle.step_model.specs.Finish.{issuable}
+use Rattle.capstep.specs.Finish.{issuable}
 use Rattle.lockmachine.specs.Policy.{ArePermitted}
 use Rattle.lockmachine.specs.Scene.{Scene, pending_of}
 

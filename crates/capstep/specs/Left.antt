@@ -4,10 +4,10 @@ use Rattle.std.specs.Prelude.{map as each}
 use Rattle.capbits.specs.declared.ids.ClientId.{ClientId}
 use Rattle.captable.specs.Calls.{without_client}
 use Rattle.captable.specs.Table.{Table}
-use Rattle.step_model.specs.declared.outcome.Ended.{Ended}
-use Rattle.step_model.specs.DueEndings.{is_to}
+use Rattle.capstep.specs.declared.outcome.Ended.{Ended}
+use Rattle.capstep.specs.DueEndings.{is_to}
 use Rattle.lockmachine.specs.Locks.{LockMap, requests_of, without_requests_of}
-use Rattle.step_model.specs.Serving.{dropped_of}
+use Rattle.capstep.specs.Serving.{dropped_of}
 
 abbrev pub table_left : Bool → Table → ClientId → Table
 table_left ends table client = if ends then without_client table client else table

@@ -6,8 +6,8 @@ use Rattle.inotree.specs.InoSets.{InoSet}
 use Rattle.inotree.specs.Tree.{Nodes, is_within}
 use Rattle.captable.specs.Table.{Table, entry_at}
 use Rattle.captable.specs.declared.entry.Holder.{Holder}
-use Rattle.step_model.specs.declared.outcome.Outcome.{Outcome}
-use Rattle.step_model.specs.Changing.{tree_after}
+use Rattle.capstep.specs.declared.outcome.Outcome.{Outcome}
+use Rattle.capstep.specs.Changing.{tree_after}
 use Rattle.lockmachine.specs.declared.request.Request.{Request}
 use Rattle.lockmachine.specs.Scene.{Scene}
 use Rattle.capstep.specs.Known.{ClientViews, known_of, permitted_of}

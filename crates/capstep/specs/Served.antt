@@ -1,5 +1,5 @@
 -- The tests that the tree has to pass before the operation of a request is carried out, and which inode that changes.
-use Rattle.std.specs.Prelude.{Bool, List, Option, None, Some, false, true, ℕ, if◌then◌else◌}
+use Rattle.std.specs.Prelude.{Bool, List, None, Option, Some, false, if◌then◌else◌, true, ℕ}
 use Rattle.capbits.specs.Refusal.{Test}
 use Rattle.capbits.specs.declared.ids.Ino.{Ino}
 use Rattle.inotree.specs.Tests.{inode_tests, remove_xattr_tests, rename_tests, rmdir_tests, set_tests, set_xattr_tests, unlink_tests}

@@ -1,11 +1,11 @@
 //! Room in a history.
 ghost use Rattle.std.specs.Prelude.{◌≡◌, ◌+◌, ◌^◌, ◌≤◌, ◌<◌, ◌↔◌, Err, length, IfOk, OnOk, vec_len, vec_capacity};
-ghost use Rattle.step_model.specs.Numbers.{AreNumbered, rows_of};
+ghost use Rattle.capstep.specs.Numbers.{AreNumbered, rows_of};
 ghost use Rattle.capstep.specs.declared.stop.Stop.TheVariants as stop_kind;
 
+use crate::row::Row;
 use crate::stop::Stop;
 use capbits::PassId;
-use step_model::Row;
 
 /// Makes room for one row more, where there may be one, and answers which number it has among those of its pass.
 pub fn make_room(rows: &mut Vec<Row>, max_rows: u32, pass: PassId) -> Result<u64, Stop>

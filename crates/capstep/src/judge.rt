@@ -1,13 +1,14 @@
 //! What rejects a request: its tests and what grants say of the accesses that it needs.
 ghost use Rattle.std.specs.Prelude.{◌≡◌, []};
 ghost use Rattle.capbits.specs.Refusal.{first_failing};
-ghost use Rattle.step_model.specs.Judge.{denial_of, rejection_of};
+ghost use Rattle.capstep.specs.Judge.{denial_of, rejection_of};
 ghost use Rattle.lockmachine.specs.Scene.{plain};
-ghost use Rattle.step_model.specs.Operations.{operation_after, operation_before, operation_needs};
-ghost use Rattle.step_model.specs.Operations as words;
-ghost use Rattle.capstep.specs.Operations.{operation_of};
+ghost use Rattle.capstep.specs.Operations.{operation_after, operation_before, operation_needs};
+ghost use Rattle.capstep.specs.Operations as words;
+ghost use Rattle.capstep.specs.OperationRefs.{operation_of};
 
 use crate::operations::OperationRef;
+use crate::rejection::Rejection;
 use capbits::{Ino, Refusal};
 use capgrant::{Access, Verdict};
 use capspec::FsName;
@@ -15,7 +16,6 @@ use captable::Holder;
 use inotree::{Setting, Tree};
 use lockmachine::{Change, KeptScene, verdict_on};
 use sessiontab::Sessions;
-use step_model::Rejection;
 
 /// What rejects a request, when it comes and again when it is served.
 pub fn operation_rejection(

@@ -5,7 +5,7 @@ ghost use Rattle.capbits.specs.Refusal.{first_failing};
 ghost use Rattle.captable.specs.Calls.{with_entry};
 ghost use Rattle.captable.specs.Table.{entry_at};
 ghost use Rattle.lockmachine.specs.Scene.{plain};
-ghost use Rattle.step_model.specs.Judge.{room_for};
+ghost use Rattle.capstep.specs.Judge.{room_for};
 ghost use Rattle.capstep.specs.Known.{StillKept};
 
 use capbits::CapSet;

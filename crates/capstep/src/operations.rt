@@ -1,6 +1,6 @@
 //! The operation of a request, borrowed from its event or from the queue.
 ghost use Rattle.std.specs.Prelude.{◌≡◌, IfOk};
-ghost use Rattle.capstep.specs.Operations.{operation_of};
+ghost use Rattle.capstep.specs.OperationRefs.{operation_of};
 
 use capbits::{Ino, Part};
 use lockmachine::{Bytes, Change, Operation};

@@ -3,17 +3,18 @@ ghost use Rattle.std.specs.Prelude.{◌≡◌, ◌==◌, ◌&&◌};
 ghost use Rattle.std.specs.FinSet as set;
 ghost use Rattle.inotree.specs.Tree.{Nodes};
 ghost use Rattle.captable.specs.declared.entry.Holder.{Holder};
-ghost use Rattle.step_model.specs.Changing.{tree_changed};
+ghost use Rattle.capstep.specs.Changing.{tree_changed};
 ghost use Rattle.lockmachine.specs.Policy.{ArePermitted, permitted};
 ghost use Rattle.lockmachine.specs.Scene.{plain};
 ghost use Rattle.capstep.specs.Known.{known_of};
 ghost use Rattle.capstep.specs.Renewing.{Renews, ServedFrom, has_entry};
 
+use crate::changes::sets_attr;
+use crate::outcome::Outcome;
 use capbits::{ClientId, Ino};
 use captable::CapTable;
 use inotree::{Names, NonEmptyInoSet};
 use lockmachine::{Change, KeptScene, Operation, Policy, Request, permitted, permitted_on};
-use step_model::{Outcome, sets_attr};
 
 /// After a request was served that ended so, keeps anew what is permitted on all inodes where that may have changed: on its own, or
 /// on the affected ones if it has moved that.

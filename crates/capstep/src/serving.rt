@@ -3,25 +3,28 @@ ghost use Rattle.std.specs.Prelude.{◌≡◌, None, Some, true, false, IfOk, On
 ghost use Rattle.std.specs.FinMap as map;
 ghost use Rattle.capbits.specs.Refusal.{first_failing};
 ghost use Rattle.captable.specs.Table.{Table};
-ghost use Rattle.step_model.specs.Changing.{tree_after, tree_changed, tree_with};
+ghost use Rattle.capstep.specs.Changing.{tree_after, tree_changed, tree_with};
 ghost use Rattle.lockmachine.specs.Locks.{LockMap};
 ghost use Rattle.lockmachine.specs.Scene.{Scene, plain};
 ghost use Rattle.lockmachine.specs.Scene.{scene as scene_of};
-ghost use Rattle.step_model.specs.Serving.{MayEndAs, judged_again, rejection_outcome, takes_memory, values_outcome};
+ghost use Rattle.capstep.specs.Serving.{MayEndAs, judged_again, rejection_outcome, takes_memory, values_outcome};
 ghost use Rattle.lockmachine.specs.declared.request.Operation.TheVariants as operation_kind;
-ghost use Rattle.step_model.specs.Serving as words;
-ghost use Rattle.step_model.specs.Recorded.{twice};
-ghost use Rattle.step_model.specs.Settle.{Served, sized_by};
+ghost use Rattle.capstep.specs.Serving as words;
+ghost use Rattle.capstep.specs.Recorded.{twice};
+ghost use Rattle.capstep.specs.Settle.{Served, sized_by};
 ghost use Rattle.capstep.specs.Served.{call_tests, change_call_tests, changed_alone, is_rename};
 
+use crate::copies::copy_of_rules;
 use crate::judge::operation_rejection;
 use crate::operations::operation_ref;
+use crate::outcome::{Outcome, PartValues};
+use crate::recorded::Recorded;
+use crate::rejection::Rejection;
 use capbits::{Ino, Part};
 use captable::Holder;
 use inotree::{Node, Setting, Tree};
 use lockmachine::{Change, KeptScene, Operation, Request};
 use std::alloc::{AllocError, Global};
-use step_model::{Outcome, PartValues, Recorded, Rejection, copy_of_rules};
 
 /// Serves a request: it ends by what rejects it now, or its operation is carried out. One that was judged on this tree when it
 /// came is not judged again. A request that moves its inode and found no room for what it reaches ends as out of memory, unless

@@ -7,17 +7,17 @@ ghost use Rattle.captable.specs.declared.entry.Entry.{Entry};
 ghost use Rattle.captable.specs.declared.entry.Holder.{Holder};
 ghost use Rattle.lockmachine.specs.Counts.{AreCounted};
 ghost use Rattle.lockmachine.specs.Locks.{requests_of, without_requests_of};
-ghost use Rattle.step_model.specs.Serving.{dropped_of};
+ghost use Rattle.capstep.specs.Serving.{dropped_of};
 ghost use Rattle.capstep.specs.Known.{sets_of};
 ghost use Rattle.capstep.specs.Left as words;
 ghost use Rattle.sessiontab.specs.Changes.{is_end};
 
+use crate::due_endings::remove_to;
+use crate::outcome::{Ended, Outcome};
 use capbits::{CapSet, ClientId};
 use captable::CapTable;
 use lockmachine::{KeptScene, Locks};
 use sessiontab::SessionChange;
-use step_model::due_endings::remove_to;
-use step_model::{Ended, Outcome};
 
 /// Where the session ends, takes out all that is the client's, and lists its requests as dropped.
 pub fn drop_client_state(

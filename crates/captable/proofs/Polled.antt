@@ -9,7 +9,7 @@ use Rattle.std.proofs.lemmas.Bool.{eqb-true}
 use Rattle.capbits.specs.Maps.{change_at}
 use Rattle.capbits.specs.declared.ids.ClientId.{ClientId}
 use Rattle.std.specs.Cmp.{nat_cmp_total}
-use Rattle.dense_map.proofs.Maps.{change-at, insert-at, put_back, remove-at}
+use Rattle.capbits.proofs.Maps.{change-at, insert-at, put_back, remove-at}
 use Rattle.cap_arena.specs.Lists.{Lists}
 use Rattle.captable.specs.declared.entry.Slot.{Slot}
 use Rattle.captable.specs.declared.polls.Poll.{Poll}

@@ -6,13 +6,12 @@ ghost use Rattle.capbits.specs.Maps.{change_at};
 ghost use Rattle.cap_arena.specs.Lists.{OfClient, keys};
 ghost use Rattle.captable.specs.Polls as words;
 ghost use Rattle.captable.specs.Polls.{begun, counts_of, ended, places_of};
-ghost use Rattle.captable.specs.Places.{ArePlaced, NoneDueBeforeAny, NoneDueBefore, is_due_at, lowered, moved_on, place_of};
+ghost use Rattle.captable.specs.Places.{ArePlaced, NoneDueBefore, NoneDueBeforeAny, is_due_at, lowered, moved_on, place_of};
 
-use crate::entry::Slot;
 use crate::places;
+use crate::entry::Slot;
 use cap_arena::TripleLists;
-use capbits::ClientId;
-use dense_map::Numbered;
+use capbits::{ClientId, Numbered};
 use std::alloc::AllocError;
 
 // What is kept of one client.

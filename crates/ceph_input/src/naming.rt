@@ -6,8 +6,8 @@ ghost use Rattle.ceph_input.specs.Dump.{is_below_root, is_of_head, is_primary, r
 ghost use Rattle.ceph_input.specs.Dump.{with_fragments};
 
 use crate::values::{items_at, number_at, text_at};
+use capbits::Numbered;
 use capspec::TreePath;
-use dense_map::Numbered;
 use serde_json::Value;
 use std::alloc::{AllocError, Global};
 

@@ -6,8 +6,8 @@ ghost use Rattle.ceph_input.specs.Dump.{dump, with_inode};
 
 use crate::inode::{TreeInode, read_inode};
 use crate::naming::{add_directory, root_alone};
+use capbits::Numbered;
 use capspec::TreePath;
-use dense_map::Numbered;
 use serde_json::Value;
 use std::alloc::{AllocError, Global};
 

@@ -3,10 +3,10 @@ use Rattle.std.proofs.Common.{◌≡◌, ℕ, ◌+◌, Option, Some, None, List,
 use Rattle.std.specs.Prelude.{◌⊎◌, Result, Err, IfSome}
 use Rattle.std.specs.Io.KnownBytes.{Appends, Consumes, IsAtEnd}
 use Rattle.std.proofs.lemmas.List.{append-nil}
-use Rattle.script_syntax.specs.Lines.{lines}
-use Rattle.script_syntax.specs.declared.fault.ScriptFault.{ScriptFault}
-use Rattle.script_syntax.specs.declared.fault.ScriptFault.TheVariants as stops
-use Rattle.script_syntax.proofs.KnownBytes.{none_appended}
+use Rattle.texts.specs.ScriptLines.{lines}
+use Rattle.texts.specs.declared.fault.ScriptFault.{ScriptFault}
+use Rattle.texts.specs.declared.fault.ScriptFault.TheVariants as stops
+use Rattle.texts.proofs.KnownBytes.{none_appended}
 use Rattle.capscript.specs.declared.serve_fault.ServeFault.{ServeFault}
 use Rattle.capscript.specs.declared.serve_fault.ServeFault.TheVariants.{Clients, HistoryFull, NoThread, Script}
 use Rattle.capscript.specs.Jobs.{IsFaultAt, StopsAt, Work, no_work}

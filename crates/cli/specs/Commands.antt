@@ -6,9 +6,9 @@ use Rattle.capspec.specs.Written.{written}
 use Rattle.capspec.specs.declared.grant.Grant.{Grant}
 use Rattle.queries.specs.Fault.{IsFaultOfText}
 use Rattle.queries.specs.Comparing.{IsComparison}
-use Rattle.script_syntax.specs.declared.fault.ScriptFault.{ScriptFault}
-use Rattle.script_syntax.specs.declared.fault.ScriptFault.TheVariants as stops
-use Rattle.script_syntax.specs.Lines.{lines, longest_script}
+use Rattle.texts.specs.declared.fault.ScriptFault.{ScriptFault}
+use Rattle.texts.specs.declared.fault.ScriptFault.TheVariants as stops
+use Rattle.texts.specs.ScriptLines.{lines, longest_script}
 use Rattle.capscript.specs.Transcript.{IsTranscript, Ran}
 use Rattle.capscript.specs.declared.serve_fault.ServeFault.{ServeFault}
 use Rattle.capscript.specs.declared.serve_fault.ServeFault.TheVariants.{Script as ServeScript}

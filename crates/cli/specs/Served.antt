@@ -2,12 +2,12 @@
 use Rattle.std.specs.Prelude.{◌≡◌, ◌≤◌, ◌⊎◌, ℕ, List, [], ◌++◌, Result, Ok, Err, length, codes}
 use Rattle.std.specs.List.{flat_map}
 use Rattle.inotree.specs.Calls.{first_tree}
-use Rattle.step_model.specs.declared.row.Row.{Row}
-use Rattle.step_model.specs.History.{IsLegal, IsOpening}
-use Rattle.step_model.specs.State.{State}
+use Rattle.capstep.specs.declared.row.Row.{Row}
+use Rattle.capstep.specs.History.{IsLegal, IsOpening}
+use Rattle.capstep.specs.State.{State}
 use Rattle.capexplain.specs.Audit.{audit_text}
 use Rattle.capscript.specs.Transcript.{fs_name, root_attr}
-use Rattle.script_syntax.specs.declared.fault.ScriptFault.TheVariants as stops
+use Rattle.texts.specs.declared.fault.ScriptFault.TheVariants as stops
 use Rattle.capscript.specs.declared.serve_fault.ServeFault.{ServeFault}
 use Rattle.capscript.specs.declared.serve_fault.ServeFault.TheVariants.{Clients, HistoryFull, NoThread, Script}
 use Rattle.capscript.specs.Jobs.{StopsAt, TakesAll, Work, event_count, no_work}

@@ -7,11 +7,11 @@ ghost use Rattle.cli.specs.Served.{IsMissing};
 
 use capscript::{Job, Plan, ServeFault};
 use capserver::{CapServer, Gate, Pass};
+use capstep::Event;
 use snapshot::Server;
 use std::alloc::{AllocError, Global};
 use std::sync::Wait;
 use std::thread::{Promise, PromisedHandle, Scope, Threads, scope, scope_env};
-use step_model::Event;
 
 // The passes when all calls were made, and whether each event was answered.
 pub(crate) struct Called<L: Server> {

@@ -1,10 +1,10 @@
 //! The commands of the program, over streams that the caller passes.
 ghost use Rattle.std.specs.Prelude.{◌≡◌, ◌≤◌, ◌⊎◌, ℕ, List, length, option_map, OnOk, IfOk, IfErr, IfSome, IsFalse};
 ghost use Rattle.std.specs.Io.KnownBytes.{Appends, Keeps};
-ghost use Rattle.script_syntax.specs.declared.fault.ScriptFault.{ScriptFault as AScriptFault};
-ghost use Rattle.script_syntax.specs.Lines.{lines, longest_script};
+ghost use Rattle.texts.specs.declared.fault.ScriptFault.{ScriptFault as AScriptFault};
+ghost use Rattle.texts.specs.ScriptLines.{lines, longest_script};
 ghost use Rattle.capscript.specs.Transcript.{IsTranscript};
-ghost use Rattle.script_syntax.specs.Watched.{has_blocked, has_ended, has_failed, inner_of};
+ghost use Rattle.texts.specs.Watched.{has_blocked, has_ended, has_failed, inner_of};
 ghost use Rattle.capscript.specs.declared.serve_fault.ServeFault.{ServeFault as AServeFault};
 ghost use Rattle.cli.specs.Served.{IsServed};
 ghost use Rattle.cli.specs.declared.stopping.Fault.{Fault as AFault};
@@ -15,16 +15,13 @@ ghost use Rattle.cli.specs.Hints.{hint_of, hint_unread};
 use crate::serving::serve;
 use crate::stopping::Fault;
 use capscript::{ServeFault, run};
-use cli_queries::{
-    DENIED, DONE, FAILED, FOUND, Invocation, USAGE, audit, compare_texts, explain, gather, grants,
-    keyring_file, lint, log, read_words, report, show, who,
-};
-use script_syntax::{ScriptFault, Watched};
+use cli_queries::{DENIED, DONE, FAILED, FOUND, Invocation, USAGE, audit, compare_texts, explain, gather, grants, keyring_file, lint, log, read_words, report, show, who};
 use std::alloc::Global;
 use std::fs::Files;
 use std::io::{Read, Write};
 use std::sync::Wait;
 use std::thread::Threads;
+use texts::{ScriptFault, Watched};
 
 /// Does what the words behind the program's name ask for, and returns the status. Neither stream was read or written to yet. What is
 /// wrong is written to `faults`; where that fails, nothing else can be said, and the status stays.

@@ -3,8 +3,8 @@ ghost use Rattle.std.specs.Prelude.{◌≡◌, ◌++◌, IfOk, OnOk};
 ghost use Rattle.cli.specs.Served.{history_lines, row_line};
 
 use capexplain::append_audit_line;
+use capstep::Row;
 use std::alloc::{AllocError, Global};
-use step_model::Row;
 
 // The line of each row, in order.
 pub(crate) fn history_lines(alloc: Global, rows: &[Row]) -> Result<Vec<u8>, AllocError>

@@ -1,12 +1,12 @@
 //! Serving a script: what its lines call is called by the passes of a server, and the history of that is written.
 ghost use Rattle.std.specs.Prelude.{◌≡◌, ◌≢◌, ◌<◌, ◌≤◌, ◌+◌, ◌⊎◌, ◌↔◌, ℕ, List, Err, length, vec_len, IfOk, IfErr, IfSome, OnErr, IsTrue, IsFalse};
 ghost use Rattle.std.specs.Io.KnownBytes.{Appends, Keeps};
-ghost use Rattle.step_model.specs.History.{IsLegal};
+ghost use Rattle.capstep.specs.History.{IsLegal};
 ghost use Rattle.capstep.specs.declared.stop.Stop.TheVariants as stop_kind;
 ghost use Rattle.capserver.specs.Opened.{opened};
-ghost use Rattle.script_syntax.specs.Lines.{lines, longest_script};
-ghost use Rattle.script_syntax.specs.declared.fault.ScriptFault.TheVariants as stops;
-ghost use Rattle.script_syntax.specs.Watched.{has_ended, has_failed, inner_of};
+ghost use Rattle.texts.specs.ScriptLines.{lines, longest_script};
+ghost use Rattle.texts.specs.declared.fault.ScriptFault.TheVariants as stops;
+ghost use Rattle.texts.specs.Watched.{has_ended, has_failed, inner_of};
 ghost use Rattle.capscript.specs.declared.serve_fault.ServeFault.TheVariants as faults;
 ghost use Rattle.capscript.specs.Jobs.{event_count, work_of};
 ghost use Rattle.cli.specs.Served.{IsCutShort, IsHistory, IsServed, IsUnserved, IsWritten, most_rows};
@@ -17,7 +17,6 @@ use capcore::Core;
 use capscript::{Plan, ServeFault, file_system, read_plan};
 use capserver::{CapServer, Closed, Gate, NoGate, Opening};
 use capstep::stop::Stop;
-use script_syntax::{Watched, read_script, write_text};
 use snapshot::Server;
 use std::alloc::Global;
 use std::io::{Read, Write};
@@ -25,6 +24,7 @@ use std::marker::Brand;
 use std::sync::Wait;
 use std::sync::ledger::Blank;
 use std::thread::Threads;
+use texts::{Watched, read_script, write_text};
 
 // How many rows the history of a script takes at most.
 const MAX_ROWS: u32 = u32::MAX;

@@ -2,7 +2,7 @@
 
 use capscript::ServeFault;
 use cli_queries::AnswerFault;
-use script_syntax::ScriptFault;
+use texts::ScriptFault;
 
 /// Why a command stopped before its end.
 #[derive(Clone, Copy)]

@@ -3,7 +3,7 @@ use Rattle.std.proofs.Common.{◌≡◌, ℕ, ◌≤◌, Bool, List, length, Opt
 use Rattle.std.specs.Io.KnownBytes.{Appends, Consumes, IsAtEnd}
 use Rattle.std.specs.Prelude.{Err, IsFalse, Ok, OnOk, Result}
 use Rattle.capspec.specs.Names.{IsFsName}
-use Rattle.script_syntax.specs.Lines.{longest_script}
+use Rattle.texts.specs.ScriptLines.{longest_script}
 use Rattle.queries.specs.Reported.{IsReportOf}
 use Rattle.cli_queries.specs.Logging.{AnswersLog}
 use Rattle.cli_queries.proofs.WhoAnswered.{all_of}

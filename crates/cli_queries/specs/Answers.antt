@@ -5,8 +5,8 @@ use Rattle.std.specs.Io.KnownBytes.{Appends, Keeps}
 use Rattle.queries.specs.declared.fault.QuestionFault.{QuestionFault}
 use Rattle.queries.specs.declared.question.Question.{Question}
 use Rattle.queries.specs.Question.{AsksFor, IsFaultIn}
-use Rattle.capexplain.specs.declared.shape.Shape.{Shape}
-use Rattle.capexplain.specs.Shapes.{nothing_in}
+use Rattle.texts.specs.declared.shape.Shape.{Shape}
+use Rattle.texts.specs.Shapes.{nothing_in}
 use Rattle.queries.specs.Linting.{IsLintOf}
 use Rattle.cli_queries.specs.declared.fault.AnswerFault.{AnswerFault}
 use Rattle.cli_queries.specs.declared.fault.AnswerFault.TheVariants.{WriteFailed}

@@ -7,8 +7,8 @@ use Rattle.queries.specs.declared.question.Question.{Question}
 use Rattle.queries.specs.declared.question.Values.{Values}
 use Rattle.queries.specs.Question.{answer_text, verdict_on}
 use Rattle.queries.specs.Remarks.{full_object, full_text}
-use Rattle.script_syntax.specs.declared.fault.ScriptFault.TheVariants as stops
-use Rattle.script_syntax.specs.Lines.{longest_script}
+use Rattle.texts.specs.declared.fault.ScriptFault.TheVariants as stops
+use Rattle.texts.specs.ScriptLines.{longest_script}
 use Rattle.ceph_input.specs.declared.keyring_fault.KeyringFault.{KeyringFault}
 use Rattle.ceph_input.specs.declared.keyring_fault.KeyringFault.TheVariants.{NoMemory}
 use Rattle.ceph_input.specs.Keyring.{caps_in}

@@ -1,6 +1,6 @@
 -- Why the tree of a cluster is not read.
 use Rattle.std.specs.Prelude.{◌≡◌, ◌⊎◌, ◌<◌, ℕ, Bool, List, length, Option, IfSome, IsTrue}
-use Rattle.script_syntax.specs.declared.fault.ScriptFault.TheVariants as stops
+use Rattle.texts.specs.declared.fault.ScriptFault.TheVariants as stops
 use Rattle.ceph_input.specs.declared.tree_fault.TreeFault.{TreeFault}
 use Rattle.ceph_input.specs.Dump.{IsTreeFault, tree_of}
 use Rattle.cli_queries.specs.declared.fault.AnswerFault.{AnswerFault}

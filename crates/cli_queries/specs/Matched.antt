@@ -7,8 +7,8 @@ use Rattle.clap.specs.declared.parser.matches.ArgMatches.{ArgMatches}
 use Rattle.cluster_audit.specs.declared.notes.Detail.{Detail}
 use Rattle.cluster_audit.specs.declared.notes.Detail.TheVariants as details
 use Rattle.cluster_audit.specs.declared.notes.Manner.{Manner}
-use Rattle.capexplain.specs.declared.shape.Shape.{Shape}
-use Rattle.capexplain.specs.declared.shape.Shape.TheVariants as shapes
+use Rattle.texts.specs.declared.shape.Shape.{Shape}
+use Rattle.texts.specs.declared.shape.Shape.TheVariants as shapes
 use Rattle.queries.specs.declared.options.Opt.{Opt}
 use Rattle.queries.specs.declared.options.Opt.TheVariants as options
 use Rattle.queries.specs.declared.question.Values.{Values}

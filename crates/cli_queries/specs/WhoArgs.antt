@@ -1,7 +1,7 @@
 -- What `who` writes, and why it stops before that.
 use Rattle.std.specs.Prelude.{◌≡◌, ◌⊎◌, ◌≤◌, ℕ, Bool, List, length, Option, IfSome, IsTrue}
 use Rattle.std.specs.Io.KnownBytes.{Appends, Keeps}
-use Rattle.script_syntax.specs.Lines.{longest_script}
+use Rattle.texts.specs.ScriptLines.{longest_script}
 use Rattle.ceph_input.specs.declared.auth_fault.AuthFault.{AuthFault}
 use Rattle.ceph_input.specs.Auth.{IsFaultOf, auth_of}
 use Rattle.queries.specs.declared.attempt.Attempt.{Attempt}

@@ -6,13 +6,13 @@ use crate::command_line::Invocation;
 use crate::explain_args::Form;
 use crate::fault::AnswerFault;
 use crate::status::{FAILED, report};
-use capexplain::print_quoted;
 use capspec::SpecFaultKind;
 use ceph_input::{AuthFault, ClusterFault, KeyringFault, TreeFault};
 use cluster_audit::HeldFault;
 use queries::{AttemptValues, CompareFault, Opt, QuestionFault, Values};
 use std::alloc::{AllocError, Global};
 use std::io::Write;
+use texts::print_quoted;
 
 /// Writes the fault as a line, its place in a text of grants, and what helps against it, and returns its status.
 pub fn refuse(

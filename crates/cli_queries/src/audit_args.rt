@@ -1,6 +1,6 @@
 //! The command that tells what clients of a running cluster hold and may not.
 ghost use Rattle.std.specs.Prelude.{◌≡◌, ◌⊎◌, OnOk, IfOk, IfErr, IsFalse, if◌then◌else◌};
-ghost use Rattle.script_syntax.specs.Watched.{has_ended, has_failed, inner_of};
+ghost use Rattle.texts.specs.Watched.{has_ended, has_failed, inner_of};
 ghost use Rattle.cli_queries.specs.AuditArgs.{AnswersAuditArgs, StopsAuditArgs};
 
 use crate::commands::write_text;
@@ -10,9 +10,9 @@ use crate::status::{DONE, FOUND};
 use capspec::FsName;
 use cluster_audit::{ClusterClients, Manner, audit_report};
 use queries::{Opt, QuestionFault};
-use script_syntax::Watched;
 use std::alloc::Global;
 use std::io::{Read, Write};
+use texts::Watched;
 
 /// What `audit` is asked.
 pub struct AuditArgs {

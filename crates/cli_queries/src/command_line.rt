@@ -5,10 +5,10 @@ use crate::explain_args::ExplainArgs;
 use crate::from_clap::invoked;
 use crate::usage::{COMMANDS, Kind, Usage, Word};
 use crate::who_args::WhoArgs;
-use capexplain::Shape;
 use clap::{Arg, ArgAction, Command, Error};
 use queries::spell;
 use std::alloc::{AllocError, Global};
+use texts::Shape;
 
 const CAPD: &str = "capd";
 

@@ -8,7 +8,7 @@ ghost use Rattle.queries.specs.declared.question.Question.{Question as Asked};
 ghost use Rattle.queries.specs.Fault.{IsFaultOfText};
 ghost use Rattle.queries.specs.Comparing.{IsComparison};
 ghost use Rattle.queries.specs.Question.{AsksFor, IsFaultIn};
-ghost use Rattle.script_syntax.specs.Watched.{has_ended, has_failed, inner_of};
+ghost use Rattle.texts.specs.Watched.{has_ended, has_failed, inner_of};
 ghost use Rattle.cli_queries.specs.declared.fault.AnswerFault.TheVariants as faults;
 ghost use Rattle.cli_queries.specs.Answers.{AnswersExplainArgs, AnswersLint, StopsBefore, StopsComparing, StopsExplainArgs};
 ghost use Rattle.cli_queries.specs.ExplainArgs.{IsAnswered};
@@ -16,12 +16,11 @@ ghost use Rattle.cli_queries.specs.ExplainArgs.{IsAnswered};
 use crate::explain_args::{ExplainArgs, Form, fill};
 use crate::fault::AnswerFault;
 use crate::status::{DENIED, DONE, FOUND};
-use capexplain::Shape;
 use capspec::{read_grants, write_grants};
 use queries::{Question, Values, compare, lint_text};
-use script_syntax::Watched;
 use std::alloc::Global;
 use std::io::{Read, Write};
+use texts::{Shape, Watched};
 
 /// Answers a question by the text of its grants from where it is, and answers the status. The text is kept in `explain_args`.
 pub fn explain<R: Read, W: Write>(

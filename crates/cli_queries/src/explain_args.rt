@@ -1,15 +1,15 @@
 //! What `explain` is asked, where the text of its grants is, and how it answers.
 ghost use Rattle.std.specs.Prelude.{◌≡◌, ◌⊎◌, ℕ, List, length, OnOk, IfErr, IfSome, IsTrue, IsFalse, MatchResult};
-ghost use Rattle.script_syntax.specs.Lines.{longest_script};
-ghost use Rattle.script_syntax.specs.Watched.{has_ended, has_failed, inner_of};
+ghost use Rattle.texts.specs.ScriptLines.{longest_script};
+ghost use Rattle.texts.specs.Watched.{has_ended, has_failed, inner_of};
 ghost use Rattle.cli_queries.specs.ExplainArgs.{IsGrantsText, IsListed, IsUnlisted, IsUnread, IsWithoutLineFeed};
 
 use crate::fault::AnswerFault;
 use ceph_input::{mds_caps, read_auth};
 use queries::Values;
-use script_syntax::{Watched, read_script};
 use std::alloc::Global;
 use std::io::Read;
+use texts::{Watched, read_script};
 
 /// Where the text of the grants is.
 pub enum Source {

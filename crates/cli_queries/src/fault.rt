@@ -4,10 +4,10 @@ use capspec::SpecFault;
 use ceph_input::{AuthFault, KeyringFault, TreeFault};
 use cluster_audit::HeldFault;
 use queries::{CompareFault, QuestionFault};
-use script_syntax::ScriptFault;
-use std::alloc::{AllocError, AllocFailed};
 use std::fmt;
+use std::alloc::{AllocError, AllocFailed};
 use std::fmt::Display;
+use texts::ScriptFault;
 
 /// Why a command gave no answer.
 #[derive(Clone, Copy)]

@@ -3,18 +3,15 @@ ghost use Rattle.std.specs.Prelude.{IfOk};
 ghost use Rattle.cli_queries.specs.Matched.{IsAskedBy};
 
 use crate::audit_args::{AuditArgs, ClusterFiles};
-use crate::command_line::{
-    AUDIT, AUTH, CLIENT, COMPARE, EXPLAIN, GRANTS, INPUT, Invocation, JSON, KEYRING, LINT, LOG,
-    MORE, NEW, OLD, QUIET, RULE, RUN, SERVE, SESSIONS, TEXT, TREE, WHO,
-};
+use crate::command_line::{AUDIT, AUTH, CLIENT, COMPARE, EXPLAIN, GRANTS, INPUT, Invocation, JSON, KEYRING, LINT, LOG, MORE, NEW, OLD, QUIET, RULE, RUN, SERVE, SESSIONS, TEXT, TREE, WHO};
 use crate::explain_args::{ExplainArgs, Form, Source};
 use crate::who_args::WhoArgs;
-use capexplain::Shape;
 use clap::ArgMatches;
 use clap::error::ErrorKind;
 use cluster_audit::{Detail, Manner};
 use queries::{AttemptValues, AttrValues, Opt, Telling, Values, spelled};
 use std::alloc::Global;
+use texts::Shape;
 
 /// What the words ask for. The error says what is wrong with them; the parser of the command line lets no such words through.
 pub fn invoked(alloc: Global, matches: &ArgMatches<'_>) -> Result<Invocation, ErrorKind>
@@ -40,8 +37,8 @@ struct Matched<'m, 'a> {
 }
 
 impl Matched<'_, '_> {
-    ghost use Rattle.cli_queries.specs.Matched.{AreValues, AsksFor, IsAttr, IsAuditArgs, IsExplainArgs, IsFlag, IsForm, IsGiven, IsManner, IsOption, IsShape, IsSource};
-    ghost use Rattle.cli_queries.specs.Matched.{IsTelling, IsValue, IsWhoArgs, words_of};
+    ghost use Rattle.cli_queries.specs.Matched.{AreValues, AsksFor, IsAttr, IsAuditArgs, IsExplainArgs, IsFlag, IsForm, IsGiven, IsManner, IsOption, IsShape};
+    ghost use Rattle.cli_queries.specs.Matched.{IsSource, IsTelling, IsValue, IsWhoArgs, words_of};
 
     // What a command asks for that takes a few texts, or a script.
     fn on_texts(&self, name: &str) -> Result<Invocation, ErrorKind>

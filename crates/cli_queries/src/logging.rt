@@ -1,6 +1,6 @@
 //! The command that tells of the checks of policy in a log of an MDS.
 ghost use Rattle.std.specs.Prelude.{◌≡◌, OnOk, IfOk, IfErr, IsFalse};
-ghost use Rattle.script_syntax.specs.Watched.{has_ended, has_failed, inner_of};
+ghost use Rattle.texts.specs.Watched.{has_ended, has_failed, inner_of};
 ghost use Rattle.cli_queries.specs.Logging.{AnswersLog, StopsLog};
 
 use crate::commands::write_text;
@@ -8,9 +8,9 @@ use crate::fault::AnswerFault;
 use crate::status::DONE;
 use capspec::FsName;
 use queries::{Opt, QuestionFault, log_lines};
-use script_syntax::{Watched, read_script};
 use std::alloc::Global;
 use std::io::{Read, Write};
+use texts::{Watched, read_script};
 
 /// Writes lines for each check of policy in the log that the reader has, judged on the file system of this name.
 pub fn log<R: Read, W: Write>(

@@ -3,9 +3,9 @@
 use crate::command_line::Invocation;
 use crate::fault::AnswerFault;
 use crate::keyring::open_file;
-use script_syntax::{Watched, read_script};
 use std::alloc::Global;
 use std::fs::Files;
+use texts::{Watched, read_script};
 
 /// Reads the auth list and the sessions that `audit` names into what is asked. Of another command nothing is read.
 pub fn gather<E: Files>(

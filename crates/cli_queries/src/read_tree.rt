@@ -1,14 +1,14 @@
 //! The tree of a cluster, read from a stream.
 ghost use Rattle.std.specs.Prelude.{OnOk, IfOk, IfErr, IfSome, IsFalse, Ok, ◌≡◌};
 ghost use Rattle.ceph_input.specs.Dump.{dump, tree_of};
-ghost use Rattle.script_syntax.specs.Watched.{has_failed, inner_of};
+ghost use Rattle.texts.specs.Watched.{has_failed, inner_of};
 ghost use Rattle.cli_queries.specs.Growing.{StopsTree};
 
 use crate::fault::AnswerFault;
 use ceph_input::{Tree, TreeReader};
-use script_syntax::{ScriptFault, Watched};
 use std::alloc::Global;
 use std::io::Read;
+use texts::{ScriptFault, Watched};
 
 /// How many bytes a tree may have.
 const MAX_TREE: u64 = 1099511627776;

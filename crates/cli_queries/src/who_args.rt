@@ -1,15 +1,15 @@
 //! The command that tells which clients of a cluster may make an access.
 ghost use Rattle.std.specs.Prelude.{◌≡◌, OnOk, IfOk, IfErr, IsFalse};
-ghost use Rattle.script_syntax.specs.Watched.{has_ended, has_failed, inner_of};
+ghost use Rattle.texts.specs.Watched.{has_ended, has_failed, inner_of};
 ghost use Rattle.cli_queries.specs.WhoArgs.{AnswersWhoArgs, StopsWhoArgs};
 
 use crate::commands::write_text;
 use crate::fault::AnswerFault;
 use crate::status::DONE;
 use queries::{Attempt, AttemptValues, Telling, who_lines};
-use script_syntax::{Watched, read_script};
 use std::alloc::Global;
 use std::io::{Read, Write};
+use texts::{Watched, read_script};
 
 /// What `who` is asked.
 pub struct WhoArgs {

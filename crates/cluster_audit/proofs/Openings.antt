@@ -11,10 +11,10 @@ use Rattle.capspec.specs.declared.fault.SpecFaultKind.TheVariants as kinds
 use Rattle.capgrant.specs.declared.access.Access.{Access}
 use Rattle.capgrant.specs.declared.rule.Rule.{Rule}
 use Rattle.capgrant.specs.Rule.{rule_number, rule_word}
-use Rattle.capexplain.specs.Explaining.{failure_text, path_text}
-use Rattle.capexplain.specs.Quoting.{escaped, is_plain, quoted}
-use Rattle.capexplain.specs.Standing.{fault_word}
-use Rattle.capexplain.proofs.Quoted.{first_byte}
+use Rattle.texts.specs.Explaining.{failure_text, path_text}
+use Rattle.texts.specs.Quoting.{escaped, is_plain, quoted}
+use Rattle.texts.specs.Standing.{fault_word}
+use Rattle.texts.proofs.Quoted.{first_byte}
 use Rattle.cluster_audit.specs.declared.notes.Detail.TheVariants.{Each, Groups}
 use Rattle.cluster_audit.specs.Lines.{holder_text, on_inode, place_text, why_text}
 use Rattle.cluster_audit.proofs.Words.{digit_first, is_digit}

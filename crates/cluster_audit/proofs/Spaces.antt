@@ -7,8 +7,8 @@ use Rattle.std.specs.List.{flat_map, list_all}
 use Rattle.std.proofs.lemmas.Bool.{and_from, and_parts, lt-ltb, ltb-false, ltb-true, ne_eqb, not_from_false, or_parts}
 use Rattle.capbits.specs.Caps.{Caps}
 use Rattle.capbits.specs.Text.{text_of}
-use Rattle.capexplain.specs.PartTexts.{byte_text}
-use Rattle.capexplain.specs.Quoting.{escaped, is_control, is_mark, is_plain, quoted}
+use Rattle.texts.specs.PartTexts.{byte_text}
+use Rattle.texts.specs.Quoting.{escaped, is_control, is_mark, is_plain, quoted}
 use Rattle.cluster_audit.proofs.Words.{are_digits, are_letters, differs, is_digit, is_letter}
 
 -- outside of quotes, inside, and inside behind a backslash

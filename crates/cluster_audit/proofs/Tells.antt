@@ -12,11 +12,11 @@ use Rattle.capbits.specs.Text.{text_of}
 use Rattle.capspec.specs.declared.fault.SpecFault.{SpecFault}
 use Rattle.cluster_audit.specs.declared.findings.Finding.{Finding}
 use Rattle.cluster_audit.specs.declared.conflict.Conflict.{Conflict}
-use Rattle.capexplain.specs.Explaining.{path_text}
-use Rattle.capexplain.specs.Quoting.{quoted}
-use Rattle.capexplain.specs.Standing.{fault_word, unread_line}
-use Rattle.capexplain.proofs.Clients.{one_fault}
-use Rattle.capexplain.proofs.Quoted.{bare, before_a_line_feed, before_a_space, before_word, clash, first_byte}
+use Rattle.texts.specs.Explaining.{path_text}
+use Rattle.texts.specs.Quoting.{quoted}
+use Rattle.texts.specs.Standing.{fault_word, unread_line}
+use Rattle.texts.proofs.Clients.{one_fault}
+use Rattle.texts.proofs.Quoted.{bare, before_a_line_feed, before_a_space, before_word, clash, first_byte}
 use Rattle.cluster_audit.specs.declared.notes.Detail.TheVariants.{Each, Groups}
 use Rattle.cluster_audit.specs.declared.summary.Counts.{Counts}
 use Rattle.cluster_audit.specs.Lines.{holder_text, on_inode, place_text, revoked_text, who_text, why_text}

@@ -19,15 +19,15 @@ use Rattle.capgrant.specs.declared.access.Access.{Access}
 use Rattle.capgrant.specs.declared.rule.Rule.{Rule}
 use Rattle.cluster_audit.specs.declared.findings.Finding.{Finding}
 use Rattle.cluster_audit.specs.declared.conflict.Conflict.{Conflict}
-use Rattle.capexplain.specs.Explaining.{path_text}
-use Rattle.capexplain.specs.Lines.{HasNumber}
-use Rattle.capexplain.specs.Quoting.{quoted}
-use Rattle.capexplain.specs.Standing.{fault_word, unread_line}
-use Rattle.capexplain.proofs.Clients.{one_fault}
-use Rattle.capexplain.proofs.Quoted.{clash}
-use Rattle.capexplain.specs.Values.{bytes_value, or_null}
-use Rattle.capexplain.proofs.Distinct.{number_in, one_access, one_row, some_in, text_in, value_at}
-use Rattle.capexplain.proofs.Spelling.{one_spelling}
+use Rattle.texts.specs.Explaining.{path_text}
+use Rattle.texts.specs.Lines.{HasNumber}
+use Rattle.texts.specs.Quoting.{quoted}
+use Rattle.texts.specs.Standing.{fault_word, unread_line}
+use Rattle.texts.proofs.Clients.{one_fault}
+use Rattle.texts.proofs.Quoted.{clash}
+use Rattle.texts.specs.Values.{bytes_value, or_null}
+use Rattle.texts.proofs.Distinct.{number_in, one_access, one_row, some_in, text_in, value_at}
+use Rattle.texts.proofs.Spelling.{one_spelling}
 use Rattle.cluster_audit.specs.declared.notes.Detail.TheVariants.{Groups}
 use Rattle.cluster_audit.specs.declared.summary.Counts.{Counts}
 use Rattle.cluster_audit.specs.Instead.{HasBytes, TellMore, value_of}

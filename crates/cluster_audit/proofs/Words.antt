@@ -19,9 +19,9 @@ use Rattle.capbits.proofs.Emptiness.{is_empty-no_caps}
 use Rattle.capbits.proofs.Following.{text_of-injective}
 use Rattle.capgrant.specs.declared.access.Access.{Access}
 use Rattle.capgrant.specs.declared.rule.Rule.{Rule}
-use Rattle.capexplain.specs.Explaining.{failure_text, failures_text}
-use Rattle.capexplain.proofs.Answered.{one_failure}
-use Rattle.capexplain.proofs.Quoted.{clash, first_byte}
+use Rattle.texts.specs.Explaining.{failure_text, failures_text}
+use Rattle.texts.proofs.Answered.{one_failure}
+use Rattle.texts.proofs.Quoted.{clash, first_byte}
 use Rattle.cluster_audit.specs.Lines.{revoked_text, why_text}
 use Rattle.cluster_audit.specs.Reported.{reasons}
 

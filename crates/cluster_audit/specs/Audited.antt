@@ -20,8 +20,8 @@ use Rattle.cluster_audit.specs.declared.conflict.Holding.{Holding}
 use Rattle.cluster_audit.specs.Conflicts.{conflicts_of}
 use Rattle.cluster_audit.specs.Callers.{Inode, IsPermittedToSome, inode}
 use Rattle.cluster_audit.specs.Findings.{IsBeyond}
-use Rattle.capexplain.specs.declared.shape.Shape.{Shape}
-use Rattle.capexplain.specs.Shapes.{nothing_in}
+use Rattle.texts.specs.declared.shape.Shape.{Shape}
+use Rattle.texts.specs.Shapes.{nothing_in}
 use Rattle.cluster_audit.specs.declared.fault.HeldFault.{HeldFault}
 use Rattle.cluster_audit.specs.declared.fault.HeldFault.TheVariants.{Auth, Sessions}
 use Rattle.cluster_audit.specs.declared.notes.Detail.{Detail}

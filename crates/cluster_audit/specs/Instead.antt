@@ -2,11 +2,12 @@
 use Rattle.std.specs.Prelude.{◌≡◌, Option, Some, None, IfSome}
 use Rattle.hex.specs.Hex.{IsBytes}
 use Rattle.serde_json.specs.Data.{Data}
-use Rattle.capexplain.specs.Explaining.{path_text}
-use Rattle.capexplain.specs.Lines.{HasNumber}
+use Rattle.texts.specs.Explaining.{path_text}
+use Rattle.texts.specs.Lines.{HasNumber}
 use Rattle.cluster_audit.specs.Objects.{alike_value, bad_caps_value, conflict_group_value, conflict_value, counts_value, found_value, group_value}
 use Rattle.cluster_audit.specs.Objects.{pathless_value, unlisted_value, unnamed_value, unread_value}
-use Rattle.cluster_audit.specs.Reported.{Line, TellTheSame, bad_caps, conflict, conflict_group, group, held, nothing, pathless, summary, unlisted, unnamed, unread}
+use Rattle.cluster_audit.specs.Reported.{Line, TellTheSame, bad_caps, conflict, conflict_group, group, held, nothing, pathless, summary, unlisted, unnamed}
+use Rattle.cluster_audit.specs.Reported.{unread}
 
 -- the value of the object, which stands in the place of each line but the one that says that nothing is found
 abbrev pub value_of : Line → Option Data

@@ -11,10 +11,10 @@ use Rattle.capgrant.specs.declared.rule.Rule.{Rule}
 use Rattle.capgrant.specs.Access.{access_word}
 use Rattle.cluster_audit.specs.declared.findings.Finding.{Finding}
 use Rattle.cluster_audit.specs.declared.conflict.Conflict.{Conflict}
-use Rattle.capexplain.specs.Explaining.{path_text}
-use Rattle.capexplain.specs.Standing.{fault_word}
-use Rattle.capexplain.specs.Answers.{rules_value}
-use Rattle.capexplain.specs.Values.{Table, bytes_value, json_line, natural, object_of, or_null}
+use Rattle.texts.specs.Explaining.{path_text}
+use Rattle.texts.specs.Standing.{fault_word}
+use Rattle.texts.specs.Answers.{rules_value}
+use Rattle.texts.specs.Values.{Table, bytes_value, json_line, natural, object_of, or_null}
 use Rattle.cluster_audit.specs.declared.notes.Detail.{Detail}
 use Rattle.cluster_audit.specs.declared.notes.Detail.TheVariants.{Each, Groups}
 use Rattle.cluster_audit.specs.declared.summary.Counts.{Counts}

@@ -6,8 +6,8 @@ use Rattle.std.specs.List.{dedup, flat_map}
 use Rattle.std.specs.List.Sorted.{IsPermutation, IsSorted}
 use Rattle.std.specs.Ordering.{nat_cmp}
 use Rattle.std.specs.Str.{bytes_eq}
-use Rattle.script_syntax.specs.Lines.{lines}
-use Rattle.capexplain.specs.declared.shape.Shape.{Shape}
+use Rattle.texts.specs.ScriptLines.{lines}
+use Rattle.texts.specs.declared.shape.Shape.{Shape}
 use Rattle.cluster_audit.specs.Shaped.{counted_in}
 
 -- the second text has the lines of the first in the order of their bytes, each once; what stands behind the last line feed stays there

@@ -8,10 +8,10 @@ use Rattle.capgrant.specs.declared.access.Access.{Access}
 use Rattle.capgrant.specs.declared.rule.Rule.{Rule}
 use Rattle.cluster_audit.specs.declared.findings.Finding.{Finding}
 use Rattle.cluster_audit.specs.declared.conflict.Conflict.{Conflict}
-use Rattle.capexplain.specs.Explaining.{path_text}
-use Rattle.capexplain.specs.Standing.{unread_line}
-use Rattle.capexplain.specs.declared.shape.Shape.TheVariants.{Lines}
-use Rattle.capexplain.specs.Shapes.{nothing_in}
+use Rattle.texts.specs.Explaining.{path_text}
+use Rattle.texts.specs.Standing.{unread_line}
+use Rattle.texts.specs.declared.shape.Shape.TheVariants.{Lines}
+use Rattle.texts.specs.Shapes.{nothing_in}
 use Rattle.cluster_audit.specs.declared.notes.Detail.TheVariants.{Each, Groups}
 use Rattle.cluster_audit.specs.declared.summary.Counts.{Counts}
 use Rattle.cluster_audit.specs.Lines.{bad_caps_line, conflict_line, conflict_text, counts_line, group_text, held_line, pathless_line, unlisted_line}

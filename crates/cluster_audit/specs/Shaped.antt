@@ -5,10 +5,10 @@ use Rattle.capbits.specs.Caps.{Caps}
 use Rattle.capspec.specs.declared.fault.SpecFault.{SpecFault}
 use Rattle.cluster_audit.specs.declared.findings.Finding.{Finding}
 use Rattle.cluster_audit.specs.declared.conflict.Conflict.{Conflict}
-use Rattle.capexplain.specs.Standing.{unread_line}
-use Rattle.capexplain.specs.declared.shape.Shape.{Shape}
-use Rattle.capexplain.specs.declared.shape.Shape.TheVariants.{Lines, Objects}
-use Rattle.capexplain.specs.Values.{json_line}
+use Rattle.texts.specs.Standing.{unread_line}
+use Rattle.texts.specs.declared.shape.Shape.{Shape}
+use Rattle.texts.specs.declared.shape.Shape.TheVariants.{Lines, Objects}
+use Rattle.texts.specs.Values.{json_line}
 use Rattle.cluster_audit.specs.declared.notes.Detail.{Detail}
 use Rattle.cluster_audit.specs.declared.notes.Detail.TheVariants.{Each, Groups}
 use Rattle.cluster_audit.specs.declared.notes.Manner.{Manner}

@@ -1,6 +1,6 @@
 -- How much an audit looked at, and what came of it.
 use Rattle.std.specs.Prelude.{List, count_by, length, sum_by, ℕ}
-use Rattle.script_syntax.specs.Lines.{is_line_feed}
+use Rattle.texts.specs.ScriptLines.{is_line_feed}
 use Rattle.ceph_input.specs.Sessions.{Connected}
 use Rattle.ceph_input.specs.Dump.{Listed}
 use Rattle.cluster_audit.specs.declared.summary.Counts.{Counts}

@@ -10,12 +10,11 @@ use crate::notes::{Detail, Manner, Notes, Report};
 use crate::order::{counted, in_order};
 use crate::pairs::conflict_lines;
 use crate::summary::summary_line;
-use capbits::print_str;
-use capexplain::Shape;
+use capbits::{Numbered, print_str};
 use capspec::{FsName, TreePath};
 use ceph_input::{Holder, Tree, TreeInode};
-use dense_map::Numbered;
 use std::alloc::{AllocError, Global};
+use texts::Shape;
 
 /// What the clients of a cluster hold of the inodes of this file system, by the tree that a metadata server has in memory, and nobody
 /// behind their keys is permitted, and what two of them hold that no two may hold together; behind that what could not be judged; each

@@ -11,14 +11,12 @@ use crate::inode::Inode;
 use crate::lines::{print_group, print_held};
 use crate::notes::{Detail, Manner, Notes};
 use crate::objects::print_found;
-use crate::unjudged::{
-    print_bad_caps, print_bad_grants, print_pathless, print_unlisted, print_unnamed,
-};
+use crate::unjudged::{print_bad_caps, print_bad_grants, print_pathless, print_unlisted, print_unnamed};
 use capbits::read_caps;
-use capexplain::Shape;
 use capspec::{Grants, SpecFaultKind, read_grants};
 use ceph_input::Holder;
 use std::alloc::AllocError;
+use texts::Shape;
 
 // Appends what is said of a client that holds something of the inode.
 pub(crate) fn note_holder(

@@ -3,7 +3,7 @@
 ghost use Rattle.std.specs.Prelude.{◌≡◌, ℕ};
 ghost use Rattle.serde_json.specs.Data.{Data};
 ghost use Rattle.serde_json.specs.Written.{compact_text};
-ghost use Rattle.capexplain.specs.Values.{json_line};
+ghost use Rattle.texts.specs.Values.{json_line};
 ghost use Rattle.cluster_audit.specs.Instead.{OneObject};
 ghost use Rattle.cluster_audit.specs.Objects.{group_object, group_value};
 ghost use Rattle.cluster_audit.specs.Reported.{OneLine, OneText};

@@ -1,14 +1,14 @@
 //! The lines of an audit.
 ghost use Rattle.std.specs.Prelude.{◌≡◌, ◌++◌, OnOk, map};
-ghost use Rattle.capexplain.specs.Explaining.{path_text};
-ghost use Rattle.capexplain.specs.Quoting.{quoted};
+ghost use Rattle.texts.specs.Explaining.{path_text};
+ghost use Rattle.texts.specs.Quoting.{quoted};
 ghost use Rattle.cluster_audit.specs.Lines.{bad_caps_line, beyond_text, group_line, held_line, pathless_line, place_text, revoked_text, who_text, why_text};
 
 use crate::findings::Finding;
 use crate::held::Held;
 use capbits::{CapSet, print_caps, print_numbered, print_str};
-use capexplain::{print_failures, print_path, print_quoted};
 use std::alloc::AllocError;
+use texts::{print_failures, print_path, print_quoted};
 
 // Appends the line for a client that holds of an inode what nobody behind its key is permitted.
 pub(crate) fn print_held(

@@ -1,7 +1,7 @@
 //! What an audit finds, as lines.
 
-use capexplain::Shape;
 use std::alloc::Global;
+use texts::Shape;
 
 // Lines of an audit in the order in which they come, each with its line feed.
 pub(crate) struct Notes {

@@ -1,17 +1,17 @@
 //! What an audit finds, as objects of JSON.
 ghost use Rattle.std.specs.Prelude.{◌≡◌, ◌++◌, OnOk, map, option_map};
 ghost use Rattle.capbits.specs.Sets.{minus};
-ghost use Rattle.capexplain.specs.Pieces.{piece_value};
-ghost use Rattle.capexplain.specs.Values.{bytes_value, or_null};
+ghost use Rattle.texts.specs.Pieces.{piece_value};
+ghost use Rattle.texts.specs.Values.{bytes_value, or_null};
 ghost use Rattle.cluster_audit.specs.Objects.{access_value, caps_or_null, conflict_object, found_object, group_object, path_value, session_value, why_value};
 
 use crate::findings::Finding;
 use crate::held::{Held, NamedConflict};
 use crate::notes::Detail;
 use capbits::{CapSet, print_numbered, print_str};
-use capexplain::{Piece, print_pieces};
 use capgrant::Access;
 use std::alloc::AllocError;
+use texts::{Piece, print_pieces};
 
 // How many members of what is found those of one client and one reason have in common, and how many those of two clients in conflict
 // by the same caps.

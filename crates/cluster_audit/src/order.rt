@@ -1,16 +1,15 @@
 //! Lines in order.
 ghost use Rattle.std.specs.Prelude.{◌≡◌, [], ◌∷◌, ◌++◌, IfOk, codes, count_by, map, OnOk};
 ghost use Rattle.std.specs.List.{flat_map};
-ghost use Rattle.script_syntax.specs.Lines.{lines};
+ghost use Rattle.texts.specs.ScriptLines.{lines};
 ghost use Rattle.std.specs.Str.{bytes_eq};
 ghost use Rattle.cluster_audit.specs.Order.{AreCounted, AreInOrder, counted_line};
 ghost use Rattle.cluster_audit.specs.Shaped.{counted_in};
 
 use crate::objects::print_group_object;
 use capbits::{print_numbered, print_str};
-use capexplain::Shape;
-use script_syntax::split_line;
 use std::alloc::{AllocError, Global};
+use texts::{Shape, split_line};
 
 // The lines of a text, each once, in the order of their bytes, which is first that of paths.
 pub(crate) fn in_order(alloc: Global, text: &[u8]) -> Result<Vec<u8>, AllocError>

@@ -10,12 +10,11 @@ use crate::held::NamedConflict;
 use crate::lines::{print_at, print_who};
 use crate::notes::{Detail, Manner};
 use crate::objects::print_conflict_object;
-use capbits::{print_caps, print_numbered, print_str, read_caps};
-use capexplain::{Shape, print_quoted};
+use capbits::{Numbered, print_caps, print_numbered, print_str, read_caps};
 use capspec::TreePath;
 use ceph_input::{Holder, TreeInode};
-use dense_map::Numbered;
 use std::alloc::{AllocError, Global};
+use texts::{Shape, print_quoted};
 
 // A line for each pair of sessions that hold of one of these inodes what no two may hold together.
 pub(crate) fn conflict_lines(

@@ -7,9 +7,9 @@ ghost use Rattle.cluster_audit.specs.Summary.{counts_of, entry_count, line_count
 
 use crate::notes::Notes;
 use capbits::{print_numbered, print_str};
-use capexplain::{Piece, Shape, print_pieces};
 use ceph_input::{Session, TreeInode};
 use std::alloc::{AllocError, Global};
+use texts::{Piece, Shape, print_pieces};
 
 // How many inodes, entries and sessions the texts have, and how many lines there are of each kind.
 #[derive(Clone, Copy)]

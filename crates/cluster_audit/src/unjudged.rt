@@ -4,9 +4,9 @@ ghost use Rattle.cluster_audit.specs.Shaped.{bad_caps_in, pathless_in, unlisted_
 
 use crate::lines::{print_bad_caps_line, print_pathless_line};
 use capbits::{print_numbered, print_str};
-use capexplain::{Piece, Shape, fault_word, print_pieces, print_quoted, print_unread};
 use capspec::SpecFault;
 use std::alloc::AllocError;
+use texts::{Piece, Shape, fault_word, print_pieces, print_quoted, print_unread};
 
 // Appends that no session names a client.
 pub(crate) fn print_unnamed(text: &mut Vec<u8>, shape: Shape, number: u64) -> Result<(), AllocError>

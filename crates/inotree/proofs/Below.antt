@@ -8,7 +8,7 @@ use Rattle.std.specs.Option.{option_map}
 use Rattle.inotree.specs.declared.node.Node.{Node}
 use Rattle.inotree.specs.Inodes.{InodeMap}
 use Rattle.inotree.specs.Tree.{Climbs, IsChildless, IsTree, IsUnder, Nodes, child, depth, descends, is_at, is_in}
-use Rattle.dense_map.proofs.Found.{and_true, any_found, any_some, both_true, found}
+use Rattle.capbits.proofs.Found.{and_true, any_found, any_some, both_true, found}
 use Rattle.inotree.proofs.Leading.{child-is}
 use Rattle.inotree.proofs.Named.{at_under, first_some, in_under, node_of}
 use Rattle.inotree.proofs.Shape.{climb_on}

@@ -21,10 +21,10 @@ use Rattle.inotree.specs.declared.node.Setting.TheVariants.{Gid, Mode, Size, Tim
 use Rattle.inotree.specs.Inodes.{InodeMap, with_setting, with_site}
 use Rattle.inotree.specs.Index.{NameIndex, slot_cmp}
 use Rattle.inotree.specs.Heights.{AreConsistent, HeightMap, HeightsRise, HeightsRiseBut, SameBut}
-use Rattle.inotree.specs.Tree.{AllHaveGoodNames, Climbs, HasGoodNames, IsChildless, IsIndexed, IsTree, IsUnder, depth, dir_at, is_directory, is_directory_kind}
-use Rattle.inotree.specs.Tree.{descends, is_within, kind_of, lies_below, parent, presence, presence_at, site_of}
+use Rattle.inotree.specs.Tree.{AllHaveGoodNames, Climbs, HasGoodNames, IsChildless, IsIndexed, IsTree, IsUnder, depth, descends, dir_at, is_directory}
+use Rattle.inotree.specs.Tree.{is_directory_kind, is_within, kind_of, lies_below, parent, presence, presence_at, site_of}
 use Rattle.inotree.specs.Calls.{first_tree, new_node}
-use Rattle.dense_map.proofs.Maps.{change-is, change-none, insert-here, insert-other, remove-here, remove-other}
+use Rattle.capbits.proofs.Maps.{change-is, change-none, insert-here, insert-other, remove-here, remove-other}
 use Rattle.inotree.proofs.Inner.{good_none, moved_good, put_inner, some_same}
 use Rattle.inotree.proofs.Named.{node_of}
 use Rattle.inotree.proofs.Shape.{climb_keep, climb_on, climb_split, index-forgotten, index-unlinked, same_ino, slot, tree-buried}

@@ -14,7 +14,7 @@ use Rattle.inotree.specs.Inodes.{InodeMap}
 use Rattle.inotree.specs.Tree.{IsTree, IsUnder, Nodes, names_up, path_at, path_of, presence, presence_at, site_of, upward}
 use Rattle.inotree.specs.Calls.{changed, forgotten, new_node, with_new}
 use Rattle.inotree.specs.Alike.{IsAlike}
-use Rattle.dense_map.proofs.Maps.{insert-here, insert-other, remove-other}
+use Rattle.capbits.proofs.Maps.{insert-here, insert-other, remove-other}
 use Rattle.inotree.proofs.Shape.{same_ino}
 
 -- Some inodes stand where they stood, and so does all above them.

@@ -11,7 +11,7 @@ use Rattle.inotree.specs.declared.index.Slot.{Slot}
 use Rattle.inotree.specs.Inodes.{InodeMap}
 use Rattle.inotree.specs.Index.{NameIndex, gathered, names_in}
 use Rattle.inotree.specs.Tree.{Climbs, IsIndexed, IsTree, IsUnder, Nodes, is_within}
-use Rattle.dense_map.proofs.Found.{and_true, any-filter, any_found, any_some, both_true, found}
+use Rattle.capbits.proofs.Found.{and_true, any-filter, any_found, any_some, both_true, found}
 use Rattle.inotree.proofs.Growing.{last_step}
 use Rattle.inotree.proofs.Shape.{climb_on}
 use Rattle.inotree.proofs.Slots.{slot_same, slot_total}

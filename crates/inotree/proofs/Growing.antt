@@ -10,10 +10,10 @@ use Rattle.inotree.specs.declared.node.Presence.TheVariants.{Here}
 use Rattle.inotree.specs.Names.{is_bad_name}
 use Rattle.inotree.specs.Inodes.{InodeMap}
 use Rattle.inotree.specs.Index.{NameIndex}
-use Rattle.inotree.specs.Tree.{AllHaveGoodNames, Climbs, IsIndexed, IsTree, IsUnder, depth, is_directory, is_directory_kind, is_in, kind_of, lies_below}
-use Rattle.inotree.specs.Tree.{descends, names_up, presence, presence_at, site_of, upward}
-use Rattle.dense_map.proofs.Found.{and_true, any_found}
-use Rattle.dense_map.proofs.Maps.{insert-here, insert-other, remove-here, remove-other, same_or_other}
+use Rattle.inotree.specs.Tree.{AllHaveGoodNames, Climbs, IsIndexed, IsTree, IsUnder, depth, descends, is_directory, is_directory_kind, is_in, kind_of}
+use Rattle.inotree.specs.Tree.{lies_below, names_up, presence, presence_at, site_of, upward}
+use Rattle.capbits.proofs.Found.{and_true, any_found}
+use Rattle.capbits.proofs.Maps.{insert-here, insert-other, remove-here, remove-other, same_or_other}
 use Rattle.inotree.proofs.Named.{node_of}
 use Rattle.inotree.proofs.Shape.{one_dir, one_name, same_ino, slot}
 use Rattle.inotree.proofs.Slots.{slot_same, slot_total}

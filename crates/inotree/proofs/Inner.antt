@@ -15,8 +15,8 @@ use Rattle.inotree.specs.Node.{AttributeMap, NameSet}
 use Rattle.inotree.specs.Inodes.{InodeMap, with_attr, with_attribute, with_setting, with_site, with_snapshot, without_attribute, without_snapshot}
 use Rattle.inotree.specs.Tree.{AllHaveGoodNames, HasGoodNames, IsTree, Nodes}
 use Rattle.inotree.specs.Tests.{test_at}
-use Rattle.dense_map.proofs.Found.{both_true}
-use Rattle.dense_map.proofs.Maps.{apart, insert-here, insert-other, remove-here, remove-other, same_or_other}
+use Rattle.capbits.proofs.Found.{both_true}
+use Rattle.capbits.proofs.Maps.{apart, insert-here, insert-other, remove-here, remove-other, same_or_other}
 use Rattle.inotree.proofs.Order.{name_same, name_total}
 
 pub some_same : {A : Type 0} {x y : A} → Some x ≡ Some y → x ≡ y

@@ -9,7 +9,7 @@ use Rattle.inotree.specs.declared.node.Node.{Node}
 use Rattle.inotree.specs.declared.node.Presence.{Presence}
 use Rattle.inotree.specs.declared.node.Presence.TheVariants.{Gone, Here, NoIno}
 use Rattle.inotree.specs.Tree.{Climbs, IsTree, IsUnder, Nodes, child, follow, is_at, names_up, path_at, path_of, presence}
-use Rattle.dense_map.proofs.Found.{any_found, found}
+use Rattle.capbits.proofs.Found.{any_found, found}
 use Rattle.inotree.proofs.Growing.{climb-names}
 use Rattle.inotree.proofs.Named.{at_under, first_none, first_some, node_of, under_at}
 

@@ -18,8 +18,8 @@ use Rattle.inotree.specs.Inodes.{InodeMap}
 use Rattle.inotree.specs.Index.{NameIndex, index_descends, names_in}
 use Rattle.inotree.specs.Heights.{AreAllKnown, AreNoHigher, HeightMap, HeightsRise, IsHigher, bound, height}
 use Rattle.inotree.specs.Tree.{IsIndexed, IsUnder, is_directory}
-use Rattle.dense_map.proofs.Found.{and_true, any-filter, any-map, any_found}
-use Rattle.dense_map.proofs.Maps.{change-is, change-none, insert-here}
+use Rattle.capbits.proofs.Found.{and_true, any-filter, any-map, any_found}
+use Rattle.capbits.proofs.Maps.{change-is, change-none, insert-here}
 use Rattle.inotree.proofs.Descending.{descends-step, descends-zero}
 use Rattle.inotree.proofs.Descending.{any_found as root_one}
 use Rattle.inotree.proofs.Rising.{height_dir, inserted_same}

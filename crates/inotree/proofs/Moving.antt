@@ -20,7 +20,7 @@ use Rattle.inotree.proofs.OneInode.{get-changed, presence-other}
 use Rattle.inotree.proofs.Passing.{passed-rename, slot_site}
 use Rattle.inotree.proofs.Shape.{same_ino}
 use Rattle.inotree.proofs.Within.{below-split}
-use Rattle.dense_map.proofs.Maps.{insert-here, insert-other}
+use Rattle.capbits.proofs.Maps.{insert-here, insert-other}
 
 -- The site of one inode changes, and no other.
 module _ (m n : InodeMap) (k : ℕ) (other : (i : ℕ) → (i ≡ k → ⊥) → site_of n i ≡ site_of m i) where

@@ -15,8 +15,8 @@ use Rattle.inotree.specs.Inodes.{InodeMap}
 use Rattle.inotree.specs.Index.{AreInodes, NameIndex, index_descends}
 use Rattle.inotree.specs.Tree.{IsIndexed, IsTree, IsUnder, StandInDirectories, child, descends, first_where, is_at, is_directory, is_in, presence, presence_at}
 use Rattle.inotree.specs.Tree.{site_of}
-use Rattle.dense_map.proofs.Found.{all_map, and_true, any-filter, any_found, any_some, both_true, found, same_bool}
-use Rattle.dense_map.proofs.Maps.{tied, tied_here}
+use Rattle.capbits.proofs.Found.{all_map, and_true, any-filter, any_found, any_some, both_true, found, same_bool}
+use Rattle.capbits.proofs.Maps.{tied, tied_here}
 use Rattle.inotree.proofs.Order.{name_same, name_total}
 use Rattle.inotree.proofs.Slots.{slot_same, slot_total}
 use Rattle.inotree.proofs.Walks.{same_test, test_same}

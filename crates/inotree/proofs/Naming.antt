@@ -10,7 +10,7 @@ use Rattle.inotree.specs.declared.node.Site.{Site}
 use Rattle.inotree.specs.declared.node.Site.TheVariants.{Root, Stray, Under}
 use Rattle.inotree.specs.Names.{has_byte, is_bad_name, is_dots}
 use Rattle.inotree.specs.Tree.{IsTree, Nodes, names_up, site_of, upward}
-use Rattle.dense_map.proofs.Found.{and_true}
+use Rattle.capbits.proofs.Found.{and_true}
 
 abbrev pub IsName : List ℕ → Type 0
 IsName name = IsTrue (is_name name)

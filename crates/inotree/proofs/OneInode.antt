@@ -23,7 +23,7 @@ use Rattle.inotree.proofs.Below.{childless-descends}
 use Rattle.inotree.proofs.Changes.{setting_kind, setting_site, tree-changed, tree-unlinked}
 use Rattle.inotree.proofs.Elsewhere.{alike-other, field-changed, path_of-stays}
 use Rattle.inotree.proofs.Inner.{attribute_good, no_attribute_good, setting_good}
-use Rattle.dense_map.proofs.Maps.{change-none, insert-other}
+use Rattle.capbits.proofs.Maps.{change-none, insert-other}
 use Rattle.inotree.proofs.Passing.{childless_empty, childless_file, here}
 
 -- ---- which inodes there are, and the others

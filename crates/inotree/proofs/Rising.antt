@@ -12,8 +12,8 @@ use Rattle.inotree.specs.Inodes.{InodeMap}
 use Rattle.inotree.specs.Index.{NameIndex, index_descends}
 use Rattle.inotree.specs.Heights.{AreBounds, HeightMap, HeightsRise, HeightsRiseBut, IsHigher, SameBut, bound, height}
 use Rattle.inotree.specs.Tree.{Climbs, IsChildless, IsIndexed, IsTree, IsUnder, Nodes, dir_at, is_directory, is_directory_kind, kind_of, parent, site_of}
-use Rattle.dense_map.proofs.Found.{any-filter, any_some, both_true, found}
-use Rattle.dense_map.proofs.Maps.{change-is, change-none, insert-here, insert-other, remove-other}
+use Rattle.capbits.proofs.Found.{any-filter, any_some, both_true, found}
+use Rattle.capbits.proofs.Maps.{change-is, change-none, insert-here, insert-other, remove-other}
 use Rattle.inotree.proofs.Shape.{one_dir, same_ino}
 use Rattle.inotree.proofs.Slots.{slot_same, slot_total}
 use Rattle.inotree.proofs.Walks.{test_same}

@@ -9,7 +9,7 @@ use Rattle.inotree.specs.declared.node.Presence.TheVariants.{Here}
 use Rattle.inotree.specs.Inodes.{InodeMap}
 use Rattle.inotree.specs.Index.{NameIndex}
 use Rattle.inotree.specs.Tree.{AllHaveGoodNames, Climbs, IsIndexed, IsTree, IsUnder, is_directory_kind, kind_of, presence, presence_at, site_of}
-use Rattle.dense_map.proofs.Maps.{remove-here, remove-other, same_or_other}
+use Rattle.capbits.proofs.Maps.{remove-here, remove-other, same_or_other}
 use Rattle.inotree.proofs.Slots.{slot_same, slot_total}
 
 pub same_ino : (i k : ℕ) → (i ≡ k) ⊎ (i ≡ k → ⊥)

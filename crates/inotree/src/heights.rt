@@ -11,7 +11,7 @@ use crate::index::Index;
 use crate::inodes::Inodes;
 use crate::names::MAX_NAMES;
 use crate::node::Kind;
-use dense_map::Numbered;
+use capbits::Numbered;
 use std::alloc::{AllocError, Global};
 use std::marker::Model;
 

@@ -11,9 +11,8 @@ use crate::index::Slot;
 use crate::name::Name;
 use crate::names::{MAX_NAMES, Names};
 use crate::node::{Kind, Node, Setting, Site};
-use capbits::Ino;
+use capbits::{Ino, Numbered};
 use capgrant::Attr;
-use dense_map::Numbered;
 use std::alloc::{AllocError, Global};
 use std::marker::Model;
 

@@ -9,7 +9,7 @@ use Rattle.std.specs.Cmp.{nat_eq_equiv}
 use Rattle.capbits.specs.declared.cap.Part.{Part}
 use Rattle.capbits.specs.declared.cap.Part.TheVariants.{A, F, L, X}
 use Rattle.capbits.specs.Maps.{change_at}
-use Rattle.dense_map.proofs.Maps.{change-at}
+use Rattle.capbits.proofs.Maps.{change-at}
 use Rattle.locktable.specs.declared.states.LockState.{LockState}
 use Rattle.locktable.specs.declared.states.LockState.TheVariants.{Gather, Stable}
 use Rattle.locktable.specs.declared.states.StableState.{StableState}

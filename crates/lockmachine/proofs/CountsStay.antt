@@ -9,7 +9,7 @@ use Rattle.capbits.specs.declared.cap.Part.TheVariants.{A, F, L, X}
 use Rattle.capbits.specs.declared.ids.Ino.{Ino}
 use Rattle.capbits.specs.Caps.{Caps}
 use Rattle.capbits.specs.Sets.{is_empty, minus, of_part}
-use Rattle.dense_map.proofs.Maps.{insert-here, insert-other, remove-here, remove-other, same_or_other}
+use Rattle.capbits.proofs.Maps.{insert-here, insert-other, remove-here, remove-other, same_or_other}
 use Rattle.locktable.specs.declared.states.LockState.{LockState}
 use Rattle.locktable.specs.declared.states.LockState.TheVariants.{Gather, Stable}
 use Rattle.locktable.specs.declared.states.StableState.{StableState}

@@ -8,7 +8,7 @@ use Rattle.std.proofs.lemmas.Bool.{eqb-false, eqb-true}
 use Rattle.capbits.specs.declared.cap.Part.{Part}
 use Rattle.capbits.specs.declared.cap.Part.TheVariants.{A, F, L, X}
 use Rattle.capbits.specs.Sets.{and_parts}
-use Rattle.dense_map.proofs.Maps.{insert-here, insert-other}
+use Rattle.capbits.proofs.Maps.{insert-here, insert-other}
 use Rattle.locktable.specs.declared.states.LockState.{LockState}
 use Rattle.captable.proofs.Searches.{find_passes}
 use Rattle.lockmachine.specs.declared.states.InodeLocks.{InodeLocks}

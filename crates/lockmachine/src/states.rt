@@ -6,8 +6,7 @@ ghost use Rattle.capbits.specs.Maps.{change_at};
 ghost use Rattle.locktable.specs.GatherCounts as counted;
 ghost use Rattle.lockmachine.specs.Inodes as words;
 
-use capbits::{Ino, Part};
-use dense_map::Numbered;
+use capbits::{Ino, Numbered, Part};
 use locktable::{Counts, LockState, StableState};
 use std::alloc::{AllocError, Global};
 use std::collections::btree_map::Keys;

@@ -7,7 +7,7 @@ use Rattle.std.specs.FinMap.{FinMap}
 use Rattle.std.specs.Option.{option_map, option_map_or}
 use Rattle.std.specs.Ordering.{eq_by_cmp}
 use Rattle.capbits.specs.Maps.{change_at}
-use Rattle.dense_map.proofs.Maps.{tied}
+use Rattle.capbits.proofs.Maps.{tied}
 
 module _ {K X S : Type 0} {R : K → K → Ordering} (o : IsTotalOrder R) (same : map.IsAntisymmetric R) (see : X → S) where
   abbrev pub AreAlike : FinMap R X → FinMap R X → Type 0

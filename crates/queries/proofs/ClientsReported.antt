@@ -20,14 +20,14 @@ use Rattle.policy_analysis.specs.Otherwise.{AnswersOtherwise}
 use Rattle.policy_analysis.specs.declared.differences.Difference.{Difference}
 use Rattle.policy_analysis.specs.declared.differences.Difference.TheVariants.{AttributeByFlag, LargeUid, ModeByBits, OtherFileSystem}
 use Rattle.policy_analysis.specs.declared.differences.Otherwise.{Otherwise}
-use Rattle.capexplain.specs.Explaining.{failures_text, path_text}
-use Rattle.capexplain.specs.Lines.{HasGrantIf, HasNumber}
-use Rattle.capexplain.specs.Quoting.{quoted}
-use Rattle.capexplain.specs.Remarks.{difference_line, difference_text, there_text}
-use Rattle.capexplain.specs.Standing.{fault_word, standing_line, standing_otherwise, standing_reason, standing_word, unread_line}
-use Rattle.capexplain.proofs.Answered.{number_and, number_to, one_list_to, parted}
-use Rattle.capexplain.proofs.Clients.{has_word, kind_of}
-use Rattle.capexplain.proofs.Quoted.{bare, before_word, clash, first_byte}
+use Rattle.texts.specs.Explaining.{failures_text, path_text}
+use Rattle.texts.specs.Lines.{HasGrantIf, HasNumber}
+use Rattle.texts.specs.Quoting.{quoted}
+use Rattle.texts.specs.Remarks.{difference_line, difference_text, there_text}
+use Rattle.texts.specs.Standing.{fault_word, standing_line, standing_otherwise, standing_reason, standing_word, unread_line}
+use Rattle.texts.proofs.Answered.{number_and, number_to, one_list_to, parted}
+use Rattle.texts.proofs.Clients.{has_word, kind_of}
+use Rattle.texts.proofs.Quoted.{bare, before_word, clash, first_byte}
 use Rattle.queries.specs.declared.clients.Telling.{Telling}
 use Rattle.queries.specs.declared.clients.Telling.TheVariants.{Line, More, Object}
 use Rattle.queries.specs.Clients.{AreLines, Says, standing_in, unread_in}

@@ -11,14 +11,14 @@ use Rattle.capspec.specs.declared.fault.SpecFault.{SpecFault}
 use Rattle.capspec.specs.Faults.{IsFault}
 use Rattle.capgrant.specs.declared.access.Access.{Access}
 use Rattle.capgrant.specs.declared.access.Access.TheVariants.{Chgrp, Chown, Read, SetVxattr, Snapshot, Write}
-use Rattle.capexplain.specs.Lines.{HasNumber}
-use Rattle.capexplain.specs.Remarked.{HasNumbers}
+use Rattle.texts.specs.Lines.{HasNumber}
+use Rattle.texts.specs.Remarked.{HasNumbers}
 use Rattle.queries.specs.declared.question.Question.{Question}
 use Rattle.queries.specs.declared.question.Values.{Values}
 use Rattle.queries.specs.Question.{AsksFor}
 use Rattle.queries.specs.Remarks.{asked_of}
 use Rattle.queries.specs.Values.{IsModeText, without_kind}
-use Rattle.script_syntax.specs.Lines.{is_line_feed, lines}
+use Rattle.texts.specs.ScriptLines.{is_line_feed, lines}
 use Rattle.queries.specs.Checks.{CheckTexts, InodeTexts, behind_space, check_of, check_text, check_texts, cut, cut_below, head, inode_of, then_cut}
 use Rattle.queries.specs.declared.mask.Mask.{Mask}
 use Rattle.capgrant.specs.Masks.{asked_if}

@@ -16,15 +16,15 @@ use Rattle.capgrant.specs.Question.{Question as Asked}
 use Rattle.policy_analysis.specs.declared.differences.Otherwise.{Otherwise}
 use Rattle.policy_analysis.specs.Left.{left_to_client}
 use Rattle.policy_analysis.specs.Differences.{answered_otherwise}
-use Rattle.capexplain.specs.Lines.{HasNumber}
-use Rattle.capexplain.specs.Quoting.{is_plain, quoted}
-use Rattle.capexplain.specs.Remarks.{remarked_text}
-use Rattle.capexplain.specs.Standing.{fault_word}
-use Rattle.capexplain.proofs.Answered.{number_and, number_to, plain_number}
-use Rattle.capexplain.proofs.Asked.{is_remarked}
-use Rattle.capexplain.proofs.Clients.{has_word, kind_of}
-use Rattle.capexplain.proofs.Quoted.{bare, bare_to, before_a_line_feed, first_byte}
-use Rattle.capexplain.proofs.Remarked.{IsOther, one_remark_to}
+use Rattle.texts.specs.Lines.{HasNumber}
+use Rattle.texts.specs.Quoting.{is_plain, quoted}
+use Rattle.texts.specs.Remarks.{remarked_text}
+use Rattle.texts.specs.Standing.{fault_word}
+use Rattle.texts.proofs.Answered.{number_and, number_to, plain_number}
+use Rattle.texts.proofs.Asked.{is_remarked}
+use Rattle.texts.proofs.Clients.{has_word, kind_of}
+use Rattle.texts.proofs.Quoted.{bare, bare_to, before_a_line_feed, first_byte}
+use Rattle.texts.proofs.Remarked.{IsOther, one_remark_to}
 use Rattle.queries.specs.declared.fault.QuestionFault.{QuestionFault}
 use Rattle.queries.specs.declared.fault.QuestionFault.TheVariants.{Grants as BadGrants}
 use Rattle.queries.specs.declared.fault.QuestionFault.TheVariants.{BadValue, NoMemory}
@@ -36,13 +36,13 @@ use Rattle.queries.specs.declared.question.Values.{Values}
 use Rattle.queries.specs.Options.{option_name}
 use Rattle.queries.specs.Question.{AsksFor, IsFaultIn, verdict_on}
 use Rattle.queries.specs.Remarks.{asked_of, full_text}
-use Rattle.script_syntax.specs.Lines.{lines, longest_script}
+use Rattle.texts.specs.ScriptLines.{lines, longest_script}
 use Rattle.queries.specs.Checks.{CheckTexts, check_of, check_text}
 use Rattle.queries.specs.Items.{HasLines, IsTellable, Reported, SameOfLine, SameReported, lines_of, reported_in, reported_lines}
 use Rattle.queries.specs.Items.Reported.{answered, bad, formless, refused, unknown}
 use Rattle.queries.specs.Masks.{accesses_of}
-use Rattle.queries.specs.Reported.{AreReported, AreValues, IsAnswered, IsFaulty, IsReportOf, Says, SaysFault, SaysIf, SaysOf, answer_lines, passed_in, passed_line}
-use Rattle.queries.specs.Reported.{with_access}
+use Rattle.queries.specs.Reported.{AreReported, AreValues, IsAnswered, IsFaulty, IsReportOf, Says, SaysFault, SaysIf, SaysOf, answer_lines, passed_in}
+use Rattle.queries.specs.Reported.{passed_line, with_access}
 use Rattle.queries.proofs.Fitting.{AreShort, HasFew, all_asked, few_lines, few_passed_in, fits, more_than, near_fault, short_check, short_grants, short_lines}
 
 -- ---- how the lines begin

@@ -5,15 +5,15 @@ use Rattle.std.specs.List.{AllZip, flat_map}
 use Rattle.std.proofs.lemmas.List.Concat.{flat_map-append}
 use Rattle.policy_analysis.specs.declared.unread.Unread.{Unread}
 use Rattle.policy_analysis.specs.declared.finding.Finding.{Finding}
-use Rattle.capexplain.specs.Found.{Found, SameOfGrant, all_found}
-use Rattle.capexplain.proofs.Linted.{all_lines, begins, one_list, thing_line}
-use Rattle.capexplain.proofs.Quoted.{clash, first_byte}
-use Rattle.capexplain.specs.declared.shape.Shape.{Shape}
-use Rattle.capexplain.specs.declared.shape.Shape.TheVariants.{Lines, Objects}
-use Rattle.capexplain.specs.Findings.{found_object}
-use Rattle.capexplain.specs.Shapes.{nothing_in}
-use Rattle.capexplain.proofs.JsonLinted.{each_has_one}
-use Rattle.capexplain.proofs.JsonLinted.{one_list as one_list_of_objects}
+use Rattle.texts.specs.Found.{Found, SameOfGrant, all_found}
+use Rattle.texts.proofs.Linted.{all_lines, begins, one_list, thing_line}
+use Rattle.texts.proofs.Quoted.{clash, first_byte}
+use Rattle.texts.specs.declared.shape.Shape.{Shape}
+use Rattle.texts.specs.declared.shape.Shape.TheVariants.{Lines, Objects}
+use Rattle.texts.specs.Findings.{found_object}
+use Rattle.texts.specs.Shapes.{nothing_in}
+use Rattle.texts.proofs.JsonLinted.{each_has_one}
+use Rattle.texts.proofs.JsonLinted.{one_list as one_list_of_objects}
 use Rattle.queries.specs.Linting.{HasText, found_in, found_in_all, lint_in}
 
 -- the text of one thing

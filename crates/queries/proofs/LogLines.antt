@@ -1,7 +1,7 @@
 -- A log told line by line.
 use Rattle.std.proofs.Common.{◌≡◌, ℕ, ◌+◌, ◌≤◌, ◌<◌, List, [], ◌∷◌, ◌++◌, length, refl, sym, ap, subst, ◌∙◌, append_assoc, arith}
 use Rattle.std.proofs.lemmas.List.{append-nil}
-use Rattle.script_syntax.specs.Lines.{lines}
+use Rattle.texts.specs.ScriptLines.{lines}
 use Rattle.queries.specs.Reported.{AreReported, IsReported, passed_in, passed_over}
 
 -- what is known when so many lines were told: with what is told of those that are left behind it, the text tells of all

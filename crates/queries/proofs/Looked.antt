@@ -5,7 +5,7 @@ use Rattle.capspec.specs.declared.grant.Grant.{Grant}
 use Rattle.policy_analysis.specs.declared.unread.Unread.{Unread}
 use Rattle.policy_analysis.specs.Ceph16Syntax.{AreReported, GrantText, why_each}
 use Rattle.policy_analysis.specs.declared.finding.Finding.{Finding}
-use Rattle.capexplain.specs.declared.shape.Shape.{Shape}
+use Rattle.texts.specs.declared.shape.Shape.{Shape}
 use Rattle.queries.specs.Linting.{found_of, lint_in}
 
 -- with the lines of what is left behind it the text is that of all

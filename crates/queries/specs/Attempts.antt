@@ -3,7 +3,7 @@ use Rattle.std.specs.Prelude.{◌≡◌, ⊤, ℕ, Option, Some, None, List}
 use Rattle.capgrant.specs.declared.access.Access.{Access as AnAccess}
 use Rattle.capgrant.specs.declared.access.Attr.{Attr}
 use Rattle.capspec.specs.Items.{IsNumber}
-use Rattle.capexplain.specs.Access.{IsAccessWord}
+use Rattle.texts.specs.Access.{IsAccessWord}
 use Rattle.policy_analysis.specs.Callers.{Wanted, wanted}
 use Rattle.queries.specs.declared.attempt.Attempt.{Attempt}
 use Rattle.queries.specs.declared.attempt.AttemptValues.{AttemptValues}

@@ -12,8 +12,8 @@ use Rattle.policy_analysis.specs.Callers.{Wanted}
 use Rattle.policy_analysis.specs.Standing.{Answers}
 use Rattle.policy_analysis.specs.Otherwise.{AnswersOtherwise}
 use Rattle.policy_analysis.specs.declared.differences.Otherwise.{Otherwise}
-use Rattle.capexplain.specs.Standing.{standing_line, standing_otherwise, unread_line}
-use Rattle.capexplain.specs.Standings.{standing_object, unread_object}
+use Rattle.texts.specs.Standing.{standing_line, standing_otherwise, unread_line}
+use Rattle.texts.specs.Standings.{standing_object, unread_object}
 use Rattle.queries.specs.declared.clients.Telling.{Telling}
 use Rattle.queries.specs.declared.clients.Telling.TheVariants.{Line, More, Object}
 

@@ -7,11 +7,11 @@ use Rattle.ceph_input.specs.Auth.{Named}
 use Rattle.policy_analysis.specs.declared.standing.Standing.{Standing}
 use Rattle.policy_analysis.specs.Callers.{Wanted}
 use Rattle.policy_analysis.specs.declared.differences.Difference.{Difference}
-use Rattle.capexplain.specs.Explaining.{path_text}
-use Rattle.capexplain.specs.Lines.{HasGrantIf, HasNumber}
-use Rattle.capexplain.specs.Quoting.{quoted}
-use Rattle.capexplain.specs.Remarks.{difference_line}
-use Rattle.capexplain.specs.Standing.{standing_line, unread_line}
+use Rattle.texts.specs.Explaining.{path_text}
+use Rattle.texts.specs.Lines.{HasGrantIf, HasNumber}
+use Rattle.texts.specs.Quoting.{quoted}
+use Rattle.texts.specs.Remarks.{difference_line}
+use Rattle.texts.specs.Standing.{standing_line, unread_line}
 use Rattle.queries.specs.declared.clients.Telling.{Telling}
 use Rattle.queries.specs.declared.clients.Telling.TheVariants.{Object}
 use Rattle.queries.specs.Clients.{AreLines}

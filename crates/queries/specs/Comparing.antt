@@ -5,12 +5,12 @@ use Rattle.capspec.specs.Faults.{IsFault}
 use Rattle.capspec.specs.Grants.{Reads}
 use Rattle.policy_analysis.specs.declared.witness.Witness.{Witness}
 use Rattle.policy_analysis.specs.Comparing.{Covers, CoversBut, IsWitness, is_root}
-use Rattle.capexplain.specs.Comparing.{comparison}
-use Rattle.capexplain.specs.Changes.{change_lines}
+use Rattle.texts.specs.Comparing.{comparison}
+use Rattle.texts.specs.Changes.{change_lines}
 use Rattle.queries.specs.declared.comparing.CompareFault.{CompareFault}
 use Rattle.queries.specs.declared.comparing.CompareFault.TheVariants.{New, NoMemory, Old}
-use Rattle.capexplain.specs.declared.shape.Shape.{Shape}
-use Rattle.capexplain.specs.declared.shape.Shape.TheVariants.{Lines, Objects}
+use Rattle.texts.specs.declared.shape.Shape.{Shape}
+use Rattle.texts.specs.declared.shape.Shape.TheVariants.{Lines, Objects}
 
 -- What is told of the new grants: nothing, where the old ones cover them, else a witness, which is of root only where no other shows it.
 abbrev pub IsGain : List Grant → List Grant → Option Witness → Type 0

@@ -3,9 +3,9 @@ use Rattle.std.specs.Prelude.{◌≡◌, ℕ, ◌<◌, ◌≤◌, ◌^◌, List,
 use Rattle.std.specs.Fmt.{decimal}
 use Rattle.std.specs.List.{AllZip, flat_map}
 use Rattle.capspec.specs.declared.fault.SpecFault.{SpecFault}
-use Rattle.capexplain.specs.Explaining.{path_text}
-use Rattle.capexplain.specs.Remarked.{AreLeftAlike, HasNumbers}
-use Rattle.capexplain.specs.Standing.{unread_line}
+use Rattle.texts.specs.Explaining.{path_text}
+use Rattle.texts.specs.Remarked.{AreLeftAlike, HasNumbers}
+use Rattle.texts.specs.Standing.{unread_line}
 use Rattle.policy_analysis.specs.Left.{left_to_client}
 use Rattle.policy_analysis.specs.Differences.{answered_otherwise}
 use Rattle.queries.specs.declared.options.Opt.{Opt}
@@ -13,7 +13,7 @@ use Rattle.queries.specs.declared.question.Question.{Question}
 use Rattle.queries.specs.Options.{option_name}
 use Rattle.queries.specs.Question.{verdict_on}
 use Rattle.queries.specs.Remarks.{asked_of}
-use Rattle.script_syntax.specs.Lines.{lines, longest_script}
+use Rattle.texts.specs.ScriptLines.{lines, longest_script}
 use Rattle.queries.specs.Reported.{IsReportOf, answer_lines, formless_line, passed_in, passed_line, unknown_line}
 
 -- the answer to a question of a check; that it has another form; an unknown mask; what is wrong with its grants, or with another part

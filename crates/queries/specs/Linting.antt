@@ -7,12 +7,12 @@ use Rattle.policy_analysis.specs.declared.unread.Unread.{Unread}
 use Rattle.policy_analysis.specs.Ceph16Syntax.{AreReported}
 use Rattle.policy_analysis.specs.declared.finding.Finding.{Finding}
 use Rattle.policy_analysis.specs.Findings.{AreFindings}
-use Rattle.capexplain.specs.Found.{Found, HasLine, SameOfGrant, all_found}
-use Rattle.capexplain.specs.Linting.{finding_lines}
-use Rattle.capexplain.specs.Findings.{HasObject, finding_objects}
-use Rattle.capexplain.specs.Shapes.{nothing_in}
-use Rattle.capexplain.specs.declared.shape.Shape.{Shape}
-use Rattle.capexplain.specs.declared.shape.Shape.TheVariants.{Lines, Objects}
+use Rattle.texts.specs.Found.{Found, HasLine, SameOfGrant, all_found}
+use Rattle.texts.specs.Linting.{finding_lines}
+use Rattle.texts.specs.Findings.{HasObject, finding_objects}
+use Rattle.texts.specs.Shapes.{nothing_in}
+use Rattle.texts.specs.declared.shape.Shape.{Shape}
+use Rattle.texts.specs.declared.shape.Shape.TheVariants.{Lines, Objects}
 
 -- what is found of a grant, in this shape
 abbrev pub found_in : Shape → Finding → Option Unread → List ℕ

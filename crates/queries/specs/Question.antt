@@ -16,8 +16,8 @@ use Rattle.queries.specs.declared.options.Opt.{Opt}
 use Rattle.queries.specs.declared.options.Opt.TheVariants.{Access, Fs, Gid, Grants, Group, Groups, Mode, Owner, Path, Uid}
 use Rattle.queries.specs.declared.question.Values.{Values}
 use Rattle.queries.specs.declared.question.Question.{Question}
-use Rattle.capexplain.specs.Access.{IsAccessWord}
-use Rattle.capexplain.specs.Explaining.{explain_text}
+use Rattle.texts.specs.Access.{IsAccessWord}
+use Rattle.texts.specs.Explaining.{explain_text}
 use Rattle.queries.specs.Options.{all_options}
 use Rattle.queries.specs.Values.{AreGroupsIf, ArePathNames, IsFs, IsModeText}
 

@@ -4,8 +4,8 @@ use Rattle.capgrant.specs.Question.{Question as Asked}
 use Rattle.capgrant.specs.Question.{question}
 use Rattle.policy_analysis.specs.Left.{left_to_client}
 use Rattle.policy_analysis.specs.Differences.{answered_otherwise}
-use Rattle.capexplain.specs.Remarks.{remarked_text}
-use Rattle.capexplain.specs.Answers.{answer_object}
+use Rattle.texts.specs.Remarks.{remarked_text}
+use Rattle.texts.specs.Answers.{answer_object}
 use Rattle.queries.specs.declared.question.Question.{Question}
 use Rattle.queries.specs.Question.{verdict_on}
 

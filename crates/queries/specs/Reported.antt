@@ -10,9 +10,9 @@ use Rattle.queries.specs.declared.question.Values.{Values}
 use Rattle.queries.specs.Options.{option_name}
 use Rattle.queries.specs.Question.{AsksFor, IsFaultIn}
 use Rattle.queries.specs.Remarks.{full_text}
-use Rattle.capexplain.specs.Quoting.{quoted}
-use Rattle.capexplain.specs.Standing.{unread_line}
-use Rattle.script_syntax.specs.Lines.{lines}
+use Rattle.texts.specs.Quoting.{quoted}
+use Rattle.texts.specs.Standing.{unread_line}
+use Rattle.texts.specs.ScriptLines.{lines}
 use Rattle.queries.specs.declared.mask.Mask.{Mask}
 use Rattle.queries.specs.Checks.{CheckTexts, check_of, check_text}
 use Rattle.queries.specs.Masks.{IsMaskOf, accesses_of}

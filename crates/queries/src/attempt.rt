@@ -8,10 +8,10 @@ use crate::fault::QuestionFault::BadValue;
 use crate::modes::read_any_mode;
 use crate::options::Opt;
 use crate::question::{read_number, read_path};
-use capexplain::read_access;
 use capgrant::{Access, Attr};
 use capspec::{FsName, TreePath};
 use std::alloc::Global;
+use texts::read_access;
 
 /// The values of the options of `who` as they stand on the command line, as bytes.
 pub struct AttemptValues {

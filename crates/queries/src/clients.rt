@@ -6,15 +6,12 @@ ghost use Rattle.queries.specs.Clients.{AnswersWho, AreLines, Says, standing_in,
 
 use crate::attempt::Attempt;
 use crate::texts::read_text;
-use capexplain::{
-    print_standing, print_standing_object, print_standing_otherwise, print_unread,
-    print_unread_object,
-};
 use capgrant::Attr;
 use capspec::SpecFault;
 use ceph_input::{AuthFault, Entity, read_auth};
 use policy_analysis::{Otherwise, Standing, Wanted};
 use std::alloc::{AllocError, Global};
+use texts::{print_standing, print_standing_object, print_standing_otherwise, print_unread, print_unread_object};
 
 /// How it is told of a client whether it may.
 #[derive(Clone, Copy)]

@@ -3,12 +3,12 @@ ghost use Rattle.std.specs.Prelude.{IfErr, IfOk};
 ghost use Rattle.queries.specs.Comparing.{Compares, IsComparison, IsFaultOfTexts};
 
 use crate::texts::read_text;
-use capexplain::{Shape, change_objects, comparison_lines};
 use capspec::{Grants, SpecFault};
 use policy_analysis::{gained, lost};
-use std::alloc::{AllocError, Global};
 use std::fmt;
+use std::alloc::{AllocError, Global};
 use std::fmt::Display;
+use texts::{Shape, change_objects, comparison_lines};
 
 /// Why two texts of grants are not compared.
 #[derive(Clone, Copy)]

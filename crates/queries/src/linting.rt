@@ -4,10 +4,10 @@ ghost use Rattle.queries.specs.Fault.{IsFaultOfText};
 ghost use Rattle.queries.specs.Linting.{IsLintOf, found_of, lint_in};
 
 use crate::fault::QuestionFault;
-use capexplain::{Shape, print_finding, print_finding_object};
 use capspec::read_grants;
 use policy_analysis::{Finding, Unread, lint, unread_grants};
 use std::alloc::{AllocError, Global};
+use texts::{Shape, print_finding, print_finding_object};
 
 /// What is found in the grants of a text: those that the others cover, that allow nothing, whose root_squash another undoes, or
 /// that Ceph 16 can't read, at all or as they stand in the text. A line of this shape for each, and no byte where nothing is found.

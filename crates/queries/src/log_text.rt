@@ -1,7 +1,7 @@
 //! The lines that tell of a log.
 ghost use Rattle.std.specs.Prelude.{◌≡◌, ◌++◌, ◌≤◌, ℕ, List, length, IfOk, OnOk};
 ghost use Rattle.std.specs.List.{flat_map};
-ghost use Rattle.script_syntax.specs.Lines.{longest_script};
+ghost use Rattle.texts.specs.ScriptLines.{longest_script};
 ghost use Rattle.queries.specs.Checks.{texts_of};
 ghost use Rattle.queries.specs.Reported.{IsReportOf, IsReported, Says, SaysFault, answer_lines, passed_line, passed_over, unknown_line};
 
@@ -11,10 +11,9 @@ use crate::mask::{accesses, read_mask};
 use crate::question::Question;
 use crate::values::{fill, no_values};
 use capbits::{print, print_number};
-use capexplain::{print_quoted, print_unread};
 use capgrant::Access;
-use script_syntax::split_line;
 use std::alloc::{AllocError, Global};
+use texts::{print_quoted, print_unread, split_line};
 
 /// Lines that tell of each check of policy in a log what its grants say to what it asks, on this file system: for each access that its
 /// mask asks for what `capd explain --more` answers, behind the number of the line in the log; or why the check can't be read. The last

@@ -14,10 +14,10 @@ use crate::modes::read_any_mode;
 use crate::options::Opt;
 use crate::texts::read_text;
 use capbits::{Caller, Groups, read_u32};
-use capexplain::{explain_line, read_access};
 use capgrant::{Access, Attr, Verdict, verdict};
 use capspec::{FsName, Grants, TreePath};
 use std::alloc::{AllocError, Global};
+use texts::{explain_line, read_access};
 
 /// The values of the options as they stand on the command line, as bytes.
 pub struct Values {

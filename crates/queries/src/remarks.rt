@@ -1,9 +1,9 @@
 //! What is said beside the answer to a question.
 
 use crate::question::Question;
-use capexplain::{answer_object, remarked_lines};
 use policy_analysis::{answered_otherwise, left_to_client};
 use std::alloc::{AllocError, Global};
+use texts::{answer_object, remarked_lines};
 
 impl Question {
     ghost use Rattle.std.specs.Prelude.{◌≡◌, IfOk, map};

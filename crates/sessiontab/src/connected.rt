@@ -6,9 +6,8 @@ ghost use Rattle.std.specs.FinMap as map;
 ghost use Rattle.sessiontab.specs.Connected.{change_session};
 
 use crate::session::{Session, Status};
-use capbits::ClientId;
+use capbits::{ClientId, Numbered};
 use capspec::{Grants, KeptGrants};
-use dense_map::Numbered;
 use std::alloc::{AllocError, Global};
 use std::marker::Model;
 

@@ -6,7 +6,7 @@ use Rattle.std.proofs.lemmas.Bool.Decides.{nat_tests}
 use mathlib.Core.List.{IsPrefix}
 use prog.Atomic.{either}
 use Rattle.logbook.specs.Pages.{Away, Cell, Goes, Moves, adds, cell, gives, keeps, no_nib, step}
-use Rattle.step_model.specs.declared.row.Row.{Row}
+use Rattle.capstep.specs.declared.row.Row.{Row}
 use Rattle.snapshot.specs.Rows.{Adds, IsStored, Looks, Makes, cells_of, next_of, words_of}
 use Rattle.snapshot.proofs.Beginnings.{prefix_length, prefix_whole}
 use Rattle.snapshot.proofs.Words.{cells_away, cells_set, words-length, words_home, words_more}

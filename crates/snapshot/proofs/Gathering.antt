@@ -1,10 +1,10 @@
 -- Rows that are added one by one: what begins a legal history is legal.
 use Rattle.std.proofs.Common.{◌≡◌, ℕ, zero, suc, ◌<◌, List, [], ◌∷◌, ◌++◌, length, take, drop, get_or, refl, ap, sym, ◌∙◌, subst, arith, append_assoc}
 use mathlib.Core.List.{IsPrefix}
-use Rattle.step_model.specs.declared.row.Row.{Row}
-use Rattle.step_model.specs.Numbers.{AreNumbered}
-use Rattle.step_model.specs.History.{IsLegal, Replays}
-use Rattle.step_model.specs.State.{State}
+use Rattle.capstep.specs.declared.row.Row.{Row}
+use Rattle.capstep.specs.Numbers.{AreNumbered}
+use Rattle.capstep.specs.History.{IsLegal, Replays}
+use Rattle.capstep.specs.State.{State}
 use Rattle.snapshot.specs.Rows.{Legal}
 
 no_row : (earlier later : List Row) (row : Row) → [] ≡ earlier ++ row ∷ later → ⊥

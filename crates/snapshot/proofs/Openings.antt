@@ -4,8 +4,8 @@ use Rattle.std.specs.Cmp.{nat_cmp_total}
 use Rattle.std.specs.FinMap as map
 use Rattle.inotree.specs.Tree.{Nodes}
 use Rattle.logbook.specs.Pages.{Book}
-use Rattle.step_model.specs.History.{IsOpening}
-use Rattle.step_model.specs.State.{State}
+use Rattle.capstep.specs.History.{IsOpening}
+use Rattle.capstep.specs.State.{State}
 use Rattle.lockmachine.specs.Locks.{LockMap}
 use Rattle.snapshot.specs.declared.place.Origin.{Origin}
 use Rattle.snapshot.specs.Places.{IsOf}

@@ -6,9 +6,9 @@ use Rattle.std.specs.FinMap as map
 use Rattle.inotree.specs.Tree.{Nodes}
 use Rattle.logbook.specs.Pages.{Book}
 use Rattle.crossbeam_utils.specs.Register.{TurnsAt}
-use Rattle.step_model.specs.declared.row.Row.{Row}
-use Rattle.step_model.specs.History.{IsLegal, IsOpening}
-use Rattle.step_model.specs.State.{State}
+use Rattle.capstep.specs.declared.row.Row.{Row}
+use Rattle.capstep.specs.History.{IsLegal, IsOpening}
+use Rattle.capstep.specs.State.{State}
 use Rattle.policy_view.specs.declared.view.View.{View}
 use Rattle.policy_view.specs.Visible.{Shows}
 use Rattle.snapshot.specs.declared.place.Origin.{Origin}
@@ -16,7 +16,7 @@ use Rattle.snapshot.specs.declared.place.Place.{Place}
 use Rattle.snapshot.specs.declared.value.Published.{Published}
 use Rattle.snapshot.specs.declared.value.Stage.{Stage}
 use Rattle.snapshot.specs.declared.value.Stage.TheVariants as stage
-use Rattle.step_model.specs.Noted.{view_of}
+use Rattle.capstep.specs.Noted.{view_of}
 use Rattle.snapshot.specs.Places.{HasSeen, IsOf, IsOriginKnown, IsPublished, Keeps, Saw}
 use Rattle.snapshot.specs.Publishing.{IsReady, IsStaging, publishing}
 use Rattle.snapshot.specs.Value.{staged, staged_all}

@@ -6,7 +6,7 @@ use lib.ListN.{get_elem?}
 use Rattle.logbook.specs.Pages.{Book}
 use Rattle.crossbeam_utils.specs.Register.{Admits, Forks, Merges, Turns, TurnsAt}
 use Rattle.atomic_table.proofs.Lists.{at_set, at_snoc, set_again}
-use Rattle.step_model.specs.State.{State}
+use Rattle.capstep.specs.State.{State}
 use Rattle.snapshot.specs.declared.value.Published.{Published}
 use Rattle.snapshot.specs.declared.place.Origin.{Origin}
 use Rattle.snapshot.specs.declared.place.Place.{Place}

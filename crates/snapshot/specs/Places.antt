@@ -5,10 +5,10 @@ use mathlib.Core.List.{IsPrefix}
 use lib.ListN.{get_elem?}
 use Rattle.logbook.specs.Pages.{Book}
 use Rattle.inotree.specs.Tree.{Nodes}
-use Rattle.step_model.specs.History.{IsOpening}
-use Rattle.step_model.specs.Noted.{view_of}
-use Rattle.step_model.specs.State.{State}
-use Rattle.step_model.specs.declared.row.Row.{Row}
+use Rattle.capstep.specs.History.{IsOpening}
+use Rattle.capstep.specs.Noted.{view_of}
+use Rattle.capstep.specs.State.{State}
+use Rattle.capstep.specs.declared.row.Row.{Row}
 use Rattle.policy_view.specs.Visible.{Shows}
 use Rattle.snapshot.specs.declared.value.Published.{Published}
 use Rattle.snapshot.specs.declared.place.Origin.{Origin}

@@ -3,14 +3,14 @@ use Rattle.std.specs.Prelude.{◌≡◌, Bool, false, List, [], refl}
 use Rattle.std.specs.Coded.{Coded, code_by, coded_bool, coded×}
 use mathlib.Core.List.{IsPrefix}
 use Rattle.logbook.specs.Pages.{Book}
-use Rattle.step_model.specs.declared.row.Row.{Row}
-use Rattle.step_model.specs.State.{State}
+use Rattle.capstep.specs.declared.row.Row.{Row}
+use Rattle.capstep.specs.State.{State}
 use Rattle.policy_view.specs.declared.view.View.{View}
 use Rattle.policy_view.specs.Codes.{view_code}
 use Rattle.policy_view.specs.Visible.{Shows}
 use Rattle.snapshot.specs.declared.value.Published.{Published}
 use Rattle.snapshot.specs.declared.value.Stage.{Stage}
-use Rattle.step_model.specs.Noted.{view_of}
+use Rattle.capstep.specs.Noted.{view_of}
 use Rattle.snapshot.specs.Rows.{Legal, rows_code}
 use Rattle.snapshot.specs.Value.{staged_all}
 

@@ -3,12 +3,12 @@ use Rattle.std.specs.Prelude.{ℕ, ◌≡◌, ◌≤◌, ◌+◌, ◌*◌, ◌==
 use Rattle.std.specs.Coded.{Coded, coded_list}
 use Rattle.logbook.specs.Pages.{Book, Cell, Named, Nib, Step, may_make, may_write, nib}
 use Rattle.logbook.specs.Pages.{View as Page}
-use Rattle.step_model.specs.declared.event.Event.TheVariants.{Unblock}
-use Rattle.step_model.specs.declared.row.Row.{Row}
-use Rattle.step_model.specs.declared.reply.Reply.TheVariants.{Done}
-use Rattle.step_model.specs.contracts.row.Row as history_row
-use Rattle.step_model.specs.History.{IsLegal}
-use Rattle.step_model.specs.State.{State}
+use Rattle.capstep.specs.declared.event.Event.TheVariants.{Unblock}
+use Rattle.capstep.specs.declared.row.Row.{Row}
+use Rattle.capstep.specs.declared.reply.Reply.TheVariants.{Done}
+use Rattle.capstep.specs.contracts.row.Row as history_row
+use Rattle.capstep.specs.History.{IsLegal}
+use Rattle.capstep.specs.State.{State}
 
 -- a list of rows is stored as their codes
 abbrev pub rows_code : Coded (List Row)

@@ -4,9 +4,9 @@ ghost use mathlib.Core.List.{IsPrefix};
 ghost use Rattle.snapshot.specs.Rows.{Legal};
 
 use crate::ledger::Server;
+use capstep::Row;
 use logbook::{Gain, Plain, Play, Rule, Seen, Word};
 use std::marker::{Model, PhantomData};
-use step_model::Row;
 
 /// The rule of the book: each row has a word, and only who has the pen for the next one can add a row.
 pub struct Law;
@@ -131,7 +131,7 @@ impl<L: Server> Drop for Beginning<L> {
 
 impl<L: Server> Model for Beginning<L> {
     ghost use Rattle.std.specs.Prelude.{◌≡◌, List, length};
-    ghost use Rattle.step_model.specs.declared.row.Row.{Row};
+    ghost use Rattle.capstep.specs.declared.row.Row.{Row};
     ghost use Rattle.snapshot.specs.Rows.{Legal, rows_code};
 
     ghost Value = { List Row };

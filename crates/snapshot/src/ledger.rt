@@ -10,7 +10,7 @@ pub const MAX_PASSES: u32 = 32;
 /// the one in which the number of its passes stands. Contracts alone see them.
 pub trait Server: Ledger {
     ghost use Rattle.std.specs.Prelude.{ℕ};
-    ghost use Rattle.step_model.specs.State.{State};
+    ghost use Rattle.capstep.specs.State.{State};
     ghost use Rattle.logbook.specs.Pages.{Book};
 
     ghost opening: { State };

@@ -7,13 +7,13 @@ use crate::note::{Noted, note_of};
 use crate::value::{Published, Stage};
 use atomic_table::{Join, Split};
 use capspec::FsName;
+use capstep::Row;
 use crossbeam_utils::rule::{Outcome, Protocol};
 use inotree::Tree;
 use left_right::reader::{Reader, Reading};
 use left_right::writer::Writer;
 use std::collections::LinkedList;
 use std::marker::PhantomData;
-use step_model::Row;
 
 /// Of which server something is, for contracts alone: the file system and the tree that it opened with, and the book of its rows.
 pub struct Origin {

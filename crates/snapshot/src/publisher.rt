@@ -12,13 +12,13 @@ use crate::ledger::Server;
 use crate::place::{Hears, PublishedReader, PublishedWriter, Sees, Tells};
 use crate::recorder::Recorder;
 use crate::staging::{stage_changes, stage_history, stage_view};
+use capstep::Row;
 use inotree::Tree;
 use policy_view::ViewChange;
 use sessiontab::Sessions;
 use std::alloc::{AllocError, Global};
 use std::marker::Model;
 use std::sync::Wait;
-use step_model::Row;
 
 /// Who publishes. What was refused memory goes out with the next: then the whole view is staged once more. It is not `Drop`:
 /// end it by `end`.

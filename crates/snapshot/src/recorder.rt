@@ -6,10 +6,10 @@ ghost use Rattle.snapshot.specs.Rows.{Legal, head_of, next_of};
 
 use crate::beginning::{Add, Beginning, Counted, Head, Law, Look, Make, Nothing, Rows};
 use crate::ledger::Server;
+use capstep::Row;
 use logbook::{Offer, Pen, Seen, Start, Word};
 use std::alloc::AllocError;
 use std::marker::Model;
-use step_model::Row;
 
 /// A book with no row, which has no name yet.
 pub struct NewRows {
@@ -85,7 +85,7 @@ impl<L: Server> Drop for Recorder<L> {
 
 impl<L: Server> Model for Recorder<L> {
     ghost use Rattle.std.specs.Prelude.{◌≡◌, List};
-    ghost use Rattle.step_model.specs.declared.row.Row.{Row};
+    ghost use Rattle.capstep.specs.declared.row.Row.{Row};
     ghost use Rattle.snapshot.specs.Rows.{head_of, next_of, rows_code};
 
     ghost Value = { List Row };

@@ -9,11 +9,11 @@ use crate::ledger::Server;
 use crate::place::PublishedWriter;
 use crate::recorder::{Recorder, gather};
 use crate::value::Stage;
+use capstep::Row;
 use inotree::Tree;
 use policy_view::{View, ViewChange};
 use sessiontab::Sessions;
 use std::alloc::{AllocError, Global};
-use step_model::Row;
 
 // Takes the rows of the history that are new into the book and stages them, behind what leads to their view. It says whether all is
 // staged.

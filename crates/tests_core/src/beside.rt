@@ -5,11 +5,12 @@ ghost use Rattle.capserver.specs.Opened.{opened};
 
 use crate::asserting::{present, same};
 use capbits::{ClientId, Ino};
+use capexplain::read_line;
 use capgrant::{Access, Verdict};
 use capscript::file_system;
 use capserver::{CapServer, Gate, Opening, Pass, StartFault};
+use capstep::{Event, Reply};
 use policy_view::{Question, Unknown};
-use script_syntax::read_line;
 use snapshot::Server;
 use std::alloc::{AllocError, Global};
 use std::marker::Brand;
@@ -18,7 +19,6 @@ use std::sync::Wait;
 use std::sync::atomic::{AtomicU64, Ordering};
 use std::sync::ledger::Blank;
 use std::thread::{Threads, join, yield_now};
-use step_model::{Event, Reply};
 
 // How often a thread yields while it waits for another one.
 const TURNS: u32 = 1_000_000;

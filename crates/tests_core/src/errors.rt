@@ -8,11 +8,11 @@ use capspec::{SpecFault, SpecFaultKind};
 use capstep::stop::Stop;
 use osd_caps::{OsdFault, OsdFaultKind};
 use policy_view::Unknown;
-use script_syntax::{LineFault, ScriptFault};
 use sessiontab::NoSession;
 use std::alloc::Global;
 use std::error::Error;
 use std::process::Abort;
+use texts::{LineFault, ScriptFault};
 
 // What went wrong, for a program that tells it to people.
 fn handed_on<E: Error>(error: E) -> anyhow::Result<()> {

@@ -3,10 +3,10 @@
 use crate::asserting::same;
 use crate::runs::{ALL_KINDS, ALL_KINDS_ANSWERED};
 use capscript::run;
-use script_syntax::{ScriptFault, Watched};
-use std::alloc::Global;
 use std::io;
+use std::alloc::Global;
 use std::io::{ErrorKind, Read, Write};
+use texts::{ScriptFault, Watched};
 
 // Reads once into so much room: how many bytes came, or none for a failure, whether the reader has failed by then, and whether
 // it came to its end.

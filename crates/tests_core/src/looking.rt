@@ -4,9 +4,9 @@ use crate::asserting::made;
 use crate::texts::text_of;
 use capcore::Core;
 use capexplain::audit_line;
+use capstep::Row;
 use std::alloc::Global;
 use std::process::Abort;
-use step_model::Row;
 
 // What the core promises of it stays here.
 fn row(core: &Core, place: usize) -> Option<&Row> {

@@ -2,7 +2,7 @@
 
 use crate::asserting::{made, same};
 use crate::texts::line_of;
-use dense_map::Numbered;
+use capbits::Numbered;
 
 // Values that come, or are put in place of another, and what the map then shows.
 const COMING: &[(u64, u64, &str)] = &[

@@ -2,9 +2,9 @@
 
 use crate::asserting::same;
 use capscript::run;
-use script_syntax::{ScriptFault, Watched};
-use std::alloc::Global;
 use std::io;
+use std::alloc::Global;
+use texts::{ScriptFault, Watched};
 
 /// Lines with each kind of answer and of message. The last line has no line feed.
 pub const ALL_KINDS: &str = "# all kinds

@@ -2,10 +2,10 @@
 
 use crate::asserting::{made, same};
 use arrayvec::ArrayVec;
-use capexplain::explain_line;
 use capgrant::{Access, Rules, Verdict};
 use queries::spelled;
 use std::alloc::{AllocError, Global};
+use texts::explain_line;
 
 /// A text, and the bytes that it spells: a character above 255 stands for its bytes in UTF-8.
 const SPELLINGS: &[(&str, &[u8])] = &[

@@ -23,7 +23,7 @@ use Rattle.policy_view.specs.declared.view.View.{View}
 use Rattle.policy_view.proofs.Answering.{here-path}
 use Rattle.policy_view.proofs.Likeness.{clients-unseen, like-settled, like-unseen, shows-sessions, shows-tree}
 use Rattle.policy_view.proofs.Telling.{changes-alike, changes-more, changes-none}
-use Rattle.step_model.specs.NotedChanges.{view}
+use Rattle.capstep.specs.NotedChanges.{view}
 use Rattle.worked_cases.specs.Trees.{root_alone, with_file}
 use Rattle.worked_cases.specs.Verdicts.{owned}
 use Rattle.worked_cases.specs.Views.{answer, answered, is_ended, is_forgotten, is_settled, view_after}

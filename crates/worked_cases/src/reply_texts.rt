@@ -3,9 +3,9 @@
 
 ghost use Rattle.std.specs.Prelude.{◌≡◌, ◌++◌, [], ◌∷◌, codes};
 ghost use Rattle.capexplain.specs.Replies.{reply_text};
-ghost use Rattle.step_model.specs.declared.outcome.Message.TheVariants.{Ended};
-ghost use Rattle.step_model.specs.declared.outcome.Outcome.TheVariants as outcome;
-ghost use Rattle.step_model.specs.declared.reply.Reply.TheVariants.{Messages, OutOfMemory};
+ghost use Rattle.capstep.specs.declared.outcome.Message.TheVariants.{Ended};
+ghost use Rattle.capstep.specs.declared.outcome.Outcome.TheVariants as outcome;
+ghost use Rattle.capstep.specs.declared.reply.Reply.TheVariants.{Messages, OutOfMemory};
 
 /// Want of memory has a text, as an answer and as the end of a request. So has the end of a request whose session ended before, under the last number.
 pub fn what_no_script_brings_about()

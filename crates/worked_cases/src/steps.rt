@@ -13,9 +13,9 @@ ghost use Rattle.locktable.specs.declared.states.LockState.TheVariants.{Gather, 
 ghost use Rattle.lockmachine.specs.Moves.{first_move};
 ghost use Rattle.lockmachine.specs.Scene.{against, pending_of};
 ghost use Rattle.lockmachine.specs.declared.moves.Move.TheVariants.{Begin, End, Serve, Settled};
-ghost use Rattle.step_model.specs.Finish.{issuable};
-ghost use Rattle.step_model.specs.Serving.{judged_again};
-ghost use Rattle.step_model.specs.declared.rejection.Rejection.TheVariants.{ByPolicy};
+ghost use Rattle.capstep.specs.Finish.{issuable};
+ghost use Rattle.capstep.specs.Serving.{judged_again};
+ghost use Rattle.capstep.specs.declared.rejection.Rejection.TheVariants.{ByPolicy};
 ghost use Rattle.worked_cases.specs.Clients.{first, second};
 ghost use Rattle.worked_cases.specs.Entries.{file, reading, table};
 ghost use Rattle.worked_cases.specs.Scenes.{all_granted, asked, attributes, chmod, holds_all, holds_mixed, holds_pin, in_a, inner, moved_up, opens, shared};

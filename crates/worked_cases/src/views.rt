@@ -20,12 +20,12 @@ ghost use Rattle.policy_view.specs.Changes.{AreChanges};
 ghost use Rattle.policy_view.specs.declared.answer.Question.{Question};
 ghost use Rattle.policy_view.specs.declared.answer.Unknown.TheVariants as unknown;
 ghost use Rattle.policy_view.specs.declared.view.View.{View};
-ghost use Rattle.step_model.specs.NotedChanges.{view};
+ghost use Rattle.capstep.specs.NotedChanges.{view};
 ghost use Rattle.worked_cases.specs.Trees.{root_alone, with_file};
 ghost use Rattle.worked_cases.specs.Verdicts.{allow, caller, owned};
 ghost use Rattle.worked_cases.specs.Views.{all_moved, answer, asks, by_mode_bits, client_gone, client_reads, file_forgotten, file_moved, file_removed};
-ghost use Rattle.worked_cases.specs.Views.{first_keeps_snapshots, first_reads, is_ended, is_forgotten, is_made, is_moved, is_opened, is_regranted, is_removed, is_settled};
-ghost use Rattle.worked_cases.specs.Views.{two_directories, without_snapshot_kept};
+ghost use Rattle.worked_cases.specs.Views.{first_keeps_snapshots, first_reads, is_ended, is_forgotten, is_made, is_moved, is_opened, is_regranted, is_removed};
+ghost use Rattle.worked_cases.specs.Views.{is_settled, two_directories, without_snapshot_kept};
 
 /// What a view answers.
 pub fn answers_of_views()

@@ -1,6 +1,6 @@
 use Rattle.std.proofs.Common.{◌≡◌, cond, Some, ap, ◌∙◌, nat_eq}
 use Rattle.std.specs.FinMap as map
-use Rattle.dense_map.proofs.Maps.{insert-at}
+use Rattle.capbits.proofs.Maps.{insert-at}
 use Rattle.cap_arena.specs.declared.nodes.Ends.{Ends}
 use Rattle.cap_arena.specs.Heads.{ends_at, ends_or_none}
 use Rattle.cap_arena.specs.Places.{appended_ends}

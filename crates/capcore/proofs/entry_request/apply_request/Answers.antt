@@ -3,10 +3,10 @@ use Rattle.std.specs.Option.{option_map}
 use Rattle.capbits.specs.Caps.{has}
 use Rattle.captable.specs.Tests.{ack_tests}
 use Rattle.lockmachine.proofs.CountsStay.{held-change}
-use Rattle.step_model.specs.Direct.{with_want}
-use Rattle.capcore.proofs.CommonPieces.{AreCounted, Caps, ClientViews, Entry, Holder, KeptScene, KeptTable, OpenMode, P, Scene, Table, acked, changed, counted-held}
-use Rattle.capcore.proofs.CommonPieces.{entry_at, first_failing, has_pin, opening_wants, plain, revoked_of, same_found, test_at, touched, union, wanting, with_entry}
-use Rattle.capcore.proofs.CommonPieces.{without, without_acked, without_released}
+use Rattle.capstep.specs.Direct.{with_want}
+use Rattle.capcore.proofs.CommonPieces.{AreCounted, Caps, ClientViews, Entry, Holder, KeptScene, KeptTable, OpenMode, P, Scene, Table, acked, changed}
+use Rattle.capcore.proofs.CommonPieces.{counted-held, entry_at, first_failing, has_pin, opening_wants, plain, revoked_of, same_found, test_at, touched, union}
+use Rattle.capcore.proofs.CommonPieces.{wanting, with_entry, without, without_acked, without_released}
 use Rattle.capcore.proofs.CountsStay.{counted-entry, counted-less}
 use Rattle.capcore.proofs.EntryStays.{kept-changed, kept-less}
 use Rattle.capcore.proofs.Revoking.{pin-goes}

@@ -1,7 +1,7 @@
 use Rattle.std.proofs.Common.{◌≡◌, [], ◌∷◌, length, refl, sym, ap, subst, ◌∙◌, arith}
 use Rattle.std.proofs.lemmas.List.{length-append}
 use Rattle.std.specs.List.{fold}
-use Rattle.step_model.proofs.Noting.{leads-forgotten}
+use Rattle.capstep.proofs.Noting.{leads-forgotten}
 use Rattle.lockmachine.proofs.CountsStay.{counted-dropped}
 use Rattle.policy_view.specs.declared.change.ViewChange.TheVariants.{Forgotten}
 use Rattle.lockmachine.specs.Locks.{without_ino}

@@ -1,7 +1,7 @@
 use Rattle.std.proofs.Common.{ℕ, ◌+◌, ◌≤◌, get_or, List, sym, ap, subst, ◌∙◌, true≢false, arith}
 use Rattle.std.specs.List.{AllWithin}
 use Rattle.std.specs.FinSet as set
-use Rattle.step_model.specs.NotedChanges.{Noted}
+use Rattle.capstep.specs.NotedChanges.{Noted}
 use Rattle.capcore.proofs.CommonPieces.{EntryRow, Ino, InoSet}
 use Rattle.capstep.proofs.InoSets.{added, few-tried, widens-tried}
 use Rattle.capstep.proofs.Walked.{IsAdded, added-more}

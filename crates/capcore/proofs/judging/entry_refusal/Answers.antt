@@ -1,6 +1,6 @@
 use Rattle.std.proofs.Common.{refl, sym, ap, ◌∙◌}
 use Rattle.captable.specs.Tests.{ack_tests}
-use Rattle.step_model.specs.Judge.{connected_tests}
+use Rattle.capstep.specs.Judge.{connected_tests}
 use Rattle.capcore.proofs.Common.{EntryRequest, Scene, before, entry_event, first_failing, passed-front, plain, revoked_of}
 use Rattle.capcore.proofs.judging.entry_refusal.Goals as goal
 

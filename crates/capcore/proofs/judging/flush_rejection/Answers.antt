@@ -1,6 +1,6 @@
 use Rattle.std.proofs.Common.{◌≡◌, [], ◌∷◌, sym, ap, ◌∙◌}
 use Rattle.std.specs.Option.{option_map}
-use Rattle.step_model.specs.declared.event.Event.TheVariants.{Flush}
+use Rattle.capstep.specs.declared.event.Event.TheVariants.{Flush}
 use Rattle.capcore.proofs.Common.{Access, ByTest, Cap, Caps, Event, Scene, after, basic_tests, before, caps_in, change_tests, exclusive, failing-front}
 use Rattle.capcore.proofs.Common.{first_failing, need, needs, part_of_change, passed, passed-front, plain, rejection, rejection_of, release_tests}
 use Rattle.capcore.proofs.judging.flush_rejection.Goals.{After-access_rejection, After-release_refusal, in-A, in-F, in-L, in-X}

@@ -2,7 +2,7 @@ use Rattle.std.proofs.Common.{rules, tests, ◌≡◌, Some, unwrap_or, sym, ap,
 use Rattle.std.proofs.lemmas.Iterator.{YieldsList-from_slice}
 use Rattle.std.proofs.lemmas.Iterator.Search.{position_from_yields_List}
 use Rattle.std.specs.List.{find, position}
-use Rattle.step_model.proofs.Taking.{none_taken, taken}
+use Rattle.capstep.proofs.Taking.{none_taken, taken}
 use Rattle.lockmachine.proofs.Positions.{no_position}
 use Rattle.capcore.proofs.Common.{Reply, awaited_as, but_for, is_of_ticket, outcome_reply}
 use Rattle.capcore.proofs.moving.awaited.Goals.{After-into_reply, After-position}

@@ -1,6 +1,6 @@
 use Rattle.std.proofs.Common.{◌≡◌, ◌++◌, List, [], ◌∷◌, take, sym, ap, ◌∙◌, append_assoc, if◌then◌else◌}
-use Rattle.step_model.specs.declared.outcome.Message.TheVariants.{Recall}
-use Rattle.step_model.specs.Messages.{caps_messages, recall_messages, size_messages}
+use Rattle.capstep.specs.declared.outcome.Message.TheVariants.{Recall}
+use Rattle.capstep.specs.Messages.{caps_messages, recall_messages, size_messages}
 use Rattle.capcore.proofs.CommonPieces.{EntryRow, Message}
 use Rattle.capcore.proofs.Polling.{take-take_append}
 

@@ -4,10 +4,10 @@ use Rattle.std.proofs.lemmas.List.{length-append}
 use Rattle.std.specs.List.{filter_map}
 use Rattle.std.specs.FinSet as set
 use Rattle.capstep.proofs.Walked.{none-walked}
-use Rattle.step_model.specs.Settle.{is_done, sets_size}
-use Rattle.capcore.proofs.CommonPieces.{AreWalked, Covers, Ended, Ino, InoSet, IsLockMap, IsTree, IsWidenedBy, KeptScene, LeadOn, Nodes, Outcome, Request, Scene, Serve}
-use Rattle.capcore.proofs.CommonPieces.{Served, Table, ends_not, first_move, known_of, leads-none, leads-then, lock_at, plain, request_at, served-at, sized_in}
-use Rattle.capcore.proofs.CommonPieces.{tree_after}
+use Rattle.capstep.specs.Settle.{is_done, sets_size}
+use Rattle.capcore.proofs.CommonPieces.{AreWalked, Covers, Ended, Ino, InoSet, IsLockMap, IsTree, IsWidenedBy, KeptScene, LeadOn, Nodes, Outcome, Request}
+use Rattle.capcore.proofs.CommonPieces.{Scene, Serve, Served, Table, ends_not, first_move, known_of, leads-none, leads-then, lock_at, plain, request_at}
+use Rattle.capcore.proofs.CommonPieces.{served-at, sized_in, tree_after}
 use Rattle.capcore.proofs.Judged.{none-judged, still-judged}
 use Rattle.capcore.proofs.Moved.{moved-all, tree-moved}
 use Rattle.capcore.proofs.OneChange.{within-after}

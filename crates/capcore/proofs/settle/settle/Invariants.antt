@@ -1,7 +1,7 @@
 use Rattle.std.proofs.Common.{◌≡◌, ◌≤◌, ◌+◌, length, vec_capacity}
 use Rattle.std.specs.FinSet as set
-use Rattle.step_model.specs.DueEndings.{HasRoom}
-use Rattle.step_model.specs.NotedChanges.{HavePlaces}
+use Rattle.capstep.specs.DueEndings.{HasRoom}
+use Rattle.capstep.specs.NotedChanges.{HavePlaces}
 use Rattle.capcore.proofs.CommonPieces.{AreWalked, Holder, LeadOn, known_of, plain}
 use Rattle.capcore.proofs.SoFar.{IsSoFar}
 use Rattle.capcore.specs.Begun.{AreCountedIn, ArePermittedIn}

@@ -2,7 +2,7 @@ use Rattle.std.proofs.Common.{◌++◌, arith, sym, ap, ◌∙◌, append_assoc}
 use Rattle.std.specs.Prelude.{codes}
 use Rattle.std.specs.List.{flat_map}
 use Rattle.std.proofs.lemmas.List.{append-nil, take_all}
-use Rattle.capexplain.proofs.Texts.{behind_space, texts-more}
+use Rattle.texts.proofs.Texts.{behind_space, texts-more}
 use Rattle.capexplain.proofs.event_text.print_numbers.Goals as goal
 
 pub loop-number-init : goal.loop-number-init

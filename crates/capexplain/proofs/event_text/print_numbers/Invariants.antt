@@ -1,6 +1,6 @@
 use Rattle.std.proofs.Common.{◌≡◌, ◌++◌, take}
 use Rattle.std.specs.List.{flat_map}
-use Rattle.capexplain.proofs.Texts.{behind_space}
+use Rattle.texts.proofs.Texts.{behind_space}
 use Rattle.capexplain.proofs.event_text.print_numbers.Given as goal
 
 abbrev pub invariant-loop-number : goal.invariant-loop-number

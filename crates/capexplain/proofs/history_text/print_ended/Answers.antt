@@ -2,7 +2,7 @@ use Rattle.std.proofs.Common.{◌++◌, arith, sym, ap, ◌∙◌}
 use Rattle.std.specs.List.{flat_map}
 use Rattle.std.proofs.lemmas.List.{append-nil, take_all}
 use Rattle.capexplain.specs.Audit.{ended_text}
-use Rattle.capexplain.proofs.Texts.{texts-more}
+use Rattle.texts.proofs.Texts.{texts-more}
 use Rattle.capexplain.proofs.history_text.print_ended.Goals as goal
 
 pub loop-one-init : goal.loop-one-init

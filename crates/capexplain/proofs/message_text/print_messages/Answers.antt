@@ -2,7 +2,7 @@ use Rattle.std.proofs.Common.{◌++◌, arith, sym, ap, ◌∙◌}
 use Rattle.std.specs.List.{flat_map}
 use Rattle.std.proofs.lemmas.List.{append-nil, take_all}
 use Rattle.capexplain.specs.Replies.{message_line}
-use Rattle.capexplain.proofs.Texts.{texts-more}
+use Rattle.texts.proofs.Texts.{texts-more}
 use Rattle.capexplain.proofs.message_text.print_messages.Goals as goal
 
 pub loop-message-init : goal.loop-message-init

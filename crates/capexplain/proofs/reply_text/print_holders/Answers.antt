@@ -3,7 +3,8 @@ use Rattle.std.specs.List.{flat_map}
 use Rattle.std.proofs.lemmas.Bool.Decides.{nat_tests}
 use Rattle.std.proofs.lemmas.List.{append-nil, take_all}
 use Rattle.capexplain.specs.Replies.{holder_text}
-use Rattle.capexplain.proofs.Texts.{some_holders, texts-more}
+use Rattle.capexplain.proofs.Holders.{some_holders}
+use Rattle.texts.proofs.Texts.{texts-more}
 use Rattle.capexplain.proofs.reply_text.print_holders.Goals as goal
 
 pub loop-holder-init : goal.loop-holder-init

@@ -1,7 +1,7 @@
 use Rattle.std.proofs.Common.{arith, ap, ◌∙◌}
 use Rattle.std.specs.Prelude.{codes}
 use Rattle.capexplain.specs.Replies.{rule_text}
-use Rattle.capexplain.proofs.Numbered.{printed-first, printed-more}
+use Rattle.texts.proofs.Numbered.{printed-first, printed-more}
 use Rattle.capexplain.proofs.reply_text.print_rules.Goals as goal
 use Rattle.capexplain.proofs.reply_text.print_rules.Goals.{else-place-gt0, then-place-gt0+in_ok-print_str-2}
 

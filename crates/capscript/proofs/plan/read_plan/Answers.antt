@@ -1,5 +1,5 @@
 use Rattle.std.proofs.Common.{arith}
-use Rattle.script_syntax.specs.Lines.{lines}
+use Rattle.texts.specs.ScriptLines.{lines}
 use Rattle.capscript.specs.Jobs.{StopsAt, no_work, work_of}
 use Rattle.capscript.proofs.Plans.{handed_on, so_far_more, stopped_at}
 use Rattle.capscript.proofs.plan.read_plan.Goals as goal

@@ -1,7 +1,7 @@
 use Rattle.std.proofs.Common.{◌≡◌, ℕ, List, Result, Ok, Err, OnErr, sym, ◌∙◌, subst}
 use Rattle.std.specs.Io.KnownBytes.{Appends}
 use Rattle.inotree.proofs.Results.{on_ok}
-use Rattle.script_syntax.specs.Watched.{inner_of}
+use Rattle.texts.specs.Watched.{inner_of}
 use Rattle.capscript.proofs.running.answer_event.Goals as goal
 
 pub returns-in-Ok-reply_lines-clause-ok : goal.returns-in-Ok-reply_lines-clause-ok

@@ -1,4 +1,4 @@
-use Rattle.script_syntax.specs.Watched.{inner_of}
+use Rattle.texts.specs.Watched.{inner_of}
 use Rattle.capscript.proofs.Histories.{event_answered, event_stopped, read_said, stopped_unread}
 use Rattle.capscript.proofs.running.answer_line.Goals as goal
 

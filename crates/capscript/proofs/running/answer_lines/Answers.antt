@@ -1,7 +1,7 @@
 use Rattle.std.proofs.Common.{arith}
-use Rattle.script_syntax.specs.Watched.{inner_of}
+use Rattle.texts.specs.Watched.{inner_of}
 use Rattle.capscript.proofs.Histories.{last_line, room_left, so_far_more, so_far_none, stopped_by}
-use Rattle.script_syntax.proofs.Flags.{not_set}
+use Rattle.texts.proofs.Flags.{not_set}
 use Rattle.capscript.proofs.running.answer_lines.Goals as goal
 
 pub loop-text-init : goal.loop-text-init

@@ -1,6 +1,6 @@
 use Rattle.std.proofs.Common.{length}
 use Rattle.std.specs.Prelude.{IsFalse}
-use Rattle.script_syntax.specs.Watched.{has_failed, inner_of}
+use Rattle.texts.specs.Watched.{has_failed, inner_of}
 use Rattle.capscript.proofs.Histories.{SoFar}
 use Rattle.capscript.proofs.running.answer_lines.Given as goal
 

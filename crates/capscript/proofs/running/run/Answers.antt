@@ -2,11 +2,11 @@ use Rattle.std.proofs.Common.{◌≡◌, ℕ, ◌<◌, Bool, Option, None, Some,
 use Rattle.std.specs.Prelude.{◌⊎◌, ◌↔◌, Result, Ok, Err, IfSome, IsErrAnd, IsTrue, IsFalse}
 use Rattle.std.specs.Io.KnownBytes.{Appends}
 use Rattle.std.proofs.lemmas.Bool.{false≢true}
-use Rattle.script_syntax.specs.declared.fault.ScriptFault.{ScriptFault}
-use Rattle.script_syntax.specs.declared.fault.ScriptFault.TheVariants as stops
-use Rattle.script_syntax.specs.Lines.{longest_script}
-use Rattle.script_syntax.specs.Watched.{has_ended, inner_of}
-use Rattle.script_syntax.proofs.KnownBytes.{none_appended}
+use Rattle.texts.specs.declared.fault.ScriptFault.{ScriptFault}
+use Rattle.texts.specs.declared.fault.ScriptFault.TheVariants as stops
+use Rattle.texts.specs.ScriptLines.{longest_script}
+use Rattle.texts.specs.Watched.{has_ended, inner_of}
+use Rattle.texts.proofs.KnownBytes.{none_appended}
 use Rattle.capscript.proofs.Histories.{early_fault, known_ran, whole_ran}
 use Rattle.capscript.proofs.running.run.Goals as goal
 

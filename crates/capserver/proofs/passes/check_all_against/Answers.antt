@@ -1,6 +1,6 @@
 use Rattle.std.proofs.Common.{◌≡◌, ◌∙◌, ℕ, suc, ◌+◌, List, take, subst, arith}
 use mathlib.Core.List.{IsPrefix}
-use Rattle.step_model.specs.declared.row.Row.{Row}
+use Rattle.capstep.specs.declared.row.Row.{Row}
 use Rattle.capserver.specs.Passes.{AllBegin}
 use Rattle.capserver.proofs.Numbering.{begin_all, begin_more}
 use Rattle.capserver.proofs.passes.check_all_against.Goals as goal

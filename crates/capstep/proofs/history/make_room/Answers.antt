@@ -1,5 +1,5 @@
 -- A history that is looked at here is never longer than it may be, so one that is as long is full.
-use Rattle.std.proofs.Common.{refl, arith}
+use Rattle.std.proofs.Common.{arith, refl}
 use Rattle.capstep.proofs.history.make_room.Goals as goal
 
 pub returns-then-len-max_rows-clause-full : goal.returns-then-len-max_rows-clause-full

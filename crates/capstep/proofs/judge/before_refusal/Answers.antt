@@ -4,7 +4,7 @@ use Rattle.inotree.specs.Tests.{inode_tests, root_test}
 use Rattle.lockmachine.specs.declared.request.Operation.TheVariants.{Get, Rename}
 use Rattle.lockmachine.specs.Scene.{plain}
 use Rattle.capstep.proofs.Common.{Alter, Nodes, Operation, Refusal, Rmdir, Scene, Unlink, first_failing, operation_before}
-use Rattle.capstep.specs.Operations.{operation_of}
+use Rattle.capstep.specs.OperationRefs.{operation_of}
 use Rattle.capstep.specs.declared.operations.OperationRef.{OperationRef}
 use Rattle.capstep.proofs.judge.before_refusal.Goals as goal
 

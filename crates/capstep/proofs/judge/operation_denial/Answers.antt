@@ -2,12 +2,12 @@ use Rattle.std.proofs.Common.{◌≡◌, List, [], ◌∷◌, ◌++◌, Option, 
 use Rattle.std.specs.Option.{option_map}
 use Rattle.capgrant.specs.declared.access.Access.TheVariants.{Read, Write}
 use Rattle.inotree.specs.Tree.{parent}
-use Rattle.step_model.specs.Needs.{need_if}
+use Rattle.capstep.specs.Needs.{need_if}
 use Rattle.lockmachine.specs.Scene.{plain}
 use Rattle.capstep.proofs.Again.{denied-first}
 use Rattle.capstep.proofs.Common.{Access, Holder, Ino, Need, Rejection, Scene, denial_of, need, operation_needs, rejection_of}
 use Rattle.capstep.proofs.judge.operation_denial.Goals.{in-Alter, in-Get, in-Rename, in-Unlink}
-use Rattle.capstep.specs.Operations.{operation_of}
+use Rattle.capstep.specs.OperationRefs.{operation_of}
 use Rattle.capstep.specs.declared.operations.OperationRef.{OperationRef}
 use Rattle.capstep.proofs.judge.operation_denial.Goals as goal
 

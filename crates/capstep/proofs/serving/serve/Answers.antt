@@ -1,6 +1,6 @@
 use Rattle.std.proofs.Common.{◌≡◌, Option, None, refl, sym, ap, ◌∙◌}
 use Rattle.lockmachine.specs.Scene.{plain, scene}
-use Rattle.step_model.proofs.Twice.{given-twice, recorded-twice}
+use Rattle.capstep.proofs.Twice.{given-twice, recorded-twice}
 use Rattle.capstep.proofs.Again.{calls-passed, ends-passed, ends-rejection, ends-without_memory, tree-passed}
 use Rattle.capstep.proofs.Common.{Operation, Outcome, Rejection, Request, Scene, judged_again, operation_after, operation_before, operation_needs}
 use Rattle.capstep.proofs.Common.{rejection_of, tree_after}

@@ -1,7 +1,7 @@
 use Rattle.std.proofs.Common.{sym}
 use Rattle.std.specs.Cmp.{nat_cmp_total}
 use Rattle.std.specs.FinMap as map
-use Rattle.dense_map.proofs.Maps.{change-same}
+use Rattle.capbits.proofs.Maps.{change-same}
 use Rattle.captable.specs.declared.polls.Poll.{Poll}
 use Rattle.captable.specs.Polls.{recounted}
 use Rattle.captable.proofs.Polled.{recounted-same}

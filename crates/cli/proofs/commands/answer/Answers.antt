@@ -1,7 +1,7 @@
 use Rattle.std.proofs.Common.{ℕ, List, rules, sym, subst, ◌∙◌}
 use Rattle.std.specs.Prelude.{IfErr}
 use Rattle.std.proofs.lemmas.Result.{IfErr-at_err}
-use Rattle.script_syntax.specs.Watched.{has_failed, inner_of}
+use Rattle.texts.specs.Watched.{has_failed, inner_of}
 use Rattle.cli_queries.specs.Answers.{StopsExplainArgs}
 use Rattle.cli_queries.specs.AuditArgs.{StopsAuditArgs}
 use Rattle.cli_queries.specs.WhoArgs.{StopsWhoArgs}

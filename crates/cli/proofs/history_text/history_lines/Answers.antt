@@ -1,6 +1,6 @@
 use Rattle.std.proofs.Common.{◌++◌, [], arith, ap, ◌∙◌}
 use Rattle.std.proofs.lemmas.List.{take_all}
-use Rattle.capexplain.proofs.Texts.{texts-more}
+use Rattle.texts.proofs.Texts.{texts-more}
 use Rattle.cli.specs.Served.{history_lines, row_line}
 use Rattle.cli.proofs.history_text.history_lines.Goals as goal
 

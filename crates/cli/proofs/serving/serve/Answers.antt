@@ -1,7 +1,7 @@
 use Rattle.std.proofs.Common.{◌≡◌, ℕ, refl, inl, inr}
 use Rattle.std.specs.Prelude.{◌⊎◌, Err}
-use Rattle.script_syntax.specs.Watched.{inner_of}
-use Rattle.script_syntax.specs.declared.fault.ScriptFault.TheVariants as stops
+use Rattle.texts.specs.Watched.{inner_of}
+use Rattle.texts.specs.declared.fault.ScriptFault.TheVariants as stops
 use Rattle.cli.proofs.Writing.{unread_written, whole_written}
 use Rattle.cli.proofs.serving.serve.Goals as goal
 

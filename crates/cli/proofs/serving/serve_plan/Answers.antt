@@ -1,5 +1,5 @@
 use Rattle.std.proofs.Common.{subst}
-use Rattle.step_model.specs.History.{IsOpening}
+use Rattle.capstep.specs.History.{IsOpening}
 use Rattle.capscript.specs.Transcript.{fs_name}
 use Rattle.cli.proofs.serving.serve_plan.Goals as goal
 

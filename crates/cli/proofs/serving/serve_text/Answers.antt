@@ -1,5 +1,5 @@
 use Rattle.std.proofs.Common.{ap, ◌∙◌}
-use Rattle.script_syntax.specs.Lines.{lines}
+use Rattle.texts.specs.ScriptLines.{lines}
 use Rattle.capscript.specs.Jobs.{work_of}
 use Rattle.cli.specs.Served.{IsUnserved, history_lines}
 use Rattle.capscript.proofs.Plans.{handed_on}

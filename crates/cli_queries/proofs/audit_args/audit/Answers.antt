@@ -1,6 +1,6 @@
 use Rattle.std.proofs.Common.{rules}
 use Rattle.ceph_input.specs.Dump.{dump}
-use Rattle.script_syntax.specs.Watched.{has_failed, inner_of}
+use Rattle.texts.specs.Watched.{has_failed, inner_of}
 use Rattle.cli_queries.proofs.Audits.{audit_reported}
 use Rattle.cli_queries.proofs.audit_args.audit.Goals as goal
 

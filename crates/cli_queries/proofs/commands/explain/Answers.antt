@@ -1,4 +1,4 @@
-use Rattle.script_syntax.specs.Watched.{has_failed, inner_of}
+use Rattle.texts.specs.Watched.{has_failed, inner_of}
 use Rattle.cli_queries.proofs.Explained.{answered, stopped}
 use Rattle.cli_queries.proofs.commands.explain.Goals as goal
 

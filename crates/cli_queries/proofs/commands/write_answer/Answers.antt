@@ -1,4 +1,4 @@
-use Rattle.script_syntax.specs.Watched.{has_failed, inner_of}
+use Rattle.texts.specs.Watched.{has_failed, inner_of}
 use Rattle.cli_queries.proofs.Unwritten.{line_unwritten, missed_unwritten, refused_question}
 use Rattle.cli_queries.proofs.commands.write_answer.Goals as goal
 

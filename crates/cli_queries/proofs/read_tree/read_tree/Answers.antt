@@ -1,9 +1,9 @@
 use Rattle.std.proofs.Common.{◌++◌, arith, inl, inr, refl, take, length, length-append}
 use Rattle.std.proofs.lemmas.Bool.{false≢true}
 use Rattle.ceph_input.specs.Reader.{so_far}
-use Rattle.script_syntax.specs.Watched.{inner_of}
-use Rattle.script_syntax.proofs.KnownBytes.{consumed_is_there, consumes_more}
-use Rattle.script_syntax.proofs.Flags.{still_clear}
+use Rattle.texts.specs.Watched.{inner_of}
+use Rattle.texts.proofs.KnownBytes.{consumed_is_there, consumes_more}
+use Rattle.texts.proofs.Flags.{still_clear}
 use Rattle.cli_queries.proofs.Grown.{piece_read}
 use Rattle.cli_queries.proofs.read_tree.read_tree.Goals as goal
 

@@ -3,7 +3,7 @@ use Rattle.std.specs.Prelude.{IsFalse}
 use Rattle.std.specs.Io.KnownBytes.{Consumes}
 use Rattle.ceph_input.specs.Dump.{tree_left, tree_of}
 use Rattle.ceph_input.specs.Reader.{so_far}
-use Rattle.script_syntax.specs.Watched.{has_failed, inner_of}
+use Rattle.texts.specs.Watched.{has_failed, inner_of}
 use Rattle.cli_queries.proofs.read_tree.read_tree.Given as goal
 
 -- what was read so far is what was taken from the reader, and no read failed

@@ -1,6 +1,6 @@
 use Rattle.std.proofs.Common.{List, subst, ℕ}
 use Rattle.ceph_input.specs.Auth.{IsFaultOf, auth_of}
-use Rattle.script_syntax.specs.Watched.{has_failed, inner_of}
+use Rattle.texts.specs.Watched.{has_failed, inner_of}
 use Rattle.cli_queries.proofs.WhoAnswered.{list_refused}
 use Rattle.cli_queries.proofs.who_args.who.Goals as goal
 

@@ -1,7 +1,7 @@
 use Rattle.std.proofs.Common.{ℕ, List, codes, ◌++◌, append_assoc, ◌∙◌}
 use Rattle.std.proofs.lemmas.Result.{on_ok_weaker}
 use Rattle.std.specs.Fmt.{decimal}
-use Rattle.capexplain.specs.Quoting.{quoted}
+use Rattle.texts.specs.Quoting.{quoted}
 use Rattle.cluster_audit.specs.Lines.{who_text}
 use Rattle.cluster_audit.proofs.Noting.{behind}
 use Rattle.cluster_audit.proofs.lines.print_pathless_line.Goals as goal

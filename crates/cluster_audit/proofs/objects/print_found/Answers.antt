@@ -1,8 +1,8 @@
 use Rattle.std.proofs.Common.{ℕ, List, [], ◌∷◌, ◌++◌, codes, map, sym, ap, ◌∙◌}
 use Rattle.std.proofs.lemmas.Result.{on_ok_weaker}
 use Rattle.serde_json.specs.Data.{Data, string}
-use Rattle.capexplain.specs.Pieces.{piece_value}
-use Rattle.capexplain.specs.Values.{bytes_value, json_line, natural, object_of, or_null}
+use Rattle.texts.specs.Pieces.{piece_value}
+use Rattle.texts.specs.Values.{bytes_value, json_line, natural, object_of, or_null}
 use Rattle.cluster_audit.specs.declared.notes.Detail.{Detail}
 use Rattle.cluster_audit.specs.Objects.{access_value, caps_value, found_object, path_value, why_value}
 use Rattle.cluster_audit.proofs.objects.print_found.Goals as goal

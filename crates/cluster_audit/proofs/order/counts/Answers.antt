@@ -3,7 +3,7 @@ use Rattle.std.proofs.lemmas.List.{flat_map_more, take_more}
 use Rattle.std.specs.Global.{Vec}
 use Rattle.std.specs.List.{count_by, flat_map}
 use Rattle.std.specs.Str.{bytes_eq}
-use Rattle.capexplain.specs.declared.shape.Shape.{Shape}
+use Rattle.texts.specs.declared.shape.Shape.{Shape}
 use Rattle.cluster_audit.specs.Order.{counted_line}
 use Rattle.cluster_audit.specs.Shaped.{counted_in}
 use Rattle.cluster_audit.proofs.order.counts.Goals as goal

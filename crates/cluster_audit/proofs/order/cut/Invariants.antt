@@ -1,5 +1,5 @@
 use Rattle.std.proofs.Common.{◌≡◌, ◌++◌, length, map}
-use Rattle.script_syntax.specs.Lines.{lines}
+use Rattle.texts.specs.ScriptLines.{lines}
 use Rattle.cluster_audit.proofs.order.cut.Given as goal
 
 abbrev pub invariant-loop-line : goal.invariant-loop-line

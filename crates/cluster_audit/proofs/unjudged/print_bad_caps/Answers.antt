@@ -1,6 +1,6 @@
 use Rattle.std.proofs.Common.{◌++◌, map, sym, ap, ◌∙◌}
 use Rattle.std.proofs.lemmas.Result.{on_ok_weaker}
-use Rattle.capexplain.specs.declared.shape.Shape.{Shape}
+use Rattle.texts.specs.declared.shape.Shape.{Shape}
 use Rattle.cluster_audit.specs.Shaped.{bad_caps_in}
 use Rattle.cluster_audit.proofs.unjudged.print_bad_caps.Goals as goal
 

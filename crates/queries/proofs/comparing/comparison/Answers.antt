@@ -2,7 +2,7 @@ use Rattle.std.proofs.Common.{◌≡◌, ℕ, List, Option, rules, sym, ap, ◌�
 use Rattle.std.proofs.lemmas.Result.{IfOk-weaker}
 use Rattle.capspec.specs.declared.grant.Grant.{Grant}
 use Rattle.policy_analysis.specs.declared.witness.Witness.{Witness}
-use Rattle.capexplain.specs.declared.shape.Shape.{Shape}
+use Rattle.texts.specs.declared.shape.Shape.{Shape}
 use Rattle.queries.specs.Comparing.{Compares, IsGain, comparison_in}
 use Rattle.queries.proofs.comparing.comparison.Goals as goal
 

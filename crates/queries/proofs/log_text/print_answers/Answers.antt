@@ -3,7 +3,7 @@ use Rattle.std.specs.Prelude.{codes}
 use Rattle.std.specs.Fmt.{decimal}
 use Rattle.queries.specs.declared.question.Question.{Question}
 use Rattle.queries.specs.Remarks.{full_text}
-use Rattle.capexplain.proofs.Texts.{texts-more}
+use Rattle.texts.proofs.Texts.{texts-more}
 use Rattle.queries.specs.Reported.{answer_lines}
 use Rattle.queries.proofs.log_text.print_answers.Goals as goal
 

@@ -1,7 +1,7 @@
 use Rattle.std.proofs.Common.{◌≡◌, ℕ, List, ◌++◌, ap, ◌∙◌, append_assoc}
 use Rattle.std.specs.Prelude.{codes}
 use Rattle.std.specs.Fmt.{decimal}
-use Rattle.capexplain.specs.Quoting.{quoted}
+use Rattle.texts.specs.Quoting.{quoted}
 use Rattle.queries.proofs.log_text.print_unknown.Goals as goal
 
 in_a_row : (start a b c d : List ℕ) → ((start ++ (a ++ b)) ++ c) ++ d ≡ start ++ (a ++ (b ++ (c ++ d)))

@@ -1,7 +1,7 @@
 use Rattle.std.proofs.Common.{◌≡◌, ◌∷◌, [], ◌++◌, List, sym, subst, ◌∙◌, arith, rules}
 use mathlib.Core.List.{IsPrefix}
-use Rattle.step_model.specs.declared.row.Row.{Row}
-use Rattle.step_model.specs.State.{State}
+use Rattle.capstep.specs.declared.row.Row.{Row}
+use Rattle.capstep.specs.State.{State}
 use Rattle.snapshot.specs.Rows.{Legal}
 use Rattle.snapshot.proofs.Gathering.{legal_more, take_begins}
 use Rattle.snapshot.proofs.recorder.gather.Goals as goal

@@ -3,7 +3,7 @@ use Rattle.capspec.specs.declared.flags.Flags4.TheVariants.{R, Rws}
 use Rattle.sessiontab.specs.declared.session.Session.{Session}
 use Rattle.sessiontab.specs.declared.session.Status.TheVariants.{Open, Stale}
 use Rattle.policy_view.proofs.Telling.{changes-none}
-use Rattle.step_model.specs.NotedChanges.{view}
+use Rattle.capstep.specs.NotedChanges.{view}
 use Rattle.worked_cases.proofs.ViewAnswers.{client_goes, one, unseen-session}
 use Rattle.worked_cases.specs.Verdicts.{allow}
 use Rattle.worked_cases.specs.Views.{is_ended, is_opened, is_regranted}

@@ -1,7 +1,7 @@
 use Rattle.std.specs.Prelude.{codes, false, refl, true}
 use Rattle.inotree.specs.Inodes.{with_attribute, with_setting, with_snapshot, without_snapshot}
 use Rattle.inotree.specs.declared.node.Setting.TheVariants.{Size, Time}
-use Rattle.step_model.specs.NotedChanges.{view}
+use Rattle.capstep.specs.NotedChanges.{view}
 use Rattle.worked_cases.proofs.ViewAnswers.{mode_is_told, one, two, unseen-inode}
 use Rattle.worked_cases.specs.Trees.{root_alone}
 use Rattle.worked_cases.specs.Views.{is_forgotten, is_made, is_moved, is_removed}

@@ -1,6 +1,6 @@
 use Rattle.std.proofs.Common.{◌≡◌, ◌≤◌, List, length, [], refl, ap, ◌∙◌, arith, vec_capacity, vec_len}
 use Rattle.std.specs.List.{find}
-use Rattle.step_model.proofs.Twice.{both-twice}
+use Rattle.capstep.proofs.Twice.{both-twice}
 use Rattle.capcore.proofs.Begun.{few-earlier}
 use Rattle.capcore.proofs.Common.{DueEndings, Ended, State, awaited_as, entry_reply, has_list, is_of_ticket, plain, reply_of}
 use Rattle.capcore.proofs.EntryWhole.{no_list-request, request-reply}

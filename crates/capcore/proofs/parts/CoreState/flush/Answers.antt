@@ -1,6 +1,6 @@
 use Rattle.std.proofs.Common.{is_some, ◌≡◌, length, refl, sym, ap, subst, ◌∙◌, arith}
 use Rattle.std.specs.FinSet as set
-use Rattle.step_model.proofs.Noting.{changes-all}
+use Rattle.capstep.proofs.Noting.{changes-all}
 use Rattle.capcore.proofs.Begun.{on_err, one-begun}
 use Rattle.capcore.proofs.Common.{Affected, AffectsOne, AreCounted, Event, HoldAlike, Holder, InoSet, IsTable, KeptTable, Reply, StepOutput, Table, alike-less}
 use Rattle.capcore.proofs.Common.{direct, known_of, none-judged, one-counts, one-inode, permitted_of, plain, room-for, says, still-there, touched, with_flush}

@@ -1,6 +1,6 @@
 use Rattle.std.proofs.Common.{◌≡◌, ◌+◌, ◌++◌, ◌∷◌, [], List, length, refl, ap, sym, subst, ◌∙◌}
 use Rattle.capcore.proofs.Placed.{all-revoked}
-use Rattle.step_model.specs.History.{made_row}
+use Rattle.capstep.specs.History.{made_row}
 use Rattle.capcore.proofs.Apart.{held-apart}
 use Rattle.capcore.proofs.Bounded.{direct-order, moves-bounded}
 use Rattle.capcore.proofs.Common.{IsReplied, IsSound, Recorded, Reply, Row, Scene, ShowsWhatIsPending, State, Step, direct, recorded, rows_of, step-shown}

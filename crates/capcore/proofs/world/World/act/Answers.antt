@@ -1,5 +1,5 @@
 use Rattle.std.proofs.Common.{sym, ap, subst, ◌∙◌}
-use Rattle.step_model.proofs.Noting.{changes-unseen}
+use Rattle.capstep.proofs.Noting.{changes-unseen}
 use Rattle.capcore.proofs.Common.{Event, IsDirect, State, changes-still, direct, view_of}
 use Rattle.capcore.proofs.Effects.{looked-up}
 use Rattle.capcore.proofs.world.World.act.Goals as goal

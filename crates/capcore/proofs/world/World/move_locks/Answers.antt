@@ -1,7 +1,7 @@
 use Rattle.std.proofs.Common.{◌≡◌, ◌+◌, ◌++◌, List, length, sym, ap, subst, ◌∙◌, arith}
 use Rattle.std.proofs.lemmas.List.{length-append}
-use Rattle.step_model.specs.NotedChanges.{Noted}
-use Rattle.step_model.specs.Recorded.{twice}
+use Rattle.capstep.specs.NotedChanges.{Noted}
+use Rattle.capstep.specs.Recorded.{twice}
 use Rattle.capcore.proofs.Begun.{ended-known, ended-numbers, ended-replied, few-earlier, fewer-places, shown-counted, shown-rest, shown-stays}
 use Rattle.capcore.proofs.Closing.{ends-sessions}
 use Rattle.capcore.proofs.Common.{AreChanges, AreCounted, ClientViews, Ended, Event, IsLockMap, IsReplied, IsSound, IsTable, KeptScene, NumbersLeft, Scene}

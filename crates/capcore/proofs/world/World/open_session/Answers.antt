@@ -1,5 +1,5 @@
 use Rattle.std.proofs.Common.{[], ◌∷◌, refl, sym, ap, subst, ◌∙◌}
-use Rattle.step_model.proofs.Noting.{changes-one}
+use Rattle.capstep.proofs.Noting.{changes-one}
 use Rattle.capcore.proofs.Common.{AreChanges, State, ViewChange, changes-still, view_of}
 use Rattle.capcore.proofs.world.World.open_session.Goals as goal
 

@@ -1,8 +1,8 @@
 use Rattle.std.proofs.Common.{◌≡◌, ◌≤◌, [], List, length, filter, Some, refl, sym, ap, subst, ◌∙◌, arith}
 use Rattle.std.proofs.lemmas.List.Sums.{count_by-le-length, length-filter}
-use Rattle.step_model.proofs.Twice.{both-twice}
+use Rattle.capstep.proofs.Twice.{both-twice}
 use Rattle.capcore.proofs.Telling.{given-held}
-use Rattle.step_model.specs.DueEndings.{AreEndsOf}
+use Rattle.capstep.specs.DueEndings.{AreEndsOf}
 use Rattle.capcore.proofs.Common.{AreChanges, AreCounted, ByTest, Ended, Event, IsReplied, IsSound, IsTable, KeptTable, Message, Reply, State, StepReply}
 use Rattle.capcore.proofs.Common.{after_messages, alike-where, changed_where, changes-still, first_failing, first_messages, is_left, is_of_client, plain}
 use Rattle.capcore.proofs.Common.{rejection-before, session_tests, view_of, with_given}

@@ -1,5 +1,5 @@
 use Rattle.std.proofs.Common.{ap, subst, sym}
-use Rattle.step_model.proofs.Twice.{both-twice}
+use Rattle.capstep.proofs.Twice.{both-twice}
 use Rattle.capcore.proofs.Common.{AreChanges, Event, IsReplied, KeptTable, Reply, State, StepReply, changes-still, plain, view_of, with_table}
 use Rattle.capcore.proofs.Counts.{recalled-counted}
 use Rattle.capcore.proofs.Recalled.{recall-answered, recalled-sound, recalled-stays}

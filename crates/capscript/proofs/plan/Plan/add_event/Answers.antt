@@ -1,5 +1,5 @@
 use Rattle.std.proofs.Common.{◌≡◌, List, get_or, ap, rules}
-use Rattle.step_model.specs.declared.event.Event.{Event}
+use Rattle.capstep.specs.declared.event.Event.{Event}
 use Rattle.capscript.specs.declared.plan.Job.{Job}
 use Rattle.capscript.specs.Jobs.{Calls, calls_by}
 use Rattle.capscript.proofs.JobLists.{known_gets_event}

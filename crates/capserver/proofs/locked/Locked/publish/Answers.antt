@@ -1,6 +1,6 @@
 use Rattle.std.proofs.Common.{MatchOption, Option, ap, subst, sym}
 use mathlib.Core.List.{IsPrefix}
-use Rattle.step_model.specs.History.{Recorded}
+use Rattle.capstep.specs.History.{Recorded}
 use Rattle.snapshot.specs.Publishing.{Publishing}
 use Rattle.capserver.specs.Held.{IsHeld}
 use Rattle.snapshot.proofs.Publishing.{held_of}

@@ -3,8 +3,8 @@ use Rattle.std.specs.Option.{option_copied_mut}
 use mathlib.Core.List.{IsPrefix}
 use Rattle.policy_view.specs.declared.change.ViewChange.{ViewChange}
 use Rattle.policy_view.specs.Changes.{AreChanges}
-use Rattle.step_model.specs.History.{Recorded}
-use Rattle.step_model.specs.Noted.{view_of}
+use Rattle.capstep.specs.History.{Recorded}
+use Rattle.capstep.specs.Noted.{view_of}
 use Rattle.capcore.specs.Promised.{IsPromised}
 use Rattle.snapshot.specs.Publishing.{Publishing}
 use Rattle.capserver.specs.Held.{IsHeld}

@@ -1,7 +1,7 @@
 use Rattle.std.proofs.Common.{◌≡◌, ◌∙◌, ℕ, List, sym, subst, rules}
 use Rattle.std.proofs.lemmas.List.Elements.{same_from_all_zip}
 use Rattle.inotree.specs.Tree.{Nodes}
-use Rattle.step_model.specs.History.{IsOpening}
+use Rattle.capstep.specs.History.{IsOpening}
 use Rattle.capserver.proofs.opening.Opening.new.Goals as goal
 
 pub new-requires-2-clause-opens : goal.new-requires-2-clause-opens

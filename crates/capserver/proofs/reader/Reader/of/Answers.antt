@@ -1,5 +1,5 @@
 use Rattle.std.proofs.Common.{◌≡◌, List, [], sym, ap, subst, ◌∙◌}
-use Rattle.step_model.specs.declared.row.Row.{Row}
+use Rattle.capstep.specs.declared.row.Row.{Row}
 use Rattle.snapshot.specs.Publishing.{Publishing}
 use Rattle.snapshot.specs.Rows.{Legal}
 use Rattle.snapshot.proofs.Gathering.{legal_none}

@@ -1,7 +1,7 @@
 use Rattle.std.proofs.Common.{◌≡◌, List, ap, sym, subst, arith, length}
 use mathlib.Core.List.{IsPrefix}
-use Rattle.step_model.specs.declared.row.Row.{Row}
-use Rattle.step_model.specs.History.{Recorded}
+use Rattle.capstep.specs.declared.row.Row.{Row}
+use Rattle.capstep.specs.History.{Recorded}
 use Rattle.capserver.specs.Passes.{AllBegin}
 use Rattle.capserver.proofs.Numbering.{begin_longer}
 use Rattle.capserver.proofs.server.CapServer.close.Goals as goal

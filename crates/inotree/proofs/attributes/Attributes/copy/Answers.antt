@@ -4,7 +4,7 @@ use Rattle.std.specs.FinMap as map
 use Rattle.std.specs.Map.Iter.{deref_pair}
 use Rattle.std.proofs.lemmas.Map.Iter.{iter_end, rest_more, rest_so_far}
 use Rattle.inotree.proofs.Order.{name_same, name_total}
-use Rattle.dense_map.proofs.Copies.{copied_end, copied_none, copied_turn}
+use Rattle.capbits.proofs.Copies.{copied_end, copied_none, copied_turn}
 use Rattle.inotree.proofs.attributes.Attributes.copy.Goals as goal
 
 pub loop-name-init : goal.loop-name-init

@@ -2,7 +2,7 @@ use Rattle.std.proofs.Common.{map}
 use Rattle.std.specs.Map.Iter.{deref}
 use Rattle.std.specs.Cmp.{nat_cmp_total}
 use Rattle.std.specs.FinMap as fin
-use Rattle.dense_map.proofs.Copies.{IsCopiedAt}
+use Rattle.capbits.proofs.Copies.{IsCopiedAt}
 use Rattle.inotree.proofs.heights.Heights.copy.Given as goal
 
 abbrev pub invariant-loop-dir : goal.invariant-loop-dir

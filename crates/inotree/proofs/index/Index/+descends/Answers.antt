@@ -4,7 +4,7 @@ use Rattle.std.specs.Map.Iter.{deref_pair}
 use Rattle.std.proofs.lemmas.Map.Iter.{iter_end, rest_more, rest_so_far}
 use Rattle.inotree.specs.declared.index.Slot.{Slot}
 use Rattle.inotree.specs.Index.{index_descends}
-use Rattle.dense_map.proofs.Found.{any-map}
+use Rattle.capbits.proofs.Found.{any-map}
 use Rattle.inotree.proofs.Descending.{any_found, descends-step, descends-zero}
 use Rattle.inotree.proofs.index.Index.+descends.Goals as goal
 

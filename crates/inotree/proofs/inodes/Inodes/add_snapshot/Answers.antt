@@ -2,7 +2,7 @@ use Rattle.std.proofs.Common.{ℕ, OnOk, OnErr, sym, ap, subst, ◌∙◌}
 use Rattle.std.specs.Cmp.{nat_cmp_total}
 use Rattle.std.specs.FinMap as map
 use Rattle.capbits.specs.Maps.{change_at}
-use Rattle.dense_map.proofs.Maps.{change-is, change-none, insert-same}
+use Rattle.capbits.proofs.Maps.{change-is, change-none, insert-same}
 use Rattle.inotree.specs.declared.node.Node.{Node}
 use Rattle.inotree.specs.Inodes.{InodeMap, with_snapshot}
 use Rattle.inotree.proofs.Results.{err_of, ok_of, on_err, on_ok}

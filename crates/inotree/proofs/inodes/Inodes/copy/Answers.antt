@@ -3,7 +3,7 @@ use Rattle.std.specs.Cmp.{nat_cmp_total}
 use Rattle.std.specs.FinMap as map
 use Rattle.std.specs.Map.Iter.{deref}
 use Rattle.std.proofs.lemmas.Map.Iter.{iter_end}
-use Rattle.dense_map.proofs.Copies.{copied_keys, copied_none, copied_put, copied_skip}
+use Rattle.capbits.proofs.Copies.{copied_keys, copied_none, copied_put, copied_skip}
 use Rattle.inotree.proofs.inodes.Inodes.copy.Goals as goal
 
 pub loop-ino-init : goal.loop-ino-init

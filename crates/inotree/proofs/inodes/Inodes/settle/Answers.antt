@@ -2,7 +2,7 @@ use Rattle.std.proofs.Common.{ℕ, sym, ap, ◌∙◌}
 use Rattle.std.specs.Cmp.{nat_cmp_total}
 use Rattle.std.specs.FinMap as map
 use Rattle.capbits.specs.Maps.{change_at}
-use Rattle.dense_map.proofs.Maps.{change-is, change-none}
+use Rattle.capbits.proofs.Maps.{change-is, change-none}
 use Rattle.inotree.specs.declared.node.Node.{Node}
 use Rattle.inotree.specs.Inodes.{InodeMap, with_attr}
 use Rattle.inotree.proofs.inodes.Inodes.settle.Goals as goal

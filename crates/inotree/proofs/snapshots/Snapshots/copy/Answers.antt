@@ -7,7 +7,7 @@ use Rattle.std.specs.Map.Iter.{deref}
 use Rattle.std.proofs.lemmas.Map.Iter.{iter_end}
 use Rattle.inotree.specs.Names.{name_cmp}
 use Rattle.inotree.proofs.Order.{name_same, name_total}
-use Rattle.dense_map.proofs.Copies.{copied_set_all, copied_set_none, copied_set_turn}
+use Rattle.capbits.proofs.Copies.{copied_set_all, copied_set_none, copied_set_turn}
 use Rattle.inotree.proofs.snapshots.Snapshots.copy.Goals as goal
 
 pub loop-name-init : goal.loop-name-init

@@ -10,7 +10,7 @@ use Rattle.capbits.specs.Refusal.{first_failing}
 use Rattle.inotree.specs.Calls.{new_node}
 use Rattle.inotree.specs.Tests.{create_tests}
 use Rattle.inotree.proofs.Changes.{IsRaisable, consistent-added, consistent_at, raisable_at}
-use Rattle.dense_map.proofs.Maps.{put_back}
+use Rattle.capbits.proofs.Maps.{put_back}
 use Rattle.inotree.proofs.Named.{child-index}
 use Rattle.inotree.proofs.Passing.{passed-create}
 use Rattle.inotree.proofs.Results.{at_err, at_ok}

@@ -4,7 +4,7 @@ use Rattle.std.specs.FinMap as map
 use Rattle.std.specs.FinMap.{FinMap}
 use Rattle.std.specs.Ordering.{nat_cmp}
 use Rattle.capbits.specs.Maps.{change_at}
-use Rattle.dense_map.proofs.Maps.{change-is, change-none}
+use Rattle.capbits.proofs.Maps.{change-is, change-none}
 use Rattle.locktable.specs.declared.counts.Counts.{Counts}
 use Rattle.locktable.specs.GatherCounts.{with_count_in}
 use Rattle.lockmachine.specs.declared.states.LocksAt.{LocksAt}

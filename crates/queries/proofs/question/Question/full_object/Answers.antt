@@ -3,7 +3,7 @@ use Rattle.std.proofs.lemmas.Result.{IfOk-weaker}
 use Rattle.capgrant.specs.Question.{Question as Asked}
 use Rattle.policy_analysis.specs.Left.{left_to_client}
 use Rattle.policy_analysis.specs.Differences.{answered_otherwise}
-use Rattle.capexplain.specs.Answers.{answer_object}
+use Rattle.texts.specs.Answers.{answer_object}
 use Rattle.queries.specs.Question.{verdict_on}
 use Rattle.queries.specs.Remarks.{asked_of}
 use Rattle.queries.proofs.question.Question.full_object.Goals as goal

@@ -2,7 +2,7 @@ use Rattle.std.proofs.Common.{rules, ℕ, List, [], ◌∷◌, refl, sym, subst}
 use Rattle.capspec.specs.Faults.{IsFault}
 use Rattle.queries.specs.declared.fault.QuestionFault.TheVariants.{BadValue}
 use Rattle.queries.specs.declared.options.Opt.TheVariants.{Access, Fs, Gid, Grants, Group, Groups, Mode, Owner, Path, Uid}
-use Rattle.capexplain.specs.Access.{IsAccessWord}
+use Rattle.texts.specs.Access.{IsAccessWord}
 use Rattle.queries.specs.Values.{ArePathNames, IsFs}
 use Rattle.queries.proofs.FirstBad.{bad_grants, first_bad, good_grants, good_path, handed_on, names_first_bad, none_good}
 use Rattle.queries.proofs.question.Question.read.Goals as goal

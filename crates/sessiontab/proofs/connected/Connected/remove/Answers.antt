@@ -1,5 +1,5 @@
 use Rattle.std.proofs.Common.{sym}
-use Rattle.dense_map.proofs.Rowed.{remove_nothing}
+use Rattle.capbits.proofs.Rowed.{remove_nothing}
 use Rattle.sessiontab.proofs.connected.Connected.remove.Goals as goal
 
 pub returns-in-None-clause-ended : goal.returns-in-None-clause-ended

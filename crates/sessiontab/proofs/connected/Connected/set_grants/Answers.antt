@@ -1,7 +1,7 @@
 use Rattle.std.proofs.Common.{ℕ, List, sym, ap, ◌∙◌}
 use Rattle.std.specs.Cmp.{nat_cmp_total}
 use Rattle.std.specs.FinMap as map
-use Rattle.dense_map.proofs.Maps.{change-is, change-none}
+use Rattle.capbits.proofs.Maps.{change-is, change-none}
 use Rattle.capspec.specs.declared.grant.Grant.{Grant}
 use Rattle.sessiontab.specs.declared.session.Session.{Session}
 use Rattle.sessiontab.specs.Connected.{SessionMap, change_session}

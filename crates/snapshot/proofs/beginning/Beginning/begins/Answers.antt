@@ -1,7 +1,7 @@
 use Rattle.std.proofs.Common.{◌≤◌, ap, subst, arith, length, List}
 use Rattle.std.proofs.lemmas.Bool.Decides.{nat_tests}
 use mathlib.Core.List.{IsPrefix}
-use Rattle.step_model.specs.declared.row.Row.{Row}
+use Rattle.capstep.specs.declared.row.Row.{Row}
 use Rattle.snapshot.proofs.Beginnings.{prefix_shorter}
 use Rattle.snapshot.proofs.beginning.Beginning.begins.Goals as goal
 

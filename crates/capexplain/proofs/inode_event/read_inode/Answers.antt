@@ -1,0 +1,15 @@
+use Rattle.std.proofs.Common.{arith, refl, sym}
+use Rattle.capexplain.specs.declared.refused.Refused.TheVariants as refusals
+use Rattle.capexplain.specs.Events.Line.{Faulty}
+use Rattle.capexplain.proofs.SaidLines.{refused_by, two}
+use Rattle.capexplain.proofs.inode_event.read_inode.Goals as goal
+
+pub returns-in_err-client : goal.returns-in_err-client
+returns-in_err-client c =
+    rw (two c.args.arguments.now (omega arith), sym c.in_err-client.ensures)
+    (refused_by _ _ (Faulty c.in_err-client.field-0.0) (refusals.Wrong c.in_err-client.field-0.0) c.from_residual.ensures.1 refl)
+
+pub returns-in_err-ino : goal.returns-in_err-ino
+returns-in_err-ino c =
+    rw (two c.args.arguments.now (omega arith), sym c.in_ok-client.ensures, sym c.in_err-ino.ensures)
+    (refused_by _ _ (Faulty c.in_err-ino.field-0.0) (refusals.Wrong c.in_err-ino.field-0.0) c.from_residual-in_err-ino.ensures.1 refl)

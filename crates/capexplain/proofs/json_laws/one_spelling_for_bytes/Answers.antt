@@ -1,5 +1,0 @@
-use Rattle.capexplain.proofs.Spelling.{one_spelling}
-use Rattle.capexplain.proofs.json_laws.one_spelling_for_bytes.Goals as goal
-
-pub returns : goal.returns
-returns c = one_spelling

@@ -1,9 +1,0 @@
-use Rattle.capexplain.proofs.Spelling.{one_value}
-use Rattle.capexplain.proofs.Streams.{one_stream}
-use Rattle.capexplain.proofs.json_laws.one_value_for_a_line.Goals as goal
-
-pub returns-clause-line : goal.returns-clause-line
-returns-clause-line c = one_value
-
-pub returns-clause-lines : goal.returns-clause-lines
-returns-clause-lines c = one_stream

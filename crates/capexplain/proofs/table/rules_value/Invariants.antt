@@ -1,8 +1,0 @@
-use Rattle.std.proofs.Common.{◌≡◌, map, take}
-use Rattle.std.specs.List.{enumerate_from}
-use Rattle.serde_json.specs.View.{view}
-use Rattle.capexplain.specs.Answers.{rule_value}
-use Rattle.capexplain.proofs.table.rules_value.Given as goal
-
-abbrev pub invariant-loop-place : goal.invariant-loop-place
-invariant-loop-place l = map view l.items.items ≡ map rule_value (enumerate_from 1 (take l.place l.rules))

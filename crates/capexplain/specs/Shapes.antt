@@ -1,9 +1,0 @@
--- What is written in each shape.
-use Rattle.std.specs.Prelude.{ℕ, List, [], codes}
-use Rattle.capexplain.specs.declared.shape.Shape.{Shape}
-use Rattle.capexplain.specs.declared.shape.Shape.TheVariants.{Lines, Objects}
-
--- where nothing is found: a line that says so, or no object
-abbrev pub nothing_in : Shape → List ℕ
-nothing_in Lines = codes "nothing found\n"
-nothing_in Objects = []

@@ -1,6 +1,0 @@
-use Rattle.std.proofs.Common.{◌≡◌, true, take}
-use Rattle.script_syntax.specs.Words.{is_one_word}
-use Rattle.script_syntax.proofs.change.is_one_word.Given as goal
-
-abbrev pub invariant-loop-byte : goal.invariant-loop-byte
-invariant-loop-byte l = is_one_word (take l.byte-index l.part) ≡ true

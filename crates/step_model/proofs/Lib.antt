@@ -1,4 +1,0 @@
-pub mod EndNumbers
-pub mod Noting
-pub mod Taking
-pub mod Twice

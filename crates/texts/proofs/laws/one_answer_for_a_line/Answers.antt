@@ -1,0 +1,31 @@
+use Rattle.texts.proofs.Answered.{one_answer}
+use Rattle.texts.proofs.Compared.{one_comparison}
+use Rattle.texts.proofs.Clients.{no_fault, one_fault, one_standing}
+use Rattle.texts.proofs.Linted.{one_finding}
+use Rattle.texts.proofs.Asked.{is_remarked}
+use Rattle.texts.proofs.Remarked.{one_remark}
+use Rattle.texts.proofs.laws.one_answer_for_a_line.Goals as goal
+
+pub returns-clause-answer : goal.returns-clause-answer
+returns-clause-answer c = one_answer
+
+pub returns-clause-client : goal.returns-clause-client
+returns-clause-client c = one_standing
+
+pub returns-clause-unread : goal.returns-clause-unread
+returns-clause-unread c = one_fault
+
+pub returns-clause-either : goal.returns-clause-either
+returns-clause-either c = no_fault
+
+pub returns-clause-comparison : goal.returns-clause-comparison
+returns-clause-comparison c = one_comparison
+
+pub returns-clause-finding : goal.returns-clause-finding
+returns-clause-finding c = one_finding
+
+pub returns-clause-remarked : goal.returns-clause-remarked
+returns-clause-remarked c = one_remark
+
+pub returns-clause-remarks : goal.returns-clause-remarks
+returns-clause-remarks c = is_remarked

@@ -1,0 +1,108 @@
+-- The object that answers a question.
+use Rattle.std.specs.Prelude.{◌≡◌, ◌<◌, ◌^◌, ℕ, Bool, Option, List, [], ◌∷◌, codes, map, if◌then◌else◌}
+use Rattle.std.specs.List.{enumerate_from}
+use Rattle.hex.specs.Hex.{IsBytes}
+use Rattle.serde_json.specs.Data.{Data, Members, array, no_members, object, string}
+use Rattle.serde_json.specs.View.{items_of}
+use Rattle.capbits.specs.declared.caller.Caller.{Caller}
+use Rattle.capgrant.specs.declared.access.Access.{Access}
+use Rattle.capgrant.specs.declared.access.Attr.{Attr}
+use Rattle.capgrant.specs.declared.answer.Verdict.{Verdict}
+use Rattle.capgrant.specs.declared.answer.Verdict.TheVariants.{Allowed, Denied}
+use Rattle.capgrant.specs.declared.rule.Rule.{Rule}
+use Rattle.capgrant.specs.Access.{access_word}
+use Rattle.capgrant.specs.Question.{Question}
+use Rattle.capgrant.specs.Rule.{rule_number, rule_word}
+use Rattle.policy_analysis.specs.declared.differences.Difference.{Difference}
+use Rattle.policy_analysis.specs.declared.differences.Difference.TheVariants.{AttributeByFlag, LargeUid, ModeByBits, OtherFileSystem}
+use Rattle.policy_analysis.specs.declared.differences.Otherwise.{Otherwise}
+use Rattle.texts.specs.Explaining.{path_text}
+use Rattle.texts.specs.Lines.{HasNumber}
+use Rattle.texts.specs.PartTexts.{mode_text}
+use Rattle.texts.specs.Values.{Table, bytes_value, json_line, natural, numbers_value, object_of, or_null, with_all}
+
+-- ---- what is asked
+
+-- what is asked for, and where the inode is
+abbrev pub place_table : Access → List (List ℕ) → List ℕ → Table
+place_table access path fs = (codes "access", string (access_word access)) ∷ (codes "path", bytes_value (path_text path)) ∷ (codes "fs", bytes_value fs) ∷ []
+
+-- who asks
+abbrev pub caller_table : Caller → Table
+caller_table caller = (codes "uid", natural caller.uid) ∷ (codes "gid", natural caller.gid) ∷ (codes "groups", numbers_value caller.groups) ∷ []
+
+-- whose the inode is, and its mode
+abbrev pub attr_table : Attr → Table
+attr_table attr = (codes "owner", natural attr.uid) ∷ (codes "group", natural attr.gid) ∷ (codes "mode", string (mode_text attr.mode)) ∷ []
+
+-- the members, and those of a question
+abbrev pub with_question : Question → Members → Members
+with_question q ms = with_all (attr_table q.attr) (with_all (caller_table q.caller) (with_all (place_table q.access q.path q.fs) ms))
+
+-- ---- the verdict
+
+-- by which rule the grant of this number fails
+abbrev pub rule_value : ℕ × Rule → Data
+rule_value failure = object_of ((codes "grant", natural failure.0) ∷ (codes "rule", natural (rule_number failure.1)) ∷ (codes "word", string (rule_word failure.1)) ∷ [])
+
+-- the grants by number, from 1, with the rule by which each fails
+abbrev pub rules_value : List Rule → Data
+rules_value rules = array (items_of (map rule_value (enumerate_from 1 rules)))
+
+abbrev pub verdict_word : Bool → List ℕ
+verdict_word allowed = if allowed then codes "allowed" else codes "denied"
+
+-- this word for it, and the grant that it is by
+abbrev pub allowing_table : List ℕ → ℕ → Table
+allowing_table word grant = (codes "verdict", string word) ∷ (codes "grant", natural grant) ∷ []
+
+-- by which grant, or by which rules
+abbrev pub verdict_table : Verdict → Table
+verdict_table (Allowed grant) = allowing_table (codes "allowed") grant
+verdict_table (Denied rules) = (codes "verdict", string (codes "denied")) ∷ (codes "rules", rules_value rules) ∷ []
+
+-- ---- what is worth a word beside it
+
+abbrev pub difference_value : Difference → Data
+difference_value OtherFileSystem = string (codes "other-file-system")
+difference_value AttributeByFlag = string (codes "attribute-by-flag")
+difference_value ModeByBits = string (codes "mode-by-bits")
+difference_value LargeUid = string (codes "large-uid")
+
+-- what the MDS of Ceph 16 answers, by which grant, and why
+abbrev pub otherwise_value : Otherwise → Data
+otherwise_value other = object_of ((codes "verdict", string (verdict_word other.allows)) ∷ (codes "grant", natural other.grant) ∷ (codes "by_grant", or_null difference_value other.by_grant) ∷ (codes "by_access", or_null difference_value other.by_access) ∷ [])
+
+-- what that MDS answers, where it is something else
+abbrev pub otherwise_table : Option Otherwise → Table
+otherwise_table other = (codes "ceph16", or_null otherwise_value other) ∷ []
+
+-- the grant that leaves the inode's owner, group and mode to the client, and this
+abbrev pub remarks_table : Option ℕ → Option Otherwise → Table
+remarks_table left other = (codes "left_to_client", or_null natural left) ∷ otherwise_table other
+
+-- all of it
+abbrev pub answer_value : Question → Verdict → Option ℕ → Option Otherwise → Data
+answer_value q verdict left other = object (with_all (remarks_table left other) (with_all (verdict_table verdict) (with_question q no_members)))
+
+-- as a line
+abbrev pub answer_object : Question → Verdict → Option ℕ → Option Otherwise → List ℕ
+answer_object q verdict left other = json_line (answer_value q verdict left other)
+
+-- ---- one answer for an object
+
+-- its names are bytes, its numbers have 32 bits, and its mode has 12
+pub record IsAskable (q : Question) : Type 0 where
+  pub access : HasNumber q.access
+  pub path : IsBytes (path_text q.path)
+  pub fs : IsBytes q.fs
+  pub mode : q.attr.mode < 2 ^ 12
+
+-- they ask for the same; of two paths the text is
+abbrev pub AskTheSame : Question → Question → Type 0
+AskTheSame q r = (q.access ≡ r.access) × (path_text q.path ≡ path_text r.path) × (q.fs ≡ r.fs) × (q.caller ≡ r.caller) × (q.attr ≡ r.attr)
+
+-- answers that are the same object are the same answer to the same question
+abbrev pub OneAnswer : Type 0
+OneAnswer = (q r : Question) (v w : Verdict) (left also : Option ℕ) (other further : Option Otherwise) → IsAskable q → IsAskable r
+    → answer_value q v left other ≡ answer_value r w also further → AskTheSame q r × (v ≡ w) × (left ≡ also) × (other ≡ further)

@@ -1,0 +1,82 @@
+//! What one list of grants allows and another denies.
+ghost use Rattle.std.specs.Prelude.{◌≡◌, ◌++◌, IfOk, OnOk};
+ghost use Rattle.serde_json.specs.View.{members_view};
+ghost use Rattle.texts.specs.Changes.{change_line, change_lines, with_witness};
+
+use crate::question_object::put_question;
+use crate::table::{Members, Piece, print_object, put_all};
+use capgrant::Question;
+use policy_analysis::Witness;
+use serde_json::Map;
+use std::alloc::{AllocError, Global};
+
+/// An object for a question that was gained, and one for a question that was lost; or one that says that there is none. Each is a line,
+/// with its line feed. Only memory can be missing.
+pub fn change_objects(
+    alloc: Global,
+    gain: &Option<Witness<'_>>,
+    loss: &Option<Witness<'_>>,
+) -> Result<Vec<u8>, AllocError>
+    ensures { IfOk result (λ lines. lines.items ≡ change_lines gain.now loss.now) }
+{
+    let mut lines = Vec::new(alloc);
+    if gain.is_none() && loss.is_none() {
+        print_no_change(&mut lines)?;
+        return Ok(lines);
+    }
+    print_change(&mut lines, "gained", gain)?;
+    print_change(&mut lines, "lost", loss)?;
+    Ok(lines)
+}
+
+fn print_no_change(lines: &mut Vec<u8>) -> Result<(), AllocError>
+    ensures { OnOk result (lines.new.items ≡ lines.old.items ++ change_lines None None) }
+{
+    let alloc = *lines.allocator();
+    let mut members = Map::new(alloc);
+    put_all(&mut members, alloc, &[("change", Piece::Word("none"))])?;
+    print_object(lines, members)
+}
+
+// Appends a line of this change, if there is a witness.
+fn print_change(
+    lines: &mut Vec<u8>,
+    change: &str,
+    found: &Option<Witness<'_>>,
+) -> Result<(), AllocError>
+    ensures { OnOk result (lines.new.items ≡ lines.old.items ++ change_line change.now found.now) }
+{
+    let Some(witness) = found else {
+        return Ok(());
+    };
+    let alloc = *lines.allocator();
+    let mut members = Map::new(alloc);
+    put_all(&mut members, alloc, &[("change", Piece::Word(change))])?;
+    put_witness(&mut members, alloc, "grant", witness)?;
+    print_object(lines, members)
+}
+
+/// Adds the question of a witness, and at this key the number of the grant that allows it.
+pub(crate) fn put_witness(
+    members: &mut Members,
+    alloc: Global,
+    key: &str,
+    witness: &Witness<'_>,
+) -> Result<(), AllocError>
+    ensures { OnOk result (members_view members.new.entries ≡ with_witness key.now witness.now (members_view members.old.entries)) }
+{
+    let names = witness.path.names(alloc)?;
+    let question = Question {
+        fs: &witness.fs,
+        caller: &witness.caller,
+        path: names.as_slice(),
+        attr: &witness.attr,
+        access: witness.access,
+    };
+    put_question(members, alloc, &question)?;
+    put_all(
+        members,
+        alloc,
+        &[(key, Piece::Number(u64::from(witness.grant)))],
+    )
+}

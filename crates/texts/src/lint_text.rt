@@ -1,0 +1,72 @@
+//! The lines that say what is found of a grant.
+
+ghost use Rattle.std.specs.Prelude.{◌≡◌, ◌++◌, OnOk};
+ghost use Rattle.texts.specs.Linting.{finding_lines, reported_if, stands_line};
+
+use crate::compare_text::print_found;
+use capbits::{print, print_numbered, print_str};
+use policy_analysis::{Finding, Unread};
+use std::alloc::AllocError;
+
+const COVERED: &str = ": covered by the others\n";
+
+const NOTHING: &str = ": allows nothing, as no inode has . or .. in its path\n";
+
+const UNREAD: &str = ": not read by Ceph 16, which takes no uid beside fsname or root_squash\n";
+
+const SPACES: &str =
+    ": not read by Ceph 16 as it stands, which takes only spaces round the separator before it\n";
+
+const STAR: &str = ": not read by Ceph 16 as it stands, which takes no * for fsname\n";
+
+// The keys of the two items follow.
+const ORDER: &str = ": not read by Ceph 16 as it stands, which takes ";
+
+/// Appends a line for each thing that is found of a grant, and nothing where there is none; and one for why Ceph 16 does not read
+/// it as it stands in its text. Each ends in a line feed. Only memory can be missing.
+pub fn print_finding(
+    text: &mut Vec<u8>,
+    finding: &Finding<'_>,
+    unread: Option<Unread>,
+) -> Result<(), AllocError>
+    ensures { OnOk result (text.new.items ≡ text.old.items ++ finding_lines finding.now unread) }
+{
+    let number = finding.grant;
+    print_if(text, finding.is_redundant, number, COVERED)?;
+    print_if(text, finding.allows_nothing, number, NOTHING)?;
+    print_if(text, finding.undoing.is_some(), number, ": ")?;
+    print_found(text, "root_squash undone, ", &finding.undoing)?;
+    print_if(text, !finding.has_ceph_text, number, UNREAD)?;
+    print_as_it_stands(text, number, unread)
+}
+
+// Appends this of the grant, where the test is passed.
+fn print_if(text: &mut Vec<u8>, test: bool, grant: u32, more: &str) -> Result<(), AllocError>
+    ensures { OnOk result (text.new.items ≡ text.old.items ++ reported_if test grant more.now) }
+{
+    if test {
+        print_numbered(text, "grant ", grant as u64)?;
+        print_str(text, more)?;
+    }
+    Ok(())
+}
+
+// Appends why Ceph 16 does not read the grant as it stands, where there is a reason.
+fn print_as_it_stands(
+    text: &mut Vec<u8>,
+    grant: u32,
+    unread: Option<Unread>,
+) -> Result<(), AllocError>
+    ensures { OnOk result (text.new.items ≡ text.old.items ++ stands_line grant unread) }
+{
+    match unread {
+        None => Ok(()),
+        Some(Unread::WhiteSpace) => print_if(text, true, grant, SPACES),
+        Some(Unread::AnyFileSystem) => print_if(text, true, grant, STAR),
+        Some(Unread::Order { first, second }) => {
+            let (first, second) = (first.name(), second.name());
+            print_if(text, true, grant, ORDER)?;
+            print(text, format_args!("{first} before {second}\n"))
+        }
+    }
+}

@@ -1,0 +1,102 @@
+//! The line that says of one client whether somebody behind its key may make an access.
+ghost use Rattle.std.specs.Prelude.{◌≡◌, ◌++◌, OnOk, map};
+ghost use Rattle.texts.specs.Standing.{fault_word, standing_line, standing_otherwise, standing_reason, standing_word, unread_line};
+
+use crate::explain_more::print_otherwise;
+use crate::explain_text::print_failures;
+use crate::quoting::{print_quoted, print_quoted_path};
+use capbits::{print, print_numbered, print_str};
+use capgrant::Access;
+use capspec::{SpecFault, SpecFaultKind};
+use policy_analysis::{Otherwise, Standing};
+use std::alloc::AllocError;
+
+/// Appends the line for a client: whether somebody behind its key may make the access to the inode with these names from the root
+/// down, and by which grant or rules. `AllocError` where no memory is left for it; some of it may stand in the text then.
+pub fn print_standing(
+    text: &mut Vec<u8>,
+    client: &[u8],
+    access: Access,
+    path: &[&[u8]],
+    standing: &Standing,
+) -> Result<(), AllocError>
+    ensures { OnOk result (text.new.items ≡ text.old.items ++ standing_line client.now access (map (λ name. name.now) path.now) standing.now) }
+{
+    let word = word(standing);
+    print_quoted(text, client)?;
+    print(text, format_args!("{word}{access} "))?;
+    print_quoted_path(text, path)?;
+    print_by(text, standing)?;
+    Ok(text.push(b'\n')?)
+}
+
+/// Appends for each difference by which the MDS of Ceph 16 lets in somebody behind the client's key where nobody may, or nobody where
+/// somebody may, a line of the client's. `AllocError` where no memory is left for it; some of it may stand in the text then.
+pub fn print_standing_otherwise(
+    text: &mut Vec<u8>,
+    client: &[u8],
+    other: &Option<Otherwise>,
+) -> Result<(), AllocError>
+    ensures { OnOk result (text.new.items ≡ text.old.items ++ standing_otherwise client.now other.now) }
+{
+    let mut front = Vec::new(*text.allocator());
+    print_quoted(&mut front, client)?;
+    print_str(&mut front, ": ")?;
+    print_otherwise(text, front.as_slice(), other)
+}
+
+// What stands before the access.
+fn word(standing: &Standing) -> &'static str
+    ensures { result.now ≡ standing_word standing.now }
+{
+    match standing {
+        Standing::Allowed { .. } => ": allowed ",
+        Standing::Depends { .. } => ": depends on owner, group and mode: ",
+        Standing::Denied { .. } => ": denied ",
+    }
+}
+
+// Appends by which grant or rules it is so.
+fn print_by(text: &mut Vec<u8>, standing: &Standing) -> Result<(), AllocError>
+    ensures { OnOk result (text.new.items ≡ text.old.items ++ standing_reason standing.now) }
+{
+    match standing {
+        Standing::Allowed { grant } | Standing::Depends { grant } => {
+            print_numbered(text, " grant ", *grant as u64)
+        }
+        Standing::Denied { rules } => {
+            print_str(text, " ")?;
+            print_failures(text, rules.as_slice())
+        }
+    }
+}
+
+/// Appends the line for a client whose grants can't be read: what is wrong with them, and how many bytes stand before that.
+/// `AllocError` where no memory is left for it; some of it may stand in the text then.
+pub fn print_unread(text: &mut Vec<u8>, client: &[u8], fault: &SpecFault) -> Result<(), AllocError>
+    ensures { OnOk result (text.new.items ≡ text.old.items ++ unread_line client.now fault.now) }
+{
+    let (word, at) = (fault_word(fault.kind), fault.at);
+    print_quoted(text, client)?;
+    print(text, format_args!(": grants: {word} at {at}\n"))
+}
+
+/// The word for what is wrong with a text of grants.
+pub fn fault_word(kind: SpecFaultKind) -> &'static str
+    ensures { result.now ≡ fault_word kind }
+{
+    match kind {
+        SpecFaultKind::Empty => "Empty",
+        SpecFaultKind::NotAllow => "NotAllow",
+        SpecFaultKind::BadFlags => "BadFlags",
+        SpecFaultKind::BadItem => "BadItem",
+        SpecFaultKind::Twice => "Twice",
+        SpecFaultKind::BadNumber => "BadNumber",
+        SpecFaultKind::OpenQuote => "OpenQuote",
+        SpecFaultKind::GidsWithoutUid => "GidsWithoutUid",
+        SpecFaultKind::LeftOut => "LeftOut",
+        SpecFaultKind::TooMany => "TooMany",
+        SpecFaultKind::BadPath => "BadPath",
+        SpecFaultKind::NoMemory => "NoMemory",
+    }
+}
