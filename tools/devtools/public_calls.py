@@ -245,11 +245,13 @@ class Program:
         return path if path[0] in ("crate", *self.crates) else ("crate", *path)
 
     def resolve(self, scope, crate, module, path):
-        """What a path in a file names."""
+        """What a path in a file names. Only in the root file does the name of a module hide that of a crate."""
         if path[0] in scope:
             path = (*scope[path[0]], *path[1:])
         elif (module, path[0]) in self.crates[crate].items:
             return crate, module, path[0]
+        if module and path[0] in self.crates:
+            return self.item(path[0], ("crate", *path[1:]))
         return self.item(crate, self.from_root(tuple(path)))
 
     def type_named(self, scope, crate, module, name):

@@ -1,13 +1,12 @@
 -- The status with which the program ends.
 use Rattle.std.specs.Prelude.{ℕ}
 use Rattle.bench_kit.specs.declared.fault.Fault.{Fault}
-use Rattle.bench_kit.specs.declared.fault.Fault.TheVariants.{Changed, Full, InVain, NameTwice, NoEarlier, NoFile, NoJob, NoLine, NoMemory, NoTalk, NotUnderstood, ReadFailed, Text, Unread, Usage, WriteFailed}
+use Rattle.bench_kit.specs.declared.fault.Fault.TheVariants.{Changed, Full, InVain, NoJob, NoMemory, ReadFailed, Text, Usage, WriteFailed}
 
 -- 2 where the words are not understood, else 1
 abbrev pub status_of : Fault → ℕ
 status_of Usage = 2
 status_of NoJob = 2
-status_of NoFile = 1
 status_of Text = 1
 status_of Changed = 1
 status_of InVain = 1
@@ -15,9 +14,3 @@ status_of Full = 1
 status_of NoMemory = 1
 status_of ReadFailed = 1
 status_of WriteFailed = 1
-status_of Unread = 1
-status_of NoTalk = 1
-status_of NoLine = 1
-status_of NameTwice = 1
-status_of NoEarlier = 1
-status_of NotUnderstood = 1

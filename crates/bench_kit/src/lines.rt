@@ -4,24 +4,24 @@ use crate::fault::Fault;
 use capbits::{ClientId, PassId};
 use capcore::Core;
 use capexplain::{append_audit_line, read_line, reply_lines};
-use capstep::{Event, Reply, Row};
 use capstep::stop::Stop;
+use capstep::{Event, Reply, Row};
 use std::alloc::{AllocError, Global};
 use std::io::Write;
 use texts::ScriptFault;
 
 /// How often something is tried that finds no memory: more often than memory is refused in a row.
-pub(crate) const TRIES: u32 = 16;
+pub const TRIES: u32 = 16;
 
 const PASS: PassId = PassId(1);
 
 /// The lines of a script.
-pub(crate) fn lines_of(alloc: Global, script: &[u8]) -> Result<Vec<&[u8]>, Fault> {
+pub fn lines_of(alloc: Global, script: &[u8]) -> Result<Vec<&[u8]>, Fault> {
     Ok(script.split(|byte| *byte == b'\n').collect(alloc)?)
 }
 
 /// The event that a line says, with the client that it is about. Where it finds no memory it is read again.
-pub(crate) fn event_of(alloc: Global, line: &[u8]) -> Result<(Option<ClientId>, Event), Fault> {
+pub fn event_of(alloc: Global, line: &[u8]) -> Result<(Option<ClientId>, Event), Fault> {
     for _ in 0..TRIES {
         match read_line(alloc, 1, line) {
             Ok(Some(said)) => return Ok(said),
@@ -39,7 +39,7 @@ pub(crate) fn apply(core: &mut Core, event: Event) -> Result<Reply, Stop> {
 
 /// What was answered, as far as who asked has to know it.
 #[derive(Clone, Copy)]
-pub(crate) enum Heard {
+pub enum Heard {
     /// It was answered.
     Answered,
     /// It was answered, and is not published yet.
@@ -55,7 +55,7 @@ pub(crate) enum Heard {
 /// What is written of a script that is played. It keeps its first fault, behind which no line says an event and nothing is written: so who
 /// plays need not look for a fault until the end.
 #[derive(Drop)]
-pub(crate) struct Transcript<'w, W> {
+pub struct Transcript<'w, W> {
     alloc: Global,
     writer: &'w mut W,
     fault: Option<Fault>,
@@ -63,7 +63,7 @@ pub(crate) struct Transcript<'w, W> {
 
 impl<'w, W: Write> Transcript<'w, W> {
     /// A transcript of which nothing is written.
-    pub(crate) fn new(alloc: Global, writer: &'w mut W) -> Transcript<'w, W> {
+    pub fn new(alloc: Global, writer: &'w mut W) -> Transcript<'w, W> {
         Transcript {
             alloc,
             writer,
@@ -72,7 +72,7 @@ impl<'w, W: Write> Transcript<'w, W> {
     }
 
     /// The event that a line says.
-    pub(crate) fn event(&mut self, line: &[u8]) -> Option<Event> {
+    pub fn event(&mut self, line: &[u8]) -> Option<Event> {
         if self.fault.is_some() {
             return None;
         }
@@ -86,7 +86,7 @@ impl<'w, W: Write> Transcript<'w, W> {
     }
 
     /// Writes an answer, as `capd run` does. Where its text finds no memory it is made again.
-    pub(crate) fn tell(&mut self, reply: &Reply) -> Heard {
+    pub fn tell(&mut self, reply: &Reply) -> Heard {
         for _ in 0..TRIES {
             if let Ok(text) = reply_lines(self.alloc, reply) {
                 self.write(text.as_slice());
@@ -101,7 +101,7 @@ impl<'w, W: Write> Transcript<'w, W> {
     }
 
     /// Writes that an event found no memory, or that the history is full, which stays so.
-    pub(crate) fn tell_stop(&mut self, stop: Stop) -> Heard {
+    pub fn tell_stop(&mut self, stop: Stop) -> Heard {
         match stop {
             Stop::NoMemory => {
                 self.write(b"stopped\n");
@@ -115,7 +115,7 @@ impl<'w, W: Write> Transcript<'w, W> {
     }
 
     /// Writes the line of each row of a history. Where their text finds no memory it is made again.
-    pub(crate) fn tell_rows(&mut self, rows: &[Row]) {
+    pub fn tell_rows(&mut self, rows: &[Row]) {
         for _ in 0..TRIES {
             if let Ok(text) = rows_text(self.alloc, rows) {
                 return self.write(text.as_slice());
@@ -125,21 +125,21 @@ impl<'w, W: Write> Transcript<'w, W> {
     }
 
     /// Writes all of a text.
-    pub(crate) fn write(&mut self, text: &[u8]) {
+    pub fn write(&mut self, text: &[u8]) {
         if self.fault.is_none() && self.writer.write_all(text).is_err() {
             self.fail(Fault::WriteFailed);
         }
     }
 
     /// Nothing more is played. The first fault counts.
-    pub(crate) fn fail(&mut self, fault: Fault) {
+    pub fn fail(&mut self, fault: Fault) {
         if self.fault.is_none() {
             self.fault = Some(fault);
         }
     }
 
     /// The sum that the work comes to, or the first fault.
-    pub(crate) fn end(&self, sum: u64) -> Result<u64, Fault> {
+    pub fn end(&self, sum: u64) -> Result<u64, Fault> {
         match self.fault {
             None => Ok(sum),
             Some(fault) => Err(fault),

@@ -8,8 +8,8 @@ use crate::moves::{put_value, take_in, take_out};
 use crate::nodes::{Ends, Linked, Node, Order};
 use capbits::{ChangeError, ClientId, Ino, Numbered, Refusal};
 use slab::Slab;
-use std::fmt;
 use std::alloc::{AllocError, Global};
+use std::fmt;
 use std::marker::{Brand, Model};
 use std::sync::ledger::{Blank, Ledger};
 

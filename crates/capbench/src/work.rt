@@ -1,6 +1,6 @@
 //! The work that is counted and timed.
 
-use bench_kit::{Amount, Fault, history_digest, served_script, tell};
+use bench_kit::{Amount, Fault, history_digest, served_script, tell_digest};
 use cli::serve;
 use std::alloc::Global;
 use std::io::{Read, Write};
@@ -19,9 +19,9 @@ pub fn dispatch(
     match words {
         [job, count, seed] if job.as_slice() == b"serve".as_slice() => {
             let digest = serve_script(rt, rt.alloc(), count.as_slice(), seed.as_slice());
-            tell(digest, writer, faults)
+            tell_digest(digest, writer, faults)
         }
-        _ => bench_kit::dispatch(rt, rt.alloc(), words, reader, writer, faults),
+        _ => bench_server::dispatch(rt, rt.alloc(), words, reader, writer, faults),
     }
 }
 

@@ -5,8 +5,8 @@ ghost use Rattle.capbits.specs.Text.{text_of};
 use crate::set::CapSet;
 use crate::text::write_caps;
 use itoa::Buffer;
-use std::fmt;
 use std::alloc::AllocError;
+use std::fmt;
 use std::fmt::{Display, Write};
 use std::mem::replace;
 

@@ -4,8 +4,8 @@ ghost use Rattle.std.specs.List.{list_any};
 ghost use Rattle.std.specs.Slice.Iter.{iter_rest};
 
 use arrayvec::ArrayVec;
-use std::{fmt, slice};
 use std::marker::Model;
+use std::{fmt, slice};
 use thiserror::Error;
 
 /// How many groups a caller may have besides its first.

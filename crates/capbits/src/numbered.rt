@@ -7,10 +7,10 @@ ghost use Rattle.capbits.specs.Rows.{with_new};
 
 use crate::guesses::Guesses;
 use crate::rows::{Row, add, place_near, row_near, take_out};
-use std::fmt;
 use std::alloc::{AllocError, Global};
 use std::collections::BTreeMap;
 use std::collections::btree_map::Keys;
+use std::fmt;
 use std::marker::Model;
 
 /// Values, each under a number. They stand in rows, whose places are guessed first and searched for where a guess fails.

@@ -17,8 +17,8 @@ ghost use Rattle.capcore.specs.Begun.{AreCountedIn};
 ghost use Rattle.capcore.specs.EntryRequest as words;
 
 use capbits::{Cap, CapSet};
-use capstep::{OpenMode, Reply};
 use capstep::opening::find_or_open;
+use capstep::{OpenMode, Reply};
 use captable::{CapTable, EntryRow, Holder};
 use lockmachine::{KeptScene, Locks};
 use std::alloc::AllocError;

@@ -27,10 +27,18 @@ mod step_reply;
 mod world;
 
 pub use capbits::Refusal;
-pub use capstep::{Ended, EndedList, Event, Message, MessageList, OpenMode, Outcome, PartValues, Reply, Row};
 pub use capstep::stop::Stop;
+pub use capstep::{
+    Ended, EndedList, Event, Message, MessageList, OpenMode, Outcome, PartValues, Reply, Row,
+};
 pub use giving::{a_recall_changes_only_the_marks, telling_changes_only_what_was_told};
-pub use laws::{a_rejection_changes_nothing, a_row_fixes_its_step, a_settling_serves_at_most_who_waits, a_sound_state_has_nothing_left_to_do, a_step_that_finds_memory_has_one_end, an_opening_is_sound, rows_fix_the_state, sessions_inodes_and_snapshots_spare_entries, the_held_are_apart, the_same_events_have_the_same_history, the_served_are_denied_exactly, what_spares_entries_has_nothing_to_do};
+pub use laws::{
+    a_rejection_changes_nothing, a_row_fixes_its_step, a_settling_serves_at_most_who_waits,
+    a_sound_state_has_nothing_left_to_do, a_step_that_finds_memory_has_one_end,
+    an_opening_is_sound, rows_fix_the_state, sessions_inodes_and_snapshots_spare_entries,
+    the_held_are_apart, the_same_events_have_the_same_history, the_served_are_denied_exactly,
+    what_spares_entries_has_nothing_to_do,
+};
 pub use lockmachine::Change;
 pub use own_laws::what_is_served_at_once_is_not_rejected;
 pub use policy_view::{View, ViewChange};

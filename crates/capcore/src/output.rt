@@ -5,8 +5,8 @@ ghost use Rattle.capcore.specs.Begun.{HaveRoomFor};
 
 use capbits::{ClientId, Ino, Ticket};
 use capstep::{ChangeList, Ended, Outcome, Recorded};
-use std::fmt;
 use std::alloc::{AllocError, Global};
+use std::fmt;
 
 /// The requests that a step ends: once to be given to their clients, and once recorded in the history, which takes the whole
 /// list; the inodes whose sizes they changed; what the step changes of what readers see; and the request that came with the step

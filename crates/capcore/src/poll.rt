@@ -16,6 +16,9 @@ use inotree::Tree;
 use lockmachine::KeptScene;
 use std::alloc::{AllocError, Global};
 
+// For how many messages there is room at once, some 90 kB.
+const ROOM: usize = 1024;
+
 /// The first messages that are due to a client, at most so many, where these requests have ended.
 pub fn due_messages(
     alloc: Global,
@@ -71,6 +74,10 @@ fn ended_messages(
     let mut list = MessageList::new(alloc);
     for one in ended {
         if one.client == client && list.as_slice().len() < max as usize {
+            // Room for many that may come, so that the list is not copied while it grows.
+            if list.as_slice().is_empty() {
+                list.reserve(ended.len().min(max as usize).min(ROOM))?;
+            }
             let outcome = copy_of_outcome(alloc, &one.outcome)?;
             let ticket = one.ticket;
             list.push(Message::Ended { ticket, outcome })?;

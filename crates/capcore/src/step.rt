@@ -9,12 +9,13 @@ ghost use Rattle.capstep.specs.declared.stop.Stop.TheVariants as stop_kind;
 ghost use Rattle.capcore.specs.Promised.{IsPromised};
 
 use crate::output::StepOutput;
+use crate::step_reply::StepReply;
 use crate::world::World;
 use capbits::{ClientId, Ino, Part, PassId};
 use capspec::FsName;
-use capstep::{Event, Reply, Row};
 use capstep::history::make_room;
 use capstep::stop::Stop;
+use capstep::{Event, Recorded, Reply, Row};
 use captable::Entry;
 use inotree::Tree;
 use locktable::LockState;
@@ -85,17 +86,19 @@ impl Core {
     {
         let nth = make_room(&mut self.rows, self.max_rows, pass)?;
         let step_reply = self.world.step(&event, &mut self.output)?;
+        let StepReply { reply, ended } = step_reply;
+        let Recorded { given, recorded } = reply;
         let Ok(()) = self.rows.push(Row {
             pass,
             nth,
             event,
-            reply: step_reply.reply.recorded,
-            ended: step_reply.ended,
+            reply: recorded,
+            ended,
         })
         else {
             unreachable!()
         };
-        Ok(step_reply.reply.given)
+        Ok(given)
     }
 
     /// The client's entry on the inode, where it has one.

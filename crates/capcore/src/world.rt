@@ -34,9 +34,11 @@ use crate::step_reply::StepReply;
 use capbits::{Caller, ClientId, Ino, Mode, Refusal};
 use capgrant::{Access, Attr};
 use capspec::{FsName, Grants};
-use capstep::{ChangeList, EndedList, EndedTickets, Event, OperationRef, Recorded, Reply, copy_of_messages};
 use capstep::due_endings::remove_given;
 use capstep::judge::denial;
+use capstep::{
+    ChangeList, EndedList, EndedTickets, Event, OperationRef, Recorded, Reply, copy_of_messages,
+};
 use captable::{CapTable, Holder};
 use inotree::{Kind, Tree};
 use lockmachine::KeptScene;
@@ -191,7 +193,10 @@ impl World {
             output.changes.clear();
             return Ok(StepReply::alone(*self.parts.messages.allocator(), rejection.into_reply()));
         }
-        let Applied { affected, reply_due } = self.parts.begin(lock_event, output)?;
+        let Applied {
+            affected,
+            reply_due,
+        } = self.parts.begin(lock_event, output)?;
         end(&mut self.parts.scene, affected, output);
         Ok(self.parts.close(reply_due, output))
     }

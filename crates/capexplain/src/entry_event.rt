@@ -4,7 +4,9 @@ ghost use Rattle.capexplain.specs.Events.{Tells, ack_by, caps_by, caps_event, op
 ghost use Rattle.capexplain.specs.Faults.{IsRefused};
 
 use crate::refused::Refused;
-use crate::values::{read_cap_set, read_client, read_ino, read_long_number, read_number, read_open_mode};
+use crate::values::{
+    read_cap_set, read_client, read_ino, read_long_number, read_number, read_open_mode,
+};
 use capstep::{Command, Event};
 use texts::LineFault;
 

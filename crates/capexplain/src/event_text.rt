@@ -4,10 +4,12 @@ ghost use Rattle.std.specs.Fmt.{decimal};
 ghost use Rattle.std.specs.List.{flat_map};
 ghost use Rattle.capbits.specs.Text.{text_of};
 ghost use Rattle.capexplain.specs.EventTexts.{arguments_text, change_text, client_text, event_text, grants_text, named_text, numbered_text, setting_text};
-ghost use Rattle.texts.specs.PartTexts.{mode_text};
+ghost use Rattle.texts.specs.PartTexts.{groups_text, mode_text};
 ghost use Rattle.capstep.specs.Words.{open_word, part_word};
 
-use capbits::{Caller, CapSet, ClientId, Ino, Mode, Part, print_caps, print_number, print_numbered, print_str};
+use capbits::{
+    Caller, CapSet, ClientId, Ino, Mode, Part, print_caps, print_number, print_numbered, print_str,
+};
 use capspec::{Grants, write_grants};
 use capstep::{ChangeWord, Command, Event, OpenMode};
 use inotree::Setting;

@@ -6,8 +6,8 @@ ghost use Rattle.capserver.specs.Passes.{pass_id};
 
 use crate::pass::Pass;
 use capcore::Core;
-use capstep::{Event, Reply};
 use capstep::stop::Stop;
+use capstep::{Event, Reply};
 use snapshot::Server;
 use std::sync::ledger::Book;
 

@@ -15,8 +15,8 @@ mod server;
 
 pub use answer::Answer;
 pub use capcore::Core;
-pub use capstep::{Event, Reply, Row};
 pub use capstep::stop::Stop;
+pub use capstep::{Event, Reply, Row};
 pub use gate::{Gate, NoGate};
 pub use locked::Locked;
 pub use opening::Opening;

@@ -26,8 +26,8 @@ use policy_view::{Question, Unknown};
 use snapshot::{MAX_PASSES, Server, Tally};
 use std::alloc::Global;
 use std::marker::Model;
-use std::sync::{Mutex, MutexGuard, Wait};
 use std::sync::ledger::Blank;
+use std::sync::{Mutex, MutexGuard, Wait};
 
 /// A core that many threads call, each through a pass of its own. To contracts it is the number of its passes.
 pub struct CapServer<G: Gate, L: Server> {

@@ -13,8 +13,8 @@ use capbits::Ino;
 use inotree::{Kind, Node, Setting, Site, Tree};
 use lockmachine::{Change, Operation, Request};
 use policy_view::ViewChange;
-use std::fmt;
 use std::alloc::{AllocError, Global};
+use std::fmt;
 use std::marker::Model;
 
 // Room for more is given back, so that one large step doesn't leave it behind. As many requests as may wait have places in what is

@@ -49,6 +49,7 @@ pub fn copy_of_messages(alloc: Global, messages: &[Message]) -> Result<MessageLi
     ensures { IfOk result (λ copy. copy ≡ messages.now) }
 {
     let mut copy = MessageList::new(alloc);
+    copy.reserve(messages.len())?;
     for message in messages {
         copy.push(copy_of_message(alloc, message)?)?;
     }

@@ -215,6 +215,13 @@ impl MessageList {
         }
     }
 
+    /// Room for so many messages more.
+    pub fn reserve(&mut self, more: usize) -> Result<(), AllocError>
+        ensures { self.new ≡ self.old }
+    {
+        self.items.reserve(more)
+    }
+
     /// One message more, behind all others.
     pub fn push(&mut self, message: Message) -> Result<(), AllocError>
         ensures ok { OnOk result (self.new ≡ self.old ++ message ∷ []) }

@@ -116,12 +116,7 @@ pub fn alter(tree: &mut Tree, ino: Ino, change: &Change) -> Result<(), AllocErro
 }
 
 // What is read of a part. Tested before: the inode exists.
-fn read(
-    alloc: Global,
-    tree: &Tree,
-    ino: Ino,
-    part: Part,
-) -> Result<Recorded<Outcome>, AllocError>
+fn read(alloc: Global, tree: &Tree, ino: Ino, part: Part) -> Result<Recorded<Outcome>, AllocError>
     ensures outcome { IfOk result (λ served. served ≡ twice (values_outcome part (map.get tree.now.nodes ino.0))) }
     ensures memory { OnErr result (takes_memory (operation_kind.Get part) ≡ true) }
 {

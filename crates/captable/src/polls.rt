@@ -8,8 +8,8 @@ ghost use Rattle.captable.specs.Polls as words;
 ghost use Rattle.captable.specs.Polls.{begun, counts_of, ended, places_of};
 ghost use Rattle.captable.specs.Places.{ArePlaced, NoneDueBefore, NoneDueBeforeAny, is_due_at, lowered, moved_on, place_of};
 
-use crate::places;
 use crate::entry::Slot;
+use crate::places;
 use cap_arena::TripleLists;
 use capbits::{ClientId, Numbered};
 use std::alloc::AllocError;

@@ -4,14 +4,19 @@ ghost use Rattle.std.specs.Prelude.{unwrap_or};
 
 use crate::entry::{ClientView, Edit, Entry, Holder, Keeping, Slot};
 use crate::holders::Holders;
-use crate::nodes::{add_node, first_holders, holder_at, keep_sets, key_of, remove_node, set_entry, touch_node};
+use crate::nodes::{
+    add_node, first_holders, holder_at, keep_sets, key_of, remove_node, set_entry, touch_node,
+};
 use crate::places::is_due_at;
-use crate::polls::{Poll, begin_poll, count_again, count_of, end_poll, lower_place, move_place, place_to_poll_from, set_place, skip_place};
+use crate::polls::{
+    Poll, begin_poll, count_again, count_of, end_poll, lower_place, move_place, place_to_poll_from,
+    set_place, skip_place,
+};
 use crate::walk::{KeptWalk, Walk};
 use cap_arena::{MAX_NODES, TripleLists};
 use capbits::{Cap, CapSet, ChangeError, ClientId, Ino, Numbered, Refusal};
-use std::fmt;
 use std::alloc::{AllocError, Global};
+use std::fmt;
 use std::marker::{Brand, Model};
 use std::sync::ledger::Blank;
 

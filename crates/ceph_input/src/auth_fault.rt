@@ -6,7 +6,7 @@ use std::fmt::Display;
 use thiserror::Error;
 
 /// Why a text is no auth list, or an auth list gives no grants of an entity.
-#[derive(Clone, Copy, Debug, Error)]
+#[derive(Clone, Copy, Debug, PartialEq, Eq, Error)]
 pub enum AuthFault {
     /// The text is no JSON.
     NotJson {

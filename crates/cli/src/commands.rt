@@ -15,7 +15,10 @@ ghost use Rattle.cli.specs.Hints.{hint_of, hint_unread};
 use crate::serving::serve;
 use crate::stopping::Fault;
 use capscript::{ServeFault, run};
-use cli_queries::{DENIED, DONE, FAILED, FOUND, Invocation, USAGE, audit, compare_texts, explain, gather, grants, keyring_file, lint, log, read_words, report, show, who};
+use cli_queries::{
+    DENIED, DONE, FAILED, FOUND, Invocation, USAGE, audit, compare_texts, explain, gather, grants,
+    keyring_file, lint, log, read_words, report, show, who,
+};
 use std::alloc::Global;
 use std::fs::Files;
 use std::io::{Read, Write};

@@ -4,8 +4,8 @@ use capspec::SpecFault;
 use ceph_input::{AuthFault, KeyringFault, TreeFault};
 use cluster_audit::HeldFault;
 use queries::{CompareFault, QuestionFault};
-use std::fmt;
 use std::alloc::{AllocError, AllocFailed};
+use std::fmt;
 use std::fmt::Display;
 use texts::ScriptFault;
 

@@ -3,7 +3,10 @@ ghost use Rattle.std.specs.Prelude.{IfOk};
 ghost use Rattle.cli_queries.specs.Matched.{IsAskedBy};
 
 use crate::audit_args::{AuditArgs, ClusterFiles};
-use crate::command_line::{AUDIT, AUTH, CLIENT, COMPARE, EXPLAIN, GRANTS, INPUT, Invocation, JSON, KEYRING, LINT, LOG, MORE, NEW, OLD, QUIET, RULE, RUN, SERVE, SESSIONS, TEXT, TREE, WHO};
+use crate::command_line::{
+    AUDIT, AUTH, CLIENT, COMPARE, EXPLAIN, GRANTS, INPUT, Invocation, JSON, KEYRING, LINT, LOG,
+    MORE, NEW, OLD, QUIET, RULE, RUN, SERVE, SESSIONS, TEXT, TREE, WHO,
+};
 use crate::explain_args::{ExplainArgs, Form, Source};
 use crate::who_args::WhoArgs;
 use clap::ArgMatches;

@@ -11,7 +11,9 @@ use crate::inode::Inode;
 use crate::lines::{print_group, print_held};
 use crate::notes::{Detail, Manner, Notes};
 use crate::objects::print_found;
-use crate::unjudged::{print_bad_caps, print_bad_grants, print_pathless, print_unlisted, print_unnamed};
+use crate::unjudged::{
+    print_bad_caps, print_bad_grants, print_pathless, print_unlisted, print_unnamed,
+};
 use capbits::read_caps;
 use capspec::{Grants, SpecFaultKind, read_grants};
 use ceph_input::Holder;

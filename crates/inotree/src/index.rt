@@ -136,7 +136,13 @@ impl Index {
     }
 
     // Whether something lies so many steps below one of these inodes.
-    pub(crate) fn descends(&self, inodes: &Inodes, heights: &Heights, ino: u64, steps: usize) -> bool
+    pub(crate) fn descends(
+        &self,
+        inodes: &Inodes,
+        heights: &Heights,
+        ino: u64,
+        steps: usize,
+    ) -> bool
         requires names { AreInodes self.now }
         requires bounds { AreBounds inodes.now heights.now self.now }
         ensures { result ≡ index_descends steps self.now ino }

@@ -141,7 +141,10 @@ fn settled(tree: &mut Tree, ino: Ino, attr: Attr) -> Result<(), AllocError>
 // ---- of the sessions
 
 // Makes a change of the sessions. Those of the tree leave them.
-pub(crate) fn follow_session(sessions: &mut Connected, view_change: &ViewChange) -> Result<(), AllocError>
+pub(crate) fn follow_session(
+    sessions: &mut Connected,
+    view_change: &ViewChange,
+) -> Result<(), AllocError>
     ensures ok { OnOk result (sessions.new ≡ connected_clients_by sessions.old view_change.now) }
     ensures err { OnErr result (sessions.new ≡ sessions.old) }
 {

@@ -5,13 +5,16 @@ ghost use Rattle.queries.specs.Attempts.{wanted_by};
 ghost use Rattle.queries.specs.Clients.{AnswersWho, AreLines, Says, standing_in, unread_in};
 
 use crate::attempt::Attempt;
-use crate::texts::read_text;
+use crate::grant_text::read_text;
 use capgrant::Attr;
 use capspec::SpecFault;
 use ceph_input::{AuthFault, Entity, read_auth};
 use policy_analysis::{Otherwise, Standing, Wanted};
 use std::alloc::{AllocError, Global};
-use texts::{print_standing, print_standing_object, print_standing_otherwise, print_unread, print_unread_object};
+use texts::{
+    print_standing, print_standing_object, print_standing_otherwise, print_unread,
+    print_unread_object,
+};
 
 /// How it is told of a client whether it may.
 #[derive(Clone, Copy)]

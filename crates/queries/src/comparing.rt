@@ -2,11 +2,11 @@
 ghost use Rattle.std.specs.Prelude.{IfErr, IfOk};
 ghost use Rattle.queries.specs.Comparing.{Compares, IsComparison, IsFaultOfTexts};
 
-use crate::texts::read_text;
+use crate::grant_text::read_text;
 use capspec::{Grants, SpecFault};
 use policy_analysis::{gained, lost};
-use std::fmt;
 use std::alloc::{AllocError, Global};
+use std::fmt;
 use std::fmt::Display;
 use texts::{Shape, change_objects, comparison_lines};
 

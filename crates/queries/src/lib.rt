@@ -11,6 +11,7 @@ mod check;
 mod clients;
 mod comparing;
 mod fault;
+mod grant_text;
 mod laws;
 mod linting;
 mod lists;
@@ -21,7 +22,6 @@ mod modes;
 mod options;
 mod question;
 mod remarks;
-mod texts;
 mod values;
 mod words;
 

@@ -47,7 +47,12 @@ fn print_passed(reported: &mut Vec<u8>, passed: u64) -> Result<(), AllocError>
 }
 
 // Appends what is told of a line, and answers 1 for one that is passed over, and else 0.
-fn print_line(reported: &mut Vec<u8>, number: u64, fs: &[u8], line: &[u8]) -> Result<u64, AllocError>
+fn print_line(
+    reported: &mut Vec<u8>,
+    number: u64,
+    fs: &[u8],
+    line: &[u8],
+) -> Result<u64, AllocError>
     ensures reported { OnOk result ((more : List ℕ) × (reported.new.items ≡ reported.old.items ++ more) × IsReported fs.now number line.now more) }
     ensures passed { IfOk result (λ passed. passed ≡ passed_over line.now) }
     ensures few { IfOk result (λ passed. passed ≤ 1) }
@@ -131,7 +136,10 @@ fn print_fault(reported: &mut Vec<u8>, number: u64, fault: QuestionFault) -> Res
             print_unread(reported, digits.as_slice(), &refused)
         }
         QuestionFault::BadValue(option) => {
-            print(reported, format_args!("{number}: bad value of --{option}\n"))
+            print(
+                reported,
+                format_args!("{number}: bad value of --{option}\n"),
+            )
         }
         QuestionFault::NoMemory => Err(AllocError),
     }

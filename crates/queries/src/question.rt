@@ -9,10 +9,10 @@ ghost use Rattle.queries.specs.Values.{AreGroupsIf, ArePathNames};
 
 use crate::fault::QuestionFault;
 use crate::fault::QuestionFault::BadValue;
+use crate::grant_text::read_text;
 use crate::lists::read_groups;
 use crate::modes::read_any_mode;
 use crate::options::Opt;
-use crate::texts::read_text;
 use capbits::{Caller, Groups, read_u32};
 use capgrant::{Access, Attr, Verdict, verdict};
 use capspec::{FsName, Grants, TreePath};

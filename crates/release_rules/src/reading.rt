@@ -9,7 +9,7 @@ use crate::bytes::{begins, behind, behind_white, rest_while};
 use crate::flags::Flags;
 use crate::grant::{GidList, Grant, Grants};
 use crate::items::{
-    flags_at, fsname_at, gids_at, owned, network_at, path_at, root_squash_at, uid_at,
+    flags_at, fsname_at, gids_at, network_at, owned, path_at, root_squash_at, uid_at,
 };
 use crate::release::Switches;
 use byte_sets::ByteSet;

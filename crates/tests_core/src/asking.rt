@@ -1,17 +1,17 @@
 //! The core that is asked: cases as text, what is seen beside each answer, and what is left.
 
-use crate::{gathers, histories, moved_entries, recalls, sessions_end, viewing, waits};
 use crate::asserting::{made, same};
 use crate::looking::row_text;
 use crate::steps::{auth_lock_text, locks_text};
-use crate::texts::{number, sides, text_of};
+use crate::values::{number, sides, text_of};
 use crate::viewing::changes_text;
+use crate::{gathers, histories, moved_entries, recalls, sessions_end, viewing, waits};
 use capbits::PassId;
 use capcore::Core;
 use capexplain::{read_line, reply_lines};
 use capscript::file_system;
-use capstep::{Event, Reply};
 use capstep::stop::Stop;
+use capstep::{Event, Reply};
 use std::alloc::{AllocError, Global};
 use std::process::Abort;
 

@@ -1,7 +1,7 @@
 //! Each call of what Ceph makes of caps is made once, and is answered where there is memory. What is answered is a case of `worked_cases`.
 
 use crate::asserting::{made, present, same};
-use crate::texts::{attr_of, caller_of, cephfs};
+use crate::values::{attr_of, caller_of, cephfs};
 use capgrant::Access;
 use capspec::TreePath;
 use osd_caps::{Right, read_osd_caps};

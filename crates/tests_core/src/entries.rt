@@ -12,7 +12,7 @@
 //! Behind ` => ` stands what is told, a dash for nothing; a step that tells nothing has `done`, which is left out.
 
 use crate::asserting::{made, same};
-use crate::texts::{caps, ino_of, number, sides, text_of, word};
+use crate::values::{caps, ino_of, number, sides, text_of, word};
 use capbits::{CapSet, ChangeError, ClientId, Ino, Refusal};
 use captable::{CapTable, ClientView, Holder, Walk};
 use std::alloc::Global;

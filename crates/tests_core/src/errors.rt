@@ -1,7 +1,7 @@
 //! The errors of public calls: what each prints, and that `?` hands it on as the error of a program.
 
 use crate::asserting::same;
-use crate::texts::printed;
+use crate::values::printed;
 use capbits::{CapText, ChangeError, Refusal, TooManyGroups};
 use capscript::ServeFault;
 use capspec::{SpecFault, SpecFaultKind};

@@ -2,7 +2,7 @@
 
 use crate::asking::event;
 use crate::asserting::{made, same};
-use crate::texts::sides;
+use crate::values::sides;
 use capexplain::event_line;
 use std::alloc::Global;
 use std::process::Abort;

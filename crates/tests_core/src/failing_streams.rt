@@ -3,8 +3,8 @@
 use crate::asserting::same;
 use crate::runs::{ALL_KINDS, ALL_KINDS_ANSWERED};
 use capscript::run;
-use std::io;
 use std::alloc::Global;
+use std::io;
 use std::io::{ErrorKind, Read, Write};
 use texts::{ScriptFault, Watched};
 

@@ -49,11 +49,11 @@ mod spelling;
 #[cfg(test)]
 mod steps;
 #[cfg(test)]
-mod texts;
-#[cfg(test)]
 mod trees;
 #[cfg(test)]
 mod triple_lists;
+#[cfg(test)]
+mod values;
 #[cfg(test)]
 mod viewing;
 #[cfg(test)]

@@ -4,7 +4,7 @@
 use crate::asking::Beside::Nothing;
 use crate::asking::core_of;
 use crate::asserting::{made, same};
-use crate::texts::{attr_of, caller_of, caps, cephfs, grants_of};
+use crate::values::{attr_of, caller_of, caps, cephfs, grants_of};
 use capbits::{Caller, Cap, CapSet, ClientId, Ino, Part, Refusal, Ticket};
 use capcore::Core;
 use capgrant::{Access, Attr, Verdict, verdict};

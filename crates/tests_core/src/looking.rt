@@ -1,7 +1,7 @@
 //! The rows of the history of a core that was asked.
 
 use crate::asserting::made;
-use crate::texts::text_of;
+use crate::values::text_of;
 use capcore::Core;
 use capexplain::audit_line;
 use capstep::Row;

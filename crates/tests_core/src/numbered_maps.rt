@@ -1,7 +1,7 @@
 //! A map by number shows its values in the order of the numbers, in whatever order they came. What it has is said in `worked_cases`.
 
 use crate::asserting::{made, same};
-use crate::texts::line_of;
+use crate::values::line_of;
 use capbits::Numbered;
 
 // Values that come, or are put in place of another, and what the map then shows.

@@ -2,8 +2,8 @@
 
 use crate::asserting::same;
 use capscript::run;
-use std::io;
 use std::alloc::Global;
+use std::io;
 use texts::{ScriptFault, Watched};
 
 /// Lines with each kind of answer and of message. The last line has no line feed.

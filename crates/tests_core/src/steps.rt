@@ -1,7 +1,7 @@
 //! What stands beside the answers of steps: a lock, and what clients hold.
 
 use crate::asserting::made;
-use crate::texts::{caps_text, text_of};
+use crate::values::{caps_text, text_of};
 use capbits::{ClientId, Ino, Part};
 use capcore::Core;
 use captable::Entry;

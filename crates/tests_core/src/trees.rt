@@ -1,7 +1,7 @@
 //! Calls of a tree that no program makes: there is memory for each. What they change and are refused as is said in `worked_cases`.
 
 use crate::asserting::{made, present, same};
-use crate::texts::attr_of;
+use crate::values::attr_of;
 use capbits::{Ino, Refusal};
 use inotree::{Setting, Tree};
 use std::process::Abort;

@@ -8,7 +8,7 @@
 use crate::asking::Beside::Nothing;
 use crate::asking::core_of;
 use crate::asserting::{made, present, same};
-use crate::texts::{attr_of, caller_of, cephfs, grants_of, ino_of, number, part, sides, word};
+use crate::values::{attr_of, caller_of, cephfs, grants_of, ino_of, number, part, sides, word};
 use capbits::{ClientId, Ino};
 use capgrant::Access;
 use inotree::Name;

@@ -58,6 +58,6 @@ pub use trees::{
 };
 pub use verdicts::{mode_bits, paths_by_names, root_is_squashed, rules_in_order};
 pub use views::{
-    answers_of_views, gone_without_a_verdict, judged_by_the_last_of_each, judged_where_it_stands,
-    changes_of_clients, changes_of_inodes,
+    answers_of_views, changes_of_clients, changes_of_inodes, gone_without_a_verdict,
+    judged_by_the_last_of_each, judged_where_it_stands,
 };

@@ -16,13 +16,13 @@ copy_of_reply-recorded-requires c =
 -- those that are left to be told of are no more than all
 pub unreachable-requires-in_default-append : goal.unreachable-requires-in_default-append
 unreachable-requires-in_default-append c =
-    let left : (c.match-reply.self.messages ≡ c.args.self.now.messages) × (length c.match-reply.output.given.items ≤ length c.args.output.now.given.items) = elim c.match-reply.branch [
+    let left : (c.match-reply_due.self.messages ≡ c.args.self.now.messages) × (length c.match-reply_due.output.given.items ≤ length c.args.output.now.given.items) = elim c.match-reply_due.branch [
       | in-Done w ↦ rw (w.self-is, w.output-is) (refl, omega arith)
       | in-Dropped+in-Ok w ↦ rw (w.self-is, w.output-is) (refl, omega arith)
       | in-Requested w ↦ rw (w.self-is, w.output-is) (refl, omega arith)
       | in-Awaited w ↦ rw (w.self-is, w.output-is, w.awaited-given.ensures.left) (refl, few-earlier (Awaited w.in-Awaited.ticket) c.args.output.now.given.items)
     ] in
-    let given : c.if-not-is_empty.output.given ≡ c.match-reply.output.given = elim c.if-not-is_empty.branch [
+    let given : c.if-not-is_empty.output.given ≡ c.match-reply_due.output.given = elim c.if-not-is_empty.branch [
       | then-not-is_empty w ↦ rw w.output-is refl
       | else-not-is_empty w ↦ rw w.output-is refl
     ] in
@@ -31,7 +31,7 @@ unreachable-requires-in_default-append c =
 pub returns-clause-reply : goal.returns-clause-reply
 returns-clause-reply c = λ ms.
     let s : State = record { scene = plain c.args.self.now.scene; messages = ms } in
-    elim c.match-reply.branch [
+    elim c.match-reply_due.branch [
       | in-Done w ↦ rw (w.reply-is, w.in-Done.is) refl
       | in-Dropped+in-Ok w ↦ rw (w.reply-is, w.in-Dropped.is) refl
       | in-Requested w ↦

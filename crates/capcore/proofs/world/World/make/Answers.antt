@@ -1,20 +1,16 @@
-use Rattle.std.proofs.Common.{◌≡◌, [], ◌∷◌, None, ap, sym, subst, ◌∙◌}
+use Rattle.std.proofs.Common.{◌≡◌, None, ap, sym, subst, ◌∙◌}
 use Rattle.std.specs.FinMap as map
-use Rattle.capcore.proofs.Common.{State, Write, basic_tests, changes-still, create_tests, first_failing, inode_tests, need, new_inode_tests, owned_by, pass-both, plain, rejection_of, view_of}
+use Rattle.capcore.proofs.Common.{State, Write, changes-still, create_tests, first_failing, inode_tests, new_inode_tests, owned_by, pass-both, plain, view_of}
 use Rattle.capcore.proofs.Effects.{birth-done, birth-refused, birth-rejection}
 use Rattle.capcore.proofs.Rejections.{access-at, inode-passed}
 use Rattle.capcore.proofs.world.World.make.Goals as goal
 
--- what the request is rejected by
-rejection-is : (c : goal.After-access_rejection) → rejection_of c.args.self.now.scene (basic_tests c.args.self.now.scene c.args.holder.client c.args.holder.ino.0) (need c.args.holder.client c.args.holder.ino.0 Write ∷ []) [] ≡ c.access_rejection.result
-rejection-is c = access-at _ c.args.self.now c.args.holder.client c.args.holder.ino.0 Write c.access_rejection.result c.self.view_is c.access_rejection.ensures
-
 pub returns-in-Some-clause-direct : goal.returns-in-Some-clause-direct
-returns-in-Some-clause-direct c = rw c.into_reply.ensures.reply (birth-rejection c.args.self.now c.args.kind c.args.holder.client c.args.holder.ino c.args.name.now c.args.mode c.in-Some.rejection (rejection-is c ∙ c.in-Some.is))
+returns-in-Some-clause-direct c = rw c.into_reply.ensures.reply (birth-rejection c.args.self.now c.args.kind c.args.holder.client c.args.holder.ino c.args.name.now c.args.mode c.in-Some.rejection (access-at _ c.args.self.now c.args.holder.client c.args.holder.ino.0 Write c.access_rejection.result c.self.view_is c.access_rejection.ensures ∙ c.in-Some.is))
 
 pub returns-in-Some-new_inode_refusal-clause-direct : goal.returns-in-Some-new_inode_refusal-clause-direct
 returns-in-Some-new_inode_refusal-clause-direct c =
-    birth-refused c.args.self.now c.args.holder.client c.args.holder.ino c.args.name.now c.args.mode (rejection-is c ∙ c.in_default.is) c.args.kind c.in-Some-new_inode_refusal.refusal
+    birth-refused c.args.self.now c.args.holder.client c.args.holder.ino c.args.name.now c.args.mode (access-at _ c.args.self.now c.args.holder.client c.args.holder.ino.0 Write c.access_rejection.result c.self.view_is c.access_rejection.ensures ∙ c.in_default.is) c.args.kind c.in-Some-new_inode_refusal.refusal
     (ap (λ s. first_failing (new_inode_tests s.scene.tree c.args.holder.ino.0 c.args.name.now)) (sym c.self.view_is) ∙ sym c.new_inode_refusal.ensures ∙ c.in-Some-new_inode_refusal.is)
 
 pub add-requires : goal.add-requires
@@ -29,7 +25,7 @@ add-requires c = record {
 pub returns-clause-direct : goal.returns-clause-direct
 returns-clause-direct c =
     rw (c.in_ok-ino.ensures.ok, c.owned_by-attr.ensures ∙ ap (λ (s : State). owned_by (map.get s.scene.sessions.sessions c.args.holder.client.0) c.args.mode) c.self.view_is)
-    (birth-done c.args.self.now c.args.holder.client c.args.holder.ino c.args.name.now c.args.mode (rejection-is c ∙ c.in_default.is) c.args.kind c.in_ok-ino.ino
+    (birth-done c.args.self.now c.args.holder.client c.args.holder.ino c.args.name.now c.args.mode (access-at _ c.args.self.now c.args.holder.client c.args.holder.ino.0 Write c.access_rejection.result c.self.view_is c.access_rejection.ensures ∙ c.in_default.is) c.args.kind c.in_ok-ino.ino
     (ap (λ s. first_failing (new_inode_tests s.scene.tree c.args.holder.ino.0 c.args.name.now)) (sym c.self.view_is) ∙ sym c.new_inode_refusal.ensures ∙ c.in_default-new_inode_refusal.is)
     c.in_ok-ino.ensures.ino)
 

@@ -1,20 +1,16 @@
-use Rattle.std.proofs.Common.{◌≡◌, [], ◌∷◌, ap, sym, ◌∙◌, refl}
-use Rattle.capcore.proofs.Common.{Snapshot, basic_tests, first_failing, inode_tests, need, new_snapshot_tests, pass-both, plain, rejection_of, with_snapshot}
+use Rattle.std.proofs.Common.{ap, sym, ◌∙◌, refl}
+use Rattle.capcore.proofs.Common.{Snapshot, first_failing, inode_tests, new_snapshot_tests, pass-both, plain, with_snapshot}
 use Rattle.capcore.proofs.Effects.{making-rejection, snapshot-refused}
 use Rattle.capcore.proofs.Rejections.{access-at, inode-passed}
 use Rattle.capcore.proofs.Unaffected.{changed-unseen, changed-whole}
 use Rattle.capcore.proofs.world.World.make_snapshot.Goals as goal
 
--- what the request is rejected by
-rejection-is : (c : goal.After-access_rejection) → rejection_of c.args.self.now.scene (basic_tests c.args.self.now.scene c.args.client c.args.ino.0) (need c.args.client c.args.ino.0 Snapshot ∷ []) [] ≡ c.access_rejection.result
-rejection-is c = access-at _ c.args.self.now c.args.client c.args.ino.0 Snapshot c.access_rejection.result c.self.view_is c.access_rejection.ensures
-
 pub returns-in-Some-clause-direct : goal.returns-in-Some-clause-direct
-returns-in-Some-clause-direct c = rw c.into_reply.ensures.reply (making-rejection c.args.self.now c.args.client c.args.ino c.args.name.now c.in-Some.rejection (rejection-is c ∙ c.in-Some.is))
+returns-in-Some-clause-direct c = rw c.into_reply.ensures.reply (making-rejection c.args.self.now c.args.client c.args.ino c.args.name.now c.in-Some.rejection (access-at _ c.args.self.now c.args.client c.args.ino.0 Snapshot c.access_rejection.result c.self.view_is c.access_rejection.ensures ∙ c.in-Some.is))
 
 pub returns-in-Some-new_snapshot_refusal-clause-direct : goal.returns-in-Some-new_snapshot_refusal-clause-direct
 returns-in-Some-new_snapshot_refusal-clause-direct c =
-    snapshot-refused c.args.self.now c.args.client c.args.ino c.args.name.now (rejection-is c ∙ c.in_default.is) c.in-Some-new_snapshot_refusal.refusal
+    snapshot-refused c.args.self.now c.args.client c.args.ino c.args.name.now (access-at _ c.args.self.now c.args.client c.args.ino.0 Snapshot c.access_rejection.result c.self.view_is c.access_rejection.ensures ∙ c.in_default.is) c.in-Some-new_snapshot_refusal.refusal
     (ap (λ s. first_failing (new_snapshot_tests s.scene.tree c.args.ino.0 c.args.name.now)) (sym c.self.view_is) ∙ sym c.new_snapshot_refusal.ensures ∙ c.in-Some-new_snapshot_refusal.is)
 
 pub snap_add_tested-requires : goal.snap_add_tested-requires

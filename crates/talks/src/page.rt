@@ -89,18 +89,6 @@ impl<'w, W: Write> Page<'w, W> {
     }
 }
 
-impl Place {
-    /// Says what is wrong in a file of this name, and returns the status, 1.
-    pub fn report(self, file: &str, faults: &mut impl Write) -> u8
-        ensures { result ≤ 1 }
-    {
-        let Place { line, fault } = self;
-        let text = fault.text();
-        let _ = writeln!(faults, "capbench: {file}, line {line}: {text}");
-        1
-    }
-}
-
 // The name of a file, without its folder and its ending.
 fn topic(file: &str) -> &str {
     let name = match file.rsplit_once('/') {

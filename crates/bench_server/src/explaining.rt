@@ -1,10 +1,9 @@
 //! Questions on policy, which threads ask of a server beside one that calls events all the time; and the same questions under a
 //! lock that its calls take too, so that the one can be compared with the other.
 
-use crate::fault::Fault;
-use crate::lines::event_of;
 use crate::serving::call;
 use crate::work::{Asking, Way};
+use bench_kit::{Fault, event_of};
 use capbits::{ClientId, Ino, Mode, PassId};
 use capgrant::{Access, Verdict};
 use capserver::{CapServer, NoGate, Pass};
@@ -14,8 +13,8 @@ use lockmachine::Change;
 use policy_view::{Question, Unknown};
 use snapshot::Server;
 use std::alloc::Global;
-use std::sync::{Mutex, MutexGuard, Wait};
 use std::sync::atomic::{AtomicU64, Ordering};
+use std::sync::{Mutex, MutexGuard, Wait};
 use std::thread::{Threads, map_vec};
 
 /// Who asks, and who changes modes.

@@ -3,14 +3,13 @@ ghost use Rattle.std.specs.Prelude.{◌≡◌};
 ghost use Rattle.capserver.specs.Opened.{opened};
 
 use crate::explaining::explain;
-use crate::fault::Fault;
-use crate::lines::Transcript;
 use crate::publishing::publish;
 use crate::work::ServerWork;
+use bench_kit::{Fault, Transcript};
 use capscript::file_system;
-use capserver::{Answer, CapServer, NoGate, Opening, Pass};
-use capstep::{Event, Row};
+use capserver::{Answer, CapServer, NoGate, Opening, Pass, StartFault};
 use capstep::stop::Stop;
+use capstep::{Event, Row};
 use snapshot::Server;
 use std::alloc::Global;
 use std::io::Write;
@@ -71,9 +70,11 @@ fn served<L: Server + Send + Sync, T: Threads + Wait + Sync, W: Write>(
 {
     let ScriptedWork { work, lines } = scripted;
     let count = passes_for(work);
-    let (server, mut passes) = CapServer::<NoGate, L>::start(
-        rt, alloc, opening, blank, count, NoGate,
-    )?;
+    let started = CapServer::<NoGate, L>::start(rt, alloc, opening, blank, count, NoGate);
+    let (server, mut passes) = match started {
+        Ok(started) => started,
+        Err(fault) => return Err(why_not_started(fault)),
+    };
     let mut transcript = Transcript::new(alloc, writer);
     let sum = match work {
         ServerWork::Publish(_) => {
@@ -89,6 +90,14 @@ fn served<L: Server + Send + Sync, T: Threads + Wait + Sync, W: Write>(
     };
     drop(closed);
     sum
+}
+
+// The words ask for more passes than a server has, or there was no memory.
+fn why_not_started(fault: StartFault) -> Fault {
+    match fault {
+        StartFault::BadCount => Fault::Usage,
+        StartFault::NoMemory | StartFault::NoReader => Fault::NoMemory,
+    }
 }
 
 // Writes the rows of a history, and tells how many they are.

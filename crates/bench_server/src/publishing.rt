@@ -1,9 +1,8 @@
 //! The work that publishes: a pass of a server calls what a script says, and it and another one, which calls nothing, ask what came of each
 //! call. What finds no memory is called again; what was made and found none for its publication is published with the next event.
 
-use crate::fault::Fault;
-use crate::lines::{Heard, TRIES, Transcript};
 use crate::serving::call;
+use bench_kit::{Fault, Heard, TRIES, Transcript};
 use capbits::{ClientId, Ino};
 use capgrant::{Access, Rule, Verdict};
 use capserver::{Answer, CapServer, NoGate, Pass};
