@@ -1,5 +1,5 @@
 //! Why talks can't be played.
-ghost use Rattle.std.specs.Prelude.{◌≡◌, ◌≤◌};
+ghost use Rattle.std.specs.Prelude.{◌≡◌};
 
 use std::alloc::{AllocError, AllocFailed};
 use std::io::Write;
@@ -68,7 +68,7 @@ pub struct Place {
 impl Place {
     /// Says what is wrong in a file of this name, and returns the status, 1.
     pub fn report(self, file: &str, faults: &mut impl Write) -> u8
-        ensures { result ≤ 1 }
+        ensures { result ≡ 1 }
     {
         let Place { line, fault } = self;
         let text = fault.text();
