@@ -291,7 +291,22 @@ impl World {
                 changes.clear();
                 Ok(self.remove_snapshot(*client, *ino, name.as_slice()))
             }
-            _ => unreachable!(),
+            Event::CloseSession { .. }
+            | Event::Mark { .. }
+            | Event::Regrant { .. }
+            | Event::Evict { .. }
+            | Event::Recall { .. }
+            | Event::Open { .. }
+            | Event::Want { .. }
+            | Event::Ack { .. }
+            | Event::Release { .. }
+            | Event::Get { .. }
+            | Event::Alter { .. }
+            | Event::Unlink { .. }
+            | Event::Rmdir { .. }
+            | Event::Rename { .. }
+            | Event::Flush { .. }
+            | Event::Poll { .. } => unreachable!(),
         }
     }
 
